@@ -1,0 +1,24 @@
+//! Protocols, addresses and pairs of them.
+
+/// A protocol over IPv4.
+#[derive(Clone, Copy, Debug, PartialEq, Eq)]
+pub enum Proto {
+    /// The Internet Link protocol, IP protocol 40.
+    Il,
+    /// The User Datagram Protocol, RFC 768, IP protocol 17.
+    Udp,
+}
+
+/// An IPv4 address with a port.
+#[derive(Clone, Copy, Debug, PartialEq, Eq)]
+pub struct Addr {
+    pub ip: u32,
+    pub port: u16,
+}
+
+/// Both addresses of a conversation, as one of its ends sees them.
+#[derive(Clone, Copy, Debug, PartialEq, Eq)]
+pub struct Pair {
+    pub local: Addr,
+    pub remote: Addr,
+}
