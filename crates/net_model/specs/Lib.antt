@@ -1,0 +1,4 @@
+pub mod Mirror
+pub mod Number
+pub mod Timer
+pub mod UdpEnd
