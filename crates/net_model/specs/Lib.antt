@@ -2,3 +2,5 @@ pub mod Mirror
 pub mod Number
 pub mod Timer
 pub mod UdpEnd
+pub mod IlEnd
+pub mod IlTable
