@@ -1,7 +1,7 @@
 -- The paths under /net, what may be opened, and the names in a directory.
-use Rattle.std.specs.Prelude.{◌≡◌, ℕ, ◌<◌, ◌==◌, Bool, true, false, ◌&&◌, List, [], ◌∷◌, ◌++◌, Option, Some, None, codes, decimal, bytes_eq, nat_lt, option_map, if◌then◌else◌, not, slice_get, filter, map}
+use Rattle.std.specs.Prelude.{◌≡◌, ℕ, ◌==◌, Bool, true, false, ◌&&◌, List, [], ◌∷◌, ◌++◌, Option, Some, None, codes, decimal, bytes_eq, nat_lt, option_map, if◌then◌else◌, not, slice_get, filter, map}
 use Rattle.std.specs.List.{slice_split}
-use Rattle.std.specs.Option.{option_and_then, option_map_or}
+use Rattle.std.specs.Option.{option_and_then}
 use Rattle.std.specs.Str.Parse.{digits_value}
 use Rattle.net_model.specs.declared.address.Proto.{Proto}
 use Rattle.net_model.specs.declared.address.Proto.TheVariants as proto
