@@ -4,3 +4,5 @@ pub mod Timer
 pub mod UdpEnd
 pub mod IlEnd
 pub mod IlTable
+pub mod ControlWords
+pub mod Paths
