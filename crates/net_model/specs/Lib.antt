@@ -6,3 +6,5 @@ pub mod IlEnd
 pub mod IlTable
 pub mod ControlWords
 pub mod Paths
+pub mod Headers
+pub mod Stamped
