@@ -6,3 +6,6 @@ pub mod IlEnd
 pub mod IlTable
 pub mod ControlWords
 pub mod Paths
+pub mod ActorStep
+pub mod StateWords
+pub mod Conversation
