@@ -1,10 +1,9 @@
 -- UDP ends.
 use Rattle.std.specs.Prelude.{ℕ, Bool, true, false, List, [], ◌∷◌, ◌++◌, length, drop, nat_lt, if◌then◌else◌}
 use Rattle.net_model.specs.declared.il.StateName.{StateName}
-use Rattle.net_model.specs.declared.il.StateName.TheVariants.{Closed, Listening, Open}
-
-pub data UdpState : Type 0 where
-  NeverConnected Listens IsOpen HungUp : UdpState
+use Rattle.net_model.specs.declared.il.StateName.TheVariants as name
+use Rattle.net_model.specs.declared.udp.UdpState.{UdpState}
+use Rattle.net_model.specs.declared.udp.UdpState.TheVariants.{Fresh, Listening, Open, HungUp}
 
 pub record UdpEnd : Type 0 where
   pub state : UdpState
@@ -12,11 +11,12 @@ pub record UdpEnd : Type 0 where
   pub unread : List (List ℕ)
 
 abbrev pub fresh_udp : UdpEnd
-fresh_udp = record { state = NeverConnected; unread = [] }
+fresh_udp = record { state = Fresh; unread = [] }
 
-abbrev pub is_never_connected : UdpState → Bool
-is_never_connected NeverConnected = true
-is_never_connected _ = false
+-- it was never connected or announced
+abbrev pub is_fresh_udp : UdpState → Bool
+is_fresh_udp Fresh = true
+is_fresh_udp _ = false
 
 abbrev pub is_hung_up : UdpState → Bool
 is_hung_up HungUp = true
@@ -24,9 +24,9 @@ is_hung_up _ = false
 
 -- the state as it is printed
 abbrev pub udp_state_name : UdpState → StateName
-udp_state_name Listens = Listening
-udp_state_name IsOpen = Open
-udp_state_name _ = Closed
+udp_state_name Listening = name.Listening
+udp_state_name Open = name.Open
+udp_state_name _ = name.Closed
 
 -- Datagrams come.
 
@@ -61,14 +61,14 @@ datagram_read e = record e { unread = drop 1 e.unread }
 -- The end is connected, announced and hung up.
 
 abbrev pub udp_connects : UdpEnd → UdpEnd
-udp_connects e = record e { state = IsOpen }
+udp_connects e = record e { state = Open }
 
 abbrev pub udp_announced : UdpEnd → UdpEnd
-udp_announced e = record e { state = Listens }
+udp_announced e = record e { state = Listening }
 
 -- the state after a hangup, which changes nothing where the end was never connected
 abbrev pub hung_up_from : UdpState → UdpState
-hung_up_from NeverConnected = NeverConnected
+hung_up_from Fresh = Fresh
 hung_up_from _ = HungUp
 
 abbrev pub udp_hangs_up : UdpEnd → UdpEnd

@@ -14,6 +14,7 @@ mod packet;
 mod reply;
 mod sequence;
 mod timer;
+mod udp;
 mod world;
 
 pub use actor::{ActorList, ActorName, Call, CallList};
@@ -29,6 +30,7 @@ pub use packet::{Body, BodyHeader, Header, Packet};
 pub use reply::Reply;
 pub use sequence::Sequence;
 pub use timer::Tick;
+pub use udp::UdpState;
 pub use world::{
     Fate, FateRange, Fates, HostSpec, Hosts, Iface, Ifaces, Media, MediumSpec, Nets, RouteLine,
     RouteLines, Script, Scripts, Starts, Step, StepList, World,
