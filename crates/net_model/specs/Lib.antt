@@ -1,0 +1,4 @@
+pub mod Addresses
+pub mod Cs
+pub mod Networks
+pub mod Search
