@@ -9,3 +9,7 @@ pub mod Paths
 pub mod ActorStep
 pub mod StateWords
 pub mod Conversation
+pub mod Addresses
+pub mod Cs
+pub mod Networks
+pub mod Search
