@@ -13,3 +13,9 @@ pub mod Addresses
 pub mod Cs
 pub mod Networks
 pub mod Search
+pub mod Bytes
+pub mod Datagram
+pub mod IlWire
+pub mod Ipv4
+pub mod Sum
+pub mod UdpWire
