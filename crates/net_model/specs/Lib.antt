@@ -8,3 +8,16 @@ pub mod ControlWords
 pub mod Paths
 pub mod Headers
 pub mod Stamped
+pub mod ActorStep
+pub mod StateWords
+pub mod Conversation
+pub mod Addresses
+pub mod Cs
+pub mod Networks
+pub mod Search
+pub mod Bytes
+pub mod Datagram
+pub mod IlWire
+pub mod Ipv4
+pub mod Sum
+pub mod UdpWire
