@@ -1,0 +1,3 @@
+pub mod NdbBundle
+pub mod NdbForm
+pub mod NdbText
