@@ -21,3 +21,6 @@ pub mod IlWire
 pub mod Ipv4
 pub mod Sum
 pub mod UdpWire
+pub mod NdbBundle
+pub mod NdbForm
+pub mod NdbText
