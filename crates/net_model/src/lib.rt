@@ -33,4 +33,7 @@ pub use reply::Reply;
 pub use sequence::Sequence;
 pub use timer::Tick;
 pub use udp::UdpState;
-pub use world::{Fate, FateRange, Fates, HostSpec, Hosts, Iface, Ifaces, Media, MediumSpec, Nets, RouteLine, RouteLines, Script, Scripts, Starts, Step, StepList, World};
+pub use world::{
+    Fate, FateRange, Fates, HostSpec, Hosts, Iface, Ifaces, Media, MediumSpec, Nets, RouteLine,
+    RouteLines, Script, Scripts, Starts, Step, StepList, World,
+};
