@@ -6,6 +6,8 @@ pub mod IlEnd
 pub mod IlTable
 pub mod ControlWords
 pub mod Paths
+pub mod Headers
+pub mod Stamped
 pub mod ActorStep
 pub mod StateWords
 pub mod Conversation
@@ -25,3 +27,6 @@ pub mod Routes
 pub mod Medium
 pub mod Directory
 pub mod Desk
+pub mod NdbBundle
+pub mod NdbForm
+pub mod NdbText
