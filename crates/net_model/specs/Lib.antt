@@ -21,6 +21,12 @@ pub mod IlWire
 pub mod Ipv4
 pub mod Sum
 pub mod UdpWire
+pub mod Draws
+pub mod Same
+pub mod Routes
+pub mod Medium
+pub mod Directory
+pub mod Desk
 pub mod NdbBundle
 pub mod NdbForm
 pub mod NdbText
