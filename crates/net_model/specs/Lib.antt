@@ -30,3 +30,7 @@ pub mod Desk
 pub mod NdbBundle
 pub mod NdbForm
 pub mod NdbText
+pub mod Actors
+pub mod Callers
+pub mod Duties
+pub mod Net
