@@ -34,3 +34,7 @@ pub mod Actors
 pub mod Callers
 pub mod Duties
 pub mod Net
+pub mod Steps
+pub mod Next
+pub mod Calm
+pub mod Legal
