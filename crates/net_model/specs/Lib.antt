@@ -30,3 +30,4 @@ pub mod Desk
 pub mod NdbBundle
 pub mod NdbForm
 pub mod NdbText
+pub mod World
