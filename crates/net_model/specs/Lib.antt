@@ -30,3 +30,5 @@ pub mod Desk
 pub mod NdbBundle
 pub mod NdbForm
 pub mod NdbText
+pub mod Answers
+pub mod Words
