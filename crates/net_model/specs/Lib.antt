@@ -38,3 +38,6 @@ pub mod Steps
 pub mod Next
 pub mod Calm
 pub mod Legal
+pub mod World
+pub mod Answers
+pub mod Words
