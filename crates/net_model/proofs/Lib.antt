@@ -1,1 +1,3 @@
 mod IlCases
+pub mod Worlds
+mod ActorCases
