@@ -31,3 +31,5 @@ pub mod NdbBundle
 pub mod NdbForm
 pub mod NdbText
 pub mod World
+pub mod Answers
+pub mod Words

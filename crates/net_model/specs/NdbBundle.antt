@@ -45,11 +45,12 @@ is_nameless word = is_empty word.attr
 abbrev pub cause : ℕ → Bool → List ℕ
 cause number holds = if holds then number ∷ [] else []
 
--- the causes for which a line that comes after these is bad, in rising order: it goes on with no tuple, a quote isn't closed on
--- it, a word begins with `=`, something follows a closing quote, it has a zero byte, it begins with `%` and isn't `%file NAME`
-abbrev pub causes_of : List (List ℕ) → List ℕ → List ℕ
-causes_of before line =
-    cause 1 (goes_on line && not (has_tuple before))
+-- the causes for which a line is bad whose file has a tuple before it or has none, in rising order: it goes on with no tuple, a
+-- quote isn't closed on it, a word begins with `=`, something follows a closing quote, it has a zero byte, it begins with `%` and
+-- isn't `%file NAME`
+abbrev pub causes_of : Bool → List ℕ → List ℕ
+causes_of has line =
+    cause 1 (goes_on line && not has)
     ++ (cause 2 (list_any (λ word. word.unclosed) (words_of line))
     ++ (cause 3 (list_any is_nameless (words_of line))
     ++ (cause 4 (list_any (λ word. word.followed) (words_of line))
@@ -57,10 +58,10 @@ causes_of before line =
     ++ cause 6 (begins is_percent line && not (is_file_line line))))))
 
 -- the first line with a cause, by its number from 1, and its least cause, among the lines that come after these
-abbrev pub first_bad : (List (List ℕ) → List ℕ → List ℕ) → List (List ℕ) → List (List ℕ) → Option (ℕ × ℕ)
+abbrev pub first_bad : (Bool → List ℕ → List ℕ) → List (List ℕ) → List (List ℕ) → Option (ℕ × ℕ)
 first_bad causes before [] = None
 first_bad causes before (line ∷ lines) =
-    elim (causes before line) [ [] ↦ first_bad causes (before ++ line ∷ []) lines | c ∷ _ ↦ Some (length before + 1, c) ]
+    elim (causes (has_tuple before) line) [ [] ↦ first_bad causes (before ++ line ∷ []) lines | c ∷ _ ↦ Some (length before + 1, c) ]
 
 -- the first bad line of a text and its least cause
 abbrev pub bad_line : List ℕ → Option (ℕ × ℕ)
