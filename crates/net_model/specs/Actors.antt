@@ -1,5 +1,5 @@
 -- The actors of a world, and the step of each.
-use Rattle.std.specs.Prelude.{ℕ, ◌+◌, ◌&&◌, Bool, true, List, [], ◌∷◌, length, replicate, Option, Some, None, slice_get, nat_lt}
+use Rattle.std.specs.Prelude.{ℕ, ◌&&◌, Bool, true, [], length, replicate, Option, None, slice_get, nat_lt}
 use Rattle.std.specs.Option.{option_map, option_and_then}
 use Rattle.net_model.specs.declared.actor.ActorName.{ActorName}
 use Rattle.net_model.specs.declared.actor.ActorName.TheVariants as name

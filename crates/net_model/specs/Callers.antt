@@ -1,5 +1,5 @@
 -- The callers of a world: its scripts from 0, then the couriers of its media, then the clock.
-use Rattle.std.specs.Prelude.{ℕ, ◌+◌, ◌-◌, Bool, List, length, Option, Some, None, slice_get, nat_lt, if◌then◌else◌, ◌==◌}
+use Rattle.std.specs.Prelude.{ℕ, ◌+◌, ◌-◌, length, slice_get, nat_lt, if◌then◌else◌, ◌==◌}
 use Rattle.std.specs.Option.{option_map_or}
 use Rattle.net_model.specs.declared.world.Script.{Script}
 use Rattle.net_model.specs.declared.world.World.{World}

@@ -1,18 +1,17 @@
 -- When the clock may move and to which moment, and how a run ends.
-use Rattle.std.specs.Prelude.{ℕ, ◌++◌, ◌==◌, ◌&&◌, ◌||◌, Bool, true, false, not, List, [], ◌∷◌, length, min, map, Option, Some, None, is_some, nat_lt, if◌then◌else◌, filter_map}
+use Rattle.std.specs.Prelude.{ℕ, ◌++◌, ◌==◌, ◌&&◌, ◌||◌, Bool, true, false, not, List, [], ◌∷◌, length, min, Option, Some, None, is_some, nat_lt, filter_map}
 use Rattle.std.specs.List.{list_any, list_all, range_with_len, enumerate_from}
 use Rattle.net_model.specs.declared.actor.ActorName.{ActorName}
 use Rattle.net_model.specs.declared.actor.ActorName.TheVariants as name
 use Rattle.net_model.specs.declared.event.Event.{Event}
 use Rattle.net_model.specs.declared.event.Event.TheVariants as event
-use Rattle.net_model.specs.declared.history.Entry.{Entry}
 use Rattle.net_model.specs.declared.history.With.TheVariants as given
 use Rattle.net_model.specs.declared.world.Script.{Script}
 use Rattle.net_model.specs.declared.world.World.{World}
 use Rattle.net_model.specs.Actors.{Actor, IsMedium, actor_step}
-use Rattle.net_model.specs.Callers.{Caller, IsScript, IsCourier, IsClock, IsNobody, caller_of, caller_count}
+use Rattle.net_model.specs.Callers.{Caller, IsClock, caller_of, caller_count}
 use Rattle.net_model.specs.Duties.{conversations, due_of}
-use Rattle.net_model.specs.Net.{Net, after}
+use Rattle.net_model.specs.Net.{Net}
 use Rattle.net_model.specs.Next.{by, next_of, is_unfinished}
 use Rattle.net_model.specs.Steps.{Ask}
 

@@ -3,7 +3,7 @@
 --     IsLegal          each entry may follow those before it
 --     IsTimed          each move comes after a calm, and to the right moment
 --     Keeps, IsFault   the same by rules, and the first entry that breaks one
-use Rattle.std.specs.Prelude.{ℕ, ◌≡◌, ◌<◌, ◌==◌, Bool, true, false, List, [], ◌∷◌, length, take, Option, Some, None, IsSome, slice_get}
+use Rattle.std.specs.Prelude.{ℕ, ◌≡◌, ◌<◌, Bool, true, List, [], ◌∷◌, length, take, Option, Some, None, IsSome, slice_get}
 use Rattle.std.specs.Option.{option_map}
 use Rattle.net_model.specs.declared.actor.ActorName.{ActorName}
 use Rattle.net_model.specs.declared.actor.ActorName.TheVariants as name
@@ -15,7 +15,7 @@ use Rattle.net_model.specs.declared.packet.Header.{Header}
 use Rattle.net_model.specs.declared.reply.Reply.{Reply}
 use Rattle.net_model.specs.declared.world.World.{World}
 use Rattle.net_model.specs.Actors.{has_actor}
-use Rattle.net_model.specs.Callers.{Caller, IsScript, IsCourier, IsClock, IsNobody, caller_of, caller_count}
+use Rattle.net_model.specs.Callers.{Caller, IsClock, caller_of, caller_count}
 use Rattle.net_model.specs.Calm.{movable, target, most_entries}
 use Rattle.net_model.specs.Duties.{Duty}
 use Rattle.net_model.specs.Headers.{header}

@@ -1,5 +1,5 @@
 -- What each caller records next where it owes nothing, and how far the scripts are.
-use Rattle.std.specs.Prelude.{ℕ, ◌-◌, ◌==◌, ◌&&◌, Bool, List, [], ◌∷◌, map, filter, length, take, Option, Some, None, is_none, nat_lt, if◌then◌else◌}
+use Rattle.std.specs.Prelude.{ℕ, ◌-◌, ◌==◌, Bool, List, [], map, filter, length, take, Option, Some, None, is_none, nat_lt, if◌then◌else◌}
 use Rattle.net_model.specs.declared.actor.ActorName.TheVariants as name
 use Rattle.net_model.specs.declared.event.Event.TheVariants as event
 use Rattle.net_model.specs.declared.history.Entry.{Entry}

@@ -1,7 +1,6 @@
 -- The steps of scripts: which events each records, given the replies so far.
-use Rattle.std.specs.Prelude.{ℕ, zero, suc, count_by, ◌+◌, ◌==◌, ◌||◌, Bool, true, false, not, List, [], ◌∷◌, ◌++◌, filter, length, map, Option, Some, None, Result, Ok, Err, codes, bytes_eq, unwrap_or, if◌then◌else◌}
+use Rattle.std.specs.Prelude.{ℕ, zero, suc, count_by, ◌==◌, Bool, true, false, not, List, [], ◌∷◌, ◌++◌, filter, Option, Some, None, Result, Ok, Err, codes, bytes_eq, unwrap_or, if◌then◌else◌}
 use Rattle.std.specs.List.{before_first, after_first, list_any}
-use Rattle.std.specs.Option.{option_map, option_map_or}
 use Rattle.net_model.specs.declared.actor.ActorName.{ActorName}
 use Rattle.net_model.specs.declared.actor.ActorName.TheVariants as name
 use Rattle.net_model.specs.declared.address.Proto.{Proto}
@@ -158,7 +157,7 @@ read_event f count other = event.File f.generation other count
 abbrev pub controls : ℕ → Fid → List ℕ → Result Ctl ℕ → Play → Play → Play
 controls h f text (Ok (ctl.Connect remote lport)) refused next =
     Asks (name.Dir h f.proto) (event.Grant f.slot f.generation remote lport) (λ (granted : Reply).
-      if_accepted granted (Asks (conversation_of h f) (event.Await f.generation) (λ (r : Reply). if_accepted r next refused)) refused)
+    if_accepted granted (Asks (conversation_of h f) (event.Await f.generation) (λ (r : Reply). if_accepted r next refused)) refused)
 controls h f text (Ok (ctl.Announce ip port)) refused next =
     Asks (name.Dir h f.proto) (event.Announce f.slot f.generation ip port) (λ (r : Reply). if_accepted r next refused)
 controls h f text (Ok (ctl.Bind port)) refused next =
@@ -237,14 +236,14 @@ abbrev pub dials : ℕ → List ℕ → List Bound → List (List ℕ) → Play
 dials h called names [] = Ends names
 dials h called names (line ∷ lines) =
     opens h (clone_path line) mode.Both (dials h called names lines) (λ (made : Fid).
-      puts h made made.file (codes "connect " ++ line_address line) (closes h made (Ends names) (dials h called names lines)) (connected h called names made))
+    puts h made made.file (codes "connect " ++ line_address line) (closes h made (Ends names) (dials h called names lines)) (connected h called names made))
 
 -- the first line is announced
 abbrev pub announces : ℕ → List ℕ → List Bound → List (List ℕ) → Play
 announces h called names [] = Ends names
 announces h called names (line ∷ lines) =
     opens h (clone_path line) mode.Both (Ends names) (λ (made : Fid).
-      puts h made made.file (codes "announce " ++ line_address line) (closes h made (Ends names) (Ends names)) (Ends (bind called made names)))
+    puts h made made.file (codes "announce " ++ line_address line) (closes h made (Ends names) (Ends names)) (Ends (bind called made names)))
 
 -- The steps.
 
@@ -264,10 +263,10 @@ play_of h names (step.Dial called address) =
 play_of h names (step.Announce called address) = with_new h called names (asks_cs h address (announces h called names))
 play_of h names (step.Listen called from) =
     with_bound h from names (λ (f : Fid). with_new h called names
-      (opens_beside h f file.Listen (Ends names) (λ (call : Fid). Ends (bind called call names))))
+    (opens_beside h f file.Listen (Ends names) (λ (call : Fid). Ends (bind called call names))))
 play_of h names (step.Accept called from) =
     with_bound h from names (λ (f : Fid). with_new h called names
-      (opens_beside h f file.Data (Ends names) (λ (data_file : Fid). Ends (bind called data_file names))))
+    (opens_beside h f file.Data (Ends names) (λ (data_file : Fid). Ends (bind called data_file names))))
 play_of h names (step.Reject called) =
     with_writable h called names (λ (f : Fid). puts h f f.file (codes "hangup") (Ends names) (ends_with (conversation_of h f) (event.Close f.generation) (unbind called names)))
 play_of h names (step.Hangup called) = with_writable h called names (λ (f : Fid). puts h f f.file (codes "hangup") (Ends names) (Ends names))
