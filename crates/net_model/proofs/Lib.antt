@@ -4,3 +4,10 @@ mod ActorCases
 pub mod Texts
 pub mod Controls
 pub mod PathNames
+pub mod Ids
+pub mod Begins
+pub mod Pairs
+pub mod Untouched
+pub mod Talking
+pub mod Rows
+pub mod Deeds
