@@ -11,3 +11,6 @@ pub mod Untouched
 pub mod Talking
 pub mod Rows
 pub mod Deeds
+pub mod Trace
+pub mod Histories
+pub mod Sides
