@@ -1,3 +1,6 @@
+mod IlCases
+pub mod Worlds
+mod ActorCases
 pub mod Texts
 pub mod Controls
 pub mod PathNames

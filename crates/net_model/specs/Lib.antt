@@ -30,5 +30,6 @@ pub mod Desk
 pub mod NdbBundle
 pub mod NdbForm
 pub mod NdbText
+pub mod World
 pub mod Answers
 pub mod Words
