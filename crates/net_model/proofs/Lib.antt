@@ -4,3 +4,5 @@ mod ActorCases
 pub mod Texts
 pub mod Controls
 pub mod PathNames
+pub mod NdbForms
+pub mod NdbPlain
