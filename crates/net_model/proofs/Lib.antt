@@ -3,3 +3,9 @@ pub mod Laid
 pub mod Numbers
 pub mod Sums
 pub mod UdpLaws
+mod IlCases
+pub mod Worlds
+mod ActorCases
+pub mod Texts
+pub mod Controls
+pub mod PathNames

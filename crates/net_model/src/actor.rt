@@ -1,4 +1,7 @@
 //! Names of actors, and calls that wait at a listener.
+ghost use Rattle.std.specs.Prelude.{◌≡◌};
+ghost use Rattle.net_model.specs.Stamped as spec;
+
 use crate::address::Proto;
 use crate::sequence::Sequence;
 
@@ -28,3 +31,17 @@ pub struct Call {
 
 /// Calls in order, which contracts see as a list.
 pub type CallList = Sequence<Call>;
+
+/// Whether two names are of one actor.
+pub fn same_actor(a: ActorName, b: ActorName) -> bool
+    ensures { result ≡ spec.same_actor a b }
+{
+    match (a, b) {
+        (ActorName::Desk(h), ActorName::Desk(i)) => h == i,
+        (ActorName::Dir(h, p), ActorName::Dir(i, q)) => h == i && p == q,
+        (ActorName::Conv(h, p, m), ActorName::Conv(i, q, n)) => h == i && p == q && m == n,
+        (ActorName::Medium(m), ActorName::Medium(n)) => m == n,
+        (ActorName::Clock, ActorName::Clock) => true,
+        _ => false,
+    }
+}

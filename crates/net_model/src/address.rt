@@ -1,4 +1,6 @@
 //! Protocols, addresses and pairs of them.
+ghost use Rattle.std.specs.Prelude.{◌≡◌};
+ghost use Rattle.net_model.specs.Mirror as spec;
 
 /// A protocol over IPv4.
 #[derive(Clone, Copy, Debug, PartialEq, Eq)]
@@ -21,4 +23,14 @@ pub struct Addr {
 pub struct Pair {
     pub local: Addr,
     pub remote: Addr,
+}
+
+/// The same pair as the other end sees it.
+pub fn mirror(pair: Pair) -> Pair
+    ensures { result ≡ spec.mirror pair }
+{
+    Pair {
+        local: pair.remote,
+        remote: pair.local,
+    }
 }

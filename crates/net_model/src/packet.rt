@@ -1,4 +1,7 @@
 //! Packets, and what an entry shows of them.
+ghost use Rattle.std.specs.Prelude.{◌≡◌};
+ghost use Rattle.net_model.specs.Headers as spec;
+
 use crate::address::Addr;
 use crate::il::{IlKind, IlMsg};
 use crate::octets::Octets;
@@ -43,4 +46,31 @@ pub struct Header {
     pub ttl: u8,
     pub tos: u8,
     pub body: BodyHeader,
+}
+
+impl Packet {
+    /// The packet with the length of its text in the text's place.
+    pub fn header(&self) -> Header
+        ensures { result ≡ spec.header self.now }
+    {
+        let body = match &self.body {
+            Body::Il(message) => BodyHeader::Il {
+                kind: message.kind,
+                spec: message.spec,
+                id: message.id,
+                ack: message.ack,
+                length: message.text.len() as u64,
+            },
+            Body::Udp(text) => BodyHeader::Udp {
+                length: text.len() as u64,
+            },
+        };
+        Header {
+            src: self.src,
+            dst: self.dst,
+            ttl: self.ttl,
+            tos: self.tos,
+            body,
+        }
+    }
 }

@@ -1,0 +1,45 @@
+//! The answers: a status, and the text that is written, made whole.
+ghost use Rattle.std.specs.Prelude.{◌≡◌, IfOk};
+ghost use Rattle.net_model.specs.Answers as spec;
+
+use cs_resolver::CsError;
+use net_model::{Lines, Octets};
+use std::alloc::{AllocError, Global};
+
+/// A status and a text.
+#[derive(Debug, Drop)]
+pub struct Answer {
+    pub status: u8,
+    pub text: Octets,
+}
+
+/// The words give no command.
+pub const USAGE: &str = "! usage\n";
+
+/// The input couldn't be read.
+pub const READ_FAULT: &str = "! read fault\n";
+
+/// The input has a bad line.
+pub fn bad_input(alloc: Global, line: u64, cause: u32) -> Result<Answer, AllocError>
+    ensures status { IfOk result (λ answer. answer.status ≡ (spec.bad_input line cause).status) }
+    ensures text { IfOk result (λ answer. answer.text ≡ (spec.bad_input line cause).text) }
+{
+    let text = format!(in alloc; "! line {line} cause {cause}\n")?;
+    Ok(Answer {
+        status: 2,
+        text: Octets::from_vec(text.into_bytes()),
+    })
+}
+
+/// The lines of cs.
+pub fn lines_found(alloc: Global, lines: &Lines) -> Result<Answer, AllocError>
+    ensures status { IfOk result (λ answer. answer.status ≡ (spec.cs_answer (spec.Lines lines.now)).status) }
+    ensures text { IfOk result (λ answer. answer.text ≡ (spec.cs_answer (spec.Lines lines.now)).text) }
+{
+    let mut text = Octets::new(alloc);
+    for line in lines.as_slice() {
+        text.append(line.as_slice())?;
+        text.push(b'\n')?;
+    }
+    Ok(Answer { status: 0, text })
+}
