@@ -1,9 +1,9 @@
 -- The ones' complement sum of words is their sum, with its carries brought round at the end.
-use Rattle.std.proofs.Common.{◌≡◌, ℕ, suc, ◌+◌, ◌*◌, ◌-◌, ◌%◌, ◌^◌, ◌<◌, ◌≤◌, List, [], ◌∷◌, length, sum, get_or, refl, sym, ap, ◌∙◌, arith}
+use Rattle.std.proofs.Common.{◌≡◌, ℕ, suc, ◌+◌, ◌*◌, ◌-◌, ◌^◌, ◌<◌, List, [], ◌∷◌, sum, refl, sym, ap, ◌∙◌, arith}
 use Rattle.std.proofs.lemmas.Bool.Decides.{nat_tests}
 use Rattle.std.proofs.lemmas.List.Sums.{sum_by-cons}
 use Rattle.net_model.specs.Sum.{words, add_around, total_of, sum_of}
-use Rattle.net_model.proofs.Numbers.{IsBytes}
+use Rattle.net_model.proofs.WireNumbers.{IsBytes}
 use Rattle.ip_wire.specs.Carries.{around}
 
 -- one more word in front

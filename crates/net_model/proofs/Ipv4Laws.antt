@@ -1,12 +1,12 @@
 -- A header's fields stand where they are read, and what is read is spelled so.
-use Rattle.std.proofs.Common.{◌≡◌, ℕ, ◌+◌, ◌*◌, ◌/◌, ◌%◌, ◌^◌, ◌<◌, ◌≤◌, Bool, true, false, List, [], ◌∷◌, ◌++◌, length, take, drop, get_or, ◌==◌, slice_index, refl, sym, ap, ◌∙◌, arith}
+use Rattle.std.proofs.Common.{◌≡◌, ℕ, ◌+◌, ◌*◌, ◌/◌, ◌%◌, ◌^◌, ◌<◌, ◌≤◌, Bool, true, false, List, ◌∷◌, ◌++◌, length, take, drop, get_or, ◌==◌, slice_index, refl, sym, ap, ◌∙◌, arith}
 use Rattle.std.proofs.lemmas.Bool.Decides.{nat_tests}
 use Rattle.std.proofs.lemmas.List.{length-drop}
-use Rattle.net_model.specs.Bytes.{word_at, long_at, blanked}
+use Rattle.net_model.specs.Bytes.{word_at, blanked}
 use Rattle.net_model.specs.Sum.{sum_of}
-use Rattle.net_model.specs.Ipv4.{Ipv4, IsHeader, SpellsIpv4, flags, header_with, summed, flagged_bytes, version, header_words, total_length, fragment, header_sum, header_of, payload_of}
-use Rattle.net_model.proofs.Sums.{sum_of-fits}
-use Rattle.net_model.proofs.Numbers.{IsBytes, word_again, long_again, word_high, word_low, long_0, long_1, long_2, long_3, items, by_items}
+use Rattle.net_model.specs.Ipv4.{Ipv4, IsHeader, SpellsIpv4, flags, header_with, flagged_bytes, total_length, fragment, header_sum, header_of, payload_of}
+use Rattle.net_model.proofs.WireSums.{sum_of-fits}
+use Rattle.net_model.proofs.WireNumbers.{IsBytes, word_again, long_again, word_high, word_low, long_0, long_1, long_2, long_3, items, by_items}
 
 -- ---- what was spelled is read
 
@@ -47,10 +47,10 @@ fragment_none false false = refl
 pub sound_again : (reserved : Bool) (h : Ipv4) (payload : List ℕ) → 20 + length payload < 2 ^ 16 → IsSound (flagged_bytes reserved h payload)
 unfolding flagged_bytes
 sound_again reserved h payload fits = record {
-    plain = record { long = omega arith; version = refl; words = refl; whole = fragment_none reserved h.dont_fragment };
-    summed = word_again (sum_of (header_with reserved (20 + length payload) 0 h)) (sum_of-fits (header_with reserved (20 + length payload) 0 h));
-    whole = word_again (20 + length payload) fits ∙ omega arith;
-  }
+  plain = record { long = omega arith; version = refl; words = refl; whole = fragment_none reserved h.dont_fragment };
+  summed = word_again (sum_of (header_with reserved (20 + length payload) 0 h)) (sum_of-fits (header_with reserved (20 + length payload) 0 h));
+  whole = word_again (20 + length payload) fits ∙ omega arith;
+}
 
 -- ---- what is read is spelled so
 
@@ -64,19 +64,24 @@ pub header_read : (bytes : List ℕ) (sum : ℕ) → IsBytes bytes → IsPlain b
 header_read bytes sum fits plain =
     let b : ℕ → ℕ = λ i. get_or bytes i 0 in
     let first : 69 ≡ get_or bytes 0 0 = omega (arith, plain.version, plain.words) in
-    rw (flags_read (256 * b 6 + b 7) (omega (arith, fits 6, fits 7)) plain.whole,
-        ← first,
-        word_high (b 2) (b 3) (fits 2) (fits 3), word_low (b 2) (b 3) (fits 3),
-        word_high (b 4) (b 5) (fits 4) (fits 5), word_low (b 4) (b 5) (fits 5),
-        word_high (b 6) (b 7) (fits 6) (fits 7), word_low (b 6) (b 7) (fits 7),
-        long_0 (b 12) (b 13) (b 14) (b 15) (fits 12) (fits 13) (fits 14) (fits 15),
-        long_1 (b 12) (b 13) (b 14) (b 15) (fits 13) (fits 14) (fits 15),
-        long_2 (b 12) (b 13) (b 14) (b 15) (fits 14) (fits 15),
-        long_3 (b 12) (b 13) (b 14) (b 15) (fits 15),
-        long_0 (b 16) (b 17) (b 18) (b 19) (fits 16) (fits 17) (fits 18) (fits 19),
-        long_1 (b 16) (b 17) (b 18) (b 19) (fits 17) (fits 18) (fits 19),
-        long_2 (b 16) (b 17) (b 18) (b 19) (fits 18) (fits 19),
-        long_3 (b 16) (b 17) (b 18) (b 19) (fits 19)) refl
+    rw (
+      flags_read (256 * b 6 + b 7) (omega (arith, fits 6, fits 7)) plain.whole,
+      ← first,
+      word_high (b 2) (b 3) (fits 2) (fits 3),
+      word_low (b 2) (b 3) (fits 3),
+      word_high (b 4) (b 5) (fits 4) (fits 5),
+      word_low (b 4) (b 5) (fits 5),
+      word_high (b 6) (b 7) (fits 6) (fits 7),
+      word_low (b 6) (b 7) (fits 7),
+      long_0 (b 12) (b 13) (b 14) (b 15) (fits 12) (fits 13) (fits 14) (fits 15),
+      long_1 (b 12) (b 13) (b 14) (b 15) (fits 13) (fits 14) (fits 15),
+      long_2 (b 12) (b 13) (b 14) (b 15) (fits 14) (fits 15),
+      long_3 (b 12) (b 13) (b 14) (b 15) (fits 15),
+      long_0 (b 16) (b 17) (b 18) (b 19) (fits 16) (fits 17) (fits 18) (fits 19),
+      long_1 (b 16) (b 17) (b 18) (b 19) (fits 17) (fits 18) (fits 19),
+      long_2 (b 16) (b 17) (b 18) (b 19) (fits 18) (fits 19),
+      long_3 (b 16) (b 17) (b 18) (b 19) (fits 19),
+    ) refl
 
 blanked_items : (bytes : List ℕ) → 20 ≤ length bytes → blanked 10 (take 20 bytes) ≡ items 0 10 bytes ++ 0 ∷ 0 ∷ items 12 8 bytes
 blanked_items bytes h =
@@ -103,21 +108,21 @@ spelled_read bytes fits sound =
 
 pub header_fits : (bytes : List ℕ) → IsBytes bytes → IsHeader (header_of bytes)
 header_fits bytes fits = record {
-    tos = fits 1;
-    ident = omega (arith, fits 4, fits 5);
-    ttl = fits 8;
-    proto = fits 9;
-    src = omega (arith, fits 12, fits 13, fits 14, fits 15);
-    dst = omega (arith, fits 16, fits 17, fits 18, fits 19);
-  }
+  tos = fits 1;
+  ident = omega (arith, fits 4, fits 5);
+  ttl = fits 8;
+  proto = fits 9;
+  src = omega (arith, fits 12, fits 13, fits 14, fits 15);
+  dst = omega (arith, fits 16, fits 17, fits 18, fits 19);
+}
 
 pub spells_read : (bytes : List ℕ) → IsBytes bytes → IsSound bytes → SpellsIpv4 (header_of bytes) (payload_of bytes) bytes
 spells_read bytes fits sound = record {
-    header = header_fits bytes fits;
-    fits = omega (arith, total_read bytes sound.plain.long sound.whole, fits 2, fits 3);
-    reserved = reserved_of bytes;
-    spelled = spelled_read bytes fits sound;
-  }
+  header = header_fits bytes fits;
+  fits = omega (arith, total_read bytes sound.plain.long sound.whole, fits 2, fits 3);
+  reserved = reserved_of bytes;
+  spelled = spelled_read bytes fits sound;
+}
 
 -- ---- all that a decoder needs of bytes that spell something
 

@@ -1,7 +1,7 @@
 pub mod Ipv4Laws
 pub mod Laid
-pub mod Numbers
-pub mod Sums
+pub mod WireNumbers
+pub mod WireSums
 pub mod UdpLaws
 mod IlCases
 pub mod Worlds

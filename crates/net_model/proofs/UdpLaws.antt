@@ -1,13 +1,13 @@
 -- A user datagram's fields stand where they are read, and what is read is spelled so.
-use Rattle.std.proofs.Common.{◌≡◌, ◌≢◌, ◌⊎◌, ℕ, zero, suc, ◌+◌, ◌*◌, ◌/◌, ◌%◌, ◌^◌, ◌<◌, ◌≤◌, List, [], ◌∷◌, ◌++◌, length, take, drop, get_or, refl, sym, ap, subst, ◌∙◌, inl, inr, arith}
+use Rattle.std.proofs.Common.{◌≡◌, ◌⊎◌, ℕ, ◌+◌, ◌*◌, ◌/◌, ◌%◌, ◌^◌, ◌<◌, ◌≤◌, List, ◌∷◌, ◌++◌, length, take, drop, get_or, refl, sym, ap, ◌∙◌, inl, inr, arith}
 use Rattle.std.proofs.lemmas.Bool.Decides.{nat_tests}
 use Rattle.std.proofs.lemmas.List.{length-drop}
 use Rattle.net_model.specs.declared.address.Addr.{Addr}
-use Rattle.net_model.specs.Bytes.{word_at, blanked}
+use Rattle.net_model.specs.Bytes.{blanked}
 use Rattle.net_model.specs.Sum.{sum_of}
 use Rattle.net_model.specs.UdpWire.{SpellsUdp, address, pseudo_header, sent_sum, udp_with, udp_sum, udp_bytes, unsummed_bytes, sport_of, dport_of, udp_length, sum_field, received_sum, udp_text}
-use Rattle.net_model.proofs.Numbers.{IsBytes, word_again, word_high, word_low, items, by_items}
-use Rattle.net_model.proofs.Sums.{sum_of-fits}
+use Rattle.net_model.proofs.WireNumbers.{IsBytes, word_again, word_high, word_low, items, by_items}
+use Rattle.net_model.proofs.WireSums.{sum_of-fits}
 
 -- ---- what was spelled is read
 
@@ -32,10 +32,10 @@ whole_again sum sport dport text fits = word_again (8 + length text) fits ∙ om
 unsummed_sound : (src dst : Addr) (text : List ℕ) → 8 + length text < 2 ^ 16 → IsSound src.ip dst.ip (unsummed_bytes src dst text)
 unfolding unsummed_bytes
 unsummed_sound src dst text fits = record {
-    long = omega arith;
-    summed = inl refl;
-    whole = whole_again 0 src.port dst.port text fits;
-  }
+  long = omega arith;
+  summed = inl refl;
+  whole = whole_again 0 src.port dst.port text fits;
+}
 
 summed_again : (src dst : Addr) (text : List ℕ) → 8 + length text < 2 ^ 16 → sum_field (udp_bytes src dst text) ≡ received_sum src.ip dst.ip (udp_bytes src dst text)
 unfolding udp_bytes
@@ -46,10 +46,10 @@ summed_again src dst text fits =
 pub summed_sound : (src dst : Addr) (text : List ℕ) → 8 + length text < 2 ^ 16 → IsSound src.ip dst.ip (udp_bytes src dst text)
 unfolding udp_bytes
 summed_sound src dst text fits = record {
-    long = omega arith;
-    summed = inr (summed_again src dst text fits);
-    whole = whole_again (udp_sum src dst text) src.port dst.port text fits;
-  }
+  long = omega arith;
+  summed = inr (summed_again src dst text fits);
+  whole = whole_again (udp_sum src dst text) src.port dst.port text fits;
+}
 
 sound_either : (src dst : Addr) (text bytes : List ℕ) → 8 + length text < 2 ^ 16 → (bytes ≡ udp_bytes src dst text) ⊎ (bytes ≡ unsummed_bytes src dst text) → IsSound src.ip dst.ip bytes
 sound_either src dst text bytes fits (inl e) = rw e (summed_sound src dst text fits)
@@ -76,10 +76,15 @@ with_read : (bytes : List ℕ) (sum : ℕ) → IsBytes bytes → 8 ≤ length by
 with_read bytes sum fits long whole =
     let b : ℕ → ℕ = λ i. get_or bytes i 0 in
     let total : 8 + length (drop 8 bytes) ≡ 256 * get_or bytes 4 0 + get_or bytes 5 0 = omega (arith, length-drop 8 bytes, whole) in
-    rw (total,
-        word_high (b 0) (b 1) (fits 0) (fits 1), word_low (b 0) (b 1) (fits 1),
-        word_high (b 2) (b 3) (fits 2) (fits 3), word_low (b 2) (b 3) (fits 3),
-        word_high (b 4) (b 5) (fits 4) (fits 5), word_low (b 4) (b 5) (fits 5)) refl
+    rw (
+      total,
+      word_high (b 0) (b 1) (fits 0) (fits 1),
+      word_low (b 0) (b 1) (fits 1),
+      word_high (b 2) (b 3) (fits 2) (fits 3),
+      word_low (b 2) (b 3) (fits 3),
+      word_high (b 4) (b 5) (fits 4) (fits 5),
+      word_low (b 4) (b 5) (fits 5),
+    ) refl
 
 itself_read : (bytes : List ℕ) → IsBytes bytes → 8 ≤ length bytes → udp_length bytes ≡ length bytes → bytes ≡ udp_with (sum_field bytes) (sport_of bytes) (dport_of bytes) (udp_text bytes)
 itself_read bytes fits long whole =
@@ -107,8 +112,8 @@ spelled_either src dst bytes fits long whole (inr e) =
 
 pub spells_read : (src dst : ℕ) (bytes : List ℕ) → IsBytes bytes → IsSound src dst bytes → SpellsUdp (address src (sport_of bytes)) (address dst (dport_of bytes)) (udp_text bytes) bytes
 spells_read src dst bytes fits sound = record {
-    sport = omega (arith, fits 0, fits 1);
-    dport = omega (arith, fits 2, fits 3);
-    fits = omega (arith, length-drop 8 bytes, sound.long, sound.whole, fits 4, fits 5);
-    spelled = spelled_either src dst bytes fits sound.long sound.whole sound.summed;
-  }
+  sport = omega (arith, fits 0, fits 1);
+  dport = omega (arith, fits 2, fits 3);
+  fits = omega (arith, length-drop 8 bytes, sound.long, sound.whole, fits 4, fits 5);
+  spelled = spelled_either src dst bytes fits sound.long sound.whole sound.summed;
+}

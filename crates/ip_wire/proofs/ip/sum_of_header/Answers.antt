@@ -1,4 +1,4 @@
-use Rattle.std.proofs.Common.{◌≡◌, ℕ, ◌+◌, ◌-◌, ◌≤◌, List, length, take, drop, sum, sym, ap, ◌∙◌, zero-add, arith}
+use Rattle.std.proofs.Common.{◌≡◌, ℕ, ◌+◌, ◌-◌, take, drop, sum, sym, ap, ◌∙◌, zero-add, arith}
 use Rattle.std.proofs.lemmas.List.{length-take}
 use Rattle.net_model.specs.Sum.{words}
 use Rattle.ip_wire.specs.Carries.{around}

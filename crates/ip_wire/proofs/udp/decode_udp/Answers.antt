@@ -1,4 +1,4 @@
-use Rattle.std.proofs.Common.{◌≡◌, ◌⊎◌, ℕ, List, arith, sym, ◌∙◌, ap, inl, inr}
+use Rattle.std.proofs.Common.{◌≡◌, ◌⊎◌, arith, sym, ◌∙◌, inl, inr}
 use Rattle.net_model.specs.UdpWire.{address, sum_field, received_sum}
 use Rattle.net_model.proofs.UdpLaws.{IsSound, spells_sound, spells_fields, spells_read}
 use Rattle.ip_wire.proofs.udp.decode_udp.Goals as goal

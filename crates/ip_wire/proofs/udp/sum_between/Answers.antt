@@ -1,5 +1,4 @@
-use Rattle.std.proofs.Common.{◌≡◌, ℕ, ap, ◌∙◌, List, drop, sum, ◌+◌, arith}
-use Rattle.net_model.specs.Sum.{words}
+use Rattle.std.proofs.Common.{ap, ◌∙◌, arith}
 use Rattle.net_model.specs.UdpWire.{sent_sum}
 use Rattle.ip_wire.proofs.UdpSum.{received_sum-parts}
 use Rattle.ip_wire.proofs.udp.sum_between.Goals as goal

@@ -1,13 +1,13 @@
 -- Sums of words: over lists end to end, and over bytes with a zero in the sum field.
-use Rattle.std.proofs.Common.{◌≡◌, ℕ, zero, suc, ◌+◌, ◌*◌, ◌-◌, ◌^◌, ◌<◌, ◌≤◌, List, [], ◌∷◌, ◌++◌, length, take, drop, get_or, sum, refl, sym, ap, ◌∙◌, inl, inr, arith}
+use Rattle.std.proofs.Common.{◌≡◌, ℕ, zero, suc, ◌+◌, ◌*◌, ◌^◌, ◌<◌, ◌≤◌, List, [], ◌∷◌, ◌++◌, length, take, drop, sum, refl, ap, ◌∙◌, inl, inr, arith}
 use Rattle.std.proofs.lemmas.Bool.{cases_lt}
 use Rattle.std.proofs.lemmas.Bool.Decides.{nat_tests}
 use Rattle.std.proofs.lemmas.List.{get_or-take, get_or-drop, get_or_past, length-take, length-take-le}
-use Rattle.std.proofs.lemmas.List.Sums.{sum_by-cons, sum_by-append}
+use Rattle.std.proofs.lemmas.List.Sums.{sum_by-append}
 use Rattle.std.specs.Int.{byte_at, bytes_high_first}
 use Rattle.net_model.specs.Bytes.{blanked}
-use Rattle.net_model.specs.Sum.{words, add_around, total_of, sum_of}
-use Rattle.net_model.proofs.Numbers.{IsBytes}
+use Rattle.net_model.specs.Sum.{words, total_of, sum_of}
+use Rattle.net_model.proofs.WireNumbers.{IsBytes}
 
 -- ---- bytes
 
