@@ -1,3 +1,8 @@
+pub mod Ipv4Laws
+pub mod Laid
+pub mod WireNumbers
+pub mod WireSums
+pub mod UdpLaws
 mod IlCases
 pub mod Worlds
 mod ActorCases
