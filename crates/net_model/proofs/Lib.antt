@@ -4,3 +4,7 @@ mod ActorCases
 pub mod Texts
 pub mod Controls
 pub mod PathNames
+pub mod Histories
+pub mod Walk
+pub mod Worked
+pub mod WorkedUdp
