@@ -11,3 +11,7 @@ pub mod Controls
 pub mod PathNames
 pub mod NdbForms
 pub mod NdbPlain
+pub mod Histories
+pub mod Walk
+pub mod Worked
+pub mod WorkedUdp
