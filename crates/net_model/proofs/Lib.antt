@@ -1,3 +1,8 @@
+pub mod Ipv4Laws
+pub mod Laid
+pub mod WireNumbers
+pub mod WireSums
+pub mod UdpLaws
 mod IlCases
 pub mod Worlds
 mod ActorCases
@@ -14,3 +19,9 @@ pub mod Deeds
 pub mod Trace
 pub mod Histories
 pub mod Sides
+pub mod NdbForms
+pub mod NdbPlain
+pub mod Histories
+pub mod Walk
+pub mod Worked
+pub mod WorkedUdp

@@ -1,5 +1,5 @@
 -- Which histories are legal, and which are timed.
---     MayFollow        an entry may stand after these: a field a rule
+--     Follows, MayFollow      an entry may stand after these: a field a rule
 --     IsLegal          each entry may follow those before it
 --     IsTimed          each move comes after a calm, and to the right moment
 --     Keeps, IsFault   the same by rules, and the first entry that breaks one
@@ -19,7 +19,7 @@ use Rattle.net_model.specs.Callers.{Caller, IsClock, caller_of, caller_count}
 use Rattle.net_model.specs.Calm.{movable, target, most_entries}
 use Rattle.net_model.specs.Duties.{Duty}
 use Rattle.net_model.specs.Headers.{header}
-use Rattle.net_model.specs.Net.{Net, after, outcome, owed, moment}
+use Rattle.net_model.specs.Net.{Net, after, outcome_in}
 use Rattle.net_model.specs.Next.{by, next}
 use Rattle.net_model.specs.Steps.{Ask}
 
@@ -64,17 +64,20 @@ abbrev pub IsAsked : List Duty → Caller → Option Ask → Entry → Type 0
 IsAsked [] caller ask x = IsNext caller ask x
 IsAsked (d ∷ ds) caller ask x = record { actor = d.actor; event = d.event } ≡ asked_by x
 
--- the entry may stand after these
-pub record MayFollow (w : World) (past : List Entry) (x : Entry) : Type 0 where
+-- the entry may stand after these, after which the net stands so
+pub record Follows (w : World) (past : List Entry) (net : Net) (x : Entry) : Type 0 where
   -- its reply, its header and its `ended` are those of its outcome
-  pub answers : Shows (outcome w past x) x
-  pub at_moment : x.moment ≡ moment w past
-  pub cites : x.cites ≡ cites_of (owed w past x.caller)
+  pub answers : Shows (outcome_in w net x) x
+  pub at_moment : x.moment ≡ net.moment
+  pub cites : x.cites ≡ cites_of (net.owed x.caller)
   -- its actor and its event are those of its caller's first duty, or those that come next
-  pub is_asked : IsAsked (owed w past x.caller) (caller_of w x.caller) (next w past x.caller) x
-  pub is_ready : IsSome (outcome w past x)
+  pub is_asked : IsAsked (net.owed x.caller) (caller_of w x.caller) (next w past x.caller) x
+  pub is_ready : IsSome (outcome_in w net x)
   pub is_known : (has_actor w x.actor ≡ true) × (x.caller < caller_count w)
   pub has_room : length (by past x.caller) < most_entries
+
+abbrev pub MayFollow : World → List Entry → Entry → Type 0
+MayFollow w past x = Follows w past (after w past) x
 
 -- each entry may follow those before it
 abbrev pub IsLegal : World → List Entry → Type 0

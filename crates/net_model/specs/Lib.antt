@@ -41,3 +41,4 @@ pub mod Legal
 pub mod World
 pub mod Answers
 pub mod Words
+pub mod Rounds

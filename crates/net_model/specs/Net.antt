@@ -86,9 +86,13 @@ owed w h c = (after w h).owed c
 abbrev pub moment : World → List Entry → ℕ
 moment w h = (after w h).moment
 
--- what an entry's actor gives to its work after these entries; none where the work isn't ready
+-- what an entry's actor gives to its work; none where the work isn't ready
+abbrev pub outcome_in : World → Net → Entry → Option Outcome
+outcome_in w net x = option_map (λ (s : Step Actor). s.outcome) (step_of w net x)
+
+-- the same after these entries
 abbrev pub outcome : World → List Entry → Entry → Option Outcome
-outcome w past x = option_map (λ (s : Step Actor). s.outcome) (step_of w (after w past) x)
+outcome w past x = outcome_in w (after w past) x
 
 -- The fold of one actor.
 
