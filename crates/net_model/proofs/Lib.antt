@@ -21,7 +21,7 @@ pub mod Histories
 pub mod Sides
 pub mod NdbForms
 pub mod NdbPlain
-pub mod Histories
 pub mod Walk
 pub mod Worked
 pub mod WorkedUdp
+
