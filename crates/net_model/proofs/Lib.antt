@@ -25,3 +25,5 @@ pub mod Walk
 pub mod Worked
 pub mod WorkedUdp
 
+pub mod Accounts
+pub mod ConvMoves
