@@ -42,3 +42,4 @@ pub mod World
 pub mod Answers
 pub mod Words
 pub mod Rounds
+pub mod Written
