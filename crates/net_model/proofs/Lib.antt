@@ -11,3 +11,9 @@ mod ActorCases
 pub mod Texts
 pub mod Controls
 pub mod PathNames
+pub mod NdbForms
+pub mod NdbPlain
+pub mod Histories
+pub mod Walk
+pub mod Worked
+pub mod WorkedUdp
