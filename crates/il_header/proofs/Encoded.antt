@@ -1,5 +1,5 @@
 -- What is in a slice once a message was laid there and its sum was written in front.
-use Rattle.std.proofs.Common.{◌≡◌, ℕ, ◌+◌, ◌-◌, List, ◌++◌, length, take, drop, refl, sym, ap, ◌∙◌, arith}
+use Rattle.std.proofs.Common.{◌≡◌, ℕ, ◌+◌, ◌-◌, List, ◌++◌, length, take, drop, ap, ◌∙◌, arith}
 use Rattle.std.proofs.lemmas.List.{take_at}
 use Rattle.std.specs.Int.{bytes_high_first}
 use borrow.Rule.Slice.PartMut.{put_mid}

@@ -1,14 +1,14 @@
 -- A packet's bytes read back as the packet.
-use Rattle.std.proofs.Common.{◌≡◌, ℕ, ◌+◌, ◌^◌, ◌<◌, false, List, ◌++◌, length, refl, sym, ap, ◌∙◌, inl, arith}
+use Rattle.std.proofs.Common.{◌≡◌, ℕ, ◌+◌, ◌^◌, ◌<◌, false, List, length, refl, ap, ◌∙◌, inl, arith}
 use Rattle.net_model.specs.declared.address.Addr.{Addr}
 use Rattle.net_model.specs.declared.il.IlMsg.{IlMsg}
 use Rattle.net_model.specs.declared.packet.Body.{Body}
 use Rattle.net_model.specs.declared.packet.Body.TheVariants as body
 use Rattle.net_model.specs.declared.packet.Packet.{Packet}
-use Rattle.net_model.specs.Ipv4.{Ipv4, IsHeader, SpellsIpv4, flagged_bytes, header_of, payload_of}
-use Rattle.net_model.specs.UdpWire.{SpellsUdp, udp_bytes, sport_of, dport_of, udp_text}
-use Rattle.net_model.specs.IlWire.{SpellsIl, il_bytes, il_sport, il_dport, message_of}
-use Rattle.net_model.specs.Datagram.{IsAddress, IsBody, IsPacket, header_for, body_bytes, spelling, between, packet_in, packet_of}
+use Rattle.net_model.specs.Ipv4.{Ipv4, IsHeader, SpellsIpv4, flagged_bytes, payload_of}
+use Rattle.net_model.specs.UdpWire.{SpellsUdp, udp_bytes, dport_of, udp_text}
+use Rattle.net_model.specs.IlWire.{SpellsIl, il_bytes, il_dport, message_of}
+use Rattle.net_model.specs.Datagram.{IsBody, IsPacket, header_for, body_bytes, spelling, between, packet_in, packet_of}
 use Rattle.net_model.proofs.Ipv4Laws.{header_again, payload_again}
 use Rattle.net_model.proofs.UdpLaws.{spells_fields}
 use Rattle.net_model.proofs.IlLaws.{message_again, sport_again, dport_again}
@@ -36,11 +36,11 @@ body_fits src dst (body.Udp text) p = omega (arith, p.1, udp_length_is src dst t
 spells_ipv4 : (src dst : Addr) (ttl tos : ℕ) (b : Body) → IsPacket (made src dst ttl tos b) → SpellsIpv4 (header_for (made src dst ttl tos b)) (body_bytes src dst b) (spelling (made src dst ttl tos b))
 unfolding spelling
 spells_ipv4 src dst ttl tos b p = record {
-    header = header_fits src dst ttl tos b p;
-    fits = body_fits src dst b p.body;
-    reserved = false;
-    spelled = refl;
-  }
+  header = header_fits src dst ttl tos b p;
+  fits = body_fits src dst b p.body;
+  reserved = false;
+  spelled = refl;
+}
 
 -- the bytes of a packet spell its header and its body
 pub spells_datagram : (p : Packet) → IsPacket p → SpellsIpv4 (header_for p) (body_bytes p.src p.dst p.body) (spelling p)
@@ -49,21 +49,21 @@ spells_datagram p h = spells_ipv4 p.src p.dst p.ttl p.tos p.body h
 -- the bytes of an IL body spell its message
 pub spells_il_body : (sport dport : ℕ) (m : IlMsg) → sport < 2 ^ 16 → dport < 2 ^ 16 → IsBody (body.Il m) → SpellsIl sport dport m (il_bytes sport dport m)
 spells_il_body sport dport m s d p = record {
-    sport_fits = s;
-    dport_fits = d;
-    message = p.0;
-    fits = omega (arith, p.1);
-    spelled = refl;
-  }
+  sport_fits = s;
+  dport_fits = d;
+  message = p.0;
+  fits = omega (arith, p.1);
+  spelled = refl;
+}
 
 -- the bytes of a UDP body spell its text
 pub spells_udp_body : (src dst : Addr) (text : List ℕ) → src.port < 2 ^ 16 → dst.port < 2 ^ 16 → IsBody (body.Udp text) → SpellsUdp src dst text (udp_bytes src dst text)
 spells_udp_body src dst text s d p = record {
-    sport = s;
-    dport = d;
-    fits = omega (arith, p.1);
-    spelled = inl refl;
-  }
+  sport = s;
+  dport = d;
+  fits = omega (arith, p.1);
+  spelled = inl refl;
+}
 
 il_again : (src dst : Addr) (ttl tos : ℕ) (m : IlMsg) → IsPacket (made src dst ttl tos (body.Il m)) → packet_in (header_for (made src dst ttl tos (body.Il m))) (il_bytes src.port dst.port m) ≡ made src dst ttl tos (body.Il m)
 il_again src dst ttl tos m p =

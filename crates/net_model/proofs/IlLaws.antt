@@ -1,11 +1,10 @@
 -- An IL message's fields stand where they are read, and what is read is spelled so.
-use Rattle.std.proofs.Common.{◌≡◌, ℕ, zero, suc, ◌+◌, ◌*◌, ◌/◌, ◌%◌, ◌^◌, ◌<◌, ◌≤◌, ◌==◌, List, [], ◌∷◌, ◌++◌, length, take, drop, get_or, slice_index, refl, sym, ap, ◌∙◌, arith}
-use Rattle.std.proofs.lemmas.Bool.Decides.{nat_tests}
+use Rattle.std.proofs.Common.{◌≡◌, ℕ, zero, suc, ◌+◌, ◌*◌, ◌/◌, ◌%◌, ◌^◌, ◌<◌, ◌≤◌, List, ◌∷◌, ◌++◌, length, drop, get_or, refl, sym, ap, ◌∙◌, arith}
 use Rattle.std.proofs.lemmas.List.{length-drop}
 use Rattle.net_model.specs.declared.il.IlKind.{IlKind}
 use Rattle.net_model.specs.declared.il.IlKind.TheVariants as kind
 use Rattle.net_model.specs.declared.il.IlMsg.{IlMsg}
-use Rattle.net_model.specs.Bytes.{word_at, long_at, blanked}
+use Rattle.net_model.specs.Bytes.{word_at, blanked}
 use Rattle.net_model.specs.Sum.{sum_of}
 use Rattle.net_model.specs.IlWire.{IsMessage, SpellsIl, type_number, il_with, il_bytes, il_sum, il_length, type_field, kind_of, il_sport, il_dport, message_of}
 use Rattle.net_model.proofs.WireNumbers.{IsBytes, word_again, long_again, word_high, word_low, long_0, long_1, long_2, long_3, items, by_items}
@@ -41,11 +40,11 @@ type_known kind.Close = omega arith
 pub sound_again : (sport dport : ℕ) (m : IlMsg) → 18 + length m.text < 2 ^ 16 → IsSound (il_bytes sport dport m)
 unfolding il_bytes
 sound_again sport dport m fits = record {
-    long = omega arith;
-    summed = word_again (sum_of (il_with 0 sport dport m)) (sum_of-fits (il_with 0 sport dport m));
-    whole = word_again (18 + length m.text) fits ∙ omega arith;
-    known = type_known m.kind;
-  }
+  long = omega arith;
+  summed = word_again (sum_of (il_with 0 sport dport m)) (sum_of-fits (il_with 0 sport dport m));
+  whole = word_again (18 + length m.text) fits ∙ omega arith;
+  known = type_known m.kind;
+}
 
 pub message_again : (sport dport : ℕ) (m : IlMsg) → IsMessage m → message_of (il_bytes sport dport m) ≡ m
 unfolding il_bytes
@@ -91,18 +90,24 @@ with_read : (bytes : List ℕ) (sum : ℕ) → IsBytes bytes → IsSound bytes �
 with_read bytes sum fits sound =
     let b : ℕ → ℕ = λ i. get_or bytes i 0 in
     let total : 18 + length (drop 18 bytes) ≡ 256 * get_or bytes 2 0 + get_or bytes 3 0 = omega (arith, length-drop 18 bytes, sound.whole, sound.long) in
-    rw (total, type_read (b 4) sound.known,
-        word_high (b 2) (b 3) (fits 2) (fits 3), word_low (b 2) (b 3) (fits 3),
-        word_high (b 6) (b 7) (fits 6) (fits 7), word_low (b 6) (b 7) (fits 7),
-        word_high (b 8) (b 9) (fits 8) (fits 9), word_low (b 8) (b 9) (fits 9),
-        long_0 (b 10) (b 11) (b 12) (b 13) (fits 10) (fits 11) (fits 12) (fits 13),
-        long_1 (b 10) (b 11) (b 12) (b 13) (fits 11) (fits 12) (fits 13),
-        long_2 (b 10) (b 11) (b 12) (b 13) (fits 12) (fits 13),
-        long_3 (b 10) (b 11) (b 12) (b 13) (fits 13),
-        long_0 (b 14) (b 15) (b 16) (b 17) (fits 14) (fits 15) (fits 16) (fits 17),
-        long_1 (b 14) (b 15) (b 16) (b 17) (fits 15) (fits 16) (fits 17),
-        long_2 (b 14) (b 15) (b 16) (b 17) (fits 16) (fits 17),
-        long_3 (b 14) (b 15) (b 16) (b 17) (fits 17)) refl
+    rw (
+      total,
+      type_read (b 4) sound.known,
+      word_high (b 2) (b 3) (fits 2) (fits 3),
+      word_low (b 2) (b 3) (fits 3),
+      word_high (b 6) (b 7) (fits 6) (fits 7),
+      word_low (b 6) (b 7) (fits 7),
+      word_high (b 8) (b 9) (fits 8) (fits 9),
+      word_low (b 8) (b 9) (fits 9),
+      long_0 (b 10) (b 11) (b 12) (b 13) (fits 10) (fits 11) (fits 12) (fits 13),
+      long_1 (b 10) (b 11) (b 12) (b 13) (fits 11) (fits 12) (fits 13),
+      long_2 (b 10) (b 11) (b 12) (b 13) (fits 12) (fits 13),
+      long_3 (b 10) (b 11) (b 12) (b 13) (fits 13),
+      long_0 (b 14) (b 15) (b 16) (b 17) (fits 14) (fits 15) (fits 16) (fits 17),
+      long_1 (b 14) (b 15) (b 16) (b 17) (fits 15) (fits 16) (fits 17),
+      long_2 (b 14) (b 15) (b 16) (b 17) (fits 16) (fits 17),
+      long_3 (b 14) (b 15) (b 16) (b 17) (fits 17),
+    ) refl
 
 pub spelled_read : (bytes : List ℕ) → IsBytes bytes → IsSound bytes → bytes ≡ il_bytes (il_sport bytes) (il_dport bytes) (message_of bytes)
 unfolding il_bytes
@@ -117,9 +122,9 @@ spelled_read bytes fits sound =
 
 pub spells_read : (bytes : List ℕ) → IsBytes bytes → IsSound bytes → SpellsIl (il_sport bytes) (il_dport bytes) (message_of bytes) bytes
 spells_read bytes fits sound = record {
-    sport_fits = omega (arith, fits 6, fits 7);
-    dport_fits = omega (arith, fits 8, fits 9);
-    message = record { spec = fits 5; id = omega (arith, fits 10, fits 11, fits 12, fits 13); ack = omega (arith, fits 14, fits 15, fits 16, fits 17) };
-    fits = omega (arith, length-drop 18 bytes, sound.long, sound.whole, fits 2, fits 3);
-    spelled = spelled_read bytes fits sound;
-  }
+  sport_fits = omega (arith, fits 6, fits 7);
+  dport_fits = omega (arith, fits 8, fits 9);
+  message = record { spec = fits 5; id = omega (arith, fits 10, fits 11, fits 12, fits 13); ack = omega (arith, fits 14, fits 15, fits 16, fits 17) };
+  fits = omega (arith, length-drop 18 bytes, sound.long, sound.whole, fits 2, fits 3);
+  spelled = spelled_read bytes fits sound;
+}

@@ -1,4 +1,4 @@
-use Rattle.std.proofs.Common.{◌≡◌, length, refl, ap, arith}
+use Rattle.std.proofs.Common.{◌≡◌, length, ap, arith}
 use Rattle.std.proofs.lemmas.List.{length-take-le}
 use Rattle.il_header.proofs.Encoded.{encoded}
 use Rattle.il_header.proofs.message.encode_il.Goals as goal
