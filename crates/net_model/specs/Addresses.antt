@@ -1,13 +1,13 @@
 -- Addresses and ports as words, and the words that they are written as.
 use Rattle.std.specs.Prelude.{ℕ, ◌+◌, ◌*◌, ◌/◌, ◌%◌, ◌^◌, ◌&&◌, ◌==◌, nat_lt, nat_le, List, [], ◌∷◌, ◌++◌, length, Option, Some, None, option_and_then, if◌then◌else◌, codes, decimal}
-use Rattle.std.specs.List.{slice_split}
-use Rattle.std.specs.Str.{all_ascii_digits}
+use Rattle.std.specs.List.{slice_split, list_all}
+use Rattle.std.specs.Char.{is_ascii_digit}
 use Rattle.std.specs.Str.Parse.{digits_value}
 
 -- the number of a word of at least one digit and at most so many, leading zeros included
 abbrev pub read_digits : ℕ → List ℕ → Option ℕ
 read_digits most word =
-    if nat_lt 0 (length word) && nat_le (length word) most && all_ascii_digits word
+    if nat_lt 0 (length word) && nat_le (length word) most && list_all is_ascii_digit word
     then Some (digits_value 10 word) else None
 
 -- the number, where it is neither below the one bound nor above the other

@@ -51,9 +51,13 @@ network_of tuple =
     (first_of (filter_map read_address (values_in (codes "ip") tuple)))
     else None
 
--- the network contains the address: both have the same first bits
+-- two addresses have the same first bits
+abbrev pub same_first : ℕ → ℕ → ℕ → Bool
+same_first bits ip other = ip / 2 ^ (32 - bits) == other / 2 ^ (32 - bits)
+
+-- the network contains the address
 abbrev pub contains_address : Network → ℕ → Bool
-contains_address network ip = network.ip / 2 ^ (32 - network.bits) == ip / 2 ^ (32 - network.bits)
+contains_address network ip = same_first network.bits network.ip ip
 
 -- a system's own networks, in order: those that contain one of its addresses
 abbrev pub own_networks : List ℕ → List (List (List NdbPair)) → List Network

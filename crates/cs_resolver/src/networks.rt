@@ -1,0 +1,97 @@
+//! The networks that the database describes, and which of them are a system's own.
+ghost use Rattle.std.specs.Prelude.{◌≡◌, ◌≤◌, map, option_map, IfOk};
+ghost use Rattle.net_model.specs.Networks as spec;
+ghost use Rattle.cs_resolver.specs.Numbers.{prefix_of};
+ghost use Rattle.cs_resolver.specs.Prefixes.{prefix_contains, prefixes_contain};
+
+use crate::numbers::{Kind, add_in, first_in};
+use crate::search::{line_with, tuple_names};
+use crate::words::read_address;
+use net_model::{Db, Tuple};
+use std::alloc::{AllocError, Global};
+
+/// An address with the number of its first bits that a network shares.
+#[derive(Clone, Copy, Drop)]
+pub struct Prefix {
+    pub ip: u32,
+    pub bits: u32,
+}
+
+impl Prefix {
+    /// Whether the address has the same first bits.
+    pub fn contains(self, ip: u32) -> bool {
+        let others = 32u32.saturating_sub(self.bits);
+        u64::from(self.ip) >> others == u64::from(ip) >> others
+    }
+}
+
+/// Whether the address is on one of the networks.
+pub fn is_on(networks: &[Prefix], ip: u32) -> bool {
+    networks.iter().any(|network| network.contains(ip))
+}
+
+/// The mask whose ones are its first so many bits.
+pub fn mask_of(bits: u32) -> u64
+    requires { bits ≤ 32 }
+{
+    (1u64 << 32) - (1u64 << (32 - bits))
+}
+
+/// How many ones a mask has, where they are a prefix.
+pub fn mask_bits(mask: u32) -> Option<u32> {
+    for bits in 0..33 {
+        if mask_of(bits) == u64::from(mask) {
+            return Some(bits);
+        }
+    }
+    None
+}
+
+/// The ones of a mask that is written as an address.
+pub fn read_mask(word: &[u8]) -> Option<u32> {
+    mask_bits(read_address(word)?)
+}
+
+/// The ones of the mask that goes with an address by its first byte.
+pub fn class_bits(ip: u32) -> u32 {
+    match ip >> 24 {
+        0..128 => 8,
+        128..192 => 16,
+        _ => 24,
+    }
+}
+
+/// The network of a tuple with `ipnet` and an address as `ip`.
+pub fn network_of(tuple: &Tuple) -> Option<Prefix> {
+    if !tuple_names(b"ipnet", tuple) {
+        return None;
+    }
+    let ip = first_in(Kind::Address, tuple)?;
+    let bits = first_in(Kind::Mask, tuple).unwrap_or(class_bits(ip));
+    Some(Prefix { ip, bits })
+}
+
+/// The addresses of a system.
+pub fn addresses_of(alloc: Global, me: &[u8], db: &Db) -> Result<Vec<u32>, AllocError> {
+    let mut ips = Vec::new(alloc);
+    for tuple in db.as_slice() {
+        if let Some(_) = line_with(b"sys", me, tuple) {
+            add_in(Kind::Address, tuple, &mut ips)?;
+        }
+    }
+    Ok(ips)
+}
+
+/// The networks that contain one of a system's addresses, in order.
+pub fn own_networks(alloc: Global, me: &[u8], db: &Db) -> Result<Vec<Prefix>, AllocError> {
+    let ips = addresses_of(alloc, me, db)?;
+    let mut networks = Vec::new(alloc);
+    for tuple in db.as_slice() {
+        if let Some(network) = network_of(tuple) {
+            if ips.iter().any(|ip| network.contains(*ip)) {
+                networks.push(network)?;
+            }
+        }
+    }
+    Ok(networks)
+}

@@ -1,0 +1,3 @@
+pub use Rattle.net_model.specs.NdbText
+pub use Rattle.net_model.specs.NdbBundle
+pub use Rattle.net_model.specs.NdbForm

@@ -1,0 +1,22 @@
+//! Why a text is refused.
+use std::alloc::AllocError;
+
+/// Why a text was not read.
+#[derive(Clone, Copy, Debug, PartialEq, Eq, Drop)]
+pub enum NdbError {
+    /// Memory ran out.
+    Memory,
+    /// The first bad line, counted from 1, and its least cause.
+    Bad { line: u64, cause: u32 },
+}
+
+impl From<AllocError> for NdbError {
+    ghost use Rattle.std.specs.Prelude.{◌≡◌};
+    ghost use Rattle.ndb_reader.specs.declared.fault.NdbError.TheVariants as error;
+
+    ghost from_gives = { λ _ e. e ≡ error.Memory };
+
+    fn from(_error: AllocError) -> NdbError {
+        NdbError::Memory
+    }
+}
