@@ -29,3 +29,5 @@ pub mod WorkedUdp
 
 pub mod Accounts
 pub mod ConvMoves
+pub mod Acts
+pub mod Touch
