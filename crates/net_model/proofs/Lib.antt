@@ -31,3 +31,6 @@ pub mod Accounts
 pub mod ConvMoves
 pub mod Acts
 pub mod Touch
+pub mod ConvSteps
+pub mod DirSteps
+pub mod DirRows

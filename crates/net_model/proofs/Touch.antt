@@ -25,12 +25,13 @@ use Rattle.net_model.proofs.Sides.{same_pair_is, put_here, put_there, put_same, 
 abbrev pub owner_of : ℕ → ℕ → ℕ → Option Owner
 owner_of h n g = Some (record { host = h; slot = n; generation = g })
 
--- what holds of all pairs
-pub record Owned (t : Trace) : Type 0 where
+-- what holds of all pairs, where each end has written at most so many messages
+pub record Owned (n : ℕ) (t : Trace) : Type 0 where
   pub talk : (p : Pair) → Holds (t.side p) (t.side (mirror p))
   pub untouched : (p : Pair) → t.owner p ≡ None → t.side p ≡ empty_side
   pub unique : (p q : Pair) (o : Owner) → t.owner p ≡ Some o → t.owner q ≡ Some o → p ≡ q
   pub apart : (p : Pair) (o : Owner) → t.owner p ≡ Some o → same_pair p (mirror p) ≡ false
+  pub few : (p : Pair) → length (t.side p).end.sent ≤ n
 
 abbrev pub IsIn : IlMsg → List IlMsg → Type 0
 IsIn m [] = ⊥
@@ -80,8 +81,8 @@ ActorFine t h n (IsConv c) = ConvFine t h n c
 ActorFine t h n _ = ⊥
 
 -- what a step of the conversation n of host h leaves
-pub record ConvStep (h n : ℕ) (t u : Trace) (s : Step Conv) : Type 0 where
-  pub owned : Owned u
+pub record ConvStep (k h n : ℕ) (t u : Trace) (s : Step Conv) : Type 0 where
+  pub owned : Owned (k + 1) u
   pub own : ConvFine u h n s.state
   pub others : (h' n' : ℕ) (a : Actor) → (h ≡ h' → n ≡ n' → ⊥) → ActorFine t h' n' a → ActorFine u h' n' a
   pub later : Later t u
@@ -117,17 +118,22 @@ module _ (t : Trace) (p : Pair) (turn : Turn) where
           (in_out m turn.emits (t.side p).out (subst (λ (r : Pair). IsIn m (t.side r).out) (sym (same_pair_is p q is)) there))
       go q m there false is = subst (λ (s : Side). IsIn m s.out) (sym (side_at q false is)) there
 
-  pub owned_touched : (o : Owner) → t.owner p ≡ Some o → Owned t → Stepped (t.side p) (t.side (mirror p)) (leaves (t.side p) turn) → Owned (touched t p turn)
-  owned_touched o is w step = record {
+  pub owned_touched : (k : ℕ) (o : Owner) → t.owner p ≡ Some o → Owned k t → Stepped (t.side p) (t.side (mirror p)) (leaves (t.side p) turn) → Owned (k + 1) (touched t p turn)
+  owned_touched k o is w step = record {
     talk = talk_put t.side p (leaves (t.side p) turn) (w.apart p o is) w.talk step;
     untouched = λ q none. untouched q none (same_pair p q) refl;
     unique = w.unique;
     apart = w.apart;
+    few = λ q. few q (same_pair p q) refl;
   }
     where
       untouched : (q : Pair) → t.owner q ≡ None → (b : Bool) → same_pair p q ≡ b → (touched t p turn).side q ≡ empty_side
       untouched q none true same = absurd (none-some o (sym none ∙ (ap t.owner (sym (same_pair_is p q same)) ∙ is)))
       untouched q none false same = side_at q false same ∙ w.untouched q none
+
+      few : (q : Pair) (b : Bool) → same_pair p q ≡ b → length ((touched t p turn).side q).end.sent ≤ k + 1
+      few q true same = subst (λ (s : Side). length s.end.sent ≤ k + 1) (sym (side_at q true same)) (omega (arith, step.grows.sent_one, w.few p))
+      few q false same = subst (λ (s : Side). length s.end.sent ≤ k + 1) (sym (side_at q false same)) (omega (arith, w.few q))
 
   -- the conversations that don't have the pair keep what they have
   pub others_touched : (h n g : ℕ) → t.owner p ≡ owner_of h n g → (h' n' : ℕ) (a : Actor) → (h ≡ h' → n ≡ n' → ⊥) → ActorFine t h' n' a → ActorFine (touched t p turn) h' n' a
@@ -164,11 +170,11 @@ module _ (t : Trace) (p : Pair) (turn : Turn) where
           (subst (λ (s : Side). IsIn m s.out) (sym (put_here t.side p (leaves (t.side p) turn))) (subst (λ (x : Option IlMsg). IsIn m (out_with x (t.side p).out)) (sym is) (inl refl))))
 
   -- the conversation h, n comes to have the pair in generation g, or has it
-  pub touches : (h n g : ℕ) (c : Conv) (s : Step Conv) → t.owner p ≡ owner_of h n g → c.generation ≤ g → NotYet t h n c → Owned t → Good (t.side p).end (t.side (mirror p)).end turn
+  pub touches : (k h n g : ℕ) (c : Conv) (s : Step Conv) → t.owner p ≡ owner_of h n g → c.generation ≤ g → NotYet t h n c → Owned k t → Good (t.side p).end (t.side (mirror p)).end turn
       → s.state.generation ≡ g → s.state.pair ≡ p → s.state.stage ≡ Connected → s.state.core ≡ Il turn.end → Emits p s.outcome.emit turn.emits
-      → ConvStep h n t (touched t p turn) s
-  touches h n g c s is le not_yet w good gen_is pair_is stage_is core_is emits = record {
-    owned = owned_touched (record { host = h; slot = n; generation = g }) is w (stepped (t.side p) (t.side (mirror p)) turn (w.talk p) good);
+      → ConvStep k h n t (touched t p turn) s
+  touches k h n g c s is le not_yet w good gen_is pair_is stage_is core_is emits = record {
+    owned = owned_touched k (record { host = h; slot = n; generation = g }) is w (stepped (t.side p) (t.side (mirror p)) turn (w.talk p) good);
     own = (
       rw (stage_is, core_is) (rw (pair_is, gen_is) (is, ap (λ (x : Side). x.end) (put_here t.side p (leaves (t.side p) turn)))),
       λ q g' owner le' not. not_yet' q g' owner (subst (λ (i : ℕ). i ≤ g') gen_is le') (λ i. subst (λ (x : Stage). is_connected x ≡ false) stage_is (not (i ∙ sym gen_is))),
