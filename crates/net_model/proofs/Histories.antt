@@ -138,3 +138,9 @@ by_entries w P none more h legal = subst P (take_all (length h) h (omega arith))
     up_to (suc k) le =
         let x = one_more h k (omega arith) in
         subst P (sym x.2) (more (take k h) x.0 (legal_take w h k legal) (legal k x.0 x.1) (up_to k (omega arith)))
+
+-- a beginning of a timed history is timed
+pub timed_take : (w : World) (h : List Entry) (k : ℕ) → IsTimed w h → IsTimed w (take k h)
+timed_take w h k timed j x is =
+    let here = slice_get_take k h j x is in
+    subst (λ (p : List Entry). IsInTime (after w p) w x.event) (sym (take-take j k h (omega (arith, here.0)))) (timed j x here.1)

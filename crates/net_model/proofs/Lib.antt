@@ -6,5 +6,4 @@ pub mod Controls
 pub mod PathNames
 pub mod Histories
 pub mod Walk
-pub mod Worked
-pub mod WorkedUdp
+pub mod CasesUdp

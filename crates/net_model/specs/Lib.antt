@@ -42,3 +42,5 @@ pub mod World
 pub mod Answers
 pub mod Words
 pub mod Rounds
+pub mod Worked
+pub mod WorkedUdp
