@@ -44,3 +44,4 @@ pub mod Words
 pub mod Rounds
 pub mod Worked
 pub mod WorkedUdp
+pub mod Written
