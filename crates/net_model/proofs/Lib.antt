@@ -16,3 +16,4 @@ pub mod NdbPlain
 pub mod Histories
 pub mod Walk
 pub mod CasesUdp
+pub mod CasesIl

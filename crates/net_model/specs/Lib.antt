@@ -45,3 +45,4 @@ pub mod Rounds
 pub mod Worked
 pub mod WorkedUdp
 pub mod Written
+pub mod WorkedIl
