@@ -1,0 +1,27 @@
+-- The words of a command line and the commands that they give.
+use Rattle.std.specs.Prelude.{ℕ, Bool, true, false, ◌&&◌, List, [], ◌∷◌, Option, Some, None, if◌then◌else◌, bytes_eq, codes}
+
+-- a command
+pub data Command : Type 0 where
+  -- what a host is answered to a query, by its name
+  Cs : List ℕ → List ℕ → Command
+
+-- a word that has bytes
+abbrev pub is_word : List ℕ → Bool
+is_word [] = false
+is_word (byte ∷ bytes) = true
+
+-- the command that words give, where they are in a row: `cs SYS QUERY`
+abbrev pub command_of : List (List ℕ) → Option Command
+command_of (name ∷ sys ∷ query ∷ []) =
+    if bytes_eq name (codes "cs") && is_word sys && is_word query then Some (Cs sys query) else None
+command_of _ = None
+
+-- whether a command may wait for threads
+abbrev pub may_wait : Command → Bool
+may_wait (Cs sys query) = false
+
+-- whether words give a command that may wait
+abbrev pub words_wait : Option Command → Bool
+words_wait None = false
+words_wait (Some command) = may_wait command

@@ -1,0 +1,18 @@
+//! The world outside: where bytes come from, where they go, and the gate that watches the actors' locks.
+#![tactic(auto)]
+
+mod fault;
+mod gate;
+mod memory;
+mod sink;
+mod source;
+mod standard;
+mod sure;
+
+pub use fault::{Failed, TakeError};
+pub use gate::{Gate, OpenGate};
+pub use memory::{FailList, MemSink, MemSource};
+pub use sink::{Sink, write_all};
+pub use source::{Source, read_to_end};
+pub use standard::{StdSink, StdSource};
+pub use sure::{SureSink, SureSource};
