@@ -1,3 +1,5 @@
+pub mod DatagramLaws
+pub mod IlLaws
 pub mod Ipv4Laws
 pub mod Laid
 pub mod WireNumbers

@@ -18,6 +18,7 @@ mod reply;
 mod sequence;
 mod timer;
 mod udp;
+mod wire_law;
 mod world;
 
 pub use actor::{ActorList, ActorName, Call, CallList, same_actor};
@@ -37,6 +38,7 @@ pub use reply::Reply;
 pub use sequence::Sequence;
 pub use timer::Tick;
 pub use udp::UdpState;
+pub use wire_law::packets_are_read;
 pub use world::{
     Fate, FateRange, Fates, HostSpec, Hosts, Iface, Ifaces, Media, MediumSpec, Nets, RouteLine,
     RouteLines, Script, Scripts, Starts, Step, StepList, World,
