@@ -14,6 +14,7 @@ use std::alloc::AllocError;
 use std::marker::Model;
 
 /// What a call did. `Memory` leaves the pass as it was.
+#[derive(Debug, Drop)]
 pub enum Answer {
     Done { stamp: u64, outcome: Outcome },
     NotReady { front: u64 },
@@ -21,6 +22,7 @@ pub enum Answer {
 }
 
 /// What was seen of an actor, at the front that the pass has then seen.
+#[derive(Clone, Copy, Debug, PartialEq, Eq)]
 pub struct View {
     pub ready: bool,
     pub due: Option<u64>,

@@ -17,6 +17,7 @@ use std::alloc::Global;
 use std::marker::Brand;
 use std::process::Abort;
 use std::sync::Wait;
+use std::sync::atomic::{AtomicU64, Ordering};
 use std::test::*;
 use std::thread::{Threads, join};
 
@@ -28,18 +29,17 @@ enum Told {
     Nothing,
 }
 
-fn told(answer: Answer) -> Told {
+fn heard(answer: Answer) -> Told {
     match answer {
         Answer::Done {
             stamp,
-            outcome:
-                Outcome {
-                    reply: Reply::Count { count },
-                    copy: _,
-                    emit: _,
-                    taken: _,
-                    ended: _,
-                },
+            outcome: Outcome {
+                reply: Reply::Count { count },
+                copy: _,
+                emit: _,
+                taken: _,
+                ended: _,
+            },
         } => Told::Counted(stamp, count),
         Answer::Done {
             stamp: _,
@@ -73,7 +73,7 @@ fn act_once<J: Naming, R: Wait, G: Gate>(
         with: With::Nothing,
     };
     let answer = desk.act(rt, journal, gate, &mut pass, caller, 0, &work, None);
-    (told(answer), pass)
+    (heard(answer), pass)
 }
 
 fn counted_by_two<J: Naming + Send + Sync, R: Threads + Wait + Abort + Sync>(
@@ -129,4 +129,59 @@ fn two_threads_count(rt: HostRuntime) -> Result<(), Fail> {
     names.push(ActorName::Desk(0))?;
     let opened = Opened::new(rt.alloc(), 2, &ActorList::from_vec(names))?;
     counted_by_two::<Brand, _>(&rt, rt.alloc(), opened)
+}
+
+// Acts twice at a desk, once where it isn't ready, and then at the clock.
+fn watched<J: Naming, R: Wait + Abort>(rt: &R, alloc: Global, opened: Opened) -> Result<(), Fail>
+    requires name { opened ≡ J.run }
+    requires callers { J.run.roster.callers ≡ 1 }
+    requires actors { J.run.roster.actors ≡ DeskName 0 ∷ ClockName ∷ [] }
+{
+    let gate = Watch {
+        places: AtomicU64::new(0),
+    };
+    let (journal, pass, mut books) = opened.named::<J>(alloc)?;
+    let (Some(second), Some(first)) = (books.pop(), books.pop()) else {
+        panic!(rt; "two books")
+    };
+    let desk = Locked::new(Counter { count: 0 }, first);
+    let clock = Locked::new(Counter { count: 0 }, second);
+    let early = Event::Await { generation: 1 };
+    let (told, pass) = act_once(rt, &journal, &gate, &desk, pass, 0, 0, early);
+    assert_eq!(rt; told, Told::NotReady(0));
+    assert_eq!(rt; gate.places.load(Ordering::SeqCst), 0);
+    let (told, pass) = act_once(rt, &journal, &gate, &desk, pass, 0, 1, Event::Take);
+    assert_eq!(rt; told, Told::Counted(0, 1));
+    assert_eq!(rt; gate.places.load(Ordering::SeqCst), 12);
+    let later = Event::Await { generation: 1 };
+    let (told, mut pass) = act_once(rt, &journal, &gate, &desk, pass, 0, 2, later);
+    assert_eq!(rt; told, Told::Counted(1, 2));
+    let work = Work {
+        event: Event::Move { moment: 7 },
+        with: With::Nothing,
+    };
+    let told = heard(clock.act_clock(rt, &journal, &gate, &mut pass, 0, 0, &work, None));
+    assert_eq!(rt; told, Told::Counted(2, 1));
+    assert_eq!(rt; gate.places.load(Ordering::SeqCst), 121234);
+    let wait = Work {
+        event: Event::Await { generation: 3 },
+        with: With::Nothing,
+    };
+    let seen = desk.view(rt, &journal, &mut pass, 7, Some(&wait));
+    assert!(rt; !seen.ready && seen.due.is_none() && seen.front == 3);
+    let seen = desk.view(rt, &journal, &mut pass, 7, Some(&work));
+    assert!(rt; seen.ready && seen.front == 3);
+    let seen = clock.view(rt, &journal, &mut pass, 7, None);
+    assert!(rt; !seen.ready && seen.front == 3);
+    assert_eq!(rt; gate.places.load(Ordering::SeqCst), 121234);
+    Ok(())
+}
+
+#[test]
+fn the_gate_is_called_round_each_record(rt: HostRuntime) -> Result<(), Fail> {
+    let mut names = Vec::new(rt.alloc());
+    names.push(ActorName::Desk(0))?;
+    names.push(ActorName::Clock)?;
+    let opened = Opened::new(rt.alloc(), 1, &ActorList::from_vec(names))?;
+    watched::<Brand, _>(&rt, rt.alloc(), opened)
 }
