@@ -9,5 +9,3 @@ pub use desk::{Answer, Desk, View};
 pub use lock::Locked;
 pub use machine::Machine;
 
-#[cfg(test)]
-mod tests;
