@@ -8,4 +8,3 @@ mod machine;
 pub use desk::{Answer, Desk, View};
 pub use lock::Locked;
 pub use machine::Machine;
-
