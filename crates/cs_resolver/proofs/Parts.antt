@@ -13,7 +13,7 @@ use Rattle.net_model.specs.Addresses.{parts_at, join_words, read_address}
 pub parts_first : (separator : ℕ) (word : List ℕ) (i : ℕ) → i < length word → All (λ byte. (byte == separator) ≡ false) (take i word) → (get_or word i 0 == separator) ≡ true → parts_at separator word ≡ take i word ∷ parts_at separator (drop (i + 1) word)
 parts_first separator word i within none here =
     let whole : take i word ++ get_or word i 0 ∷ drop (i + 1) word ≡ word =
-        rw add-one (ap (λ rest. take i word ++ rest) (sym (drop-cons word i 0 within)) ∙ take-append-drop i word) in
+    rw add-one (ap (λ rest. take i word ++ rest) (sym (drop-cons word i 0 within)) ∙ take-append-drop i word) in
     ap (parts_at separator) (sym whole)
     ∙ slice_split_at (λ byte. byte == separator) (take i word) (get_or word i 0) (drop (i + 1) word) none here
 

@@ -5,8 +5,7 @@ use std::alloc::{AllocError, Global};
 use std::fmt;
 
 /// A protocol's name.
-pub fn proto_name(net: Proto) -> &'static str
-{
+pub fn proto_name(net: Proto) -> &'static str {
     match net {
         Proto::Il => "il",
         Proto::Udp => "udp",
@@ -34,8 +33,7 @@ impl fmt::Display for DialLine {
 
 impl DialLine {
     /// The line's text.
-    pub fn text(self, alloc: Global) -> Result<Octets, AllocError>
-    {
+    pub fn text(self, alloc: Global) -> Result<Octets, AllocError> {
         Ok(Octets::from_vec(self.to_string(alloc)?.into_bytes()))
     }
 }

@@ -19,16 +19,14 @@ pub struct Prefix {
 
 impl Prefix {
     /// Whether the address has the same first bits.
-    pub fn contains(self, ip: u32) -> bool
-    {
+    pub fn contains(self, ip: u32) -> bool {
         let others = 32u32.saturating_sub(self.bits);
         u64::from(self.ip) >> others == u64::from(ip) >> others
     }
 }
 
 /// Whether the address is on one of the networks.
-pub fn is_on(networks: &[Prefix], ip: u32) -> bool
-{
+pub fn is_on(networks: &[Prefix], ip: u32) -> bool {
     networks.iter().any(|network| network.contains(ip))
 }
 
@@ -40,8 +38,7 @@ pub fn mask_of(bits: u32) -> u64
 }
 
 /// How many ones a mask has, where they are a prefix.
-pub fn mask_bits(mask: u32) -> Option<u32>
-{
+pub fn mask_bits(mask: u32) -> Option<u32> {
     for bits in 0..33 {
         if mask_of(bits) == u64::from(mask) {
             return Some(bits);
@@ -51,14 +48,12 @@ pub fn mask_bits(mask: u32) -> Option<u32>
 }
 
 /// The ones of a mask that is written as an address.
-pub fn read_mask(word: &[u8]) -> Option<u32>
-{
+pub fn read_mask(word: &[u8]) -> Option<u32> {
     mask_bits(read_address(word)?)
 }
 
 /// The ones of the mask that goes with an address by its first byte.
-pub fn class_bits(ip: u32) -> u32
-{
+pub fn class_bits(ip: u32) -> u32 {
     match ip >> 24 {
         0..128 => 8,
         128..192 => 16,
@@ -67,8 +62,7 @@ pub fn class_bits(ip: u32) -> u32
 }
 
 /// The network of a tuple with `ipnet` and an address as `ip`.
-pub fn network_of(tuple: &Tuple) -> Option<Prefix>
-{
+pub fn network_of(tuple: &Tuple) -> Option<Prefix> {
     if !tuple_names(b"ipnet", tuple) {
         return None;
     }
@@ -78,8 +72,7 @@ pub fn network_of(tuple: &Tuple) -> Option<Prefix>
 }
 
 /// The addresses of a system.
-pub fn addresses_of(alloc: Global, me: &[u8], db: &Db) -> Result<Vec<u32>, AllocError>
-{
+pub fn addresses_of(alloc: Global, me: &[u8], db: &Db) -> Result<Vec<u32>, AllocError> {
     let mut ips = Vec::new(alloc);
     for tuple in db.as_slice() {
         if let Some(_) = line_with(b"sys", me, tuple) {
@@ -90,8 +83,7 @@ pub fn addresses_of(alloc: Global, me: &[u8], db: &Db) -> Result<Vec<u32>, Alloc
 }
 
 /// The networks that contain one of a system's addresses, in order.
-pub fn own_networks(alloc: Global, me: &[u8], db: &Db) -> Result<Vec<Prefix>, AllocError>
-{
+pub fn own_networks(alloc: Global, me: &[u8], db: &Db) -> Result<Vec<Prefix>, AllocError> {
     let ips = addresses_of(alloc, me, db)?;
     let mut networks = Vec::new(alloc);
     for tuple in db.as_slice() {

@@ -19,8 +19,7 @@ pub enum Kind {
 
 impl Kind {
     /// The attribute of such values.
-    pub fn attr(self) -> &'static [u8]
-    {
+    pub fn attr(self) -> &'static [u8] {
         match self {
             Kind::Address => b"ip",
             Kind::Mask => b"ipmask",
@@ -29,8 +28,7 @@ impl Kind {
     }
 
     /// The number that such a value spells.
-    pub fn read(self, word: &[u8]) -> Option<u32>
-    {
+    pub fn read(self, word: &[u8]) -> Option<u32> {
         match self {
             Kind::Address => read_address(word),
             Kind::Mask => read_mask(word),
@@ -40,8 +38,7 @@ impl Kind {
 }
 
 /// The first number of a kind on a line.
-pub fn first_on(kind: Kind, line: &Line) -> Option<u32>
-{
+pub fn first_on(kind: Kind, line: &Line) -> Option<u32> {
     for pair in line.as_slice() {
         if has_attr(kind.attr(), pair) {
             if let Some(number) = kind.read(pair.value.as_slice()) {
@@ -53,8 +50,7 @@ pub fn first_on(kind: Kind, line: &Line) -> Option<u32>
 }
 
 /// The first number of a kind in a tuple.
-pub fn first_in(kind: Kind, tuple: &Tuple) -> Option<u32>
-{
+pub fn first_in(kind: Kind, tuple: &Tuple) -> Option<u32> {
     for line in tuple.as_slice() {
         if let Some(number) = first_on(kind, line) {
             return Some(number);
@@ -64,8 +60,7 @@ pub fn first_in(kind: Kind, tuple: &Tuple) -> Option<u32>
 }
 
 /// Adds the numbers of a kind on a line.
-pub fn add_on(kind: Kind, line: &Line, numbers: &mut Vec<u32>) -> Result<(), AllocError>
-{
+pub fn add_on(kind: Kind, line: &Line, numbers: &mut Vec<u32>) -> Result<(), AllocError> {
     for pair in line.as_slice() {
         if has_attr(kind.attr(), pair) {
             if let Some(number) = kind.read(pair.value.as_slice()) {
@@ -77,8 +72,7 @@ pub fn add_on(kind: Kind, line: &Line, numbers: &mut Vec<u32>) -> Result<(), All
 }
 
 /// Adds the numbers of a kind in a tuple.
-pub fn add_in(kind: Kind, tuple: &Tuple, numbers: &mut Vec<u32>) -> Result<(), AllocError>
-{
+pub fn add_in(kind: Kind, tuple: &Tuple, numbers: &mut Vec<u32>) -> Result<(), AllocError> {
     for line in tuple.as_slice() {
         add_on(kind, line, numbers)?;
     }
@@ -91,8 +85,7 @@ pub fn add_beside(
     line: &Line,
     tuple: &Tuple,
     numbers: &mut Vec<u32>,
-) -> Result<(), AllocError>
-{
+) -> Result<(), AllocError> {
     if line_names(kind.attr(), line) {
         add_on(kind, line, numbers)
     } else {
@@ -107,8 +100,7 @@ pub fn numbers_found(
     value: &[u8],
     kind: Kind,
     db: &Db,
-) -> Result<Vec<u32>, AllocError>
-{
+) -> Result<Vec<u32>, AllocError> {
     let mut numbers = Vec::new(alloc);
     for tuple in db.as_slice() {
         if let Some(line) = line_with(attr, value, tuple) {

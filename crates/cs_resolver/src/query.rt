@@ -11,8 +11,7 @@ pub struct Query<'a> {
 }
 
 /// The query of a text, which has three parts that are not empty.
-pub fn read_query(text: &[u8]) -> Option<Query<'_>>
-{
+pub fn read_query(text: &[u8]) -> Option<Query<'_>> {
     let (net, Some(rest)) = split_first(text, b'!') else {
         return None;
     };
@@ -30,20 +29,18 @@ pub fn read_query(text: &[u8]) -> Option<Query<'_>>
 }
 
 /// Whether the word has digits and dots alone.
-pub fn is_numeric(word: &[u8]) -> bool
-{
-    word.iter().all(|byte| byte.is_ascii_digit() || *byte == b'.')
+pub fn is_numeric(word: &[u8]) -> bool {
+    word.iter()
+        .all(|byte| byte.is_ascii_digit() || *byte == b'.')
 }
 
 /// Whether the word has a letter and a dot.
-pub fn is_domain(word: &[u8]) -> bool
-{
+pub fn is_domain(word: &[u8]) -> bool {
     word.iter().any(|byte| byte.is_ascii_alphabetic()) && word.iter().any(|byte| *byte == b'.')
 }
 
 /// Whether the word is an attribute to look up.
-pub fn is_attribute(word: &[u8]) -> bool
-{
+pub fn is_attribute(word: &[u8]) -> bool {
     match word {
         [first, ..] => *first == b'$',
         [] => false,
@@ -51,7 +48,6 @@ pub fn is_attribute(word: &[u8]) -> bool
 }
 
 /// Whether the host is the name of a system.
-pub fn is_system(host: &[u8]) -> bool
-{
+pub fn is_system(host: &[u8]) -> bool {
     !(host == b"*".as_slice() || is_attribute(host) || is_numeric(host) || is_domain(host))
 }

@@ -15,8 +15,7 @@ use net_model::{Db, Lines, Octets, Proto};
 use std::alloc::{AllocError, Global};
 
 /// Each number once, where it stands first.
-fn once_each(alloc: Global, numbers: &[u32]) -> Result<Vec<u32>, AllocError>
-{
+fn once_each(alloc: Global, numbers: &[u32]) -> Result<Vec<u32>, AllocError> {
     let mut once = Vec::new(alloc);
     for number in numbers {
         if !once.contains(number) {
@@ -27,8 +26,7 @@ fn once_each(alloc: Global, numbers: &[u32]) -> Result<Vec<u32>, AllocError>
 }
 
 /// Addresses on these networks, and then the others, each in order.
-fn own_first(alloc: Global, networks: &[Prefix], ips: &[u32]) -> Result<Vec<u32>, AllocError>
-{
+fn own_first(alloc: Global, networks: &[Prefix], ips: &[u32]) -> Result<Vec<u32>, AllocError> {
     let mut sorted = Vec::new(alloc);
     for ip in ips {
         if is_on(networks, *ip) {
@@ -49,8 +47,7 @@ fn system_addresses(
     db: &Db,
     me: &[u8],
     host: &[u8],
-) -> Result<Vec<u32>, AllocError>
-{
+) -> Result<Vec<u32>, AllocError> {
     let networks = own_networks(alloc, me, db)?;
     let found = numbers_found(alloc, b"sys", host, Kind::Address, db)?;
     let once = once_each(alloc, &found)?;
@@ -58,8 +55,7 @@ fn system_addresses(
 }
 
 /// The ports of a service on a net.
-fn ports_of(alloc: Global, db: &Db, service: &[u8], net: Proto) -> Result<Vec<u32>, AllocError>
-{
+fn ports_of(alloc: Global, db: &Db, service: &[u8], net: Proto) -> Result<Vec<u32>, AllocError> {
     if let Some(port) = read_port(service) {
         return Ok(vec![in alloc; port]?);
     }
@@ -74,8 +70,7 @@ fn add_lines_at(
     ip: u32,
     ports: &[u32],
     lines: &mut Lines,
-) -> Result<(), AllocError>
-{
+) -> Result<(), AllocError> {
     for port in ports {
         let line = DialLine {
             net,
@@ -94,8 +89,7 @@ fn add_lines(
     ips: &[u32],
     ports: &[u32],
     lines: &mut Lines,
-) -> Result<(), AllocError>
-{
+) -> Result<(), AllocError> {
     for ip in ips {
         add_lines_at(alloc, net, *ip, ports, lines)?;
     }
@@ -109,8 +103,7 @@ fn all_lines(
     nets: &[Proto],
     ips: &[u32],
     service: &[u8],
-) -> Result<Lines, AllocError>
-{
+) -> Result<Lines, AllocError> {
     let mut lines = Lines::new(alloc);
     for net in nets {
         let ports = ports_of(alloc, db, service, *net)?;

@@ -55,8 +55,7 @@ pub fn read_port(word: &[u8]) -> Option<u32>
 }
 
 /// An address: four numbers joined by dots.
-pub fn read_address(word: &[u8]) -> Option<u32>
-{
+pub fn read_address(word: &[u8]) -> Option<u32> {
     let (first, Some(rest)) = split_first(word, b'.') else {
         return None;
     };

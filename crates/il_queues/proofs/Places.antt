@@ -1,8 +1,8 @@
 -- Where a search for a number ends.
-use Rattle.std.proofs.Common.{◌≡◌, ℕ, zero, suc, ◌+◌, ◌-◌, ◌<◌, ◌≤◌, ◌==◌, Bool, true, false, List, [], ◌∷◌, length, Option, Some, None, slice_index_or, remove, refl, arith, subst, sym, IfSome, IfNone}
+use Rattle.std.proofs.Common.{◌≡◌, ℕ, suc, ◌+◌, ◌-◌, ◌≤◌, ◌==◌, Bool, true, false, List, [], ◌∷◌, Option, Some, None, refl, arith, subst, sym, IfSome, IfNone}
 use Rattle.std.specs.List.{position_from}
 use Rattle.il_queues.specs.declared.early.Numbered.{Numbered}
-use Rattle.il_queues.specs.Slots.{messages_in, has_number, text_in, IsAt, IsNowhere}
+use Rattle.il_queues.specs.Slots.{has_number, IsAt, IsNowhere}
 
 -- what a search tells that began at a place
 abbrev pub Tells : ℕ → ℕ → List (Option Numbered) → Option ℕ → Type 0

@@ -2,6 +2,8 @@
 #![tactic(auto)]
 
 mod early;
+#[cfg(test)]
+mod tests;
 mod timer;
 mod unacked;
 mod unread;

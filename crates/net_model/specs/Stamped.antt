@@ -6,6 +6,7 @@ use Rattle.net_model.specs.declared.address.Proto.{Proto}
 use Rattle.net_model.specs.declared.address.Proto.TheVariants as proto
 use Rattle.net_model.specs.declared.event.Event.{Event}
 use Rattle.net_model.specs.declared.event.Event.TheVariants as event
+use Rattle.net_model.specs.declared.history.Entry.{Entry}
 use Rattle.net_model.specs.declared.noted.Noted.{Noted}
 use Rattle.net_model.specs.declared.noted.Number.{Number}
 use Rattle.net_model.specs.declared.noted.Number.TheVariants as number
@@ -23,11 +24,28 @@ same_actor (name.Medium m) (name.Medium n) = m == n
 same_actor name.Clock name.Clock = true
 same_actor _ _ = false
 
-abbrev pub matches : Number → Noted → Bool
-matches (number.Caller c) x = x.entry.caller == c
-matches (number.Actor a) x = same_actor x.entry.actor a
+-- the entry is one of the caller or the actor
+abbrev pub belongs : Number → Entry → Bool
+belongs (number.Caller c) e = e.caller == c
+belongs (number.Actor a) e = same_actor e.actor a
 
 -- the entries of a caller or an actor, each with its stamp, where the first entry of the list has the stamp n
+abbrev pub entries_from : Number → ℕ → List Entry → List (ℕ × Entry)
+entries_from k n [] = []
+entries_from k n (e ∷ es) = if belongs k e then (n, e) ∷ entries_from k (n + 1) es else entries_from k (n + 1) es
+
+-- the entries of an actor in a history
+abbrev pub of_actor : ActorName → List Entry → List (ℕ × Entry)
+of_actor a h = entries_from (number.Actor a) 0 h
+
+-- the entries of a caller in a history
+abbrev pub of_caller : ℕ → List Entry → List (ℕ × Entry)
+of_caller c h = entries_from (number.Caller c) 0 h
+
+abbrev pub matches : Number → Noted → Bool
+matches k x = belongs k x.entry
+
+-- the same for entries with their works
 abbrev pub at_from : Number → ℕ → List Noted → List (ℕ × Noted)
 at_from k n [] = []
 at_from k n (x ∷ xs) = if matches k x then (n, x) ∷ at_from k (n + 1) xs else at_from k (n + 1) xs

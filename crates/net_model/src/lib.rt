@@ -9,6 +9,7 @@ mod il;
 mod law;
 mod names;
 mod ndb;
+mod ndb_law;
 mod noted;
 mod numbers;
 mod octets;
@@ -17,6 +18,7 @@ mod reply;
 mod sequence;
 mod timer;
 mod udp;
+mod wire_law;
 mod world;
 
 pub use actor::{ActorList, ActorName, Call, CallList, same_actor};
@@ -27,6 +29,7 @@ pub use il::{Cause, IlKind, IlMsg, IlState, StateName};
 pub use law::{controls_are_read, paths_are_walked};
 pub use names::{Ctl, FileName, Mode, Node};
 pub use ndb::{Db, Line, NdbPair, Tuple};
+pub use ndb_law::{causes_of_what_is_read, text_in_one_file, words_without_quotes};
 pub use noted::{Noted, Number};
 pub use numbers::number;
 pub use octets::{Lines, Octets};
@@ -35,6 +38,7 @@ pub use reply::Reply;
 pub use sequence::Sequence;
 pub use timer::Tick;
 pub use udp::UdpState;
+pub use wire_law::packets_are_read;
 pub use world::{
     Fate, FateRange, Fates, HostSpec, Hosts, Iface, Ifaces, Media, MediumSpec, Nets, RouteLine,
     RouteLines, Script, Scripts, Starts, Step, StepList, World,

@@ -1,5 +1,5 @@
 //! The answers: a status, and the text that is written, made whole.
-ghost use Rattle.std.specs.Prelude.{◌≡◌, IfOk};
+ghost use Rattle.std.specs.Prelude.{◌≡◌, flat_map, IfOk};
 ghost use Rattle.net_model.specs.Answers as spec;
 
 use cs_resolver::CsError;
@@ -33,8 +33,8 @@ pub fn bad_input(alloc: Global, line: u64, cause: u32) -> Result<Answer, AllocEr
 
 /// The lines of cs.
 pub fn lines_found(alloc: Global, lines: &Lines) -> Result<Answer, AllocError>
-    ensures status { IfOk result (λ answer. answer.status ≡ (spec.cs_answer (spec.Lines lines.now)).status) }
-    ensures text { IfOk result (λ answer. answer.text ≡ (spec.cs_answer (spec.Lines lines.now)).text) }
+    ensures status { IfOk result (λ answer. answer.status ≡ 0) }
+    ensures text { IfOk result (λ answer. answer.text ≡ flat_map spec.ended lines.now) }
 {
     let mut text = Octets::new(alloc);
     for line in lines.as_slice() {
@@ -42,4 +42,28 @@ pub fn lines_found(alloc: Global, lines: &Lines) -> Result<Answer, AllocError>
         text.push(b'\n')?;
     }
     Ok(Answer { status: 0, text })
+}
+
+/// The line that tells an error of cs.
+pub fn refusal_line(error: CsError) -> &'static str {
+    match error {
+        CsError::Memory => "",
+        CsError::BadQuery => "! 1 bad query\n",
+        CsError::NoNet => "! 2 no net\n",
+        CsError::NoHost => "! 3 no host\n",
+        CsError::NoService => "! 4 no service\n",
+        CsError::NoValue => "! 5 no value\n",
+        CsError::NotBuilt => "! 6 not built\n",
+    }
+}
+
+/// The refusal of cs.
+pub fn refused(alloc: Global, error: CsError) -> Result<Answer, AllocError> {
+    if let CsError::Memory = error {
+        return Err(AllocError);
+    }
+    Ok(Answer {
+        status: 5,
+        text: Octets::from_slice(alloc, refusal_line(error).as_bytes())?,
+    })
 }

@@ -15,7 +15,7 @@ pub fn read_words(words: &[String]) -> Option<Command<'_>>
     ensures { option_map command_read result ≡ command_of (map string_bytes words.now) }
 {
     match words {
-        [name, sys, query] if name == "cs" && !sys.is_empty() && !query.is_empty() => {
+        [name, sys, query] if name.as_str() == "cs" && !sys.is_empty() && !query.is_empty() => {
             Some(Command::Cs(sys.as_bytes(), query.as_bytes()))
         }
         _ => None,

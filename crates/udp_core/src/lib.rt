@@ -2,5 +2,7 @@
 #![tactic(auto)]
 
 mod end;
+#[cfg(test)]
+mod tests;
 
 pub use end::{HungupError, MOST_UNREAD, UdpEnd};

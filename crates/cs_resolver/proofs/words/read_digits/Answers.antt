@@ -23,7 +23,7 @@ loop-byte-preserved c =
     let word = c.args.word.now in
     let i = c.loop-byte.byte-index in
     record {
-        digits = rw (list_all_more is_ascii_digit word i 0 (omega arith)) (grind (arith, common_steps));
-        valued = digits_more 10 word i (omega arith) c.loop-byte.invariant.valued (search rules);
-        number = rw (digits_value_more 10 word i (omega arith)) (omega (arith, digit_value_digit (get_or word i 0) (search rules)));
+      digits = rw (list_all_more is_ascii_digit word i 0 (omega arith)) (grind (arith, common_steps));
+      valued = digits_more 10 word i (omega arith) c.loop-byte.invariant.valued (search rules);
+      number = rw (digits_value_more 10 word i (omega arith)) (omega (arith, digit_value_digit (get_or word i 0) (search rules)));
     }

@@ -1,0 +1,225 @@
+-- The history from the books.
+use Rattle.std.proofs.Common.{◌≡◌, ℕ, zero, suc, ◌+◌, ◌<◌, ◌≤◌, ◌≢◌, ◌⊎◌, inl, inr, ⊎_elim, Bool, true, false, List, [], ◌∷◌, ◌++◌, length, map, set, replicate, Option, Some, None, if◌then◌else◌, refl, ap, sym, subst, ◌∙◌, arith, length-set}
+use mathlib.Core.Option.{some, some-injective, some-ne-none}
+use mathlib.Core.Logic.{dite}
+use native.Mathlib.Decide.{ℕ_discrete}
+use lib.ListN.{get_elem?}
+use Rattle.atomic_table.proofs.Lists.{at_map, set_here, set_else}
+use Rattle.net_model.specs.declared.actor.ActorName.{ActorName}
+use Rattle.net_model.specs.declared.history.Entry.{Entry}
+use Rattle.net_model.specs.declared.noted.Noted.{Noted}
+use Rattle.net_model.specs.declared.noted.Number.{Number}
+use Rattle.net_model.specs.declared.noted.Number.TheVariants as number
+use Rattle.net_model.specs.Stamped.{same_actor, belongs, matches, entries_from, at, at_from, In}
+use Rattle.journal.specs.declared.law.Roster.{Roster}
+use Rattle.journal.specs.declared.law.View.{View}
+use Rattle.journal.specs.declared.tokens.Sight.{Sight}
+use Rattle.journal.specs.declared.tokens.Volume.{Volume}
+use Rattle.journal.specs.declared.tokens.Stamped.{Stamped}
+use Rattle.journal.specs.Rule.{Held, Lawful, Knows, Looks}
+use Rattle.journal.specs.Tokens.{stamped, sight, Agrees, HoldsAll}
+use Rattle.std.proofs.lemmas.List.{length-map}
+use Rattle.journal.proofs.After.{all_seen}
+use Rattle.journal.specs.Closing.{plain, Taken, Gathered, IsWhole, IsCover, IsPlaced}
+use Rattle.journal.proofs.Lists.{prefix_self, prefix_trans, in-append, in-left, in-right, get_within}
+use Rattle.journal.proofs.Names.{same_actor_refl}
+
+in-map : (l : List (ℕ × Noted)) (y : ℕ × Noted) → In y l → In (stamped y) (map stamped l)
+in-map [] y i = absurd i
+in-map (x ∷ l) y (inl e) = inl (ap stamped e)
+in-map (x ∷ l) y (inr i) = inr (in-map l y i)
+
+of-map : (l : List (ℕ × Noted)) (e : Stamped) → In e (map stamped l) → (y : ℕ × Noted) × In y l × (e ≡ stamped y)
+of-map [] e i = absurd i
+of-map (x ∷ l) e (inl s) = (x, inl refl, s)
+of-map (x ∷ l) e (inr i) = let t = of-map l e i in (t.0, inr t.1, t.2)
+
+pub gathered_none : (v : View) → Gathered v [] v []
+gathered_none v = record { kept = λ k es i. i; before = prefix_self v.seen; taken = λ b i. absurd i; all = λ b y i j. absurd i; sound = λ e i. absurd i }
+
+pub gathered_more : (v w w' : View) (done : List Volume) (b : Volume) (es : List Stamped) → Gathered v done w es → Taken w b w' → Gathered v (b ∷ done) w' (es ++ map stamped b.list)
+gathered_more v w w' done b es g t = record {
+  kept = λ k l i. t.kept k l (g.kept k l i);
+  before = prefix_trans v.seen w.seen w'.seen g.before t.before;
+  taken = λ c i. ⊎_elim
+      (λ e. subst (λ (z : Volume). In (number.Actor z.actor, z.list) w'.held) (sym e) t.taken)
+      (λ j. t.kept (number.Actor c.actor) c.list (g.taken c j)) i;
+  all = λ c y i j. ⊎_elim
+      (λ e. in-right (stamped y) es (map stamped b.list) (in-map b.list y (subst (λ (z : Volume). In y z.list) e j)))
+      (λ k. in-left (stamped y) es (map stamped b.list) (g.all c y k j)) i;
+  sound = λ e i. ⊎_elim
+      (λ j. let q = g.sound e j in (q.0, inr q.1, q.2, q.3, q.4))
+      (λ j. let q = of-map b.list e j in (b, inl refl, q.0, q.1, q.2))
+      (in-append e es (map stamped b.list) i);
+}
+
+at_get : (k : Number) (m : ℕ) (log : List Noted) (y : ℕ × Noted) → In y (at_from k m log) → (i : ℕ) × (y.0 ≡ m + i) × (get_elem? log i ≡ some y.1)
+at_get k m [] y i = absurd i
+at_get k m (x ∷ xs) y i = next (at_get k (m + 1) xs y) (matches k x) i
+  where
+    next : (In y (at_from k (m + 1) xs) → (i : ℕ) × (y.0 ≡ m + 1 + i) × (get_elem? xs i ≡ some y.1)) → (b : Bool)
+        → In y (if b then (m, x) ∷ at_from k (m + 1) xs else at_from k (m + 1) xs) → (i : ℕ) × (y.0 ≡ m + i) × (get_elem? (x ∷ xs) i ≡ some y.1)
+    next f true (inl e) = (0, ap (λ (z : ℕ × Noted). z.0) e ∙ omega arith, sym (ap (λ (z : ℕ × Noted). some z.1) e))
+    next f true (inr j) = let t = f j in (suc t.0, t.1 ∙ omega arith, t.2)
+    next f false j = let t = f j in (suc t.0, t.1 ∙ omega arith, t.2)
+
+at_has : (k : Number) (m : ℕ) (log : List Noted) (i : ℕ) (z : Noted) → get_elem? log i ≡ some z → matches k z ≡ true → In (m + i, z) (at_from k m log)
+at_has k m [] i z e h = absurd (some-ne-none z (sym e))
+at_has k m (x ∷ xs) zero z e h =
+    let same : x ≡ z = some-injective x z e in
+    let there : In (m, z) (if true then (m, x) ∷ at_from k (m + 1) xs else at_from k (m + 1) xs) = inl (ap (λ (q : Noted). (m, q)) (sym same)) in
+    let test : true ≡ matches k x = sym h ∙ ap (matches k) (sym same) in
+    subst (λ (n : ℕ). In (n, z) (at_from k m (x ∷ xs))) (omega arith) (subst (λ (b : Bool). In (m, z) (if b then (m, x) ∷ at_from k (m + 1) xs else at_from k (m + 1) xs)) test there)
+at_has k m (x ∷ xs) (suc i) z e h = next (subst (λ (n : ℕ). In (n, z) (at_from k (m + 1) xs)) (omega arith) (at_has k (m + 1) xs i z e h)) (matches k x)
+  where
+    next : In (m + suc i, z) (at_from k (m + 1) xs) → (b : Bool) → In (m + suc i, z) (if b then (m, x) ∷ at_from k (m + 1) xs else at_from k (m + 1) xs)
+    next f true = inr f
+    next f false = f
+
+get_split : (log : List Noted) (i : ℕ) (z : Noted) → get_elem? log i ≡ some z → (p : List Noted) × (q : List Noted) × (log ≡ p ++ z ∷ q)
+get_split [] i z e = absurd (some-ne-none z (sym e))
+get_split (x ∷ xs) zero z e = ([], xs, ap (λ (q : Noted). q ∷ xs) (some-injective x z e))
+get_split (x ∷ xs) (suc i) z e = let t = get_split xs i z e in (x ∷ t.0, t.1, ap (λ (l : List Noted). x ∷ l) t.2)
+
+of-entries : (log : List Noted) (i : ℕ) (x : Entry) → get_elem? (map (λ (z : Noted). z.entry) log) i ≡ some x → (z : Noted) × (get_elem? log i ≡ some z) × (z.entry ≡ x)
+of-entries [] i x e = absurd (some-ne-none x (sym e))
+of-entries (y ∷ log) zero x e = (y, refl, some-injective y.entry x e)
+of-entries (y ∷ log) (suc i) x e = of-entries log i x e
+
+of-actors : (books : List Volume) (a : ActorName) → In a (map (λ (b : Volume). b.actor) books) → (b : Volume) × In b books × (a ≡ b.actor)
+of-actors [] a i = absurd i
+of-actors (b ∷ books) a (inl e) = (b, inl refl, e)
+of-actors (b ∷ books) a (inr i) = let t = of-actors books a i in (t.0, inr t.1, t.2)
+
+-- the gathered entries are those of the history
+pub covers : (r : Roster) (log : List Noted) (v0 v : View) (books : List Volume) (es : List Stamped) → Gathered v0 books v es
+    → ((k : Number) (l : List (ℕ × Noted)) → In (k, l) v.held → l ≡ at k log) → Lawful r log → map (λ (b : Volume). b.actor) books ≡ r.actors
+    → IsCover (map (λ (z : Noted). z.entry) log) es
+covers r log v0 v books es g lists lawful actors = record {
+  sound = λ e i.
+      let t = g.sound e i in
+      let b = t.0 in
+      let y = t.2 in
+      let here : In y (at (number.Actor b.actor) log) = subst (λ (l : List (ℕ × Noted)). In y l) (lists (number.Actor b.actor) b.list (g.taken b t.1)) t.3 in
+      let q = at_get (number.Actor b.actor) 0 log y here in
+      let place : q.0 ≡ e.stamp = let q1 = q.1 in sym (ap (λ (z : Stamped). z.stamp) t.4 ∙ q1 ∙ omega arith) in
+      subst (λ (n : ℕ). get_elem? (map (λ (z : Noted). z.entry) log) n ≡ some e.entry) place
+      (at_map (λ (z : Noted). z.entry) log q.0 y.1 q.2 ∙ sym (ap (λ (z : Stamped). some z.entry) t.4));
+  all = λ n x h.
+      let z = of-entries log n x h in
+      let s = get_split log n z.0 z.1 in
+      let known = (lawful s.0 z.0 s.1 s.2).actor in
+      let b = of-actors books z.0.entry.actor (subst (λ (l : List ActorName). In z.0.entry.actor l) (sym actors) known) in
+      let test : matches (number.Actor b.0.actor) z.0 ≡ true = ap (λ (a : ActorName). same_actor a b.0.actor) b.2 ∙ same_actor_refl b.0.actor in
+      let here = subst (λ (m : ℕ). In (m, z.0) (at (number.Actor b.0.actor) log)) (omega arith) (at_has (number.Actor b.0.actor) 0 log n z.0 z.1 test) in
+      let mine : In (n, z.0) b.0.list = subst (λ (l : List (ℕ × Noted)). In (n, z.0) l) (sym (lists (number.Actor b.0.actor) b.0.list (g.taken b.0 b.1))) here in
+      let whole = g.all b.0 (n, z.0) b.1 mine in
+      subst (λ (q : Entry). In record { stamp = n; entry = q } es) z.2 whole;
+}
+
+nones_long : (n : ℕ) → length (replicate {A = Option Entry} n None) ≡ n
+nones_long zero = refl
+nones_long (suc n) = let r = nones_long n in ap suc r
+
+pub placed_none : (ps : List (Option Entry)) → IsPlaced [] ps ps
+placed_none ps = record { long = refl; put = λ log len stand n x h i. ⊎_elim (λ j. absurd j) (λ t. t) i }
+
+pub placed_next : (es : List Stamped) (e : Stamped) (ps qs : List (Option Entry)) → IsPlaced es ps qs → IsPlaced (e ∷ es) ps (set qs e.stamp (Some e.entry))
+placed_next es e ps qs p = record {
+  long = length-set qs e.stamp (Some e.entry) ∙ p.long;
+  put = λ log len stand n x h i.
+      let mine = stand e (inl refl) in
+      dite (ℕ_discrete n e.stamp)
+      (λ (same : n ≡ e.stamp).
+      let one : e.entry ≡ x = some-injective e.entry x (sym mine ∙ (ap (get_elem? log) (sym same) ∙ h)) in
+      let within = get_within log e.entry e.stamp mine in
+      let long = p.long in
+      ap (get_elem? (set qs e.stamp (Some e.entry))) same ∙ (set_here qs e.stamp (Some e.entry) (omega arith) ∙ ap (λ (q : Entry). some (Some q)) one))
+      (λ (other : n ≢ e.stamp). set_else qs e.stamp n (Some e.entry) other ∙ p.put log len (λ f j. stand f (inr j)) n x h (rest n x other i));
+}
+  where
+    rest : (n : ℕ) (x : Entry) → n ≢ e.stamp → In record { stamp = n; entry = x } (e ∷ es) ⊎ (get_elem? ps n ≡ some (Some x)) → In record { stamp = n; entry = x } es ⊎ (get_elem? ps n ≡ some (Some x))
+    rest n x other (inl (inl s)) = absurd (other (ap (λ (z : Stamped). z.stamp) s))
+    rest n x other (inl (inr j)) = inl j
+    rest n x other (inr t) = inr t
+
+pub placed_more : (es fs : List Stamped) (ps qs rs : List (Option Entry)) → IsPlaced es ps qs → IsPlaced fs qs rs → IsPlaced (es ++ fs) ps rs
+placed_more es fs ps qs rs p q = record {
+  long = q.long ∙ p.long;
+  put = λ log len stand n x h i.
+      q.put log (len ∙ sym p.long) (λ e j. stand e (in-right e es fs j)) n x h
+      (⊎_elim
+      (λ j. ⊎_elim (λ k. inr (p.put log len (λ e l. stand e (in-left e es fs l)) n x h (inl k))) (λ k. inl k) (in-append record { stamp = n; entry = x } es fs j))
+      (λ t. inr (p.put log len (λ e l. stand e (in-left e es fs l)) n x h (inr t)))
+      i);
+}
+
+same_by_get : (ps : List (Option Entry)) (log : List Entry) → length ps ≡ length log → ((n : ℕ) (x : Entry) → get_elem? log n ≡ some x → get_elem? ps n ≡ some (Some x)) → ps ≡ map Some log
+same_by_get [] [] l f = refl
+same_by_get [] (x ∷ log) l f = absurd (omega arith)
+same_by_get (p ∷ ps) [] l f = absurd (omega arith)
+same_by_get (p ∷ ps) (x ∷ log) l f =
+    let head : p ≡ Some x = some-injective p (Some x) (f 0 x refl) in
+    let rest = same_by_get ps log (omega arith) (λ n y h. f (suc n) y h) in
+    λ i. head i ∷ rest i
+
+pub placed_all : (log : List Entry) (es : List Stamped) (n : ℕ) (ps : List (Option Entry)) → IsCover log es → length log ≡ n → IsPlaced es (replicate n None) ps → ps ≡ map Some log
+placed_all log es n ps c len p =
+    let long = nones_long n in
+    same_by_get ps log (p.long ∙ (long ∙ sym len)) (λ m x h. p.put log (len ∙ sym long) c.sound m x h (inl (c.all m x h)))
+
+-- what stands in a list of Some is Some
+pub there_is : (xs ys : List (Option Entry)) (o : Option Entry) (log : List Entry) → xs ++ o ∷ ys ≡ map Some log → (x : Entry) × (o ≡ Some x)
+there_is [] ys o [] e = absurd (omega (arith, ap length e))
+there_is [] ys o (x ∷ log) e = (x, cc e)
+there_is (p ∷ xs) ys o [] e = absurd (omega (arith, ap length e))
+there_is (p ∷ xs) ys o (x ∷ log) e = there_is xs ys o log (cc e)
+
+-- the entries of a number, with and without their works
+plain_from : (k : Number) (n : ℕ) (log : List Noted) → entries_from k n (map (λ (x : Noted). x.entry) log) ≡ map plain (at_from k n log)
+plain_from k n [] = refl
+plain_from k n (x ∷ log) = next (matches k x) (plain_from k (n + 1) log)
+  where
+    next : (b : Bool) → entries_from k (n + 1) (map (λ (y : Noted). y.entry) log) ≡ map plain (at_from k (n + 1) log)
+        → (if b then (n, x.entry) ∷ entries_from k (n + 1) (map (λ (y : Noted). y.entry) log) else entries_from k (n + 1) (map (λ (y : Noted). y.entry) log))
+        ≡ map plain (if b then (n, x) ∷ at_from k (n + 1) log else at_from k (n + 1) log)
+    next true e = ap (λ (l : List (ℕ × Entry)). (n, x.entry) ∷ l) e
+    next false e = e
+
+pub somes : (xs ys : List Entry) → map Some xs ≡ map Some ys → xs ≡ ys
+somes [] [] e = refl
+somes [] (y ∷ ys) e = absurd (omega (arith, ap length e))
+somes (x ∷ xs) [] e = absurd (omega (arith, ap length e))
+somes (x ∷ xs) (y ∷ ys) e =
+    let heads : Some x ≡ Some y = cc e in
+    let tails : map Some xs ≡ map Some ys = cc e in
+    let head : x ≡ y = cc heads in
+    let rest = somes xs ys tails in
+    λ i. head i ∷ rest i
+
+-- at the end the history is what the pass has seen, and all places are filled with it
+pub closes : (r : Roster) (v w0 w : View) (n : ℕ) (books : List Volume) (es : List Stamped) (log : List Noted) (ps : List (Option Entry)) → Agrees v → Looks r v n w0 → Gathered w0 books w es → Knows r log w → Lawful r log
+    → HoldsAll r (sight v) → map (λ (b : Volume). b.actor) books ≡ r.actors → IsPlaced es (replicate n None) ps → (log ≡ v.seen) × (ps ≡ map Some (map (λ (z : Noted). z.entry) log))
+closes r v w0 w n books es log ps agrees d g known lawful holds actors placed =
+    let lists : (k : Number) (l : List (ℕ × Noted)) → In (k, l) w.held → l ≡ at k log = λ k l i. (known.lists k l i).1.0 in
+    let stays : (k : Number) (l : List (ℕ × Noted)) → In (k, l) v.held → In (k, l) w0.held = λ k l i. subst (λ (hs : List Held). In (k, l) hs) (sym d.held) i in
+    let there : log ≡ v.seen = all_seen r v log agrees lawful (prefix_trans v.seen w0.seen log d.before (prefix_trans w0.seen w.seen log g.before known.seen)) (λ k l i. sym (lists k l (g.kept k l (stays k l i)))) holds in
+    let before : w0.seen ≡ v.seen = all_seen r v w0.seen agrees d.lawful d.before (λ k l i. d.lists k l (stays k l i)) holds in
+    let cover = covers r log w0 w books es g lists lawful actors in
+    let long : length (map (λ (z : Noted). z.entry) log) ≡ n = length-map log (λ (z : Noted). z.entry) ∙ (ap length (there ∙ sym before) ∙ d.front) in
+    (there, placed_all (map (λ (z : Noted). z.entry) log) es n ps cover long placed)
+
+-- put together at the answer
+pub whole : (r : Roster) (p : Sight) (books : List Volume) (h : List Entry) (log : List Noted) → log ≡ p.seen → h ≡ map (λ (z : Noted). z.entry) log
+    → ((k : Number) (es : List (ℕ × Noted)) → In (k, es) p.held → es ≡ at k log) → ((b : Volume) → In b books → b.list ≡ at (number.Actor b.actor) log) → Lawful r log
+    → IsWhole r p books h
+whole r p books h log same e callers actors lawful =
+    let entries : h ≡ map (λ (z : Noted). z.entry) p.seen = e ∙ ap (map (λ (z : Noted). z.entry)) same in
+    let of : (k : Number) → entries_from k 0 h ≡ map plain (at k log) = λ k. ap (entries_from k 0) e ∙ plain_from k 0 log in record {
+      entries = entries;
+      actors = λ b i. of (number.Actor b.actor) ∙ ap (map plain) (sym (actors b i));
+      callers = λ c es i. of (number.Caller c) ∙ ap (map plain) (sym (callers (number.Caller c) es i));
+      books_at = λ b i. actors b i ∙ ap (at (number.Actor b.actor)) same;
+      lists_at = λ k es i. callers k es i ∙ ap (at k) same;
+      lawful = subst (Lawful r) same lawful;
+    }

@@ -1,0 +1,9 @@
+pub mod Names
+pub mod Lists
+pub mod Seats
+pub mod Bounds
+pub mod Steps
+pub mod After
+pub mod Counts
+pub mod Dealing
+pub mod Gathering

@@ -1,0 +1,124 @@
+// The rule of the journal's word, and what each step on it tells.
+use atomic_table::{Join, Play, Split, TableRule};
+use net_model::{ActorList, Noted, Number};
+use std::collections::LinkedList;
+use std::marker::{Brand, PhantomData};
+
+/// How many callers there are, and which actors.
+#[derive(Drop)]
+pub struct Roster {
+    pub callers: u64,
+    pub actors: ActorList,
+}
+
+/// What a seat knows: a beginning of the history, beginnings that it also saw, the lists of the numbers that it holds,
+/// and the entries of the clock, as each seat that was taken in had them. No value of it is made.
+pub struct View {
+    pub seen: LinkedList<Noted>,
+    pub olds: LinkedList<LinkedList<Noted>>,
+    pub held: LinkedList<(Number, LinkedList<(u64, Noted)>)>,
+    pub clock: LinkedList<(u64, Noted)>,
+    pub clocks: LinkedList<LinkedList<(u64, Noted)>>,
+}
+
+pub struct Law;
+
+impl TableRule<(), View, Roster> for Law {
+    ghost use Rattle.journal.specs.Rule.{Kept, newcomer};
+
+    ghost holds = { Kept };
+
+    ghost first = { newcomer };
+}
+
+/// Which journal it is. Each run of a program picks it.
+pub trait Naming {
+    ghost use Rattle.atomic_table.specs.Seated.{TableId};
+    ghost use Rattle.journal.specs.declared.law.Roster.{Roster};
+
+    ghost table: { TableId };
+
+    ghost roster: { Roster };
+}
+
+/// A look at the word.
+pub struct Look<J: Naming> {
+    of: PhantomData<J>,
+}
+
+impl<J: Naming> Play<(), View> for Look<J> {
+    ghost use Rattle.std.specs.Prelude.{◌≡◌};
+    ghost use Rattle.journal.specs.Rule.{Looks};
+
+    ghost then = { λ s me found after. (after.1 ≡ me.1) × Looks J.roster me.0 found after.0 };
+}
+
+/// Which entry a step adds. Each call picks it.
+pub trait Adding {
+    ghost use Rattle.net_model.specs.declared.noted.Noted.{Noted};
+
+    ghost noted: { Noted };
+}
+
+/// Adds an entry.
+pub struct Add<J: Naming, E: Adding> {
+    run: PhantomData<J>,
+    of: PhantomData<E>,
+}
+
+impl<J: Naming, E: Adding> Play<(), View> for Add<J, E> {
+    ghost use Rattle.std.specs.Prelude.{◌≡◌};
+    ghost use Rattle.journal.specs.Rule.{Adds};
+
+    ghost then = { λ s me found after. (after.1 ≡ me.1) × Adds J.roster E.noted me.0 found after.0 };
+}
+
+/// Which number is handed over. Each call picks it.
+pub trait Handing {
+    ghost use Rattle.net_model.specs.declared.noted.Number.{Number};
+
+    ghost number: { Number };
+}
+
+pub struct Hand<N: Handing> {
+    of: PhantomData<N>,
+}
+
+impl<N: Handing> Split<View> for Hand<N> {
+    ghost use Rattle.journal.specs.Rule.{without, only};
+
+    ghost left = { λ v. without N.number v };
+
+    ghost right = { λ v. only N.number v };
+}
+
+pub struct Merge;
+
+impl Join<View> for Merge {
+    ghost use Rattle.journal.specs.Rule.{both, spent};
+
+    ghost both = { both };
+
+    ghost spent = { spent };
+}
+
+impl Naming for Brand {
+    ghost use Rattle.std.specs.Prelude.{[]};
+    ghost use Rattle.journal.specs.Rule.{no_table};
+
+    ghost table = { no_table };
+
+    ghost roster = { record { callers = 0; actors = [] } };
+}
+
+impl Adding for Brand {
+    ghost use Rattle.journal.specs.Rule.{nothing_noted};
+
+    ghost noted = { nothing_noted };
+}
+
+impl Handing for Brand {
+    ghost use Rattle.net_model.specs.Stamped.{clock};
+
+    ghost number = { clock };
+}

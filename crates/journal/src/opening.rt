@@ -1,0 +1,92 @@
+// A journal that was just made, before the run has a name.
+ghost use Rattle.std.specs.Prelude.{◌≡◌, ◌<◌, ◌≤◌, [], map, length, IfOk, vec_len};
+ghost use Rattle.journal.specs.Rule.{newcomer, caller_numbers};
+ghost use Rattle.journal.specs.Tokens.{Distinct, AreBlank};
+
+use crate::law::{Law, Naming, Roster, View};
+use crate::tokens::{Book, Pass};
+use crate::word::{Journal, Token};
+use atomic_table::Table;
+use net_model::{ActorList, ActorName, Number};
+use std::alloc::{AllocError, Global};
+use std::marker::{Brand, PhantomData};
+
+/// A journal with an empty history, which has no name yet.
+#[derive(Drop)]
+pub struct Opened {
+    table: Table<(), View, Roster, Law, Global>,
+    seat: Token,
+    actors: Vec<ActorName>,
+    ghost seat_is: { seat.table_id ≡ table.shared.table_id },
+    ghost no_slots: { seat.me.1 ≡ [] },
+    ghost view_is: { seat.me.0 ≡ newcomer table.shared.key },
+    ghost words: { table.shared.table_id.words ≡ 1 },
+    ghost no_table_slots: { table.shared.table_id.slots ≡ 0 },
+    ghost actors_are: { actors.items ≡ table.shared.key.actors },
+    ghost few: { table.shared.key.callers ≤ 37 },
+}
+
+impl Opened {
+    /// A journal of so many callers and of these actors.
+    pub fn new(alloc: Global, callers: u32, actors: &ActorList) -> Result<Opened, AllocError>
+        requires { callers ≤ 37 }
+        ensures callers { IfOk result (λ o. o.table.shared.key.callers ≡ callers) }
+        ensures actors { IfOk result (λ o. o.table.shared.key.actors ≡ actors.now) }
+    {
+        let roster = Roster {
+            callers: u64::from(callers),
+            actors: actors.clone()?,
+        };
+        let (table, seat) = Table::of_words(alloc, &[0], &roster)?;
+        let Roster { callers: _, actors } = roster;
+        Ok(Opened {
+            table,
+            seat,
+            actors: actors.into_vec(),
+        })
+    }
+
+    /// The journal under a name, the pass of all callers, and the books of the actors in their order.
+    pub fn named<J: Naming>(
+        self,
+        alloc: Global,
+    ) -> Result<(Journal<J>, Pass<J>, Vec<Book<J>>), AllocError>
+        requires table { self.table.shared.table_id ≡ J.table }
+        requires roster { self.table.shared.key ≡ J.roster }
+        requires distinct { Distinct J.roster.actors }
+        requires few { length J.roster.actors < 2147483648 }
+        ensures seen { IfOk result (λ r. r.1.seen ≡ []) }
+        ensures held { IfOk result (λ r. r.1.held ≡ caller_numbers J.roster.callers) }
+        ensures books { IfOk result (λ r. AreBlank 0 J.roster.actors r.2.items) }
+    {
+        let Opened {
+            table,
+            seat: mut all,
+            actors,
+        } = self;
+        let journal = Journal {
+            table,
+            of: PhantomData,
+        };
+        let mut books = Vec::with_capacity(alloc, actors.len())?;
+        let mut i = 0;
+        while i < actors.len() {
+            let actor = actors[i];
+            let seat = journal.hand::<Brand>(&mut all, Number::Actor(actor));
+            books.push_reserved(Book {
+                badge: seat.into_badge(),
+                actor,
+                number: i as u32,
+                entries: Vec::new(alloc),
+                of: PhantomData,
+            });
+            i += 1;
+        }
+        let pass = Pass {
+            seat: all,
+            counts: [0; 37],
+            of: PhantomData,
+        };
+        Ok((journal, pass, books))
+    }
+}
