@@ -1,5 +1,5 @@
 -- What accepting a message changes, and what it doesn't.
-use Rattle.std.proofs.Common.{◌≡◌, ℕ, zero, suc, ◌+◌, ◌≤◌, Bool, true, false, List, [], ◌∷◌, ◌++◌, length, Option, Some, None, refl, ap, sym, ◌∙◌, arith, nat_le, if◌then◌else◌, ◌||◌, is_some}
+use Rattle.std.proofs.Common.{◌≡◌, ℕ, zero, suc, ◌+◌, Bool, true, false, List, [], ◌∷◌, ◌++◌, length, Option, Some, None, refl, ap, sym, ◌∙◌, nat_le, if◌then◌else◌, ◌||◌, is_some}
 use Rattle.net_model.specs.declared.il.IlMsg.{IlMsg}
 use Rattle.net_model.specs.Number.{number}
 use Rattle.net_model.specs.Timer.{Timer}
@@ -94,6 +94,7 @@ accepts_hears_ack now m e =
   where
     heard : stamped e.acked (hears now e).timer (accepts m e) ≡ hears now (accepts m e)
     heard = ap (stamped e.acked (hears now e).timer) (accepts_both m e) ∙ sym (ap (hears now) (accepts_both m e))
+
     same_number : acked_to now (number e.start m.ack e.acked) (hears now (accepts m e)) ≡ hears_ack now m (accepts m e)
     same_number = ap (λ (e' : End). acked_to now (number e'.start m.ack e'.acked) (hears now (accepts m e))) (sym (accepts_both m e))
 
@@ -104,6 +105,7 @@ hears_ack_got now m e = got_of (number e.start m.ack e.acked) (hears now e)
     got_if : (k : ℕ) (e' : End) (b : Bool) → (if b then moves now (record e' { acked = k }) else e').got ≡ e'.got
     got_if k e' true = refl
     got_if k e' false = refl
+
     got_of : (o : Option ℕ) (e' : End) → (acked_to now o e').got ≡ e'.got
     got_of None e' = refl
     got_of (Some k) e' = got_if k e' (nat_le k (length e'.sent))

@@ -1,5 +1,5 @@
 -- What a question with data is answered by.
-use Rattle.std.proofs.Common.{◌≡◌, ℕ, Bool, true, false, List, [], length, Option, Some, None, refl, ap, sym, ◌∙◌, nat_le, if◌then◌else◌, is_some}
+use Rattle.std.proofs.Common.{◌≡◌, ℕ, Bool, true, false, [], length, Option, Some, None, refl, ap, sym, ◌∙◌, nat_le, if◌then◌else◌, is_some}
 use Rattle.net_model.specs.declared.il.IlKind.{IlKind}
 use Rattle.net_model.specs.declared.il.IlKind.TheVariants.{DataQuery, Ack, State}
 use Rattle.net_model.specs.declared.il.IlMsg.{IlMsg}
@@ -15,6 +15,7 @@ rstart_kept now m e = ap rstart_of (accepts_both m (hears_ack now m e)) ∙ kept
     kept_if : (k : ℕ) (e' : End) (b : Bool) → rstart_of (if b then moves now (record e' { acked = k }) else e') ≡ rstart_of e'
     kept_if k e' true = refl
     kept_if k e' false = refl
+
     kept_of : (o : Option ℕ) (e' : End) → rstart_of (acked_to now o e') ≡ rstart_of e'
     kept_of None e' = refl
     kept_of (Some k) e' = kept_if k e' (nat_le k (length e'.sent))

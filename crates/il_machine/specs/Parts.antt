@@ -1,5 +1,5 @@
 -- The early messages as the end keeps them.
-use Rattle.std.specs.Prelude.{◌≡◌, ℕ, ◌+◌, ◌<◌, ◌≤◌, ◌==◌, Bool, List, map, length, Option, Some, None, slice_index_or, remove, is_some, IsTrue}
+use Rattle.std.specs.Prelude.{◌≡◌, ℕ, ◌+◌, ◌<◌, ◌≤◌, ◌==◌, Bool, List, map, length, Some, None, slice_index_or, remove, is_some, IsTrue}
 use Rattle.il_machine.specs.declared.early.Numbered.{Numbered}
 use Rattle.net_model.specs.IlEnd.{Early, early_at, without}
 

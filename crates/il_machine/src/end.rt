@@ -55,9 +55,20 @@ impl Model for IlEnd {
     ghost Value = { End };
 
     ghost view = { λ e. record {
-        state = e.state; fresh = e.fresh; start = e.start; rstart = e.rstart; sent = e.sent.items; acked = e.acked;
-        got = e.got.items; early = seen e.early.items; taken = e.taken; cut = e.cut; marked = e.marked; cause = e.cause;
-        timer = e.timer } };
+      state = e.state;
+      fresh = e.fresh;
+      start = e.start;
+      rstart = e.rstart;
+      sent = e.sent.items;
+      acked = e.acked;
+      got = e.got.items;
+      early = seen e.early.items;
+      taken = e.taken;
+      cut = e.cut;
+      marked = e.marked;
+      cause = e.cause;
+      timer = e.timer;
+    } };
 
     ghost invariant = { λ e. IsKept e.sent.items e.acked e.got.items e.early.items };
 }
@@ -450,7 +461,9 @@ impl IlEnd {
                 IlState::Established => self.sent.len() as u64 - self.acked < WINDOW as u64,
                 IlState::Closed | IlState::Listening | IlState::Closing => true,
             },
-            Ask::Read => self.taken < self.got.len() || self.marked || self.state == IlState::Closed,
+            Ask::Read => self.taken < self.got.len()
+                || self.marked
+                || self.state == IlState::Closed,
             Ask::Wait => self.state != IlState::Syncer,
         }
     }

@@ -35,7 +35,11 @@ impl IlEnd {
     }
 
     /// Syncee: the sync that it was born from comes again, or the first message that acknowledges its own.
-    pub(super) fn arrive_at_syncee(&mut self, now: u64, message: &IlMsg) -> Result<Option<IlMsg>, AllocError>
+    pub(super) fn arrive_at_syncee(
+        &mut self,
+        now: u64,
+        message: &IlMsg,
+    ) -> Result<Option<IlMsg>, AllocError>
         requires in_time { now < 2 ^ 63 }
         requires short { IsShort self.old }
         requires syncee { self.old.state ≡ state.Syncee }
@@ -80,7 +84,11 @@ impl IlEnd {
     }
 
     /// Established: data, acks and questions, and the other end's close.
-    pub(super) fn arrive_at_established(&mut self, now: u64, message: &IlMsg) -> Result<Option<IlMsg>, AllocError>
+    pub(super) fn arrive_at_established(
+        &mut self,
+        now: u64,
+        message: &IlMsg,
+    ) -> Result<Option<IlMsg>, AllocError>
         requires in_time { now < 2 ^ 63 }
         requires short { IsShort self.old }
         ensures end { OnOk result (self.new ≡ (table.at_established message.now.kind now message.now self.old).end) }
@@ -143,7 +151,11 @@ impl IlEnd {
     }
 
     /// Closing: all is answered by a close, until one comes.
-    pub(super) fn arrive_at_closing(&mut self, now: u64, message: &IlMsg) -> Result<Option<IlMsg>, AllocError>
+    pub(super) fn arrive_at_closing(
+        &mut self,
+        now: u64,
+        message: &IlMsg,
+    ) -> Result<Option<IlMsg>, AllocError>
         requires in_time { now < 2 ^ 63 }
         requires short { IsShort self.old }
         ensures end { OnOk result (self.new ≡ (table.at_closing message.now.kind now message.now self.old).end) }

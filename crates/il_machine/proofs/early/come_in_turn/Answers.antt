@@ -1,8 +1,8 @@
-use Rattle.std.proofs.Common.{◌≡◌, ◌+◌, length, Option, Some, None, vec_len, arith, ◌∙◌}
+use Rattle.std.proofs.Common.{◌≡◌, ◌+◌, length, None, vec_len, arith, ◌∙◌}
 use Rattle.std.proofs.lemmas.Grind.{common_steps}
-use Rattle.net_model.specs.IlEnd.{End, early_at, without, come_in_turn}
+use Rattle.net_model.specs.IlEnd.{early_at}
 use Rattle.il_machine.specs.Parts.{seen}
-use Rattle.il_machine.proofs.InTurn.{none_moves, one_moves}
+use Rattle.il_machine.proofs.InTurn.{none_moves}
 use Rattle.il_machine.proofs.early.come_in_turn.Goals as goal
 
 -- the next message isn't early

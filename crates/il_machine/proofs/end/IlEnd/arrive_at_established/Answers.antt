@@ -1,4 +1,4 @@
-use Rattle.std.proofs.Common.{◌≡◌, true, false, Some, ap, sym, ◌∙◌}
+use Rattle.std.proofs.Common.{true, false, Some, ap, sym, ◌∙◌}
 use Rattle.il_machine.proofs.Questions.{question_answered}
 use Rattle.il_machine.proofs.end.IlEnd.arrive_at_established.Goals as goal
 
