@@ -34,3 +34,5 @@ pub mod Touch
 pub mod ConvSteps
 pub mod DirSteps
 pub mod DirRows
+pub mod CasesUdp
+pub mod CasesIl
