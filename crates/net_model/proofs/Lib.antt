@@ -24,8 +24,6 @@ pub mod Sides
 pub mod NdbForms
 pub mod NdbPlain
 pub mod Walk
-pub mod Worked
-pub mod WorkedUdp
 
 pub mod Accounts
 pub mod ConvMoves
@@ -36,3 +34,4 @@ pub mod DirSteps
 pub mod DirRows
 pub mod CasesUdp
 pub mod CasesIl
+pub mod OtherSteps
