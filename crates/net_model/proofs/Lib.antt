@@ -35,3 +35,4 @@ pub mod DirRows
 pub mod CasesUdp
 pub mod CasesIl
 pub mod OtherSteps
+pub mod Books
