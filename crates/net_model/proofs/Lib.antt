@@ -36,3 +36,4 @@ pub mod CasesUdp
 pub mod CasesIl
 pub mod OtherSteps
 pub mod Books
+pub mod Whole
