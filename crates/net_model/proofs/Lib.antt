@@ -37,3 +37,6 @@ pub mod CasesIl
 pub mod OtherSteps
 pub mod Books
 pub mod Whole
+pub mod Places
+pub mod Short
+pub mod Linked

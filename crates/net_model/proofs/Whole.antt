@@ -160,7 +160,7 @@ at_name P new old b f g = cond_both b new old P f g
 not_both : (a b c d : ℕ) → (((a == b) && true) && (c == d)) ≡ false → a ≡ b → c ≡ d → ⊥
 not_both a b c d not one two = both_ways (and_from ((a == b) && true) (c == d) (and_from (a == b) true (eq-eqb a b one) refl) (eq-eqb c d two)) not
 
-conv_trace_owner : (s : Stage) (core : Core) (c : Conv) (emit : Option Packet) (t : Trace) (p : Pair) → (conv_trace s core c emit t).owner p ≡ t.owner p
+pub conv_trace_owner : (s : Stage) (core : Core) (c : Conv) (emit : Option Packet) (t : Trace) (p : Pair) → (conv_trace s core c emit t).owner p ≡ t.owner p
 conv_trace_owner Connected (Il e) c emit t p = refl
 conv_trace_owner Connected (Udp e) c emit t p = refl
 conv_trace_owner Unused core c emit t p = refl
