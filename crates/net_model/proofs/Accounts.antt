@@ -1,7 +1,7 @@
 -- What an end has read and written, entry by entry.
 use Rattle.std.proofs.Common.{◌≡◌, ℕ, ◌+◌, ◌<◌, ◌≤◌, ◌==◌, nat_lt, true, List, [], ◌∷◌, ◌++◌, length, take, drop, Some, slice_get, ◌⊎◌, inl, inr, refl, sym, ap, subst, ◌∙◌, append_assoc, arith}
-use Rattle.std.specs.Prelude.{slice_index_or}
-use Rattle.std.proofs.lemmas.Bool.{cond_both, eq-eqb, ltb-true, ltb-false, cases_lt}
+use Rattle.std.specs.Prelude.{slice_index_or, filter}
+use Rattle.std.proofs.lemmas.Bool.{lt-ltb, cond_both, eq-eqb, ltb-true, ltb-false, cases_lt}
 use Rattle.std.proofs.lemmas.List.{append-nil, take-append-le, take_all, get_or_append_left, take-append-drop, take_more, length-append, length-drop, length-take}
 use Rattle.std.proofs.lemmas.Option.{slice_get-get_or}
 use Rattle.std.proofs.Math.Seq.{take-add}
@@ -9,6 +9,7 @@ use Rattle.net_model.specs.declared.event.Event.{Event}
 use Rattle.net_model.specs.declared.event.Event.TheVariants as event
 use Rattle.net_model.specs.declared.reply.Reply.{Reply}
 use Rattle.net_model.specs.declared.reply.Reply.TheVariants as reply
+use Rattle.net_model.specs.Networks.{is_filled}
 use Rattle.net_model.specs.IlEnd.{End, Turn, has_unacked, starts}
 use Rattle.net_model.specs.IlTable.{first_unread, sends}
 use Rattle.net_model.specs.IlTable.{reads as reads_end, writes as writes_end}
@@ -35,9 +36,17 @@ given_by e = given_out e.taken e.cut e.got
 abbrev pub Reading : End → Type 0
 Reading e = IsReading e.taken e.cut e.got
 
--- no message is empty
+-- a message has 1 to 8,192 bytes
+abbrev pub IsSized : List ℕ → Type 0
+IsSized text = (0 < length text) × (length text ≤ 8192)
+
 abbrev pub AllSized : List (List ℕ) → Type 0
-AllSized xs = (k : ℕ) (t : List ℕ) → slice_get xs k ≡ Some t → 0 < length t
+AllSized xs = (k : ℕ) (t : List ℕ) → slice_get xs k ≡ Some t → IsSized t
+
+-- a read of this event has room for every message
+abbrev pub ReadsAll : Event → Type 0
+ReadsAll (event.Read g count) = 8192 ≤ count
+ReadsAll _ = Unit {0}
 
 -- all that will ever come was given
 abbrev pub AtEnd : End → Type 0
@@ -50,7 +59,9 @@ pub record Account (g : ℕ) (ev : Event) (r : Reply) (e e' : End) : Type 0 wher
   pub reading : Reading e → Reading e'
   pub sized : AllSized e.sent → AllSized e'.sent
   -- a read of nothing comes at the end alone
-  pub ends : Reading e → AllSized e.got → HasEmpty (read_in g ev r) → AtEnd e'
+  pub ends : Reading e → AllSized e.got → HasEmpty (read_in g ev r) → AtEnd e × AtEnd e'
+  -- reads with room for every message take whole messages
+  pub whole : ReadsAll ev → Reading e → AllSized e.got → e.cut ≡ 0 → (e'.cut ≡ 0) × (take e'.taken e'.got ≡ take e.taken e.got ++ filter is_filled (read_in g ev r))
   -- the end stays the end, where nothing more comes
   pub stays : AtEnd e → Begins e'.got e.got → AtEnd e'
 
@@ -65,6 +76,10 @@ given_more taken cut got rest (inl less) =
 given_more taken cut got rest (inr end) =
     let le : taken ≤ length got = omega (arith, end.0) in
     rw (end.1, take-append-le taken got rest le) refl
+
+taken_more : (taken cut : ℕ) (got rest : List (List ℕ)) → IsReading taken cut got → take taken (got ++ rest) ≡ take taken got
+taken_more taken cut got rest (inl less) = take-append-le taken got rest (omega (arith, less.0))
+taken_more taken cut got rest (inr end) = take-append-le taken got rest (omega (arith, end.0))
 
 reading_more : (taken cut : ℕ) (got rest : List (List ℕ)) → IsReading taken cut got → IsReading taken cut (got ++ rest)
 reading_more taken cut got rest (inl less) = inl (omega (arith, less.0, length-append got rest), rw (get_or_append_left got rest [] taken less.0) less.1)
@@ -86,23 +101,27 @@ left_account g ev r e e' l silent = record {
       rw (l.taken_is, l.cut_is, ← more.1) (reading_more e.taken e.cut e.got more.0 reading);
   sized = λ all. rw l.sent_is all;
   ends = λ _ _ h. absurd (no_empty (read_in g ev r) silent.1 h);
+  whole = λ _ reading _ none.
+      let more = begins_prefix e.got e'.got l.got_more in
+      (l.cut_is ∙ none, rw silent.1 (rw (l.taken_is, ← more.1) (taken_more e.taken e.cut e.got more.0 reading ∙ sym (append-nil (take e.taken e.got)))));
   stays = λ at back. (l.marked_stays at.0, omega (arith, l.taken_is, at.1, begins_length e.got e'.got l.got_more, begins_length e'.got e.got back), l.cut_is ∙ at.2);
 }
 
-sized_push : (xs : List (List ℕ)) (y : List ℕ) → 0 < length y → AllSized xs → AllSized (xs ++ y ∷ [])
-sized_push xs y some all k t is = elim (in_pushed xs y k t is) [ inl old ↦ all k t old | inr last ↦ subst (λ (u : List ℕ). 0 < length u) last.1 some ]
+sized_push : (xs : List (List ℕ)) (y : List ℕ) → IsSized y → AllSized xs → AllSized (xs ++ y ∷ [])
+sized_push xs y some all k t is = elim (in_pushed xs y k t is) [ inl old ↦ all k t old | inr last ↦ subst (λ (u : List ℕ). IsSized u) last.1 some ]
 
-pub sends_account : (g g' : ℕ) (text : List ℕ) (n : ℕ) (e e' : End) → g' ≡ g → e'.sent ≡ e.sent ++ text ∷ [] → e'.taken ≡ e.taken → e'.cut ≡ e.cut → e'.got ≡ e.got → e'.marked ≡ e.marked → 0 < length text → Account g (event.Write g' text) (reply.Count n) e e'
+pub sends_account : (g g' : ℕ) (text : List ℕ) (n : ℕ) (e e' : End) → g' ≡ g → e'.sent ≡ e.sent ++ text ∷ [] → e'.taken ≡ e.taken → e'.cut ≡ e.cut → e'.got ≡ e.got → e'.marked ≡ e.marked → IsSized text → Account g (event.Write g' text) (reply.Count n) e e'
 sends_account g g' text n e e' own sent taken cut got marked some = record {
   sent_is = rw (eq-eqb g' g own) sent;
   read_is = λ reading. rw (taken, cut, got) (sym (append-nil (given_by e)));
   reading = λ reading. rw (taken, cut, got) reading;
   sized = λ all. rw sent (sized_push e.sent text some all);
   ends = λ _ _ h. absurd h;
+  whole = λ _ _ _ none. (cut ∙ none, rw (taken, got) (sym (append-nil (take e.taken e.got))));
   stays = λ at back. (marked ∙ at.0, omega (arith, taken, at.1, ap length got), cut ∙ at.2);
 }
 
-pub write_account : (g g' now : ℕ) (text : List ℕ) (n : ℕ) (e : End) → g' ≡ g → 0 < length text → Account g (event.Write g' text) (reply.Count n) e (writes_end now text e).end
+pub write_account : (g g' now : ℕ) (text : List ℕ) (n : ℕ) (e : End) → g' ≡ g → IsSized text → Account g (event.Write g' text) (reply.Count n) e (writes_end now text e).end
 write_account g g' now text n e own some =
     cond_both (has_unacked e) _ _ (λ (t : Turn). Account g (event.Write g' text) (reply.Count n) e t.end)
     (λ _. sends_account g g' text n e (sends text e).end own refl refl refl refl refl some) (λ _. sends_account g g' text n e (sends text (starts now e)).end own refl refl refl refl refl some)
@@ -127,7 +146,7 @@ one_empty xs (inr h) = absurd h
 
 within : (e : End) → e.taken < length e.got → Reading e → AllSized e.got → e.cut < length (slice_index_or e.got e.taken [])
 within e there reading all =
-    let here : 0 < length (slice_index_or e.got e.taken []) = all e.taken (slice_index_or e.got e.taken []) (slice_get-get_or e.got e.taken [] there) in
+    let here : 0 < length (slice_index_or e.got e.taken []) = (all e.taken (slice_index_or e.got e.taken []) (slice_get-get_or e.got e.taken [] there)).0 in
     elim reading [ inl x ↦ elim x.1 [ inl none ↦ omega (arith, none, here) | inr less ↦ less ] | inr end ↦ absurd (omega (arith, end.0)) ]
 
 some_read : (g g' count : ℕ) (e : End) → g' ≡ g → 0 < count → e.taken < length e.got → Reading e → AllSized e.got → HasEmpty (read_in g (event.Read g' count) (reply.Bytes (take count (first_unread e)))) → ⊥
@@ -146,6 +165,7 @@ read_account g g' count e own some there =
       reading = λ _. inl (there, inr (omega (arith, ltb-true count (length (drop e.cut m)) more, length-drop e.cut m)));
       sized = λ all. all;
       ends = λ reading all h. absurd (some_read g g' count e own some there reading all h);
+      whole = λ room reading all none. absurd (omega (arith, room, (all e.taken m (slice_get-get_or e.got e.taken [] there)).1, ltb-true count (length (drop e.cut m)) more, length-drop e.cut m));
       stays = λ at back. absurd (omega (arith, at.1));
     })
     (λ not. record {
@@ -158,6 +178,12 @@ read_account g g' count e own some there =
       reading = λ _. elim (cases_lt (e.taken + 1) (length e.got)) [ inl less ↦ inl (less, inl refl) | inr more ↦ inr (omega arith, refl) ];
       sized = λ all. all;
       ends = λ reading all h. absurd (some_read g g' count e own some there reading all h);
+      whole = λ room reading all none.
+          let here : IsSized m = all e.taken m (slice_get-get_or e.got e.taken [] there) in
+          let cut_none : drop e.cut m ≡ m = rw none refl in
+          let text_is : take count (drop e.cut m) ≡ m = ap (take count) cut_none ∙ take_all count m (omega (arith, room, here.1)) in
+          let filled : filter is_filled (m ∷ []) ≡ m ∷ [] = rw (lt-ltb 0 (length m) here.0) refl in
+          (refl, rw (eq-eqb g' g own) (take_more e.got e.taken [] there ∙ ap (λ (xs : List (List ℕ)). take e.taken e.got ++ xs) (sym (ap (λ (x : List ℕ). filter is_filled (x ∷ [])) text_is ∙ filled))));
       stays = λ at back. absurd (omega (arith, at.1));
     })
 
@@ -170,6 +196,10 @@ end_account g g' count e marked all = record {
   sized = λ x. x;
   ends = λ reading _ _.
       let end : (e.taken ≡ length e.got) × (e.cut ≡ 0) = elim reading [ inl x ↦ absurd (omega (arith, x.0)) | inr end ↦ end ] in
-      (marked, end.0, end.1);
+      ((marked, end.0, end.1), (marked, end.0, end.1));
+  whole = λ _ _ _ none. (
+    none,
+    cond_both (g' == g) _ _ (λ (xs : List (List ℕ)). take e.taken e.got ≡ take e.taken e.got ++ filter is_filled xs) (λ _. sym (append-nil (take e.taken e.got))) (λ _. sym (append-nil (take e.taken e.got))),
+  );
   stays = λ at _. at;
 }

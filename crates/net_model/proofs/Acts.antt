@@ -1,5 +1,5 @@
 -- What the turns of an end do, linked or not.
-use Rattle.std.proofs.Common.{◌≡◌, ℕ, ◌==◌, ◌&&◌, Bool, true, false, not, cond, length, Option, Some, None, ◌⊎◌, inl, inr, refl, sym, ap, subst, ◌∙◌, arith}
+use Rattle.std.proofs.Common.{◌≡◌, ℕ, ◌==◌, ◌&&◌, Bool, true, false, not, cond, [], length, Option, Some, None, ◌⊎◌, inl, inr, refl, sym, ap, subst, ◌∙◌, arith}
 use Rattle.std.proofs.lemmas.Bool.{and_parts, eqb-true, eq-eqb, true≢false}
 use Rattle.std.proofs.lemmas.Option.{none-some}
 use Rattle.net_model.specs.declared.event.Event.{Event}
@@ -89,7 +89,7 @@ IdleAs _ = ⊥
 
 -- an end that never connected
 abbrev pub Idle : End → Type 0
-Idle e = IdleAs e.state × (e.marked ≡ false) × (e.timer.due ≡ None)
+Idle e = IdleAs e.state × (e.marked ≡ false) × (e.timer.due ≡ None) × (e.sent ≡ []) × (e.got ≡ []) × (e.acked ≡ 0)
 
 idle_closed : (kind : IlKind) (now : ℕ) (m : IlMsg) (e : End) → e.marked ≡ false → at_closed kind now m e ≡ silent e
 idle_closed Close now m e unmarked = rw unmarked refl
@@ -114,7 +114,7 @@ pub record Quiet (t : Turn) : Type 0 where
 
 idle_hangs : (s : IlState) (now : ℕ) (e : End) → IdleAs s → Idle e → Quiet (hangs_up_at s now e)
 idle_hangs state.Closed now e as_s idle = record { idle = idle; emits_none = refl }
-idle_hangs state.Listening now e as_s idle = record { idle = (tt, idle.1, refl); emits_none = refl }
+idle_hangs state.Listening now e as_s idle = record { idle = (tt, idle.1, refl, idle.3, idle.4, idle.5); emits_none = refl }
 idle_hangs _ now e as_s idle = absurd as_s
 
 idle_ticks : (due : Option ℕ) (now : ℕ) (e : End) → due ≡ None → Idle e → Quiet (ticks_to (timer.ticks_at due now e.timer).says (timer.ticks_at due now e.timer).timer e)
@@ -134,7 +134,7 @@ idle_act now c e ev gift t (Hanging is) not idle = subst (λ (u : Turn). Quiet u
 idle_act now c e ev gift t (Ticking is) not idle = subst (λ (u : Turn). Quiet u) (sym is) (idle_ticks e.timer.due now e idle.2 idle)
 
 pub fresh_idle : Idle fresh_end
-fresh_idle = (tt, refl, refl)
+fresh_idle = (tt, refl, refl, refl, refl, refl)
 
 -- a fresh end stays fresh
 pub fresh_act : (now : ℕ) (c : Conv) (ev : Event) (gift : With) (t : Turn) → Act now c fresh_end ev gift t → is_connected c.stage ≡ false → t ≡ silent fresh_end

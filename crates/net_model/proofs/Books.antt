@@ -1,6 +1,7 @@
 -- Entries and what ends have written and read.
 use Rattle.std.proofs.Common.{◌≡◌, ℕ, ◌+◌, ◌==◌, ◌&&◌, Bool, true, false, cond, List, [], ◌∷◌, ◌++◌, Some, ◌⊎◌, inl, inr, refl, sym, ap, subst, ◌∙◌, append_assoc, arith, Option, None}
-use Rattle.std.specs.Prelude.{flat_map}
+use Rattle.std.specs.Prelude.{flat_map, filter, take}
+use Rattle.net_model.specs.Networks.{is_filled}
 use Rattle.std.proofs.lemmas.Bool.{and_parts, and_from, cond_both, eqb-true, eq-eqb}
 use Rattle.std.proofs.lemmas.Option.{same_Some, none-some}
 use Rattle.std.proofs.lemmas.List.{append-nil}
@@ -28,7 +29,7 @@ use Rattle.net_model.proofs.Begins.{Begins}
 use Rattle.net_model.proofs.Deeds.{both_ways}
 use Rattle.net_model.proofs.ConvMoves.{is_connected, Stays, Move, Stay, Begin, Join, Come, Listen, Elsewhere, of_end}
 use Rattle.net_model.proofs.Untouched.{Leaves}
-use Rattle.net_model.proofs.Accounts.{HasEmpty, AllSized, AtEnd, no_empty, given_by, Reading, Account, Silent, left_account, joined-append}
+use Rattle.net_model.proofs.Accounts.{HasEmpty, ReadsAll, AllSized, AtEnd, no_empty, given_by, Reading, Account, Silent, left_account, joined-append}
 use Rattle.net_model.proofs.Sides.{same_pair_is, same_pair_from, put_here}
 use Rattle.net_model.proofs.Touch.{owner_of, Owned, HasEnd, ConvFine, touched, side_at}
 use Rattle.net_model.proofs.ConvSteps.{GiftFine, quiet_trace, trace_touched}
@@ -64,7 +65,8 @@ pub record EntryAccount (o : Owner) (a : ActorName) (ev : Event) (r : Reply) (e 
   pub read_is : Reading e → given_by e' ≡ given_by e ++ joined (read_here o a ev r)
   pub reading : Reading e → Reading e'
   pub sized : AllSized e.sent → AllSized e'.sent
-  pub ends : Reading e → AllSized e.got → HasEmpty (read_here o a ev r) → AtEnd e'
+  pub ends : Reading e → AllSized e.got → HasEmpty (read_here o a ev r) → AtEnd e × AtEnd e'
+  pub whole : (is_at o a ≡ true → ReadsAll ev) → Reading e → AllSized e.got → e.cut ≡ 0 → (e'.cut ≡ 0) × (take e'.taken e'.got ≡ take e.taken e.got ++ filter is_filled (read_here o a ev r))
   pub stays : AtEnd e → AtEnd e'
 
 no_entry_account : (o : Owner) (a : ActorName) (ev : Event) (r : Reply) (e : End) → NoEntry o a ev r → EntryAccount o a ev r e e
@@ -74,6 +76,7 @@ no_entry_account o a ev r e n = record {
   reading = λ x. x;
   sized = λ x. x;
   ends = λ _ _ h. absurd (no_empty (read_here o a ev r) n.read_none h);
+  whole = λ _ _ _ none. (none, rw n.read_none (sym (append-nil (take e.taken e.got))));
   stays = λ x. x;
 }
 
@@ -170,7 +173,7 @@ books_next t u h x all b k = record {
     ended p o (inl y) e =
         elim (has_empty_append (reads o h) (read_here o x.actor x.event x.reply) e) [
           | inl old ↦ y.1.stays (b.ended p o y.0 old)
-          | inr new ↦ y.1.ends (b.reading p o y.0) (all p) new
+          | inr new ↦ (y.1.ends (b.reading p o y.0) (all p) new).1
         ]
     ended p o (inr y) e = absurd (no_empty (reads o h ++ read_here o x.actor x.event x.reply) (rw ((b.none o y.0).1, y.2.read_none) refl) e)
 
@@ -194,7 +197,7 @@ module _ (h n : ℕ) (ev : Event) (r : Reply) where
   entry_account : (g : ℕ) (e e' : End) → Account g ev r e e' → (e.marked ≡ true → Begins e'.got e.got) → EntryAccount (record { host = h; slot = n; generation = g }) (actor.Conv h proto.Il n) ev r e e'
   entry_account g e e' a back =
       let here : (((h == h) && true) && (n == n)) ≡ true = and_from ((h == h) && true) (n == n) (and_from (h == h) true (eq-eqb h h refl) refl) (eq-eqb n n refl) in
-      record { sent_is = rw here a.sent_is; read_is = λ x. rw here (a.read_is x); reading = a.reading; sized = a.sized; ends = λ reading all h. a.ends reading all (rw here at h); stays = λ at. a.stays at (back at.0) }
+      record { sent_is = rw here a.sent_is; read_is = λ x. rw here (a.read_is x); reading = a.reading; sized = a.sized; ends = λ reading all h. a.ends reading all (rw here at h); whole = λ room reading all none. rw here (a.whole (room here) reading all none); stays = λ at. a.stays at (back at.0) }
 
   -- the pair's own end takes part, and no other
   booked_touched : (k : ℕ) (t : Trace) (p : Pair) (turn : Turn) (g : ℕ) → Owned k t → t.owner p ≡ owner_of h n g → Account g ev r (t.side p).end turn.end → ((g' : ℕ) → (g' ≡ g → ⊥) → Silent g' ev r) → ((t.side p).end.marked ≡ true → Begins turn.end.got (t.side p).end.got)

@@ -64,6 +64,7 @@ keeps k h n t s w fine not none =
       others = λ h' n' a apart f. f;
       later = record { owner_stays = λ p o is. is; out_stays = λ p m there. there };
       emitted = subst (λ (x : Option Packet). EmittedIf t x) (sym none) tt;
+      still = λ q o owns other. refl;
     })
 
 none_emits : (p : Pair) (emit : Option Packet) (m : Option IlMsg) → Emits p emit m → m ≡ None → emit ≡ None
@@ -124,7 +125,7 @@ module _ (k h n : ℕ) (t : Trace) (few : k < 2 ^ 31) (w : Owned k t) (now : ℕ
   listen : HasEnd t h n (of_end c e) c.stage (Il e) → NotYet t h n c → Opens c e ev s → ConvStep k h n t (conv_trace s.state.stage s.state.core s.state s.outcome.emit t) s
   listen has not_yet o =
       let end_is : e ≡ fresh_end = rw o.was at has in
-      keeps k h n t s w (rw (o.stage_is, o.core_is) (subst (λ (x : End). Idle (announced x)) (sym end_is) (tt, refl, refl)), not_yet_stays t h n c s.state o.generation_is (ap is_connected o.was) not_yet)
+      keeps k h n t s w (rw (o.stage_is, o.core_is) (subst (λ (x : End). Idle (announced x)) (sym end_is) (tt, refl, refl, refl, refl, refl)), not_yet_stays t h n c s.state o.generation_is (ap is_connected o.was) not_yet)
       (ap is_connected o.stage_is) o.emits_none
 
   -- a pair that was never used begins

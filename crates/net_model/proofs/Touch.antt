@@ -87,6 +87,8 @@ pub record ConvStep (k h n : ℕ) (t u : Trace) (s : Step Conv) : Type 0 where
   pub others : (h' n' : ℕ) (a : Actor) → (h ≡ h' → n ≡ n' → ⊥) → ActorFine t h' n' a → ActorFine u h' n' a
   pub later : Later t u
   pub emitted : EmittedIf u s.outcome.emit
+  -- what other conversations and generations have stays as it is
+  pub still : (q : Pair) (o : Owner) → t.owner q ≡ Some o → (◌≡◌ {A = Owner} (record { host = h; slot = n; generation = s.state.generation }) o → ⊥) → u.side q ≡ t.side q
 
 -- Where a side takes a turn.
 
@@ -182,8 +184,15 @@ module _ (t : Trace) (p : Pair) (turn : Turn) where
     others = others_touched h n g is;
     later = later_touched;
     emitted = emitted_touched s.outcome.emit emits;
+    still = λ q o owns other. still q o owns other (same_pair p q) refl;
   }
     where
+      still : (q : Pair) (o : Owner) → t.owner q ≡ Some o → (◌≡◌ {A = Owner} (record { host = h; slot = n; generation = s.state.generation }) o → ⊥) → (b : Bool) → same_pair p q ≡ b → (touched t p turn).side q ≡ t.side q
+      still q o owns other true same =
+          let e : ◌≡◌ {A = Owner} (record { host = h; slot = n; generation = g }) o = same_Some _ _ (sym is ∙ (ap t.owner (same_pair_is p q same) ∙ owns)) in
+          absurd (other (ap (λ (i : ℕ). record { host = h; slot = n; generation = i }) gen_is ∙ e))
+      still q o owns other false same = side_at q false same
+
       not_yet' : (q : Pair) (g' : ℕ) → t.owner q ≡ owner_of h n g' → g ≤ g' → (g' ≡ g → is_connected Connected ≡ false) → (touched t p turn).side q ≡ empty_side
       not_yet' q g' owner le' not = go (same_pair p q) refl
         where

@@ -1,5 +1,5 @@
 -- Each entry of a legal history keeps what holds of all pairs.
-use Rattle.std.proofs.Common.{◌≡◌, ℕ, zero, suc, ◌+◌, ◌-◌, ◌^◌, ◌<◌, ◌==◌, ◌&&◌, nat_lt, Bool, true, false, cond, List, [], ◌∷◌, ◌++◌, length, take, drop, map, Option, Some, None, slice_get, inl, inr, refl, sym, ap, subst, ◌∙◌, append_assoc, arith}
+use Rattle.std.proofs.Common.{◌≡◌, ℕ, zero, suc, ◌+◌, ◌-◌, ◌^◌, ◌<◌, ◌≤◌, ◌==◌, ◌&&◌, nat_lt, Bool, true, false, cond, List, [], ◌∷◌, ◌++◌, length, take, drop, map, Option, Some, None, slice_get, inl, inr, refl, sym, ap, subst, ◌∙◌, append_assoc, arith}
 use Rattle.std.specs.Prelude.{IfSome, IsSome, slice_index_or, flat_map, replicate}
 use Rattle.std.specs.Option.{option_map, option_and_then}
 use Rattle.std.proofs.lemmas.Option.{none-some, same_Some}
@@ -41,7 +41,8 @@ use Rattle.net_model.specs.Legal.{IsLegal, Shows, Shown, IsAsked, asked_by}
 use Rattle.net_model.proofs.Trace.{Owner, Trace, opening_trace, conv_trace, dir_trace, actor_trace, trace_after, next_trace, trace_of, trace, HasPlaces, end_of}
 use Rattle.net_model.proofs.Begins.{begins_prefix, begins_same}
 use Rattle.net_model.proofs.Deeds.{both_ways, nothing_yet}
-use Rattle.net_model.proofs.ConvMoves.{of_end, moves, elsewhere}
+use Rattle.net_model.proofs.ConvMoves.{of_end, moves, elsewhere, Move, Stay, Begin, Join, Come, Listen}
+use Rattle.net_model.specs.IlEnd.{End}
 use Rattle.net_model.proofs.Touch.{Owned, Later, Emitted, EmittedIf, emitted_later, HasEnd, ConvFine, ActorFine, ConvStep}
 use Rattle.net_model.proofs.ConvSteps.{GiftFine, owned_more, conv_steps}
 use Rattle.net_model.proofs.DirSteps.{WithFine, EachDuty, SlotIsFine, DirIsFine, Addressed, DirStep}
@@ -89,6 +90,11 @@ abbrev pub DirFineAs : Trace → ℕ → Actor → Type 0
 DirFineAs t h (IsDir d) = DirIsFine t h d
 DirFineAs t h _ = ⊥
 
+-- the limit of a conversation is that of a message
+abbrev pub LimitFine : Actor → Type 0
+LimitFine (IsConv c) = c.limit ≤ 8192
+LimitFine _ = ⊥
+
 abbrev pub MediumFineAs : Trace → Actor → Type 0
 MediumFineAs t (IsMedium m) = MediumFine t m
 MediumFineAs t _ = ⊥
@@ -98,6 +104,7 @@ pub record AllFine (t : Trace) (actors : ActorName → Actor) : Type 0 where
   pub udps : (h n : ℕ) → UdpFine (actors (actor.Conv h proto.Udp n))
   pub dirs : (h : ℕ) → DirFineAs t h (actors (actor.Dir h proto.Il))
   pub media : (m : ℕ) → MediumFineAs t (actors (actor.Medium m))
+  pub limits : (h n : ℕ) → LimitFine (actors (actor.Conv h proto.Il n))
 
 pub record Fine (w : World) (k : ℕ) (net : Net) (t : Trace) : Type 0 where
   pub owned : Owned k t
@@ -119,6 +126,8 @@ pub record Next (w : World) (k : ℕ) (actors : ActorName → Actor) (stamp : �
   pub taken : TakenAt u a s.outcome.taken
   pub follow : EachDuty w u (follow_up a stamp work.event work.with s.outcome.reply)
   pub booked : Booked t u a work.event s.outcome.reply
+  -- what other conversations and generations have stays as it is
+  pub still : (q : Pair) (o : Owner) → t.owner q ≡ Some o → ((c : Conv) → s.state ≡ IsConv c → a ≡ actor.Conv o.host proto.Il o.slot → c.generation ≡ o.generation → ⊥) → u.side q ≡ t.side q
 
 dir_later : (t u : Trace) (h : ℕ) (a : Actor) → ((p : Pair) (o : Owner) → t.owner p ≡ Some o → u.owner p ≡ Some o) → ((p : Pair) (o : Owner) → u.owner p ≡ Some o → t.owner p ≡ Some o) → DirFineAs t h a → DirFineAs u h a
 dir_later t u h (IsDir d) on back f = record {
@@ -180,6 +189,13 @@ udp_no_entry h n o ev r = record {
   read_none = cond_both (((h == o.host) && false) && (n == o.slot)) _ _ (λ (xs : List (List ℕ)). xs ≡ []) (λ is. absurd (other_proto h o.host n o.slot is)) (λ _. refl);
 }
 
+move_limit : (now : ℕ) (c : Conv) (e : End) (ev : Event) (gift : With) (s : Step Conv) → c.limit ≤ 8192 → Move now c e ev gift s → s.state.limit ≤ 8192
+move_limit now c e ev gift s small (Stay turn act st) = rw st.limit_is small
+move_limit now c e ev gift s small (Begin b) = rw b.limit_is (omega arith)
+move_limit now c e ev gift s small (Join j) = j.limited
+move_limit now c e ev gift s small (Come x) = x.limited
+move_limit now c e ev gift s small (Listen o) = rw o.limit_is small
+
 stays : (t : Trace) → Later t t
 stays t = record { owner_stays = λ p o is. is; out_stays = λ p m there. there }
 
@@ -189,10 +205,10 @@ module _ (w : World) (world : HasPlaces w) (k : ℕ) (few : k < 2 ^ 31) (net : N
 
   -- A conversation with an IL end.
 
-  conv_leaves : (h n : ℕ) (s : Step Conv) → ConvStep k h n t (conv_trace s.state.stage s.state.core s.state s.outcome.emit t) s
+  conv_leaves : (h n : ℕ) (s : Step Conv) → s.state.limit ≤ 8192 → ConvStep k h n t (conv_trace s.state.stage s.state.core s.state s.outcome.emit t) s
       → Booked t (conv_trace s.state.stage s.state.core s.state s.outcome.emit t) (actor.Conv h proto.Il n) ev s.outcome.reply
       → Leaves (actor.Conv h proto.Il n) (conv_trace s.state.stage s.state.core s.state s.outcome.emit t) (seen_as IsConv s)
-  conv_leaves h n s step booked =
+  conv_leaves h n s small step booked =
       let u = conv_trace s.state.stage s.state.core s.state s.outcome.emit t in
       let back : (p : Pair) (o : Owner) → u.owner p ≡ Some o → t.owner p ≡ Some o = λ p o is. sym (conv_trace_owner s.state.stage s.state.core s.state s.outcome.emit t p) ∙ is in
       record {
@@ -209,16 +225,18 @@ module _ (w : World) (world : HasPlaces w) (k : ℕ) (few : k < 2 ^ 31) (net : N
               (λ is. absurd (other_proto h h' n n' is)) (λ not. f.all.udps h' n');
           dirs = λ h'. dir_later t u h' (net.actors (actor.Dir h' proto.Il)) step.later.owner_stays back (f.all.dirs h');
           media = λ m. medium_later t u (net.actors (actor.Medium m)) step.later (f.all.media m);
+          limits = λ h' n'. at_name (λ (a : Actor). LimitFine a) (IsConv s.state) (net.actors (actor.Conv h' proto.Il n')) (((h == h') && true) && (n == n')) (λ is. small) (λ not. f.all.limits h' n');
         };
         emitted = step.emitted;
         taken = tt;
         follow = conv_follow w u h n (length net.past) proto.Il ev gift s.outcome.reply;
         booked = booked;
+        still = λ q o owns other. step.still q o owns (λ e. other s.state refl (ap (λ (x : Owner). actor.Conv x.host proto.Il x.slot) e) (ap (λ (x : Owner). x.generation) e));
       }
 
-  conv_next : (h n : ℕ) (a : Actor) → ActorFine t h n a → GiftFine t h n ev gift
+  conv_next : (h n : ℕ) (a : Actor) → LimitFine a → ActorFine t h n a → GiftFine t h n ev gift
       → IfSome (table_step w (actor.Conv h proto.Il n) a net.moment (record { event = ev; with = gift })) (λ s. Leaves (actor.Conv h proto.Il n) (actor_trace (actor.Conv h proto.Il n) s.state (record { event = ev; with = gift }) s.outcome t) s)
-  conv_next h n (IsConv c) fine gift_fine = by_core c.core refl fine.0
+  conv_next h n (IsConv c) small fine gift_fine = by_core c.core refl fine.0
     where
       by_core : (core : Core) → c.core ≡ core → HasEnd t h n c c.stage core
           → IfSome (table_step w (actor.Conv h proto.Il n) (IsConv c) net.moment (record { event = ev; with = gift })) (λ s. Leaves (actor.Conv h proto.Il n) (actor_trace (actor.Conv h proto.Il n) s.state (record { event = ev; with = gift }) s.outcome t) s)
@@ -227,12 +245,12 @@ module _ (w : World) (world : HasPlaces w) (k : ℕ) (few : k < 2 ^ 31) (net : N
           subst (λ (d : Conv). IfSome (table_step w (actor.Conv h proto.Il n) (IsConv d) net.moment (record { event = ev; with = gift })) (λ s. Leaves (actor.Conv h proto.Il n) (actor_trace (actor.Conv h proto.Il n) s.state (record { event = ev; with = gift }) s.outcome t) s))
           (ap (λ (x : Core). record c { core = x }) (sym is))
           (map_if (seen_as IsConv) (conv_step n ev gift net.moment (of_end c e)) _
-          (both_if (conv_step n ev gift net.moment (of_end c e)) _ _ _ (moves n ev gift net.moment c e) (elsewhere n ev gift net.moment c e)
+          (both_if (conv_step n ev gift net.moment (of_end c e)) _ _ _ (moves n ev gift net.moment c e small) (elsewhere n ev gift net.moment c e)
           (λ s move other.
           let step = conv_steps k h n t few f.owned net.moment c e ev gift s (has, fine.1) gift_fine move in
-          conv_leaves h n s step
+          conv_leaves h n s (move_limit net.moment c e ev gift s small move) step
           (conv_booked k h n t f.owned net.moment c e ev gift s step.owned (has, fine.1) gift_fine other move))))
-  conv_next h n _ fine gift_fine = absurd fine
+  conv_next h n _ small fine gift_fine = absurd fine
 
   -- Actors that don't change what pairs have.
 
@@ -247,6 +265,7 @@ module _ (w : World) (world : HasPlaces w) (k : ℕ) (few : k < 2 ^ 31) (net : N
     taken = taken;
     follow = follow;
     booked = booked_quiet t a ev s.outcome.reply none;
+    still = λ q o owns other. refl;
   }
 
   udp_next : (h n : ℕ) (a : Actor) → UdpFine a
@@ -261,6 +280,8 @@ module _ (w : World) (world : HasPlaces w) (k : ℕ) (few : k < 2 ^ 31) (net : N
             udps = λ h' n'. at_name (λ (a : Actor). UdpFine a) (IsConv s.state) (net.actors (actor.Conv h' proto.Udp n')) (((h == h') && true) && (n == n')) (λ is. is_udp) (λ not. f.all.udps h' n');
             dirs = f.all.dirs;
             media = f.all.media;
+            limits = λ h' n'. at_name (λ (a : Actor). LimitFine a) (IsConv s.state) (net.actors (actor.Conv h' proto.Il n')) (((h == h') && false) && (n == n'))
+                (λ is. absurd (other_proto h h' n n' is)) (λ not. f.all.limits h' n');
           })
           emitted tt (conv_follow w t h n (length net.past) proto.Udp ev gift s.outcome.reply) (λ o. udp_no_entry h n o ev s.outcome.reply)
 
@@ -290,17 +311,18 @@ module _ (w : World) (world : HasPlaces w) (k : ℕ) (few : k < 2 ^ 31) (net : N
             udps = f.all.udps;
             dirs = f.all.dirs;
             media = λ m'. at_name (λ (a : Actor). MediumFineAs t a) (IsMedium s.state) (net.actors (actor.Medium m')) (m == m') (λ is. step.fine) (λ not. f.all.media m');
+            limits = f.all.limits;
           })
           (subst (λ (o : Option Packet). EmittedIf t o) (sym step.emits_none) tt) step.taken tt (λ o. record { written_none = refl; read_none = refl })))
   medium_next m _ fine gift_fine = absurd fine
 
   clock_next : (ev' : Event) → ev ≡ ev' → IfSome (option_map plain_step (clock_reply ev')) (λ s. Leaves actor.Clock t s)
-  clock_next (event.Move m) is = quiet_leaves actor.Clock _ (record { convs = f.all.convs; udps = f.all.udps; dirs = f.all.dirs; media = f.all.media }) tt tt tt (λ o. record { written_none = refl; read_none = refl })
+  clock_next (event.Move m) is = quiet_leaves actor.Clock _ (record { convs = f.all.convs; udps = f.all.udps; dirs = f.all.dirs; media = f.all.media; limits = f.all.limits }) tt tt tt (λ o. record { written_none = refl; read_none = refl })
   clock_next _ is = tt
 
   desk_next : (h : ℕ) (r : Option Reply) → IfSome (option_map plain_step r) (λ s. Leaves (actor.Desk h) t s)
   desk_next h None = tt
-  desk_next h (Some r) = quiet_leaves (actor.Desk h) _ (record { convs = f.all.convs; udps = f.all.udps; dirs = f.all.dirs; media = f.all.media }) tt tt tt (λ o. record { written_none = refl; read_none = refl })
+  desk_next h (Some r) = quiet_leaves (actor.Desk h) _ (record { convs = f.all.convs; udps = f.all.udps; dirs = f.all.dirs; media = f.all.media; limits = f.all.limits }) tt tt tt (λ o. record { written_none = refl; read_none = refl })
 
   desk_found : (h : ℕ) (found : Option HostSpec) → IfSome (option_and_then (λ (host : HostSpec). option_map plain_step (desk_reply w.db host ev net.moment)) found) (λ s. Leaves (actor.Desk h) t s)
   desk_found h None = tt
@@ -318,6 +340,7 @@ module _ (w : World) (world : HasPlaces w) (k : ℕ) (few : k < 2 ^ 31) (net : N
         dirs = λ h'. at_name (λ (a : Actor). DirFineAs t h' a) (IsDir s.state) (net.actors (actor.Dir h' proto.Il)) ((h == h') && false)
             (λ is. absurd (both_ways (and_parts (h == h') false is).1 refl)) (λ not. f.all.dirs h');
         media = f.all.media;
+        limits = f.all.limits;
       })
       (harmless_emitted t s.outcome.emit x.emits) tt (udp_dir_follow w t h (length net.past) ev gift s.outcome.reply) (λ o. record { written_none = refl; read_none = refl })))
   udp_dir_next h (IsConv c) = tt
@@ -340,6 +363,7 @@ module _ (w : World) (world : HasPlaces w) (k : ℕ) (few : k < 2 ^ 31) (net : N
               (λ is. subst (λ (i : ℕ). DirIsFine u i s.state) (eqb-true h h' (and_parts (h == h') true is).0) step.fine)
               (λ not. other h' (net.actors (actor.Dir h' proto.Il)) (λ same. both_ways (and_from (h == h') true (eq-eqb h h' same) refl) not) (f.all.dirs h'));
           media = λ m. medium_later t u (net.actors (actor.Medium m)) step.later (f.all.media m);
+          limits = f.all.limits;
         };
         emitted = step.emitted;
         taken = tt;
@@ -354,6 +378,10 @@ module _ (w : World) (world : HasPlaces w) (k : ℕ) (few : k < 2 ^ 31) (net : N
                 reading = λ x. subst (λ (y : Side). Reading y.end) (sym (step.side_same p)) x;
                 sized = λ x. subst (λ (y : Side). AllSized y.end.sent) (sym (step.side_same p)) x;
                 ends = λ _ _ h. absurd h;
+                whole = λ _ _ _ none. (
+                  ap (λ (y : Side). y.end.cut) (step.side_same p) ∙ none,
+                  ap (λ (y : Side). take y.end.taken y.end.got) (step.side_same p) ∙ sym (append-nil (take (t.side p).end.taken (t.side p).end.got)),
+                );
                 stays = λ x. subst (λ (y : Side). AtEnd y.end) (sym (step.side_same p)) x;
               },
             )
@@ -361,6 +389,7 @@ module _ (w : World) (world : HasPlaces w) (k : ℕ) (few : k < 2 ^ 31) (net : N
           ];
           none = λ o alone. (λ p is. alone p (step.later.owner_stays p o is), record { written_none = refl; read_none = refl });
         };
+        still = λ q o owns other'. step.side_same q;
       }
     where
       other : (h' : ℕ) (a : Actor) → (h ≡ h' → ⊥) → DirFineAs t h' a → DirFineAs (dir_trace h ev gift s.outcome.reply t) h' a
@@ -377,7 +406,7 @@ module _ (w : World) (world : HasPlaces w) (k : ℕ) (few : k < 2 ^ 31) (net : N
   -- any actor
   table_next : (a : ActorName) → WithFine w t a ev gift
       → IfSome (table_step w a (net.actors a) net.moment (record { event = ev; with = gift })) (λ s. Leaves a (actor_trace a s.state (record { event = ev; with = gift }) s.outcome t) s)
-  table_next (actor.Conv h proto.Il n) fine = conv_next h n (net.actors (actor.Conv h proto.Il n)) (f.all.convs h n) fine
+  table_next (actor.Conv h proto.Il n) fine = conv_next h n (net.actors (actor.Conv h proto.Il n)) (f.all.limits h n) (f.all.convs h n) fine
   table_next (actor.Conv h proto.Udp n) fine = udp_next h n (net.actors (actor.Conv h proto.Udp n)) (f.all.udps h n)
   table_next (actor.Dir h proto.Il) fine = dir_next h (net.actors (actor.Dir h proto.Il)) (f.all.dirs h) fine
   table_next (actor.Dir h proto.Udp) fine = udp_dir_next h (net.actors (actor.Dir h proto.Udp))
@@ -528,6 +557,7 @@ opening_fine w = record {
     udps = λ h n. tt;
     dirs = λ h. record { slots_fine = λ n s is. subst (λ (x : Slot). SlotIsFine opening_trace h n x) (all_free slot_count n s is) (free_fine h n); known = λ p o is. absurd (none-some o is) };
     media = λ m. (tt, tt);
+    limits = λ h n. omega arith;
   };
   owed = λ c. tt;
 }
