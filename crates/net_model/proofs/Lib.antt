@@ -17,3 +17,4 @@ pub mod Histories
 pub mod Walk
 pub mod CasesUdp
 pub mod CasesIl
+pub mod CasesFaults
