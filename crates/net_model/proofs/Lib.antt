@@ -17,3 +17,6 @@ pub mod Histories
 pub mod Walk
 pub mod Worked
 pub mod WorkedUdp
+pub mod Ordered
+pub mod CsTexts
+pub mod CsLaws

@@ -3,6 +3,7 @@
 
 mod actor;
 mod address;
+mod cs_law;
 mod event;
 mod history;
 mod il;
@@ -23,6 +24,7 @@ mod world;
 
 pub use actor::{ActorList, ActorName, Call, CallList, same_actor};
 pub use address::{Addr, Pair, Proto, mirror};
+pub use cs_law::{no_line_stands_twice, own_networks_come_first, worked_queries};
 pub use event::Event;
 pub use history::{Entry, History, Outcome, Taken, With, Work};
 pub use il::{Cause, IlKind, IlMsg, IlState, StateName};
