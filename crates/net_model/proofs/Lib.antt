@@ -20,3 +20,5 @@ pub mod WorkedUdp
 pub mod Ordered
 pub mod CsTexts
 pub mod CsLaws
+pub mod CasesUdp
+pub mod CasesIl
