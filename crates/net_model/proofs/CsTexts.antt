@@ -1,7 +1,6 @@
 -- Different nets, addresses and ports have different lines.
-use Rattle.std.proofs.Common.{◌≡◌, ◌≢◌, ℕ, ◌+◌, ◌*◌, ◌/◌, ◌%◌, ◌^◌, ◌<◌, ◌≤◌, ◌==◌, Bool, true, false, List, [], ◌∷◌, ◌++◌, length, get_or, drop, refl, sym, ap, ◌∙◌, append_assoc, arith, inl, inr}
+use Rattle.std.proofs.Common.{◌≡◌, ℕ, ◌/◌, ◌%◌, ◌^◌, ◌<◌, List, [], ◌∷◌, ◌++◌, length, get_or, drop, refl, sym, ap, ◌∙◌, append_assoc, arith}
 use Rattle.std.specs.Prelude.{decimal, codes}
-use Rattle.std.specs.List.{slice_split}
 use Rattle.std.specs.Net.Text.{dotted_text}
 use Rattle.std.proofs.lemmas.Fmt.{decimal_injective}
 use Rattle.net_model.specs.declared.address.Proto.{Proto}
@@ -51,9 +50,10 @@ pub record SameDial (net other_net : Proto) (address other : List ℕ) (port oth
 
 same_rest : (address other : List ℕ) (port other_port : ℕ) → IsWithout 33 address → IsWithout 33 other → port < 2 ^ 16 → other_port < 2 ^ 16 → address ++ 33 ∷ decimal port ≡ other ++ 33 ∷ decimal other_port → (address ≡ other) × (port ≡ other_port)
 same_rest address other port other_port clean other_clean small low e =
-    let parts = sym (cut_line address port clean small) ∙ ap (parts_at 33) e ∙ cut_line other other_port other_clean low in
-    (ap (λ ps. get_or ps 0 []) parts,
-    decimal_injective port other_port (omega arith) (omega arith) (ap (λ ps. get_or ps 1 []) parts))
+    let parts = sym (cut_line address port clean small) ∙ ap (parts_at 33) e ∙ cut_line other other_port other_clean low in (
+      ap (λ ps. get_or ps 0 []) parts,
+      decimal_injective port other_port (omega arith) (omega arith) (ap (λ ps. get_or ps 1 []) parts),
+    )
 
 pub same_line : (net other_net : Proto) (address other : List ℕ) (port other_port : ℕ) → IsWithout 33 address → IsWithout 33 other → port < 2 ^ 16 → other_port < 2 ^ 16 → cs_line net address port ≡ cs_line other_net other other_port → SameDial net other_net address other port other_port
 same_line Il Il address other port other_port clean other_clean small low e =

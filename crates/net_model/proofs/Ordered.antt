@@ -1,5 +1,5 @@
 -- Relations between the elements of a list and the later ones, by recursion on the list.
-use Rattle.std.proofs.Common.{◌≡◌, ℕ, ◌+◌, ◌<◌, zero, suc, Bool, true, false, cond, List, [], ◌∷◌, ◌++◌, length, get_or, map, refl, Option, Some, None, arith}
+use Rattle.std.proofs.Common.{◌≡◌, ℕ, ◌<◌, zero, suc, Bool, true, false, cond, List, [], ◌∷◌, ◌++◌, length, get_or, map, refl, Option, Some, None, arith}
 use Rattle.std.specs.Prelude.{filter, filter_map, flat_map, AllPairs}
 use Rattle.std.specs.List.{AllByRecursion, cons_option}
 
@@ -30,9 +30,10 @@ pairs_from_later R (x ∷ xs) all (suc i) (suc j) d before lt = pairs_from_later
 
 pub later_from_pairs : {X : Type 0} (R : X → X → Type 0) (xs : List X) → AllPairs R xs → Later R xs
 later_from_pairs R [] all = tt
-later_from_pairs R (x ∷ xs) all =
-    (each_from_get (R x) xs (λ k d lt. all 0 (suc k) d (omega arith) (omega arith)),
-    later_from_pairs R xs (λ i j d before lt. all (suc i) (suc j) d (omega arith) (omega arith)))
+later_from_pairs R (x ∷ xs) all = (
+  each_from_get (R x) xs (λ k d lt. all 0 (suc k) d (omega arith) (omega arith)),
+  later_from_pairs R xs (λ i j d before lt. all (suc i) (suc j) d (omega arith) (omega arith)),
+)
 
 pub each_weaker : {X : Type 0} (P Q : X → Type 0) → ((x : X) → P x → Q x) → (xs : List X) → Each P xs → Each Q xs
 each_weaker P Q weaker [] all = tt
@@ -97,19 +98,20 @@ later_filter R p (x ∷ xs) all = at (p x) (later_filter R p xs all.1)
 -- where P holds of each, S between two gives R between what they are mapped to
 pub later_map : {X Y : Type 0} (R : Y → Y → Type 0) (S : X → X → Type 0) (P : X → Type 0) (f : X → Y) → ((x y : X) → P x → P y → S x y → R (f x) (f y)) → (xs : List X) → Each P xs → Later S xs → Later R (map f xs)
 later_map R S P f gives [] ps all = tt
-later_map R S P f gives (x ∷ xs) ps all =
-    (each_map (R (f x)) f xs (each_both P (S x) (λ y. R (f x) (f y)) (λ y py s. gives x y ps.0 py s) xs ps.1 all.0),
-    later_map R S P f gives xs ps.1 all.1)
+later_map R S P f gives (x ∷ xs) ps all = (
+  each_map (R (f x)) f xs (each_both P (S x) (λ y. R (f x) (f y)) (λ y py s. gives x y ps.0 py s) xs ps.1 all.0),
+  later_map R S P f gives xs ps.1 all.1,
+)
 
 -- R between the elements of one piece and those of each later piece
 cross_flat_map : {X Y : Type 0} (R : Y → Y → Type 0) (f : X → List Y) (zs : List Y) (ys : List X) → Each (λ y. Each (λ z. Each (R z) (f y)) zs) ys → Each (λ z. Each (R z) (flat_map f ys)) zs
 cross_flat_map R f zs [] all = each_any (λ z. Each (R z) []) (λ z. tt) zs
 cross_flat_map R f zs (y ∷ ys) all =
     each_both (λ z. Each (R z) (f y)) (λ z. Each (R z) (flat_map f ys)) (λ z. Each (R z) (f y ++ flat_map f ys))
-        (λ z here rest. each_append (R z) (f y) (flat_map f ys) here rest) zs all.0 (cross_flat_map R f zs ys all.1)
+    (λ z here rest. each_append (R z) (f y) (flat_map f ys) here rest) zs all.0 (cross_flat_map R f zs ys all.1)
 
 pub later_flat_map : {X Y : Type 0} (R : Y → Y → Type 0) (S : X → X → Type 0) (P : X → Type 0) (f : X → List Y) → ((x : X) → P x → Later R (f x)) → ((x y : X) → P x → P y → S x y → Each (λ z. Each (R z) (f y)) (f x)) → (xs : List X) → Each P xs → Later S xs → Later R (flat_map f xs)
 later_flat_map R S P f within across [] ps all = tt
 later_flat_map R S P f within across (x ∷ xs) ps all =
     later_append R (f x) (flat_map f xs) (within x ps.0) (later_flat_map R S P f within across xs ps.1 all.1)
-        (cross_flat_map R f (f x) xs (each_both P (S x) (λ y. Each (λ z. Each (R z) (f y)) (f x)) (λ y py s. across x y ps.0 py s) xs ps.1 all.0))
+    (cross_flat_map R f (f x) xs (each_both P (S x) (λ y. Each (λ z. Each (R z) (f y)) (f x)) (λ y py s. across x y ps.0 py s) xs ps.1 all.0))

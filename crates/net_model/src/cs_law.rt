@@ -29,18 +29,18 @@ pub fn own_networks_come_first()
 pub fn worked_queries()
     ensures helix { anna_gets (codes "net!helix!9fs")
         ≡ Lines (codes "/net/il/clone 135.104.9.31!17008"
-            ∷ codes "/net/il/clone 10.0.0.31!17008" ∷ []) }
+        ∷ codes "/net/il/clone 10.0.0.31!17008" ∷ []) }
     ensures closest_server { anna_gets (codes "net!$auth!9fs")
         ≡ Lines (codes "/net/il/clone 135.104.9.31!17008"
-            ∷ codes "/net/il/clone 10.0.0.31!17008" ∷ []) }
+        ∷ codes "/net/il/clone 10.0.0.31!17008" ∷ []) }
     ensures domain { anna_gets (codes "udp!helix.example.com!echo")
         ≡ Lines (codes "/net/udp/clone 135.104.9.31!7"
-            ∷ codes "/net/udp/clone 10.0.0.31!7" ∷ []) }
+        ∷ codes "/net/udp/clone 10.0.0.31!7" ∷ []) }
     ensures any_address { anna_gets (codes "il!*!9fs")
         ≡ Lines (codes "/net/il/clone *!17008" ∷ []) }
     ensures leading_zeros { anna_gets (codes "net!135.104.050.009!0564")
         ≡ Lines (codes "/net/il/clone 135.104.50.9!564"
-            ∷ codes "/net/udp/clone 135.104.50.9!564" ∷ []) }
+        ∷ codes "/net/udp/clone 135.104.50.9!564" ∷ []) }
     ensures no_query { anna_gets (codes "net!!9fs") ≡ Refused 1 }
     ensures no_net { anna_gets (codes "tcp!$x!9fs") ≡ Refused 2 }
     ensures no_host { anna_gets (codes "net!nobody!nosuch") ≡ Refused 3 }

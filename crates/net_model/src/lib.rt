@@ -43,4 +43,7 @@ pub use sequence::Sequence;
 pub use timer::Tick;
 pub use udp::UdpState;
 pub use wire_law::packets_are_read;
-pub use world::{Fate, FateRange, Fates, HostSpec, Hosts, Iface, Ifaces, Media, MediumSpec, Nets, RouteLine, RouteLines, Script, Scripts, Starts, Step, StepList, World};
+pub use world::{
+    Fate, FateRange, Fates, HostSpec, Hosts, Iface, Ifaces, Media, MediumSpec, Nets, RouteLine,
+    RouteLines, Script, Scripts, Starts, Step, StepList, World,
+};
