@@ -13,6 +13,8 @@ pub mod StateWords
 pub mod Conversation
 pub mod Addresses
 pub mod Cs
+pub mod CsExample
+pub mod CsOrder
 pub mod Networks
 pub mod Search
 pub mod Bytes
