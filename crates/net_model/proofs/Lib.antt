@@ -1,6 +1,17 @@
+pub mod Ipv4Laws
+pub mod Laid
+pub mod WireNumbers
+pub mod WireSums
+pub mod UdpLaws
 mod IlCases
 pub mod Worlds
 mod ActorCases
 pub mod Texts
 pub mod Controls
 pub mod PathNames
+pub mod NdbForms
+pub mod NdbPlain
+pub mod Histories
+pub mod Walk
+pub mod Worked
+pub mod WorkedUdp

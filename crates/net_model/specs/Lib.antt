@@ -30,6 +30,16 @@ pub mod Desk
 pub mod NdbBundle
 pub mod NdbForm
 pub mod NdbText
+pub mod Actors
+pub mod Callers
+pub mod Duties
+pub mod Net
+pub mod Steps
+pub mod Next
+pub mod Calm
+pub mod Legal
 pub mod World
 pub mod Answers
 pub mod Words
+pub mod Rounds
+pub mod Written

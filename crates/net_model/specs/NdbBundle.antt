@@ -57,11 +57,21 @@ causes_of has line =
     ++ (cause 5 (list_any is_zero line)
     ++ cause 6 (begins is_percent line && not (is_file_line line))))))
 
+-- the least of causes in rising order
+abbrev pub least : List ℕ → Option ℕ
+least [] = None
+least (c ∷ causes) = Some c
+
+-- the line with this number, where it has a least cause, else what is told of the lines behind it
+abbrev pub told : ℕ → Option ℕ → Option (ℕ × ℕ) → Option (ℕ × ℕ)
+told number None behind = behind
+told number (Some c) behind = Some (number, c)
+
 -- the first line with a cause, by its number from 1, and its least cause, among the lines that come after these
 abbrev pub first_bad : (Bool → List ℕ → List ℕ) → List (List ℕ) → List (List ℕ) → Option (ℕ × ℕ)
 first_bad causes before [] = None
 first_bad causes before (line ∷ lines) =
-    elim (causes (has_tuple before) line) [ [] ↦ first_bad causes (before ++ line ∷ []) lines | c ∷ _ ↦ Some (length before + 1, c) ]
+    told (length before + 1) (least (causes (has_tuple before) line)) (first_bad causes (before ++ line ∷ []) lines)
 
 -- the first bad line of a text and its least cause
 abbrev pub bad_line : List ℕ → Option (ℕ × ℕ)
@@ -71,33 +81,38 @@ bad_line text = first_bad causes_of [] (lines_of text)
 
 -- whether a pair of the tuple has the attribute
 abbrev pub has_attr : List ℕ → List (List NdbPair) → Bool
-has_attr attr tuple = list_any (λ line. list_any (λ pair. is_same attr pair.attr) line) tuple
+has_attr attr tuple = list_any (λ line. list_any (λ pair. is_same pair.attr attr) line) tuple
 
 -- the values that a tuple has for the attribute, in order
 abbrev pub values_of : List ℕ → List (List NdbPair) → List (List ℕ)
-values_of attr tuple = map (λ pair. pair.value) (filter (λ pair. is_same attr pair.attr) (flat_map (λ line. line) tuple))
+values_of attr tuple = map (λ pair. pair.value) (filter (λ pair. is_same pair.attr attr) (flat_map (λ line. line) tuple))
 
 -- each text once, where it stands first
 abbrev pub each_once : List (List ℕ) → List (List ℕ)
 each_once [] = []
-each_once (text ∷ texts) = text ∷ filter (λ other. not (is_same text other)) (each_once texts)
+each_once (text ∷ texts) = text ∷ filter (λ other. not (is_same other text)) (each_once texts)
 
 -- the tuples of all files with this name, in order
 abbrev pub tuples_named : List File → List ℕ → List (List (List NdbPair))
-tuples_named files name = flat_map (λ file. tuples_of file.lines) (filter (λ file. is_same name file.name) files)
+tuples_named files name = flat_map (λ file. tuples_of file.lines) (filter (λ file. is_same file.name name) files)
 
 -- the tuples of the files with these names, or of the first file alone where no name is given
 abbrev pub tuples_chosen : File → List File → List (List ℕ) → List (List (List NdbPair))
 tuples_chosen local files [] = tuples_of local.lines
 tuples_chosen local files (name ∷ names) = flat_map (tuples_named (local ∷ files)) (name ∷ names)
 
--- the names that the first tuple with the attribute `database` gives by its `file` values, each once
-abbrev pub names_of : List (List (List NdbPair)) → List (List ℕ)
-names_of tuples = elim (find (has_attr (codes "database")) tuples) [ None ↦ [] | Some tuple ↦ each_once (values_of (codes "file") tuple) ]
+-- the names that a tuple gives by its `file` values, each once; no tuple gives none
+abbrev pub names_of : Option (List (List NdbPair)) → List (List ℕ)
+names_of None = []
+names_of (Some tuple) = each_once (values_of (codes "file") tuple)
+
+-- the tuple that chooses: the first with the attribute `database`
+abbrev pub choosing : List (List (List NdbPair)) → Option (List (List NdbPair))
+choosing tuples = find (has_attr (codes "database")) tuples
 
 -- the tuples of the database that a bundle's lines are
 abbrev pub database : List (List ℕ) → List (List (List NdbPair))
-database lines = tuples_chosen (local_file lines) (named_files lines) (names_of (tuples_of (local_file lines).lines))
+database lines = tuples_chosen (local_file lines) (named_files lines) (names_of (choosing (tuples_of (local_file lines).lines)))
 
 -- what a text reads as: the tuples of its database, where no line is bad
 abbrev pub reading : List ℕ → Option (List (List (List NdbPair)))

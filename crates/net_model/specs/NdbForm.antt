@@ -8,7 +8,7 @@ use Rattle.net_model.specs.NdbBundle.{is_nameless, cause, causes_of, first_bad}
 abbrev pub is_unbuilt : List ℕ → Bool
 is_unbuilt line =
     begins_with (codes "%file ") line
-    || (list_any is_quote line || list_any (λ word. is_same (codes "database") word.attr) (plain_words_of line))
+    || (list_any is_quote line || list_any (λ word. is_same word.attr (codes "database")) (plain_words_of line))
 
 -- the causes that stand beside that form on its line, whose words are split as if no quote were there
 abbrev pub causes_beside : Bool → List ℕ → List ℕ

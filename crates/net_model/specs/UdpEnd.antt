@@ -1,5 +1,5 @@
 -- UDP ends.
-use Rattle.std.specs.Prelude.{ℕ, Bool, true, false, List, [], ◌∷◌, ◌++◌, length, drop, nat_lt, if◌then◌else◌}
+use Rattle.std.specs.Prelude.{◌≡◌, ℕ, Bool, true, false, List, [], ◌∷◌, ◌++◌, length, drop, nat_lt, if◌then◌else◌}
 use Rattle.net_model.specs.declared.il.StateName.{StateName}
 use Rattle.net_model.specs.declared.il.StateName.TheVariants as name
 use Rattle.net_model.specs.declared.udp.UdpState.{UdpState}
@@ -53,6 +53,11 @@ abbrev pub udp_reads_now : UdpState → List (List ℕ) → Bool
 udp_reads_now HungUp texts = true
 udp_reads_now _ [] = false
 udp_reads_now _ (text ∷ texts) = true
+
+-- nothing waits to be read, and nothing will come
+pub record IsDrained (e : UdpEnd) : Type 0 where
+  pub nothing_unread : e.unread ≡ []
+  pub hung_up : e.state ≡ HungUp
 
 -- a datagram is read, and what wasn't taken of it is lost
 abbrev pub datagram_read : UdpEnd → UdpEnd

@@ -5,6 +5,10 @@ use Rattle.net_model.specs.declared.address.Addr.{Addr}
 use Rattle.net_model.specs.Bytes.{word_at, blanked}
 use Rattle.net_model.specs.Sum.{sum_of}
 
+-- an IPv4 address with a port
+abbrev pub address : ℕ → ℕ → Addr
+address ip port = record { ip = ip; port = port }
+
 -- what the sum covers ahead of the datagram: both addresses, zero, the protocol and the length
 abbrev pub pseudo_header : ℕ → ℕ → ℕ → List ℕ
 pseudo_header src dst count =

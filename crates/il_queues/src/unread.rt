@@ -1,0 +1,100 @@
+//! The messages that wait to be read.
+ghost use Rattle.std.specs.Prelude.{◌≡◌, ◌==◌, ◌<◌, ◌≤◌, ◌↔◌, [], ◌∷◌, ◌++◌, length, IsOk, OnOk, OnErr, IfOk, IfErr};
+ghost use Rattle.il_queues.specs.Reading.{bytes_read, after_read, first_bytes};
+
+use circular_buffer::HeapCircularBuffer;
+use net_model::Octets;
+use std::alloc::{AllocError, Global};
+use std::marker::Model;
+
+/// How many messages an end may have unread.
+pub const MOST_UNREAD: usize = 64;
+
+/// The unread messages of an end. Clauses see the list of their texts, oldest first, the first without what was read of it.
+#[derive(Drop)]
+pub struct Unread {
+    texts: HeapCircularBuffer<Octets>,
+    cut: usize,
+}
+
+impl Model for Unread {
+    ghost use Rattle.std.specs.Prelude.{◌≡◌, ℕ, List};
+    ghost use Rattle.il_queues.specs.Reading.{cut_first, IsCut};
+
+    ghost Value = { List (List ℕ) };
+
+    ghost view = { λ u. cut_first u.cut u.texts.items };
+
+    ghost invariant = { λ u. (u.texts.capacity ≡ 64) × IsCut u.cut u.texts.items };
+}
+
+impl Unread {
+    /// No messages, with room for as many as there may be.
+    pub fn new(alloc: Global) -> Result<Unread, AllocError>
+        ensures { IfOk result (λ u. u ≡ []) }
+    {
+        Ok(Unread {
+            texts: HeapCircularBuffer::with_capacity(alloc, MOST_UNREAD)?,
+            cut: 0,
+        })
+    }
+
+    /// How many messages there are, one that was read in part included.
+    pub fn len(&self) -> usize
+        ensures len { result ≡ length self.now }
+        ensures within { result ≤ 64 }
+    {
+        self.texts.len()
+    }
+
+    /// Whether no message waits.
+    pub fn is_empty(&self) -> bool
+        ensures { result ≡ (length self.now == 0) }
+    {
+        self.texts.is_empty()
+    }
+
+    /// Appends a message, or hands it back where 64 stand.
+    pub fn push(&mut self, text: Octets) -> Result<(), Octets>
+        ensures room { IsOk result ↔ (length self.old < 64) }
+        ensures ok { OnOk result (self.new ≡ self.old ++ text ∷ []) }
+        ensures full { IfErr result (λ back. (back ≡ text) × (self.new ≡ self.old)) }
+    {
+        self.texts.try_push_back(text)
+    }
+
+    /// Reads the first bytes of the first message and keeps the rest of it.
+    pub fn read(&mut self, count: usize) -> Result<Option<Octets>, AllocError>
+        requires { 0 < count }
+        ensures value { IfOk result (λ text. text ≡ bytes_read count self.old) }
+        ensures rest { OnOk result (self.new ≡ after_read count self.old) }
+        ensures err { OnErr result (self.new ≡ self.old) }
+    {
+        let Some(first) = self.texts.front() else {
+            return Ok(None);
+        };
+        let left = first.len() - self.cut;
+        let text = Octets::from_slice(*self.texts.allocator(), self.peek(count))?;
+        if count < left {
+            self.cut += count;
+            Ok(Some(text))
+        } else {
+            self.texts.pop_front();
+            self.cut = 0;
+            Ok(Some(text))
+        }
+    }
+
+    /// The bytes that such a read would give.
+    pub fn peek(&self, count: usize) -> &[u8]
+        ensures { result.now ≡ first_bytes count self.now }
+    {
+        match self.texts.front() {
+            Some(first) => {
+                let left = &first.as_slice()[self.cut..];
+                &left[..count.min(left.len())]
+            }
+            None => &[],
+        }
+    }
+}

@@ -1,0 +1,16 @@
+//! IPv4 and UDP headers, as bytes and back.
+#![tactic(auto)]
+
+mod checksum;
+mod fault;
+mod field;
+mod ip;
+mod udp;
+
+pub use checksum::sum;
+pub use fault::WireError;
+pub use ip::{IpHeader, IpView, decode_ip, encode_ip};
+pub use udp::{UdpView, decode_udp, encode_udp};
+
+#[cfg(test)]
+mod tests;

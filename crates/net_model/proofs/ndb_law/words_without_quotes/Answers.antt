@@ -1,0 +1,5 @@
+use Rattle.net_model.proofs.NdbPlain.{words_of-plain}
+use Rattle.net_model.proofs.ndb_law.words_without_quotes.Goals as goal
+
+pub returns : goal.returns
+returns c = words_of-plain

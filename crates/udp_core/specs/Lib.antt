@@ -1,0 +1,1 @@
+pub use Rattle.net_model.specs.UdpEnd

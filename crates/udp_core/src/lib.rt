@@ -1,0 +1,8 @@
+//! A UDP end: its state and the datagrams that wait to be read.
+#![tactic(auto)]
+
+mod end;
+#[cfg(test)]
+mod tests;
+
+pub use end::{HungupError, MOST_UNREAD, UdpEnd};
