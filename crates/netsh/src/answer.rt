@@ -1,5 +1,5 @@
 //! The answers: a status, and the text that is written, made whole.
-ghost use Rattle.std.specs.Prelude.{◌≡◌, ◌≢◌, IfOk};
+ghost use Rattle.std.specs.Prelude.{◌≡◌, ◌≢◌, IfOk, OnOk};
 ghost use Rattle.net_model.specs.Answers as spec;
 ghost use Rattle.net_model.specs.Cs.{Lines as ListOf, Refused};
 ghost use Rattle.cs_resolver.specs.Built.{number_of};
@@ -54,11 +54,14 @@ impl Answer {
         Ok(Answer { status: 0, text })
     }
 
-    /// The refusal of cs.
+    /// The refusal of cs, unless it had no memory.
     pub fn refusal(alloc: Global, error: CsError) -> Result<Answer, AllocError>
-        requires { error ≢ CsError.Memory }
-        ensures { IfOk result (λ answer. answer ≡ spec.cs_answer (Refused (number_of error))) }
+        ensures told { OnOk result (error ≢ CsError.Memory) }
+        ensures value { IfOk result (λ answer. answer ≡ spec.cs_answer (Refused (number_of error))) }
     {
+        if error == CsError::Memory {
+            return Err(AllocError);
+        }
         let number = error.number();
         let text = format!(in alloc; "! {number} {}\n", refusal_text(error))?;
         Ok(Answer {

@@ -3,7 +3,7 @@ ghost use Rattle.std.specs.Prelude.{◌≡◌, IfOk};
 ghost use Rattle.netsh.specs.Built.{cs_over};
 
 use crate::answer::Answer;
-use cs_resolver::{CsError, answer};
+use cs_resolver::answer;
 use ndb_reader::{NdbError, read_ndb};
 use net_model::Proto;
 use std::alloc::{AllocError, Global};
@@ -19,7 +19,6 @@ pub fn cs(alloc: Global, sys: &[u8], query: &[u8], input: &[u8]) -> Result<Answe
     };
     match answer(alloc, &db, sys, &[Proto::Il, Proto::Udp], query) {
         Ok(lines) => Answer::lines(alloc, &lines),
-        Err(CsError::Memory) => Err(AllocError),
         Err(error) => Answer::refusal(alloc, error),
     }
 }
