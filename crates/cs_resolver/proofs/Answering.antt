@@ -1,18 +1,16 @@
 -- The answer to the query form that is built, by the steps of the resolver.
-use Rattle.std.proofs.Common.{◌≡◌, ℕ, ◌+◌, ◌<◌, Bool, true, false, not, cond, ◌||◌, ◌&&◌, List, [], ◌∷◌, ◌++◌, length, map, refl, sym, ap, ◌∙◌, Option, Some, None, arith, append-nil, bytes_eq}
+use Rattle.std.proofs.Common.{◌≡◌, ℕ, ◌<◌, Bool, true, false, not, ◌||◌, ◌&&◌, List, [], ◌∷◌, ◌++◌, length, map, refl, sym, ap, ◌∙◌, Some, arith, append-nil, bytes_eq}
 use Rattle.std.specs.Prelude.{filter, filter_map, flat_map, codes}
-use Rattle.std.specs.List.{list_any}
 use Rattle.std.proofs.lemmas.List.Elements.{filter_agree}
 use Rattle.net_model.specs.declared.ndb.NdbPair.{NdbPair}
 use Rattle.net_model.specs.declared.address.Proto.{Proto}
 use Rattle.net_model.specs.Addresses.{address_text, read_address}
 use Rattle.net_model.specs.Networks.{Network, own_networks, is_on, contains_address}
 use Rattle.net_model.specs.Search.{all_beside}
-use Rattle.net_model.specs.Cs.{CsAnswer, Lines, Refused, Query, read_query, answer_read, answer_query, cs_list, refused_where_empty, nets_of, proto_name, host_words, address_texts, word_addresses, once_each, own_first, ports_of, cs_line, lines_of, is_any, is_attribute, is_numeric, is_domain}
-use Rattle.cs_resolver.specs.declared.networks.Prefix.{Prefix}
+use Rattle.net_model.specs.Cs.{CsAnswer, Lines, Refused, Query, read_query, answer_read, answer_query, refused_where_empty, nets_of, proto_name, host_words, address_texts, word_addresses, once_each, own_first, ports_of, cs_line, lines_of, is_any, is_attribute, is_numeric, is_domain}
 use Rattle.cs_resolver.specs.Built.{built_answer, is_built, is_system}
 use Rattle.cs_resolver.specs.Numbers.{prefix_of}
-use Rattle.cs_resolver.specs.Prefixes.{prefix_contains, prefixes_contain}
+use Rattle.cs_resolver.specs.Prefixes.{prefixes_contain}
 use Rattle.cs_resolver.specs.Resolve.{prefixes_first, system_addresses}
 use Rattle.cs_resolver.proofs.Ranges.{cond_true, cond_false}
 
@@ -24,9 +22,9 @@ on_prefixes (network ∷ networks) ip = ap (λ rest. contains_address network ip
 pub prefixes_first_is : (me : List ℕ) (db : List (List (List NdbPair))) (ips : List ℕ) → prefixes_first (map prefix_of (own_networks me db)) ips ≡ own_first me db ips
 prefixes_first_is me db ips =
     ap (λ front. front ++ filter (λ ip. not (prefixes_contain (map prefix_of (own_networks me db)) ip)) ips)
-        (filter_agree (prefixes_contain (map prefix_of (own_networks me db))) (is_on (own_networks me db)) (on_prefixes (own_networks me db)) ips)
+    (filter_agree (prefixes_contain (map prefix_of (own_networks me db))) (is_on (own_networks me db)) (on_prefixes (own_networks me db)) ips)
     ∙ ap (λ back. filter (is_on (own_networks me db)) ips ++ back)
-        (filter_agree (λ ip. not (prefixes_contain (map prefix_of (own_networks me db)) ip)) (λ ip. not (is_on (own_networks me db) ip)) (λ ip. ap not (on_prefixes (own_networks me db) ip)) ips)
+    (filter_agree (λ ip. not (prefixes_contain (map prefix_of (own_networks me db)) ip)) (λ ip. not (is_on (own_networks me db) ip)) (λ ip. ap not (on_prefixes (own_networks me db) ip)) ips)
 
 -- the lines of a net, address by address
 pub lines_of_is : (db : List (List (List NdbPair))) (service : List ℕ) (ips : List ℕ) (net : Proto) → flat_map (λ ip. map (cs_line net (address_text ip)) (ports_of db service net)) ips ≡ lines_of db service (map address_text ips) net
@@ -63,10 +61,10 @@ texts_of_name : (db : List (List (List NdbPair))) (me host : List ℕ) → IsNam
 texts_of_name db me host name =
     cond_false (is_any host) _ _ name.any
     ∙ ap (λ ips. map address_text (own_first me db (once_each ips)))
-        (ap (flat_map (word_addresses db)) (cond_false (is_attribute host) _ _ name.attribute)
-        ∙ append-nil (word_addresses db host)
-        ∙ cond_false (is_numeric host) _ _ name.numeric
-        ∙ ap (λ attr. filter_map read_address (all_beside attr host (codes "ip") db)) (cond_false (is_domain host) (codes "dom") (codes "sys") name.domain))
+    (ap (flat_map (word_addresses db)) (cond_false (is_attribute host) _ _ name.attribute)
+    ∙ append-nil (word_addresses db host)
+    ∙ cond_false (is_numeric host) _ _ name.numeric
+    ∙ ap (λ attr. filter_map read_address (all_beside attr host (codes "ip") db)) (cond_false (is_domain host) (codes "dom") (codes "sys") name.domain))
 
 -- the answer where the query has the form that is built
 abbrev pub system_answer : List (List (List NdbPair)) → List ℕ → List Proto → Query → CsAnswer
@@ -79,11 +77,11 @@ answered : (db : List (List (List NdbPair))) (me : List ℕ) (nets : List Proto)
 answered db me [] query net name some = absurd (omega arith)
 answered db me (first ∷ nets) query net name some =
     ap (λ chosen. refused_where_empty 2 chosen (refused_where_empty 5 (host_words db me query.host) (refused_where_empty 3 (address_texts db me query.host) (refused_where_empty 4 (flat_map (ports_of db query.service) chosen) (Lines (flat_map (lines_of db query.service (address_texts db me query.host)) chosen))))))
-        (all_nets (first ∷ nets) query.net net)
+    (all_nets (first ∷ nets) query.net net)
     ∙ ap (λ words. refused_where_empty 5 words (refused_where_empty 3 (address_texts db me query.host) (refused_where_empty 4 (flat_map (ports_of db query.service) (first ∷ nets)) (Lines (flat_map (lines_of db query.service (address_texts db me query.host)) (first ∷ nets))))))
-        (cond_false (is_attribute query.host) _ (query.host ∷ []) name.attribute)
+    (cond_false (is_attribute query.host) _ (query.host ∷ []) name.attribute)
     ∙ ap (λ texts. refused_where_empty 3 texts (refused_where_empty 4 (flat_map (ports_of db query.service) (first ∷ nets)) (Lines (flat_map (lines_of db query.service texts) (first ∷ nets)))))
-        (texts_of_name db me query.host name)
+    (texts_of_name db me query.host name)
 
 both_true : (a b : Bool) → (a && b) ≡ true → (a ≡ true) × (b ≡ true)
 both_true true b e = (refl, e)

@@ -1,6 +1,5 @@
 -- Functions on lists that give the piece of each element in a row.
-use Rattle.std.proofs.Common.{◌≡◌, ℕ, ◌+◌, ◌<◌, suc, Bool, true, false, cond, not, List, [], ◌∷◌, ◌++◌, length, get_or, take, drop, map, refl, sym, ap, ◌∙◌, Option, Some, None, arith, append_assoc, append-nil, add-one}
-use Rattle.std.specs.Prelude.{slice_get, option_to_list, filter, filter_map, flat_map}
+use Rattle.std.proofs.Common.{◌≡◌, ℕ, ◌+◌, ◌<◌, List, [], ◌∷◌, ◌++◌, length, get_or, take, drop, refl, sym, ap, ◌∙◌, Some, None, add-one}
 use Rattle.std.proofs.lemmas.List.{take_more, take-append-drop}
 use Rattle.std.proofs.Math.Seq.{drop-cons}
 use Rattle.net_model.specs.Networks.{first_of}
@@ -29,11 +28,11 @@ first_append (w ∷ ys) zs y e = e
 pub joins_first : {X Y : Type 0} (F : List X → List Y) → Joins F → (xs : List X) (i : ℕ) (x : X) (y : Y) → i < length xs → x ≡ get_or xs i x → F (take i xs) ≡ [] → first_of (F (x ∷ [])) ≡ Some y → first_of (F xs) ≡ Some y
 joins_first {X} {Y} F joins xs i x y within here none first =
     let cut : F xs ≡ F (x ∷ []) ++ F (drop (i + 1) xs) =
-        ap F (sym (at_place xs i x within))
-        ∙ joins.both (take i xs) (get_or xs i x ∷ drop (i + 1) xs)
-        ∙ ap (λ front. front ++ F (get_or xs i x ∷ drop (i + 1) xs)) none
-        ∙ joins.both (get_or xs i x ∷ []) (drop (i + 1) xs)
-        ∙ ap (λ z. F (z ∷ []) ++ F (drop (i + 1) xs)) (sym here) in
+    ap F (sym (at_place xs i x within))
+    ∙ joins.both (take i xs) (get_or xs i x ∷ drop (i + 1) xs)
+    ∙ ap (λ front. front ++ F (get_or xs i x ∷ drop (i + 1) xs)) none
+    ∙ joins.both (get_or xs i x ∷ []) (drop (i + 1) xs)
+    ∙ ap (λ z. F (z ∷ []) ++ F (drop (i + 1) xs)) (sym here) in
     rw cut (first_append (F (x ∷ [])) (F (drop (i + 1) xs)) y first)
 
 -- a list without a first element is empty

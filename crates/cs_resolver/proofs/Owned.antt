@@ -1,5 +1,5 @@
 -- A system's addresses and its own networks, a tuple at a time.
-use Rattle.std.proofs.Common.{◌≡◌, ℕ, ◌+◌, ◌<◌, Bool, true, false, cond, List, [], ◌∷◌, ◌++◌, length, get_or, take, map, refl, sym, ap, ◌∙◌, Option, Some, None, arith, append-nil, is_some}
+use Rattle.std.proofs.Common.{◌≡◌, ℕ, ◌+◌, ◌<◌, Bool, true, false, cond, List, [], ◌∷◌, ◌++◌, length, get_or, take, map, refl, ap, ◌∙◌, Option, Some, None, append-nil, is_some}
 use Rattle.std.specs.Prelude.{filter, filter_map, flat_map, find, option_map, codes}
 use Rattle.std.specs.List.{list_any, cons_option}
 use Rattle.std.proofs.lemmas.List.Elements.{filter-append, filter_map-append}
@@ -18,10 +18,10 @@ use Rattle.cs_resolver.proofs.Values.{any_find}
 
 addresses_joins : (me : List ℕ) → Joins (addresses_of me)
 addresses_joins me = record {
-    none = refl;
-    both = λ xs ys. ap (λ found. filter_map read_address (flat_map (values_in (codes "ip")) found)) (filter-append (tuple_has (codes "sys") me) xs ys)
-        ∙ ap (filter_map read_address) (flat_map-append (values_in (codes "ip")) (filter (tuple_has (codes "sys") me) xs) (filter (tuple_has (codes "sys") me) ys))
-        ∙ filter_map-append read_address (flat_map (values_in (codes "ip")) (filter (tuple_has (codes "sys") me) xs)) (flat_map (values_in (codes "ip")) (filter (tuple_has (codes "sys") me) ys));
+  none = refl;
+  both = λ xs ys. ap (λ found. filter_map read_address (flat_map (values_in (codes "ip")) found)) (filter-append (tuple_has (codes "sys") me) xs ys)
+      ∙ ap (filter_map read_address) (flat_map-append (values_in (codes "ip")) (filter (tuple_has (codes "sys") me) xs) (filter (tuple_has (codes "sys") me) ys))
+      ∙ filter_map-append read_address (flat_map (values_in (codes "ip")) (filter (tuple_has (codes "sys") me) xs)) (flat_map (values_in (codes "ip")) (filter (tuple_has (codes "sys") me) ys));
 }
 
 addresses_at : List (List NdbPair) → Bool → List ℕ
@@ -47,10 +47,10 @@ own_prefixes ips db = map prefix_of (filter (λ network. list_any (contains_addr
 
 own_joins : (ips : List ℕ) → Joins (own_prefixes ips)
 own_joins ips = record {
-    none = refl;
-    both = λ xs ys. ap (λ found. map prefix_of (filter (λ network. list_any (contains_address network) ips) found)) (filter_map-append network_of xs ys)
-        ∙ ap (map prefix_of) (filter-append (λ network. list_any (contains_address network) ips) (filter_map network_of xs) (filter_map network_of ys))
-        ∙ map-append prefix_of (filter (λ network. list_any (contains_address network) ips) (filter_map network_of xs)) (filter (λ network. list_any (contains_address network) ips) (filter_map network_of ys));
+  none = refl;
+  both = λ xs ys. ap (λ found. map prefix_of (filter (λ network. list_any (contains_address network) ips) found)) (filter_map-append network_of xs ys)
+      ∙ ap (map prefix_of) (filter-append (λ network. list_any (contains_address network) ips) (filter_map network_of xs) (filter_map network_of ys))
+      ∙ map-append prefix_of (filter (λ network. list_any (contains_address network) ips) (filter_map network_of xs)) (filter (λ network. list_any (contains_address network) ips) (filter_map network_of ys));
 }
 
 own_at : List ℕ → Option Network → List Prefix

@@ -1,5 +1,5 @@
 -- The first number of a range that passes a test.
-use Rattle.std.proofs.Common.{◌≡◌, ℕ, ◌+◌, ◌<◌, ◌≤◌, ◌≢◌, ◌⊎◌, inl, inr, suc, zero, Bool, true, false, cond, refl, sym, ap, ◌∙◌, subst, Option, Some, None, arith, add-zero}
+use Rattle.std.proofs.Common.{◌≡◌, ℕ, ◌+◌, ◌<◌, ◌≤◌, ◌≢◌, ◌⊎◌, inl, inr, suc, zero, Bool, true, false, cond, refl, ap, ◌∙◌, Some, None, arith}
 use Rattle.std.proofs.lemmas.Bool.{cases_eq}
 use Rattle.std.specs.Prelude.{find}
 use Rattle.std.specs.List.{range_with_len}

@@ -1,5 +1,5 @@
 -- The numbers of a line, a tuple and a database, an element at a time.
-use Rattle.std.proofs.Common.{◌≡◌, ℕ, ◌+◌, ◌<◌, Bool, true, false, cond, ◌||◌, List, [], ◌∷◌, ◌++◌, length, get_or, take, map, refl, sym, ap, ◌∙◌, Option, Some, None, arith, append-nil, is_some}
+use Rattle.std.proofs.Common.{◌≡◌, ℕ, ◌+◌, ◌<◌, Bool, true, false, cond, ◌||◌, List, [], ◌∷◌, ◌++◌, length, get_or, take, map, refl, ap, ◌∙◌, Option, Some, None, append-nil, is_some}
 use Rattle.std.specs.Prelude.{option_to_list, filter, filter_map, flat_map, find}
 use Rattle.std.specs.List.{list_any, cons_option}
 use Rattle.std.proofs.lemmas.List.Elements.{filter-append, filter_map-append}
@@ -18,10 +18,10 @@ as_list (Some x) = refl
 
 on_joins : (kind : Kind) → Joins (numbers_on kind)
 on_joins kind = record {
-    none = refl;
-    both = λ xs ys. ap (λ found. filter_map (read_of kind) (map (λ pair. pair.value) found)) (filter-append (has_attr (attr_of kind)) xs ys)
-        ∙ ap (filter_map (read_of kind)) (map-append (λ pair. pair.value) (filter (has_attr (attr_of kind)) xs) (filter (has_attr (attr_of kind)) ys))
-        ∙ filter_map-append (read_of kind) (values_on (attr_of kind) xs) (values_on (attr_of kind) ys);
+  none = refl;
+  both = λ xs ys. ap (λ found. filter_map (read_of kind) (map (λ pair. pair.value) found)) (filter-append (has_attr (attr_of kind)) xs ys)
+      ∙ ap (filter_map (read_of kind)) (map-append (λ pair. pair.value) (filter (has_attr (attr_of kind)) xs) (filter (has_attr (attr_of kind)) ys))
+      ∙ filter_map-append (read_of kind) (values_on (attr_of kind) xs) (values_on (attr_of kind) ys);
 }
 
 on_one : (kind : Kind) (pair : NdbPair) → numbers_on kind (pair ∷ []) ≡ option_to_list (pair_number kind pair)
@@ -51,9 +51,9 @@ on_first kind line i pair number within here none found =
 
 in_joins : (kind : Kind) → Joins (numbers_in kind)
 in_joins kind = record {
-    none = refl;
-    both = λ xs ys. ap (filter_map (read_of kind)) (flat_map-append (values_on (attr_of kind)) xs ys)
-        ∙ filter_map-append (read_of kind) (values_in (attr_of kind) xs) (values_in (attr_of kind) ys);
+  none = refl;
+  both = λ xs ys. ap (filter_map (read_of kind)) (flat_map-append (values_on (attr_of kind)) xs ys)
+      ∙ filter_map-append (read_of kind) (values_in (attr_of kind) xs) (values_in (attr_of kind) ys);
 }
 
 in_one : (kind : Kind) (line : List NdbPair) → numbers_in kind (line ∷ []) ≡ numbers_on kind line
@@ -108,10 +108,10 @@ found_at kind tuple (Some line) = numbers_near kind line tuple
 
 found_joins : (attr value : List ℕ) (kind : Kind) → Joins (numbers_found attr value kind)
 found_joins attr value kind = record {
-    none = refl;
-    both = λ xs ys. ap (λ found. filter_map (read_of kind) (flat_map (beside attr value (attr_of kind)) found)) (filter-append (tuple_has attr value) xs ys)
-        ∙ ap (filter_map (read_of kind)) (flat_map-append (beside attr value (attr_of kind)) (filter (tuple_has attr value) xs) (filter (tuple_has attr value) ys))
-        ∙ filter_map-append (read_of kind) (flat_map (beside attr value (attr_of kind)) (filter (tuple_has attr value) xs)) (flat_map (beside attr value (attr_of kind)) (filter (tuple_has attr value) ys));
+  none = refl;
+  both = λ xs ys. ap (λ found. filter_map (read_of kind) (flat_map (beside attr value (attr_of kind)) found)) (filter-append (tuple_has attr value) xs ys)
+      ∙ ap (filter_map (read_of kind)) (flat_map-append (beside attr value (attr_of kind)) (filter (tuple_has attr value) xs) (filter (tuple_has attr value) ys))
+      ∙ filter_map-append (read_of kind) (flat_map (beside attr value (attr_of kind)) (filter (tuple_has attr value) xs)) (flat_map (beside attr value (attr_of kind)) (filter (tuple_has attr value) ys));
 }
 
 found_one : (attr value : List ℕ) (kind : Kind) (tuple : List (List NdbPair)) → numbers_found attr value kind (tuple ∷ []) ≡ found_at kind tuple (find (line_has attr value) tuple)

@@ -1,5 +1,5 @@
 -- The numbers that the resolver takes out of the database: values of one kind, as they are read.
-use Rattle.std.specs.Prelude.{ℕ, List, filter_map, flat_map, Option, None, if◌then◌else◌, codes}
+use Rattle.std.specs.Prelude.{ℕ, List, filter_map, Option, None, if◌then◌else◌, codes}
 use Rattle.net_model.specs.declared.ndb.NdbPair.{NdbPair}
 use Rattle.net_model.specs.Addresses.{read_address, read_port}
 use Rattle.net_model.specs.Networks as networks

@@ -67,7 +67,13 @@ fn db_of(alloc: Global, tuples: Lists<'_>) -> Result<Db, AllocError> {
 fn told(alloc: Global, tuples: Lists<'_>, query: &str) -> Result<String, AllocError> {
     let db = db_of(alloc, tuples)?;
     let mut text = String::new(alloc);
-    match answer(alloc, &db, b"anna", &[Proto::Il, Proto::Udp], query.as_bytes()) {
+    match answer(
+        alloc,
+        &db,
+        b"anna",
+        &[Proto::Il, Proto::Udp],
+        query.as_bytes(),
+    ) {
         Ok(lines) => {
             for line in lines.as_slice() {
                 for byte in line.as_slice() {
@@ -112,15 +118,31 @@ fn the_worked_queries(rt: HostRuntime) -> Result<(), Fail> {
 
 #[test]
 fn an_empty_database_has_no_host(rt: HostRuntime) -> Result<(), Fail> {
-    assert_eq!(rt; told(rt.alloc(), &[], "net!helix!9fs")?.as_str(), "! 3 no host\n");
+    assert_eq!(rt;
+        told(rt.alloc(), &[], "net!helix!9fs")?.as_str(),
+        "! 3 no host\n"
+    );
     Ok(())
 }
 
 #[test]
 fn what_is_no_query_and_what_is_not_built(rt: HostRuntime) -> Result<(), Fail> {
     let alloc = rt.alloc();
-    for query in ["", "net", "net!helix", "net!helix!", "!helix!9fs", "net!!9fs", "net!a!b!c", "!!"] {
-        assert_eq!(rt; told(alloc, WORKED, query)?.as_str(), "! 1 bad query\n", "{query}");
+    for query in [
+        "",
+        "net",
+        "net!helix",
+        "net!helix!",
+        "!helix!9fs",
+        "net!!9fs",
+        "net!a!b!c",
+        "!!",
+    ] {
+        assert_eq!(rt;
+            told(alloc, WORKED, query)?.as_str(),
+            "! 1 bad query\n",
+            "{query}"
+        );
     }
     let others = [
         "il!helix!9fs",
@@ -134,7 +156,11 @@ fn what_is_no_query_and_what_is_not_built(rt: HostRuntime) -> Result<(), Fail> {
         "net!helix.example.com!9fs",
     ];
     for query in others {
-        assert_eq!(rt; told(alloc, WORKED, query)?.as_str(), "! 6 not built\n", "{query}");
+        assert_eq!(rt;
+            told(alloc, WORKED, query)?.as_str(),
+            "! 6 not built\n",
+            "{query}"
+        );
     }
     Ok(())
 }
@@ -151,14 +177,28 @@ fn a_name_beside_other_words(rt: HostRuntime) -> Result<(), Fail> {
         // the line of the name hides the lines after it, also where its value is no address
         &[&[("sys", "hidden"), ("ip", "bogus")], &[("ip", "10.1.0.9")]],
         &[
-            &[("sys", "h1"), ("ip", "192.168.0.7"), ("ip", "010.001.0.003")],
+            &[
+                ("sys", "h1"),
+                ("ip", "192.168.0.7"),
+                ("ip", "010.001.0.003"),
+            ],
             &[("ip", "10.1.0.2")],
         ],
         // a tuple and an address that stand again
-        &[&[("sys", "h1")], &[("ip", "10.1.0.3")], &[("ip", "10.1.9.9")]],
+        &[
+            &[("sys", "h1")],
+            &[("ip", "10.1.0.3")],
+            &[("ip", "10.1.9.9")],
+        ],
         &[&[("sys", "1_2.3"), ("ip", "1.2.3.4")]],
         &[&[("il", "0"), ("port", "7")]],
-        &[&[("il", "many"), ("port", "7"), ("port", "007"), ("port", "0"), ("port", "65535")]],
+        &[&[
+            ("il", "many"),
+            ("port", "7"),
+            ("port", "007"),
+            ("port", "0"),
+            ("port", "65535"),
+        ]],
     ];
     let cases = [
         ("net!hidden!9", "! 3 no host\n"),

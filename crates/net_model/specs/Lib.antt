@@ -42,4 +42,7 @@ pub mod World
 pub mod Answers
 pub mod Words
 pub mod Rounds
+pub mod Worked
+pub mod WorkedUdp
 pub mod Written
+pub mod WorkedIl

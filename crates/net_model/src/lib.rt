@@ -3,6 +3,7 @@
 
 mod actor;
 mod address;
+mod cases;
 mod event;
 mod history;
 mod il;
@@ -18,14 +19,16 @@ mod reply;
 mod sequence;
 mod timer;
 mod udp;
+mod wire_law;
 mod world;
 
 pub use actor::{ActorList, ActorName, Call, CallList, same_actor};
 pub use address::{Addr, Pair, Proto, mirror};
+pub use cases::a_datagram_goes;
 pub use event::Event;
 pub use history::{Entry, History, Outcome, Taken, With, Work};
 pub use il::{Cause, IlKind, IlMsg, IlState, StateName};
-pub use law::{controls_are_read, paths_are_walked};
+pub use law::{controls_are_read, paths_are_walked, prefix_is_legal, state_is_fold};
 pub use names::{Ctl, FileName, Mode, Node};
 pub use ndb::{Db, Line, NdbPair, Tuple};
 pub use ndb_law::{causes_of_what_is_read, text_in_one_file, words_without_quotes};
@@ -37,6 +40,7 @@ pub use reply::Reply;
 pub use sequence::Sequence;
 pub use timer::Tick;
 pub use udp::UdpState;
+pub use wire_law::packets_are_read;
 pub use world::{
     Fate, FateRange, Fates, HostSpec, Hosts, Iface, Ifaces, Media, MediumSpec, Nets, RouteLine,
     RouteLines, Script, Scripts, Starts, Step, StepList, World,

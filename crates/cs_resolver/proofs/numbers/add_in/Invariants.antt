@@ -1,5 +1,5 @@
-use Rattle.std.proofs.Common.{◌≡◌, ◌++◌, [], take}
-use Rattle.cs_resolver.specs.Numbers.{numbers_on, numbers_in}
+use Rattle.std.proofs.Common.{◌≡◌, ◌++◌, take}
+use Rattle.cs_resolver.specs.Numbers.{numbers_in}
 use Rattle.cs_resolver.proofs.numbers.add_in.Given as goal
 
 abbrev pub invariant-loop-line : goal.invariant-loop-line

@@ -1,5 +1,5 @@
-use Rattle.std.proofs.Common.{◌≡◌, ◌++◌, [], take}
-use Rattle.cs_resolver.specs.Numbers.{numbers_on, numbers_in}
+use Rattle.std.proofs.Common.{◌≡◌, ◌++◌, take}
+use Rattle.cs_resolver.specs.Numbers.{numbers_on}
 use Rattle.cs_resolver.proofs.numbers.add_on.Given as goal
 
 abbrev pub invariant-loop-pair : goal.invariant-loop-pair

@@ -1,4 +1,4 @@
-use Rattle.std.proofs.Common.{◌≡◌, ◌++◌, map, take, ap, ◌∙◌, arith}
+use Rattle.std.proofs.Common.{◌++◌, map, take, ap, ◌∙◌, arith}
 use Rattle.std.specs.Prelude.{flat_map}
 use Rattle.std.proofs.lemmas.List.{take_all}
 use Rattle.net_model.specs.Addresses.{address_text}
@@ -13,6 +13,6 @@ returns c =
     let ports = ports_of c.args.db.now c.args.service.now net in
     c.loop-ip.invariant
     ∙ ap (λ back. c.args.lines.now ++ back)
-        (ap (λ those. flat_map (λ ip. map (cs_line net (address_text ip)) those) (take c.loop-ip.ip-index ips)) c.in_ok-ports.ensures
-        ∙ ap (flat_map (λ ip. map (cs_line net (address_text ip)) ports)) (take_all c.loop-ip.ip-index ips (omega arith))
-        ∙ lines_of_is c.args.db.now c.args.service.now ips net)
+    (ap (λ those. flat_map (λ ip. map (cs_line net (address_text ip)) those) (take c.loop-ip.ip-index ips)) c.in_ok-ports.ensures
+    ∙ ap (flat_map (λ ip. map (cs_line net (address_text ip)) ports)) (take_all c.loop-ip.ip-index ips (omega arith))
+    ∙ lines_of_is c.args.db.now c.args.service.now ips net)
