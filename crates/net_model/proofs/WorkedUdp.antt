@@ -66,25 +66,58 @@ is_done = refl
 
 follow : Follow w1 [] opening_net w1_history
 unfolding number digits state_after
-follow =
-    (record { answers = refl; at_moment = refl; cites = refl; is_asked = refl; is_ready = refl; is_known = (refl, omega arith); has_room = omega arith },
-    (record { answers = refl; at_moment = refl; cites = refl; is_asked = refl; is_ready = refl; is_known = (refl, omega arith); has_room = omega arith },
-    (record { answers = refl; at_moment = refl; cites = refl; is_asked = refl; is_ready = refl; is_known = (refl, omega arith); has_room = omega arith },
-    (record { answers = refl; at_moment = refl; cites = refl; is_asked = refl; is_ready = refl; is_known = (refl, omega arith); has_room = omega arith },
-    (record { answers = refl; at_moment = refl; cites = refl; is_asked = refl; is_ready = refl; is_known = (refl, omega arith); has_room = omega arith },
-    (record { answers = refl; at_moment = refl; cites = refl; is_asked = refl; is_ready = refl; is_known = (refl, omega arith); has_room = omega arith },
-    (record { answers = refl; at_moment = refl; cites = refl; is_asked = refl; is_ready = refl; is_known = (refl, omega arith); has_room = omega arith },
-    (record { answers = refl; at_moment = refl; cites = refl; is_asked = refl; is_ready = refl; is_known = (refl, omega arith); has_room = omega arith },
-    (record { answers = refl; at_moment = refl; cites = refl; is_asked = refl; is_ready = refl; is_known = (refl, omega arith); has_room = omega arith },
-    (record { answers = refl; at_moment = refl; cites = refl; is_asked = refl; is_ready = refl; is_known = (refl, omega arith); has_room = omega arith },
-    (record { answers = refl; at_moment = refl; cites = refl; is_asked = refl; is_ready = refl; is_known = (refl, omega arith); has_room = omega arith },
-    (record { answers = refl; at_moment = refl; cites = refl; is_asked = refl; is_ready = refl; is_known = (refl, omega arith); has_room = omega arith },
-    (record { answers = refl; at_moment = refl; cites = refl; is_asked = refl; is_ready = refl; is_known = (refl, omega arith); has_room = omega arith },
-    (record { answers = refl; at_moment = refl; cites = refl; is_asked = refl; is_ready = refl; is_known = (refl, omega arith); has_room = omega arith },
-    (record { answers = refl; at_moment = refl; cites = refl; is_asked = refl; is_ready = refl; is_known = (refl, omega arith); has_room = omega arith },
-    (record { answers = refl; at_moment = refl; cites = refl; is_asked = refl; is_ready = refl; is_known = (refl, omega arith); has_room = omega arith },
-    (record { answers = refl; at_moment = refl; cites = refl; is_asked = refl; is_ready = refl; is_known = (refl, omega arith); has_room = omega arith },
-    (record { answers = refl; at_moment = refl; cites = refl; is_asked = refl; is_ready = refl; is_known = (refl, omega arith); has_room = omega arith }, tt))))))))))))))))))
+follow = (
+  record { answers = refl; at_moment = refl; cites = refl; is_asked = refl; is_ready = refl; is_known = (refl, omega arith); has_room = omega arith },
+  (
+    record { answers = refl; at_moment = refl; cites = refl; is_asked = refl; is_ready = refl; is_known = (refl, omega arith); has_room = omega arith },
+    (
+      record { answers = refl; at_moment = refl; cites = refl; is_asked = refl; is_ready = refl; is_known = (refl, omega arith); has_room = omega arith },
+      (
+        record { answers = refl; at_moment = refl; cites = refl; is_asked = refl; is_ready = refl; is_known = (refl, omega arith); has_room = omega arith },
+        (
+          record { answers = refl; at_moment = refl; cites = refl; is_asked = refl; is_ready = refl; is_known = (refl, omega arith); has_room = omega arith },
+          (
+            record { answers = refl; at_moment = refl; cites = refl; is_asked = refl; is_ready = refl; is_known = (refl, omega arith); has_room = omega arith },
+            (
+              record { answers = refl; at_moment = refl; cites = refl; is_asked = refl; is_ready = refl; is_known = (refl, omega arith); has_room = omega arith },
+              (
+                record { answers = refl; at_moment = refl; cites = refl; is_asked = refl; is_ready = refl; is_known = (refl, omega arith); has_room = omega arith },
+                (
+                  record { answers = refl; at_moment = refl; cites = refl; is_asked = refl; is_ready = refl; is_known = (refl, omega arith); has_room = omega arith },
+                  (
+                    record { answers = refl; at_moment = refl; cites = refl; is_asked = refl; is_ready = refl; is_known = (refl, omega arith); has_room = omega arith },
+                    (
+                      record { answers = refl; at_moment = refl; cites = refl; is_asked = refl; is_ready = refl; is_known = (refl, omega arith); has_room = omega arith },
+                      (
+                        record { answers = refl; at_moment = refl; cites = refl; is_asked = refl; is_ready = refl; is_known = (refl, omega arith); has_room = omega arith },
+                        (
+                          record { answers = refl; at_moment = refl; cites = refl; is_asked = refl; is_ready = refl; is_known = (refl, omega arith); has_room = omega arith },
+                          (
+                            record { answers = refl; at_moment = refl; cites = refl; is_asked = refl; is_ready = refl; is_known = (refl, omega arith); has_room = omega arith },
+                            (
+                              record { answers = refl; at_moment = refl; cites = refl; is_asked = refl; is_ready = refl; is_known = (refl, omega arith); has_room = omega arith },
+                              (
+                                record { answers = refl; at_moment = refl; cites = refl; is_asked = refl; is_ready = refl; is_known = (refl, omega arith); has_room = omega arith },
+                                (
+                                  record { answers = refl; at_moment = refl; cites = refl; is_asked = refl; is_ready = refl; is_known = (refl, omega arith); has_room = omega arith },
+                                  (record { answers = refl; at_moment = refl; cites = refl; is_asked = refl; is_ready = refl; is_known = (refl, omega arith); has_room = omega arith }, tt),
+                                ),
+                              ),
+                            ),
+                          ),
+                        ),
+                      ),
+                    ),
+                  ),
+                ),
+              ),
+            ),
+          ),
+        ),
+      ),
+    ),
+  ),
+)
 
 pub it_is_the_run : run_of 30 w1 ≡ w1_history
 unfolding number digits state_after

@@ -1,0 +1,3 @@
+pub mod OnMedium
+pub mod Replies
+pub mod Spelled

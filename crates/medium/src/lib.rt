@@ -1,0 +1,8 @@
+//! Media: the datagrams that were laid and not yet taken.
+#![tactic(auto)]
+
+mod datagram;
+mod frame;
+mod medium;
+
+pub use medium::{Laid, Medium};
