@@ -6,3 +6,6 @@ mod frame;
 mod medium;
 
 pub use medium::{Laid, Medium};
+
+#[cfg(test)]
+mod tests;

@@ -1,10 +1,10 @@
 //! A medium.
-ghost use Rattle.std.specs.Prelude.{◌≡◌, ◌+◌, ◌^◌, ◌<◌, ◌≤◌, ◌↔◌, ◌∷◌, ◌++◌, [], length, None, Some, IfOk, IsNone, IsSome, IsTrue, OnErr};
+ghost use Rattle.std.specs.Prelude.{◌≡◌, ◌+◌, ◌^◌, ◌<◌, ◌↔◌, [], length, IfOk, IsSome, IsTrue, OnErr, OnOk};
 ghost use Rattle.net_model.specs.declared.reply.Reply.TheVariants as reply;
 ghost use Rattle.net_model.specs.Datagram.{spelling};
-ghost use Rattle.net_model.specs.Medium.{datagram_length, puts, takes, medium_leaves, quiet_medium};
+ghost use Rattle.net_model.specs.Medium.{datagram_length, medium_leaves, puts, takes};
 ghost use Rattle.medium.specs.OnMedium.{DeliversAll, HasMtu, medium_of};
-ghost use Rattle.medium.specs.Replies.{reply_of, PutsBytes};
+ghost use Rattle.medium.specs.Replies.{PutsBytes, TakesFirst, reply_of};
 
 use crate::datagram::{datagram_of, packet_from};
 use crate::frame::Frame;
@@ -62,7 +62,12 @@ impl Medium {
 
     /// Lays a packet for a station, if one is named and the packet isn't too long.
     pub fn put(&mut self, to: Option<u32>, packet: &Packet) -> Result<Laid, AllocError>
-        ensures step { self.old.laid + 1 < 2 ^ 64 → IfOk result (λ laid. let step = puts self.old.spec self.old.seed to packet.now (medium_of self.old) in (reply_of laid ≡ step.outcome.reply) × (medium_of self.new ≡ step.state)) }
+        // It is the step of a medium, while frames can be numbered.
+        ensures reply { self.old.laid + 1 < 2 ^ 64 → IfOk result (λ laid. reply_of laid ≡ (puts self.old.spec self.old.seed to packet.now (medium_of self.old)).outcome.reply) }
+        ensures state { self.old.laid + 1 < 2 ^ 64 → OnOk result (medium_of self.new ≡ (puts self.old.spec self.old.seed to packet.now (medium_of self.old)).state) }
+        // What isn't laid, and why; what is laid is the packet's bytes.
+        ensures no_station { IfOk result (λ laid. (laid ≡ Laid.NoStation) ↔ (to ≡ None)) }
+        ensures too_big { IfOk result (λ laid. (laid ≡ Laid.TooBig) ↔ (IsSome to × (self.old.spec.mtu < datagram_length packet.now.body))) }
         ensures bytes { IfOk result (λ laid. PutsBytes self.old self.new to (spelling packet.now) laid) }
         ensures err { OnErr result (self.new ≡ self.old) }
     {
@@ -82,13 +87,19 @@ impl Medium {
     /// The next copy. It stays where memory ran out.
     pub fn take(&mut self) -> Result<Taken, AllocError>
         requires { 0 < length self.old.frames }
-        ensures ok { IfOk result (λ taken. takes (medium_of self.old).queue (medium_of self.old).held (medium_of self.old) ≡ Some (medium_leaves (reply.Copy taken.frame) (Some taken) (medium_of self.new))) }
+        // It is the step of a medium, and takes the oldest frame.
+        ensures step { IfOk result (λ taken. takes (medium_of self.old).queue (medium_of self.old).held (medium_of self.old) ≡ Some (medium_leaves (reply.Copy taken.frame) (Some taken) (medium_of self.new))) }
+        ensures first { IfOk result (TakesFirst self.old self.new) }
         ensures err { OnErr result (self.new ≡ self.old) }
     {
         let alloc = *self.frames.allocator();
         let first = self.frames.front().unwrap();
         let packet = packet_from(alloc, first.bytes.as_slice())?;
-        let Frame { number, to, bytes: _ } = self.frames.pop_front().unwrap();
+        let Frame {
+            number,
+            to,
+            bytes: _,
+        } = self.frames.pop_front().unwrap();
         Ok(Taken {
             frame: number,
             to,
