@@ -1,5 +1,5 @@
 -- A frame that is laid, as the step of a medium.
-use Rattle.std.proofs.Common.{◌≡◌, ℕ, ◌+◌, ◌-◌, ◌%◌, length, take, drop, ◌<◌, ◌≤◌, false, List, [], ◌∷◌, ◌++◌, map, Some, nat_lt, refl, sym, ap, subst, ◌∙◌, arith}
+use Rattle.std.proofs.Common.{◌≡◌, ℕ, ◌+◌, ◌-◌, length, take, drop, ◌≤◌, false, List, [], ◌∷◌, ◌++◌, Some, nat_lt, refl, sym, ap, ◌∙◌, arith}
 use Rattle.std.proofs.lemmas.Bool.{le-ltb}
 use Rattle.std.proofs.lemmas.List.{append-nil, drop_at, drop_all, length-drop, length-take-le, map_push}
 use borrow.Rule.Slice.PartMut.{put_mid}
@@ -13,7 +13,6 @@ use Rattle.net_model.specs.declared.world.Fate.TheVariants.{Deliver}
 use Rattle.net_model.specs.declared.world.MediumSpec.{MediumSpec}
 use Rattle.net_model.specs.Datagram.{IsPacket, body_bytes, header_for, packet_of, spelling}
 use Rattle.net_model.specs.Ipv4.{Ipv4, flagged_bytes, summed}
-use Rattle.net_model.specs.Draws.{drawn_word}
 use Rattle.net_model.specs.Medium.{Medium, datagram_length, fate_of, lays, puts}
 use Rattle.net_model.proofs.DatagramLaws.{packet_again}
 use Rattle.medium.specs.declared.frame.Frame.{Frame}
@@ -72,9 +71,3 @@ framed p h carried out new eh eb long same e =
 pub least_length : (b : Body) → 20 ≤ datagram_length b
 least_length (body.Il m) = omega arith
 least_length (body.Udp text) = omega arith
-
--- a medium without fates and rates delivers every frame
-pub delivers_plain : (spec : MediumSpec) (seed : ℕ) → spec.loss ≡ 0 → spec.twice ≡ 0 → spec.later ≡ 0 → spec.fates ≡ [] → DeliversAll spec seed
-delivers_plain spec seed a b c e m =
-    let first : nat_lt (drawn_word seed (64 + spec.number) m % 1000) 0 ≡ false = le-ltb (drawn_word seed (64 + spec.number) m % 1000) 0 (omega arith) in
-    rw (e, a, b, c, first) refl

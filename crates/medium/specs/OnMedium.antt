@@ -2,8 +2,6 @@
 use Rattle.std.specs.Prelude.{◌≡◌, ℕ, ◌≤◌, List, [], map}
 use Rattle.std.specs.List.{AllByRecursion}
 use Rattle.net_model.specs.declared.history.Taken.{Taken}
-use Rattle.net_model.specs.declared.reply.Reply.{Reply}
-use Rattle.net_model.specs.declared.reply.Reply.TheVariants as reply
 use Rattle.net_model.specs.declared.world.Fate.TheVariants.{Deliver}
 use Rattle.net_model.specs.declared.world.MediumSpec.{MediumSpec}
 use Rattle.net_model.specs.Datagram.{packet_of}

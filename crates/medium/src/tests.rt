@@ -1,3 +1,6 @@
+ghost use Rattle.std.specs.Prelude.{◌≡◌, ◌+◌, length, IfOk};
+ghost use Rattle.net_model.specs.Medium.{datagram_length};
+
 use crate::datagram::datagram_of;
 use crate::{Laid, Medium};
 use net_model::{Addr, Body, IlKind, IlMsg, MediumSpec, Octets, Packet, Sequence};
@@ -33,7 +36,9 @@ fn ether(alloc: Global) -> Result<Medium, AllocError> {
     Medium::new(alloc, &spec, 1)
 }
 
-fn udp(alloc: Global, text: &[u8]) -> Result<Packet, AllocError> {
+fn udp(alloc: Global, text: &[u8]) -> Result<Packet, AllocError>
+    ensures { IfOk result (λ p. datagram_length p.body ≡ length text.now + 28) }
+{
     Ok(Packet {
         src: ANNA,
         dst: HELIX,

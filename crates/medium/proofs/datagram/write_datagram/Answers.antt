@@ -1,4 +1,4 @@
-use Rattle.std.proofs.Common.{◌≤◌, ◌-◌, ℕ, length, drop, arith}
+use Rattle.std.proofs.Common.{◌≤◌, ◌-◌, length, drop, arith}
 use Rattle.std.proofs.lemmas.List.{length-drop, length-take}
 use Rattle.ip_wire.specs.Headers.{view}
 use Rattle.medium.proofs.Laying.{framed, least_length}
