@@ -1,70 +1,24 @@
--- A datagram from anna to helix.
-use Rattle.std.proofs.Common.{◌≡◌, ℕ, Bool, true, false, List, [], ◌∷◌, Option, Some, None, refl, length, arith}
-use Rattle.std.specs.Prelude.{codes}
-use Rattle.net_model.specs.declared.actor.ActorName.{ActorName}
-use Rattle.net_model.specs.declared.actor.ActorName.TheVariants as name
-use Rattle.net_model.specs.declared.address.Proto.TheVariants as proto
-use Rattle.net_model.specs.declared.event.Event.TheVariants as event
-use Rattle.net_model.specs.declared.history.Entry.{Entry}
-use Rattle.net_model.specs.declared.names.FileName.TheVariants as file
-use Rattle.net_model.specs.declared.names.Mode.TheVariants as mode
-use Rattle.net_model.specs.declared.reply.Reply.TheVariants as reply
-use Rattle.net_model.specs.declared.world.Step.TheVariants as step
-use Rattle.net_model.specs.declared.world.World.{World}
-use Rattle.net_model.specs.Calm.{done, calm, movable}
-use Rattle.net_model.specs.Net.{after, opening_net}
-use Rattle.net_model.specs.Rounds.{run_of}
-use Rattle.net_model.proofs.Walk.{Follow}
-use Rattle.net_model.specs.Number.{number}
+-- The history of a datagram is legal, timed and done, and is the run's.
+use Rattle.std.proofs.Common.{◌≡◌, true, [], refl, arith}
 use Rattle.std.specs.Fmt.{digits}
 use Rattle.rand_pcg.specs.Lcg.{state_after}
-use Rattle.net_model.proofs.Worked.{at, anna, helix, pair, world, own, due, emits, udp}
+use Rattle.net_model.specs.Calm.{done}
+use Rattle.net_model.specs.Legal.{IsLegal, IsTimed}
+use Rattle.net_model.specs.Net.{after, opening_net}
+use Rattle.net_model.specs.Number.{number}
+use Rattle.net_model.specs.Rounds.{run_of}
+use Rattle.net_model.specs.WorkedUdp.{datagram_world, datagram_history}
+use Rattle.net_model.proofs.Walk.{Follow, is_legal, is_timed}
 
-abbrev pub w1 : World
-w1 =
-    world 60000 []
-    (step.Open (codes "c") (codes "/net/udp/clone") None
-    ∷ step.Write (codes "c") (codes "connect 135.104.9.31!7 5000")
-    ∷ step.Open (codes "d") (codes "/net/udp/0/data") None
-    ∷ step.Write (codes "d") (codes "hi") ∷ [])
-    (step.Open (codes "c") (codes "/net/udp/clone") None
-    ∷ step.Write (codes "c") (codes "connect 135.104.9.6!5000 7")
-    ∷ step.Open (codes "d") (codes "/net/udp/0/data") None
-    ∷ step.Read (codes "d") 8192 ∷ [])
-
-abbrev dir : ℕ → ActorName
-dir h = name.Dir h proto.Udp
-
-abbrev conv : ℕ → ActorName
-conv h = name.Conv h proto.Udp 0
-
-abbrev pub w1_history : List Entry
-w1_history =
-    own 0 0 (dir 0) event.Reserve (reply.Slot 0 1)
-    ∷ own 0 1 (dir 1) event.Reserve (reply.Slot 0 1)
-    ∷ due 0 0 (conv 0) 0 (event.Begin 1) reply.Ok
-    ∷ due 0 1 (conv 1) 1 (event.Begin 1) reply.Ok
-    ∷ own 0 0 (dir 0) (event.Grant 0 1 (at helix 7) (Some 5000)) (reply.Granted (pair (at anna 5000) (at helix 7)) 0 1472)
-    ∷ own 0 1 (dir 1) (event.Grant 0 1 (at anna 5000) (Some 7)) (reply.Granted (pair (at helix 7) (at anna 5000)) 0 1472)
-    ∷ due 0 0 (conv 0) 4 (event.Connect 1) reply.Ok
-    ∷ due 0 1 (conv 1) 5 (event.Connect 1) reply.Ok
-    ∷ own 0 0 (conv 0) (event.Await 1) reply.Ok
-    ∷ own 0 1 (conv 1) (event.Await 1) reply.Ok
-    ∷ own 0 0 (conv 0) (event.Open file.Data mode.Both) (reply.Opened 1)
-    ∷ own 0 1 (conv 1) (event.Open file.Data mode.Both) (reply.Opened 1)
-    ∷ emits (own 0 0 (conv 0) (event.Write 1 (codes "hi")) (reply.Count 2)) (udp (at anna 5000) (at helix 7) 2)
-    ∷ due 0 0 (name.Medium 0) 12 (event.Put (Some 1)) (reply.Laid 1)
-    ∷ own 0 2 (name.Medium 0) event.Take (reply.Copy 1)
-    ∷ due 0 2 (dir 1) 14 event.Arrive (reply.To 0 1)
-    ∷ due 0 2 (conv 1) 15 (event.ArriveAt 1) reply.Took
-    ∷ own 0 1 (conv 1) (event.Read 1 8192) (reply.Bytes (codes "hi"))
-    ∷ []
-
-pub is_done : done w1 (after w1 w1_history) ≡ true
+pub datagram_is_done : done datagram_world (after datagram_world datagram_history) ≡ true
 unfolding number digits state_after
-is_done = refl
+datagram_is_done = refl
 
-follow : Follow w1 [] opening_net w1_history
+pub datagram_is_the_run : run_of 30 datagram_world ≡ datagram_history
+unfolding number digits state_after
+datagram_is_the_run = refl
+
+follow : Follow datagram_world [] opening_net datagram_history
 unfolding number digits state_after
 follow = (
   record { answers = refl; at_moment = refl; cites = refl; is_asked = refl; is_ready = refl; is_known = (refl, omega arith); has_room = omega arith },
@@ -119,6 +73,8 @@ follow = (
   ),
 )
 
-pub it_is_the_run : run_of 30 w1 ≡ w1_history
-unfolding number digits state_after
-it_is_the_run = refl
+pub datagram_is_legal : IsLegal datagram_world datagram_history
+datagram_is_legal = is_legal datagram_world datagram_history follow
+
+pub datagram_is_timed : IsTimed datagram_world datagram_history
+datagram_is_timed = is_timed datagram_world datagram_history (tt, (tt, (tt, (tt, (tt, (tt, (tt, (tt, (tt, (tt, (tt, (tt, (tt, (tt, (tt, (tt, (tt, (tt, tt))))))))))))))))))
