@@ -1,5 +1,5 @@
 -- What holds of histories: pushing an entry, beginnings, induction, and the fold of one actor.
-use Rattle.std.proofs.Common.{◌≡◌, ℕ, zero, suc, ◌<◌, ◌≤◌, ◌==◌, ◌&&◌, Bool, true, false, List, [], ◌∷◌, ◌++◌, length, take, Option, Some, None, slice_get, ◌⊎◌, inl, inr, refl, sym, ap, subst, ◌∙◌, append_assoc, arith}
+use Rattle.std.proofs.Common.{◌≡◌, ℕ, zero, suc, ◌<◌, ◌≤◌, ◌==◌, ◌&&◌, Bool, true, false, List, [], ◌∷◌, ◌++◌, length, take, Option, Some, None, slice_get, ◌⊎◌, inl, inr, refl, sym, ap, subst, ◌∙◌, arith}
 use Rattle.std.proofs.lemmas.Bool.{and_parts, true≢false, eqb-true}
 use Rattle.std.proofs.lemmas.Option.{none-some, same_Some, slice_get_within}
 use Rattle.std.proofs.lemmas.List.{take_all, take-append-le, take-take, take_at}
@@ -11,7 +11,7 @@ use Rattle.net_model.specs.declared.history.Entry.{Entry}
 use Rattle.net_model.specs.declared.world.World.{World}
 use Rattle.net_model.specs.ActorStep.{Step}
 use Rattle.net_model.specs.Actors.{Actor, opening_actor, actor_step}
-use Rattle.net_model.specs.Legal.{Follows, MayFollow, IsLegal, IsInTime, IsTimed}
+use Rattle.net_model.specs.Legal.{MayFollow, IsLegal}
 use Rattle.net_model.specs.Net.{Net, net_after, next_net, net_of, after, opening_net, state, step_of, work_of, works, works_from, stepped_to, play, played}
 use Rattle.net_model.specs.Stamped.{same_proto, same_actor}
 

@@ -1,30 +1,19 @@
 -- Worlds and entries of worked histories.
-use Rattle.std.proofs.Common.{ℕ, ◌+◌, ◌*◌, Bool, true, false, List, [], ◌∷◌, Option, Some, None}
+use Rattle.std.proofs.Common.{ℕ, ◌+◌, ◌*◌, true, false, List, [], ◌∷◌, Some, None}
 use Rattle.std.specs.Prelude.{codes}
 use Rattle.net_model.specs.declared.actor.ActorName.{ActorName}
-use Rattle.net_model.specs.declared.actor.ActorName.TheVariants as name
 use Rattle.net_model.specs.declared.address.Addr.{Addr}
 use Rattle.net_model.specs.declared.address.Pair.{Pair}
-use Rattle.net_model.specs.declared.address.Proto.{Proto}
 use Rattle.net_model.specs.declared.address.Proto.TheVariants as proto
 use Rattle.net_model.specs.declared.event.Event.{Event}
-use Rattle.net_model.specs.declared.event.Event.TheVariants as event
 use Rattle.net_model.specs.declared.history.Entry.{Entry}
-use Rattle.net_model.specs.declared.names.FileName.TheVariants as file
-use Rattle.net_model.specs.declared.names.Mode.TheVariants as mode
 use Rattle.net_model.specs.declared.ndb.NdbPair.{NdbPair}
 use Rattle.net_model.specs.declared.packet.BodyHeader.TheVariants as shown
 use Rattle.net_model.specs.declared.packet.Header.{Header}
 use Rattle.net_model.specs.declared.reply.Reply.{Reply}
-use Rattle.net_model.specs.declared.reply.Reply.TheVariants as reply
-use Rattle.net_model.specs.declared.world.Fate.{Fate}
 use Rattle.net_model.specs.declared.world.FateRange.{FateRange}
 use Rattle.net_model.specs.declared.world.HostSpec.{HostSpec}
-use Rattle.net_model.specs.declared.world.Iface.{Iface}
-use Rattle.net_model.specs.declared.world.MediumSpec.{MediumSpec}
-use Rattle.net_model.specs.declared.world.Script.{Script}
 use Rattle.net_model.specs.declared.world.Step.{Step}
-use Rattle.net_model.specs.declared.world.Step.TheVariants as step
 use Rattle.net_model.specs.declared.world.World.{World}
 
 -- Addresses.

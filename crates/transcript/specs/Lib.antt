@@ -1,0 +1,2 @@
+pub mod Digits
+pub use Rattle.net_model.specs.Transcript
