@@ -102,10 +102,10 @@ least-last : (xs : List ℕ) (c : ℕ) → least (xs ++ c ∷ []) ≡ None → �
 least-last [] c h = cc
 least-last (x ∷ xs) c h = cc
 
-some_none : {X : Type 0} {x : X} → Some x ≡ None → ⊥
+pub some_none : {X : Type 0} {x : X} → Some x ≡ None → ⊥
 some_none h = cc
 
-built_if : (has : Bool) (line : List ℕ) (v : Bool) → is_unbuilt line ≡ v → least (cond v (causes_beside has line ++ 31 ∷ []) (causes_of has line)) ≡ None → (is_unbuilt line ≡ false) × (least (causes_of has line) ≡ None)
+pub built_if : (has : Bool) (line : List ℕ) (v : Bool) → is_unbuilt line ≡ v → least (cond v (causes_beside has line ++ 31 ∷ []) (causes_of has line)) ≡ None → (is_unbuilt line ≡ false) × (least (causes_of has line) ≡ None)
 built_if has line true e h = absurd (least-last (causes_beside has line) 31 h)
 built_if has line false e h = (e, h)
 

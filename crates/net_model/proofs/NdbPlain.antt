@@ -71,10 +71,10 @@ word-plain bytes h =
     let none = none-begins is_quote (after_first is_equals run) (none-drop is_quote (position_or_len is_equals run + 1) run (none-take is_quote (position_or_len is_white bytes) bytes h)) in
     rw none refl
 
-runs-run : (b : ℕ) (bs : List ℕ) (parts : List (List ℕ)) → is_hash b ≡ false → runs_in ((b ∷ bs) ∷ parts) ≡ (b ∷ bs) ∷ runs_in parts
+pub runs-run : (b : ℕ) (bs : List ℕ) (parts : List (List ℕ)) → is_hash b ≡ false → runs_in ((b ∷ bs) ∷ parts) ≡ (b ∷ bs) ∷ runs_in parts
 runs-run b bs parts e = rw (e, one_add) refl
 
-runs-hash : (b : ℕ) (bs : List ℕ) (parts : List (List ℕ)) → is_hash b ≡ true → runs_in ((b ∷ bs) ∷ parts) ≡ []
+pub runs-hash : (b : ℕ) (bs : List ℕ) (parts : List (List ℕ)) → is_hash b ≡ true → runs_in ((b ∷ bs) ∷ parts) ≡ []
 runs-hash b bs parts e = rw e refl
 
 words-word : (b : ℕ) (bytes : List ℕ) → is_white b ≡ false → is_hash b ≡ false → words_behind 0 (b ∷ bytes) ≡ word_of (b ∷ bytes) ∷ words_behind ((word_of (b ∷ bytes)).takes - 1) bytes
