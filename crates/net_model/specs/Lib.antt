@@ -50,3 +50,4 @@ pub mod Written
 pub mod WorkedIl
 pub mod WorkedFaults
 pub mod Transcript
+pub mod Summary

@@ -7,6 +7,8 @@ mod names;
 mod reply;
 #[cfg(test)]
 mod tests;
+mod totals;
 mod words;
 
 pub use entry::text_of;
+pub use totals::{Totals, totals_of};
