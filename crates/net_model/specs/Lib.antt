@@ -49,3 +49,5 @@ pub mod WorkedUdp
 pub mod Written
 pub mod WorkedIl
 pub mod WorkedFaults
+pub mod Transcript
+pub mod Summary
