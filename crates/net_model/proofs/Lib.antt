@@ -20,3 +20,4 @@ pub mod CsTexts
 pub mod CsLaws
 pub mod CasesUdp
 pub mod CasesIl
+pub mod CasesFaults

@@ -48,3 +48,4 @@ pub mod Worked
 pub mod WorkedUdp
 pub mod Written
 pub mod WorkedIl
+pub mod WorkedFaults
