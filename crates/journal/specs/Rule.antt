@@ -18,6 +18,11 @@ use Rattle.net_model.specs.Stamped.{same_actor, matches, at, clock, latest, mome
 use Rattle.journal.specs.declared.law.Roster.{Roster}
 use Rattle.journal.specs.declared.law.View.{View}
 
+-- which journal it is, with its callers and actors
+pub record Run : Type 0 where
+  pub table : TableId
+  pub roster : Roster
+
 -- a number with the entries of it
 abbrev pub Held : Type 0
 Held = Number × List (ℕ × Noted)
@@ -176,5 +181,5 @@ IsSeat table s = (s.table_id ≡ table) × (s.me.1 ≡ [])
 abbrev pub nothing_noted : Noted
 nothing_noted = record { entry = record { actor = name.Clock; caller = 0; moment = 0; event = event.Take; cites = None; reply = reply.Ok; emits = None; ended = false }; work = record { event = event.Take; with = given.Nothing } }
 
-abbrev pub no_table : TableId
-no_table = record { words = 0; slots = 0; views_name = 0; atom = 0; block = 0; offset = 0; slot_names = [] }
+abbrev pub no_run : Run
+no_run = record { table = record { words = 0; slots = 0; views_name = 0; atom = 0; block = 0; offset = 0; slot_names = [] }; roster = record { callers = 0; actors = [] } }

@@ -16,7 +16,7 @@ use Rattle.journal.specs.declared.law.View.{View}
 use Rattle.journal.specs.declared.tokens.Sight.{Sight}
 use Rattle.journal.specs.declared.tokens.Volume.{Volume}
 use Rattle.journal.specs.declared.tokens.Stamped.{Stamped}
-use Rattle.journal.specs.Rule.{Held, Lawful, IsSeat, IsCaller, has_caller, gain, caller_numbers, actor_numbers}
+use Rattle.journal.specs.Rule.{Held, Lawful, IsSeat, IsCaller, has_caller, gain, newcomer, caller_numbers, actor_numbers}
 
 abbrev pub noted : Entry → Work → Noted
 noted e w = record { entry = e; work = w }
@@ -57,7 +57,8 @@ abbrev pub volume : ActorName → ℕ → List View → ℕ → Volume
 volume a i [] n = record { actor = a; number = i; seen = []; list = []; room = n }
 volume a i (v ∷ vs) n = record { actor = a; number = i; seen = v.seen; list = first v.held; room = n }
 
-pub record IsBook (table : TableId) (a : ActorName) (b : Badge View) (items : List Stamped) : Type 0 where
+pub record IsBook (table : TableId) (a : ActorName) (i : ℕ) (b : Badge View) (items : List Stamped) : Type 0 where
+  pub few : i < 2147483648
   pub table_is : b.table_id ≡ table
   pub view : View
   pub list : List (ℕ × Noted)
@@ -158,3 +159,12 @@ pub record Dealt (callers : ℕ) (actors : List ActorName) (i : ℕ) (v : View) 
   pub clock_is : v.clock ≡ []
   pub held : v.held ≡ caller_numbers callers ++ actor_numbers (drop i actors)
   pub books_are : AreBlank 0 (take i actors) books
+
+-- the seat of a journal without entries, which holds all numbers
+pub record IsOpened (id : TableId) (r : Roster) (s : Seat (Unit {0}) View) (actors : List ActorName) : Type 0 where
+  pub seat : IsSeat id s
+  pub view_is : s.me.0 ≡ newcomer r
+  pub words : id.words ≡ 1
+  pub slots : id.slots ≡ 0
+  pub actors_are : actors ≡ r.actors
+  pub few : r.callers ≤ 37

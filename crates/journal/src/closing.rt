@@ -20,9 +20,9 @@ impl<J: Naming> Journal<J> {
         pass: Pass<J>,
         books: Vec<Book<J>>,
     ) -> Result<History, AllocError>
-        requires callers { HoldsAll J.roster pass }
-        requires actors { map (λ b. b.actor) books.items ≡ J.roster.actors }
-        ensures { IfOk result (λ h. IsWhole J.roster pass books.items h) }
+        requires callers { HoldsAll J.run.roster pass }
+        requires actors { map (λ b. b.actor) books.items ≡ J.run.roster.actors }
+        ensures { IfOk result (λ h. IsWhole J.run.roster pass books.items h) }
     {
         let Pass {
             seat: mut all,
@@ -41,8 +41,8 @@ impl<J: Naming> Journal<J> {
 
     // Puts the entries of all books at their stamps, and takes the books' seats in.
     fn gather(&self, all: &mut Token, mut books: Vec<Book<J>>, places: &mut Vec<Option<Entry>>)
-        requires { IsSeat J.table all.old }
-        ensures seat { IsSeat J.table all.new }
+        requires { IsSeat J.run.table all.old }
+        ensures seat { IsSeat J.run.table all.new }
         ensures gathered { (es : List Stamped) × Gathered all.old.me.0 books.items all.new.me.0 es × IsPlaced es places.old.items places.new.items }
     {
         while let Some(book) = books.pop() {
@@ -51,8 +51,8 @@ impl<J: Naming> Journal<J> {
     }
 
     fn gather_one(&self, all: &mut Token, book: Book<J>, places: &mut Vec<Option<Entry>>)
-        requires { IsSeat J.table all.old }
-        ensures seat { IsSeat J.table all.new }
+        requires { IsSeat J.run.table all.old }
+        ensures seat { IsSeat J.run.table all.new }
         ensures taken { Taken all.old.me.0 book all.new.me.0 }
         ensures placed { IsPlaced (map stamped book.list) places.old.items places.new.items }
     {

@@ -33,12 +33,9 @@ impl TableRule<(), View, Roster> for Law {
 
 /// Which journal it is. Each run of a program picks it.
 pub trait Naming {
-    ghost use Rattle.atomic_table.specs.Seated.{TableId};
-    ghost use Rattle.journal.specs.declared.law.Roster.{Roster};
+    ghost use Rattle.journal.specs.Rule.{Run};
 
-    ghost table: { TableId };
-
-    ghost roster: { Roster };
+    ghost run: { Run };
 }
 
 /// A look at the word.
@@ -50,7 +47,7 @@ impl<J: Naming> Play<(), View> for Look<J> {
     ghost use Rattle.std.specs.Prelude.{◌≡◌};
     ghost use Rattle.journal.specs.Rule.{Looks};
 
-    ghost then = { λ s me found after. (after.1 ≡ me.1) × Looks J.roster me.0 found after.0 };
+    ghost then = { λ s me found after. (after.1 ≡ me.1) × Looks J.run.roster me.0 found after.0 };
 }
 
 /// Which entry a step adds. Each call picks it.
@@ -70,7 +67,7 @@ impl<J: Naming, E: Adding> Play<(), View> for Add<J, E> {
     ghost use Rattle.std.specs.Prelude.{◌≡◌};
     ghost use Rattle.journal.specs.Rule.{Adds};
 
-    ghost then = { λ s me found after. (after.1 ≡ me.1) × Adds J.roster E.noted me.0 found after.0 };
+    ghost then = { λ s me found after. (after.1 ≡ me.1) × Adds J.run.roster E.noted me.0 found after.0 };
 }
 
 /// Which number is handed over. Each call picks it.
@@ -103,12 +100,9 @@ impl Join<View> for Merge {
 }
 
 impl Naming for Brand {
-    ghost use Rattle.std.specs.Prelude.{[]};
-    ghost use Rattle.journal.specs.Rule.{no_table};
+    ghost use Rattle.journal.specs.Rule.{no_run};
 
-    ghost table = { no_table };
-
-    ghost roster = { record { callers = 0; actors = [] } };
+    ghost run = { no_run };
 }
 
 impl Adding for Brand {

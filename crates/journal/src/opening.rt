@@ -9,29 +9,32 @@ use crate::word::{Journal, Token};
 use atomic_table::Table;
 use net_model::{ActorList, ActorName, Number};
 use std::alloc::{AllocError, Global};
-use std::marker::{Brand, PhantomData};
+use std::marker::{Brand, Model, PhantomData};
 
-/// A journal with an empty history, which has no name yet.
+/// A journal with an empty history, which has no name yet. Contracts see which one it is, with its callers and actors.
 #[derive(Drop)]
 pub struct Opened {
     table: Table<(), View, Roster, Law, Global>,
     seat: Token,
     actors: Vec<ActorName>,
-    ghost seat_is: { seat.table_id ≡ table.shared.table_id },
-    ghost no_slots: { seat.me.1 ≡ [] },
-    ghost view_is: { seat.me.0 ≡ newcomer table.shared.key },
-    ghost words: { table.shared.table_id.words ≡ 1 },
-    ghost no_table_slots: { table.shared.table_id.slots ≡ 0 },
-    ghost actors_are: { actors.items ≡ table.shared.key.actors },
-    ghost few: { table.shared.key.callers ≤ 37 },
+}
+
+impl Model for Opened {
+    ghost use Rattle.journal.specs.Rule.{Run};
+    ghost use Rattle.journal.specs.Tokens.{IsOpened};
+
+    ghost Value = { Run };
+
+    ghost view = { λ o. record { table = o.table.shared.table_id; roster = o.table.shared.key } };
+
+    ghost invariant = { λ o. IsOpened o.table.shared.table_id o.table.shared.key o.seat o.actors.items };
 }
 
 impl Opened {
     /// A journal of so many callers and of these actors.
     pub fn new(alloc: Global, callers: u32, actors: &ActorList) -> Result<Opened, AllocError>
         requires { callers ≤ 37 }
-        ensures callers { IfOk result (λ o. o.table.shared.key.callers ≡ callers) }
-        ensures actors { IfOk result (λ o. o.table.shared.key.actors ≡ actors.now) }
+        ensures { IfOk result (λ o. o.roster ≡ record { callers = callers; actors = actors.now }) }
     {
         let roster = Roster {
             callers: u64::from(callers),
@@ -51,13 +54,12 @@ impl Opened {
         self,
         alloc: Global,
     ) -> Result<(Journal<J>, Pass<J>, Vec<Book<J>>), AllocError>
-        requires table { self.table.shared.table_id ≡ J.table }
-        requires roster { self.table.shared.key ≡ J.roster }
-        requires distinct { Distinct J.roster.actors }
-        requires few { length J.roster.actors < 2147483648 }
+        requires name { self ≡ J.run }
+        requires distinct { Distinct J.run.roster.actors }
+        requires few { length J.run.roster.actors < 2147483648 }
         ensures seen { IfOk result (λ r. r.1.seen ≡ []) }
-        ensures held { IfOk result (λ r. r.1.held ≡ caller_numbers J.roster.callers) }
-        ensures books { IfOk result (λ r. AreBlank 0 J.roster.actors r.2.items) }
+        ensures held { IfOk result (λ r. r.1.held ≡ caller_numbers J.run.roster.callers) }
+        ensures books { IfOk result (λ r. AreBlank 0 J.run.roster.actors r.2.items) }
     {
         let Opened {
             table,

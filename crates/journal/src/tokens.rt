@@ -56,7 +56,7 @@ impl<J: Naming> Model for Pass<J> {
 
     ghost view = { λ p. sight p.seat.me.0 };
 
-    ghost invariant = { λ p. IsPass J.table p.seat p.counts };
+    ghost invariant = { λ p. IsPass J.run.table p.seat p.counts };
 }
 
 /// The token of an actor: its entries with their stamps.
@@ -78,7 +78,7 @@ impl<J: Naming> Model for Book<J> {
 
     ghost view = { λ b. volume b.actor b.number b.badge.views (vec_capacity b.entries - vec_len b.entries) };
 
-    ghost invariant = { λ b. IsBook J.table b.actor b.badge b.entries.items };
+    ghost invariant = { λ b. IsBook J.run.table b.actor b.number b.badge b.entries.items };
 }
 
 impl<J: Naming> Book<J> {
@@ -91,7 +91,8 @@ impl<J: Naming> Book<J> {
 
     /// The actor's place in the list of actors.
     pub fn number(&self) -> u32
-        ensures { result ≡ self.now.number }
+        ensures value { result ≡ self.now.number }
+        ensures few { result < 2147483648 }
     {
         self.number
     }
@@ -111,8 +112,8 @@ impl<J: Naming> Journal<J> {
     fn put(&self, book: &mut Book<J>, pass: &mut Pass<J>, entry: Entry, work: &Work) -> u64
         requires room { 0 < book.old.room }
         requires may { MayRecord pass.old book.old (noted entry work.now) }
-        requires timely { Timely J.roster pass.old.held (noted entry work.now) }
-        ensures { Recorded J.roster book.old pass.old (noted entry work.now) result book.new pass.new }
+        requires timely { Timely J.run.roster pass.old.held (noted entry work.now) }
+        ensures { Recorded J.run.roster book.old pass.old (noted entry work.now) result book.new pass.new }
     {
         let caller = entry.caller as usize;
         let badge = mem::replace(&mut book.badge, Badge::blank());
@@ -130,7 +131,7 @@ impl<J: Naming> Journal<J> {
         requires room { 0 < book.old.room }
         requires may { MayRecord pass.old book.old (noted entry work.now) }
         requires actor { matches clock (noted entry work.now) ≡ false }
-        ensures { Recorded J.roster book.old pass.old (noted entry work.now) result book.new pass.new }
+        ensures { Recorded J.run.roster book.old pass.old (noted entry work.now) result book.new pass.new }
     {
         self.put(book, pass, entry, work)
     }
@@ -145,22 +146,22 @@ impl<J: Naming> Journal<J> {
     ) -> u64
         requires room { 0 < book.old.room }
         requires may { MayRecord pass.old book.old (noted entry work.now) }
-        requires all { HoldsAll J.roster pass.old }
-        ensures { Recorded J.roster book.old pass.old (noted entry work.now) result book.new pass.new }
+        requires all { HoldsAll J.run.roster pass.old }
+        ensures { Recorded J.run.roster book.old pass.old (noted entry work.now) result book.new pass.new }
     {
         self.put(book, pass, entry, work)
     }
 
     /// The front that the pass has now seen.
     pub fn look(&self, pass: &mut Pass<J>) -> u64
-        ensures { Looked J.roster pass.old result pass.new }
+        ensures { Looked J.run.roster pass.old result pass.new }
     {
         self.watch(&mut pass.seat)
     }
 
     /// The same, while the book is at hand: its list is all of its actor at that front.
     pub fn look_with(&self, book: &mut Book<J>, pass: &mut Pass<J>) -> u64
-        ensures { LookedWith J.roster book.old pass.old result book.new pass.new }
+        ensures { LookedWith J.run.roster book.old pass.old result book.new pass.new }
     {
         let badge = mem::replace(&mut book.badge, Badge::blank());
         self.take_in(&mut pass.seat, badge.into_seat());
@@ -190,7 +191,7 @@ impl<J: Naming> Journal<J> {
 
     /// Takes the other's numbers, and all that it had seen.
     pub fn meet(&self, pass: &mut Pass<J>, other: Pass<J>)
-        ensures { Met J.roster pass.old other pass.new }
+        ensures { Met J.run.roster pass.old other pass.new }
     {
         let Pass {
             seat,

@@ -15,8 +15,8 @@ pub(crate) type Token = Seat<(), View>;
 pub struct Journal<J: Naming> {
     pub(crate) table: Table<(), View, Roster, Law, Global>,
     pub(crate) of: PhantomData<J>,
-    ghost table_is: { table.shared.table_id ≡ J.table },
-    ghost roster_is: { table.shared.key ≡ J.roster },
+    ghost table_is: { table.shared.table_id ≡ J.run.table },
+    ghost roster_is: { table.shared.key ≡ J.run.roster },
     ghost words: { table.shared.table_id.words ≡ 1 },
     ghost no_slots: { table.shared.table_id.slots ≡ 0 },
 }
@@ -24,28 +24,28 @@ pub struct Journal<J: Naming> {
 impl<J: Naming> Journal<J> {
     // A look: the seat has then seen all.
     pub(crate) fn watch(&self, seat: &mut Token) -> u64
-        requires { IsSeat J.table seat.old }
-        ensures seat { IsSeat J.table seat.new }
-        ensures seen { Looks J.roster seat.old.me.0 result seat.new.me.0 }
+        requires { IsSeat J.run.table seat.old }
+        ensures seat { IsSeat J.run.table seat.new }
+        ensures seen { Looks J.run.roster seat.old.me.0 result seat.new.me.0 }
     {
         self.table.shared.load::<Look<J>>(seat, 0)
     }
 
     // The one step that changes the history. The entry and its work are named for the proof alone.
     pub(crate) fn add<E: Adding>(&self, seat: &mut Token, _entry: &Entry, _work: &Work) -> u64
-        requires seat { IsSeat J.table seat.old }
+        requires seat { IsSeat J.run.table seat.old }
         requires picked { (E.noted.entry ≡ _entry.now) × (E.noted.work ≡ _work.now) }
-        requires may { MayAdd J.roster seat.old.me.0 E.noted }
-        ensures seat { IsSeat J.table seat.new }
-        ensures added { Adds J.roster E.noted seat.old.me.0 result seat.new.me.0 }
+        requires may { MayAdd J.run.roster seat.old.me.0 E.noted }
+        ensures seat { IsSeat J.run.table seat.new }
+        ensures added { Adds J.run.roster E.noted seat.old.me.0 result seat.new.me.0 }
     {
         self.table.shared.fetch_add::<Add<J, E>>(seat, 0, 1)
     }
 
     // Hands a number over to a new seat.
     pub(crate) fn hand<N: Handing>(&self, seat: &mut Token, _number: Number) -> Token
-        requires { IsSeat J.table seat.old × (N.number ≡ _number) }
-        ensures seats { IsSeat J.table seat.new × IsSeat J.table result }
+        requires { IsSeat J.run.table seat.old × (N.number ≡ _number) }
+        ensures seats { IsSeat J.run.table seat.new × IsSeat J.run.table result }
         ensures kept { seat.new.me.0 ≡ without N.number seat.old.me.0 }
         ensures given { result.me.0 ≡ only N.number seat.old.me.0 }
     {
@@ -54,8 +54,8 @@ impl<J: Naming> Journal<J> {
 
     // Takes in another seat, with its numbers.
     pub(crate) fn take_in(&self, seat: &mut Token, other: Token)
-        requires { IsSeat J.table seat.old × IsSeat J.table other }
-        ensures seat { IsSeat J.table seat.new }
+        requires { IsSeat J.run.table seat.old × IsSeat J.run.table other }
+        ensures seat { IsSeat J.run.table seat.new }
         ensures both { seat.new.me.0 ≡ both seat.old.me.0 other.me.0 }
     {
         self.table.shared.join_seat::<Merge>(seat, other);

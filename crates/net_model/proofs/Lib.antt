@@ -1,3 +1,5 @@
+pub mod DatagramLaws
+pub mod IlLaws
 pub mod Ipv4Laws
 pub mod Laid
 pub mod WireNumbers
@@ -13,5 +15,9 @@ pub mod NdbForms
 pub mod NdbPlain
 pub mod Histories
 pub mod Walk
-pub mod Worked
-pub mod WorkedUdp
+pub mod Ordered
+pub mod CsTexts
+pub mod CsLaws
+pub mod CasesUdp
+pub mod CasesIl
+pub mod CasesFaults

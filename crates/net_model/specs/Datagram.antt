@@ -72,9 +72,10 @@ il_packet h bytes = between h (il_sport bytes) (il_dport bytes) (body.Il (messag
 abbrev pub udp_packet : Ipv4 → List ℕ → Packet
 udp_packet h bytes = between h (sport_of bytes) (dport_of bytes) (body.Udp (udp_text bytes))
 
+-- the packet of this header, from the bytes after it
+abbrev pub packet_in : Ipv4 → List ℕ → Packet
+packet_in h bytes = if h.proto == 40 then il_packet h bytes else udp_packet h bytes
+
 -- the packet in the bytes of a datagram of IL or UDP
 unfoldable pub packet_of : List ℕ → Packet
-packet_of bytes =
-    if (header_of bytes).proto == 40
-    then il_packet (header_of bytes) (payload_of bytes)
-    else udp_packet (header_of bytes) (payload_of bytes)
+packet_of bytes = packet_in (header_of bytes) (payload_of bytes)

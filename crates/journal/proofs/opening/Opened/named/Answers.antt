@@ -1,8 +1,8 @@
-use Rattle.std.proofs.Common.{◌+◌, ◌<◌, [], ◌∷◌, length, refl, ap, sym, subst, ◌∙◌, arith, rules}
+use Rattle.std.proofs.Common.{◌+◌, ◌<◌, ◌≤◌, [], ◌∷◌, length, refl, ap, sym, subst, ◌∙◌, arith, rules}
 use Rattle.net_model.specs.declared.noted.Number.TheVariants as number
 use Rattle.net_model.specs.Stamped.{at}
 use Rattle.journal.specs.declared.law.View.{View}
-use Rattle.journal.specs.Rule.{only}
+use Rattle.journal.specs.Rule.{Run, only}
 use Rattle.journal.specs.Tokens.{Distinct}
 use Rattle.journal.proofs.Dealing.{dealt_given, dealt_next, first_pass}
 use Rattle.journal.proofs.After.{volume_is}
@@ -11,15 +11,17 @@ use Rattle.journal.proofs.opening.Opened.named.Goals as goal
 pub invariant_of-push_reserved : goal.invariant_of-push_reserved
 invariant_of-push_reserved g c =
     let s = c.hand-seat.ensures in
-    let o = c.args.self in
-    let distinct : Distinct o.actors.items = subst Distinct (sym (o.actors_are ∙ ap (λ r. r.actors) c.requires.roster)) c.requires.distinct in
+    let o = c.self.inside in
+    let n = c.self.invariant in
+    let distinct : Distinct o.actors.items = subst Distinct (sym (n.actors_are ∙ ap (λ (q : Run). q.roster.actors) (c.self.view_is ∙ c.requires.name))) c.requires.distinct in
     let d = c.loop-i.invariant.1 in
     record {
+      few = search rules;
       table_is = c.into_badge.ensures.0 ∙ s.seats.1.0;
       view = only (number.Actor c.index-actor.result.now) c.loop-i.all.me.0;
       list = [];
       views_is = c.into_badge.ensures.2 ∙ ap (λ (z : View). z ∷ []) s.given;
-      held = dealt_given o.table.shared.key.callers o.actors.items c.loop-i.i c.loop-i.all.me.0 c.loop-i.books.items d (search rules) c.index-actor.result.now c.index-actor.ensures distinct;
+      held = dealt_given c.args.self.roster.callers o.actors.items c.loop-i.i c.loop-i.all.me.0 c.loop-i.books.items d (search rules) c.index-actor.result.now c.index-actor.ensures distinct;
       agrees = ap (at (number.Actor c.index-actor.result.now)) d.seen;
       entries = c.new.ensures.items;
       short = omega arith;
@@ -28,17 +30,18 @@ invariant_of-push_reserved g c =
 pub loop-i-preserved : goal.loop-i-preserved
 loop-i-preserved g c =
     let s = c.hand-seat.ensures in
-    let o = c.args.self in
-    let distinct : Distinct o.actors.items = subst Distinct (sym (o.actors_are ∙ ap (λ r. r.actors) c.requires.roster)) c.requires.distinct in
+    let o = c.self.inside in
+    let n = c.self.invariant in
+    let distinct : Distinct o.actors.items = subst Distinct (sym (n.actors_are ∙ ap (λ (q : Run). q.roster.actors) (c.self.view_is ∙ c.requires.name))) c.requires.distinct in
     let inv = c.loop-i.invariant in
     let d = inv.1 in
     let a = c.index-actor.result.now in
     let lt : c.loop-i.i < length o.actors.items = search rules in
-    let given = dealt_given o.table.shared.key.callers o.actors.items c.loop-i.i c.loop-i.all.me.0 c.loop-i.books.items d lt a c.index-actor.ensures distinct in
+    let given = dealt_given c.args.self.roster.callers o.actors.items c.loop-i.i c.loop-i.all.me.0 c.loop-i.books.items d lt a c.index-actor.ensures distinct in
     let views = c.into_badge.ensures.2 ∙ ap (λ (z : View). z ∷ []) s.given in (
       s.seats.0,
       rw c.push_reserved.ensures.items
-          (dealt_next o.table.shared.key.callers o.actors.items c.loop-i.i c.loop-i.all.me.0 c.loop-i.books.items d lt a c.index-actor.ensures distinct c.hand-seat.new.seat.me.0 _ s.kept
+          (dealt_next c.args.self.roster.callers o.actors.items c.loop-i.i c.loop-i.all.me.0 c.loop-i.books.items d lt a c.index-actor.ensures distinct c.hand-seat.new.seat.me.0 _ s.kept
           (let v = volume_is a c.loop-i.i _ c.into_badge.result.views (only (number.Actor a) c.loop-i.all.me.0) (number.Actor a) [] views given in
           record { actor = ap (λ z. z.actor) v; number_is = ap (λ z. z.number) v; seen = ap (λ z. z.seen) v ∙ d.seen; list = ap (λ z. z.list) v })),
       refl,
@@ -48,6 +51,7 @@ loop-i-preserved g c =
 
 pub invariant_of-pass : goal.invariant_of-pass
 invariant_of-pass g c =
-    let o = c.args.self in
+    let o = c.self.inside in
+    let n = c.self.invariant in
     let inv = c.loop-i.invariant in
-    first_pass g.J.Naming.table c.loop-i.all o.table.shared.key.callers o.actors.items c.loop-i.i c.loop-i.books.items inv.0 inv.1 (search rules) o.few
+    first_pass g.J.Naming.run.table c.loop-i.all c.args.self.roster.callers o.actors.items c.loop-i.i c.loop-i.books.items inv.0 inv.1 (search rules) (subst (λ (q : Run). q.roster.callers ≤ 37) c.self.view_is n.few)

@@ -7,7 +7,7 @@ use Rattle.journal.proofs.word.Journal.gather.Given as goal
 
 -- the books that are done have been gathered
 abbrev pub invariant-loop-book : goal.invariant-loop-book
-invariant-loop-book g l = IsSeat g.J.Naming.table l.all × ((done : List Volume) × (es : List Stamped) × (l.books.items ++ done ≡ l.fn.books.items) × Gathered l.fn.all.me.0 done l.all.me.0 es × IsPlaced es l.fn.places.items l.places.items)
+invariant-loop-book g l = IsSeat g.J.Naming.run.table l.all × ((done : List Volume) × (es : List Stamped) × (l.books.items ++ done ≡ l.fn.books.items) × Gathered l.fn.all.me.0 done l.all.me.0 es × IsPlaced es l.fn.places.items l.places.items)
 
 abbrev pub decreases-loop-book : goal.decreases-loop-book
 decreases-loop-book g l = length l.books.items

@@ -23,13 +23,13 @@ returns g c =
     let p = c.pass.invariant in
     let d = c.watch.ensures.seen in
     let v : View = c.pass.inside.seat.me.0 in
-    let whole : Looked g.J.Naming.roster (sight v) c.watch.result (sight c.watch.new.seat.me.0) = record {
+    let whole : Looked g.J.Naming.run.roster (sight v) c.watch.result (sight c.watch.new.seat.me.0) = record {
       front_is = d.front;
       before = d.before;
       held = d.held;
       lists = λ k es i. d.lists k es (subst (λ (hs : List Held). In (k, es) hs) (sym d.held) i);
       moment_is = λ h. ap (latest 0) (d.moment_is (ap has_caller d.held ∙ h) ∙ d.clock_is ∙ sym (p.agrees.clock_is h));
-      whole = all_seen g.J.Naming.roster v c.watch.new.seat.me.0.seen p.agrees d.lawful d.before (λ k es i. d.lists k es (subst (λ (hs : List Held). In (k, es) hs) (sym d.held) i));
+      whole = all_seen g.J.Naming.run.roster v c.watch.new.seat.me.0.seen p.agrees d.lawful d.before (λ k es i. d.lists k es (subst (λ (hs : List Held). In (k, es) hs) (sym d.held) i));
       lawful = d.lawful;
     } in
-    subst (λ (z : Sight). Looked g.J.Naming.roster z c.watch.result (sight c.watch.new.seat.me.0)) c.pass.view_is whole
+    subst (λ (z : Sight). Looked g.J.Naming.run.roster z c.watch.result (sight c.watch.new.seat.me.0)) c.pass.view_is whole

@@ -19,15 +19,16 @@ invariant_of-book g c =
     let book = sym (volume_is a c.book.inside.number (vec_capacity c.book.inside.entries - vec_len c.book.inside.entries) c.book.inside.badge.views u (number.Actor a) b.list (badge ∙ c.into_seat.ensures.2) held) ∙ c.book.view_is in
     let n = c.watch-front.result in
     let w : View = c.watch-front.new.seat.me.0 in
-    let d : Looks g.J.Naming.roster (both v u) n w = subst (λ (z : View). Looks g.J.Naming.roster z n w) c.take_in.ensures.both c.watch-front.ensures.seen in
+    let d : Looks g.J.Naming.run.roster (both v u) n w = subst (λ (z : View). Looks g.J.Naming.run.roster z n w) c.take_in.ensures.both c.watch-front.ensures.seen in
     let s = c.hand-seat.ensures in
     record {
+      few = b.few;
       table_is = c.into_badge.ensures.0 ∙ s.seats.1.0;
       view = only (number.Actor a) w;
       list = b.list;
       views_is = c.into_badge.ensures.2 ∙ ap (λ (z : View). z ∷ []) s.given;
-      held = look_given v u a b.list p.agrees p.callers held g.J.Naming.roster n w d;
-      agrees = look_actor v u a b.list p.agrees p.callers held g.J.Naming.roster n w d;
+      held = look_given v u a b.list p.agrees p.callers held g.J.Naming.run.roster n w d;
+      agrees = look_actor v u a b.list p.agrees p.callers held g.J.Naming.run.roster n w d;
       entries = b.entries;
       short = b.short;
     }
@@ -44,13 +45,13 @@ invariant_of-pass g c =
     let book = sym (volume_is a c.book.inside.number (vec_capacity c.book.inside.entries - vec_len c.book.inside.entries) c.book.inside.badge.views u (number.Actor a) b.list (badge ∙ c.into_seat.ensures.2) held) ∙ c.book.view_is in
     let n = c.watch-front.result in
     let w : View = c.watch-front.new.seat.me.0 in
-    let d : Looks g.J.Naming.roster (both v u) n w = subst (λ (z : View). Looks g.J.Naming.roster z n w) c.take_in.ensures.both c.watch-front.ensures.seen in
+    let d : Looks g.J.Naming.run.roster (both v u) n w = subst (λ (z : View). Looks g.J.Naming.run.roster z n w) c.take_in.ensures.both c.watch-front.ensures.seen in
     let s = c.hand-seat.ensures in
     record {
       seat = s.seats.0;
-      agrees = subst Agrees (sym s.kept) (look_agrees v u a b.list p.agrees p.callers held g.J.Naming.roster n w d);
-      callers = subst OnlyCallers (sym (ap (λ (z : View). z.held) s.kept ∙ look_kept v u a b.list p.agrees p.callers held g.J.Naming.roster n w d)) p.callers;
-      counted = subst (Counted c.pass.inside.counts) (sym (ap (λ (z : View). z.held) s.kept ∙ look_kept v u a b.list p.agrees p.callers held g.J.Naming.roster n w d)) p.counted;
+      agrees = subst Agrees (sym s.kept) (look_agrees v u a b.list p.agrees p.callers held g.J.Naming.run.roster n w d);
+      callers = subst OnlyCallers (sym (ap (λ (z : View). z.held) s.kept ∙ look_kept v u a b.list p.agrees p.callers held g.J.Naming.run.roster n w d)) p.callers;
+      counted = subst (Counted c.pass.inside.counts) (sym (ap (λ (z : View). z.held) s.kept ∙ look_kept v u a b.list p.agrees p.callers held g.J.Naming.run.roster n w d)) p.counted;
     }
 
 pub returns : goal.returns
@@ -65,12 +66,12 @@ returns g c =
     let book = sym (volume_is a c.book.inside.number (vec_capacity c.book.inside.entries - vec_len c.book.inside.entries) c.book.inside.badge.views u (number.Actor a) b.list (badge ∙ c.into_seat.ensures.2) held) ∙ c.book.view_is in
     let n = c.watch-front.result in
     let w : View = c.watch-front.new.seat.me.0 in
-    let d : Looks g.J.Naming.roster (both v u) n w = subst (λ (z : View). Looks g.J.Naming.roster z n w) c.take_in.ensures.both c.watch-front.ensures.seen in
+    let d : Looks g.J.Naming.run.roster (both v u) n w = subst (λ (z : View). Looks g.J.Naming.run.roster z n w) c.take_in.ensures.both c.watch-front.ensures.seen in
     let s = c.hand-seat.ensures in
     let room = vec_capacity c.book.inside.entries - vec_len c.book.inside.entries in
-    looked_with v u a b.list p.agrees p.callers held g.J.Naming.roster n w d c.book.inside.number room
+    looked_with v u a b.list p.agrees p.callers held g.J.Naming.run.roster n w d c.book.inside.number room
     c.args.book.now _ c.args.pass.now _ book
     (sym (volume_is a c.book.inside.number room c.into_badge.result.views (only (number.Actor a) w) (number.Actor a) b.list (c.into_badge.ensures.2 ∙ ap (λ (z : View). z ∷ []) s.given)
-    (look_given v u a b.list p.agrees p.callers held g.J.Naming.roster n w d)))
+    (look_given v u a b.list p.agrees p.callers held g.J.Naming.run.roster n w d)))
     c.pass.view_is
     (ap sight (sym s.kept))

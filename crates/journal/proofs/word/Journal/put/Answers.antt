@@ -25,9 +25,9 @@ add-stamp-requires-clause-may g c =
     let book = sym (volume_is a c.book.inside.number (vec_capacity c.book.inside.entries - vec_len c.book.inside.entries) c.book.inside.badge.views u (number.Actor a) b.list (badge ∙ c.into_seat.ensures.2) held) ∙ c.book.view_is in
     let may : MayRecord (sight v) record { actor = a; number = c.book.inside.number; seen = u.seen; list = b.list; room = vec_capacity c.book.inside.entries - vec_len c.book.inside.entries } x =
     subst (λ (z : Volume). MayRecord (sight v) z x) (sym book) (subst (λ (z : Sight). MayRecord z c.args.book.now x) (sym c.pass.view_is) c.requires.may) in
-    let timely : Timely g.J.Naming.roster v.held x = subst (λ (z : Sight). Timely g.J.Naming.roster z.held x) (sym c.pass.view_is) c.requires.timely in
-    subst (λ (z : View). MayAdd g.J.Naming.roster z x) (sym c.take_in.ensures.both)
-    (may_add v u a b.list p.agrees p.callers held g.J.Naming.roster x may.of_caller may.caller may.room may.actor may.moment_is may.event_is timely)
+    let timely : Timely g.J.Naming.run.roster v.held x = subst (λ (z : Sight). Timely g.J.Naming.run.roster z.held x) (sym c.pass.view_is) c.requires.timely in
+    subst (λ (z : View). MayAdd g.J.Naming.run.roster z x) (sym c.take_in.ensures.both)
+    (may_add v u a b.list p.agrees p.callers held g.J.Naming.run.roster x may.of_caller may.caller may.room may.actor may.moment_is may.event_is timely)
 
 pub invariant_of-book : goal.invariant_of-book
 invariant_of-book g c =
@@ -44,15 +44,16 @@ invariant_of-book g c =
     subst (λ (z : Volume). MayRecord (sight v) z x) (sym book) (subst (λ (z : Sight). MayRecord z c.args.book.now x) (sym c.pass.view_is) c.requires.may) in
     let n = c.add-stamp.result in
     let w : View = c.add-stamp.new.seat.me.0 in
-    let d : Adds g.J.Naming.roster x (both v u) n w = subst (λ (z : View). Adds g.J.Naming.roster x z n w) c.take_in.ensures.both c.add-stamp.ensures.added in
+    let d : Adds g.J.Naming.run.roster x (both v u) n w = subst (λ (z : View). Adds g.J.Naming.run.roster x z n w) c.take_in.ensures.both c.add-stamp.ensures.added in
     let s = c.hand-seat.ensures in record {
+      few = b.few;
       table_is = c.into_badge.ensures.0 ∙ s.seats.1.0;
       view = only (number.Actor a) w;
       list = b.list ++ (n, x) ∷ [];
       views_is = c.into_badge.ensures.2 ∙ ap (λ (z : View). z ∷ []) s.given;
-      held = given_held v u a b.list p.agrees p.callers held g.J.Naming.roster x n w d may.of_caller may.caller may.actor;
-      agrees = book_agrees v u a b.list p.agrees p.callers held g.J.Naming.roster x n w d may.of_caller may.caller may.actor;
-      short = book_short v u a b.list p.agrees p.callers held g.J.Naming.roster x n w d may.of_caller may.caller may.actor;
+      held = given_held v u a b.list p.agrees p.callers held g.J.Naming.run.roster x n w d may.of_caller may.caller may.actor;
+      agrees = book_agrees v u a b.list p.agrees p.callers held g.J.Naming.run.roster x n w d may.of_caller may.caller may.actor;
+      short = book_short v u a b.list p.agrees p.callers held g.J.Naming.run.roster x n w d may.of_caller may.caller may.actor;
       entries = c.push_reserved.ensures.items ∙ ap (λ l. l ++ stamped (n, x) ∷ []) b.entries ∙ sym (map-stamped b.list (n, x));
     }
 
@@ -71,12 +72,12 @@ invariant_of-pass g c =
     subst (λ (z : Volume). MayRecord (sight v) z x) (sym book) (subst (λ (z : Sight). MayRecord z c.args.book.now x) (sym c.pass.view_is) c.requires.may) in
     let n = c.add-stamp.result in
     let w : View = c.add-stamp.new.seat.me.0 in
-    let d : Adds g.J.Naming.roster x (both v u) n w = subst (λ (z : View). Adds g.J.Naming.roster x z n w) c.take_in.ensures.both c.add-stamp.ensures.added in
+    let d : Adds g.J.Naming.run.roster x (both v u) n w = subst (λ (z : View). Adds g.J.Naming.run.roster x z n w) c.take_in.ensures.both c.add-stamp.ensures.added in
     let s = c.hand-seat.ensures in record {
       seat = s.seats.0;
-      agrees = subst Agrees (sym s.kept) (pass_agrees v u a b.list p.agrees p.callers held g.J.Naming.roster x n w d may.of_caller may.caller may.actor);
-      callers = subst OnlyCallers (sym (ap (λ (z : View). z.held) s.kept ∙ kept_held v u a b.list p.agrees p.callers held g.J.Naming.roster x n w d may.of_caller may.caller may.actor)) (gained_callers n x v.held p.callers);
-      counted = subst (λ (hs : List Held). Counted (slice_set c.pass.inside.counts c.args.entry.caller (slice_index c.pass.inside.counts c.args.entry.caller + 1)) hs) (sym (ap (λ (z : View). z.held) s.kept ∙ kept_held v u a b.list p.agrees p.callers held g.J.Naming.roster x n w d may.of_caller may.caller may.actor))
+      agrees = subst Agrees (sym s.kept) (pass_agrees v u a b.list p.agrees p.callers held g.J.Naming.run.roster x n w d may.of_caller may.caller may.actor);
+      callers = subst OnlyCallers (sym (ap (λ (z : View). z.held) s.kept ∙ kept_held v u a b.list p.agrees p.callers held g.J.Naming.run.roster x n w d may.of_caller may.caller may.actor)) (gained_callers n x v.held p.callers);
+      counted = subst (λ (hs : List Held). Counted (slice_set c.pass.inside.counts c.args.entry.caller (slice_index c.pass.inside.counts c.args.entry.caller + 1)) hs) (sym (ap (λ (z : View). z.held) s.kept ∙ kept_held v u a b.list p.agrees p.callers held g.J.Naming.run.roster x n w d may.of_caller may.caller may.actor))
           (counts_gain c.pass.inside.counts v.held n x may.of_caller p.counted may.caller may.room (slice_index c.pass.inside.counts c.args.entry.caller + 1) refl);
     }
 
@@ -95,13 +96,13 @@ returns g c =
     subst (λ (z : Volume). MayRecord (sight v) z x) (sym book) (subst (λ (z : Sight). MayRecord z c.args.book.now x) (sym c.pass.view_is) c.requires.may) in
     let n = c.add-stamp.result in
     let w : View = c.add-stamp.new.seat.me.0 in
-    let d : Adds g.J.Naming.roster x (both v u) n w = subst (λ (z : View). Adds g.J.Naming.roster x z n w) c.take_in.ensures.both c.add-stamp.ensures.added in
+    let d : Adds g.J.Naming.run.roster x (both v u) n w = subst (λ (z : View). Adds g.J.Naming.run.roster x z n w) c.take_in.ensures.both c.add-stamp.ensures.added in
     let s = c.hand-seat.ensures in
     let room = vec_capacity c.push_reserved.new.self - vec_len c.push_reserved.new.self in
-    recorded v u a b.list p.agrees p.callers held g.J.Naming.roster x n w d may.of_caller may.caller may.actor c.book.inside.number (vec_capacity c.book.inside.entries - vec_len c.book.inside.entries) room
+    recorded v u a b.list p.agrees p.callers held g.J.Naming.run.roster x n w d may.of_caller may.caller may.actor c.book.inside.number (vec_capacity c.book.inside.entries - vec_len c.book.inside.entries) room
     c.args.book.now _ c.args.pass.now _ book
     (sym (volume_is a c.book.inside.number room c.into_badge.result.views (only (number.Actor a) w) (number.Actor a) (b.list ++ (n, x) ∷ []) (c.into_badge.ensures.2 ∙ ap (λ (z : View). z ∷ []) s.given)
-    (given_held v u a b.list p.agrees p.callers held g.J.Naming.roster x n w d may.of_caller may.caller may.actor)))
+    (given_held v u a b.list p.agrees p.callers held g.J.Naming.run.roster x n w d may.of_caller may.caller may.actor)))
     c.pass.view_is
     (ap sight (sym s.kept))
 

@@ -1,30 +1,20 @@
--- Worlds and entries of worked histories.
-use Rattle.std.proofs.Common.{ℕ, ◌+◌, ◌*◌, Bool, true, false, List, [], ◌∷◌, Option, Some, None}
-use Rattle.std.specs.Prelude.{codes}
+-- Words for worlds and entries of worked histories.
+use Rattle.std.specs.Prelude.{ℕ, ◌+◌, ◌*◌, true, false, List, [], ◌∷◌, Some, None, codes}
 use Rattle.net_model.specs.declared.actor.ActorName.{ActorName}
-use Rattle.net_model.specs.declared.actor.ActorName.TheVariants as name
 use Rattle.net_model.specs.declared.address.Addr.{Addr}
 use Rattle.net_model.specs.declared.address.Pair.{Pair}
-use Rattle.net_model.specs.declared.address.Proto.{Proto}
 use Rattle.net_model.specs.declared.address.Proto.TheVariants as proto
 use Rattle.net_model.specs.declared.event.Event.{Event}
-use Rattle.net_model.specs.declared.event.Event.TheVariants as event
 use Rattle.net_model.specs.declared.history.Entry.{Entry}
-use Rattle.net_model.specs.declared.names.FileName.TheVariants as file
-use Rattle.net_model.specs.declared.names.Mode.TheVariants as mode
+use Rattle.net_model.specs.declared.il.IlKind.{IlKind}
 use Rattle.net_model.specs.declared.ndb.NdbPair.{NdbPair}
 use Rattle.net_model.specs.declared.packet.BodyHeader.TheVariants as shown
 use Rattle.net_model.specs.declared.packet.Header.{Header}
 use Rattle.net_model.specs.declared.reply.Reply.{Reply}
-use Rattle.net_model.specs.declared.reply.Reply.TheVariants as reply
-use Rattle.net_model.specs.declared.world.Fate.{Fate}
 use Rattle.net_model.specs.declared.world.FateRange.{FateRange}
 use Rattle.net_model.specs.declared.world.HostSpec.{HostSpec}
-use Rattle.net_model.specs.declared.world.Iface.{Iface}
-use Rattle.net_model.specs.declared.world.MediumSpec.{MediumSpec}
 use Rattle.net_model.specs.declared.world.Script.{Script}
 use Rattle.net_model.specs.declared.world.Step.{Step}
-use Rattle.net_model.specs.declared.world.Step.TheVariants as step
 use Rattle.net_model.specs.declared.world.World.{World}
 
 -- Addresses.
@@ -64,28 +54,31 @@ tuples =
     ∷ ((is (codes "udp") (codes "echo") ∷ is (codes "port") (codes "7") ∷ []) ∷ [])
     ∷ []
 
--- The world: two hosts on a medium, with these scripts.
+-- Worlds of hosts on one medium.
 
-abbrev pub host : List ℕ → ℕ → HostSpec
-host called address =
+abbrev pub host : List ℕ → ℕ → List ℕ → HostSpec
+host called address starts =
     record {
       name = called;
       nets = proto.Il ∷ proto.Udp ∷ [];
       ifaces = record { medium = 0; ip = address; mask = ip 255 255 255 0 } ∷ [];
       routes = [];
-      starts = [];
+      starts = starts;
     }
 
-abbrev pub world : ℕ → List FateRange → List Step → List Step → World
-world end fates for_anna for_helix =
+abbrev pub world : ℕ → List FateRange → List HostSpec → List Script → World
+world end fates hosts scripts =
     record {
       end = end;
       seed = 7;
       media = record { number = 0; name = codes "ether0"; mtu = 1500; loss = 0; twice = 0; later = 0; fates = fates } ∷ [];
-      hosts = host (codes "anna") anna ∷ host (codes "helix") helix ∷ [];
-      scripts = record { host = 0; steps = for_anna } ∷ record { host = 1; steps = for_helix } ∷ [];
+      hosts = hosts;
+      scripts = scripts;
       db = tuples;
     }
+
+abbrev pub script : ℕ → List Step → Script
+script h steps = record { host = h; steps = steps }
 
 -- Entries.
 
@@ -107,3 +100,6 @@ ends x = record x { ended = true }
 
 abbrev pub udp : Addr → Addr → ℕ → Header
 udp src dst len = record { src = src; dst = dst; ttl = 255; tos = 0; body = shown.Udp len }
+
+abbrev pub il : Addr → Addr → IlKind → ℕ → ℕ → ℕ → ℕ → Header
+il src dst kind spec id ack len = record { src = src; dst = dst; ttl = 255; tos = 0; body = shown.Il kind spec id ack len }

@@ -1,0 +1,12 @@
+//! IL headers, as bytes and back.
+#![tactic(auto)]
+
+mod fault;
+mod field;
+mod message;
+
+pub use fault::IlError;
+pub use message::{IlView, decode_il, encode_il};
+
+#[cfg(test)]
+mod tests;

@@ -1,0 +1,211 @@
+//! What lies under a lock: a machine beside the book that says how it came about.
+ghost use Rattle.std.specs.Prelude.{◌≡◌, ℕ, ◌<◌, ◌^◌, List, length, true, false, Some, is_some, option_map, IfOk, OnErr, IfErr, MatchOption};
+ghost use Rattle.net_model.specs.declared.actor.ActorName.TheVariants.{Clock};
+ghost use Rattle.net_model.specs.declared.noted.Noted.{Noted};
+ghost use Rattle.net_model.specs.Stamped.{same_actor, moment};
+ghost use Rattle.journal.specs.Tokens.{Holds, HoldsAll, LookedWith};
+ghost use Rattle.locked.specs.Acts.{Acted, Leaves, Stands, state_at, made, without_copy};
+
+use crate::machine::Machine;
+use journal::{Book, Journal, Naming, Pass};
+use net_model::{ActorName, Entry, Outcome, Work};
+use outside::Gate;
+use std::alloc::AllocError;
+use std::marker::Model;
+
+/// What a call did. `Memory` leaves the pass as it was.
+#[derive(Debug, Drop)]
+pub enum Answer {
+    Done { stamp: u64, outcome: Outcome },
+    NotReady { front: u64 },
+    Memory,
+}
+
+/// What was seen of an actor, at the front that the pass has then seen.
+#[derive(Clone, Copy, Debug, PartialEq, Eq)]
+pub struct View {
+    pub ready: bool,
+    pub due: Option<u64>,
+    pub front: u64,
+}
+
+/// A machine that stands for the entries of its book. Contracts see the book.
+#[derive(Drop)]
+pub struct Desk<J: Naming, M: Machine> {
+    machine: M,
+    book: Book<J>,
+}
+
+impl<J: Naming, M: Machine> Model for Desk<J, M> {
+    ghost use Rattle.journal.specs.declared.tokens.Volume.{Volume};
+    ghost use Rattle.locked.specs.Acts.{Stands};
+
+    ghost Value = { Volume };
+
+    ghost view = { λ d. d.book };
+
+    ghost invariant = { λ d. Stands M.begin M.answer d.machine d.book };
+}
+
+impl<J: Naming, M: Machine> Desk<J, M> {
+    /// A machine beside the book of its actor.
+    pub fn new(machine: M, book: Book<J>) -> Desk<J, M>
+        requires { Stands M.begin M.answer machine book }
+        ensures { result ≡ book }
+    {
+        Desk { machine, book }
+    }
+
+    /// Which actor.
+    pub fn actor(&self) -> ActorName
+        ensures { result ≡ self.now.actor }
+    {
+        self.book.actor()
+    }
+
+    /// One event at the actor by the caller. The gate is called before the record.
+    pub fn act<G: Gate>(
+        &mut self,
+        journal: &Journal<J>,
+        gate: &G,
+        pass: &mut Pass<J>,
+        caller: u32,
+        now: u64,
+        work: &Work,
+        cites: Option<u64>,
+    ) -> Answer
+        requires room { (es : List (ℕ × Noted)) × Holds pass.old caller es × (length es < 131072) }
+        requires moment { now ≡ moment pass.old.seen }
+        requires now { now < 2 ^ 63 }
+        requires actor { same_actor self.old.actor Clock ≡ false }
+        ensures acted { Acted M.begin M.answer J.run.roster self.old.actor caller now work.now cites pass.old result pass.new }
+        ensures book { Leaves self.old.actor caller now work.now cites self.old result pass.new self.new }
+        ensures actor { (self.new.actor ≡ self.old.actor) × (self.new.number ≡ self.old.number) }
+    {
+        if !self.machine.ready(now, work) {
+            let front = journal.look_with(&mut self.book, pass);
+            return Answer::NotReady { front };
+        }
+        match prepare(&mut self.machine, &mut self.book, caller, now, work, cites) {
+            Ok((entry, outcome)) => {
+                gate.at(2 * self.book.number());
+                let stamp = journal.record(&mut self.book, pass, entry, work);
+                Answer::Done { stamp, outcome }
+            }
+            Err(AllocError) => Answer::Memory,
+        }
+    }
+
+    /// The same at the clock, by a pass that holds every caller's number.
+    pub fn act_clock<G: Gate>(
+        &mut self,
+        journal: &Journal<J>,
+        gate: &G,
+        pass: &mut Pass<J>,
+        caller: u32,
+        now: u64,
+        work: &Work,
+        cites: Option<u64>,
+    ) -> Answer
+        requires room { (es : List (ℕ × Noted)) × Holds pass.old caller es × (length es < 131072) }
+        requires moment { now ≡ moment pass.old.seen }
+        requires now { now < 2 ^ 63 }
+        requires all { HoldsAll J.run.roster pass.old }
+        ensures acted { Acted M.begin M.answer J.run.roster self.old.actor caller now work.now cites pass.old result pass.new }
+        ensures book { Leaves self.old.actor caller now work.now cites self.old result pass.new self.new }
+        ensures actor { (self.new.actor ≡ self.old.actor) × (self.new.number ≡ self.old.number) }
+    {
+        if !self.machine.ready(now, work) {
+            let front = journal.look_with(&mut self.book, pass);
+            return Answer::NotReady { front };
+        }
+        match prepare(&mut self.machine, &mut self.book, caller, now, work, cites) {
+            Ok((entry, outcome)) => {
+                gate.at(2 * self.book.number());
+                let stamp = journal.record_clock(&mut self.book, pass, entry, work);
+                Answer::Done { stamp, outcome }
+            }
+            Err(AllocError) => Answer::Memory,
+        }
+    }
+
+    /// What the actor is now, for this work.
+    pub fn view(
+        &mut self,
+        journal: &Journal<J>,
+        pass: &mut Pass<J>,
+        now: u64,
+        work: Option<&Work>,
+    ) -> View
+        ensures front { LookedWith J.run.roster self.old pass.old result.front self.new pass.new }
+        ensures ready { MatchOption work.entry (result.ready ≡ false) (λ w. result.ready ≡ is_some (M.answer (state_at M.begin M.answer self.old.actor pass.new.seen) now w.now)) }
+        ensures due { result.due ≡ M.due_of (state_at M.begin M.answer self.old.actor pass.new.seen) }
+    {
+        let ready = match work {
+            Some(work) => self.machine.ready(now, work),
+            None => false,
+        };
+        let due = self.machine.due();
+        let front = journal.look_with(&mut self.book, pass);
+        View { ready, due, front }
+    }
+
+    /// The machine and its book.
+    pub fn into_parts(self) -> (M, Book<J>)
+        ensures stands { Stands M.begin M.answer result.0 result.1 }
+        ensures book { result.1 ≡ self }
+    {
+        let Desk { machine, book } = self;
+        (machine, book)
+    }
+}
+
+// The entry of a step that was done, and what the step gave. All memory is taken before the step, or by it.
+fn prepare<J: Naming, M: Machine>(
+    machine: &mut M,
+    book: &mut Book<J>,
+    caller: u32,
+    now: u64,
+    work: &Work,
+    cites: Option<u64>,
+) -> Result<(Entry, Outcome), AllocError>
+    requires stands { Stands M.begin M.answer machine.old book.old }
+    requires ready { is_some (M.answer machine.old now work.now) ≡ true }
+    requires now { now < 2 ^ 63 }
+    ensures book { (book.new.actor ≡ book.old.actor) × (book.new.number ≡ book.old.number) × (book.new.seen ≡ book.old.seen) × (book.new.list ≡ book.old.list) }
+    ensures ok { IfOk result (λ r. (0 < book.new.room) × (o : Outcome) × (M.answer machine.old now work.now ≡ Some record { state = machine.new; outcome = o }) × (r.1 ≡ without_copy o) × (r.0 ≡ (made book.old.actor caller now work.now cites o).entry)) }
+    ensures err { OnErr result (machine.new ≡ machine.old) }
+{
+    let event = work.event.clone()?;
+    book.reserve()?;
+    let Outcome {
+        reply,
+        copy,
+        emit,
+        taken,
+        ended,
+    } = machine.step(now, work)?;
+    let Some(copy) = copy else { unreachable!() };
+    let emits = match &emit {
+        Some(packet) => Some(packet.header()),
+        None => None,
+    };
+    let entry = Entry {
+        actor: book.actor(),
+        caller,
+        moment: now,
+        event,
+        cites,
+        reply: copy,
+        emits,
+        ended,
+    };
+    let outcome = Outcome {
+        reply,
+        copy: None,
+        emit,
+        taken,
+        ended,
+    };
+    Ok((entry, outcome))
+}

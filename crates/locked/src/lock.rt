@@ -1,0 +1,143 @@
+//! Actors behind locks.
+ghost use Rattle.std.specs.Prelude.{◌≡◌, ℕ, ◌<◌, ◌^◌, List, length, true, false, is_some, MatchOption};
+ghost use Rattle.net_model.specs.declared.actor.ActorName.TheVariants.{Clock};
+ghost use Rattle.net_model.specs.declared.noted.Noted.{Noted};
+ghost use Rattle.net_model.specs.Stamped.{same_actor, moment};
+ghost use Rattle.journal.specs.Tokens.{Holds, HoldsAll, Looked};
+ghost use Rattle.locked.specs.Acts.{Acted, Stands, state_at};
+
+use crate::desk::{Answer, Desk, View};
+use crate::machine::Machine;
+use journal::{Book, Journal, Naming, Pass};
+use net_model::{ActorName, Work, same_actor};
+use outside::Gate;
+use std::sync::{Mutex, Wait};
+
+/// An actor behind its lock.
+#[derive(Drop)]
+pub struct Locked<J: Naming, M: Machine> {
+    actor: ActorName,
+    number: u32,
+    desk: Mutex<Desk<J, M>>,
+    ghost few: { number < 2147483648 },
+}
+
+impl<J: Naming, M: Machine> Locked<J, M> {
+    /// The actor of the book, whose machine stands for the book's entries.
+    pub fn new(machine: M, book: Book<J>) -> Locked<J, M>
+        requires { Stands M.begin M.answer machine book }
+        ensures { result.actor ≡ book.actor }
+    {
+        Locked {
+            actor: book.actor(),
+            number: book.number(),
+            desk: Mutex::new(Desk::new(machine, book)),
+        }
+    }
+
+    /// One event at the actor by the caller. Two calls of the gate are made where it is recorded, inside the lock before
+    /// the record and after the lock.
+    pub fn act<R: Wait, G: Gate>(
+        &self,
+        rt: &R,
+        journal: &Journal<J>,
+        gate: &G,
+        pass: &mut Pass<J>,
+        caller: u32,
+        now: u64,
+        work: &Work,
+        cites: Option<u64>,
+    ) -> Answer
+        requires room { (es : List (ℕ × Noted)) × Holds pass.old caller es × (length es < 131072) }
+        requires moment { now ≡ moment pass.old.seen }
+        requires now { now < 2 ^ 63 }
+        requires actor { same_actor self.now.actor Clock ≡ false }
+        ensures { Acted M.begin M.answer J.run.roster self.now.actor caller now work.now cites pass.old result pass.new }
+    {
+        let answer = {
+            let mut guard = self.desk.lock(rt);
+            let desk = &mut *guard;
+            // Nothing is known of what lies behind a lock but its type, so that it is this actor is seen here. It always is.
+            if same_actor(desk.actor(), self.actor) {
+                desk.act(journal, gate, pass, caller, now, work, cites)
+            } else {
+                Answer::Memory
+            }
+        };
+        self.leave(gate, &answer);
+        answer
+    }
+
+    /// One event at the clock, by a pass that holds every caller's number.
+    pub fn act_clock<R: Wait, G: Gate>(
+        &self,
+        rt: &R,
+        journal: &Journal<J>,
+        gate: &G,
+        pass: &mut Pass<J>,
+        caller: u32,
+        now: u64,
+        work: &Work,
+        cites: Option<u64>,
+    ) -> Answer
+        requires room { (es : List (ℕ × Noted)) × Holds pass.old caller es × (length es < 131072) }
+        requires moment { now ≡ moment pass.old.seen }
+        requires now { now < 2 ^ 63 }
+        requires all { HoldsAll J.run.roster pass.old }
+        ensures { Acted M.begin M.answer J.run.roster self.now.actor caller now work.now cites pass.old result pass.new }
+    {
+        let answer = {
+            let mut guard = self.desk.lock(rt);
+            let desk = &mut *guard;
+            if same_actor(desk.actor(), self.actor) {
+                desk.act_clock(journal, gate, pass, caller, now, work, cites)
+            } else {
+                Answer::Memory
+            }
+        };
+        self.leave(gate, &answer);
+        answer
+    }
+
+    fn leave<G: Gate>(&self, gate: &G, answer: &Answer) {
+        if let Answer::Done { .. } = answer {
+            gate.at(2 * self.number + 1);
+        }
+    }
+
+    /// What the actor is now, for this work. No list gains an entry.
+    pub fn view<R: Wait>(
+        &self,
+        rt: &R,
+        journal: &Journal<J>,
+        pass: &mut Pass<J>,
+        now: u64,
+        work: Option<&Work>,
+    ) -> View
+        ensures front { Looked J.run.roster pass.old result.front pass.new }
+        ensures ready { MatchOption work.entry (result.ready ≡ false) (λ w. result.ready ≡ is_some (M.answer (state_at M.begin M.answer self.now.actor pass.new.seen) now w.now)) }
+        ensures due { result.due ≡ M.due_of (state_at M.begin M.answer self.now.actor pass.new.seen) }
+    {
+        // The first round ends it, since the lock has this actor.
+        for _ in rt.forever() {
+            let mut guard = self.desk.lock(rt);
+            let desk = &mut *guard;
+            if same_actor(desk.actor(), self.actor) {
+                return desk.view(journal, pass, now, work);
+            }
+        }
+        unreachable!()
+    }
+
+    /// The machine and its book. It waits for nobody.
+    pub fn into_parts(self) -> (M, Book<J>)
+        ensures { Stands M.begin M.answer result.0 result.1 }
+    {
+        let Locked {
+            actor: _,
+            number: _,
+            desk,
+        } = self;
+        desk.into_inner().into_parts()
+    }
+}

@@ -1,0 +1,5 @@
+use Rattle.net_model.proofs.DatagramLaws.{packet_again}
+use Rattle.net_model.proofs.wire_law.packets_are_read.Goals as goal
+
+pub returns : goal.returns
+returns c = packet_again
