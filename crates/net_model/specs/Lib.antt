@@ -49,3 +49,4 @@ pub mod WorkedUdp
 pub mod Written
 pub mod WorkedIl
 pub mod WorkedFaults
+pub mod NdbSpelling
