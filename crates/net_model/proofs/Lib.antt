@@ -21,3 +21,6 @@ pub mod CsLaws
 pub mod CasesUdp
 pub mod CasesIl
 pub mod CasesFaults
+pub mod NdbComplete
+pub mod NdbSound
+pub mod NdbFiles

@@ -51,3 +51,4 @@ pub mod WorkedIl
 pub mod WorkedFaults
 pub mod Transcript
 pub mod Summary
+pub mod NdbSpelling

@@ -37,7 +37,10 @@ pub use law::{
 };
 pub use names::{Ctl, FileName, Mode, Node};
 pub use ndb::{Db, Line, NdbPair, Tuple};
-pub use ndb_law::{causes_of_what_is_read, text_in_one_file, words_without_quotes};
+pub use ndb_law::{
+    causes_of_what_is_read, files_are_spelled, files_read_once, lines_are_spelled, lines_read_once,
+    text_in_one_file, texts_read_once, words_without_quotes,
+};
 pub use noted::{Noted, Number};
 pub use numbers::number;
 pub use octets::{Lines, Octets};
