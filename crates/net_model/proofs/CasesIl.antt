@@ -12,58 +12,157 @@ use Rattle.net_model.proofs.Walk.{Follow, InTime, is_legal, is_timed}
 
 lossy_follows : Follow lossy_world [] opening_net lossy_history
 unfolding number digits state_after
-lossy_follows =
-    (record { answers = refl; at_moment = refl; cites = refl; is_asked = refl; is_ready = refl; is_known = (refl, omega arith); has_room = omega arith },
-    (record { answers = refl; at_moment = refl; cites = refl; is_asked = refl; is_ready = refl; is_known = (refl, omega arith); has_room = omega arith },
-    (record { answers = refl; at_moment = refl; cites = refl; is_asked = refl; is_ready = refl; is_known = (refl, omega arith); has_room = omega arith },
-    (record { answers = refl; at_moment = refl; cites = refl; is_asked = refl; is_ready = refl; is_known = (refl, omega arith); has_room = omega arith },
-    (record { answers = refl; at_moment = refl; cites = refl; is_asked = refl; is_ready = refl; is_known = (refl, omega arith); has_room = omega arith },
-    (record { answers = refl; at_moment = refl; cites = refl; is_asked = tt; is_ready = refl; is_known = (refl, omega arith); has_room = omega arith },
-    (record { answers = refl; at_moment = refl; cites = refl; is_asked = refl; is_ready = refl; is_known = (refl, omega arith); has_room = omega arith },
-    (record { answers = refl; at_moment = refl; cites = refl; is_asked = refl; is_ready = refl; is_known = (refl, omega arith); has_room = omega arith },
-    (record { answers = refl; at_moment = refl; cites = refl; is_asked = refl; is_ready = refl; is_known = (refl, omega arith); has_room = omega arith },
-    (record { answers = refl; at_moment = refl; cites = refl; is_asked = refl; is_ready = refl; is_known = (refl, omega arith); has_room = omega arith },
-    (record { answers = refl; at_moment = refl; cites = refl; is_asked = refl; is_ready = refl; is_known = (refl, omega arith); has_room = omega arith },
-    (record { answers = refl; at_moment = refl; cites = refl; is_asked = refl; is_ready = refl; is_known = (refl, omega arith); has_room = omega arith },
-    (record { answers = refl; at_moment = refl; cites = refl; is_asked = refl; is_ready = refl; is_known = (refl, omega arith); has_room = omega arith },
-    (record { answers = refl; at_moment = refl; cites = refl; is_asked = refl; is_ready = refl; is_known = (refl, omega arith); has_room = omega arith },
-    (record { answers = refl; at_moment = refl; cites = refl; is_asked = refl; is_ready = refl; is_known = (refl, omega arith); has_room = omega arith },
-    (record { answers = refl; at_moment = refl; cites = refl; is_asked = refl; is_ready = refl; is_known = (refl, omega arith); has_room = omega arith },
-    (record { answers = refl; at_moment = refl; cites = refl; is_asked = refl; is_ready = refl; is_known = (refl, omega arith); has_room = omega arith },
-    (record { answers = refl; at_moment = refl; cites = refl; is_asked = refl; is_ready = refl; is_known = (refl, omega arith); has_room = omega arith },
-    (record { answers = refl; at_moment = refl; cites = refl; is_asked = refl; is_ready = refl; is_known = (refl, omega arith); has_room = omega arith },
-    (record { answers = refl; at_moment = refl; cites = refl; is_asked = refl; is_ready = refl; is_known = (refl, omega arith); has_room = omega arith },
-    (record { answers = refl; at_moment = refl; cites = refl; is_asked = refl; is_ready = refl; is_known = (refl, omega arith); has_room = omega arith },
-    (record { answers = refl; at_moment = refl; cites = refl; is_asked = refl; is_ready = refl; is_known = (refl, omega arith); has_room = omega arith },
-    (record { answers = refl; at_moment = refl; cites = refl; is_asked = refl; is_ready = refl; is_known = (refl, omega arith); has_room = omega arith },
-    (record { answers = refl; at_moment = refl; cites = refl; is_asked = refl; is_ready = refl; is_known = (refl, omega arith); has_room = omega arith },
-    (record { answers = refl; at_moment = refl; cites = refl; is_asked = refl; is_ready = refl; is_known = (refl, omega arith); has_room = omega arith },
-    (record { answers = refl; at_moment = refl; cites = refl; is_asked = refl; is_ready = refl; is_known = (refl, omega arith); has_room = omega arith },
-    (record { answers = refl; at_moment = refl; cites = refl; is_asked = refl; is_ready = refl; is_known = (refl, omega arith); has_room = omega arith },
-    (record { answers = refl; at_moment = refl; cites = refl; is_asked = refl; is_ready = refl; is_known = (refl, omega arith); has_room = omega arith },
-    (record { answers = refl; at_moment = refl; cites = refl; is_asked = refl; is_ready = refl; is_known = (refl, omega arith); has_room = omega arith },
-    (record { answers = refl; at_moment = refl; cites = refl; is_asked = refl; is_ready = refl; is_known = (refl, omega arith); has_room = omega arith },
-    (record { answers = refl; at_moment = refl; cites = refl; is_asked = refl; is_ready = refl; is_known = (refl, omega arith); has_room = omega arith },
-    (record { answers = refl; at_moment = refl; cites = refl; is_asked = refl; is_ready = refl; is_known = (refl, omega arith); has_room = omega arith },
-    (record { answers = refl; at_moment = refl; cites = refl; is_asked = tt; is_ready = refl; is_known = (refl, omega arith); has_room = omega arith },
-    (record { answers = refl; at_moment = refl; cites = refl; is_asked = refl; is_ready = refl; is_known = (refl, omega arith); has_room = omega arith },
-    (record { answers = refl; at_moment = refl; cites = refl; is_asked = refl; is_ready = refl; is_known = (refl, omega arith); has_room = omega arith },
-    (record { answers = refl; at_moment = refl; cites = refl; is_asked = refl; is_ready = refl; is_known = (refl, omega arith); has_room = omega arith },
-    (record { answers = refl; at_moment = refl; cites = refl; is_asked = refl; is_ready = refl; is_known = (refl, omega arith); has_room = omega arith },
-    (record { answers = refl; at_moment = refl; cites = refl; is_asked = refl; is_ready = refl; is_known = (refl, omega arith); has_room = omega arith },
-    (record { answers = refl; at_moment = refl; cites = refl; is_asked = refl; is_ready = refl; is_known = (refl, omega arith); has_room = omega arith },
-    (record { answers = refl; at_moment = refl; cites = refl; is_asked = refl; is_ready = refl; is_known = (refl, omega arith); has_room = omega arith },
-    (record { answers = refl; at_moment = refl; cites = refl; is_asked = refl; is_ready = refl; is_known = (refl, omega arith); has_room = omega arith },
-    (record { answers = refl; at_moment = refl; cites = refl; is_asked = refl; is_ready = refl; is_known = (refl, omega arith); has_room = omega arith },
-    (record { answers = refl; at_moment = refl; cites = refl; is_asked = refl; is_ready = refl; is_known = (refl, omega arith); has_room = omega arith },
-    (record { answers = refl; at_moment = refl; cites = refl; is_asked = refl; is_ready = refl; is_known = (refl, omega arith); has_room = omega arith },
-    (record { answers = refl; at_moment = refl; cites = refl; is_asked = refl; is_ready = refl; is_known = (refl, omega arith); has_room = omega arith },
-    (record { answers = refl; at_moment = refl; cites = refl; is_asked = refl; is_ready = refl; is_known = (refl, omega arith); has_room = omega arith },
-    (record { answers = refl; at_moment = refl; cites = refl; is_asked = refl; is_ready = refl; is_known = (refl, omega arith); has_room = omega arith },
-    (record { answers = refl; at_moment = refl; cites = refl; is_asked = refl; is_ready = refl; is_known = (refl, omega arith); has_room = omega arith },
-    (record { answers = refl; at_moment = refl; cites = refl; is_asked = refl; is_ready = refl; is_known = (refl, omega arith); has_room = omega arith },
-    (record { answers = refl; at_moment = refl; cites = refl; is_asked = refl; is_ready = refl; is_known = (refl, omega arith); has_room = omega arith },
-    (record { answers = refl; at_moment = refl; cites = refl; is_asked = refl; is_ready = refl; is_known = (refl, omega arith); has_room = omega arith }, tt)))))))))))))))))))))))))))))))))))))))))))))))))))
+lossy_follows = (
+  record { answers = refl; at_moment = refl; cites = refl; is_asked = refl; is_ready = refl; is_known = (refl, omega arith); has_room = omega arith },
+  (
+    record { answers = refl; at_moment = refl; cites = refl; is_asked = refl; is_ready = refl; is_known = (refl, omega arith); has_room = omega arith },
+    (
+      record { answers = refl; at_moment = refl; cites = refl; is_asked = refl; is_ready = refl; is_known = (refl, omega arith); has_room = omega arith },
+      (
+        record { answers = refl; at_moment = refl; cites = refl; is_asked = refl; is_ready = refl; is_known = (refl, omega arith); has_room = omega arith },
+        (
+          record { answers = refl; at_moment = refl; cites = refl; is_asked = refl; is_ready = refl; is_known = (refl, omega arith); has_room = omega arith },
+          (
+            record { answers = refl; at_moment = refl; cites = refl; is_asked = tt; is_ready = refl; is_known = (refl, omega arith); has_room = omega arith },
+            (
+              record { answers = refl; at_moment = refl; cites = refl; is_asked = refl; is_ready = refl; is_known = (refl, omega arith); has_room = omega arith },
+              (
+                record { answers = refl; at_moment = refl; cites = refl; is_asked = refl; is_ready = refl; is_known = (refl, omega arith); has_room = omega arith },
+                (
+                  record { answers = refl; at_moment = refl; cites = refl; is_asked = refl; is_ready = refl; is_known = (refl, omega arith); has_room = omega arith },
+                  (
+                    record { answers = refl; at_moment = refl; cites = refl; is_asked = refl; is_ready = refl; is_known = (refl, omega arith); has_room = omega arith },
+                    (
+                      record { answers = refl; at_moment = refl; cites = refl; is_asked = refl; is_ready = refl; is_known = (refl, omega arith); has_room = omega arith },
+                      (
+                        record { answers = refl; at_moment = refl; cites = refl; is_asked = refl; is_ready = refl; is_known = (refl, omega arith); has_room = omega arith },
+                        (
+                          record { answers = refl; at_moment = refl; cites = refl; is_asked = refl; is_ready = refl; is_known = (refl, omega arith); has_room = omega arith },
+                          (
+                            record { answers = refl; at_moment = refl; cites = refl; is_asked = refl; is_ready = refl; is_known = (refl, omega arith); has_room = omega arith },
+                            (
+                              record { answers = refl; at_moment = refl; cites = refl; is_asked = refl; is_ready = refl; is_known = (refl, omega arith); has_room = omega arith },
+                              (
+                                record { answers = refl; at_moment = refl; cites = refl; is_asked = refl; is_ready = refl; is_known = (refl, omega arith); has_room = omega arith },
+                                (
+                                  record { answers = refl; at_moment = refl; cites = refl; is_asked = refl; is_ready = refl; is_known = (refl, omega arith); has_room = omega arith },
+                                  (
+                                    record { answers = refl; at_moment = refl; cites = refl; is_asked = refl; is_ready = refl; is_known = (refl, omega arith); has_room = omega arith },
+                                    (
+                                      record { answers = refl; at_moment = refl; cites = refl; is_asked = refl; is_ready = refl; is_known = (refl, omega arith); has_room = omega arith },
+                                      (
+                                        record { answers = refl; at_moment = refl; cites = refl; is_asked = refl; is_ready = refl; is_known = (refl, omega arith); has_room = omega arith },
+                                        (
+                                          record { answers = refl; at_moment = refl; cites = refl; is_asked = refl; is_ready = refl; is_known = (refl, omega arith); has_room = omega arith },
+                                          (
+                                            record { answers = refl; at_moment = refl; cites = refl; is_asked = refl; is_ready = refl; is_known = (refl, omega arith); has_room = omega arith },
+                                            (
+                                              record { answers = refl; at_moment = refl; cites = refl; is_asked = refl; is_ready = refl; is_known = (refl, omega arith); has_room = omega arith },
+                                              (
+                                                record { answers = refl; at_moment = refl; cites = refl; is_asked = refl; is_ready = refl; is_known = (refl, omega arith); has_room = omega arith },
+                                                (
+                                                  record { answers = refl; at_moment = refl; cites = refl; is_asked = refl; is_ready = refl; is_known = (refl, omega arith); has_room = omega arith },
+                                                  (
+                                                    record { answers = refl; at_moment = refl; cites = refl; is_asked = refl; is_ready = refl; is_known = (refl, omega arith); has_room = omega arith },
+                                                    (
+                                                      record { answers = refl; at_moment = refl; cites = refl; is_asked = refl; is_ready = refl; is_known = (refl, omega arith); has_room = omega arith },
+                                                      (
+                                                        record { answers = refl; at_moment = refl; cites = refl; is_asked = refl; is_ready = refl; is_known = (refl, omega arith); has_room = omega arith },
+                                                        (
+                                                          record { answers = refl; at_moment = refl; cites = refl; is_asked = refl; is_ready = refl; is_known = (refl, omega arith); has_room = omega arith },
+                                                          (
+                                                            record { answers = refl; at_moment = refl; cites = refl; is_asked = refl; is_ready = refl; is_known = (refl, omega arith); has_room = omega arith },
+                                                            (
+                                                              record { answers = refl; at_moment = refl; cites = refl; is_asked = refl; is_ready = refl; is_known = (refl, omega arith); has_room = omega arith },
+                                                              (
+                                                                record { answers = refl; at_moment = refl; cites = refl; is_asked = refl; is_ready = refl; is_known = (refl, omega arith); has_room = omega arith },
+                                                                (
+                                                                  record { answers = refl; at_moment = refl; cites = refl; is_asked = tt; is_ready = refl; is_known = (refl, omega arith); has_room = omega arith },
+                                                                  (
+                                                                    record { answers = refl; at_moment = refl; cites = refl; is_asked = refl; is_ready = refl; is_known = (refl, omega arith); has_room = omega arith },
+                                                                    (
+                                                                      record { answers = refl; at_moment = refl; cites = refl; is_asked = refl; is_ready = refl; is_known = (refl, omega arith); has_room = omega arith },
+                                                                      (
+                                                                        record { answers = refl; at_moment = refl; cites = refl; is_asked = refl; is_ready = refl; is_known = (refl, omega arith); has_room = omega arith },
+                                                                        (
+                                                                          record { answers = refl; at_moment = refl; cites = refl; is_asked = refl; is_ready = refl; is_known = (refl, omega arith); has_room = omega arith },
+                                                                          (
+                                                                            record { answers = refl; at_moment = refl; cites = refl; is_asked = refl; is_ready = refl; is_known = (refl, omega arith); has_room = omega arith },
+                                                                            (
+                                                                              record { answers = refl; at_moment = refl; cites = refl; is_asked = refl; is_ready = refl; is_known = (refl, omega arith); has_room = omega arith },
+                                                                              (
+                                                                                record { answers = refl; at_moment = refl; cites = refl; is_asked = refl; is_ready = refl; is_known = (refl, omega arith); has_room = omega arith },
+                                                                                (
+                                                                                  record { answers = refl; at_moment = refl; cites = refl; is_asked = refl; is_ready = refl; is_known = (refl, omega arith); has_room = omega arith },
+                                                                                  (
+                                                                                    record { answers = refl; at_moment = refl; cites = refl; is_asked = refl; is_ready = refl; is_known = (refl, omega arith); has_room = omega arith },
+                                                                                    (
+                                                                                      record { answers = refl; at_moment = refl; cites = refl; is_asked = refl; is_ready = refl; is_known = (refl, omega arith); has_room = omega arith },
+                                                                                      (
+                                                                                        record { answers = refl; at_moment = refl; cites = refl; is_asked = refl; is_ready = refl; is_known = (refl, omega arith); has_room = omega arith },
+                                                                                        (
+                                                                                          record { answers = refl; at_moment = refl; cites = refl; is_asked = refl; is_ready = refl; is_known = (refl, omega arith); has_room = omega arith },
+                                                                                          (
+                                                                                            record { answers = refl; at_moment = refl; cites = refl; is_asked = refl; is_ready = refl; is_known = (refl, omega arith); has_room = omega arith },
+                                                                                            (
+                                                                                              record { answers = refl; at_moment = refl; cites = refl; is_asked = refl; is_ready = refl; is_known = (refl, omega arith); has_room = omega arith },
+                                                                                              (
+                                                                                                record { answers = refl; at_moment = refl; cites = refl; is_asked = refl; is_ready = refl; is_known = (refl, omega arith); has_room = omega arith },
+                                                                                                (
+                                                                                                  record { answers = refl; at_moment = refl; cites = refl; is_asked = refl; is_ready = refl; is_known = (refl, omega arith); has_room = omega arith },
+                                                                                                  (
+                                                                                                    record { answers = refl; at_moment = refl; cites = refl; is_asked = refl; is_ready = refl; is_known = (refl, omega arith); has_room = omega arith },
+                                                                                                    (record { answers = refl; at_moment = refl; cites = refl; is_asked = refl; is_ready = refl; is_known = (refl, omega arith); has_room = omega arith }, tt),
+                                                                                                  ),
+                                                                                                ),
+                                                                                              ),
+                                                                                            ),
+                                                                                          ),
+                                                                                        ),
+                                                                                      ),
+                                                                                    ),
+                                                                                  ),
+                                                                                ),
+                                                                              ),
+                                                                            ),
+                                                                          ),
+                                                                        ),
+                                                                      ),
+                                                                    ),
+                                                                  ),
+                                                                ),
+                                                              ),
+                                                            ),
+                                                          ),
+                                                        ),
+                                                      ),
+                                                    ),
+                                                  ),
+                                                ),
+                                              ),
+                                            ),
+                                          ),
+                                        ),
+                                      ),
+                                    ),
+                                  ),
+                                ),
+                              ),
+                            ),
+                          ),
+                        ),
+                      ),
+                    ),
+                  ),
+                ),
+              ),
+            ),
+          ),
+        ),
+      ),
+    ),
+  ),
+)
 
 lossy_in_time : InTime lossy_world opening_net lossy_history
 unfolding number digits state_after
@@ -85,24 +184,55 @@ lossy_is_the_run = refl
 
 refused_follows : Follow refused_world [] opening_net refused_history
 unfolding number digits state_after
-refused_follows =
-    (record { answers = refl; at_moment = refl; cites = refl; is_asked = tt; is_ready = refl; is_known = (refl, omega arith); has_room = omega arith },
-    (record { answers = refl; at_moment = refl; cites = refl; is_asked = refl; is_ready = refl; is_known = (refl, omega arith); has_room = omega arith },
-    (record { answers = refl; at_moment = refl; cites = refl; is_asked = refl; is_ready = refl; is_known = (refl, omega arith); has_room = omega arith },
-    (record { answers = refl; at_moment = refl; cites = refl; is_asked = refl; is_ready = refl; is_known = (refl, omega arith); has_room = omega arith },
-    (record { answers = refl; at_moment = refl; cites = refl; is_asked = refl; is_ready = refl; is_known = (refl, omega arith); has_room = omega arith },
-    (record { answers = refl; at_moment = refl; cites = refl; is_asked = refl; is_ready = refl; is_known = (refl, omega arith); has_room = omega arith },
-    (record { answers = refl; at_moment = refl; cites = refl; is_asked = refl; is_ready = refl; is_known = (refl, omega arith); has_room = omega arith },
-    (record { answers = refl; at_moment = refl; cites = refl; is_asked = refl; is_ready = refl; is_known = (refl, omega arith); has_room = omega arith },
-    (record { answers = refl; at_moment = refl; cites = refl; is_asked = refl; is_ready = refl; is_known = (refl, omega arith); has_room = omega arith },
-    (record { answers = refl; at_moment = refl; cites = refl; is_asked = refl; is_ready = refl; is_known = (refl, omega arith); has_room = omega arith },
-    (record { answers = refl; at_moment = refl; cites = refl; is_asked = refl; is_ready = refl; is_known = (refl, omega arith); has_room = omega arith },
-    (record { answers = refl; at_moment = refl; cites = refl; is_asked = refl; is_ready = refl; is_known = (refl, omega arith); has_room = omega arith },
-    (record { answers = refl; at_moment = refl; cites = refl; is_asked = refl; is_ready = refl; is_known = (refl, omega arith); has_room = omega arith },
-    (record { answers = refl; at_moment = refl; cites = refl; is_asked = refl; is_ready = refl; is_known = (refl, omega arith); has_room = omega arith },
-    (record { answers = refl; at_moment = refl; cites = refl; is_asked = refl; is_ready = refl; is_known = (refl, omega arith); has_room = omega arith },
-    (record { answers = refl; at_moment = refl; cites = refl; is_asked = refl; is_ready = refl; is_known = (refl, omega arith); has_room = omega arith },
-    (record { answers = refl; at_moment = refl; cites = refl; is_asked = refl; is_ready = refl; is_known = (refl, omega arith); has_room = omega arith }, tt)))))))))))))))))
+refused_follows = (
+  record { answers = refl; at_moment = refl; cites = refl; is_asked = tt; is_ready = refl; is_known = (refl, omega arith); has_room = omega arith },
+  (
+    record { answers = refl; at_moment = refl; cites = refl; is_asked = refl; is_ready = refl; is_known = (refl, omega arith); has_room = omega arith },
+    (
+      record { answers = refl; at_moment = refl; cites = refl; is_asked = refl; is_ready = refl; is_known = (refl, omega arith); has_room = omega arith },
+      (
+        record { answers = refl; at_moment = refl; cites = refl; is_asked = refl; is_ready = refl; is_known = (refl, omega arith); has_room = omega arith },
+        (
+          record { answers = refl; at_moment = refl; cites = refl; is_asked = refl; is_ready = refl; is_known = (refl, omega arith); has_room = omega arith },
+          (
+            record { answers = refl; at_moment = refl; cites = refl; is_asked = refl; is_ready = refl; is_known = (refl, omega arith); has_room = omega arith },
+            (
+              record { answers = refl; at_moment = refl; cites = refl; is_asked = refl; is_ready = refl; is_known = (refl, omega arith); has_room = omega arith },
+              (
+                record { answers = refl; at_moment = refl; cites = refl; is_asked = refl; is_ready = refl; is_known = (refl, omega arith); has_room = omega arith },
+                (
+                  record { answers = refl; at_moment = refl; cites = refl; is_asked = refl; is_ready = refl; is_known = (refl, omega arith); has_room = omega arith },
+                  (
+                    record { answers = refl; at_moment = refl; cites = refl; is_asked = refl; is_ready = refl; is_known = (refl, omega arith); has_room = omega arith },
+                    (
+                      record { answers = refl; at_moment = refl; cites = refl; is_asked = refl; is_ready = refl; is_known = (refl, omega arith); has_room = omega arith },
+                      (
+                        record { answers = refl; at_moment = refl; cites = refl; is_asked = refl; is_ready = refl; is_known = (refl, omega arith); has_room = omega arith },
+                        (
+                          record { answers = refl; at_moment = refl; cites = refl; is_asked = refl; is_ready = refl; is_known = (refl, omega arith); has_room = omega arith },
+                          (
+                            record { answers = refl; at_moment = refl; cites = refl; is_asked = refl; is_ready = refl; is_known = (refl, omega arith); has_room = omega arith },
+                            (
+                              record { answers = refl; at_moment = refl; cites = refl; is_asked = refl; is_ready = refl; is_known = (refl, omega arith); has_room = omega arith },
+                              (
+                                record { answers = refl; at_moment = refl; cites = refl; is_asked = refl; is_ready = refl; is_known = (refl, omega arith); has_room = omega arith },
+                                (record { answers = refl; at_moment = refl; cites = refl; is_asked = refl; is_ready = refl; is_known = (refl, omega arith); has_room = omega arith }, tt),
+                              ),
+                            ),
+                          ),
+                        ),
+                      ),
+                    ),
+                  ),
+                ),
+              ),
+            ),
+          ),
+        ),
+      ),
+    ),
+  ),
+)
 
 refused_in_time : InTime refused_world opening_net refused_history
 unfolding number digits state_after
@@ -121,4 +251,3 @@ refused_is_done = refl
 pub refused_is_the_run : run_of 60 refused_world ≡ refused_history
 unfolding number digits state_after
 refused_is_the_run = refl
-

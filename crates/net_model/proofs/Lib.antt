@@ -40,3 +40,12 @@ pub mod Whole
 pub mod Places
 pub mod Short
 pub mod Linked
+pub mod Ordered
+pub mod CsTexts
+pub mod CsLaws
+pub mod CasesUdp
+pub mod CasesIl
+pub mod CasesFaults
+pub mod NdbComplete
+pub mod NdbSound
+pub mod NdbFiles

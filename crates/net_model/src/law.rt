@@ -8,7 +8,7 @@ ghost use Rattle.net_model.specs.declared.actor.ActorName.{ActorName};
 ghost use Rattle.net_model.specs.declared.history.Entry.{Entry};
 ghost use Rattle.net_model.specs.declared.world.World.{World};
 ghost use Rattle.net_model.specs.Actors.{opening_actor};
-ghost use Rattle.net_model.specs.Legal.{IsLegal, IsTimed};
+ghost use Rattle.net_model.specs.Legal.{IsFault, IsLegal, IsTimed, Rule};
 ghost use Rattle.net_model.specs.Net.{state, played, works};
 
 /// The reading of a ctl file's text is its grammar's.
@@ -32,4 +32,9 @@ pub fn prefix_is_legal()
 /// An actor's state is the fold of its own step over its own works, from its opening state.
 pub fn state_is_fold()
     ensures { (w : World) (h : List Entry) (a : ActorName) → state w h a ≡ played w a (opening_actor a) (works w h a) }
+{}
+
+/// A history with a fault isn't both legal and timed.
+pub fn a_fault_is_not_legal()
+    ensures { (w : World) (h : List Entry) (stamp : ℕ) (rule : Rule) → IsFault w h stamp rule → IsLegal w h → IsTimed w h → ⊥ }
 {}
