@@ -43,9 +43,9 @@ pub mod Linked
 pub mod Ordered
 pub mod CsTexts
 pub mod CsLaws
-pub mod CasesUdp
-pub mod CasesIl
 pub mod CasesFaults
 pub mod NdbComplete
 pub mod NdbSound
 pub mod NdbFiles
+pub mod Happened
+pub mod Standing

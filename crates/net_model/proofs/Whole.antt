@@ -482,7 +482,7 @@ ticks_fine w t actors actor.Clock s (event.Move now) = each_tick_fine w t actors
 ticks_fine w t actors _ s _ = tt
 
 -- what the work of an entry carries is fine
-work_fine : (w : World) (t : Trace) (x : Entry) (ds : List Duty) (caller : Caller) (ask : Option Ask) → EachDuty w t ds → IsAsked ds caller ask x → WithFine w t x.actor x.event (with_of ds)
+pub work_fine : (w : World) (t : Trace) (x : Entry) (ds : List Duty) (caller : Caller) (ask : Option Ask) → EachDuty w t ds → IsAsked ds caller ask x → WithFine w t x.actor x.event (with_of ds)
 work_fine w t x [] caller ask f is = nothing_fine w t x.actor x.event
 work_fine w t x (d ∷ ds) caller ask f is = subst (λ (a : Ask). WithFine w t a.actor a.event d.with) is f.0
 
@@ -564,7 +564,7 @@ opening_fine w = record {
 
 -- Legal histories.
 
-trace_push : (w : World) (h : List Entry) (x : Entry) → trace w (h ++ x ∷ []) ≡ next_trace w (after w h) x (trace w h)
+pub trace_push : (w : World) (h : List Entry) (x : Entry) → trace w (h ++ x ∷ []) ≡ next_trace w (after w h) x (trace w h)
 trace_push w h x = go opening_net opening_trace h
   where
     go : (net : Net) (t : Trace) (xs : List Entry) → trace_of w net t (xs ++ x ∷ []) ≡ next_trace w (net_of w net xs) x (trace_of w net t xs)
