@@ -43,10 +43,10 @@ IsSized text = (0 < length text) × (length text ≤ 8192)
 abbrev pub AllSized : List (List ℕ) → Type 0
 AllSized xs = (k : ℕ) (t : List ℕ) → slice_get xs k ≡ Some t → IsSized t
 
--- a read of this event has room for every message
-abbrev pub ReadsAll : Event → Type 0
-ReadsAll (event.Read g count) = 8192 ≤ count
-ReadsAll _ = Unit {0}
+-- a read of the generation that replies bytes has room for every message
+abbrev pub ReadsAll : ℕ → Event → Reply → Type 0
+ReadsAll g (event.Read g' count) (reply.Bytes text) = g' ≡ g → 8192 ≤ count
+ReadsAll g _ _ = Unit {0}
 
 -- all that will ever come was given
 abbrev pub AtEnd : End → Type 0
@@ -61,7 +61,9 @@ pub record Account (g : ℕ) (ev : Event) (r : Reply) (e e' : End) : Type 0 wher
   -- a read of nothing comes at the end alone
   pub ends : Reading e → AllSized e.got → HasEmpty (read_in g ev r) → AtEnd e × AtEnd e'
   -- reads with room for every message take whole messages
-  pub whole : ReadsAll ev → Reading e → AllSized e.got → e.cut ≡ 0 → (e'.cut ≡ 0) × (take e'.taken e'.got ≡ take e.taken e.got ++ filter is_filled (read_in g ev r))
+  pub whole : ReadsAll g ev r → Reading e → AllSized e.got → e.cut ≡ 0 → (e'.cut ≡ 0) × (take e'.taken e'.got ≡ take e.taken e.got ++ filter is_filled (read_in g ev r))
+  -- nothing more is read at the end
+  pub quiet : AtEnd e → joined (read_in g ev r) ≡ []
   -- the end stays the end, where nothing more comes
   pub stays : AtEnd e → Begins e'.got e.got → AtEnd e'
 
@@ -104,6 +106,7 @@ left_account g ev r e e' l silent = record {
   whole = λ _ reading _ none.
       let more = begins_prefix e.got e'.got l.got_more in
       (l.cut_is ∙ none, rw silent.1 (rw (l.taken_is, ← more.1) (taken_more e.taken e.cut e.got more.0 reading ∙ sym (append-nil (take e.taken e.got)))));
+  quiet = λ _. ap joined silent.1;
   stays = λ at back. (l.marked_stays at.0, omega (arith, l.taken_is, at.1, begins_length e.got e'.got l.got_more, begins_length e'.got e.got back), l.cut_is ∙ at.2);
 }
 
@@ -118,6 +121,7 @@ sends_account g g' text n e e' own sent taken cut got marked some = record {
   sized = λ all. rw sent (sized_push e.sent text some all);
   ends = λ _ _ h. absurd h;
   whole = λ _ _ _ none. (cut ∙ none, rw (taken, got) (sym (append-nil (take e.taken e.got))));
+  quiet = λ _. refl;
   stays = λ at back. (marked ∙ at.0, omega (arith, taken, at.1, ap length got), cut ∙ at.2);
 }
 
@@ -165,7 +169,8 @@ read_account g g' count e own some there =
       reading = λ _. inl (there, inr (omega (arith, ltb-true count (length (drop e.cut m)) more, length-drop e.cut m)));
       sized = λ all. all;
       ends = λ reading all h. absurd (some_read g g' count e own some there reading all h);
-      whole = λ room reading all none. absurd (omega (arith, room, (all e.taken m (slice_get-get_or e.got e.taken [] there)).1, ltb-true count (length (drop e.cut m)) more, length-drop e.cut m));
+      whole = λ room reading all none. absurd (omega (arith, room own, (all e.taken m (slice_get-get_or e.got e.taken [] there)).1, ltb-true count (length (drop e.cut m)) more, length-drop e.cut m));
+      quiet = λ at. absurd (omega (arith, at.1));
       stays = λ at back. absurd (omega (arith, at.1));
     })
     (λ not. record {
@@ -181,9 +186,10 @@ read_account g g' count e own some there =
       whole = λ room reading all none.
           let here : IsSized m = all e.taken m (slice_get-get_or e.got e.taken [] there) in
           let cut_none : drop e.cut m ≡ m = rw none refl in
-          let text_is : take count (drop e.cut m) ≡ m = ap (take count) cut_none ∙ take_all count m (omega (arith, room, here.1)) in
+          let text_is : take count (drop e.cut m) ≡ m = ap (take count) cut_none ∙ take_all count m (omega (arith, room own, here.1)) in
           let filled : filter is_filled (m ∷ []) ≡ m ∷ [] = rw (lt-ltb 0 (length m) here.0) refl in
           (refl, rw (eq-eqb g' g own) (take_more e.got e.taken [] there ∙ ap (λ (xs : List (List ℕ)). take e.taken e.got ++ xs) (sym (ap (λ (x : List ℕ). filter is_filled (x ∷ [])) text_is ∙ filled))));
+      quiet = λ at. absurd (omega (arith, at.1));
       stays = λ at back. absurd (omega (arith, at.1));
     })
 
@@ -201,5 +207,6 @@ end_account g g' count e marked all = record {
     none,
     cond_both (g' == g) _ _ (λ (xs : List (List ℕ)). take e.taken e.got ≡ take e.taken e.got ++ filter is_filled xs) (λ _. sym (append-nil (take e.taken e.got))) (λ _. sym (append-nil (take e.taken e.got))),
   );
+  quiet = λ _. cond_both (g' == g) _ _ (λ (xs : List (List ℕ)). joined xs ≡ []) (λ _. refl) (λ _. refl);
   stays = λ at _. at;
 }

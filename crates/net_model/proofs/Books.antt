@@ -66,7 +66,8 @@ pub record EntryAccount (o : Owner) (a : ActorName) (ev : Event) (r : Reply) (e 
   pub reading : Reading e → Reading e'
   pub sized : AllSized e.sent → AllSized e'.sent
   pub ends : Reading e → AllSized e.got → HasEmpty (read_here o a ev r) → AtEnd e × AtEnd e'
-  pub whole : (is_at o a ≡ true → ReadsAll ev) → Reading e → AllSized e.got → e.cut ≡ 0 → (e'.cut ≡ 0) × (take e'.taken e'.got ≡ take e.taken e.got ++ filter is_filled (read_here o a ev r))
+  pub whole : (is_at o a ≡ true → ReadsAll o.generation ev r) → Reading e → AllSized e.got → e.cut ≡ 0 → (e'.cut ≡ 0) × (take e'.taken e'.got ≡ take e.taken e.got ++ filter is_filled (read_here o a ev r))
+  pub quiet : AtEnd e → joined (read_here o a ev r) ≡ []
   pub stays : AtEnd e → AtEnd e'
 
 no_entry_account : (o : Owner) (a : ActorName) (ev : Event) (r : Reply) (e : End) → NoEntry o a ev r → EntryAccount o a ev r e e
@@ -77,6 +78,7 @@ no_entry_account o a ev r e n = record {
   sized = λ x. x;
   ends = λ _ _ h. absurd (no_empty (read_here o a ev r) n.read_none h);
   whole = λ _ _ _ none. (none, rw n.read_none (sym (append-nil (take e.taken e.got))));
+  quiet = λ _. ap joined n.read_none;
   stays = λ x. x;
 }
 
@@ -197,7 +199,7 @@ module _ (h n : ℕ) (ev : Event) (r : Reply) where
   entry_account : (g : ℕ) (e e' : End) → Account g ev r e e' → (e.marked ≡ true → Begins e'.got e.got) → EntryAccount (record { host = h; slot = n; generation = g }) (actor.Conv h proto.Il n) ev r e e'
   entry_account g e e' a back =
       let here : (((h == h) && true) && (n == n)) ≡ true = and_from ((h == h) && true) (n == n) (and_from (h == h) true (eq-eqb h h refl) refl) (eq-eqb n n refl) in
-      record { sent_is = rw here a.sent_is; read_is = λ x. rw here (a.read_is x); reading = a.reading; sized = a.sized; ends = λ reading all h. a.ends reading all (rw here at h); whole = λ room reading all none. rw here (a.whole (room here) reading all none); stays = λ at. a.stays at (back at.0) }
+      record { sent_is = rw here a.sent_is; read_is = λ x. rw here (a.read_is x); reading = a.reading; sized = a.sized; ends = λ reading all h. a.ends reading all (rw here at h); whole = λ room reading all none. rw here (a.whole (room here) reading all none); quiet = λ at. rw here (a.quiet at); stays = λ at. a.stays at (back at.0) }
 
   -- the pair's own end takes part, and no other
   booked_touched : (k : ℕ) (t : Trace) (p : Pair) (turn : Turn) (g : ℕ) → Owned k t → t.owner p ≡ owner_of h n g → Account g ev r (t.side p).end turn.end → ((g' : ℕ) → (g' ≡ g → ⊥) → Silent g' ev r) → ((t.side p).end.marked ≡ true → Begins turn.end.got (t.side p).end.got)

@@ -4,6 +4,7 @@ use Rattle.std.specs.Option.{option_map}
 use Rattle.net_model.specs.declared.address.Pair.{Pair}
 use Rattle.net_model.specs.declared.event.Event.{Event}
 use Rattle.net_model.specs.declared.event.Event.TheVariants as event
+use Rattle.net_model.specs.declared.il.IlKind.TheVariants.{Close}
 use Rattle.net_model.specs.declared.il.IlMsg.{IlMsg}
 use Rattle.net_model.specs.declared.packet.Body.{Body}
 use Rattle.net_model.specs.declared.packet.Body.TheVariants as body
@@ -23,7 +24,8 @@ use Rattle.net_model.proofs.Deeds.{both_ways, EachSound, good_connects, good_is_
 use Rattle.net_model.proofs.Acts.{Refusal, Told, Idle, Quiet, good_act, idle_act, fresh_act}
 use Rattle.net_model.proofs.ConvMoves.{is_connected}
 use Rattle.net_model.proofs.ConvMoves.{Act, Emits, Stays, Begins, Joins, Comes, Opens, Move, Stay, Begin, Join, Come, Listen, of_end}
-use Rattle.net_model.proofs.Touch.{owner_of, Owned, IsIn, EmittedAs, Emitted, EmittedIf, HasEnd, NotYet, ConvFine, ConvStep, touched, said_is, touches}
+use Rattle.net_model.proofs.Marks.{CloseComes, act_marked}
+use Rattle.net_model.proofs.Touch.{owner_of, HeardClose, Owned, IsIn, EmittedAs, Emitted, EmittedIf, HasEnd, NotYet, ConvFine, ConvStep, touched, said_is, touches}
 
 -- what a work gives to a conversation is its own
 abbrev pub GiftFine : Trace → ℕ → ℕ → Event → With → Type 0
@@ -46,6 +48,15 @@ told k t p (body.Il x) m w is e = go x (cc is) e
     go y same (inl there) = subst (λ (z : IlMsg). Told (t.side (mirror p)).end z) same (inl (sound_in (t.side (mirror p)).end y (t.side (mirror p)).out (w.talk (mirror p)).out there))
     go y same (inr refusal) = subst (λ (z : IlMsg). Told (t.side (mirror p)).end z) same (inr refusal)
 
+-- a close with spec 0 that comes was said by the other end, since a refusal has spec 1
+close_said : (t : Trace) (p : Pair) (b : Body) (m : IlMsg) → b ≡ body.Il m → EmittedAs t (mirror p) b → m.kind ≡ Close → m.spec ≡ 0 → HeardClose t p
+close_said t p (body.Udp text) m is e kind spec = absurd (cc is)
+close_said t p (body.Il x) m is e kind spec = go x (cc is) e
+  where
+    go : (y : IlMsg) → y ≡ m → (IsIn y (t.side (mirror p)).out ⊎ Refusal y) → HeardClose t p
+    go y same (inl there) = record { m = m; there = subst (λ (z : IlMsg). IsIn z (t.side (mirror p)).out) same there; kind_is = kind; spec_is = spec }
+    go y same (inr refusal) = absurd (omega (arith, sym (ap (λ (z : IlMsg). z.spec) same) ∙ refusal.1, spec))
+
 pub owned_more : (k : ℕ) (t : Trace) → Owned k t → Owned (k + 1) t
 owned_more k t w = record { talk = w.talk; untouched = w.untouched; unique = w.unique; apart = w.apart; few = λ p. omega (arith, w.few p) }
 
@@ -65,6 +76,8 @@ keeps k h n t s w fine not none =
       later = record { owner_stays = λ p o is. is; out_stays = λ p m there. there };
       emitted = subst (λ (x : Option Packet). EmittedIf t x) (sym none) tt;
       still = λ q o owns other. refl;
+      marked = λ q is. inl is;
+      says = λ q m there. inl there;
     })
 
 none_emits : (p : Pair) (emit : Option Packet) (m : Option IlMsg) → Emits p emit m → m ≡ None → emit ≡ None
@@ -96,8 +109,17 @@ module _ (k h n : ℕ) (t : Trace) (few : k < 2 ^ 31) (w : Owned k t) (now : ℕ
       let stage_is : s.state.stage ≡ Connected = st.stage_is ∙ is in
       let pair_is : s.state.pair ≡ p = st.pair_is (ap is_connected is) in
       subst (λ (u : Trace). ConvStep k h n t u s) (trace_touched t p turn s stage_is st.core_is pair_is st.emits)
-      (touches t p turn k h n c.generation c s has.0 (omega arith) not_yet w good st.generation_is pair_is stage_is st.core_is st.emits)
+      (touches t p turn k h n c.generation c s has.0 (omega arith) not_yet w good st.generation_is pair_is stage_is st.core_is st.emits
+      (λ is_marked. heard (act_marked now c (t.side p).end ev gift turn (subst (λ (x : End). Act now c x ev gift turn) (sym has.1) act) is_marked)))
     where
+      -- the other end said the close that comes
+      heard : ((t.side c.pair).end.marked ≡ true) ⊎ CloseComes c ev gift → ((t.side c.pair).end.marked ≡ true) ⊎ HeardClose t c.pair
+      heard (inl old) = inl old
+      heard (inr x) =
+          let fine : GiftFine t h n (event.ArriveAt c.generation) (given.Packet x.packet) = subst (λ (g : With). GiftFine t h n (event.ArriveAt c.generation) g) x.given_is (subst (λ (y : Event). GiftFine t h n y gift) x.event_is gift_fine) in
+          let same : ◌≡◌ {A = Pair} (record { local = x.packet.dst; remote = x.packet.src }) c.pair = w.unique _ _ _ fine.0 has.0 in
+          inr (close_said t c.pair x.packet.body x.message x.body_is (subst (λ (r : Pair). EmittedAs t (mirror r) x.packet.body) same fine.1) x.kind_is x.spec_is)
+
       from : (q : Packet) (m : IlMsg) → ev ≡ event.ArriveAt c.generation → gift ≡ given.Packet q → q.body ≡ body.Il m → Told (t.side (mirror c.pair)).end m
       from q m ev_is gift_is body_is =
           let fine : GiftFine t h n (event.ArriveAt c.generation) (given.Packet q) = subst (λ (g : With). GiftFine t h n (event.ArriveAt c.generation) g) gift_is (subst (λ (x : Event). GiftFine t h n x gift) ev_is gift_fine) in
@@ -141,7 +163,8 @@ module _ (k h n : ℕ) (t : Trace) (few : k < 2 ^ 31) (w : Owned k t) (now : ℕ
       subst (λ (x : End). Good (t.side p).end (t.side (mirror p)).end (connects now j.start x)) same
       (good_connects now j.start (t.side p).end (t.side (mirror p)).end (ap (λ (x : Side). x.end.fresh) empty) (ap (λ (x : Side). x.end.cause) empty) holds.link holds.knows) in
       subst (λ (u : Trace). ConvStep k h n t u s) (trace_touched t p (connects now j.start e) s j.stage_is j.core_is j.pair_is j.emits)
-      (touches t p (connects now j.start e) k h n c.generation c s owner (omega arith) not_yet w good j.generation_is j.pair_is j.stage_is j.core_is j.emits)
+      (touches t p (connects now j.start e) k h n c.generation c s owner (omega arith) not_yet w good j.generation_is j.pair_is j.stage_is j.core_is j.emits
+      (λ is_marked. absurd (both_ways is_marked (ap (λ (x : End). x.marked) end_is))))
 
   come : NotYet t h n c → GiftFine t h n ev gift → Comes now c ev gift s → ConvStep k h n t (conv_trace s.state.stage s.state.core s.state s.outcome.emit t) s
   come not_yet gift_fine x =
@@ -156,7 +179,7 @@ module _ (k h n : ℕ) (t : Trace) (few : k < 2 ^ 31) (w : Owned k t) (now : ℕ
       let good : Good (t.side p).end (t.side (mirror p)).end turn =
       subst (λ (y : End). Good (t.side p).end (t.side (mirror p)).end (is_born now x.start x.message.id y)) same (born holds.link holds.knows (ap (λ (y : Side). y.end.fresh) empty) (ap (λ (y : Side). y.end.cause) empty) from) in
       subst (λ (u : Trace). ConvStep k h n t u s) (trace_touched t p turn s x.stage_is x.core_is x.pair_is x.emits)
-      (touches t p turn k h n g c s fine.0 (omega arith) not_yet w good x.generation_is x.pair_is x.stage_is x.core_is x.emits)
+      (touches t p turn k h n g c s fine.0 (omega arith) not_yet w good x.generation_is x.pair_is x.stage_is x.core_is x.emits (λ is_marked. absurd (both_ways is_marked refl)))
     where
       born : {a b : End} → Link a b → Knows a → a.fresh ≡ true → a.cause ≡ None → Told b x.message → Good a b (is_born now x.start x.message.id a)
       born {a} {b} l knows fresh none (inl from) = good_is_born now x.start x.message.id a b fresh none from.0 (sync_id x.message.kind b x.message x.is_sync from.1) l knows

@@ -49,3 +49,4 @@ pub mod NdbSound
 pub mod NdbFiles
 pub mod Happened
 pub mod Standing
+pub mod Marks

@@ -3,6 +3,7 @@ use Rattle.std.proofs.Common.{◌≡◌, ℕ, ◌+◌, ◌≤◌, Bool, true, fa
 use Rattle.std.specs.Option.{option_map}
 use Rattle.std.proofs.lemmas.Option.{none-some, same_Some}
 use Rattle.net_model.specs.declared.address.Pair.{Pair}
+use Rattle.net_model.specs.declared.il.IlKind.TheVariants.{Close}
 use Rattle.net_model.specs.declared.il.IlMsg.{IlMsg}
 use Rattle.net_model.specs.declared.packet.Body.{Body}
 use Rattle.net_model.specs.declared.packet.Body.TheVariants as body
@@ -80,6 +81,20 @@ abbrev pub ActorFine : Trace → ℕ → ℕ → Actor → Type 0
 ActorFine t h n (IsConv c) = ConvFine t h n c
 ActorFine t h n _ = ⊥
 
+-- the other end has said a close with spec 0
+pub record HeardClose (t : Trace) (q : Pair) : Type 0 where
+  pub m : IlMsg
+  pub there : IsIn m (t.side (mirror q)).out
+  pub kind_is : m.kind ≡ Close
+  pub spec_is : m.spec ≡ 0
+
+-- the conversation, which has the pair, says the message by this step
+pub record Utters (t : Trace) (h n g : ℕ) (q : Pair) (m : IlMsg) (emit : Option Packet) : Type 0 where
+  pub owns : t.owner q ≡ owner_of h n g
+  pub by : Conv
+  pub pair_is : by.pair ≡ q
+  pub emit_is : emit ≡ Some (packet_of by (body.Il m))
+
 -- what a step of the conversation n of host h leaves
 pub record ConvStep (k h n : ℕ) (t u : Trace) (s : Step Conv) : Type 0 where
   pub owned : Owned (k + 1) u
@@ -89,6 +104,8 @@ pub record ConvStep (k h n : ℕ) (t u : Trace) (s : Step Conv) : Type 0 where
   pub emitted : EmittedIf u s.outcome.emit
   -- what other conversations and generations have stays as it is
   pub still : (q : Pair) (o : Owner) → t.owner q ≡ Some o → (◌≡◌ {A = Owner} (record { host = h; slot = n; generation = s.state.generation }) o → ⊥) → u.side q ≡ t.side q
+  pub marked : (q : Pair) → (u.side q).end.marked ≡ true → ((t.side q).end.marked ≡ true) ⊎ HeardClose t q
+  pub says : (q : Pair) (m : IlMsg) → IsIn m (u.side q).out → IsIn m (t.side q).out ⊎ Utters t h n s.state.generation q m s.outcome.emit
 
 -- Where a side takes a turn.
 
@@ -173,9 +190,9 @@ module _ (t : Trace) (p : Pair) (turn : Turn) where
 
   -- the conversation h, n comes to have the pair in generation g, or has it
   pub touches : (k h n g : ℕ) (c : Conv) (s : Step Conv) → t.owner p ≡ owner_of h n g → c.generation ≤ g → NotYet t h n c → Owned k t → Good (t.side p).end (t.side (mirror p)).end turn
-      → s.state.generation ≡ g → s.state.pair ≡ p → s.state.stage ≡ Connected → s.state.core ≡ Il turn.end → Emits p s.outcome.emit turn.emits
+      → s.state.generation ≡ g → s.state.pair ≡ p → s.state.stage ≡ Connected → s.state.core ≡ Il turn.end → Emits p s.outcome.emit turn.emits → (turn.end.marked ≡ true → ((t.side p).end.marked ≡ true) ⊎ HeardClose t p)
       → ConvStep k h n t (touched t p turn) s
-  touches k h n g c s is le not_yet w good gen_is pair_is stage_is core_is emits = record {
+  touches k h n g c s is le not_yet w good gen_is pair_is stage_is core_is emits marks = record {
     owned = owned_touched k (record { host = h; slot = n; generation = g }) is w (stepped (t.side p) (t.side (mirror p)) turn (w.talk p) good);
     own = (
       rw (stage_is, core_is) (rw (pair_is, gen_is) (is, ap (λ (x : Side). x.end) (put_here t.side p (leaves (t.side p) turn)))),
@@ -185,8 +202,35 @@ module _ (t : Trace) (p : Pair) (turn : Turn) where
     later = later_touched;
     emitted = emitted_touched s.outcome.emit emits;
     still = λ q o owns other. still q o owns other (same_pair p q) refl;
+    marked = λ q m. marked q m (same_pair p q) refl;
+    says = λ q m there. says q m there (same_pair p q) refl;
   }
     where
+      marked : (q : Pair) → ((touched t p turn).side q).end.marked ≡ true → (b : Bool) → same_pair p q ≡ b → ((t.side q).end.marked ≡ true) ⊎ HeardClose t q
+      marked q m true same =
+          subst (λ (r : Pair). ((t.side r).end.marked ≡ true) ⊎ HeardClose t r) (same_pair_is p q same)
+          (marks (subst (λ (x : Side). x.end.marked ≡ true) (side_at q true same) m))
+      marked q m false same = inl (subst (λ (x : Side). x.end.marked ≡ true) (side_at q false same) m)
+
+      utters : (m : IlMsg) → turn.emits ≡ Some m → Utters t h n s.state.generation p m s.outcome.emit
+      utters m says_it = record {
+        owns = is ∙ ap (λ (i : ℕ). owner_of h n i) (sym gen_is);
+        by = emits.by;
+        pair_is = emits.pair_is;
+        emit_is = emits.emit_is ∙ ap (option_map (λ (x : IlMsg). packet_of emits.by (body.Il x))) says_it;
+      }
+
+      said_now : (m : IlMsg) (x : Option IlMsg) → turn.emits ≡ x → IsIn m (out_with x (t.side p).out) → IsIn m (t.side p).out ⊎ Utters t h n s.state.generation p m s.outcome.emit
+      said_now m None is' there = inl there
+      said_now m (Some y) is' (inl same) = inr (utters m (is' ∙ ap (λ (z : IlMsg). Some z) same))
+      said_now m (Some y) is' (inr old) = inl old
+
+      says : (q : Pair) (m : IlMsg) → IsIn m ((touched t p turn).side q).out → (b : Bool) → same_pair p q ≡ b → IsIn m (t.side q).out ⊎ Utters t h n s.state.generation q m s.outcome.emit
+      says q m there true same =
+          subst (λ (r : Pair). IsIn m (t.side r).out ⊎ Utters t h n s.state.generation r m s.outcome.emit) (same_pair_is p q same)
+          (said_now m turn.emits refl (subst (λ (x : Side). IsIn m x.out) (side_at q true same) there))
+      says q m there false same = inl (subst (λ (x : Side). IsIn m x.out) (side_at q false same) there)
+
       still : (q : Pair) (o : Owner) → t.owner q ≡ Some o → (◌≡◌ {A = Owner} (record { host = h; slot = n; generation = s.state.generation }) o → ⊥) → (b : Bool) → same_pair p q ≡ b → (touched t p turn).side q ≡ t.side q
       still q o owns other true same =
           let e : ◌≡◌ {A = Owner} (record { host = h; slot = n; generation = g }) o = same_Some _ _ (sym is ∙ (ap t.owner (same_pair_is p q same) ∙ owns)) in

@@ -1,5 +1,5 @@
 -- Each entry of a legal history keeps what holds of all pairs.
-use Rattle.std.proofs.Common.{◌≡◌, ℕ, zero, suc, ◌+◌, ◌-◌, ◌^◌, ◌<◌, ◌≤◌, ◌==◌, ◌&&◌, nat_lt, Bool, true, false, cond, List, [], ◌∷◌, ◌++◌, length, take, drop, map, Option, Some, None, slice_get, inl, inr, refl, sym, ap, subst, ◌∙◌, append_assoc, arith}
+use Rattle.std.proofs.Common.{◌≡◌, ℕ, zero, suc, ◌+◌, ◌-◌, ◌^◌, ◌<◌, ◌≤◌, ◌==◌, ◌&&◌, nat_lt, Bool, true, false, cond, List, [], ◌∷◌, ◌++◌, length, take, drop, map, Option, Some, None, slice_get, ◌⊎◌, inl, inr, refl, sym, ap, subst, ◌∙◌, append_assoc, arith}
 use Rattle.std.specs.Prelude.{IfSome, IsSome, slice_index_or, flat_map, replicate}
 use Rattle.std.specs.Option.{option_map, option_and_then}
 use Rattle.std.proofs.lemmas.Option.{none-some, same_Some}
@@ -27,7 +27,7 @@ use Rattle.net_model.specs.Routes.{Way, way, has_address}
 use Rattle.net_model.specs.declared.world.HostSpec.{HostSpec}
 use Rattle.net_model.specs.declared.world.MediumSpec.{MediumSpec}
 use Rattle.net_model.specs.ActorStep.{Step, when}
-use Rattle.net_model.specs.Conversation.{Core, Il, Udp, Stage, Unused, Listening, Connected, Conv, conv_step}
+use Rattle.net_model.specs.Conversation.{Core, Il, Udp, Stage, Unused, Listening, Connected, Conv, conv_step, packet_of as packet_by}
 use Rattle.net_model.specs.Medium.{medium_step}
 use Rattle.net_model.specs.Directory.{Dir, Slot, free_slot, dir_step}
 use Rattle.net_model.specs.Actors.{Actor, IsConv, IsDir, IsMedium, IsPlain, slot_count, has_actor, plain_step, table_step, actor_step}
@@ -43,7 +43,8 @@ use Rattle.net_model.proofs.Begins.{begins_prefix, begins_same}
 use Rattle.net_model.proofs.Deeds.{both_ways, nothing_yet}
 use Rattle.net_model.proofs.ConvMoves.{of_end, moves, elsewhere, Move, Stay, Begin, Join, Come, Listen}
 use Rattle.net_model.specs.IlEnd.{End}
-use Rattle.net_model.proofs.Touch.{Owned, Later, Emitted, EmittedIf, emitted_later, HasEnd, ConvFine, ActorFine, ConvStep}
+use Rattle.net_model.specs.declared.il.IlMsg.{IlMsg}
+use Rattle.net_model.proofs.Touch.{IsIn, HeardClose, Utters, Owned, Later, Emitted, EmittedIf, emitted_later, HasEnd, ConvFine, ActorFine, ConvStep}
 use Rattle.net_model.proofs.ConvSteps.{GiftFine, owned_more, conv_steps}
 use Rattle.net_model.proofs.DirSteps.{WithFine, EachDuty, SlotIsFine, DirIsFine, Addressed, DirStep}
 use Rattle.net_model.proofs.DirRows.{dir_steps}
@@ -116,6 +117,15 @@ abbrev pub TakenAt : Trace → ActorName → Option Taken → Type 0
 TakenAt t (actor.Medium m) o = TakenIf t o
 TakenAt t _ o = Unit {0}
 
+-- the conversation that has the pair says the message by this step
+pub record SaidHere (t : Trace) (q : Pair) (a : ActorName) (m : IlMsg) (emit : Option Packet) : Type 0 where
+  pub o : Owner
+  pub owns : t.owner q ≡ Some o
+  pub actor_is : a ≡ actor.Conv o.host proto.Il o.slot
+  pub by : Conv
+  pub pair_is : by.pair ≡ q
+  pub emit_is : emit ≡ Some (packet_by by (body.Il m))
+
 -- what a step at an actor leaves
 pub record Next (w : World) (k : ℕ) (actors : ActorName → Actor) (stamp : ℕ) (t u : Trace) (a : ActorName) (work : Work) (s : Step Actor) : Type 0 where
   pub owned : Owned (k + 1) u
@@ -128,6 +138,10 @@ pub record Next (w : World) (k : ℕ) (actors : ActorName → Actor) (stamp : �
   pub booked : Booked t u a work.event s.outcome.reply
   -- what other conversations and generations have stays as it is
   pub still : (q : Pair) (o : Owner) → t.owner q ≡ Some o → ((c : Conv) → s.state ≡ IsConv c → a ≡ actor.Conv o.host proto.Il o.slot → c.generation ≡ o.generation → ⊥) → u.side q ≡ t.side q
+  -- an end is marked by a close of the other end
+  pub marked : (q : Pair) → (u.side q).end.marked ≡ true → ((t.side q).end.marked ≡ true) ⊎ HeardClose t q
+  -- what a pair has said now it had said, or says by this step
+  pub says : (q : Pair) (m : IlMsg) → IsIn m (u.side q).out → IsIn m (t.side q).out ⊎ SaidHere t q a m s.outcome.emit
 
 dir_later : (t u : Trace) (h : ℕ) (a : Actor) → ((p : Pair) (o : Owner) → t.owner p ≡ Some o → u.owner p ≡ Some o) → ((p : Pair) (o : Owner) → u.owner p ≡ Some o → t.owner p ≡ Some o) → DirFineAs t h a → DirFineAs u h a
 dir_later t u h (IsDir d) on back f = record {
@@ -203,6 +217,14 @@ module _ (w : World) (world : HasPlaces w) (k : ℕ) (few : k < 2 ^ 31) (net : N
   abbrev Leaves : ActorName → Trace → Step Actor → Type 0
   Leaves a u s = Next w k net.actors (length net.past) t u a (record { event = ev; with = gift }) s
 
+  says_here : (h n g : ℕ) (emit : Option Packet) (u : Trace) → ((q : Pair) (m : IlMsg) → IsIn m (u.side q).out → IsIn m (t.side q).out ⊎ Utters t h n g q m emit)
+      → (q : Pair) (m : IlMsg) → IsIn m (u.side q).out → IsIn m (t.side q).out ⊎ SaidHere t q (actor.Conv h proto.Il n) m emit
+  says_here h n g emit u says q m there = go (says q m there)
+    where
+      go : IsIn m (t.side q).out ⊎ Utters t h n g q m emit → IsIn m (t.side q).out ⊎ SaidHere t q (actor.Conv h proto.Il n) m emit
+      go (inl old) = inl old
+      go (inr new) = inr (record { o = record { host = h; slot = n; generation = g }; owns = new.owns; actor_is = refl; by = new.by; pair_is = new.pair_is; emit_is = new.emit_is })
+
   -- A conversation with an IL end.
 
   conv_leaves : (h n : ℕ) (s : Step Conv) → s.state.limit ≤ 8192 → ConvStep k h n t (conv_trace s.state.stage s.state.core s.state s.outcome.emit t) s
@@ -232,6 +254,8 @@ module _ (w : World) (world : HasPlaces w) (k : ℕ) (few : k < 2 ^ 31) (net : N
         follow = conv_follow w u h n (length net.past) proto.Il ev gift s.outcome.reply;
         booked = booked;
         still = λ q o owns other. step.still q o owns (λ e. other s.state refl (ap (λ (x : Owner). actor.Conv x.host proto.Il x.slot) e) (ap (λ (x : Owner). x.generation) e));
+        marked = step.marked;
+        says = says_here h n s.state.generation s.outcome.emit u step.says;
       }
 
   conv_next : (h n : ℕ) (a : Actor) → LimitFine a → ActorFine t h n a → GiftFine t h n ev gift
@@ -266,6 +290,8 @@ module _ (w : World) (world : HasPlaces w) (k : ℕ) (few : k < 2 ^ 31) (net : N
     follow = follow;
     booked = booked_quiet t a ev s.outcome.reply none;
     still = λ q o owns other. refl;
+    marked = λ q is. inl is;
+    says = λ q m there. inl there;
   }
 
   udp_next : (h n : ℕ) (a : Actor) → UdpFine a
@@ -382,6 +408,7 @@ module _ (w : World) (world : HasPlaces w) (k : ℕ) (few : k < 2 ^ 31) (net : N
                   ap (λ (y : Side). y.end.cut) (step.side_same p) ∙ none,
                   ap (λ (y : Side). take y.end.taken y.end.got) (step.side_same p) ∙ sym (append-nil (take (t.side p).end.taken (t.side p).end.got)),
                 );
+                quiet = λ _. refl;
                 stays = λ x. subst (λ (y : Side). AtEnd y.end) (sym (step.side_same p)) x;
               },
             )
@@ -390,6 +417,8 @@ module _ (w : World) (world : HasPlaces w) (k : ℕ) (few : k < 2 ^ 31) (net : N
           none = λ o alone. (λ p is. alone p (step.later.owner_stays p o is), record { written_none = refl; read_none = refl });
         };
         still = λ q o owns other'. step.side_same q;
+        marked = λ q is. inl (subst (λ (y : Side). y.end.marked ≡ true) (step.side_same q) is);
+        says = λ q m there. inl (subst (λ (y : Side). IsIn m y.out) (step.side_same q) there);
       }
     where
       other : (h' : ℕ) (a : Actor) → (h ≡ h' → ⊥) → DirFineAs t h' a → DirFineAs (dir_trace h ev gift s.outcome.reply t) h' a
