@@ -13,14 +13,10 @@ use Rattle.net_model.specs.Networks.{is_filled}
 use Rattle.net_model.specs.IlEnd.{End, Turn, has_unacked, starts}
 use Rattle.net_model.specs.IlTable.{first_unread, sends}
 use Rattle.net_model.specs.IlTable.{reads as reads_end, writes as writes_end}
+use Rattle.net_model.specs.PrefixLaw.{HasEmpty}
 use Rattle.net_model.specs.Written.{written_in, read_in, joined}
 use Rattle.net_model.proofs.Begins.{Begins, begins_prefix, begins_length, in_pushed}
 use Rattle.net_model.proofs.Untouched.{Leaves}
-
--- some read gave no bytes
-abbrev pub HasEmpty : List (List ℕ) → Type 0
-HasEmpty [] = ⊥
-HasEmpty (x ∷ xs) = (x ≡ []) ⊎ HasEmpty xs
 
 -- the bytes that an end has given to its readers
 abbrev pub given_out : ℕ → ℕ → List (List ℕ) → List ℕ

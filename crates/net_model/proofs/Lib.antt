@@ -24,7 +24,6 @@ pub mod Sides
 pub mod NdbForms
 pub mod NdbPlain
 pub mod Walk
-
 pub mod Accounts
 pub mod ConvMoves
 pub mod Acts
@@ -50,3 +49,5 @@ pub mod NdbFiles
 pub mod Happened
 pub mod Standing
 pub mod Marks
+pub mod Peers
+pub mod InOrders

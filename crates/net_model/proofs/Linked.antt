@@ -149,7 +149,6 @@ udp_dir_linked : (t : Trace) (gs : List Given) (new : Option Given) → IsOfUdp 
 udp_dir_linked t gs None is l = kept_linked t t gs (record { owner_stays = λ p o is. is; out_stays = λ p m there. there }) (λ q. refl) l
 udp_dir_linked t gs (Some g) is l = udp_linked t gs g is l
 
-
 -- a step of any actor
 pub step_linked : (a : ActorName) (s : Actor) (ev : Event) (gift : With) (o : Outcome) (t : Trace) (gs : List Given) → Later t (actor_trace a s (record { event = ev; with = gift }) o t) → Linked t gs
     → Linked (actor_trace a s (record { event = ev; with = gift }) o t) (gs ++ option_to_list (gives a ev gift o.reply))

@@ -96,4 +96,3 @@ pub record HasPlaces (w : World) : Type 0 where
 -- the end of a pair as it last stood
 abbrev pub end_of : World → List Entry → Pair → End
 end_of w h p = ((trace w h).side p).end
-

@@ -613,4 +613,3 @@ all_kept w world h legal few =
     (subst (λ (net : Net). Kept w (length xs + 1) net (trace w (xs ++ x ∷ [])) (xs ++ x ∷ [])) (sym (after_push w xs x))
     (subst (λ (t : Trace). Kept w (length xs + 1) (next_net w (after w xs) x) t (xs ++ x ∷ [])) (sym (trace_push w xs x)) step)))
     h legal few
-
