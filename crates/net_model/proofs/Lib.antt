@@ -24,3 +24,4 @@ pub mod CasesFaults
 pub mod NdbComplete
 pub mod NdbSound
 pub mod NdbFiles
+pub mod NdbFirsts

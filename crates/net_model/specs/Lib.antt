@@ -50,3 +50,5 @@ pub mod Written
 pub mod WorkedIl
 pub mod WorkedFaults
 pub mod NdbSpelling
+pub mod NdbFirst
+pub mod NdbExample

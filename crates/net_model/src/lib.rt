@@ -38,8 +38,9 @@ pub use law::{
 pub use names::{Ctl, FileName, Mode, Node};
 pub use ndb::{Db, Line, NdbPair, Tuple};
 pub use ndb_law::{
-    causes_of_what_is_read, files_are_spelled, files_read_once, lines_are_spelled, lines_read_once,
-    text_in_one_file, texts_read_once, words_without_quotes,
+    bad_lines_are_first, causes_of_what_is_read, files_are_spelled, files_read_once,
+    lines_are_spelled, lines_read_once, text_in_one_file, texts_read_once, words_without_quotes,
+    worked_bad_lines, worked_readings,
 };
 pub use noted::{Noted, Number};
 pub use numbers::number;
