@@ -18,3 +18,5 @@ pub mod Walk
 pub mod CasesUdp
 pub mod CasesIl
 pub mod CasesFaults
+pub mod Owed
+pub mod DirPairs

@@ -31,7 +31,8 @@ pub use event::Event;
 pub use history::{Entry, History, Outcome, Taken, With, Work};
 pub use il::{Cause, IlKind, IlMsg, IlState, StateName};
 pub use law::{
-    a_fault_is_not_legal, controls_are_read, paths_are_walked, prefix_is_legal, state_is_fold,
+    a_fault_is_not_legal, controls_are_read, duties_cite_their_own, paths_are_walked,
+    prefix_is_legal, state_is_fold,
 };
 pub use names::{Ctl, FileName, Mode, Node};
 pub use ndb::{Db, Line, NdbPair, Tuple};
