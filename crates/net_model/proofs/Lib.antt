@@ -43,6 +43,8 @@ pub mod Ordered
 pub mod CsTexts
 pub mod CsLaws
 pub mod CasesFaults
+pub mod Owed
+pub mod DirPairs
 pub mod NdbComplete
 pub mod NdbSound
 pub mod NdbFiles
@@ -51,3 +53,4 @@ pub mod Standing
 pub mod Marks
 pub mod Peers
 pub mod InOrders
+pub mod NdbFirsts

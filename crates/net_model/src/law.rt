@@ -1,5 +1,5 @@
 //! Laws of the definitions.
-ghost use Rattle.std.specs.Prelude.{◌≡◌, ◌↔◌, List, ℕ, Ok, Err, Some, true, false, take};
+ghost use Rattle.std.specs.Prelude.{◌≡◌, ◌↔◌, List, ℕ, Ok, Err, Some, true, false, take, slice_get};
 ghost use Rattle.net_model.specs.ControlWords as control;
 ghost use Rattle.net_model.specs.Paths as paths;
 ghost use Rattle.net_model.specs.declared.names.Ctl.{Ctl};
@@ -13,7 +13,9 @@ ghost use Rattle.net_model.specs.PrefixLaw.{InOrder};
 ghost use Rattle.net_model.specs.World.{IsWorld};
 ghost use Rattle.net_model.specs.Written.{Conversation, peer};
 ghost use Rattle.net_model.specs.Legal.{IsFault, IsLegal, IsTimed, Rule};
-ghost use Rattle.net_model.specs.Net.{state, played, works};
+ghost use Rattle.net_model.specs.Net.{owed, state, played, works};
+ghost use Rattle.net_model.specs.Duties.{Duty};
+ghost use Rattle.net_model.specs.Stamped.{In};
 
 /// The reading of a ctl file's text is its grammar's.
 pub fn controls_are_read()
@@ -46,4 +48,9 @@ pub fn a_fault_is_not_legal()
 /// What is read at an IL conversation was written at its peer, in order, and where a read gave no bytes, all of it was read.
 pub fn prefix_law()
     ensures { (w : World) (h : List Entry) (e f : Conversation) → IsWorld w → IsLegal w h → e.proto ≡ Il → peer w h e ≡ Some f → InOrder w h e f }
+{}
+
+/// Each duty that a caller owes cites an earlier entry of its own.
+pub fn duties_cite_their_own()
+    ensures { (w : World) (h : List Entry) (c : ℕ) (d : Duty) → In d (owed w h c) → (x : Entry) × (slice_get h d.cites ≡ Some x) × (x.caller ≡ c) }
 {}
