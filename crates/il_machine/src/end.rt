@@ -489,3 +489,6 @@ impl IlEnd {
         self.cause
     }
 }
+
+#[cfg(test)]
+mod tests;
