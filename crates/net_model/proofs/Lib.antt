@@ -26,3 +26,4 @@ pub mod DirPairs
 pub mod NdbComplete
 pub mod NdbSound
 pub mod NdbFiles
+pub mod PairsOnce

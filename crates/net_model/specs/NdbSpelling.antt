@@ -1,5 +1,5 @@
 -- How the lines of a database's text spell their pairs, as a relation of bytes to pairs.
-use Rattle.std.specs.Prelude.{◌≡◌, ◌<◌, ◌⊎◌, ℕ, Bool, true, false, ◌||◌, List, [], ◌∷◌, ◌++◌, length}
+use Rattle.std.specs.Prelude.{◌≡◌, ◌<◌, ◌⊎◌, ℕ, Bool, true, false, List, [], ◌∷◌, ◌++◌, length}
 use Rattle.std.specs.List.{list_any}
 use Rattle.net_model.specs.declared.ndb.NdbPair.{NdbPair}
 use Rattle.net_model.specs.NdbText.{is_white, is_hash, is_percent, is_equals, is_quote, is_zero, begins}
