@@ -27,3 +27,4 @@ pub mod NdbComplete
 pub mod NdbSound
 pub mod NdbFiles
 pub mod PairsOnce
+pub mod NdbFirsts

@@ -70,8 +70,17 @@ abbrev pub ReadsTuples : List (List ℕ) → List (List NdbPair) → List (List 
 ReadsTuples [] more tuples = (more ≡ []) × (tuples ≡ [])
 ReadsTuples (line ∷ lines) more tuples =
     (ReadsLine line [] × ReadsTuples lines more tuples)
-    ⊎ (((pair : NdbPair) × (pairs : List NdbPair) × (others : List (List NdbPair)) × (more ≡ (pair ∷ pairs) ∷ others) × (begins is_white line ≡ true) × ReadsLine line (pair ∷ pairs) × ReadsTuples lines others tuples)
-    ⊎ ((pair : NdbPair) × (pairs : List NdbPair) × (others : List (List NdbPair)) × (rest : List (List (List NdbPair))) × (more ≡ []) × (tuples ≡ ((pair ∷ pairs) ∷ others) ∷ rest) × (begins is_white line ≡ false) × ReadsLine line (pair ∷ pairs) × ReadsTuples lines others rest))
+    ⊎ (((pair : NdbPair) × (pairs : List NdbPair) × (others : List (List NdbPair))
+    × (more ≡ (pair ∷ pairs) ∷ others)
+    × (begins is_white line ≡ true)
+    × ReadsLine line (pair ∷ pairs)
+    × ReadsTuples lines others tuples)
+    ⊎ ((pair : NdbPair) × (pairs : List NdbPair) × (others : List (List NdbPair)) × (rest : List (List (List NdbPair)))
+    × (more ≡ [])
+    × (tuples ≡ ((pair ∷ pairs) ∷ others) ∷ rest)
+    × (begins is_white line ≡ false)
+    × ReadsLine line (pair ∷ pairs)
+    × ReadsTuples lines others rest))
 
 -- the lines of a file read as these tuples: no line goes on where there is no tuple
 abbrev pub ReadsFile : List (List ℕ) → List (List (List NdbPair)) → Type 0
