@@ -26,4 +26,5 @@ pub mod DirPairs
 pub mod NdbComplete
 pub mod NdbSound
 pub mod NdbFiles
+pub mod PairsOnce
 pub mod NdbFirsts
