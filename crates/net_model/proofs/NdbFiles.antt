@@ -1,18 +1,18 @@
 -- What the lines of a file are spelled as is what they read as.
-use Rattle.std.proofs.Common.{◌≡◌, ℕ, zero, suc, ◌+◌, ◌⊎◌, inl, inr, Bool, true, false, not, ◌&&◌, ◌||◌, cond, List, [], ◌∷◌, ◌++◌, map, length, refl, sym, ap, subst, ◌∙◌, Option, Some, None}
+use Rattle.std.proofs.Common.{◌≡◌, ℕ, ◌+◌, ◌⊎◌, inl, inr, Bool, true, false, not, ◌&&◌, ◌||◌, cond, List, [], ◌∷◌, ◌++◌, map, length, refl, sym, ap, subst, ◌∙◌, Option, Some, None}
 use Rattle.std.specs.Prelude.{codes, nat_eq}
 use Rattle.std.proofs.lemmas.Bool.Decides.{nat_tests}
 use Rattle.std.proofs.Common.{arith}
-use Rattle.std.specs.List.{list_any, after_last}
+use Rattle.std.specs.List.{list_any}
 use Rattle.std.proofs.lemmas.List.Folds.{list_any-append}
 use Rattle.net_model.specs.declared.ndb.NdbPair.{NdbPair}
-use Rattle.net_model.specs.NdbText.{is_white, is_percent, is_zero, begins, begins_with, is_empty, lines_of, Word, words_behind, words_of, pair_of, pairs_of, starts, goes_on, going_on, tuples_of}
+use Rattle.net_model.specs.NdbText.{is_white, is_percent, begins, begins_with, is_empty, lines_of, Word, words_behind, words_of, pair_of, pairs_of, starts, goes_on, going_on, tuples_of}
 use Rattle.net_model.specs.NdbBundle.{is_file_line, is_nameless, has_tuple, cause, causes_of, least, told, first_bad, bad_line}
-use Rattle.net_model.specs.NdbForm.{is_unbuilt, causes_so_far, bad_line_so_far}
-use Rattle.net_model.specs.NdbSpelling.{None_of, ReadsWords, ReadsLine, ReadsTuples, ReadsFile}
+use Rattle.net_model.specs.NdbForm.{is_unbuilt, bad_line_so_far}
+use Rattle.net_model.specs.NdbSpelling.{ReadsWords, ReadsLine, ReadsTuples, ReadsFile}
 use Rattle.net_model.proofs.NdbPlain.{or_false, or_false_first, or_false_rest}
 use Rattle.net_model.proofs.NdbForms.{after_last-none, no_cause, none-weaker, not_file, some_none}
-use Rattle.net_model.proofs.NdbSound.{Faultless, or_true, sound, line_reads, line_reads_once}
+use Rattle.net_model.proofs.NdbSound.{Faultless, or_true, sound, line_reads}
 use Rattle.net_model.proofs.NdbComplete.{complete, cons_none, false_true}
 
 -- Lines.

@@ -1,12 +1,12 @@
 -- What a line is spelled as is what it reads as.
-use Rattle.std.proofs.Common.{◌≡◌, ℕ, zero, suc, ◌+◌, ◌-◌, ◌<◌, ◌≤◌, ◌⊎◌, inl, inr, Bool, true, false, not, ◌&&◌, ◌||◌, cond, List, [], ◌∷◌, ◌++◌, map, length, take, drop, refl, sym, ap, subst, ◌∙◌, arith, append_assoc, append-nil, length-append, suc-add}
-use Rattle.std.specs.List.{list_any, before_first, after_first, position_or_len, prefix_len}
+use Rattle.std.proofs.Common.{◌≡◌, ℕ, suc, ◌+◌, ◌-◌, ◌⊎◌, inl, inr, Bool, true, false, not, ◌||◌, cond, List, [], ◌∷◌, ◌++◌, map, length, drop, refl, sym, ap, subst, ◌∙◌, arith, append_assoc, append-nil, length-append, suc-add}
+use Rattle.std.specs.List.{list_any, before_first, after_first, position_or_len}
 use Rattle.std.proofs.lemmas.List.Folds.{list_any-append}
 use Rattle.std.proofs.lemmas.Bool.Decides.{nat_tests}
 use Rattle.net_model.specs.declared.ndb.NdbPair.{NdbPair}
-use Rattle.net_model.specs.NdbText.{is_white, is_hash, is_percent, is_equals, is_quote, is_zero, begins, is_empty, Word, plain_word, quoted_word, word_of, words_behind, words_of, pair_of, pairs_of}
+use Rattle.net_model.specs.NdbText.{is_white, is_hash, is_equals, is_quote, begins, is_empty, Word, plain_word, quoted_word, word_of, words_behind, pair_of, pairs_of}
 use Rattle.net_model.specs.NdbBundle.{is_nameless}
-use Rattle.net_model.proofs.NdbPlain.{or_false, or_false_first, or_false_rest, one_add, before_first-cons, words-white, words-word, words-hash}
+use Rattle.net_model.proofs.NdbPlain.{or_false, or_false_first, or_false_rest, before_first-cons, words-white, words-word, words-hash}
 use Rattle.net_model.proofs.NdbForms.{before_first-none}
 use Rattle.net_model.specs.NdbSpelling.{None_of, IsAttr, Way, alone, plain, quoted, spelled, Suits, EndsWord, IsWord, IsWhite, IsComment, ReadsWords, ReadsLine}
 

@@ -52,3 +52,5 @@ pub mod WorkedFaults
 pub mod Transcript
 pub mod Summary
 pub mod NdbSpelling
+pub mod NdbFirst
+pub mod NdbExample

@@ -1,5 +1,5 @@
 -- How the lines of a database's text spell their pairs, as a relation of bytes to pairs.
-use Rattle.std.specs.Prelude.{◌≡◌, ◌<◌, ◌⊎◌, ℕ, Bool, true, false, ◌||◌, List, [], ◌∷◌, ◌++◌, length}
+use Rattle.std.specs.Prelude.{◌≡◌, ◌<◌, ◌⊎◌, ℕ, Bool, true, false, List, [], ◌∷◌, ◌++◌, length}
 use Rattle.std.specs.List.{list_any}
 use Rattle.net_model.specs.declared.ndb.NdbPair.{NdbPair}
 use Rattle.net_model.specs.NdbText.{is_white, is_hash, is_percent, is_equals, is_quote, is_zero, begins}
@@ -70,8 +70,17 @@ abbrev pub ReadsTuples : List (List ℕ) → List (List NdbPair) → List (List 
 ReadsTuples [] more tuples = (more ≡ []) × (tuples ≡ [])
 ReadsTuples (line ∷ lines) more tuples =
     (ReadsLine line [] × ReadsTuples lines more tuples)
-    ⊎ (((pair : NdbPair) × (pairs : List NdbPair) × (others : List (List NdbPair)) × (more ≡ (pair ∷ pairs) ∷ others) × (begins is_white line ≡ true) × ReadsLine line (pair ∷ pairs) × ReadsTuples lines others tuples)
-    ⊎ ((pair : NdbPair) × (pairs : List NdbPair) × (others : List (List NdbPair)) × (rest : List (List (List NdbPair))) × (more ≡ []) × (tuples ≡ ((pair ∷ pairs) ∷ others) ∷ rest) × (begins is_white line ≡ false) × ReadsLine line (pair ∷ pairs) × ReadsTuples lines others rest))
+    ⊎ (((pair : NdbPair) × (pairs : List NdbPair) × (others : List (List NdbPair))
+    × (more ≡ (pair ∷ pairs) ∷ others)
+    × (begins is_white line ≡ true)
+    × ReadsLine line (pair ∷ pairs)
+    × ReadsTuples lines others tuples)
+    ⊎ ((pair : NdbPair) × (pairs : List NdbPair) × (others : List (List NdbPair)) × (rest : List (List (List NdbPair)))
+    × (more ≡ [])
+    × (tuples ≡ ((pair ∷ pairs) ∷ others) ∷ rest)
+    × (begins is_white line ≡ false)
+    × ReadsLine line (pair ∷ pairs)
+    × ReadsTuples lines others rest))
 
 -- the lines of a file read as these tuples: no line goes on where there is no tuple
 abbrev pub ReadsFile : List (List ℕ) → List (List (List NdbPair)) → Type 0

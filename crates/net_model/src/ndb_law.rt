@@ -1,10 +1,12 @@
 //! Laws of the text of a database.
-ghost use Rattle.std.specs.Prelude.{◌≡◌, ℕ, List, Bool, false, true, [], Option, None, Some};
+ghost use Rattle.std.specs.Prelude.{◌≡◌, ◌∷◌, ℕ, List, Bool, false, true, [], Option, None, Some, codes};
 ghost use Rattle.std.specs.List.{list_any};
 ghost use Rattle.net_model.specs.declared.ndb.NdbPair.{NdbPair};
 ghost use Rattle.net_model.specs.NdbText.{is_quote, words_of, plain_words_of, pairs_of, lines_of, tuples_of};
 ghost use Rattle.net_model.specs.NdbBundle.{is_file_line, causes_of, bad_line, reading};
 ghost use Rattle.net_model.specs.NdbForm.{is_unbuilt, causes_so_far, bad_line_so_far};
+ghost use Rattle.net_model.specs.NdbFirst.{IsFirstBad};
+ghost use Rattle.net_model.specs.NdbExample.{pair, tuple};
 ghost use Rattle.net_model.specs.NdbSpelling.{ReadsLine, ReadsFile};
 
 /// A line spells one list of pairs at most.
@@ -49,4 +51,32 @@ pub fn causes_of_what_is_read()
 /// A text in the form that is read so far, without a bad line, reads as the tuples of its lines.
 pub fn text_in_one_file()
     ensures { (text : List ℕ) → bad_line_so_far text ≡ None → reading text ≡ Some (tuples_of (lines_of text)) }
+{}
+
+/// The line that is told is the first with a cause, and the cause is its least.
+pub fn bad_lines_are_first()
+    ensures whole { (text : List ℕ) (line cause : ℕ) → bad_line text ≡ Some (line, cause) → IsFirstBad causes_of (lines_of text) line cause }
+    ensures so_far { (text : List ℕ) (line cause : ℕ) → bad_line_so_far text ≡ Some (line, cause) → IsFirstBad causes_so_far (lines_of text) line cause }
+{}
+
+/// Bad lines, worked by hand.
+pub fn worked_bad_lines()
+    ensures unclosed { bad_line (codes "=\"a") ≡ Some (1, 2) }
+    ensures nameless { bad_line (codes "a=\"b\"c =d") ≡ Some (1, 3) }
+    ensures least_of_three { bad_line (codes "a=\"b\"c x=\"d") ≡ Some (1, 2) }
+    ensures followed { bad_line (codes "a=\"b\"#c") ≡ Some (1, 4) }
+    ensures two_names { bad_line (codes "a=b\n%file c d\n") ≡ Some (2, 6) }
+    ensures file_without_tuple { bad_line (codes "a=b\n%file c\n\td=e\n") ≡ Some (3, 1) }
+    ensures not_read_yet { bad_line_so_far (codes "a=b\n%file c d\n") ≡ Some (2, 31) }
+{}
+
+/// Readings, worked by hand.
+pub fn worked_readings()
+    ensures quoted { reading (codes "a=\"b c\" d\r\n\te=f\"g #h\n")
+        ≡ Some (((pair (codes "a") (codes "b c") ∷ pair (codes "d") [] ∷ []) ∷ (pair (codes "e") (codes "f\"g") ∷ []) ∷ []) ∷ []) }
+    ensures chosen { reading (codes "database=\n\tfile=x file=y file=x\n%file x\na=b\n%file y\nc=d\n%file x\ne=f\n%file z\ng=h\n")
+        ≡ Some (tuple (codes "a") (codes "b") ∷ tuple (codes "e") (codes "f") ∷ tuple (codes "c") (codes "d") ∷ []) }
+    ensures no_local { reading (codes "%file x\na=b\n") ≡ Some [] }
+    ensures no_names { reading (codes "database=\n%file x\na=b\n") ≡ Some (tuple (codes "database") [] ∷ []) }
+    ensures no_such_file { reading (codes "database= file=\n%file x\na=b\n") ≡ Some [] }
 {}
