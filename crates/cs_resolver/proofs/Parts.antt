@@ -1,6 +1,5 @@
-use Rattle.std.proofs.Common.{None, ◌≡◌, ℕ, ◌+◌, ◌*◌, ◌^◌, ◌<◌, ◌≤◌, suc, Bool, true, false, ◌==◌, List, [], ◌∷◌, ◌++◌, length, get_or, take, drop, refl, sym, ap, ◌∙◌, add-one, arith}
-use Rattle.std.specs.List.{All, slice_split, list_all}
-use Rattle.std.specs.Char.{digit_value}
+use Rattle.std.proofs.Common.{None, ◌≡◌, ℕ, ◌+◌, ◌^◌, ◌<◌, ◌≤◌, true, false, ◌==◌, List, [], ◌∷◌, ◌++◌, length, get_or, take, drop, refl, sym, ap, ◌∙◌, add-one, arith}
+use Rattle.std.specs.List.{All}
 use Rattle.std.specs.Str.Parse.{digits_value, AllDigits}
 use Rattle.std.proofs.lemmas.List.{take-append-drop}
 use Rattle.std.proofs.lemmas.List.Splits.{slice_split_at, length-slice_split}
@@ -8,6 +7,7 @@ use Rattle.std.proofs.lemmas.Int.Digits.{digits_value-lt}
 use Rattle.std.proofs.Math.Seq.{drop-cons}
 use Rattle.std.proofs.Math.Nat.{pow-le-pow_right}
 use Rattle.net_model.specs.Addresses.{parts_at, join_words, read_address}
+use Rattle.net_model.specs.Cs.{query_of, read_query}
 
 -- the first part ends at the first separator
 pub parts_first : (separator : ℕ) (word : List ℕ) (i : ℕ) → i < length word → All (λ byte. (byte == separator) ≡ false) (take i word) → (get_or word i 0 == separator) ≡ true → parts_at separator word ≡ take i word ∷ parts_at separator (drop (i + 1) word)
@@ -37,3 +37,12 @@ more_parts a b c d (e ∷ others) more = refl
 pub five_parts : (word after_a after_b after_c after_d a b c d : List ℕ) → parts_at 46 word ≡ a ∷ parts_at 46 after_a → parts_at 46 after_a ≡ b ∷ parts_at 46 after_b → parts_at 46 after_b ≡ c ∷ parts_at 46 after_c → parts_at 46 after_c ≡ d ∷ parts_at 46 after_d → None ≡ read_address word
 five_parts word after_a after_b after_c after_d a b c d first second third fourth =
     rw (first, second, third, fourth) (sym (more_parts a b c d (parts_at 46 after_d) (some_part 46 after_d)))
+
+more_than_three : (a b c : List ℕ) (others : List (List ℕ)) → 0 < length others → query_of (a ∷ b ∷ c ∷ others) ≡ None
+more_than_three a b c [] more = absurd (omega arith)
+more_than_three a b c (d ∷ others) more = refl
+
+-- a text with three exclamation marks is no query
+pub four_parts : (text after_a after_b after_c a b c : List ℕ) → parts_at 33 text ≡ a ∷ parts_at 33 after_a → parts_at 33 after_a ≡ b ∷ parts_at 33 after_b → parts_at 33 after_b ≡ c ∷ parts_at 33 after_c → read_query text ≡ None
+four_parts text after_a after_b after_c a b c first second third =
+    rw (first, second, third) (more_than_three a b c (parts_at 33 after_c) (some_part 33 after_c))

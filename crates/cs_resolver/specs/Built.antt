@@ -30,6 +30,16 @@ number_of NoService = 4
 number_of NoValue = 5
 number_of NotBuilt = 6
 
+-- what an error is told as
+abbrev pub text_of : CsError → List ℕ
+text_of Memory = codes "out of memory"
+text_of BadQuery = codes "bad query"
+text_of NoNet = codes "no net"
+text_of NoHost = codes "no host"
+text_of NoService = codes "no service"
+text_of NoValue = codes "no value"
+text_of NotBuilt = codes "not built"
+
 -- the error is the answer's refusal, or memory ran out
 abbrev pub Tells : CsError → CsAnswer → Type 0
 Tells Memory answer = ⊤

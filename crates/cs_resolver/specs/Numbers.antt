@@ -1,9 +1,9 @@
 -- The numbers that the resolver takes out of the database: values of one kind, as they are read.
-use Rattle.std.specs.Prelude.{ℕ, List, filter_map, flat_map, Option, codes}
+use Rattle.std.specs.Prelude.{ℕ, List, filter_map, Option, None, if◌then◌else◌, codes}
 use Rattle.net_model.specs.declared.ndb.NdbPair.{NdbPair}
 use Rattle.net_model.specs.Addresses.{read_address, read_port}
 use Rattle.net_model.specs.Networks as networks
-use Rattle.net_model.specs.Search.{values_on, values_in, or_where_empty, beside, all_beside}
+use Rattle.net_model.specs.Search.{has_attr, values_on, values_in, or_where_empty, beside, all_beside}
 use Rattle.cs_resolver.specs.declared.numbers.Kind.{Kind}
 use Rattle.cs_resolver.specs.declared.numbers.Kind.TheVariants.{Address, Mask, Port}
 use Rattle.cs_resolver.specs.declared.networks.Prefix.{Prefix}
@@ -19,6 +19,10 @@ abbrev pub read_of : Kind → List ℕ → Option ℕ
 read_of Address = read_address
 read_of Mask = networks.read_mask
 read_of Port = read_port
+
+-- the number of a kind that a pair holds
+unfoldable pub pair_number : Kind → NdbPair → Option ℕ
+pair_number kind pair = if has_attr (attr_of kind) pair then read_of kind pair.value else None
 
 -- the numbers of a kind on a line
 abbrev pub numbers_on : Kind → List NdbPair → List ℕ

@@ -1,5 +1,5 @@
 -- The addresses of a system by the steps of the resolver.
-use Rattle.std.specs.Prelude.{ℕ, not, List, ◌++◌, map, filter, filter_map, codes}
+use Rattle.std.specs.Prelude.{ℕ, not, List, ◌++◌, filter, filter_map, codes}
 use Rattle.net_model.specs.declared.ndb.NdbPair.{NdbPair}
 use Rattle.net_model.specs.Addresses.{read_address}
 use Rattle.net_model.specs.Search.{all_beside}

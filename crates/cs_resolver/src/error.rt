@@ -1,6 +1,6 @@
 //! What a query is refused for.
-ghost use Rattle.std.specs.Prelude.{◌≡◌};
-ghost use Rattle.cs_resolver.specs.Built.{number_of};
+ghost use Rattle.std.specs.Prelude.{◌≡◌, Some};
+ghost use Rattle.cs_resolver.specs.Built.{number_of, text_of};
 ghost use Rattle.cs_resolver.specs.declared.error.CsError.TheVariants.{Memory};
 
 use std::alloc::{AllocError, AllocFailed};
@@ -44,6 +44,8 @@ impl CsError {
 }
 
 impl fmt::Display for CsError {
+    ghost output = { λ e. Some (text_of e) };
+
     fn fmt<W: fmt::Write>(&self, f: &mut fmt::Formatter<W>) -> fmt::Result {
         match self {
             CsError::Memory => write!(f, "out of memory"),

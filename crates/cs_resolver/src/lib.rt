@@ -12,3 +12,6 @@ mod words;
 
 pub use error::CsError;
 pub use resolve::answer;
+
+#[cfg(test)]
+mod tests;

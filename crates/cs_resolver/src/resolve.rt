@@ -9,13 +9,16 @@ use crate::error::CsError;
 use crate::line::{DialLine, proto_name};
 use crate::networks::{Prefix, is_on, own_networks};
 use crate::numbers::{Kind, numbers_found};
-use crate::query::{is_system, read_query};
+use crate::query::{is_built, read_query};
 use crate::words::read_port;
 use net_model::{Db, Lines, Octets, Proto};
 use std::alloc::{AllocError, Global};
 
 /// Each number once, where it stands first.
-fn once_each(alloc: Global, numbers: &[u32]) -> Result<Vec<u32>, AllocError> {
+#[tactic(auto, using(crate::proofs::Once::once_had, crate::proofs::Once::once_new))]
+fn once_each(alloc: Global, numbers: &[u32]) -> Result<Vec<u32>, AllocError>
+    ensures { IfOk result (λ once. once.items ≡ spec.once_each numbers.now) }
+{
     let mut once = Vec::new(alloc);
     for number in numbers {
         if !once.contains(number) {
@@ -26,7 +29,9 @@ fn once_each(alloc: Global, numbers: &[u32]) -> Result<Vec<u32>, AllocError> {
 }
 
 /// Addresses on these networks, and then the others, each in order.
-fn own_first(alloc: Global, networks: &[Prefix], ips: &[u32]) -> Result<Vec<u32>, AllocError> {
+fn own_first(alloc: Global, networks: &[Prefix], ips: &[u32]) -> Result<Vec<u32>, AllocError>
+    ensures { IfOk result (λ sorted. sorted.items ≡ prefixes_first networks.now ips.now) }
+{
     let mut sorted = Vec::new(alloc);
     for ip in ips {
         if is_on(networks, *ip) {
@@ -42,12 +47,10 @@ fn own_first(alloc: Global, networks: &[Prefix], ips: &[u32]) -> Result<Vec<u32>
 }
 
 /// The addresses of a system, as the asker has them.
-fn system_addresses(
-    alloc: Global,
-    db: &Db,
-    me: &[u8],
-    host: &[u8],
-) -> Result<Vec<u32>, AllocError> {
+#[tactic(auto, using(crate::proofs::Answering::prefixes_first_is))]
+fn system_addresses(alloc: Global, db: &Db, me: &[u8], host: &[u8]) -> Result<Vec<u32>, AllocError>
+    ensures { IfOk result (λ ips. ips.items ≡ system_addresses db.now me.now host.now) }
+{
     let networks = own_networks(alloc, me, db)?;
     let found = numbers_found(alloc, b"sys", host, Kind::Address, db)?;
     let once = once_each(alloc, &found)?;
@@ -55,7 +58,9 @@ fn system_addresses(
 }
 
 /// The ports of a service on a net.
-fn ports_of(alloc: Global, db: &Db, service: &[u8], net: Proto) -> Result<Vec<u32>, AllocError> {
+fn ports_of(alloc: Global, db: &Db, service: &[u8], net: Proto) -> Result<Vec<u32>, AllocError>
+    ensures { IfOk result (λ ports. ports.items ≡ spec.ports_of db.now service.now net) }
+{
     if let Some(port) = read_port(service) {
         return Ok(vec![in alloc; port]?);
     }
@@ -70,7 +75,10 @@ fn add_lines_at(
     ip: u32,
     ports: &[u32],
     lines: &mut Lines,
-) -> Result<(), AllocError> {
+) -> Result<(), AllocError>
+    ensures { OnOk result (lines.new
+        ≡ lines.old ++ map (spec.cs_line net (address_text ip)) ports.now) }
+{
     for port in ports {
         let line = DialLine {
             net,
@@ -85,13 +93,18 @@ fn add_lines_at(
 /// Adds the lines of a net.
 fn add_lines(
     alloc: Global,
+    db: &Db,
     net: Proto,
     ips: &[u32],
-    ports: &[u32],
+    service: &[u8],
     lines: &mut Lines,
-) -> Result<(), AllocError> {
+) -> Result<(), AllocError>
+    ensures { OnOk result (lines.new ≡ lines.old
+        ++ spec.lines_of db.now service.now (map address_text ips.now) net) }
+{
+    let ports = ports_of(alloc, db, service, net)?;
     for ip in ips {
-        add_lines_at(alloc, net, *ip, ports, lines)?;
+        add_lines_at(alloc, net, *ip, &ports, lines)?;
     }
     Ok(())
 }
@@ -103,11 +116,13 @@ fn all_lines(
     nets: &[Proto],
     ips: &[u32],
     service: &[u8],
-) -> Result<Lines, AllocError> {
+) -> Result<Lines, AllocError>
+    ensures { IfOk result (λ lines. lines
+        ≡ flat_map (spec.lines_of db.now service.now (map address_text ips.now)) nets.now) }
+{
     let mut lines = Lines::new(alloc);
     for net in nets {
-        let ports = ports_of(alloc, db, service, *net)?;
-        add_lines(alloc, *net, ips, &ports, &mut lines)?;
+        add_lines(alloc, db, *net, ips, service, &mut lines)?;
     }
     Ok(lines)
 }
@@ -122,11 +137,14 @@ pub fn answer(
 ) -> Result<Lines, CsError>
     requires some { 0 < length nets.now }
     requires once { AllPairs (λ net other. net ≢ other) nets.now }
+    ensures ok { IfOk result (λ lines. built_answer db.now me.now nets.now query.now ≡ spec.Lines lines) }
+    // want of memory apart, which may come at any query
+    ensures err { IfErr result (λ error. Tells error (built_answer db.now me.now nets.now query.now)) }
 {
     let Some(query) = read_query(query) else {
         return Err(CsError::BadQuery);
     };
-    if query.net != b"net".as_slice() || !is_system(query.host) {
+    if !is_built(&query) {
         return Err(CsError::NotBuilt);
     }
     let ips = system_addresses(alloc, db, me, query.host)?;

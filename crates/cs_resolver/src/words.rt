@@ -55,18 +55,14 @@ pub fn read_port(word: &[u8]) -> Option<u32>
 }
 
 /// An address: four numbers joined by dots.
-pub fn read_address(word: &[u8]) -> Option<u32> {
-    let (first, Some(rest)) = split_first(word, b'.') else {
-        return None;
-    };
-    let (second, Some(rest)) = split_first(rest, b'.') else {
-        return None;
-    };
-    let (third, Some(rest)) = split_first(rest, b'.') else {
-        return None;
-    };
-    let (fourth, more) = split_first(rest, b'.');
-    if let Some(_) = more {
+pub fn read_address(word: &[u8]) -> Option<u32>
+    ensures { result ≡ spec.read_address word.now }
+{
+    let (first, rest) = split_first(word, b'.');
+    let (second, rest) = split_first(rest?, b'.');
+    let (third, rest) = split_first(rest?, b'.');
+    let (fourth, rest) = split_first(rest?, b'.');
+    if let Some(_) = rest {
         return None;
     }
     let a = read_byte(first)?;

@@ -1,4 +1,8 @@
 //! Tuples that grow line by line.
+ghost use Rattle.std.specs.Prelude.{◌≡◌, ◌∷◌, ◌++◌, [], OnOk, IfOk};
+ghost use Rattle.net_model.specs.NdbText.{is_empty};
+ghost use Rattle.ndb_reader.specs.Told.{tuple_of};
+
 use net_model::{Db, Line, NdbPair, Sequence, Tuple};
 use std::alloc::{AllocError, Global};
 use std::mem;
@@ -12,7 +16,10 @@ pub(crate) struct Tuples {
 
 impl Tuples {
     /// No tuples, which take no memory yet.
-    pub(crate) fn new(alloc: Global) -> Tuples {
+    pub(crate) fn new(alloc: Global) -> Tuples
+        ensures whole { result.whole.items ≡ [] }
+        ensures last { result.last.items ≡ [] }
+    {
         Tuples {
             whole: Vec::new(alloc),
             last: Vec::new(alloc),
@@ -20,21 +27,18 @@ impl Tuples {
     }
 
     /// Whether there is no tuple.
-    pub(crate) fn is_empty(&self) -> bool {
+    pub(crate) fn is_empty(&self) -> bool
+        ensures { result ≡ is_empty self.now.last.items }
+    {
         self.last.is_empty()
     }
 
-    /// Adds a line without words, the first line of a tuple, or one that goes on with the last.
-    pub(crate) fn add(
-        &mut self,
-        alloc: Global,
-        goes_on: bool,
-        pairs: Vec<NdbPair>,
-    ) -> Result<(), AllocError> {
-        if pairs.is_empty() {
-            return Ok(());
-        }
-        if !goes_on && !self.last.is_empty() {
+    /// Starts a tuple.
+    pub(crate) fn start(&mut self, alloc: Global, pairs: Vec<NdbPair>) -> Result<(), AllocError>
+        ensures whole { OnOk result (self.new.whole.items ≡ self.old.whole.items ++ tuple_of self.old.last.items) }
+        ensures last { OnOk result (self.new.last.items ≡ pairs.items ∷ []) }
+    {
+        if !self.last.is_empty() {
             let tuple = mem::replace(&mut self.last, Vec::new(alloc));
             self.whole.push(Sequence::from_vec(tuple))?;
         }
@@ -42,8 +46,19 @@ impl Tuples {
         Ok(())
     }
 
+    /// Goes on with the last tuple.
+    pub(crate) fn go_on(&mut self, pairs: Vec<NdbPair>) -> Result<(), AllocError>
+        ensures whole { self.new.whole.items ≡ self.old.whole.items }
+        ensures last { OnOk result (self.new.last.items ≡ self.old.last.items ++ pairs.items ∷ []) }
+    {
+        self.last.push(Sequence::from_vec(pairs))?;
+        Ok(())
+    }
+
     /// The tuples.
-    pub(crate) fn finish(self) -> Result<Db, AllocError> {
+    pub(crate) fn finish(self) -> Result<Db, AllocError>
+        ensures { IfOk result (λ db. db ≡ self.whole.items ++ tuple_of self.last.items) }
+    {
         let Tuples { mut whole, last } = self;
         if !last.is_empty() {
             whole.push(Sequence::from_vec(last))?;

@@ -1,5 +1,6 @@
 //! The words of a line, each an attribute with its value.
-ghost use Rattle.std.specs.Prelude.{◌≡◌};
+ghost use Rattle.std.specs.Prelude.{◌≡◌, ◌+◌, map, drop, IfOk};
+ghost use Rattle.std.specs.List.{position_or_len};
 ghost use Rattle.net_model.specs.NdbText as spec;
 
 use net_model::{NdbPair, Octets};
@@ -13,14 +14,16 @@ pub(crate) fn is_white(byte: u8) -> bool
 }
 
 /// The pairs of a line that doesn't begin with `%`, as if no quote were on it.
-pub(crate) fn read_words(alloc: Global, line: &[u8]) -> Result<Vec<NdbPair>, AllocError> {
+pub(crate) fn read_words(alloc: Global, line: &[u8]) -> Result<Vec<NdbPair>, AllocError>
+    ensures { IfOk result (λ pairs. pairs.items ≡ map spec.pair_of (map spec.plain_word (spec.runs_of line.now))) }
+{
     let mut pairs = Vec::new(alloc);
     for run in line.split(|byte| is_white(*byte)) {
         if run.is_empty() {
             continue;
         }
         if run[0] == b'#' {
-            break;
+            return Ok(pairs);
         }
         pairs.push(read_word(alloc, run)?)?;
     }
@@ -28,13 +31,32 @@ pub(crate) fn read_words(alloc: Global, line: &[u8]) -> Result<Vec<NdbPair>, All
 }
 
 /// What stands before the first `=` of a word, and what stands after it.
-fn read_word(alloc: Global, word: &[u8]) -> Result<NdbPair, AllocError> {
-    let (attr, value) = match word.iter().position(|byte| *byte == b'=') {
-        Some(at) => (&word[..at], &word[at + 1..]),
-        None => (word, &word[word.len()..]),
-    };
+fn read_word(alloc: Global, word: &[u8]) -> Result<NdbPair, AllocError>
+    ensures { IfOk result (λ pair. pair ≡ spec.pair_of (spec.plain_word word.now)) }
+{
+    let end = attr_len(word);
     Ok(NdbPair {
-        attr: Octets::from_slice(alloc, attr)?,
-        value: Octets::from_slice(alloc, value)?,
+        attr: Octets::from_slice(alloc, &word[..end])?,
+        value: Octets::from_slice(alloc, behind(word, end))?,
     })
+}
+
+/// How many bytes stand before the first `=`.
+fn attr_len(word: &[u8]) -> usize
+    ensures { result ≡ position_or_len spec.is_equals word.now }
+{
+    word.iter()
+        .position(|byte| *byte == b'=')
+        .unwrap_or(word.len())
+}
+
+/// What stands behind a place.
+fn behind(word: &[u8], place: usize) -> &[u8]
+    ensures { result.now ≡ drop (place + 1) word.now }
+{
+    if place < word.len() {
+        &word[place + 1..]
+    } else {
+        &[]
+    }
 }

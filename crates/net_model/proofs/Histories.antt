@@ -1,5 +1,5 @@
 -- What holds of histories: pushing an entry, beginnings, induction, and the fold of one actor.
-use Rattle.std.proofs.Common.{◌≡◌, ℕ, zero, suc, ◌<◌, ◌≤◌, ◌==◌, ◌&&◌, Bool, true, false, List, [], ◌∷◌, ◌++◌, length, take, Option, Some, None, slice_get, ◌⊎◌, inl, inr, refl, sym, ap, subst, ◌∙◌, append_assoc, arith}
+use Rattle.std.proofs.Common.{◌≡◌, ℕ, zero, suc, ◌<◌, ◌≤◌, ◌==◌, ◌&&◌, Bool, true, false, List, [], ◌∷◌, ◌++◌, length, take, Option, Some, None, slice_get, ◌⊎◌, inl, inr, refl, sym, ap, subst, ◌∙◌, arith}
 use Rattle.std.proofs.lemmas.Bool.{and_parts, true≢false, eqb-true}
 use Rattle.std.proofs.lemmas.Option.{none-some, same_Some, slice_get_within}
 use Rattle.std.proofs.lemmas.List.{take_all, take-append-le, take-take, take_at}
@@ -11,7 +11,7 @@ use Rattle.net_model.specs.declared.history.Entry.{Entry}
 use Rattle.net_model.specs.declared.world.World.{World}
 use Rattle.net_model.specs.ActorStep.{Step}
 use Rattle.net_model.specs.Actors.{Actor, opening_actor, actor_step}
-use Rattle.net_model.specs.Legal.{Follows, MayFollow, IsLegal, IsInTime, IsTimed}
+use Rattle.net_model.specs.Legal.{MayFollow, IsLegal, IsInTime, IsTimed, Rule, Answers, AtMoment, Cites, Asked, Ready, InTime, Known, HasRoom, Keeps, IsFault}
 use Rattle.net_model.specs.Net.{Net, net_after, next_net, net_of, after, opening_net, state, step_of, work_of, works, works_from, stepped_to, play, played}
 use Rattle.net_model.specs.Stamped.{same_proto, same_actor}
 
@@ -58,11 +58,11 @@ in_pushed [] y (suc k) x is = absurd (none-some x is)
 in_pushed (z ∷ h) y zero x is = inl (omega arith, is)
 in_pushed (z ∷ h) y (suc k) x is = elim (in_pushed h y k x is) [ inl there ↦ inl (omega (arith, there.0), there.1) | inr last ↦ inr (ap suc last.0, last.1) ]
 
-at_push : (h : List Entry) (x : Entry) → slice_get (h ++ x ∷ []) (length h) ≡ Some x
+pub at_push : (h : List Entry) (x : Entry) → slice_get (h ++ x ∷ []) (length h) ≡ Some x
 at_push [] x = refl
 at_push (y ∷ h) x = at_push h x
 
-before_push : (h : List Entry) (x y : Entry) (k : ℕ) → slice_get h k ≡ Some y → slice_get (h ++ x ∷ []) k ≡ Some y
+pub before_push : (h : List Entry) (x y : Entry) (k : ℕ) → slice_get h k ≡ Some y → slice_get (h ++ x ∷ []) k ≡ Some y
 before_push [] x y k is = absurd (none-some y is)
 before_push (z ∷ h) x y zero is = is
 before_push (z ∷ h) x y (suc k) is = before_push h x y k is
@@ -138,3 +138,23 @@ by_entries w P none more h legal = subst P (take_all (length h) h (omega arith))
     up_to (suc k) le =
         let x = one_more h k (omega arith) in
         subst P (sym x.2) (more (take k h) x.0 (legal_take w h k legal) (legal k x.0 x.1) (up_to k (omega arith)))
+
+-- a beginning of a timed history is timed
+pub timed_take : (w : World) (h : List Entry) (k : ℕ) → IsTimed w h → IsTimed w (take k h)
+timed_take w h k timed j x is =
+    let here = slice_get_take k h j x is in
+    subst (λ (p : List Entry). IsInTime (after w p) w x.event) (sym (take-take j k h (omega (arith, here.0)))) (timed j x here.1)
+
+-- a history with a fault isn't both legal and timed
+pub fault_is_not_legal : (w : World) (h : List Entry) (stamp : ℕ) (rule : Rule) → IsFault w h stamp rule → IsLegal w h → IsTimed w h → ⊥
+fault_is_not_legal w h stamp rule fault legal timed = fault.broken (kept rule (legal stamp fault.entry fault.stands) (timed stamp fault.entry fault.stands))
+  where
+    kept : (r : Rule) → MayFollow w (take stamp h) fault.entry → IsInTime (after w (take stamp h)) w fault.entry.event → Keeps r w (take stamp h) (after w (take stamp h)) fault.entry
+    kept Answers may in_time = may.answers
+    kept AtMoment may in_time = may.at_moment
+    kept Cites may in_time = may.cites
+    kept Asked may in_time = may.is_asked
+    kept Ready may in_time = may.is_ready
+    kept InTime may in_time = in_time
+    kept Known may in_time = may.is_known
+    kept HasRoom may in_time = may.has_room

@@ -15,5 +15,15 @@ pub mod NdbForms
 pub mod NdbPlain
 pub mod Histories
 pub mod Walk
-pub mod Worked
-pub mod WorkedUdp
+pub mod Ordered
+pub mod CsTexts
+pub mod CsLaws
+pub mod CasesUdp
+pub mod CasesIl
+pub mod CasesFaults
+pub mod Owed
+pub mod DirPairs
+pub mod NdbComplete
+pub mod NdbSound
+pub mod NdbFiles
+pub mod NdbFirsts

@@ -92,3 +92,53 @@ IsInTime net w _ = Unit {0}
 
 abbrev pub IsTimed : World → List Entry → Type 0
 IsTimed w h = (k : ℕ) (x : Entry) → slice_get h k ≡ Some x → IsInTime (after w (take k h)) w x.event
+
+-- The rules, in the order of their numbers.
+
+pub data Rule : Type 0 where
+  -- 1: its reply, its header and its `ended` are those of its outcome
+  Answers : Rule
+  -- 2: its moment
+  AtMoment : Rule
+  -- 3: what it cites
+  Cites : Rule
+  -- 4: it is its caller's first duty or next event
+  Asked : Rule
+  -- 5: it is ready
+  Ready : Rule
+  -- 6: a move comes in time
+  InTime : Rule
+  -- 7: its actor and its caller are the world's
+  Known : Rule
+  -- 8: its caller has room for it
+  HasRoom : Rule
+
+abbrev pub rule_number : Rule → ℕ
+rule_number Answers = 1
+rule_number AtMoment = 2
+rule_number Cites = 3
+rule_number Asked = 4
+rule_number Ready = 5
+rule_number InTime = 6
+rule_number Known = 7
+rule_number HasRoom = 8
+
+-- the entry keeps the rule, after these entries and where the net stands so
+abbrev pub Keeps : Rule → World → List Entry → Net → Entry → Type 0
+Keeps Answers w past net x = Shows (outcome_in w net x) x
+Keeps AtMoment w past net x = x.moment ≡ net.moment
+Keeps Cites w past net x = x.cites ≡ cites_of (net.owed x.caller)
+Keeps Asked w past net x = IsAsked (net.owed x.caller) (caller_of w x.caller) (next w past x.caller) x
+Keeps Ready w past net x = IsSome (outcome_in w net x)
+Keeps InTime w past net x = IsInTime net w x.event
+Keeps Known w past net x = (has_actor w x.actor ≡ true) × (x.caller < caller_count w)
+Keeps HasRoom w past net x = length (by past x.caller) < most_entries
+
+-- the first entry that breaks a rule stands here, and this is the least rule that it breaks
+pub record IsFault (w : World) (h : List Entry) (stamp : ℕ) (rule : Rule) : Type 0 where
+  pub entry : Entry
+  pub stands : slice_get h stamp ≡ Some entry
+  pub legal : IsLegal w (take stamp h)
+  pub timed : IsTimed w (take stamp h)
+  pub lower : (r : Rule) → rule_number r < rule_number rule → Keeps r w (take stamp h) (after w (take stamp h)) entry
+  pub broken : Keeps rule w (take stamp h) (after w (take stamp h)) entry → ⊥

@@ -13,6 +13,8 @@ pub mod StateWords
 pub mod Conversation
 pub mod Addresses
 pub mod Cs
+pub mod CsExample
+pub mod CsOrder
 pub mod Networks
 pub mod Search
 pub mod Bytes
@@ -42,4 +44,13 @@ pub mod World
 pub mod Answers
 pub mod Words
 pub mod Rounds
+pub mod Worked
+pub mod WorkedUdp
 pub mod Written
+pub mod WorkedIl
+pub mod WorkedFaults
+pub mod Transcript
+pub mod Summary
+pub mod NdbSpelling
+pub mod NdbFirst
+pub mod NdbExample

@@ -1,9 +1,17 @@
 //! Laws of the definitions.
-ghost use Rattle.std.specs.Prelude.{◌≡◌, ◌↔◌, List, ℕ, Ok, Err, Some, true, false};
+ghost use Rattle.std.specs.Prelude.{◌≡◌, ◌↔◌, List, ℕ, Ok, Err, Some, true, false, take, slice_get};
 ghost use Rattle.net_model.specs.ControlWords as control;
 ghost use Rattle.net_model.specs.Paths as paths;
 ghost use Rattle.net_model.specs.declared.names.Ctl.{Ctl};
 ghost use Rattle.net_model.specs.declared.names.Node.{Node};
+ghost use Rattle.net_model.specs.declared.actor.ActorName.{ActorName};
+ghost use Rattle.net_model.specs.declared.history.Entry.{Entry};
+ghost use Rattle.net_model.specs.declared.world.World.{World};
+ghost use Rattle.net_model.specs.Actors.{opening_actor};
+ghost use Rattle.net_model.specs.Legal.{IsFault, IsLegal, IsTimed, Rule};
+ghost use Rattle.net_model.specs.Net.{owed, state, played, works};
+ghost use Rattle.net_model.specs.Duties.{Duty};
+ghost use Rattle.net_model.specs.Stamped.{In};
 
 /// The reading of a ctl file's text is its grammar's.
 pub fn controls_are_read()
@@ -15,4 +23,25 @@ pub fn controls_are_read()
 /// A path has the node that it names, and no other.
 pub fn paths_are_walked()
     ensures { (path : List ℕ) (n : Node) → paths.Names path n ↔ (paths.walk path ≡ Some n) }
+{}
+
+/// A beginning of a legal history is legal, and of a timed one timed.
+pub fn prefix_is_legal()
+    ensures legal { (w : World) (h : List Entry) (k : ℕ) → IsLegal w h → IsLegal w (take k h) }
+    ensures timed { (w : World) (h : List Entry) (k : ℕ) → IsTimed w h → IsTimed w (take k h) }
+{}
+
+/// An actor's state is the fold of its own step over its own works, from its opening state.
+pub fn state_is_fold()
+    ensures { (w : World) (h : List Entry) (a : ActorName) → state w h a ≡ played w a (opening_actor a) (works w h a) }
+{}
+
+/// A history with a fault isn't both legal and timed.
+pub fn a_fault_is_not_legal()
+    ensures { (w : World) (h : List Entry) (stamp : ℕ) (rule : Rule) → IsFault w h stamp rule → IsLegal w h → IsTimed w h → ⊥ }
+{}
+
+/// Each duty that a caller owes cites an earlier entry of its own.
+pub fn duties_cite_their_own()
+    ensures { (w : World) (h : List Entry) (c : ℕ) (d : Duty) → In d (owed w h c) → (x : Entry) × (slice_get h d.cites ≡ Some x) × (x.caller ≡ c) }
 {}

@@ -18,7 +18,10 @@ abbrev pub cs_over : List ℕ → List ℕ → List ℕ → Answer
 cs_over sys query input =
     unless_bad (bad_line_so_far input) (cs_answer (built_answer (database (lines_of input)) sys (Il ∷ Udp ∷ []) query))
 
+-- an answer to an input within the limit, or that it is too long
+abbrev pub within_limit : List ℕ → Answer → Answer
+within_limit input answer = if nat_lt input_limit (length input) then bad_input 0 9 else answer
+
 -- the answer to a command and its input
 abbrev pub answer_to : Command → List ℕ → Answer
-answer_to (Cs sys query) input =
-    if nat_lt input_limit (length input) then bad_input 0 9 else cs_over sys query input
+answer_to (Cs sys query) input = within_limit input (cs_over sys query input)

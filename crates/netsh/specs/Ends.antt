@@ -1,5 +1,5 @@
 -- How a call of the program ends: its status, what it took from the source and what the sink gained.
-use Rattle.std.specs.Prelude.{◌≡◌, ℕ, ◌<◌, ◌⊎◌, List, length, Option, Some, None, ⊤}
+use Rattle.std.specs.Prelude.{◌≡◌, ◌≢◌, ℕ, ◌<◌, ◌⊎◌, List, length, Option, Some, None, ⊤}
 use Rattle.std.specs.Io.KnownBytes.{IsAtEnd}
 use Rattle.net_model.specs.Answers.{Answer, usage, read_fault, input_limit}
 use Rattle.net_model.specs.Words.{Command}
@@ -20,24 +20,61 @@ pub record Output : Type 0 where
   pub before : ℕ
   pub after : ℕ
 
--- the answer was written whole, or the sink failed, which is status 7, and holds a part of its text
+-- the answer was written whole, or the sink failed, which is status 7, and gained a part of its text
 abbrev pub Told : Answer → ℕ → Output → Type 0
 Told answer status output =
     ((status ≡ answer.status) × Gained output.held output.holds answer.text)
     ⊎ ((status ≡ 7) × Rose output.before output.after × GainedPart output.held output.holds answer.text)
 
--- the input is what the source had left, if it told that
+-- the input is what the source had left, where it told that
 abbrev pub IsInput : Option (List ℕ) → List ℕ → Type 0
 IsInput None input = ⊤
-IsInput (Some left) input = left ≡ input
+IsInput (Some left) input = input ≡ left
 
--- how a call with a command, or with words in no row, may end
+-- the input was read to its end, or is over the limit
+abbrev pub IsRead : Intake → List ℕ → Type 0
+IsRead intake input = IsInput intake.left input × (IsAtEnd intake.rest ⊎ (input_limit < length input))
+
+-- nothing was read
+abbrev pub IsUnread : Intake → Type 0
+IsUnread intake = (intake.rest ≡ intake.left) × (intake.after ≡ intake.before)
+
+-- the answer is that to an input which was read
+pub record Answers (asked : Command) (answer : Answer) (intake : Intake) : Type 0 where
+  pub input : List ℕ
+  pub read : IsRead intake input
+  pub right : answer ≡ answer_to asked input
+
+-- how a call with a command, or with words in no row, may end: with the usage, and nothing was read; with the answer to the input; with a fault of the
+-- source; or without memory, and then nothing was written
 pub data Ends (command : Option Command) (status : ℕ) (intake : Intake) (output : Output) : Type 0 where
-  -- the words are in no row
-  no_row : command ≡ None → Told usage status output → Ends command status intake output
-  -- the command was answered
-  answered : (asked : Command) (input : List ℕ) → command ≡ Some asked → IsInput intake.left input → (IsAtEnd intake.rest ⊎ (input_limit < length input)) → Told (answer_to asked input) status output → Ends command status intake output
-  -- the source failed
+  no_row : command ≡ None → IsUnread intake → Told usage status output → Ends command status intake output
+  answered : (asked : Command) (input : List ℕ) → command ≡ Some asked → IsRead intake input → Told (answer_to asked input) status output → Ends command status intake output
   unread : (asked : Command) → command ≡ Some asked → Rose intake.before intake.after → Told read_fault status output → Ends command status intake output
-  -- memory ran out before the first byte was written
   no_memory : (asked : Command) → command ≡ Some asked → status ≡ 8 → output.holds ≡ output.held → Ends command status intake output
+
+-- the status is that of the answer to an input which was read
+pub record IsStatusOf (command : Option Command) (status : ℕ) (intake : Intake) : Type 0 where
+  pub asked : Command
+  pub input : List ℕ
+  pub is_asked : command ≡ Some asked
+  pub read : IsRead intake input
+  pub right : status ≡ (answer_to asked input).status
+
+-- when each status comes, and what it leaves
+pub record Causes (command : Option Command) (status : ℕ) (intake : Intake) (output : Output) : Type 0 where
+  -- the words are in no row where the status is 1, and only then is it 1, a fault of the sink aside
+  pub usage_only : status ≡ 1 → command ≡ None
+  pub no_row : command ≡ None → (status ≡ 1) ⊎ (status ≡ 7)
+  -- the input and the words alone give 0, 2 and 5
+  pub done : status ≡ 0 → IsStatusOf command 0 intake
+  pub bad_input : status ≡ 2 → IsStatusOf command 2 intake
+  pub refused : status ≡ 5 → IsStatusOf command 5 intake
+  -- the faults and the memory
+  pub read_fault : status ≡ 6 → Rose intake.before intake.after
+  pub write_fault : status ≡ 7 → Rose output.before output.after
+  pub memory : status ≡ 8 → output.holds ≡ output.held
+  -- the answer was made from the whole input
+  pub end : (status ≡ 0) ⊎ (status ≡ 5) → IsAtEnd intake.rest
+  -- without a fault, words in a row have the answer's status, or memory ran out
+  pub complete : ¬ Rose intake.before intake.after → ¬ Rose output.before output.after → command ≢ None → (status ≡ 8) ⊎ IsStatusOf command status intake

@@ -1,17 +1,13 @@
 //! The answers: a status, and the text that is written, made whole.
-ghost use Rattle.std.specs.Prelude.{◌≡◌, flat_map, IfOk};
+ghost use Rattle.std.specs.Prelude.{◌≡◌, ◌≢◌, IfOk, OnOk};
 ghost use Rattle.net_model.specs.Answers as spec;
+ghost use Rattle.net_model.specs.Cs.{Lines as ListOf, Refused};
+ghost use Rattle.cs_resolver.specs.Built.{number_of};
 
 use cs_resolver::CsError;
 use net_model::{Lines, Octets};
 use std::alloc::{AllocError, Global};
-
-/// A status and a text.
-#[derive(Debug, Drop)]
-pub struct Answer {
-    pub status: u8,
-    pub text: Octets,
-}
+use std::marker::Model;
 
 /// The words give no command.
 pub const USAGE: &str = "! usage\n";
@@ -19,51 +15,88 @@ pub const USAGE: &str = "! usage\n";
 /// The input couldn't be read.
 pub const READ_FAULT: &str = "! read fault\n";
 
-/// The input has a bad line.
-pub fn bad_input(alloc: Global, line: u64, cause: u32) -> Result<Answer, AllocError>
-    ensures status { IfOk result (λ answer. answer.status ≡ (spec.bad_input line cause).status) }
-    ensures text { IfOk result (λ answer. answer.text ≡ (spec.bad_input line cause).text) }
-{
-    let text = format!(in alloc; "! line {line} cause {cause}\n")?;
-    Ok(Answer {
-        status: 2,
-        text: Octets::from_vec(text.into_bytes()),
-    })
+/// A status and a text.
+#[derive(Debug, Drop)]
+pub struct Answer {
+    status: u8,
+    text: Octets,
 }
 
-/// The lines of cs.
-pub fn lines_found(alloc: Global, lines: &Lines) -> Result<Answer, AllocError>
-    ensures status { IfOk result (λ answer. answer.status ≡ 0) }
-    ensures text { IfOk result (λ answer. answer.text ≡ flat_map spec.ended lines.now) }
-{
-    let mut text = Octets::new(alloc);
-    for line in lines.as_slice() {
-        text.append(line.as_slice())?;
-        text.push(b'\n')?;
+impl Model for Answer {
+    ghost use Rattle.net_model.specs.Answers as spec;
+
+    ghost Value = { spec.Answer };
+
+    ghost view = { λ answer. record { status = answer.status; text = answer.text } };
+}
+
+impl Answer {
+    /// The input has a bad line, the first one, and its least cause.
+    pub fn bad_input(alloc: Global, line: u64, cause: u32) -> Result<Answer, AllocError>
+        ensures { IfOk result (λ answer. answer ≡ spec.bad_input line cause) }
+    {
+        let text = format!(in alloc; "! line {line} cause {cause}\n")?;
+        Ok(Answer {
+            status: 2,
+            text: Octets::from_vec(text.into_bytes()),
+        })
     }
-    Ok(Answer { status: 0, text })
+
+    /// The lines of cs.
+    pub fn lines(alloc: Global, lines: &Lines) -> Result<Answer, AllocError>
+        ensures { IfOk result (λ answer. answer ≡ spec.cs_answer (ListOf lines.now)) }
+    {
+        let mut text = Octets::new(alloc);
+        for line in lines.as_slice() {
+            text.append(line.as_slice())?;
+            text.push(b'\n')?;
+        }
+        Ok(Answer { status: 0, text })
+    }
+
+    /// The refusal of cs, unless it had no memory.
+    pub fn refusal(alloc: Global, error: CsError) -> Result<Answer, AllocError>
+        ensures told { OnOk result (error ≢ CsError.Memory) }
+        ensures value { IfOk result (λ answer. answer ≡ spec.cs_answer (Refused (number_of error))) }
+    {
+        if error == CsError::Memory {
+            return Err(AllocError);
+        }
+        let number = error.number();
+        let text = format!(in alloc; "! {number} {}\n", refusal_text(error))?;
+        Ok(Answer {
+            status: 5,
+            text: Octets::from_vec(text.into_bytes()),
+        })
+    }
+
+    /// The status where the text is written whole.
+    pub fn status(&self) -> u8
+        ensures { result ≡ self.now.status }
+    {
+        self.status
+    }
+
+    /// The text.
+    pub fn text(&self) -> &[u8]
+        ensures { result.now ≡ self.now.text }
+    {
+        self.text.as_slice()
+    }
 }
 
-/// The line that tells an error of cs.
-pub fn refusal_line(error: CsError) -> &'static str {
+/// What a query is refused for, in words.
+fn refusal_text(error: CsError) -> &'static str
+    requires { error ≢ CsError.Memory }
+    ensures { result.now ≡ spec.refusal_text (number_of error) }
+{
     match error {
-        CsError::Memory => "",
-        CsError::BadQuery => "! 1 bad query\n",
-        CsError::NoNet => "! 2 no net\n",
-        CsError::NoHost => "! 3 no host\n",
-        CsError::NoService => "! 4 no service\n",
-        CsError::NoValue => "! 5 no value\n",
-        CsError::NotBuilt => "! 6 not built\n",
+        CsError::Memory => unreachable!(),
+        CsError::BadQuery => "bad query",
+        CsError::NoNet => "no net",
+        CsError::NoHost => "no host",
+        CsError::NoService => "no service",
+        CsError::NoValue => "no value",
+        CsError::NotBuilt => "not built",
     }
-}
-
-/// The refusal of cs.
-pub fn refused(alloc: Global, error: CsError) -> Result<Answer, AllocError> {
-    if let CsError::Memory = error {
-        return Err(AllocError);
-    }
-    Ok(Answer {
-        status: 5,
-        text: Octets::from_slice(alloc, refusal_line(error).as_bytes())?,
-    })
 }

@@ -1,19 +1,24 @@
 //! The command `cs`.
-use crate::answer::{Answer, bad_input, lines_found, refused};
+ghost use Rattle.std.specs.Prelude.{◌≡◌, IfOk};
+ghost use Rattle.netsh.specs.Built.{cs_over};
+
+use crate::answer::Answer;
 use cs_resolver::answer;
 use ndb_reader::{NdbError, read_ndb};
 use net_model::Proto;
 use std::alloc::{AllocError, Global};
 
 /// What a host is answered to a query over the database that an input is.
-pub fn cs(alloc: Global, sys: &[u8], query: &[u8], input: &[u8]) -> Result<Answer, AllocError> {
+pub fn cs(alloc: Global, sys: &[u8], query: &[u8], input: &[u8]) -> Result<Answer, AllocError>
+    ensures { IfOk result (λ answer. answer ≡ cs_over sys.now query.now input.now) }
+{
     let db = match read_ndb(alloc, input) {
         Ok(db) => db,
+        Err(NdbError::Bad { line, cause }) => return Answer::bad_input(alloc, line, cause),
         Err(NdbError::Memory) => return Err(AllocError),
-        Err(NdbError::Bad { line, cause }) => return bad_input(alloc, line, cause),
     };
     match answer(alloc, &db, sys, &[Proto::Il, Proto::Udp], query) {
-        Ok(lines) => lines_found(alloc, &lines),
-        Err(error) => refused(alloc, error),
+        Ok(lines) => Answer::lines(alloc, &lines),
+        Err(error) => Answer::refusal(alloc, error),
     }
 }

@@ -1,14 +1,18 @@
 //! The top call: words and an input in, a status and a text out.
-ghost use Rattle.std.specs.Prelude.{◌≡◌, ◌≤◌, ◌↔◌, map, string_bytes, length, IsNone, IfNone, IfSome, IsTrue};
+ghost use Rattle.std.specs.Prelude.{◌≡◌, ◌≢◌, ◌≤◌, ◌↔◌, map, string_bytes, length, IsNone, IfNone, IfSome, IfOk, IsErrOf, IsTrue};
 ghost use Rattle.net_model.specs.Words.{command_of, words_wait};
-ghost use Rattle.netsh.specs.Ends.{Ends, Told};
+ghost use Rattle.netsh.specs.Ends.{Ends, Causes, Told, Answers};
+ghost use Rattle.net_model.specs.Answers.{input_limit};
+ghost use Rattle.netsh.specs.Built.{answer_to};
+ghost use Rattle.netsh.specs.Commands.{command_read};
 ghost use Rattle.outside.specs.Streams.{Rose};
 
-use crate::answer::{Answer, READ_FAULT, USAGE, bad_input};
+use crate::answer::{Answer, READ_FAULT, USAGE};
 use crate::cs::cs;
 use crate::words::{Command, read_words};
-use net_model::Octets;
-use outside::{Failed, Gate, Sink, Source, TakeError, read_to_end, write_all};
+use outside::{
+    Failed, Gate, Sink, Source, SureSink, SureSource, TakeError, read_to_end, write_all,
+};
 use std::alloc::{AllocError, Global};
 use std::sync::Wait;
 use std::thread::Threads;
@@ -27,10 +31,31 @@ fn tell<K: Sink>(sink: &mut K, status: u8, text: &[u8]) -> u8
     }
 }
 
-/// The answer to a command and its input.
-fn answer_over(alloc: Global, command: Command<'_>, input: &[u8]) -> Result<Answer, AllocError> {
+/// The answer to a command and its input, which is within the limit.
+fn answer_over(alloc: Global, command: Command<'_>, input: &[u8]) -> Result<Answer, AllocError>
+    requires { length input.now ≤ input_limit }
+    ensures { IfOk result (λ answer. answer ≡ answer_to (command_read command.entry) input.now) }
+{
     match command {
         Command::Cs(sys, query) => cs(alloc, sys, query, input),
+    }
+}
+
+/// Reads the input of a command, and makes the answer.
+fn read_and_answer<S: Source>(
+    alloc: Global,
+    command: Command<'_>,
+    source: &mut S,
+) -> Result<Answer, TakeError>
+    ensures ok { IfOk result (λ answer. Answers (command_read command.entry) answer
+        (record { left = S.left source.old; rest = S.left source.new; before = S.faults source.old; after = S.faults source.new })) }
+    ensures failed { IsErrOf result TakeError.Failed → Rose (S.faults source.old) (S.faults source.new) }
+    ensures within { IsErrOf result TakeError.TooLarge → ⊥ }
+{
+    match read_to_end(alloc, source, INPUT_LIMIT) {
+        Ok(input) => Ok(answer_over(alloc, command, input.as_slice())?),
+        Err(TakeError::TooLarge) => Ok(Answer::bad_input(alloc, 0, 9)?),
+        Err(error) => Err(error),
     }
 }
 
@@ -40,16 +65,34 @@ fn ask_reading<S: Source, K: Sink>(
     command: Command<'_>,
     source: &mut S,
     sink: &mut K,
-) -> u8 {
-    let answer = match read_to_end(alloc, source, INPUT_LIMIT) {
-        Ok(input) => answer_over(alloc, command, input.as_slice()),
-        Err(TakeError::TooLarge) => bad_input(alloc, 0, 9),
-        Err(TakeError::Failed) => return tell(sink, 6, READ_FAULT.as_bytes()),
-        Err(TakeError::Memory) => return 8,
-    };
-    match answer {
-        Ok(answer) => tell(sink, answer.status, answer.text.as_slice()),
+) -> u8
+    ensures { Ends (Some (command_read command.entry)) result
+        (record { left = S.left source.old; rest = S.left source.new; before = S.faults source.old; after = S.faults source.new })
+        (record { held = K.held sink.old; holds = K.held sink.new; before = K.faults sink.old; after = K.faults sink.new }) }
+{
+    match read_and_answer(alloc, command, source) {
+        Ok(answer) => tell(sink, answer.status(), answer.text()),
+        Err(TakeError::Failed) => tell(sink, 6, READ_FAULT.as_bytes()),
         Err(_) => 8,
+    }
+}
+
+/// Does the command of these words, or tells the usage.
+fn answer_words<S: Source, K: Sink>(
+    alloc: Global,
+    words: &[String],
+    source: &mut S,
+    sink: &mut K,
+) -> Option<u8>
+    ensures waits { IsNone result ↔ IsTrue (words_wait (command_of (map string_bytes words.now))) }
+    ensures untouched { IfNone result ((source.new ≡ source.old) × (sink.new ≡ sink.old)) }
+    ensures ends { IfSome result (λ status. Ends (command_of (map string_bytes words.now)) status
+        (record { left = S.left source.old; rest = S.left source.new; before = S.faults source.old; after = S.faults source.new })
+        (record { held = K.held sink.old; holds = K.held sink.new; before = K.faults sink.old; after = K.faults sink.new })) }
+{
+    match read_words(words) {
+        Some(command) => Some(ask_reading(alloc, command, source, sink)),
+        None => Some(tell(sink, 1, USAGE.as_bytes())),
     }
 }
 
@@ -61,11 +104,15 @@ pub fn ask<S: Source, K: Sink>(
     sink: &mut K,
 ) -> Option<u8>
     ensures waits { IsNone result ↔ IsTrue (words_wait (command_of (map string_bytes words.now))) }
+    ensures untouched { IfNone result ((source.new ≡ source.old) × (sink.new ≡ sink.old)) }
+    ensures ends { IfSome result (λ status. Ends (command_of (map string_bytes words.now)) status
+        (record { left = S.left source.old; rest = S.left source.new; before = S.faults source.old; after = S.faults source.new })
+        (record { held = K.held sink.old; holds = K.held sink.new; before = K.faults sink.old; after = K.faults sink.new })) }
+    ensures causes { IfSome result (λ status. Causes (command_of (map string_bytes words.now)) status
+        (record { left = S.left source.old; rest = S.left source.new; before = S.faults source.old; after = S.faults source.new })
+        (record { held = K.held sink.old; holds = K.held sink.new; before = K.faults sink.old; after = K.faults sink.new })) }
 {
-    match read_words(words) {
-        Some(command) => Some(ask_reading(alloc, command, source, sink)),
-        None => Some(tell(sink, 1, USAGE.as_bytes())),
-    }
+    answer_words(alloc, words, source, sink)
 }
 
 /// Does the command of these words. It waits only where the command runs hosts.
@@ -76,9 +123,28 @@ pub fn netsh<R: Threads + Wait + Sync, S: Source, K: Sink, G: Gate + Sync>(
     source: &mut S,
     sink: &mut K,
     _gate: &G,
-) -> u8 {
+) -> u8
+    ensures ends { Ends (command_of (map string_bytes words.now)) result
+        (record { left = S.left source.old; rest = S.left source.new; before = S.faults source.old; after = S.faults source.new })
+        (record { held = K.held sink.old; holds = K.held sink.new; before = K.faults sink.old; after = K.faults sink.new }) }
+    ensures causes { Causes (command_of (map string_bytes words.now)) result
+        (record { left = S.left source.old; rest = S.left source.new; before = S.faults source.old; after = S.faults source.new })
+        (record { held = K.held sink.old; holds = K.held sink.new; before = K.faults sink.old; after = K.faults sink.new }) }
+{
     match ask(alloc, words, source, sink) {
         Some(status) => status,
         None => unreachable!(),
     }
+}
+
+/// Does the command of these words over a source and a sink that never fail.
+pub fn ask_surely(
+    alloc: Global,
+    words: &[String],
+    source: &mut SureSource,
+    sink: &mut SureSink,
+) -> Option<u8>
+    ensures { IfSome result (λ status. (status ≢ 6) × (status ≢ 7)) }
+{
+    ask(alloc, words, source, sink)
 }

@@ -1,11 +1,9 @@
-use Rattle.std.proofs.Common.{◌≡◌, ℕ, ◌+◌, false, true, ◌==◌, ◌∷◌, get_or, take, drop, length, ◌-◌, ap, ◌∙◌, sym, arith, rules, length-drop, subst}
+use Rattle.std.proofs.Common.{◌≡◌, ℕ, ◌+◌, false, ◌==◌, take, drop, length, ◌-◌, arith, length-drop, subst}
 use Rattle.std.specs.List.{All}
 use Rattle.std.proofs.lemmas.Bool.Decides.{nat_tests}
-use Rattle.std.proofs.lemmas.Grind.{common_steps}
 use Rattle.std.proofs.lemmas.List.{take_all}
 use Rattle.std.proofs.lemmas.List.Elements.{All-more}
 use Rattle.std.proofs.lemmas.List.Splits.{slice_split_none}
-use Rattle.net_model.specs.Addresses.{parts_at}
 use Rattle.cs_resolver.proofs.Parts.{parts_first}
 use Rattle.cs_resolver.proofs.words.split_first.Goals as goal
 

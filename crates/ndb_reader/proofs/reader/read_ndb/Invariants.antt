@@ -1,5 +1,10 @@
 use Rattle.std.proofs.Common.{◌≡◌, length}
+use Rattle.net_model.specs.NdbText.{lines_of}
+use Rattle.ndb_reader.proofs.Reading.{Read}
 use Rattle.ndb_reader.proofs.reader.read_ndb.Given as goal
 
 abbrev pub invariant-loop-line : goal.invariant-loop-line
-invariant-loop-line l = record { number : l.number ≡ length l.yielded }
+invariant-loop-line l = record {
+  number : l.number ≡ length l.yielded;
+  read : Read (lines_of l.bytes) (length l.yielded) l.tuples.whole.items l.tuples.last.items;
+}

@@ -1,0 +1,8 @@
+use Rattle.std.proofs.Common.{◌≡◌, ◌++◌, take, map}
+use Rattle.net_model.specs.Addresses.{address_text}
+use Rattle.net_model.specs.Cs.{cs_line}
+use Rattle.cs_resolver.proofs.resolve.add_lines_at.Given as goal
+
+abbrev pub invariant-loop-port : goal.invariant-loop-port
+invariant-loop-port l =
+    l.lines ≡ l.initial.lines ++ map (cs_line l.net (address_text l.ip)) (take l.port-index l.ports)

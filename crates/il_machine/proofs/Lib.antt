@@ -1,0 +1,4 @@
+mod Places
+mod InTurn
+mod Accepting
+mod Questions

@@ -1,0 +1,66 @@
+-- What an IL end stands for, and what its calls do to that.
+use Rattle.std.specs.Prelude.{◌≡◌, ℕ, ◌<◌, ◌^◌, Bool, ◌||◌, length, Option, Some, None, if◌then◌else◌}
+use Rattle.net_model.specs.declared.il.Cause.{Cause}
+use Rattle.net_model.specs.declared.il.IlMsg.{IlMsg}
+use Rattle.net_model.specs.declared.il.IlState.{IlState}
+use Rattle.net_model.specs.declared.il.IlState.TheVariants.{Established}
+use Rattle.net_model.specs.IlEnd.{End, Turn, cause_of}
+use Rattle.net_model.specs.IlTable.{has_unread, reads, may_write, may_read, may_go_on}
+use Rattle.il_machine.specs.declared.ask.Ask.{Ask}
+use Rattle.il_machine.specs.declared.ask.Ask.TheVariants as ask
+use Rattle.il_machine.specs.declared.fault.HungupError.{HungupError}
+use Rattle.il_machine.specs.declared.fault.HungupError.TheVariants.{Hungup, Memory}
+
+-- what an IL end keeps stands for the end of the definitions: it keeps all of it
+unfoldable pub StandsFor : End → End → Type 0
+StandsFor kept e = kept ≡ e
+
+-- it stands for an end of which this is so
+abbrev pub StandsForSome : End → (End → Type 0) → Type 0
+StandsForSome kept P = (e : End) × (StandsFor kept e × P e)
+
+-- so few messages that their numbers tell their ids apart
+pub record IsShort (e : End) : Type 0 where
+  pub few_sent : length e.sent < 2 ^ 31
+  pub few_got : length e.got < 2 ^ 31
+
+-- the end becomes what this turn of it leaves, and what it emits is emitted
+abbrev pub Turns : End → End → Option IlMsg → (End → Turn) → Type 0
+Turns old new emits turn = (e : End) → StandsFor old e → StandsFor new (turn e).end × (emits ≡ (turn e).emits)
+
+-- the end becomes this
+abbrev pub Becomes : End → End → (End → End) → Type 0
+Becomes old new after = (e : End) → StandsFor old e → StandsFor new (after e)
+
+-- this is what the end says
+abbrev pub Says : {A : Type 0} → End → A → (End → A) → Type 0
+Says kept told said = (e : End) → StandsFor kept e → told ≡ said e
+
+-- what is asked for has an answer
+abbrev pub is_ready : Ask → End → Bool
+is_ready ask.Write e = may_write e.state e
+is_ready ask.Read e = may_read e
+is_ready ask.Wait e = may_go_on e.state
+
+-- Writing and reading.
+
+-- why nothing more is written
+abbrev pub write_refusal : End → Option Cause
+write_refusal e = refusal_in e.state e
+  where
+    refusal_in : IlState → End → Option Cause
+    refusal_in Established e = None
+    refusal_in _ e = Some (cause_of e)
+
+-- why nothing more is read
+abbrev pub read_refusal : End → Option Cause
+read_refusal e = if has_unread e || e.marked then None else Some (cause_of e)
+
+-- the end after a read of so many bytes
+abbrev pub after_read : ℕ → End → End
+after_read count e = if has_unread e then reads count e else e
+
+-- an error tells the end's refusal, or that there was no memory
+abbrev pub TellsRefusal : End → HungupError → (End → Option Cause) → Type 0
+TellsRefusal old (Hungup why) refusal = Says old (Some why) refusal
+TellsRefusal old Memory refusal = Unit {0}

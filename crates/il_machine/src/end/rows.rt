@@ -1,0 +1,209 @@
+//! The rows of the table for what comes, a function for each state.
+ghost use Rattle.std.specs.Prelude.{◌≡◌, ℕ, ◌<◌, ◌^◌, IfOk, OnOk, OnErr};
+ghost use Rattle.net_model.specs.declared.il.IlKind.TheVariants as kind;
+ghost use Rattle.net_model.specs.declared.il.IlState.TheVariants as state;
+ghost use Rattle.net_model.specs.IlEnd as spec;
+ghost use Rattle.net_model.specs.IlTable as table;
+ghost use Rattle.il_machine.specs.Stands.{IsShort};
+
+use crate::end::IlEnd;
+use il_queues::Timer;
+use net_model::{Cause, IlKind, IlMsg, IlState};
+use std::alloc::AllocError;
+
+impl IlEnd {
+    /// Syncer: its sync is answered or refused.
+    pub(super) fn arrive_at_syncer(&mut self, now: u64, message: &IlMsg) -> Option<IlMsg>
+        requires { now < 2 ^ 63 }
+        ensures end { self.new ≡ (table.at_syncer message.now.kind now message.now self.old).end }
+        ensures emits { result ≡ (table.at_syncer message.now.kind now message.now self.old).emits }
+    {
+        match message.kind {
+            IlKind::Sync if message.ack == self.start => {
+                self.rstart = Some(message.id);
+                self.hear(now);
+                self.establish();
+                Some(self.says(IlKind::Ack))
+            }
+            IlKind::Close if message.spec == 1 && message.ack == self.start => {
+                self.hear(now);
+                self.close(Some(Cause::Refused));
+                None
+            }
+            _ => None,
+        }
+    }
+
+    /// Syncee: the sync that it was born from comes again, or the first message that acknowledges its own.
+    pub(super) fn arrive_at_syncee(
+        &mut self,
+        now: u64,
+        message: &IlMsg,
+    ) -> Result<Option<IlMsg>, AllocError>
+        requires in_time { now < 2 ^ 63 }
+        requires short { IsShort self.old }
+        requires syncee { self.old.state ≡ state.Syncee }
+        ensures end { OnOk result (self.new ≡ (table.at_syncee message.now.kind now message.now self.old).end) }
+        ensures emits { IfOk result (λ emits. emits ≡ (table.at_syncee message.now.kind now message.now self.old).emits) }
+        ensures err { OnErr result (self.new ≡ self.old) }
+    {
+        match message.kind {
+            IlKind::Sync if message.id == self.rstart.unwrap_or(0) => {
+                self.hear(now);
+                Ok(Some(self.sync()))
+            }
+            IlKind::Sync => Ok(None),
+            IlKind::Close if message.spec == 1 => Ok(None),
+            _ if message.ack == self.start => self.join(now, message),
+            _ => Ok(None),
+        }
+    }
+
+    /// Becomes Established, and then as Established.
+    fn join(&mut self, now: u64, message: &IlMsg) -> Result<Option<IlMsg>, AllocError>
+        requires in_time { now < 2 ^ 63 }
+        requires short { IsShort self.old }
+        requires syncee { self.old.state ≡ state.Syncee }
+        ensures end { OnOk result (self.new ≡ (table.at_established message.now.kind now message.now (spec.establishes (spec.hears now self.old))).end) }
+        ensures emits { IfOk result (λ emits. emits ≡ (table.at_established message.now.kind now message.now (spec.establishes (spec.hears now self.old))).emits) }
+        ensures err { OnErr result (self.new ≡ self.old) }
+    {
+        let timer = Timer {
+            due: self.timer.due,
+            interval: self.timer.interval,
+            heard: self.timer.heard,
+        };
+        self.hear(now);
+        self.establish();
+        let answer = self.arrive_at_established(now, message);
+        if answer.is_err() {
+            self.state = IlState::Syncee;
+            self.timer = timer;
+        }
+        answer
+    }
+
+    /// Established: data, acks and questions, and the other end's close.
+    pub(super) fn arrive_at_established(
+        &mut self,
+        now: u64,
+        message: &IlMsg,
+    ) -> Result<Option<IlMsg>, AllocError>
+        requires in_time { now < 2 ^ 63 }
+        requires short { IsShort self.old }
+        ensures end { OnOk result (self.new ≡ (table.at_established message.now.kind now message.now self.old).end) }
+        ensures emits { IfOk result (λ emits. emits ≡ (table.at_established message.now.kind now message.now self.old).emits) }
+        ensures err { OnErr result (self.new ≡ self.old) }
+    {
+        match message.kind {
+            IlKind::Sync if message.id == self.rstart.unwrap_or(0) => {
+                self.hear(now);
+                Ok(Some(self.says(IlKind::Ack)))
+            }
+            IlKind::Sync => Ok(None),
+            IlKind::Data => {
+                self.take_in(now, message)?;
+                Ok(Some(self.says(IlKind::Ack)))
+            }
+            IlKind::DataQuery => {
+                self.take_in(now, message)?;
+                if self.misses(message) {
+                    Ok(Some(self.says(IlKind::Ack)))
+                } else {
+                    Ok(Some(self.says(IlKind::State)))
+                }
+            }
+            IlKind::Ack => {
+                self.hear_ack(now, message);
+                Ok(None)
+            }
+            IlKind::Query => {
+                self.hear_ack(now, message);
+                Ok(Some(self.says(IlKind::State)))
+            }
+            IlKind::State => {
+                let again = self.again(self.acked_after(message))?;
+                self.hear_ack(now, message);
+                Ok(again)
+            }
+            IlKind::Close => Ok(self.close_comes(now, message)),
+        }
+    }
+
+    /// Established: a close comes, after the last message or too soon.
+    fn close_comes(&mut self, now: u64, message: &IlMsg) -> Option<IlMsg>
+        requires in_time { now < 2 ^ 63 }
+        requires short { IsShort self.old }
+        ensures end { self.new ≡ (table.at_established kind.Close now message.now self.old).end }
+        ensures emits { result ≡ (table.at_established kind.Close now message.now self.old).emits }
+    {
+        if message.spec != 0 {
+            return None;
+        }
+        let is_last = message.id == self.recvd();
+        self.hear_ack(now, message);
+        if !is_last {
+            return Some(self.says(IlKind::State));
+        }
+        self.marked = true;
+        self.close(Some(Cause::ByPeer));
+        Some(self.says(IlKind::Close))
+    }
+
+    /// Closing: all is answered by a close, until one comes.
+    pub(super) fn arrive_at_closing(
+        &mut self,
+        now: u64,
+        message: &IlMsg,
+    ) -> Result<Option<IlMsg>, AllocError>
+        requires in_time { now < 2 ^ 63 }
+        requires short { IsShort self.old }
+        ensures end { OnOk result (self.new ≡ (table.at_closing message.now.kind now message.now self.old).end) }
+        ensures emits { IfOk result (λ emits. emits ≡ (table.at_closing message.now.kind now message.now self.old).emits) }
+        ensures err { OnErr result (self.new ≡ self.old) }
+    {
+        match message.kind {
+            IlKind::Sync => {
+                self.hear(now);
+                Ok(Some(self.says(IlKind::Close)))
+            }
+            IlKind::Data | IlKind::DataQuery | IlKind::Query => {
+                self.hear_ack(now, message);
+                Ok(Some(self.says(IlKind::Close)))
+            }
+            IlKind::Ack => {
+                self.hear_ack(now, message);
+                Ok(None)
+            }
+            IlKind::State => {
+                let again = self.again(self.acked_after(message))?;
+                self.hear_ack(now, message);
+                match again {
+                    Some(first) => Ok(Some(first)),
+                    None => Ok(Some(self.says(IlKind::Close))),
+                }
+            }
+            IlKind::Close if message.spec == 0 => {
+                self.hear_ack(now, message);
+                self.close(self.cause);
+                Ok(None)
+            }
+            IlKind::Close => Ok(None),
+        }
+    }
+
+    /// Closed: an end that is marked answers a close that comes again.
+    pub(super) fn arrive_at_closed(&mut self, now: u64, message: &IlMsg) -> Option<IlMsg>
+        requires { now < 2 ^ 63 }
+        ensures end { self.new ≡ (table.at_closed message.now.kind now message.now self.old).end }
+        ensures emits { result ≡ (table.at_closed message.now.kind now message.now self.old).emits }
+    {
+        match message.kind {
+            IlKind::Close if self.marked && message.spec == 0 => {
+                self.hear(now);
+                Some(self.says(IlKind::Close))
+            }
+            _ => None,
+        }
+    }
+}

@@ -1,0 +1,3 @@
+pub mod CsAnswers
+pub mod Endings
+pub mod Statuses

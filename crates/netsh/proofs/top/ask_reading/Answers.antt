@@ -1,0 +1,16 @@
+use Rattle.std.proofs.Common.{Err, ap, refl}
+use Rattle.netsh.specs.Ends.{no_memory}
+use Rattle.netsh.proofs.Endings.{ends_answered, ends_unread}
+use Rattle.netsh.proofs.top.ask_reading.Goals as goal
+
+pub returns-in-Ok : goal.returns-in-Ok
+returns-in-Ok g c =
+    ends_answered _ _ _ _ _ _ _ c.in-Ok.ensures.ok c.status.ensures c.text.ensures c.tell.ensures.told
+
+pub returns-in-Err-Failed : goal.returns-in-Err-Failed
+returns-in-Err-Failed g c =
+    ends_unread _ _ _ _ _ (c.in-Err-Failed.ensures.failed (ap Err c.in-Err-Failed.field-0-is)) c.as_bytes.ensures.value
+    c.tell-in-Err-Failed.ensures.told
+
+pub returns-in-Err : goal.returns-in-Err
+returns-in-Err g c = no_memory _ refl refl refl
