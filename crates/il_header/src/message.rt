@@ -1,8 +1,8 @@
 //! IL messages.
-ghost use Rattle.std.specs.Prelude.{◌≡◌, ◌≢◌, ◌+◌, ◌<◌, ◌≤◌, ◌++◌, ◌↔◌, ℕ, List, length, drop, IfOk, IsOkAnd, IsErrOf};
+ghost use Rattle.std.specs.Prelude.{◌≡◌, ◌≢◌, ◌+◌, ◌<◌, ◌≤◌, ◌++◌, ◌↔◌, ℕ, List, length, take, drop, IfOk, IsOkAnd, IsErrOf};
 ghost use Rattle.net_model.specs.declared.il.IlMsg.{IlMsg};
 ghost use Rattle.net_model.specs.Bytes.{word_at};
-ghost use Rattle.net_model.specs.IlWire.{SpellsIl, il_bytes, il_length, il_sum, il_with, kind_of, type_field, type_number};
+ghost use Rattle.net_model.specs.IlWire.{IsMessage, SpellsIl, il_bytes, il_length, il_sum, il_with, kind_of, type_field, type_number};
 ghost use Rattle.il_header.specs.Faults.{HasHeader, HasLength, HasSum};
 ghost use Rattle.il_header.specs.Views.{message_in};
 
@@ -33,10 +33,20 @@ pub fn encode_il(sport: u16, dport: u16, message: &IlMsg, out: &mut [u8]) -> usi
     requires room { 18 + length message.now.text ≤ length out.old }
     ensures len { result ≡ 18 + length message.now.text }
     ensures spelled { out.new ≡ il_bytes sport dport message.now ++ drop result out.old }
+    ensures spells { SpellsIl sport dport message.now (take result out.new) }
 {
     let text = message.text.as_slice();
     let total = HEADER + text.len();
-    out[..HEADER].copy_from_slice(&header_bytes(sport, dport, message));
+    let header = header_bytes(
+        sport,
+        dport,
+        message.kind,
+        message.spec,
+        message.id,
+        message.ack,
+        total as u16,
+    );
+    out[..HEADER].copy_from_slice(&header);
     out[HEADER..total].copy_from_slice(text);
     let sum = sum(&out[..total]);
     BigEndian::write_u16(out, sum);
@@ -90,20 +100,27 @@ fn sum_of_message(bytes: &[u8]) -> u16
     sum(after)
 }
 
-// The header of a message, with a zero in its sum field.
-fn header_bytes(sport: u16, dport: u16, message: &IlMsg) -> [u8; 18]
-    requires { length message.now.text ≤ 65517 }
-    ensures { result ++ message.now.text ≡ il_with 0 sport dport message.now }
+// The header of a message of so many bytes, with a zero in its sum field.
+fn header_bytes(
+    sport: u16,
+    dport: u16,
+    kind: IlKind,
+    spec: u8,
+    id: u32,
+    ack: u32,
+    total: u16,
+) -> [u8; 18]
+    ensures value { (text : List ℕ) → 18 + length text ≡ total → result ++ text ≡ il_with 0 sport dport (message_in kind spec id ack text) }
+    ensures fits { (text : List ℕ) → IsMessage (message_in kind spec id ack text) }
 {
-    let total = (HEADER + message.text.len()) as u16;
     let mut bytes = [0; HEADER];
     BigEndian::write_u16(&mut bytes[2..], total);
-    bytes[4] = type_of(message.kind);
-    bytes[5] = message.spec;
+    bytes[4] = type_of(kind);
+    bytes[5] = spec;
     BigEndian::write_u16(&mut bytes[6..], sport);
     BigEndian::write_u16(&mut bytes[8..], dport);
-    BigEndian::write_u32(&mut bytes[10..], message.id);
-    BigEndian::write_u32(&mut bytes[14..], message.ack);
+    BigEndian::write_u32(&mut bytes[10..], id);
+    BigEndian::write_u32(&mut bytes[14..], ack);
     bytes
 }
 

@@ -1,7 +1,7 @@
 //! IPv4 headers.
-ghost use Rattle.std.specs.Prelude.{◌≡◌, ◌≢◌, ◌+◌, ◌^◌, ◌<◌, ◌≤◌, ◌++◌, ◌↔◌, ℕ, false, List, length, drop, IfOk, IsOkAnd, IsErrOf};
+ghost use Rattle.std.specs.Prelude.{◌≡◌, ◌≢◌, ◌+◌, ◌^◌, ◌<◌, ◌≤◌, ◌++◌, ◌↔◌, ℕ, false, List, length, take, drop, IfOk, IsOkAnd, IsErrOf};
 ghost use Rattle.net_model.specs.Bytes.{word_at};
-ghost use Rattle.net_model.specs.Ipv4.{Ipv4, SpellsIpv4, flags, fragment, header_of, header_sum, header_words, ipv4_bytes, summed, total_length, version};
+ghost use Rattle.net_model.specs.Ipv4.{Ipv4, IsHeader, SpellsIpv4, flags, fragment, header_of, header_sum, header_words, ipv4_bytes, summed, total_length, version};
 ghost use Rattle.ip_wire.specs.Faults.{HasHeader, HasHeaderSum, HasNoOptions, IsNoFragment, IsVersion4};
 ghost use Rattle.ip_wire.specs.Headers.{view};
 
@@ -38,11 +38,22 @@ pub fn encode_ip(header: &IpHeader, payload: &[u8], out: &mut [u8]) -> usize
     requires room { 20 + length payload.now ≤ length out.old }
     ensures len { result ≡ 20 + length payload.now }
     ensures spelled { out.new ≡ ipv4_bytes (view header.now) payload.now ++ drop result out.old }
+    ensures spells { SpellsIpv4 (view header.now) payload.now (take result out.new) }
 {
     let total = HEADER + payload.len();
-    out[..HEADER].copy_from_slice(&header_bytes(header, total as u16));
+    out[..HEADER].copy_from_slice(&header_bytes(*header, total as u16));
     out[HEADER..total].copy_from_slice(payload);
     total
+}
+
+/// Writes the header of a datagram in front of a payload of so many bytes, which may stand behind it already.
+pub fn encode_ip_header(header: &IpHeader, count: usize, out: &mut [u8])
+    requires fits { 20 + count < 2 ^ 16 }
+    requires room { 20 ≤ length out.old }
+    ensures spelled { out.new ≡ summed false (20 + count) (view header.now) ++ drop 20 out.old }
+    ensures fits { IsHeader (view header.now) }
+{
+    out[..HEADER].copy_from_slice(&header_bytes(*header, (HEADER + count) as u16));
 }
 
 /// The datagram that the bytes spell.
@@ -109,10 +120,11 @@ fn read_header(bytes: &[u8]) -> IpHeader
 }
 
 // The header of a datagram of so many bytes, with its sum.
-fn header_bytes(header: &IpHeader, total: u16) -> [u8; 20]
-    ensures { result ≡ summed false total (view header.now) }
+fn header_bytes(header: IpHeader, total: u16) -> [u8; 20]
+    ensures value { result ≡ summed false total (view header) }
+    ensures fits { IsHeader (view header) }
 {
-    let flags = flags_of(header);
+    let flags = flags_of(&header);
     let mut bytes = [0; HEADER];
     bytes[0] = 0x45;
     bytes[1] = header.tos;

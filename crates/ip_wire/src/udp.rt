@@ -1,5 +1,5 @@
 //! UDP headers.
-ghost use Rattle.std.specs.Prelude.{◌≡◌, ◌≢◌, ◌+◌, ◌^◌, ◌<◌, ◌≤◌, ◌++◌, ◌↔◌, ℕ, List, length, drop, sum, IfOk, IfErr, IsOkAnd, IsErrOf, ◌⊎◌};
+ghost use Rattle.std.specs.Prelude.{◌≡◌, ◌≢◌, ◌+◌, ◌^◌, ◌<◌, ◌≤◌, ◌++◌, ◌↔◌, ℕ, List, length, take, drop, sum, IfOk, IfErr, IsOkAnd, IsErrOf, ◌⊎◌};
 ghost use Rattle.net_model.specs.Sum.{words};
 ghost use Rattle.net_model.specs.UdpWire.{SpellsUdp, address, pseudo_header, received_sum, sent_sum, sum_field, udp_bytes, udp_length};
 ghost use Rattle.ip_wire.specs.Faults.{HasUdpHeader, HasUdpSum};
@@ -27,6 +27,7 @@ pub fn encode_udp(src: Addr, dst: Addr, text: &[u8], out: &mut [u8]) -> usize
     requires room { 8 + length text.now ≤ length out.old }
     ensures len { result ≡ 8 + length text.now }
     ensures spelled { out.new ≡ udp_bytes src dst text.now ++ drop result out.old }
+    ensures spells { SpellsUdp src dst text.now (take result out.new) }
 {
     let total = HEADER + text.len();
     out[..HEADER].copy_from_slice(&header_bytes(src, dst, text));

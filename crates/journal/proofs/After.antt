@@ -1,8 +1,6 @@
 -- What becomes of a pass and a book after a step with both at hand.
-use Rattle.std.proofs.Common.{filter, ◌≡◌, ℕ, ◌<◌, ◌≤◌, inl, inr, ⊎_elim, Bool, true, false, not, List, [], ◌∷◌, ◌++◌, length, map, replicate, slice_index, zero, suc, if◌then◌else◌, refl, ap, sym, subst, ◌∙◌, arith}
-use Rattle.std.proofs.lemmas.Bool.Decides.{nat_tests}
+use Rattle.std.proofs.Common.{filter, ◌≡◌, ℕ, ◌<◌, ◌≤◌, inl, inr, ⊎_elim, Bool, true, not, List, [], ◌∷◌, ◌++◌, length, map, replicate, slice_index, zero, suc, if◌then◌else◌, refl, ap, sym, subst, ◌∙◌, arith}
 use Rattle.net_model.specs.declared.actor.ActorName.{ActorName}
-use Rattle.net_model.specs.declared.actor.ActorName.TheVariants as name
 use Rattle.net_model.specs.declared.noted.Noted.{Noted}
 use Rattle.net_model.specs.declared.noted.Number.{Number}
 use Rattle.net_model.specs.declared.noted.Number.TheVariants as number

@@ -1,5 +1,5 @@
 -- A machine as the fold of its step, and what a call on it says.
-use Rattle.std.specs.Prelude.{◌≡◌, ℕ, Bool, true, false, List, [], ◌∷◌, ◌++◌, length, map, Option, Some, None, option_map}
+use Rattle.std.specs.Prelude.{◌≡◌, ℕ, false, List, [], ◌∷◌, ◌++◌, length, map, Option, Some, None, option_map}
 use mathlib.Core.List.{IsPrefix}
 use Rattle.net_model.specs.declared.actor.ActorName.{ActorName}
 use Rattle.net_model.specs.declared.actor.ActorName.TheVariants as name

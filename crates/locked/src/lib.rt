@@ -8,3 +8,6 @@ mod machine;
 pub use desk::{Answer, Desk, View};
 pub use lock::Locked;
 pub use machine::Machine;
+
+#[cfg(test)]
+mod tests;

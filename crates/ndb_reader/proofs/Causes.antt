@@ -8,6 +8,7 @@ use Rattle.net_model.specs.NdbBundle.{cause, causes_of, least, is_nameless}
 use Rattle.net_model.specs.NdbForm.{is_unbuilt, causes_beside, causes_so_far}
 use Rattle.net_model.proofs.NdbForms.{causes-built, built, built_if}
 use Rattle.net_model.proofs.NdbPlain.{words_of-plain}
+use Rattle.net_model.proofs.NdbFiles.{is_empty-map}
 
 -- the first of the tests that holds
 abbrev pub picked : Bool → Bool → Bool → Bool → Bool → Option ℕ
@@ -38,10 +39,6 @@ least-beside has line false e = ap least (causes-built has line e)
 any-map : {X Y : Type 0} (q : Y → Bool) (f : X → Y) (xs : List X) → list_any q (map f xs) ≡ list_any (λ x. q (f x)) xs
 any-map q f [] = refl
 any-map q f (x ∷ xs) = ap (λ b. q (f x) || b) (any-map q f xs)
-
-pub is_empty-map : {X Y : Type 0} (f : X → Y) (xs : List X) → is_empty (map f xs) ≡ is_empty xs
-is_empty-map f [] = refl
-is_empty-map f (x ∷ xs) = refl
 
 picked-same : {a b m n y z d e u v : Bool} → a ≡ b → m ≡ n → y ≡ z → d ≡ e → u ≡ v → picked a m y d u ≡ picked b n z e v
 picked-same {a} {b} {m} {n} {y} {z} {d} {e} {u} {v} ab mn yz de uv =

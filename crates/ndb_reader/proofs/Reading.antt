@@ -4,7 +4,7 @@ use Rattle.std.specs.List.{list_any}
 use Rattle.std.proofs.lemmas.List.{at_drop_more, at_drop_all, take_more}
 use Rattle.std.proofs.lemmas.List.Folds.{list_any-append}
 use Rattle.net_model.specs.declared.ndb.NdbPair.{NdbPair}
-use Rattle.net_model.specs.NdbText.{is_white, begins, is_empty, words_of, pair_of, pairs_of, starts, goes_on, going_on, tuples_of}
+use Rattle.net_model.specs.NdbText.{is_white, begins, is_empty, pairs_of, starts, goes_on, going_on, tuples_of}
 use Rattle.net_model.specs.NdbBundle.{is_file_line, has_tuple, cause, least, told, first_bad}
 use Rattle.net_model.specs.NdbForm.{is_unbuilt, causes_so_far}
 use Rattle.net_model.proofs.NdbPlain.{or_false}
@@ -13,7 +13,7 @@ use Rattle.ndb_reader.specs.Told.{Tells, tuple_of}
 use Rattle.ndb_reader.specs.declared.fault.NdbError.{NdbError}
 use Rattle.ndb_reader.specs.declared.fault.NdbError.TheVariants.{Memory, Bad}
 use Rattle.std.specs.Option.{option_map}
-use Rattle.ndb_reader.proofs.Causes.{is_empty-map}
+use Rattle.net_model.proofs.NdbFiles.{starts-at, goes_on-at}
 
 -- the tuples of what is left, where a tuple of these lines goes on
 abbrev pub resumed : List (List NdbPair) → List (List ℕ) → List (List (List NdbPair))
@@ -85,15 +85,6 @@ or_nothing false = refl
 or_something : (b : Bool) → (b || (true || false)) ≡ true
 or_something true = refl
 or_something false = refl
-
--- the kind of a line, by its pairs and its first byte
-starts-at : (line : List ℕ) (e w : Bool) → is_empty (pairs_of line) ≡ e → begins is_white line ≡ w → starts line ≡ (not e && not w)
-starts-at line e w he hw =
-    ap (λ (b : Bool). not b && not (begins is_white line)) (sym (is_empty-map pair_of (words_of line)) ∙ he) ∙ ap (λ (b : Bool). not e && not b) hw
-
-goes_on-at : (line : List ℕ) (e w : Bool) → is_empty (pairs_of line) ≡ e → begins is_white line ≡ w → goes_on line ≡ (not e && w)
-goes_on-at line e w he hw =
-    ap (λ (b : Bool). not b && begins is_white line) (sym (is_empty-map pair_of (words_of line)) ∙ he) ∙ ap (λ (b : Bool). not e && b) hw
 
 -- the tuples of what is left, by the kind of the next line
 abbrev resumed_by : List (List NdbPair) → List NdbPair → List (List ℕ) → Bool → Bool → List (List (List NdbPair))

@@ -1,7 +1,9 @@
 //! The text of a database, line by line.
 ghost use Rattle.std.specs.Prelude.{◌≡◌, Option, None, Some, IfOk, OnOk, IfErr};
 ghost use Rattle.net_model.specs.NdbBundle.{reading};
+ghost use Rattle.net_model.specs.NdbText.{lines_of};
 ghost use Rattle.net_model.specs.NdbForm.{bad_line_so_far};
+ghost use Rattle.net_model.specs.NdbSpelling.{ReadsFile};
 ghost use Rattle.ndb_reader.specs.Told.{Tells};
 
 use crate::fault::NdbError;
@@ -13,6 +15,7 @@ use std::alloc::Global;
 /// The tuples of a text, or its first bad line. It goes once through the bytes, and copies each at most once.
 pub fn read_ndb(alloc: Global, bytes: &[u8]) -> Result<Db, NdbError>
     ensures ok { IfOk result (λ db. reading bytes.now ≡ Some db) }
+    ensures spelled { IfOk result (λ db. ReadsFile (lines_of bytes.now) db) }
     ensures good { OnOk result (bad_line_so_far bytes.now ≡ None) }
     ensures bad { IfErr result (λ e. Tells e (bad_line_so_far bytes.now)) }
 {

@@ -58,11 +58,11 @@ in_pushed [] y (suc k) x is = absurd (none-some x is)
 in_pushed (z ∷ h) y zero x is = inl (omega arith, is)
 in_pushed (z ∷ h) y (suc k) x is = elim (in_pushed h y k x is) [ inl there ↦ inl (omega (arith, there.0), there.1) | inr last ↦ inr (ap suc last.0, last.1) ]
 
-at_push : (h : List Entry) (x : Entry) → slice_get (h ++ x ∷ []) (length h) ≡ Some x
+pub at_push : (h : List Entry) (x : Entry) → slice_get (h ++ x ∷ []) (length h) ≡ Some x
 at_push [] x = refl
 at_push (y ∷ h) x = at_push h x
 
-before_push : (h : List Entry) (x y : Entry) (k : ℕ) → slice_get h k ≡ Some y → slice_get (h ++ x ∷ []) k ≡ Some y
+pub before_push : (h : List Entry) (x y : Entry) (k : ℕ) → slice_get h k ≡ Some y → slice_get (h ++ x ∷ []) k ≡ Some y
 before_push [] x y k is = absurd (none-some y is)
 before_push (z ∷ h) x y zero is = is
 before_push (z ∷ h) x y (suc k) is = before_push h x y k is

@@ -21,3 +21,9 @@ pub mod CsLaws
 pub mod CasesUdp
 pub mod CasesIl
 pub mod CasesFaults
+pub mod Owed
+pub mod DirPairs
+pub mod NdbComplete
+pub mod NdbSound
+pub mod NdbFiles
+pub mod NdbFirsts

@@ -17,7 +17,7 @@ none-map q f [] h = refl
 none-map q f (x ∷ xs) h =
     or_false _ _ (or_false_first (q (f x)) (list_any (λ x. q (f x)) xs) h) (none-map q f xs (or_false_rest (q (f x)) (list_any (λ x. q (f x)) xs) h))
 
-none-weaker : {X : Type 0} (p q : X → Bool) (xs : List X) → ((x : X) → p x ≡ false → q x ≡ false) → list_any p xs ≡ false → list_any q xs ≡ false
+pub none-weaker : {X : Type 0} (p q : X → Bool) (xs : List X) → ((x : X) → p x ≡ false → q x ≡ false) → list_any p xs ≡ false → list_any q xs ≡ false
 none-weaker p q [] f h = refl
 none-weaker p q (x ∷ xs) f h =
     or_false _ _ (f x (or_false_first (p x) (list_any p xs) h)) (none-weaker p q xs f (or_false_rest (p x) (list_any p xs) h))

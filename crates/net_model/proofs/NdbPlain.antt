@@ -22,13 +22,13 @@ pub one_add : (m : ℕ) → 1 + m ≡ suc m
 one_add m = omega arith
 
 -- no byte passes in a part of bytes where none does
-none-take : (p : ℕ → Bool) (n : ℕ) (xs : List ℕ) → list_any p xs ≡ false → list_any p (take n xs) ≡ false
+pub none-take : (p : ℕ → Bool) (n : ℕ) (xs : List ℕ) → list_any p xs ≡ false → list_any p (take n xs) ≡ false
 none-take p zero xs h = refl
 none-take p (suc n) [] h = refl
 none-take p (suc n) (x ∷ xs) h =
     or_false _ _ (or_false_first (p x) (list_any p xs) h) (none-take p n xs (or_false_rest (p x) (list_any p xs) h))
 
-none-drop : (p : ℕ → Bool) (n : ℕ) (xs : List ℕ) → list_any p xs ≡ false → list_any p (drop n xs) ≡ false
+pub none-drop : (p : ℕ → Bool) (n : ℕ) (xs : List ℕ) → list_any p xs ≡ false → list_any p (drop n xs) ≡ false
 none-drop p zero xs h = h
 none-drop p (suc n) [] h = refl
 none-drop p (suc n) (x ∷ xs) h = none-drop p n xs (or_false_rest (p x) (list_any p xs) h)
@@ -43,7 +43,7 @@ record Front (p : ℕ → Bool) (bs : List ℕ) (others : List (List ℕ)) : Typ
   behind : slice_split p (drop (position_or_len p bs) bs) ≡ [] ∷ others
 
 -- the first part goes on where a byte doesn't pass
-before_first-cons : (p : ℕ → Bool) (b : ℕ) (bs : List ℕ) → p b ≡ false → before_first p (b ∷ bs) ≡ b ∷ before_first p bs
+pub before_first-cons : (p : ℕ → Bool) (b : ℕ) (bs : List ℕ) → p b ≡ false → before_first p (b ∷ bs) ≡ b ∷ before_first p bs
 before_first-cons p b bs e = rw (e, one_add) refl
 
 front_if : (p : ℕ → Bool) (b : ℕ) (bs : List ℕ) (v : Bool) → p b ≡ v → (others : List (List ℕ)) × Front p bs others → (others : List (List ℕ)) × Front p (b ∷ bs) others
@@ -77,15 +77,15 @@ runs-run b bs parts e = rw (e, one_add) refl
 pub runs-hash : (b : ℕ) (bs : List ℕ) (parts : List (List ℕ)) → is_hash b ≡ true → runs_in ((b ∷ bs) ∷ parts) ≡ []
 runs-hash b bs parts e = rw e refl
 
-words-word : (b : ℕ) (bytes : List ℕ) → is_white b ≡ false → is_hash b ≡ false → words_behind 0 (b ∷ bytes) ≡ word_of (b ∷ bytes) ∷ words_behind ((word_of (b ∷ bytes)).takes - 1) bytes
+pub words-word : (b : ℕ) (bytes : List ℕ) → is_white b ≡ false → is_hash b ≡ false → words_behind 0 (b ∷ bytes) ≡ word_of (b ∷ bytes) ∷ words_behind ((word_of (b ∷ bytes)).takes - 1) bytes
 words-word b bytes e f =
     subst (λ (w : Bool). elim w [ true ↦ words_behind 0 bytes | false ↦ elim (is_hash b) [ true ↦ [] | false ↦ word_of (b ∷ bytes) ∷ words_behind ((word_of (b ∷ bytes)).takes - 1) bytes ] ] ≡ word_of (b ∷ bytes) ∷ words_behind ((word_of (b ∷ bytes)).takes - 1) bytes) (sym e)
     (subst (λ (w : Bool). elim w [ true ↦ [] | false ↦ word_of (b ∷ bytes) ∷ words_behind ((word_of (b ∷ bytes)).takes - 1) bytes ] ≡ word_of (b ∷ bytes) ∷ words_behind ((word_of (b ∷ bytes)).takes - 1) bytes) (sym f) refl)
 
-words-hash : (b : ℕ) (bytes : List ℕ) → is_white b ≡ false → is_hash b ≡ true → words_behind 0 (b ∷ bytes) ≡ []
+pub words-hash : (b : ℕ) (bytes : List ℕ) → is_white b ≡ false → is_hash b ≡ true → words_behind 0 (b ∷ bytes) ≡ []
 words-hash b bytes e f = rw (words_behind, e, words_behind, f) refl
 
-words-white : (b : ℕ) (bytes : List ℕ) → is_white b ≡ true → words_behind 0 (b ∷ bytes) ≡ words_behind 0 bytes
+pub words-white : (b : ℕ) (bytes : List ℕ) → is_white b ≡ true → words_behind 0 (b ∷ bytes) ≡ words_behind 0 bytes
 words-white b bytes e = rw (words_behind, e) refl
 
 split-run : (b : ℕ) (bytes : List ℕ) (others : List (List ℕ)) → is_white b ≡ false → Front is_white bytes others → slice_split is_white (b ∷ bytes) ≡ (b ∷ before_first is_white bytes) ∷ others

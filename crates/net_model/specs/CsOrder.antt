@@ -10,7 +10,7 @@ abbrev pub Dials : List ℕ → Proto → ℕ → Type 0
 Dials line net ip =
     (ip < 2 ^ 32) × ((port : ℕ) × (port < 2 ^ 16) × (line ≡ cs_line net (address_text ip) port))
 
--- an address on the networks comes first of two of one net, or neither does
+-- of two addresses of one net, the later is on the networks only where the earlier is
 abbrev pub MayPrecede : List Network → List ℕ → List ℕ → Type 0
 MayPrecede networks line later =
     (net : Proto) (ip other : ℕ) → Dials line net ip → Dials later net other

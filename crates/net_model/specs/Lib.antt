@@ -49,3 +49,8 @@ pub mod WorkedUdp
 pub mod Written
 pub mod WorkedIl
 pub mod WorkedFaults
+pub mod Transcript
+pub mod Summary
+pub mod NdbSpelling
+pub mod NdbFirst
+pub mod NdbExample

@@ -97,7 +97,14 @@ word_of bytes =
 abbrev pub words_behind : ℕ → List ℕ → List Word
 words_behind n [] = []
 words_behind (suc n) (b ∷ bytes) = words_behind n bytes
-words_behind zero (b ∷ bytes) = elim (is_white b) [ true ↦ words_behind 0 bytes | false ↦ elim (is_hash b) [ true ↦ [] | false ↦ word_of (b ∷ bytes) ∷ words_behind ((word_of (b ∷ bytes)).takes - 1) bytes ] ]
+words_behind zero (b ∷ bytes) =
+    elim (is_white b) [
+      | true ↦ words_behind 0 bytes
+      | false ↦ elim (is_hash b) [
+        | true ↦ []
+        | false ↦ word_of (b ∷ bytes) ∷ words_behind ((word_of (b ∷ bytes)).takes - 1) bytes
+      ]
+    ]
 
 -- the words of a line; one that begins with `%` has none
 abbrev pub words_of : List ℕ → List Word

@@ -1,5 +1,5 @@
 //! Laws of the definitions.
-ghost use Rattle.std.specs.Prelude.{◌≡◌, ◌↔◌, List, ℕ, Ok, Err, Some, true, false, take};
+ghost use Rattle.std.specs.Prelude.{◌≡◌, ◌↔◌, List, ℕ, Ok, Err, Some, true, false, take, slice_get};
 ghost use Rattle.net_model.specs.ControlWords as control;
 ghost use Rattle.net_model.specs.Paths as paths;
 ghost use Rattle.net_model.specs.declared.names.Ctl.{Ctl};
@@ -9,7 +9,9 @@ ghost use Rattle.net_model.specs.declared.history.Entry.{Entry};
 ghost use Rattle.net_model.specs.declared.world.World.{World};
 ghost use Rattle.net_model.specs.Actors.{opening_actor};
 ghost use Rattle.net_model.specs.Legal.{IsFault, IsLegal, IsTimed, Rule};
-ghost use Rattle.net_model.specs.Net.{state, played, works};
+ghost use Rattle.net_model.specs.Net.{owed, state, played, works};
+ghost use Rattle.net_model.specs.Duties.{Duty};
+ghost use Rattle.net_model.specs.Stamped.{In};
 
 /// The reading of a ctl file's text is its grammar's.
 pub fn controls_are_read()
@@ -37,4 +39,9 @@ pub fn state_is_fold()
 /// A history with a fault isn't both legal and timed.
 pub fn a_fault_is_not_legal()
     ensures { (w : World) (h : List Entry) (stamp : ℕ) (rule : Rule) → IsFault w h stamp rule → IsLegal w h → IsTimed w h → ⊥ }
+{}
+
+/// Each duty that a caller owes cites an earlier entry of its own.
+pub fn duties_cite_their_own()
+    ensures { (w : World) (h : List Entry) (c : ℕ) (d : Duty) → In d (owed w h c) → (x : Entry) × (slice_get h d.cites ≡ Some x) × (x.caller ≡ c) }
 {}

@@ -33,11 +33,16 @@ pub use event::Event;
 pub use history::{Entry, History, Outcome, Taken, With, Work};
 pub use il::{Cause, IlKind, IlMsg, IlState, StateName};
 pub use law::{
-    a_fault_is_not_legal, controls_are_read, paths_are_walked, prefix_is_legal, state_is_fold,
+    a_fault_is_not_legal, controls_are_read, duties_cite_their_own, paths_are_walked,
+    prefix_is_legal, state_is_fold,
 };
 pub use names::{Ctl, FileName, Mode, Node};
 pub use ndb::{Db, Line, NdbPair, Tuple};
-pub use ndb_law::{causes_of_what_is_read, text_in_one_file, words_without_quotes};
+pub use ndb_law::{
+    bad_lines_are_first, causes_of_what_is_read, files_are_spelled, files_read_once,
+    lines_are_spelled, lines_read_once, text_in_one_file, texts_read_once, words_without_quotes,
+    worked_bad_lines, worked_readings,
+};
 pub use noted::{Noted, Number};
 pub use numbers::number;
 pub use octets::{Lines, Octets};

@@ -1,16 +1,49 @@
 //! Laws of the text of a database.
-ghost use Rattle.std.specs.Prelude.{◌≡◌, ℕ, List, Bool, false};
+ghost use Rattle.std.specs.Prelude.{◌≡◌, ◌∷◌, ℕ, List, Bool, false, true, [], Option, None, Some, codes};
 ghost use Rattle.std.specs.List.{list_any};
-ghost use Rattle.net_model.specs.NdbText.{is_quote, words_of, plain_words_of, lines_of, tuples_of};
-ghost use Rattle.net_model.specs.NdbBundle.{causes_of, reading};
+ghost use Rattle.net_model.specs.declared.ndb.NdbPair.{NdbPair};
+ghost use Rattle.net_model.specs.NdbText.{is_quote, words_of, plain_words_of, pairs_of, lines_of, tuples_of};
+ghost use Rattle.net_model.specs.NdbBundle.{is_file_line, causes_of, bad_line, reading};
 ghost use Rattle.net_model.specs.NdbForm.{is_unbuilt, causes_so_far, bad_line_so_far};
+ghost use Rattle.net_model.specs.NdbFirst.{IsFirstBad};
+ghost use Rattle.net_model.specs.NdbExample.{pair, tuple};
+ghost use Rattle.net_model.specs.NdbSpelling.{ReadsLine, ReadsFile};
+
+/// A line spells one list of pairs at most.
+pub fn lines_read_once()
+    ensures { (line : List ℕ) (ps qs : List NdbPair) → ReadsLine line ps → ReadsLine line qs → ps ≡ qs }
+{}
+
+/// A line spells pairs exactly where it begins no file and has no cause but that of its place, and then it spells its own.
+pub fn lines_are_spelled()
+    ensures reads { (line : List ℕ) (pairs : List NdbPair) → ReadsLine line pairs → (pairs_of line ≡ pairs) × (causes_of true line ≡ []) }
+    ensures spelled { (line : List ℕ) → is_file_line line ≡ false → causes_of true line ≡ [] → ReadsLine line (pairs_of line) }
+{}
+
+/// The lines of a file spell one list of tuples at most.
+pub fn files_read_once()
+    ensures { (lines : List (List ℕ)) (ts us : List (List (List NdbPair))) → ReadsFile lines ts → ReadsFile lines us → ts ≡ us }
+{}
+
+/// A text of one file spells tuples exactly where it has no bad line, and then it spells its own.
+pub fn files_are_spelled()
+    ensures reads { (text : List ℕ) (tuples : List (List (List NdbPair))) → ReadsFile (lines_of text) tuples
+        → (bad_line text ≡ None) × (tuples_of (lines_of text) ≡ tuples) }
+    ensures spelled { (text : List ℕ) → list_any is_file_line (lines_of text) ≡ false → bad_line text ≡ None
+        → ReadsFile (lines_of text) (tuples_of (lines_of text)) }
+{}
+
+/// A text reads as one database at most.
+pub fn texts_read_once()
+    ensures { (text : List ℕ) (db other : List (List (List NdbPair))) → reading text ≡ Some db → reading text ≡ Some other → db ≡ other }
+{}
 
 /// A line without a quote has the words that white space parts.
 pub fn words_without_quotes()
     ensures { (line : List ℕ) → list_any is_quote line ≡ false → words_of line ≡ plain_words_of line }
 {}
 
-/// Where no line has a form that isn't read yet, the causes are those of the grammar.
+/// Where a line has no form that isn't read yet, its causes are those of the grammar.
 pub fn causes_of_what_is_read()
     ensures { (has : Bool) (line : List ℕ) → is_unbuilt line ≡ false → causes_so_far has line ≡ causes_of has line }
 {}
@@ -18,4 +51,32 @@ pub fn causes_of_what_is_read()
 /// A text in the form that is read so far, without a bad line, reads as the tuples of its lines.
 pub fn text_in_one_file()
     ensures { (text : List ℕ) → bad_line_so_far text ≡ None → reading text ≡ Some (tuples_of (lines_of text)) }
+{}
+
+/// The line that is told is the first with a cause, and the cause is its least.
+pub fn bad_lines_are_first()
+    ensures whole { (text : List ℕ) (line cause : ℕ) → bad_line text ≡ Some (line, cause) → IsFirstBad causes_of (lines_of text) line cause }
+    ensures so_far { (text : List ℕ) (line cause : ℕ) → bad_line_so_far text ≡ Some (line, cause) → IsFirstBad causes_so_far (lines_of text) line cause }
+{}
+
+/// Bad lines, worked by hand.
+pub fn worked_bad_lines()
+    ensures unclosed { bad_line (codes "=\"a") ≡ Some (1, 2) }
+    ensures nameless { bad_line (codes "a=\"b\"c =d") ≡ Some (1, 3) }
+    ensures least_of_three { bad_line (codes "a=\"b\"c x=\"d") ≡ Some (1, 2) }
+    ensures followed { bad_line (codes "a=\"b\"#c") ≡ Some (1, 4) }
+    ensures two_names { bad_line (codes "a=b\n%file c d\n") ≡ Some (2, 6) }
+    ensures file_without_tuple { bad_line (codes "a=b\n%file c\n\td=e\n") ≡ Some (3, 1) }
+    ensures not_read_yet { bad_line_so_far (codes "a=b\n%file c d\n") ≡ Some (2, 31) }
+{}
+
+/// Readings, worked by hand.
+pub fn worked_readings()
+    ensures quoted { reading (codes "a=\"b c\" d\r\n\te=f\"g #h\n")
+        ≡ Some (((pair (codes "a") (codes "b c") ∷ pair (codes "d") [] ∷ []) ∷ (pair (codes "e") (codes "f\"g") ∷ []) ∷ []) ∷ []) }
+    ensures chosen { reading (codes "database=\n\tfile=x file=y file=x\n%file x\na=b\n%file y\nc=d\n%file x\ne=f\n%file z\ng=h\n")
+        ≡ Some (tuple (codes "a") (codes "b") ∷ tuple (codes "e") (codes "f") ∷ tuple (codes "c") (codes "d") ∷ []) }
+    ensures no_local { reading (codes "%file x\na=b\n") ≡ Some [] }
+    ensures no_names { reading (codes "database=\n%file x\na=b\n") ≡ Some (tuple (codes "database") [] ∷ []) }
+    ensures no_such_file { reading (codes "database= file=\n%file x\na=b\n") ≡ Some [] }
 {}

@@ -1,9 +1,12 @@
 //! Worlds: media, hosts and scripts, in the order of their file.
+ghost use Rattle.std.specs.Prelude.{◌≡◌};
+
 use crate::address::Proto;
 use crate::names::Mode;
 use crate::ndb::Db;
 use crate::octets::Octets;
 use crate::sequence::Sequence;
+use std::alloc::AllocError;
 
 /// What becomes of a frame.
 #[derive(Clone, Copy, Debug, PartialEq, Eq)]
@@ -34,6 +37,22 @@ pub struct MediumSpec {
     pub twice: u32,
     pub later: u32,
     pub fates: Fates,
+}
+
+impl Clone for MediumSpec {
+    ghost is_clone = { λ spec copy. copy ≡ spec };
+
+    fn clone(&self) -> Result<MediumSpec, AllocError> {
+        Ok(MediumSpec {
+            number: self.number,
+            name: self.name.clone()?,
+            mtu: self.mtu,
+            loss: self.loss,
+            twice: self.twice,
+            later: self.later,
+            fates: self.fates.clone()?,
+        })
+    }
 }
 
 pub type Media = Sequence<MediumSpec>;

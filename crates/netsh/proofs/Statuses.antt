@@ -46,7 +46,7 @@ read_whole asked input intake (is, inl end) no_two = end
 read_whole asked input intake (is, inr long) no_two = absurd (no_two (ap (λ (answer : Answer). answer.status) (answer_to_too_long asked input long)))
 
 usage_only : (command : Option Command) (status : ℕ) (intake : Intake) (output : Output) → Ends command status intake output → status ≡ 1 → command ≡ None
-usage_only command status intake output (no_row none told) one = none
+usage_only command status intake output (no_row none unread_source told) one = none
 usage_only command status intake output (answered asked input is read (inl t)) one =
     absurd (no_answer status _ 1 (status_of_answer asked input) t.0 one (λ e. omega (arith, e)) (λ e. omega (arith, e)) (λ e. omega (arith, e)))
 usage_only command status intake output (answered asked input is read (inr t)) one = absurd (omega (arith, t.0, one))
@@ -55,16 +55,16 @@ usage_only command status intake output (unread asked is rose (inr t)) one = abs
 usage_only command status intake output (no_memory asked is eight kept) one = absurd (omega (arith, eight, one))
 
 only_usage : (command : Option Command) (status : ℕ) (intake : Intake) (output : Output) → Ends command status intake output → command ≡ None → (status ≡ 1) ⊎ (status ≡ 7)
-only_usage command status intake output (no_row none (inl t)) is_none = inl t.0
-only_usage command status intake output (no_row none (inr t)) is_none = inr t.0
+only_usage command status intake output (no_row none unread_source (inl t)) is_none = inl t.0
+only_usage command status intake output (no_row none unread_source (inr t)) is_none = inr t.0
 only_usage command status intake output (answered asked input is read told) is_none = absurd (some_none asked (sym is ∙ is_none))
 only_usage command status intake output (unread asked is rose told) is_none = absurd (some_none asked (sym is ∙ is_none))
 only_usage command status intake output (no_memory asked is eight kept) is_none = absurd (some_none asked (sym is ∙ is_none))
 
 -- a status that only answers have
 status_of : (n : ℕ) (command : Option Command) (status : ℕ) (intake : Intake) (output : Output) → Ends command status intake output → status ≡ n → (n ≡ 1 → ⊥) → (n ≡ 6 → ⊥) → (n ≡ 7 → ⊥) → (n ≡ 8 → ⊥) → IsStatusOf command n intake
-status_of n command status intake output (no_row none (inl t)) is_n no_one no_six no_seven no_eight = absurd (no_one (sym is_n ∙ t.0))
-status_of n command status intake output (no_row none (inr t)) is_n no_one no_six no_seven no_eight = absurd (no_seven (sym is_n ∙ t.0))
+status_of n command status intake output (no_row none unread_source (inl t)) is_n no_one no_six no_seven no_eight = absurd (no_one (sym is_n ∙ t.0))
+status_of n command status intake output (no_row none unread_source (inr t)) is_n no_one no_six no_seven no_eight = absurd (no_seven (sym is_n ∙ t.0))
 status_of n command status intake output (answered asked input is read (inl t)) is_n no_one no_six no_seven no_eight =
     record { asked = asked; input = input; is_asked = is; read = read; right = sym is_n ∙ t.0 }
 status_of n command status intake output (answered asked input is read (inr t)) is_n no_one no_six no_seven no_eight = absurd (no_seven (sym is_n ∙ t.0))
@@ -73,8 +73,8 @@ status_of n command status intake output (unread asked is rose (inr t)) is_n no_
 status_of n command status intake output (no_memory asked is eight kept) is_n no_one no_six no_seven no_eight = absurd (no_eight (sym is_n ∙ eight))
 
 only_read_fault : (command : Option Command) (status : ℕ) (intake : Intake) (output : Output) → Ends command status intake output → status ≡ 6 → Rose intake.before intake.after
-only_read_fault command status intake output (no_row none (inl t)) six = absurd (omega (arith, t.0, six))
-only_read_fault command status intake output (no_row none (inr t)) six = absurd (omega (arith, t.0, six))
+only_read_fault command status intake output (no_row none unread_source (inl t)) six = absurd (omega (arith, t.0, six))
+only_read_fault command status intake output (no_row none unread_source (inr t)) six = absurd (omega (arith, t.0, six))
 only_read_fault command status intake output (answered asked input is read (inl t)) six =
     absurd (no_answer status _ 6 (status_of_answer asked input) t.0 six (λ e. omega (arith, e)) (λ e. omega (arith, e)) (λ e. omega (arith, e)))
 only_read_fault command status intake output (answered asked input is read (inr t)) six = absurd (omega (arith, t.0, six))
@@ -82,8 +82,8 @@ only_read_fault command status intake output (unread asked is rose told) six = r
 only_read_fault command status intake output (no_memory asked is eight kept) six = absurd (omega (arith, eight, six))
 
 only_write_fault : (command : Option Command) (status : ℕ) (intake : Intake) (output : Output) → Ends command status intake output → status ≡ 7 → Rose output.before output.after
-only_write_fault command status intake output (no_row none (inl t)) seven = absurd (omega (arith, t.0, seven))
-only_write_fault command status intake output (no_row none (inr t)) seven = t.1
+only_write_fault command status intake output (no_row none unread_source (inl t)) seven = absurd (omega (arith, t.0, seven))
+only_write_fault command status intake output (no_row none unread_source (inr t)) seven = t.1
 only_write_fault command status intake output (answered asked input is read (inl t)) seven =
     absurd (no_answer status _ 7 (status_of_answer asked input) t.0 seven (λ e. omega (arith, e)) (λ e. omega (arith, e)) (λ e. omega (arith, e)))
 only_write_fault command status intake output (answered asked input is read (inr t)) seven = t.1
@@ -92,8 +92,8 @@ only_write_fault command status intake output (unread asked is rose (inr t)) sev
 only_write_fault command status intake output (no_memory asked is eight kept) seven = absurd (omega (arith, eight, seven))
 
 only_memory : (command : Option Command) (status : ℕ) (intake : Intake) (output : Output) → Ends command status intake output → status ≡ 8 → output.holds ≡ output.held
-only_memory command status intake output (no_row none (inl t)) is_eight = absurd (omega (arith, t.0, is_eight))
-only_memory command status intake output (no_row none (inr t)) is_eight = absurd (omega (arith, t.0, is_eight))
+only_memory command status intake output (no_row none unread_source (inl t)) is_eight = absurd (omega (arith, t.0, is_eight))
+only_memory command status intake output (no_row none unread_source (inr t)) is_eight = absurd (omega (arith, t.0, is_eight))
 only_memory command status intake output (answered asked input is read (inl t)) is_eight =
     absurd (no_answer status _ 8 (status_of_answer asked input) t.0 is_eight (λ e. omega (arith, e)) (λ e. omega (arith, e)) (λ e. omega (arith, e)))
 only_memory command status intake output (answered asked input is read (inr t)) is_eight = absurd (omega (arith, t.0, is_eight))
@@ -112,7 +112,7 @@ whole_at_end command status intake output ends (inr five) =
     end_of 5 command intake (status_of 5 command status intake output ends five (λ e. omega (arith, e)) (λ e. omega (arith, e)) (λ e. omega (arith, e)) (λ e. omega (arith, e))) (λ e. omega (arith, e))
 
 complete_without_faults : (command : Option Command) (status : ℕ) (intake : Intake) (output : Output) → Ends command status intake output → ¬ Rose intake.before intake.after → ¬ Rose output.before output.after → command ≢ None → (status ≡ 8) ⊎ IsStatusOf command status intake
-complete_without_faults command status intake output (no_row none told) reads writes some = absurd (some none)
+complete_without_faults command status intake output (no_row none unread_source told) reads writes some = absurd (some none)
 complete_without_faults command status intake output (answered asked input is read (inl t)) reads writes some =
     inr (record { asked = asked; input = input; is_asked = is; read = read; right = t.0 })
 complete_without_faults command status intake output (answered asked input is read (inr t)) reads writes some = absurd (writes t.1)

@@ -35,16 +35,20 @@ IsInput (Some left) input = input ≡ left
 abbrev pub IsRead : Intake → List ℕ → Type 0
 IsRead intake input = IsInput intake.left input × (IsAtEnd intake.rest ⊎ (input_limit < length input))
 
+-- nothing was read
+abbrev pub IsUnread : Intake → Type 0
+IsUnread intake = (intake.rest ≡ intake.left) × (intake.after ≡ intake.before)
+
 -- the answer is that to an input which was read
 pub record Answers (asked : Command) (answer : Answer) (intake : Intake) : Type 0 where
   pub input : List ℕ
   pub read : IsRead intake input
   pub right : answer ≡ answer_to asked input
 
--- how a call with a command, or with words in no row, may end: with the usage; with the answer to the input; with a fault of the
+-- how a call with a command, or with words in no row, may end: with the usage, and nothing was read; with the answer to the input; with a fault of the
 -- source; or without memory, and then nothing was written
 pub data Ends (command : Option Command) (status : ℕ) (intake : Intake) (output : Output) : Type 0 where
-  no_row : command ≡ None → Told usage status output → Ends command status intake output
+  no_row : command ≡ None → IsUnread intake → Told usage status output → Ends command status intake output
   answered : (asked : Command) (input : List ℕ) → command ≡ Some asked → IsRead intake input → Told (answer_to asked input) status output → Ends command status intake output
   unread : (asked : Command) → command ≡ Some asked → Rose intake.before intake.after → Told read_fault status output → Ends command status intake output
   no_memory : (asked : Command) → command ≡ Some asked → status ≡ 8 → output.holds ≡ output.held → Ends command status intake output

@@ -1,5 +1,5 @@
 //! The top call: words and an input in, a status and a text out.
-ghost use Rattle.std.specs.Prelude.{◌≡◌, ◌≤◌, ◌↔◌, map, string_bytes, length, IsNone, IfNone, IfSome, IfOk, IsErrOf, IsTrue};
+ghost use Rattle.std.specs.Prelude.{◌≡◌, ◌≢◌, ◌≤◌, ◌↔◌, map, string_bytes, length, IsNone, IfNone, IfSome, IfOk, IsErrOf, IsTrue};
 ghost use Rattle.net_model.specs.Words.{command_of, words_wait};
 ghost use Rattle.netsh.specs.Ends.{Ends, Causes, Told, Answers};
 ghost use Rattle.net_model.specs.Answers.{input_limit};
@@ -10,7 +10,9 @@ ghost use Rattle.outside.specs.Streams.{Rose};
 use crate::answer::{Answer, READ_FAULT, USAGE};
 use crate::cs::cs;
 use crate::words::{Command, read_words};
-use outside::{Failed, Gate, Sink, Source, TakeError, read_to_end, write_all};
+use outside::{
+    Failed, Gate, Sink, Source, SureSink, SureSource, TakeError, read_to_end, write_all,
+};
 use std::alloc::{AllocError, Global};
 use std::sync::Wait;
 use std::thread::Threads;
@@ -133,4 +135,16 @@ pub fn netsh<R: Threads + Wait + Sync, S: Source, K: Sink, G: Gate + Sync>(
         Some(status) => status,
         None => unreachable!(),
     }
+}
+
+/// Does the command of these words over a source and a sink that never fail.
+pub fn ask_surely(
+    alloc: Global,
+    words: &[String],
+    source: &mut SureSource,
+    sink: &mut SureSink,
+) -> Option<u8>
+    ensures { IfSome result (λ status. (status ≢ 6) × (status ≢ 7)) }
+{
+    ask(alloc, words, source, sink)
 }

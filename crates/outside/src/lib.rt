@@ -8,6 +8,8 @@ mod sink;
 mod source;
 mod standard;
 mod sure;
+#[cfg(test)]
+mod tests;
 
 pub use fault::{Failed, TakeError};
 pub use gate::{Gate, OpenGate};

@@ -1,4 +1,4 @@
-use Rattle.std.proofs.Common.{◌≡◌, List, [], ◌∷◌, ◌++◌, map, reverse, Some, None, Option, ap, sym, ◌∙◌, append_assoc, rules}
+use Rattle.std.proofs.Common.{◌≡◌, List, [], ◌∷◌, ◌++◌, map, reverse, Some, Option, ap, sym, ◌∙◌, append_assoc, rules}
 use Rattle.net_model.specs.declared.history.Entry.{Entry}
 use Rattle.journal.proofs.Gathering.{there_is, somes}
 use Rattle.journal.proofs.closing.in_order.Goals as goal

@@ -1,4 +1,4 @@
-use Rattle.std.proofs.Common.{[], ◌∷◌, List, ◌++◌, ap, sym, subst, ◌∙◌, append_assoc, Option, Some, set}
+use Rattle.std.proofs.Common.{[], ◌∷◌, List, ◌++◌, ap, sym, subst, ◌∙◌, append_assoc, Option}
 use Rattle.net_model.specs.declared.history.Entry.{Entry}
 use Rattle.journal.specs.declared.tokens.Stamped.{Stamped}
 use Rattle.journal.specs.Closing.{IsPlaced}

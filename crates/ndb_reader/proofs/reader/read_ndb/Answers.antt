@@ -1,4 +1,4 @@
-use Rattle.std.proofs.Common.{◌≡◌, ℕ, ◌+◌, length, arith, rules, List, None, Some, Bool, true, false, not, [], ◌∷◌, ◌++◌, refl, sym, ap, ◌∙◌}
+use Rattle.std.proofs.Common.{subst, ◌≡◌, ℕ, ◌+◌, length, arith, rules, List, None, Some, Bool, true, false, not, [], ◌∷◌, ◌++◌, refl, sym, ap, ◌∙◌}
 use Rattle.std.proofs.lemmas.Iterator.Splits.{YieldsList-from_slice_split}
 use Rattle.std.proofs.lemmas.Iterator.Consumers.{YieldsList-turn, YieldsList-end}
 use Rattle.std.proofs.lemmas.List.Splits.{length-slice_split}
@@ -8,6 +8,8 @@ use borrow.Author.Tests.{tests}
 use Rattle.net_model.specs.NdbText.{is_newline, is_empty, lines_of, pairs_of}
 use Rattle.net_model.specs.NdbBundle.{least}
 use Rattle.net_model.specs.NdbForm.{causes_so_far}
+use Rattle.net_model.specs.NdbSpelling.{ReadsFile}
+use Rattle.net_model.proofs.NdbFiles.{so_far_is_spelled}
 use Rattle.net_model.proofs.NdbForms.{read_so_far}
 use Rattle.ndb_reader.proofs.Reading.{Next, read-none, read-bad, read-blank, read-on, read-start, read-all, tells-of, moved}
 use Rattle.std.proofs.lemmas.Result.{err_from_is_err_and}
@@ -88,3 +90,9 @@ returns-clause-ok c =
     let t = YieldsList-end (YieldsList-from_slice_split {s = c.into_iter-line-iterator.result} _ is_newline c.args.bytes.now (cc) (cc) (cc) (λ x r q k. search (rules, tests))) c.loop-line.yielded _ c.loop-line.yielded_by _ _ c.in-None.is c.next.ensures.steps in
     let all = read-all (lines_of c.args.bytes.now) (length c.loop-line.yielded) c.loop-line.tuples.whole.items c.loop-line.tuples.last.items c.loop-line.invariant.read t.1 in
     read_so_far c.args.bytes.now all.0 ∙ ap (λ (db : _). Some db) (all.1 ∙ sym c.in_ok-finish.ensures)
+
+pub returns-clause-spelled : goal.returns-clause-spelled
+returns-clause-spelled c =
+    let t = YieldsList-end (YieldsList-from_slice_split {s = c.into_iter-line-iterator.result} _ is_newline c.args.bytes.now (cc) (cc) (cc) (λ x r q k. search (rules, tests))) c.loop-line.yielded _ c.loop-line.yielded_by _ _ c.in-None.is c.next.ensures.steps in
+    let all = read-all (lines_of c.args.bytes.now) (length c.loop-line.yielded) c.loop-line.tuples.whole.items c.loop-line.tuples.last.items c.loop-line.invariant.read t.1 in
+    subst (λ (db : List (List (List NdbPair))). ReadsFile (lines_of c.args.bytes.now) db) (all.1 ∙ sym c.in_ok-finish.ensures) (so_far_is_spelled c.args.bytes.now all.0)

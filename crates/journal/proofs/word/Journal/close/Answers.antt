@@ -1,4 +1,4 @@
-use Rattle.std.proofs.Common.{◌≡◌, ℕ, List, map, replicate, None, Option, ap, sym, subst, ◌∙◌}
+use Rattle.std.proofs.Common.{List, map, replicate, None, Option, ap, sym, subst, ◌∙◌}
 use Rattle.net_model.specs.declared.history.Entry.{Entry}
 use Rattle.net_model.specs.declared.noted.Noted.{Noted}
 use Rattle.net_model.specs.Stamped.{In}

@@ -1,0 +1,111 @@
+-- What stands in the bytes of a packet, by its protocol.
+use Rattle.std.proofs.Common.{◌≡◌, ◌≢◌, false, nat_eq, Result, Ok, Err, IsOk, IsOkAnd, ℕ, List, refl, sym, ap, subst, ◌∙◌, arith}
+use Rattle.std.proofs.lemmas.Bool.Decides.{nat_tests}
+use Rattle.net_model.specs.declared.address.Addr.{Addr}
+use Rattle.net_model.specs.declared.il.IlMsg.{IlMsg}
+use Rattle.net_model.specs.declared.packet.Body.{Body}
+use Rattle.net_model.specs.declared.packet.Body.TheVariants as body
+use Rattle.net_model.specs.declared.packet.Packet.{Packet}
+use Rattle.net_model.specs.Ipv4.{Ipv4, IsHeader, SpellsIpv4, header_of, payload_of}
+use Rattle.net_model.specs.UdpWire.{SpellsUdp, address, dport_of, udp_text}
+use Rattle.net_model.specs.IlWire.{SpellsIl, il_dport, message_of}
+use Rattle.net_model.specs.Datagram.{IsPacket, between, il_packet, udp_packet, packet_in, header_for, body_bytes, protocol, packet_of}
+use Rattle.net_model.proofs.Ipv4Laws.{spells_header, spells_payload}
+use Rattle.net_model.proofs.IlLaws.{spells_sport, spells_dport, spells_message}
+use Rattle.net_model.proofs.UdpLaws.{spells_fields}
+use Rattle.net_model.proofs.DatagramLaws.{spells_datagram, spells_il_body, spells_udp_body}
+use Rattle.medium.specs.Spelled.{HasBody, IsSpelled}
+
+-- the header and the body of a packet make it one that has a spelling
+pub whole : (p : Packet) → IsHeader (header_for p) → HasBody p → IsPacket p
+whole p h b = record {
+  src = record { ip = h.src; port = b.sport };
+  dst = record { ip = h.dst; port = b.dport };
+  ttl = h.ttl;
+  tos = h.tos;
+  body = b.body;
+}
+
+-- spelled bytes spell a header and a payload
+pub ipv4_in : (bytes : List ℕ) → IsSpelled bytes → SpellsIpv4 (header_for (packet_of bytes)) (body_bytes (packet_of bytes).src (packet_of bytes).dst (packet_of bytes).body) bytes
+ipv4_in bytes s =
+    subst (λ (x : List ℕ). SpellsIpv4 (header_for (packet_of bytes)) (body_bytes (packet_of bytes).src (packet_of bytes).dst (packet_of bytes).body) x) (sym s.1) (spells_datagram (packet_of bytes) s.0)
+
+-- an IL message that bytes spell
+pub record HoldsIl (bytes : List ℕ) : Type 0 where
+  pub sport : ℕ
+  pub dport : ℕ
+  pub message : IlMsg
+  pub spelled : SpellsIl sport dport message bytes
+
+-- a UDP text that bytes spell, between these hosts
+pub record HoldsUdp (src dst : ℕ) (bytes : List ℕ) : Type 0 where
+  pub sport : ℕ
+  pub dport : ℕ
+  pub text : List ℕ
+  pub spelled : SpellsUdp (address src sport) (address dst dport) text bytes
+
+abbrev made : Addr → Addr → ℕ → ℕ → Body → Packet
+made src dst ttl tos b = record { src = src; dst = dst; ttl = ttl; tos = tos; body = b }
+
+il_body : (src dst : Addr) (ttl tos : ℕ) (b : Body) → IsPacket (made src dst ttl tos b) → protocol b ≡ 40 → HoldsIl (body_bytes src dst b)
+il_body src dst ttl tos (body.Il m) p e = record { sport = src.port; dport = dst.port; message = m; spelled = spells_il_body src.port dst.port m p.src.port p.dst.port p.body }
+il_body src dst ttl tos (body.Udp text) p e = absurd (omega (arith, e))
+
+udp_body : (src dst : Addr) (ttl tos : ℕ) (b : Body) → IsPacket (made src dst ttl tos b) → protocol b ≢ 40 → HoldsUdp src.ip dst.ip (body_bytes src dst b)
+udp_body src dst ttl tos (body.Il m) p e = absurd (e refl)
+udp_body src dst ttl tos (body.Udp text) p e = record { sport = src.port; dport = dst.port; text = text; spelled = spells_udp_body src dst text p.src.port p.dst.port p.body }
+
+header_is : (bytes : List ℕ) → IsSpelled bytes → header_of bytes ≡ header_for (packet_of bytes)
+header_is bytes s = spells_header (header_for (packet_of bytes)) (body_bytes (packet_of bytes).src (packet_of bytes).dst (packet_of bytes).body) bytes (ipv4_in bytes s)
+
+payload_is : (bytes : List ℕ) → IsSpelled bytes → payload_of bytes ≡ body_bytes (packet_of bytes).src (packet_of bytes).dst (packet_of bytes).body
+payload_is bytes s = spells_payload (header_for (packet_of bytes)) (body_bytes (packet_of bytes).src (packet_of bytes).dst (packet_of bytes).body) bytes (ipv4_in bytes s)
+
+-- by its protocol number a payload is of IL ..
+pub il_in : (bytes : List ℕ) (h : Ipv4) (payload : List ℕ) → IsSpelled bytes → SpellsIpv4 h payload bytes → h.proto ≡ 40 → HoldsIl payload
+il_in bytes h payload s t e =
+    let eh : h ≡ header_for (packet_of bytes) = sym (spells_header h payload bytes t) ∙ header_is bytes s in
+    let ep : payload ≡ body_bytes (packet_of bytes).src (packet_of bytes).dst (packet_of bytes).body = sym (spells_payload h payload bytes t) ∙ payload_is bytes s in
+    subst HoldsIl (sym ep)
+    (il_body (packet_of bytes).src (packet_of bytes).dst (packet_of bytes).ttl (packet_of bytes).tos (packet_of bytes).body s.0 (sym (ap (λ (x : Ipv4). x.proto) eh) ∙ e))
+
+-- .. or else of UDP
+pub udp_in : (bytes : List ℕ) (h : Ipv4) (payload : List ℕ) → IsSpelled bytes → SpellsIpv4 h payload bytes → h.proto ≢ 40 → HoldsUdp h.src h.dst payload
+udp_in bytes h payload s t ne =
+    let eh : h ≡ header_for (packet_of bytes) = sym (spells_header h payload bytes t) ∙ header_is bytes s in
+    let ep : payload ≡ body_bytes (packet_of bytes).src (packet_of bytes).dst (packet_of bytes).body = sym (spells_payload h payload bytes t) ∙ payload_is bytes s in
+    subst (λ (x : Ipv4). HoldsUdp x.src x.dst payload) (sym eh)
+    (subst (λ (b : List ℕ). HoldsUdp (packet_of bytes).src.ip (packet_of bytes).dst.ip b) (sym ep)
+    (udp_body (packet_of bytes).src (packet_of bytes).dst (packet_of bytes).ttl (packet_of bytes).tos (packet_of bytes).body s.0 (λ e. ne (ap (λ (x : Ipv4). x.proto) eh ∙ e))))
+
+-- an answer that is Ok and more is Ok
+pub ok_of : {T E : Type 0} (P : T → Type 0) (r : Result T E) → IsOkAnd r P → IsOk r
+ok_of P (Ok x) h = refl
+ok_of P (Err e) h = absurd h
+
+-- ---- a packet by what its decoders found
+
+pub il_read : (bytes : List ℕ) (h : Ipv4) (payload : List ℕ) (sport dport : ℕ) (m : IlMsg) → SpellsIpv4 h payload bytes → h.proto ≡ 40 → SpellsIl sport dport m payload → between h sport dport (body.Il m) ≡ packet_of bytes
+unfolding packet_of
+il_read bytes h payload sport dport m s e t =
+    let test : packet_in h payload ≡ il_packet h payload = rw e refl in
+    sym (ap (λ (x : Ipv4). packet_in x (payload_of bytes)) (spells_header h payload bytes s)
+    ∙ ap (packet_in h) (spells_payload h payload bytes s)
+    ∙ test
+    ∙ ap (λ (n : ℕ). between h n (il_dport payload) (body.Il (message_of payload))) (spells_sport sport dport m payload t)
+    ∙ ap (λ (n : ℕ). between h sport n (body.Il (message_of payload))) (spells_dport sport dport m payload t)
+    ∙ ap (λ (x : IlMsg). between h sport dport (body.Il x)) (spells_message sport dport m payload t))
+
+pub udp_read : (bytes : List ℕ) (h : Ipv4) (payload : List ℕ) (sport dport : ℕ) (text : List ℕ) → SpellsIpv4 h payload bytes → h.proto ≢ 40 → SpellsUdp (address h.src sport) (address h.dst dport) text payload → between h sport dport (body.Udp text) ≡ packet_of bytes
+unfolding packet_of
+udp_read bytes h payload sport dport text s ne t =
+    let not_il : nat_eq h.proto 40 ≡ false = grind (arith, nat_tests) in
+    let test : packet_in h payload ≡ udp_packet h payload = rw not_il refl in
+    let fields = spells_fields (address h.src sport) (address h.dst dport) text payload t in
+    sym (ap (λ (x : Ipv4). packet_in x (payload_of bytes)) (spells_header h payload bytes s)
+    ∙ ap (packet_in h) (spells_payload h payload bytes s)
+    ∙ test
+    ∙ ap (λ (n : ℕ). between h n (dport_of payload) (body.Udp (udp_text payload))) fields.0
+    ∙ ap (λ (n : ℕ). between h sport n (body.Udp (udp_text payload))) fields.1
+    ∙ ap (λ (x : List ℕ). between h sport dport (body.Udp x)) fields.2)

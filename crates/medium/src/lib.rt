@@ -1,0 +1,11 @@
+//! Media: the datagrams that were laid and not yet taken.
+#![tactic(auto)]
+
+mod datagram;
+mod frame;
+mod medium;
+
+pub use medium::{Laid, Medium};
+
+#[cfg(test)]
+mod tests;

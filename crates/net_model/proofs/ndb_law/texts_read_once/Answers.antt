@@ -1,0 +1,6 @@
+use Rattle.net_model.specs.NdbBundle.{reading}
+use Rattle.net_model.proofs.NdbFiles.{some_once}
+use Rattle.net_model.proofs.ndb_law.texts_read_once.Goals as goal
+
+pub returns : goal.returns
+returns c = λ text db other. some_once (reading text) db other

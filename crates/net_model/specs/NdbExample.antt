@@ -1,0 +1,11 @@
+-- Tuples of worked texts.
+use Rattle.std.specs.Prelude.{ℕ, List, [], ◌∷◌}
+use Rattle.net_model.specs.declared.ndb.NdbPair.{NdbPair}
+
+-- an attribute with its value
+abbrev pub pair : List ℕ → List ℕ → NdbPair
+pair attr value = record { attr = attr; value = value }
+
+-- a tuple of one pair
+abbrev pub tuple : List ℕ → List ℕ → List (List NdbPair)
+tuple attr value = (pair attr value ∷ []) ∷ []

@@ -1,0 +1,118 @@
+//! The worked runs of the program, over sources and sinks in memory.
+use crate::top::{ask, ask_surely};
+use net_model::Octets;
+use outside::{FailList, MemSink, MemSource, SureSink, SureSource};
+use std::alloc::{AllocError, Global};
+use std::test::Fail;
+
+/// The worked database.
+const LOCAL: &str =
+    "# local network\nipnet=astro ip=135.104.0.0 ipmask=255.255.0.0\n\tauth=bootes\nipnet=astro9 ip=135.104.9.0 ipmask=255.255.255.0\n\tauth=helix\nsys=anna ip=135.104.9.6\n\tdom=anna.example.com\nsys=helix dom=helix.example.com\n\tip=10.0.0.31\n\tip=135.104.9.31\nsys=bootes\n\tip=135.104.50.2\nil=9fs port=17008\nudp=echo port=7\n";
+
+/// The words of a command line.
+fn words_of(alloc: Global, words: &[&str]) -> Result<Vec<String>, AllocError> {
+    let mut all = Vec::new(alloc);
+    for word in words {
+        all.push(String::from_str(alloc, word)?)?;
+    }
+    Ok(all)
+}
+
+/// What a call answers and writes, where these calls of the source and the sink fail.
+fn run(
+    alloc: Global,
+    words: &[&str],
+    input: &[u8],
+    reads: &[u64],
+    writes: &[u64],
+) -> Result<(Option<u8>, String), Fail> {
+    let words = words_of(alloc, words)?;
+    let reads = FailList::from_vec(Vec::from_slice(alloc, reads)?);
+    let writes = FailList::from_vec(Vec::from_slice(alloc, writes)?);
+    let mut source = MemSource::new(Octets::from_slice(alloc, input)?, reads);
+    let mut sink = MemSink::new(alloc, 1000, writes)?;
+    let status = ask(alloc, &words, &mut source, &mut sink);
+    let held = String::from_utf8(Vec::from_slice(alloc, sink.held())?)?;
+    Ok((status, held))
+}
+
+#[test]
+fn the_worked_runs(rt: HostRuntime) -> Result<(), Fail> {
+    let helix = ["cs", "anna", "net!helix!9fs"].as_slice();
+    let nosuch = ["cs", "anna", "net!helix!nosuch"].as_slice();
+    let lines = "/net/il/clone 135.104.9.31!17008\n/net/il/clone 10.0.0.31!17008\n";
+    let rows = [
+        (helix, LOCAL, 0, lines),
+        (nosuch, LOCAL, 5, "! 4 no service\n"),
+        (helix, "", 5, "! 3 no host\n"),
+        (helix, "# nothing\n", 5, "! 3 no host\n"),
+        (helix, "\tip=1.2.3.4\n", 2, "! line 1 cause 1\n"),
+        (["cs", "anna"].as_slice(), LOCAL, 1, "! usage\n"),
+        ([].as_slice(), LOCAL, 1, "! usage\n"),
+        (
+            ["cs", "", "net!helix!9fs"].as_slice(),
+            LOCAL,
+            1,
+            "! usage\n",
+        ),
+        (
+            ["cs", "anna", "helix"].as_slice(),
+            LOCAL,
+            5,
+            "! 1 bad query\n",
+        ),
+        (
+            ["cs", "anna", "il!helix!9fs"].as_slice(),
+            LOCAL,
+            5,
+            "! 6 not built\n",
+        ),
+    ];
+    for (words, input, status, text) in rows {
+        let (answered, held) = run(rt.alloc(), words, input.as_bytes(), &[], &[])?;
+        assert_eq!(rt; answered, Some(status), "{text}");
+        assert_eq!(rt; held.as_str(), text);
+    }
+    Ok(())
+}
+
+#[test]
+fn faults_of_the_source_and_the_sink(rt: HostRuntime) -> Result<(), Fail> {
+    let helix = ["cs", "anna", "net!helix!9fs"].as_slice();
+    let rows = [
+        ([1].as_slice(), [].as_slice(), 6, "! read fault\n"),
+        ([2].as_slice(), [].as_slice(), 6, "! read fault\n"),
+        ([].as_slice(), [1].as_slice(), 7, ""),
+        ([1].as_slice(), [1].as_slice(), 7, ""),
+    ];
+    for (reads, writes, status, text) in rows {
+        let (answered, held) = run(rt.alloc(), helix, LOCAL.as_bytes(), reads, writes)?;
+        assert_eq!(rt; answered, Some(status), "{text}");
+        assert_eq!(rt; held.as_str(), text);
+    }
+    Ok(())
+}
+
+#[test]
+fn an_input_past_the_limit(rt: HostRuntime) -> Result<(), Fail> {
+    let helix = ["cs", "anna", "net!helix!9fs"].as_slice();
+    let mut input = Vec::new(rt.alloc());
+    input.resize(4194304, b'\n')?;
+    let (status, held) = run(rt.alloc(), helix, &input, &[], &[])?;
+    assert_eq!(rt; status, Some(5));
+    assert_eq!(rt; held.as_str(), "! 3 no host\n");
+    input.push(b'\n')?;
+    let (status, held) = run(rt.alloc(), helix, &input, &[], &[])?;
+    assert_eq!(rt; status, Some(2));
+    assert_eq!(rt; held.as_str(), "! line 0 cause 9\n");
+    Ok(())
+}
+
+#[test]
+fn a_source_and_a_sink_that_never_fail(rt: HostRuntime) -> Result<(), Fail> {
+    let words = words_of(rt.alloc(), &["cs", "anna", "net!helix!9fs"])?;
+    let mut source = SureSource::new(Octets::from_slice(rt.alloc(), LOCAL.as_bytes())?);
+    let status = ask_surely(rt.alloc(), &words, &mut source, &mut SureSink::new());
+    assert_eq!(rt; status, Some(0));
+    Ok(())
+}

@@ -1,0 +1,2 @@
+mod LineDigits
+mod Spacing

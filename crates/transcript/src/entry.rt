@@ -1,0 +1,136 @@
+//! Entries as lines, and histories as texts.
+ghost use Rattle.std.specs.Prelude.{◌≡◌, ◌++◌, OnOk, IfOk};
+ghost use Rattle.net_model.specs.Transcript as spec;
+ghost use Rattle.net_model.specs.Transcript.{spaced, line_of, lines_from, history_text, header_words, way_words, body_words, entry_words, who_words, outcome_words, emitted_words, ended_words};
+
+use crate::event::put_event;
+use crate::names::{kind_word, put_actor, put_addr, put_number_or_dash};
+use crate::reply::put_reply;
+use crate::words::{put_decimal, put_number, put_with_numbers, put_word};
+use net_model::{BodyHeader, Entry, Header, History, Octets};
+use std::alloc::{AllocError, Global};
+
+/// The text of a history, made in one pass.
+pub fn text_of(alloc: Global, history: &History) -> Result<Octets, AllocError>
+    ensures { IfOk result (λ text. text ≡ history_text history.now) }
+{
+    let mut out = Octets::new(alloc);
+    put_lines(&mut out, history.as_slice())?;
+    Ok(out)
+}
+
+fn put_lines(out: &mut Octets, entries: &[Entry]) -> Result<(), AllocError>
+    ensures { OnOk result (out.new ≡ out.old ++ lines_from 0 entries.now) }
+{
+    for (stamp, entry) in entries.iter().enumerate() {
+        put_line(out, stamp as u64, entry)?;
+    }
+    Ok(())
+}
+
+#[tactic(auto, unfolding(net_model::specs::Transcript::line_of))]
+fn put_line(out: &mut Octets, stamp: u64, entry: &Entry) -> Result<(), AllocError>
+    ensures { OnOk result (out.new ≡ out.old ++ line_of stamp entry.now) }
+{
+    put_decimal(out, stamp)?;
+    put_entry(out, entry)?;
+    out.append(b"\n")
+}
+
+// What stands behind the stamp.
+#[tactic(auto, using(crate::proofs::Spacing::spaced_both))]
+fn put_entry(out: &mut Octets, entry: &Entry) -> Result<(), AllocError>
+    ensures { OnOk result (out.new ≡ out.old ++ spaced (entry_words entry.now)) }
+{
+    put_who(out, entry)?;
+    put_event(out, &entry.event)?;
+    put_outcome(out, entry)
+}
+
+fn put_who(out: &mut Octets, entry: &Entry) -> Result<(), AllocError>
+    ensures { OnOk result (out.new ≡ out.old ++ spaced (who_words entry.now)) }
+{
+    put_number(out, entry.moment)?;
+    put_number(out, entry.caller as u64)?;
+    put_actor(out, entry.actor)?;
+    put_number_or_dash(out, entry.cites)
+}
+
+#[tactic(auto, using(crate::proofs::Spacing::spaced_both))]
+fn put_outcome(out: &mut Octets, entry: &Entry) -> Result<(), AllocError>
+    ensures { OnOk result (out.new ≡ out.old ++ spaced (outcome_words entry.now)) }
+{
+    put_word(out, b"=")?;
+    put_reply(out, &entry.reply)?;
+    put_emitted(out, entry.emits)?;
+    put_ended(out, entry.ended)
+}
+
+fn put_emitted(out: &mut Octets, emits: Option<Header>) -> Result<(), AllocError>
+    ensures { OnOk result (out.new ≡ out.old ++ spaced (emitted_words emits)) }
+{
+    match emits {
+        Some(header) => {
+            put_word(out, b"+")?;
+            put_header(out, header)
+        }
+        None => Ok(()),
+    }
+}
+
+fn put_ended(out: &mut Octets, ended: bool) -> Result<(), AllocError>
+    ensures { OnOk result (out.new ≡ out.old ++ spaced (ended_words ended)) }
+{
+    if ended {
+        put_word(out, b"ended")
+    } else {
+        Ok(())
+    }
+}
+
+#[tactic(auto, using(crate::proofs::Spacing::spaced_both))]
+fn put_header(out: &mut Octets, header: Header) -> Result<(), AllocError>
+    ensures { OnOk result (out.new ≡ out.old ++ spaced (header_words header)) }
+{
+    put_way(out, header)?;
+    put_body(out, header.body)
+}
+
+// The protocol's word, the addresses, and what the IP header says beside them.
+fn put_way(out: &mut Octets, header: Header) -> Result<(), AllocError>
+    ensures { OnOk result (out.new ≡ out.old ++ spaced (way_words (spec.proto_word header.body) header)) }
+{
+    put_word(out, proto_word(header.body))?;
+    put_addr(out, header.src)?;
+    put_addr(out, header.dst)?;
+    put_number(out, header.ttl as u64)?;
+    put_number(out, header.tos as u64)
+}
+
+fn proto_word(body: BodyHeader) -> &'static [u8]
+    ensures { result.now ≡ spec.proto_word body }
+{
+    match body {
+        BodyHeader::Il { .. } => b"il",
+        BodyHeader::Udp { .. } => b"udp",
+    }
+}
+
+fn put_body(out: &mut Octets, body: BodyHeader) -> Result<(), AllocError>
+    ensures { OnOk result (out.new ≡ out.old ++ spaced (body_words body)) }
+{
+    match body {
+        BodyHeader::Il {
+            kind,
+            spec,
+            id,
+            ack,
+            length,
+        } => {
+            put_with_numbers(out, kind_word(kind), spec as u64, id as u64)?;
+            put_number(out, ack as u64)?;
+            put_number(out, length)
+        }
+        BodyHeader::Udp { length } => put_number(out, length),
+    }
+}

@@ -1,0 +1,14 @@
+//! The text of a history: one spelling for each entry.
+#![tactic(auto)]
+
+mod entry;
+mod event;
+mod names;
+mod reply;
+#[cfg(test)]
+mod tests;
+mod totals;
+mod words;
+
+pub use entry::text_of;
+pub use totals::{Totals, totals_of};

@@ -1,0 +1,368 @@
+//! A worked history, and a line for each word.
+use crate::text_of;
+use net_model::{
+    ActorName, Addr, BodyHeader, Call, CallList, Cause, Entry, Event, FileName, Header, History,
+    IlKind, Lines, Mode, Octets, Pair, Proto, Reply, StateName,
+};
+use std::alloc::{AllocError, Global};
+use std::process::Abort;
+use std::test::*;
+
+const ANNA: u32 = 0x87680906;
+
+const HELIX: u32 = 0x8768091f;
+
+fn text(alloc: Global, bytes: &[u8]) -> Result<Octets, AllocError> {
+    Octets::from_slice(alloc, bytes)
+}
+
+fn entry(actor: ActorName, caller: u32, cites: Option<u64>, event: Event, reply: Reply) -> Entry {
+    Entry {
+        actor,
+        caller,
+        moment: 0,
+        event,
+        cites,
+        reply,
+        emits: None,
+        ended: false,
+    }
+}
+
+fn dir(host: u32) -> ActorName {
+    ActorName::Dir(host, Proto::Udp)
+}
+
+fn conv(host: u32) -> ActorName {
+    ActorName::Conv(host, Proto::Udp, 0)
+}
+
+fn addr(host: u32) -> Addr {
+    if host == 0 {
+        Addr {
+            ip: ANNA,
+            port: 5000,
+        }
+    } else {
+        Addr { ip: HELIX, port: 7 }
+    }
+}
+
+fn other(host: u32) -> u32 {
+    1 - host.min(1)
+}
+
+fn reserve(h: u32) -> Entry {
+    let reply = Reply::Slot {
+        slot: 0,
+        generation: 1,
+    };
+    entry(dir(h), h, None, Event::Reserve, reply)
+}
+
+fn begin(h: u32) -> Entry {
+    let event = Event::Begin { generation: 1 };
+    entry(conv(h), h, Some(h as u64), event, Reply::Ok)
+}
+
+fn grant(h: u32) -> Entry {
+    let event = Event::Grant {
+        slot: 0,
+        generation: 1,
+        remote: addr(other(h)),
+        lport: Some(addr(h).port),
+    };
+    let reply = Reply::Granted {
+        pair: Pair {
+            local: addr(h),
+            remote: addr(other(h)),
+        },
+        start: 0,
+        limit: 1472,
+    };
+    entry(dir(h), h, None, event, reply)
+}
+
+fn connect(h: u32) -> Entry {
+    let event = Event::Connect { generation: 1 };
+    entry(conv(h), h, Some(4 + h as u64), event, Reply::Ok)
+}
+
+fn wait(h: u32) -> Entry {
+    let event = Event::Await { generation: 1 };
+    entry(conv(h), h, None, event, Reply::Ok)
+}
+
+fn open(h: u32) -> Entry {
+    let event = Event::Open {
+        file: FileName::Data,
+        mode: Mode::Both,
+    };
+    entry(conv(h), h, None, event, Reply::Opened { generation: 1 })
+}
+
+fn write(alloc: Global) -> Result<Entry, AllocError> {
+    let event = Event::Write {
+        generation: 1,
+        text: text(alloc, b"hi")?,
+    };
+    let mut write = entry(conv(0), 0, None, event, Reply::Count { count: 2 });
+    write.emits = Some(Header {
+        src: addr(0),
+        dst: addr(1),
+        ttl: 255,
+        tos: 0,
+        body: BodyHeader::Udp { length: 2 },
+    });
+    Ok(write)
+}
+
+fn read(alloc: Global) -> Result<Entry, AllocError> {
+    let event = Event::Read {
+        generation: 1,
+        count: 8192,
+    };
+    let reply = Reply::Bytes {
+        bytes: text(alloc, b"hi")?,
+    };
+    Ok(entry(conv(1), 1, None, event, reply))
+}
+
+fn talks(alloc: Global, history: &mut History) -> Result<(), AllocError> {
+    history.push(write(alloc)?)?;
+    let put = Event::Put { to: Some(1) };
+    history.push(entry(
+        ActorName::Medium(0),
+        0,
+        Some(12),
+        put,
+        Reply::Laid { frame: 1 },
+    ))?;
+    let copy = Reply::Copy { frame: 1 };
+    history.push(entry(ActorName::Medium(0), 2, None, Event::Take, copy))?;
+    let to = Reply::To {
+        slot: 0,
+        generation: 1,
+    };
+    history.push(entry(dir(1), 2, Some(14), Event::Arrive, to))?;
+    let arrive = Event::ArriveAt { generation: 1 };
+    history.push(entry(conv(1), 2, Some(15), arrive, Reply::Took))?;
+    history.push(read(alloc)?)
+}
+
+#[test]
+fn a_datagram_goes(rt: HostRuntime) -> Result<(), Fail> {
+    let mut history = History::new(rt.alloc());
+    for h in 0..2 {
+        history.push(reserve(h))?;
+    }
+    for h in 0..2 {
+        history.push(begin(h))?;
+    }
+    for h in 0..2 {
+        history.push(grant(h))?;
+    }
+    for h in 0..2 {
+        history.push(connect(h))?;
+    }
+    for h in 0..2 {
+        history.push(wait(h))?;
+    }
+    for h in 0..2 {
+        history.push(open(h))?;
+    }
+    talks(rt.alloc(), &mut history)?;
+    let lines = b"0 0 0 dir.0.udp - reserve = slot 0 1
+1 0 1 dir.1.udp - reserve = slot 0 1
+2 0 0 conv.0.udp.0 0 begin 1 = ok
+3 0 1 conv.1.udp.0 1 begin 1 = ok
+4 0 0 dir.0.udp - grant 0 1 135.104.9.31!7 5000 = granted 135.104.9.6!5000 135.104.9.31!7 0 1472
+5 0 1 dir.1.udp - grant 0 1 135.104.9.6!5000 7 = granted 135.104.9.31!7 135.104.9.6!5000 0 1472
+6 0 0 conv.0.udp.0 4 connect 1 = ok
+7 0 1 conv.1.udp.0 5 connect 1 = ok
+8 0 0 conv.0.udp.0 - await 1 = ok
+9 0 1 conv.1.udp.0 - await 1 = ok
+10 0 0 conv.0.udp.0 - open data rw = opened 1
+11 0 1 conv.1.udp.0 - open data rw = opened 1
+12 0 0 conv.0.udp.0 - write 1 6869 = count 2 + udp 135.104.9.6!5000 135.104.9.31!7 255 0 2
+13 0 0 medium.0 12 put 1 = laid 1
+14 0 2 medium.0 - take = copy 1
+15 0 2 dir.1.udp 14 arrive = to 0 1
+16 0 2 conv.1.udp.0 15 arrive 1 = took
+17 0 1 conv.1.udp.0 - read 1 8192 = bytes 6869
+";
+    let text = text_of(rt.alloc(), &history)?;
+    assert!(rt; text.as_slice() == lines.as_slice());
+    Ok(())
+}
+
+#[test]
+fn a_refused_call_ends(rt: HostRuntime) -> Result<(), Fail> {
+    let actor = ActorName::Conv(0, Proto::Il, 31);
+    let event = Event::Tick { generation: 3 };
+    let mut last = entry(actor, 9, Some(7), event, Reply::Ticked);
+    last.moment = 30010;
+    last.ended = true;
+    last.emits = Some(Header {
+        src: addr(1),
+        dst: addr(0),
+        ttl: 255,
+        tos: 16,
+        body: BodyHeader::Il {
+            kind: IlKind::Close,
+            spec: 1,
+            id: 4294967295,
+            ack: 101,
+            length: 0,
+        },
+    });
+    let mut history = History::new(rt.alloc());
+    history.push(last)?;
+    let line =
+        b"0 30010 9 conv.0.il.31 7 tick 3 = ticked + il 135.104.9.31!7 135.104.9.6!5000 255 16 close 1 4294967295 101 0 ended\n";
+    let text = text_of(rt.alloc(), &history)?;
+    assert!(rt; text.as_slice() == line.as_slice());
+    Ok(())
+}
+
+// The line of an event and a reply at the clock.
+fn shows(
+    rt: &impl Abort,
+    alloc: Global,
+    event: Event,
+    reply: Reply,
+    words: &str,
+) -> Result<(), AllocError> {
+    let mut history = History::new(alloc);
+    history.push(entry(ActorName::Clock, 0, None, event, reply))?;
+    let line = text_of(alloc, &history)?;
+    let mut wanted = text(alloc, b"0 0 0 clock - ")?;
+    wanted.append(words.as_bytes())?;
+    wanted.push(b'\n')?;
+    assert!(rt; line == wanted, "{words}");
+    Ok(())
+}
+
+#[test]
+fn lists_are_hexadecimal(rt: HostRuntime) -> Result<(), Fail> {
+    let alloc = rt.alloc();
+    let nothing = Reply::Lines {
+        lines: Lines::new(alloc),
+    };
+    let query = text(alloc, b"")?;
+    shows(&rt, alloc, Event::Cs { query }, nothing, "cs - = lines -")?;
+    let mut names = Lines::new(alloc);
+    names.push(text(alloc, b"cs")?)?;
+    names.push(text(alloc, b"")?)?;
+    names.push(text(alloc, b"udp")?)?;
+    let path = text(alloc, b"/net")?;
+    let words = "ls 2f6e6574 = names 63730a0a7564700a";
+    shows(
+        &rt,
+        alloc,
+        Event::LsPath { path },
+        Reply::Names { names },
+        words,
+    )?;
+    let none = Reply::Calls {
+        calls: CallList::new(alloc),
+    };
+    shows(&rt, alloc, Event::Take, none, "take = calls -")?;
+    let mut calls = CallList::new(alloc);
+    for slot in [3, 31] {
+        calls.push(Call {
+            slot,
+            generation: 2,
+        })?;
+    }
+    shows(
+        &rt,
+        alloc,
+        Event::Ls,
+        Reply::Calls { calls },
+        "ls = calls 3 2 31 2",
+    )?;
+    Ok(())
+}
+
+#[test]
+fn announcements_have_stars(rt: HostRuntime) -> Result<(), Fail> {
+    let alloc = rt.alloc();
+    let any = Event::Announce {
+        slot: 2,
+        generation: 5,
+        ip: None,
+        port: None,
+    };
+    shows(
+        &rt,
+        alloc,
+        any,
+        Reply::PortTaken { slot: 3 },
+        "announce 2 5 * * = taken 3",
+    )?;
+    let one = Event::Announce {
+        slot: 2,
+        generation: 5,
+        ip: Some(ANNA),
+        port: Some(17008),
+    };
+    let wrong = Reply::WrongState {
+        state: StateName::Announced,
+    };
+    let words = "announce 2 5 135.104.9.6 17008 = wrong Announced";
+    shows(&rt, alloc, one, wrong, words)?;
+    let put = Event::Put { to: None };
+    shows(&rt, alloc, put, Reply::NoStation, "put - = nostation")?;
+    let hungup = Reply::Hungup {
+        cause: Cause::TimedOut,
+    };
+    shows(
+        &rt,
+        alloc,
+        Event::Await { generation: 1 },
+        hungup,
+        "await 1 = hungup 2",
+    )?;
+    Ok(())
+}
+
+#[test]
+fn names_stand_as_they_are(rt: HostRuntime) -> Result<(), Fail> {
+    let alloc = rt.alloc();
+    let name = text(alloc, b"d-1")?;
+    shows(
+        &rt,
+        alloc,
+        Event::Use { name },
+        Reply::BadFid,
+        "use d-1 = badfid",
+    )?;
+    let name = text(alloc, b"=")?;
+    shows(
+        &rt,
+        alloc,
+        Event::Misuse { name },
+        Reply::BadMode,
+        "misuse = = badmode",
+    )?;
+    let path = text(alloc, b"/net/tcp")?;
+    let mode = Mode::Write;
+    let words = "open 2f6e65742f746370 w = nofile";
+    shows(
+        &rt,
+        alloc,
+        Event::OpenPath { path, mode },
+        Reply::NoFile,
+        words,
+    )?;
+    let file = Event::File {
+        generation: 1,
+        file: FileName::Status,
+        count: 65536,
+    };
+    let bytes = text(alloc, b"Open\n")?;
+    let words = "file 1 status 65536 = bytes 4f70656e0a";
+    shows(&rt, alloc, file, Reply::Bytes { bytes }, words)?;
+    Ok(())
+}

@@ -1,0 +1,115 @@
+//! What a history wrote and read.
+ghost use Rattle.std.specs.Prelude.{◌≡◌, ◌≤◌, length, nat_lt, if◌then◌else◌};
+ghost use Rattle.net_model.specs.Summary.{sum_over, written_in, read_in, bytes_written_in, bytes_read_in};
+
+use net_model::{Entry, Event, History, Reply};
+
+/// How many messages were written and read, and how many bytes they have. A read of no bytes is no message.
+#[derive(Clone, Copy, Debug, PartialEq, Eq)]
+pub struct Totals {
+    pub written: u64,
+    pub read: u64,
+    pub bytes_written: u128,
+    pub bytes_read: u128,
+}
+
+/// The totals of a history, in one pass.
+pub fn totals_of(history: &History) -> Totals
+    ensures written { result.written ≡ sum_over written_in history.now }
+    ensures read { result.read ≡ sum_over read_in history.now }
+    ensures bytes_written { result.bytes_written ≡ sum_over bytes_written_in history.now }
+    ensures bytes_read { result.bytes_read ≡ sum_over bytes_read_in history.now }
+{
+    let (written, bytes_written) = written_by(history.as_slice());
+    let (read, bytes_read) = read_by(history.as_slice());
+    Totals {
+        written,
+        read,
+        bytes_written,
+        bytes_read,
+    }
+}
+
+fn written_by(entries: &[Entry]) -> (u64, u128)
+    ensures messages { result.0 ≡ sum_over written_in entries.now }
+    ensures bytes { result.1 ≡ sum_over bytes_written_in entries.now }
+{
+    let mut messages = 0;
+    let mut bytes = 0;
+    for entry in entries {
+        messages += messages_written(entry);
+        bytes += bytes_written(entry) as u128;
+    }
+    (messages, bytes)
+}
+
+fn read_by(entries: &[Entry]) -> (u64, u128)
+    ensures messages { result.0 ≡ sum_over read_in entries.now }
+    ensures bytes { result.1 ≡ sum_over bytes_read_in entries.now }
+{
+    let mut messages = 0;
+    let mut bytes = 0;
+    for entry in entries {
+        messages += messages_read(entry);
+        bytes += bytes_read(entry) as u128;
+    }
+    (messages, bytes)
+}
+
+fn messages_written(entry: &Entry) -> u64
+    ensures value { result ≡ written_in entry.now.event entry.now.reply }
+    ensures within { result ≤ 1 }
+{
+    match &entry.event {
+        Event::Write { .. } => match &entry.reply {
+            Reply::Count { .. } => 1,
+            _ => 0,
+        },
+        _ => 0,
+    }
+}
+
+fn bytes_written(entry: &Entry) -> u64
+    ensures { result ≡ bytes_written_in entry.now.event entry.now.reply }
+{
+    match &entry.event {
+        Event::Write { text, .. } => match &entry.reply {
+            Reply::Count { .. } => text.len() as u64,
+            _ => 0,
+        },
+        _ => 0,
+    }
+}
+
+fn messages_read(entry: &Entry) -> u64
+    ensures value { result ≡ read_in entry.now.event entry.now.reply }
+    ensures within { result ≤ 1 }
+{
+    match &entry.event {
+        Event::Read { .. } => match &entry.reply {
+            Reply::Bytes { bytes } => some(bytes.as_slice()),
+            _ => 0,
+        },
+        _ => 0,
+    }
+}
+
+// 1 where there are bytes, else 0.
+fn some(bytes: &[u8]) -> u64
+    ensures value { result ≡ (if nat_lt 0 (length bytes.now) then 1 else 0) }
+    ensures within { result ≤ 1 }
+{
+    if bytes.is_empty() { 0 } else { 1 }
+}
+
+fn bytes_read(entry: &Entry) -> u64
+    ensures { result ≡ bytes_read_in entry.now.event entry.now.reply }
+{
+    match &entry.event {
+        Event::Read { .. } => match &entry.reply {
+            Reply::Bytes { bytes } => bytes.len() as u64,
+            _ => 0,
+        },
+        _ => 0,
+    }
+}

@@ -1,0 +1,118 @@
+//! Words of a line, each with a blank before it.
+ghost use Rattle.std.specs.Prelude.{◌≡◌, ◌<◌, ◌∷◌, ◌++◌, [], OnOk, decimal};
+ghost use Rattle.net_model.specs.Transcript as spec;
+ghost use Rattle.net_model.specs.Transcript.{spaced, hex_digits, hex_word, lines_of};
+ghost use Rattle.transcript.specs.Digits.{line_digits};
+
+use itoa::Buffer;
+use net_model::{Lines, Octets};
+use std::alloc::AllocError;
+
+/// A number's digits, without a blank.
+pub fn put_decimal(out: &mut Octets, n: u64) -> Result<(), AllocError>
+    ensures { OnOk result (out.new ≡ out.old ++ decimal n) }
+{
+    let mut buffer = Buffer::new();
+    out.append(buffer.format(n).as_bytes())
+}
+
+/// A word as it is.
+pub fn put_word(out: &mut Octets, word: &[u8]) -> Result<(), AllocError>
+    ensures { OnOk result (out.new ≡ out.old ++ spaced (word.now ∷ [])) }
+{
+    out.push(b' ')?;
+    out.append(word)
+}
+
+/// A number.
+pub fn put_number(out: &mut Octets, n: u64) -> Result<(), AllocError>
+    ensures { OnOk result (out.new ≡ out.old ++ spaced (decimal n ∷ [])) }
+{
+    out.push(b' ')?;
+    put_decimal(out, n)
+}
+
+/// A word with a number behind it.
+pub fn put_with_number(out: &mut Octets, word: &[u8], n: u64) -> Result<(), AllocError>
+    ensures { OnOk result (out.new ≡ out.old ++ spaced (word.now ∷ decimal n ∷ [])) }
+{
+    put_word(out, word)?;
+    put_number(out, n)
+}
+
+/// A word with two numbers behind it.
+pub fn put_with_numbers(out: &mut Octets, word: &[u8], n: u64, m: u64) -> Result<(), AllocError>
+    ensures { OnOk result (out.new ≡ out.old ++ spaced (word.now ∷ decimal n ∷ decimal m ∷ [])) }
+{
+    put_with_number(out, word, n)?;
+    put_number(out, m)
+}
+
+fn hex_digit(n: u8) -> u8
+    requires { n < 16 }
+    ensures { result ≡ spec.hex_digit n }
+{
+    if n < 10 { b'0' + n } else { b'a' + (n - 10) }
+}
+
+/// Two digits for each byte, without a blank.
+fn put_hex_digits(out: &mut Octets, bytes: &[u8]) -> Result<(), AllocError>
+    ensures { OnOk result (out.new ≡ out.old ++ hex_digits bytes.now) }
+{
+    for byte in bytes {
+        out.push(hex_digit(*byte / 16))?;
+        out.push(hex_digit(*byte % 16))?;
+    }
+    Ok(())
+}
+
+/// Bytes in hexadecimal.
+pub fn put_hex(out: &mut Octets, bytes: &[u8]) -> Result<(), AllocError>
+    ensures { OnOk result (out.new ≡ out.old ++ spaced (hex_word bytes.now ∷ [])) }
+{
+    if bytes.is_empty() {
+        return put_word(out, b"-");
+    }
+    out.push(b' ')?;
+    put_hex_digits(out, bytes)
+}
+
+/// A word with bytes in hexadecimal behind it.
+pub fn put_with_hex(out: &mut Octets, word: &[u8], bytes: &[u8]) -> Result<(), AllocError>
+    ensures { OnOk result (out.new ≡ out.old ++ spaced (word.now ∷ hex_word bytes.now ∷ [])) }
+{
+    put_word(out, word)?;
+    put_hex(out, bytes)
+}
+
+// The digits of texts with a newline after each.
+fn put_line_digits(out: &mut Octets, lines: &[Octets]) -> Result<(), AllocError>
+    ensures { OnOk result (out.new ≡ out.old ++ line_digits lines.now) }
+{
+    for line in lines {
+        put_hex_digits(out, line.as_slice())?;
+        put_hex_digits(out, b"\n")?;
+    }
+    Ok(())
+}
+
+/// Texts in hexadecimal, a newline after each.
+fn put_lines(out: &mut Octets, lines: &[Octets]) -> Result<(), AllocError>
+    ensures { OnOk result (out.new ≡ out.old ++ spaced (hex_word (lines_of lines.now) ∷ [])) }
+{
+    if lines.is_empty() {
+        put_word(out, b"-")
+    } else {
+        out.push(b' ')?;
+        put_line_digits(out, lines)?;
+        Ok(())
+    }
+}
+
+/// A word with texts in hexadecimal behind it.
+pub fn put_with_lines(out: &mut Octets, word: &[u8], lines: &Lines) -> Result<(), AllocError>
+    ensures { OnOk result (out.new ≡ out.old ++ spaced (word.now ∷ hex_word (lines_of lines.now) ∷ [])) }
+{
+    put_word(out, word)?;
+    put_lines(out, lines.as_slice())
+}
