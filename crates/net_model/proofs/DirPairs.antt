@@ -38,7 +38,7 @@ pub in_last : {A : Type 0} (x : A) (xs : List A) → In x (xs ++ x ∷ [])
 in_last x [] = inl refl
 in_last x (y ∷ xs) = inr (in_last x xs)
 
-same_number : (n : ℕ) → (n == n) ≡ true
+pub same_number : (n : ℕ) → (n == n) ≡ true
 same_number n = search arith
 
 same_pair_itself : (p : Pair) → same_pair p p ≡ true

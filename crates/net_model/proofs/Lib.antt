@@ -53,4 +53,5 @@ pub mod Standing
 pub mod Marks
 pub mod Peers
 pub mod InOrders
+pub mod PairsOnce
 pub mod NdbFirsts

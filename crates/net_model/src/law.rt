@@ -16,6 +16,7 @@ ghost use Rattle.net_model.specs.Legal.{IsFault, IsLegal, IsTimed, Rule};
 ghost use Rattle.net_model.specs.Net.{owed, state, played, works};
 ghost use Rattle.net_model.specs.Duties.{Duty};
 ghost use Rattle.net_model.specs.Stamped.{In};
+ghost use Rattle.net_model.specs.Written.{Given, given_in};
 
 /// The reading of a ctl file's text is its grammar's.
 pub fn controls_are_read()
@@ -53,4 +54,9 @@ pub fn prefix_law()
 /// Each duty that a caller owes cites an earlier entry of its own.
 pub fn duties_cite_their_own()
     ensures { (w : World) (h : List Entry) (c : ℕ) (d : Duty) → In d (owed w h c) → (x : Entry) × (slice_get h d.cites ≡ Some x) × (x.caller ≡ c) }
+{}
+
+/// In a legal history a directory grants a pair, or bears a conversation with it, at most once.
+pub fn a_pair_is_given_once()
+    ensures { (w : World) (h : List Entry) → IsLegal w h → (i j : ℕ) (f g : Given) → slice_get (given_in w h) i ≡ Some f → slice_get (given_in w h) j ≡ Some g → f.to.host ≡ g.to.host → f.to.proto ≡ g.to.proto → f.pair ≡ g.pair → i ≡ j }
 {}
