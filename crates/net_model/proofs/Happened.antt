@@ -15,7 +15,7 @@ use Rattle.net_model.specs.Legal.{IsLegal, MayFollow, Shows, Shown}
 use Rattle.net_model.specs.Net.{Net, after, step_of, work_of, net_after, next_net, with_of}
 use Rattle.net_model.specs.Next.{next as next_ask}
 use Rattle.net_model.specs.World.{IsWorld}
-use Rattle.net_model.specs.Written.{Given, gives, given_in}
+use Rattle.net_model.specs.Written.{Given, gave, given_in}
 use Rattle.net_model.specs.declared.reply.Reply.{Reply}
 use Rattle.net_model.proofs.Deeds.{both_ways}
 use Rattle.net_model.proofs.Histories.{after_push, by_entries, legal_push}
@@ -76,11 +76,11 @@ module _ (w : World) (world : IsWorld w) where
       let d = happened k x legal' may in
       let u = actor_trace x.actor d.step.state (work_of (after w k) x) d.step.outcome (trace w k) in
       let gift = (work_of (after w k) x).with in
-      let stepped : Linked u (given_in w k ++ option_to_list (gives x.actor x.event gift d.step.outcome.reply)) =
+      let stepped : Linked u (given_in w k ++ option_to_list (gave x.actor x.event gift d.step.outcome.reply)) =
       step_linked x.actor d.step.state x.event gift d.step.outcome (trace w k) (given_in w k) d.leaves.later l in
       subst (λ (t : Trace). Linked t (given_in w (k ++ x ∷ []))) (sym d.trace_is)
       (subst (λ (gs : List Given). Linked u gs) (sym (given_push w k x))
-      (subst (λ (r : Reply). Linked u (given_in w k ++ option_to_list (gives x.actor x.event gift r))) (sym d.reply_is) stepped)))
+      (subst (λ (r : Reply). Linked u (given_in w k ++ option_to_list (gave x.actor x.event gift r))) (sym d.reply_is) stepped)))
       h legal
     where
       nobody : (p : Pair) (o : Owner) → opening_trace.owner p ≡ Some o → ⊥

@@ -23,7 +23,7 @@ use Rattle.net_model.specs.Actors.{Actor, IsConv, IsDir, IsMedium, IsPlain}
 use Rattle.net_model.specs.Directory as directory
 use Rattle.net_model.specs.Net.{Net, opening_net, next_net, net_of, after, work_of}
 use Rattle.net_model.specs.Same.{same_pair}
-use Rattle.net_model.specs.Written.{Conversation, Given, gives, given_from, given_in}
+use Rattle.net_model.specs.Written.{Conversation, Given, gave, given_from, given_in}
 use Rattle.net_model.proofs.Books.{conv_of}
 use Rattle.net_model.proofs.Sides.{same_pair_is, same_pair_itself, put_same, put_there}
 use Rattle.net_model.proofs.Touch.{Later}
@@ -100,9 +100,9 @@ il_linked t u gs p o later is l = record {
 
 -- a directory of IL gives a pair, or changes nothing
 data DirGives (h : ℕ) (ev : Event) (gift : With) (r : Reply) : Type 0 where
-  Gave : (p : Pair) (o : Owner) → gives (name.Dir h proto.Il) ev gift r ≡ Some (record { to = conv_of o; pair = p })
+  Gave : (p : Pair) (o : Owner) → gave (name.Dir h proto.Il) ev gift r ≡ Some (record { to = conv_of o; pair = p })
       → ((t : Trace) → dir_trace h ev gift r t ≡ record t { owner = put_at t.owner p (Some o) }) → DirGives h ev gift r
-  Kept : gives (name.Dir h proto.Il) ev gift r ≡ None → ((t : Trace) → dir_trace h ev gift r t ≡ t) → DirGives h ev gift r
+  Kept : gave (name.Dir h proto.Il) ev gift r ≡ None → ((t : Trace) → dir_trace h ev gift r t ≡ t) → DirGives h ev gift r
 
 dir_gives : (h : ℕ) (ev : Event) (gift : With) (r : Reply) → DirGives h ev gift r
 dir_gives h (event.Grant n g remote port) gift r = by_reply r
@@ -118,7 +118,7 @@ dir_gives h event.Arrive gift r = by_gift gift r
     by_gift _ r = Kept refl (λ t. refl)
 dir_gives h _ gift r = Kept refl (λ t. refl)
 
-dir_linked : (h : ℕ) (ev : Event) (gift : With) (r : Reply) (t : Trace) (gs : List Given) → DirGives h ev gift r → Later t (dir_trace h ev gift r t) → Linked t gs → Linked (dir_trace h ev gift r t) (gs ++ option_to_list (gives (name.Dir h proto.Il) ev gift r))
+dir_linked : (h : ℕ) (ev : Event) (gift : With) (r : Reply) (t : Trace) (gs : List Given) → DirGives h ev gift r → Later t (dir_trace h ev gift r t) → Linked t gs → Linked (dir_trace h ev gift r t) (gs ++ option_to_list (gave (name.Dir h proto.Il) ev gift r))
 dir_linked h ev gift r t gs (Gave p o is trace_is) later l =
     subst (λ (x : Option Given). Linked (dir_trace h ev gift r t) (gs ++ option_to_list x)) (sym is)
     (il_linked t (dir_trace h ev gift r t) gs p o later (λ q. ap (λ (u : Trace). u.owner q) (trace_is t)) l)
@@ -131,15 +131,15 @@ abbrev IsOfUdp : Option Given → Type 0
 IsOfUdp None = Unit {0}
 IsOfUdp (Some g) = g.to.proto ≡ proto.Udp
 
-udp_gives : (h : ℕ) (ev : Event) (gift : With) (r : Reply) → IsOfUdp (gives (name.Dir h proto.Udp) ev gift r)
+udp_gives : (h : ℕ) (ev : Event) (gift : With) (r : Reply) → IsOfUdp (gave (name.Dir h proto.Udp) ev gift r)
 udp_gives h (event.Grant n g remote port) gift r = by_reply r
   where
-    by_reply : (r : Reply) → IsOfUdp (gives (name.Dir h proto.Udp) (event.Grant n g remote port) gift r)
+    by_reply : (r : Reply) → IsOfUdp (gave (name.Dir h proto.Udp) (event.Grant n g remote port) gift r)
     by_reply (reply.Granted pair start limit) = refl
     by_reply _ = tt
 udp_gives h event.Arrive gift r = by_gift gift r
   where
-    by_gift : (gift : With) (r : Reply) → IsOfUdp (gives (name.Dir h proto.Udp) event.Arrive gift r)
+    by_gift : (gift : With) (r : Reply) → IsOfUdp (gave (name.Dir h proto.Udp) event.Arrive gift r)
     by_gift (with_variants.Packet p) (reply.Born n g start limit) = refl
     by_gift (with_variants.Packet p) _ = tt
     by_gift _ r = tt
@@ -151,9 +151,9 @@ udp_dir_linked t gs (Some g) is l = udp_linked t gs g is l
 
 -- a step of any actor
 pub step_linked : (a : ActorName) (s : Actor) (ev : Event) (gift : With) (o : Outcome) (t : Trace) (gs : List Given) → Later t (actor_trace a s (record { event = ev; with = gift }) o t) → Linked t gs
-    → Linked (actor_trace a s (record { event = ev; with = gift }) o t) (gs ++ option_to_list (gives a ev gift o.reply))
+    → Linked (actor_trace a s (record { event = ev; with = gift }) o t) (gs ++ option_to_list (gave a ev gift o.reply))
 step_linked (name.Dir h proto.Il) s ev gift o t gs later l = dir_linked h ev gift o.reply t gs (dir_gives h ev gift o.reply) later l
-step_linked (name.Dir h proto.Udp) s ev gift o t gs later l = udp_dir_linked t gs (gives (name.Dir h proto.Udp) ev gift o.reply) (udp_gives h ev gift o.reply) l
+step_linked (name.Dir h proto.Udp) s ev gift o t gs later l = udp_dir_linked t gs (gave (name.Dir h proto.Udp) ev gift o.reply) (udp_gives h ev gift o.reply) l
 step_linked (name.Conv h proto.Il n) (IsConv c) ev gift o t gs later l = kept_linked t _ gs later (λ p. conv_trace_owner c.stage c.core c o.emit t p) l
 step_linked (name.Conv h proto.Il n) (IsDir d) ev gift o t gs later l = kept_linked t t gs later (λ q. refl) l
 step_linked (name.Conv h proto.Il n) (IsMedium m) ev gift o t gs later l = kept_linked t t gs later (λ q. refl) l
@@ -165,16 +165,16 @@ step_linked name.Clock s ev gift o t gs later l = kept_linked t t gs later (λ q
 
 -- The list, one entry more.
 
-pub given_push : (w : World) (h : List Entry) (x : Entry) → given_in w (h ++ x ∷ []) ≡ given_in w h ++ option_to_list (gives x.actor x.event (work_of (after w h) x).with x.reply)
+pub given_push : (w : World) (h : List Entry) (x : Entry) → given_in w (h ++ x ∷ []) ≡ given_in w h ++ option_to_list (gave x.actor x.event (work_of (after w h) x).with x.reply)
 given_push w h x = go opening_net h
   where
-    go : (net : Net) (xs : List Entry) → given_from w net (xs ++ x ∷ []) ≡ given_from w net xs ++ option_to_list (gives x.actor x.event (work_of (net_of w net xs) x).with x.reply)
-    go net [] = last (option_to_list (gives x.actor x.event (work_of net x).with x.reply))
+    go : (net : Net) (xs : List Entry) → given_from w net (xs ++ x ∷ []) ≡ given_from w net xs ++ option_to_list (gave x.actor x.event (work_of (net_of w net xs) x).with x.reply)
+    go net [] = last (option_to_list (gave x.actor x.event (work_of net x).with x.reply))
       where
         last : (ys : List Given) → ys ++ [] ≡ ys
         last [] = refl
         last (y ∷ ys) = ap (λ (zs : List Given). y ∷ zs) (last ys)
     go net (y ∷ xs) =
-        let first = option_to_list (gives y.actor y.event (work_of net y).with y.reply) in
+        let first = option_to_list (gave y.actor y.event (work_of net y).with y.reply) in
         ap (λ (zs : List Given). first ++ zs) (go (next_net w net y) xs)
-        ∙ sym (append_assoc first (given_from w (next_net w net y) xs) (option_to_list (gives x.actor x.event (work_of (net_of w (next_net w net y) xs) x).with x.reply)))
+        ∙ sym (append_assoc first (given_from w (next_net w net y) xs) (option_to_list (gave x.actor x.event (work_of (net_of w (next_net w net y) xs) x).with x.reply)))
