@@ -28,3 +28,4 @@ pub mod NdbSound
 pub mod NdbFiles
 pub mod PairsOnce
 pub mod NdbFirsts
+pub mod CasesRuns

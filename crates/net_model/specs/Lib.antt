@@ -54,3 +54,4 @@ pub mod Summary
 pub mod NdbSpelling
 pub mod NdbFirst
 pub mod NdbExample
+pub mod WorkedRuns
