@@ -21,6 +21,7 @@ pub struct View {
     pub clocks: LinkedList<LinkedList<(u64, Noted)>>,
 }
 
+/// The rule of the journal's word, over what all seats know.
 pub struct Law;
 
 impl TableRule<(), View, Roster> for Law {
@@ -77,6 +78,7 @@ pub trait Handing {
     ghost number: { Number };
 }
 
+/// A seat hands a number over to a new one.
 pub struct Hand<N: Handing> {
     of: PhantomData<N>,
 }
@@ -89,6 +91,7 @@ impl<N: Handing> Split<View> for Hand<N> {
     ghost right = { λ v. only N.number v };
 }
 
+/// A seat takes another in.
 pub struct Merge;
 
 impl Join<View> for Merge {

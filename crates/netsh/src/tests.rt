@@ -3,6 +3,7 @@ use crate::top::{ask, ask_surely};
 use net_model::Octets;
 use outside::{FailList, MemSink, MemSource, SureSink, SureSource};
 use std::alloc::{AllocError, Global};
+use std::process::Abort;
 use std::test::Fail;
 
 /// The worked database.
@@ -36,44 +37,97 @@ fn run(
     Ok((status, held))
 }
 
+/// Expects this status and this text of a call over a source and a sink that don't fail.
+fn expect(
+    rt: &impl Abort,
+    alloc: Global,
+    words: &[&str],
+    input: &str,
+    status: u8,
+    text: &str,
+) -> Result<(), Fail> {
+    let (answered, held) = run(alloc, words, input.as_bytes(), &[], &[])?;
+    assert_eq!(rt; answered, Some(status));
+    assert_eq!(rt; held.as_str(), text);
+    Ok(())
+}
+
 #[test]
 fn the_worked_runs(rt: HostRuntime) -> Result<(), Fail> {
-    let helix = ["cs", "anna", "net!helix!9fs"].as_slice();
-    let nosuch = ["cs", "anna", "net!helix!nosuch"].as_slice();
     let lines = "/net/il/clone 135.104.9.31!17008\n/net/il/clone 10.0.0.31!17008\n";
-    let rows = [
-        (helix, LOCAL, 0, lines),
-        (nosuch, LOCAL, 5, "! 4 no service\n"),
-        (helix, "", 5, "! 3 no host\n"),
-        (helix, "# nothing\n", 5, "! 3 no host\n"),
-        (helix, "\tip=1.2.3.4\n", 2, "! line 1 cause 1\n"),
-        (["cs", "anna"].as_slice(), LOCAL, 1, "! usage\n"),
-        ([].as_slice(), LOCAL, 1, "! usage\n"),
-        (
-            ["cs", "", "net!helix!9fs"].as_slice(),
-            LOCAL,
-            1,
-            "! usage\n",
-        ),
-        (
-            ["cs", "anna", "helix"].as_slice(),
-            LOCAL,
-            5,
-            "! 1 bad query\n",
-        ),
-        (
-            ["cs", "anna", "il!helix!9fs"].as_slice(),
-            LOCAL,
-            5,
-            "! 6 not built\n",
-        ),
-    ];
-    for (words, input, status, text) in rows {
-        let (answered, held) = run(rt.alloc(), words, input.as_bytes(), &[], &[])?;
-        assert_eq!(rt; answered, Some(status), "{text}");
-        assert_eq!(rt; held.as_str(), text);
-    }
-    Ok(())
+    let alloc = rt.alloc();
+    expect(
+        &rt,
+        alloc,
+        &["cs", "anna", "net!helix!9fs"],
+        LOCAL,
+        0,
+        lines,
+    )?;
+    expect(
+        &rt,
+        alloc,
+        &["cs", "anna", "net!helix!nosuch"],
+        LOCAL,
+        5,
+        "! 4 no service\n",
+    )?;
+    expect(
+        &rt,
+        alloc,
+        &["cs", "anna", "net!helix!9fs"],
+        "",
+        5,
+        "! 3 no host\n",
+    )?;
+    expect(
+        &rt,
+        alloc,
+        &["cs", "anna", "net!helix!9fs"],
+        "# nothing\n",
+        5,
+        "! 3 no host\n",
+    )?;
+    expect(
+        &rt,
+        alloc,
+        &["cs", "anna", "helix"],
+        LOCAL,
+        5,
+        "! 1 bad query\n",
+    )?;
+    expect(
+        &rt,
+        alloc,
+        &["cs", "anna", "il!helix!9fs"],
+        LOCAL,
+        5,
+        "! 6 not built\n",
+    )
+}
+
+#[test]
+fn bad_lines_and_words_in_no_row(rt: HostRuntime) -> Result<(), Fail> {
+    let alloc = rt.alloc();
+    let tab = "\tip=1.2.3.4\n";
+    expect(
+        &rt,
+        alloc,
+        &["cs", "anna", "net!helix!9fs"],
+        tab,
+        2,
+        "! line 1 cause 1\n",
+    )?;
+    expect(&rt, alloc, &["cs", "anna"], LOCAL, 1, "! usage\n")?;
+    expect(&rt, alloc, &[], LOCAL, 1, "! usage\n")?;
+    expect(
+        &rt,
+        alloc,
+        &["cs", "", "net!helix!9fs"],
+        LOCAL,
+        1,
+        "! usage\n",
+    )
 }
 
 #[test]

@@ -1,2 +1,3 @@
 mod LineDigits
 mod Spacing
+mod Telling

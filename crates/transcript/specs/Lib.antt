@@ -1,3 +1,4 @@
 pub mod Digits
+pub mod Telling
 pub use Rattle.net_model.specs.Summary
 pub use Rattle.net_model.specs.Transcript

@@ -3,6 +3,7 @@
 
 mod entry;
 mod event;
+mod law;
 mod names;
 mod reply;
 #[cfg(test)]
@@ -11,4 +12,5 @@ mod totals;
 mod words;
 
 pub use entry::text_of;
+pub use law::texts_tell_words;
 pub use totals::{Totals, totals_of};
