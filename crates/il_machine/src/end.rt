@@ -23,6 +23,9 @@ const WINDOW: usize = 20;
 /// How many messages may be unread or early.
 const MOST_STANDING: usize = 64;
 
+/// How many messages may not be sent or got, so that their numbers tell their ids apart.
+const MOST_MESSAGES: usize = 1 << 31;
+
 /// The longest message, in bytes.
 const LONGEST_MESSAGE: usize = 8192;
 
@@ -316,6 +319,13 @@ impl IlEnd {
     {
         self.state = IlState::Listening;
         self.fresh = false;
+    }
+
+    /// Whether so few messages were sent and got that the end may be asked for anything.
+    pub fn is_short(&self) -> bool
+        ensures { IsTrue result → StandsForSome self.now IsShort }
+    {
+        self.sent.len() < MOST_MESSAGES && self.got.len() < MOST_MESSAGES
     }
 
     /// Takes a message that comes, and gives what the end emits.

@@ -47,6 +47,7 @@ pub mod Rounds
 pub mod Worked
 pub mod WorkedUdp
 pub mod Written
+pub mod PrefixLaw
 pub mod WorkedIl
 pub mod WorkedFaults
 pub mod Transcript

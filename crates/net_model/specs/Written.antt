@@ -14,7 +14,6 @@ use Rattle.net_model.specs.declared.event.Event.TheVariants as event
 use Rattle.net_model.specs.declared.history.Entry.{Entry}
 use Rattle.net_model.specs.declared.history.With.{With}
 use Rattle.net_model.specs.declared.history.With.TheVariants as with_variants
-use Rattle.net_model.specs.declared.history.Work.{Work}
 use Rattle.net_model.specs.declared.il.IlKind.TheVariants.{Close}
 use Rattle.net_model.specs.declared.packet.BodyHeader.{BodyHeader}
 use Rattle.net_model.specs.declared.packet.BodyHeader.TheVariants as body
@@ -50,19 +49,17 @@ pub record Given : Type 0 where
   pub pair : Pair
 
 -- what an entry at a directory gives by a grant or a birth
-abbrev pub gives : ActorName → Work → Reply → Option Given
-gives a work r = gives_by a work.event work.with r
-  where
-    gives_by : ActorName → Event → With → Reply → Option Given
-    gives_by (name.Dir h p) (event.Grant n g remote lport) with (reply.Granted pair start limit) =
-        Some (record { to = record { host = h; proto = p; slot = n; generation = g }; pair = pair })
-    gives_by (name.Dir h p) event.Arrive (with_variants.Packet packet) (reply.Born n g start limit) =
-        Some (record { to = record { host = h; proto = p; slot = n; generation = g }; pair = directory.pair_of packet })
-    gives_by _ _ with _ = None
+abbrev pub gives : ActorName → Event → With → Reply → Option Given
+gives (name.Dir h p) (event.Grant n g remote lport) with (reply.Granted pair start limit) =
+    Some (record { to = record { host = h; proto = p; slot = n; generation = g }; pair = pair })
+gives (name.Dir h p) event.Arrive (with_variants.Packet packet) (reply.Born n g start limit) =
+    Some (record { to = record { host = h; proto = p; slot = n; generation = g }; pair = directory.pair_of packet })
+gives _ _ with _ = None
 
 abbrev pub given_from : World → Net → List Entry → List Given
 given_from w net [] = []
-given_from w net (x ∷ xs) = option_to_list (gives x.actor (work_of net x) x.reply) ++ given_from w (next_net w net x) xs
+given_from w net (x ∷ xs) =
+    option_to_list (gives x.actor x.event (work_of net x).with x.reply) ++ given_from w (next_net w net x) xs
 
 -- all that was granted or born, in order
 abbrev pub given_in : World → List Entry → List Given

@@ -8,6 +8,10 @@ ghost use Rattle.net_model.specs.declared.actor.ActorName.{ActorName};
 ghost use Rattle.net_model.specs.declared.history.Entry.{Entry};
 ghost use Rattle.net_model.specs.declared.world.World.{World};
 ghost use Rattle.net_model.specs.Actors.{opening_actor};
+ghost use Rattle.net_model.specs.declared.address.Proto.TheVariants.{Il};
+ghost use Rattle.net_model.specs.PrefixLaw.{InOrder};
+ghost use Rattle.net_model.specs.World.{IsWorld};
+ghost use Rattle.net_model.specs.Written.{Conversation, peer};
 ghost use Rattle.net_model.specs.Legal.{IsFault, IsLegal, IsTimed, Rule};
 ghost use Rattle.net_model.specs.Net.{owed, state, played, works};
 ghost use Rattle.net_model.specs.Duties.{Duty};
@@ -40,6 +44,11 @@ pub fn state_is_fold()
 /// A history with a fault isn't both legal and timed.
 pub fn a_fault_is_not_legal()
     ensures { (w : World) (h : List Entry) (stamp : ℕ) (rule : Rule) → IsFault w h stamp rule → IsLegal w h → IsTimed w h → ⊥ }
+{}
+
+/// What is read at an IL conversation was written at its peer, in order, and where a read gave no bytes, all of it was read.
+pub fn prefix_law()
+    ensures { (w : World) (h : List Entry) (e f : Conversation) → IsWorld w → IsLegal w h → e.proto ≡ Il → peer w h e ≡ Some f → InOrder w h e f }
 {}
 
 /// Each duty that a caller owes cites an earlier entry of its own.

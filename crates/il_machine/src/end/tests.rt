@@ -77,14 +77,6 @@ const fn at(now: u64, deed: Deed, says: Option<Said>, state: IlState, due: Optio
     }
 }
 
-// Whether so few messages stand in the end that it may be asked for anything.
-#[tactic(auto, unfolding(crate::specs::Stands::StandsFor))]
-fn is_short(end: &IlEnd) -> bool
-    ensures { IsTrue result → StandsForSome end.now IsShort }
-{
-    end.sent.len() < 1 << 31 && end.got.len() < 1 << 31
-}
-
 // Whether what is asked for has an answer, as `ready` tells it.
 #[tactic(auto, unfolding(crate::specs::Stands::StandsFor))]
 fn is_ready(end: &IlEnd, ask: Ask) -> bool
@@ -111,7 +103,7 @@ fn written<R: Abort>(
     text: &[u8],
 ) -> Result<Option<IlMsg>, AllocError> {
     assert!(rt; now < 1 << 62);
-    assert!(rt; is_short(end));
+    assert!(rt; end.is_short());
     assert!(rt; is_ready(end, Ask::Write), "a write isn't ready");
     match end.write(now, text) {
         Ok(message) => Ok(Some(message)),
@@ -125,7 +117,7 @@ fn written<R: Abort>(
 // Writes a message, which must be refused for this cause.
 fn refused<R: Abort>(rt: &R, end: &mut IlEnd, now: u64, cause: Cause) {
     assert!(rt; now < 1 << 62);
-    assert!(rt; is_short(end));
+    assert!(rt; end.is_short());
     assert!(rt; is_ready(end, Ask::Write), "a write isn't ready");
     match end.write(now, b"more") {
         Err(HungupError::Hungup(why)) => {
@@ -184,7 +176,7 @@ fn done<R: Abort>(
             Ok(None)
         }
         Deed::Hear(said) => {
-            assert!(rt; is_short(end));
+            assert!(rt; end.is_short());
             end.arrive(now, &message(alloc, said)?)
         }
         Deed::Write(text) => written(rt, end, now, text),
