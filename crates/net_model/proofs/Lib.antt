@@ -55,3 +55,4 @@ pub mod Peers
 pub mod InOrders
 pub mod PairsOnce
 pub mod NdbFirsts
+pub mod CasesRuns

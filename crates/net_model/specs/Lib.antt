@@ -55,3 +55,4 @@ pub mod Summary
 pub mod NdbSpelling
 pub mod NdbFirst
 pub mod NdbExample
+pub mod WorkedRuns

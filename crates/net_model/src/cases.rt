@@ -1,12 +1,14 @@
 //! Worked histories, computed by the definitions.
-ghost use Rattle.std.specs.Prelude.{◌≡◌, true};
-ghost use Rattle.net_model.specs.Calm.{done};
+ghost use Rattle.std.specs.Prelude.{◌≡◌, ◌∷◌, [], codes, true};
+ghost use Rattle.net_model.specs.declared.il.IlKind.TheVariants.{Sync, Data, DataQuery, Ack, State, Close};
+ghost use Rattle.net_model.specs.Calm.{done, stopped};
 ghost use Rattle.net_model.specs.Legal.{IsLegal, IsTimed, IsFault, Answers, AtMoment, Cites, Asked, Ready, InTime};
-ghost use Rattle.net_model.specs.Net.{after};
-ghost use Rattle.net_model.specs.Rounds.{run_of};
+ghost use Rattle.net_model.specs.Net.{after, opening_net};
+ghost use Rattle.net_model.specs.Rounds.{rounds, run_of};
 ghost use Rattle.net_model.specs.WorkedFaults as fault;
 ghost use Rattle.net_model.specs.WorkedFaults.{with_at};
 ghost use Rattle.net_model.specs.WorkedIl.{lossy_world, lossy_history, refused_world, refused_history};
+ghost use Rattle.net_model.specs.WorkedRuns.{moves, texts_read, kinds, data_ids, hello_world, early_close_world, repeated_world, wrapping_world, cut_world, nobody_world, lost_world, dropped_world, two_calls_world};
 ghost use Rattle.net_model.specs.WorkedUdp.{datagram_world, datagram_history};
 
 /// A datagram that anna writes is read by helix, in 18 entries.
@@ -46,4 +48,31 @@ pub fn changes_are_faults()
     ensures read_too_early { IsFault lossy_world (with_at 20 fault.read_too_early lossy_history) 20 Ready }
     ensures refused_otherwise { IsFault refused_world (with_at 9 fault.refused_otherwise refused_history) 9 Answers }
     ensures not_ended { IsFault refused_world (with_at 15 fault.not_ended refused_history) 15 Answers }
+{}
+
+/// The runs of worlds over two hosts: what is read, which messages are emitted, and to which moments the clock moves.
+pub fn runs_are_as_worked()
+    ensures hello_texts_read { texts_read (run_of 100 hello_world) ≡ codes "hello" ∷ [] ∷ [] }
+    ensures hello_moves { moves (run_of 100 hello_world) ≡ 10 ∷ [] }
+    ensures early_close_texts_read { texts_read (run_of 100 early_close_world) ≡ codes "hello" ∷ [] ∷ [] }
+    ensures early_close_moves { moves (run_of 100 early_close_world) ≡ 10 ∷ [] }
+    ensures early_close_kinds { kinds (run_of 100 early_close_world) ≡ Sync ∷ Sync ∷ Ack ∷ Data ∷ Close ∷ State ∷ DataQuery ∷ State ∷ Close ∷ Close ∷ [] }
+    ensures repeated_texts_read { texts_read (run_of 100 repeated_world) ≡ codes "a" ∷ codes "b" ∷ codes "c" ∷ [] ∷ [] }
+    ensures wrapping_texts_read { texts_read (run_of 100 wrapping_world) ≡ codes "a" ∷ codes "b" ∷ codes "c" ∷ [] ∷ [] }
+    ensures wrapping_data_ids { data_ids (run_of 100 wrapping_world) ≡ 4294967295 ∷ 0 ∷ 1 ∷ [] }
+    ensures cut_texts_read { texts_read (run_of 100 cut_world) ≡ codes "he" ∷ codes "llo" ∷ [] }
+    ensures nobody_moves { moves (run_of 100 nobody_world) ≡ 10 ∷ 510 ∷ 1510 ∷ 3510 ∷ 7510 ∷ 15510 ∷ 23510 ∷ 30010 ∷ [] }
+    ensures nobody_kinds { kinds (run_of 100 nobody_world) ≡ Sync ∷ Sync ∷ Sync ∷ Sync ∷ Sync ∷ Sync ∷ Sync ∷ [] }
+    ensures hello_is_done { done hello_world (rounds 100 hello_world opening_net) ≡ true }
+    ensures early_close_is_done { done early_close_world (rounds 100 early_close_world opening_net) ≡ true }
+    ensures repeated_is_done { done repeated_world (rounds 100 repeated_world opening_net) ≡ true }
+    ensures wrapping_is_done { done wrapping_world (rounds 100 wrapping_world opening_net) ≡ true }
+    ensures cut_is_done { done cut_world (rounds 100 cut_world opening_net) ≡ true }
+    ensures nobody_is_done { done nobody_world (rounds 100 nobody_world opening_net) ≡ true }
+    ensures lost_moves { moves (run_of 200 lost_world) ≡ 10 ∷ 510 ∷ 1510 ∷ 3510 ∷ 7510 ∷ 15510 ∷ 20000 ∷ [] }
+    ensures lost_is_stopped { stopped lost_world (rounds 200 lost_world opening_net) ≡ true }
+    ensures dropped_texts_read { texts_read (run_of 100 dropped_world) ≡ codes "he" ∷ [] }
+    ensures dropped_is_stopped { stopped dropped_world (rounds 100 dropped_world opening_net) ≡ true }
+    ensures two_calls_texts_read { texts_read (run_of 100 two_calls_world) ≡ codes "one" ∷ codes "two" ∷ codes "eno" ∷ codes "owt" ∷ [] }
+    ensures two_calls_is_done { done two_calls_world (rounds 100 two_calls_world opening_net) ≡ true }
 {}
