@@ -2,12 +2,12 @@
 use Rattle.std.proofs.Common.{◌≡◌, ℕ, ◌<◌, Bool, true, false, not, ◌||◌, ◌&&◌, List, [], ◌∷◌, ◌++◌, length, map, refl, sym, ap, ◌∙◌, Some, arith, append-nil, bytes_eq}
 use Rattle.std.specs.Prelude.{filter, filter_map, flat_map, codes}
 use Rattle.std.proofs.lemmas.List.Elements.{filter_agree}
-use Rattle.net_model.specs.declared.ndb.NdbPair.{NdbPair}
-use Rattle.net_model.specs.declared.address.Proto.{Proto}
-use Rattle.net_model.specs.Addresses.{address_text, read_address}
-use Rattle.net_model.specs.Networks.{Network, own_networks, is_on, contains_address}
-use Rattle.net_model.specs.Search.{all_beside}
-use Rattle.net_model.specs.Cs.{CsAnswer, Lines, Refused, Query, read_query, answer_read, answer_query, refused_where_empty, nets_of, proto_name, host_words, address_texts, word_addresses, once_each, own_first, ports_of, cs_line, lines_of, is_any, is_attribute, is_numeric, is_domain}
+use Rattle.net_base.specs.declared.ndb.NdbPair.{NdbPair}
+use Rattle.net_base.specs.declared.address.Proto.{Proto}
+use Rattle.net_base.specs.Addresses.{address_text, read_address}
+use Rattle.net_base.specs.Networks.{Network, own_networks, is_on, contains_address}
+use Rattle.net_base.specs.Search.{all_beside}
+use Rattle.net_base.specs.Cs.{CsAnswer, Lines, Refused, Query, read_query, answer_read, answer_query, refused_where_empty, nets_of, proto_name, host_words, address_texts, word_addresses, once_each, own_first, ports_of, cs_line, lines_of, is_any, is_attribute, is_numeric, is_domain}
 use Rattle.cs_resolver.specs.Built.{built_answer, is_built, is_system}
 use Rattle.cs_resolver.specs.Numbers.{prefix_of}
 use Rattle.cs_resolver.specs.Prefixes.{prefixes_contain}

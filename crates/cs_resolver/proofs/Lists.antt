@@ -2,7 +2,7 @@
 use Rattle.std.proofs.Common.{◌≡◌, ℕ, ◌+◌, ◌<◌, List, [], ◌∷◌, ◌++◌, length, get_or, take, drop, refl, sym, ap, ◌∙◌, Some, None, add-one}
 use Rattle.std.proofs.lemmas.List.{take_more, take-append-drop}
 use Rattle.std.proofs.Math.Seq.{drop-cons}
-use Rattle.net_model.specs.Networks.{first_of}
+use Rattle.net_base.specs.Networks.{first_of}
 
 -- F of two lists in a row is F of each in a row
 pub record Joins {X Y : Type 0} (F : List X → List Y) : Type 0 where

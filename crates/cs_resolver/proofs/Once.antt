@@ -5,7 +5,7 @@ use Rattle.std.specs.List.{list_any}
 use Rattle.std.proofs.lemmas.List.{take_more}
 use Rattle.std.proofs.lemmas.List.Elements.{filter-append}
 use Rattle.std.proofs.lemmas.Bool.Decides.{nat_tests}
-use Rattle.net_model.specs.Cs.{once_each}
+use Rattle.net_base.specs.Cs.{once_each}
 use Rattle.cs_resolver.proofs.Ranges.{cond_true, cond_false}
 
 -- the numbers that are not this one

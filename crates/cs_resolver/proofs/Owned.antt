@@ -5,10 +5,10 @@ use Rattle.std.specs.List.{list_any, cons_option}
 use Rattle.std.proofs.lemmas.List.Elements.{filter-append, filter_map-append}
 use Rattle.std.proofs.lemmas.List.Concat.{flat_map-append}
 use Rattle.std.proofs.lemmas.List.{map-append}
-use Rattle.net_model.specs.declared.ndb.NdbPair.{NdbPair}
-use Rattle.net_model.specs.Networks.{Network, network_of, addresses_of, contains_address}
-use Rattle.net_model.specs.Addresses.{read_address}
-use Rattle.net_model.specs.Search.{line_has, tuple_has, values_in}
+use Rattle.net_base.specs.declared.ndb.NdbPair.{NdbPair}
+use Rattle.net_base.specs.Networks.{Network, network_of, addresses_of, contains_address}
+use Rattle.net_base.specs.Addresses.{read_address}
+use Rattle.net_base.specs.Search.{line_has, tuple_has, values_in}
 use Rattle.cs_resolver.specs.declared.networks.Prefix.{Prefix}
 use Rattle.cs_resolver.specs.declared.numbers.Kind.TheVariants.{Address}
 use Rattle.cs_resolver.specs.Numbers.{numbers_in, prefix_of}

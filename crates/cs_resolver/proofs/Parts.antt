@@ -6,8 +6,8 @@ use Rattle.std.proofs.lemmas.List.Splits.{slice_split_at, length-slice_split}
 use Rattle.std.proofs.lemmas.Int.Digits.{digits_value-lt}
 use Rattle.std.proofs.Math.Seq.{drop-cons}
 use Rattle.std.proofs.Math.Nat.{pow-le-pow_right}
-use Rattle.net_model.specs.Addresses.{parts_at, join_words, read_address}
-use Rattle.net_model.specs.Cs.{query_of, read_query}
+use Rattle.net_base.specs.Addresses.{parts_at, join_words, read_address}
+use Rattle.net_base.specs.Cs.{query_of, read_query}
 
 -- the first part ends at the first separator
 pub parts_first : (separator : ℕ) (word : List ℕ) (i : ℕ) → i < length word → All (λ byte. (byte == separator) ≡ false) (take i word) → (get_or word i 0 == separator) ≡ true → parts_at separator word ≡ take i word ∷ parts_at separator (drop (i + 1) word)

@@ -5,9 +5,9 @@ use Rattle.std.specs.List.{list_any, cons_option}
 use Rattle.std.proofs.lemmas.List.Elements.{filter-append, filter_map-append}
 use Rattle.std.proofs.lemmas.List.Concat.{flat_map-append}
 use Rattle.std.proofs.lemmas.List.{map-append}
-use Rattle.net_model.specs.declared.ndb.NdbPair.{NdbPair}
-use Rattle.net_model.specs.Networks.{first_of}
-use Rattle.net_model.specs.Search.{has_attr, line_has, tuple_has, values_on, values_in, or_where_empty, values_on_found, beside}
+use Rattle.net_base.specs.declared.ndb.NdbPair.{NdbPair}
+use Rattle.net_base.specs.Networks.{first_of}
+use Rattle.net_base.specs.Search.{has_attr, line_has, tuple_has, values_on, values_in, or_where_empty, values_on_found, beside}
 use Rattle.cs_resolver.specs.declared.numbers.Kind.{Kind}
 use Rattle.cs_resolver.specs.Numbers.{attr_of, read_of, pair_number, numbers_on, numbers_in, numbers_near, numbers_found}
 use Rattle.cs_resolver.proofs.Lists.{Joins, joins_more, joins_first, empty_from_first}

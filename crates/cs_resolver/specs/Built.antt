@@ -1,8 +1,8 @@
 -- Which queries are answered, and what an error's number is.
 use Rattle.std.specs.Prelude.{◌≡◌, ℕ, Bool, true, not, ◌&&◌, ◌||◌, List, Option, Some, None, if◌then◌else◌, bytes_eq, codes, ⊤}
-use Rattle.net_model.specs.declared.ndb.NdbPair.{NdbPair}
-use Rattle.net_model.specs.declared.address.Proto.{Proto}
-use Rattle.net_model.specs.Cs.{CsAnswer, Refused, Query, read_query, cs_list, is_any, is_attribute, is_numeric, is_domain}
+use Rattle.net_base.specs.declared.ndb.NdbPair.{NdbPair}
+use Rattle.net_base.specs.declared.address.Proto.{Proto}
+use Rattle.net_base.specs.Cs.{CsAnswer, Refused, Query, read_query, cs_list, is_any, is_attribute, is_numeric, is_domain}
 use Rattle.cs_resolver.specs.declared.error.CsError.{CsError}
 use Rattle.cs_resolver.specs.declared.error.CsError.TheVariants.{Memory, BadQuery, NoNet, NoHost, NoService, NoValue, NotBuilt}
 

@@ -1,7 +1,7 @@
-pub use Rattle.net_model.specs.Addresses
-pub use Rattle.net_model.specs.Cs
-pub use Rattle.net_model.specs.Networks
-pub use Rattle.net_model.specs.Search
+pub use Rattle.net_base.specs.Addresses
+pub use Rattle.net_base.specs.Cs
+pub use Rattle.net_base.specs.Networks
+pub use Rattle.net_base.specs.Search
 pub mod Built
 pub mod Numbers
 pub mod Prefixes

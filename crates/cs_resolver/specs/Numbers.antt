@@ -1,9 +1,9 @@
 -- The numbers that the resolver takes out of the database: values of one kind, as they are read.
 use Rattle.std.specs.Prelude.{ℕ, List, filter_map, Option, None, if◌then◌else◌, codes}
-use Rattle.net_model.specs.declared.ndb.NdbPair.{NdbPair}
-use Rattle.net_model.specs.Addresses.{read_address, read_port}
-use Rattle.net_model.specs.Networks as networks
-use Rattle.net_model.specs.Search.{has_attr, values_on, values_in, or_where_empty, beside, all_beside}
+use Rattle.net_base.specs.declared.ndb.NdbPair.{NdbPair}
+use Rattle.net_base.specs.Addresses.{read_address, read_port}
+use Rattle.net_base.specs.Networks as networks
+use Rattle.net_base.specs.Search.{has_attr, values_on, values_in, or_where_empty, beside, all_beside}
 use Rattle.cs_resolver.specs.declared.numbers.Kind.{Kind}
 use Rattle.cs_resolver.specs.declared.numbers.Kind.TheVariants.{Address, Mask, Port}
 use Rattle.cs_resolver.specs.declared.networks.Prefix.{Prefix}

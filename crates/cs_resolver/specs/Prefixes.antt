@@ -1,7 +1,7 @@
 -- Networks by the first bits that they share.
 use Rattle.std.specs.Prelude.{ℕ, Bool, List}
 use Rattle.std.specs.List.{list_any}
-use Rattle.net_model.specs.Networks.{same_first}
+use Rattle.net_base.specs.Networks.{same_first}
 use Rattle.cs_resolver.specs.declared.networks.Prefix.{Prefix}
 
 -- the address has the prefix's first bits

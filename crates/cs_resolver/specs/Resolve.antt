@@ -1,9 +1,9 @@
 -- The addresses of a system by the steps of the resolver.
 use Rattle.std.specs.Prelude.{ℕ, not, List, ◌++◌, filter, filter_map, codes}
-use Rattle.net_model.specs.declared.ndb.NdbPair.{NdbPair}
-use Rattle.net_model.specs.Addresses.{read_address}
-use Rattle.net_model.specs.Search.{all_beside}
-use Rattle.net_model.specs.Cs.{own_first, once_each}
+use Rattle.net_base.specs.declared.ndb.NdbPair.{NdbPair}
+use Rattle.net_base.specs.Addresses.{read_address}
+use Rattle.net_base.specs.Search.{all_beside}
+use Rattle.net_base.specs.Cs.{own_first, once_each}
 use Rattle.cs_resolver.specs.declared.networks.Prefix.{Prefix}
 use Rattle.cs_resolver.specs.Prefixes.{prefixes_contain}
 

@@ -1,9 +1,9 @@
 //! A line of an answer.
 ghost use Rattle.std.specs.Prelude.{◌≡◌, IfOk, Some};
-ghost use Rattle.net_model.specs.Cs.{proto_name, cs_line};
-ghost use Rattle.net_model.specs.Addresses.{address_text};
+ghost use Rattle.net_base.specs.Cs.{proto_name, cs_line};
+ghost use Rattle.net_base.specs.Addresses.{address_text};
 
-use net_model::{Octets, Proto};
+use net_base::{Octets, Proto};
 use std::alloc::{AllocError, Global};
 use std::fmt;
 

@@ -1,14 +1,14 @@
 //! The networks that the database describes, and which of them are a system's own.
 ghost use Rattle.std.specs.Prelude.{◌≡◌, ◌≤◌, map, option_map, IfOk};
 ghost use Rattle.std.specs.List.{list_any};
-ghost use Rattle.net_model.specs.Networks as spec;
+ghost use Rattle.net_base.specs.Networks as spec;
 ghost use Rattle.cs_resolver.specs.Numbers.{prefix_of};
 ghost use Rattle.cs_resolver.specs.Prefixes.{prefix_contains, prefixes_contain};
 
 use crate::numbers::{Kind, add_in, first_in};
 use crate::search::{line_with, tuple_names};
 use crate::words::read_address;
-use net_model::{Db, Tuple};
+use net_base::{Db, Tuple};
 use std::alloc::{AllocError, Global};
 
 /// An address with the number of its first bits that a network shares.

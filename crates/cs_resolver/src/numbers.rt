@@ -1,12 +1,12 @@
 //! The numbers that values of the database spell; what spells none is passed over.
 ghost use Rattle.std.specs.Prelude.{◌≡◌, ◌++◌, IfOk, OnOk};
-ghost use Rattle.net_model.specs.Networks.{first_of};
+ghost use Rattle.net_base.specs.Networks.{first_of};
 ghost use Rattle.cs_resolver.specs.Numbers as spec;
 
 use crate::networks::read_mask;
 use crate::search::{has_attr, line_names, line_with};
 use crate::words::{read_address, read_port};
-use net_model::{Db, Line, NdbPair, Tuple};
+use net_base::{Db, Line, NdbPair, Tuple};
 use std::alloc::{AllocError, Global};
 
 /// What values spell, and so the attribute that they stand under.

@@ -2,7 +2,7 @@
 ghost use Rattle.std.specs.Prelude.{◌≡◌, ◌==◌, ◌&&◌, MatchOption, None, Some, bytes_eq, codes};
 ghost use Rattle.std.specs.List.{list_any};
 ghost use Rattle.std.specs.Char.{is_ascii_alphabetic};
-ghost use Rattle.net_model.specs.Cs as spec;
+ghost use Rattle.net_base.specs.Cs as spec;
 ghost use Rattle.cs_resolver.specs.Built.{is_system};
 
 use crate::words::split_first;

@@ -1,7 +1,7 @@
 //! The list of a query: nets, addresses and ports, and a line for each.
 ghost use Rattle.std.specs.Prelude.{◌≡◌, ◌≢◌, ◌<◌, ◌++◌, length, map, flat_map, AllPairs, IfOk, IfErr, OnOk};
-ghost use Rattle.net_model.specs.Cs as spec;
-ghost use Rattle.net_model.specs.Addresses.{address_text};
+ghost use Rattle.net_base.specs.Cs as spec;
+ghost use Rattle.net_base.specs.Addresses.{address_text};
 ghost use Rattle.cs_resolver.specs.Built.{built_answer, Tells};
 ghost use Rattle.cs_resolver.specs.Resolve.{system_addresses, prefixes_first};
 
@@ -11,7 +11,7 @@ use crate::networks::{Prefix, is_on, own_networks};
 use crate::numbers::{Kind, numbers_found};
 use crate::query::{is_built, read_query};
 use crate::words::read_port;
-use net_model::{Db, Lines, Octets, Proto};
+use net_base::{Db, Lines, Octets, Proto};
 use std::alloc::{AllocError, Global};
 
 /// Each number once, where it stands first.

@@ -1,10 +1,10 @@
 //! Searches of the database by a scan of its tuples.
 ghost use Rattle.std.specs.Prelude.{◌≡◌, find, option_copied};
 ghost use Rattle.std.specs.List.{list_any};
-ghost use Rattle.net_model.specs.Search as spec;
-ghost use Rattle.net_model.specs.Networks.{tuple_names};
+ghost use Rattle.net_base.specs.Search as spec;
+ghost use Rattle.net_base.specs.Networks.{tuple_names};
 
-use net_model::{Line, NdbPair, Tuple};
+use net_base::{Line, NdbPair, Tuple};
 
 /// Whether the pair has this attribute.
 pub fn has_attr(attr: &[u8], pair: &NdbPair) -> bool

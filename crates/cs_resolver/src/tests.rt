@@ -1,5 +1,5 @@
 use crate::{CsError, answer};
-use net_model::{Db, Line, NdbPair, Octets, Proto, Tuple};
+use net_base::{Db, Line, NdbPair, Octets, Proto, Tuple};
 use std::alloc::{AllocError, Global};
 use std::test::Fail;
 

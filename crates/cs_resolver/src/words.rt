@@ -1,6 +1,6 @@
 //! Words of the database and of queries: what they are cut into, and the numbers that they spell.
 ghost use Rattle.std.specs.Prelude.{◌≡◌, ℕ, ◌+◌, ◌≤◌, ◌<◌, ◌∷◌, [], MatchOption};
-ghost use Rattle.net_model.specs.Addresses as spec;
+ghost use Rattle.net_base.specs.Addresses as spec;
 
 /// The bytes before the first separator, and those after it, if there is one.
 pub fn split_first(word: &[u8], separator: u8) -> (&[u8], Option<&[u8]>)

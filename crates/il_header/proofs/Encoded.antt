@@ -3,10 +3,10 @@ use Rattle.std.proofs.Common.{◌≡◌, ℕ, ◌+◌, ◌-◌, ◌^◌, ◌<◌
 use Rattle.std.proofs.lemmas.List.{take_at}
 use Rattle.std.specs.Int.{bytes_high_first}
 use borrow.Rule.Slice.PartMut.{put_mid}
-use Rattle.net_model.specs.declared.il.IlMsg.{IlMsg}
-use Rattle.net_model.specs.Sum.{sum_of}
-use Rattle.net_model.specs.IlWire.{IsMessage, SpellsIl, il_with, il_bytes}
-use Rattle.net_model.proofs.Laid.{laid}
+use Rattle.net_base.specs.declared.il.IlMsg.{IlMsg}
+use Rattle.net_base.specs.Sum.{sum_of}
+use Rattle.net_base.specs.IlWire.{IsMessage, SpellsIl, il_with, il_bytes}
+use Rattle.net_base.proofs.Laid.{laid}
 
 pub encoded : (sport dport : ℕ) (m : IlMsg) (front old : List ℕ) → length front ≡ 18 → front ++ m.text ≡ il_with 0 sport dport m
     → bytes_high_first 2 (sum_of (take (18 + length m.text) (put_mid 18 (18 + length m.text - 18) (front ++ drop 18 old) m.text))) ++ drop 2 (put_mid 18 (18 + length m.text - 18) (front ++ drop 18 old) m.text)

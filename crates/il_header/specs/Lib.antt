@@ -1,5 +1,5 @@
 pub mod Faults
 pub mod Views
-pub use Rattle.net_model.specs.Bytes
-pub use Rattle.net_model.specs.IlWire
-pub use Rattle.net_model.specs.Sum
+pub use Rattle.net_base.specs.Bytes
+pub use Rattle.net_base.specs.IlWire
+pub use Rattle.net_base.specs.Sum

@@ -1,5 +1,5 @@
 use super::*;
-use net_model::{IlKind, IlMsg, Octets};
+use net_base::{IlKind, IlMsg, Octets};
 use std::test::Fail;
 
 /// The first message from port 5000 to port 17008.

@@ -1,9 +1,9 @@
 -- What accepting a message changes, and what it doesn't.
 use Rattle.std.proofs.Common.{◌≡◌, ℕ, zero, suc, ◌+◌, Bool, true, false, List, [], ◌∷◌, ◌++◌, length, Option, Some, None, refl, ap, sym, ◌∙◌, nat_le, if◌then◌else◌, ◌||◌, is_some}
-use Rattle.net_model.specs.declared.il.IlMsg.{IlMsg}
-use Rattle.net_model.specs.Number.{number}
-use Rattle.net_model.specs.Timer.{Timer}
-use Rattle.net_model.specs.IlEnd.{End, rstart_of, standing, early_at, without, becomes_early, comes_in_turn, come_in_turn, accepts, acked_to, hears, hears_ack, moves}
+use Rattle.net_base.specs.declared.il.IlMsg.{IlMsg}
+use Rattle.net_base.specs.Number.{number}
+use Rattle.net_base.specs.Timer.{Timer}
+use Rattle.net_base.specs.IlEnd.{End, rstart_of, standing, early_at, without, becomes_early, comes_in_turn, come_in_turn, accepts, acked_to, hears, hears_ack, moves}
 use Rattle.il_machine.proofs.InTurn.{none_moves}
 
 -- only got and early change

@@ -1,6 +1,6 @@
 -- What is early moves in turn.
 use Rattle.std.proofs.Common.{◌≡◌, ℕ, zero, suc, ◌+◌, List, [], ◌∷◌, ◌++◌, length, Some, None, refl, arith, ap}
-use Rattle.net_model.specs.IlEnd.{End, early_at, without, come_in_turn}
+use Rattle.net_base.specs.IlEnd.{End, early_at, without, come_in_turn}
 
 -- nothing moves where the next message isn't early
 pub none_moves : (n : ℕ) (e : End) → early_at (length e.got + 1) e.early ≡ None → come_in_turn n e ≡ e

@@ -1,7 +1,7 @@
 -- Where a search for a number ends.
 use Rattle.std.proofs.Common.{◌≡◌, ℕ, suc, ◌+◌, ◌-◌, ◌≤◌, ◌==◌, Bool, true, false, List, [], ◌∷◌, Option, Some, None, refl, arith, subst, sym, IfSome, IfNone}
 use Rattle.std.specs.List.{position_from}
-use Rattle.net_model.specs.IlEnd.{early_at}
+use Rattle.net_base.specs.IlEnd.{early_at}
 use Rattle.il_machine.specs.declared.early.Numbered.{Numbered}
 use Rattle.il_machine.specs.Parts.{seen, has_number, IsAt}
 

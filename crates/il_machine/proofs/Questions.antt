@@ -1,11 +1,11 @@
 -- What a question with data is answered by.
 use Rattle.std.proofs.Common.{◌≡◌, ℕ, Bool, true, false, [], length, Option, Some, None, refl, ap, sym, ◌∙◌, nat_le, if◌then◌else◌, is_some}
-use Rattle.net_model.specs.declared.il.IlKind.{IlKind}
-use Rattle.net_model.specs.declared.il.IlKind.TheVariants.{DataQuery, Ack, State}
-use Rattle.net_model.specs.declared.il.IlMsg.{IlMsg}
-use Rattle.net_model.specs.Number.{number}
-use Rattle.net_model.specs.IlEnd.{End, Turn, rstart_of, next, recvd, message, says, accepts, acked_to, hears, hears_ack, moves}
-use Rattle.net_model.specs.IlTable.{at_established}
+use Rattle.net_base.specs.declared.il.IlKind.{IlKind}
+use Rattle.net_base.specs.declared.il.IlKind.TheVariants.{DataQuery, Ack, State}
+use Rattle.net_base.specs.declared.il.IlMsg.{IlMsg}
+use Rattle.net_base.specs.Number.{number}
+use Rattle.net_base.specs.IlEnd.{End, Turn, rstart_of, next, recvd, message, says, accepts, acked_to, hears, hears_ack, moves}
+use Rattle.net_base.specs.IlTable.{at_established}
 use Rattle.il_machine.proofs.Accepting.{accepts_both}
 
 -- taking in a message leaves the other end's start

@@ -1,4 +1,4 @@
 pub mod Stands
 pub mod Parts
-pub use Rattle.net_model.specs.IlEnd
-pub use Rattle.net_model.specs.IlTable
+pub use Rattle.net_base.specs.IlEnd
+pub use Rattle.net_base.specs.IlTable

@@ -1,7 +1,7 @@
 -- The early messages as the end keeps them.
 use Rattle.std.specs.Prelude.{◌≡◌, ℕ, ◌+◌, ◌<◌, ◌≤◌, ◌==◌, Bool, List, map, length, Some, None, slice_index_or, remove, is_some, IsTrue}
 use Rattle.il_machine.specs.declared.early.Numbered.{Numbered}
-use Rattle.net_model.specs.IlEnd.{Early, early_at, without}
+use Rattle.net_base.specs.IlEnd.{Early, early_at, without}
 
 -- the message as the definitions see it
 abbrev pub as_early : Numbered → Early

@@ -1,11 +1,11 @@
 -- What an IL end stands for, and what its calls do to that.
 use Rattle.std.specs.Prelude.{◌≡◌, ℕ, ◌<◌, ◌^◌, Bool, ◌||◌, length, Option, Some, None, if◌then◌else◌}
-use Rattle.net_model.specs.declared.il.Cause.{Cause}
-use Rattle.net_model.specs.declared.il.IlMsg.{IlMsg}
-use Rattle.net_model.specs.declared.il.IlState.{IlState}
-use Rattle.net_model.specs.declared.il.IlState.TheVariants.{Established}
-use Rattle.net_model.specs.IlEnd.{End, Turn, cause_of}
-use Rattle.net_model.specs.IlTable.{has_unread, reads, may_write, may_read, may_go_on}
+use Rattle.net_base.specs.declared.il.Cause.{Cause}
+use Rattle.net_base.specs.declared.il.IlMsg.{IlMsg}
+use Rattle.net_base.specs.declared.il.IlState.{IlState}
+use Rattle.net_base.specs.declared.il.IlState.TheVariants.{Established}
+use Rattle.net_base.specs.IlEnd.{End, Turn, cause_of}
+use Rattle.net_base.specs.IlTable.{has_unread, reads, may_write, may_read, may_go_on}
 use Rattle.il_machine.specs.declared.ask.Ask.{Ask}
 use Rattle.il_machine.specs.declared.ask.Ask.TheVariants as ask
 use Rattle.il_machine.specs.declared.fault.HungupError.{HungupError}

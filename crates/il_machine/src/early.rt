@@ -1,11 +1,11 @@
 //! The messages that came before their turn.
 ghost use Rattle.std.specs.Prelude.{◌≡◌, ◌+◌, ◌≤◌, ◌∷◌, length, is_some, vec_len, vec_capacity, IfSome, IfNone, None};
 ghost use Rattle.std.specs.List.{position_from};
-ghost use Rattle.net_model.specs.IlEnd.{End, early_at, without, come_in_turn};
+ghost use Rattle.net_base.specs.IlEnd.{End, early_at, without, come_in_turn};
 ghost use Rattle.il_machine.specs.Parts as spec;
 ghost use Rattle.il_machine.specs.Parts.{seen, IsAt};
 
-use net_model::Octets;
+use net_base::Octets;
 
 /// A message with its number.
 #[derive(Drop)]

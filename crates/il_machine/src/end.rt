@@ -1,10 +1,10 @@
 //! An IL end.
 ghost use Rattle.std.specs.Prelude.{◌≡◌, ℕ, ◌+◌, ◌<◌, ◌≤◌, ◌^◌, [], length, take, Some, None, IfOk, IfErr, OnOk, OnErr, IsTrue, is_some};
-ghost use Rattle.net_model.specs.Number as number_spec;
+ghost use Rattle.net_base.specs.Number as number_spec;
 ghost use Rattle.il_machine.specs.declared.ask.Ask.TheVariants as ask;
-ghost use Rattle.net_model.specs.IlEnd as spec;
-ghost use Rattle.net_model.specs.IlEnd.{End, message, silent, sends_again};
-ghost use Rattle.net_model.specs.IlTable as table;
+ghost use Rattle.net_base.specs.IlEnd as spec;
+ghost use Rattle.net_base.specs.IlEnd.{End, message, silent, sends_again};
+ghost use Rattle.net_base.specs.IlTable as table;
 ghost use Rattle.il_machine.specs.Stands.{StandsFor, StandsForSome, IsShort, Turns, Becomes, Says, TellsRefusal, is_ready, write_refusal, read_refusal, after_read};
 
 mod rows;
@@ -13,7 +13,7 @@ use crate::ask::Ask;
 use crate::early::{Numbered, come_in_turn, is_early};
 use crate::fault::HungupError;
 use il_queues::Timer;
-use net_model::{Cause, IlKind, IlMsg, IlState, Octets, Tick, number};
+use net_base::{Cause, IlKind, IlMsg, IlState, Octets, Tick, number};
 use std::alloc::{AllocError, Global};
 use std::marker::Model;
 
@@ -52,7 +52,7 @@ pub struct IlEnd {
 }
 
 impl Model for IlEnd {
-    ghost use Rattle.net_model.specs.IlEnd.{End};
+    ghost use Rattle.net_base.specs.IlEnd.{End};
     ghost use Rattle.il_machine.specs.Parts.{seen, IsKept};
 
     ghost Value = { End };

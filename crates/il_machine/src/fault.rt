@@ -1,7 +1,7 @@
 //! Why a read or a write did nothing.
 ghost use Rattle.std.specs.Prelude.{◌≡◌};
 
-use net_model::Cause;
+use net_base::Cause;
 use std::alloc::AllocError;
 
 /// Why a read or a write did nothing.

@@ -1,4 +1,4 @@
 pub mod Reading
 pub mod Slots
-pub use Rattle.net_model.specs.IlEnd
-pub use Rattle.net_model.specs.Timer
+pub use Rattle.net_base.specs.IlEnd
+pub use Rattle.net_base.specs.Timer

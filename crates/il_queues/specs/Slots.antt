@@ -1,7 +1,7 @@
 -- The messages that stand in slots.
 use Rattle.std.specs.Prelude.{◌≡◌, ℕ, ◌+◌, ◌<◌, ◌==◌, Bool, false, List, [], ◌∷◌, length, Option, Some, None, slice_index_or, remove, is_some, IsTrue}
 use Rattle.il_queues.specs.declared.early.Numbered.{Numbered}
-use Rattle.net_model.specs.IlEnd.{Early, early_at, without}
+use Rattle.net_base.specs.IlEnd.{Early, early_at, without}
 
 -- the messages in these slots, in order
 abbrev pub messages_in : List (Option Numbered) → List Early

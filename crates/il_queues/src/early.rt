@@ -5,7 +5,7 @@ ghost use Rattle.il_queues.specs.Slots as spec;
 ghost use Rattle.il_queues.specs.Slots.{has_number, text_in, IsAt, IsNowhere};
 
 use arrayvec::ArrayVec;
-use net_model::Octets;
+use net_base::Octets;
 use std::marker::Model;
 
 /// How many messages may be early: the window of the other end.
@@ -27,7 +27,7 @@ pub struct Early {
 impl Model for Early {
     ghost use Rattle.std.specs.Prelude.{◌≡◌, List, length};
     ghost use Rattle.il_queues.specs.Slots.{messages_in};
-    ghost use Rattle.net_model.specs.IlEnd.{Early as Numbers};
+    ghost use Rattle.net_base.specs.IlEnd.{Early as Numbers};
 
     ghost Value = { List Numbers };
 
@@ -38,7 +38,7 @@ impl Model for Early {
 }
 
 impl Early {
-    ghost use Rattle.net_model.specs.IlEnd.{early_at, without};
+    ghost use Rattle.net_base.specs.IlEnd.{early_at, without};
 
     /// No messages.
     pub fn new() -> Early

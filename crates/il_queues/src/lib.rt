@@ -9,7 +9,7 @@ mod unacked;
 mod unread;
 
 pub use early::{Early, MOST_EARLY};
-pub use net_model::Tick;
+pub use net_base::Tick;
 pub use timer::Timer;
 pub use unacked::{MOST_UNACKED, Unacked};
 pub use unread::{MOST_UNREAD, Unread};

@@ -2,7 +2,7 @@
 ghost use Rattle.std.specs.Prelude.{◌<◌, ◌^◌};
 
 use crate::{Early, MOST_EARLY, MOST_UNACKED, MOST_UNREAD, Tick, Timer, Unacked, Unread};
-use net_model::{Octets, number};
+use net_base::{Octets, number};
 use std::alloc::{AllocError, Global};
 use std::process::Abort;
 use std::test::*;

@@ -1,8 +1,8 @@
 //! The timer of an IL end.
 ghost use Rattle.std.specs.Prelude.{◌≡◌, ◌^◌, ◌<◌};
-ghost use Rattle.net_model.specs.Timer as spec;
+ghost use Rattle.net_base.specs.Timer as spec;
 
-use net_model::Tick;
+use net_base::Tick;
 use std::marker::Model;
 
 /// How long an end first waits for an answer, in milliseconds.
@@ -24,7 +24,7 @@ pub struct Timer {
 
 impl Model for Timer {
     ghost use Rattle.std.specs.Prelude.{◌^◌, ◌<◌, ◌≤◌};
-    ghost use Rattle.net_model.specs.Timer.{Timer as TimerOf};
+    ghost use Rattle.net_base.specs.Timer.{Timer as TimerOf};
 
     ghost Value = { TimerOf };
 

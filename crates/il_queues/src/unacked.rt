@@ -2,7 +2,7 @@
 ghost use Rattle.std.specs.Prelude.{◌≡◌, ◌==◌, ◌<◌, ◌≤◌, ◌↔◌, [], ◌∷◌, ◌++◌, length, drop, slice_get, IsOk, OnOk, IfOk, IfErr, IsSome, IfSome, Some};
 
 use circular_buffer::HeapCircularBuffer;
-use net_model::Octets;
+use net_base::Octets;
 use std::alloc::{AllocError, Global};
 use std::marker::Model;
 

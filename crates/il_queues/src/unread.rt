@@ -3,7 +3,7 @@ ghost use Rattle.std.specs.Prelude.{◌≡◌, ◌==◌, ◌<◌, ◌≤◌, ◌
 ghost use Rattle.il_queues.specs.Reading.{bytes_read, after_read, first_bytes};
 
 use circular_buffer::HeapCircularBuffer;
-use net_model::Octets;
+use net_base::Octets;
 use std::alloc::{AllocError, Global};
 use std::marker::Model;
 

@@ -1,5 +1,5 @@
 use super::*;
-use net_model::Addr;
+use net_base::Addr;
 use std::test::Fail;
 
 const ANNA: u32 = 0x8768_0906;

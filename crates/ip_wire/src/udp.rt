@@ -1,14 +1,14 @@
 //! UDP headers.
 ghost use Rattle.std.specs.Prelude.{◌≡◌, ◌≢◌, ◌+◌, ◌^◌, ◌<◌, ◌≤◌, ◌++◌, ◌↔◌, ℕ, List, length, take, drop, sum, IfOk, IfErr, IsOkAnd, IsErrOf, ◌⊎◌};
-ghost use Rattle.net_model.specs.Sum.{words};
-ghost use Rattle.net_model.specs.UdpWire.{SpellsUdp, address, pseudo_header, received_sum, sent_sum, sum_field, udp_bytes, udp_length};
+ghost use Rattle.net_base.specs.Sum.{words};
+ghost use Rattle.net_base.specs.UdpWire.{SpellsUdp, address, pseudo_header, received_sum, sent_sum, sum_field, udp_bytes, udp_length};
 ghost use Rattle.ip_wire.specs.Faults.{HasUdpHeader, HasUdpSum};
 
 use crate::checksum::{add_words, complement};
 use crate::fault::WireError;
 use crate::field::word;
 use byteorder::{BigEndian, ByteOrder};
-use net_model::Addr;
+use net_base::Addr;
 
 /// The bytes of a header.
 const HEADER: usize = 8;

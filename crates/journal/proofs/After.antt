@@ -1,10 +1,10 @@
 -- What becomes of a pass and a book after a step with both at hand.
 use Rattle.std.proofs.Common.{filter, ◌≡◌, ℕ, ◌<◌, ◌≤◌, inl, inr, ⊎_elim, Bool, true, not, List, [], ◌∷◌, ◌++◌, length, map, replicate, slice_index, zero, suc, if◌then◌else◌, refl, ap, sym, subst, ◌∙◌, arith}
-use Rattle.net_model.specs.declared.actor.ActorName.{ActorName}
-use Rattle.net_model.specs.declared.noted.Noted.{Noted}
-use Rattle.net_model.specs.declared.noted.Number.{Number}
-use Rattle.net_model.specs.declared.noted.Number.TheVariants as number
-use Rattle.net_model.specs.Stamped.{same_actor, matches, at, clock, latest, moment, In}
+use Rattle.net_base.specs.declared.actor.ActorName.{ActorName}
+use Rattle.net_base.specs.declared.noted.Noted.{Noted}
+use Rattle.net_base.specs.declared.noted.Number.{Number}
+use Rattle.net_base.specs.declared.noted.Number.TheVariants as number
+use Rattle.net_base.specs.Stamped.{same_actor, matches, at, clock, latest, moment, In}
 use Rattle.journal.specs.declared.law.Roster.{Roster}
 use Rattle.journal.specs.declared.law.View.{View}
 use mathlib.Core.List.{IsPrefix}

@@ -7,11 +7,11 @@ use lib.ListN.{get_elem?}
 use Rattle.atomic_table.specs.Seated.{TableId}
 use Rattle.atomic_table.specs.declared.shared.Seat.{Seat}
 use Rattle.atomic_table.proofs.Lists.{at_index, drop_at}
-use Rattle.net_model.specs.declared.actor.ActorName.{ActorName}
-use Rattle.net_model.specs.declared.noted.Noted.{Noted}
-use Rattle.net_model.specs.declared.noted.Number.{Number}
-use Rattle.net_model.specs.declared.noted.Number.TheVariants as number
-use Rattle.net_model.specs.Stamped.{same_actor, at, clock, In}
+use Rattle.net_base.specs.declared.actor.ActorName.{ActorName}
+use Rattle.net_base.specs.declared.noted.Noted.{Noted}
+use Rattle.net_base.specs.declared.noted.Number.{Number}
+use Rattle.net_base.specs.declared.noted.Number.TheVariants as number
+use Rattle.net_base.specs.Stamped.{same_actor, at, clock, In}
 use Rattle.journal.specs.declared.law.View.{View}
 use Rattle.journal.specs.declared.tokens.Volume.{Volume}
 use Rattle.journal.specs.Rule.{Held, IsSeat, IsCaller, caller_numbers, actor_numbers, same_number, without, only}

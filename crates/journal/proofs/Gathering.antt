@@ -5,12 +5,12 @@ use mathlib.Core.Logic.{dite}
 use native.Mathlib.Decide.{ℕ_discrete}
 use lib.ListN.{get_elem?}
 use Rattle.atomic_table.proofs.Lists.{at_map, set_here, set_else}
-use Rattle.net_model.specs.declared.actor.ActorName.{ActorName}
-use Rattle.net_model.specs.declared.history.Entry.{Entry}
-use Rattle.net_model.specs.declared.noted.Noted.{Noted}
-use Rattle.net_model.specs.declared.noted.Number.{Number}
-use Rattle.net_model.specs.declared.noted.Number.TheVariants as number
-use Rattle.net_model.specs.Stamped.{same_actor, matches, entries_from, at, at_from, In}
+use Rattle.net_base.specs.declared.actor.ActorName.{ActorName}
+use Rattle.net_base.specs.declared.history.Entry.{Entry}
+use Rattle.net_base.specs.declared.noted.Noted.{Noted}
+use Rattle.net_base.specs.declared.noted.Number.{Number}
+use Rattle.net_base.specs.declared.noted.Number.TheVariants as number
+use Rattle.net_base.specs.Stamped.{same_actor, matches, entries_from, at, at_from, In}
 use Rattle.journal.specs.declared.law.Roster.{Roster}
 use Rattle.journal.specs.declared.law.View.{View}
 use Rattle.journal.specs.declared.tokens.Sight.{Sight}

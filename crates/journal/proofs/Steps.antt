@@ -8,11 +8,11 @@ use native.Mathlib.Decide.{ℕ_discrete}
 use lib.ListN.{get_elem?}
 use Rattle.atomic_table.specs.Table.{Me, Allows, Splits, Joins, keeps}
 use Rattle.atomic_table.proofs.Lists.{at_set}
-use Rattle.net_model.specs.declared.actor.ActorName.{ActorName}
-use Rattle.net_model.specs.declared.noted.Noted.{Noted}
-use Rattle.net_model.specs.declared.noted.Number.{Number}
-use Rattle.net_model.specs.declared.noted.Number.TheVariants as number
-use Rattle.net_model.specs.Stamped.{same_actor, matches, at, clock, latest, In}
+use Rattle.net_base.specs.declared.actor.ActorName.{ActorName}
+use Rattle.net_base.specs.declared.noted.Noted.{Noted}
+use Rattle.net_base.specs.declared.noted.Number.{Number}
+use Rattle.net_base.specs.declared.noted.Number.TheVariants as number
+use Rattle.net_base.specs.Stamped.{same_actor, matches, at, clock, latest, In}
 use Rattle.journal.specs.declared.law.Roster.{Roster}
 use Rattle.journal.specs.declared.law.View.{View}
 use Rattle.journal.specs.Rule.{Held, Fits, Lawful, IsAll, Known, has_caller, is_caller, Knows, Apart, Has, Kept, newcomer, caller_numbers, actor_numbers, same_number, without, only, longer, clock_of, both, spent, Looks, gain, Adds, MayAdd}

@@ -1,4 +1,4 @@
-pub use Rattle.net_model.specs.Stamped
+pub use Rattle.net_base.specs.Stamped
 pub mod Rule
 pub mod Tokens
 pub mod Closing

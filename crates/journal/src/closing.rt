@@ -1,6 +1,6 @@
 // The end: the history from the books.
 ghost use Rattle.std.specs.Prelude.{◌≡◌, ◌≤◌, List, [], map, length, vec_capacity, replicate, slice_set, Some, None, IfOk};
-ghost use Rattle.net_model.specs.declared.history.Entry.{Entry};
+ghost use Rattle.net_base.specs.declared.history.Entry.{Entry};
 ghost use Rattle.journal.specs.declared.tokens.Stamped.{Stamped};
 ghost use Rattle.journal.specs.Rule.{IsSeat};
 ghost use Rattle.journal.specs.Tokens.{HoldsAll, stamped};
@@ -9,7 +9,7 @@ ghost use Rattle.journal.specs.Closing.{Taken, Gathered, IsPlaced, IsWhole};
 use crate::law::Naming;
 use crate::tokens::{Book, Pass, Stamped};
 use crate::word::{Journal, Token};
-use net_model::{Entry, History};
+use net_base::{Entry, History};
 use std::alloc::{AllocError, Global};
 
 impl<J: Naming> Journal<J> {

@@ -1,6 +1,6 @@
 // The rule of the journal's word, and what each step on it tells.
 use atomic_table::{Join, Play, Split, TableRule};
-use net_model::{ActorList, Noted, Number};
+use net_base::{ActorList, Noted, Number};
 use std::collections::LinkedList;
 use std::marker::{Brand, PhantomData};
 
@@ -53,7 +53,7 @@ impl<J: Naming> Play<(), View> for Look<J> {
 
 /// Which entry a step adds. Each call picks it.
 pub trait Adding {
-    ghost use Rattle.net_model.specs.declared.noted.Noted.{Noted};
+    ghost use Rattle.net_base.specs.declared.noted.Noted.{Noted};
 
     ghost noted: { Noted };
 }
@@ -73,7 +73,7 @@ impl<J: Naming, E: Adding> Play<(), View> for Add<J, E> {
 
 /// Which number is handed over. Each call picks it.
 pub trait Handing {
-    ghost use Rattle.net_model.specs.declared.noted.Number.{Number};
+    ghost use Rattle.net_base.specs.declared.noted.Number.{Number};
 
     ghost number: { Number };
 }
@@ -115,7 +115,7 @@ impl Adding for Brand {
 }
 
 impl Handing for Brand {
-    ghost use Rattle.net_model.specs.Stamped.{clock};
+    ghost use Rattle.net_base.specs.Stamped.{clock};
 
     ghost number = { clock };
 }

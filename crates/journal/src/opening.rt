@@ -7,7 +7,7 @@ use crate::law::{Law, Naming, Roster, View};
 use crate::tokens::{Book, Pass};
 use crate::word::{Journal, Token};
 use atomic_table::Table;
-use net_model::{ActorList, ActorName, Number};
+use net_base::{ActorList, ActorName, Number};
 use std::alloc::{AllocError, Global};
 use std::marker::{Brand, Model, PhantomData};
 

@@ -2,17 +2,17 @@
 ghost use Rattle.std.specs.Prelude.{◌≡◌, ◌≢◌, ◌+◌, ◌<◌, ◌≤◌, ◌++◌, slice_index, max, filter, not, length, vec_len, vec_capacity, false, OnOk, OnErr, IsOk};
 ghost use Rattle.std.specs.Prelude.{ℕ, List};
 ghost use mathlib.Core.List.{IsPrefix};
-ghost use Rattle.net_model.specs.declared.noted.Noted.{Noted};
-ghost use Rattle.net_model.specs.declared.noted.Number.{Number};
-ghost use Rattle.net_model.specs.declared.noted.Number.TheVariants.{Caller};
-ghost use Rattle.net_model.specs.Stamped.{matches, clock, at, In};
+ghost use Rattle.net_base.specs.declared.noted.Noted.{Noted};
+ghost use Rattle.net_base.specs.declared.noted.Number.{Number};
+ghost use Rattle.net_base.specs.declared.noted.Number.TheVariants.{Caller};
+ghost use Rattle.net_base.specs.Stamped.{matches, clock, at, In};
 ghost use Rattle.journal.specs.Rule.{Timely, same_number};
 ghost use Rattle.journal.specs.Tokens.{noted, MayRecord, Recorded, Looked, LookedWith, Holds, HoldsAll, Met};
 
 use crate::law::{Naming, View};
 use crate::word::{Journal, Token};
 use atomic_table::Badge;
-use net_model::{ActorName, Entry, Noted, Number, Work};
+use net_base::{ActorName, Entry, Noted, Number, Work};
 use std::alloc::AllocError;
 use std::collections::LinkedList;
 use std::marker::{Brand, Model, PhantomData};

@@ -4,7 +4,7 @@ ghost use Rattle.journal.specs.Rule.{IsSeat, Looks, Adds, MayAdd, without, only,
 
 use crate::law::{Add, Adding, Hand, Handing, Law, Look, Merge, Naming, Roster, View};
 use atomic_table::{Seat, Table};
-use net_model::{Entry, Number, Work};
+use net_base::{Entry, Number, Work};
 use std::alloc::Global;
 use std::marker::PhantomData;
 

@@ -1,13 +1,13 @@
 -- A machine and its book stay together over one entry more, and what the call that made it says.
 use Rattle.std.proofs.Common.{◌≡◌, ℕ, List, [], ◌∷◌, ◌++◌, map, refl, ap, sym, subst, ◌∙◌}
 use Rattle.std.specs.Prelude.{Option, Some}
-use Rattle.net_model.specs.declared.actor.ActorName.{ActorName}
-use Rattle.net_model.specs.declared.history.Entry.{Entry}
-use Rattle.net_model.specs.declared.history.Outcome.{Outcome}
-use Rattle.net_model.specs.declared.history.Work.{Work}
-use Rattle.net_model.specs.declared.noted.Noted.{Noted}
-use Rattle.net_model.specs.ActorStep.{Step}
-use Rattle.net_model.specs.Stamped.{matches, clock, moment}
+use Rattle.net_base.specs.declared.actor.ActorName.{ActorName}
+use Rattle.net_base.specs.declared.history.Entry.{Entry}
+use Rattle.net_base.specs.declared.history.Outcome.{Outcome}
+use Rattle.net_base.specs.declared.history.Work.{Work}
+use Rattle.net_base.specs.declared.noted.Noted.{Noted}
+use Rattle.net_base.specs.ActorStep.{Step}
+use Rattle.net_base.specs.Stamped.{matches, clock, moment}
 use Rattle.journal.specs.Rule.{gain}
 use Rattle.journal.specs.declared.law.Roster.{Roster}
 use Rattle.journal.specs.declared.tokens.Sight.{Sight}

@@ -1,10 +1,10 @@
 -- A machine that counts, for the tests: it counts each take and each move, and an await once it has counted so often.
 use Rattle.std.specs.Prelude.{ℕ, ◌+◌, ◌%◌, ◌^◌, nat_lt, if◌then◌else◌, Option, Some, None}
-use Rattle.net_model.specs.declared.event.Event.{Event}
-use Rattle.net_model.specs.declared.event.Event.TheVariants as event
-use Rattle.net_model.specs.declared.history.Work.{Work}
-use Rattle.net_model.specs.declared.reply.Reply.TheVariants as reply
-use Rattle.net_model.specs.ActorStep.{Step, replies}
+use Rattle.net_base.specs.declared.event.Event.{Event}
+use Rattle.net_base.specs.declared.event.Event.TheVariants as event
+use Rattle.net_base.specs.declared.history.Work.{Work}
+use Rattle.net_base.specs.declared.reply.Reply.TheVariants as reply
+use Rattle.net_base.specs.ActorStep.{Step, replies}
 
 abbrev pub counted : ℕ → Option (Step ℕ)
 counted n = Some record { state = (n + 1) % 2 ^ 32; outcome = replies (reply.Count ((n + 1) % 2 ^ 32)) None }

@@ -1,14 +1,14 @@
 //! What lies under a lock: a machine beside the book that says how it came about.
 ghost use Rattle.std.specs.Prelude.{◌≡◌, ℕ, ◌<◌, ◌^◌, List, length, true, false, Some, is_some, option_map, IfOk, OnErr, IfErr, MatchOption};
-ghost use Rattle.net_model.specs.declared.actor.ActorName.TheVariants.{Clock};
-ghost use Rattle.net_model.specs.declared.noted.Noted.{Noted};
-ghost use Rattle.net_model.specs.Stamped.{same_actor, moment};
+ghost use Rattle.net_base.specs.declared.actor.ActorName.TheVariants.{Clock};
+ghost use Rattle.net_base.specs.declared.noted.Noted.{Noted};
+ghost use Rattle.net_base.specs.Stamped.{same_actor, moment};
 ghost use Rattle.journal.specs.Tokens.{Holds, HoldsAll, LookedWith};
 ghost use Rattle.locked.specs.Acts.{Acted, Leaves, Stands, state_at, made, without_copy};
 
 use crate::machine::Machine;
 use journal::{Book, Journal, Naming, Pass};
-use net_model::{ActorName, Entry, Outcome, Work};
+use net_base::{ActorName, Entry, Outcome, Work};
 use outside::Gate;
 use std::alloc::AllocError;
 use std::marker::Model;

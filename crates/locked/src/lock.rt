@@ -1,15 +1,15 @@
 //! Actors behind locks.
 ghost use Rattle.std.specs.Prelude.{◌≡◌, ℕ, ◌<◌, ◌^◌, List, length, true, false, is_some, MatchOption};
-ghost use Rattle.net_model.specs.declared.actor.ActorName.TheVariants.{Clock};
-ghost use Rattle.net_model.specs.declared.noted.Noted.{Noted};
-ghost use Rattle.net_model.specs.Stamped.{same_actor, moment};
+ghost use Rattle.net_base.specs.declared.actor.ActorName.TheVariants.{Clock};
+ghost use Rattle.net_base.specs.declared.noted.Noted.{Noted};
+ghost use Rattle.net_base.specs.Stamped.{same_actor, moment};
 ghost use Rattle.journal.specs.Tokens.{Holds, HoldsAll, Looked};
 ghost use Rattle.locked.specs.Acts.{Acted, Stands, state_at};
 
 use crate::desk::{Answer, Desk, View};
 use crate::machine::Machine;
 use journal::{Book, Journal, Naming, Pass};
-use net_model::{ActorName, Work, same_actor};
+use net_base::{ActorName, Work, same_actor};
 use outside::Gate;
 use std::sync::{Mutex, Wait};
 

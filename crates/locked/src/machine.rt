@@ -1,12 +1,12 @@
 //! What an actor does.
 ghost use Rattle.std.specs.Prelude.{◌≡◌, ◌^◌, ◌<◌, ℕ, List, length, true, Option, Some, is_some, IfOk, OnErr};
-ghost use Rattle.net_model.specs.declared.actor.ActorName.{ActorName};
-ghost use Rattle.net_model.specs.declared.history.Work.{Work};
-ghost use Rattle.net_model.specs.declared.noted.Noted.{Noted};
-ghost use Rattle.net_model.specs.ActorStep.{Step};
+ghost use Rattle.net_base.specs.declared.actor.ActorName.{ActorName};
+ghost use Rattle.net_base.specs.declared.history.Work.{Work};
+ghost use Rattle.net_base.specs.declared.noted.Noted.{Noted};
+ghost use Rattle.net_base.specs.ActorStep.{Step};
 ghost use Rattle.locked.specs.Acts.{state};
 
-use net_model::{Outcome, Work};
+use net_base::{Outcome, Work};
 use std::alloc::AllocError;
 
 /// A state with its step. Clauses see the state.

@@ -1,7 +1,7 @@
 ghost use Rattle.std.specs.Prelude.{◌≡◌, ℕ, ◌+◌, ◌<◌, ◌≤◌, List, [], ◌∷◌, length};
-ghost use Rattle.net_model.specs.declared.noted.Noted.{Noted};
-ghost use Rattle.net_model.specs.declared.actor.ActorName.TheVariants.{Desk as DeskName, Clock as ClockName};
-ghost use Rattle.net_model.specs.Stamped.{moment};
+ghost use Rattle.net_base.specs.declared.noted.Noted.{Noted};
+ghost use Rattle.net_base.specs.declared.actor.ActorName.TheVariants.{Desk as DeskName, Clock as ClockName};
+ghost use Rattle.net_base.specs.Stamped.{moment};
 ghost use Rattle.journal.specs.Tokens.{Holds};
 
 mod counter;
@@ -11,7 +11,7 @@ use super::*;
 use counter::Counter;
 use gates::Watch;
 use journal::{Journal, Naming, Opened, Pass};
-use net_model::{ActorList, ActorName, Event, Outcome, Reply, With, Work, same_actor};
+use net_base::{ActorList, ActorName, Event, Outcome, Reply, With, Work, same_actor};
 use outside::{Gate, OpenGate};
 use std::alloc::Global;
 use std::marker::Brand;

@@ -3,18 +3,18 @@ use Rattle.std.proofs.Common.{◌≡◌, ℕ, ◌+◌, ◌-◌, length, take, dr
 use Rattle.std.proofs.lemmas.Bool.{le-ltb}
 use Rattle.std.proofs.lemmas.List.{append-nil, drop_at, drop_all, length-drop, length-take-le, map_push}
 use borrow.Rule.Slice.PartMut.{put_mid}
-use Rattle.net_model.specs.declared.history.Taken.{Taken}
-use Rattle.net_model.specs.declared.packet.Body.{Body}
-use Rattle.net_model.specs.declared.packet.Body.TheVariants as body
-use Rattle.net_model.specs.declared.packet.Packet.{Packet}
-use Rattle.net_model.specs.declared.reply.Reply.TheVariants as reply
-use Rattle.net_model.specs.declared.world.Fate.{Fate}
-use Rattle.net_model.specs.declared.world.Fate.TheVariants.{Deliver}
-use Rattle.net_model.specs.declared.world.MediumSpec.{MediumSpec}
-use Rattle.net_model.specs.Datagram.{IsPacket, body_bytes, header_for, packet_of, spelling}
-use Rattle.net_model.specs.Ipv4.{Ipv4, flagged_bytes, summed}
-use Rattle.net_model.specs.Medium.{Medium, datagram_length, fate_of, lays, puts}
-use Rattle.net_model.proofs.DatagramLaws.{packet_again}
+use Rattle.net_base.specs.declared.history.Taken.{Taken}
+use Rattle.net_base.specs.declared.packet.Body.{Body}
+use Rattle.net_base.specs.declared.packet.Body.TheVariants as body
+use Rattle.net_base.specs.declared.packet.Packet.{Packet}
+use Rattle.net_base.specs.declared.reply.Reply.TheVariants as reply
+use Rattle.net_base.specs.declared.world.Fate.{Fate}
+use Rattle.net_base.specs.declared.world.Fate.TheVariants.{Deliver}
+use Rattle.net_base.specs.declared.world.MediumSpec.{MediumSpec}
+use Rattle.net_base.specs.Datagram.{IsPacket, body_bytes, header_for, packet_of, spelling}
+use Rattle.net_base.specs.Ipv4.{Ipv4, flagged_bytes, summed}
+use Rattle.net_base.specs.Medium.{Medium, datagram_length, fate_of, lays, puts}
+use Rattle.net_base.proofs.DatagramLaws.{packet_again}
 use Rattle.medium.specs.declared.frame.Frame.{Frame}
 use Rattle.medium.specs.OnMedium.{OnMedium, AllSpelled, DeliversAll, medium_of, taken_of}
 use Rattle.medium.specs.Spelled.{IsSpelled}

@@ -1,5 +1,5 @@
 pub mod OnMedium
 pub mod Replies
 pub mod Spelled
-pub use Rattle.net_model.specs.Datagram
-pub use Rattle.net_model.specs.Medium
+pub use Rattle.net_base.specs.Datagram
+pub use Rattle.net_base.specs.Medium

@@ -1,11 +1,11 @@
 -- A medium as it is built: the bytes that it carries, with what the world says of it.
 use Rattle.std.specs.Prelude.{◌≡◌, ℕ, ◌≤◌, List, [], map}
 use Rattle.std.specs.List.{AllByRecursion}
-use Rattle.net_model.specs.declared.history.Taken.{Taken}
-use Rattle.net_model.specs.declared.world.Fate.TheVariants.{Deliver}
-use Rattle.net_model.specs.declared.world.MediumSpec.{MediumSpec}
-use Rattle.net_model.specs.Datagram.{packet_of}
-use Rattle.net_model.specs.Medium.{Medium, fate_of}
+use Rattle.net_base.specs.declared.history.Taken.{Taken}
+use Rattle.net_base.specs.declared.world.Fate.TheVariants.{Deliver}
+use Rattle.net_base.specs.declared.world.MediumSpec.{MediumSpec}
+use Rattle.net_base.specs.Datagram.{packet_of}
+use Rattle.net_base.specs.Medium.{Medium, fate_of}
 use Rattle.medium.specs.declared.frame.Frame.{Frame}
 use Rattle.medium.specs.Spelled.{IsSpelled}
 

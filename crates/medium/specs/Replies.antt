@@ -1,8 +1,8 @@
 -- What a medium answers.
 use Rattle.std.specs.Prelude.{◌≡◌, ℕ, List, [], ◌∷◌, ◌++◌, Option, Some, None}
-use Rattle.net_model.specs.declared.history.Taken.{Taken}
-use Rattle.net_model.specs.declared.reply.Reply.{Reply}
-use Rattle.net_model.specs.declared.reply.Reply.TheVariants as reply
+use Rattle.net_base.specs.declared.history.Taken.{Taken}
+use Rattle.net_base.specs.declared.reply.Reply.{Reply}
+use Rattle.net_base.specs.declared.reply.Reply.TheVariants as reply
 use Rattle.medium.specs.declared.frame.Frame.{Frame}
 use Rattle.medium.specs.declared.medium.Laid.{Laid}
 use Rattle.medium.specs.declared.medium.Laid.TheVariants as laid

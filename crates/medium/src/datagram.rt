@@ -1,13 +1,13 @@
 //! Packets as bytes and back.
 ghost use Rattle.std.specs.Prelude.{◌≡◌, ◌+◌, ◌^◌, ◌<◌, length, IfOk, OnOk};
-ghost use Rattle.net_model.specs.Datagram.{IsPacket, body_bytes, header_for, packet_of, spelling};
-ghost use Rattle.net_model.specs.Medium.{datagram_length};
+ghost use Rattle.net_base.specs.Datagram.{IsPacket, body_bytes, header_for, packet_of, spelling};
+ghost use Rattle.net_base.specs.Medium.{datagram_length};
 ghost use Rattle.ip_wire.specs.Headers.{view};
 ghost use Rattle.medium.specs.Spelled.{HasBody, IsSpelled};
 
 use il_header::{decode_il, encode_il};
 use ip_wire::{IpHeader, decode_ip, decode_udp, encode_ip_header, encode_udp};
-use net_model::{Addr, Body, IlMsg, Octets, Packet};
+use net_base::{Addr, Body, IlMsg, Octets, Packet};
 use std::alloc::{AllocError, Global};
 
 /// The bytes of an IPv4 header.

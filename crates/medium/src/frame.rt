@@ -1,5 +1,5 @@
 //! What a medium holds.
-use net_model::Octets;
+use net_base::Octets;
 
 /// The bytes of a packet on their way to a station.
 #[derive(Debug, Drop)]

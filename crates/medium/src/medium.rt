@@ -1,14 +1,14 @@
 //! A medium.
 ghost use Rattle.std.specs.Prelude.{◌≡◌, ◌+◌, ◌^◌, ◌<◌, ◌↔◌, [], length, IfOk, IsSome, IsTrue, OnErr, OnOk};
-ghost use Rattle.net_model.specs.declared.reply.Reply.TheVariants as reply;
-ghost use Rattle.net_model.specs.Datagram.{spelling};
-ghost use Rattle.net_model.specs.Medium.{datagram_length, medium_leaves, puts, takes};
+ghost use Rattle.net_base.specs.declared.reply.Reply.TheVariants as reply;
+ghost use Rattle.net_base.specs.Datagram.{spelling};
+ghost use Rattle.net_base.specs.Medium.{datagram_length, medium_leaves, puts, takes};
 ghost use Rattle.medium.specs.OnMedium.{DeliversAll, HasMtu, medium_of};
 ghost use Rattle.medium.specs.Replies.{PutsBytes, TakesFirst, reply_of};
 
 use crate::datagram::{datagram_of, packet_from};
 use crate::frame::Frame;
-use net_model::{Body, MediumSpec, Packet, Taken};
+use net_base::{Body, MediumSpec, Packet, Taken};
 use std::alloc::{AllocError, Global};
 use std::collections::VecDeque;
 use std::marker::Model;

@@ -1,9 +1,9 @@
 ghost use Rattle.std.specs.Prelude.{◌≡◌, ◌+◌, length, IfOk};
-ghost use Rattle.net_model.specs.Medium.{datagram_length};
+ghost use Rattle.net_base.specs.Medium.{datagram_length};
 
 use crate::datagram::datagram_of;
 use crate::{Laid, Medium};
-use net_model::{Addr, Body, IlKind, IlMsg, MediumSpec, Octets, Packet, Sequence};
+use net_base::{Addr, Body, IlKind, IlMsg, MediumSpec, Octets, Packet, Sequence};
 use std::alloc::{AllocError, Global};
 use std::test::Fail;
 

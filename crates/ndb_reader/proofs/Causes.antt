@@ -2,13 +2,13 @@
 use Rattle.std.proofs.Common.{◌≡◌, ℕ, Bool, true, false, not, ◌&&◌, ◌||◌, cond, List, [], ◌∷◌, ◌++◌, map, refl, sym, ap, ◌∙◌, Option, Some, None}
 use Rattle.std.specs.Prelude.{codes}
 use Rattle.std.specs.List.{list_any}
-use Rattle.net_model.specs.declared.ndb.NdbPair.{NdbPair}
-use Rattle.net_model.specs.NdbText.{is_white, is_percent, is_quote, is_zero, begins, begins_with, is_same, is_empty, Word, plain_words_of, pair_of, pairs_of}
-use Rattle.net_model.specs.NdbBundle.{cause, causes_of, least, is_nameless}
-use Rattle.net_model.specs.NdbForm.{is_unbuilt, causes_beside, causes_so_far}
-use Rattle.net_model.proofs.NdbForms.{causes-built, built, built_if}
-use Rattle.net_model.proofs.NdbPlain.{words_of-plain}
-use Rattle.net_model.proofs.NdbFiles.{is_empty-map}
+use Rattle.net_base.specs.declared.ndb.NdbPair.{NdbPair}
+use Rattle.net_base.specs.NdbText.{is_white, is_percent, is_quote, is_zero, begins, begins_with, is_same, is_empty, Word, plain_words_of, pair_of, pairs_of}
+use Rattle.net_base.specs.NdbBundle.{cause, causes_of, least, is_nameless}
+use Rattle.net_base.specs.NdbForm.{is_unbuilt, causes_beside, causes_so_far}
+use Rattle.net_base.proofs.NdbForms.{causes-built, built, built_if}
+use Rattle.net_base.proofs.NdbPlain.{words_of-plain}
+use Rattle.net_base.proofs.NdbFiles.{is_empty-map}
 
 -- the first of the tests that holds
 abbrev pub picked : Bool → Bool → Bool → Bool → Bool → Option ℕ

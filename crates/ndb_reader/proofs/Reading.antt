@@ -3,17 +3,17 @@ use Rattle.std.proofs.Common.{◌≡◌, ℕ, ◌+◌, ◌<◌, ◌≤◌, Bool,
 use Rattle.std.specs.List.{list_any}
 use Rattle.std.proofs.lemmas.List.{at_drop_more, at_drop_all, take_more}
 use Rattle.std.proofs.lemmas.List.Folds.{list_any-append}
-use Rattle.net_model.specs.declared.ndb.NdbPair.{NdbPair}
-use Rattle.net_model.specs.NdbText.{is_white, begins, is_empty, pairs_of, starts, goes_on, going_on, tuples_of}
-use Rattle.net_model.specs.NdbBundle.{is_file_line, has_tuple, cause, least, told, first_bad}
-use Rattle.net_model.specs.NdbForm.{is_unbuilt, causes_so_far}
-use Rattle.net_model.proofs.NdbPlain.{or_false}
-use Rattle.net_model.proofs.NdbForms.{after_last-none, built_if, not_file, some_none}
+use Rattle.net_base.specs.declared.ndb.NdbPair.{NdbPair}
+use Rattle.net_base.specs.NdbText.{is_white, begins, is_empty, pairs_of, starts, goes_on, going_on, tuples_of}
+use Rattle.net_base.specs.NdbBundle.{is_file_line, has_tuple, cause, least, told, first_bad}
+use Rattle.net_base.specs.NdbForm.{is_unbuilt, causes_so_far}
+use Rattle.net_base.proofs.NdbPlain.{or_false}
+use Rattle.net_base.proofs.NdbForms.{after_last-none, built_if, not_file, some_none}
 use Rattle.ndb_reader.specs.Told.{Tells, tuple_of}
 use Rattle.ndb_reader.specs.declared.fault.NdbError.{NdbError}
 use Rattle.ndb_reader.specs.declared.fault.NdbError.TheVariants.{Memory, Bad}
 use Rattle.std.specs.Option.{option_map}
-use Rattle.net_model.proofs.NdbFiles.{starts-at, goes_on-at}
+use Rattle.net_base.proofs.NdbFiles.{starts-at, goes_on-at}
 
 -- the tuples of what is left, where a tuple of these lines goes on
 abbrev pub resumed : List (List NdbPair) → List (List ℕ) → List (List (List NdbPair))

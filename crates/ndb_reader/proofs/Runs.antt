@@ -2,9 +2,9 @@
 use Rattle.std.proofs.Common.{◌≡◌, ℕ, ◌<◌, ◌≢◌, true, false, List, [], ◌∷◌, map, length, get_or, refl, ap, sym, ◌∙◌, ◌+◌, drop, arith}
 use Rattle.std.proofs.lemmas.List.{at_drop_more}
 use Rattle.std.proofs.lemmas.Bool.Decides.{nat_tests}
-use Rattle.net_model.specs.declared.ndb.NdbPair.{NdbPair}
-use Rattle.net_model.specs.NdbText.{is_hash, plain_word, pair_of}
-use Rattle.net_model.proofs.NdbPlain.{runs_in, runs-run, runs-hash}
+use Rattle.net_base.specs.declared.ndb.NdbPair.{NdbPair}
+use Rattle.net_base.specs.NdbText.{is_hash, plain_word, pair_of}
+use Rattle.net_base.proofs.NdbPlain.{runs_in, runs-run, runs-hash}
 
 -- the pairs of the runs among these parts
 abbrev pub pairs_in : List (List ℕ) → List NdbPair

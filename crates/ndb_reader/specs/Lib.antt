@@ -1,5 +1,5 @@
 pub mod Told
-pub use Rattle.net_model.specs.NdbText
-pub use Rattle.net_model.specs.NdbBundle
-pub use Rattle.net_model.specs.NdbForm
-pub use Rattle.net_model.specs.NdbSpelling
+pub use Rattle.net_base.specs.NdbText
+pub use Rattle.net_base.specs.NdbBundle
+pub use Rattle.net_base.specs.NdbForm
+pub use Rattle.net_base.specs.NdbSpelling

@@ -1,6 +1,6 @@
 -- What the reader tells of a bad line, and the tuples that it has so far.
 use Rattle.std.specs.Prelude.{◌≡◌, ℕ, List, [], ◌∷◌, Option, Some, ⊤}
-use Rattle.net_model.specs.declared.ndb.NdbPair.{NdbPair}
+use Rattle.net_base.specs.declared.ndb.NdbPair.{NdbPair}
 use Rattle.ndb_reader.specs.declared.fault.NdbError.{NdbError}
 use Rattle.ndb_reader.specs.declared.fault.NdbError.TheVariants.{Memory, Bad}
 

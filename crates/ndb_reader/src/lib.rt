@@ -10,5 +10,5 @@ mod tuples;
 mod words;
 
 pub use fault::NdbError;
-pub use net_model::{Db, NdbPair};
+pub use net_base::{Db, NdbPair};
 pub use reader::read_ndb;

@@ -2,14 +2,14 @@
 ghost use Rattle.std.specs.Prelude.{◌≡◌, ℕ, not, ◌&&◌, ◌||◌, map, codes, Option, None, Some, IfOk, IfErr};
 ghost use Rattle.std.specs.List.{list_any};
 ghost use Rattle.std.specs.Option.{option_map};
-ghost use Rattle.net_model.specs.NdbText as spec;
-ghost use Rattle.net_model.specs.NdbBundle.{least};
-ghost use Rattle.net_model.specs.NdbForm.{causes_so_far};
+ghost use Rattle.net_base.specs.NdbText as spec;
+ghost use Rattle.net_base.specs.NdbBundle.{least};
+ghost use Rattle.net_base.specs.NdbForm.{causes_so_far};
 ghost use Rattle.ndb_reader.specs.Told.{Tells};
 
 use crate::fault::NdbError;
 use crate::words::{is_white, read_words};
-use net_model::NdbPair;
+use net_base::NdbPair;
 use std::alloc::{AllocError, Global};
 
 /// Whether a line begins with white space.

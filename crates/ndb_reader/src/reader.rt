@@ -1,15 +1,15 @@
 //! The text of a database, line by line.
 ghost use Rattle.std.specs.Prelude.{◌≡◌, Option, None, Some, IfOk, OnOk, IfErr};
-ghost use Rattle.net_model.specs.NdbBundle.{reading};
-ghost use Rattle.net_model.specs.NdbText.{lines_of};
-ghost use Rattle.net_model.specs.NdbForm.{bad_line_so_far};
-ghost use Rattle.net_model.specs.NdbSpelling.{ReadsFile};
+ghost use Rattle.net_base.specs.NdbBundle.{reading};
+ghost use Rattle.net_base.specs.NdbText.{lines_of};
+ghost use Rattle.net_base.specs.NdbForm.{bad_line_so_far};
+ghost use Rattle.net_base.specs.NdbSpelling.{ReadsFile};
 ghost use Rattle.ndb_reader.specs.Told.{Tells};
 
 use crate::fault::NdbError;
 use crate::line::{is_blank, is_indented, read_line};
 use crate::tuples::Tuples;
-use net_model::Db;
+use net_base::Db;
 use std::alloc::Global;
 
 /// The tuples of a text, or its first bad line. It goes once through the bytes, and copies each at most once.

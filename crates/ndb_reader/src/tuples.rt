@@ -1,9 +1,9 @@
 //! Tuples that grow line by line.
 ghost use Rattle.std.specs.Prelude.{◌≡◌, ◌∷◌, ◌++◌, [], OnOk, IfOk};
-ghost use Rattle.net_model.specs.NdbText.{is_empty};
+ghost use Rattle.net_base.specs.NdbText.{is_empty};
 ghost use Rattle.ndb_reader.specs.Told.{tuple_of};
 
-use net_model::{Db, Line, NdbPair, Sequence, Tuple};
+use net_base::{Db, Line, NdbPair, Sequence, Tuple};
 use std::alloc::{AllocError, Global};
 use std::mem;
 

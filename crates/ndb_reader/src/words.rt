@@ -1,9 +1,9 @@
 //! The words of a line, each an attribute with its value.
 ghost use Rattle.std.specs.Prelude.{◌≡◌, ◌+◌, map, drop, IfOk};
 ghost use Rattle.std.specs.List.{position_or_len};
-ghost use Rattle.net_model.specs.NdbText as spec;
+ghost use Rattle.net_base.specs.NdbText as spec;
 
-use net_model::{NdbPair, Octets};
+use net_base::{NdbPair, Octets};
 use std::alloc::{AllocError, Global};
 
 /// White space is blank, tab and carriage return.

@@ -5,16 +5,16 @@ use Rattle.std.proofs.lemmas.Bool.{lt-ltb, cond_both, eq-eqb, ltb-true, ltb-fals
 use Rattle.std.proofs.lemmas.List.{append-nil, take-append-le, take_all, get_or_append_left, take-append-drop, take_more, length-append, length-drop, length-take}
 use Rattle.std.proofs.lemmas.Option.{slice_get-get_or}
 use Rattle.std.proofs.Math.Seq.{take-add}
-use Rattle.net_model.specs.declared.event.Event.{Event}
-use Rattle.net_model.specs.declared.event.Event.TheVariants as event
-use Rattle.net_model.specs.declared.reply.Reply.{Reply}
-use Rattle.net_model.specs.declared.reply.Reply.TheVariants as reply
-use Rattle.net_model.specs.Networks.{is_filled}
-use Rattle.net_model.specs.IlEnd.{End, Turn, has_unacked, starts}
-use Rattle.net_model.specs.IlTable.{first_unread, sends}
-use Rattle.net_model.specs.IlTable.{reads as reads_end, writes as writes_end}
+use Rattle.net_base.specs.declared.event.Event.{Event}
+use Rattle.net_base.specs.declared.event.Event.TheVariants as event
+use Rattle.net_base.specs.declared.reply.Reply.{Reply}
+use Rattle.net_base.specs.declared.reply.Reply.TheVariants as reply
+use Rattle.net_base.specs.Networks.{is_filled}
+use Rattle.net_base.specs.IlEnd.{End, Turn, has_unacked, starts}
+use Rattle.net_base.specs.IlTable.{first_unread, sends}
+use Rattle.net_base.specs.IlTable.{reads as reads_end, writes as writes_end}
 use Rattle.net_model.specs.PrefixLaw.{HasEmpty}
-use Rattle.net_model.specs.Written.{written_in, read_in, joined}
+use Rattle.net_base.specs.Written.{written_in, read_in, joined}
 use Rattle.net_model.proofs.Begins.{Begins, begins_prefix, begins_length, in_pushed}
 use Rattle.net_model.proofs.Untouched.{Leaves}
 

@@ -2,32 +2,32 @@
 use Rattle.std.proofs.Common.{◌≡◌, ℕ, ◌+◌, Bool, true, false, List, [], ◌∷◌, ◌++◌, map, replicate, Option, Some, None, option_map, codes, refl}
 use Rattle.std.specs.Fmt.{digits}
 use Rattle.rand_pcg.specs.Lcg.{state_after}
-use Rattle.net_model.specs.declared.address.Addr.{Addr}
-use Rattle.net_model.specs.declared.address.Proto.TheVariants as proto
-use Rattle.net_model.specs.declared.event.Event.{Event}
-use Rattle.net_model.specs.declared.event.Event.TheVariants as event
-use Rattle.net_model.specs.declared.history.With.{With}
-use Rattle.net_model.specs.declared.history.With.TheVariants as given
-use Rattle.net_model.specs.declared.il.IlKind.TheVariants.{Sync, Close}
-use Rattle.net_model.specs.declared.il.StateName.TheVariants as name
-use Rattle.net_model.specs.declared.names.FileName.TheVariants as file
-use Rattle.net_model.specs.declared.names.Mode.TheVariants as mode
-use Rattle.net_model.specs.declared.packet.Body.TheVariants as body
-use Rattle.net_model.specs.declared.packet.Packet.{Packet}
-use Rattle.net_model.specs.declared.reply.Reply.{Reply}
-use Rattle.net_model.specs.declared.reply.Reply.TheVariants as reply
-use Rattle.net_model.specs.declared.world.Fate.TheVariants.{Lose, Twice, Later}
-use Rattle.net_model.specs.declared.world.MediumSpec.{MediumSpec}
-use Rattle.net_model.specs.ActorStep.{Step}
-use Rattle.net_model.specs.IlEnd.{fresh_end, message}
-use Rattle.net_model.specs.UdpEnd.{fresh_udp}
-use Rattle.net_model.specs.Number.{number}
-use Rattle.net_model.specs.Conversation.{Conv, Core, Il, Udp, Unused, nowhere, conv_step}
-use Rattle.net_model.specs.Desk.{desk_reply}
-use Rattle.net_model.specs.Directory.{Dir, free_slot, dir_step}
-use Rattle.net_model.specs.Draws.{drawn_word}
-use Rattle.net_model.specs.Medium.{Medium, quiet_medium, medium_step}
-use Rattle.net_model.specs.Routes.{Route, way, longest_match}
+use Rattle.net_base.specs.declared.address.Addr.{Addr}
+use Rattle.net_base.specs.declared.address.Proto.TheVariants as proto
+use Rattle.net_base.specs.declared.event.Event.{Event}
+use Rattle.net_base.specs.declared.event.Event.TheVariants as event
+use Rattle.net_base.specs.declared.history.With.{With}
+use Rattle.net_base.specs.declared.history.With.TheVariants as given
+use Rattle.net_base.specs.declared.il.IlKind.TheVariants.{Sync, Close}
+use Rattle.net_base.specs.declared.il.StateName.TheVariants as name
+use Rattle.net_base.specs.declared.names.FileName.TheVariants as file
+use Rattle.net_base.specs.declared.names.Mode.TheVariants as mode
+use Rattle.net_base.specs.declared.packet.Body.TheVariants as body
+use Rattle.net_base.specs.declared.packet.Packet.{Packet}
+use Rattle.net_base.specs.declared.reply.Reply.{Reply}
+use Rattle.net_base.specs.declared.reply.Reply.TheVariants as reply
+use Rattle.net_base.specs.declared.world.Fate.TheVariants.{Lose, Twice, Later}
+use Rattle.net_base.specs.declared.world.MediumSpec.{MediumSpec}
+use Rattle.net_base.specs.ActorStep.{Step}
+use Rattle.net_base.specs.IlEnd.{fresh_end, message}
+use Rattle.net_base.specs.UdpEnd.{fresh_udp}
+use Rattle.net_base.specs.Number.{number}
+use Rattle.net_base.specs.Conversation.{Conv, Core, Il, Udp, Unused, nowhere, conv_step}
+use Rattle.net_base.specs.Desk.{desk_reply}
+use Rattle.net_base.specs.Directory.{Dir, free_slot, dir_step}
+use Rattle.net_base.specs.Draws.{drawn_word}
+use Rattle.net_base.specs.Medium.{Medium, quiet_medium, medium_step}
+use Rattle.net_base.specs.Routes.{Route, way, longest_match}
 use Rattle.net_model.proofs.Worlds.{il_world, small_database, anna, anna_ip, helix_ip, ether0}
 
 -- Directories.

@@ -2,24 +2,24 @@
 use Rattle.std.proofs.Common.{◌≡◌, ℕ, ◌==◌, ◌&&◌, Bool, true, false, not, cond, [], length, Option, Some, None, ◌⊎◌, inl, inr, refl, sym, ap, subst, ◌∙◌, arith}
 use Rattle.std.proofs.lemmas.Bool.{and_parts, eqb-true, eq-eqb, true≢false}
 use Rattle.std.proofs.lemmas.Option.{none-some}
-use Rattle.net_model.specs.declared.event.Event.{Event}
-use Rattle.net_model.specs.declared.event.Event.TheVariants as event
-use Rattle.net_model.specs.declared.il.IlKind.{IlKind}
-use Rattle.net_model.specs.declared.il.IlKind.TheVariants.{Close}
-use Rattle.net_model.specs.declared.il.Cause.{Cause}
-use Rattle.net_model.specs.declared.il.Cause.TheVariants as cause
-use Rattle.net_model.specs.declared.il.IlMsg.{IlMsg}
-use Rattle.net_model.specs.declared.il.IlState.{IlState}
-use Rattle.net_model.specs.declared.il.IlState.TheVariants as state
-use Rattle.net_model.specs.declared.packet.Body.TheVariants as body
-use Rattle.net_model.specs.declared.packet.Packet.{Packet}
-use Rattle.net_model.specs.declared.history.With.{With}
-use Rattle.net_model.specs.declared.history.With.TheVariants as given
-use Rattle.net_model.specs.IlEnd.{End, Turn, fresh_end, silent}
-use Rattle.net_model.specs.IlTable.{is_sized, at_closed, row, arrives, hangs_up_at, ticks_to}
-use Rattle.net_model.specs.Timer as timer
-use Rattle.net_model.specs.Timer.{ticks_at}
-use Rattle.net_model.specs.Conversation.{Conv, Stage, Connected}
+use Rattle.net_base.specs.declared.event.Event.{Event}
+use Rattle.net_base.specs.declared.event.Event.TheVariants as event
+use Rattle.net_base.specs.declared.il.IlKind.{IlKind}
+use Rattle.net_base.specs.declared.il.IlKind.TheVariants.{Close}
+use Rattle.net_base.specs.declared.il.Cause.{Cause}
+use Rattle.net_base.specs.declared.il.Cause.TheVariants as cause
+use Rattle.net_base.specs.declared.il.IlMsg.{IlMsg}
+use Rattle.net_base.specs.declared.il.IlState.{IlState}
+use Rattle.net_base.specs.declared.il.IlState.TheVariants as state
+use Rattle.net_base.specs.declared.packet.Body.TheVariants as body
+use Rattle.net_base.specs.declared.packet.Packet.{Packet}
+use Rattle.net_base.specs.declared.history.With.{With}
+use Rattle.net_base.specs.declared.history.With.TheVariants as given
+use Rattle.net_base.specs.IlEnd.{End, Turn, fresh_end, silent}
+use Rattle.net_base.specs.IlTable.{is_sized, at_closed, row, arrives, hangs_up_at, ticks_to}
+use Rattle.net_base.specs.Timer as timer
+use Rattle.net_base.specs.Timer.{ticks_at}
+use Rattle.net_base.specs.Conversation.{Conv, Stage, Connected}
 use Rattle.net_model.proofs.Talking.{Sound, Link, Knows, KnowsAs, Met, Good, good_if, good_same}
 use Rattle.net_model.proofs.Rows.{Few, gets_cause, good_arrives}
 use Rattle.net_model.proofs.Deeds.{both_ways, good_writes, good_reads, good_hangs_up_at, good_ticks}

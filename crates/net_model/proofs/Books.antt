@@ -1,31 +1,31 @@
 -- Entries and what ends have written and read.
 use Rattle.std.proofs.Common.{◌≡◌, ℕ, ◌+◌, ◌==◌, ◌&&◌, Bool, true, false, cond, List, [], ◌∷◌, ◌++◌, Some, ◌⊎◌, inl, inr, refl, sym, ap, subst, ◌∙◌, append_assoc, arith, Option, None}
 use Rattle.std.specs.Prelude.{flat_map, filter, take}
-use Rattle.net_model.specs.Networks.{is_filled}
+use Rattle.net_base.specs.Networks.{is_filled}
 use Rattle.std.proofs.lemmas.Bool.{and_parts, and_from, cond_both, eqb-true, eq-eqb}
 use Rattle.std.proofs.lemmas.Option.{same_Some, none-some}
 use Rattle.std.proofs.lemmas.List.{append-nil}
-use Rattle.net_model.specs.declared.address.Pair.{Pair}
-use Rattle.net_model.specs.declared.address.Proto.TheVariants as proto
-use Rattle.net_model.specs.declared.actor.ActorName.{ActorName}
-use Rattle.net_model.specs.declared.actor.ActorName.TheVariants as actor
-use Rattle.net_model.specs.declared.event.Event.{Event}
-use Rattle.net_model.specs.declared.event.Event.TheVariants as event
-use Rattle.net_model.specs.declared.reply.Reply.{Reply}
-use Rattle.net_model.specs.declared.history.With.{With}
-use Rattle.net_model.specs.declared.history.With.TheVariants as given
-use Rattle.net_model.specs.declared.history.Entry.{Entry}
-use Rattle.net_model.specs.IlEnd.{End, Turn, fresh_end, silent}
-use Rattle.net_model.specs.IlTable.{connects, is_born}
+use Rattle.net_base.specs.declared.address.Pair.{Pair}
+use Rattle.net_base.specs.declared.address.Proto.TheVariants as proto
+use Rattle.net_base.specs.declared.actor.ActorName.{ActorName}
+use Rattle.net_base.specs.declared.actor.ActorName.TheVariants as actor
+use Rattle.net_base.specs.declared.event.Event.{Event}
+use Rattle.net_base.specs.declared.event.Event.TheVariants as event
+use Rattle.net_base.specs.declared.reply.Reply.{Reply}
+use Rattle.net_base.specs.declared.history.With.{With}
+use Rattle.net_base.specs.declared.history.With.TheVariants as given
+use Rattle.net_base.specs.declared.history.Entry.{Entry}
+use Rattle.net_base.specs.IlEnd.{End, Turn, fresh_end, silent}
+use Rattle.net_base.specs.IlTable.{connects, is_born}
 use Rattle.net_model.proofs.Pairs.{Side, leaves}
-use Rattle.net_model.specs.Same.{same_pair}
-use Rattle.net_model.specs.Mirror.{mirror}
-use Rattle.net_model.specs.ActorStep.{Step}
-use Rattle.net_model.specs.Conversation.{Il, Stage, Unused, Listening, Connected, Conv}
+use Rattle.net_base.specs.Same.{same_pair}
+use Rattle.net_base.specs.Mirror.{mirror}
+use Rattle.net_base.specs.ActorStep.{Step}
+use Rattle.net_base.specs.Conversation.{Il, Stage, Unused, Listening, Connected, Conv}
 use Rattle.net_model.proofs.Trace.{Owner, Trace, empty_side, conv_trace}
-use Rattle.net_model.specs.Stamped.{same_actor}
+use Rattle.net_base.specs.Stamped.{same_actor}
 use Rattle.net_model.specs.PrefixLaw.{HasEmpty}
-use Rattle.net_model.specs.Written.{Conversation, written_in, read_in, written_by, read_by, joined}
+use Rattle.net_base.specs.Written.{Conversation, written_in, read_in, written_by, read_by, joined}
 use Rattle.net_model.proofs.Begins.{Begins}
 use Rattle.net_model.proofs.Deeds.{both_ways}
 use Rattle.net_model.proofs.ConvMoves.{is_connected, Stays, Move, Stay, Begin, Join, Come, Listen, Elsewhere, of_end}

@@ -2,24 +2,24 @@
 use Rattle.std.proofs.Common.{◌≡◌, ℕ, ◌+◌, ◌<◌, Bool, true, false, List, ◌∷◌, take, Option, Some, None, slice_get, refl, sym, ap, subst, arith}
 use Rattle.std.specs.Fmt.{digits}
 use Rattle.rand_pcg.specs.Lcg.{state_after}
-use Rattle.net_model.specs.declared.event.Event.{Event}
-use Rattle.net_model.specs.declared.event.Event.TheVariants as event
-use Rattle.net_model.specs.Steps.{Ask}
+use Rattle.net_base.specs.declared.event.Event.{Event}
+use Rattle.net_base.specs.declared.event.Event.TheVariants as event
+use Rattle.net_base.specs.Steps.{Ask}
 use Rattle.std.proofs.lemmas.Bool.{false≢true}
 use Rattle.std.proofs.lemmas.Option.{same_Some}
-use Rattle.net_model.specs.declared.history.Entry.{Entry}
-use Rattle.net_model.specs.declared.reply.Reply.{Reply}
-use Rattle.net_model.specs.declared.reply.Reply.TheVariants as reply
-use Rattle.net_model.specs.declared.world.World.{World}
-use Rattle.net_model.specs.Legal.{IsLegal, IsTimed, IsFault, Keeps, Rule, rule_number, Answers, AtMoment, Cites, Asked, Ready, InTime, Known, HasRoom}
-use Rattle.net_model.specs.Net.{after}
-use Rattle.net_model.specs.Number.{number}
-use Rattle.net_model.specs.declared.packet.Header.{Header}
-use Rattle.net_model.specs.declared.packet.BodyHeader.{BodyHeader}
-use Rattle.net_model.specs.declared.packet.BodyHeader.TheVariants as shown
-use Rattle.net_model.specs.declared.il.IlKind.{IlKind}
-use Rattle.net_model.specs.declared.il.IlKind.TheVariants.{Data}
-use Rattle.net_model.specs.Legal.{Shown}
+use Rattle.net_base.specs.declared.history.Entry.{Entry}
+use Rattle.net_base.specs.declared.reply.Reply.{Reply}
+use Rattle.net_base.specs.declared.reply.Reply.TheVariants as reply
+use Rattle.net_base.specs.declared.world.World.{World}
+use Rattle.net_base.specs.Legal.{IsLegal, IsTimed, IsFault, Keeps, Rule, rule_number, Answers, AtMoment, Cites, Asked, Ready, InTime, Known, HasRoom}
+use Rattle.net_base.specs.Net.{after}
+use Rattle.net_base.specs.Number.{number}
+use Rattle.net_base.specs.declared.packet.Header.{Header}
+use Rattle.net_base.specs.declared.packet.BodyHeader.{BodyHeader}
+use Rattle.net_base.specs.declared.packet.BodyHeader.TheVariants as shown
+use Rattle.net_base.specs.declared.il.IlKind.{IlKind}
+use Rattle.net_base.specs.declared.il.IlKind.TheVariants.{Data}
+use Rattle.net_base.specs.Legal.{Shown}
 use Rattle.net_model.specs.WorkedUdp.{datagram_world, datagram_history}
 use Rattle.net_model.specs.WorkedIl.{lossy_world, lossy_history, refused_world, refused_history}
 use Rattle.net_model.specs.WorkedFaults.{with_at, another_text, another_moment, another_cite, another_event, taken_too_early, moved_too_early, moved_too_far, sent_as_data, read_too_early, refused_otherwise, not_ended}

@@ -2,10 +2,10 @@
 use Rattle.std.proofs.Common.{◌≡◌, true, [], ◌∷◌, codes, refl}
 use Rattle.std.specs.Fmt.{digits}
 use Rattle.rand_pcg.specs.Lcg.{state_after}
-use Rattle.net_model.specs.declared.il.IlKind.TheVariants.{Sync, Data, DataQuery, Ack, State, Close}
-use Rattle.net_model.specs.Calm.{done, stopped}
-use Rattle.net_model.specs.Net.{opening_net}
-use Rattle.net_model.specs.Number.{number}
+use Rattle.net_base.specs.declared.il.IlKind.TheVariants.{Sync, Data, DataQuery, Ack, State, Close}
+use Rattle.net_base.specs.Calm.{done, stopped}
+use Rattle.net_base.specs.Net.{opening_net}
+use Rattle.net_base.specs.Number.{number}
 use Rattle.net_model.specs.Rounds.{rounds, run_of}
 use Rattle.net_model.specs.WorkedRuns.{moves, texts_read, kinds, data_ids, hello_world, early_close_world, repeated_world, wrapping_world, cut_world, nobody_world, lost_world, dropped_world, two_calls_world}
 

@@ -2,10 +2,10 @@
 use Rattle.std.proofs.Common.{◌≡◌, true, [], refl, arith}
 use Rattle.std.specs.Fmt.{digits}
 use Rattle.rand_pcg.specs.Lcg.{state_after}
-use Rattle.net_model.specs.Calm.{done}
-use Rattle.net_model.specs.Legal.{IsLegal, IsTimed}
-use Rattle.net_model.specs.Net.{after, opening_net}
-use Rattle.net_model.specs.Number.{number}
+use Rattle.net_base.specs.Calm.{done}
+use Rattle.net_base.specs.Legal.{IsLegal, IsTimed}
+use Rattle.net_base.specs.Net.{after, opening_net}
+use Rattle.net_base.specs.Number.{number}
 use Rattle.net_model.specs.Rounds.{run_of}
 use Rattle.net_model.specs.WorkedUdp.{datagram_world, datagram_history}
 use Rattle.net_model.proofs.Walk.{Follow, is_legal, is_timed}

@@ -7,10 +7,10 @@ use Rattle.std.proofs.lemmas.Bool.{ltb-true, and_parts, ne_eqb, false≢true, eq
 use Rattle.std.proofs.lemmas.List.Elements.{All-append}
 use Rattle.std.proofs.lemmas.Slice.Eq.{bytes_eq-Decides}
 use Rattle.std.proofs.lemmas.Option.{none-some, same_Some}
-use Rattle.net_model.specs.declared.address.Addr.{Addr}
-use Rattle.net_model.specs.declared.names.Ctl.{Ctl}
-use Rattle.net_model.specs.declared.names.Ctl.TheVariants as ctl
-use Rattle.net_model.specs.ControlWords.{dotted, place, spelling, short_spelling, is_port, is_place, in_range, IsSpelled, Reads, newline, blank, first_word, is_word, without_newline, address_of, place_of, parts_of_place, connect_of, control_of, is_spelled, checked, said, read, bad_word, bad_argument}
+use Rattle.net_base.specs.declared.address.Addr.{Addr}
+use Rattle.net_base.specs.declared.names.Ctl.{Ctl}
+use Rattle.net_base.specs.declared.names.Ctl.TheVariants as ctl
+use Rattle.net_base.specs.ControlWords.{dotted, place, spelling, short_spelling, is_port, is_place, in_range, IsSpelled, Reads, newline, blank, first_word, is_word, without_newline, address_of, place_of, parts_of_place, connect_of, control_of, is_spelled, checked, said, read, bad_word, bad_argument}
 use Rattle.net_model.proofs.Texts.{IsWithout, decimal_without, one_part, cut_at, without_one, four_parts, dotted_without, value_of}
 
 abbrev octet : ℕ → ℕ → ℕ

@@ -3,30 +3,30 @@ use Rattle.std.proofs.Common.{◌≡◌, ℕ, zero, suc, ◌+◌, ◌-◌, ◌<�
 use Rattle.std.specs.Option.{option_map}
 use Rattle.std.specs.Prelude.{IfSome}
 use Rattle.std.proofs.lemmas.Bool.{and_parts, cond_both, eqb-true, ltb-true, ne_eqb, true≢false, ltb-false, eqb-false, leb-true}
-use Rattle.net_model.specs.declared.address.Pair.{Pair}
-use Rattle.net_model.specs.declared.event.Event.{Event}
-use Rattle.net_model.specs.declared.event.Event.TheVariants as event
-use Rattle.net_model.specs.declared.reply.Reply.{Reply}
-use Rattle.net_model.specs.declared.reply.Reply.TheVariants as reply
-use Rattle.net_model.specs.declared.il.Cause.{Cause}
-use Rattle.net_model.specs.declared.il.IlMsg.{IlMsg}
-use Rattle.net_model.specs.declared.il.IlState.{IlState}
-use Rattle.net_model.specs.declared.il.IlState.TheVariants as state
-use Rattle.net_model.specs.declared.packet.Body.{Body}
-use Rattle.net_model.specs.declared.packet.Body.TheVariants as body
-use Rattle.net_model.specs.declared.packet.Packet.{Packet}
-use Rattle.net_model.specs.declared.history.With.{With}
-use Rattle.net_model.specs.declared.history.With.TheVariants as given
+use Rattle.net_base.specs.declared.address.Pair.{Pair}
+use Rattle.net_base.specs.declared.event.Event.{Event}
+use Rattle.net_base.specs.declared.event.Event.TheVariants as event
+use Rattle.net_base.specs.declared.reply.Reply.{Reply}
+use Rattle.net_base.specs.declared.reply.Reply.TheVariants as reply
+use Rattle.net_base.specs.declared.il.Cause.{Cause}
+use Rattle.net_base.specs.declared.il.IlMsg.{IlMsg}
+use Rattle.net_base.specs.declared.il.IlState.{IlState}
+use Rattle.net_base.specs.declared.il.IlState.TheVariants as state
+use Rattle.net_base.specs.declared.packet.Body.{Body}
+use Rattle.net_base.specs.declared.packet.Body.TheVariants as body
+use Rattle.net_base.specs.declared.packet.Packet.{Packet}
+use Rattle.net_base.specs.declared.history.With.{With}
+use Rattle.net_base.specs.declared.history.With.TheVariants as given
 use Rattle.net_model.proofs.Pairs.{is_sync}
-use Rattle.net_model.specs.declared.names.FileName.{FileName}
-use Rattle.net_model.specs.declared.names.Mode.{Mode}
-use Rattle.net_model.specs.IlEnd.{End, Turn, fresh_end, silent, cause_of}
-use Rattle.net_model.specs.IlTable.{arrives, connects, is_born, announced, writes, reads, hangs_up, ticks, may_write, may_go_on, is_closed}
-use Rattle.net_model.specs.Timer as timer
-use Rattle.net_model.specs.ControlWords as control
-use Rattle.net_model.specs.Paths.{file_names}
-use Rattle.net_model.specs.ActorStep.{Step, when}
-use Rattle.net_model.specs.Conversation.{Il, Stage, Unused, Listening, Connected, Conv, begun, born_to, answers, leaves, packet_of, turned, in_generation, raises, may_bear, may_connect, has_protocol, joined, brought_forth, listens, binds, taken_in, il_read, read_at, core_name, il_written, write_at, left_or_ok, closed, il_awaited, awaited, opened, listed, file_text, refused_control, bad_control, tick_reply, conv_step}
+use Rattle.net_base.specs.declared.names.FileName.{FileName}
+use Rattle.net_base.specs.declared.names.Mode.{Mode}
+use Rattle.net_base.specs.IlEnd.{End, Turn, fresh_end, silent, cause_of}
+use Rattle.net_base.specs.IlTable.{arrives, connects, is_born, announced, writes, reads, hangs_up, ticks, may_write, may_go_on, is_closed}
+use Rattle.net_base.specs.Timer as timer
+use Rattle.net_base.specs.ControlWords as control
+use Rattle.net_base.specs.Paths.{file_names}
+use Rattle.net_base.specs.ActorStep.{Step, when}
+use Rattle.net_base.specs.Conversation.{Il, Stage, Unused, Listening, Connected, Conv, begun, born_to, answers, leaves, packet_of, turned, in_generation, raises, may_bear, may_connect, has_protocol, joined, brought_forth, listens, binds, taken_in, il_read, read_at, core_name, il_written, write_at, left_or_ok, closed, il_awaited, awaited, opened, listed, file_text, refused_control, bad_control, tick_reply, conv_step}
 use Rattle.net_model.proofs.Untouched.{leaves_itself, arrives_leaves, hangs_leaves, ticks_leaves}
 use Rattle.net_model.proofs.Accounts.{IsSized, Account, Silent, left_account, write_account, read_account, end_account}
 

@@ -1,22 +1,22 @@
 -- Each move of a conversation with an IL end keeps what holds of all pairs.
 use Rattle.std.proofs.Common.{◌≡◌, ℕ, ◌+◌, ◌^◌, ◌<◌, true, false, List, [], ◌∷◌, Option, None, ◌⊎◌, inl, inr, refl, sym, ap, subst, ◌∙◌, arith}
 use Rattle.std.specs.Option.{option_map}
-use Rattle.net_model.specs.declared.address.Pair.{Pair}
-use Rattle.net_model.specs.declared.event.Event.{Event}
-use Rattle.net_model.specs.declared.event.Event.TheVariants as event
-use Rattle.net_model.specs.declared.il.IlKind.TheVariants.{Close}
-use Rattle.net_model.specs.declared.il.IlMsg.{IlMsg}
-use Rattle.net_model.specs.declared.packet.Body.{Body}
-use Rattle.net_model.specs.declared.packet.Body.TheVariants as body
-use Rattle.net_model.specs.declared.packet.Packet.{Packet}
-use Rattle.net_model.specs.declared.history.With.{With}
-use Rattle.net_model.specs.declared.history.With.TheVariants as given
-use Rattle.net_model.specs.IlEnd.{End, Turn, fresh_end, silent}
-use Rattle.net_model.specs.IlTable.{connects, is_born, announced}
+use Rattle.net_base.specs.declared.address.Pair.{Pair}
+use Rattle.net_base.specs.declared.event.Event.{Event}
+use Rattle.net_base.specs.declared.event.Event.TheVariants as event
+use Rattle.net_base.specs.declared.il.IlKind.TheVariants.{Close}
+use Rattle.net_base.specs.declared.il.IlMsg.{IlMsg}
+use Rattle.net_base.specs.declared.packet.Body.{Body}
+use Rattle.net_base.specs.declared.packet.Body.TheVariants as body
+use Rattle.net_base.specs.declared.packet.Packet.{Packet}
+use Rattle.net_base.specs.declared.history.With.{With}
+use Rattle.net_base.specs.declared.history.With.TheVariants as given
+use Rattle.net_base.specs.IlEnd.{End, Turn, fresh_end, silent}
+use Rattle.net_base.specs.IlTable.{connects, is_born, announced}
 use Rattle.net_model.proofs.Pairs.{Side, is_sync}
-use Rattle.net_model.specs.Mirror.{mirror}
-use Rattle.net_model.specs.ActorStep.{Step}
-use Rattle.net_model.specs.Conversation.{Core, Il, Stage, Unused, Listening, Connected, Conv, packet_of}
+use Rattle.net_base.specs.Mirror.{mirror}
+use Rattle.net_base.specs.ActorStep.{Step}
+use Rattle.net_base.specs.Conversation.{Core, Il, Stage, Unused, Listening, Connected, Conv, packet_of}
 use Rattle.net_model.proofs.Trace.{Trace, empty_side, conv_trace}
 use Rattle.net_model.proofs.Talking.{Sound, Link, Knows, Good}
 use Rattle.net_model.proofs.Rows.{Few}

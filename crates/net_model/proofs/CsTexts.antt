@@ -3,10 +3,10 @@ use Rattle.std.proofs.Common.{◌≡◌, ℕ, ◌/◌, ◌%◌, ◌^◌, ◌<◌
 use Rattle.std.specs.Prelude.{decimal, codes}
 use Rattle.std.specs.Net.Text.{dotted_text}
 use Rattle.std.proofs.lemmas.Fmt.{decimal_injective}
-use Rattle.net_model.specs.declared.address.Proto.{Proto}
-use Rattle.net_model.specs.declared.address.Proto.TheVariants.{Il, Udp}
-use Rattle.net_model.specs.Addresses.{address_text, parts_at}
-use Rattle.net_model.specs.Cs.{cs_line}
+use Rattle.net_base.specs.declared.address.Proto.{Proto}
+use Rattle.net_base.specs.declared.address.Proto.TheVariants.{Il, Udp}
+use Rattle.net_base.specs.Addresses.{address_text, parts_at}
+use Rattle.net_base.specs.Cs.{cs_line}
 use Rattle.net_model.proofs.Texts.{IsWithout, decimal_without, one_part, cut_at, four_parts, dotted_without}
 
 -- the text of an address as four numbers

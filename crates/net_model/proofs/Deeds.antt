@@ -3,19 +3,19 @@ use Rattle.std.proofs.Common.{◌≡◌, ℕ, zero, suc, ◌+◌, ◌-◌, ◌^�
 use Rattle.std.proofs.lemmas.Bool.{and_parts, true≢false, cond_both}
 use Rattle.std.proofs.lemmas.Option.{none-some, same_Some}
 use Rattle.std.proofs.lemmas.List.{length_push}
-use Rattle.net_model.specs.declared.il.IlKind.{IlKind}
-use Rattle.net_model.specs.declared.il.IlKind.TheVariants.{Sync, Data}
-use Rattle.net_model.specs.declared.il.IlMsg.{IlMsg}
-use Rattle.net_model.specs.declared.il.IlState.{IlState}
-use Rattle.net_model.specs.declared.il.IlState.TheVariants.{Syncer, Syncee, Established, Listening, Closing}
-use Rattle.net_model.specs.declared.il.Cause.{Cause}
-use Rattle.net_model.specs.declared.il.Cause.TheVariants as cause
-use Rattle.net_model.specs.IlEnd.{End, Turn, fresh_end, has_unacked, silent, says, starts}
-use Rattle.net_model.specs.IlTable.{arrives, connects, is_born, announced, sends, writes, reads, first_unread, hangs_up_at, hangs_up, asks_again, ticks_to, ticks}
-use Rattle.net_model.specs.declared.timer.Tick.{Tick}
-use Rattle.net_model.specs.declared.timer.Tick.TheVariants as tick
-use Rattle.net_model.specs.Timer as timer
-use Rattle.net_model.specs.Timer.{Timer}
+use Rattle.net_base.specs.declared.il.IlKind.{IlKind}
+use Rattle.net_base.specs.declared.il.IlKind.TheVariants.{Sync, Data}
+use Rattle.net_base.specs.declared.il.IlMsg.{IlMsg}
+use Rattle.net_base.specs.declared.il.IlState.{IlState}
+use Rattle.net_base.specs.declared.il.IlState.TheVariants.{Syncer, Syncee, Established, Listening, Closing}
+use Rattle.net_base.specs.declared.il.Cause.{Cause}
+use Rattle.net_base.specs.declared.il.Cause.TheVariants as cause
+use Rattle.net_base.specs.IlEnd.{End, Turn, fresh_end, has_unacked, silent, says, starts}
+use Rattle.net_base.specs.IlTable.{arrives, connects, is_born, announced, sends, writes, reads, first_unread, hangs_up_at, hangs_up, asks_again, ticks_to, ticks}
+use Rattle.net_base.specs.declared.timer.Tick.{Tick}
+use Rattle.net_base.specs.declared.timer.Tick.TheVariants as tick
+use Rattle.net_base.specs.Timer as timer
+use Rattle.net_base.specs.Timer.{Timer}
 use Rattle.net_model.proofs.Pairs.{Side, Talk, Deed, Connects, Is_born, Is_announced, Writes, Reads, Arrives, Hangs_up, Ticks, Event, Near, Far, out_with, leaves, is_new, is_start, is_sync, may_write, born_from, comes_to, does, happens, run, opening, InOrder}
 use Rattle.net_model.proofs.Begins.{begins_itself, begins_more, begins_prefix, at_push}
 use Rattle.net_model.proofs.Talking.{SoundAs, Sound, Met, HasMet, KnowsAs, Knows, Growth, Grows, grows_itself, sound_stays, Link, link_stays, Talking, Says, Good, good_if, good_same, good_silent, last_numbered, good_query, good_close, good_sync}

@@ -3,29 +3,29 @@ use Rattle.std.proofs.Common.{◌≡◌, ℕ, ◌+◌, ◌==◌, Bool, true, fal
 use Rattle.std.specs.Prelude.{if◌then◌else◌, is_none}
 use Rattle.std.proofs.lemmas.Bool.{and_parts, false≢true, true≢false}
 use Rattle.std.proofs.lemmas.Option.{none-some}
-use Rattle.net_model.specs.declared.actor.Call.{Call}
-use Rattle.net_model.specs.declared.address.Addr.{Addr}
-use Rattle.net_model.specs.declared.address.Pair.{Pair}
-use Rattle.net_model.specs.declared.address.Proto.{Proto}
-use Rattle.net_model.specs.declared.event.Event.{Event}
-use Rattle.net_model.specs.declared.event.Event.TheVariants as event
-use Rattle.net_model.specs.declared.history.With.{With}
-use Rattle.net_model.specs.declared.history.With.TheVariants as given
-use Rattle.net_model.specs.declared.il.StateName.{StateName}
-use Rattle.net_model.specs.declared.il.StateName.TheVariants as name
-use Rattle.net_model.specs.declared.packet.Body.{Body}
-use Rattle.net_model.specs.declared.packet.Body.TheVariants as body
-use Rattle.net_model.specs.declared.packet.Packet.{Packet}
-use Rattle.net_model.specs.declared.reply.Reply.{Reply}
-use Rattle.net_model.specs.declared.reply.Reply.TheVariants as reply
-use Rattle.net_model.specs.declared.world.World.{World}
-use Rattle.net_model.specs.ActorStep.{Step, when}
-use Rattle.net_model.specs.Conversation.{is_sync}
-use Rattle.net_model.specs.Directory as directory
-use Rattle.net_model.specs.Directory.{Dir, Slot, Key, dir_step, pair_place, pair_of, in_slot, in_found_slot, first_slot, is_free, reserves, grants, grants_by, grants_pair, announces, binds, gets, listens, listens_at, next_call, withdraws, frees, bears, born_or_not, has_taker, refused_or_dropped, arrives_at, is_live_with, match_of, is_of, is_reserved, port_for}
-use Rattle.net_model.specs.Routes.{Way, way}
-use Rattle.net_model.specs.Same.{same_addr, same_pair}
-use Rattle.net_model.specs.Stamped.{In}
+use Rattle.net_base.specs.declared.actor.Call.{Call}
+use Rattle.net_base.specs.declared.address.Addr.{Addr}
+use Rattle.net_base.specs.declared.address.Pair.{Pair}
+use Rattle.net_base.specs.declared.address.Proto.{Proto}
+use Rattle.net_base.specs.declared.event.Event.{Event}
+use Rattle.net_base.specs.declared.event.Event.TheVariants as event
+use Rattle.net_base.specs.declared.history.With.{With}
+use Rattle.net_base.specs.declared.history.With.TheVariants as given
+use Rattle.net_base.specs.declared.il.StateName.{StateName}
+use Rattle.net_base.specs.declared.il.StateName.TheVariants as name
+use Rattle.net_base.specs.declared.packet.Body.{Body}
+use Rattle.net_base.specs.declared.packet.Body.TheVariants as body
+use Rattle.net_base.specs.declared.packet.Packet.{Packet}
+use Rattle.net_base.specs.declared.reply.Reply.{Reply}
+use Rattle.net_base.specs.declared.reply.Reply.TheVariants as reply
+use Rattle.net_base.specs.declared.world.World.{World}
+use Rattle.net_base.specs.ActorStep.{Step, when}
+use Rattle.net_base.specs.Conversation.{is_sync}
+use Rattle.net_base.specs.Directory as directory
+use Rattle.net_base.specs.Directory.{Dir, Slot, Key, dir_step, pair_place, pair_of, in_slot, in_found_slot, first_slot, is_free, reserves, grants, grants_by, grants_pair, announces, binds, gets, listens, listens_at, next_call, withdraws, frees, bears, born_or_not, has_taker, refused_or_dropped, arrives_at, is_live_with, match_of, is_of, is_reserved, port_for}
+use Rattle.net_base.specs.Routes.{Way, way}
+use Rattle.net_base.specs.Same.{same_addr, same_pair}
+use Rattle.net_base.specs.Stamped.{In}
 
 -- Membership.
 

@@ -4,30 +4,30 @@ use Rattle.std.specs.Prelude.{IfSome, slice_set}
 use Rattle.std.specs.Option.{option_map_or}
 use Rattle.std.proofs.lemmas.Option.{none-some, same_Some}
 use Rattle.std.proofs.lemmas.Bool.{and_parts, and_left, cond_both, eqb-true}
-use Rattle.net_model.specs.declared.address.Addr.{Addr}
-use Rattle.net_model.specs.declared.address.Pair.{Pair}
-use Rattle.net_model.specs.declared.actor.Call.{Call}
-use Rattle.net_model.specs.declared.address.Proto.TheVariants as proto
-use Rattle.net_model.specs.declared.il.StateName.{StateName}
-use Rattle.net_model.specs.declared.il.StateName.TheVariants as name
-use Rattle.net_model.specs.declared.actor.ActorName.TheVariants as actor
-use Rattle.net_model.specs.declared.event.Event.{Event}
-use Rattle.net_model.specs.declared.event.Event.TheVariants as event
-use Rattle.net_model.specs.declared.reply.Reply.{Reply}
-use Rattle.net_model.specs.declared.reply.Reply.TheVariants as reply
-use Rattle.net_model.specs.declared.packet.Body.{Body}
-use Rattle.net_model.specs.declared.packet.Body.TheVariants as body
-use Rattle.net_model.specs.declared.packet.Packet.{Packet}
-use Rattle.net_model.specs.declared.history.With.{With}
-use Rattle.net_model.specs.declared.history.With.TheVariants as given
+use Rattle.net_base.specs.declared.address.Addr.{Addr}
+use Rattle.net_base.specs.declared.address.Pair.{Pair}
+use Rattle.net_base.specs.declared.actor.Call.{Call}
+use Rattle.net_base.specs.declared.address.Proto.TheVariants as proto
+use Rattle.net_base.specs.declared.il.StateName.{StateName}
+use Rattle.net_base.specs.declared.il.StateName.TheVariants as name
+use Rattle.net_base.specs.declared.actor.ActorName.TheVariants as actor
+use Rattle.net_base.specs.declared.event.Event.{Event}
+use Rattle.net_base.specs.declared.event.Event.TheVariants as event
+use Rattle.net_base.specs.declared.reply.Reply.{Reply}
+use Rattle.net_base.specs.declared.reply.Reply.TheVariants as reply
+use Rattle.net_base.specs.declared.packet.Body.{Body}
+use Rattle.net_base.specs.declared.packet.Body.TheVariants as body
+use Rattle.net_base.specs.declared.packet.Packet.{Packet}
+use Rattle.net_base.specs.declared.history.With.{With}
+use Rattle.net_base.specs.declared.history.With.TheVariants as given
 use Rattle.net_model.proofs.Pairs.{is_sync}
-use Rattle.net_model.specs.Same.{same_addr, same_pair}
-use Rattle.net_model.specs.Mirror.{mirror}
-use Rattle.net_model.specs.declared.world.World.{World}
-use Rattle.net_model.specs.Routes.{Way, way, has_address}
-use Rattle.net_model.specs.ActorStep.{Step}
-use Rattle.net_model.specs.Directory.{Key, is_keyed, is_bound, gets, ports_with, announces, binds, withdraws, next_call, listens_at, listens, Slot, Dir, free_slot, is_free, is_reserved, is_announced, Exactly, ByPort, ByAny, key_at, match_of, has_taker, first_slot, pair_place, in_found_slot, reserves, grants_pair, grants_by, port_for, grants, frees, or_else, may_bear, refused_or_dropped, bears, born_or_not, arrives_at, is_live_with, is_of, dir_step}
-use Rattle.net_model.specs.Duties.{close_calls, follow_up}
+use Rattle.net_base.specs.Same.{same_addr, same_pair}
+use Rattle.net_base.specs.Mirror.{mirror}
+use Rattle.net_base.specs.declared.world.World.{World}
+use Rattle.net_base.specs.Routes.{Way, way, has_address}
+use Rattle.net_base.specs.ActorStep.{Step}
+use Rattle.net_base.specs.Directory.{Key, is_keyed, is_bound, gets, ports_with, announces, binds, withdraws, next_call, listens_at, listens, Slot, Dir, free_slot, is_free, is_reserved, is_announced, Exactly, ByPort, ByAny, key_at, match_of, has_taker, first_slot, pair_place, in_found_slot, reserves, grants_pair, grants_by, port_for, grants, frees, or_else, may_bear, refused_or_dropped, bears, born_or_not, arrives_at, is_live_with, is_of, dir_step}
+use Rattle.net_base.specs.Duties.{close_calls, follow_up}
 use Rattle.net_model.proofs.Trace.{Owner, Trace, dir_trace, HasPlaces}
 use Rattle.net_model.proofs.Deeds.{both_ways}
 use Rattle.net_model.proofs.Sides.{same_pair_is, put_here}

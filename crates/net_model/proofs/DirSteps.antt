@@ -3,24 +3,24 @@ use Rattle.std.proofs.Common.{◌≡◌, ℕ, zero, suc, ◌+◌, ◌<◌, ◌�
 use Rattle.std.specs.Prelude.{slice_set}
 use Rattle.std.proofs.lemmas.Option.{none-some, same_Some}
 use Rattle.std.proofs.lemmas.Bool.{cond_both}
-use Rattle.net_model.specs.declared.address.Pair.{Pair}
-use Rattle.net_model.specs.declared.address.Proto.TheVariants as proto
-use Rattle.net_model.specs.declared.il.StateName.{StateName}
-use Rattle.net_model.specs.declared.actor.ActorName.{ActorName}
-use Rattle.net_model.specs.declared.actor.ActorName.TheVariants as actor
-use Rattle.net_model.specs.declared.event.Event.{Event}
-use Rattle.net_model.specs.declared.event.Event.TheVariants as event
-use Rattle.net_model.specs.declared.history.With.{With}
-use Rattle.net_model.specs.declared.history.With.TheVariants as given
-use Rattle.net_model.specs.Same.{same_pair}
-use Rattle.net_model.specs.Mirror.{mirror}
-use Rattle.net_model.specs.declared.world.World.{World}
-use Rattle.net_model.specs.Routes.{has_address}
-use Rattle.net_model.specs.ActorStep.{Step}
-use Rattle.net_model.specs.Conversation.{Core, Il, Udp, Stage, Unused, Listening, Connected}
-use Rattle.net_model.specs.Directory.{Slot, Dir, is_reserved, first_slot, pair_place}
-use Rattle.net_model.specs.Actors.{Actor, IsConv}
-use Rattle.net_model.specs.Duties.{Duty, follow_up}
+use Rattle.net_base.specs.declared.address.Pair.{Pair}
+use Rattle.net_base.specs.declared.address.Proto.TheVariants as proto
+use Rattle.net_base.specs.declared.il.StateName.{StateName}
+use Rattle.net_base.specs.declared.actor.ActorName.{ActorName}
+use Rattle.net_base.specs.declared.actor.ActorName.TheVariants as actor
+use Rattle.net_base.specs.declared.event.Event.{Event}
+use Rattle.net_base.specs.declared.event.Event.TheVariants as event
+use Rattle.net_base.specs.declared.history.With.{With}
+use Rattle.net_base.specs.declared.history.With.TheVariants as given
+use Rattle.net_base.specs.Same.{same_pair}
+use Rattle.net_base.specs.Mirror.{mirror}
+use Rattle.net_base.specs.declared.world.World.{World}
+use Rattle.net_base.specs.Routes.{has_address}
+use Rattle.net_base.specs.ActorStep.{Step}
+use Rattle.net_base.specs.Conversation.{Core, Il, Udp, Stage, Unused, Listening, Connected}
+use Rattle.net_base.specs.Directory.{Slot, Dir, is_reserved, first_slot, pair_place}
+use Rattle.net_base.specs.Actors.{Actor, IsConv}
+use Rattle.net_base.specs.Duties.{Duty, follow_up}
 use Rattle.net_model.proofs.Trace.{Owner, Trace, empty_side, put_at}
 use Rattle.net_model.proofs.Deeds.{both_ways}
 use Rattle.net_model.proofs.ConvMoves.{is_connected}

@@ -3,17 +3,17 @@ use Rattle.std.proofs.Common.{◌≡◌, ℕ, zero, suc, ◌<◌, ◌≤◌, ◌
 use Rattle.std.proofs.lemmas.Bool.{and_parts, true≢false, eqb-true}
 use Rattle.std.proofs.lemmas.Option.{none-some, same_Some, slice_get_within}
 use Rattle.std.proofs.lemmas.List.{take_all, take-append-le, take-take, take_at}
-use Rattle.net_model.specs.declared.actor.ActorName.{ActorName}
-use Rattle.net_model.specs.declared.actor.ActorName.TheVariants as actor
-use Rattle.net_model.specs.declared.address.Proto.{Proto}
-use Rattle.net_model.specs.declared.address.Proto.TheVariants as proto
-use Rattle.net_model.specs.declared.history.Entry.{Entry}
-use Rattle.net_model.specs.declared.world.World.{World}
-use Rattle.net_model.specs.ActorStep.{Step}
-use Rattle.net_model.specs.Actors.{Actor, opening_actor, actor_step}
-use Rattle.net_model.specs.Legal.{MayFollow, IsLegal, IsInTime, IsTimed, Rule, Answers, AtMoment, Cites, Asked, Ready, InTime, Known, HasRoom, Keeps, IsFault}
-use Rattle.net_model.specs.Net.{Net, net_after, next_net, net_of, after, opening_net, state, step_of, work_of, works, works_from, stepped_to, play, played}
-use Rattle.net_model.specs.Stamped.{same_proto, same_actor}
+use Rattle.net_base.specs.declared.actor.ActorName.{ActorName}
+use Rattle.net_base.specs.declared.actor.ActorName.TheVariants as actor
+use Rattle.net_base.specs.declared.address.Proto.{Proto}
+use Rattle.net_base.specs.declared.address.Proto.TheVariants as proto
+use Rattle.net_base.specs.declared.history.Entry.{Entry}
+use Rattle.net_base.specs.declared.world.World.{World}
+use Rattle.net_base.specs.ActorStep.{Step}
+use Rattle.net_base.specs.Actors.{Actor, opening_actor, actor_step}
+use Rattle.net_base.specs.Legal.{MayFollow, IsLegal, IsInTime, IsTimed, Rule, Answers, AtMoment, Cites, Asked, Ready, InTime, Known, HasRoom, Keeps, IsFault}
+use Rattle.net_base.specs.Net.{Net, net_after, next_net, net_of, after, opening_net, state, step_of, work_of, works, works_from, stepped_to, play, played}
+use Rattle.net_base.specs.Stamped.{same_proto, same_actor}
 
 -- Tests of actors.
 

@@ -1,11 +1,11 @@
 -- Worked calls on one IL end. Moments are in ms.
 use Rattle.std.proofs.Common.{◌≡◌, ℕ, zero, suc, ◌+◌, true, false, List, [], ◌∷◌, length, Some, None, codes, refl}
-use Rattle.net_model.specs.declared.il.Cause.TheVariants as cause
-use Rattle.net_model.specs.declared.il.IlKind.TheVariants.{Sync, Data, DataQuery, Ack, Query, State, Close}
-use Rattle.net_model.specs.declared.il.IlState.TheVariants.{Closed, Established}
-use Rattle.net_model.specs.Number.{number}
-use Rattle.net_model.specs.IlEnd.{End, fresh_end, message}
-use Rattle.net_model.specs.IlTable.{connects, is_born, announced, arrives, writes, reads, first_unread, may_write, may_read, hangs_up, ticks}
+use Rattle.net_base.specs.declared.il.Cause.TheVariants as cause
+use Rattle.net_base.specs.declared.il.IlKind.TheVariants.{Sync, Data, DataQuery, Ack, Query, State, Close}
+use Rattle.net_base.specs.declared.il.IlState.TheVariants.{Closed, Established}
+use Rattle.net_base.specs.Number.{number}
+use Rattle.net_base.specs.IlEnd.{End, fresh_end, message}
+use Rattle.net_base.specs.IlTable.{connects, is_born, announced, arrives, writes, reads, first_unread, may_write, may_read, hangs_up, ticks}
 
 -- A handshake, a lost sync, and two messages.
 

@@ -2,18 +2,18 @@
 use Rattle.std.proofs.Common.{◌≡◌, ℕ, ◌+◌, ◌≤◌, Bool, true, false, List, [], ◌∷◌, ◌++◌, length, take, drop, Option, Some, None, ◌⊎◌, inl, inr, refl, sym, ap, subst, ◌∙◌, append_assoc, arith}
 use Rattle.std.specs.Prelude.{slice_index_or}
 use Rattle.std.proofs.lemmas.List.{append-nil, take_all, take-append-drop, drop_more}
-use Rattle.net_model.specs.declared.address.Pair.{Pair}
-use Rattle.net_model.specs.declared.address.Proto.{Proto}
-use Rattle.net_model.specs.declared.address.Proto.TheVariants as proto
-use Rattle.net_model.specs.declared.history.Entry.{Entry}
-use Rattle.net_model.specs.declared.world.World.{World}
-use Rattle.net_model.specs.IlEnd.{End}
-use Rattle.net_model.specs.Legal.{IsLegal}
-use Rattle.net_model.specs.Mirror.{mirror}
-use Rattle.net_model.specs.Net.{after}
+use Rattle.net_base.specs.declared.address.Pair.{Pair}
+use Rattle.net_base.specs.declared.address.Proto.{Proto}
+use Rattle.net_base.specs.declared.address.Proto.TheVariants as proto
+use Rattle.net_base.specs.declared.history.Entry.{Entry}
+use Rattle.net_base.specs.declared.world.World.{World}
+use Rattle.net_base.specs.IlEnd.{End}
+use Rattle.net_base.specs.Legal.{IsLegal}
+use Rattle.net_base.specs.Mirror.{mirror}
+use Rattle.net_base.specs.Net.{after}
 use Rattle.net_model.specs.PrefixLaw.{InOrder, HasEmpty, IsPrefix}
-use Rattle.net_model.specs.World.{IsWorld}
-use Rattle.net_model.specs.Written.{Conversation, peer, writes, reads, joined, stood}
+use Rattle.net_base.specs.World.{IsWorld}
+use Rattle.net_base.specs.Written.{Conversation, peer, writes, reads, joined, stood}
 use Rattle.net_model.proofs.Accounts.{AtEnd, given_by, given_out, IsReading, joined-append}
 use Rattle.net_model.proofs.Begins.{begins_prefix, begins_same}
 use Rattle.net_model.proofs.Books.{conv_of}

@@ -1,10 +1,3 @@
-pub mod DatagramLaws
-pub mod IlLaws
-pub mod Ipv4Laws
-pub mod Laid
-pub mod WireNumbers
-pub mod WireSums
-pub mod UdpLaws
 mod IlCases
 pub mod Worlds
 mod ActorCases
@@ -21,8 +14,6 @@ pub mod Deeds
 pub mod Trace
 pub mod Histories
 pub mod Sides
-pub mod NdbForms
-pub mod NdbPlain
 pub mod Walk
 pub mod Accounts
 pub mod ConvMoves
@@ -45,9 +36,6 @@ pub mod CsLaws
 pub mod CasesFaults
 pub mod Owed
 pub mod DirPairs
-pub mod NdbComplete
-pub mod NdbSound
-pub mod NdbFiles
 pub mod Happened
 pub mod Standing
 pub mod Marks

@@ -1,25 +1,25 @@
 -- An end is marked by a close with spec 0 alone.
 use Rattle.std.proofs.Common.{◌≡◌, ℕ, zero, suc, ◌+◌, ◌==◌, ◌&&◌, ◌||◌, nat_lt, nat_le, Bool, true, false, not, cond, List, [], ◌∷◌, length, Option, Some, None, is_some, ◌⊎◌, inl, inr, refl, sym, ap, subst, ◌∙◌}
 use Rattle.std.proofs.lemmas.Bool.{cond_both, eqb-true}
-use Rattle.net_model.specs.declared.event.Event.{Event}
-use Rattle.net_model.specs.declared.event.Event.TheVariants as event
-use Rattle.net_model.specs.declared.history.With.{With}
-use Rattle.net_model.specs.declared.history.With.TheVariants as given
-use Rattle.net_model.specs.declared.il.IlKind.{IlKind}
-use Rattle.net_model.specs.declared.il.IlKind.TheVariants.{Sync, Data, DataQuery, Ack, Query, State, Close}
-use Rattle.net_model.specs.declared.il.IlMsg.{IlMsg}
-use Rattle.net_model.specs.declared.il.IlState.{IlState}
-use Rattle.net_model.specs.declared.il.IlState.TheVariants as state
-use Rattle.net_model.specs.declared.packet.Body.TheVariants as body
-use Rattle.net_model.specs.declared.packet.Packet.{Packet}
-use Rattle.net_model.specs.declared.timer.Tick.{Tick}
-use Rattle.net_model.specs.declared.timer.Tick.TheVariants as tick
-use Rattle.net_model.specs.Conversation.{Conv}
-use Rattle.net_model.specs.IlEnd.{End, Turn, rstart_of, recvd, has_unacked, standing, silent, says, syncs, hears, establishes, acked_to, hears_ack, early_at, becomes_early, comes_in_turn, come_in_turn, accepts, starts, closes}
-use Rattle.net_model.specs.IlTable.{is_sized, refuses, at_syncer, at_syncee, at_established, at_closing, at_closed, row, arrives, sends, writes, reads, first_unread, hangs_up_at, asks_again, ticks_to}
-use Rattle.net_model.specs.Number.{number}
-use Rattle.net_model.specs.Timer as timer
-use Rattle.net_model.specs.Timer.{Timer}
+use Rattle.net_base.specs.declared.event.Event.{Event}
+use Rattle.net_base.specs.declared.event.Event.TheVariants as event
+use Rattle.net_base.specs.declared.history.With.{With}
+use Rattle.net_base.specs.declared.history.With.TheVariants as given
+use Rattle.net_base.specs.declared.il.IlKind.{IlKind}
+use Rattle.net_base.specs.declared.il.IlKind.TheVariants.{Sync, Data, DataQuery, Ack, Query, State, Close}
+use Rattle.net_base.specs.declared.il.IlMsg.{IlMsg}
+use Rattle.net_base.specs.declared.il.IlState.{IlState}
+use Rattle.net_base.specs.declared.il.IlState.TheVariants as state
+use Rattle.net_base.specs.declared.packet.Body.TheVariants as body
+use Rattle.net_base.specs.declared.packet.Packet.{Packet}
+use Rattle.net_base.specs.declared.timer.Tick.{Tick}
+use Rattle.net_base.specs.declared.timer.Tick.TheVariants as tick
+use Rattle.net_base.specs.Conversation.{Conv}
+use Rattle.net_base.specs.IlEnd.{End, Turn, rstart_of, recvd, has_unacked, standing, silent, says, syncs, hears, establishes, acked_to, hears_ack, early_at, becomes_early, comes_in_turn, come_in_turn, accepts, starts, closes}
+use Rattle.net_base.specs.IlTable.{is_sized, refuses, at_syncer, at_syncee, at_established, at_closing, at_closed, row, arrives, sends, writes, reads, first_unread, hangs_up_at, asks_again, ticks_to}
+use Rattle.net_base.specs.Number.{number}
+use Rattle.net_base.specs.Timer as timer
+use Rattle.net_base.specs.Timer.{Timer}
 use Rattle.net_model.proofs.ConvMoves.{Act, Rest, Arrival, Writing, Reading, Hanging, Ticking}
 
 pub record MarkedAs (kind : IlKind) (spec : ℕ) (e : End) (t : Turn) : Type 0 where

@@ -1,11 +1,11 @@
 -- The line that is told is the first with a cause.
 use Rattle.std.proofs.Common.{◌≡◌, ℕ, zero, suc, ◌+◌, ◌<◌, Bool, List, [], ◌∷◌, ◌++◌, length, take, get_or, refl, sym, ap, ◌∙◌, arith, Option, Some, None, append_assoc, append-nil}
 use Rattle.std.proofs.lemmas.List.{length_push}
-use Rattle.net_model.specs.NdbText.{lines_of}
-use Rattle.net_model.specs.NdbBundle.{has_tuple, causes_of, least, told, first_bad, bad_line}
-use Rattle.net_model.specs.NdbForm.{causes_so_far, bad_line_so_far}
+use Rattle.net_base.specs.NdbText.{lines_of}
+use Rattle.net_base.specs.NdbBundle.{has_tuple, causes_of, least, told, first_bad, bad_line}
+use Rattle.net_base.specs.NdbForm.{causes_so_far, bad_line_so_far}
 use Rattle.net_model.specs.NdbFirst.{IsFirstBad}
-use Rattle.net_model.proofs.NdbForms.{some_none}
+use Rattle.net_base.proofs.NdbForms.{some_none}
 
 -- the least cause of the line at place k, after those before it
 abbrev least_after : (Bool → List ℕ → List ℕ) → List (List ℕ) → List (List ℕ) → ℕ → Option ℕ

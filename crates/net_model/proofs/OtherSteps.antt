@@ -2,43 +2,43 @@
 use Rattle.std.proofs.Common.{◌≡◌, ℕ, zero, suc, ◌+◌, ◌==◌, ◌&&◌, nat_lt, nat_le, Bool, false, cond, List, [], ◌∷◌, ◌++◌, length, Option, Some, None, is_some, slice_get, inr, refl}
 use Rattle.std.specs.Prelude.{IfSome}
 use Rattle.std.proofs.lemmas.Bool.{cond_both}
-use Rattle.net_model.specs.declared.address.Addr.{Addr}
-use Rattle.net_model.specs.declared.address.Pair.{Pair}
-use Rattle.net_model.specs.declared.actor.Call.{Call}
-use Rattle.net_model.specs.declared.address.Proto.{Proto}
-use Rattle.net_model.specs.declared.address.Proto.TheVariants as proto
-use Rattle.net_model.specs.declared.actor.ActorName.TheVariants as actor
-use Rattle.net_model.specs.declared.event.Event.{Event}
-use Rattle.net_model.specs.declared.event.Event.TheVariants as event
-use Rattle.net_model.specs.declared.reply.Reply.{Reply}
-use Rattle.net_model.specs.declared.reply.Reply.TheVariants as reply
-use Rattle.net_model.specs.declared.packet.Body.{Body}
-use Rattle.net_model.specs.declared.packet.Body.TheVariants as body
-use Rattle.net_model.specs.declared.packet.Packet.{Packet}
-use Rattle.net_model.specs.declared.history.Taken.{Taken}
-use Rattle.net_model.specs.declared.history.With.{With}
-use Rattle.net_model.specs.declared.history.With.TheVariants as given
+use Rattle.net_base.specs.declared.address.Addr.{Addr}
+use Rattle.net_base.specs.declared.address.Pair.{Pair}
+use Rattle.net_base.specs.declared.actor.Call.{Call}
+use Rattle.net_base.specs.declared.address.Proto.{Proto}
+use Rattle.net_base.specs.declared.address.Proto.TheVariants as proto
+use Rattle.net_base.specs.declared.actor.ActorName.TheVariants as actor
+use Rattle.net_base.specs.declared.event.Event.{Event}
+use Rattle.net_base.specs.declared.event.Event.TheVariants as event
+use Rattle.net_base.specs.declared.reply.Reply.{Reply}
+use Rattle.net_base.specs.declared.reply.Reply.TheVariants as reply
+use Rattle.net_base.specs.declared.packet.Body.{Body}
+use Rattle.net_base.specs.declared.packet.Body.TheVariants as body
+use Rattle.net_base.specs.declared.packet.Packet.{Packet}
+use Rattle.net_base.specs.declared.history.Taken.{Taken}
+use Rattle.net_base.specs.declared.history.With.{With}
+use Rattle.net_base.specs.declared.history.With.TheVariants as given
 use Rattle.net_model.proofs.Pairs.{is_sync}
-use Rattle.net_model.specs.UdpEnd.{UdpEnd, is_hung_up}
-use Rattle.net_model.specs.declared.world.World.{World}
-use Rattle.net_model.specs.declared.world.Fate.{Fate}
-use Rattle.net_model.specs.declared.world.Fate.TheVariants.{Deliver, Lose, Twice, Later}
-use Rattle.net_model.specs.declared.world.MediumSpec.{MediumSpec}
-use Rattle.net_model.specs.Routes.{Way, way}
-use Rattle.net_model.specs.ActorStep.{Step}
-use Rattle.net_model.specs.declared.names.FileName.{FileName}
-use Rattle.net_model.specs.declared.names.Mode.{Mode}
-use Rattle.net_model.specs.ControlWords as control
-use Rattle.net_model.specs.Conversation.{Core, Il, Udp, Stage, Unused, Listening, Connected, Conv, in_generation, raises, may_bear as may_begin, may_connect, has_protocol, joined, brought_forth, listens, binds as shows, taken_in, is_closed_name, udp_written, udp_read, read_at, write_at, closed, opened, listed, refused_control, bad_control, conv_step}
-use Rattle.net_model.specs.UdpEnd.{udp_state_name}
-use Rattle.net_model.specs.Medium.{Medium, datagram_length, fate_of, now_of, held_of, puts, takes, medium_step}
-use Rattle.net_model.specs.Same.{same_addr, same_pair}
-use Rattle.net_model.specs.Mirror.{mirror}
-use Rattle.net_model.specs.declared.il.StateName.{StateName}
-use Rattle.net_model.specs.declared.il.StateName.TheVariants as name
-use Rattle.net_model.specs.Directory.{is_keyed, is_bound, gets, ports_with, announces, binds, withdraws, next_call, listens_at, Slot, Dir, is_reserved, may_bear, first_slot, pair_place, in_found_slot, reserves, grants_pair, grants_by, port_for, grants, frees, refused_or_dropped, born_or_not, arrives_at, is_of, dir_step}
-use Rattle.net_model.specs.Directory.{has_taker, listens as dir_listens}
-use Rattle.net_model.specs.Duties.{close_calls, follow_up}
+use Rattle.net_base.specs.UdpEnd.{UdpEnd, is_hung_up}
+use Rattle.net_base.specs.declared.world.World.{World}
+use Rattle.net_base.specs.declared.world.Fate.{Fate}
+use Rattle.net_base.specs.declared.world.Fate.TheVariants.{Deliver, Lose, Twice, Later}
+use Rattle.net_base.specs.declared.world.MediumSpec.{MediumSpec}
+use Rattle.net_base.specs.Routes.{Way, way}
+use Rattle.net_base.specs.ActorStep.{Step}
+use Rattle.net_base.specs.declared.names.FileName.{FileName}
+use Rattle.net_base.specs.declared.names.Mode.{Mode}
+use Rattle.net_base.specs.ControlWords as control
+use Rattle.net_base.specs.Conversation.{Core, Il, Udp, Stage, Unused, Listening, Connected, Conv, in_generation, raises, may_bear as may_begin, may_connect, has_protocol, joined, brought_forth, listens, binds as shows, taken_in, is_closed_name, udp_written, udp_read, read_at, write_at, closed, opened, listed, refused_control, bad_control, conv_step}
+use Rattle.net_base.specs.UdpEnd.{udp_state_name}
+use Rattle.net_base.specs.Medium.{Medium, datagram_length, fate_of, now_of, held_of, puts, takes, medium_step}
+use Rattle.net_base.specs.Same.{same_addr, same_pair}
+use Rattle.net_base.specs.Mirror.{mirror}
+use Rattle.net_base.specs.declared.il.StateName.{StateName}
+use Rattle.net_base.specs.declared.il.StateName.TheVariants as name
+use Rattle.net_base.specs.Directory.{is_keyed, is_bound, gets, ports_with, announces, binds, withdraws, next_call, listens_at, Slot, Dir, is_reserved, may_bear, first_slot, pair_place, in_found_slot, reserves, grants_pair, grants_by, port_for, grants, frees, refused_or_dropped, born_or_not, arrives_at, is_of, dir_step}
+use Rattle.net_base.specs.Directory.{has_taker, listens as dir_listens}
+use Rattle.net_base.specs.Duties.{close_calls, follow_up}
 use Rattle.net_model.proofs.Trace.{Trace}
 use Rattle.net_model.proofs.Touch.{Emitted, EmittedAs, EmittedIf, Later as Growing, emitted_later}
 use Rattle.net_model.proofs.Acts.{Refusal}

@@ -2,27 +2,27 @@
 use Rattle.std.proofs.Common.{◌≡◌, ℕ, ◌-◌, ◌==◌, Bool, true, false, List, [], ◌∷◌, ◌++◌, length, drop, Option, Some, None, slice_get, inl, inr, refl, sym, ap, subst, ◌∙◌, append_assoc, append-nil}
 use Rattle.std.specs.Prelude.{if◌then◌else◌, flat_map, nat_lt}
 use Rattle.std.proofs.lemmas.Bool.{eqb-true}
-use Rattle.net_model.specs.declared.actor.ActorName.{ActorName}
-use Rattle.net_model.specs.declared.actor.ActorName.TheVariants as name
-use Rattle.net_model.specs.declared.actor.Call.{Call}
-use Rattle.net_model.specs.declared.address.Proto.{Proto}
-use Rattle.net_model.specs.declared.event.Event.{Event}
-use Rattle.net_model.specs.declared.event.Event.TheVariants as event
-use Rattle.net_model.specs.declared.history.Entry.{Entry}
-use Rattle.net_model.specs.declared.history.Taken.{Taken}
-use Rattle.net_model.specs.declared.history.With.{With}
-use Rattle.net_model.specs.declared.history.With.TheVariants as given
-use Rattle.net_model.specs.declared.history.Work.{Work}
-use Rattle.net_model.specs.declared.packet.Packet.{Packet}
-use Rattle.net_model.specs.declared.reply.Reply.{Reply}
-use Rattle.net_model.specs.declared.reply.Reply.TheVariants as reply
-use Rattle.net_model.specs.declared.world.World.{World}
-use Rattle.net_model.specs.ActorStep.{Step}
-use Rattle.net_model.specs.Actors.{Actor, IsConv}
-use Rattle.net_model.specs.Duties.{Duty, duties, put_by, emitted_put, close_calls, follow_up, forwarded, courier_duty, tick_at, ticks, has_come, due_of, conversations, release}
-use Rattle.net_model.specs.Net.{Net, opening_net, net_after, next_net, net_of, step_of, work_of, owed}
-use Rattle.net_model.specs.Routes.{Way, way, has_address}
-use Rattle.net_model.specs.Stamped.{In}
+use Rattle.net_base.specs.declared.actor.ActorName.{ActorName}
+use Rattle.net_base.specs.declared.actor.ActorName.TheVariants as name
+use Rattle.net_base.specs.declared.actor.Call.{Call}
+use Rattle.net_base.specs.declared.address.Proto.{Proto}
+use Rattle.net_base.specs.declared.event.Event.{Event}
+use Rattle.net_base.specs.declared.event.Event.TheVariants as event
+use Rattle.net_base.specs.declared.history.Entry.{Entry}
+use Rattle.net_base.specs.declared.history.Taken.{Taken}
+use Rattle.net_base.specs.declared.history.With.{With}
+use Rattle.net_base.specs.declared.history.With.TheVariants as given
+use Rattle.net_base.specs.declared.history.Work.{Work}
+use Rattle.net_base.specs.declared.packet.Packet.{Packet}
+use Rattle.net_base.specs.declared.reply.Reply.{Reply}
+use Rattle.net_base.specs.declared.reply.Reply.TheVariants as reply
+use Rattle.net_base.specs.declared.world.World.{World}
+use Rattle.net_base.specs.ActorStep.{Step}
+use Rattle.net_base.specs.Actors.{Actor, IsConv}
+use Rattle.net_base.specs.Duties.{Duty, duties, put_by, emitted_put, close_calls, follow_up, forwarded, courier_duty, tick_at, ticks, has_come, due_of, conversations, release}
+use Rattle.net_base.specs.Net.{Net, opening_net, net_after, next_net, net_of, step_of, work_of, owed}
+use Rattle.net_base.specs.Routes.{Way, way, has_address}
+use Rattle.net_base.specs.Stamped.{In}
 use Rattle.net_model.proofs.Histories.{before_push, at_push}
 
 -- each of these duties cites the entry s

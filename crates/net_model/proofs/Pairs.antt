@@ -1,12 +1,12 @@
 -- Two IL ends, and a network that may lose, repeat and reorder what they say.
 use Rattle.std.specs.Prelude.{ℕ, ◌≡◌, ◌-◌, ◌<◌, ◌≤◌, ◌^◌, Bool, true, false, List, [], ◌∷◌, ◌++◌, length, Option, Some, None, is_none, slice_get, nat_lt, if◌then◌else◌, ◌&&◌}
-use Rattle.net_model.specs.declared.il.IlKind.{IlKind}
-use Rattle.net_model.specs.declared.il.IlKind.TheVariants.{Sync}
-use Rattle.net_model.specs.declared.il.IlMsg.{IlMsg}
-use Rattle.net_model.specs.declared.il.IlState.{IlState}
-use Rattle.net_model.specs.declared.il.IlState.TheVariants.{Established}
-use Rattle.net_model.specs.IlEnd.{End, Turn, fresh_end}
-use Rattle.net_model.specs.IlTable.{arrives, connects, is_born, announced, writes, reads, hangs_up, ticks}
+use Rattle.net_base.specs.declared.il.IlKind.{IlKind}
+use Rattle.net_base.specs.declared.il.IlKind.TheVariants.{Sync}
+use Rattle.net_base.specs.declared.il.IlMsg.{IlMsg}
+use Rattle.net_base.specs.declared.il.IlState.{IlState}
+use Rattle.net_base.specs.declared.il.IlState.TheVariants.{Established}
+use Rattle.net_base.specs.IlEnd.{End, Turn, fresh_end}
+use Rattle.net_base.specs.IlTable.{arrives, connects, is_born, announced, writes, reads, hangs_up, ticks}
 
 -- an end, and every packet that it ever emitted
 pub record Side : Type 0 where

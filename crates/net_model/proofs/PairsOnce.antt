@@ -4,30 +4,30 @@ use Rattle.std.specs.Prelude.{option_to_list, IsSome}
 use Rattle.std.specs.Option.{option_map}
 use Rattle.std.proofs.lemmas.Bool.{false≢true, cases_lt}
 use Rattle.std.proofs.lemmas.Option.{none-some, same_Some}
-use Rattle.net_model.specs.declared.actor.ActorName.{ActorName}
-use Rattle.net_model.specs.declared.actor.ActorName.TheVariants as name
-use Rattle.net_model.specs.declared.address.Addr.{Addr}
-use Rattle.net_model.specs.declared.packet.Packet.{Packet}
-use Rattle.net_model.specs.declared.address.Pair.{Pair}
-use Rattle.net_model.specs.declared.address.Proto.{Proto}
-use Rattle.net_model.specs.declared.address.Proto.TheVariants as proto
-use Rattle.net_model.specs.declared.event.Event.{Event}
-use Rattle.net_model.specs.declared.event.Event.TheVariants as event
-use Rattle.net_model.specs.declared.history.Entry.{Entry}
-use Rattle.net_model.specs.declared.history.Outcome.{Outcome}
-use Rattle.net_model.specs.declared.history.With.{With}
-use Rattle.net_model.specs.declared.history.With.TheVariants as given
-use Rattle.net_model.specs.declared.history.Work.{Work}
-use Rattle.net_model.specs.declared.reply.Reply.{Reply}
-use Rattle.net_model.specs.declared.reply.Reply.TheVariants as reply
-use Rattle.net_model.specs.declared.world.World.{World}
-use Rattle.net_model.specs.ActorStep.{Step, when}
-use Rattle.net_model.specs.Actors.{Actor, IsDir, IsConv, IsMedium, IsPlain, actor_step, step_as, has_actor}
-use Rattle.net_model.specs.Directory.{Dir, dir_step}
-use Rattle.net_model.specs.Legal.{IsLegal, MayFollow, Shows, Shown}
-use Rattle.net_model.specs.Net.{Net, after, next_net, net_of, net_after, step_of, work_of, opening_net}
-use Rattle.net_model.specs.Stamped.{In, same_actor}
-use Rattle.net_model.specs.Written.{Given, gives, given_in, given_from}
+use Rattle.net_base.specs.declared.actor.ActorName.{ActorName}
+use Rattle.net_base.specs.declared.actor.ActorName.TheVariants as name
+use Rattle.net_base.specs.declared.address.Addr.{Addr}
+use Rattle.net_base.specs.declared.packet.Packet.{Packet}
+use Rattle.net_base.specs.declared.address.Pair.{Pair}
+use Rattle.net_base.specs.declared.address.Proto.{Proto}
+use Rattle.net_base.specs.declared.address.Proto.TheVariants as proto
+use Rattle.net_base.specs.declared.event.Event.{Event}
+use Rattle.net_base.specs.declared.event.Event.TheVariants as event
+use Rattle.net_base.specs.declared.history.Entry.{Entry}
+use Rattle.net_base.specs.declared.history.Outcome.{Outcome}
+use Rattle.net_base.specs.declared.history.With.{With}
+use Rattle.net_base.specs.declared.history.With.TheVariants as given
+use Rattle.net_base.specs.declared.history.Work.{Work}
+use Rattle.net_base.specs.declared.reply.Reply.{Reply}
+use Rattle.net_base.specs.declared.reply.Reply.TheVariants as reply
+use Rattle.net_base.specs.declared.world.World.{World}
+use Rattle.net_base.specs.ActorStep.{Step, when}
+use Rattle.net_base.specs.Actors.{Actor, IsDir, IsConv, IsMedium, IsPlain, actor_step, step_as, has_actor}
+use Rattle.net_base.specs.Directory.{Dir, dir_step}
+use Rattle.net_base.specs.Legal.{IsLegal, MayFollow, Shows, Shown}
+use Rattle.net_base.specs.Net.{Net, after, next_net, net_of, net_after, step_of, work_of, opening_net}
+use Rattle.net_base.specs.Stamped.{In, same_actor}
+use Rattle.net_base.specs.Written.{Given, gives, given_in, given_from}
 use Rattle.net_model.proofs.DirPairs.{Moves, MovesIf, dir_moves, same_number}
 use Rattle.net_model.proofs.Histories.{after_push, by_entries, next_same, next_other, same_actor_is}
 

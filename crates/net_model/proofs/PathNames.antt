@@ -5,13 +5,13 @@ use Rattle.std.specs.List.{slice_split}
 use Rattle.std.proofs.lemmas.Bool.{ltb-true, and_parts}
 use Rattle.std.proofs.lemmas.Option.{none-some, same_Some}
 use Rattle.std.proofs.lemmas.Slice.Eq.{bytes_eq-Decides}
-use Rattle.net_model.specs.declared.address.Proto.{Proto}
-use Rattle.net_model.specs.declared.address.Proto.TheVariants as proto
-use Rattle.net_model.specs.declared.names.FileName.{FileName}
-use Rattle.net_model.specs.declared.names.FileName.TheVariants as file
-use Rattle.net_model.specs.declared.names.Node.{Node}
-use Rattle.net_model.specs.declared.names.Node.TheVariants as node
-use Rattle.net_model.specs.Paths.{proto_name, file_name, path_of, in_range, Names, proto_named, file_named, node_of, is_named, checked, walk}
+use Rattle.net_base.specs.declared.address.Proto.{Proto}
+use Rattle.net_base.specs.declared.address.Proto.TheVariants as proto
+use Rattle.net_base.specs.declared.names.FileName.{FileName}
+use Rattle.net_base.specs.declared.names.FileName.TheVariants as file
+use Rattle.net_base.specs.declared.names.Node.{Node}
+use Rattle.net_base.specs.declared.names.Node.TheVariants as node
+use Rattle.net_base.specs.Paths.{proto_name, file_name, path_of, in_range, Names, proto_named, file_named, node_of, is_named, checked, walk}
 use Rattle.net_model.proofs.Texts.{IsWithout, decimal_without, decimal_without_letter, one_part, cut_at, value_of}
 
 abbrev parts : List ℕ → List (List ℕ)

@@ -4,17 +4,17 @@ use Rattle.std.specs.Prelude.{find}
 use Rattle.std.specs.Option.{option_map, option_and_then}
 use Rattle.std.proofs.lemmas.Option.{none-some, same_Some}
 use Rattle.std.proofs.lemmas.Bool.{and_parts, eqb-true}
-use Rattle.net_model.specs.declared.actor.ActorName.{ActorName}
-use Rattle.net_model.specs.declared.actor.ActorName.TheVariants as name
-use Rattle.net_model.specs.declared.address.Pair.{Pair}
-use Rattle.net_model.specs.declared.address.Proto.{Proto}
-use Rattle.net_model.specs.declared.address.Proto.TheVariants as proto
-use Rattle.net_model.specs.declared.history.Entry.{Entry}
-use Rattle.net_model.specs.declared.world.World.{World}
-use Rattle.net_model.specs.Mirror.{mirror}
-use Rattle.net_model.specs.Same.{same_pair}
-use Rattle.net_model.specs.Stamped.{same_actor, same_proto}
-use Rattle.net_model.specs.Written.{Conversation, Given, actor_of, given_in, same_conversation, pair_of, holder, peer}
+use Rattle.net_base.specs.declared.actor.ActorName.{ActorName}
+use Rattle.net_base.specs.declared.actor.ActorName.TheVariants as name
+use Rattle.net_base.specs.declared.address.Pair.{Pair}
+use Rattle.net_base.specs.declared.address.Proto.{Proto}
+use Rattle.net_base.specs.declared.address.Proto.TheVariants as proto
+use Rattle.net_base.specs.declared.history.Entry.{Entry}
+use Rattle.net_base.specs.declared.world.World.{World}
+use Rattle.net_base.specs.Mirror.{mirror}
+use Rattle.net_base.specs.Same.{same_pair}
+use Rattle.net_base.specs.Stamped.{same_actor, same_proto}
+use Rattle.net_base.specs.Written.{Conversation, Given, actor_of, given_in, same_conversation, pair_of, holder, peer}
 use Rattle.net_model.proofs.Deeds.{both_ways}
 use Rattle.net_model.proofs.Histories.{same_actor_is}
 use Rattle.net_model.proofs.Linked.{Has, Linked, owner_in}

@@ -5,11 +5,11 @@ use Rattle.std.specs.List.{list_any}
 use Rattle.std.specs.Option.{option_and_then, option_map, option_map_or}
 use Rattle.std.proofs.lemmas.Bool.{and_parts, eqb-true, eq-eqb}
 use Rattle.std.proofs.lemmas.Option.{none-some, same_Some}
-use Rattle.net_model.specs.declared.world.HostSpec.{HostSpec}
-use Rattle.net_model.specs.declared.world.Iface.{Iface}
-use Rattle.net_model.specs.declared.world.World.{World}
-use Rattle.net_model.specs.Routes.{Route, Way, way, way_by, way_from, way_of_route, longest_match, host_routes, has_ip, has_address}
-use Rattle.net_model.specs.World.{IsWorld, all_apart, addresses}
+use Rattle.net_base.specs.declared.world.HostSpec.{HostSpec}
+use Rattle.net_base.specs.declared.world.Iface.{Iface}
+use Rattle.net_base.specs.declared.world.World.{World}
+use Rattle.net_base.specs.Routes.{Route, Way, way, way_by, way_from, way_of_route, longest_match, host_routes, has_ip, has_address}
+use Rattle.net_base.specs.World.{IsWorld, all_apart, addresses}
 use Rattle.net_model.proofs.Deeds.{both_ways}
 use Rattle.net_model.proofs.Trace.{HasPlaces}
 

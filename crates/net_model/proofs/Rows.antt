@@ -2,16 +2,16 @@
 use Rattle.std.proofs.Common.{◌≡◌, ℕ, ◌^◌, ◌<◌, ◌==◌, ◌&&◌, true, false, not, length, Option, Some, None, is_some, refl, sym, ap, ◌∙◌, arith}
 use Rattle.std.proofs.lemmas.Bool.{and_parts, eqb-true}
 use Rattle.std.proofs.lemmas.Option.{same_Some}
-use Rattle.net_model.specs.declared.il.IlKind.{IlKind}
-use Rattle.net_model.specs.declared.il.IlKind.TheVariants.{Sync, Data, DataQuery, Ack, Query, State, Close}
-use Rattle.net_model.specs.declared.il.IlMsg.{IlMsg}
-use Rattle.net_model.specs.declared.il.IlState.{IlState}
-use Rattle.net_model.specs.declared.il.IlState.TheVariants.{Closed, Syncer, Syncee, Established, Listening, Closing}
-use Rattle.net_model.specs.declared.il.Cause.{Cause}
-use Rattle.net_model.specs.declared.il.Cause.TheVariants as cause
-use Rattle.net_model.specs.Number.{id_of, number}
-use Rattle.net_model.specs.IlEnd.{End, rstart_of, recvd, silent, says, hears, establishes, closes, hears_ack, accepts}
-use Rattle.net_model.specs.IlTable.{is_sized, refuses, at_syncer, at_syncee, at_established, at_closing, at_closed, row, arrives}
+use Rattle.net_base.specs.declared.il.IlKind.{IlKind}
+use Rattle.net_base.specs.declared.il.IlKind.TheVariants.{Sync, Data, DataQuery, Ack, Query, State, Close}
+use Rattle.net_base.specs.declared.il.IlMsg.{IlMsg}
+use Rattle.net_base.specs.declared.il.IlState.{IlState}
+use Rattle.net_base.specs.declared.il.IlState.TheVariants.{Closed, Syncer, Syncee, Established, Listening, Closing}
+use Rattle.net_base.specs.declared.il.Cause.{Cause}
+use Rattle.net_base.specs.declared.il.Cause.TheVariants as cause
+use Rattle.net_base.specs.Number.{id_of, number}
+use Rattle.net_base.specs.IlEnd.{End, rstart_of, recvd, silent, says, hears, establishes, closes, hears_ack, accepts}
+use Rattle.net_base.specs.IlTable.{is_sized, refuses, at_syncer, at_syncee, at_established, at_closing, at_closed, row, arrives}
 use Rattle.net_model.proofs.Ids.{id_of_same}
 use Rattle.net_model.proofs.Begins.{begins_itself, begins_length, begins_back}
 use Rattle.net_model.proofs.Untouched.{leaves_itself, ack_leaves}

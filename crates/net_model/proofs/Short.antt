@@ -2,12 +2,12 @@
 use Rattle.std.proofs.Common.{◌≡◌, ℕ, zero, suc, ◌+◌, ◌*◌, ◌^◌, ◌<◌, ◌≤◌, ◌==◌, nat_le, Bool, true, false, cond, List, [], ◌∷◌, ◌++◌, length, filter, refl, sym, ap, subst, ◌∙◌, arith, length-append}
 use Rattle.std.proofs.lemmas.Bool.{and_parts, leb-true}
 use Rattle.std.proofs.lemmas.Bool.Decides.{nat_tests}
-use Rattle.net_model.specs.declared.history.Entry.{Entry}
-use Rattle.net_model.specs.declared.world.World.{World}
-use Rattle.net_model.specs.Callers.{caller_count}
-use Rattle.net_model.specs.Legal.{IsLegal, MayFollow}
-use Rattle.net_model.specs.Next.{by}
-use Rattle.net_model.specs.World.{IsWorld, is_within}
+use Rattle.net_base.specs.declared.history.Entry.{Entry}
+use Rattle.net_base.specs.declared.world.World.{World}
+use Rattle.net_base.specs.Callers.{caller_count}
+use Rattle.net_base.specs.Legal.{IsLegal, MayFollow}
+use Rattle.net_base.specs.Next.{by}
+use Rattle.net_base.specs.World.{IsWorld, is_within}
 use Rattle.net_model.proofs.Histories.{by_entries}
 
 abbrev one : Bool → ℕ

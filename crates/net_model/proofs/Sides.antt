@@ -1,11 +1,11 @@
 -- The sides of all pairs, as they change.
 use Rattle.std.proofs.Common.{◌≡◌, ℕ, ◌==◌, Bool, true, false, refl, sym, ap, subst, ◌∙◌}
 use Rattle.std.proofs.lemmas.Bool.{and_parts, and_from, eqb-true, eq-eqb}
-use Rattle.net_model.specs.declared.address.Addr.{Addr}
-use Rattle.net_model.specs.declared.address.Pair.{Pair}
+use Rattle.net_base.specs.declared.address.Addr.{Addr}
+use Rattle.net_base.specs.declared.address.Pair.{Pair}
 use Rattle.net_model.proofs.Pairs.{Side}
-use Rattle.net_model.specs.Same.{same_addr, same_pair}
-use Rattle.net_model.specs.Mirror.{mirror}
+use Rattle.net_base.specs.Same.{same_addr, same_pair}
+use Rattle.net_base.specs.Mirror.{mirror}
 use Rattle.net_model.proofs.Trace.{put_at}
 use Rattle.net_model.proofs.Deeds.{both_ways, Holds, Stepped, other_holds}
 

@@ -2,14 +2,14 @@
 use Rattle.std.proofs.Common.{◌≡◌, ℕ, zero, suc, ◌+◌, ◌^◌, ◌<◌, ◌≤◌, ◌==◌, nat_le, Bool, true, false, cond, ◌||◌, List, [], ◌∷◌, length, Option, Some, None, is_some, unwrap_or, slice_get, refl, sym, ap, ◌∙◌, arith}
 use Rattle.std.proofs.lemmas.Bool.{cond_both, eqb-true, ltb-true}
 use Rattle.std.proofs.lemmas.Option.{none-some, slice_get_within, slice_get-get_or}
-use Rattle.net_model.specs.declared.il.IlKind.{IlKind}
-use Rattle.net_model.specs.declared.il.IlKind.TheVariants.{Sync, Data, DataQuery, Ack, Query, State, Close}
-use Rattle.net_model.specs.declared.il.IlMsg.{IlMsg}
-use Rattle.net_model.specs.declared.il.IlState.{IlState}
-use Rattle.net_model.specs.declared.il.IlState.TheVariants.{Syncer, Syncee, Established, Closing}
-use Rattle.net_model.specs.declared.il.Cause.{Cause}
-use Rattle.net_model.specs.Number.{id_of, number}
-use Rattle.net_model.specs.IlEnd.{Early, End, Turn, rstart_of, next, recvd, standing, message, silent, says, syncs, sends_again, has_unacked, hears, acked_to, hears_ack, early_at, without, becomes_early, comes_in_turn, come_in_turn, accepts}
+use Rattle.net_base.specs.declared.il.IlKind.{IlKind}
+use Rattle.net_base.specs.declared.il.IlKind.TheVariants.{Sync, Data, DataQuery, Ack, Query, State, Close}
+use Rattle.net_base.specs.declared.il.IlMsg.{IlMsg}
+use Rattle.net_base.specs.declared.il.IlState.{IlState}
+use Rattle.net_base.specs.declared.il.IlState.TheVariants.{Syncer, Syncee, Established, Closing}
+use Rattle.net_base.specs.declared.il.Cause.{Cause}
+use Rattle.net_base.specs.Number.{id_of, number}
+use Rattle.net_base.specs.IlEnd.{Early, End, Turn, rstart_of, next, recvd, standing, message, silent, says, syncs, sends_again, has_unacked, hears, acked_to, hears_ack, early_at, without, becomes_early, comes_in_turn, come_in_turn, accepts}
 use Rattle.net_model.proofs.Ids.{number_meant}
 use Rattle.net_model.proofs.Begins.{Begins, begins_itself, begins_more, pushed_begins, begins_length}
 

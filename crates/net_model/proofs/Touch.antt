@@ -2,19 +2,19 @@
 use Rattle.std.proofs.Common.{◌≡◌, ℕ, ◌+◌, ◌≤◌, Bool, true, false, cond, List, [], ◌∷◌, length, Option, Some, None, ◌⊎◌, inl, inr, refl, sym, ap, subst, ◌∙◌, arith}
 use Rattle.std.specs.Option.{option_map}
 use Rattle.std.proofs.lemmas.Option.{none-some, same_Some}
-use Rattle.net_model.specs.declared.address.Pair.{Pair}
-use Rattle.net_model.specs.declared.il.IlKind.TheVariants.{Close}
-use Rattle.net_model.specs.declared.il.IlMsg.{IlMsg}
-use Rattle.net_model.specs.declared.packet.Body.{Body}
-use Rattle.net_model.specs.declared.packet.Body.TheVariants as body
-use Rattle.net_model.specs.declared.packet.Packet.{Packet}
-use Rattle.net_model.specs.IlEnd.{Turn, fresh_end}
+use Rattle.net_base.specs.declared.address.Pair.{Pair}
+use Rattle.net_base.specs.declared.il.IlKind.TheVariants.{Close}
+use Rattle.net_base.specs.declared.il.IlMsg.{IlMsg}
+use Rattle.net_base.specs.declared.packet.Body.{Body}
+use Rattle.net_base.specs.declared.packet.Body.TheVariants as body
+use Rattle.net_base.specs.declared.packet.Packet.{Packet}
+use Rattle.net_base.specs.IlEnd.{Turn, fresh_end}
 use Rattle.net_model.proofs.Pairs.{Side, out_with, leaves}
-use Rattle.net_model.specs.Same.{same_pair}
-use Rattle.net_model.specs.Mirror.{mirror}
-use Rattle.net_model.specs.ActorStep.{Step}
-use Rattle.net_model.specs.Conversation.{Core, Il, Udp, Stage, Unused, Listening, Connected, Conv, packet_of}
-use Rattle.net_model.specs.Actors.{Actor, IsConv}
+use Rattle.net_base.specs.Same.{same_pair}
+use Rattle.net_base.specs.Mirror.{mirror}
+use Rattle.net_base.specs.ActorStep.{Step}
+use Rattle.net_base.specs.Conversation.{Core, Il, Udp, Stage, Unused, Listening, Connected, Conv, packet_of}
+use Rattle.net_base.specs.Actors.{Actor, IsConv}
 use Rattle.net_model.proofs.Trace.{Owner, Trace, empty_side, put_at, said}
 use Rattle.net_model.proofs.Talking.{Good}
 use Rattle.net_model.proofs.Deeds.{both_ways, Holds, Stepped, stepped}

@@ -1,33 +1,33 @@
 -- What each pair of addresses has said, and who has it.
 use Rattle.std.specs.Prelude.{ℕ, ◌≡◌, ◌<◌, ◌≤◌, ◌^◌, true, List, [], ◌∷◌, length, Option, Some, None, if◌then◌else◌}
-use Rattle.net_model.specs.declared.address.Pair.{Pair}
-use Rattle.net_model.specs.declared.address.Proto.TheVariants as proto
-use Rattle.net_model.specs.declared.actor.ActorName.{ActorName}
-use Rattle.net_model.specs.declared.actor.ActorName.TheVariants as actor
-use Rattle.net_model.specs.declared.event.Event.{Event}
-use Rattle.net_model.specs.declared.event.Event.TheVariants as event
-use Rattle.net_model.specs.declared.reply.Reply.{Reply}
-use Rattle.net_model.specs.declared.reply.Reply.TheVariants as reply
-use Rattle.net_model.specs.declared.il.IlMsg.{IlMsg}
-use Rattle.net_model.specs.declared.packet.Body.{Body}
-use Rattle.net_model.specs.declared.packet.Body.TheVariants as body
-use Rattle.net_model.specs.declared.packet.Packet.{Packet}
-use Rattle.net_model.specs.declared.history.With.{With}
-use Rattle.net_model.specs.declared.history.With.TheVariants as given
-use Rattle.net_model.specs.declared.history.Work.{Work}
-use Rattle.net_model.specs.declared.history.Outcome.{Outcome}
-use Rattle.net_model.specs.declared.history.Entry.{Entry}
-use Rattle.net_model.specs.IlEnd.{End, fresh_end}
+use Rattle.net_base.specs.declared.address.Pair.{Pair}
+use Rattle.net_base.specs.declared.address.Proto.TheVariants as proto
+use Rattle.net_base.specs.declared.actor.ActorName.{ActorName}
+use Rattle.net_base.specs.declared.actor.ActorName.TheVariants as actor
+use Rattle.net_base.specs.declared.event.Event.{Event}
+use Rattle.net_base.specs.declared.event.Event.TheVariants as event
+use Rattle.net_base.specs.declared.reply.Reply.{Reply}
+use Rattle.net_base.specs.declared.reply.Reply.TheVariants as reply
+use Rattle.net_base.specs.declared.il.IlMsg.{IlMsg}
+use Rattle.net_base.specs.declared.packet.Body.{Body}
+use Rattle.net_base.specs.declared.packet.Body.TheVariants as body
+use Rattle.net_base.specs.declared.packet.Packet.{Packet}
+use Rattle.net_base.specs.declared.history.With.{With}
+use Rattle.net_base.specs.declared.history.With.TheVariants as given
+use Rattle.net_base.specs.declared.history.Work.{Work}
+use Rattle.net_base.specs.declared.history.Outcome.{Outcome}
+use Rattle.net_base.specs.declared.history.Entry.{Entry}
+use Rattle.net_base.specs.IlEnd.{End, fresh_end}
 use Rattle.net_model.proofs.Pairs.{Side, out_with, IsPrefixOf}
-use Rattle.net_model.specs.Same.{same_pair}
-use Rattle.net_model.specs.Mirror.{mirror}
-use Rattle.net_model.specs.declared.world.World.{World}
-use Rattle.net_model.specs.Routes.{Way, way, has_address}
-use Rattle.net_model.specs.ActorStep.{Step}
-use Rattle.net_model.specs.Conversation.{Core, Il, Stage, Connected, Conv}
-use Rattle.net_model.specs.Actors.{Actor, IsConv}
-use Rattle.net_model.specs.Net.{Net, next_net, opening_net, step_of, work_of, state}
-use Rattle.net_model.specs.Legal.{IsLegal}
+use Rattle.net_base.specs.Same.{same_pair}
+use Rattle.net_base.specs.Mirror.{mirror}
+use Rattle.net_base.specs.declared.world.World.{World}
+use Rattle.net_base.specs.Routes.{Way, way, has_address}
+use Rattle.net_base.specs.ActorStep.{Step}
+use Rattle.net_base.specs.Conversation.{Core, Il, Stage, Connected, Conv}
+use Rattle.net_base.specs.Actors.{Actor, IsConv}
+use Rattle.net_base.specs.Net.{Net, next_net, opening_net, step_of, work_of, state}
+use Rattle.net_base.specs.Legal.{IsLegal}
 
 -- a conversation
 pub record Owner : Type 0 where

@@ -1,18 +1,18 @@
 -- What comes in, a hangup and the timer leave what was written and read as it was.
 use Rattle.std.proofs.Common.{◌≡◌, ℕ, zero, suc, ◌+◌, ◌==◌, ◌&&◌, ◌||◌, nat_lt, nat_le, Bool, true, not, cond, List, [], ◌∷◌, length, Option, Some, None, is_some, refl}
 use Rattle.std.proofs.lemmas.Bool.{cond_both}
-use Rattle.net_model.specs.declared.il.IlKind.{IlKind}
-use Rattle.net_model.specs.declared.il.IlKind.TheVariants.{Sync, Data, DataQuery, Ack, Query, State, Close}
-use Rattle.net_model.specs.declared.il.IlMsg.{IlMsg}
-use Rattle.net_model.specs.declared.il.IlState.{IlState}
-use Rattle.net_model.specs.declared.il.IlState.TheVariants.{Closed, Syncer, Syncee, Established, Listening, Closing}
-use Rattle.net_model.specs.declared.il.Cause.TheVariants as cause
-use Rattle.net_model.specs.Number.{number}
-use Rattle.net_model.specs.IlEnd.{End, Turn, rstart_of, recvd, has_unacked, standing, silent, says, hears, establishes, closes, acked_to, hears_ack, early_at, becomes_early, comes_in_turn, come_in_turn, accepts}
-use Rattle.net_model.specs.IlTable.{is_sized, refuses, at_established, at_syncer, at_syncee, at_closing, at_closed, row, arrives, hangs_up_at, asks_again, ticks_to}
-use Rattle.net_model.specs.declared.timer.Tick.{Tick}
-use Rattle.net_model.specs.declared.timer.Tick.TheVariants as tick
-use Rattle.net_model.specs.Timer.{Timer}
+use Rattle.net_base.specs.declared.il.IlKind.{IlKind}
+use Rattle.net_base.specs.declared.il.IlKind.TheVariants.{Sync, Data, DataQuery, Ack, Query, State, Close}
+use Rattle.net_base.specs.declared.il.IlMsg.{IlMsg}
+use Rattle.net_base.specs.declared.il.IlState.{IlState}
+use Rattle.net_base.specs.declared.il.IlState.TheVariants.{Closed, Syncer, Syncee, Established, Listening, Closing}
+use Rattle.net_base.specs.declared.il.Cause.TheVariants as cause
+use Rattle.net_base.specs.Number.{number}
+use Rattle.net_base.specs.IlEnd.{End, Turn, rstart_of, recvd, has_unacked, standing, silent, says, hears, establishes, closes, acked_to, hears_ack, early_at, becomes_early, comes_in_turn, come_in_turn, accepts}
+use Rattle.net_base.specs.IlTable.{is_sized, refuses, at_established, at_syncer, at_syncee, at_closing, at_closed, row, arrives, hangs_up_at, asks_again, ticks_to}
+use Rattle.net_base.specs.declared.timer.Tick.{Tick}
+use Rattle.net_base.specs.declared.timer.Tick.TheVariants as tick
+use Rattle.net_base.specs.Timer.{Timer}
 use Rattle.net_model.proofs.Begins.{Begins, begins_itself, begins_more}
 
 pub record Left (sent sent' got got' : List (List ℕ)) (taken taken' cut cut' : ℕ) (marked marked' : Bool) : Type 0 where

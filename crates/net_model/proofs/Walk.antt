@@ -1,11 +1,11 @@
 -- A history is legal where each entry follows those before it, as one goes along.
 use Rattle.std.proofs.Common.{◌≡◌, ℕ, zero, suc, List, [], ◌∷◌, ◌++◌, take, Some, slice_get, refl, sym, subst, ap, ◌∙◌, append_assoc, append-nil}
 use Rattle.std.proofs.lemmas.Option.{none-some, same_Some}
-use Rattle.net_model.specs.declared.history.Entry.{Entry}
-use Rattle.net_model.specs.declared.world.World.{World}
-use Rattle.net_model.specs.Net.{Net, next_net, net_of, after, opening_net}
+use Rattle.net_base.specs.declared.history.Entry.{Entry}
+use Rattle.net_base.specs.declared.world.World.{World}
+use Rattle.net_base.specs.Net.{Net, next_net, net_of, after, opening_net}
 use Rattle.net_model.proofs.Histories.{legal_push, after_push}
-use Rattle.net_model.specs.Legal.{Follows, IsLegal, IsInTime, IsTimed}
+use Rattle.net_base.specs.Legal.{Follows, IsLegal, IsInTime, IsTimed}
 
 -- each of these entries follows in turn
 abbrev pub Follow : World → List Entry → Net → List Entry → Type 0

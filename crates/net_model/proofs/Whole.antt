@@ -5,52 +5,52 @@ use Rattle.std.specs.Option.{option_map, option_and_then}
 use Rattle.std.proofs.lemmas.Option.{none-some, same_Some}
 use Rattle.std.proofs.lemmas.Bool.{and_parts, and_from, cond_both, eqb-true, eq-eqb}
 use Rattle.std.proofs.lemmas.List.{length_push, append-nil, take_all, take-append-drop, drop_more}
-use Rattle.net_model.specs.declared.address.Pair.{Pair}
-use Rattle.net_model.specs.declared.address.Proto.TheVariants as proto
-use Rattle.net_model.specs.declared.actor.ActorName.{ActorName}
-use Rattle.net_model.specs.declared.actor.ActorName.TheVariants as actor
-use Rattle.net_model.specs.declared.event.Event.{Event}
-use Rattle.net_model.specs.declared.event.Event.TheVariants as event
-use Rattle.net_model.specs.declared.reply.Reply.{Reply}
-use Rattle.net_model.specs.declared.packet.Body.{Body}
-use Rattle.net_model.specs.declared.packet.Body.TheVariants as body
-use Rattle.net_model.specs.declared.packet.Packet.{Packet}
-use Rattle.net_model.specs.declared.history.Taken.{Taken}
-use Rattle.net_model.specs.declared.history.With.{With}
-use Rattle.net_model.specs.declared.history.With.TheVariants as given
-use Rattle.net_model.specs.declared.history.Work.{Work}
-use Rattle.net_model.specs.declared.history.Entry.{Entry}
+use Rattle.net_base.specs.declared.address.Pair.{Pair}
+use Rattle.net_base.specs.declared.address.Proto.TheVariants as proto
+use Rattle.net_base.specs.declared.actor.ActorName.{ActorName}
+use Rattle.net_base.specs.declared.actor.ActorName.TheVariants as actor
+use Rattle.net_base.specs.declared.event.Event.{Event}
+use Rattle.net_base.specs.declared.event.Event.TheVariants as event
+use Rattle.net_base.specs.declared.reply.Reply.{Reply}
+use Rattle.net_base.specs.declared.packet.Body.{Body}
+use Rattle.net_base.specs.declared.packet.Body.TheVariants as body
+use Rattle.net_base.specs.declared.packet.Packet.{Packet}
+use Rattle.net_base.specs.declared.history.Taken.{Taken}
+use Rattle.net_base.specs.declared.history.With.{With}
+use Rattle.net_base.specs.declared.history.With.TheVariants as given
+use Rattle.net_base.specs.declared.history.Work.{Work}
+use Rattle.net_base.specs.declared.history.Entry.{Entry}
 use Rattle.net_model.proofs.Pairs.{Side}
-use Rattle.net_model.specs.Mirror.{mirror}
-use Rattle.net_model.specs.declared.world.World.{World}
-use Rattle.net_model.specs.Routes.{Way, way, has_address}
-use Rattle.net_model.specs.declared.world.HostSpec.{HostSpec}
-use Rattle.net_model.specs.declared.world.MediumSpec.{MediumSpec}
-use Rattle.net_model.specs.ActorStep.{Step, when}
-use Rattle.net_model.specs.Conversation.{Core, Il, Udp, Stage, Unused, Listening, Connected, Conv, conv_step, packet_of as packet_by}
-use Rattle.net_model.specs.Medium.{medium_step}
-use Rattle.net_model.specs.Directory.{Dir, Slot, free_slot, dir_step}
-use Rattle.net_model.specs.Actors.{Actor, IsConv, IsDir, IsMedium, IsPlain, slot_count, has_actor, plain_step, table_step, actor_step}
-use Rattle.net_model.specs.Desk.{desk_reply, clock_reply}
-use Rattle.net_model.specs.Callers.{Caller, caller_of}
-use Rattle.net_model.specs.Next.{next as next_ask}
-use Rattle.net_model.specs.Steps.{Ask}
-use Rattle.net_model.specs.Duties.{Duty, put_by, emitted_put, follow_up, proto_of, forwarded, courier_duty, has_come, due_of, generation_of, conversations, tick_at, ticks, release, duties}
-use Rattle.net_model.specs.Net.{Net, opening_net, with_of, work_of, step_of, actors_after, owed_after, net_after, next_net, net_of, after}
-use Rattle.net_model.specs.Legal.{IsLegal, Shows, Shown, IsAsked, asked_by}
+use Rattle.net_base.specs.Mirror.{mirror}
+use Rattle.net_base.specs.declared.world.World.{World}
+use Rattle.net_base.specs.Routes.{Way, way, has_address}
+use Rattle.net_base.specs.declared.world.HostSpec.{HostSpec}
+use Rattle.net_base.specs.declared.world.MediumSpec.{MediumSpec}
+use Rattle.net_base.specs.ActorStep.{Step, when}
+use Rattle.net_base.specs.Conversation.{Core, Il, Udp, Stage, Unused, Listening, Connected, Conv, conv_step, packet_of as packet_by}
+use Rattle.net_base.specs.Medium.{medium_step}
+use Rattle.net_base.specs.Directory.{Dir, Slot, free_slot, dir_step}
+use Rattle.net_base.specs.Actors.{Actor, IsConv, IsDir, IsMedium, IsPlain, slot_count, has_actor, plain_step, table_step, actor_step}
+use Rattle.net_base.specs.Desk.{desk_reply, clock_reply}
+use Rattle.net_base.specs.Callers.{Caller, caller_of}
+use Rattle.net_base.specs.Next.{next as next_ask}
+use Rattle.net_base.specs.Steps.{Ask}
+use Rattle.net_base.specs.Duties.{Duty, put_by, emitted_put, follow_up, proto_of, forwarded, courier_duty, has_come, due_of, generation_of, conversations, tick_at, ticks, release, duties}
+use Rattle.net_base.specs.Net.{Net, opening_net, with_of, work_of, step_of, actors_after, owed_after, net_after, next_net, net_of, after}
+use Rattle.net_base.specs.Legal.{IsLegal, Shows, Shown, IsAsked, asked_by}
 use Rattle.net_model.proofs.Trace.{Owner, Trace, opening_trace, conv_trace, dir_trace, actor_trace, trace_after, next_trace, trace_of, trace, HasPlaces, end_of}
 use Rattle.net_model.proofs.Begins.{begins_prefix, begins_same}
 use Rattle.net_model.proofs.Deeds.{both_ways, nothing_yet}
 use Rattle.net_model.proofs.ConvMoves.{of_end, moves, elsewhere, Move, Stay, Begin, Join, Come, Listen}
-use Rattle.net_model.specs.IlEnd.{End}
-use Rattle.net_model.specs.declared.il.IlMsg.{IlMsg}
+use Rattle.net_base.specs.IlEnd.{End}
+use Rattle.net_base.specs.declared.il.IlMsg.{IlMsg}
 use Rattle.net_model.proofs.Touch.{IsIn, HeardClose, Utters, Owned, Later, Emitted, EmittedIf, emitted_later, HasEnd, ConvFine, ActorFine, ConvStep}
 use Rattle.net_model.proofs.ConvSteps.{GiftFine, owned_more, conv_steps}
 use Rattle.net_model.proofs.DirSteps.{WithFine, EachDuty, SlotIsFine, DirIsFine, Addressed, DirStep}
 use Rattle.net_model.proofs.DirRows.{dir_steps}
 use Rattle.net_model.proofs.OtherSteps.{IsUdp, harmless_emitted, udp_steps, dir_harmless, udp_dir_follow, conv_follow, MediumFine, TakenIf, each_later, medium_steps}
 use Rattle.net_model.proofs.Histories.{after_push, by_entries}
-use Rattle.net_model.specs.Written.{joined}
+use Rattle.net_base.specs.Written.{joined}
 use Rattle.net_model.proofs.Pairs.{IsPrefixOf}
 use Rattle.net_model.proofs.Accounts.{AllSized, AtEnd, given_by, given_out, Reading, IsReading, joined-append}
 use Rattle.net_model.proofs.Books.{got_sized, Booked, Books, NoEntry, booked_quiet, books_next, conv_booked}

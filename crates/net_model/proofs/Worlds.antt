@@ -1,14 +1,14 @@
 -- Two worlds of two hosts on one medium, over a small database.
 use Rattle.std.proofs.Common.{ℕ, List, [], ◌∷◌, ◌++◌, None, unwrap_or, codes, refl}
-use Rattle.net_model.specs.declared.address.Proto.TheVariants.{Il, Udp}
-use Rattle.net_model.specs.declared.ndb.NdbPair.{NdbPair}
-use Rattle.net_model.specs.declared.world.HostSpec.{HostSpec}
-use Rattle.net_model.specs.declared.world.MediumSpec.{MediumSpec}
-use Rattle.net_model.specs.declared.world.Script.{Script}
-use Rattle.net_model.specs.declared.world.Step.TheVariants as step
-use Rattle.net_model.specs.declared.world.World.{World}
-use Rattle.net_model.specs.NdbBundle.{reading}
-use Rattle.net_model.specs.World.{IsWorld}
+use Rattle.net_base.specs.declared.address.Proto.TheVariants.{Il, Udp}
+use Rattle.net_base.specs.declared.ndb.NdbPair.{NdbPair}
+use Rattle.net_base.specs.declared.world.HostSpec.{HostSpec}
+use Rattle.net_base.specs.declared.world.MediumSpec.{MediumSpec}
+use Rattle.net_base.specs.declared.world.Script.{Script}
+use Rattle.net_base.specs.declared.world.Step.TheVariants as step
+use Rattle.net_base.specs.declared.world.World.{World}
+use Rattle.net_base.specs.NdbBundle.{reading}
+use Rattle.net_base.specs.World.{IsWorld}
 
 abbrev pub small_text : List ℕ
 small_text =

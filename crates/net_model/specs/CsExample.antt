@@ -1,8 +1,8 @@
 -- A small database, and what the system anna of it is answered.
 use Rattle.std.specs.Prelude.{ℕ, List, [], ◌∷◌, codes}
-use Rattle.net_model.specs.declared.ndb.NdbPair.{NdbPair}
-use Rattle.net_model.specs.declared.address.Proto.TheVariants.{Il, Udp}
-use Rattle.net_model.specs.Cs.{CsAnswer, cs_list}
+use Rattle.net_base.specs.declared.ndb.NdbPair.{NdbPair}
+use Rattle.net_base.specs.declared.address.Proto.TheVariants.{Il, Udp}
+use Rattle.net_base.specs.Cs.{CsAnswer, cs_list}
 
 -- an attribute with its value
 abbrev pub pair : List ℕ → List ℕ → NdbPair

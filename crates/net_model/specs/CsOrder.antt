@@ -1,9 +1,9 @@
 -- What the order of the lines of cs keeps.
 use Rattle.std.specs.Prelude.{◌≡◌, ℕ, ◌^◌, ◌<◌, true, List, AllPairs}
-use Rattle.net_model.specs.declared.address.Proto.{Proto}
-use Rattle.net_model.specs.Addresses.{address_text}
-use Rattle.net_model.specs.Networks.{Network, is_on}
-use Rattle.net_model.specs.Cs.{cs_line}
+use Rattle.net_base.specs.declared.address.Proto.{Proto}
+use Rattle.net_base.specs.Addresses.{address_text}
+use Rattle.net_base.specs.Networks.{Network, is_on}
+use Rattle.net_base.specs.Cs.{cs_line}
 
 -- the line tells to connect to this address on this net
 abbrev pub Dials : List ℕ → Proto → ℕ → Type 0

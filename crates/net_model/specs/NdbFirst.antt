@@ -1,6 +1,6 @@
 -- What it means that a line of a database's text is the first bad one.
 use Rattle.std.specs.Prelude.{◌≡◌, ◌+◌, ◌<◌, ℕ, Bool, List, [], length, take, slice_index_or, Option, None, Some}
-use Rattle.net_model.specs.NdbBundle.{has_tuple, least}
+use Rattle.net_base.specs.NdbBundle.{has_tuple, least}
 
 -- the least cause of the line at a place of these, from 0
 abbrev pub least_at : (Bool → List ℕ → List ℕ) → List (List ℕ) → ℕ → Option ℕ

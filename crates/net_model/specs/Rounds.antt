@@ -1,19 +1,19 @@
 -- The run of a world in rounds: in a round each caller in order of number records its first duty, or its next event, where
 -- that is ready; after a round that recorded nothing the clock moves, where it may.
 use Rattle.std.specs.Prelude.{ℕ, zero, suc, ◌==◌, Bool, true, false, List, [], ◌∷◌, length, Option, Some, None}
-use Rattle.net_model.specs.declared.actor.ActorName.TheVariants as name
-use Rattle.net_model.specs.declared.event.Event.TheVariants as event
-use Rattle.net_model.specs.declared.history.Entry.{Entry}
-use Rattle.net_model.specs.declared.world.World.{World}
-use Rattle.net_model.specs.ActorStep.{Step}
-use Rattle.net_model.specs.Actors.{Actor, actor_step}
-use Rattle.net_model.specs.Callers.{caller_of, clock_number}
-use Rattle.net_model.specs.Calm.{callers, movable, target}
-use Rattle.net_model.specs.Duties.{Duty}
-use Rattle.net_model.specs.Legal.{cites_of, shown_of}
-use Rattle.net_model.specs.Net.{Net, opening_net, next_net, with_of}
-use Rattle.net_model.specs.Next.{next_of}
-use Rattle.net_model.specs.Steps.{Ask}
+use Rattle.net_base.specs.declared.actor.ActorName.TheVariants as name
+use Rattle.net_base.specs.declared.event.Event.TheVariants as event
+use Rattle.net_base.specs.declared.history.Entry.{Entry}
+use Rattle.net_base.specs.declared.world.World.{World}
+use Rattle.net_base.specs.ActorStep.{Step}
+use Rattle.net_base.specs.Actors.{Actor, actor_step}
+use Rattle.net_base.specs.Callers.{caller_of, clock_number}
+use Rattle.net_base.specs.Calm.{callers, movable, target}
+use Rattle.net_base.specs.Duties.{Duty}
+use Rattle.net_base.specs.Legal.{cites_of, shown_of}
+use Rattle.net_base.specs.Net.{Net, opening_net, next_net, with_of}
+use Rattle.net_base.specs.Next.{next_of}
+use Rattle.net_base.specs.Steps.{Ask}
 
 -- the first duty's event, or the caller's next one where none is owed
 abbrev pub asked : World → Net → ℕ → List Duty → Option Ask

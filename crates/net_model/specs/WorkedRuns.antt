@@ -1,21 +1,21 @@
 -- Worked worlds whose runs are known by what is read, emitted and moved to.
 use Rattle.std.specs.Prelude.{ℕ, zero, suc, List, [], ◌∷◌, Option, Some, None, codes, filter_map}
-use Rattle.net_model.specs.declared.event.Event.{Event}
-use Rattle.net_model.specs.declared.event.Event.TheVariants as event
-use Rattle.net_model.specs.declared.history.Entry.{Entry}
-use Rattle.net_model.specs.declared.il.IlKind.{IlKind}
-use Rattle.net_model.specs.declared.il.IlKind.TheVariants.{Data}
-use Rattle.net_model.specs.declared.packet.BodyHeader.{BodyHeader}
-use Rattle.net_model.specs.declared.packet.BodyHeader.TheVariants as shown
-use Rattle.net_model.specs.declared.packet.Header.{Header}
-use Rattle.net_model.specs.declared.reply.Reply.{Reply}
-use Rattle.net_model.specs.declared.reply.Reply.TheVariants as reply
-use Rattle.net_model.specs.declared.world.Fate.TheVariants.{Lose, Twice, Later}
-use Rattle.net_model.specs.declared.world.FateRange.{FateRange}
-use Rattle.net_model.specs.declared.world.HostSpec.{HostSpec}
-use Rattle.net_model.specs.declared.world.Step.{Step}
-use Rattle.net_model.specs.declared.world.Step.TheVariants as step
-use Rattle.net_model.specs.declared.world.World.{World}
+use Rattle.net_base.specs.declared.event.Event.{Event}
+use Rattle.net_base.specs.declared.event.Event.TheVariants as event
+use Rattle.net_base.specs.declared.history.Entry.{Entry}
+use Rattle.net_base.specs.declared.il.IlKind.{IlKind}
+use Rattle.net_base.specs.declared.il.IlKind.TheVariants.{Data}
+use Rattle.net_base.specs.declared.packet.BodyHeader.{BodyHeader}
+use Rattle.net_base.specs.declared.packet.BodyHeader.TheVariants as shown
+use Rattle.net_base.specs.declared.packet.Header.{Header}
+use Rattle.net_base.specs.declared.reply.Reply.{Reply}
+use Rattle.net_base.specs.declared.reply.Reply.TheVariants as reply
+use Rattle.net_base.specs.declared.world.Fate.TheVariants.{Lose, Twice, Later}
+use Rattle.net_base.specs.declared.world.FateRange.{FateRange}
+use Rattle.net_base.specs.declared.world.HostSpec.{HostSpec}
+use Rattle.net_base.specs.declared.world.Step.{Step}
+use Rattle.net_base.specs.declared.world.Step.TheVariants as step
+use Rattle.net_base.specs.declared.world.World.{World}
 use Rattle.net_model.specs.Worked.{anna, helix, host, script, world}
 
 -- What is seen of a history.

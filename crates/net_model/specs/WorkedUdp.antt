@@ -1,15 +1,15 @@
 -- The worked history of a datagram from anna to helix.
 use Rattle.std.specs.Prelude.{ℕ, List, [], ◌∷◌, Some, None, codes}
-use Rattle.net_model.specs.declared.actor.ActorName.{ActorName}
-use Rattle.net_model.specs.declared.actor.ActorName.TheVariants as name
-use Rattle.net_model.specs.declared.address.Proto.TheVariants as proto
-use Rattle.net_model.specs.declared.event.Event.TheVariants as event
-use Rattle.net_model.specs.declared.history.Entry.{Entry}
-use Rattle.net_model.specs.declared.names.FileName.TheVariants as file
-use Rattle.net_model.specs.declared.names.Mode.TheVariants as mode
-use Rattle.net_model.specs.declared.reply.Reply.TheVariants as reply
-use Rattle.net_model.specs.declared.world.Step.TheVariants as step
-use Rattle.net_model.specs.declared.world.World.{World}
+use Rattle.net_base.specs.declared.actor.ActorName.{ActorName}
+use Rattle.net_base.specs.declared.actor.ActorName.TheVariants as name
+use Rattle.net_base.specs.declared.address.Proto.TheVariants as proto
+use Rattle.net_base.specs.declared.event.Event.TheVariants as event
+use Rattle.net_base.specs.declared.history.Entry.{Entry}
+use Rattle.net_base.specs.declared.names.FileName.TheVariants as file
+use Rattle.net_base.specs.declared.names.Mode.TheVariants as mode
+use Rattle.net_base.specs.declared.reply.Reply.TheVariants as reply
+use Rattle.net_base.specs.declared.world.Step.TheVariants as step
+use Rattle.net_base.specs.declared.world.World.{World}
 use Rattle.net_model.specs.Worked.{at, anna, helix, pair, host, script, world, own, due, emits, udp}
 
 abbrev pub datagram_world : World

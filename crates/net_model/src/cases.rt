@@ -1,9 +1,9 @@
 //! Worked histories, computed by the definitions.
 ghost use Rattle.std.specs.Prelude.{◌≡◌, ◌∷◌, [], codes, true};
-ghost use Rattle.net_model.specs.declared.il.IlKind.TheVariants.{Sync, Data, DataQuery, Ack, State, Close};
-ghost use Rattle.net_model.specs.Calm.{done, stopped};
-ghost use Rattle.net_model.specs.Legal.{IsLegal, IsTimed, IsFault, Answers, AtMoment, Cites, Asked, Ready, InTime};
-ghost use Rattle.net_model.specs.Net.{after, opening_net};
+ghost use Rattle.net_base.specs.declared.il.IlKind.TheVariants.{Sync, Data, DataQuery, Ack, State, Close};
+ghost use Rattle.net_base.specs.Calm.{done, stopped};
+ghost use Rattle.net_base.specs.Legal.{IsLegal, IsTimed, IsFault, Answers, AtMoment, Cites, Asked, Ready, InTime};
+ghost use Rattle.net_base.specs.Net.{after, opening_net};
 ghost use Rattle.net_model.specs.Rounds.{rounds, run_of};
 ghost use Rattle.net_model.specs.WorkedFaults as fault;
 ghost use Rattle.net_model.specs.WorkedFaults.{with_at};

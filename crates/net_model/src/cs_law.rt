@@ -1,11 +1,11 @@
 //! Laws of the connection server's list.
 ghost use Rattle.std.specs.Prelude.{◌≡◌, ◌≢◌, ◌∷◌, [], List, ℕ, AllPairs, codes};
-ghost use Rattle.net_model.specs.Cs.{Lines, Refused, cs_list};
+ghost use Rattle.net_base.specs.Cs.{Lines, Refused, cs_list};
 ghost use Rattle.net_model.specs.CsExample.{anna_gets};
 ghost use Rattle.net_model.specs.CsOrder.{OnFirst};
-ghost use Rattle.net_model.specs.Networks.{own_networks};
-ghost use Rattle.net_model.specs.declared.address.Proto.{Proto};
-ghost use Rattle.net_model.specs.declared.ndb.NdbPair.{NdbPair};
+ghost use Rattle.net_base.specs.Networks.{own_networks};
+ghost use Rattle.net_base.specs.declared.address.Proto.{Proto};
+ghost use Rattle.net_base.specs.declared.ndb.NdbPair.{NdbPair};
 
 /// No line of an answer stands twice, whatever the database says twice.
 pub fn no_line_stands_twice()

@@ -1,22 +1,22 @@
 //! Laws of the definitions.
 ghost use Rattle.std.specs.Prelude.{◌≡◌, ◌↔◌, List, ℕ, Ok, Err, Some, true, false, take, slice_get};
-ghost use Rattle.net_model.specs.ControlWords as control;
-ghost use Rattle.net_model.specs.Paths as paths;
-ghost use Rattle.net_model.specs.declared.names.Ctl.{Ctl};
-ghost use Rattle.net_model.specs.declared.names.Node.{Node};
-ghost use Rattle.net_model.specs.declared.actor.ActorName.{ActorName};
-ghost use Rattle.net_model.specs.declared.history.Entry.{Entry};
-ghost use Rattle.net_model.specs.declared.world.World.{World};
-ghost use Rattle.net_model.specs.Actors.{opening_actor};
-ghost use Rattle.net_model.specs.declared.address.Proto.TheVariants.{Il};
+ghost use Rattle.net_base.specs.ControlWords as control;
+ghost use Rattle.net_base.specs.Paths as paths;
+ghost use Rattle.net_base.specs.declared.names.Ctl.{Ctl};
+ghost use Rattle.net_base.specs.declared.names.Node.{Node};
+ghost use Rattle.net_base.specs.declared.actor.ActorName.{ActorName};
+ghost use Rattle.net_base.specs.declared.history.Entry.{Entry};
+ghost use Rattle.net_base.specs.declared.world.World.{World};
+ghost use Rattle.net_base.specs.Actors.{opening_actor};
+ghost use Rattle.net_base.specs.declared.address.Proto.TheVariants.{Il};
 ghost use Rattle.net_model.specs.PrefixLaw.{InOrder};
-ghost use Rattle.net_model.specs.World.{IsWorld};
-ghost use Rattle.net_model.specs.Written.{Conversation, peer};
-ghost use Rattle.net_model.specs.Legal.{IsFault, IsLegal, IsTimed, Rule};
-ghost use Rattle.net_model.specs.Net.{owed, state, played, works};
-ghost use Rattle.net_model.specs.Duties.{Duty};
-ghost use Rattle.net_model.specs.Stamped.{In};
-ghost use Rattle.net_model.specs.Written.{Given, given_in};
+ghost use Rattle.net_base.specs.World.{IsWorld};
+ghost use Rattle.net_base.specs.Written.{Conversation, peer};
+ghost use Rattle.net_base.specs.Legal.{IsFault, IsLegal, IsTimed, Rule};
+ghost use Rattle.net_base.specs.Net.{owed, state, played, works};
+ghost use Rattle.net_base.specs.Duties.{Duty};
+ghost use Rattle.net_base.specs.Stamped.{In};
+ghost use Rattle.net_base.specs.Written.{Given, given_in};
 
 /// The reading of a ctl file's text is its grammar's.
 pub fn controls_are_read()

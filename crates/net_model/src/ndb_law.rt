@@ -1,13 +1,13 @@
 //! Laws of the text of a database.
 ghost use Rattle.std.specs.Prelude.{◌≡◌, ◌∷◌, ℕ, List, Bool, false, true, [], Option, None, Some, codes};
 ghost use Rattle.std.specs.List.{list_any};
-ghost use Rattle.net_model.specs.declared.ndb.NdbPair.{NdbPair};
-ghost use Rattle.net_model.specs.NdbText.{is_quote, words_of, plain_words_of, pairs_of, lines_of, tuples_of};
-ghost use Rattle.net_model.specs.NdbBundle.{is_file_line, causes_of, bad_line, reading};
-ghost use Rattle.net_model.specs.NdbForm.{is_unbuilt, causes_so_far, bad_line_so_far};
+ghost use Rattle.net_base.specs.declared.ndb.NdbPair.{NdbPair};
+ghost use Rattle.net_base.specs.NdbText.{is_quote, words_of, plain_words_of, pairs_of, lines_of, tuples_of};
+ghost use Rattle.net_base.specs.NdbBundle.{is_file_line, causes_of, bad_line, reading};
+ghost use Rattle.net_base.specs.NdbForm.{is_unbuilt, causes_so_far, bad_line_so_far};
 ghost use Rattle.net_model.specs.NdbFirst.{IsFirstBad};
 ghost use Rattle.net_model.specs.NdbExample.{pair, tuple};
-ghost use Rattle.net_model.specs.NdbSpelling.{ReadsLine, ReadsFile};
+ghost use Rattle.net_base.specs.NdbSpelling.{ReadsLine, ReadsFile};
 
 /// A line spells one list of pairs at most.
 pub fn lines_read_once()

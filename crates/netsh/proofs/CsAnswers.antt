@@ -1,12 +1,12 @@
 -- The answer of cs from what the reader and the resolver say.
 use Rattle.std.proofs.Common.{◌≡◌, ◌≢◌, ℕ, Bool, true, false, List, [], ◌∷◌, Option, Some, None, Result, IfOk, OnOk, Ok, Err, unwrap_or, is_none, if◌then◌else◌, refl, sym, ◌∙◌, ap, subst}
-use Rattle.net_model.specs.declared.ndb.NdbPair.{NdbPair}
-use Rattle.net_model.specs.declared.address.Proto.TheVariants.{Il, Udp}
-use Rattle.net_model.specs.NdbText.{lines_of}
-use Rattle.net_model.specs.NdbBundle.{bad_line, database, reading}
-use Rattle.net_model.specs.NdbForm.{bad_line_so_far}
-use Rattle.net_model.specs.Answers.{Answer, cs_answer}
-use Rattle.net_model.specs.Cs.{CsAnswer, Refused}
+use Rattle.net_base.specs.declared.ndb.NdbPair.{NdbPair}
+use Rattle.net_base.specs.declared.address.Proto.TheVariants.{Il, Udp}
+use Rattle.net_base.specs.NdbText.{lines_of}
+use Rattle.net_base.specs.NdbBundle.{bad_line, database, reading}
+use Rattle.net_base.specs.NdbForm.{bad_line_so_far}
+use Rattle.net_base.specs.Answers.{Answer, cs_answer}
+use Rattle.net_base.specs.Cs.{CsAnswer, Refused}
 use Rattle.cs_resolver.specs.Built.{built_answer, number_of, Tells}
 use Rattle.cs_resolver.specs.declared.error.CsError.{CsError}
 use Rattle.cs_resolver.specs.declared.error.CsError.TheVariants.{Memory, BadQuery, NoNet, NoHost, NoService, NoValue, NotBuilt}

@@ -1,11 +1,11 @@
 -- The answers in the forms that are built.
 use Rattle.std.specs.Prelude.{ℕ, List, [], ◌∷◌, length, nat_lt, Option, Some, None, if◌then◌else◌}
-use Rattle.net_model.specs.declared.address.Proto.TheVariants.{Il, Udp}
-use Rattle.net_model.specs.NdbText.{lines_of}
-use Rattle.net_model.specs.NdbBundle.{database}
-use Rattle.net_model.specs.NdbForm.{bad_line_so_far}
-use Rattle.net_model.specs.Answers.{Answer, bad_input, cs_answer, input_limit}
-use Rattle.net_model.specs.Words.{Command, Cs}
+use Rattle.net_base.specs.declared.address.Proto.TheVariants.{Il, Udp}
+use Rattle.net_base.specs.NdbText.{lines_of}
+use Rattle.net_base.specs.NdbBundle.{database}
+use Rattle.net_base.specs.NdbForm.{bad_line_so_far}
+use Rattle.net_base.specs.Answers.{Answer, bad_input, cs_answer, input_limit}
+use Rattle.net_base.specs.Words.{Command, Cs}
 use Rattle.cs_resolver.specs.Built.{built_answer}
 
 -- an answer to an input without a bad line, or the first bad line and its least cause

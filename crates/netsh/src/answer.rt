@@ -1,11 +1,11 @@
 //! The answers: a status, and the text that is written, made whole.
 ghost use Rattle.std.specs.Prelude.{◌≡◌, ◌≢◌, IfOk, OnOk};
-ghost use Rattle.net_model.specs.Answers as spec;
-ghost use Rattle.net_model.specs.Cs.{Lines as ListOf, Refused};
+ghost use Rattle.net_base.specs.Answers as spec;
+ghost use Rattle.net_base.specs.Cs.{Lines as ListOf, Refused};
 ghost use Rattle.cs_resolver.specs.Built.{number_of};
 
 use cs_resolver::CsError;
-use net_model::{Lines, Octets};
+use net_base::{Lines, Octets};
 use std::alloc::{AllocError, Global};
 use std::marker::Model;
 
@@ -23,7 +23,7 @@ pub struct Answer {
 }
 
 impl Model for Answer {
-    ghost use Rattle.net_model.specs.Answers as spec;
+    ghost use Rattle.net_base.specs.Answers as spec;
 
     ghost Value = { spec.Answer };
 

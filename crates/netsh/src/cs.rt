@@ -5,7 +5,7 @@ ghost use Rattle.netsh.specs.Built.{cs_over};
 use crate::answer::Answer;
 use cs_resolver::answer;
 use ndb_reader::{NdbError, read_ndb};
-use net_model::Proto;
+use net_base::Proto;
 use std::alloc::{AllocError, Global};
 
 /// What a host is answered to a query over the database that an input is.

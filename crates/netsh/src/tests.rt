@@ -1,6 +1,6 @@
 //! The worked runs of the program, over sources and sinks in memory.
 use crate::top::{ask, ask_surely};
-use net_model::Octets;
+use net_base::Octets;
 use outside::{FailList, MemSink, MemSource, SureSink, SureSource};
 use std::alloc::{AllocError, Global};
 use std::process::Abort;

@@ -9,7 +9,7 @@ use crate::fault::Failed;
 use crate::sink::Sink;
 use crate::source::Source;
 use crate::sure::SureSource;
-use net_model::{Octets, Sequence};
+use net_base::{Octets, Sequence};
 use std::alloc::{AllocError, Global};
 use std::marker::Model;
 

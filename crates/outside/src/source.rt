@@ -4,7 +4,7 @@ ghost use Rattle.std.specs.Io.KnownBytes.{IsAtEnd};
 ghost use Rattle.outside.specs.Streams.{Rose, Took, TookToEnd};
 
 use crate::fault::{Failed, TakeError};
-use net_model::Octets;
+use net_base::Octets;
 use std::alloc::Global;
 
 /// Gives bytes in pieces, up to an end.

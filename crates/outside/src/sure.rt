@@ -6,7 +6,7 @@ ghost use Rattle.outside.specs.Streams.{Rose, Took, Gained};
 use crate::fault::Failed;
 use crate::sink::Sink;
 use crate::source::{Source, copy_front};
-use net_model::Octets;
+use net_base::Octets;
 use std::marker::Model;
 
 /// Gives the bytes that it was made with. Clauses see what is left.

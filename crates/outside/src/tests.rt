@@ -3,7 +3,7 @@ use crate::{
     FailList, Failed, MemSink, MemSource, Sink, Source, StdSink, StdSource, SureSink, SureSource,
     TakeError, read_to_end, write_all,
 };
-use net_model::Octets;
+use net_base::Octets;
 use std::alloc::{AllocError, Global};
 use std::test::Fail;
 

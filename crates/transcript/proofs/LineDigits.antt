@@ -1,6 +1,6 @@
 -- Digits of texts that stand behind one another.
 use Rattle.std.proofs.Common.{◌≡◌, ◌==◌, ℕ, false, List, [], ◌∷◌, ◌++◌, length, refl, sym, append_assoc, append-nil}
-use Rattle.net_model.specs.Transcript.{hex_digits, hex_word, lines_of}
+use Rattle.net_base.specs.Transcript.{hex_digits, hex_word, lines_of}
 use Rattle.transcript.specs.Digits.{line_digits}
 
 digits_both : (xs ys : List ℕ) → hex_digits (xs ++ ys) ≡ hex_digits xs ++ hex_digits ys

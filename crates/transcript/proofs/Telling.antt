@@ -1,8 +1,8 @@
 -- The words of lines, told by their bytes.
 use Rattle.std.proofs.Common.{◌≡◌, ◌≢◌, ℕ, ◌+◌, List, [], ◌∷◌, ◌++◌, ◌⊎◌, inl, inr, map, refl, sym, ◌∙◌, append_assoc, decimal}
 use Rattle.std.proofs.lemmas.List.{append_cancel_left}
-use Rattle.net_model.specs.declared.history.Entry.{Entry}
-use Rattle.net_model.specs.Transcript.{spaced, entry_words, line_of, lines_from}
+use Rattle.net_base.specs.declared.history.Entry.{Entry}
+use Rattle.net_base.specs.Transcript.{spaced, entry_words, line_of, lines_from}
 use Rattle.transcript.specs.Telling.{IsClean, AreClean, HasCleanWords}
 
 -- a blank or a newline comes first

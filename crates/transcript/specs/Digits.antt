@@ -1,6 +1,6 @@
 -- The digits of lines, text by text.
 use Rattle.std.specs.Prelude.{ℕ, List, [], ◌∷◌, ◌++◌}
-use Rattle.net_model.specs.Transcript.{hex_digits}
+use Rattle.net_base.specs.Transcript.{hex_digits}
 
 -- the digits of each text, and those of a newline
 abbrev pub line_digits : List (List ℕ) → List ℕ

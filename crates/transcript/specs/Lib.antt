@@ -1,4 +1,4 @@
 pub mod Digits
 pub mod Telling
-pub use Rattle.net_model.specs.Summary
-pub use Rattle.net_model.specs.Transcript
+pub use Rattle.net_base.specs.Summary
+pub use Rattle.net_base.specs.Transcript

@@ -1,7 +1,7 @@
 -- What the text of a history tells of it.
 use Rattle.std.specs.Prelude.{◌≡◌, ◌≢◌, ℕ, List, [], ◌∷◌, map}
-use Rattle.net_model.specs.declared.history.Entry.{Entry}
-use Rattle.net_model.specs.Transcript.{entry_words, history_text}
+use Rattle.net_base.specs.declared.history.Entry.{Entry}
+use Rattle.net_base.specs.Transcript.{entry_words, history_text}
 
 -- a word without blanks and newlines
 abbrev pub IsClean : List ℕ → Type 0

@@ -1,13 +1,13 @@
 //! Entries as lines, and histories as texts.
 ghost use Rattle.std.specs.Prelude.{◌≡◌, ◌++◌, OnOk, IfOk};
-ghost use Rattle.net_model.specs.Transcript as spec;
-ghost use Rattle.net_model.specs.Transcript.{spaced, line_of, lines_from, history_text, header_words, way_words, body_words, entry_words, who_words, outcome_words, emitted_words, ended_words};
+ghost use Rattle.net_base.specs.Transcript as spec;
+ghost use Rattle.net_base.specs.Transcript.{spaced, line_of, lines_from, history_text, header_words, way_words, body_words, entry_words, who_words, outcome_words, emitted_words, ended_words};
 
 use crate::event::put_event;
 use crate::names::{kind_word, put_actor, put_addr, put_number_or_dash};
 use crate::reply::put_reply;
 use crate::words::{put_decimal, put_number, put_with_numbers, put_word};
-use net_model::{BodyHeader, Entry, Header, History, Octets};
+use net_base::{BodyHeader, Entry, Header, History, Octets};
 use std::alloc::{AllocError, Global};
 
 /// The text of a history, made in one pass.
@@ -28,7 +28,7 @@ fn put_lines(out: &mut Octets, entries: &[Entry]) -> Result<(), AllocError>
     Ok(())
 }
 
-#[tactic(auto, unfolding(net_model::specs::Transcript::line_of))]
+#[tactic(auto, unfolding(net_base::specs::Transcript::line_of))]
 fn put_line(out: &mut Octets, stamp: u64, entry: &Entry) -> Result<(), AllocError>
     ensures { OnOk result (out.new ≡ out.old ++ line_of stamp entry.now) }
 {

@@ -1,6 +1,6 @@
 //! Events as words.
 ghost use Rattle.std.specs.Prelude.{◌≡◌, ◌++◌, OnOk};
-ghost use Rattle.net_model.specs.Transcript.{spaced, event_words};
+ghost use Rattle.net_base.specs.Transcript.{spaced, event_words};
 
 use crate::names::{
     file_name, mode_word, put_addr, put_ip_or_star, put_number_or_dash, put_port_or_star,
@@ -8,7 +8,7 @@ use crate::names::{
 use crate::words::{
     put_hex, put_number, put_with_hex, put_with_number, put_with_numbers, put_word,
 };
-use net_model::{Event, Octets};
+use net_base::{Event, Octets};
 use std::alloc::AllocError;
 
 /// An event: its word and what goes with it.

@@ -1,13 +1,13 @@
 //! Addresses, actors and modes as words.
 ghost use Rattle.std.specs.Prelude.{◌≡◌, ◌∷◌, ◌++◌, [], OnOk, codes, decimal};
-ghost use Rattle.net_model.specs.Addresses.{address_text};
-ghost use Rattle.net_model.specs.Paths as paths;
-ghost use Rattle.net_model.specs.StateWords as states;
-ghost use Rattle.net_model.specs.Transcript as spec;
-ghost use Rattle.net_model.specs.Transcript.{spaced, addr_word, actor_word, number_or_dash, number_or_star, ip_or_star};
+ghost use Rattle.net_base.specs.Addresses.{address_text};
+ghost use Rattle.net_base.specs.Paths as paths;
+ghost use Rattle.net_base.specs.StateWords as states;
+ghost use Rattle.net_base.specs.Transcript as spec;
+ghost use Rattle.net_base.specs.Transcript.{spaced, addr_word, actor_word, number_or_dash, number_or_star, ip_or_star};
 
 use crate::words::{put_decimal, put_number, put_word};
-use net_model::{ActorName, Addr, FileName, IlKind, Mode, Octets, Proto, StateName};
+use net_base::{ActorName, Addr, FileName, IlKind, Mode, Octets, Proto, StateName};
 use std::alloc::AllocError;
 
 pub fn proto_name(proto: Proto) -> &'static [u8]
@@ -90,7 +90,7 @@ fn put_address(out: &mut Octets, ip: u32) -> Result<(), AllocError>
 }
 
 /// An address with its port.
-#[tactic(auto, unfolding(net_model::specs::Transcript::addr_word))]
+#[tactic(auto, unfolding(net_base::specs::Transcript::addr_word))]
 pub fn put_addr(out: &mut Octets, addr: Addr) -> Result<(), AllocError>
     ensures { OnOk result (out.new ≡ out.old ++ spaced (addr_word addr ∷ [])) }
 {

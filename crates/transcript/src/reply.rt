@@ -1,13 +1,13 @@
 //! Replies as words.
 ghost use Rattle.std.specs.Prelude.{◌≡◌, ◌++◌, OnOk};
-ghost use Rattle.net_model.specs.Transcript as spec;
-ghost use Rattle.net_model.specs.Transcript.{spaced, reply_words, call_words, calls_of};
+ghost use Rattle.net_base.specs.Transcript as spec;
+ghost use Rattle.net_base.specs.Transcript.{spaced, reply_words, call_words, calls_of};
 
 use crate::names::{put_addr, state_word};
 use crate::words::{
     put_number, put_with_hex, put_with_lines, put_with_number, put_with_numbers, put_word,
 };
-use net_model::{Call, CallList, Cause, Octets, Reply};
+use net_base::{Call, CallList, Cause, Octets, Reply};
 use std::alloc::AllocError;
 
 /// A reply: its word and what goes with it.

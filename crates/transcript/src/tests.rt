@@ -1,6 +1,6 @@
 //! A worked history, and a line for each word.
 use crate::text_of;
-use net_model::{
+use net_base::{
     ActorName, Addr, BodyHeader, Call, CallList, Cause, Entry, Event, FileName, Header, History,
     IlKind, Lines, Mode, Octets, Pair, Proto, Reply, StateName,
 };

@@ -1,8 +1,8 @@
 //! What a history wrote and read.
 ghost use Rattle.std.specs.Prelude.{◌≡◌, ◌≤◌, length, nat_lt, if◌then◌else◌};
-ghost use Rattle.net_model.specs.Summary.{sum_over, written_in, read_in, bytes_written_in, bytes_read_in};
+ghost use Rattle.net_base.specs.Summary.{sum_over, written_in, read_in, bytes_written_in, bytes_read_in};
 
-use net_model::{Entry, Event, History, Reply};
+use net_base::{Entry, Event, History, Reply};
 
 /// How many messages were written and read, and how many bytes they have. A read of no bytes is no message.
 #[derive(Clone, Copy, Debug, PartialEq, Eq)]

@@ -1,11 +1,11 @@
 //! Words of a line, each with a blank before it.
 ghost use Rattle.std.specs.Prelude.{◌≡◌, ◌<◌, ◌∷◌, ◌++◌, [], OnOk, decimal};
-ghost use Rattle.net_model.specs.Transcript as spec;
-ghost use Rattle.net_model.specs.Transcript.{spaced, hex_digits, hex_word, lines_of};
+ghost use Rattle.net_base.specs.Transcript as spec;
+ghost use Rattle.net_base.specs.Transcript.{spaced, hex_digits, hex_word, lines_of};
 ghost use Rattle.transcript.specs.Digits.{line_digits};
 
 use itoa::Buffer;
-use net_model::{Lines, Octets};
+use net_base::{Lines, Octets};
 use std::alloc::AllocError;
 
 /// A number's digits, without a blank.

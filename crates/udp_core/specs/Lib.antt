@@ -1,1 +1,1 @@
-pub use Rattle.net_model.specs.UdpEnd
+pub use Rattle.net_base.specs.UdpEnd

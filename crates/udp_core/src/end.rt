@@ -1,10 +1,10 @@
 //! A UDP end.
 ghost use Rattle.std.specs.Prelude.{◌≡◌, ◌<◌, ◌↔◌, ◌++◌, ◌∷◌, List, [], length, take, is_ok, IsTrue, IsOk, IfOk, IfErr, OnOk, OnErr, IsErrOf};
-ghost use Rattle.net_model.specs.UdpEnd as spec;
-ghost use Rattle.net_model.specs.UdpEnd.{IsDrained};
+ghost use Rattle.net_base.specs.UdpEnd as spec;
+ghost use Rattle.net_base.specs.UdpEnd.{IsDrained};
 
 use circular_buffer::HeapCircularBuffer;
-use net_model::{Octets, StateName, UdpState};
+use net_base::{Octets, StateName, UdpState};
 use std::alloc::{AllocError, Global};
 use std::marker::Model;
 
@@ -39,7 +39,7 @@ pub struct UdpEnd {
 
 impl Model for UdpEnd {
     ghost use Rattle.std.specs.Prelude.{◌≡◌};
-    ghost use Rattle.net_model.specs.UdpEnd.{UdpEnd as EndOf};
+    ghost use Rattle.net_base.specs.UdpEnd.{UdpEnd as EndOf};
 
     ghost Value = { EndOf };
 

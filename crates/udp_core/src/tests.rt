@@ -1,6 +1,6 @@
 //! A run that meets every answer of a UDP end.
 use crate::{HungupError, MOST_UNREAD, UdpEnd};
-use net_model::{Octets, StateName};
+use net_base::{Octets, StateName};
 use std::alloc::{AllocError, Global};
 use std::test::*;
 

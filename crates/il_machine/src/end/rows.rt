@@ -1,14 +1,14 @@
 //! The rows of the table for what comes, a function for each state.
 ghost use Rattle.std.specs.Prelude.{◌≡◌, ℕ, ◌<◌, ◌^◌, IfOk, OnOk, OnErr};
-ghost use Rattle.net_model.specs.declared.il.IlKind.TheVariants as kind;
-ghost use Rattle.net_model.specs.declared.il.IlState.TheVariants as state;
-ghost use Rattle.net_model.specs.IlEnd as spec;
-ghost use Rattle.net_model.specs.IlTable as table;
+ghost use Rattle.net_base.specs.declared.il.IlKind.TheVariants as kind;
+ghost use Rattle.net_base.specs.declared.il.IlState.TheVariants as state;
+ghost use Rattle.net_base.specs.IlEnd as spec;
+ghost use Rattle.net_base.specs.IlTable as table;
 ghost use Rattle.il_machine.specs.Stands.{IsShort};
 
 use crate::end::IlEnd;
 use il_queues::Timer;
-use net_model::{Cause, IlKind, IlMsg, IlState};
+use net_base::{Cause, IlKind, IlMsg, IlState};
 use std::alloc::AllocError;
 
 impl IlEnd {

@@ -4,7 +4,7 @@ ghost use Rattle.il_machine.specs.declared.ask.Ask.TheVariants as ask;
 ghost use Rattle.il_machine.specs.Stands.{StandsFor, StandsForSome, IsShort, is_ready};
 
 use crate::{Ask, HungupError, IlEnd};
-use net_model::{Cause, IlKind, IlMsg, IlState, Octets};
+use net_base::{Cause, IlKind, IlMsg, IlState, Octets};
 use std::alloc::{AllocError, Global};
 use std::process::Abort;
 use std::test::*;

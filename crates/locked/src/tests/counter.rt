@@ -1,6 +1,6 @@
 //! A machine that counts.
 use crate::machine::Machine;
-use net_model::{Event, Outcome, Reply, Work};
+use net_base::{Event, Outcome, Reply, Work};
 use std::alloc::AllocError;
 use std::marker::Model;
 

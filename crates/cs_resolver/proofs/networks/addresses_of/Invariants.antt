@@ -1,5 +1,5 @@
 use Rattle.std.proofs.Common.{◌≡◌, take}
-use Rattle.net_model.specs.Networks.{addresses_of}
+use Rattle.net_base.specs.Networks.{addresses_of}
 use Rattle.cs_resolver.proofs.networks.addresses_of.Given as goal
 
 abbrev pub invariant-loop-tuple : goal.invariant-loop-tuple

@@ -1,6 +1,6 @@
 use Rattle.std.proofs.Common.{sym, arith, ◌==◌}
 use Rattle.std.proofs.lemmas.Bool.Decides.{nat_tests}
-use Rattle.net_model.specs.Networks.{mask_of}
+use Rattle.net_base.specs.Networks.{mask_of}
 use Rattle.cs_resolver.proofs.Ranges.{found_in_range, none_in_range}
 use Rattle.cs_resolver.proofs.networks.mask_bits.Goals as goal
 

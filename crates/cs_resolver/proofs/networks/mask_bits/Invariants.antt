@@ -1,5 +1,5 @@
 use Rattle.std.proofs.Common.{◌≡◌, ℕ, ◌<◌, false, ◌==◌}
-use Rattle.net_model.specs.Networks.{mask_of}
+use Rattle.net_base.specs.Networks.{mask_of}
 use Rattle.cs_resolver.proofs.networks.mask_bits.Given as goal
 
 abbrev pub invariant-loop-bits : goal.invariant-loop-bits

@@ -1,8 +1,8 @@
 use Rattle.std.proofs.Common.{◌++◌, map, take, ap, ◌∙◌, arith}
 use Rattle.std.specs.Prelude.{flat_map}
 use Rattle.std.proofs.lemmas.List.{take_all}
-use Rattle.net_model.specs.Addresses.{address_text}
-use Rattle.net_model.specs.Cs.{cs_line, ports_of}
+use Rattle.net_base.specs.Addresses.{address_text}
+use Rattle.net_base.specs.Cs.{cs_line, ports_of}
 use Rattle.cs_resolver.proofs.Answering.{lines_of_is}
 use Rattle.cs_resolver.proofs.resolve.add_lines.Goals as goal
 

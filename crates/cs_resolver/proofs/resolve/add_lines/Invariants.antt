@@ -1,7 +1,7 @@
 use Rattle.std.proofs.Common.{◌≡◌, ◌++◌, take, map}
 use Rattle.std.specs.Prelude.{flat_map}
-use Rattle.net_model.specs.Addresses.{address_text}
-use Rattle.net_model.specs.Cs.{cs_line}
+use Rattle.net_base.specs.Addresses.{address_text}
+use Rattle.net_base.specs.Cs.{cs_line}
 use Rattle.cs_resolver.proofs.resolve.add_lines.Given as goal
 
 abbrev pub invariant-loop-ip : goal.invariant-loop-ip

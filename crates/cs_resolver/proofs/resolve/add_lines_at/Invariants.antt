@@ -1,6 +1,6 @@
 use Rattle.std.proofs.Common.{◌≡◌, ◌++◌, take, map}
-use Rattle.net_model.specs.Addresses.{address_text}
-use Rattle.net_model.specs.Cs.{cs_line}
+use Rattle.net_base.specs.Addresses.{address_text}
+use Rattle.net_base.specs.Cs.{cs_line}
 use Rattle.cs_resolver.proofs.resolve.add_lines_at.Given as goal
 
 abbrev pub invariant-loop-port : goal.invariant-loop-port

@@ -1,5 +1,5 @@
 use Rattle.std.proofs.Common.{◌≡◌, take}
-use Rattle.net_model.specs.Cs.{once_each}
+use Rattle.net_base.specs.Cs.{once_each}
 use Rattle.cs_resolver.proofs.resolve.once_each.Given as goal
 
 abbrev pub invariant-loop-number : goal.invariant-loop-number

@@ -1,6 +1,6 @@
 use Rattle.std.proofs.Common.{◌≡◌, ◌+◌, length, None, vec_len, arith, ◌∙◌}
 use Rattle.std.proofs.lemmas.Grind.{common_steps}
-use Rattle.net_model.specs.IlEnd.{early_at}
+use Rattle.net_base.specs.IlEnd.{early_at}
 use Rattle.il_machine.specs.Parts.{seen}
 use Rattle.il_machine.proofs.InTurn.{none_moves}
 use Rattle.il_machine.proofs.early.come_in_turn.Goals as goal

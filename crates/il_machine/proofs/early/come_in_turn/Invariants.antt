@@ -1,5 +1,5 @@
 use Rattle.std.proofs.Common.{◌≡◌, ◌+◌, ◌≤◌, length, vec_len, vec_capacity}
-use Rattle.net_model.specs.IlEnd.{End, come_in_turn}
+use Rattle.net_base.specs.IlEnd.{End, come_in_turn}
 use Rattle.il_machine.specs.Parts.{seen}
 use Rattle.il_machine.proofs.early.come_in_turn.Given as goal
 

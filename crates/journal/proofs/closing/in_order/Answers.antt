@@ -1,5 +1,5 @@
 use Rattle.std.proofs.Common.{◌≡◌, List, [], ◌∷◌, ◌++◌, map, reverse, Some, Option, ap, sym, ◌∙◌, append_assoc, rules}
-use Rattle.net_model.specs.declared.history.Entry.{Entry}
+use Rattle.net_base.specs.declared.history.Entry.{Entry}
 use Rattle.journal.proofs.Gathering.{there_is, somes}
 use Rattle.journal.proofs.closing.in_order.Goals as goal
 

@@ -1,6 +1,6 @@
 use Rattle.std.proofs.Common.{◌≡◌, ◌≤◌, ◌+◌, List, ◌++◌, length, map, reverse, Some}
 use Rattle.std.specs.Prelude.{vec_capacity}
-use Rattle.net_model.specs.declared.history.Entry.{Entry}
+use Rattle.net_base.specs.declared.history.Entry.{Entry}
 use Rattle.journal.proofs.closing.in_order.Given as goal
 
 -- the places left, and then what was taken of them, backwards

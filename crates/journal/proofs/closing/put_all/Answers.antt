@@ -1,5 +1,5 @@
 use Rattle.std.proofs.Common.{[], ◌∷◌, List, ◌++◌, ap, sym, subst, ◌∙◌, append_assoc, Option}
-use Rattle.net_model.specs.declared.history.Entry.{Entry}
+use Rattle.net_base.specs.declared.history.Entry.{Entry}
 use Rattle.journal.specs.declared.tokens.Stamped.{Stamped}
 use Rattle.journal.specs.Closing.{IsPlaced}
 use Rattle.journal.proofs.Gathering.{placed_next}

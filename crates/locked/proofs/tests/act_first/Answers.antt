@@ -1,5 +1,5 @@
 use Rattle.std.proofs.Common.{[], ap, arith}
-use Rattle.net_model.specs.Stamped.{moment}
+use Rattle.net_base.specs.Stamped.{moment}
 use Rattle.locked.proofs.tests.act_first.Goals as goal
 
 pub act_once-requires-clause-held : goal.act_once-requires-clause-held

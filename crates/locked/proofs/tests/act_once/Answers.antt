@@ -1,6 +1,6 @@
 use Rattle.std.proofs.Common.{ap, ◌∙◌}
-use Rattle.net_model.specs.declared.actor.ActorName.TheVariants as name
-use Rattle.net_model.specs.Stamped.{same_actor}
+use Rattle.net_base.specs.declared.actor.ActorName.TheVariants as name
+use Rattle.net_base.specs.Stamped.{same_actor}
 use Rattle.locked.proofs.Turns.{still_holds, same_moment}
 use Rattle.locked.proofs.tests.act_once.Goals as goal
 

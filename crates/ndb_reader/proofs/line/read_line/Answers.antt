@@ -1,6 +1,6 @@
 use Rattle.std.proofs.Common.{◌≡◌, None, ◌∙◌}
-use Rattle.net_model.specs.NdbBundle.{least}
-use Rattle.net_model.specs.NdbForm.{causes_so_far}
+use Rattle.net_base.specs.NdbBundle.{least}
+use Rattle.net_base.specs.NdbForm.{causes_so_far}
 use Rattle.ndb_reader.proofs.Causes.{pairs-read}
 use Rattle.ndb_reader.proofs.line.read_line.Goals as goal
 

@@ -5,15 +5,15 @@ use Rattle.std.proofs.lemmas.List.Splits.{length-slice_split}
 use Rattle.std.proofs.lemmas.List.Sums.{count_by-le-length}
 use Rattle.std.proofs.lemmas.List.{length_push}
 use borrow.Author.Tests.{tests}
-use Rattle.net_model.specs.NdbText.{is_newline, is_empty, lines_of, pairs_of}
-use Rattle.net_model.specs.NdbBundle.{least}
-use Rattle.net_model.specs.NdbForm.{causes_so_far}
-use Rattle.net_model.specs.NdbSpelling.{ReadsFile}
-use Rattle.net_model.proofs.NdbFiles.{so_far_is_spelled}
-use Rattle.net_model.proofs.NdbForms.{read_so_far}
+use Rattle.net_base.specs.NdbText.{is_newline, is_empty, lines_of, pairs_of}
+use Rattle.net_base.specs.NdbBundle.{least}
+use Rattle.net_base.specs.NdbForm.{causes_so_far}
+use Rattle.net_base.specs.NdbSpelling.{ReadsFile}
+use Rattle.net_base.proofs.NdbFiles.{so_far_is_spelled}
+use Rattle.net_base.proofs.NdbForms.{read_so_far}
 use Rattle.ndb_reader.proofs.Reading.{Next, read-none, read-bad, read-blank, read-on, read-start, read-all, tells-of, moved}
 use Rattle.std.proofs.lemmas.Result.{err_from_is_err_and}
-use Rattle.net_model.specs.declared.ndb.NdbPair.{NdbPair}
+use Rattle.net_base.specs.declared.ndb.NdbPair.{NdbPair}
 use Rattle.ndb_reader.proofs.reader.read_ndb.Goals as goal
 
 pub loop-line-init : goal.loop-line-init

@@ -1,5 +1,5 @@
 use Rattle.std.proofs.Common.{◌≡◌, length}
-use Rattle.net_model.specs.NdbText.{lines_of}
+use Rattle.net_base.specs.NdbText.{lines_of}
 use Rattle.ndb_reader.proofs.Reading.{Read}
 use Rattle.ndb_reader.proofs.reader.read_ndb.Given as goal
 

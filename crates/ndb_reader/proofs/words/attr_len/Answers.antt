@@ -5,7 +5,7 @@ use Rattle.std.proofs.lemmas.Iterator.Search.{position_from_yields_List}
 use Rattle.std.proofs.lemmas.List.Sums.{prefix_len-le-length}
 use Rattle.std.proofs.lemmas.Bool.Decides.{nat_tests}
 use borrow.Author.Tests.{tests}
-use Rattle.net_model.specs.NdbText as spec
+use Rattle.net_base.specs.NdbText as spec
 use Rattle.ndb_reader.proofs.words.attr_len.Goals as goal
 
 at_or_length_if : (i n : ℕ) (b : Bool) → ltb i n ≡ b → i ≤ n → unwrap_or (cond b (Some i) None) n ≡ i

@@ -5,8 +5,8 @@ use Rattle.std.proofs.lemmas.Iterator.Consumers.{YieldsList-turn, YieldsList-end
 use Rattle.std.proofs.lemmas.List.{length_push, at_drop_all}
 use Rattle.std.proofs.lemmas.Bool.Decides.{nat_tests}
 use borrow.Author.Tests.{tests}
-use Rattle.net_model.specs.declared.ndb.NdbPair.{NdbPair}
-use Rattle.net_model.specs.NdbText as spec
+use Rattle.net_base.specs.declared.ndb.NdbPair.{NdbPair}
+use Rattle.net_base.specs.NdbText as spec
 use Rattle.ndb_reader.proofs.Runs.{pairs_in, pairs-next, pairs-empty, pairs-hash, pairs-run}
 use Rattle.ndb_reader.proofs.words.read_words.Goals as goal
 

@@ -1,7 +1,7 @@
 use Rattle.std.proofs.Common.{◌≡◌, length, map, drop, ◌++◌}
 use Rattle.std.specs.List.{slice_split}
-use Rattle.net_model.specs.NdbText as spec
-use Rattle.net_model.proofs.NdbPlain.{runs_in}
+use Rattle.net_base.specs.NdbText as spec
+use Rattle.net_base.proofs.NdbPlain.{runs_in}
 use Rattle.ndb_reader.proofs.words.read_words.Given as goal
 
 abbrev pub invariant-loop-run : goal.invariant-loop-run

@@ -1,5 +1,5 @@
 use Rattle.std.proofs.Common.{◌≡◌, ◌++◌, drop}
-use Rattle.net_model.specs.Transcript.{lines_from}
+use Rattle.net_base.specs.Transcript.{lines_from}
 use Rattle.transcript.proofs.entry.put_lines.Given as goal
 
 -- what is written, and what is still to write

@@ -1,5 +1,5 @@
 use Rattle.std.proofs.Common.{◌≡◌, ◌++◌, drop}
-use Rattle.net_model.specs.Transcript.{spaced, calls_of}
+use Rattle.net_base.specs.Transcript.{spaced, calls_of}
 use Rattle.transcript.proofs.reply.put_each_call.Given as goal
 
 -- what is written, and what is still to write

@@ -1,5 +1,5 @@
 use Rattle.std.proofs.Common.{◌≡◌, ◌+◌, ◌*◌, ◌^◌, ◌≤◌, drop}
-use Rattle.net_model.specs.Summary.{sum_over, written_in, bytes_written_in}
+use Rattle.net_base.specs.Summary.{sum_over, written_in, bytes_written_in}
 use Rattle.transcript.proofs.totals.written_by.Given as goal
 
 -- what is counted, and what is still to count

@@ -1,5 +1,5 @@
 use Rattle.std.proofs.Common.{◌≡◌, ◌++◌, drop}
-use Rattle.net_model.specs.Transcript.{hex_digits}
+use Rattle.net_base.specs.Transcript.{hex_digits}
 use Rattle.transcript.proofs.words.put_hex_digits.Given as goal
 
 -- what is written, and what is still to write

@@ -1,6 +1,6 @@
 use Rattle.std.proofs.Common.{◌+◌, ◌<◌, ◌≤◌, [], ◌∷◌, length, refl, ap, sym, subst, ◌∙◌, arith, rules}
-use Rattle.net_model.specs.declared.noted.Number.TheVariants as number
-use Rattle.net_model.specs.Stamped.{at}
+use Rattle.net_base.specs.declared.noted.Number.TheVariants as number
+use Rattle.net_base.specs.Stamped.{at}
 use Rattle.journal.specs.declared.law.View.{View}
 use Rattle.journal.specs.Rule.{Run, only}
 use Rattle.journal.specs.Tokens.{Distinct}

@@ -1,6 +1,6 @@
 use Rattle.std.proofs.Common.{sym, subst, arith}
-use Rattle.net_model.specs.declared.noted.Number.TheVariants as number
-use Rattle.net_model.specs.Stamped.{In}
+use Rattle.net_base.specs.declared.noted.Number.TheVariants as number
+use Rattle.net_base.specs.Stamped.{In}
 use Rattle.journal.specs.declared.tokens.Sight.{Sight}
 use Rattle.journal.proofs.tokens.Pass.room.Goals as goal
 

@@ -1,7 +1,7 @@
 use Rattle.std.proofs.Common.{List, map, replicate, None, Option, ap, sym, subst, ◌∙◌}
-use Rattle.net_model.specs.declared.history.Entry.{Entry}
-use Rattle.net_model.specs.declared.noted.Noted.{Noted}
-use Rattle.net_model.specs.Stamped.{In}
+use Rattle.net_base.specs.declared.history.Entry.{Entry}
+use Rattle.net_base.specs.declared.noted.Noted.{Noted}
+use Rattle.net_base.specs.Stamped.{In}
 use Rattle.journal.specs.declared.law.View.{View}
 use Rattle.journal.specs.declared.tokens.Sight.{Sight}
 use Rattle.journal.specs.Rule.{Kept, Held}

@@ -1,8 +1,8 @@
 use Rattle.std.proofs.Common.{List, ap, sym, subst, ◌∙◌}
-use Rattle.net_model.specs.Stamped.{In}
+use Rattle.net_base.specs.Stamped.{In}
 use Rattle.journal.specs.declared.law.View.{View}
 use Rattle.journal.specs.declared.tokens.Sight.{Sight}
-use Rattle.net_model.specs.Stamped.{latest}
+use Rattle.net_base.specs.Stamped.{latest}
 use Rattle.journal.specs.Rule.{Held, has_caller}
 use Rattle.journal.specs.Tokens.{sight, Looked, Counted, OnlyCallers}
 use Rattle.journal.proofs.After.{all_seen}

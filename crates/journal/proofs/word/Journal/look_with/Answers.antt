@@ -1,6 +1,6 @@
 use Rattle.std.proofs.Common.{◌-◌, [], ◌∷◌, ap, sym, subst, ◌∙◌}
 use Rattle.std.specs.Prelude.{vec_len, vec_capacity}
-use Rattle.net_model.specs.declared.noted.Number.TheVariants as number
+use Rattle.net_base.specs.declared.noted.Number.TheVariants as number
 use Rattle.journal.specs.declared.law.View.{View}
 use Rattle.journal.specs.Rule.{Looks, both, only}
 use Rattle.journal.specs.Tokens.{sight, Counted, Agrees, OnlyCallers}

@@ -1,5 +1,5 @@
 use Rattle.std.proofs.Common.{List, sym, subst, ⊎_elim}
-use Rattle.net_model.specs.Stamped.{In, at}
+use Rattle.net_base.specs.Stamped.{In, at}
 use Rattle.journal.specs.declared.law.View.{View}
 use Rattle.journal.proofs.Lists.{in-append}
 use Rattle.journal.specs.Rule.{Held, Looks, both}

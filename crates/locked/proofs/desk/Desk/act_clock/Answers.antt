@@ -1,5 +1,5 @@
 use Rattle.std.proofs.Common.{◌≡◌, ap, sym, subst, ◌∙◌}
-use Rattle.net_model.specs.declared.actor.ActorName.{ActorName}
+use Rattle.net_base.specs.declared.actor.ActorName.{ActorName}
 use Rattle.journal.specs.declared.tokens.Volume.{Volume}
 use Rattle.locked.specs.Acts.{made, IsDone, Stands}
 use Rattle.locked.proofs.Standing.{stands_same, stands_after, is_done}

@@ -1,6 +1,6 @@
 use Rattle.std.proofs.Common.{◌≡◌, ◌+◌, ◌≤◌, sym, ap, ◌∙◌, inl, inr, arith}
 use Rattle.std.proofs.lemmas.Bool.{cases_lt, false≢true}
-use Rattle.net_model.specs.Medium.{datagram_length}
+use Rattle.net_base.specs.Medium.{datagram_length}
 use Rattle.medium.specs.OnMedium.{OnMedium}
 use Rattle.medium.proofs.Laying.{AllSpelled-push, is_spelled, laid_reply, laid_state}
 use Rattle.medium.proofs.medium.Medium.put.Goals as goal

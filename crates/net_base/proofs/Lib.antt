@@ -1,0 +1,12 @@
+pub mod DatagramLaws
+pub mod IlLaws
+pub mod Ipv4Laws
+pub mod Laid
+pub mod WireNumbers
+pub mod WireSums
+pub mod UdpLaws
+pub mod NdbForms
+pub mod NdbPlain
+pub mod NdbComplete
+pub mod NdbSound
+pub mod NdbFiles

@@ -1,0 +1,53 @@
+-- The answers of the program: the status that it ends with and the text that it writes.
+use Rattle.std.specs.Prelude.{ℕ, ◌==◌, List, [], ◌∷◌, ◌++◌, flat_map, if◌then◌else◌, codes, decimal}
+use Rattle.net_base.specs.Cs.{CsAnswer, Lines, Refused}
+
+-- a status and a text
+pub record Answer : Type 0 where
+  pub status : ℕ
+  pub text : List ℕ
+
+-- a newline
+abbrev pub newline : List ℕ
+newline = 10 ∷ []
+
+-- a line of a text
+abbrev pub ended : List ℕ → List ℕ
+ended line = line ++ newline
+
+-- the words give no command
+abbrev pub usage : Answer
+usage = record { status = 1; text = ended (codes "! usage") }
+
+-- the input has a bad line: the first one, or 0 where the input is too long, and its least cause
+abbrev pub bad_input : ℕ → ℕ → Answer
+bad_input line cause = record {
+  status = 2;
+  text = ended (codes "! line " ++ decimal line ++ codes " cause " ++ decimal cause);
+}
+
+-- the text of a refusal of cs
+abbrev pub refusal_text : ℕ → List ℕ
+refusal_text number =
+    if number == 1 then codes "bad query" else (
+    if number == 2 then codes "no net" else (
+    if number == 3 then codes "no host" else (
+    if number == 4 then codes "no service" else (
+    if number == 5 then codes "no value" else
+    codes "not built"))))
+
+-- an answer of cs: its lines, or its refusal
+abbrev pub cs_answer : CsAnswer → Answer
+cs_answer (Lines lines) = record { status = 0; text = flat_map ended lines }
+cs_answer (Refused number) = record {
+  status = 5;
+  text = ended (codes "! " ++ decimal number ++ codes " " ++ refusal_text number);
+}
+
+-- the input couldn't be read
+abbrev pub read_fault : Answer
+read_fault = record { status = 6; text = ended (codes "! read fault") }
+
+-- the most bytes that an input may have, 4 MiB
+abbrev pub input_limit : ℕ
+input_limit = 4194304

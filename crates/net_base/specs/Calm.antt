@@ -1,0 +1,107 @@
+-- When the clock may move and to which moment, and how a run ends.
+use Rattle.std.specs.Prelude.{ℕ, ◌++◌, ◌==◌, ◌&&◌, ◌||◌, Bool, true, false, not, List, [], ◌∷◌, length, min, Option, Some, None, is_some, nat_lt, filter_map}
+use Rattle.std.specs.List.{list_any, list_all, range_with_len, enumerate_from}
+use Rattle.net_base.specs.declared.actor.ActorName.{ActorName}
+use Rattle.net_base.specs.declared.actor.ActorName.TheVariants as name
+use Rattle.net_base.specs.declared.event.Event.{Event}
+use Rattle.net_base.specs.declared.event.Event.TheVariants as event
+use Rattle.net_base.specs.declared.history.With.TheVariants as given
+use Rattle.net_base.specs.declared.world.Script.{Script}
+use Rattle.net_base.specs.declared.world.World.{World}
+use Rattle.net_base.specs.Actors.{Actor, IsMedium, actor_step}
+use Rattle.net_base.specs.Callers.{Caller, IsClock, caller_of, caller_count}
+use Rattle.net_base.specs.Duties.{conversations, due_of}
+use Rattle.net_base.specs.Net.{Net}
+use Rattle.net_base.specs.Next.{by, next_of, is_unfinished}
+use Rattle.net_base.specs.Steps.{Ask}
+
+-- The calm. Each of these speaks of a net that stands after a history.
+
+abbrev pub owes : Net → ℕ → Bool
+owes net c = nat_lt 0 (length (net.owed c))
+
+-- an event is ready, with nothing given to it
+abbrev pub is_ready : World → Net → Option Ask → Bool
+is_ready w net None = false
+is_ready w net (Some ask) = is_some (actor_step w ask.actor (net.actors ask.actor) net.moment (record { event = ask.event; with = given.Nothing }))
+
+-- a caller's next event is ready
+abbrev pub can_go_on : World → Net → ℕ → Bool
+can_go_on w net c = is_ready w net (next_of (caller_of w c) net.past c)
+
+-- the numbers of all callers
+abbrev pub callers : World → List ℕ
+callers w = range_with_len 0 (caller_count w)
+
+abbrev pub nothing_owed : World → Net → Bool
+nothing_owed w net = list_all (λ (c : ℕ). not (owes net c)) (callers w)
+
+-- no copy is queued or held
+abbrev pub is_quiet : Actor → Bool
+is_quiet (IsMedium m) = (length m.queue == 0) && (length m.held == 0)
+is_quiet _ = true
+
+abbrev pub nothing_pending : World → Net → Bool
+nothing_pending w net = list_all (λ (m : ℕ). is_quiet (net.actors (name.Medium m))) (range_with_len 0 (length w.media))
+
+-- no script's next event is ready
+abbrev pub scripts_wait : World → Net → Bool
+scripts_wait w net = list_all (λ (c : ℕ). not (can_go_on w net c)) (range_with_len 0 (length w.scripts))
+
+abbrev pub calm : World → Net → Bool
+calm w net = nothing_owed w net && (nothing_pending w net && scripts_wait w net)
+
+-- some script isn't through
+abbrev pub unfinished : World → Net → Bool
+unfinished w net = list_any (λ (s : ℕ × Script). is_unfinished net.past s.0 s.1) (enumerate_from 0 w.scripts)
+
+-- the clock may move
+abbrev pub movable : World → Net → Bool
+movable w net = calm w net && (unfinished w net && nat_lt net.moment w.end)
+
+-- the moment that a script waits for
+abbrev pub awaited_moment : Option Ask → Option ℕ
+awaited_moment None = None
+awaited_moment (Some ask) = until ask.event
+  where
+    until : Event → Option ℕ
+    until (event.Until m) = Some m
+    until _ = None
+
+-- the least of some moments, or the last where none of them is earlier
+abbrev pub least : ℕ → List ℕ → ℕ
+least last [] = last
+least last (m ∷ ms) = min m (least last ms)
+
+-- the moment to which the clock moves: the least of the due moments and of those that scripts wait for, or the end moment
+-- where that is not later
+abbrev pub target : World → Net → ℕ
+target w net =
+    least w.end
+    (filter_map (λ (a : ActorName). due_of (net.actors a)) (conversations w)
+    ++ filter_map (λ (c : ℕ). awaited_moment (next_of (caller_of w c) net.past c)) (callers w))
+
+-- The end of a run.
+
+-- entries that a caller may record
+abbrev pub most_entries : ℕ
+most_entries = 131072
+
+-- this caller can't record more, though it owes a duty or could go on
+abbrev pub could_record : World → Net → Caller → ℕ → Bool
+could_record w net IsClock c = owes net c || movable w net
+could_record w net _ c = owes net c || can_go_on w net c
+
+abbrev pub at_limit : World → Net → ℕ → Bool
+at_limit w net c = (length (by net.past c) == most_entries) && could_record w net (caller_of w c) c
+
+abbrev pub limited : World → Net → Bool
+limited w net = list_any (at_limit w net) (callers w)
+
+-- every step is answered
+abbrev pub done : World → Net → Bool
+done w net = calm w net && (not (limited w net) && not (unfinished w net))
+
+-- the end moment came, and some script isn't through
+abbrev pub stopped : World → Net → Bool
+stopped w net = calm w net && (not (limited w net) && (unfinished w net && (net.moment == w.end)))

@@ -1,0 +1,39 @@
+//! The plain data of the network, and the definitions that contracts cite.
+#![tactic(auto)]
+
+mod actor;
+mod address;
+mod event;
+mod history;
+mod il;
+mod names;
+mod ndb;
+mod noted;
+mod numbers;
+mod octets;
+mod packet;
+mod reply;
+mod sequence;
+mod timer;
+mod udp;
+mod world;
+
+pub use actor::{ActorList, ActorName, Call, CallList, same_actor};
+pub use address::{Addr, Pair, Proto, mirror};
+pub use event::Event;
+pub use history::{Entry, History, Outcome, Taken, With, Work};
+pub use il::{Cause, IlKind, IlMsg, IlState, StateName};
+pub use names::{Ctl, FileName, Mode, Node};
+pub use ndb::{Db, Line, NdbPair, Tuple};
+pub use noted::{Noted, Number};
+pub use numbers::number;
+pub use octets::{Lines, Octets};
+pub use packet::{Body, BodyHeader, Header, Packet};
+pub use reply::Reply;
+pub use sequence::Sequence;
+pub use timer::Tick;
+pub use udp::UdpState;
+pub use world::{
+    Fate, FateRange, Fates, HostSpec, Hosts, Iface, Ifaces, Media, MediumSpec, Nets, RouteLine,
+    RouteLines, Script, Scripts, Starts, Step, StepList, World,
+};
