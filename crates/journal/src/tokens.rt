@@ -108,7 +108,7 @@ impl<J: Naming> Book<J> {
 }
 
 impl<J: Naming> Journal<J> {
-    // K3, K5 or K6, K2.
+    // The book joins the pass, the entry is recorded, and the actor goes back to the book.
     fn put(&self, book: &mut Book<J>, pass: &mut Pass<J>, entry: Entry, work: &Work) -> u64
         requires room { 0 < book.old.room }
         requires may { MayRecord pass.old book.old (noted entry work.now) }
