@@ -119,13 +119,13 @@ has_empty_append [] ys h = inr h
 has_empty_append (x ∷ xs) ys (inl is) = inl (inl is)
 has_empty_append (x ∷ xs) ys (inr h) = elim (has_empty_append xs ys h) [ inl a ↦ inl (inr a) | inr b ↦ inr b ]
 
-writes_push : (o : Owner) (h : List Entry) (x : Entry) → writes o (h ++ x ∷ []) ≡ writes o h ++ written_here o x.actor x.event x.reply
+pub writes_push : (o : Owner) (h : List Entry) (x : Entry) → writes o (h ++ x ∷ []) ≡ writes o h ++ written_here o x.actor x.event x.reply
 writes_push o [] x = append-nil (written_here o x.actor x.event x.reply)
 writes_push o (y ∷ h) x =
     let first = written_here o y.actor y.event y.reply in
     ap (λ (zs : List (List ℕ)). first ++ zs) (writes_push o h x) ∙ sym (append_assoc first (writes o h) (written_here o x.actor x.event x.reply))
 
-reads_push : (o : Owner) (h : List Entry) (x : Entry) → reads o (h ++ x ∷ []) ≡ reads o h ++ read_here o x.actor x.event x.reply
+pub reads_push : (o : Owner) (h : List Entry) (x : Entry) → reads o (h ++ x ∷ []) ≡ reads o h ++ read_here o x.actor x.event x.reply
 reads_push o [] x = append-nil (read_here o x.actor x.event x.reply)
 reads_push o (y ∷ h) x =
     let first = read_here o y.actor y.event y.reply in

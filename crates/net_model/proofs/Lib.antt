@@ -40,6 +40,7 @@ pub mod Happened
 pub mod Standing
 pub mod Marks
 pub mod Peers
+pub mod Messages
 pub mod InOrders
 pub mod PairsOnce
 pub mod NdbFirsts

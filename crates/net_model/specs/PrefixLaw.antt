@@ -1,8 +1,9 @@
 -- What is read was written, in order, whatever media lose, repeat or delay.
-use Rattle.std.specs.Prelude.{ℕ, ◌≡◌, ◌≤◌, ◌⊎◌, List, [], ◌∷◌, ◌++◌, length}
+use Rattle.std.specs.Prelude.{ℕ, ◌≡◌, ◌≤◌, ◌⊎◌, List, [], ◌∷◌, ◌++◌, length, filter}
 use Rattle.net_base.specs.declared.history.Entry.{Entry}
 use Rattle.net_base.specs.declared.world.World.{World}
-use Rattle.net_base.specs.Written.{Conversation, writes, reads, joined, stood}
+use Rattle.net_base.specs.Networks.{is_filled}
+use Rattle.net_base.specs.Written.{Conversation, IsRead, writes, reads, joined, stood}
 
 abbrev pub IsPrefix : {A : Type 0} → List A → List A → Type 0
 IsPrefix {A} xs ys = (rest : List A) × (xs ++ rest ≡ ys)
@@ -12,10 +13,16 @@ abbrev pub HasEmpty : List (List ℕ) → Type 0
 HasEmpty [] = ⊥
 HasEmpty (text ∷ texts) = (text ≡ []) ⊎ HasEmpty texts
 
+-- every read that replied bytes had room for the longest message
+abbrev pub HaveRoom : List Entry → Conversation → Type 0
+HaveRoom h e = (k count : ℕ) (text : List ℕ) → IsRead h e k count text → 8192 ≤ count
+
 -- what holds of an IL conversation e and its peer f
 pub record InOrder (w : World) (h : List Entry) (e f : Conversation) : Type 0 where
   -- the bytes that were read begin those that were written
   pub bytes : IsPrefix (joined (reads h e)) (joined (writes h f))
+  -- where the reads had room, what each gave is one whole message
+  pub messages : HaveRoom h e → IsPrefix (filter is_filled (reads h e)) (writes h f)
   -- where a read gave no bytes, all that the peer writes was read, later writes included
   pub all_read : HasEmpty (reads h e) → joined (reads h e) ≡ joined (writes h f)
   -- the end has got what its peer sent, and counts as acknowledged what its peer has got
