@@ -54,7 +54,7 @@ prefix_trans {A} xs ys zs p q = (p.0 ++ q.0, sym (append_assoc xs p.0 q.0) ∙ (
 given_all : (taken cut : ℕ) (got : List (List ℕ)) → taken ≡ length got → cut ≡ 0 → given_out taken cut got ≡ joined got
 given_all taken cut got all none = rw (none, take_all taken got (omega (arith, all))) (append-nil (joined got))
 
-conv_of_is : (e : Conversation) → e.proto ≡ proto.Il → conv_of (owner_in e) ≡ e
+pub conv_of_is : (e : Conversation) → e.proto ≡ proto.Il → conv_of (owner_in e) ≡ e
 conv_of_is e il = ap (λ (p : Proto). record { host = e.host; proto = p; slot = e.slot; generation = e.generation }) (sym il)
 
 pub in_order : (w : World) (h : List Entry) (e f : Conversation) → IsWorld w → IsLegal w h → e.proto ≡ proto.Il → peer w h e ≡ Some f → InOrder w h e f

@@ -42,6 +42,7 @@ pub mod Marks
 pub mod Peers
 pub mod Messages
 pub mod InOrders
+pub mod Alones
 pub mod PairsOnce
 pub mod NdbFirsts
 pub mod CasesRuns

@@ -28,3 +28,9 @@ pub record InOrder (w : World) (h : List Entry) (e f : Conversation) : Type 0 wh
   -- the end has got what its peer sent, and counts as acknowledged what its peer has got
   pub got : IsPrefix (stood w h e).got (stood w h f).sent
   pub acked : (stood w h e).acked ≤ length (stood w h f).got
+
+-- what holds of an IL conversation that has no peer
+pub record Alone (w : World) (h : List Entry) (e : Conversation) : Type 0 where
+  -- no read gives bytes, or an end of file, and nothing counts as acknowledged
+  pub unread : reads h e ≡ []
+  pub unacked : (stood w h e).acked ≡ 0
