@@ -15,8 +15,8 @@ use Rattle.net_base.specs.Mirror.{mirror}
 use Rattle.net_base.specs.Net.{after}
 use Rattle.net_base.specs.World.{IsWorld}
 use Rattle.net_base.specs.Written.{Conversation, given_in, holder, pair_of, peer, reads, joined, stood}
-use Rattle.net_model.specs.PrefixLaw.{Alone, HasEmpty}
-use Rattle.net_model.proofs.Accounts.{given_by, given_out}
+use Rattle.net_model.specs.PrefixLaw.{Alone}
+use Rattle.net_model.proofs.Accounts.{HasEmpty, given_by, given_out}
 use Rattle.net_model.proofs.Begins.{begins_length}
 use Rattle.net_model.proofs.Books.{conv_of}
 use Rattle.net_model.proofs.Happened.{kept_at, linked}

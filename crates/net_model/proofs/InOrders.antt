@@ -12,12 +12,13 @@ use Rattle.net_base.specs.Legal.{IsLegal}
 use Rattle.net_base.specs.Mirror.{mirror}
 use Rattle.net_base.specs.Net.{after}
 use Rattle.net_base.specs.Networks.{is_filled}
-use Rattle.net_model.specs.PrefixLaw.{InOrder, HasEmpty, HaveRoom, IsPrefix}
+use Rattle.net_model.specs.PrefixLaw.{InOrder, HaveRoom, IsPrefix}
 use Rattle.net_base.specs.World.{IsWorld}
-use Rattle.net_base.specs.Written.{Conversation, peer, writes, reads, joined, stood}
-use Rattle.net_model.proofs.Accounts.{AtEnd, given_by, given_out, IsReading, joined-append}
+use Rattle.net_base.specs.Written.{Conversation, HasClosed, IsRead, peer, writes, reads, joined, stood}
+use Rattle.net_model.proofs.Accounts.{AtEnd, HasEmpty, given_by, given_out, IsReading, joined-append}
 use Rattle.net_model.proofs.Begins.{begins_prefix, begins_same}
 use Rattle.net_model.proofs.Books.{conv_of}
+use Rattle.net_model.proofs.EndOfFile.{Reads, reads_nothing, empty_read, read_before, closed_before}
 use Rattle.net_model.proofs.Happened.{kept_at, linked}
 use Rattle.net_model.proofs.Linked.{owner_in}
 use Rattle.net_model.proofs.Messages.{given_whole}
@@ -61,7 +62,7 @@ pub in_order : (w : World) (h : List Entry) (e f : Conversation) → IsWorld w �
 in_order w h e f world legal il is = record {
   bytes = bytes;
   messages = messages;
-  all_read = all_read;
+  end_of_file = end_of_file;
   got = got;
   acked = acked;
 }
@@ -119,6 +120,16 @@ in_order w h e f world legal il is = record {
         let link = (kept.fine.owned.talk p).link in
         let all : near.got ≡ far.sent = begins_same near.got far.sent link.in_order (link.all_got at.0).1 in
         sym given ∙ (given_all near.taken near.cut near.got at.1 at.2 ∙ ap joined (all ∙ written))
+
+    end_of_file : (k count : ℕ) → IsRead h e k count [] → HasClosed w (take k h) f × (joined (reads (take k h) e) ≡ joined (writes h f))
+    end_of_file k count read = (
+      subst (λ (x : Conversation). HasClosed w (take k h) x) f_is (closed_before w world h legal (owner_in e) p own.1 k r (owner_in f) own.3),
+      subst (λ (x : Conversation). joined (reads (take k h) x) ≡ joined (reads h x)) e_is (read_before w world h legal (owner_in e) p own.1 k r)
+          ∙ all_read (subst (λ (x : Conversation). HasEmpty (reads h x)) e_is (empty_read w world h legal (owner_in e) p own.1 k r)),
+    )
+      where
+        r : Reads h (owner_in e) k
+        r = reads_nothing h (owner_in e) k count (subst (λ (x : Conversation). IsRead h x k count []) (sym e_is) read)
 
     stands_near : Same (stood w h e) near
     stands_near = subst (λ (x : Conversation). Same (stood w h x) near) e_is ((all_stood w world h legal).had p (owner_in e) own.1)

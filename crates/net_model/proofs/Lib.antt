@@ -41,6 +41,8 @@ pub mod Standing
 pub mod Marks
 pub mod Peers
 pub mod Messages
+pub mod Closings
+pub mod EndOfFile
 pub mod InOrders
 pub mod Alones
 pub mod PairsOnce

@@ -1,17 +1,12 @@
 -- What is read was written, in order, whatever media lose, repeat or delay.
-use Rattle.std.specs.Prelude.{ℕ, ◌≡◌, ◌≤◌, ◌⊎◌, List, [], ◌∷◌, ◌++◌, length, filter}
+use Rattle.std.specs.Prelude.{ℕ, ◌≡◌, ◌≤◌, List, [], ◌++◌, length, take, filter}
 use Rattle.net_base.specs.declared.history.Entry.{Entry}
 use Rattle.net_base.specs.declared.world.World.{World}
 use Rattle.net_base.specs.Networks.{is_filled}
-use Rattle.net_base.specs.Written.{Conversation, IsRead, writes, reads, joined, stood}
+use Rattle.net_base.specs.Written.{Conversation, HasClosed, IsRead, writes, reads, joined, stood}
 
 abbrev pub IsPrefix : {A : Type 0} → List A → List A → Type 0
 IsPrefix {A} xs ys = (rest : List A) × (xs ++ rest ≡ ys)
-
--- some text has no bytes
-abbrev pub HasEmpty : List (List ℕ) → Type 0
-HasEmpty [] = ⊥
-HasEmpty (text ∷ texts) = (text ≡ []) ⊎ HasEmpty texts
 
 -- every read that replied bytes had room for the longest message
 abbrev pub HaveRoom : List Entry → Conversation → Type 0
@@ -23,8 +18,8 @@ pub record InOrder (w : World) (h : List Entry) (e f : Conversation) : Type 0 wh
   pub bytes : IsPrefix (joined (reads h e)) (joined (writes h f))
   -- where the reads had room, what each gave is one whole message
   pub messages : HaveRoom h e → IsPrefix (filter is_filled (reads h e)) (writes h f)
-  -- where a read gave no bytes, all that the peer writes was read, later writes included
-  pub all_read : HasEmpty (reads h e) → joined (reads h e) ≡ joined (writes h f)
+  -- a read of no bytes comes after a close of the peer, and after all that the peer writes, later writes included
+  pub end_of_file : (k count : ℕ) → IsRead h e k count [] → HasClosed w (take k h) f × (joined (reads (take k h) e) ≡ joined (writes h f))
   -- the end has got what its peer sent, and counts as acknowledged what its peer has got
   pub got : IsPrefix (stood w h e).got (stood w h f).sent
   pub acked : (stood w h e).acked ≤ length (stood w h f).got

@@ -46,7 +46,7 @@ pub fn a_fault_is_not_legal()
     ensures { (w : World) (h : List Entry) (stamp : ℕ) (rule : Rule) → IsFault w h stamp rule → IsLegal w h → IsTimed w h → ⊥ }
 {}
 
-/// What is read at an IL conversation was written at its peer, in order, and where a read gave no bytes, all of it was read.
+/// What is read at an IL conversation was written at its peer, in order, and an end of file comes after a close and after all of it.
 pub fn prefix_law()
     ensures alone { (w : World) (h : List Entry) (e : Conversation) → IsWorld w → IsLegal w h → e.proto ≡ Il → peer w h e ≡ None → Alone w h e }
     ensures in_order { (w : World) (h : List Entry) (e f : Conversation) → IsWorld w → IsLegal w h → e.proto ≡ Il → peer w h e ≡ Some f → InOrder w h e f }
