@@ -1,6 +1,5 @@
 -- An end without a peer reads nothing, and nothing of it is acknowledged.
-use Rattle.std.proofs.Common.{◌≡◌, ℕ, ◌+◌, ◌≤◌, List, [], ◌∷◌, ◌++◌, length, take, Option, Some, None, inl, refl, sym, ap, subst, ◌∙◌, arith}
-use Rattle.std.specs.Prelude.{slice_index_or}
+use Rattle.std.proofs.Common.{◌≡◌, ℕ, ◌≤◌, List, [], ◌∷◌, length, Option, Some, None, inl, refl, sym, ap, subst, ◌∙◌, arith}
 use Rattle.std.specs.Option.{option_and_then}
 use Rattle.std.proofs.lemmas.List.{take_all}
 use Rattle.std.proofs.lemmas.Option.{none-some}
@@ -14,9 +13,9 @@ use Rattle.net_base.specs.Legal.{IsLegal}
 use Rattle.net_base.specs.Mirror.{mirror}
 use Rattle.net_base.specs.Net.{after}
 use Rattle.net_base.specs.World.{IsWorld}
-use Rattle.net_base.specs.Written.{Conversation, given_in, holder, pair_of, peer, reads, joined, stood}
+use Rattle.net_base.specs.Written.{Conversation, given_in, holder, pair_of, peer, joined}
 use Rattle.net_model.specs.PrefixLaw.{Alone}
-use Rattle.net_model.proofs.Accounts.{HasEmpty, given_by, given_out}
+use Rattle.net_model.proofs.Accounts.{HasEmpty, given_out}
 use Rattle.net_model.proofs.Begins.{begins_length}
 use Rattle.net_model.proofs.Books.{conv_of}
 use Rattle.net_model.proofs.Happened.{kept_at, linked}

@@ -1,6 +1,6 @@
 -- An end is marked by a close that an entry of the other end's conversation emitted.
-use Rattle.std.proofs.Common.{◌≡◌, ℕ, ◌==◌, Bool, true, false, cond, List, [], ◌∷◌, ◌++◌, length, Option, Some, None, ◌⊎◌, inl, inr, refl, sym, ap, subst, ◌∙◌}
-use Rattle.std.specs.Prelude.{find, option_to_list}
+use Rattle.std.proofs.Common.{◌≡◌, Bool, true, false, cond, List, [], ◌∷◌, ◌++◌, length, Option, Some, None, ◌⊎◌, inl, inr, refl, sym, ap, subst, ◌∙◌}
+use Rattle.std.specs.Prelude.{find}
 use Rattle.std.specs.Option.{option_map}
 use Rattle.std.proofs.lemmas.Option.{none-some, same_Some}
 use Rattle.net_base.specs.declared.address.Pair.{Pair}
@@ -8,7 +8,6 @@ use Rattle.net_base.specs.declared.history.Entry.{Entry}
 use Rattle.net_base.specs.declared.il.IlKind.TheVariants.{Close}
 use Rattle.net_base.specs.declared.il.IlMsg.{IlMsg}
 use Rattle.net_base.specs.declared.packet.Body.TheVariants as body
-use Rattle.net_base.specs.declared.packet.Packet.{Packet}
 use Rattle.net_base.specs.declared.world.World.{World}
 use Rattle.net_base.specs.Conversation.{packet_of}
 use Rattle.net_base.specs.Headers.{header}
@@ -16,7 +15,7 @@ use Rattle.net_base.specs.Legal.{IsLegal, MayFollow}
 use Rattle.net_base.specs.Mirror.{mirror}
 use Rattle.net_base.specs.Net.{after, work_of}
 use Rattle.net_base.specs.World.{IsWorld}
-use Rattle.net_base.specs.Written.{Conversation, Given, gave, given_in, same_conversation, pair_of, HasClosed}
+use Rattle.net_base.specs.Written.{Conversation, Given, given_in, same_conversation, pair_of, HasClosed}
 use Rattle.net_model.proofs.Books.{conv_of}
 use Rattle.net_model.proofs.Happened.{Happened, happened, kept_at, linked}
 use Rattle.net_model.proofs.Histories.{at_push, before_push, by_entries, legal_push}
@@ -24,7 +23,7 @@ use Rattle.net_model.proofs.Linked.{given_push}
 use Rattle.net_model.proofs.Pairs.{Side}
 use Rattle.net_model.proofs.Peers.{owned_pair}
 use Rattle.net_model.proofs.Touch.{IsIn, HeardClose}
-use Rattle.net_model.proofs.Trace.{Owner, Trace, empty_side, actor_trace, trace}
+use Rattle.net_model.proofs.Trace.{Owner, Trace, actor_trace, trace}
 use Rattle.net_model.proofs.Whole.{Kept, SaidHere}
 
 -- Later entries don't undo a close.

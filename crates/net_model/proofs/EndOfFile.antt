@@ -1,11 +1,9 @@
 -- An end of file comes after the peer's close, and after all that it writes.
-use Rattle.std.proofs.Common.{◌≡◌, ℕ, suc, ◌+◌, ◌<◌, ◌≤◌, ◌==◌, true, List, [], ◌∷◌, ◌++◌, length, take, drop, Option, Some, None, ◌⊎◌, inl, inr, refl, sym, ap, subst, ◌∙◌, arith}
-use Rattle.std.specs.Prelude.{flat_map}
+use Rattle.std.proofs.Common.{◌≡◌, ℕ, suc, ◌==◌, true, List, [], ◌∷◌, ◌++◌, length, take, drop, Option, Some, None, ◌⊎◌, inl, inr, refl, sym, ap, subst, ◌∙◌, arith}
 use Rattle.std.proofs.lemmas.Bool.{cases_lt, eq-eqb}
 use Rattle.std.proofs.lemmas.List.{append-nil, length_push, take_all, take-append-drop}
 use Rattle.std.proofs.lemmas.Grind.{flat_map-append}
 use Rattle.std.proofs.lemmas.Option.{none-some, same_Some, slice_get_within}
-use Rattle.net_base.specs.declared.actor.ActorName.{ActorName}
 use Rattle.net_base.specs.declared.actor.ActorName.TheVariants as actor
 use Rattle.net_base.specs.declared.address.Pair.{Pair}
 use Rattle.net_base.specs.declared.address.Proto.TheVariants as proto
@@ -18,7 +16,7 @@ use Rattle.net_base.specs.Legal.{IsLegal, MayFollow}
 use Rattle.net_base.specs.Mirror.{mirror}
 use Rattle.net_base.specs.Net.{after, work_of}
 use Rattle.net_base.specs.World.{IsWorld}
-use Rattle.net_base.specs.Written.{Conversation, read_by, joined, IsRead, HasClosed}
+use Rattle.net_base.specs.Written.{read_by, joined, IsRead, HasClosed}
 use Rattle.net_model.proofs.Accounts.{AtEnd, HasEmpty, no_empty, joined-append}
 use Rattle.net_model.proofs.Books.{conv_of, reads, read_here, reads_push, got_sized, Booked, EntryAccount, NoEntry}
 use Rattle.net_model.proofs.Closings.{closings}

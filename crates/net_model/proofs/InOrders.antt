@@ -1,5 +1,5 @@
 -- What is read at an end was written at its peer, in order.
-use Rattle.std.proofs.Common.{◌≡◌, ℕ, ◌+◌, ◌≤◌, Bool, true, false, List, [], ◌∷◌, ◌++◌, length, take, drop, filter, Option, Some, None, ◌⊎◌, inl, inr, refl, sym, ap, subst, ◌∙◌, append_assoc, arith}
+use Rattle.std.proofs.Common.{◌≡◌, ℕ, ◌+◌, ◌≤◌, List, [], ◌∷◌, ◌++◌, length, take, drop, filter, Some, inl, inr, sym, ap, subst, ◌∙◌, append_assoc, arith}
 use Rattle.std.specs.Prelude.{slice_index_or}
 use Rattle.std.proofs.lemmas.List.{append-nil, take_all, take-append-drop, drop_more}
 use Rattle.net_base.specs.declared.address.Pair.{Pair}
@@ -12,7 +12,7 @@ use Rattle.net_base.specs.Legal.{IsLegal}
 use Rattle.net_base.specs.Mirror.{mirror}
 use Rattle.net_base.specs.Net.{after}
 use Rattle.net_base.specs.Networks.{is_filled}
-use Rattle.net_model.specs.PrefixLaw.{InOrder, HaveRoom, IsPrefix}
+use Rattle.net_model.specs.PrefixLaw.{InOrder, HaveRoom, IsEndOfFile, IsPrefix}
 use Rattle.net_base.specs.World.{IsWorld}
 use Rattle.net_base.specs.Written.{Conversation, HasClosed, IsRead, peer, writes, reads, joined, stood}
 use Rattle.net_model.proofs.Accounts.{AtEnd, HasEmpty, given_by, given_out, IsReading, joined-append}
@@ -25,7 +25,7 @@ use Rattle.net_model.proofs.Messages.{given_whole}
 use Rattle.net_model.proofs.Pairs.{IsPrefixOf}
 use Rattle.net_model.proofs.Peers.{peers_own}
 use Rattle.net_model.proofs.Standing.{Same, all_stood}
-use Rattle.net_model.proofs.Trace.{Owner, Trace, trace, end_of}
+use Rattle.net_model.proofs.Trace.{Trace, trace}
 use Rattle.net_model.proofs.Whole.{Kept}
 
 -- what an end gave begins what it got
@@ -62,7 +62,8 @@ pub in_order : (w : World) (h : List Entry) (e f : Conversation) → IsWorld w �
 in_order w h e f world legal il is = record {
   bytes = bytes;
   messages = messages;
-  end_of_file = end_of_file;
+  closed = closed;
+  all_read = all_before;
   got = got;
   acked = acked;
 }
@@ -121,15 +122,17 @@ in_order w h e f world legal il is = record {
         let all : near.got ≡ far.sent = begins_same near.got far.sent link.in_order (link.all_got at.0).1 in
         sym given ∙ (given_all near.taken near.cut near.got at.1 at.2 ∙ ap joined (all ∙ written))
 
-    end_of_file : (k count : ℕ) → IsRead h e k count [] → HasClosed w (take k h) f × (joined (reads (take k h) e) ≡ joined (writes h f))
-    end_of_file k count read = (
-      subst (λ (x : Conversation). HasClosed w (take k h) x) f_is (closed_before w world h legal (owner_in e) p own.1 k r (owner_in f) own.3),
-      subst (λ (x : Conversation). joined (reads (take k h) x) ≡ joined (reads h x)) e_is (read_before w world h legal (owner_in e) p own.1 k r)
-          ∙ all_read (subst (λ (x : Conversation). HasEmpty (reads h x)) e_is (empty_read w world h legal (owner_in e) p own.1 k r)),
-    )
-      where
-        r : Reads h (owner_in e) k
-        r = reads_nothing h (owner_in e) k count (subst (λ (x : Conversation). IsRead h x k count []) (sym e_is) read)
+    at_end : (k : ℕ) → IsEndOfFile h e k → Reads h (owner_in e) k
+    at_end k eof = reads_nothing h (owner_in e) k eof.0 (subst (λ (x : Conversation). IsRead h x k eof.0 []) (sym e_is) eof.1)
+
+    closed : (k : ℕ) → IsEndOfFile h e k → HasClosed w (take k h) f
+    closed k eof = subst (λ (x : Conversation). HasClosed w (take k h) x) f_is (closed_before w world h legal (owner_in e) p own.1 k (at_end k eof) (owner_in f) own.3)
+
+    all_before : (k : ℕ) → IsEndOfFile h e k → joined (reads (take k h) e) ≡ joined (writes h f)
+    all_before k eof =
+        let r : Reads h (owner_in e) k = at_end k eof in
+        subst (λ (x : Conversation). joined (reads (take k h) x) ≡ joined (reads h x)) e_is (read_before w world h legal (owner_in e) p own.1 k r)
+        ∙ all_read (subst (λ (x : Conversation). HasEmpty (reads h x)) e_is (empty_read w world h legal (owner_in e) p own.1 k r))
 
     stands_near : Same (stood w h e) near
     stands_near = subst (λ (x : Conversation). Same (stood w h x) near) e_is ((all_stood w world h legal).had p (owner_in e) own.1)

@@ -12,20 +12,25 @@ IsPrefix {A} xs ys = (rest : List A) × (xs ++ rest ≡ ys)
 abbrev pub HaveRoom : List Entry → Conversation → Type 0
 HaveRoom h e = (k count : ℕ) (text : List ℕ) → IsRead h e k count text → 8192 ≤ count
 
+-- the entry k reads no bytes
+abbrev pub IsEndOfFile : List Entry → Conversation → ℕ → Type 0
+IsEndOfFile h e k = (count : ℕ) × IsRead h e k count []
+
 -- what holds of an IL conversation e and its peer f
 pub record InOrder (w : World) (h : List Entry) (e f : Conversation) : Type 0 where
   -- the bytes that were read begin those that were written
   pub bytes : IsPrefix (joined (reads h e)) (joined (writes h f))
-  -- where the reads had room, what each gave is one whole message
+  -- where the reads had room, the messages that were read begin those that were written, one by one
   pub messages : HaveRoom h e → IsPrefix (filter is_filled (reads h e)) (writes h f)
-  -- a read of no bytes comes after a close of the peer, and after all that the peer writes, later writes included
-  pub end_of_file : (k count : ℕ) → IsRead h e k count [] → HasClosed w (take k h) f × (joined (reads (take k h) e) ≡ joined (writes h f))
+  -- an end of file comes after a close of the peer, and what was read before it is all that the peer writes, later too
+  pub closed : (k : ℕ) → IsEndOfFile h e k → HasClosed w (take k h) f
+  pub all_read : (k : ℕ) → IsEndOfFile h e k → joined (reads (take k h) e) ≡ joined (writes h f)
   -- the end has got what its peer sent, and counts as acknowledged what its peer has got
   pub got : IsPrefix (stood w h e).got (stood w h f).sent
   pub acked : (stood w h e).acked ≤ length (stood w h f).got
 
 -- what holds of an IL conversation that has no peer
 pub record Alone (w : World) (h : List Entry) (e : Conversation) : Type 0 where
-  -- no read gives bytes, or an end of file, and nothing counts as acknowledged
+  -- no read replies bytes, and nothing counts as acknowledged
   pub unread : reads h e ≡ []
   pub unacked : (stood w h e).acked ≡ 0
