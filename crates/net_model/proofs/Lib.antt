@@ -44,7 +44,7 @@ pub mod Messages
 pub mod Closings
 pub mod EndOfFile
 pub mod InOrders
-pub mod Alones
+pub mod NoPeer
 pub mod PairsOnce
 pub mod NdbFirsts
 pub mod CasesRuns

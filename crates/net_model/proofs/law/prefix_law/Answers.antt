@@ -1,4 +1,4 @@
-use Rattle.net_model.proofs.Alones.{alone}
+use Rattle.net_model.proofs.NoPeer.{alone}
 use Rattle.net_model.proofs.InOrders.{in_order}
 use Rattle.net_model.proofs.law.prefix_law.Goals as goal
 
