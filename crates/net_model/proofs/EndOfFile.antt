@@ -19,7 +19,7 @@ use Rattle.net_base.specs.World.{IsWorld}
 use Rattle.net_base.specs.Written.{read_by, joined, IsRead, HasClosed}
 use Rattle.net_model.proofs.Accounts.{AtEnd, HasEmpty, no_empty, joined-append}
 use Rattle.net_model.proofs.Books.{conv_of, reads, read_here, reads_push, got_sized, Booked, EntryAccount, NoEntry}
-use Rattle.net_model.proofs.Closings.{closings}
+use Rattle.net_model.proofs.Said.{closed_by}
 use Rattle.net_model.proofs.Happened.{Happened, happened, kept_at}
 use Rattle.net_model.proofs.Histories.{by_entries, legal_take, one_more, take_before}
 use Rattle.net_model.proofs.Trace.{Owner, Trace, empty_side, actor_trace, trace}
@@ -182,6 +182,6 @@ module _ (w : World) (world : IsWorld w) where
     -- the other end closed before
     pub closed_before : (f : Owner) → (trace w h).owner (mirror p) ≡ Some f → HasClosed w (take k h) (conv_of f)
     closed_before f is =
-        let c = (closings w world before legal_before).marked p marked in
+        let c = closed_by w world before legal_before p marked in
         let same : c.0 ≡ f = same_Some c.0 f (sym (owner_stays h legal k (mirror p) c.0 c.1) ∙ is) in
         subst (λ (x : Owner). HasClosed w (take k h) (conv_of x)) same c.2

@@ -41,7 +41,7 @@ pub mod Standing
 pub mod Marks
 pub mod Peers
 pub mod Messages
-pub mod Closings
+pub mod Said
 pub mod EndOfFile
 pub mod InOrders
 pub mod NoPeer
