@@ -13,10 +13,14 @@ use Rattle.net_base.specs.Networks.{is_filled}
 use Rattle.net_base.specs.IlEnd.{End, Turn, has_unacked, starts}
 use Rattle.net_base.specs.IlTable.{first_unread, sends}
 use Rattle.net_base.specs.IlTable.{reads as reads_end, writes as writes_end}
-use Rattle.net_model.specs.PrefixLaw.{HasEmpty}
 use Rattle.net_base.specs.Written.{written_in, read_in, joined}
 use Rattle.net_model.proofs.Begins.{Begins, begins_prefix, begins_length, in_pushed}
 use Rattle.net_model.proofs.Untouched.{Leaves}
+
+-- some text has no bytes
+abbrev pub HasEmpty : List (List ℕ) → Type 0
+HasEmpty [] = ⊥
+HasEmpty (text ∷ texts) = (text ≡ []) ⊎ HasEmpty texts
 
 -- the bytes that an end has given to its readers
 abbrev pub given_out : ℕ → ℕ → List (List ℕ) → List ℕ

@@ -24,13 +24,12 @@ use Rattle.net_base.specs.ActorStep.{Step}
 use Rattle.net_base.specs.Conversation.{Il, Stage, Unused, Listening, Connected, Conv}
 use Rattle.net_model.proofs.Trace.{Owner, Trace, empty_side, conv_trace}
 use Rattle.net_base.specs.Stamped.{same_actor}
-use Rattle.net_model.specs.PrefixLaw.{HasEmpty}
 use Rattle.net_base.specs.Written.{Conversation, written_in, read_in, written_by, read_by, joined}
 use Rattle.net_model.proofs.Begins.{Begins}
 use Rattle.net_model.proofs.Deeds.{both_ways}
 use Rattle.net_model.proofs.ConvMoves.{is_connected, Stays, Move, Stay, Begin, Join, Come, Listen, Elsewhere, of_end}
 use Rattle.net_model.proofs.Untouched.{Leaves}
-use Rattle.net_model.proofs.Accounts.{ReadsAll, AllSized, AtEnd, no_empty, given_by, Reading, Account, Silent, left_account, joined-append}
+use Rattle.net_model.proofs.Accounts.{HasEmpty, ReadsAll, AllSized, AtEnd, no_empty, given_by, Reading, Account, Silent, left_account, joined-append}
 use Rattle.net_model.proofs.Sides.{same_pair_is, same_pair_from, put_here}
 use Rattle.net_model.proofs.Touch.{owner_of, Owned, HasEnd, ConvFine, touched, side_at}
 use Rattle.net_model.proofs.ConvSteps.{GiftFine, quiet_trace, trace_touched}
@@ -119,13 +118,13 @@ has_empty_append [] ys h = inr h
 has_empty_append (x ∷ xs) ys (inl is) = inl (inl is)
 has_empty_append (x ∷ xs) ys (inr h) = elim (has_empty_append xs ys h) [ inl a ↦ inl (inr a) | inr b ↦ inr b ]
 
-writes_push : (o : Owner) (h : List Entry) (x : Entry) → writes o (h ++ x ∷ []) ≡ writes o h ++ written_here o x.actor x.event x.reply
+pub writes_push : (o : Owner) (h : List Entry) (x : Entry) → writes o (h ++ x ∷ []) ≡ writes o h ++ written_here o x.actor x.event x.reply
 writes_push o [] x = append-nil (written_here o x.actor x.event x.reply)
 writes_push o (y ∷ h) x =
     let first = written_here o y.actor y.event y.reply in
     ap (λ (zs : List (List ℕ)). first ++ zs) (writes_push o h x) ∙ sym (append_assoc first (writes o h) (written_here o x.actor x.event x.reply))
 
-reads_push : (o : Owner) (h : List Entry) (x : Entry) → reads o (h ++ x ∷ []) ≡ reads o h ++ read_here o x.actor x.event x.reply
+pub reads_push : (o : Owner) (h : List Entry) (x : Entry) → reads o (h ++ x ∷ []) ≡ reads o h ++ read_here o x.actor x.event x.reply
 reads_push o [] x = append-nil (read_here o x.actor x.event x.reply)
 reads_push o (y ∷ h) x =
     let first = read_here o y.actor y.event y.reply in

@@ -1,5 +1,5 @@
 -- What is read at an end was written at its peer, in order.
-use Rattle.std.proofs.Common.{◌≡◌, ℕ, ◌+◌, ◌≤◌, Bool, true, false, List, [], ◌∷◌, ◌++◌, length, take, drop, Option, Some, None, ◌⊎◌, inl, inr, refl, sym, ap, subst, ◌∙◌, append_assoc, arith}
+use Rattle.std.proofs.Common.{◌≡◌, ℕ, ◌+◌, ◌≤◌, List, [], ◌∷◌, ◌++◌, length, take, drop, filter, Some, inl, inr, sym, ap, subst, ◌∙◌, append_assoc, arith}
 use Rattle.std.specs.Prelude.{slice_index_or}
 use Rattle.std.proofs.lemmas.List.{append-nil, take_all, take-append-drop, drop_more}
 use Rattle.net_base.specs.declared.address.Pair.{Pair}
@@ -11,18 +11,21 @@ use Rattle.net_base.specs.IlEnd.{End}
 use Rattle.net_base.specs.Legal.{IsLegal}
 use Rattle.net_base.specs.Mirror.{mirror}
 use Rattle.net_base.specs.Net.{after}
-use Rattle.net_model.specs.PrefixLaw.{InOrder, HasEmpty, IsPrefix}
+use Rattle.net_base.specs.Networks.{is_filled}
+use Rattle.net_model.specs.PrefixLaw.{InOrder, HaveRoom, IsEndOfFile, IsPrefix}
 use Rattle.net_base.specs.World.{IsWorld}
-use Rattle.net_base.specs.Written.{Conversation, peer, writes, reads, joined, stood}
-use Rattle.net_model.proofs.Accounts.{AtEnd, given_by, given_out, IsReading, joined-append}
+use Rattle.net_base.specs.Written.{Conversation, HasClosed, IsRead, peer, writes, reads, joined, stood}
+use Rattle.net_model.proofs.Accounts.{AtEnd, HasEmpty, given_by, given_out, IsReading, joined-append}
 use Rattle.net_model.proofs.Begins.{begins_prefix, begins_same}
 use Rattle.net_model.proofs.Books.{conv_of}
+use Rattle.net_model.proofs.EndOfFile.{Reads, reads_nothing, empty_read, read_before, closed_before}
 use Rattle.net_model.proofs.Happened.{kept_at, linked}
 use Rattle.net_model.proofs.Linked.{owner_in}
+use Rattle.net_model.proofs.Messages.{given_whole}
 use Rattle.net_model.proofs.Pairs.{IsPrefixOf}
 use Rattle.net_model.proofs.Peers.{peers_own}
 use Rattle.net_model.proofs.Standing.{Same, all_stood}
-use Rattle.net_model.proofs.Trace.{Owner, Trace, trace, end_of}
+use Rattle.net_model.proofs.Trace.{Trace, trace}
 use Rattle.net_model.proofs.Whole.{Kept}
 
 -- what an end gave begins what it got
@@ -46,19 +49,21 @@ given_prefix taken cut got (inr end) =
 joined_prefix : (xs ys : List (List ℕ)) → IsPrefixOf xs ys → IsPrefix (joined xs) (joined ys)
 joined_prefix xs ys p = (joined p.0, sym (joined-append xs p.0) ∙ ap joined p.1)
 
-prefix_trans : (xs ys zs : List ℕ) → IsPrefix xs ys → IsPrefix ys zs → IsPrefix xs zs
-prefix_trans xs ys zs p q = (p.0 ++ q.0, sym (append_assoc xs p.0 q.0) ∙ (ap (λ (rest : List ℕ). rest ++ q.0) p.1 ∙ q.1))
+prefix_trans : {A : Type 0} (xs ys zs : List A) → IsPrefix xs ys → IsPrefix ys zs → IsPrefix xs zs
+prefix_trans {A} xs ys zs p q = (p.0 ++ q.0, sym (append_assoc xs p.0 q.0) ∙ (ap (λ (rest : List A). rest ++ q.0) p.1 ∙ q.1))
 
 given_all : (taken cut : ℕ) (got : List (List ℕ)) → taken ≡ length got → cut ≡ 0 → given_out taken cut got ≡ joined got
 given_all taken cut got all none = rw (none, take_all taken got (omega (arith, all))) (append-nil (joined got))
 
-conv_of_is : (e : Conversation) → e.proto ≡ proto.Il → conv_of (owner_in e) ≡ e
+pub conv_of_is : (e : Conversation) → e.proto ≡ proto.Il → conv_of (owner_in e) ≡ e
 conv_of_is e il = ap (λ (p : Proto). record { host = e.host; proto = p; slot = e.slot; generation = e.generation }) (sym il)
 
 pub in_order : (w : World) (h : List Entry) (e f : Conversation) → IsWorld w → IsLegal w h → e.proto ≡ proto.Il → peer w h e ≡ Some f → InOrder w h e f
 in_order w h e f world legal il is = record {
   bytes = bytes;
-  all_read = all_read;
+  messages = messages;
+  closed = closed;
+  all_read = all_before;
   got = got;
   acked = acked;
 }
@@ -102,12 +107,32 @@ in_order w h e f world legal il is = record {
         (subst (λ (ys : List (List ℕ)). IsPrefix (given_by near) (joined ys)) written
         (prefix_trans (given_by near) (joined near.got) (joined far.sent) (given_prefix near.taken near.cut near.got (kept.books.reading p (owner_in e) own.1)) (joined_prefix near.got far.sent begun)))
 
+    messages : HaveRoom h e → IsPrefix (filter is_filled (reads h e)) (writes h f)
+    messages room =
+        let whole = (given_whole w world h legal p (owner_in e) own.1 (subst (λ (x : Conversation). HaveRoom h x) (sym e_is) room)).1 in
+        let texts : take near.taken near.got ≡ filter is_filled (reads h e) = whole ∙ ap (λ (x : Conversation). filter is_filled (reads h x)) e_is in
+        subst (λ (xs : List (List ℕ)). IsPrefix xs (writes h f)) texts
+        (subst (λ (ys : List (List ℕ)). IsPrefix (take near.taken near.got) ys) written
+        (prefix_trans (take near.taken near.got) near.got far.sent (drop near.taken near.got, take-append-drop near.taken near.got) begun))
+
     all_read : HasEmpty (reads h e) → joined (reads h e) ≡ joined (writes h f)
     all_read empty =
         let at : AtEnd near = kept.books.ended p (owner_in e) own.1 (subst (λ (x : Conversation). HasEmpty (reads h x)) (sym e_is) empty) in
         let link = (kept.fine.owned.talk p).link in
         let all : near.got ≡ far.sent = begins_same near.got far.sent link.in_order (link.all_got at.0).1 in
         sym given ∙ (given_all near.taken near.cut near.got at.1 at.2 ∙ ap joined (all ∙ written))
+
+    at_end : (k : ℕ) → IsEndOfFile h e k → Reads h (owner_in e) k
+    at_end k eof = reads_nothing h (owner_in e) k eof.0 (subst (λ (x : Conversation). IsRead h x k eof.0 []) (sym e_is) eof.1)
+
+    closed : (k : ℕ) → IsEndOfFile h e k → HasClosed w (take k h) f
+    closed k eof = subst (λ (x : Conversation). HasClosed w (take k h) x) f_is (closed_before w world h legal (owner_in e) p own.1 k (at_end k eof) (owner_in f) own.3)
+
+    all_before : (k : ℕ) → IsEndOfFile h e k → joined (reads (take k h) e) ≡ joined (writes h f)
+    all_before k eof =
+        let r : Reads h (owner_in e) k = at_end k eof in
+        subst (λ (x : Conversation). joined (reads (take k h) x) ≡ joined (reads h x)) e_is (read_before w world h legal (owner_in e) p own.1 k r)
+        ∙ all_read (subst (λ (x : Conversation). HasEmpty (reads h x)) e_is (empty_read w world h legal (owner_in e) p own.1 k r))
 
     stands_near : Same (stood w h e) near
     stands_near = subst (λ (x : Conversation). Same (stood w h x) near) e_is ((all_stood w world h legal).had p (owner_in e) own.1)

@@ -40,7 +40,11 @@ pub mod Happened
 pub mod Standing
 pub mod Marks
 pub mod Peers
+pub mod Messages
+pub mod Said
+pub mod EndOfFile
 pub mod InOrders
+pub mod NoPeer
 pub mod PairsOnce
 pub mod NdbFirsts
 pub mod CasesRuns

@@ -1,10 +1,9 @@
 -- Peers have mirrored pairs.
-use Rattle.std.proofs.Common.{◌≡◌, ℕ, ◌==◌, ◌&&◌, Bool, true, false, cond, List, [], ◌∷◌, Option, Some, None, ◌⊎◌, inl, inr, refl, sym, ap, subst, ◌∙◌}
+use Rattle.std.proofs.Common.{◌≡◌, ℕ, ◌==◌, ◌&&◌, Bool, true, false, cond, List, [], ◌∷◌, Option, Some, None, inl, inr, refl, sym, ap, subst, ◌∙◌}
 use Rattle.std.specs.Prelude.{find}
 use Rattle.std.specs.Option.{option_map, option_and_then}
 use Rattle.std.proofs.lemmas.Option.{none-some, same_Some}
-use Rattle.std.proofs.lemmas.Bool.{and_parts, eqb-true}
-use Rattle.net_base.specs.declared.actor.ActorName.{ActorName}
+use Rattle.std.proofs.lemmas.Bool.{and_parts, eqb-true, eq-eqb}
 use Rattle.net_base.specs.declared.actor.ActorName.TheVariants as name
 use Rattle.net_base.specs.declared.address.Pair.{Pair}
 use Rattle.net_base.specs.declared.address.Proto.{Proto}
@@ -15,10 +14,11 @@ use Rattle.net_base.specs.Mirror.{mirror}
 use Rattle.net_base.specs.Same.{same_pair}
 use Rattle.net_base.specs.Stamped.{same_actor, same_proto}
 use Rattle.net_base.specs.Written.{Conversation, Given, actor_of, given_in, same_conversation, pair_of, holder, peer}
+use Rattle.net_model.proofs.Books.{conv_of}
 use Rattle.net_model.proofs.Deeds.{both_ways}
 use Rattle.net_model.proofs.Histories.{same_actor_is}
 use Rattle.net_model.proofs.Linked.{Has, Linked, owner_in}
-use Rattle.net_model.proofs.Sides.{same_pair_is}
+use Rattle.net_model.proofs.Sides.{same_pair_is, same_pair_itself}
 use Rattle.net_model.proofs.Trace.{Owner, Trace}
 
 same_proto_is : (p q : Proto) → same_proto p q ≡ true → p ≡ q
@@ -38,6 +38,20 @@ found_in test (x ∷ gs) g is = go (test x) refl is (found_in test gs g)
         (inl e, subst (λ (y : Given). test y ≡ true) e passes)
     go false passes same later = let r = later same in (inr r.0, r.1)
 
+-- where something stands in the list and passes, something is found
+finds : (test : Given → Bool) (gs : List Given) (g : Given) → Has gs g → test g ≡ true → find test gs ≡ None → ⊥
+finds test [] g there passes none = there
+finds test (x ∷ gs) g (inl same) passes none = go (test x) (subst (λ (y : Given). test y ≡ true) (sym same) passes) none
+  where
+    go : (b : Bool) → b ≡ true → cond b (Some x) (find test gs) ≡ None → ⊥
+    go true is at = none-some x (sym at)
+    go false is at = both_ways is refl
+finds test (x ∷ gs) g (inr there) passes none = go (test x) none (finds test gs g there passes)
+  where
+    go : (b : Bool) → cond b (Some x) (find test gs) ≡ None → (find test gs ≡ None → ⊥) → ⊥
+    go true at later = none-some x (sym at)
+    go false at later = later at
+
 conv_actor_is : (h i m n : ℕ) (p q : Proto) → name.Conv h p m ≡ name.Conv i q n → (h ≡ i) × (p ≡ q) × (m ≡ n)
 conv_actor_is h i m n p q is = (cc is, cc is, cc is)
 
@@ -50,6 +64,13 @@ same_conversation_is e f is =
     ∙ (ap (λ (p : Proto). record { host = f.host; proto = p; slot = e.slot; generation = e.generation }) parts.1
     ∙ (ap (λ (i : ℕ). record { host = f.host; proto = f.proto; slot = i; generation = e.generation }) parts.2
     ∙ ap (λ (i : ℕ). record { host = f.host; proto = f.proto; slot = f.slot; generation = i }) generation))
+
+conversation_itself : (o : Owner) → same_conversation (conv_of o) (conv_of o) ≡ true
+conversation_itself o =
+    let host_is : (o.host == o.host) ≡ true = eq-eqb o.host o.host refl in
+    let slot_is : (o.slot == o.slot) ≡ true = eq-eqb o.slot o.slot refl in
+    let generation_is : (o.generation == o.generation) ≡ true = eq-eqb o.generation o.generation refl in
+    rw (host_is, slot_is, generation_is) refl
 
 module _ (w : World) (h : List Entry) (t : Trace) (l : Linked t (given_in w h)) where
   pub pair_owned : (e : Conversation) (p : Pair) → e.proto ≡ proto.Il → pair_of w h e ≡ Some p → t.owner p ≡ Some (owner_in e)
@@ -87,3 +108,23 @@ module _ (w : World) (h : List Entry) (t : Trace) (l : Linked t (given_in w h)) 
       go (Some p) at same =
           let x = holder_owns (mirror p) f (ap (λ (q : Proto). holder w h q (mirror p)) (sym il) ∙ same) in
           (p, pair_owned e p il at, x.0, x.1)
+
+  -- a conversation that has a pair was given it
+  pub owned_pair : (p : Pair) (o : Owner) → ((p q : Pair) (o : Owner) → t.owner p ≡ Some o → t.owner q ≡ Some o → p ≡ q) → t.owner p ≡ Some o → pair_of w h (conv_of o) ≡ Some p
+  owned_pair p o unique owns = go (find (λ (g : Given). same_conversation g.to (conv_of o)) (given_in w h)) refl
+    where
+      go : (found : Option Given) → find (λ (g : Given). same_conversation g.to (conv_of o)) (given_in w h) ≡ found → option_map (λ (g : Given). g.pair) found ≡ Some p
+      go None at = absurd (finds (λ (g : Given). same_conversation g.to (conv_of o)) (given_in w h) _ (l.back p o owns) (conversation_itself o) at)
+      go (Some g) at =
+          let x = found_in (λ (y : Given). same_conversation y.to (conv_of o)) (given_in w h) g at in
+          let to_is : g.to ≡ conv_of o = same_conversation_is g.to (conv_of o) x.1 in
+          let owner_is : t.owner g.pair ≡ Some o = l.on g x.0 (ap (λ (y : Conversation). y.proto) to_is) ∙ ap (λ (y : Conversation). Some (owner_in y)) to_is in
+          ap (λ (q : Pair). Some q) (unique g.pair p o owner_is owns)
+
+  -- so nobody has the mirror of a pair, where no conversation holds it
+  pub nobody_holds : (q : Pair) (o : Owner) → holder w h proto.Il q ≡ None → t.owner q ≡ Some o → ⊥
+  nobody_holds q o none owns = go (find (λ (g : Given). same_proto g.to.proto proto.Il && same_pair g.pair q) (given_in w h)) refl none
+    where
+      go : (found : Option Given) → find (λ (g : Given). same_proto g.to.proto proto.Il && same_pair g.pair q) (given_in w h) ≡ found → option_map (λ (g : Given). g.to) found ≡ None → ⊥
+      go None at same = finds (λ (g : Given). same_proto g.to.proto proto.Il && same_pair g.pair q) (given_in w h) _ (l.back q o owns) (same_pair_itself q) at
+      go (Some g) at same = none-some g.to (sym same)

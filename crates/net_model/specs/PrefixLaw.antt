@@ -1,23 +1,36 @@
 -- What is read was written, in order, whatever media lose, repeat or delay.
-use Rattle.std.specs.Prelude.{ℕ, ◌≡◌, ◌≤◌, ◌⊎◌, List, [], ◌∷◌, ◌++◌, length}
+use Rattle.std.specs.Prelude.{ℕ, ◌≡◌, ◌≤◌, List, [], ◌++◌, length, take, filter}
 use Rattle.net_base.specs.declared.history.Entry.{Entry}
 use Rattle.net_base.specs.declared.world.World.{World}
-use Rattle.net_base.specs.Written.{Conversation, writes, reads, joined, stood}
+use Rattle.net_base.specs.Networks.{is_filled}
+use Rattle.net_base.specs.Written.{Conversation, HasClosed, IsRead, writes, reads, joined, stood}
 
 abbrev pub IsPrefix : {A : Type 0} → List A → List A → Type 0
 IsPrefix {A} xs ys = (rest : List A) × (xs ++ rest ≡ ys)
 
--- some text has no bytes
-abbrev pub HasEmpty : List (List ℕ) → Type 0
-HasEmpty [] = ⊥
-HasEmpty (text ∷ texts) = (text ≡ []) ⊎ HasEmpty texts
+-- every read that replied bytes had room for the longest message
+abbrev pub HaveRoom : List Entry → Conversation → Type 0
+HaveRoom h e = (k count : ℕ) (text : List ℕ) → IsRead h e k count text → 8192 ≤ count
+
+-- the entry k reads no bytes
+abbrev pub IsEndOfFile : List Entry → Conversation → ℕ → Type 0
+IsEndOfFile h e k = (count : ℕ) × IsRead h e k count []
 
 -- what holds of an IL conversation e and its peer f
 pub record InOrder (w : World) (h : List Entry) (e f : Conversation) : Type 0 where
   -- the bytes that were read begin those that were written
   pub bytes : IsPrefix (joined (reads h e)) (joined (writes h f))
-  -- where a read gave no bytes, all that the peer writes was read, later writes included
-  pub all_read : HasEmpty (reads h e) → joined (reads h e) ≡ joined (writes h f)
+  -- where the reads had room, the messages that were read begin those that were written, one by one
+  pub messages : HaveRoom h e → IsPrefix (filter is_filled (reads h e)) (writes h f)
+  -- an end of file comes after a close of the peer, and what was read before it is all that the peer writes, later too
+  pub closed : (k : ℕ) → IsEndOfFile h e k → HasClosed w (take k h) f
+  pub all_read : (k : ℕ) → IsEndOfFile h e k → joined (reads (take k h) e) ≡ joined (writes h f)
   -- the end has got what its peer sent, and counts as acknowledged what its peer has got
   pub got : IsPrefix (stood w h e).got (stood w h f).sent
   pub acked : (stood w h e).acked ≤ length (stood w h f).got
+
+-- what holds of an IL conversation that has no peer
+pub record Alone (w : World) (h : List Entry) (e : Conversation) : Type 0 where
+  -- no read replies bytes, and nothing counts as acknowledged
+  pub unread : reads h e ≡ []
+  pub unacked : (stood w h e).acked ≡ 0

@@ -1,5 +1,5 @@
 //! Laws of the definitions.
-ghost use Rattle.std.specs.Prelude.{◌≡◌, ◌↔◌, List, ℕ, Ok, Err, Some, true, false, take, slice_get};
+ghost use Rattle.std.specs.Prelude.{◌≡◌, ◌↔◌, List, ℕ, Ok, Err, None, Some, true, false, take, slice_get};
 ghost use Rattle.net_base.specs.ControlWords as control;
 ghost use Rattle.net_base.specs.Paths as paths;
 ghost use Rattle.net_base.specs.declared.names.Ctl.{Ctl};
@@ -9,7 +9,7 @@ ghost use Rattle.net_base.specs.declared.history.Entry.{Entry};
 ghost use Rattle.net_base.specs.declared.world.World.{World};
 ghost use Rattle.net_base.specs.Actors.{opening_actor};
 ghost use Rattle.net_base.specs.declared.address.Proto.TheVariants.{Il};
-ghost use Rattle.net_model.specs.PrefixLaw.{InOrder};
+ghost use Rattle.net_model.specs.PrefixLaw.{Alone, InOrder};
 ghost use Rattle.net_base.specs.World.{IsWorld};
 ghost use Rattle.net_base.specs.Written.{Conversation, peer};
 ghost use Rattle.net_base.specs.Legal.{IsFault, IsLegal, IsTimed, Rule};
@@ -46,9 +46,10 @@ pub fn a_fault_is_not_legal()
     ensures { (w : World) (h : List Entry) (stamp : ℕ) (rule : Rule) → IsFault w h stamp rule → IsLegal w h → IsTimed w h → ⊥ }
 {}
 
-/// What is read at an IL conversation was written at its peer, in order, and where a read gave no bytes, all of it was read.
+/// What is read at an IL conversation was written at its peer, in order, and an end of file comes after a close and after all of it.
 pub fn prefix_law()
-    ensures { (w : World) (h : List Entry) (e f : Conversation) → IsWorld w → IsLegal w h → e.proto ≡ Il → peer w h e ≡ Some f → InOrder w h e f }
+    ensures alone { (w : World) (h : List Entry) (e : Conversation) → IsWorld w → IsLegal w h → e.proto ≡ Il → peer w h e ≡ None → Alone w h e }
+    ensures in_order { (w : World) (h : List Entry) (e f : Conversation) → IsWorld w → IsLegal w h → e.proto ≡ Il → peer w h e ≡ Some f → InOrder w h e f }
 {}
 
 /// Each duty that a caller owes cites an earlier entry of its own.

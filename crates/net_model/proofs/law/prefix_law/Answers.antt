@@ -1,5 +1,9 @@
+use Rattle.net_model.proofs.NoPeer.{alone}
 use Rattle.net_model.proofs.InOrders.{in_order}
 use Rattle.net_model.proofs.law.prefix_law.Goals as goal
 
 pub returns : goal.returns
-returns c = λ w h e f world legal il is. in_order w h e f world legal il is
+returns c = record {
+  alone = λ w h e world legal il none. alone w h e world legal il none;
+  in_order = λ w h e f world legal il is. in_order w h e f world legal il is;
+}
