@@ -44,3 +44,5 @@ pub mod InOrders
 pub mod PairsOnce
 pub mod NdbFirsts
 pub mod CasesRuns
+pub mod Copies
+pub mod UdpDuties
