@@ -46,3 +46,4 @@ pub mod NdbFirsts
 pub mod CasesRuns
 pub mod Copies
 pub mod UdpDuties
+pub mod UdpConvs
