@@ -47,3 +47,4 @@ pub mod CasesRuns
 pub mod Copies
 pub mod UdpDuties
 pub mod UdpConvs
+pub mod UdpDirs
