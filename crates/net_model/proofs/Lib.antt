@@ -48,3 +48,4 @@ pub mod Copies
 pub mod UdpDuties
 pub mod UdpConvs
 pub mod UdpDirs
+pub mod UdpTrace

@@ -4,6 +4,7 @@ use Rattle.std.specs.Prelude.{IfSome, slice_set}
 use Rattle.std.specs.Option.{option_map_or}
 use Rattle.std.proofs.lemmas.Option.{none-some, same_Some}
 use Rattle.std.proofs.lemmas.Bool.{and_parts, cond_both, eqb-true}
+use Rattle.net_base.specs.declared.actor.ActorName.{ActorName}
 use Rattle.net_base.specs.declared.actor.ActorName.TheVariants as actor
 use Rattle.net_base.specs.declared.actor.Call.{Call}
 use Rattle.net_base.specs.declared.address.Addr.{Addr}
@@ -51,16 +52,15 @@ abbrev pub DirFine : (Given → Type 0) → ℕ → Proto → List Slot → Type
 DirFine K h p slots = (n : ℕ) (s : Slot) → slice_get slots n ≡ Some s → SlotIsFine K h p n s
 
 -- what is given has an address of its host, and goes to a conversation that had nothing
-pub record IsNew (w : World) (K : Given → Type 0) (h : ℕ) (p : Proto) (g : Given) : Type 0 where
-  pub host_is : g.to.host ≡ h
-  pub proto_is : g.to.proto ≡ p
-  pub addressed : has_address w h g.pair.local.ip ≡ true
+pub record IsNew (w : World) (K : Given → Type 0) (a : ActorName) (g : Given) : Type 0 where
+  pub actor_is : a ≡ actor.Dir g.to.host g.to.proto
+  pub addressed : has_address w g.to.host g.pair.local.ip ≡ true
   pub never : (q : Pair) → K (record { to = g.to; pair = q }) → ⊥
 
 -- what a step leaves
 pub record DirStep (w : World) (K : Given → Type 0) (W : Pair → List ℕ → Type 0) (h : ℕ) (p : Proto) (stamp : ℕ) (ev : Event) (gift : With) (s : Step Dir) : Type 0 where
   pub fine : DirFine (with_new (gave (actor.Dir h p) ev gift s.outcome.reply) K) h p s.state.slots
-  pub new : IfSome (gave (actor.Dir h p) ev gift s.outcome.reply) (λ g. IsNew w K h p g)
+  pub new : IfSome (gave (actor.Dir h p) ev gift s.outcome.reply) (λ g. IsNew w K (actor.Dir h p) g)
   pub sent : SentIf K (actor.Dir h p) ev s.outcome.reply s.outcome.emit
   pub follow : EachDuty w (with_new (gave (actor.Dir h p) ev gift s.outcome.reply) K) W (follow_up (actor.Dir h p) stamp ev gift s.outcome.reply)
 
@@ -168,7 +168,7 @@ module _ (w : World) (world : HasPlaces w) (K : Given → Type 0) (W : Pair → 
               (slot_gets K h p n g pair name.Granted refl (λ q g' o. omega (arith, was_less q g' o)))))
           | inr old ↦ slot_stays K h p n g pair m x old.0 (f m x old.1)
         ];
-        new = record { host_is = refl; proto_is = refl; addressed = here; never = λ q o. absurd (omega (arith, was_less q g o)) };
+        new = record { actor_is = refl; addressed = here; never = λ q o. absurd (omega (arith, was_less q g o)) };
         sent = tt;
         follow = (inr refl, tt);
       }
@@ -297,7 +297,7 @@ module _ (w : World) (world : HasPlaces w) (K : Given → Type 0) (W : Pair → 
             | inr older ↦ slot_stays K h p n g pair m x older.0 (f m x older.1)
           ]
         ];
-        new = record { host_is = refl; proto_is = refl; addressed = here; never = λ q o. absurd (omega (arith, slot.past q g o)) };
+        new = record { actor_is = refl; addressed = here; never = λ q o. absurd (omega (arith, slot.past q g o)) };
         sent = tt;
         follow = ((inr refl, emitted), tt);
       }

@@ -76,6 +76,11 @@ WithFine w K W (actor.Medium m) (event.Put to) (given.Packet q) = Emitted W q
 WithFine w K W (actor.Dir h p) event.Arrive (given.Packet q) = Emitted W q × (has_address w h q.dst.ip ≡ true)
 WithFine w K W _ _ _ = Unit {0}
 
+-- what a copy carries that a medium gives
+abbrev pub TakenAt : (Pair → List ℕ → Type 0) → ActorName → Option Taken → Type 0
+TakenAt W (actor.Medium m) taken = OfTaken (Emitted W) taken
+TakenAt W _ taken = Unit {0}
+
 abbrev pub EachDuty : World → (Given → Type 0) → (Pair → List ℕ → Type 0) → List Duty → Type 0
 EachDuty w K W [] = Unit {0}
 EachDuty w K W (d ∷ ds) = WithFine w K W d.actor d.event d.with × EachDuty w K W ds
@@ -117,7 +122,7 @@ module _ (w : World) (K : Given → Type 0) (W : Pair → List ℕ → Type 0) w
   emitted_put_fine (actor.Conv h p n) s (Some packet) e = put_fine (way w h packet.dst.ip) s packet e
   emitted_put_fine _ s _ e = tt
 
-  courier_fine : (a : ActorName) (s : ℕ) (taken : Option Taken) → OfTaken (Emitted W) taken → EachDuty w K W (courier_duty w a s taken)
+  courier_fine : (a : ActorName) (s : ℕ) (taken : Option Taken) → TakenAt W a taken → EachDuty w K W (courier_duty w a s taken)
   courier_fine (actor.Medium m) s None e = tt
   courier_fine (actor.Medium m) s (Some x) e =
       cond_both (has_address w x.to x.packet.dst.ip) _ _ (λ (ds : List Duty). EachDuty w K W ds)
@@ -156,7 +161,7 @@ module _ (w : World) (K : Given → Type 0) (W : Pair → List ℕ → Type 0) w
   conv_follow h p n s _ gift _ = tt
 
   -- all that an entry owes
-  pub duties_fine : (actors : ActorName → Actor) (a : ActorName) (stamp : ℕ) (work : Work) (s : Step Actor) → EmittedIf W s.outcome.emit → OfTaken (Emitted W) s.outcome.taken → EachDuty w K W (follow_up a stamp work.event work.with s.outcome.reply)
+  pub duties_fine : (actors : ActorName → Actor) (a : ActorName) (stamp : ℕ) (work : Work) (s : Step Actor) → EmittedIf W s.outcome.emit → TakenAt W a s.outcome.taken → EachDuty w K W (follow_up a stamp work.event work.with s.outcome.reply)
       → EachDuty w K W (duties w actors a stamp work s)
   duties_fine actors a stamp work s emitted taken follow =
       each_duty_append _ _
