@@ -49,3 +49,4 @@ pub mod UdpDuties
 pub mod UdpConvs
 pub mod UdpDirs
 pub mod UdpTrace
+pub mod UdpReads

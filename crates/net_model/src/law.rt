@@ -8,10 +8,10 @@ ghost use Rattle.net_base.specs.declared.actor.ActorName.{ActorName};
 ghost use Rattle.net_base.specs.declared.history.Entry.{Entry};
 ghost use Rattle.net_base.specs.declared.world.World.{World};
 ghost use Rattle.net_base.specs.Actors.{opening_actor};
-ghost use Rattle.net_base.specs.declared.address.Proto.TheVariants.{Il};
-ghost use Rattle.net_model.specs.PrefixLaw.{InOrder};
+ghost use Rattle.net_base.specs.declared.address.Proto.TheVariants.{Il, Udp};
+ghost use Rattle.net_model.specs.PrefixLaw.{InOrder, WasWritten};
 ghost use Rattle.net_base.specs.World.{IsWorld};
-ghost use Rattle.net_base.specs.Written.{Conversation, peer};
+ghost use Rattle.net_base.specs.Written.{Conversation, IsRead, peer};
 ghost use Rattle.net_base.specs.Legal.{IsFault, IsLegal, IsTimed, Rule};
 ghost use Rattle.net_base.specs.Net.{owed, state, played, works};
 ghost use Rattle.net_base.specs.Duties.{Duty};
@@ -48,7 +48,8 @@ pub fn a_fault_is_not_legal()
 
 /// What is read at an IL conversation was written at its peer, in order, and where a read gave no bytes, all of it was read.
 pub fn prefix_law()
-    ensures { (w : World) (h : List Entry) (e f : Conversation) → IsWorld w → IsLegal w h → e.proto ≡ Il → peer w h e ≡ Some f → InOrder w h e f }
+    ensures in_order { (w : World) (h : List Entry) (e f : Conversation) → IsWorld w → IsLegal w h → e.proto ≡ Il → peer w h e ≡ Some f → InOrder w h e f }
+    ensures datagrams { (w : World) (h : List Entry) (e : Conversation) (k count : ℕ) (text : List ℕ) → IsWorld w → IsLegal w h → e.proto ≡ Udp → IsRead h e k count text → WasWritten w h e k count text }
 {}
 
 /// Each duty that a caller owes cites an earlier entry of its own.

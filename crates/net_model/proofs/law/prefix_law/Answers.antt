@@ -1,5 +1,9 @@
 use Rattle.net_model.proofs.InOrders.{in_order}
+use Rattle.net_model.proofs.UdpReads.{was_written}
 use Rattle.net_model.proofs.law.prefix_law.Goals as goal
 
 pub returns : goal.returns
-returns c = λ w h e f world legal il is. in_order w h e f world legal il is
+returns c = record {
+  in_order = λ w h e f world legal il is. in_order w h e f world legal il is;
+  datagrams = λ w h e k count text world legal udp is. was_written w h e k count text world legal udp is;
+}
