@@ -28,7 +28,7 @@ use Rattle.net_base.specs.Routes.{Way, way, has_address}
 use Rattle.net_base.specs.Same.{same_addr, same_pair}
 use Rattle.net_base.specs.Written.{Given, gave}
 use Rattle.net_model.proofs.Deeds.{both_ways}
-use Rattle.net_model.proofs.DirSteps.{slot_found, set_cases}
+use Rattle.net_model.proofs.DirSteps.{slot_found, set_cases, has_pair_is, free_or_announced, match_at}
 use Rattle.net_model.proofs.Sides.{same_pair_is}
 use Rattle.net_model.proofs.Trace.{HasPlaces}
 use Rattle.net_model.proofs.UdpConvs.{SentIf}
@@ -100,34 +100,6 @@ slot_gets K h p n g pair kind not past = record {
   past = λ q g' is. elim is [ inl x ↦ past q g' x | inr x ↦ omega (arith, ap (λ (y : Given). y.to.generation) x) ];
   unused = λ r. absurd (both_ways r not);
 }
-
-has_pair_is : (p : Pair) (o : Option Pair) → option_map_or (same_pair p) o false ≡ true → o ≡ Some p
-has_pair_is p None is = absurd (both_ways is refl)
-has_pair_is p (Some q) is = ap (λ (x : Pair). Some x) (sym (same_pair_is p q is))
-
--- a free slot doesn't announce
-free_or_announced : (kind : StateName) (s : Slot) → is_free (record s { kind = kind }) ≡ true → is_announced kind ≡ true → ⊥
-free_or_announced name.Free s one two = both_ways two refl
-free_or_announced name.Reserved s one two = both_ways one refl
-free_or_announced name.Announced s one two = both_ways one refl
-free_or_announced name.Granted s one two = both_ways one refl
-free_or_announced name.Withdrawn s one two = both_ways one refl
-free_or_announced _ s one two = both_ways one refl
-
--- the slot that matches announces
-keyed_at : (key : Key) (slots : List Slot) (found : ℕ × Slot) → first_slot (is_keyed key) 0 slots ≡ Some found → (slice_get slots found.0 ≡ Some found.1) × (is_announced found.1.kind ≡ true)
-keyed_at key slots found is =
-    let there = slot_found (is_keyed key) slots found is in
-    (there.0, (and_parts (is_announced found.1.kind) _ there.1).0)
-
-match_at : (a : Addr) (slots : List Slot) (found : ℕ × Slot) → match_of a slots ≡ Some found → (slice_get slots found.0 ≡ Some found.1) × (is_announced found.1.kind ≡ true)
-match_at a slots found is = go (first_slot (is_keyed (key_at Exactly a)) 0 slots) (first_slot (is_keyed (key_at ByPort a)) 0 slots) refl refl is
-  where
-    go : (x y : Option (ℕ × Slot)) → first_slot (is_keyed (key_at Exactly a)) 0 slots ≡ x → first_slot (is_keyed (key_at ByPort a)) 0 slots ≡ y
-        → or_else x (or_else y (first_slot (is_keyed (key_at ByAny a)) 0 slots)) ≡ Some found → (slice_get slots found.0 ≡ Some found.1) × (is_announced found.1.kind ≡ true)
-    go (Some x) y one two same = keyed_at (key_at Exactly a) slots found (one ∙ same)
-    go None (Some y) one two same = keyed_at (key_at ByPort a) slots found (two ∙ same)
-    go None None one two same = keyed_at (key_at ByAny a) slots found same
 
 -- The rows.
 

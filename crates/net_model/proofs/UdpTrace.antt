@@ -42,6 +42,7 @@ use Rattle.net_model.proofs.ConvMoves.{of_end, moves, Move, Stay, Begin, Join, C
 use Rattle.net_model.proofs.Copies.{OfMedium, MediumLeaves, medium_leaves, medium_more}
 use Rattle.net_model.proofs.Deeds.{both_ways}
 use Rattle.net_model.proofs.DirPairs.{in_more, in_last}
+use Rattle.net_model.proofs.DirSteps.{all_free}
 use Rattle.net_model.proofs.Histories.{after_push, at_push, before_push, by_entries, same_actor_is}
 use Rattle.net_model.proofs.Linked.{given_push}
 use Rattle.net_model.proofs.PairsOnce.{in_parts, same_itself}
@@ -393,11 +394,6 @@ module _ (w : World) (h : List Entry) (x : Entry) (kept : Kept w h) (t : Took w 
   }
 
 -- Legal histories.
-
-all_free : (k n : ℕ) (s : Slot) → slice_get (replicate k free_slot) n ≡ Some s → free_slot ≡ s
-all_free zero n s is = absurd (none-some s is)
-all_free (suc k) zero s is = same_Some free_slot s is
-all_free (suc k) (suc n) s is = all_free k n s is
 
 free_fine : (w : World) (h : ℕ) (p : Proto) (n : ℕ) → SlotIsFine (Known w []) h p n free_slot
 free_fine w h p n = record { has = λ q is. absurd (none-some q is); past = λ q g there. absurd there; unused = λ r q g there. absurd there }
