@@ -1,7 +1,6 @@
 -- The table of a directory, row by row.
 use Rattle.std.proofs.Common.{◌≡◌, ℕ, ◌+◌, ◌<◌, ◌≤◌, ◌==◌, Bool, true, false, cond, List, [], ◌∷◌, ◌++◌, Option, Some, None, is_some, is_none, not, slice_get, inl, inr, refl, sym, ap, subst, ◌∙◌, arith}
 use Rattle.std.specs.Prelude.{IfSome, slice_set}
-use Rattle.std.specs.Option.{option_map_or}
 use Rattle.std.proofs.lemmas.Option.{none-some, same_Some}
 use Rattle.std.proofs.lemmas.Bool.{and_parts, and_left, cond_both, eqb-true}
 use Rattle.net_base.specs.declared.address.Addr.{Addr}
@@ -26,11 +25,11 @@ use Rattle.net_base.specs.Mirror.{mirror}
 use Rattle.net_base.specs.declared.world.World.{World}
 use Rattle.net_base.specs.Routes.{Way, way, has_address}
 use Rattle.net_base.specs.ActorStep.{Step}
-use Rattle.net_base.specs.Directory.{Key, is_keyed, is_bound, gets, ports_with, announces, binds, withdraws, next_call, listens_at, listens, Slot, Dir, free_slot, is_free, is_reserved, is_announced, Exactly, ByPort, ByAny, key_at, match_of, has_taker, first_slot, pair_place, in_found_slot, reserves, grants_pair, grants_by, port_for, grants, frees, or_else, may_bear, refused_or_dropped, bears, born_or_not, arrives_at, is_live_with, is_of, dir_step}
+use Rattle.net_base.specs.Directory.{Key, is_keyed, is_bound, gets, ports_with, announces, binds, withdraws, next_call, listens_at, listens, Slot, Dir, free_slot, is_free, is_reserved, is_announced, match_of, has_taker, first_slot, pair_place, in_found_slot, reserves, grants_pair, grants_by, port_for, grants, frees, refused_or_dropped, bears, born_or_not, arrives_at, is_live_with, is_of, dir_step}
 use Rattle.net_base.specs.Duties.{close_calls, follow_up}
 use Rattle.net_model.proofs.Trace.{Owner, Trace, dir_trace, HasPlaces}
 use Rattle.net_model.proofs.Deeds.{both_ways}
-use Rattle.net_model.proofs.Sides.{same_pair_is, put_here}
+use Rattle.net_model.proofs.Sides.{put_here}
 use Rattle.net_model.proofs.Touch.{owner_of, Owned, Later, Emitted, emitted_later}
 use Rattle.net_model.proofs.DirSteps.{WithFine, EachDuty, SlotFine, SlotIsFine, DirFine, DirIsFine, Addressed, DirStep, dir_keeps, owns, owner_stays, owner_back, owned_owns, addressed_owns, convs_owns, slot_owns, slot_gets, other_dir_owns, known_owns, slot_found, set_cases, place_push, place_last, has_pair_is, free_or_announced, match_at}
 

@@ -1,5 +1,5 @@
 -- UDP conversations, directories of UDP, and media.
-use Rattle.std.proofs.Common.{◌≡◌, ℕ, zero, suc, ◌+◌, ◌==◌, ◌&&◌, nat_lt, nat_le, Bool, false, cond, List, [], ◌∷◌, ◌++◌, length, Option, Some, None, is_some, slice_get, inr, refl}
+use Rattle.std.proofs.Common.{ℕ, zero, suc, ◌+◌, ◌==◌, ◌&&◌, nat_lt, Bool, cond, List, [], ◌∷◌, length, Option, Some, None, slice_get, inr, refl}
 use Rattle.std.specs.Prelude.{IfSome}
 use Rattle.std.proofs.lemmas.Bool.{cond_both}
 use Rattle.net_base.specs.declared.address.Addr.{Addr}
@@ -24,17 +24,14 @@ use Rattle.net_base.specs.declared.world.World.{World}
 use Rattle.net_base.specs.declared.world.MediumSpec.{MediumSpec}
 use Rattle.net_base.specs.Routes.{Way, way}
 use Rattle.net_base.specs.ActorStep.{Step}
-use Rattle.net_base.specs.declared.names.FileName.{FileName}
-use Rattle.net_base.specs.declared.names.Mode.{Mode}
 use Rattle.net_base.specs.ControlWords as control
-use Rattle.net_base.specs.Conversation.{Core, Il, Udp, Stage, Unused, Listening, Connected, Conv, in_generation, raises, may_bear as may_begin, may_connect, has_protocol, joined, brought_forth, listens, binds as shows, taken_in, is_closed_name, udp_written, udp_read, read_at, write_at, closed, opened, listed, refused_control, bad_control, conv_step}
+use Rattle.net_base.specs.Conversation.{Core, Il, Udp, Stage, Unused, Listening, Connected, Conv, in_generation, raises, may_bear as may_begin, may_connect, has_protocol, joined, brought_forth, listens, binds as shows, taken_in, is_closed_name, udp_read, read_at, write_at, closed, opened, listed, refused_control, bad_control, conv_step}
 use Rattle.net_base.specs.UdpEnd.{udp_state_name}
 use Rattle.net_base.specs.Medium.{Medium, medium_step}
-use Rattle.net_base.specs.Same.{same_addr, same_pair}
-use Rattle.net_base.specs.Mirror.{mirror}
+use Rattle.net_base.specs.Same.{same_addr}
 use Rattle.net_base.specs.declared.il.StateName.{StateName}
 use Rattle.net_base.specs.declared.il.StateName.TheVariants as name
-use Rattle.net_base.specs.Directory.{is_keyed, is_bound, gets, ports_with, announces, binds, withdraws, next_call, listens_at, Slot, Dir, is_reserved, may_bear, first_slot, pair_place, in_found_slot, reserves, grants_pair, grants_by, port_for, grants, frees, refused_or_dropped, born_or_not, arrives_at, is_of, dir_step}
+use Rattle.net_base.specs.Directory.{is_keyed, is_bound, gets, ports_with, announces, binds, withdraws, next_call, listens_at, Slot, Dir, is_reserved, first_slot, pair_place, in_found_slot, reserves, grants_pair, grants_by, port_for, grants, frees, refused_or_dropped, born_or_not, arrives_at, is_of, dir_step}
 use Rattle.net_base.specs.Directory.{has_taker, listens as dir_listens}
 use Rattle.net_base.specs.Duties.{close_calls, follow_up}
 use Rattle.net_model.proofs.Trace.{Trace}

@@ -1,5 +1,5 @@
 -- What a conversation with a UDP end has, and what a step of it reads and sends.
-use Rattle.std.proofs.Common.{◌≡◌, ℕ, zero, suc, ◌+◌, ◌==◌, ◌&&◌, nat_lt, Bool, true, false, cond, List, [], ◌∷◌, ◌++◌, length, take, drop, Option, Some, None, refl, sym, ap, subst, ◌∙◌}
+use Rattle.std.proofs.Common.{◌≡◌, ℕ, zero, suc, ◌+◌, ◌==◌, ◌&&◌, nat_lt, Bool, true, false, cond, List, [], ◌∷◌, ◌++◌, length, take, drop, Option, Some, None, refl, sym, subst}
 use Rattle.std.specs.Prelude.{IfSome}
 use Rattle.std.proofs.lemmas.Bool.{cond_both, eqb-true}
 use Rattle.net_base.specs.declared.actor.ActorName.{ActorName}
@@ -17,11 +17,11 @@ use Rattle.net_base.specs.declared.reply.Reply.{Reply}
 use Rattle.net_base.specs.declared.reply.Reply.TheVariants as reply
 use Rattle.net_base.specs.ActorStep.{Step}
 use Rattle.net_base.specs.ControlWords as control
-use Rattle.net_base.specs.Conversation.{Core, Il, Udp, Stage, Unused, Listening, Connected, Conv, answers, in_generation, raises, may_bear, may_connect, has_protocol, joined, brought_forth, listens, binds, taken_in, is_closed_name, udp_written, udp_read, read_at, write_at, closed, opened, listed, refused_control, bad_control, conv_step}
+use Rattle.net_base.specs.Conversation.{Core, Il, Udp, Stage, Unused, Listening, Connected, Conv, answers, in_generation, raises, may_bear, may_connect, has_protocol, joined, brought_forth, listens, binds, taken_in, is_closed_name, udp_read, read_at, write_at, closed, opened, listed, refused_control, bad_control, conv_step}
 use Rattle.net_base.specs.Mirror.{mirror}
-use Rattle.net_base.specs.UdpEnd.{UdpEnd, is_hung_up, udp_state_name, takes_datagram, datagram_comes}
+use Rattle.net_base.specs.UdpEnd.{UdpEnd, is_hung_up, udp_state_name, takes_datagram}
 use Rattle.net_base.specs.Written.{Given}
-use Rattle.net_model.proofs.UdpDuties.{given_to, Emitted, EmittedAs, GiftFine}
+use Rattle.net_model.proofs.UdpDuties.{given_to, EmittedAs, GiftFine}
 
 -- a text for the conversation was written at the one with the mirror of its pair
 pub record Came (K : Given → Type 0) (W : Pair → List ℕ → Type 0) (h n g : ℕ) (text : List ℕ) : Type 0 where
@@ -205,8 +205,8 @@ module _ (K : Given → Type 0) (W : Pair → List ℕ → Type 0) (h n : ℕ) w
         fine = (
           f.0,
           cond_both (takes_datagram e.state (length e.unread)) (record e { unread = e.unread ++ text ∷ [] }) e (λ (x : UdpEnd). EachCame K W h n c.generation x.unread)
-          (λ _. each_push c.generation e.unread text f.1 came)
-          (λ _. f.1),
+              (λ _. each_push c.generation e.unread text f.1 came)
+              (λ _. f.1),
         );
         sent = tt;
         read = tt;

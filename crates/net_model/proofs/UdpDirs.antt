@@ -1,7 +1,6 @@
 -- A directory gives a conversation one pair, by a local address of its own host, and sends on what arrives to it.
 use Rattle.std.proofs.Common.{◌≡◌, ℕ, ◌+◌, ◌<◌, ◌≤◌, ◌==◌, Bool, true, false, cond, List, [], ◌∷◌, ◌++◌, Option, Some, None, not, slice_get, ◌⊎◌, inl, inr, refl, sym, ap, subst, ◌∙◌, arith}
 use Rattle.std.specs.Prelude.{IfSome, slice_set}
-use Rattle.std.specs.Option.{option_map_or}
 use Rattle.std.proofs.lemmas.Option.{none-some, same_Some}
 use Rattle.std.proofs.lemmas.Bool.{and_parts, cond_both, eqb-true}
 use Rattle.net_base.specs.declared.actor.ActorName.{ActorName}
@@ -22,14 +21,13 @@ use Rattle.net_base.specs.declared.packet.Packet.{Packet}
 use Rattle.net_base.specs.declared.world.World.{World}
 use Rattle.net_base.specs.ActorStep.{Step}
 use Rattle.net_base.specs.Conversation.{is_sync}
-use Rattle.net_base.specs.Directory.{Key, is_keyed, is_bound, gets, ports_with, announces, binds, withdraws, next_call, listens_at, listens, Slot, Dir, free_slot, is_free, is_reserved, is_announced, Exactly, ByPort, ByAny, key_at, match_of, has_taker, first_slot, pair_place, in_found_slot, reserves, grants_pair, grants_by, port_for, grants, frees, or_else, refused_or_dropped, bears, born_or_not, arrives_at, is_live_with, is_of, pair_of, dir_step}
+use Rattle.net_base.specs.Directory.{Key, is_keyed, is_bound, gets, ports_with, announces, binds, withdraws, next_call, listens_at, listens, Slot, Dir, free_slot, is_free, is_reserved, is_announced, match_of, has_taker, first_slot, pair_place, in_found_slot, reserves, grants_pair, grants_by, port_for, grants, frees, refused_or_dropped, bears, born_or_not, arrives_at, is_live_with, is_of, pair_of, dir_step}
 use Rattle.net_base.specs.Duties.{close_calls, follow_up}
 use Rattle.net_base.specs.Routes.{Way, way, has_address}
-use Rattle.net_base.specs.Same.{same_addr, same_pair}
+use Rattle.net_base.specs.Same.{same_addr}
 use Rattle.net_base.specs.Written.{Given, gave}
 use Rattle.net_model.proofs.Deeds.{both_ways}
 use Rattle.net_model.proofs.DirSteps.{slot_found, set_cases, has_pair_is, free_or_announced, match_at}
-use Rattle.net_model.proofs.Sides.{same_pair_is}
 use Rattle.net_model.proofs.Trace.{HasPlaces}
 use Rattle.net_model.proofs.UdpConvs.{SentIf}
 use Rattle.net_model.proofs.UdpDuties.{given_to, Emitted, EachDuty, WithFine}

@@ -1,12 +1,11 @@
 -- What packets and duties carry: each datagram was written at the conversation that has its addresses.
-use Rattle.std.proofs.Common.{◌≡◌, ℕ, ◌-◌, nat_lt, Bool, true, List, [], ◌∷◌, ◌++◌, length, drop, map, Option, Some, None, refl, subst}
+use Rattle.std.proofs.Common.{◌≡◌, ℕ, ◌-◌, nat_lt, Bool, true, List, [], ◌∷◌, ◌++◌, drop, Option, Some, None, subst}
 use Rattle.std.specs.Prelude.{flat_map}
 use Rattle.std.proofs.lemmas.Bool.{cond_both}
 use Rattle.net_base.specs.declared.actor.ActorName.{ActorName}
 use Rattle.net_base.specs.declared.actor.ActorName.TheVariants as actor
 use Rattle.net_base.specs.declared.address.Pair.{Pair}
 use Rattle.net_base.specs.declared.address.Proto.{Proto}
-use Rattle.net_base.specs.declared.address.Proto.TheVariants as proto
 use Rattle.net_base.specs.declared.event.Event.{Event}
 use Rattle.net_base.specs.declared.event.Event.TheVariants as event
 use Rattle.net_base.specs.declared.history.Entry.{Entry}
@@ -24,9 +23,8 @@ use Rattle.net_base.specs.ActorStep.{Step}
 use Rattle.net_base.specs.Actors.{Actor, IsConv}
 use Rattle.net_base.specs.Callers.{Caller}
 use Rattle.net_base.specs.Directory as directory
-use Rattle.net_base.specs.Duties.{Duty, put_by, emitted_put, follow_up, proto_of, forwarded, courier_duty, has_come, due_of, generation_of, conversations, tick_at, ticks, release, duties}
+use Rattle.net_base.specs.Duties.{Duty, put_by, emitted_put, follow_up, courier_duty, has_come, due_of, generation_of, conversations, tick_at, ticks, release, duties}
 use Rattle.net_base.specs.Legal.{IsAsked}
-use Rattle.net_base.specs.Mirror.{mirror}
 use Rattle.net_base.specs.Net.{with_of}
 use Rattle.net_base.specs.Routes.{Way, way, has_address}
 use Rattle.net_base.specs.Steps.{Ask}

@@ -1,5 +1,5 @@
 -- What is read at a conversation of UDP begins a datagram that its peer wrote.
-use Rattle.std.proofs.Common.{◌≡◌, ℕ, zero, suc, ◌<◌, ◌==◌, ◌&&◌, Bool, true, false, cond, List, [], ◌∷◌, ◌++◌, length, take, drop, Option, Some, None, slice_get, ◌⊎◌, inl, inr, refl, sym, ap, subst, ◌∙◌, append_assoc, arith}
+use Rattle.std.proofs.Common.{◌≡◌, ℕ, zero, suc, ◌==◌, ◌&&◌, Bool, true, false, cond, List, [], ◌∷◌, ◌++◌, take, drop, Some, slice_get, inl, inr, refl, sym, ap, subst, ◌∙◌, append_assoc}
 use Rattle.std.specs.Prelude.{find, option_to_list}
 use Rattle.std.specs.Option.{option_map, option_and_then}
 use Rattle.std.proofs.lemmas.Bool.{and_parts, and_from, eq-eqb}
@@ -23,7 +23,7 @@ use Rattle.net_base.specs.Routes.{has_address}
 use Rattle.net_base.specs.Same.{same_pair}
 use Rattle.net_base.specs.Stamped.{In, same_actor, same_proto}
 use Rattle.net_base.specs.World.{IsWorld}
-use Rattle.net_base.specs.Written.{Conversation, Given, IsRead, IsWrite, actor_of, gives, given_from, given_in, holder, pair_of, peer, same_conversation}
+use Rattle.net_base.specs.Written.{Conversation, Given, IsRead, actor_of, gives, given_from, given_in, holder, pair_of, same_conversation}
 use Rattle.net_model.specs.PrefixLaw.{WasWritten}
 use Rattle.net_model.proofs.Deeds.{both_ways}
 use Rattle.net_model.proofs.DirPairs.{in_more}
@@ -34,8 +34,7 @@ use Rattle.net_model.proofs.Places.{places}
 use Rattle.net_model.proofs.Sides.{same_pair_is, same_pair_itself}
 use Rattle.net_model.proofs.Trace.{HasPlaces}
 use Rattle.net_model.proofs.UdpConvs.{FirstOf, ReadFine}
-use Rattle.net_model.proofs.UdpDuties.{given_to}
-use Rattle.net_model.proofs.UdpTrace.{Known, Wrote, Kept, Took, all_kept, took}
+use Rattle.net_model.proofs.UdpTrace.{Known, Wrote, Kept, all_kept, took}
 
 -- Lists of what was given.
 

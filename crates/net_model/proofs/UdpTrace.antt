@@ -1,20 +1,18 @@
 -- Each entry of a legal history keeps what is known of UDP: who has which pair, and where each datagram was written.
-use Rattle.std.proofs.Common.{◌≡◌, ℕ, zero, suc, ◌+◌, ◌≤◌, ◌==◌, Bool, true, false, cond, List, [], ◌∷◌, ◌++◌, length, Option, Some, None, slice_get, ◌⊎◌, inl, inr, refl, sym, ap, subst, ◌∙◌, append-nil, arith}
-use Rattle.std.specs.Prelude.{IfSome, IsSome, option_to_list, replicate}
+use Rattle.std.proofs.Common.{◌≡◌, ℕ, ◌≤◌, ◌==◌, true, false, List, [], ◌∷◌, ◌++◌, length, Option, Some, None, slice_get, inl, inr, refl, sym, ap, subst, ◌∙◌, arith}
+use Rattle.std.specs.Prelude.{IfSome, IsSome, option_to_list}
 use Rattle.std.specs.Option.{option_map, option_and_then}
 use Rattle.std.proofs.lemmas.Bool.{cond_both}
-use Rattle.std.proofs.lemmas.Option.{none-some, same_Some}
+use Rattle.std.proofs.lemmas.Option.{none-some}
 use Rattle.net_base.specs.declared.actor.ActorName.{ActorName}
 use Rattle.net_base.specs.declared.actor.ActorName.TheVariants as actor
 use Rattle.net_base.specs.declared.address.Pair.{Pair}
 use Rattle.net_base.specs.declared.address.Proto.{Proto}
 use Rattle.net_base.specs.declared.address.Proto.TheVariants as proto
 use Rattle.net_base.specs.declared.event.Event.{Event}
-use Rattle.net_base.specs.declared.event.Event.TheVariants as event
 use Rattle.net_base.specs.declared.history.Entry.{Entry}
 use Rattle.net_base.specs.declared.history.Taken.{Taken}
 use Rattle.net_base.specs.declared.history.With.{With}
-use Rattle.net_base.specs.declared.history.Work.{Work}
 use Rattle.net_base.specs.declared.il.IlMsg.{IlMsg}
 use Rattle.net_base.specs.declared.packet.Body.{Body}
 use Rattle.net_base.specs.declared.packet.Body.TheVariants as body
@@ -23,23 +21,23 @@ use Rattle.net_base.specs.declared.reply.Reply.{Reply}
 use Rattle.net_base.specs.declared.world.HostSpec.{HostSpec}
 use Rattle.net_base.specs.declared.world.MediumSpec.{MediumSpec}
 use Rattle.net_base.specs.declared.world.World.{World}
-use Rattle.net_base.specs.ActorStep.{Step, when}
+use Rattle.net_base.specs.ActorStep.{Step}
 use Rattle.net_base.specs.Actors.{Actor, IsConv, IsDir, IsMedium, IsPlain, slot_count, has_actor, opening_actor, plain_step, table_step, actor_step}
-use Rattle.net_base.specs.Callers.{Caller, caller_of}
+use Rattle.net_base.specs.Callers.{caller_of}
 use Rattle.net_base.specs.Conversation.{Core, Il, Udp, Stage, Unused, Listening, Connected, Conv, conv_step, packet_of}
 use Rattle.net_base.specs.Desk.{desk_reply, clock_reply}
-use Rattle.net_base.specs.Directory.{Dir, Slot, free_slot, dir_step}
+use Rattle.net_base.specs.Directory.{Slot, free_slot, dir_step}
 use Rattle.net_base.specs.Duties.{Duty, follow_up, duties}
 use Rattle.net_base.specs.IlEnd.{End}
 use Rattle.net_base.specs.Legal.{IsLegal, MayFollow, Shows, Shown}
 use Rattle.net_base.specs.Medium.{medium_step}
-use Rattle.net_base.specs.Net.{Net, after, state, owed, step_of, work_of, with_of, net_after, actors_after, owed_after}
+use Rattle.net_base.specs.Net.{Net, after, state, owed, step_of, work_of, net_after, actors_after, owed_after}
 use Rattle.net_base.specs.Next.{next as next_ask}
 use Rattle.net_base.specs.Routes.{has_address}
 use Rattle.net_base.specs.Stamped.{In, same_actor}
 use Rattle.net_base.specs.Written.{Conversation, Given, gave, given_in, IsWrite}
 use Rattle.net_model.proofs.ConvMoves.{of_end, moves, Move, Stay, Begin, Join, Come, Listen, Emits}
-use Rattle.net_model.proofs.Copies.{OfMedium, MediumLeaves, medium_leaves, medium_more}
+use Rattle.net_model.proofs.Copies.{OfMedium, medium_leaves, medium_more}
 use Rattle.net_model.proofs.Deeds.{both_ways}
 use Rattle.net_model.proofs.DirPairs.{in_more, in_last}
 use Rattle.net_model.proofs.DirSteps.{all_free}
@@ -47,8 +45,8 @@ use Rattle.net_model.proofs.Histories.{after_push, at_push, before_push, by_entr
 use Rattle.net_model.proofs.Linked.{given_push}
 use Rattle.net_model.proofs.PairsOnce.{in_parts, same_itself}
 use Rattle.net_model.proofs.Trace.{HasPlaces}
-use Rattle.net_model.proofs.UdpConvs.{EachCame, AtStage, CoreFine, ConvFine, ReadFine, SentAs, SentIf, UdpStep, came_more, udp_steps}
-use Rattle.net_model.proofs.UdpDirs.{with_new, SlotFine, SlotIsFine, DirFine, IsNew, DirStep, dir_steps}
+use Rattle.net_model.proofs.UdpConvs.{EachCame, AtStage, CoreFine, ConvFine, ReadFine, SentAs, SentIf, came_more, udp_steps}
+use Rattle.net_model.proofs.UdpDirs.{with_new, SlotIsFine, DirFine, IsNew, dir_steps}
 use Rattle.net_model.proofs.UdpDuties.{Grows, given_to, Emitted, EmittedAs, EmittedIf, emitted_more, TakenAt, WithFine, EachDuty, each_duty_more, each_duty_append, each_duty_rest, conv_follow, duties_fine, work_fine}
 
 -- States.
