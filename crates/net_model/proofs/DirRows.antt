@@ -1,7 +1,6 @@
 -- The table of a directory, row by row.
 use Rattle.std.proofs.Common.{◌≡◌, ℕ, ◌+◌, ◌<◌, ◌≤◌, ◌==◌, Bool, true, false, cond, List, [], ◌∷◌, ◌++◌, Option, Some, None, is_some, is_none, not, slice_get, inl, inr, refl, sym, ap, subst, ◌∙◌, arith}
 use Rattle.std.specs.Prelude.{IfSome, slice_set}
-use Rattle.std.specs.Option.{option_map_or}
 use Rattle.std.proofs.lemmas.Option.{none-some, same_Some}
 use Rattle.std.proofs.lemmas.Bool.{and_parts, and_left, cond_both, eqb-true}
 use Rattle.net_base.specs.declared.address.Addr.{Addr}
@@ -26,13 +25,13 @@ use Rattle.net_base.specs.Mirror.{mirror}
 use Rattle.net_base.specs.declared.world.World.{World}
 use Rattle.net_base.specs.Routes.{Way, way, has_address}
 use Rattle.net_base.specs.ActorStep.{Step}
-use Rattle.net_base.specs.Directory.{Key, is_keyed, is_bound, gets, ports_with, announces, binds, withdraws, next_call, listens_at, listens, Slot, Dir, free_slot, is_free, is_reserved, is_announced, Exactly, ByPort, ByAny, key_at, match_of, has_taker, first_slot, pair_place, in_found_slot, reserves, grants_pair, grants_by, port_for, grants, frees, or_else, may_bear, refused_or_dropped, bears, born_or_not, arrives_at, is_live_with, is_of, dir_step}
+use Rattle.net_base.specs.Directory.{Key, is_keyed, is_bound, gets, ports_with, announces, binds, withdraws, next_call, listens_at, listens, Slot, Dir, free_slot, is_free, is_reserved, is_announced, match_of, has_taker, first_slot, pair_place, in_found_slot, reserves, grants_pair, grants_by, port_for, grants, frees, refused_or_dropped, bears, born_or_not, arrives_at, is_live_with, is_of, dir_step}
 use Rattle.net_base.specs.Duties.{close_calls, follow_up}
 use Rattle.net_model.proofs.Trace.{Owner, Trace, dir_trace, HasPlaces}
 use Rattle.net_model.proofs.Deeds.{both_ways}
-use Rattle.net_model.proofs.Sides.{same_pair_is, put_here}
+use Rattle.net_model.proofs.Sides.{put_here}
 use Rattle.net_model.proofs.Touch.{owner_of, Owned, Later, Emitted, emitted_later}
-use Rattle.net_model.proofs.DirSteps.{WithFine, EachDuty, SlotFine, SlotIsFine, DirFine, DirIsFine, Addressed, DirStep, dir_keeps, owns, owner_stays, owner_back, owned_owns, addressed_owns, convs_owns, slot_owns, slot_gets, other_dir_owns, known_owns, slot_found, set_cases, place_push, place_last}
+use Rattle.net_model.proofs.DirSteps.{WithFine, EachDuty, SlotFine, SlotIsFine, DirFine, DirIsFine, Addressed, DirStep, dir_keeps, owns, owner_stays, owner_back, owned_owns, addressed_owns, convs_owns, slot_owns, slot_gets, other_dir_owns, known_owns, slot_found, set_cases, place_push, place_last, has_pair_is, free_or_announced, match_at}
 
 -- a slot that was had as it is, with another text
 set_fine : (t : Trace) (h : ℕ) (d : Dir) (n : ℕ) (new : Slot) → DirIsFine t h d → SlotIsFine t h n new → DirFine t h (slice_set d.slots n new) d.pairs
@@ -69,10 +68,6 @@ none_is (Some x) is = absurd (both_ways is refl)
 not_is : (b : Bool) → not b ≡ true → b ≡ false
 not_is false is = refl
 not_is true is = absurd (both_ways is refl)
-
-has_pair_is : (p : Pair) (o : Option Pair) → option_map_or (same_pair p) o false ≡ true → o ≡ Some p
-has_pair_is p None is = absurd (both_ways is refl)
-has_pair_is p (Some q) is = ap (λ (x : Pair). Some x) (sym (same_pair_is p q is))
 
 module _ (w : World) (world : HasPlaces w) (k h stamp : ℕ) (t : Trace) (owned : Owned k t) (addressed : Addressed w t) (gift : With) where
   -- what a step with this reply leaves
@@ -274,29 +269,6 @@ module _ (w : World) (world : HasPlaces w) (k h stamp : ℕ) (t : Trace) (owned 
         emitted = tt;
         follow = ((put_here t.owner pair (owner_of h n g), emitted_later t (owns t pair h n g) packet later emitted), tt);
       }
-    where
-      free_or_announced : (kind : StateName) (s : Slot) → is_free (record s { kind = kind }) ≡ true → is_announced kind ≡ true → ⊥
-      free_or_announced name.Free s one two = both_ways two refl
-      free_or_announced name.Reserved s one two = both_ways one refl
-      free_or_announced name.Announced s one two = both_ways one refl
-      free_or_announced name.Granted s one two = both_ways one refl
-      free_or_announced name.Withdrawn s one two = both_ways one refl
-      free_or_announced _ s one two = both_ways one refl
-
-  -- the slot that matches announces
-  keyed_at : (key : Key) (slots : List Slot) (found : ℕ × Slot) → first_slot (is_keyed key) 0 slots ≡ Some found → (slice_get slots found.0 ≡ Some found.1) × (is_announced found.1.kind ≡ true)
-  keyed_at key slots found is =
-      let there = slot_found (is_keyed key) slots found is in
-      (there.0, (and_parts (is_announced found.1.kind) _ there.1).0)
-
-  match_at : (a : Addr) (slots : List Slot) (found : ℕ × Slot) → match_of a slots ≡ Some found → (slice_get slots found.0 ≡ Some found.1) × (is_announced found.1.kind ≡ true)
-  match_at a slots found is = go (first_slot (is_keyed (key_at Exactly a)) 0 slots) (first_slot (is_keyed (key_at ByPort a)) 0 slots) refl refl is
-    where
-      go : (x y : Option (ℕ × Slot)) → first_slot (is_keyed (key_at Exactly a)) 0 slots ≡ x → first_slot (is_keyed (key_at ByPort a)) 0 slots ≡ y
-          → or_else x (or_else y (first_slot (is_keyed (key_at ByAny a)) 0 slots)) ≡ Some found → (slice_get slots found.0 ≡ Some found.1) × (is_announced found.1.kind ≡ true)
-      go (Some x) y one two same = keyed_at (key_at Exactly a) slots found (one ∙ same)
-      go None (Some y) one two same = keyed_at (key_at ByPort a) slots found (two ∙ same)
-      go None None one two same = keyed_at (key_at ByAny a) slots found same
 
   born_after : (free listener : Option (ℕ × Slot)) (packet : Packet) (d : Dir) → first_slot is_free 0 d.slots ≡ free → match_of packet.dst d.slots ≡ listener → DirIsFine t h d → Emitted t packet → has_address w h packet.dst.ip ≡ true
       → After event.Arrive (given.Packet packet) (born_or_not free listener w h proto.Il (record { local = packet.dst; remote = packet.src }) packet d)

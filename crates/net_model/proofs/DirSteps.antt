@@ -1,11 +1,14 @@
 -- Each step of a directory keeps what holds of all pairs.
-use Rattle.std.proofs.Common.{◌≡◌, ℕ, zero, suc, ◌+◌, ◌<◌, ◌≤◌, Bool, true, false, cond, List, [], ◌∷◌, ◌++◌, Option, Some, None, is_some, slice_get, ◌⊎◌, inl, inr, refl, sym, ap, subst, ◌∙◌, arith}
-use Rattle.std.specs.Prelude.{slice_set}
+use Rattle.std.proofs.Common.{◌≡◌, ℕ, zero, suc, ◌+◌, ◌<◌, ◌≤◌, not, Bool, true, false, cond, List, [], ◌∷◌, ◌++◌, Option, Some, None, is_some, slice_get, ◌⊎◌, inl, inr, refl, sym, ap, subst, ◌∙◌, arith}
+use Rattle.std.specs.Prelude.{slice_set, replicate}
+use Rattle.std.specs.Option.{option_map_or}
 use Rattle.std.proofs.lemmas.Option.{none-some, same_Some}
-use Rattle.std.proofs.lemmas.Bool.{cond_both}
+use Rattle.std.proofs.lemmas.Bool.{and_parts, cond_both}
 use Rattle.net_base.specs.declared.address.Pair.{Pair}
 use Rattle.net_base.specs.declared.address.Proto.TheVariants as proto
+use Rattle.net_base.specs.declared.address.Addr.{Addr}
 use Rattle.net_base.specs.declared.il.StateName.{StateName}
+use Rattle.net_base.specs.declared.il.StateName.TheVariants as name
 use Rattle.net_base.specs.declared.actor.ActorName.{ActorName}
 use Rattle.net_base.specs.declared.actor.ActorName.TheVariants as actor
 use Rattle.net_base.specs.declared.event.Event.{Event}
@@ -18,7 +21,7 @@ use Rattle.net_base.specs.declared.world.World.{World}
 use Rattle.net_base.specs.Routes.{has_address}
 use Rattle.net_base.specs.ActorStep.{Step}
 use Rattle.net_base.specs.Conversation.{Core, Il, Udp, Stage, Unused, Listening, Connected}
-use Rattle.net_base.specs.Directory.{Slot, Dir, is_reserved, first_slot, pair_place}
+use Rattle.net_base.specs.Directory.{Key, Slot, Dir, free_slot, is_free, is_reserved, is_announced, is_keyed, Exactly, ByPort, ByAny, key_at, match_of, or_else, first_slot, pair_place}
 use Rattle.net_base.specs.Actors.{Actor, IsConv}
 use Rattle.net_base.specs.Duties.{Duty, follow_up}
 use Rattle.net_model.proofs.Trace.{Owner, Trace, empty_side, put_at}
@@ -240,3 +243,38 @@ place_push q p k (r ∷ pairs) is = go (same_pair q r) refl is (place_push q p (
 pub place_last : (p : Pair) (k : ℕ) (pairs : List Pair) → is_some (pair_place p k (pairs ++ p ∷ [])) ≡ true
 place_last p k [] = rw (same_pair_itself p) refl
 place_last p k (r ∷ pairs) = cond_both (same_pair p r) (Some k) (pair_place p (k + 1) (pairs ++ p ∷ [])) (λ (x : Option ℕ). is_some x ≡ true) (λ _. refl) (λ _. place_last p (k + 1) pairs)
+
+-- a slot that has the pair
+pub has_pair_is : (p : Pair) (o : Option Pair) → option_map_or (same_pair p) o false ≡ true → o ≡ Some p
+has_pair_is p None is = absurd (both_ways is refl)
+has_pair_is p (Some q) is = ap (λ (x : Pair). Some x) (sym (same_pair_is p q is))
+
+-- a free slot doesn't announce
+pub free_or_announced : (kind : StateName) (s : Slot) → is_free (record s { kind = kind }) ≡ true → is_announced kind ≡ true → ⊥
+free_or_announced name.Free s one two = both_ways two refl
+free_or_announced name.Reserved s one two = both_ways one refl
+free_or_announced name.Announced s one two = both_ways one refl
+free_or_announced name.Granted s one two = both_ways one refl
+free_or_announced name.Withdrawn s one two = both_ways one refl
+free_or_announced _ s one two = both_ways one refl
+
+-- the slot that matches announces
+keyed_at : (key : Key) (slots : List Slot) (found : ℕ × Slot) → first_slot (is_keyed key) 0 slots ≡ Some found → (slice_get slots found.0 ≡ Some found.1) × (is_announced found.1.kind ≡ true)
+keyed_at key slots found is =
+    let there = slot_found (is_keyed key) slots found is in
+    (there.0, (and_parts (is_announced found.1.kind) _ there.1).0)
+
+pub match_at : (a : Addr) (slots : List Slot) (found : ℕ × Slot) → match_of a slots ≡ Some found → (slice_get slots found.0 ≡ Some found.1) × (is_announced found.1.kind ≡ true)
+match_at a slots found is = go (first_slot (is_keyed (key_at Exactly a)) 0 slots) (first_slot (is_keyed (key_at ByPort a)) 0 slots) refl refl is
+  where
+    go : (x y : Option (ℕ × Slot)) → first_slot (is_keyed (key_at Exactly a)) 0 slots ≡ x → first_slot (is_keyed (key_at ByPort a)) 0 slots ≡ y
+        → or_else x (or_else y (first_slot (is_keyed (key_at ByAny a)) 0 slots)) ≡ Some found → (slice_get slots found.0 ≡ Some found.1) × (is_announced found.1.kind ≡ true)
+    go (Some x) y one two same = keyed_at (key_at Exactly a) slots found (one ∙ same)
+    go None (Some y) one two same = keyed_at (key_at ByPort a) slots found (two ∙ same)
+    go None None one two same = keyed_at (key_at ByAny a) slots found same
+
+-- every slot of a fresh directory is free
+pub all_free : (k n : ℕ) (s : Slot) → slice_get (replicate k free_slot) n ≡ Some s → free_slot ≡ s
+all_free zero n s is = absurd (none-some s is)
+all_free (suc k) zero s is = same_Some free_slot s is
+all_free (suc k) (suc n) s is = all_free k n s is

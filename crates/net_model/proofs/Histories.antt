@@ -17,7 +17,7 @@ use Rattle.net_base.specs.Stamped.{same_proto, same_actor}
 
 -- Tests of actors.
 
-same_proto_is : (p q : Proto) → same_proto p q ≡ true → p ≡ q
+pub same_proto_is : (p q : Proto) → same_proto p q ≡ true → p ≡ q
 same_proto_is proto.Il proto.Il is = refl
 same_proto_is proto.Udp proto.Udp is = refl
 same_proto_is _ _ is = absurd (true≢false (sym is))
@@ -112,7 +112,7 @@ agrees w a net (x ∷ xs) = by_actor (same_actor x.actor a) refl (agrees w a (ne
 pub state_is_fold : (w : World) (h : List Entry) (a : ActorName) → state w h a ≡ played w a (opening_actor a) (works w h a)
 state_is_fold w h a = agrees w a opening_net h
 
-slice_get_take : (k : ℕ) (h : List Entry) (j : ℕ) (x : Entry) → slice_get (take k h) j ≡ Some x → (j < k) × (slice_get h j ≡ Some x)
+pub slice_get_take : (k : ℕ) (h : List Entry) (j : ℕ) (x : Entry) → slice_get (take k h) j ≡ Some x → (j < k) × (slice_get h j ≡ Some x)
 slice_get_take zero h j x is = absurd (none-some x is)
 slice_get_take (suc k) [] j x is = absurd (none-some x is)
 slice_get_take (suc k) (y ∷ h) zero x is = (omega arith, is)

@@ -48,3 +48,9 @@ pub mod NoPeer
 pub mod PairsOnce
 pub mod NdbFirsts
 pub mod CasesRuns
+pub mod Copies
+pub mod UdpDuties
+pub mod UdpConvs
+pub mod UdpDirs
+pub mod UdpTrace
+pub mod UdpReads

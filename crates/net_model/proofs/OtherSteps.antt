@@ -1,5 +1,5 @@
 -- UDP conversations, directories of UDP, and media.
-use Rattle.std.proofs.Common.{◌≡◌, ℕ, zero, suc, ◌+◌, ◌==◌, ◌&&◌, nat_lt, nat_le, Bool, false, cond, List, [], ◌∷◌, ◌++◌, length, Option, Some, None, is_some, slice_get, inr, refl}
+use Rattle.std.proofs.Common.{ℕ, zero, suc, ◌+◌, ◌==◌, ◌&&◌, nat_lt, Bool, cond, List, [], ◌∷◌, length, Option, Some, None, slice_get, inr, refl}
 use Rattle.std.specs.Prelude.{IfSome}
 use Rattle.std.proofs.lemmas.Bool.{cond_both}
 use Rattle.net_base.specs.declared.address.Addr.{Addr}
@@ -21,27 +21,23 @@ use Rattle.net_base.specs.declared.history.With.TheVariants as given
 use Rattle.net_model.proofs.Pairs.{is_sync}
 use Rattle.net_base.specs.UdpEnd.{UdpEnd, is_hung_up}
 use Rattle.net_base.specs.declared.world.World.{World}
-use Rattle.net_base.specs.declared.world.Fate.{Fate}
-use Rattle.net_base.specs.declared.world.Fate.TheVariants.{Deliver, Lose, Twice, Later}
 use Rattle.net_base.specs.declared.world.MediumSpec.{MediumSpec}
 use Rattle.net_base.specs.Routes.{Way, way}
 use Rattle.net_base.specs.ActorStep.{Step}
-use Rattle.net_base.specs.declared.names.FileName.{FileName}
-use Rattle.net_base.specs.declared.names.Mode.{Mode}
 use Rattle.net_base.specs.ControlWords as control
-use Rattle.net_base.specs.Conversation.{Core, Il, Udp, Stage, Unused, Listening, Connected, Conv, in_generation, raises, may_bear as may_begin, may_connect, has_protocol, joined, brought_forth, listens, binds as shows, taken_in, is_closed_name, udp_written, udp_read, read_at, write_at, closed, opened, listed, refused_control, bad_control, conv_step}
+use Rattle.net_base.specs.Conversation.{Core, Il, Udp, Stage, Unused, Listening, Connected, Conv, in_generation, raises, may_bear as may_begin, may_connect, has_protocol, joined, brought_forth, listens, binds as shows, taken_in, is_closed_name, udp_read, read_at, write_at, closed, opened, listed, refused_control, bad_control, conv_step}
 use Rattle.net_base.specs.UdpEnd.{udp_state_name}
-use Rattle.net_base.specs.Medium.{Medium, datagram_length, fate_of, now_of, held_of, puts, takes, medium_step}
-use Rattle.net_base.specs.Same.{same_addr, same_pair}
-use Rattle.net_base.specs.Mirror.{mirror}
+use Rattle.net_base.specs.Medium.{Medium, medium_step}
+use Rattle.net_base.specs.Same.{same_addr}
 use Rattle.net_base.specs.declared.il.StateName.{StateName}
 use Rattle.net_base.specs.declared.il.StateName.TheVariants as name
-use Rattle.net_base.specs.Directory.{is_keyed, is_bound, gets, ports_with, announces, binds, withdraws, next_call, listens_at, Slot, Dir, is_reserved, may_bear, first_slot, pair_place, in_found_slot, reserves, grants_pair, grants_by, port_for, grants, frees, refused_or_dropped, born_or_not, arrives_at, is_of, dir_step}
+use Rattle.net_base.specs.Directory.{is_keyed, is_bound, gets, ports_with, announces, binds, withdraws, next_call, listens_at, Slot, Dir, is_reserved, first_slot, pair_place, in_found_slot, reserves, grants_pair, grants_by, port_for, grants, frees, refused_or_dropped, born_or_not, arrives_at, is_of, dir_step}
 use Rattle.net_base.specs.Directory.{has_taker, listens as dir_listens}
 use Rattle.net_base.specs.Duties.{close_calls, follow_up}
 use Rattle.net_model.proofs.Trace.{Trace}
 use Rattle.net_model.proofs.Touch.{Emitted, EmittedAs, EmittedIf, Later as Growing, emitted_later}
 use Rattle.net_model.proofs.Acts.{Refusal}
+use Rattle.net_model.proofs.Copies.{OfMedium, OfTaken, MediumLeaves, medium_leaves, medium_more}
 use Rattle.net_model.proofs.DirSteps.{WithFine, EachDuty}
 
 -- UDP conversations.
@@ -273,58 +269,14 @@ conv_follow w t h n s p _ gift _ = tt
 
 -- Media.
 
-abbrev pub EachCopy : Trace → List Taken → Type 0
-EachCopy t [] = Unit {0}
-EachCopy t (x ∷ xs) = Emitted t x.packet × EachCopy t xs
-
 abbrev pub MediumFine : Trace → Medium → Type 0
-MediumFine t m = EachCopy t m.queue × EachCopy t m.held
+MediumFine t m = OfMedium (Emitted t) m
 
 abbrev pub TakenIf : Trace → Option Taken → Type 0
-TakenIf t None = Unit {0}
-TakenIf t (Some x) = Emitted t x.packet
+TakenIf t taken = OfTaken (Emitted t) taken
 
-each_append : (t : Trace) (xs ys : List Taken) → EachCopy t xs → EachCopy t ys → EachCopy t (xs ++ ys)
-each_append t [] ys f g = g
-each_append t (x ∷ xs) ys f g = (f.0, each_append t xs ys f.1 g)
+pub medium_grows : (t u : Trace) (m : Medium) → Growing t u → MediumFine t m → MediumFine u m
+medium_grows t u m later f = medium_more (Emitted t) (Emitted u) m (λ p. emitted_later t u p later) f
 
-pub each_later : (t u : Trace) (xs : List Taken) → Growing t u → EachCopy t xs → EachCopy u xs
-each_later t u [] later f = tt
-each_later t u (x ∷ xs) later f = (emitted_later t u x.packet later f.0, each_later t u xs later f.1)
-
-now_fine : (t : Trace) (f : Fate) (x : Taken) → Emitted t x.packet → EachCopy t (now_of f x)
-now_fine t Deliver x e = (e, tt)
-now_fine t Twice x e = (e, (e, tt))
-now_fine t Lose x e = tt
-now_fine t Later x e = tt
-
-held_fine : (t : Trace) (f : Fate) (x : Taken) → Emitted t x.packet → EachCopy t (held_of f x)
-held_fine t Later x e = (e, tt)
-held_fine t Deliver x e = tt
-held_fine t Twice x e = tt
-held_fine t Lose x e = tt
-
-pub record MediumStep (t : Trace) (s : Step Medium) : Type 0 where
-  pub fine : MediumFine t s.state
-  pub taken : TakenIf t s.outcome.taken
-  pub emits_none : s.outcome.emit ≡ None
-
-puts_fine : (t : Trace) (spec : MediumSpec) (seed : ℕ) (to : Option ℕ) (p : Packet) (m : Medium) → MediumFine t m → Emitted t p → MediumStep t (puts spec seed to p m)
-puts_fine t spec seed None p m f e = record { fine = f; taken = tt; emits_none = refl }
-puts_fine t spec seed (Some to) p m f e =
-    cond_both (nat_lt spec.mtu (datagram_length p.body)) _ _ (λ (s : Step Medium). MediumStep t s)
-    (λ _. record { fine = f; taken = tt; emits_none = refl })
-    (λ _.
-    let x : Taken = record { frame = m.frames + 1; to = to; packet = p } in
-    let fate = fate_of seed spec (m.frames + 1) in
-    record { fine = (each_append t (m.queue ++ now_of fate x) m.held (each_append t m.queue (now_of fate x) f.0 (now_fine t fate x e)) f.1, held_fine t fate x e); taken = tt; emits_none = refl })
-
-takes_fine : (t : Trace) (queue held : List Taken) (m : Medium) → EachCopy t queue → EachCopy t held → EachCopy t m.queue → EachCopy t m.held → IfSome (takes queue held m) (λ s. MediumStep t s)
-takes_fine t (x ∷ queue) held m f g f' g' = record { fine = (f.1, g'); taken = f.0; emits_none = refl }
-takes_fine t [] (x ∷ held) m f g f' g' = record { fine = (f', g.1); taken = g.0; emits_none = refl }
-takes_fine t [] [] m f g f' g' = tt
-
-pub medium_steps : (w : World) (t : Trace) (n : ℕ) (spec : MediumSpec) (seed : ℕ) (ev : Event) (gift : With) (m : Medium) → MediumFine t m → WithFine w t (actor.Medium n) ev gift → IfSome (medium_step spec seed ev gift m) (λ s. MediumStep t s)
-medium_steps w t n spec seed (event.Put to) (given.Packet p) m f fine = puts_fine t spec seed to p m f fine
-medium_steps w t n spec seed event.Take gift m f fine = takes_fine t m.queue m.held m f.0 f.1 f.0 f.1
-medium_steps w t n spec seed _ _ m f fine = tt
+pub medium_steps : (w : World) (t : Trace) (n : ℕ) (spec : MediumSpec) (seed : ℕ) (ev : Event) (gift : With) (m : Medium) → MediumFine t m → WithFine w t (actor.Medium n) ev gift → IfSome (medium_step spec seed ev gift m) (λ s. MediumLeaves (Emitted t) s)
+medium_steps w t n spec seed ev gift m f fine = medium_leaves (Emitted t) spec seed ev gift m f fine

@@ -55,7 +55,7 @@ finds test (x ∷ gs) g (inr there) passes none = go (test x) none (finds test g
 conv_actor_is : (h i m n : ℕ) (p q : Proto) → name.Conv h p m ≡ name.Conv i q n → (h ≡ i) × (p ≡ q) × (m ≡ n)
 conv_actor_is h i m n p q is = (cc is, cc is, cc is)
 
-same_conversation_is : (e f : Conversation) → same_conversation e f ≡ true → e ≡ f
+pub same_conversation_is : (e f : Conversation) → same_conversation e f ≡ true → e ≡ f
 same_conversation_is e f is =
     let tests = and_parts (same_actor (actor_of e) (actor_of f)) (e.generation == f.generation) is in
     let parts = conv_actor_is e.host f.host e.slot f.slot e.proto f.proto (same_actor_is (actor_of e) (actor_of f) tests.0) in

@@ -46,9 +46,9 @@ use Rattle.net_base.specs.IlEnd.{End}
 use Rattle.net_base.specs.declared.il.IlMsg.{IlMsg}
 use Rattle.net_model.proofs.Touch.{IsIn, HeardClose, Utters, Owned, Later, Emitted, EmittedIf, emitted_later, HasEnd, ConvFine, ActorFine, ConvStep}
 use Rattle.net_model.proofs.ConvSteps.{GiftFine, owned_more, conv_steps}
-use Rattle.net_model.proofs.DirSteps.{WithFine, EachDuty, SlotIsFine, DirIsFine, Addressed, DirStep}
+use Rattle.net_model.proofs.DirSteps.{WithFine, EachDuty, SlotIsFine, DirIsFine, Addressed, DirStep, all_free}
 use Rattle.net_model.proofs.DirRows.{dir_steps}
-use Rattle.net_model.proofs.OtherSteps.{IsUdp, harmless_emitted, udp_steps, dir_harmless, udp_dir_follow, conv_follow, MediumFine, TakenIf, each_later, medium_steps}
+use Rattle.net_model.proofs.OtherSteps.{IsUdp, harmless_emitted, udp_steps, dir_harmless, udp_dir_follow, conv_follow, MediumFine, TakenIf, medium_grows, medium_steps}
 use Rattle.net_model.proofs.Histories.{after_push, by_entries}
 use Rattle.net_base.specs.Written.{joined}
 use Rattle.net_model.proofs.Pairs.{IsPrefixOf}
@@ -153,7 +153,7 @@ dir_later t u h (IsDir d) on back f = record {
 dir_later t u h _ on back f = absurd f
 
 medium_later : (t u : Trace) (a : Actor) → Later t u → MediumFineAs t a → MediumFineAs u a
-medium_later t u (IsMedium m) later f = (each_later t u m.queue later f.0, each_later t u m.held later f.1)
+medium_later t u (IsMedium m) later f = medium_grows t u m later f
 medium_later t u _ later f = absurd f
 
 map_if : {S T : Type 0} (f : S → T) (o : Option S) (Q : T → Type 0) → IfSome o (λ s. Q (f s)) → IfSome (option_map f o) Q
@@ -558,11 +558,6 @@ entry_kept w world k h net t x caller ask few kept is_asked ready shows =
         }
 
 -- The beginning.
-
-all_free : (k n : ℕ) (s : Slot) → slice_get (replicate k free_slot) n ≡ Some s → free_slot ≡ s
-all_free zero n s is = absurd (none-some s is)
-all_free (suc k) zero s is = same_Some free_slot s is
-all_free (suc k) (suc n) s is = all_free k n s is
 
 free_fine : (h n : ℕ) → SlotIsFine opening_trace h n free_slot
 free_fine h n = record {

@@ -1,9 +1,9 @@
 -- What is read was written, in order, whatever media lose, repeat or delay.
-use Rattle.std.specs.Prelude.{ℕ, ◌≡◌, ◌≤◌, List, [], ◌++◌, length, take, filter}
+use Rattle.std.specs.Prelude.{ℕ, ◌≡◌, ◌<◌, ◌≤◌, List, [], ◌++◌, length, take, filter, Some}
 use Rattle.net_base.specs.declared.history.Entry.{Entry}
 use Rattle.net_base.specs.declared.world.World.{World}
 use Rattle.net_base.specs.Networks.{is_filled}
-use Rattle.net_base.specs.Written.{Conversation, HasClosed, IsRead, writes, reads, joined, stood}
+use Rattle.net_base.specs.Written.{Conversation, HasClosed, IsRead, IsWrite, peer, writes, reads, joined, stood}
 
 abbrev pub IsPrefix : {A : Type 0} → List A → List A → Type 0
 IsPrefix {A} xs ys = (rest : List A) × (xs ++ rest ≡ ys)
@@ -34,3 +34,13 @@ pub record Alone (w : World) (h : List Entry) (e : Conversation) : Type 0 where
   -- no read replies bytes, and nothing counts as acknowledged
   pub unread : reads h e ≡ []
   pub unacked : (stood w h e).acked ≡ 0
+
+-- the text is the first bytes, so many at most, of a datagram that the conversation's peer wrote before the entry k
+pub record WasWritten (w : World) (h : List Entry) (e : Conversation) (k count : ℕ) (text : List ℕ) : Type 0 where
+  pub by : Conversation
+  pub peer_is : peer w h e ≡ Some by
+  pub at : ℕ
+  pub datagram : List ℕ
+  pub written : IsWrite h by at datagram
+  pub earlier : at < k
+  pub text_is : text ≡ take count datagram

@@ -8,10 +8,10 @@ ghost use Rattle.net_base.specs.declared.actor.ActorName.{ActorName};
 ghost use Rattle.net_base.specs.declared.history.Entry.{Entry};
 ghost use Rattle.net_base.specs.declared.world.World.{World};
 ghost use Rattle.net_base.specs.Actors.{opening_actor};
-ghost use Rattle.net_base.specs.declared.address.Proto.TheVariants.{Il};
-ghost use Rattle.net_model.specs.PrefixLaw.{Alone, InOrder};
+ghost use Rattle.net_base.specs.declared.address.Proto.TheVariants.{Il, Udp};
+ghost use Rattle.net_model.specs.PrefixLaw.{Alone, InOrder, WasWritten};
 ghost use Rattle.net_base.specs.World.{IsWorld};
-ghost use Rattle.net_base.specs.Written.{Conversation, peer};
+ghost use Rattle.net_base.specs.Written.{Conversation, IsRead, peer};
 ghost use Rattle.net_base.specs.Legal.{IsFault, IsLegal, IsTimed, Rule};
 ghost use Rattle.net_base.specs.Net.{owed, state, played, works};
 ghost use Rattle.net_base.specs.Duties.{Duty};
@@ -49,6 +49,7 @@ pub fn a_fault_is_not_legal()
 /// What is read at an IL conversation was written at its peer, in order, and an end of file comes after a close and after all of it.
 pub fn prefix_law()
     ensures alone { (w : World) (h : List Entry) (e : Conversation) → IsWorld w → IsLegal w h → e.proto ≡ Il → peer w h e ≡ None → Alone w h e }
+    ensures datagrams { (w : World) (h : List Entry) (e : Conversation) (k count : ℕ) (text : List ℕ) → IsWorld w → IsLegal w h → e.proto ≡ Udp → IsRead h e k count text → WasWritten w h e k count text }
     ensures in_order { (w : World) (h : List Entry) (e f : Conversation) → IsWorld w → IsLegal w h → e.proto ≡ Il → peer w h e ≡ Some f → InOrder w h e f }
 {}
 
