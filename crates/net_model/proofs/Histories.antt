@@ -124,7 +124,7 @@ legal_take w h k legal j x is =
     let here = slice_get_take k h j x is in
     subst (λ (p : List Entry). MayFollow w p x) (sym (take-take j k h (omega (arith, here.0)))) (legal j x here.1)
 
-one_more : (h : List Entry) (k : ℕ) → k < length h → (x : Entry) × (slice_get h k ≡ Some x) × (take (suc k) h ≡ take k h ++ x ∷ [])
+pub one_more : (h : List Entry) (k : ℕ) → k < length h → (x : Entry) × (slice_get h k ≡ Some x) × (take (suc k) h ≡ take k h ++ x ∷ [])
 one_more [] k lt = absurd (omega arith)
 one_more (y ∷ h) zero lt = (y, refl, refl)
 one_more (y ∷ h) (suc k) lt = let rest = one_more h k (omega arith) in (rest.0, rest.1, ap (λ (xs : List Entry). y ∷ xs) rest.2)

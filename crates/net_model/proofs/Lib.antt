@@ -44,3 +44,7 @@ pub mod InOrders
 pub mod PairsOnce
 pub mod NdbFirsts
 pub mod CasesRuns
+pub mod Waits
+pub mod ConvWaits
+pub mod Untils
+pub mod Rising

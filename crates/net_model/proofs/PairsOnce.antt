@@ -182,7 +182,7 @@ grown w net x s is a q there = by (same_actor x.actor a) refl
         subst (λ (c : Actor). In q (pairs_of c)) (sym (next_same w net x a (Some s) same))
         (pairs_grow w x.actor (net.actors x.actor) net.moment (work_of net x) s q is (subst (λ (n : ActorName). In q (pairs_of (net.actors n))) (sym (same_actor_is x.actor a same)) there))
 
-same_itself : (a : ActorName) → same_actor a a ≡ true
+pub same_itself : (a : ActorName) → same_actor a a ≡ true
 same_itself (name.Desk h) = search arith
 same_itself (name.Dir h proto.Il) = rw (same_number h) refl
 same_itself (name.Dir h proto.Udp) = rw (same_number h) refl

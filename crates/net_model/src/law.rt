@@ -1,10 +1,11 @@
 //! Laws of the definitions.
-ghost use Rattle.std.specs.Prelude.{◌≡◌, ◌↔◌, List, ℕ, Ok, Err, Some, true, false, take, slice_get};
+ghost use Rattle.std.specs.Prelude.{◌≡◌, ◌<◌, ◌≤◌, ◌↔◌, List, ℕ, Ok, Err, Some, true, false, take, slice_get};
 ghost use Rattle.net_base.specs.ControlWords as control;
 ghost use Rattle.net_base.specs.Paths as paths;
 ghost use Rattle.net_base.specs.declared.names.Ctl.{Ctl};
 ghost use Rattle.net_base.specs.declared.names.Node.{Node};
 ghost use Rattle.net_base.specs.declared.actor.ActorName.{ActorName};
+ghost use Rattle.net_base.specs.declared.event.Event.TheVariants as event;
 ghost use Rattle.net_base.specs.declared.history.Entry.{Entry};
 ghost use Rattle.net_base.specs.declared.world.World.{World};
 ghost use Rattle.net_base.specs.Actors.{opening_actor};
@@ -59,4 +60,11 @@ pub fn duties_cite_their_own()
 /// In a legal history a directory grants a pair, or bears a conversation with it, at most once.
 pub fn a_pair_is_given_once()
     ensures { (w : World) (h : List Entry) → IsLegal w h → (i j : ℕ) (f g : Given) → slice_get (given_in w h) i ≡ Some f → slice_get (given_in w h) j ≡ Some g → f.to.host ≡ g.to.host → f.to.proto ≡ g.to.proto → f.pair ≡ g.pair → i ≡ j }
+{}
+
+/// In a timed legal history the clock's moments rise: each move goes beyond the moment before it, and no entry's moment falls.
+pub fn moments_rise()
+    ensures moves { (w : World) (h : List Entry) (k m : ℕ) (x : Entry) → IsWorld w → IsLegal w h → IsTimed w h → slice_get h k ≡ Some x → x.event ≡ event.Move m → x.moment < m }
+    ensures entries { (w : World) (h : List Entry) (i j : ℕ) (x y : Entry) → IsWorld w → IsLegal w h → IsTimed w h → i ≤ j → slice_get h i ≡ Some x → slice_get h j ≡ Some y → x.moment ≤ y.moment }
+    ensures strictly { (w : World) (h : List Entry) (i j m n : ℕ) (x y : Entry) → IsWorld w → IsLegal w h → IsTimed w h → i < j → slice_get h i ≡ Some x → slice_get h j ≡ Some y → x.event ≡ event.Move m → y.event ≡ event.Move n → m < n }
 {}
