@@ -17,7 +17,7 @@ use Rattle.net_base.specs.Stamped.{same_proto, same_actor}
 
 -- Tests of actors.
 
-same_proto_is : (p q : Proto) → same_proto p q ≡ true → p ≡ q
+pub same_proto_is : (p q : Proto) → same_proto p q ≡ true → p ≡ q
 same_proto_is proto.Il proto.Il is = refl
 same_proto_is proto.Udp proto.Udp is = refl
 same_proto_is _ _ is = absurd (true≢false (sym is))

@@ -17,7 +17,9 @@ ghost use Rattle.net_base.specs.Legal.{IsFault, IsLegal, IsTimed, Rule};
 ghost use Rattle.net_base.specs.Net.{owed, state, played, works};
 ghost use Rattle.net_base.specs.Duties.{Duty};
 ghost use Rattle.net_base.specs.Stamped.{In};
-ghost use Rattle.net_base.specs.Written.{Given, given_in};
+ghost use Rattle.net_base.specs.Written.{Given, given_in, holder, pair_of};
+ghost use Rattle.net_base.specs.declared.address.Pair.{Pair};
+ghost use Rattle.net_base.specs.Mirror.{mirror};
 
 /// The reading of a ctl file's text is its grammar's.
 pub fn controls_are_read()
@@ -67,4 +69,12 @@ pub fn moments_rise()
     ensures moves { (w : World) (h : List Entry) (k m : ℕ) (x : Entry) → IsWorld w → IsLegal w h → IsTimed w h → slice_get h k ≡ Some x → x.event ≡ event.Move m → x.moment < m }
     ensures entries { (w : World) (h : List Entry) (i j : ℕ) (x y : Entry) → IsWorld w → IsLegal w h → IsTimed w h → i ≤ j → slice_get h i ≡ Some x → slice_get h j ≡ Some y → x.moment ≤ y.moment }
     ensures strictly { (w : World) (h : List Entry) (i j m n : ℕ) (x y : Entry) → IsWorld w → IsLegal w h → IsTimed w h → i < j → slice_get h i ≡ Some x → slice_get h j ≡ Some y → x.event ≡ event.Move m → y.event ≡ event.Move n → m < n }
+{}
+
+/// In the whole net a pair of a protocol is granted, or a conversation born with it, at most once: who got it is its one holder,
+/// and who got the mirror of a conversation's pair is its one peer.
+pub fn a_pair_has_one_holder()
+    ensures once { (w : World) (h : List Entry) → IsWorld w → IsLegal w h → (i j : ℕ) (f g : Given) → slice_get (given_in w h) i ≡ Some f → slice_get (given_in w h) j ≡ Some g → f.to.proto ≡ g.to.proto → f.pair ≡ g.pair → i ≡ j }
+    ensures holder { (w : World) (h : List Entry) (k : ℕ) (g : Given) → IsWorld w → IsLegal w h → slice_get (given_in w h) k ≡ Some g → holder w h g.to.proto g.pair ≡ Some g.to }
+    ensures peer { (w : World) (h : List Entry) (e : Conversation) (pair : Pair) (k : ℕ) (g : Given) → IsWorld w → IsLegal w h → pair_of w h e ≡ Some pair → slice_get (given_in w h) k ≡ Some g → g.to.proto ≡ e.proto → g.pair ≡ mirror pair → peer w h e ≡ Some g.to }
 {}

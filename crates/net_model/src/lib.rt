@@ -13,7 +13,7 @@ pub use cases::{
 };
 pub use cs_law::{no_line_stands_twice, own_networks_come_first, worked_queries};
 pub use law::{
-    a_fault_is_not_legal, a_pair_is_given_once, controls_are_read, duties_cite_their_own,
+    a_fault_is_not_legal, a_pair_has_one_holder, a_pair_is_given_once, controls_are_read, duties_cite_their_own,
     moments_rise, paths_are_walked, prefix_is_legal, prefix_law, state_is_fold,
 };
 pub use ndb_law::{
