@@ -49,3 +49,4 @@ pub mod ConvWaits
 pub mod Untils
 pub mod Rising
 pub mod Holders
+pub mod Limits

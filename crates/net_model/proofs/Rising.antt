@@ -89,7 +89,7 @@ all_in p [] x all there = absurd there
 all_in p (y ∷ xs) x all (inl is) = subst (λ u. p u ≡ true) (sym is) (and_parts (p y) (list_all p xs) all).0
 all_in p (y ∷ xs) x all (inr there) = all_in p xs x (and_parts (p y) (list_all p xs) all).1 there
 
-in_range : (a n c : ℕ) → a ≤ c → c < a + n → In c (range_with_len a n)
+pub in_range : (a n c : ℕ) → a ≤ c → c < a + n → In c (range_with_len a n)
 in_range a zero c le lt = absurd (omega arith)
 in_range a (suc n) c le lt = by (c == a) refl (λ more. in_range (a + 1) n c more (omega arith))
   where

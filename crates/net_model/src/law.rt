@@ -1,5 +1,5 @@
 //! Laws of the definitions.
-ghost use Rattle.std.specs.Prelude.{◌≡◌, ◌<◌, ◌≤◌, ◌↔◌, List, ℕ, Ok, Err, Some, true, false, take, slice_get};
+ghost use Rattle.std.specs.Prelude.{◌≡◌, ◌<◌, ◌≤◌, ◌↔◌, List, ℕ, Ok, Err, Some, true, false, length, take, slice_get};
 ghost use Rattle.net_base.specs.ControlWords as control;
 ghost use Rattle.net_base.specs.Paths as paths;
 ghost use Rattle.net_base.specs.declared.names.Ctl.{Ctl};
@@ -13,8 +13,11 @@ ghost use Rattle.net_base.specs.declared.address.Proto.TheVariants.{Il};
 ghost use Rattle.net_model.specs.PrefixLaw.{InOrder};
 ghost use Rattle.net_base.specs.World.{IsWorld};
 ghost use Rattle.net_base.specs.Written.{Conversation, peer};
-ghost use Rattle.net_base.specs.Legal.{IsFault, IsLegal, IsTimed, Rule};
-ghost use Rattle.net_base.specs.Net.{owed, state, played, works};
+ghost use Rattle.net_base.specs.Callers.{caller_count, caller_of};
+ghost use Rattle.net_base.specs.Calm.{could_record, limited, most_entries};
+ghost use Rattle.net_base.specs.Legal.{Asked, HasRoom, IsFault, IsLegal, IsTimed, Keeps, Known, Ready, Rule};
+ghost use Rattle.net_base.specs.Net.{Net, after, owed, state, played, works};
+ghost use Rattle.net_base.specs.Next.{by};
 ghost use Rattle.net_base.specs.Duties.{Duty};
 ghost use Rattle.net_base.specs.Stamped.{In};
 ghost use Rattle.net_base.specs.Written.{Given, given_in, holder, pair_of};
@@ -77,4 +80,25 @@ pub fn a_pair_has_one_holder()
     ensures once { (w : World) (h : List Entry) → IsWorld w → IsLegal w h → (i j : ℕ) (f g : Given) → slice_get (given_in w h) i ≡ Some f → slice_get (given_in w h) j ≡ Some g → f.to.proto ≡ g.to.proto → f.pair ≡ g.pair → i ≡ j }
     ensures holder { (w : World) (h : List Entry) (k : ℕ) (g : Given) → IsWorld w → IsLegal w h → slice_get (given_in w h) k ≡ Some g → holder w h g.to.proto g.pair ≡ Some g.to }
     ensures peer { (w : World) (h : List Entry) (e : Conversation) (pair : Pair) (k : ℕ) (g : Given) → IsWorld w → IsLegal w h → pair_of w h e ≡ Some pair → slice_get (given_in w h) k ≡ Some g → g.to.proto ≡ e.proto → g.pair ≡ mirror pair → peer w h e ≡ Some g.to }
+{}
+
+/// An entry that is its caller's next and is ready is at an actor and of a caller of the world, so that the rule of known ones is
+/// never the least that an entry breaks.
+pub fn what_is_ready_is_known()
+    ensures known { (w : World) (h : List Entry) (x : Entry) → IsLegal w h → Keeps Asked w h (after w h) x → Keeps Ready w h (after w h) x → Keeps Known w h (after w h) x }
+    ensures never_least { (w : World) (h : List Entry) (stamp : ℕ) → IsFault w h stamp Known → ⊥ }
+{}
+
+/// A caller records at most 131,072 entries, and one more breaks the rule of room.
+pub fn callers_have_room()
+    ensures within { (w : World) (h : List Entry) (c : ℕ) → IsLegal w h → length (by h c) ≤ most_entries }
+    ensures full { (w : World) (past : List Entry) (net : Net) (x : Entry) → length (by past x.caller) ≡ most_entries → Keeps HasRoom w past net x → ⊥ }
+    ensures fault { (w : World) (h : List Entry) (stamp : ℕ) → IsFault w h stamp HasRoom → (x : Entry) × (slice_get h stamp ≡ Some x) × (length (by (take stamp h) x.caller) ≡ most_entries) }
+{}
+
+/// A run is limited exactly where a caller that has all its entries owes a duty or could record its next event.
+pub fn full_callers_limit()
+    ensures owes { (w : World) (net : Net) (c : ℕ) (d : Duty) → c < caller_count w → length (by net.past c) ≡ most_entries → In d (net.owed c) → limited w net ≡ true }
+    ensures could { (w : World) (net : Net) (c : ℕ) → c < caller_count w → length (by net.past c) ≡ most_entries → could_record w net (caller_of w c) c ≡ true → limited w net ≡ true }
+    ensures only { (w : World) (net : Net) → limited w net ≡ true → (c : ℕ) × (length (by net.past c) ≡ most_entries) × (could_record w net (caller_of w c) c ≡ true) }
 {}
