@@ -1,8 +1,8 @@
 -- What a step leaves of the moment at which a conversation is due.
-use Rattle.std.proofs.Common.{◌≡◌, ℕ, ◌+◌, ◌<◌, ◌≤◌, ◌==◌, nat_lt, Bool, true, false, cond, Option, Some, None, ◌⊎◌, inl, inr, refl, sym, ap, subst, ◌∙◌, arith}
+use Rattle.std.proofs.Common.{◌≡◌, ℕ, ◌≤◌, ◌==◌, Bool, true, false, Option, Some, None, ◌⊎◌, inl, inr, refl, sym, ap, subst, ◌∙◌, arith}
 use Rattle.std.specs.Option.{option_map, option_and_then}
 use Rattle.std.specs.Prelude.{IfSome, slice_get}
-use Rattle.std.proofs.lemmas.Bool.{cond_both, eqb-true, eq-eqb}
+use Rattle.std.proofs.lemmas.Bool.{cond_both, eq-eqb}
 use Rattle.std.proofs.lemmas.Option.{none-some, same_Some}
 use Rattle.net_base.specs.declared.actor.ActorName.{ActorName}
 use Rattle.net_base.specs.declared.actor.ActorName.TheVariants as name
@@ -17,18 +17,17 @@ use Rattle.net_base.specs.declared.world.HostSpec.{HostSpec}
 use Rattle.net_base.specs.declared.world.MediumSpec.{MediumSpec}
 use Rattle.net_base.specs.declared.world.World.{World}
 use Rattle.net_base.specs.ActorStep.{Step, when}
-use Rattle.net_base.specs.Actors.{Actor, IsDir, IsConv, IsMedium, IsPlain, actor_step, table_step, step_as, has_actor, plain_step, opening_actor, opening_core}
-use Rattle.net_base.specs.Conversation.{Conv, Core, Il, Udp, conv_step, in_generation, ticked}
+use Rattle.net_base.specs.Actors.{Actor, IsDir, IsConv, IsMedium, IsPlain, actor_step, step_as, has_actor, plain_step, opening_actor, opening_core}
+use Rattle.net_base.specs.Conversation.{Conv, Core, Il, Udp, conv_step, ticked}
 use Rattle.net_base.specs.Desk.{desk_reply, clock_reply}
 use Rattle.net_base.specs.Directory.{dir_step}
 use Rattle.net_base.specs.Duties.{due_of, due_of_core, generation_of}
-use Rattle.net_base.specs.IlEnd.{End, Turn, silent}
-use Rattle.net_base.specs.IlTable.{arrives, writes, reads, hangs_up, ticks}
+use Rattle.net_base.specs.IlEnd.{End, Turn}
 use Rattle.net_base.specs.Medium.{Medium, medium_step}
 use Rattle.net_model.proofs.ConvMoves.{Act, Rest, Arrival, Writing, Reading, Hanging, Ticking, Move, Stay, Begin, Join, Come, Listen, of_end, moves}
 use Rattle.net_model.proofs.Deeds.{both_ways}
 use Rattle.net_model.proofs.OtherSteps.{IsUdp, udp_steps}
-use Rattle.net_model.proofs.Waits.{Beyond, Runs, Later, EndLater, end_kept, arrives_later, hangs_up_later, writes_later, reads_later, waits_later, ticks_wait}
+use Rattle.net_model.proofs.Waits.{Beyond, Runs, EndLater, end_kept, arrives_later, hangs_up_later, writes_later, reads_later, waits_later, ticks_wait}
 
 -- an IL conversation's limit is small, and what it waits for it has waited for a while
 abbrev pub Timed : Core → ℕ → Type 0

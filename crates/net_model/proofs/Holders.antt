@@ -1,8 +1,8 @@
 -- A pair has one holder in the whole net, because its local address is one of its holder's host.
-use Rattle.std.proofs.Common.{◌≡◌, ℕ, zero, suc, ◌-◌, ◌==◌, ◌&&◌, nat_lt, Bool, true, false, cond, List, [], ◌∷◌, ◌++◌, length, drop, Option, Some, None, slice_get, ◌⊎◌, inl, inr, refl, sym, ap, subst, ◌∙◌, arith}
+use Rattle.std.proofs.Common.{◌≡◌, ℕ, zero, suc, ◌-◌, ◌==◌, ◌&&◌, nat_lt, Bool, true, false, cond, List, [], ◌∷◌, ◌++◌, length, drop, Option, Some, None, slice_get, refl, sym, ap, subst, ◌∙◌}
 use Rattle.std.specs.Prelude.{IfSome, IsSome, flat_map, find, option_to_list}
 use Rattle.std.specs.Option.{option_map, option_and_then}
-use Rattle.std.proofs.lemmas.Bool.{and_parts, and_from, cond_both, eqb-true, false≢true}
+use Rattle.std.proofs.lemmas.Bool.{and_parts, and_from, cond_both, false≢true}
 use Rattle.std.proofs.lemmas.Option.{none-some, same_Some}
 use Rattle.net_base.specs.declared.actor.ActorName.{ActorName}
 use Rattle.net_base.specs.declared.actor.ActorName.TheVariants as name
@@ -24,21 +24,21 @@ use Rattle.net_base.specs.declared.reply.Reply.{Reply}
 use Rattle.net_base.specs.declared.reply.Reply.TheVariants as reply
 use Rattle.net_base.specs.declared.world.World.{World}
 use Rattle.net_base.specs.ActorStep.{Step, when}
-use Rattle.net_base.specs.Actors.{Actor, IsDir, IsConv, IsMedium, IsPlain, actor_step, has_actor}
+use Rattle.net_base.specs.Actors.{Actor, IsDir, IsConv, actor_step, has_actor}
 use Rattle.net_base.specs.Callers.{Caller, caller_of}
 use Rattle.net_base.specs.Directory.{Dir, Slot, dir_step, in_found_slot, is_reserved, grants, grants_by, grants_pair, pair_place, port_for}
-use Rattle.net_base.specs.Duties.{Duty, put_by, emitted_put, close_calls, follow_up, forwarded, courier_duty, tick_at, ticks, has_come, due_of, conversations, release, duties, proto_of}
-use Rattle.net_base.specs.Legal.{IsLegal, MayFollow, Shows, Shown, IsAsked, asked_by}
+use Rattle.net_base.specs.Duties.{Duty, put_by, emitted_put, close_calls, follow_up, courier_duty, tick_at, ticks, has_come, due_of, conversations, release, duties}
+use Rattle.net_base.specs.Legal.{IsLegal, MayFollow, Shows, Shown, IsAsked}
 use Rattle.net_base.specs.Mirror.{mirror}
 use Rattle.net_base.specs.Net.{Net, opening_net, net_after, after, step_of, work_of, with_of}
 use Rattle.net_base.specs.Routes.{Way, way, has_address}
 use Rattle.net_base.specs.Same.{same_addr, same_pair}
-use Rattle.net_base.specs.Stamped.{In, same_proto}
+use Rattle.net_base.specs.Stamped.{same_proto}
 use Rattle.net_base.specs.Steps.{Ask}
 use Rattle.net_base.specs.World.{IsWorld}
-use Rattle.net_base.specs.Written.{Conversation, Given, gave, gives, given_in, given_from, pair_of, holder, peer}
+use Rattle.net_base.specs.Written.{Conversation, Given, gave, gives, given_in, pair_of, holder, peer}
 use Rattle.net_model.proofs.Histories.{after_push, by_entries, same_proto_is}
-use Rattle.net_model.proofs.PairsOnce.{dir_step_of, given_push, once, in_of_get}
+use Rattle.net_model.proofs.PairsOnce.{dir_step_of, given_push, once}
 use Rattle.net_model.proofs.Places.{places}
 use Rattle.net_model.proofs.Sides.{same_pair_is, same_pair_itself}
 use Rattle.net_model.proofs.Trace.{HasPlaces}
@@ -257,9 +257,9 @@ module _ (w : World) where
       push k x before may holds = (
         λ c. subst (λ (net : Net). AllPlaced w (net.owed c)) (sym (after_push w k x)) (owed_placed (after w k) x (step_of w (after w k) x) holds.0 c),
         subst AllHoused (sym (given_push w opening_net k x))
-        (both_housed (given_in w k) _ holds.1
-        (one_housed (gives x.actor (work_of (after w k) x) x.reply)
-        (holds_next places (after w k) x _ (step_of w (after w k) x) refl may.answers may.is_ready may.is_asked holds.0))),
+            (both_housed (given_in w k) _ holds.1
+            (one_housed (gives x.actor (work_of (after w k) x) x.reply)
+            (holds_next places (after w k) x _ (step_of w (after w k) x) refl may.answers may.is_ready may.is_asked holds.0))),
       )
 
 -- Two gifts of one pair are one.

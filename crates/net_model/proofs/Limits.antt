@@ -1,30 +1,27 @@
 -- The rules on known callers and on room, and when a run is limited.
-use Rattle.std.proofs.Common.{◌≡◌, ◌≢◌, ℕ, zero, suc, ◌+◌, ◌<◌, ◌≤◌, ◌==◌, ◌&&◌, ◌||◌, nat_lt, Bool, true, false, cond, List, [], ◌∷◌, ◌++◌, length, drop, take, Option, Some, None, slice_get, ◌⊎◌, inl, inr, refl, sym, ap, subst, ◌∙◌, arith}
-use Rattle.std.specs.Prelude.{IsSome, nat_eq}
-use Rattle.std.specs.List.{list_any, list_all, range_with_len}
-use Rattle.std.specs.Option.{option_map, option_map_or}
-use Rattle.std.proofs.lemmas.Bool.{and_parts, and_from, cond_both, eqb-true, eqb-false, eq-eqb, false≢true, ltb-true, ne_eqb}
+use Rattle.std.proofs.Common.{◌≡◌, ℕ, zero, suc, ◌<◌, ◌≤◌, ◌==◌, ◌||◌, nat_lt, Bool, true, false, List, [], ◌∷◌, ◌++◌, length, take, Option, Some, None, slice_get, ◌⊎◌, inl, inr, refl, sym, ap, subst, arith}
+use Rattle.std.specs.Prelude.{IsSome}
+use Rattle.std.specs.List.{list_any}
+use Rattle.std.specs.Option.{option_map}
+use Rattle.std.proofs.lemmas.Bool.{and_parts, and_from, eqb-true, eq-eqb, false≢true, ltb-true, ne_eqb}
 use Rattle.std.proofs.lemmas.Bool.Decides.{nat_tests}
-use Rattle.std.proofs.lemmas.Option.{none-some, same_Some}
-use Rattle.net_base.specs.declared.actor.ActorName.{ActorName}
+use Rattle.std.proofs.lemmas.Option.{none-some}
 use Rattle.net_base.specs.declared.history.Entry.{Entry}
-use Rattle.net_base.specs.declared.history.Outcome.{Outcome}
 use Rattle.net_base.specs.declared.world.Script.{Script}
 use Rattle.net_base.specs.declared.world.World.{World}
 use Rattle.net_base.specs.ActorStep.{Step, when}
-use Rattle.net_base.specs.Actors.{Actor, has_actor, table_step, actor_step}
-use Rattle.net_base.specs.Callers.{Caller, IsScript, IsCourier, IsClock, IsNobody, caller_of, caller_count, other_caller, clock_number, first_courier}
-use Rattle.net_base.specs.Calm.{owes, can_go_on, callers, movable, most_entries, could_record, at_limit, limited}
+use Rattle.net_base.specs.Actors.{Actor, has_actor}
+use Rattle.net_base.specs.Callers.{Caller, IsScript, IsCourier, IsClock, IsNobody, caller_of, caller_count, clock_number}
+use Rattle.net_base.specs.Calm.{owes, callers, most_entries, could_record, at_limit, limited}
 use Rattle.net_base.specs.Duties.{Duty}
-use Rattle.net_base.specs.Legal.{IsLegal, MayFollow, IsAsked, Rule, Answers, AtMoment, Cites, Asked, Ready, InTime, Known, HasRoom, Keeps, IsFault}
-use Rattle.net_base.specs.Net.{Net, net_after, after, step_of, outcome_in}
+use Rattle.net_base.specs.Legal.{IsLegal, MayFollow, IsAsked, Asked, Ready, Known, HasRoom, Keeps, IsFault}
+use Rattle.net_base.specs.Net.{Net, net_after, after, step_of}
 use Rattle.net_base.specs.Next.{by, next_of}
 use Rattle.net_base.specs.Stamped.{In}
-use Rattle.net_base.specs.Steps.{Ask}
 use Rattle.net_model.proofs.Deeds.{both_ways}
-use Rattle.net_model.proofs.Histories.{after_push, by_entries, legal_take}
+use Rattle.net_model.proofs.Histories.{after_push, by_entries}
 use Rattle.net_model.proofs.Rising.{in_range}
-use Rattle.net_model.proofs.Short.{Few, few_legal}
+use Rattle.net_model.proofs.Short.{few_legal}
 
 -- Callers that the world doesn't have.
 

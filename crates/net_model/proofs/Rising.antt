@@ -1,12 +1,11 @@
 -- In a timed legal history the moments rise: after each entry an end is due beyond the moment, or its tick is owed.
-use Rattle.std.proofs.Common.{◌≡◌, ℕ, zero, suc, ◌+◌, ◌-◌, ◌<◌, ◌≤◌, ◌==◌, ◌&&◌, nat_lt, nat_le, min, Bool, true, false, not, cond, List, [], ◌∷◌, ◌++◌, length, take, drop, map, ◌≢◌, Option, Some, None, is_some, slice_get, ◌⊎◌, inl, inr, refl, sym, ap, subst, ◌∙◌, arith}
+use Rattle.std.proofs.Common.{◌≡◌, ℕ, zero, suc, ◌+◌, ◌-◌, ◌<◌, ◌≤◌, ◌==◌, ◌&&◌, nat_lt, nat_le, Bool, true, false, not, cond, List, [], ◌∷◌, ◌++◌, length, take, drop, map, ◌≢◌, Option, Some, None, slice_get, ◌⊎◌, inl, inr, refl, sym, ap, subst, ◌∙◌, arith}
 use Rattle.std.specs.Prelude.{flat_map, filter_map, IsSome}
 use Rattle.std.specs.List.{list_all, range_with_len}
 use Rattle.std.specs.Option.{option_map, option_map_or, option_and_then}
-use Rattle.std.proofs.lemmas.Bool.{and_parts, cond_both, ltb-true, ltb-false, leb-true, eqb-true, eqb-false, eq-eqb, false≢true}
+use Rattle.std.proofs.lemmas.Bool.{and_parts, cond_both, ltb-true, ltb-false, eqb-true, eqb-false, eq-eqb, false≢true}
 use Rattle.std.proofs.lemmas.Bool.Decides.{nat_tests}
 use Rattle.std.proofs.lemmas.Option.{none-some, same_Some, slice_get_within}
-use Rattle.std.proofs.lemmas.List.{take_at, take-append-le}
 use Rattle.net_base.specs.declared.actor.ActorName.{ActorName}
 use Rattle.net_base.specs.declared.actor.ActorName.TheVariants as name
 use Rattle.net_base.specs.declared.address.Proto.{Proto}
@@ -14,7 +13,6 @@ use Rattle.net_base.specs.declared.address.Proto.TheVariants as proto
 use Rattle.net_base.specs.declared.event.Event.{Event}
 use Rattle.net_base.specs.declared.event.Event.TheVariants as event
 use Rattle.net_base.specs.declared.history.Entry.{Entry}
-use Rattle.net_base.specs.declared.history.Outcome.{Outcome}
 use Rattle.net_base.specs.declared.history.With.{With}
 use Rattle.net_base.specs.declared.history.With.TheVariants as given
 use Rattle.net_base.specs.declared.history.Work.{Work}
@@ -24,20 +22,20 @@ use Rattle.net_base.specs.declared.world.Script.{Script}
 use Rattle.net_base.specs.declared.world.World.{World}
 use Rattle.net_base.specs.ActorStep.{Step, when}
 use Rattle.net_base.specs.Actors.{Actor, IsDir, IsConv, IsMedium, IsPlain, actor_step, has_actor, opening_actor, plain_step, step_as, slot_count}
-use Rattle.net_base.specs.Callers.{Caller, IsScript, IsCourier, IsClock, IsNobody, caller_of, caller_count, other_caller, clock_number, first_courier}
+use Rattle.net_base.specs.Callers.{Caller, IsScript, caller_of, caller_count, other_caller, clock_number}
 use Rattle.net_base.specs.Calm.{owes as owes_some, is_ready, can_go_on, callers, nothing_owed, nothing_pending, scripts_wait, calm, unfinished, movable, awaited_moment, least, target}
 use Rattle.net_base.specs.Desk.{desk_reply}
-use Rattle.net_base.specs.Duties.{Duty, owes, duties, due_of, generation_of, has_come, slots_of, conversations, tick_at, ticks, emitted_put, follow_up, courier_duty, release}
-use Rattle.net_base.specs.Legal.{IsLegal, MayFollow, IsInTime, IsTimed, IsAsked, asked_by}
+use Rattle.net_base.specs.Duties.{Duty, duties, due_of, generation_of, has_come, slots_of, conversations, tick_at, ticks, emitted_put, follow_up, courier_duty, release}
+use Rattle.net_base.specs.Legal.{IsLegal, MayFollow, IsInTime, IsTimed, IsAsked}
 use Rattle.net_base.specs.Medium.{medium_step}
-use Rattle.net_base.specs.Net.{Net, opening_net, net_after, next_net, after, step_of, work_of, with_of, moment_after}
-use Rattle.net_base.specs.Next.{next_of, standing, own_replies}
+use Rattle.net_base.specs.Net.{Net, opening_net, net_after, after, step_of, work_of, with_of, moment_after}
+use Rattle.net_base.specs.Next.{next_of, own_replies}
 use Rattle.net_base.specs.Stamped.{In, same_actor}
 use Rattle.net_base.specs.Steps.{Ask}
 use Rattle.net_base.specs.World.{IsWorld, is_script, is_step}
-use Rattle.net_model.proofs.ConvWaits.{TimedActor, ActorLater, actor_later, IsConvName, tick_later, timed_opening}
+use Rattle.net_model.proofs.ConvWaits.{TimedActor, actor_later, IsConvName, tick_later, timed_opening}
 use Rattle.net_model.proofs.Deeds.{both_ways}
-use Rattle.net_model.proofs.Histories.{after_push, by_entries, legal_take, legal_front, one_more, timed_take, next_same, next_other, same_actor_is, before_push, at_push}
+use Rattle.net_model.proofs.Histories.{after_push, by_entries, legal_take, one_more, next_same, next_other, same_actor_is}
 use Rattle.net_model.proofs.PairsOnce.{same_itself}
 use Rattle.net_model.proofs.Untils.{UntilAt, FineNext, fine_position}
 use Rattle.net_model.proofs.Waits.{Beyond}

@@ -1,5 +1,5 @@
 -- A script waits for a moment at its own host's desk.
-use Rattle.std.proofs.Common.{◌≡◌, ℕ, zero, suc, Bool, true, false, cond, List, [], ◌∷◌, ◌++◌, Option, Some, None, Ok, Err, refl}
+use Rattle.std.proofs.Common.{◌≡◌, ℕ, Bool, cond, List, [], ◌∷◌, ◌++◌, Option, Some, None, Ok, Err, refl}
 use Rattle.std.specs.Prelude.{codes, Result, unwrap_or}
 use Rattle.std.proofs.lemmas.Bool.{cond_both}
 use Rattle.net_base.specs.declared.actor.ActorName.{ActorName}
@@ -19,7 +19,7 @@ use Rattle.net_base.specs.declared.world.Step.{Step}
 use Rattle.net_base.specs.declared.world.Step.TheVariants as step
 use Rattle.net_base.specs.ControlWords as control
 use Rattle.net_base.specs.Paths.{walk, reads, writes as may_write}
-use Rattle.net_base.specs.Steps.{Fid, Bound, fid_of, is_bound, bind, unbind, Play, Asks, Ends, is_accepted, if_accepted, uses, misuses, on_fid, with_bound, with_new, with_readable, with_writable, conversation_of, default_mode, openable, open_actor, open_event, opened_fid, opens_node, opens, opens_beside, read_event, controls, puts, closes, ls_actor, ls_event, netmkaddr, lines_in, asks_cs, clone_path, line_address, dotted_name, connected, dials, announces, play_of, Ask, Stand, Asking, Finished, stands, Position, position_by, position}
+use Rattle.net_base.specs.Steps.{Fid, Bound, fid_of, is_bound, bind, Play, Asks, Ends, is_accepted, if_accepted, uses, misuses, on_fid, with_bound, with_new, with_readable, with_writable, conversation_of, default_mode, openable, open_actor, open_event, opened_fid, opens_node, opens, opens_beside, read_event, controls, puts, closes, ls_actor, ls_event, lines_in, clone_path, line_address, dotted_name, connected, dials, announces, play_of, Ask, Stand, Asking, Finished, stands, Position, position_by, position}
 
 -- a wait for a moment is recorded at the host's desk
 abbrev pub UntilAt : ℕ → ActorName → Event → Type 0

@@ -1,18 +1,15 @@
 -- What a step leaves of the moment at which an IL end is due: as it was, or beyond now.
-use Rattle.std.proofs.Common.{◌≡◌, ℕ, zero, suc, ◌+◌, ◌*◌, ◌-◌, ◌<◌, ◌≤◌, ◌==◌, ◌&&◌, ◌||◌, nat_lt, nat_le, min, Bool, true, false, not, cond, List, [], ◌∷◌, length, Option, Some, None, is_some, ◌⊎◌, inl, inr, refl, sym, ap, subst, ◌∙◌, arith}
-use Rattle.std.proofs.lemmas.Bool.{cond_both, ltb-true, ltb-false, leb-true}
+use Rattle.std.proofs.Common.{◌≡◌, ℕ, zero, suc, ◌+◌, ◌*◌, ◌<◌, ◌==◌, ◌&&◌, ◌||◌, nat_lt, nat_le, min, Bool, true, false, not, cond, List, length, Option, Some, None, is_some, ◌⊎◌, inl, inr, refl, sym, subst, ◌∙◌, arith}
+use Rattle.std.proofs.lemmas.Bool.{cond_both, ltb-true}
 use Rattle.std.proofs.lemmas.Bool.Decides.{nat_tests}
 use Rattle.net_base.specs.declared.il.IlKind.{IlKind}
 use Rattle.net_base.specs.declared.il.IlKind.TheVariants.{Sync, Data, DataQuery, Ack, Query, State, Close}
 use Rattle.net_base.specs.declared.il.IlMsg.{IlMsg}
 use Rattle.net_base.specs.declared.il.IlState.{IlState}
 use Rattle.net_base.specs.declared.il.IlState.TheVariants.{Closed, Syncer, Syncee, Established, Listening, Closing}
-use Rattle.net_base.specs.declared.il.Cause.TheVariants as cause
-use Rattle.net_base.specs.declared.timer.Tick.{Tick}
-use Rattle.net_base.specs.declared.timer.Tick.TheVariants as tick
 use Rattle.net_base.specs.Number.{number}
-use Rattle.net_base.specs.IlEnd.{End, Turn, rstart_of, recvd, has_unacked, standing, silent, says, syncs, sends_again, starts, hears, moves, establishes, closes, acked_to, hears_ack, early_at, becomes_early, comes_in_turn, come_in_turn, accepts, is_closing}
-use Rattle.net_base.specs.IlTable.{is_sized, refuses, at_established, at_syncer, at_syncee, at_closing, at_closed, row, arrives, hangs_up_at, hangs_up, asks_again, ticks_to, ticks, sends, writes, reads, first_unread}
+use Rattle.net_base.specs.IlEnd.{End, Turn, rstart_of, recvd, has_unacked, standing, silent, hears, establishes, acked_to, hears_ack, early_at, becomes_early, comes_in_turn, come_in_turn, accepts, is_closing}
+use Rattle.net_base.specs.IlTable.{is_sized, refuses, at_established, at_syncer, at_syncee, at_closing, at_closed, row, arrives, hangs_up_at, hangs_up, asks_again, ticks_to, ticks, writes, reads, first_unread}
 use Rattle.net_base.specs.Timer as timer
 use Rattle.net_base.specs.Timer.{Timer, Ticked}
 
