@@ -54,3 +54,9 @@ pub mod UdpConvs
 pub mod UdpDirs
 pub mod UdpTrace
 pub mod UdpReads
+pub mod Waits
+pub mod ConvWaits
+pub mod Untils
+pub mod Rising
+pub mod Holders
+pub mod Limits

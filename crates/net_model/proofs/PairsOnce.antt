@@ -145,7 +145,7 @@ distinct_push (f ∷ fs) g distinct new = (
   distinct_push fs g distinct.1 (λ k there. new k (inr there)),
 )
 
-in_of_get : {A : Type 0} (xs : List A) (k : ℕ) (x : A) → slice_get xs k ≡ Some x → In x xs
+pub in_of_get : {A : Type 0} (xs : List A) (k : ℕ) (x : A) → slice_get xs k ≡ Some x → In x xs
 in_of_get [] k x is = absurd (none-some x is)
 in_of_get (y ∷ xs) zero x is = inl (sym (same_Some y x is))
 in_of_get (y ∷ xs) (suc k) x is = inr (in_of_get xs k x is)
@@ -169,7 +169,7 @@ pub record Kept (net : Net) (gs : List Given) : Type 0 where
   pub known : (f : Given) → In f gs → In f.pair (pairs_of (net.actors (dir_of f)))
   pub distinct : Distinct gs
 
-given_push : (w : World) (net : Net) (h : List Entry) (x : Entry) → given_from w net (h ++ x ∷ []) ≡ given_from w net h ++ option_to_list (gives x.actor (work_of (net_of w net h) x) x.reply)
+pub given_push : (w : World) (net : Net) (h : List Entry) (x : Entry) → given_from w net (h ++ x ∷ []) ≡ given_from w net h ++ option_to_list (gives x.actor (work_of (net_of w net h) x) x.reply)
 given_push w net [] x = append-nil _
 given_push w net (y ∷ ys) x = ap (λ (gs : List Given). option_to_list (gives y.actor (work_of net y) y.reply) ++ gs) (given_push w (next_net w net y) ys x) ∙ sym (append_assoc (option_to_list (gives y.actor (work_of net y) y.reply)) _ _)
 

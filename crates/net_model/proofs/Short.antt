@@ -1,5 +1,5 @@
 -- A legal history is short: each caller has so many entries, and there are few callers.
-use Rattle.std.proofs.Common.{◌≡◌, ℕ, zero, suc, ◌+◌, ◌*◌, ◌^◌, ◌<◌, ◌≤◌, ◌==◌, nat_le, Bool, true, false, cond, List, [], ◌∷◌, ◌++◌, length, filter, refl, sym, ap, subst, ◌∙◌, arith, length-append}
+use Rattle.std.proofs.Common.{◌≡◌, ℕ, zero, suc, ◌+◌, ◌*◌, ◌^◌, ◌<◌, ◌≤◌, ◌==◌, nat_le, Bool, true, false, cond, List, [], ◌∷◌, ◌++◌, length, refl, ap, subst, arith, length-append}
 use Rattle.std.proofs.lemmas.Bool.{and_parts, leb-true}
 use Rattle.std.proofs.lemmas.Bool.Decides.{nat_tests}
 use Rattle.net_base.specs.declared.history.Entry.{Entry}
@@ -7,7 +7,7 @@ use Rattle.net_base.specs.declared.world.World.{World}
 use Rattle.net_base.specs.Callers.{caller_count}
 use Rattle.net_base.specs.Legal.{IsLegal, MayFollow}
 use Rattle.net_base.specs.Next.{by}
-use Rattle.net_base.specs.World.{IsWorld, is_within}
+use Rattle.net_base.specs.World.{IsWorld}
 use Rattle.net_model.proofs.Histories.{by_entries}
 
 abbrev one : Bool → ℕ
@@ -95,9 +95,13 @@ few_callers w world =
     let media : length w.media ≤ 4 = leb-true (length w.media) 4 (and_parts (nat_le 1 (length w.media)) (nat_le (length w.media) 4) world.some_media).1 in
     omega arith
 
+-- what holds of each legal history
+pub few_legal : (w : World) (h : List Entry) → IsLegal w h → Few w h
+few_legal w h legal = by_entries w (λ (k : List Entry). Few w k) (record { callers = tt; each = λ c. omega arith }) (λ k x before may f. few_more w k x may f) h legal
+
 pub legal_short : (w : World) → IsWorld w → (h : List Entry) → IsLegal w h → length h < 2 ^ 31
 legal_short w world h legal =
-    let few = by_entries w (λ (k : List Entry). Few w k) (record { callers = tt; each = λ c. omega arith }) (λ k x before may f. few_more w k x may f) h legal in
+    let few = few_legal w h legal in
     let counted = all_counted (caller_count w) h few.callers in
     let all = totals-bound (caller_count w) 131072 h few.each in
     let callers = few_callers w world in
