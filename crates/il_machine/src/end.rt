@@ -1,5 +1,5 @@
 //! An IL end.
-ghost use Rattle.std.specs.Prelude.{◌≡◌, ℕ, ◌+◌, ◌<◌, ◌≤◌, ◌^◌, [], length, take, Some, None, IfOk, IfErr, OnOk, OnErr, IsTrue, is_some};
+ghost use Rattle.std.specs.Prelude.{◌≡◌, ◌↔◌, ℕ, ◌+◌, ◌<◌, ◌≤◌, ◌^◌, [], length, take, Some, None, IfOk, IfErr, OnOk, OnErr, IsTrue, is_some};
 ghost use Rattle.net_base.specs.Number as number_spec;
 ghost use Rattle.il_machine.specs.declared.ask.Ask.TheVariants as ask;
 ghost use Rattle.net_base.specs.IlEnd as spec;
@@ -323,7 +323,7 @@ impl IlEnd {
 
     /// Whether so few messages were sent and got that the end may be asked for anything.
     pub fn is_short(&self) -> bool
-        ensures { IsTrue result → StandsForSome self.now IsShort }
+        ensures { IsTrue result ↔ StandsForSome self.now IsShort }
     {
         self.sent.len() < MOST_MESSAGES && self.got.len() < MOST_MESSAGES
     }
