@@ -43,7 +43,7 @@ not_zero n is none = let e = eqb-true n 0 none in absurd (omega arith)
 refusal_row : (s : IlState) (now : ℕ) (m : IlMsg) (e e' : End) → m.spec ≡ 1 → Link e e' → Knows e → Good e e' (row s Close now m e)
 refusal_row state.Syncer now m e e' one l knows =
     good_if ((m.spec == 1) && (m.ack == e.start)) _ _
-    (λ _. record { link = l; knows = (tt, λ h. ((knows.1 h).0, (cause.Refused, refl))); grows = gets_cause e cause.Refused; says = tt })
+    (λ _. record { link = l; knows = (tt, λ h. ((knows.1 h).0, (cause.Refused, refl)), knows.2); grows = gets_cause e cause.Refused; says = tt })
     (λ _. good_same e e' l knows)
 refusal_row state.Syncee now m e e' one l knows =
     good_if (not (m.spec == 1) && (m.ack == e.start)) _ _

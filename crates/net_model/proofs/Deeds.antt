@@ -18,7 +18,7 @@ use Rattle.net_base.specs.Timer as timer
 use Rattle.net_base.specs.Timer.{Timer}
 use Rattle.net_model.proofs.Pairs.{Side, Talk, Deed, Connects, Is_born, Is_announced, Writes, Reads, Arrives, Hangs_up, Ticks, Event, Near, Far, out_with, leaves, is_new, is_start, is_sync, may_write, born_from, comes_to, does, happens, run, opening, InOrder}
 use Rattle.net_model.proofs.Begins.{begins_itself, begins_more, begins_prefix, at_push}
-use Rattle.net_model.proofs.Talking.{SoundAs, Sound, Met, HasMet, KnowsAs, Knows, Growth, Grows, grows_itself, sound_stays, Link, link_stays, Talking, Says, Good, good_if, good_same, good_silent, last_numbered, good_query, good_close, good_sync}
+use Rattle.net_model.proofs.Talking.{SoundAs, Sound, Met, met_untold, answers, HasMet, KnowsAs, Knows, Growth, Grows, grows_itself, sound_stays, Link, link_stays, Talking, Says, Good, good_if, good_same, good_silent, last_numbered, good_query, good_close, good_sync}
 use Rattle.net_model.proofs.Rows.{Few, gets_cause, talking, good_arrives}
 
 -- What is asked of an end.
@@ -40,9 +40,9 @@ begins_anew start rstart e fresh keeps = record {
 pub good_connects : (now start : ℕ) (e e' : End) → e.fresh ≡ true → e.cause ≡ None → Link e e' → Knows e → Good e e' (connects now start e)
 good_connects now start e e' fresh none l knows = record {
   link = l;
-  knows = ((refl, none), λ h. (record { r = (knows.1 h).0.r; rstart_is = (knows.1 h).0.rstart_is; not_fresh = refl }, (knows.1 h).1));
+  knows = ((refl, none), λ h. (record { r = (knows.1 h).0.r; rstart_is = (knows.1 h).0.rstart_is; not_fresh = refl }, (knows.1 h).1), knows.2);
   grows = begins_anew start e.rstart e fresh (λ r h. h);
-  says = (refl, refl);
+  says = (refl, (refl, answers e.rstart));
 }
 
 pub good_is_born : (now start id : ℕ) (e e' : End) → e.fresh ≡ true → e.cause ≡ None → e'.fresh ≡ false → id ≡ e'.start → Link e e' → Knows e → Good e e' (is_born now start id e)
@@ -50,15 +50,15 @@ good_is_born now start id e e' fresh none old' is l knows =
     let met : Met (Some id) false = record { r = id; rstart_is = refl; not_fresh = refl } in
     record {
       link = record { rstart_is = λ r h. (sym (same_Some id r h) ∙ is, old'); in_order = l.in_order; early_is = l.early_is; acked_got = l.acked_got; all_got = l.all_got };
-      knows = ((met, none), λ h. (met, (knows.1 h).1));
+      knows = ((met, none), λ h. (met, (knows.1 h).1), met_untold _ _ met);
       grows = begins_anew start (Some id) e fresh (λ r h. ap (λ (n : ℕ). Some n) (is ∙ sym (l.rstart_is r h).0));
-      says = (refl, refl);
+      says = (refl, (refl, answers (Some id)));
     }
 
 pub good_announced : (e e' : End) → e.fresh ≡ true → Link e e' → Knows e → Good e e' (silent (announced e))
 good_announced e e' fresh l knows = record {
   link = l;
-  knows = (tt, λ h. (record { r = (knows.1 h).0.r; rstart_is = (knows.1 h).0.rstart_is; not_fresh = refl }, (knows.1 h).1));
+  knows = (tt, λ h. (record { r = (knows.1 h).0.r; rstart_is = (knows.1 h).0.rstart_is; not_fresh = refl }, (knows.1 h).1), knows.2);
   grows = begins_anew e.start e.rstart e fresh (λ r h. h);
   says = tt;
 }
@@ -70,7 +70,7 @@ good_sends text e e0 e' t same none =
     let met : HasMet after = t.1 in
     record {
       link = t.0;
-      knows = (good_silent e0 e' e t).knows;
+      knows = (t.3.0, t.3.1, met_untold _ _ t.1);
       grows = record {
         same_start = t.2.same_start;
         same_rstart = t.2.same_rstart;
@@ -93,14 +93,14 @@ good_reads count e e' l knows =
     (λ _. record { link = l; knows = knows; grows = grows_itself e; says = tt })
 
 pub good_hangs_up_at : (s : IlState) (now : ℕ) (e e' : End) → Link e e' → Knows e → KnowsAs s e.rstart e.fresh e.cause → Good e e' (hangs_up_at s now e)
-good_hangs_up_at Syncer now e e' l knows as_s = record { link = l; knows = (tt, λ h. ((knows.1 h).0, (cause.Hungup, refl))); grows = gets_cause e cause.Hungup; says = tt }
-good_hangs_up_at Listening now e e' l knows as_s = record { link = l; knows = (tt, λ h. ((knows.1 h).0, (cause.Hungup, refl))); grows = gets_cause e cause.Hungup; says = tt }
-good_hangs_up_at Syncee now e e' l knows as_s = good_close e e' (starts now (record e { state = Closing; cause = Some cause.Hungup })) (l, as_s.0, gets_cause e cause.Hungup, ((as_s.0, (cause.Hungup, refl)), λ h. ((knows.1 h).0, (cause.Hungup, refl)))) (cause.Hungup, refl)
-good_hangs_up_at Established now e e' l knows as_s = good_close e e' (starts now (record e { state = Closing; cause = Some cause.Hungup })) (l, as_s.0, gets_cause e cause.Hungup, ((as_s.0, (cause.Hungup, refl)), λ h. ((knows.1 h).0, (cause.Hungup, refl)))) (cause.Hungup, refl)
+good_hangs_up_at Syncer now e e' l knows as_s = record { link = l; knows = (tt, λ h. ((knows.1 h).0, (cause.Hungup, refl)), knows.2); grows = gets_cause e cause.Hungup; says = tt }
+good_hangs_up_at Listening now e e' l knows as_s = record { link = l; knows = (tt, λ h. ((knows.1 h).0, (cause.Hungup, refl)), knows.2); grows = gets_cause e cause.Hungup; says = tt }
+good_hangs_up_at Syncee now e e' l knows as_s = good_close e e' (starts now (record e { state = Closing; cause = Some cause.Hungup })) (l, as_s.0, gets_cause e cause.Hungup, ((as_s.0, (cause.Hungup, refl)), λ h. ((knows.1 h).0, (cause.Hungup, refl)), knows.2)) (cause.Hungup, refl)
+good_hangs_up_at Established now e e' l knows as_s = good_close e e' (starts now (record e { state = Closing; cause = Some cause.Hungup })) (l, as_s.0, gets_cause e cause.Hungup, ((as_s.0, (cause.Hungup, refl)), λ h. ((knows.1 h).0, (cause.Hungup, refl)), knows.2)) (cause.Hungup, refl)
 good_hangs_up_at _ now e e' l knows as_s = good_same e e' l knows
 
 good_asks_again : (s : IlState) (e0 e e' : End) → Link e e' → Knows e → Grows e0 e → KnowsAs s e.rstart e.fresh e.cause → Good e0 e' (asks_again s e)
-good_asks_again Syncer e0 e e' l knows grows as_s = record { link = l; knows = knows; grows = grows; says = (as_s.0, refl) }
+good_asks_again Syncer e0 e e' l knows grows as_s = record { link = l; knows = knows; grows = grows; says = (as_s.0, (refl, answers e.rstart)) }
 good_asks_again Syncee e0 e e' l knows grows as_s = good_sync e0 e' e (l, as_s.0, grows, knows)
 good_asks_again Established e0 e e' l knows grows as_s = good_query e0 e' e (l, as_s.0, grows, knows)
 good_asks_again Closing e0 e e' l knows grows as_s = good_close e0 e' e (l, as_s.0, grows, knows) as_s.1
@@ -109,7 +109,7 @@ good_asks_again _ e0 e e' l knows grows as_s = record { link = l; knows = knows;
 pub good_ticks : (says : Tick) (left : Timer) (e e' : End) → Link e e' → Knows e → Good e e' (ticks_to says left e)
 good_ticks tick.NotDue left e e' l knows = good_same e e' l knows
 good_ticks tick.TimedOut left e e' l knows =
-    record { link = l; knows = (tt, λ h. ((knows.1 h).0, (cause.TimedOut, refl))); grows = gets_cause e cause.TimedOut; says = tt }
+    record { link = l; knows = (tt, λ h. ((knows.1 h).0, (cause.TimedOut, refl)), knows.2); grows = gets_cause e cause.TimedOut; says = tt }
 good_ticks tick.Again left e e' l knows = good_asks_again e.state e (record e { timer = left }) e' l knows (grows_itself e) knows.0
 
 -- Sides.
@@ -170,7 +170,7 @@ writer_met Established rstart fresh why may as_s = as_s
 writer_met _ rstart fresh why may as_s = absurd (both_ways may refl)
 
 pub sync_id : (kind : IlKind) (e : End) (m : IlMsg) → is_sync kind ≡ true → SoundAs kind e.start e.rstart e.sent e.got e.cause m → m.id ≡ e.start
-sync_id Sync e m is s = s
+sync_id Sync e m is s = s.0
 sync_id _ e m is s = absurd (both_ways is refl)
 
 born_steps : (now start : ℕ) (found : Option IlMsg) (s o : Side) → Holds s o → ((m : IlMsg) → found ≡ Some m → (o.end.fresh ≡ false) × Sound o.end m) → Stepped s o (born_from now start s found)
@@ -256,7 +256,7 @@ kept_always (e ∷ es) n t few k =
 pub nothing_yet : Holds (record { end = fresh_end; out = [] }) (record { end = fresh_end; out = [] })
 nothing_yet = record {
   link = record { rstart_is = λ r h. absurd (none-some r h); in_order = begins_itself []; early_is = tt; acked_got = omega arith; all_got = λ h. absurd (both_ways h refl) };
-  knows = (tt, λ h. absurd (both_ways h refl));
+  knows = (tt, λ h. absurd (both_ways h refl), λ _. (refl, refl));
   out = tt;
 }
 

@@ -15,7 +15,7 @@ use Rattle.net_base.specs.IlTable.{is_sized, refuses, at_syncer, at_syncee, at_e
 use Rattle.net_model.proofs.Ids.{id_of_same}
 use Rattle.net_model.proofs.Begins.{begins_itself, begins_length, begins_back}
 use Rattle.net_model.proofs.Untouched.{leaves_itself, ack_leaves}
-use Rattle.net_model.proofs.Talking.{HasCause, Closes, rstart_known, Numbered, Carries, SoundAs, Sound, HasMet, KnowsAs, Knows, Growth, Grows, grows_itself, Link, Talking, ack_of, hears_ack_talks, TextOf, accepts_talks, Good, good_if, good_same, good_silent, good_ack, good_state, good_close, good_sync, good_again}
+use Rattle.net_model.proofs.Talking.{HasCause, Closes, rstart_known, Numbered, Carries, SoundAs, Sound, HasMet, met_untold, KnowsAs, Knows, Growth, Grows, grows_itself, Link, Talking, ack_of, hears_ack_talks, TextOf, accepts_talks, Good, good_if, good_same, good_silent, good_ack, good_state, good_close, good_sync, good_again}
 
 -- neither end has written too much
 abbrev pub Few : End → End → Type 0
@@ -71,7 +71,7 @@ all_came now m e0 e' e few c t talks last =
       },
       talks.1,
       record { same_start = talks.2.same_start; same_rstart = talks.2.same_rstart; sent_more = talks.2.sent_more; sent_one = talks.2.sent_one; got_more = talks.2.got_more; no_more = λ h. ((cause.ByPeer, refl), (talks.2.no_more h).1) },
-      (tt, λ _. (talks.1, (cause.ByPeer, refl))),
+      (tt, λ _. (talks.1, (cause.ByPeer, refl)), met_untold _ _ talks.1),
     )
 
 pub good_established : (kind : IlKind) (now : ℕ) (m : IlMsg) (e0 e' e : End) → Few e e' → Link e' e → SoundAs kind e'.start e'.rstart e'.sent e'.got e'.cause m → Talking e0 e' e → Good e0 e' (at_established kind now m e)
@@ -108,7 +108,7 @@ good_closing State now m e0 e' e why few back s t =
 good_closing Close now m e0 e' e why few back s t =
     let talks : Talking e0 e' (hears_ack now m e) = heard now m e0 e' e few back s.0 t in
     good_if (m.spec == 0) _ _
-    (λ _. record { link = talks.0; knows = (tt, λ h. (talks.1, (t.2.no_more why).0)); grows = growth_at e0 (hears_ack now m e) e.cause (talks.2) (t.2.no_more why).0; says = tt })
+    (λ _. record { link = talks.0; knows = (tt, λ h. (talks.1, (t.2.no_more why).0), met_untold _ _ talks.1); grows = growth_at e0 (hears_ack now m e) e.cause (talks.2) (t.2.no_more why).0; says = tt })
     (λ _. good_silent e0 e' e t)
 
 -- an end that has met the other
@@ -134,17 +134,17 @@ told id e e' old none old' is l knows = (
     got_more = begins_itself e.got;
     no_more = λ h. (h, begins_itself e.sent);
   },
-  ((record { r = id; rstart_is = refl; not_fresh = old }, none), λ m. (record { r = id; rstart_is = refl; not_fresh = old }, (knows.1 m).1)),
+  ((record { r = id; rstart_is = refl; not_fresh = old }, none), λ m. (record { r = id; rstart_is = refl; not_fresh = old }, (knows.1 m).1), met_untold e.sent e.got (record { r = id; rstart_is = refl; not_fresh = old })),
 )
 
 good_syncer : (kind : IlKind) (now : ℕ) (m : IlMsg) (e e' : End) → Few e e' → Link e e' → Link e' e → Knows e → KnowsAs Syncer e.rstart e.fresh e.cause → e'.fresh ≡ false → SoundAs kind e'.start e'.rstart e'.sent e'.got e'.cause m → Good e e' (at_syncer kind now m e)
 good_syncer Sync now m e e' few l back knows as_s old s =
     good_if (m.ack == e.start) _ _
-    (λ _. good_ack e e' (establishes (hears now (record e { rstart = Some m.id }))) (told m.id e e' as_s.0 as_s.1 old s l knows))
+    (λ _. good_ack e e' (establishes (hears now (record e { rstart = Some m.id }))) (told m.id e e' as_s.0 as_s.1 old s.0 l knows))
     (λ _. good_same e e' l knows)
 good_syncer Close now m e e' few l back knows as_s old s =
     good_if ((m.spec == 1) && (m.ack == e.start)) _ _
-    (λ _. record { link = l; knows = (tt, λ h. ((knows.1 h).0, (cause.Refused, refl))); grows = gets_cause e cause.Refused; says = tt })
+    (λ _. record { link = l; knows = (tt, λ h. ((knows.1 h).0, (cause.Refused, refl)), knows.2); grows = gets_cause e cause.Refused; says = tt })
     (λ _. good_same e e' l knows)
 good_syncer _ now m e e' few l back knows as_s old s = good_same e e' l knows
 
@@ -153,7 +153,7 @@ good_syncee Sync now m e e' few l back knows as_s old s =
     good_if (m.id == rstart_of e) _ _ (λ _. good_sync e e' (hears now e) (talking e e' l as_s.0 knows)) (λ _. good_same e e' l knows)
 good_syncee kind now m e e' few l back knows as_s old s =
     good_if (not (refuses kind m.spec) && (m.ack == e.start)) (at_established kind now m (establishes (hears now e))) (silent e)
-    (λ _. good_established kind now m e e' (establishes (hears now e)) few back s (l, as_s.0, grows_itself e, (as_s, knows.1)))
+    (λ _. good_established kind now m e e' (establishes (hears now e)) few back s (l, as_s.0, grows_itself e, (as_s, knows.1, knows.2)))
     (λ _. good_same e e' l knows)
 
 good_closed : (kind : IlKind) (now : ℕ) (m : IlMsg) (e e' : End) → Link e e' → Knows e → Good e e' (at_closed kind now m e)

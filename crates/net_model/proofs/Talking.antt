@@ -1,5 +1,5 @@
 -- What holds of two ends that talk, and that the parts of their steps keep it.
-use Rattle.std.proofs.Common.{◌≡◌, ℕ, zero, suc, ◌+◌, ◌^◌, ◌<◌, ◌≤◌, ◌==◌, nat_le, Bool, true, false, cond, ◌||◌, List, [], ◌∷◌, length, Option, Some, None, is_some, unwrap_or, slice_get, refl, sym, ap, ◌∙◌, arith}
+use Rattle.std.proofs.Common.{◌≡◌, ℕ, zero, suc, ◌+◌, ◌^◌, ◌<◌, ◌≤◌, ◌==◌, nat_le, Bool, true, false, cond, ◌||◌, List, [], ◌∷◌, length, Option, Some, None, is_some, unwrap_or, slice_get, ◌⊎◌, inl, inr, refl, sym, ap, ◌∙◌, arith}
 use Rattle.std.proofs.lemmas.Bool.{cond_both, eqb-true, ltb-true}
 use Rattle.std.proofs.lemmas.Option.{none-some, slice_get_within, slice_get-get_or}
 use Rattle.net_base.specs.declared.il.IlKind.{IlKind}
@@ -41,9 +41,17 @@ pub record Closes (start : ℕ) (sent : List (List ℕ)) (cause : Option Cause) 
   pub id_is : m.id ≡ id_of start (length sent)
   pub has_cause : HasCause cause
 
+-- the ack of a sync names the start of the sync that it answers, or none
+abbrev pub Answers : Option ℕ → ℕ → Type 0
+Answers rstart ack = (ack ≡ 0) ⊎ ((r : ℕ) × (rstart ≡ Some r) × (ack ≡ r))
+
+pub answers : (rstart : Option ℕ) → Answers rstart (unwrap_or rstart 0)
+answers None = inl refl
+answers (Some r) = inr (r, refl, refl)
+
 -- what holds of each packet of an end, by its kind
 abbrev pub SoundAs : IlKind → ℕ → Option ℕ → List (List ℕ) → List (List ℕ) → Option Cause → IlMsg → Type 0
-SoundAs Sync start rstart sent got cause m = m.id ≡ start
+SoundAs Sync start rstart sent got cause m = (m.id ≡ start) × Answers rstart m.ack
 SoundAs Data start rstart sent got cause m = Numbered start rstart sent got m × Carries start sent m
 SoundAs DataQuery start rstart sent got cause m = Numbered start rstart sent got m × Carries start sent m
 SoundAs Close start rstart sent got cause m = Numbered start rstart sent got m × Closes start sent cause m
@@ -71,8 +79,15 @@ KnowsAs Syncer rstart fresh cause = (fresh ≡ false) × (cause ≡ None)
 KnowsAs Closing rstart fresh cause = Met rstart fresh × HasCause cause
 KnowsAs _ rstart fresh cause = Unit {0}
 
+-- before it has met the other end it has sent and got nothing
+abbrev pub Untold : Option ℕ → List (List ℕ) → List (List ℕ) → Type 0
+Untold rstart sent got = rstart ≡ None → (sent ≡ []) × (got ≡ [])
+
+pub met_untold : {rstart : Option ℕ} {fresh : Bool} (sent got : List (List ℕ)) → Met rstart fresh → Untold rstart sent got
+met_untold sent got met none = absurd (none-some met.r (sym none ∙ met.rstart_is))
+
 abbrev pub Knows : End → Type 0
-Knows e = KnowsAs e.state e.rstart e.fresh e.cause × (e.marked ≡ true → HasMet e × HasCause e.cause)
+Knows e = KnowsAs e.state e.rstart e.fresh e.cause × (e.marked ≡ true → HasMet e × HasCause e.cause) × Untold e.rstart e.sent e.got
 
 -- what only grows
 pub record Growth (start start' : ℕ) (fresh fresh' : Bool) (rstart rstart' : Option ℕ) (sent sent' got got' : List (List ℕ)) (cause cause' : Option Cause) : Type 0 where
@@ -123,7 +138,7 @@ closes_stays e e' m old grows c =
     record { id_is = rw ((grows.same_start old).0, same) c.id_is; has_cause = (grows.no_more c.has_cause).0 }
 
 sound_as_stays : (kind : IlKind) (e e' : End) (m : IlMsg) → e.fresh ≡ false → Grows e e' → SoundAs kind e.start e.rstart e.sent e.got e.cause m → SoundAs kind e'.start e'.rstart e'.sent e'.got e'.cause m
-sound_as_stays Sync e e' m old grows s = rw (grows.same_start old).0 s
+sound_as_stays Sync e e' m old grows s = (rw (grows.same_start old).0 s.0, elim s.1 [ inl none ↦ inl none | inr a ↦ inr (a.0, grows.same_rstart a.0 a.1, a.2) ])
 sound_as_stays Data e e' m old grows s = (numbered_stays e e' m old grows s.0, carries_stays e e' m old grows s.1)
 sound_as_stays DataQuery e e' m old grows s = (numbered_stays e e' m old grows s.0, carries_stays e e' m old grows s.1)
 sound_as_stays Close e e' m old grows s = (numbered_stays e e' m old grows s.0, closes_stays e e' m old grows s.1)
@@ -243,7 +258,7 @@ comes_in_turn_talks (Some text) e0 e' e there t = (
     got_more = λ k u h. begins_more e.got (text ∷ []) k u (t.2.got_more k u h);
     no_more = t.2.no_more;
   },
-  t.3,
+  (t.3.0, t.3.1, met_untold _ _ t.1),
 )
 
 come_in_turn_talks : (n : ℕ) (e0 e' e : End) → Talking e0 e' e → Talking e0 e' (come_in_turn n e)
@@ -323,7 +338,7 @@ pub good_close : (e0 e' e : End) → Talking e0 e' e → HasCause e.cause → Go
 good_close e0 e' e t why = good_says Close e0 e' e t (last_numbered Close [] e t.1, record { id_is = refl; has_cause = why })
 
 pub good_sync : (e0 e' e : End) → Talking e0 e' e → Good e0 e' (syncs e)
-good_sync e0 e' e t = record { link = t.0; knows = t.3; grows = t.2; says = (t.1.not_fresh, refl) }
+good_sync e0 e' e t = record { link = t.0; knows = t.3; grows = t.2; says = (t.1.not_fresh, (refl, answers e.rstart)) }
 
 pub good_again : (e0 e' e : End) (turn : Turn) → Talking e0 e' e → Good e0 e' turn → Good e0 e' (sends_again e turn)
 good_again e0 e' e turn t other =
