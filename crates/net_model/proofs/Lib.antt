@@ -49,4 +49,5 @@ pub mod UdpDuties
 pub mod UdpConvs
 pub mod UdpDirs
 pub mod UdpTrace
+pub mod Holders
 pub mod UdpReads

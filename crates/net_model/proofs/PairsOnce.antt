@@ -145,7 +145,7 @@ distinct_push (f ∷ fs) g distinct new = (
   distinct_push fs g distinct.1 (λ k there. new k (inr there)),
 )
 
-in_of_get : {A : Type 0} (xs : List A) (k : ℕ) (x : A) → slice_get xs k ≡ Some x → In x xs
+pub in_of_get : {A : Type 0} (xs : List A) (k : ℕ) (x : A) → slice_get xs k ≡ Some x → In x xs
 in_of_get [] k x is = absurd (none-some x is)
 in_of_get (y ∷ xs) zero x is = inl (sym (same_Some y x is))
 in_of_get (y ∷ xs) (suc k) x is = inr (in_of_get xs k x is)

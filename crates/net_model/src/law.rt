@@ -61,3 +61,10 @@ pub fn duties_cite_their_own()
 pub fn a_pair_is_given_once()
     ensures { (w : World) (h : List Entry) → IsLegal w h → (i j : ℕ) (f g : Given) → slice_get (given_in w h) i ≡ Some f → slice_get (given_in w h) j ≡ Some g → f.to.host ≡ g.to.host → f.to.proto ≡ g.to.proto → f.pair ≡ g.pair → i ≡ j }
 {}
+
+/// In a legal history of a world a pair of a protocol has one holder, a conversation has one pair, and peers are one another's.
+pub fn peers_are_mutual()
+    ensures holder { (w : World) (h : List Entry) → IsWorld w → IsLegal w h → (i j : ℕ) (f g : Given) → slice_get (given_in w h) i ≡ Some f → slice_get (given_in w h) j ≡ Some g → f.to.proto ≡ g.to.proto → f.pair ≡ g.pair → i ≡ j }
+    ensures pair { (w : World) (h : List Entry) → IsWorld w → IsLegal w h → (i j : ℕ) (f g : Given) → slice_get (given_in w h) i ≡ Some f → slice_get (given_in w h) j ≡ Some g → f.to ≡ g.to → i ≡ j }
+    ensures each_other { (w : World) (h : List Entry) (e f : Conversation) → IsWorld w → IsLegal w h → peer w h e ≡ Some f → peer w h f ≡ Some e }
+{}
