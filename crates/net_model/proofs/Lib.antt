@@ -53,6 +53,7 @@ pub mod UdpDuties
 pub mod UdpConvs
 pub mod UdpDirs
 pub mod UdpTrace
+pub mod Holders
 pub mod UdpReads
 pub mod Waits
 pub mod ConvWaits

@@ -1,13 +1,9 @@
 -- What is read at a conversation of UDP begins a datagram that its peer wrote.
-use Rattle.std.proofs.Common.{◌≡◌, ℕ, zero, suc, ◌==◌, ◌&&◌, Bool, true, false, cond, List, [], ◌∷◌, ◌++◌, take, drop, Some, slice_get, inl, inr, refl, sym, ap, subst, ◌∙◌, append_assoc}
-use Rattle.std.specs.Prelude.{find, option_to_list}
-use Rattle.std.specs.Option.{option_map, option_and_then}
-use Rattle.std.proofs.lemmas.Bool.{and_parts, and_from, eq-eqb}
+use Rattle.std.proofs.Common.{◌≡◌, ℕ, List, [], ◌∷◌, ◌++◌, take, drop, refl, sym, ap, subst, ◌∙◌, append_assoc}
+use Rattle.std.specs.Prelude.{option_to_list}
 use Rattle.std.proofs.lemmas.List.{take-append-drop}
-use Rattle.std.proofs.lemmas.Option.{same_Some}
 use Rattle.net_base.specs.declared.actor.ActorName.{ActorName}
 use Rattle.net_base.specs.declared.actor.ActorName.TheVariants as actor
-use Rattle.net_base.specs.declared.address.Pair.{Pair}
 use Rattle.net_base.specs.declared.address.Proto.{Proto}
 use Rattle.net_base.specs.declared.address.Proto.TheVariants as proto
 use Rattle.net_base.specs.declared.event.Event.{Event}
@@ -17,41 +13,18 @@ use Rattle.net_base.specs.declared.reply.Reply.{Reply}
 use Rattle.net_base.specs.declared.reply.Reply.TheVariants as reply
 use Rattle.net_base.specs.declared.world.World.{World}
 use Rattle.net_base.specs.Legal.{IsLegal}
-use Rattle.net_base.specs.Mirror.{mirror}
 use Rattle.net_base.specs.Net.{Net, opening_net, next_net, net_of, work_of}
-use Rattle.net_base.specs.Routes.{has_address}
-use Rattle.net_base.specs.Same.{same_pair}
-use Rattle.net_base.specs.Stamped.{In, same_actor, same_proto}
+use Rattle.net_base.specs.Stamped.{In}
 use Rattle.net_base.specs.World.{IsWorld}
-use Rattle.net_base.specs.Written.{Conversation, Given, IsRead, actor_of, gives, given_from, given_in, holder, pair_of, same_conversation}
+use Rattle.net_base.specs.Written.{Conversation, Given, IsRead, gives, given_from, given_in}
 use Rattle.net_model.specs.PrefixLaw.{WasWritten}
-use Rattle.net_model.proofs.Deeds.{both_ways}
 use Rattle.net_model.proofs.DirPairs.{in_more}
-use Rattle.net_model.proofs.Histories.{legal_take, same_proto_is, slice_get_take}
-use Rattle.net_model.proofs.PairsOnce.{once, same_itself}
-use Rattle.net_model.proofs.Peers.{same_conversation_is}
+use Rattle.net_model.proofs.Histories.{legal_take, slice_get_take}
+use Rattle.net_model.proofs.Holders.{peer_is}
 use Rattle.net_model.proofs.Places.{places}
-use Rattle.net_model.proofs.Sides.{same_pair_is, same_pair_itself}
 use Rattle.net_model.proofs.Trace.{HasPlaces}
 use Rattle.net_model.proofs.UdpConvs.{FirstOf, ReadFine}
-use Rattle.net_model.proofs.UdpTrace.{Known, Wrote, Kept, all_kept, took}
-
--- Lists of what was given.
-
--- where all that pass agree, what is found agrees with them
-found : {B : Type 0} (test : Given → Bool) (f : Given → B) (gs : List Given) (g : Given) → In g gs → test g ≡ true → ((x : Given) → In x gs → test x ≡ true → f x ≡ f g) → option_map f (find test gs) ≡ Some (f g)
-found test f [] g there passes agree = absurd there
-found test f (x ∷ gs) g there passes agree = go (test x) refl there (λ later. found test f gs g later passes (λ y at. agree y (inr at)))
-  where
-    go : (b : Bool) → test x ≡ b → In g (x ∷ gs) → (In g gs → option_map f (find test gs) ≡ Some (f g)) → option_map f (cond b (Some x) (find test gs)) ≡ Some (f g)
-    go true is there' rest = ap (λ (y : _). Some y) (agree x (inl refl) is)
-    go false is (inl same) rest = absurd (both_ways (subst (λ (y : Given). test y ≡ true) same passes) is)
-    go false is (inr later) rest = rest later
-
-place_of : (gs : List Given) (g : Given) → In g gs → (i : ℕ) × (slice_get gs i ≡ Some g)
-place_of [] g there = absurd there
-place_of (x ∷ gs) g (inl same) = (zero, ap (λ (y : Given). Some y) (sym same))
-place_of (x ∷ gs) g (inr there) = let r = place_of gs g there in (suc r.0, r.1)
+use Rattle.net_model.proofs.UdpTrace.{Known, Wrote, all_kept, took}
 
 given_append : (w : World) (net : Net) (xs ys : List Entry) → given_from w net (xs ++ ys) ≡ given_from w net xs ++ given_from w (net_of w net xs) ys
 given_append w net [] ys = refl
@@ -66,31 +39,6 @@ known_later w h k g there =
     (subst (λ (gs : List Given). In g gs) (sym (given_append w opening_net (take k h) (drop k h))) (in_more g (given_in w (take k h)) _ there))
 
 module _ (w : World) (world : HasPlaces w) (h : List Entry) (legal : IsLegal w h) where
-  kept : Kept w h
-  kept = all_kept w world h legal
-
-  -- a conversation's pair is the one that was given to it
-  pair_is : (e : Conversation) (p : Pair) → Known w h (record { to = e; pair = p }) → pair_of w h e ≡ Some p
-  pair_is e p known =
-      found (λ (g : Given). same_conversation g.to e) (λ (g : Given). g.pair) (given_in w h) (record { to = e; pair = p }) known
-      (and_from (same_actor (actor_of e) (actor_of e)) (e.generation == e.generation) (same_itself (actor_of e)) (eq-eqb e.generation e.generation refl))
-      (λ x there passes. kept.single x (record { to = e; pair = p }) there known (same_conversation_is x.to e passes))
-
-  -- a pair of UDP has one holder, whatever the host
-  holder_is : (f : Conversation) (q : Pair) → f.proto ≡ proto.Udp → Known w h (record { to = f; pair = q }) → holder w h proto.Udp q ≡ Some f
-  holder_is f q udp known =
-      found (λ (g : Given). same_proto g.to.proto proto.Udp && same_pair g.pair q) (λ (g : Given). g.to) (given_in w h) (record { to = f; pair = q }) known
-      (and_from (same_proto f.proto proto.Udp) (same_pair q q) (subst (λ (r : Proto). same_proto r proto.Udp ≡ true) (sym udp) refl) (same_pair_itself q))
-      (λ x there passes.
-      let tests = and_parts (same_proto x.to.proto proto.Udp) (same_pair x.pair q) passes in
-      let same : x.pair ≡ q = same_pair_is x.pair q tests.1 in
-      let host : x.to.host ≡ f.host =
-      world.one_host x.to.host f.host q.local.ip (subst (λ (r : Pair). has_address w x.to.host r.local.ip ≡ true) same (kept.placed x there)) (kept.placed (record { to = f; pair = q }) known) in
-      let i = place_of (given_in w h) x there in
-      let j = place_of (given_in w h) (record { to = f; pair = q }) known in
-      let one : i.0 ≡ j.0 = once w h legal i.0 j.0 x (record { to = f; pair = q }) i.1 j.1 host (same_proto_is x.to.proto proto.Udp tests.0 ∙ sym udp) same in
-      ap (λ (g : Given). g.to) (same_Some x (record { to = f; pair = q }) (sym i.1 ∙ (ap (λ (n : ℕ). slice_get (given_in w h) n) one ∙ j.1))))
-
   -- the datagram that was read, in the beginning before the read
   first_of : (e : Conversation) (k count : ℕ) (text : List ℕ) → e.proto ≡ proto.Udp → IsRead h e k count text → FirstOf (Known w (take k h)) (Wrote w (take k h)) e.host e.slot e.generation count text
   first_of e k count text udp r =
@@ -113,9 +61,7 @@ module _ (w : World) (world : HasPlaces w) (h : List Entry) (legal : IsLegal w h
       let there = slice_get_take k h was.k was.written.entry was.written.stands in
       record {
         by = was.by;
-        peer_is =
-            ap (option_and_then (λ (pair : Pair). holder w h e.proto (mirror pair))) (pair_is e p own)
-            ∙ (ap (λ (x : Proto). holder w h x (mirror p)) udp ∙ holder_is was.by (mirror p) was.proto_is (known_later w h k _ was.has));
+        peer_is = peer_is w world h legal e was.by p own (was.proto_is ∙ sym udp) (known_later w h k _ was.has);
         at = was.k;
         datagram = f.text;
         written = record {

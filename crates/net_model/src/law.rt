@@ -76,12 +76,14 @@ pub fn moments_rise()
     ensures strictly { (w : World) (h : List Entry) (i j m n : ℕ) (x y : Entry) → IsWorld w → IsLegal w h → IsTimed w h → i < j → slice_get h i ≡ Some x → slice_get h j ≡ Some y → x.event ≡ event.Move m → y.event ≡ event.Move n → m < n }
 {}
 
-/// In the whole net a pair of a protocol is granted, or a conversation born with it, at most once: who got it is its one holder,
-/// and who got the mirror of a conversation's pair is its one peer.
+/// In the whole net a pair of a protocol has one holder and a conversation one pair. Who got the mirror of a conversation's pair is
+/// its one peer, and peers are one another's.
 pub fn a_pair_has_one_holder()
     ensures once { (w : World) (h : List Entry) → IsWorld w → IsLegal w h → (i j : ℕ) (f g : Given) → slice_get (given_in w h) i ≡ Some f → slice_get (given_in w h) j ≡ Some g → f.to.proto ≡ g.to.proto → f.pair ≡ g.pair → i ≡ j }
+    ensures pair { (w : World) (h : List Entry) → IsWorld w → IsLegal w h → (i j : ℕ) (f g : Given) → slice_get (given_in w h) i ≡ Some f → slice_get (given_in w h) j ≡ Some g → f.to ≡ g.to → i ≡ j }
     ensures holder { (w : World) (h : List Entry) (k : ℕ) (g : Given) → IsWorld w → IsLegal w h → slice_get (given_in w h) k ≡ Some g → holder w h g.to.proto g.pair ≡ Some g.to }
     ensures peer { (w : World) (h : List Entry) (e : Conversation) (pair : Pair) (k : ℕ) (g : Given) → IsWorld w → IsLegal w h → pair_of w h e ≡ Some pair → slice_get (given_in w h) k ≡ Some g → g.to.proto ≡ e.proto → g.pair ≡ mirror pair → peer w h e ≡ Some g.to }
+    ensures each_other { (w : World) (h : List Entry) (e f : Conversation) → IsWorld w → IsLegal w h → peer w h e ≡ Some f → peer w h f ≡ Some e }
 {}
 
 /// An entry that is its caller's next and is ready is at an actor and of a caller of the world, so that the rule of known ones is
