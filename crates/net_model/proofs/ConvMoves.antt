@@ -8,7 +8,6 @@ use Rattle.net_base.specs.declared.event.Event.{Event}
 use Rattle.net_base.specs.declared.event.Event.TheVariants as event
 use Rattle.net_base.specs.declared.reply.Reply.{Reply}
 use Rattle.net_base.specs.declared.reply.Reply.TheVariants as reply
-use Rattle.net_base.specs.declared.il.Cause.{Cause}
 use Rattle.net_base.specs.declared.il.IlMsg.{IlMsg}
 use Rattle.net_base.specs.declared.il.IlState.{IlState}
 use Rattle.net_base.specs.declared.il.IlState.TheVariants as state
@@ -25,8 +24,8 @@ use Rattle.net_base.specs.IlTable.{arrives, connects, is_born, announced, writes
 use Rattle.net_base.specs.Timer as timer
 use Rattle.net_base.specs.ControlWords as control
 use Rattle.net_base.specs.Paths.{file_names}
-use Rattle.net_base.specs.ActorStep.{Step, when}
-use Rattle.net_base.specs.Conversation.{Il, Stage, Unused, Listening, Connected, Conv, begun, born_to, answers, leaves, packet_of, turned, in_generation, raises, may_bear, may_connect, has_protocol, joined, brought_forth, listens, binds, taken_in, il_read, read_at, core_name, il_written, write_at, left_or_ok, closed, il_awaited, awaited, opened, listed, file_text, refused_control, bad_control, tick_reply, conv_step}
+use Rattle.net_base.specs.ActorStep.{Step}
+use Rattle.net_base.specs.Conversation.{Il, Stage, Unused, Listening, Connected, Conv, born_to, answers, leaves, packet_of, turned, in_generation, raises, may_bear, may_connect, has_protocol, joined, brought_forth, listens, binds, taken_in, il_read, read_at, core_name, il_written, write_at, left_or_ok, closed, il_awaited, awaited, opened, listed, file_text, refused_control, bad_control, tick_reply, conv_step}
 use Rattle.net_model.proofs.Untouched.{leaves_itself, arrives_leaves, hangs_leaves, ticks_leaves}
 use Rattle.net_model.proofs.Accounts.{IsSized, Account, Silent, left_account, write_account, read_account, end_account}
 

@@ -1,5 +1,5 @@
 -- Each deed keeps what holds, and so does a run.
-use Rattle.std.proofs.Common.{◌≡◌, ℕ, zero, suc, ◌+◌, ◌-◌, ◌^◌, ◌<◌, ◌≤◌, ◌&&◌, nat_lt, nat_le, Bool, true, false, cond, List, [], ◌∷◌, ◌++◌, length, Option, Some, None, is_none, slice_get, refl, sym, ap, subst, ◌∙◌, arith}
+use Rattle.std.proofs.Common.{◌≡◌, ℕ, zero, suc, ◌+◌, ◌-◌, ◌^◌, ◌<◌, ◌≤◌, ◌&&◌, nat_lt, Bool, true, false, cond, List, [], ◌∷◌, ◌++◌, length, Option, Some, None, is_none, slice_get, refl, sym, ap, subst, ◌∙◌, arith}
 use Rattle.std.proofs.lemmas.Bool.{and_parts, true≢false, cond_both}
 use Rattle.std.proofs.lemmas.Option.{none-some, same_Some}
 use Rattle.std.proofs.lemmas.List.{length_push}
@@ -18,7 +18,7 @@ use Rattle.net_base.specs.Timer as timer
 use Rattle.net_base.specs.Timer.{Timer}
 use Rattle.net_model.proofs.Pairs.{Side, Talk, Deed, Connects, Is_born, Is_announced, Writes, Reads, Arrives, Hangs_up, Ticks, Event, Near, Far, out_with, leaves, is_new, is_start, is_sync, may_write, born_from, comes_to, does, happens, run, opening, InOrder}
 use Rattle.net_model.proofs.Begins.{begins_itself, begins_more, begins_prefix, at_push}
-use Rattle.net_model.proofs.Talking.{SoundAs, Sound, Met, met_untold, answers, HasMet, KnowsAs, Knows, Growth, Grows, grows_itself, sound_stays, Link, link_stays, Talking, Says, Good, good_if, good_same, good_silent, last_numbered, good_query, good_close, good_sync}
+use Rattle.net_model.proofs.Talking.{SoundAs, Sound, Met, met_untold, answers, HasMet, KnowsAs, Knows, Growth, Grows, grows_itself, sound_stays, Link, link_stays, Talking, Says, Good, good_if, good_same, last_numbered, good_query, good_close, good_sync}
 use Rattle.net_model.proofs.Rows.{Few, gets_cause, talking, good_arrives}
 
 -- What is asked of an end.

@@ -1,28 +1,26 @@
 -- What each entry of a legal history did, and what holds after it.
-use Rattle.std.proofs.Common.{◌≡◌, ℕ, ◌+◌, ◌^◌, ◌<◌, ◌≤◌, ◌==◌, Bool, true, false, List, [], ◌∷◌, ◌++◌, length, Option, Some, None, ◌⊎◌, inl, inr, refl, sym, ap, subst, ◌∙◌, arith}
+use Rattle.std.proofs.Common.{◌≡◌, ◌^◌, ◌<◌, List, [], ◌∷◌, ◌++◌, length, Option, Some, None, refl, sym, ap, subst, ◌∙◌}
 use Rattle.std.specs.Prelude.{IfSome, IsSome, option_to_list}
 use Rattle.std.specs.Option.{option_map}
-use Rattle.std.proofs.lemmas.List.{length_push}
 use Rattle.net_base.specs.declared.address.Pair.{Pair}
 use Rattle.net_base.specs.declared.history.Entry.{Entry}
-use Rattle.net_base.specs.declared.packet.Header.{Header}
 use Rattle.net_base.specs.declared.world.World.{World}
 use Rattle.net_base.specs.ActorStep.{Step}
 use Rattle.net_base.specs.Actors.{Actor}
-use Rattle.net_base.specs.Callers.{Caller, caller_of}
+use Rattle.net_base.specs.Callers.{caller_of}
 use Rattle.net_base.specs.Headers.{header}
 use Rattle.net_base.specs.Legal.{IsLegal, MayFollow, Shows, Shown}
-use Rattle.net_base.specs.Net.{Net, after, step_of, work_of, net_after, next_net, with_of}
+use Rattle.net_base.specs.Net.{after, step_of, work_of, net_after, with_of}
 use Rattle.net_base.specs.Next.{next as next_ask}
 use Rattle.net_base.specs.World.{IsWorld}
 use Rattle.net_base.specs.Written.{Given, gave, given_in}
 use Rattle.net_base.specs.declared.reply.Reply.{Reply}
 use Rattle.net_model.proofs.Deeds.{both_ways}
-use Rattle.net_model.proofs.Histories.{after_push, by_entries, legal_push}
+use Rattle.net_model.proofs.Histories.{after_push, by_entries}
 use Rattle.net_model.proofs.Linked.{Linked, step_linked, given_push}
 use Rattle.net_model.proofs.Places.{places}
 use Rattle.net_model.proofs.Short.{legal_short}
-use Rattle.net_model.proofs.Trace.{Owner, Trace, HasPlaces, opening_trace, actor_trace, trace_after, trace}
+use Rattle.net_model.proofs.Trace.{Owner, Trace, opening_trace, actor_trace, trace_after, trace}
 use Rattle.net_model.proofs.Whole.{Next, Kept, all_kept, next, work_fine, trace_push}
 
 -- what the entry x did after these

@@ -59,5 +59,4 @@ pub mod Waits
 pub mod ConvWaits
 pub mod Untils
 pub mod Rising
-pub mod Holders
 pub mod Limits

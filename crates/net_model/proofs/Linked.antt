@@ -1,12 +1,10 @@
 -- Who was given a pair, and who has it, are the same.
-use Rattle.std.proofs.Common.{◌≡◌, ℕ, ◌==◌, ◌&&◌, Bool, true, false, cond, List, [], ◌∷◌, ◌++◌, Option, Some, None, ◌⊎◌, inl, inr, refl, sym, ap, subst, ◌∙◌, append_assoc}
-use Rattle.std.specs.Prelude.{find, option_to_list}
-use Rattle.std.proofs.lemmas.Option.{none-some, same_Some}
-use Rattle.std.proofs.lemmas.Bool.{and_parts, and_from, eqb-true, eq-eqb}
+use Rattle.std.proofs.Common.{◌≡◌, ℕ, Bool, true, false, List, [], ◌∷◌, ◌++◌, Option, Some, None, ◌⊎◌, inl, inr, refl, sym, ap, subst, ◌∙◌, append_assoc}
+use Rattle.std.specs.Prelude.{option_to_list}
+use Rattle.std.proofs.lemmas.Option.{same_Some}
 use Rattle.net_base.specs.declared.actor.ActorName.{ActorName}
 use Rattle.net_base.specs.declared.actor.ActorName.TheVariants as name
 use Rattle.net_base.specs.declared.address.Pair.{Pair}
-use Rattle.net_base.specs.declared.address.Proto.{Proto}
 use Rattle.net_base.specs.declared.address.Proto.TheVariants as proto
 use Rattle.net_base.specs.declared.event.Event.{Event}
 use Rattle.net_base.specs.declared.event.Event.TheVariants as event
@@ -14,20 +12,17 @@ use Rattle.net_base.specs.declared.history.Entry.{Entry}
 use Rattle.net_base.specs.declared.history.Outcome.{Outcome}
 use Rattle.net_base.specs.declared.history.With.{With}
 use Rattle.net_base.specs.declared.history.With.TheVariants as with_variants
-use Rattle.net_base.specs.declared.history.Work.{Work}
-use Rattle.net_base.specs.declared.packet.Packet.{Packet}
 use Rattle.net_base.specs.declared.reply.Reply.{Reply}
 use Rattle.net_base.specs.declared.reply.Reply.TheVariants as reply
 use Rattle.net_base.specs.declared.world.World.{World}
 use Rattle.net_base.specs.Actors.{Actor, IsConv, IsDir, IsMedium, IsPlain}
-use Rattle.net_base.specs.Directory as directory
 use Rattle.net_base.specs.Net.{Net, opening_net, next_net, net_of, after, work_of}
 use Rattle.net_base.specs.Same.{same_pair}
 use Rattle.net_base.specs.Written.{Conversation, Given, gave, given_from, given_in}
 use Rattle.net_model.proofs.Books.{conv_of}
 use Rattle.net_model.proofs.Sides.{same_pair_is, same_pair_itself, put_same, put_there}
 use Rattle.net_model.proofs.Touch.{Later}
-use Rattle.net_model.proofs.Trace.{Owner, Trace, put_at, dir_trace, actor_trace, conv_trace}
+use Rattle.net_model.proofs.Trace.{Owner, Trace, put_at, dir_trace, actor_trace}
 use Rattle.net_model.proofs.Whole.{conv_trace_owner}
 
 -- what stands in a list

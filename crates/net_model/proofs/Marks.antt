@@ -1,5 +1,5 @@
 -- An end is marked by a close with spec 0 alone.
-use Rattle.std.proofs.Common.{◌≡◌, ℕ, zero, suc, ◌+◌, ◌==◌, ◌&&◌, ◌||◌, nat_lt, nat_le, Bool, true, false, not, cond, List, [], ◌∷◌, length, Option, Some, None, is_some, ◌⊎◌, inl, inr, refl, sym, ap, subst, ◌∙◌}
+use Rattle.std.proofs.Common.{◌≡◌, ℕ, zero, suc, ◌+◌, ◌==◌, ◌&&◌, ◌||◌, nat_lt, nat_le, Bool, true, false, not, cond, List, length, Option, Some, None, is_some, ◌⊎◌, inl, inr, refl, sym, ap, ◌∙◌}
 use Rattle.std.proofs.lemmas.Bool.{cond_both, eqb-true}
 use Rattle.net_base.specs.declared.event.Event.{Event}
 use Rattle.net_base.specs.declared.event.Event.TheVariants as event
@@ -15,7 +15,7 @@ use Rattle.net_base.specs.declared.packet.Packet.{Packet}
 use Rattle.net_base.specs.declared.timer.Tick.{Tick}
 use Rattle.net_base.specs.declared.timer.Tick.TheVariants as tick
 use Rattle.net_base.specs.Conversation.{Conv}
-use Rattle.net_base.specs.IlEnd.{End, Turn, rstart_of, recvd, has_unacked, standing, silent, says, syncs, hears, establishes, acked_to, hears_ack, early_at, becomes_early, comes_in_turn, come_in_turn, accepts, starts, closes}
+use Rattle.net_base.specs.IlEnd.{End, Turn, rstart_of, has_unacked, standing, silent, says, hears, establishes, acked_to, hears_ack, early_at, becomes_early, comes_in_turn, come_in_turn, accepts, starts, closes}
 use Rattle.net_base.specs.IlTable.{is_sized, refuses, at_syncer, at_syncee, at_established, at_closing, at_closed, row, arrives, sends, writes, reads, first_unread, hangs_up_at, asks_again, ticks_to}
 use Rattle.net_base.specs.Number.{number}
 use Rattle.net_base.specs.Timer as timer

@@ -1,5 +1,5 @@
 -- In a world an address has one host, and a way goes out by an address of its own host.
-use Rattle.std.proofs.Common.{◌≡◌, ℕ, zero, suc, ◌==◌, ◌||◌, nat_eq, if◌then◌else◌, Bool, true, false, not, List, [], ◌∷◌, ◌++◌, map, Option, Some, None, slice_get, ◌⊎◌, inl, inr, refl, sym, ap, subst, ◌∙◌, arith}
+use Rattle.std.proofs.Common.{◌≡◌, ℕ, zero, suc, ◌==◌, ◌||◌, nat_eq, if◌then◌else◌, Bool, true, false, not, List, [], ◌∷◌, ◌++◌, map, Option, Some, None, slice_get, ◌⊎◌, inl, inr, refl, sym, ap, subst}
 use Rattle.std.specs.Prelude.{find, flat_map}
 use Rattle.std.specs.List.{list_any}
 use Rattle.std.specs.Option.{option_and_then, option_map, option_map_or}
@@ -8,7 +8,7 @@ use Rattle.std.proofs.lemmas.Option.{none-some, same_Some}
 use Rattle.net_base.specs.declared.world.HostSpec.{HostSpec}
 use Rattle.net_base.specs.declared.world.Iface.{Iface}
 use Rattle.net_base.specs.declared.world.World.{World}
-use Rattle.net_base.specs.Routes.{Route, Way, way, way_by, way_from, way_of_route, longest_match, host_routes, has_ip, has_address}
+use Rattle.net_base.specs.Routes.{Route, Way, way_by, way_from, way_of_route, longest_match, host_routes, has_ip}
 use Rattle.net_base.specs.World.{IsWorld, all_apart, addresses}
 use Rattle.net_model.proofs.Deeds.{both_ways}
 use Rattle.net_model.proofs.Trace.{HasPlaces}

@@ -1,30 +1,28 @@
 -- The end of a conversation as it last stood is that of its pair.
-use Rattle.std.proofs.Common.{◌≡◌, ℕ, ◌+◌, ◌≤◌, ◌==◌, ◌&&◌, Bool, true, false, cond, List, [], ◌∷◌, ◌++◌, length, Option, Some, None, ◌⊎◌, inl, inr, refl, sym, ap, subst, ◌∙◌, arith}
+use Rattle.std.proofs.Common.{◌≡◌, ℕ, ◌==◌, ◌&&◌, Bool, true, false, cond, List, [], ◌∷◌, ◌++◌, length, Some, ◌⊎◌, inl, inr, refl, sym, ap, subst, ◌∙◌, arith}
 use Rattle.std.proofs.lemmas.Option.{none-some}
-use Rattle.std.proofs.lemmas.Bool.{and_parts, and_from, eqb-true, eqb-false, eq-eqb}
+use Rattle.std.proofs.lemmas.Bool.{and_from, eqb-true, eqb-false, eq-eqb}
 use Rattle.net_base.specs.declared.actor.ActorName.{ActorName}
 use Rattle.net_base.specs.declared.actor.ActorName.TheVariants as actor
 use Rattle.net_base.specs.declared.address.Pair.{Pair}
 use Rattle.net_base.specs.declared.address.Proto.TheVariants as proto
 use Rattle.net_base.specs.declared.history.Entry.{Entry}
 use Rattle.net_base.specs.declared.world.World.{World}
-use Rattle.net_base.specs.ActorStep.{Step}
 use Rattle.net_base.specs.Actors.{Actor, IsConv, IsDir, IsMedium, IsPlain}
 use Rattle.net_base.specs.Conversation.{Conv, Core, Il, Udp, Stage, Unused, Listening, Connected}
 use Rattle.net_base.specs.IlEnd.{End, fresh_end}
 use Rattle.net_base.specs.Legal.{IsLegal, MayFollow}
-use Rattle.net_base.specs.Net.{Net, opening_net, next_net, net_of, net_after, after, work_of}
+use Rattle.net_base.specs.Net.{Net, opening_net, next_net, net_of, after, work_of}
 use Rattle.net_base.specs.Stamped.{same_actor}
 use Rattle.net_base.specs.World.{IsWorld}
 use Rattle.net_base.specs.Written.{Conversation, actor_of, end_in, shown_in, stood_from, stood}
 use Rattle.net_model.proofs.Books.{conv_of, EntryAccount, NoEntry}
 use Rattle.net_model.proofs.ConvMoves.{is_connected}
-use Rattle.net_model.proofs.Deeds.{both_ways}
 use Rattle.net_model.proofs.Happened.{Happened, happened, kept_at}
-use Rattle.net_model.proofs.Histories.{by_entries, legal_push, after_push, next_same, same_actor_is}
+use Rattle.net_model.proofs.Histories.{by_entries, legal_push, after_push, next_same}
 use Rattle.net_model.proofs.Pairs.{Side}
-use Rattle.net_model.proofs.Touch.{owner_of, Owned, HasEnd, NotYet, ConvFine, ActorFine}
-use Rattle.net_model.proofs.Trace.{Owner, Trace, empty_side, opening_trace, actor_trace, trace}
+use Rattle.net_model.proofs.Touch.{owner_of, HasEnd, ConvFine, ActorFine}
+use Rattle.net_model.proofs.Trace.{Owner, Trace, empty_side, actor_trace, trace}
 use Rattle.net_model.proofs.Whole.{Kept}
 
 -- both have written, got and had acknowledged the same

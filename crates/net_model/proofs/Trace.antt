@@ -1,5 +1,5 @@
 -- What each pair of addresses has said, and who has it.
-use Rattle.std.specs.Prelude.{ℕ, ◌≡◌, ◌<◌, ◌≤◌, ◌^◌, true, List, [], ◌∷◌, length, Option, Some, None, if◌then◌else◌}
+use Rattle.std.specs.Prelude.{ℕ, ◌≡◌, true, List, [], ◌∷◌, Option, Some, None, if◌then◌else◌}
 use Rattle.net_base.specs.declared.address.Pair.{Pair}
 use Rattle.net_base.specs.declared.address.Proto.TheVariants as proto
 use Rattle.net_base.specs.declared.actor.ActorName.{ActorName}
@@ -18,16 +18,14 @@ use Rattle.net_base.specs.declared.history.Work.{Work}
 use Rattle.net_base.specs.declared.history.Outcome.{Outcome}
 use Rattle.net_base.specs.declared.history.Entry.{Entry}
 use Rattle.net_base.specs.IlEnd.{End, fresh_end}
-use Rattle.net_model.proofs.Pairs.{Side, out_with, IsPrefixOf}
+use Rattle.net_model.proofs.Pairs.{Side, out_with}
 use Rattle.net_base.specs.Same.{same_pair}
-use Rattle.net_base.specs.Mirror.{mirror}
 use Rattle.net_base.specs.declared.world.World.{World}
 use Rattle.net_base.specs.Routes.{Way, way, has_address}
 use Rattle.net_base.specs.ActorStep.{Step}
 use Rattle.net_base.specs.Conversation.{Core, Il, Stage, Connected, Conv}
 use Rattle.net_base.specs.Actors.{Actor, IsConv}
-use Rattle.net_base.specs.Net.{Net, next_net, opening_net, step_of, work_of, state}
-use Rattle.net_base.specs.Legal.{IsLegal}
+use Rattle.net_base.specs.Net.{Net, next_net, opening_net, step_of, work_of}
 
 -- a conversation
 pub record Owner : Type 0 where

@@ -1,5 +1,5 @@
 -- What comes in, a hangup and the timer leave what was written and read as it was.
-use Rattle.std.proofs.Common.{◌≡◌, ℕ, zero, suc, ◌+◌, ◌==◌, ◌&&◌, ◌||◌, nat_lt, nat_le, Bool, true, not, cond, List, [], ◌∷◌, length, Option, Some, None, is_some, refl}
+use Rattle.std.proofs.Common.{◌≡◌, ℕ, zero, suc, ◌+◌, ◌==◌, ◌&&◌, ◌||◌, nat_le, Bool, true, not, cond, List, [], ◌∷◌, length, Option, Some, None, is_some, refl}
 use Rattle.std.proofs.lemmas.Bool.{cond_both}
 use Rattle.net_base.specs.declared.il.IlKind.{IlKind}
 use Rattle.net_base.specs.declared.il.IlKind.TheVariants.{Sync, Data, DataQuery, Ack, Query, State, Close}

@@ -1,10 +1,10 @@
 -- Each entry of a legal history keeps what holds of all pairs.
-use Rattle.std.proofs.Common.{◌≡◌, ℕ, zero, suc, ◌+◌, ◌-◌, ◌^◌, ◌<◌, ◌≤◌, ◌==◌, ◌&&◌, nat_lt, Bool, true, false, cond, List, [], ◌∷◌, ◌++◌, length, take, drop, map, Option, Some, None, slice_get, ◌⊎◌, inl, inr, refl, sym, ap, subst, ◌∙◌, append_assoc, arith}
-use Rattle.std.specs.Prelude.{IfSome, IsSome, slice_index_or, flat_map, replicate}
+use Rattle.std.proofs.Common.{◌≡◌, ℕ, ◌+◌, ◌-◌, ◌^◌, ◌<◌, ◌≤◌, ◌==◌, ◌&&◌, nat_lt, Bool, true, false, cond, List, [], ◌∷◌, ◌++◌, length, take, drop, Option, Some, None, slice_get, ◌⊎◌, inl, inr, refl, sym, ap, subst, ◌∙◌, arith}
+use Rattle.std.specs.Prelude.{IfSome, IsSome, flat_map}
 use Rattle.std.specs.Option.{option_map, option_and_then}
-use Rattle.std.proofs.lemmas.Option.{none-some, same_Some}
+use Rattle.std.proofs.lemmas.Option.{none-some}
 use Rattle.std.proofs.lemmas.Bool.{and_parts, and_from, cond_both, eqb-true, eq-eqb}
-use Rattle.std.proofs.lemmas.List.{length_push, append-nil, take_all, take-append-drop, drop_more}
+use Rattle.std.proofs.lemmas.List.{length_push, append-nil}
 use Rattle.net_base.specs.declared.address.Pair.{Pair}
 use Rattle.net_base.specs.declared.address.Proto.TheVariants as proto
 use Rattle.net_base.specs.declared.actor.ActorName.{ActorName}
@@ -21,7 +21,6 @@ use Rattle.net_base.specs.declared.history.With.TheVariants as given
 use Rattle.net_base.specs.declared.history.Work.{Work}
 use Rattle.net_base.specs.declared.history.Entry.{Entry}
 use Rattle.net_model.proofs.Pairs.{Side}
-use Rattle.net_base.specs.Mirror.{mirror}
 use Rattle.net_base.specs.declared.world.World.{World}
 use Rattle.net_base.specs.Routes.{Way, way, has_address}
 use Rattle.net_base.specs.declared.world.HostSpec.{HostSpec}
@@ -35,11 +34,10 @@ use Rattle.net_base.specs.Desk.{desk_reply, clock_reply}
 use Rattle.net_base.specs.Callers.{Caller, caller_of}
 use Rattle.net_base.specs.Next.{next as next_ask}
 use Rattle.net_base.specs.Steps.{Ask}
-use Rattle.net_base.specs.Duties.{Duty, put_by, emitted_put, follow_up, proto_of, forwarded, courier_duty, has_come, due_of, generation_of, conversations, tick_at, ticks, release, duties}
+use Rattle.net_base.specs.Duties.{Duty, put_by, emitted_put, follow_up, proto_of, courier_duty, has_come, due_of, generation_of, conversations, tick_at, ticks, release, duties}
 use Rattle.net_base.specs.Net.{Net, opening_net, with_of, work_of, step_of, actors_after, owed_after, net_after, next_net, net_of, after}
-use Rattle.net_base.specs.Legal.{IsLegal, Shows, Shown, IsAsked, asked_by}
-use Rattle.net_model.proofs.Trace.{Owner, Trace, opening_trace, conv_trace, dir_trace, actor_trace, trace_after, next_trace, trace_of, trace, HasPlaces, end_of}
-use Rattle.net_model.proofs.Begins.{begins_prefix, begins_same}
+use Rattle.net_base.specs.Legal.{IsLegal, Shows, Shown, IsAsked}
+use Rattle.net_model.proofs.Trace.{Owner, Trace, opening_trace, conv_trace, dir_trace, actor_trace, trace_after, next_trace, trace_of, trace, HasPlaces}
 use Rattle.net_model.proofs.Deeds.{both_ways, nothing_yet}
 use Rattle.net_model.proofs.ConvMoves.{of_end, moves, elsewhere, Move, Stay, Begin, Join, Come, Listen}
 use Rattle.net_base.specs.IlEnd.{End}
@@ -50,9 +48,7 @@ use Rattle.net_model.proofs.DirSteps.{WithFine, EachDuty, SlotIsFine, DirIsFine,
 use Rattle.net_model.proofs.DirRows.{dir_steps}
 use Rattle.net_model.proofs.OtherSteps.{IsUdp, harmless_emitted, udp_steps, dir_harmless, udp_dir_follow, conv_follow, MediumFine, TakenIf, medium_grows, medium_steps}
 use Rattle.net_model.proofs.Histories.{after_push, by_entries}
-use Rattle.net_base.specs.Written.{joined}
-use Rattle.net_model.proofs.Pairs.{IsPrefixOf}
-use Rattle.net_model.proofs.Accounts.{AllSized, AtEnd, given_by, given_out, Reading, IsReading, joined-append}
+use Rattle.net_model.proofs.Accounts.{AllSized, AtEnd, given_by, Reading}
 use Rattle.net_model.proofs.Books.{got_sized, Booked, Books, NoEntry, booked_quiet, books_next, conv_booked}
 
 -- What duties carry stays fine.
