@@ -1,9 +1,8 @@
 -- Bytes and lines, told by their hexadecimal.
-use Rattle.std.proofs.Common.{◌≡◌, ℕ, ◌+◌, ◌-◌, ◌*◌, ◌/◌, ◌%◌, ◌<◌, ◌==◌, Bool, true, false, ◌&&◌, nat_lt, if◌then◌else◌, List, [], ◌∷◌, ◌++◌, refl, sym, ◌∙◌, ap, append_assoc, arith}
+use Rattle.std.proofs.Common.{◌≡◌, ℕ, ◌+◌, ◌-◌, ◌*◌, ◌/◌, ◌%◌, ◌<◌, ◌==◌, Bool, true, false, nat_lt, if◌then◌else◌, List, [], ◌∷◌, ◌++◌, refl, ◌∙◌, ap, append_assoc, arith}
 use Rattle.std.specs.List.{list_all}
 use Rattle.net_base.specs.Plain.{IsClean, IsLine, AreLines, AreBytes}
 use Rattle.net_base.specs.Transcript.{hex_digit, hex_digits, hex_word, lines_of}
-use Rattle.transcript.proofs.Numbers.{clean_both}
 
 -- what a digit stands for
 abbrev pub value : ℕ → ℕ

@@ -1,5 +1,5 @@
 -- Entries are told by their words, and plain histories by their texts.
-use Rattle.std.proofs.Common.{◌≡◌, ℕ, ◌+◌, Bool, true, false, if◌then◌else◌, List, [], ◌∷◌, ◌++◌, Option, Some, None, drop, map, refl, sym, ◌∙◌, ap, append_assoc, bytes_eq, codes, decimal}
+use Rattle.std.proofs.Common.{◌≡◌, ℕ, Bool, true, false, if◌then◌else◌, List, [], ◌∷◌, ◌++◌, Option, Some, None, drop, map, refl, sym, ◌∙◌, ap, append_assoc, bytes_eq, codes}
 use Rattle.net_base.specs.declared.address.Addr.{Addr}
 use Rattle.net_base.specs.declared.event.Event.{Event}
 use Rattle.net_base.specs.declared.history.Entry.{Entry}
@@ -7,8 +7,8 @@ use Rattle.net_base.specs.declared.packet.BodyHeader.{BodyHeader}
 use Rattle.net_base.specs.declared.packet.BodyHeader.TheVariants as body
 use Rattle.net_base.specs.declared.packet.Header.{Header}
 use Rattle.net_base.specs.declared.reply.Reply.{Reply}
-use Rattle.net_base.specs.Plain.{IsPlain, IsPlainEvent, IsPlainReply, IsSized, IsSizedAddr, IsSizedBody, IsSizedEntry, IsSizedHeader, IsSizedWhere, IsSmall}
-use Rattle.net_base.specs.Transcript.{body_words, emitted_words, ended_words, entry_words, event_words, header_words, history_text, outcome_words, proto_word, reply_words, way_words, who_words}
+use Rattle.net_base.specs.Plain.{IsPlain, IsPlainEvent, IsPlainReply, IsSized, IsSizedBody, IsSizedEntry, IsSizedHeader, IsSizedWhere}
+use Rattle.net_base.specs.Transcript.{body_words, emitted_words, ended_words, entry_words, event_words, history_text, outcome_words, proto_word, reply_words, way_words, who_words}
 use Rattle.transcript.proofs.Events.{read_event, event_told, clean_event}
 use Rattle.transcript.proofs.Numbers.{number, number_told, clean_decimal}
 use Rattle.transcript.proofs.Readers.{Word, at, read_actor, read_addr, read_kind, read_number}

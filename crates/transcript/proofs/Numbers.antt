@@ -1,5 +1,5 @@
 -- Numbers among the bytes of a word.
-use Rattle.std.proofs.Common.{◌≡◌, ℕ, zero, suc, ◌+◌, ◌-◌, ◌*◌, ◌/◌, ◌%◌, ◌<◌, Bool, true, false, ◌&&◌, nat_le, if◌then◌else◌, List, [], ◌∷◌, ◌++◌, length, drop, refl, sym, ◌∙◌, ap, append_assoc, append-nil, arith, decimal}
+use Rattle.std.proofs.Common.{◌≡◌, ℕ, zero, suc, ◌+◌, ◌-◌, ◌*◌, ◌/◌, ◌%◌, ◌<◌, Bool, true, false, ◌&&◌, nat_le, if◌then◌else◌, List, [], ◌∷◌, ◌++◌, drop, refl, sym, ◌∙◌, ap, append_assoc, append-nil, arith, decimal}
 use Rattle.std.proofs.lemmas.Fmt.{decimal_by_steps}
 use Rattle.net_base.specs.Plain.{IsClean, IsSmall}
 
@@ -39,10 +39,10 @@ number_then n small =
     decimal_by_steps (λ m ds. (rest : List ℕ) → take_number 0 (ds ++ rest) ≡ take_number m rest)
     (λ m lt rest. one_digit 0 m rest lt ∙ ap (λ k. take_number k rest) (omega arith))
     (λ m ds le told rest.
-      ap (take_number 0) (append_assoc ds ((48 + m % 10) ∷ []) rest)
-      ∙ told ((48 + m % 10) ∷ rest)
-      ∙ one_digit (m / 10) (m % 10) rest (omega arith)
-      ∙ ap (λ k. take_number k rest) (omega arith))
+    ap (take_number 0) (append_assoc ds ((48 + m % 10) ∷ []) rest)
+    ∙ told ((48 + m % 10) ∷ rest)
+    ∙ one_digit (m / 10) (m % 10) rest (omega arith)
+    ∙ ap (λ k. take_number k rest) (omega arith))
     n small
 
 -- a number ends at the end

@@ -1,5 +1,5 @@
 -- What the words of a line say.
-use Rattle.std.proofs.Common.{ℕ, ◌+◌, ◌*◌, ◌==◌, Bool, true, false, if◌then◌else◌, List, [], ◌∷◌, drop, get_or, Option, Some, None, bytes_eq, codes}
+use Rattle.std.proofs.Common.{ℕ, ◌+◌, ◌*◌, ◌==◌, if◌then◌else◌, List, [], ◌∷◌, drop, get_or, Option, Some, None, bytes_eq, codes}
 use Rattle.net_base.specs.declared.actor.ActorName.{ActorName}
 use Rattle.net_base.specs.declared.actor.ActorName.TheVariants as name
 use Rattle.net_base.specs.declared.address.Addr.{Addr}
@@ -39,42 +39,42 @@ read_mode = chosen mode.Read ((codes "w", mode.Write) ∷ (codes "rw", mode.Both
 abbrev pub read_file : Word → FileName
 read_file =
     chosen file.Ctl (
-      (codes "data", file.Data)
-      ∷ (codes "err", file.Err)
-      ∷ (codes "listen", file.Listen)
-      ∷ (codes "local", file.Local)
-      ∷ (codes "remote", file.Remote)
-      ∷ (codes "status", file.Status)
-      ∷ []
+    (codes "data", file.Data)
+    ∷ (codes "err", file.Err)
+    ∷ (codes "listen", file.Listen)
+    ∷ (codes "local", file.Local)
+    ∷ (codes "remote", file.Remote)
+    ∷ (codes "status", file.Status)
+    ∷ []
     )
 
 abbrev pub read_kind : Word → IlKind
 read_kind =
     chosen kind.Sync (
-      (codes "data", kind.Data)
-      ∷ (codes "dataquery", kind.DataQuery)
-      ∷ (codes "ack", kind.Ack)
-      ∷ (codes "query", kind.Query)
-      ∷ (codes "state", kind.State)
-      ∷ (codes "close", kind.Close)
-      ∷ []
+    (codes "data", kind.Data)
+    ∷ (codes "dataquery", kind.DataQuery)
+    ∷ (codes "ack", kind.Ack)
+    ∷ (codes "query", kind.Query)
+    ∷ (codes "state", kind.State)
+    ∷ (codes "close", kind.Close)
+    ∷ []
     )
 
 abbrev pub read_state : Word → StateName
 read_state =
     chosen state.Free (
-      (codes "Reserved", state.Reserved)
-      ∷ (codes "Announced", state.Announced)
-      ∷ (codes "Granted", state.Granted)
-      ∷ (codes "Withdrawn", state.Withdrawn)
-      ∷ (codes "Closed", state.Closed)
-      ∷ (codes "Syncer", state.Syncer)
-      ∷ (codes "Syncee", state.Syncee)
-      ∷ (codes "Established", state.Established)
-      ∷ (codes "Listening", state.Listening)
-      ∷ (codes "Closing", state.Closing)
-      ∷ (codes "Open", state.Open)
-      ∷ []
+    (codes "Reserved", state.Reserved)
+    ∷ (codes "Announced", state.Announced)
+    ∷ (codes "Granted", state.Granted)
+    ∷ (codes "Withdrawn", state.Withdrawn)
+    ∷ (codes "Closed", state.Closed)
+    ∷ (codes "Syncer", state.Syncer)
+    ∷ (codes "Syncee", state.Syncee)
+    ∷ (codes "Established", state.Established)
+    ∷ (codes "Listening", state.Listening)
+    ∷ (codes "Closing", state.Closing)
+    ∷ (codes "Open", state.Open)
+    ∷ []
     )
 
 abbrev pub numbered : ℕ → Cause

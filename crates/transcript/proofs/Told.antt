@@ -1,5 +1,5 @@
 -- Words say what they were made of, and are clean.
-use Rattle.std.proofs.Common.{◌≡◌, ℕ, ◌+◌, ◌*◌, ◌/◌, ◌%◌, ◌^◌, ◌<◌, ◌==◌, Bool, true, false, ◌&&◌, not, List, [], ◌∷◌, ◌++◌, Option, Some, None, drop, get_or, refl, sym, ◌∙◌, ap, append_assoc, arith, codes, decimal}
+use Rattle.std.proofs.Common.{◌≡◌, ℕ, ◌+◌, ◌*◌, ◌/◌, ◌%◌, ◌^◌, ◌==◌, Bool, true, ◌&&◌, not, List, [], ◌∷◌, ◌++◌, Option, Some, None, refl, ◌∙◌, ap, append_assoc, arith, codes, decimal}
 use Rattle.std.specs.List.{list_all}
 use Rattle.net_base.specs.declared.actor.ActorName.{ActorName}
 use Rattle.net_base.specs.declared.actor.ActorName.TheVariants as name
@@ -21,7 +21,7 @@ use Rattle.net_base.specs.Paths.{proto_name, file_name}
 use Rattle.net_base.specs.Plain.{IsClean, IsSmall, IsSmallWhere, IsSizedAddr, IsSizedActor}
 use Rattle.net_base.specs.StateWords.{state_word}
 use Rattle.net_base.specs.Transcript.{actor_word, addr_word, cause_number, ip_or_star, kind_word, mode_word, number_or_dash, number_or_star}
-use Rattle.transcript.proofs.Numbers.{number, take_number, numbers, numbers_last, numbers_more, number_before, number_last, number_told, number_starts, starts_with, clean_both, clean_decimal}
+use Rattle.transcript.proofs.Numbers.{number, take_number, numbers, numbers_last, numbers_more, number_before, number_told, number_starts, starts_with, clean_both, clean_decimal}
 use Rattle.transcript.proofs.Readers.{read_mode, read_file, read_kind, read_state, numbered, read_number, read_ip, read_addr, read_actor, ip_of, addr_of, dir_of, conv_of}
 
 -- Literal words.
