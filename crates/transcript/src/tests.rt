@@ -373,39 +373,52 @@ fn names_stand_as_they_are(rt: HostRuntime) -> Result<(), Fail> {
     Ok(())
 }
 
-fn script(alloc: Global, host: u32, connects: &[u8], last: Step) -> Result<Script, AllocError> {
+fn opens(alloc: Global, name: &[u8], path: &[u8]) -> Result<Step, AllocError> {
+    let name = text(alloc, name)?;
+    let path = text(alloc, path)?;
+    Ok(Step::Open {
+        name,
+        path,
+        mode: None,
+    })
+}
+
+fn writes(alloc: Global, name: &[u8], bytes: &[u8]) -> Result<Step, AllocError> {
+    let name = text(alloc, name)?;
+    let text = text(alloc, bytes)?;
+    Ok(Step::Write { name, text })
+}
+
+fn reads(alloc: Global, name: &[u8]) -> Result<Step, AllocError> {
+    let name = text(alloc, name)?;
+    Ok(Step::Read { name, count: 8192 })
+}
+
+fn connects(alloc: Global, words: &[u8]) -> Result<StepList, AllocError> {
     let mut steps = StepList::new(alloc);
-    steps.push(Step::Open {
-        name: text(alloc, b"c")?,
-        path: text(alloc, b"/net/udp/clone")?,
-        mode: None,
-    })?;
-    steps.push(Step::Write {
-        name: text(alloc, b"c")?,
-        text: text(alloc, connects)?,
-    })?;
-    steps.push(Step::Open {
-        name: text(alloc, b"d")?,
-        path: text(alloc, b"/net/udp/0/data")?,
-        mode: None,
-    })?;
-    steps.push(last)?;
-    Ok(Script { host, steps })
+    steps.push(opens(alloc, b"c", b"/net/udp/clone")?)?;
+    steps.push(writes(alloc, b"c", words)?)?;
+    steps.push(opens(alloc, b"d", b"/net/udp/0/data")?)?;
+    Ok(steps)
+}
+
+fn anna(alloc: Global) -> Result<Script, AllocError> {
+    let mut steps = connects(alloc, b"connect 135.104.9.31!7 5000")?;
+    steps.push(writes(alloc, b"d", b"hi")?)?;
+    Ok(Script { host: 0, steps })
+}
+
+fn helix(alloc: Global) -> Result<Script, AllocError> {
+    let mut steps = connects(alloc, b"connect 135.104.9.6!5000 7")?;
+    steps.push(reads(alloc, b"d")?)?;
+    Ok(Script { host: 1, steps })
 }
 
 // The scripts alone: a summary asks for nothing else of a world.
 fn scripts(alloc: Global) -> Result<World, AllocError> {
     let mut scripts = Scripts::new(alloc);
-    let write = Step::Write {
-        name: text(alloc, b"d")?,
-        text: text(alloc, b"hi")?,
-    };
-    scripts.push(script(alloc, 0, b"connect 135.104.9.31!7 5000", write)?)?;
-    let read = Step::Read {
-        name: text(alloc, b"d")?,
-        count: 8192,
-    };
-    scripts.push(script(alloc, 1, b"connect 135.104.9.6!5000 7", read)?)?;
+    scripts.push(anna(alloc)?)?;
+    scripts.push(helix(alloc)?)?;
     Ok(World {
         end: 60000,
         seed: 7,
