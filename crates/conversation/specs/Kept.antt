@@ -1,5 +1,7 @@
 -- A conversation as it is kept.
-use Rattle.std.specs.Prelude.{ℕ, IsTrue, not}
+use Rattle.std.specs.Prelude.{ℕ, IsTrue, not, Option, Some, None}
+use Rattle.net_base.specs.declared.history.Outcome.{Outcome}
+use Rattle.net_base.specs.ActorStep.{Step}
 use Rattle.net_base.specs.UdpEnd.{is_fresh_udp}
 use Rattle.net_base.specs.Conversation as conv
 use Rattle.conversation.specs.declared.parts.Core.{Core}
@@ -29,3 +31,8 @@ IsKept stage.Unused (core.Udp e) = IsTrue (is_fresh_udp e.state)
 IsKept stage.Listening (core.Udp e) = IsTrue (not (is_fresh_udp e.state))
 IsKept stage.Connected (core.Udp e) = IsTrue (not (is_fresh_udp e.state))
 IsKept s (core.Il e) = Unit {0}
+
+-- the step that leaves this conversation, if it has an outcome
+abbrev pub step_to : conv.Conv → Option Outcome → Option (Step conv.Conv)
+step_to after (Some o) = Some (record { state = after; outcome = o })
+step_to after None = None

@@ -4,6 +4,8 @@ ghost use Rattle.net_base.specs.Actors.{opening_conv};
 ghost use Rattle.net_base.specs.Duties.{due_of_core};
 ghost use Rattle.conversation.specs.Stands.{StandsFor, StandsForSome, IsShort, IsReady, Says, Steps, slot_of, step_at};
 
+mod leave;
+
 use crate::parts::{Core, Stage};
 use il_machine::IlEnd;
 use net_base::{Addr, Outcome, Pair, Proto, Work};

@@ -2,6 +2,8 @@
 #![tactic(auto)]
 
 mod conv;
+mod il;
 mod parts;
+mod said;
 
 pub use conv::Conv;
