@@ -5,6 +5,7 @@ ghost use Rattle.net_base.specs.Duties.{due_of_core};
 ghost use Rattle.conversation.specs.Stands.{StandsFor, StandsForSome, IsShort, IsReady, Says, Steps, slot_of, step_at};
 
 mod leave;
+mod life;
 
 use crate::parts::{Core, Stage};
 use il_machine::IlEnd;
