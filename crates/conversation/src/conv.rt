@@ -4,8 +4,11 @@ ghost use Rattle.net_base.specs.Actors.{opening_conv};
 ghost use Rattle.net_base.specs.Duties.{due_of_core};
 ghost use Rattle.conversation.specs.Stands.{StandsFor, StandsForSome, IsShort, IsReady, Says, Steps, slot_of, step_at};
 
+mod files;
+mod given;
 mod leave;
 mod life;
+mod talk;
 
 use crate::parts::{Core, Stage};
 use il_machine::IlEnd;

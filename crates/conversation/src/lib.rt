@@ -5,5 +5,6 @@ mod conv;
 mod il;
 mod parts;
 mod said;
+mod texts;
 
 pub use conv::Conv;
