@@ -1,9 +1,9 @@
 //! What is read and written, and what comes.
-ghost use Rattle.std.specs.Prelude.{◌≡◌, ◌<◌, ◌^◌, ℕ, List, IfOk, OnErr, Some, None, is_some, length};
+ghost use Rattle.std.specs.Prelude.{◌≡◌, ◌<◌, ◌^◌, ℕ, IfOk, OnErr, Some, None, is_some, length, nat_lt};
 ghost use Rattle.std.specs.Option.{option_map};
 ghost use Rattle.net_base.specs.declared.reply.Reply.{Reply as Answer};
+ghost use Rattle.net_base.specs.ActorStep.{when};
 ghost use Rattle.net_base.specs.Conversation as spec;
-ghost use Rattle.net_base.specs.IlEnd as il_end;
 ghost use Rattle.conversation.specs.Kept.{step_to};
 ghost use Rattle.conversation.specs.Stands.{IsShort};
 
@@ -54,11 +54,13 @@ impl Conv {
         generation: u64,
         count: u32,
     ) -> Result<Option<Outcome>, AllocError>
-        requires { 0 < count }
-        ensures ok { IfOk result (λ answer. spec.in_generation generation self.old.conv (spec.read_at self.old.conv.stage self.old.conv.core count self.old.conv) ≡ step_to self.new.conv answer) }
+        ensures ok { IfOk result (λ answer. when (nat_lt 0 count) (spec.in_generation generation self.old.conv (spec.read_at self.old.conv.stage self.old.conv.core count self.old.conv)) ≡ step_to self.new.conv answer) }
         ensures slot { self.new.slot ≡ self.old.slot }
         ensures err { OnErr result (self.new ≡ self.old) }
     {
+        if count == 0 {
+            return Ok(None);
+        }
         if generation != self.generation {
             return Ok(self.stale(generation));
         }
