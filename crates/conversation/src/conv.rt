@@ -1,10 +1,10 @@
 //! A conversation, and what it answers.
-ghost use Rattle.std.specs.Prelude.{◌≡◌, ℕ, ◌<◌, ◌^◌, is_some, IfOk, OnErr, Some};
+ghost use Rattle.std.specs.Prelude.{◌≡◌, ℕ, ◌<◌, ◌^◌, is_some, IfOk, IsTrue, OnErr, Some};
 ghost use Rattle.net_base.specs.Actors.{opening_conv};
 ghost use Rattle.net_base.specs.Conversation as spec;
 ghost use Rattle.net_base.specs.Duties.{due_of_core};
 ghost use Rattle.conversation.specs.Kept.{step_to};
-ghost use Rattle.conversation.specs.Stands.{StandsFor, StandsForSome, IsShort, IsReady, Says, Steps, slot_of, step_at};
+ghost use Rattle.conversation.specs.Stands.{StandsFor, StandsForSome, IsShort, IsReady, NoControl, Says, Steps, slot_of, step_at};
 
 mod files;
 mod given;
@@ -12,9 +12,8 @@ mod leave;
 mod life;
 mod talk;
 
-use crate::control;
+use crate::il;
 use crate::parts::{Core, Stage};
-use il_machine::IlEnd;
 use net_base::{Addr, Event, Outcome, Pair, Proto, Work};
 use std::alloc::{AllocError, Global};
 use std::marker::Model;
@@ -63,13 +62,12 @@ impl Model for Conv {
 #[tactic(auto, unfolding(crate::specs::Stands::StandsFor, crate::specs::Stands::slot_of))]
 impl Conv {
     /// The conversation of a slot, before its first generation.
-    #[tactic(auto, unfolding(il_machine::specs::Stands::StandsFor, crate::specs::Stands::StandsFor, crate::specs::Stands::slot_of))]
     pub fn new(alloc: Global, _host: u32, proto: Proto, slot: u32) -> Result<Conv, AllocError>
         ensures opening { IfOk result (λ c. StandsFor c (opening_conv proto)) }
         ensures slot { IfOk result (λ c. slot_of c ≡ slot) }
     {
         let core = match proto {
-            Proto::Il => Core::Il(IlEnd::fresh(alloc)?),
+            Proto::Il => Core::Il(il::fresh(alloc)?),
             Proto::Udp => Core::Udp(UdpEnd::fresh(alloc)?),
         };
         Ok(Conv {
@@ -91,6 +89,7 @@ impl Conv {
 
     /// Whether a row of the table answers the work, at whatever moment.
     pub fn ready(&self, work: &Work) -> bool
+        requires no_control { NoControl work.now.event }
         ensures { (now : ℕ) → Says self.now result (λ c. is_some (step_at self.now now work.now c)) }
     {
         self.is_ready(work)
@@ -101,6 +100,7 @@ impl Conv {
         requires in_time { now < 2 ^ 63 }
         requires short { StandsForSome self.old IsShort }
         requires ready { IsReady self.old now work.now }
+        requires no_control { NoControl work.now.event }
         ensures ok { IfOk result (Steps self.old self.new now work.now) }
         ensures slot { slot_of self.new ≡ slot_of self.old }
         ensures copy { IfOk result (λ outcome. outcome.copy ≡ Some outcome.reply) }
@@ -112,13 +112,22 @@ impl Conv {
         }
     }
 
+    /// Whether its end may be asked for anything: an IL end has sent and got few messages.
+    pub fn is_short(&self) -> bool
+        ensures { IsTrue result → StandsForSome self.now IsShort }
+    {
+        match &self.core {
+            Core::Il(end) => il::is_short(end),
+            Core::Udp(_) => true,
+        }
+    }
+
     /// When its IL end asks once more, if it waits for something.
-    #[tactic(auto, unfolding(il_machine::specs::Stands::StandsFor, crate::specs::Stands::StandsFor, crate::specs::Stands::slot_of))]
     pub fn due(&self) -> Option<u64>
         ensures { Says self.now result (λ c. due_of_core c.core) }
     {
         match &self.core {
-            Core::Il(end) => end.due(),
+            Core::Il(end) => il::due(end),
             Core::Udp(_) => None,
         }
     }
@@ -134,6 +143,7 @@ impl Conv {
 impl Conv {
     // Whether a row of the table answers the work.
     fn is_ready(&self, work: &Work) -> bool
+        requires { NoControl work.now.event }
         ensures { (now : ℕ) → result ≡ is_some (spec.conv_step self.now.slot work.now.event work.now.with now self.now.conv) }
     {
         match &work.event {
@@ -148,9 +158,6 @@ impl Conv {
             }
             Event::Write { generation, text } => {
                 self.is_answered(*generation, self.may_write(text))
-            }
-            Event::Ctl { generation, text } => {
-                control::fault(text.as_slice()).is_some() && self.is_answered(*generation, true)
             }
             Event::ArriveAt { generation } => self.may_arrive(*generation, &work.with),
             Event::Claim { generation }
@@ -169,6 +176,7 @@ impl Conv {
     fn answer(&mut self, now: u64, work: &Work) -> Result<Option<Outcome>, AllocError>
         requires in_time { now < 2 ^ 63 }
         requires short { IsShort self.old.conv }
+        requires no_control { NoControl work.now.event }
         ensures ok { IfOk result (λ answer. spec.conv_step self.old.slot work.now.event work.now.with now self.old.conv ≡ step_to self.new.conv answer) }
         ensures slot { self.new.slot ≡ self.old.slot }
         ensures err { OnErr result (self.new ≡ self.old) }
@@ -192,7 +200,6 @@ impl Conv {
             Event::Hangup { generation } => Ok(self.hangup(now, *generation)),
             Event::Ttl { generation, n } => Ok(self.set_ttl(*generation, *n)),
             Event::Tos { generation, n } => Ok(self.set_tos(*generation, *n)),
-            Event::Ctl { generation, text } => Ok(self.refuse_control(*generation, text)),
             Event::Close { generation } => Ok(self.close(now, *generation)),
             Event::ArriveAt { generation } => self.arrive_with(now, *generation, &work.with),
             Event::Tick { generation } => Ok(self.tick(now, *generation)),

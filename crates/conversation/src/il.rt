@@ -36,6 +36,12 @@ pub fn due(end: &IlEnd) -> Option<u64>
     end.due()
 }
 
+pub fn is_short(end: &IlEnd) -> bool
+    ensures { IsTrue result → IsShort end.now }
+{
+    end.is_short()
+}
+
 pub fn may_read(end: &IlEnd) -> bool
     ensures { result ≡ table.may_read end.now }
 {

@@ -1,11 +1,9 @@
 //! The files of a conversation, and who waits for it.
 ghost use Rattle.std.specs.Prelude.{◌≡◌, take, IfOk, OnErr, Some, None, is_some};
 ghost use Rattle.net_base.specs.declared.reply.Reply.TheVariants as reply;
-ghost use Rattle.net_base.specs.ControlWords as control_words;
 ghost use Rattle.net_base.specs.Conversation as spec;
 ghost use Rattle.conversation.specs.Kept.{step_to};
 
-use crate::control;
 use crate::conv::Conv;
 use crate::il;
 use crate::parts::{Core, Stage};
@@ -131,16 +129,5 @@ impl Conv {
             Some(cause) => self.replies(Said::hungup(cause)),
             None => self.replies(Said::ok()),
         }
-    }
-
-    /// Refuses a control text that has no reading; none where it has one.
-    pub(super) fn refuse_control(&self, generation: u64, text: &Octets) -> Option<Outcome>
-        ensures { spec.bad_control (spec.refused_control (control_words.read text.now)) generation self.now.conv ≡ step_to self.now.conv result }
-    {
-        let number = control::fault(text.as_slice())?;
-        if generation != self.generation {
-            return self.stale(generation);
-        }
-        Some(self.replies(Said::bad_control(number)))
     }
 }

@@ -1,0 +1,26 @@
+-- Texts that begin with a front.
+use Rattle.std.proofs.Common.{◌≡◌, ◌≢◌, Bool, true, false, List, [], ◌∷◌, ℕ, ◌++◌, refl, sym, ap, ◌∙◌, length, nat_eq}
+use Rattle.std.specs.Prelude.{bytes_eq}
+use Rattle.std.proofs.lemmas.List.{append_cancel_left}
+use Rattle.std.proofs.lemmas.Bool.Decides.{same_from_decides}
+use Rattle.std.proofs.lemmas.Slice.Eq.{bytes_eq-Decides}
+
+-- what stands behind the front decides
+pub goes_on : (text front rest ys : List ℕ) → text ≡ front ++ rest → bytes_eq text (front ++ ys) ≡ bytes_eq rest ys
+goes_on text front rest ys is =
+    same_from_decides _ _
+        (λ e. append_cancel_left front rest ys (sym is ∙ (bytes_eq-Decides text (front ++ ys)).0 e), λ e. (bytes_eq-Decides text (front ++ ys)).1 (is ∙ ap (λ (xs : List ℕ). front ++ xs) e))
+        (bytes_eq-Decides rest ys)
+
+-- it doesn't begin with the front
+pub goes_wrong : (text front ys : List ℕ) → ((rest : List ℕ) → text ≢ front ++ rest) → bytes_eq text (front ++ ys) ≡ false
+goes_wrong text front ys no_front = by (bytes_eq text (front ++ ys)) refl
+  where
+    by : (b : Bool) → bytes_eq text (front ++ ys) ≡ b → b ≡ false
+    by false e = refl
+    by true e = absurd (no_front ys ((bytes_eq-Decides text (front ++ ys)).0 e))
+
+-- nothing is left to begin with
+pub no_text_left : (text : List ℕ) → bytes_eq text [] ≡ nat_eq (length text) 0
+no_text_left [] = refl
+no_text_left (b ∷ bs) = refl

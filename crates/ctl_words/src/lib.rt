@@ -1,0 +1,11 @@
+//! What is written to a ctl file.
+#![tactic(auto)]
+
+mod controls;
+mod fault;
+mod numbers;
+mod parts;
+mod spelled;
+
+pub use controls::read_ctl;
+pub use fault::CtlError;
