@@ -1,7 +1,5 @@
 -- What a conversation stands for, and what its calls do to that.
 use Rattle.std.specs.Prelude.{◌≡◌, ℕ, IsTrue, Option, Some, None, is_some}
-use Rattle.net_base.specs.declared.event.Event.{Event}
-use Rattle.net_base.specs.declared.event.Event.TheVariants as event
 use Rattle.net_base.specs.declared.history.Outcome.{Outcome}
 use Rattle.net_base.specs.declared.history.Work.{Work}
 use Rattle.net_base.specs.ActorStep.{Step}
@@ -50,8 +48,3 @@ Gives new outcome None = ⊥
 -- the step of each conversation that was stood for gives this outcome
 abbrev pub Steps : Seat → Seat → ℕ → Work → Outcome → Type 0
 Steps old new now work outcome = (c : Conv) → StandsFor old c → Gives new outcome (step_at old now work c)
-
--- it isn't a control text
-abbrev pub NoControl : Event → Type 0
-NoControl (event.Ctl g text) = ⊥
-NoControl _ = Unit {0}

@@ -4,7 +4,7 @@ ghost use Rattle.net_base.specs.Actors.{opening_conv};
 ghost use Rattle.net_base.specs.Conversation as spec;
 ghost use Rattle.net_base.specs.Duties.{due_of_core};
 ghost use Rattle.conversation.specs.Kept.{step_to};
-ghost use Rattle.conversation.specs.Stands.{StandsFor, StandsForSome, IsShort, IsReady, NoControl, Says, Steps, slot_of, step_at};
+ghost use Rattle.conversation.specs.Stands.{StandsFor, StandsForSome, IsShort, IsReady, Says, Steps, slot_of, step_at};
 
 mod files;
 mod given;
@@ -12,6 +12,7 @@ mod leave;
 mod life;
 mod talk;
 
+use crate::control::is_refused;
 use crate::il;
 use crate::parts::{Core, Stage};
 use net_base::{Addr, Event, Outcome, Pair, Proto, Work};
@@ -89,7 +90,6 @@ impl Conv {
 
     /// Whether a row of the table answers the work, at whatever moment.
     pub fn ready(&self, work: &Work) -> bool
-        requires no_control { NoControl work.now.event }
         ensures { (now : ℕ) → Says self.now result (λ c. is_some (step_at self.now now work.now c)) }
     {
         self.is_ready(work)
@@ -100,7 +100,6 @@ impl Conv {
         requires in_time { now < 2 ^ 63 }
         requires short { StandsForSome self.old IsShort }
         requires ready { IsReady self.old now work.now }
-        requires no_control { NoControl work.now.event }
         ensures ok { IfOk result (Steps self.old self.new now work.now) }
         ensures slot { slot_of self.new ≡ slot_of self.old }
         ensures copy { IfOk result (λ outcome. outcome.copy ≡ Some outcome.reply) }
@@ -143,7 +142,6 @@ impl Conv {
 impl Conv {
     // Whether a row of the table answers the work.
     fn is_ready(&self, work: &Work) -> bool
-        requires { NoControl work.now.event }
         ensures { (now : ℕ) → result ≡ is_some (spec.conv_step self.now.slot work.now.event work.now.with now self.now.conv) }
     {
         match &work.event {
@@ -158,6 +156,9 @@ impl Conv {
             }
             Event::Write { generation, text } => {
                 self.is_answered(*generation, self.may_write(text))
+            }
+            Event::Ctl { generation, text } => {
+                is_refused(text) && self.is_answered(*generation, true)
             }
             Event::ArriveAt { generation } => self.may_arrive(*generation, &work.with),
             Event::Claim { generation }
@@ -176,7 +177,6 @@ impl Conv {
     fn answer(&mut self, now: u64, work: &Work) -> Result<Option<Outcome>, AllocError>
         requires in_time { now < 2 ^ 63 }
         requires short { IsShort self.old.conv }
-        requires no_control { NoControl work.now.event }
         ensures ok { IfOk result (λ answer. spec.conv_step self.old.slot work.now.event work.now.with now self.old.conv ≡ step_to self.new.conv answer) }
         ensures slot { self.new.slot ≡ self.old.slot }
         ensures err { OnErr result (self.new ≡ self.old) }
@@ -200,6 +200,7 @@ impl Conv {
             Event::Hangup { generation } => Ok(self.hangup(now, *generation)),
             Event::Ttl { generation, n } => Ok(self.set_ttl(*generation, *n)),
             Event::Tos { generation, n } => Ok(self.set_tos(*generation, *n)),
+            Event::Ctl { generation, text } => Ok(self.refuse(*generation, text)),
             Event::Close { generation } => Ok(self.close(now, *generation)),
             Event::ArriveAt { generation } => self.arrive_with(now, *generation, &work.with),
             Event::Tick { generation } => Ok(self.tick(now, *generation)),

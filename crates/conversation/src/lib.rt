@@ -1,6 +1,7 @@
 //! A conversation: the files round an end.
 #![tactic(auto)]
 
+mod control;
 mod conv;
 mod il;
 mod parts;

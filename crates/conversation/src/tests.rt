@@ -201,7 +201,7 @@ fn is_told(reply: &Reply, told: Told) -> bool {
     }
 }
 
-fn sent(emit: &Option<Packet>) -> Sent {
+fn sent_in(emit: &Option<Packet>) -> Sent {
     match emit {
         None => Sent::Nothing,
         Some(packet) => match &packet.body {
@@ -246,7 +246,7 @@ fn run(rt: &impl Abort, alloc: Global, conv: &mut Conv, rows: &[Row]) -> Result<
             None => assert_eq!(rt; told, Told::Waits, "row {i}"),
             Some(outcome) => {
                 assert!(rt; is_told(&outcome.reply, told), "the reply of row {i}");
-                assert_eq!(rt; sent(&outcome.emit), sends, "row {i}");
+                assert_eq!(rt; sent_in(&outcome.emit), sends, "row {i}");
                 assert_eq!(rt; outcome.ended, ends, "row {i}");
             }
         }
@@ -354,6 +354,9 @@ fn an_il_conversation_is_connected(rt: HostRuntime) -> Result<(), Fail> {
     let hello = Came::Il(IlKind::Data, 501, 101, b"hello");
     let rows = [
         (0, Deed::Tos(1, 4), Told::Ok, NOTHING, false),
+        (0, Deed::Ctl(1, b"hang up"), Told::BadCtl(1), NOTHING, false),
+        (0, Deed::Ctl(1, b"ttl 256"), Told::BadCtl(2), NOTHING, false),
+        (0, Deed::Ctl(1, b"ttl 255"), Told::Waits, NOTHING, false),
         (0, Deed::Arrive(1, hello), Told::Took, Sent::Il(IlKind::Ack, 101, 501, 9), false),
         (0, Deed::Read(1, 0), Told::Waits, NOTHING, false),
         (0, Deed::Read(1, 2), Told::Bytes(b"he"), NOTHING, false),
@@ -413,6 +416,8 @@ fn a_second_life_knows_nothing_of_the_first(rt: HostRuntime) -> Result<(), Fail>
     let rows = [
         (0, Deed::Ttl(1, 9), Told::Stale, NOTHING, false),
         (0, Deed::Tos(1, 9), Told::Stale, NOTHING, false),
+        (0, Deed::Ctl(1, b"ttl 0"), Told::Stale, NOTHING, false),
+        (0, Deed::Ctl(3, b"ttl 0"), Told::Waits, NOTHING, false),
         (0, Deed::Close(1), Told::Stale, NOTHING, false),
         (0, Deed::Arrive(1, SYNC), Told::Stale, NOTHING, false),
         (0, Deed::Tick(1), Told::Stale, NOTHING, false),

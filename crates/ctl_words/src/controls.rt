@@ -1,15 +1,16 @@
 //! The control that a text says.
-ghost use Rattle.std.specs.Prelude.{◌≡◌, ◌==◌, ◌∷◌, [], true, Some};
+ghost use Rattle.std.specs.Prelude.{◌≡◌, ◌==◌, ◌∷◌, [], true, None, Some};
 ghost use Rattle.std.specs.List.{slice_split};
 ghost use Rattle.std.specs.Option.{option_and_then};
 ghost use Rattle.std.specs.Prelude.{ℕ, List};
+ghost use Rattle.std.specs.Str.Parse.{digits_value};
 ghost use Rattle.net_base.specs.declared.names.Ctl.TheVariants as ctl;
 ghost use Rattle.net_base.specs.ControlWords as spec;
 ghost use Rattle.ctl_words.specs.Told.{told};
 
 use crate::fault::CtlError;
 use crate::numbers::{byte, place, port};
-use crate::parts::{first_word, is_word, split_first, without_newline};
+use crate::parts::{first_word, is_word, single, split_first, without_newline};
 use crate::spelled::is_spelled;
 use net_base::{Addr, Ctl};
 
@@ -65,103 +66,164 @@ fn connect(line: &[u8], arguments: &[u8]) -> Option<Ctl>
     ensures { result ≡ spec.checked line.now (spec.connect_of (slice_split (λ b. b == 32) arguments.now)) }
 {
     let (at, rest) = split_first(arguments, b' ');
-    let remote = place(at)?;
-    let lport = match rest {
+    match rest {
+        None => connect_to(line, at),
+        Some(rest) => match single(rest, b' ') {
+            Some(last) => connect_from(line, at, last),
+            None => None,
+        },
+    }
+}
+
+// Connects to a place.
+
+fn connect_to(line: &[u8], at: &[u8]) -> Option<Ctl>
+    ensures { result ≡ spec.checked line.now (spec.connect_of (at.now ∷ [])) }
+{
+    match place(at) {
+        Some(remote) => keep(
+            line,
+            Ctl::Connect {
+                remote,
+                lport: None,
+            },
+        ),
         None => None,
-        Some(rest) => {
-            let (last, more) = split_first(rest, b' ');
-            if let Some(_) = more {
-                return None;
-            }
-            Some(port(last)?)
-        }
-    };
-    keep(line, Ctl::Connect { remote, lport })
+    }
+}
+
+// Connects to a place from a port.
+
+fn connect_from(line: &[u8], at: &[u8], last: &[u8]) -> Option<Ctl>
+    ensures { result ≡ spec.checked line.now (spec.connect_of (at.now ∷ last.now ∷ [])) }
+{
+    match (place(at), port(last)) {
+        (Some(remote), Some(port)) => keep(
+            line,
+            Ctl::Connect {
+                remote,
+                lport: Some(port),
+            },
+        ),
+        _ => None,
+    }
 }
 
 // What `announce` and these arguments say.
 fn announce(line: &[u8], arguments: &[u8]) -> Option<Ctl>
     ensures { result ≡ spec.checked line.now (option_and_then (λ (at : List ℕ). spec.announce_of (spec.parts_of_place at)) (spec.single (slice_split (λ b. b == 32) arguments.now))) }
 {
-    let (at, more) = split_first(arguments, b' ');
-    if let Some(_) = more {
-        return None;
+    match single(arguments, b' ') {
+        Some(at) => announce_at(line, at),
+        None => None,
     }
+}
+
+// Announces a place.
+fn announce_at(line: &[u8], at: &[u8]) -> Option<Ctl>
+    ensures { result ≡ spec.checked line.now (spec.announce_of (spec.parts_of_place at.now)) }
+{
     let (host, rest) = split_first(at, b'!');
     match rest {
-        None => announce_one(line, host),
-        Some(last) => announce_two(line, at, host, last),
+        None => announce_port(line, host),
+        Some(rest) => match single(rest, b'!') {
+            Some(last) => announce_both(line, at, host, last),
+            None => None,
+        },
     }
 }
 
 // A star or a port.
-fn announce_one(line: &[u8], host: &[u8]) -> Option<Ctl>
+fn announce_port(line: &[u8], host: &[u8]) -> Option<Ctl>
     ensures { result ≡ spec.checked line.now (spec.announce_of (host.now ∷ [])) }
 {
-    let port = if host == b"*".as_slice() {
-        None
-    } else {
-        Some(port(host)?)
-    };
-    keep(line, Ctl::Announce { ip: None, port })
+    if host == b"*".as_slice() {
+        return keep(
+            line,
+            Ctl::Announce {
+                ip: None,
+                port: None,
+            },
+        );
+    }
+    match port(host) {
+        Some(port) => keep(
+            line,
+            Ctl::Announce {
+                ip: None,
+                port: Some(port),
+            },
+        ),
+        None => None,
+    }
 }
 
 // A star or an address, and a port.
-fn announce_two(line: &[u8], at: &[u8], host: &[u8], last: &[u8]) -> Option<Ctl>
-    requires { spec.parts_of_place at.now ≡ host.now ∷ slice_split (λ b. b == 33) last.now }
-    ensures { result ≡ spec.checked line.now (spec.announce_of (spec.parts_of_place at.now)) }
+
+fn announce_both(line: &[u8], at: &[u8], host: &[u8], last: &[u8]) -> Option<Ctl>
+    requires { spec.parts_of_place at.now ≡ host.now ∷ last.now ∷ [] }
+    ensures { result ≡ spec.checked line.now (spec.announce_of (host.now ∷ last.now ∷ [])) }
 {
-    let (last, more) = split_first(last, b'!');
-    if let Some(_) = more {
-        return None;
-    }
     if host == b"*".as_slice() {
-        let port = Some(port(last)?);
-        return keep(line, Ctl::Announce { ip: None, port });
+        return announce_anywhere(line, last);
     }
-    let Addr { ip, port } = place(at)?;
-    keep(
-        line,
-        Ctl::Announce {
-            ip: Some(ip),
-            port: Some(port),
-        },
-    )
+    match place(at) {
+        Some(Addr { ip, port }) => keep(
+            line,
+            Ctl::Announce {
+                ip: Some(ip),
+                port: Some(port),
+            },
+        ),
+        None => None,
+    }
+}
+
+// A port at any address.
+fn announce_anywhere(line: &[u8], last: &[u8]) -> Option<Ctl>
+    ensures { result ≡ spec.checked line.now (Some (ctl.Announce None (Some (digits_value 10 last.now)))) }
+{
+    match port(last) {
+        Some(port) => keep(
+            line,
+            Ctl::Announce {
+                ip: None,
+                port: Some(port),
+            },
+        ),
+        None => None,
+    }
 }
 
 // What `bind` and these arguments say.
 fn bind(line: &[u8], arguments: &[u8]) -> Option<Ctl>
     ensures { result ≡ spec.checked line.now (spec.with_number (λ n. ctl.Bind n) (slice_split (λ b. b == 32) arguments.now)) }
 {
-    let (first, more) = split_first(arguments, b' ');
-    if let Some(_) = more {
-        return None;
+    let only = single(arguments, b' ')?;
+    match port(only) {
+        Some(port) => keep(line, Ctl::Bind { port }),
+        None => None,
     }
-    keep(line, Ctl::Bind { port: port(first)? })
 }
 
 // What `ttl` and these arguments say.
 fn ttl(line: &[u8], arguments: &[u8]) -> Option<Ctl>
     ensures { result ≡ spec.checked line.now (spec.with_number (λ n. ctl.Ttl n) (slice_split (λ b. b == 32) arguments.now)) }
 {
-    let (first, more) = split_first(arguments, b' ');
-    if let Some(_) = more {
-        return None;
+    let only = single(arguments, b' ')?;
+    match byte(only) {
+        Some(n) if 0 < n => keep(line, Ctl::Ttl { n }),
+        _ => None,
     }
-    let n = byte(first)?;
-    if n == 0 {
-        return None;
-    }
-    keep(line, Ctl::Ttl { n })
 }
 
 // What `tos` and these arguments say.
 fn tos(line: &[u8], arguments: &[u8]) -> Option<Ctl>
     ensures { result ≡ spec.checked line.now (spec.with_number (λ n. ctl.Tos n) (slice_split (λ b. b == 32) arguments.now)) }
 {
-    let (first, more) = split_first(arguments, b' ');
-    if let Some(_) = more {
-        return None;
+    let only = single(arguments, b' ')?;
+    match byte(only) {
+        Some(n) => keep(line, Ctl::Tos { n }),
+        None => None,
     }
-    keep(line, Ctl::Tos { n: byte(first)? })
 }

@@ -2,6 +2,7 @@
 ghost use Rattle.std.specs.Prelude.{◌≡◌, ◌==◌, ◌||◌, ◌∷◌, [], MatchOption};
 ghost use Rattle.std.specs.List.{slice_split, position_or_len};
 ghost use Rattle.net_base.specs.ControlWords as spec;
+ghost use Rattle.ctl_words.specs.Kept.{AreMany};
 
 /// The bytes before the first separator, and those after it, if there is one.
 pub fn split_first(text: &[u8], separator: u8) -> (&[u8], Option<&[u8]>)
@@ -15,6 +16,19 @@ pub fn split_first(text: &[u8], separator: u8) -> (&[u8], Option<&[u8]>)
         }
     }
     (text, None)
+}
+
+/// A text, where the separator isn't in it.
+pub fn single(text: &[u8], separator: u8) -> Option<&[u8]>
+    ensures { MatchOption result
+        (AreMany (slice_split (λ b. b == separator) text.now))
+        (λ only. slice_split (λ b. b == separator) text.now ≡ only.now ∷ []) }
+{
+    let (first, rest) = split_first(text, separator);
+    match rest {
+        None => Some(first),
+        Some(_) => None,
+    }
 }
 
 // How many bytes stand before the first blank or newline.

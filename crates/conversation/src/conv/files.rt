@@ -1,9 +1,11 @@
 //! The files of a conversation, and who waits for it.
 ghost use Rattle.std.specs.Prelude.{◌≡◌, take, IfOk, OnErr, Some, None, is_some};
 ghost use Rattle.net_base.specs.declared.reply.Reply.TheVariants as reply;
+ghost use Rattle.net_base.specs.ControlWords as control_words;
 ghost use Rattle.net_base.specs.Conversation as spec;
 ghost use Rattle.conversation.specs.Kept.{step_to};
 
+use crate::control::fault;
 use crate::conv::Conv;
 use crate::il;
 use crate::parts::{Core, Stage};
@@ -128,6 +130,21 @@ impl Conv {
         match cause {
             Some(cause) => self.replies(Said::hungup(cause)),
             None => self.replies(Said::ok()),
+        }
+    }
+
+    /// Refuses a control text that has no reading.
+    pub(super) fn refuse(&self, generation: u64, text: &Octets) -> Option<Outcome>
+        ensures { spec.bad_control (spec.refused_control (control_words.read text.now)) generation self.now.conv ≡ step_to self.now.conv result }
+    {
+        match fault(text) {
+            Some(number) => {
+                if generation != self.generation {
+                    return self.stale(generation);
+                }
+                Some(self.replies(Said::bad_control(number)))
+            }
+            None => None,
         }
     }
 }
