@@ -1,5 +1,5 @@
 -- Texts that begin with a front.
-use Rattle.std.proofs.Common.{◌≡◌, ◌≢◌, ◌<◌, ◌+◌, Bool, true, false, List, [], ◌∷◌, ℕ, ◌++◌, length, get_or, drop, refl, sym, ap, ◌∙◌, add-one}
+use Rattle.std.proofs.Common.{◌≡◌, ◌≢◌, ◌<◌, ◌+◌, Bool, true, false, List, ℕ, ◌++◌, length, get_or, drop, refl, sym, ap, ◌∙◌, add-one}
 use Rattle.std.specs.Prelude.{bytes_eq}
 use Rattle.std.proofs.lemmas.List.{append_cancel_left}
 use Rattle.std.proofs.lemmas.Bool.Decides.{same_from_decides}
@@ -12,8 +12,8 @@ use Rattle.ctl_words.specs.Written.{piece_text, written}
 pub goes_on : (text front rest ys : List ℕ) → text ≡ front ++ rest → bytes_eq text (front ++ ys) ≡ bytes_eq rest ys
 goes_on text front rest ys is =
     same_from_decides _ _
-        (λ e. append_cancel_left front rest ys (sym is ∙ (bytes_eq-Decides text (front ++ ys)).0 e), λ e. (bytes_eq-Decides text (front ++ ys)).1 (is ∙ ap (λ (xs : List ℕ). front ++ xs) e))
-        (bytes_eq-Decides rest ys)
+    (λ e. append_cancel_left front rest ys (sym is ∙ (bytes_eq-Decides text (front ++ ys)).0 e), λ e. (bytes_eq-Decides text (front ++ ys)).1 (is ∙ ap (λ (xs : List ℕ). front ++ xs) e))
+    (bytes_eq-Decides rest ys)
 
 -- it doesn't begin with the front
 pub goes_wrong : (text front ys : List ℕ) → ((rest : List ℕ) → text ≢ front ++ rest) → bytes_eq text (front ++ ys) ≡ false

@@ -89,11 +89,7 @@ fn join(a: u64, b: u64, c: u64, d: u64) -> Option<u32>
     ensures { result ≡ kept_ip (Some (a * 2 ^ 24 + b * 2 ^ 16 + c * 2 ^ 8 + d)) }
 {
     let ip = (a << 24) + (b << 16) + (c << 8) + d;
-    if ip < 1 << 32 {
-        Some(ip as u32)
-    } else {
-        None
-    }
+    if ip < 1 << 32 { Some(ip as u32) } else { None }
 }
 
 /// An address and a port with a `!` between them.

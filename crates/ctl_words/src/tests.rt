@@ -11,17 +11,59 @@ const HELIX: Addr = Addr {
 #[test]
 fn controls_are_read(rt: HostRuntime) -> Result<(), Fail> {
     let rows: [(&[u8], Ctl); 11] = [
-        (b"connect 135.104.9.31!17008", Ctl::Connect { remote: HELIX, lport: None }),
-        (b"connect 135.104.9.31!17008 7\n", Ctl::Connect { remote: HELIX, lport: Some(7) }),
-        (b"announce *!17008", Ctl::Announce { ip: None, port: Some(17008) }),
-        (b"announce 17008", Ctl::Announce { ip: None, port: Some(17008) }),
-        (b"announce *", Ctl::Announce { ip: None, port: None }),
-        (b"announce 135.104.9.31!17008", Ctl::Announce { ip: Some(HELIX.ip), port: Some(17008) }),
+        (
+            b"connect 135.104.9.31!17008",
+            Ctl::Connect {
+                remote: HELIX,
+                lport: None,
+            },
+        ),
+        (
+            b"connect 135.104.9.31!17008 7\n",
+            Ctl::Connect {
+                remote: HELIX,
+                lport: Some(7),
+            },
+        ),
+        (
+            b"announce *!17008",
+            Ctl::Announce {
+                ip: None,
+                port: Some(17008),
+            },
+        ),
+        (
+            b"announce 17008",
+            Ctl::Announce {
+                ip: None,
+                port: Some(17008),
+            },
+        ),
+        (
+            b"announce *",
+            Ctl::Announce {
+                ip: None,
+                port: None,
+            },
+        ),
+        (
+            b"announce 135.104.9.31!17008",
+            Ctl::Announce {
+                ip: Some(HELIX.ip),
+                port: Some(17008),
+            },
+        ),
         (b"bind 65535", Ctl::Bind { port: 65535 }),
         (b"hangup\n", Ctl::Hangup),
         (b"ttl 255", Ctl::Ttl { n: 255 }),
         (b"tos 0", Ctl::Tos { n: 0 }),
-        (b"connect 0.0.0.0!1", Ctl::Connect { remote: Addr { ip: 0, port: 1 }, lport: None }),
+        (
+            b"connect 0.0.0.0!1",
+            Ctl::Connect {
+                remote: Addr { ip: 0, port: 1 },
+                lport: None,
+            },
+        ),
     ];
     for (text, control) in rows {
         assert_eq!(rt; read_ctl(text), Ok(control));

@@ -1,4 +1,4 @@
-use Rattle.std.proofs.Common.{◌≡◌, ◌+◌, List, ℕ, drop, ap, sym, ◌∙◌}
+use Rattle.std.proofs.Common.{◌+◌, List, ℕ, drop, ap, sym, ◌∙◌}
 use Rattle.std.specs.Prelude.{bytes_eq}
 use Rattle.ctl_words.specs.Written.{written}
 use Rattle.ctl_words.proofs.Begins.{goes_on, goes_wrong, piece_next}
