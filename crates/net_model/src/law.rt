@@ -46,7 +46,7 @@ pub fn a_fault_is_not_legal()
     ensures { (w : World) (h : List Entry) (stamp : ℕ) (rule : Rule) → IsFault w h stamp rule → IsLegal w h → IsTimed w h → ⊥ }
 {}
 
-/// What is read at an IL conversation was written at its peer, in order, and where a read gave no bytes, all of it was read.
+/// What is read was written at the peer: of IL in order, all of it where a read gave no bytes; of UDP in datagrams.
 pub fn prefix_law()
     ensures in_order { (w : World) (h : List Entry) (e f : Conversation) → IsWorld w → IsLegal w h → e.proto ≡ Il → peer w h e ≡ Some f → InOrder w h e f }
     ensures datagrams { (w : World) (h : List Entry) (e : Conversation) (k count : ℕ) (text : List ℕ) → IsWorld w → IsLegal w h → e.proto ≡ Udp → IsRead h e k count text → WasWritten w h e k count text }
