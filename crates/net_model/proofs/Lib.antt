@@ -52,6 +52,7 @@ pub mod Copies
 pub mod UdpDuties
 pub mod UdpConvs
 pub mod UdpDirs
+pub mod UdpSteps
 pub mod UdpTrace
 pub mod Holders
 pub mod UdpReads

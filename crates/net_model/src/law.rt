@@ -52,7 +52,7 @@ pub fn a_fault_is_not_legal()
     ensures { (w : World) (h : List Entry) (stamp : ℕ) (rule : Rule) → IsFault w h stamp rule → IsLegal w h → IsTimed w h → ⊥ }
 {}
 
-/// What is read at an IL conversation was written at its peer, in order, and an end of file comes after a close and after all of it.
+/// What is read was written at the peer: of IL in order, with an end of file only after a close and after all of it; of UDP in datagrams.
 pub fn prefix_law()
     ensures alone { (w : World) (h : List Entry) (e : Conversation) → IsWorld w → IsLegal w h → e.proto ≡ Il → peer w h e ≡ None → Alone w h e }
     ensures datagrams { (w : World) (h : List Entry) (e : Conversation) (k count : ℕ) (text : List ℕ) → IsWorld w → IsLegal w h → e.proto ≡ Udp → IsRead h e k count text → WasWritten w h e k count text }
