@@ -9,3 +9,5 @@ pub mod WorkedFaults
 pub mod NdbFirst
 pub mod NdbExample
 pub mod WorkedRuns
+pub mod Answers
+pub mod Words

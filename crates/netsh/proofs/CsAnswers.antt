@@ -5,7 +5,7 @@ use Rattle.net_base.specs.declared.address.Proto.TheVariants.{Il, Udp}
 use Rattle.net_base.specs.NdbText.{lines_of}
 use Rattle.net_base.specs.NdbBundle.{bad_line, database, reading}
 use Rattle.net_base.specs.NdbForm.{bad_line_so_far}
-use Rattle.net_base.specs.Answers.{Answer, cs_answer}
+use Rattle.net_model.specs.Answers.{Answer, cs_answer}
 use Rattle.net_base.specs.Cs.{CsAnswer, Refused}
 use Rattle.cs_resolver.specs.Built.{built_answer, number_of, Tells}
 use Rattle.cs_resolver.specs.declared.error.CsError.{CsError}

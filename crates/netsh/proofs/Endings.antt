@@ -4,8 +4,8 @@ use Rattle.std.proofs.lemmas.List.{length-append}
 use Rattle.outside.specs.Streams.{Took, TookToEnd, Rose}
 use Rattle.outside.specs.declared.fault.TakeError.{TakeError}
 use Rattle.outside.specs.declared.fault.TakeError.TheVariants as error
-use Rattle.net_base.specs.Answers.{Answer, bad_input, read_fault, input_limit}
-use Rattle.net_base.specs.Words.{Command, Cs}
+use Rattle.net_model.specs.Answers.{Answer, bad_input, read_fault, input_limit}
+use Rattle.net_model.specs.Words.{Command, Cs}
 use Rattle.netsh.specs.Built.{answer_to}
 use Rattle.netsh.specs.Ends.{Intake, Output, Told, IsInput, Answers, Ends, answered, unread, no_memory}
 

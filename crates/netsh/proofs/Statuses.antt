@@ -2,9 +2,9 @@
 use Rattle.std.proofs.Common.{◌≡◌, ◌≢◌, ℕ, ◌<◌, ◌⊎◌, Bool, true, false, nat_lt, List, length, Option, Some, None, IsSome, IfSome, if◌then◌else◌, refl, sym, ◌∙◌, ap, inl, inr, rules, arith}
 use Rattle.std.specs.Io.KnownBytes.{IsAtEnd}
 use Rattle.outside.specs.Streams.{Rose}
-use Rattle.net_base.specs.Answers.{Answer, bad_input, cs_answer, usage, read_fault, input_limit}
+use Rattle.net_model.specs.Answers.{Answer, bad_input, cs_answer, usage, read_fault, input_limit}
 use Rattle.net_base.specs.Cs.{CsAnswer, Lines, Refused}
-use Rattle.net_base.specs.Words.{Command, Cs}
+use Rattle.net_model.specs.Words.{Command, Cs}
 use Rattle.netsh.specs.Built.{unless_bad, answer_to}
 use Rattle.netsh.specs.Ends.{Intake, Output, Told, IsRead, IsStatusOf, Ends, no_row, answered, unread, no_memory, Causes}
 use Rattle.netsh.proofs.Endings.{answer_to_too_long}

@@ -4,8 +4,8 @@ use Rattle.net_base.specs.declared.address.Proto.TheVariants.{Il, Udp}
 use Rattle.net_base.specs.NdbText.{lines_of}
 use Rattle.net_base.specs.NdbBundle.{database}
 use Rattle.net_base.specs.NdbForm.{bad_line_so_far}
-use Rattle.net_base.specs.Answers.{Answer, bad_input, cs_answer, input_limit}
-use Rattle.net_base.specs.Words.{Command, Cs}
+use Rattle.net_model.specs.Answers.{Answer, bad_input, cs_answer, input_limit}
+use Rattle.net_model.specs.Words.{Command, Cs}
 use Rattle.cs_resolver.specs.Built.{built_answer}
 
 -- an answer to an input without a bad line, or the first bad line and its least cause

@@ -1,5 +1,5 @@
 -- The commands as the program reads them.
-use Rattle.net_base.specs.Words as words
+use Rattle.net_model.specs.Words as words
 use Rattle.netsh.specs.declared.words.Command.{Command}
 use Rattle.netsh.specs.declared.words.Command.TheVariants.{Cs}
 

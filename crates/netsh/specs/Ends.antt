@@ -1,8 +1,8 @@
 -- How a call of the program ends: its status, what it took from the source and what the sink gained.
 use Rattle.std.specs.Prelude.{◌≡◌, ◌≢◌, ℕ, ◌<◌, ◌⊎◌, List, length, Option, Some, None, ⊤}
 use Rattle.std.specs.Io.KnownBytes.{IsAtEnd}
-use Rattle.net_base.specs.Answers.{Answer, usage, read_fault, input_limit}
-use Rattle.net_base.specs.Words.{Command}
+use Rattle.net_model.specs.Answers.{Answer, usage, read_fault, input_limit}
+use Rattle.net_model.specs.Words.{Command}
 use Rattle.outside.specs.Streams.{Rose, Gained, GainedPart}
 use Rattle.netsh.specs.Built.{answer_to}
 

@@ -1,6 +1,6 @@
 //! The answers: a status, and the text that is written, made whole.
 ghost use Rattle.std.specs.Prelude.{◌≡◌, ◌≢◌, IfOk, OnOk};
-ghost use Rattle.net_base.specs.Answers as spec;
+ghost use Rattle.net_model.specs.Answers as spec;
 ghost use Rattle.net_base.specs.Cs.{Lines as ListOf, Refused};
 ghost use Rattle.cs_resolver.specs.Built.{number_of};
 
@@ -23,7 +23,7 @@ pub struct Answer {
 }
 
 impl Model for Answer {
-    ghost use Rattle.net_base.specs.Answers as spec;
+    ghost use Rattle.net_model.specs.Answers as spec;
 
     ghost Value = { spec.Answer };
 

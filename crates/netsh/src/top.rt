@@ -1,8 +1,8 @@
 //! The top call: words and an input in, a status and a text out.
 ghost use Rattle.std.specs.Prelude.{◌≡◌, ◌≢◌, ◌≤◌, ◌↔◌, map, string_bytes, length, IsNone, IfNone, IfSome, IfOk, IsErrOf, IsTrue};
-ghost use Rattle.net_base.specs.Words.{command_of, words_wait};
+ghost use Rattle.net_model.specs.Words.{command_of, words_wait};
 ghost use Rattle.netsh.specs.Ends.{Ends, Causes, Told, Answers};
-ghost use Rattle.net_base.specs.Answers.{input_limit};
+ghost use Rattle.net_model.specs.Answers.{input_limit};
 ghost use Rattle.netsh.specs.Built.{answer_to};
 ghost use Rattle.netsh.specs.Commands.{command_read};
 ghost use Rattle.outside.specs.Streams.{Rose};

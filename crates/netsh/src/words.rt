@@ -1,6 +1,6 @@
 //! The words of the command line.
 ghost use Rattle.std.specs.Prelude.{◌≡◌, map, option_map, string_bytes};
-ghost use Rattle.net_base.specs.Words.{command_of};
+ghost use Rattle.net_model.specs.Words.{command_of};
 ghost use Rattle.netsh.specs.Commands.{command_read};
 
 /// A command with the words that it needs.

@@ -1,5 +1,5 @@
 use Rattle.std.proofs.Common.{◌≡◌, take, flat_map}
-use Rattle.net_base.specs.Answers.{ended}
+use Rattle.net_model.specs.Answers.{ended}
 use Rattle.netsh.proofs.answer.Answer.lines.Given as goal
 
 abbrev pub invariant-loop-line : goal.invariant-loop-line
