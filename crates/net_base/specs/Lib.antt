@@ -39,6 +39,7 @@ pub mod Next
 pub mod Calm
 pub mod Legal
 pub mod World
+pub mod WorldForm
 pub mod Answers
 pub mod Words
 pub mod Written
