@@ -40,6 +40,9 @@ pub mod Next
 pub mod Calm
 pub mod Legal
 pub mod World
+pub mod WorldForm
+pub mod Answers
+pub mod Words
 pub mod Written
 pub mod Transcript
 pub mod Summary
