@@ -41,8 +41,6 @@ pub mod Calm
 pub mod Legal
 pub mod World
 pub mod WorldForm
-pub mod Answers
-pub mod Words
 pub mod Written
 pub mod Transcript
 pub mod Summary
