@@ -1,1 +1,4 @@
+pub mod Kept
+pub mod OneWay
+pub mod Places
 pub mod Ready

@@ -4,11 +4,13 @@ ghost use Rattle.net_base.specs.declared.world.World.{World as AnyWorld};
 ghost use Rattle.net_base.specs.declared.address.Proto.TheVariants as proto;
 ghost use Rattle.net_base.specs.Actors.{opening_dir};
 ghost use Rattle.net_base.specs.Directory.{dir_step};
-ghost use Rattle.host_dir.specs.Kept.{HasOneWay, IsDirOf, Steps};
+ghost use Rattle.host_dir.specs.Kept.{IsDirOf, Steps};
+ghost use Rattle.host_dir.specs.Ways.{HasOneWay};
 ghost use Rattle.host_dir.specs.Met.{is_met, is_ready, takes};
 
+use crate::routes::Ways;
 use crate::slots::Slots;
-use net_base::{Body, Event, Iface, Outcome, Proto, With, Work, World};
+use net_base::{Body, Event, Outcome, Proto, With, Work, World};
 use std::alloc::{AllocError, Global};
 use std::marker::Model;
 
@@ -18,8 +20,7 @@ use std::marker::Model;
 #[derive(Drop)]
 pub struct Dir {
     proto: Proto,
-    iface: Iface,
-    mtu: u32,
+    ways: Ways,
     slots: Slots,
 }
 
@@ -29,7 +30,7 @@ impl Model for Dir {
 
     ghost Value = { HostDir };
 
-    ghost view = { λ d. record { proto = d.proto; kept = record { iface = d.iface; mtu = d.mtu }; dir = record opening_dir { slots = d.slots } } };
+    ghost view = { λ d. record { proto = d.proto; ways = d.ways; dir = record opening_dir { slots = d.slots } } };
 }
 
 impl Dir {

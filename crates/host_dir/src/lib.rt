@@ -2,6 +2,8 @@
 #![tactic(auto)]
 
 mod dir;
+mod granted;
+mod routes;
 mod slots;
 
 pub use dir::Dir;
