@@ -59,6 +59,9 @@ or_is : (b x : Bool) → cond b true x ≡ (b || x)
 or_is true x = refl
 or_is false x = refl
 
+pub port_first : (new old : List Pair) (p : Pair) → new ≡ old ++ p ∷ [] → ports_of new ≡ p.local.port ∷ ports_of old
+port_first new old p e = ap ports_of e ∙ onto_added [] old p
+
 -- and its port is marked
 pub port_added : (marks more : List ℕ) (ps : List Pair) (p : Pair) → Marks marks (ports_of ps)
     → ((q : ℕ) → list_any (nat_eq q) more ≡ cond (nat_eq p.local.port q) true (list_any (nat_eq q) marks))

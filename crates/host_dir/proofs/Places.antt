@@ -3,7 +3,10 @@ use Rattle.std.proofs.Common.{◌≡◌, ℕ, suc, ◌+◌, ◌<◌, Bool, true,
 use Rattle.std.proofs.lemmas.Option.{slice_get_within}
 use Rattle.std.specs.List.{position_from}
 use Rattle.std.specs.Option.{option_map}
-use Rattle.net_base.specs.Directory.{Slot, first_slot}
+use Rattle.net_base.specs.declared.address.Addr.{Addr}
+use Rattle.net_base.specs.Directory.{Key, Slot, Exactly, ByPort, ByAny, first_slot, is_keyed, key_at, match_of}
+use Rattle.host_dir.specs.declared.slots.Kind.{Kind}
+use Rattle.host_dir.specs.declared.slots.Kind.TheVariants as kind
 use Rattle.host_dir.specs.declared.slots.Place.{Place}
 use Rattle.host_dir.specs.declared.slots.Slot.{Slot as BuiltSlot}
 use Rattle.host_dir.specs.Slots.{place_of, slot_of}
@@ -50,3 +53,18 @@ none_found test k (s ∷ ss) e = by (test (slot_of s)) refl (none_found test (k 
     by : (b : Bool) → test (slot_of s) ≡ b → (position_from (λ s. test (slot_of s)) (k + 1) ss ≡ None → first_slot test (k + 1) (map slot_of ss) ≡ None) → first_slot test k (map slot_of (s ∷ ss)) ≡ None
     by true t further = let here : Some k ≡ None = rw t at e in grind (arith, here)
     by false t further = rw (t) (further (rw t at e))
+
+-- no slot that is built announces, so none matches an address
+
+unkeyed : (k : Key) (n : ℕ) (ss : List BuiltSlot) → first_slot (is_keyed k) n (map slot_of ss) ≡ None
+unkeyed k n [] = refl
+unkeyed k n (s ∷ ss) = at_one s.kind s.generation (unkeyed k (n + 1) ss)
+  where
+    at_one : (kind : Kind) (g : ℕ) → first_slot (is_keyed k) (n + 1) (map slot_of ss) ≡ None
+        → first_slot (is_keyed k) n (slot_of (record { generation = g; kind = kind }) ∷ map slot_of ss) ≡ None
+    at_one kind.Free g further = further
+    at_one kind.Reserved g further = further
+    at_one (kind.Granted pair) g further = further
+
+pub none_matches : (a : Addr) (ss : List BuiltSlot) → match_of a (map slot_of ss) ≡ None
+none_matches a ss = rw (unkeyed (key_at Exactly a) 0 ss, unkeyed (key_at ByPort a) 0 ss) (unkeyed (key_at ByAny a) 0 ss)

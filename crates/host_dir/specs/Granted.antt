@@ -1,5 +1,5 @@
 -- Pairs as they are kept, and the ports that were used for them.
-use Rattle.std.specs.Prelude.{◌≡◌, ℕ, ◌==◌, Bool, List, [], ◌∷◌, Option, nat_eq}
+use Rattle.std.specs.Prelude.{◌≡◌, ℕ, ◌==◌, Bool, List, [], ◌∷◌, Option, Some, None, nat_eq}
 use Rattle.std.specs.List.{list_any}
 use Rattle.net_base.specs.declared.address.Pair.{Pair}
 use Rattle.net_base.specs.Directory.{drawn_port}
@@ -21,6 +21,11 @@ ports_of pairs = ports_onto [] pairs
 -- the least port from 5000 that isn't used, if there is one
 unfoldable pub drawn : List ℕ → Option ℕ
 drawn used = drawn_port 60536 5000 used
+
+-- the port that was named, or a drawn one
+abbrev pub chosen : Option ℕ → List ℕ → Option ℕ
+chosen (Some port) used = Some port
+chosen None used = drawn used
 
 abbrev pub has_port : ℕ → List ℕ → Bool
 has_port port ports = list_any (λ (p : ℕ). p == port) ports

@@ -1,3 +1,4 @@
+pub mod Answers
 pub mod Granted
 pub mod Kept
 pub mod Met

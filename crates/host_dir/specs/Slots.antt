@@ -19,3 +19,7 @@ slot_of s = with_kind s.kind
 -- the number and the generation of a slot that was found
 abbrev pub place_of : (ℕ × Slot) → Place
 place_of found = record { slot = found.0; generation = found.1.generation }
+
+-- a reserved slot of this generation
+abbrev pub reserved : ℕ → Slot
+reserved generation = record free_slot { kind = name.Reserved; generation = generation }

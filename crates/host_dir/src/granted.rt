@@ -101,6 +101,7 @@ impl Granted {
     pub fn add(&mut self, pair: Pair) -> Result<(), AllocError>
         requires { pair_place pair 1 self.old ≡ None }
         ensures ok { OnOk result (self.new ≡ self.old ++ pair ∷ []) }
+        ensures port { OnOk result (ports_of self.new ≡ pair.local.port ∷ ports_of self.old) }
         ensures err { OnErr result (self.new ≡ self.old) }
     {
         self.used.reserve(1)?;

@@ -1,9 +1,10 @@
 //! The slots of a directory.
-ghost use Rattle.std.specs.Prelude.{◌≡◌, ◌<◌, length, map, replicate, nat_lt, slice_get, slice_set, is_some, Some, IfOk};
+ghost use Rattle.std.specs.Prelude.{◌≡◌, ◌<◌, length, map, replicate, nat_lt, slice_get, slice_set, is_some, None, Some, IfOk, IfSome};
 ghost use Rattle.std.specs.Option.{option_map};
 ghost use Rattle.std.specs.List.{position_from};
+ghost use Rattle.net_base.specs.declared.address.Addr.{Addr as AnyAddr};
 ghost use Rattle.net_base.specs.Actors.{slot_count};
-ghost use Rattle.net_base.specs.Directory.{Dir as AnyDir, first_slot, free_slot, is_free, is_live_with, listens};
+ghost use Rattle.net_base.specs.Directory.{Dir as AnyDir, first_slot, free_slot, is_free, is_live_with, listens, match_of};
 ghost use Rattle.host_dir.specs.declared.slots.Slot.{Slot as BuiltSlot};
 ghost use Rattle.host_dir.specs.Slots.{place_of, slot_of};
 
@@ -106,7 +107,8 @@ fn position_of_pair(slots: &[Slot], pair: Pair) -> Option<usize>
 fn place_at(slots: &[Slot], n: usize) -> Place
     requires all { length slots.now ≡ 32 }
     requires within { n < length slots.now }
-    ensures { (s : BuiltSlot) → slice_get slots.now n ≡ Some s → place_of (n, slot_of s) ≡ result }
+    ensures number { result.slot ≡ n }
+    ensures place { (s : BuiltSlot) → slice_get slots.now n ≡ Some s → place_of (n, slot_of s) ≡ result }
 {
     Place {
         slot: n as u32,
@@ -118,7 +120,8 @@ fn place_at(slots: &[Slot], n: usize) -> Place
 #[tactic(auto, using(crate::proofs::Places::none_found))]
 fn first_free(slots: &[Slot]) -> Option<Place>
     requires { length slots.now ≡ 32 }
-    ensures { result ≡ option_map place_of (first_slot is_free 0 (map slot_of slots.now)) }
+    ensures within { IfSome result (λ p. p.slot < length slots.now) }
+    ensures place { result ≡ option_map place_of (first_slot is_free 0 (map slot_of slots.now)) }
 {
     match position_of_free(slots) {
         Some(n) => Some(place_at(slots, n)),
@@ -179,14 +182,17 @@ impl Slots {
 
     /// The lowest free slot.
     pub fn first_free(&self) -> Option<Place>
-        ensures { result ≡ option_map place_of (first_slot is_free 0 self.now) }
+        ensures place { result ≡ option_map place_of (first_slot is_free 0 self.now) }
+        ensures within { IfSome result (λ p. p.slot < length self.now) }
     {
         first_free(&self.slots)
     }
 
-    /// The first slot that was given the pair.
+    /// The first slot that was given the pair. None announces.
+    #[tactic(auto, using(crate::proofs::Places::none_matches))]
     pub fn with_pair(&self, pair: Pair) -> Option<Place>
-        ensures { result ≡ option_map place_of (first_slot (is_live_with pair) 0 self.now) }
+        ensures place { result ≡ option_map place_of (first_slot (is_live_with pair) 0 self.now) }
+        ensures none_matches { (a : AnyAddr) → match_of a self.now ≡ None }
     {
         first_with(&self.slots, pair)
     }

@@ -8,4 +8,4 @@ place_at-requires-clause-within c = found_within (is_live_with c.args.pair) c.ar
 
 pub returns-in-Some : goal.returns-in-Some
 returns-in-Some c =
-    place_found (is_live_with c.args.pair) c.args.slots.now c.in-Some.n c.place_at.result (sym c.position_of_pair.ensures ∙ c.in-Some.is) c.place_at.ensures
+    place_found (is_live_with c.args.pair) c.args.slots.now c.in-Some.n c.place_at.result (sym c.position_of_pair.ensures ∙ c.in-Some.is) c.place_at.ensures.place

@@ -9,10 +9,10 @@ pub returns : goal.returns
 returns c =
     rw (← c.self.view_is, ← c.ends_of-ends.ensures)
     (ap (option_map (λ n. n + 1)) (sym c.in_ok-place.was) ∙ ap (option_map (λ n. n + 1)) c.get_index_of.ensures.index
-     ∙ number_is (derived.eq-value.it c.ends_of-ends.result) (pair_of c.ends_of-ends.result) c.self.inside.pairs.keys (λ e. search rules))
+    ∙ number_is (derived.eq-value.it c.ends_of-ends.result) (pair_of c.ends_of-ends.result) c.self.inside.pairs.keys (λ e. search rules))
 
 pub returns-in_err-place : goal.returns-in_err-place
-returns-in_err-place c = 
+returns-in_err-place c =
     rw (← c.self.view_is, ← c.ends_of-ends.ensures)
     (c.from_residual.ensures ∙ ap (option_map (λ n. n + 1)) (sym c.in_err-place.was) ∙ ap (option_map (λ n. n + 1)) c.get_index_of.ensures.index
-     ∙ number_is (derived.eq-value.it c.ends_of-ends.result) (pair_of c.ends_of-ends.result) c.self.inside.pairs.keys (λ e. search rules))
+    ∙ number_is (derived.eq-value.it c.ends_of-ends.result) (pair_of c.ends_of-ends.result) c.self.inside.pairs.keys (λ e. search rules))
