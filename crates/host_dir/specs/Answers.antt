@@ -23,8 +23,6 @@ reply_of (answer.To slot generation) = reply.To slot generation
 reply_of answer.Dropped = reply.Dropped
 reply_of answer.Stale = reply.Stale
 
--- this answer is given and this directory left, which keeps its protocol and its ways
-pub record Leaves (old new : HostDir) (given : Answer) (step : Option (Step Dir)) : Type 0 where
-  pub step_is : step ≡ Some (dir_leaves (reply_of given) None new.dir)
-  pub proto_stays : new.proto ≡ old.proto
-  pub ways_stay : new.ways ≡ old.ways
+-- the step gives this answer, and leaves this directory
+abbrev pub Leaves : HostDir → Answer → Option (Step Dir) → Type 0
+Leaves new given step = step ≡ Some (dir_leaves (reply_of given) None new.dir)

@@ -19,6 +19,11 @@ pub record IsDirOf (w : World) (h : ℕ) (p : Proto) (d : HostDir) : Type 0 wher
   pub proto_is : d.proto ≡ p
   pub ways_are : IsKeptOf w h d.ways
 
+-- its protocol stays, and what it keeps of the world
+pub record Stays (old new : HostDir) : Type 0 where
+  pub proto : new.proto ≡ old.proto
+  pub ways : new.ways ≡ old.ways
+
 -- in each world and at each host of which it is a directory, it steps as the table says, and stays one
 abbrev pub Steps : HostDir → HostDir → Work → Outcome → Type 0
 Steps old new work outcome =

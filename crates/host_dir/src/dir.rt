@@ -1,5 +1,6 @@
 //! A directory.
 ghost use Rattle.std.specs.Prelude.{◌≡◌, ◌<◌, ℕ, length, is_some, slice_get, None, Some, IfOk, OnErr, IsTrue};
+ghost use Rattle.std.specs.Option.{option_map};
 ghost use Rattle.net_base.specs.declared.address.Proto.TheVariants as proto;
 ghost use Rattle.net_base.specs.declared.world.World.{World as AnyWorld};
 ghost use Rattle.net_base.specs.Actors.{opening_dir};
@@ -8,14 +9,14 @@ ghost use Rattle.net_base.specs.Directory.{dir_step};
 ghost use Rattle.net_base.specs.Routes.{way};
 ghost use Rattle.host_dir.specs.Answers.{Leaves};
 ghost use Rattle.host_dir.specs.Granted.{chosen};
-ghost use Rattle.host_dir.specs.Kept.{IsDirOf, Steps};
+ghost use Rattle.host_dir.specs.Kept.{IsDirOf, Stays, Steps};
 ghost use Rattle.host_dir.specs.Met.{is_met, is_ready, takes};
 ghost use Rattle.host_dir.specs.Slots.{reserved};
-ghost use Rattle.host_dir.specs.Ways.{HasOneWay, IsKeptOf};
+ghost use Rattle.host_dir.specs.Ways.{HasOneWay, IsKeptOf, hop_of};
 
 use crate::answer::Answer;
 use crate::granted::Granted;
-use crate::routes::{Ways, ways_of};
+use crate::routes::{Hop, Ways, ways_of};
 use crate::slots::{Kind, Slot, Slots};
 use net_base::{Addr, Body, Event, Outcome, Packet, Pair, Proto, With, Work, World};
 use std::alloc::{AllocError, Global};
@@ -115,6 +116,7 @@ impl Dir {
         requires met { IsTrue (is_met work.now.event) }
         requires udp { self.old.proto ≡ Proto.Udp }
         ensures ok { IfOk result (λ outcome. Steps self.old self.new work.now outcome) }
+        ensures stays { Stays self.old self.new }
         ensures err { OnErr result (self.new ≡ self.old) }
     {
         let answer = self.answer(work)?;
@@ -126,7 +128,8 @@ impl Dir {
         requires ready { IsTrue (is_ready self.old.proto work.now.event work.now.with self.old.dir) }
         requires met { IsTrue (is_met work.now.event) }
         requires udp { self.old.proto ≡ Proto.Udp }
-        ensures ok { IfOk result (λ given. (w : AnyWorld) (h : ℕ) → IsKeptOf w h self.old.ways → Leaves self.old self.new given (dir_step w h Proto.Udp work.now.event work.now.with self.old.dir)) }
+        ensures ok { IfOk result (λ given. (w : AnyWorld) (h : ℕ) → IsKeptOf w h self.old.ways → Leaves self.new given (dir_step w h Proto.Udp work.now.event work.now.with self.old.dir)) }
+        ensures stays { Stays self.old self.new }
         ensures err { OnErr result (self.new ≡ self.old) }
     {
         match &work.event {
@@ -149,7 +152,8 @@ impl Dir {
     /// Reserves the lowest free slot. A slot that was taken as often as a generation can count isn't taken again, and counts as
     /// want of memory.
     fn reserve(&mut self) -> Result<Answer, AllocError>
-        ensures ok { IfOk result (λ given. Leaves self.old self.new given (Some (spec.reserves (spec.first_slot spec.is_free 0 self.old.dir.slots) self.old.dir))) }
+        ensures ok { IfOk result (λ given. Leaves self.new given (Some (spec.reserves (spec.first_slot spec.is_free 0 self.old.dir.slots) self.old.dir))) }
+        ensures stays { Stays self.old self.new }
         ensures err { OnErr result (self.new ≡ self.old) }
     {
         let Some(place) = self.slots.first_free() else {
@@ -174,7 +178,8 @@ impl Dir {
     /// Frees a slot. No call waits at one.
     fn release(&mut self, n: u32, generation: u64) -> Answer
         requires { n < length self.old.dir.slots }
-        ensures { Leaves self.old self.new result (spec.in_slot n generation self.old.dir (spec.frees n self.old.dir)) }
+        ensures stays { Stays self.old self.new }
+        ensures step { Leaves self.new result (spec.in_slot n generation self.old.dir (spec.frees n self.old.dir)) }
     {
         if self.slots.at(n).generation != generation {
             return Answer::Stale;
@@ -193,7 +198,7 @@ impl Dir {
     #[tactic(auto, using(crate::proofs::Steps::dropped_is))]
     fn arrive(&self, packet: &Packet) -> Answer
         requires { IsTrue (spec.is_of Proto.Udp packet.now.body) }
-        ensures { (w : AnyWorld) (h : ℕ) → Leaves self.now self.now result (Some (spec.arrives_at
+        ensures { (w : AnyWorld) (h : ℕ) → Leaves self.now result (Some (spec.arrives_at
             (spec.first_slot (spec.is_live_with (spec.pair_of packet.now)) 0 self.now.dir.slots)
             w h Proto.Udp (spec.pair_of packet.now) packet.now self.now.dir)) }
     {
@@ -220,7 +225,8 @@ impl Dir {
     ) -> Result<Answer, AllocError>
         requires { n < length self.old.dir.slots }
         ensures ok { IfOk result (λ given. (w : AnyWorld) (h : ℕ) → IsKeptOf w h self.old.ways →
-            Leaves self.old self.new given (spec.in_slot n generation self.old.dir (spec.grants w h Proto.Udp n remote lport self.old.dir))) }
+            Leaves self.new given (spec.in_slot n generation self.old.dir (spec.grants w h Proto.Udp n remote lport self.old.dir))) }
+        ensures stays { Stays self.old self.new }
         ensures err { OnErr result (self.new ≡ self.old) }
     {
         let slot = self.slots.at(n);
@@ -243,10 +249,11 @@ impl Dir {
     ) -> Result<Answer, AllocError>
         requires { n < length self.old.dir.slots }
         ensures ok { IfOk result (λ given. (w : AnyWorld) (h : ℕ) → IsKeptOf w h self.old.ways →
-            Leaves self.old self.new given (Some (spec.grants_by (way w h remote.ip) (chosen lport self.old.dir.ports) w h Proto.Udp n (reserved generation) remote self.old.dir))) }
+            Leaves self.new given (Some (spec.grants_by (way w h remote.ip) (chosen lport self.old.dir.ports) w h Proto.Udp n (reserved generation) remote self.old.dir))) }
+        ensures stays { Stays self.old self.new }
         ensures err { OnErr result (self.new ≡ self.old) }
     {
-        let Some(hop) = self.ways.hop_to(remote.ip) else {
+        let Some(hop) = self.hop_to(remote.ip) else {
             return Ok(Answer::NoRoute);
         };
         let Some(port) = self.port_for(lport) else {
@@ -260,6 +267,14 @@ impl Dir {
             return Ok(Answer::SelfPair);
         }
         self.give(n, generation, Pair { local, remote }, hop.mtu)
+    }
+
+    /// The hop to an address, in each world in which the directory stands.
+    #[tactic(auto, unfolding(crate::specs::Ways::IsKeptOf))]
+    fn hop_to(&self, ip: u32) -> Option<Hop>
+        ensures { (w : AnyWorld) (h : ℕ) → IsKeptOf w h self.now.ways → option_map hop_of (way w h ip) ≡ result }
+    {
+        self.ways.hop_to(ip)
     }
 
     /// The port that was named, or a drawn one.
@@ -276,7 +291,8 @@ impl Dir {
     fn give(&mut self, n: u32, generation: u64, pair: Pair, mtu: u32) -> Result<Answer, AllocError>
         requires { n < length self.old.dir.slots }
         ensures ok { IfOk result (λ given. (w : AnyWorld) (h : ℕ) →
-            Leaves self.old self.new given (Some (spec.grants_pair (spec.pair_place pair 1 self.old.dir.pairs) w h Proto.Udp n (reserved generation) pair mtu self.old.dir))) }
+            Leaves self.new given (Some (spec.grants_pair (spec.pair_place pair 1 self.old.dir.pairs) w h Proto.Udp n (reserved generation) pair mtu self.old.dir))) }
+        ensures stays { Stays self.old self.new }
         ensures err { OnErr result (self.new ≡ self.old) }
     {
         if let Some(k) = self.granted.number_of(pair) {

@@ -10,7 +10,5 @@ returns-in-Reserved-clause-ok c =
     let got : slice_get d.slots c.args.n ≡ Some (reserved c.args.generation) =
     ap (λ (d : HostDir). slice_get d.dir.slots c.args.n) (sym c.self.view_is) ∙ c.at-slot.ensures
     ∙ ap Some (reserved_is c.at-slot.result c.args.generation c.if-slot-generation.false c.in-Reserved.is) in
-    then_ok c.grant_reserved.result _ _ (λ given leaves w h kept.
-    let left = leaves w h kept in
-    record { step_is = at_reserved w h c.args.n c.args.generation c.args.remote c.args.lport d got ∙ left.step_is; proto_stays = left.proto_stays; ways_stay = left.ways_stay })
+    then_ok c.grant_reserved.result _ _ (λ given leaves w h kept. at_reserved w h c.args.n c.args.generation c.args.remote c.args.lport d got ∙ leaves w h kept)
     c.grant_reserved.ensures.ok
