@@ -1,5 +1,6 @@
 //! The calls of an IL end, by the end that it stands for.
 #![tactic(auto, unfolding(il_machine::specs::Stands::StandsFor))]
+
 ghost use Rattle.std.specs.Prelude.{◌≡◌, ◌<◌, ◌^◌, Some, IfOk, OnOk, OnErr, IsTrue, take, if◌then◌else◌};
 ghost use Rattle.net_base.specs.IlEnd as spec;
 ghost use Rattle.net_base.specs.IlTable as table;

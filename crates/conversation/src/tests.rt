@@ -262,8 +262,20 @@ const NOTHING: Sent = Sent::Nothing;
 const fn connecting(limit: u32) -> [Row; 3] {
     [
         (0, Deed::Begin(1), Told::Ok, NOTHING, false),
-        (0, Deed::Connect(1, 100, limit), Told::Ok, Sent::Il(IlKind::Sync, 100, 0, 255), false),
-        (0, Deed::Arrive(1, SYNC), Told::Took, Sent::Il(IlKind::Ack, 100, 500, 255), false),
+        (
+            0,
+            Deed::Connect(1, 100, limit),
+            Told::Ok,
+            Sent::Il(IlKind::Sync, 100, 0, 255),
+            false,
+        ),
+        (
+            0,
+            Deed::Arrive(1, SYNC),
+            Told::Took,
+            Sent::Il(IlKind::Ack, 100, 500, 255),
+            false,
+        ),
     ]
 }
 
@@ -281,9 +293,27 @@ fn an_unused_conversation_waits_to_be_used(rt: HostRuntime) -> Result<(), Fail> 
         (0, Deed::Begin(1), Told::Ok, NOTHING, false),
         (0, Deed::Begin(1), Told::Waits, NOTHING, false),
         (0, Deed::Hangup(1), Told::Ok, NOTHING, false),
-        (0, Deed::Write(1, 0), Told::Wrong(StateName::Closed), NOTHING, false),
-        (0, Deed::Write(1, 8193), Told::Wrong(StateName::Closed), NOTHING, false),
-        (0, Deed::Read(1, 1), Told::Wrong(StateName::Closed), NOTHING, false),
+        (
+            0,
+            Deed::Write(1, 0),
+            Told::Wrong(StateName::Closed),
+            NOTHING,
+            false,
+        ),
+        (
+            0,
+            Deed::Write(1, 8193),
+            Told::Wrong(StateName::Closed),
+            NOTHING,
+            false,
+        ),
+        (
+            0,
+            Deed::Read(1, 1),
+            Told::Wrong(StateName::Closed),
+            NOTHING,
+            false,
+        ),
         (0, Deed::Await(1), Told::Ok, NOTHING, false),
         (0, Deed::Tick(1), Told::NotDue, NOTHING, false),
         (0, Deed::Bound(1, 9), Told::Ok, NOTHING, false),
@@ -291,13 +321,55 @@ fn an_unused_conversation_waits_to_be_used(rt: HostRuntime) -> Result<(), Fail> 
     ];
     run(&rt, rt.alloc(), &mut conv, &rows)?;
     let files = [
-        (0, Deed::File(1, FileName::Ctl, 9), Told::Bytes(b"3"), NOTHING, false),
-        (0, Deed::File(1, FileName::Local, 99), Told::Bytes(b"0.0.0.0!9\n"), NOTHING, false),
-        (0, Deed::File(1, FileName::Remote, 99), Told::Bytes(b"0.0.0.0!0\n"), NOTHING, false),
-        (0, Deed::File(1, FileName::Status, 5), Told::Bytes(b"Close"), NOTHING, false),
-        (0, Deed::File(1, FileName::Err, 9), Told::Bytes(b""), NOTHING, false),
-        (0, Deed::File(1, FileName::Data, 9), Told::Bytes(b""), NOTHING, false),
-        (0, Deed::File(1, FileName::Listen, 9), Told::Bytes(b""), NOTHING, false),
+        (
+            0,
+            Deed::File(1, FileName::Ctl, 9),
+            Told::Bytes(b"3"),
+            NOTHING,
+            false,
+        ),
+        (
+            0,
+            Deed::File(1, FileName::Local, 99),
+            Told::Bytes(b"0.0.0.0!9\n"),
+            NOTHING,
+            false,
+        ),
+        (
+            0,
+            Deed::File(1, FileName::Remote, 99),
+            Told::Bytes(b"0.0.0.0!0\n"),
+            NOTHING,
+            false,
+        ),
+        (
+            0,
+            Deed::File(1, FileName::Status, 5),
+            Told::Bytes(b"Close"),
+            NOTHING,
+            false,
+        ),
+        (
+            0,
+            Deed::File(1, FileName::Err, 9),
+            Told::Bytes(b""),
+            NOTHING,
+            false,
+        ),
+        (
+            0,
+            Deed::File(1, FileName::Data, 9),
+            Told::Bytes(b""),
+            NOTHING,
+            false,
+        ),
+        (
+            0,
+            Deed::File(1, FileName::Listen, 9),
+            Told::Bytes(b""),
+            NOTHING,
+            false,
+        ),
         (0, Deed::Close(1), Told::Ok, NOTHING, true),
         (0, Deed::Close(1), Told::Ok, NOTHING, false),
     ];
@@ -308,23 +380,51 @@ fn an_unused_conversation_waits_to_be_used(rt: HostRuntime) -> Result<(), Fail> 
 #[test]
 fn writes_are_refused_as_worked(rt: HostRuntime) -> Result<(), Fail> {
     let mut conv = Conv::new(rt.alloc(), 0, Proto::Il, 3)?;
-    let before = [
-        (0, Deed::Write(0, 1), Told::Wrong(StateName::Closed), NOTHING, false),
-    ];
+    let before = [(
+        0,
+        Deed::Write(0, 1),
+        Told::Wrong(StateName::Closed),
+        NOTHING,
+        false,
+    )];
     run(&rt, rt.alloc(), &mut conv, &before)?;
     run(&rt, rt.alloc(), &mut conv, &connecting(8192))?;
     let rows = [
-        (0, Deed::Write(1, 8193), Told::TooLong(8193, 8192), NOTHING, false),
+        (
+            0,
+            Deed::Write(1, 8193),
+            Told::TooLong(8193, 8192),
+            NOTHING,
+            false,
+        ),
         (0, Deed::Write(1, 0), Told::ZeroWrite, NOTHING, false),
-        (0, Deed::Write(1, 8192), Told::Count(8192), Sent::Il(IlKind::Data, 101, 500, 255), false),
+        (
+            0,
+            Deed::Write(1, 8192),
+            Told::Count(8192),
+            Sent::Il(IlKind::Data, 101, 500, 255),
+            false,
+        ),
     ];
     run(&rt, rt.alloc(), &mut conv, &rows)?;
     // a medium whose mtu is 576 leaves 538 bytes
     let mut conv = Conv::new(rt.alloc(), 0, Proto::Il, 3)?;
     run(&rt, rt.alloc(), &mut conv, &connecting(538))?;
     let rows = [
-        (0, Deed::Write(1, 539), Told::TooLong(539, 538), NOTHING, false),
-        (0, Deed::Write(1, 538), Told::Count(538), Sent::Il(IlKind::Data, 101, 500, 255), false),
+        (
+            0,
+            Deed::Write(1, 539),
+            Told::TooLong(539, 538),
+            NOTHING,
+            false,
+        ),
+        (
+            0,
+            Deed::Write(1, 538),
+            Told::Count(538),
+            Sent::Il(IlKind::Data, 101, 500, 255),
+            false,
+        ),
     ];
     run(&rt, rt.alloc(), &mut conv, &rows)?;
     Ok(())
@@ -337,18 +437,42 @@ fn an_il_conversation_is_connected(rt: HostRuntime) -> Result<(), Fail> {
         (0, Deed::Begin(1), Told::Ok, NOTHING, false),
         (0, Deed::Connect(1, 0, 8192), Told::Waits, NOTHING, false),
         (0, Deed::Connect(1, 100, 8193), Told::Waits, NOTHING, false),
-        (0, Deed::Connect(1, 100, 8192), Told::Ok, Sent::Il(IlKind::Sync, 100, 0, 255), false),
+        (
+            0,
+            Deed::Connect(1, 100, 8192),
+            Told::Ok,
+            Sent::Il(IlKind::Sync, 100, 0, 255),
+            false,
+        ),
         (0, Deed::Connect(1, 200, 9), Told::Ok, NOTHING, false),
         (0, Deed::Announced(1), Told::Ok, NOTHING, false),
         (0, Deed::Bound(1, 1), Told::Ok, NOTHING, false),
         (0, Deed::Await(1), Told::Waits, NOTHING, false),
         (0, Deed::Read(1, 1), Told::Waits, NOTHING, false),
         (0, Deed::Write(1, 1), Told::Waits, NOTHING, false),
-        (0, Deed::Arrive(1, Came::Udp(b"hi")), Told::Waits, NOTHING, false),
-        (0, Deed::Arrive(1, SYNC), Told::Took, Sent::Il(IlKind::Ack, 100, 500, 255), false),
+        (
+            0,
+            Deed::Arrive(1, Came::Udp(b"hi")),
+            Told::Waits,
+            NOTHING,
+            false,
+        ),
+        (
+            0,
+            Deed::Arrive(1, SYNC),
+            Told::Took,
+            Sent::Il(IlKind::Ack, 100, 500, 255),
+            false,
+        ),
         (0, Deed::Await(1), Told::Ok, NOTHING, false),
         (0, Deed::Ttl(1, 9), Told::Ok, NOTHING, false),
-        (0, Deed::Write(1, 1), Told::Count(1), Sent::Il(IlKind::Data, 101, 500, 9), false),
+        (
+            0,
+            Deed::Write(1, 1),
+            Told::Count(1),
+            Sent::Il(IlKind::Data, 101, 500, 9),
+            false,
+        ),
     ];
     run(&rt, rt.alloc(), &mut conv, &rows)?;
     let hello = Came::Il(IlKind::Data, 501, 101, b"hello");
@@ -357,7 +481,13 @@ fn an_il_conversation_is_connected(rt: HostRuntime) -> Result<(), Fail> {
         (0, Deed::Ctl(1, b"hang up"), Told::BadCtl(1), NOTHING, false),
         (0, Deed::Ctl(1, b"ttl 256"), Told::BadCtl(2), NOTHING, false),
         (0, Deed::Ctl(1, b"ttl 255"), Told::Waits, NOTHING, false),
-        (0, Deed::Arrive(1, hello), Told::Took, Sent::Il(IlKind::Ack, 101, 501, 9), false),
+        (
+            0,
+            Deed::Arrive(1, hello),
+            Told::Took,
+            Sent::Il(IlKind::Ack, 101, 501, 9),
+            false,
+        ),
         (0, Deed::Read(1, 0), Told::Waits, NOTHING, false),
         (0, Deed::Read(1, 2), Told::Bytes(b"he"), NOTHING, false),
         (0, Deed::Read(1, 8192), Told::Bytes(b"llo"), NOTHING, false),
@@ -365,27 +495,81 @@ fn an_il_conversation_is_connected(rt: HostRuntime) -> Result<(), Fail> {
         (0, Deed::Tick(1), Told::NotDue, NOTHING, false),
         (0, Deed::Open, Told::Opened(1), NOTHING, false),
         (0, Deed::Ls, Told::Names(7), NOTHING, false),
-        (0, Deed::File(1, FileName::Local, 99), Told::Bytes(b"135.104.9.6!5000\n"), NOTHING, false),
-        (0, Deed::File(1, FileName::Remote, 99), Told::Bytes(b"135.104.9.31!17008\n"), NOTHING, false),
-        (0, Deed::File(1, FileName::Status, 99), Told::Bytes(b"Established\n"), NOTHING, false),
+        (
+            0,
+            Deed::File(1, FileName::Local, 99),
+            Told::Bytes(b"135.104.9.6!5000\n"),
+            NOTHING,
+            false,
+        ),
+        (
+            0,
+            Deed::File(1, FileName::Remote, 99),
+            Told::Bytes(b"135.104.9.31!17008\n"),
+            NOTHING,
+            false,
+        ),
+        (
+            0,
+            Deed::File(1, FileName::Status, 99),
+            Told::Bytes(b"Established\n"),
+            NOTHING,
+            false,
+        ),
     ];
     run(&rt, rt.alloc(), &mut conv, &rows)?;
     let close = Came::Il(IlKind::Close, 501, 101, b"");
     let rows = [
         (0, Deed::Close(1), Told::Ok, NOTHING, false),
-        (0, Deed::Close(1), Told::Ok, Sent::Il(IlKind::Close, 101, 501, 9), false),
+        (
+            0,
+            Deed::Close(1),
+            Told::Ok,
+            Sent::Il(IlKind::Close, 101, 501, 9),
+            false,
+        ),
         (0, Deed::Close(1), Told::Ok, NOTHING, false),
         (0, Deed::Open, Told::NotOpen, NOTHING, false),
         (499, Deed::Tick(1), Told::NotDue, NOTHING, false),
-        (500, Deed::Tick(1), Told::Ticked, Sent::Il(IlKind::Close, 101, 501, 9), false),
-        (500, Deed::Write(1, 1), Told::Hungup(Cause::Hungup), NOTHING, false),
+        (
+            500,
+            Deed::Tick(1),
+            Told::Ticked,
+            Sent::Il(IlKind::Close, 101, 501, 9),
+            false,
+        ),
+        (
+            500,
+            Deed::Write(1, 1),
+            Told::Hungup(Cause::Hungup),
+            NOTHING,
+            false,
+        ),
         (500, Deed::Await(1), Told::Ok, NOTHING, false),
         (500, Deed::Read(1, 1), Told::Waits, NOTHING, false),
         (500, Deed::Arrive(1, close), Told::Took, NOTHING, true),
         (500, Deed::Arrive(1, close), Told::Took, NOTHING, false),
-        (500, Deed::Await(1), Told::Hungup(Cause::Hungup), NOTHING, false),
-        (500, Deed::Read(1, 1), Told::Hungup(Cause::Hungup), NOTHING, false),
-        (500, Deed::File(1, FileName::Err, 99), Told::Bytes(b"hungup\n"), NOTHING, false),
+        (
+            500,
+            Deed::Await(1),
+            Told::Hungup(Cause::Hungup),
+            NOTHING,
+            false,
+        ),
+        (
+            500,
+            Deed::Read(1, 1),
+            Told::Hungup(Cause::Hungup),
+            NOTHING,
+            false,
+        ),
+        (
+            500,
+            Deed::File(1, FileName::Err, 99),
+            Told::Bytes(b"hungup\n"),
+            NOTHING,
+            false,
+        ),
         (500, Deed::Hangup(1), Told::Ok, NOTHING, false),
     ];
     run(&rt, rt.alloc(), &mut conv, &rows)?;
@@ -398,7 +582,13 @@ fn a_second_life_knows_nothing_of_the_first(rt: HostRuntime) -> Result<(), Fail>
     run(&rt, rt.alloc(), &mut conv, &connecting(8192))?;
     let rows = [
         (0, Deed::Ttl(1, 9), Told::Ok, NOTHING, false),
-        (0, Deed::Hangup(1), Told::Ok, Sent::Il(IlKind::Close, 100, 500, 9), false),
+        (
+            0,
+            Deed::Hangup(1),
+            Told::Ok,
+            Sent::Il(IlKind::Close, 100, 500, 9),
+            false,
+        ),
         (0, Deed::Begin(2), Told::Ok, NOTHING, false),
         (0, Deed::Begin(1), Told::Stale, NOTHING, false),
         (0, Deed::Born(1, SYNC, 8192), Told::Stale, NOTHING, false),
@@ -407,7 +597,13 @@ fn a_second_life_knows_nothing_of_the_first(rt: HostRuntime) -> Result<(), Fail>
         (0, Deed::Announced(1), Told::Stale, NOTHING, false),
         (0, Deed::Bound(1, 9), Told::Stale, NOTHING, false),
         (0, Deed::Await(1), Told::Stale, NOTHING, false),
-        (0, Deed::File(1, FileName::Err, 9), Told::Stale, NOTHING, false),
+        (
+            0,
+            Deed::File(1, FileName::Err, 9),
+            Told::Stale,
+            NOTHING,
+            false,
+        ),
         (0, Deed::Read(1, 1), Told::Stale, NOTHING, false),
         (0, Deed::Write(1, 1), Told::Stale, NOTHING, false),
         (0, Deed::Hangup(1), Told::Stale, NOTHING, false),
@@ -425,10 +621,34 @@ fn a_second_life_knows_nothing_of_the_first(rt: HostRuntime) -> Result<(), Fail>
         (0, Deed::Claim(3), Told::Waits, NOTHING, false),
         (0, Deed::Read(3, 1), Told::Waits, NOTHING, false),
         (0, Deed::Close(3), Told::Waits, NOTHING, false),
-        (0, Deed::File(2, FileName::Status, 99), Told::Bytes(b"Closed\n"), NOTHING, false),
-        (0, Deed::File(2, FileName::Local, 99), Told::Bytes(b"0.0.0.0!0\n"), NOTHING, false),
-        (0, Deed::File(2, FileName::Err, 99), Told::Bytes(b""), NOTHING, false),
-        (0, Deed::Connect(2, 7, 8192), Told::Ok, Sent::Il(IlKind::Sync, 7, 0, 255), false),
+        (
+            0,
+            Deed::File(2, FileName::Status, 99),
+            Told::Bytes(b"Closed\n"),
+            NOTHING,
+            false,
+        ),
+        (
+            0,
+            Deed::File(2, FileName::Local, 99),
+            Told::Bytes(b"0.0.0.0!0\n"),
+            NOTHING,
+            false,
+        ),
+        (
+            0,
+            Deed::File(2, FileName::Err, 99),
+            Told::Bytes(b""),
+            NOTHING,
+            false,
+        ),
+        (
+            0,
+            Deed::Connect(2, 7, 8192),
+            Told::Ok,
+            Sent::Il(IlKind::Sync, 7, 0, 255),
+            false,
+        ),
         (0, Deed::Close(2), Told::Ok, NOTHING, true),
     ];
     run(&rt, rt.alloc(), &mut conv, &rows)?;
@@ -442,34 +662,118 @@ fn an_il_conversation_listens_and_is_born(rt: HostRuntime) -> Result<(), Fail> {
     let rows = [
         (0, Deed::Begin(1), Told::Ok, NOTHING, false),
         (0, Deed::Announced(1), Told::Ok, NOTHING, false),
-        (0, Deed::File(1, FileName::Local, 99), Told::Bytes(b"0.0.0.0!7\n"), NOTHING, false),
-        (0, Deed::File(1, FileName::Status, 99), Told::Bytes(b"Listening\n"), NOTHING, false),
-        (0, Deed::Read(1, 1), Told::Wrong(StateName::Listening), NOTHING, false),
-        (0, Deed::Write(1, 1), Told::Wrong(StateName::Listening), NOTHING, false),
+        (
+            0,
+            Deed::File(1, FileName::Local, 99),
+            Told::Bytes(b"0.0.0.0!7\n"),
+            NOTHING,
+            false,
+        ),
+        (
+            0,
+            Deed::File(1, FileName::Status, 99),
+            Told::Bytes(b"Listening\n"),
+            NOTHING,
+            false,
+        ),
+        (
+            0,
+            Deed::Read(1, 1),
+            Told::Wrong(StateName::Listening),
+            NOTHING,
+            false,
+        ),
+        (
+            0,
+            Deed::Write(1, 1),
+            Told::Wrong(StateName::Listening),
+            NOTHING,
+            false,
+        ),
         (0, Deed::Arrive(1, SYNC), Told::Took, NOTHING, false),
         (0, Deed::Hangup(1), Told::Left, NOTHING, false),
         (0, Deed::Hangup(1), Told::Ok, NOTHING, false),
         (0, Deed::Close(1), Told::Ok, NOTHING, true),
-        (0, Deed::Born(2, Came::Udp(b"hi"), 8192), Told::Waits, NOTHING, false),
-        (0, Deed::Born(2, Came::Il(IlKind::Ack, 500, 0, b""), 8192), Told::Waits, NOTHING, false),
+        (
+            0,
+            Deed::Born(2, Came::Udp(b"hi"), 8192),
+            Told::Waits,
+            NOTHING,
+            false,
+        ),
+        (
+            0,
+            Deed::Born(2, Came::Il(IlKind::Ack, 500, 0, b""), 8192),
+            Told::Waits,
+            NOTHING,
+            false,
+        ),
         (0, Deed::Born(2, SYNC, 8193), Told::Waits, NOTHING, false),
-        (0, Deed::Born(2, SYNC, 8192), Told::Ok, Sent::Il(IlKind::Sync, 100, 500, 255), false),
+        (
+            0,
+            Deed::Born(2, SYNC, 8192),
+            Told::Ok,
+            Sent::Il(IlKind::Sync, 100, 500, 255),
+            false,
+        ),
     ];
     run(&rt, rt.alloc(), &mut conv, &rows)?;
     assert_eq!(rt; conv.due(), Some(500));
     let close = Came::Il(IlKind::Close, 500, 100, b"");
     let rows = [
         (0, Deed::Claim(2), Told::Ok, NOTHING, false),
-        (0, Deed::File(2, FileName::Remote, 99), Told::Bytes(b"135.104.9.31!17008\n"), NOTHING, false),
+        (
+            0,
+            Deed::File(2, FileName::Remote, 99),
+            Told::Bytes(b"135.104.9.31!17008\n"),
+            NOTHING,
+            false,
+        ),
         (0, Deed::Await(2), Told::Ok, NOTHING, false),
         (0, Deed::Write(2, 1), Told::Waits, NOTHING, false),
-        (500, Deed::Tick(2), Told::Ticked, Sent::Il(IlKind::Sync, 100, 500, 255), false),
-        (500, Deed::Arrive(2, Came::Il(IlKind::Ack, 500, 100, b"")), Told::Took, NOTHING, false),
-        (500, Deed::Arrive(2, close), Told::Took, Sent::Il(IlKind::Close, 100, 500, 255), false),
+        (
+            500,
+            Deed::Tick(2),
+            Told::Ticked,
+            Sent::Il(IlKind::Sync, 100, 500, 255),
+            false,
+        ),
+        (
+            500,
+            Deed::Arrive(2, Came::Il(IlKind::Ack, 500, 100, b"")),
+            Told::Took,
+            NOTHING,
+            false,
+        ),
+        (
+            500,
+            Deed::Arrive(2, close),
+            Told::Took,
+            Sent::Il(IlKind::Close, 100, 500, 255),
+            false,
+        ),
         (500, Deed::Read(2, 9), Told::Bytes(b""), NOTHING, false),
-        (500, Deed::Write(2, 1), Told::Hungup(Cause::ByPeer), NOTHING, false),
-        (500, Deed::Await(2), Told::Hungup(Cause::ByPeer), NOTHING, false),
-        (500, Deed::File(2, FileName::Err, 99), Told::Bytes(b"hungup by peer\n"), NOTHING, false),
+        (
+            500,
+            Deed::Write(2, 1),
+            Told::Hungup(Cause::ByPeer),
+            NOTHING,
+            false,
+        ),
+        (
+            500,
+            Deed::Await(2),
+            Told::Hungup(Cause::ByPeer),
+            NOTHING,
+            false,
+        ),
+        (
+            500,
+            Deed::File(2, FileName::Err, 99),
+            Told::Bytes(b"hungup by peer\n"),
+            NOTHING,
+            false,
+        ),
         (500, Deed::Close(2), Told::Ok, NOTHING, true),
         (500, Deed::Close(2), Told::Ok, NOTHING, false),
     ];
@@ -482,33 +786,99 @@ fn a_udp_conversation_is_connected(rt: HostRuntime) -> Result<(), Fail> {
     let mut conv = Conv::new(rt.alloc(), 0, Proto::Udp, 0)?;
     let rows = [
         (0, Deed::Begin(1), Told::Ok, NOTHING, false),
-        (0, Deed::Arrive(1, Came::Udp(b"x")), Told::Took, NOTHING, false),
-        (0, Deed::Read(1, 1), Told::Wrong(StateName::Closed), NOTHING, false),
+        (
+            0,
+            Deed::Arrive(1, Came::Udp(b"x")),
+            Told::Took,
+            NOTHING,
+            false,
+        ),
+        (
+            0,
+            Deed::Read(1, 1),
+            Told::Wrong(StateName::Closed),
+            NOTHING,
+            false,
+        ),
         (0, Deed::Connect(1, 0, 8193), Told::Waits, NOTHING, false),
         (0, Deed::Connect(1, 0, 8192), Told::Ok, NOTHING, false),
-        (0, Deed::File(1, FileName::Status, 99), Told::Bytes(b"Open\n"), NOTHING, false),
+        (
+            0,
+            Deed::File(1, FileName::Status, 99),
+            Told::Bytes(b"Open\n"),
+            NOTHING,
+            false,
+        ),
         (0, Deed::Await(1), Told::Ok, NOTHING, false),
         (0, Deed::Read(1, 9), Told::Bytes(b"x"), NOTHING, false),
         (0, Deed::Read(1, 9), Told::Waits, NOTHING, false),
         (0, Deed::Write(1, 0), Told::ZeroWrite, NOTHING, false),
-        (0, Deed::Write(1, 8193), Told::TooLong(8193, 8192), NOTHING, false),
-        (0, Deed::Write(1, 2), Told::Count(2), Sent::Udp(2, 255), false),
+        (
+            0,
+            Deed::Write(1, 8193),
+            Told::TooLong(8193, 8192),
+            NOTHING,
+            false,
+        ),
+        (
+            0,
+            Deed::Write(1, 2),
+            Told::Count(2),
+            Sent::Udp(2, 255),
+            false,
+        ),
         (0, Deed::Ttl(1, 3), Told::Ok, NOTHING, false),
         (0, Deed::Write(1, 1), Told::Count(1), Sent::Udp(1, 3), false),
     ];
     run(&rt, rt.alloc(), &mut conv, &rows)?;
     assert_eq!(rt; conv.due(), None);
     let rows = [
-        (0, Deed::Arrive(1, Came::Udp(b"hi")), Told::Took, NOTHING, false),
+        (
+            0,
+            Deed::Arrive(1, Came::Udp(b"hi")),
+            Told::Took,
+            NOTHING,
+            false,
+        ),
         (0, Deed::Arrive(1, SYNC), Told::Waits, NOTHING, false),
         (0, Deed::Tick(1), Told::NotDue, NOTHING, false),
         (0, Deed::Hangup(1), Told::Ok, NOTHING, false),
-        (0, Deed::File(1, FileName::Err, 99), Told::Bytes(b"hungup\n"), NOTHING, false),
-        (0, Deed::Arrive(1, Came::Udp(b"hi")), Told::Full, NOTHING, false),
+        (
+            0,
+            Deed::File(1, FileName::Err, 99),
+            Told::Bytes(b"hungup\n"),
+            NOTHING,
+            false,
+        ),
+        (
+            0,
+            Deed::Arrive(1, Came::Udp(b"hi")),
+            Told::Full,
+            NOTHING,
+            false,
+        ),
         (0, Deed::Read(1, 1), Told::Bytes(b"h"), NOTHING, false),
-        (0, Deed::Read(1, 1), Told::Hungup(Cause::Hungup), NOTHING, false),
-        (0, Deed::Write(1, 1), Told::Hungup(Cause::Hungup), NOTHING, false),
-        (0, Deed::Await(1), Told::Hungup(Cause::Hungup), NOTHING, false),
+        (
+            0,
+            Deed::Read(1, 1),
+            Told::Hungup(Cause::Hungup),
+            NOTHING,
+            false,
+        ),
+        (
+            0,
+            Deed::Write(1, 1),
+            Told::Hungup(Cause::Hungup),
+            NOTHING,
+            false,
+        ),
+        (
+            0,
+            Deed::Await(1),
+            Told::Hungup(Cause::Hungup),
+            NOTHING,
+            false,
+        ),
         (0, Deed::Close(1), Told::Ok, NOTHING, true),
     ];
     run(&rt, rt.alloc(), &mut conv, &rows)?;
@@ -520,16 +890,46 @@ fn a_udp_conversation_listens_and_is_born(rt: HostRuntime) -> Result<(), Fail> {
     let mut conv = Conv::new(rt.alloc(), 0, Proto::Udp, 0)?;
     let rows = [
         (0, Deed::Born(1, SYNC, 500), Told::Waits, NOTHING, false),
-        (0, Deed::Born(1, Came::Udp(b"call"), 500), Told::Ok, NOTHING, false),
-        (0, Deed::File(1, FileName::Local, 99), Told::Bytes(b"135.104.9.6!5000\n"), NOTHING, false),
+        (
+            0,
+            Deed::Born(1, Came::Udp(b"call"), 500),
+            Told::Ok,
+            NOTHING,
+            false,
+        ),
+        (
+            0,
+            Deed::File(1, FileName::Local, 99),
+            Told::Bytes(b"135.104.9.6!5000\n"),
+            NOTHING,
+            false,
+        ),
         (0, Deed::Claim(1), Told::Ok, NOTHING, false),
         (0, Deed::Read(1, 9), Told::Bytes(b"call"), NOTHING, false),
-        (0, Deed::Write(1, 501), Told::TooLong(501, 500), NOTHING, false),
+        (
+            0,
+            Deed::Write(1, 501),
+            Told::TooLong(501, 500),
+            NOTHING,
+            false,
+        ),
         (0, Deed::Close(1), Told::Ok, NOTHING, true),
         (0, Deed::Begin(2), Told::Ok, NOTHING, false),
         (0, Deed::Announced(2), Told::Ok, NOTHING, false),
-        (0, Deed::File(2, FileName::Status, 99), Told::Bytes(b"Listening\n"), NOTHING, false),
-        (0, Deed::Read(2, 1), Told::Wrong(StateName::Listening), NOTHING, false),
+        (
+            0,
+            Deed::File(2, FileName::Status, 99),
+            Told::Bytes(b"Listening\n"),
+            NOTHING,
+            false,
+        ),
+        (
+            0,
+            Deed::Read(2, 1),
+            Told::Wrong(StateName::Listening),
+            NOTHING,
+            false,
+        ),
         (0, Deed::Hangup(2), Told::Left, NOTHING, false),
         (0, Deed::Close(2), Told::Ok, NOTHING, true),
     ];
@@ -546,10 +946,22 @@ fn sixty_four_datagrams_wait(rt: HostRuntime) -> Result<(), Fail> {
     ];
     run(&rt, rt.alloc(), &mut conv, &rows)?;
     for _ in 0..64 {
-        let rows = [(0, Deed::Arrive(1, Came::Udp(b"hi")), Told::Took, NOTHING, false)];
+        let rows = [(
+            0,
+            Deed::Arrive(1, Came::Udp(b"hi")),
+            Told::Took,
+            NOTHING,
+            false,
+        )];
         run(&rt, rt.alloc(), &mut conv, &rows)?;
     }
-    let rows = [(0, Deed::Arrive(1, Came::Udp(b"hi")), Told::Full, NOTHING, false)];
+    let rows = [(
+        0,
+        Deed::Arrive(1, Came::Udp(b"hi")),
+        Told::Full,
+        NOTHING,
+        false,
+    )];
     run(&rt, rt.alloc(), &mut conv, &rows)?;
     Ok(())
 }

@@ -12,7 +12,8 @@ use net_base::Addr;
 /// Stands for all numbers that are as large.
 const CAP: u64 = 68_719_476_736;
 
-// The value of a digit or a letter, and 36 for another byte.
+// The value of a digit or a letter, and 36 for another byte. What isn't spelled by digits is refused later, where the whole
+// text is compared.
 fn digit(byte: u8) -> u64
     ensures value { result ≡ digit_value byte }
     ensures small { result ≤ 36 }

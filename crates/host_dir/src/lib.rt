@@ -6,5 +6,7 @@ mod dir;
 mod granted;
 mod routes;
 mod slots;
+#[cfg(test)]
+mod tests;
 
 pub use dir::Dir;
