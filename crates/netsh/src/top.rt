@@ -1,5 +1,5 @@
 //! The top call: words and an input in, a status and a text out.
-ghost use Rattle.std.specs.Prelude.{◌≡◌, ◌≢◌, ◌≤◌, ◌↔◌, map, string_bytes, length, IsNone, IfNone, IfSome, IfOk, IsErrOf, IsTrue};
+ghost use Rattle.std.specs.Prelude.{◌≡◌, ◌≢◌, ◌≤◌, ◌↔◌, map, string_bytes, length, IsNone, IfNone, IfSome, IfOk, IsErrOf, IsTrue, Some, None};
 ghost use Rattle.net_model.specs.Words.{command_of, words_wait};
 ghost use Rattle.netsh.specs.Ends.{Ends, Causes, Told, Answers};
 ghost use Rattle.net_model.specs.Answers.{input_limit};
@@ -144,7 +144,15 @@ pub fn ask_surely(
     source: &mut SureSource,
     sink: &mut SureSink,
 ) -> Option<u8>
-    ensures { IfSome result (λ status. (status ≢ 6) × (status ≢ 7)) }
+    ensures waits { IsNone result ↔ IsTrue (words_wait (command_of (map string_bytes words.now))) }
+    ensures untouched { IfNone result ((source.new ≡ source.old) × (sink.new ≡ sink.old)) }
+    ensures ends { IfSome result (λ status. Ends (command_of (map string_bytes words.now)) status
+        (record { left = Some source.old; rest = Some source.new; before = 0; after = 0 })
+        (record { held = None; holds = None; before = 0; after = 0 })) }
+    ensures causes { IfSome result (λ status. Causes (command_of (map string_bytes words.now)) status
+        (record { left = Some source.old; rest = Some source.new; before = 0; after = 0 })
+        (record { held = None; holds = None; before = 0; after = 0 })) }
+    ensures surely { IfSome result (λ status. (status ≢ 6) × (status ≢ 7)) }
 {
     ask(alloc, words, source, sink)
 }
