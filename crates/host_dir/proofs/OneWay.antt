@@ -1,5 +1,5 @@
 -- The ways from a host with one interface and no route lines.
-use Rattle.std.proofs.Common.{◌≡◌, ℕ, ◌==◌, ◌||◌, Bool, true, false, [], ◌∷◌, Some, None, find, bit_and, refl, if◌then◌else◌}
+use Rattle.std.proofs.Common.{◌≡◌, ℕ, ◌==◌, Bool, true, false, [], ◌∷◌, Some, None, find, bit_and, refl, subst, arith, if◌then◌else◌}
 use Rattle.std.specs.Option.{option_map}
 use Rattle.net_base.specs.declared.world.HostSpec.{HostSpec}
 use Rattle.net_base.specs.declared.world.Iface.{Iface}
@@ -8,11 +8,21 @@ use Rattle.net_base.specs.Routes.{way, way_from, mtu_of}
 use Rattle.host_dir.specs.declared.routes.Ways.{Ways}
 use Rattle.host_dir.specs.Ways.{HasOneWay, IsKeptOf, hop_of, hop_to}
 
--- the hop of each way from a host with this interface alone, by whether the address is its own, or of its network
+-- the host's own address is of its interface's network
+own_is_near : (i : Iface) (ip : ℕ) → (i.ip == ip) ≡ true → (bit_and ip i.mask == bit_and i.ip i.mask) ≡ true
+own_is_near i ip e =
+    let same : i.ip ≡ ip = grind (arith, e) in
+    subst (λ (x : ℕ). (bit_and x i.mask == bit_and i.ip i.mask) ≡ true) same (twin (bit_and i.ip i.mask))
+  where
+    twin : (n : ℕ) → (n == n) ≡ true
+    twin n = grind arith
+
+-- the hop of each way from a host with this interface alone, by whether the address is its own, and whether it is of its network
 hops : (w : World) (h : ℕ) (spec : HostSpec) (i : Iface) (ip : ℕ) (own near : Bool) → (i.ip == ip) ≡ own → (bit_and ip i.mask == bit_and i.ip i.mask) ≡ near
     → spec.ifaces ≡ i ∷ [] → spec.routes ≡ []
-    → option_map hop_of (way_from (find (λ (j : Iface). j.ip == ip) spec.ifaces) w h spec ip) ≡ (if own || near then Some (record { source = i.ip; mtu = mtu_of w i.medium }) else None)
-hops w h spec i ip true near e f g k = rw (g, e) (refl)
+    → option_map hop_of (way_from (find (λ (j : Iface). j.ip == ip) spec.ifaces) w h spec ip)
+    ≡ (if bit_and ip i.mask == bit_and i.ip i.mask then Some (record { source = i.ip; mtu = mtu_of w i.medium }) else None)
+hops w h spec i ip true near e f g k = rw (g, e, own_is_near i ip e) (refl)
 hops w h spec i ip false true e f g k = rw (g, k, e, f) (refl)
 hops w h spec i ip false false e f g k = rw (g, k, e, f) (refl)
 

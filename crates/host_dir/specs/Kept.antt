@@ -6,6 +6,7 @@ use Rattle.net_base.specs.declared.history.Work.{Work}
 use Rattle.net_base.specs.declared.world.World.{World}
 use Rattle.net_base.specs.Directory.{Dir, dir_step}
 use Rattle.host_dir.specs.declared.routes.Ways.{Ways}
+pub use Rattle.host_dir.specs.Ways.{HasOneWay}
 use Rattle.host_dir.specs.Ways.{IsKeptOf}
 
 -- a directory, with what it keeps of the world

@@ -1,5 +1,5 @@
 -- What a directory keeps of the world for its ways.
-use Rattle.std.specs.Prelude.{◌≡◌, ℕ, ◌==◌, ◌||◌, [], ◌∷◌, Option, Some, None, slice_get, bit_and, if◌then◌else◌}
+use Rattle.std.specs.Prelude.{◌≡◌, ℕ, ◌==◌, [], ◌∷◌, Option, Some, None, slice_get, bit_and, if◌then◌else◌}
 use Rattle.std.specs.Option.{option_map}
 use Rattle.net_base.specs.declared.world.HostSpec.{HostSpec}
 use Rattle.net_base.specs.declared.world.Iface.{Iface}
@@ -12,10 +12,10 @@ use Rattle.host_dir.specs.declared.routes.Ways.{Ways}
 abbrev pub hop_of : Way → Hop
 hop_of out = record { source = out.source; mtu = out.mtu }
 
--- from the only interface to its own address and to addresses of its network
+-- from the only interface to the addresses of its network, its own among them
 abbrev pub hop_to : Ways → ℕ → Option Hop
 hop_to k ip =
-    if (k.iface.ip == ip) || (bit_and ip k.iface.mask == bit_and k.iface.ip k.iface.mask)
+    if bit_and ip k.iface.mask == bit_and k.iface.ip k.iface.mask
     then Some (record { source = k.iface.ip; mtu = k.mtu })
     else None
 

@@ -43,7 +43,7 @@ fn mtu_of(world: &World, medium: u32) -> u32
 }
 
 impl Ways {
-    /// The hop to an address: the host's own, or one of its network.
+    /// The hop to an address of the interface's network, its own among them.
     pub fn hop_to(self, ip: u32) -> Option<Hop>
         ensures { result ≡ hop_to self ip }
     {
@@ -52,7 +52,7 @@ impl Ways {
             mask,
             medium: _,
         } = self.iface;
-        if own == ip || ip & mask == own & mask {
+        if ip & mask == own & mask {
             Some(Hop {
                 source: own,
                 mtu: self.mtu,

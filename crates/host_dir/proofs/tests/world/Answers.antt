@@ -1,4 +1,4 @@
-use Rattle.std.proofs.Common.{◌≡◌, refl, ap, ◌∙◌, slice_get, List}
+use Rattle.std.proofs.Common.{ap, ◌∙◌, slice_get, List}
 use Rattle.net_base.specs.declared.world.HostSpec.{HostSpec}
 use Rattle.host_dir.proofs.tests.world.Goals as goal
 
