@@ -39,6 +39,10 @@ pub mod Next
 pub mod Calm
 pub mod Legal
 pub mod World
+pub mod WorldForm
+pub mod WorldWords
+pub mod WorldLines
+pub mod WorldText
 pub mod Answers
 pub mod Words
 pub mod Written
