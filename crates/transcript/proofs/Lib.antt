@@ -1,3 +1,5 @@
+mod Latest
 mod LineDigits
 mod Spacing
+mod Summing
 mod Telling

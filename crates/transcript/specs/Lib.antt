@@ -1,4 +1,5 @@
 pub mod Digits
+pub mod Standing
 pub mod Telling
 pub use Rattle.net_base.specs.Summary
 pub use Rattle.net_base.specs.Transcript

@@ -1,4 +1,4 @@
-//! The text of a history: one spelling for each entry.
+//! The text of a history, one spelling for each entry, and the summary of a run.
 #![tactic(auto)]
 
 mod entry;
@@ -6,6 +6,7 @@ mod event;
 mod law;
 mod names;
 mod reply;
+mod summary;
 #[cfg(test)]
 mod tests;
 mod totals;
@@ -13,4 +14,5 @@ mod words;
 
 pub use entry::text_of;
 pub use law::texts_tell_words;
+pub use summary::{End, Standing, summary_of};
 pub use totals::{Totals, totals_of};

@@ -20,40 +20,19 @@ pub fn totals_of(history: &History) -> Totals
     ensures bytes_written { result.bytes_written ≡ sum_over bytes_written_in history.now }
     ensures bytes_read { result.bytes_read ≡ sum_over bytes_read_in history.now }
 {
-    let (written, bytes_written) = written_by(history.as_slice());
-    let (read, bytes_read) = read_by(history.as_slice());
-    Totals {
-        written,
-        read,
-        bytes_written,
-        bytes_read,
+    let mut totals = Totals {
+        written: 0,
+        read: 0,
+        bytes_written: 0,
+        bytes_read: 0,
+    };
+    for entry in history.as_slice() {
+        totals.written += messages_written(entry);
+        totals.read += messages_read(entry);
+        totals.bytes_written += bytes_written(entry) as u128;
+        totals.bytes_read += bytes_read(entry) as u128;
     }
-}
-
-fn written_by(entries: &[Entry]) -> (u64, u128)
-    ensures messages { result.0 ≡ sum_over written_in entries.now }
-    ensures bytes { result.1 ≡ sum_over bytes_written_in entries.now }
-{
-    let mut messages = 0;
-    let mut bytes = 0;
-    for entry in entries {
-        messages += messages_written(entry);
-        bytes += bytes_written(entry) as u128;
-    }
-    (messages, bytes)
-}
-
-fn read_by(entries: &[Entry]) -> (u64, u128)
-    ensures messages { result.0 ≡ sum_over read_in entries.now }
-    ensures bytes { result.1 ≡ sum_over bytes_read_in entries.now }
-{
-    let mut messages = 0;
-    let mut bytes = 0;
-    for entry in entries {
-        messages += messages_read(entry);
-        bytes += bytes_read(entry) as u128;
-    }
-    (messages, bytes)
+    totals
 }
 
 fn messages_written(entry: &Entry) -> u64

@@ -1,0 +1,37 @@
+-- What a summary tells of the net behind a history.
+use Rattle.std.specs.Prelude.{◌≡◌, ℕ, List, [], ◌∷◌, ◌++◌, length, sum_by, codes}
+use Rattle.net_base.specs.declared.history.Entry.{Entry}
+use Rattle.net_base.specs.declared.world.Script.{Script}
+use Rattle.net_base.specs.declared.world.World.{World}
+use Rattle.net_base.specs.Legal.{IsLegal}
+use Rattle.net_base.specs.Net.{after, moment_after}
+use Rattle.net_base.specs.Summary.{steps_line, totals_lines, totals, end_line, end_word, answered_steps, all_steps}
+use Rattle.transcript.specs.declared.summary.End.{End}
+use Rattle.transcript.specs.declared.summary.End.TheVariants as ends
+use Rattle.transcript.specs.declared.summary.Standing.{Standing}
+
+-- the word that an end prints as
+abbrev pub word_of : End → List ℕ
+word_of ends.Done = codes "done"
+word_of ends.Stopped = codes "stopped"
+word_of ends.Limit = codes "limit"
+word_of ends.Unfinished = codes "unfinished"
+
+-- the moment of the last move among these entries, or the one before
+abbrev pub latest : ℕ → List Entry → ℕ
+latest now [] = now
+latest now (x ∷ xs) = latest (moment_after now x.event) xs
+
+-- how many steps scripts have
+abbrev pub steps_in : List Script → ℕ
+steps_in scripts = sum_by (λ (s : Script). length s.steps) scripts
+
+-- the four lines, where a run stands so
+abbrev pub summary_by : World → List Entry → Standing → List ℕ
+summary_by w h s = steps_line s.answered (all_steps w) ++ totals_lines (totals h) ++ end_line (word_of s.end) (latest 0 h)
+
+-- the history is legal for the world, and the net behind it stands so
+pub record Stands (w : World) (h : List Entry) (s : Standing) : Type 0 where
+  pub legal : IsLegal w h
+  pub answered : s.answered ≡ answered_steps w h
+  pub end : word_of s.end ≡ end_word w (after w h)
