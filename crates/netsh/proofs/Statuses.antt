@@ -1,5 +1,5 @@
 -- What the statuses say, from how a call ends.
-use Rattle.std.proofs.Common.{◌≡◌, ◌≢◌, ℕ, ◌<◌, ◌⊎◌, Bool, true, List, length, Option, Some, None, Ok, IsSome, IfSome, refl, sym, ◌∙◌, ap, subst, inl, inr, rules, arith}
+use Rattle.std.proofs.Common.{◌≡◌, ◌≢◌, ℕ, ◌<◌, ◌⊎◌, Bool, true, List, length, Option, Some, None, Ok, unwrap_or, IsSome, IfSome, refl, sym, ◌∙◌, ap, subst, inl, inr, rules, arith}
 use Rattle.std.specs.Io.KnownBytes.{IsAtEnd}
 use Rattle.outside.specs.Streams.{Rose}
 use Rattle.net_base.specs.declared.world.World.{World}
@@ -11,7 +11,7 @@ use Rattle.net_base.specs.Words.{Command, Cs, Run}
 use Rattle.net_base.specs.WorldText.{world_reading}
 use Rattle.cs_resolver.specs.Built.{built_answer}
 use Rattle.netsh.specs.Built.{first_bad, IsStatus, done, stopped, limited, IsRun, IsFound, IsGiven, IsAnswer}
-use Rattle.netsh.specs.Ends.{Intake, Output, Told, IsRead, Answers, IsStatusOf, IsBad, HasRun, Ends, no_row, answered, unread, no_memory, Causes}
+use Rattle.netsh.specs.Ends.{Intake, Output, Told, IsInput, IsRead, Answers, IsStatusOf, IsBad, HasRun, Ends, no_row, answered, unread, no_memory, Causes}
 use Rattle.netsh.proofs.Endings.{too_long_is_bad}
 
 some_none : (asked : Command) → Some asked ≡ None → ⊥
@@ -140,6 +140,49 @@ module _ (command : Option Command) (status : ℕ) (intake : Intake) (output : O
   complete_without_faults (unread asked is rose told) reads writes some = absurd (reads rose)
   complete_without_faults (no_memory asked is eight kept) reads writes some = inl eight
 
+  -- an answer that a call without a fault gave is to what the source had left
+  same_command : (asked other : Command) → command ≡ Some asked → command ≡ Some other → other ≡ asked
+  same_command asked other one two = ap (λ (o : Option Command). unwrap_or o other) (sym two ∙ one)
+
+  same_bad : (of : IsStatusOf command status intake) (asked : Command) (input : List ℕ) → command ≡ Some asked → intake.left ≡ Some input → first_bad of.asked of.answers.input ≡ first_bad asked input
+  same_bad of asked input is left =
+      let same_input : of.answers.input ≡ input = subst (λ (o : Option (List ℕ)). IsInput o of.answers.input) left of.answers.read.0 in
+      ap (λ (c : Command). first_bad c of.answers.input) (same_command asked of.asked is of.is_asked) ∙ ap (first_bad asked) same_input
+
+  bad_two : (of : IsStatusOf command status intake) (bad : ℕ × ℕ) → first_bad of.asked of.answers.input ≡ Some bad → Of of.asked of.answers.input of.answer → status ≡ 2
+  bad_two of bad is (of_bad found same two) = of.right ∙ two
+  bad_two of bad is (of_lines good zero sys query same) = absurd (none_some bad (sym good ∙ is))
+  bad_two of bad is (of_refusal good five sys query same) = absurd (none_some bad (sym good ∙ is))
+  bad_two of bad is (of_run good workers same w reads run) = absurd (none_some bad (sym good ∙ is))
+
+  tells_bad : Ends command status intake output → ¬ Rose intake.before intake.after → ¬ Rose output.before output.after → (asked : Command) (input : List ℕ) (bad : ℕ × ℕ) → command ≡ Some asked → intake.left ≡ Some input → first_bad asked input ≡ Some bad → (status ≡ 2) ⊎ (status ≡ 8)
+  tells_bad ends reads writes asked input bad is left is_bad =
+      elim (complete_without_faults ends reads writes (λ none. some_none asked (sym is ∙ none))) [
+        | inl eight ↦ inr eight
+        | inr of ↦ inl (bad_two of bad (same_bad of asked input is left ∙ is_bad) (of_answer of.asked of.answers.input of.answer of.answers.right))
+      ]
+
+  run_ends : (w : World) (net : Net) (n : ℕ) → status ≡ n → IsStatus w net n → (status ≡ 0) ⊎ (status ≡ 3) ⊎ (status ≡ 4) ⊎ (status ≡ 8)
+  run_ends w net n same (done so zero) = inl (same ∙ zero)
+  run_ends w net n same (stopped so three) = inr (inl (same ∙ three))
+  run_ends w net n same (limited so four) = inr (inr (inl (same ∙ four)))
+
+  cs_or_run : (sys query : List ℕ) (workers : ℕ) → Cs sys query ≡ Run workers → ⊥
+  cs_or_run sys query workers same = cc
+
+  good_runs : (of : IsStatusOf command status intake) (workers : ℕ) → of.asked ≡ Run workers → first_bad of.asked of.answers.input ≡ None → Of of.asked of.answers.input of.answer → (status ≡ 0) ⊎ (status ≡ 3) ⊎ (status ≡ 4) ⊎ (status ≡ 8)
+  good_runs of workers ran good (of_bad bad same two) = absurd (none_some bad (sym good ∙ same))
+  good_runs of workers ran good (of_lines same zero sys query is) = absurd (cs_or_run sys query workers (sym is ∙ ran))
+  good_runs of workers ran good (of_refusal same five sys query is) = absurd (cs_or_run sys query workers (sym is ∙ ran))
+  good_runs of workers ran good (of_run same n is w reads run) = run_ends w (after w run.history) of.answer.status of.right run.status
+
+  runs : Ends command status intake output → ¬ Rose intake.before intake.after → ¬ Rose output.before output.after → (workers : ℕ) (input : List ℕ) → command ≡ Some (Run workers) → intake.left ≡ Some input → first_bad (Run workers) input ≡ None → (status ≡ 0) ⊎ (status ≡ 3) ⊎ (status ≡ 4) ⊎ (status ≡ 8)
+  runs ends reads writes workers input is left good =
+      elim (complete_without_faults ends reads writes (λ none. some_none (Run workers) (sym is ∙ none))) [
+        | inl eight ↦ inr (inr (inr eight))
+        | inr of ↦ good_runs of workers (same_command (Run workers) of.asked is of.is_asked) (same_bad of (Run workers) input is left ∙ good) (of_answer of.asked of.answers.input of.answer of.answers.right)
+      ]
+
 -- What the status of an answer says.
 
 module _ (command : Option Command) (intake : Intake) where
@@ -256,6 +299,8 @@ module _ (command : Option Command) (status : ℕ) (intake : Intake) (output : O
     memory = only_memory command status intake output ends;
     end = whole_at_end;
     complete = complete_without_faults command status intake output ends;
+    tells_bad = tells_bad command status intake output ends;
+    runs = runs command status intake output ends;
   }
 
 pub causes_if : (command : Option Command) (answer : Option ℕ) (intake : Intake) (output : Output) → IfSome answer (λ status. Ends command status intake output) → IfSome answer (λ status. Causes command status intake output)

@@ -111,3 +111,6 @@ pub record Causes (command : Option Command) (status : ℕ) (intake : Intake) (o
   pub end : (status ≡ 0) ⊎ (status ≡ 3) ⊎ (status ≡ 4) ⊎ (status ≡ 5) → IsAtEnd intake.rest
   -- without a fault, words in a row have an answer's status, or memory ran out
   pub complete : ¬ Rose intake.before intake.after → ¬ Rose output.before output.after → command ≢ None → (status ≡ 8) ⊎ IsStatusOf command status intake
+  -- and where the source told what it had left, a bad input is told of, and a good world runs until it ends
+  pub tells_bad : ¬ Rose intake.before intake.after → ¬ Rose output.before output.after → (asked : Command) (input : List ℕ) (bad : ℕ × ℕ) → command ≡ Some asked → intake.left ≡ Some input → first_bad asked input ≡ Some bad → (status ≡ 2) ⊎ (status ≡ 8)
+  pub runs : ¬ Rose intake.before intake.after → ¬ Rose output.before output.after → (workers : ℕ) (input : List ℕ) → command ≡ Some (Run workers) → intake.left ≡ Some input → first_bad (Run workers) input ≡ None → (status ≡ 0) ⊎ (status ≡ 3) ⊎ (status ≡ 4) ⊎ (status ≡ 8)
