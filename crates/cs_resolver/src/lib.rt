@@ -11,7 +11,9 @@ mod search;
 mod words;
 
 pub use error::CsError;
+pub use networks::mask_bits;
 pub use resolve::answer;
+pub use words::split_first;
 
 #[cfg(test)]
 mod tests;

@@ -2,7 +2,7 @@
 --     step_of          the step that words say
 --     *_line           a line by its first word, its arguments as words
 --     line_verdict     any line
-use Rattle.std.specs.Prelude.{ℕ, ◌+◌, ◌==◌, Bool, true, false, not, ◌&&◌, ◌||◌, List, [], ◌∷◌, ◌++◌, length, map, flat_map, codes, bytes_eq, Option, Some, None, is_none, is_some, Result, Ok, nat_eq, nat_lt, nat_le, bit_and, position, option_map, if◌then◌else◌}
+use Rattle.std.specs.Prelude.{ℕ, ◌+◌, ◌==◌, Bool, true, false, not, ◌&&◌, ◌||◌, List, [], ◌∷◌, ◌++◌, length, codes, bytes_eq, Option, Some, None, is_none, is_some, Result, Ok, nat_lt, nat_le, bit_and, position, option_map, if◌then◌else◌}
 use Rattle.std.specs.List.{list_any}
 use Rattle.std.specs.Option.{option_to_list, option_and_then}
 use Rattle.net_base.specs.declared.address.Proto.{Proto}
@@ -19,10 +19,10 @@ use Rattle.net_base.specs.declared.world.World.{World}
 use Rattle.net_base.specs.Addresses.{parts_at}
 use Rattle.net_base.specs.ControlWords as control
 use Rattle.net_base.specs.NdbText.{begins, is_hash, is_empty}
-use Rattle.net_base.specs.Routes.{matches, iface_routes}
-use Rattle.net_base.specs.World.{is_name, is_nets, is_mask, is_step, addresses, is_start, is_moment}
+use Rattle.net_base.specs.Routes.{has_ip}
+use Rattle.net_base.specs.World.{is_name, is_nets, is_mask, is_step}
 use Rattle.net_base.specs.WorldForm.{clone_path, data_path}
-use Rattle.net_base.specs.WorldWords.{words_of, joined, number_in, address_in, mode_named, nets_named, hex_text}
+use Rattle.net_base.specs.WorldWords.{one, Two, two, Three, three, Four, four, words_of, joined, number_in, address_in, mode_named, nets_named, hex_text}
 
 -- The world so far.
 
@@ -90,41 +90,46 @@ known (Some n) next = next n
 -- Media.
 
 abbrev pub end_line : Draft → List (List ℕ) → Verdict
-end_line d (m ∷ []) = given (number_in 1 1000000000 m) (λ moment. refuse 18 (nat_le 2 d.group) (Goes (record d { group = 2; end = moment })))
-end_line d _ = wrong
+end_line d args =
+    given (one args) (λ word. given (number_in 1 1000000000 word) (λ moment.
+    refuse 18 (nat_le 2 d.group) (Goes (record d { group = 2; end = moment }))))
 
 abbrev pub seed_line : Draft → List (List ℕ) → Verdict
-seed_line d (n ∷ []) =
-    given (number_in 0 18446744073709551615 n) (λ seed.
-    refuse 18 (nat_le 3 d.group) (refuse 19 (nat_lt d.group 2) (Goes (record d { group = 3; seed = seed }))))
-seed_line d _ = wrong
+seed_line d args =
+    given (one args) (λ word. given (number_in 0 18446744073709551615 word) (λ seed.
+    refuse 18 (nat_le 3 d.group)
+    (refuse 19 (nat_lt d.group 2)
+    (Goes (record d { group = 3; seed = seed })))))
 
 abbrev pub is_medium_named : List ℕ → MediumSpec → Bool
 is_medium_named called s = bytes_eq called s.name
 
-abbrev pub medium_of : Draft → List ℕ → ℕ → MediumSpec
-medium_of d called mtu = record { number = length d.media; name = called; mtu = mtu; loss = 0; twice = 0; later = 0; fates = [] }
+-- a medium that delivers each frame
+abbrev pub plain_medium : ℕ → List ℕ → ℕ → MediumSpec
+plain_medium n called mtu = record { number = n; name = called; mtu = mtu; loss = 0; twice = 0; later = 0; fates = [] }
 
 -- a second medium isn't built
 abbrev pub medium_line : Draft → List (List ℕ) → Verdict
-medium_line d (called ∷ mtu ∷ []) =
-    refuse 13 (not (is_name called)) (given (number_in 576 16384 mtu) (λ bytes.
-    refuse 14 (list_any (is_medium_named called) d.media)
+medium_line d args =
+    given (two args) (λ (w : Two). refuse 13 (not (is_name w.first)) (given (number_in 576 16384 w.second) (λ mtu.
+    refuse 14 (list_any (is_medium_named w.first) d.media)
     (refuse 17 (nat_le 4 (length d.media))
     (refuse 18 (nat_lt 4 d.group)
     (refuse 19 (nat_lt d.group 3)
-    (refuse 31 (not (is_empty d.media)) (Goes (record d { group = 4; media = d.media ++ medium_of d called bytes ∷ [] }))))))))
-medium_line d _ = wrong
+    (refuse 31 (not (is_empty d.media))
+    (Goes (record d { group = 4; media = d.media ++ plain_medium (length d.media) w.first mtu ∷ [] })))))))))
 
 -- the number of the medium with this name
 abbrev pub medium_named : Draft → List ℕ → Option ℕ
 medium_named d called = position (is_medium_named called) d.media
 
 abbrev pub rates_line : Draft → List (List ℕ) → Verdict
-rates_line d (called ∷ loss ∷ twice ∷ later ∷ []) =
-    refuse 13 (not (is_name called)) (given (number_in 0 1000 loss) (λ l. given (number_in 0 1000 twice) (λ t. given (number_in 0 1000 later) (λ r.
-    known (medium_named d called) (λ m. refuse 18 (nat_lt 4 d.group) (refuse 23 (nat_lt 1000 (l + t + r)) (Bad 31)))))))
-rates_line d _ = wrong
+rates_line d args =
+    given (four args) (λ (w : Four). refuse 13 (not (is_name w.first)) (given (number_in 0 1000 w.second) (λ loss.
+    given (number_in 0 1000 w.third) (λ twice. given (number_in 0 1000 w.fourth) (λ later. known (medium_named d w.first) (λ m.
+    refuse 18 (nat_lt 4 d.group)
+    (refuse 23 (nat_lt 1000 (loss + twice + later))
+    (Bad 31))))))))
 
 abbrev pub is_fate : List ℕ → Bool
 is_fate word = bytes_eq word (codes "deliver") || (bytes_eq word (codes "lose") || (bytes_eq word (codes "twice") || bytes_eq word (codes "later")))
@@ -148,10 +153,11 @@ abbrev pub is_frames : List ℕ → Bool
 is_frames word = are_frames (parts_at 45 word)
 
 abbrev pub fate_line : Draft → List (List ℕ) → Verdict
-fate_line d (called ∷ frames ∷ fate ∷ []) =
-    refuse 13 (not (is_name called && (is_frames frames && is_fate fate))) (known (medium_named d called) (λ m.
-    refuse 18 (nat_lt 4 d.group) (Bad 31)))
-fate_line d _ = wrong
+fate_line d args =
+    given (three args) (λ (w : Three). refuse 13 (not (is_name w.first && (is_frames w.second && is_fate w.third)))
+    (known (medium_named d w.first) (λ m.
+    refuse 18 (nat_lt 4 d.group)
+    (Bad 31))))
 
 -- Hosts.
 
@@ -184,39 +190,48 @@ abbrev pub iface_of : ℕ → ℕ → ℕ → Iface
 iface_of m ip mask = record { medium = m; ip = ip; mask = mask }
 
 abbrev pub if_line : Draft → List (List ℕ) → Verdict
-if_line d (called ∷ ip ∷ mask ∷ []) =
-    refuse 13 (not (is_name called)) (given (address_in ip) (λ address. given (address_in mask) (λ ones. known (medium_named d called) (λ m.
+if_line d args =
+    given (three args) (λ (w : Three). refuse 13 (not (is_name w.first)) (given (address_in w.second) (λ ip. given (address_in w.third) (λ mask.
+    known (medium_named d w.first) (λ m.
     refuse 14 (list_any (has_medium m) (option_to_list d.host))
-    (refuse 16 (list_any (nat_eq address) (flat_map addresses (hosts_of d)))
+    (refuse 16 (list_any (has_ip ip) (hosts_of d))
     (refuse 18 (is_none d.host)
-    (refuse 20 (not (is_mask ones)) (Goes (record d { host = option_map (with_iface (iface_of m address ones)) d.host })))))))))
-if_line d _ = wrong
+    (refuse 20 (not (is_mask mask))
+    (Goes (record d { host = option_map (with_iface (iface_of m ip mask)) d.host }))))))))))
 
--- a network of the host is this one
+-- the network of an interface is this one
+abbrev pub is_network : ℕ → ℕ → Iface → Bool
+is_network net mask i = (bit_and i.ip i.mask == net) && (i.mask == mask)
+
 abbrev pub has_network : ℕ → ℕ → HostSpec → Bool
-has_network net mask h = list_any (λ r. (r.net == net) && (r.mask == mask)) (iface_routes 0 h.ifaces)
+has_network net mask h = list_any (is_network net mask) h.ifaces
 
--- an address is on one of the host's networks
+-- an address is on the network of an interface
+abbrev pub is_near : ℕ → Iface → Bool
+is_near ip i = bit_and ip i.mask == bit_and i.ip i.mask
+
 abbrev pub reaches : ℕ → HostSpec → Bool
-reaches ip h = list_any (matches ip) (iface_routes 0 h.ifaces)
+reaches ip h = list_any (is_near ip) h.ifaces
 
 abbrev pub route_line : Draft → List (List ℕ) → Verdict
-route_line d (net ∷ mask ∷ gateway ∷ []) =
-    given (address_in net) (λ n. given (address_in mask) (λ m. given (address_in gateway) (λ g.
+route_line d args =
+    given (three args) (λ (w : Three). given (address_in w.first) (λ net. given (address_in w.second) (λ mask. given (address_in w.third) (λ gateway.
     refuse 18 (is_none d.host)
-    (refuse 20 (not (is_mask m && (bit_and n m == n)))
-    (refuse 21 (list_any (has_network n m) (option_to_list d.host))
-    (refuse 22 (not (list_any (reaches g) (option_to_list d.host))) (Bad 31)))))))
-route_line d _ = wrong
+    (refuse 20 (not (is_mask mask && (bit_and net mask == net)))
+    (refuse 21 (list_any (has_network net mask) (option_to_list d.host))
+    (refuse 22 (not (list_any (reaches gateway) (option_to_list d.host)))
+    (Bad 31))))))))
 
 abbrev pub start_line : Draft → List (List ℕ) → Verdict
-start_line d (n ∷ []) = given (number_in 1 4294967295 n) (λ start. refuse 18 (is_none d.host) (Bad 31))
-start_line d _ = wrong
+start_line d args = given (one args) (λ word. given (number_in 1 4294967295 word) (λ start. refuse 18 (is_none d.host) (Bad 31)))
 
 -- Scripts.
 
 abbrev pub is_script_of : ℕ → Script → Bool
 is_script_of n s = s.host == n
+
+abbrev pub script_of : ℕ → Script
+script_of n = record { host = n; steps = [] }
 
 -- the number of the host with this name
 abbrev pub host_named : Draft → List ℕ → Option ℕ
@@ -224,12 +239,11 @@ host_named d called = position (is_host_named called) (hosts_of d)
 
 -- a second script of a host isn't built
 abbrev pub script_line : Draft → List (List ℕ) → Verdict
-script_line d (called ∷ []) =
-    refuse 13 (not (is_name called)) (known (host_named d called) (λ n.
+script_line d args =
+    given (one args) (λ called. refuse 13 (not (is_name called)) (known (host_named d called) (λ n.
     refuse 17 (nat_le 32 (length (scripts_of d)))
     (refuse 31 (is_lacking d || list_any (is_script_of n) (scripts_of d))
-    (Goes (record d { group = 6; hosts = hosts_of d; host = None; scripts = scripts_of d; script = Some (record { host = n; steps = [] }) })))))
-script_line d _ = wrong
+    (Goes (record d { group = 6; hosts = hosts_of d; host = None; scripts = scripts_of d; script = Some (script_of n) }))))))
 
 -- Steps.
 
@@ -243,20 +257,17 @@ open_of (called ∷ path ∷ mode ∷ []) = option_and_then (λ (m : Mode). kept
 open_of _ = None
 
 abbrev pub read_of : List (List ℕ) → Option Step
-read_of (called ∷ count ∷ []) = option_and_then (λ n. kept (step.Read called n)) (number_in 1 65536 count)
-read_of _ = None
+read_of args = option_and_then (λ (w : Two). option_and_then (λ count. kept (step.Read w.first count)) (number_in 1 65536 w.second)) (two args)
 
 abbrev pub until_of : List (List ℕ) → Option Step
-until_of (moment ∷ []) = option_and_then (λ n. kept (step.Until n)) (number_in 1 1000000000 moment)
-until_of _ = None
+until_of args = option_and_then (λ word. option_and_then (λ moment. kept (step.Until moment)) (number_in 1 1000000000 word)) (one args)
 
 abbrev pub write_of : List (List ℕ) → Option Step
 write_of (called ∷ word ∷ words) = kept (step.Write called (joined (word ∷ words)))
 write_of _ = None
 
 abbrev pub writex_of : List (List ℕ) → Option Step
-writex_of (called ∷ hex ∷ []) = option_and_then (λ bytes. kept (step.Writex called bytes)) (hex_text hex)
-writex_of _ = None
+writex_of args = option_and_then (λ (w : Two). option_and_then (λ bytes. kept (step.Writex w.first bytes)) (hex_text w.second)) (two args)
 
 abbrev pub cs_of : List (List ℕ) → Option Step
 cs_of (word ∷ words) = kept (step.Cs (joined (word ∷ words)))

@@ -16,6 +16,41 @@ words_of line = parts_at 32 line
 abbrev pub joined : List (List ℕ) → List ℕ
 joined words = join_with_byte 32 words
 
+-- Arguments: so many words, or none where there are others.
+
+abbrev pub one : List (List ℕ) → Option (List ℕ)
+one (a ∷ []) = Some a
+one _ = None
+
+pub record Two : Type 0 where
+  pub first : List ℕ
+  pub second : List ℕ
+
+abbrev pub two : List (List ℕ) → Option Two
+two (a ∷ b ∷ []) = Some (record { first = a; second = b })
+two _ = None
+
+pub record Three : Type 0 where
+  pub first : List ℕ
+  pub second : List ℕ
+  pub third : List ℕ
+
+abbrev pub three : List (List ℕ) → Option Three
+three (a ∷ b ∷ c ∷ []) = Some (record { first = a; second = b; third = c })
+three _ = None
+
+pub record Four : Type 0 where
+  pub first : List ℕ
+  pub second : List ℕ
+  pub third : List ℕ
+  pub fourth : List ℕ
+
+abbrev pub four : List (List ℕ) → Option Four
+four (a ∷ b ∷ c ∷ d ∷ []) = Some (record { first = a; second = b; third = c; fourth = d })
+four _ = None
+
+-- Numbers and addresses.
+
 -- a number begins with a zero that it doesn't need
 abbrev pub is_padded : List ℕ → Bool
 is_padded (b ∷ c ∷ word) = b == 48
