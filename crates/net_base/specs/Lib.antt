@@ -6,6 +6,7 @@ pub mod IlEnd
 pub mod IlTable
 pub mod ControlWords
 pub mod Paths
+pub mod Plain
 pub mod Headers
 pub mod Stamped
 pub mod ActorStep

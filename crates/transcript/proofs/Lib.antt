@@ -1,5 +1,12 @@
+mod Bytes
+mod Entries
+mod Events
 mod Latest
 mod LineDigits
+mod Numbers
+mod Readers
+mod Replies
 mod Spacing
 mod Summing
 mod Telling
+mod Told

@@ -3,7 +3,8 @@ use Rattle.std.proofs.Common.{◌≡◌, ◌≢◌, ℕ, ◌+◌, List, [], ◌�
 use Rattle.std.proofs.lemmas.List.{append_cancel_left}
 use Rattle.net_base.specs.declared.history.Entry.{Entry}
 use Rattle.net_base.specs.Transcript.{spaced, entry_words, line_of, lines_from}
-use Rattle.transcript.specs.Telling.{IsClean, AreClean, HasCleanWords}
+use Rattle.net_base.specs.Plain.{IsClean}
+use Rattle.transcript.specs.Telling.{AreClean, HasCleanWords}
 
 -- a blank or a newline comes first
 abbrev pub Stops : List ℕ → Type 0

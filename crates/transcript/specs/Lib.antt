@@ -1,5 +1,6 @@
 pub mod Digits
 pub mod Standing
 pub mod Telling
+pub use Rattle.net_base.specs.Plain
 pub use Rattle.net_base.specs.Summary
 pub use Rattle.net_base.specs.Transcript

@@ -1,7 +1,6 @@
 -- What a summary tells of the net behind a history.
-use Rattle.std.specs.Prelude.{◌≡◌, ℕ, List, [], ◌∷◌, ◌++◌, length, sum_by, codes}
+use Rattle.std.specs.Prelude.{◌≡◌, ℕ, List, [], ◌∷◌, ◌++◌, codes}
 use Rattle.net_base.specs.declared.history.Entry.{Entry}
-use Rattle.net_base.specs.declared.world.Script.{Script}
 use Rattle.net_base.specs.declared.world.World.{World}
 use Rattle.net_base.specs.Legal.{IsLegal}
 use Rattle.net_base.specs.Net.{after, moment_after}
@@ -21,10 +20,6 @@ word_of ends.Unfinished = codes "unfinished"
 abbrev pub latest : ℕ → List Entry → ℕ
 latest now [] = now
 latest now (x ∷ xs) = latest (moment_after now x.event) xs
-
--- how many steps scripts have
-abbrev pub steps_in : List Script → ℕ
-steps_in scripts = sum_by (λ (s : Script). length s.steps) scripts
 
 -- the four lines, where a run stands so
 abbrev pub summary_by : World → List Entry → Standing → List ℕ

@@ -1,12 +1,8 @@
 -- What the text of a history tells of it.
-use Rattle.std.specs.Prelude.{◌≡◌, ◌≢◌, ℕ, List, [], ◌∷◌, map}
+use Rattle.std.specs.Prelude.{◌≡◌, ℕ, List, [], ◌∷◌, map}
 use Rattle.net_base.specs.declared.history.Entry.{Entry}
+use Rattle.net_base.specs.Plain.{IsClean, IsPlain, IsSized}
 use Rattle.net_base.specs.Transcript.{entry_words, history_text}
-
--- a word without blanks and newlines
-abbrev pub IsClean : List ℕ → Type 0
-IsClean [] = Unit {0}
-IsClean (byte ∷ bytes) = (byte ≢ 32) × (byte ≢ 10) × IsClean bytes
 
 abbrev pub AreClean : List (List ℕ) → Type 0
 AreClean [] = Unit {0}
@@ -20,3 +16,7 @@ HasCleanWords (x ∷ xs) = AreClean (entry_words x) × HasCleanWords xs
 -- two histories with the same text have the same words, entry by entry
 abbrev pub TextsTellWords : Type 0
 TextsTellWords = (h k : List Entry) → HasCleanWords h → HasCleanWords k → history_text h ≡ history_text k → map entry_words h ≡ map entry_words k
+
+-- two plain histories with the same text are equal
+abbrev pub TextsTell : Type 0
+TextsTell = (h k : List Entry) → IsPlain h → IsPlain k → IsSized h → IsSized k → history_text h ≡ history_text k → h ≡ k

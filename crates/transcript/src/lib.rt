@@ -13,6 +13,6 @@ mod totals;
 mod words;
 
 pub use entry::text_of;
-pub use law::texts_tell_words;
+pub use law::{plain_texts_tell, texts_tell_words};
 pub use summary::{End, Standing, summary_of};
 pub use totals::{Totals, totals_of};

@@ -1,8 +1,9 @@
-//! A worked history, and a line for each word.
-use crate::text_of;
+//! A worked history with its summary, and a line for each word.
+use crate::{End, Standing, summary_of, text_of};
 use net_base::{
-    ActorName, Addr, BodyHeader, Call, CallList, Cause, Entry, Event, FileName, Header, History,
-    IlKind, Lines, Mode, Octets, Pair, Proto, Reply, StateName,
+    ActorName, Addr, BodyHeader, Call, CallList, Cause, Db, Entry, Event, FileName, Header,
+    History, Hosts, IlKind, Lines, Media, Mode, Octets, Pair, Proto, Reply, Script, Scripts,
+    StateName, Step, StepList, World,
 };
 use std::alloc::{AllocError, Global};
 use std::process::Abort;
@@ -150,9 +151,8 @@ fn talks(alloc: Global, history: &mut History) -> Result<(), AllocError> {
     history.push(read(alloc)?)
 }
 
-#[test]
-fn a_datagram_goes(rt: HostRuntime) -> Result<(), Fail> {
-    let mut history = History::new(rt.alloc());
+fn datagram(alloc: Global) -> Result<History, AllocError> {
+    let mut history = History::new(alloc);
     for h in 0..2 {
         history.push(reserve(h))?;
     }
@@ -171,7 +171,13 @@ fn a_datagram_goes(rt: HostRuntime) -> Result<(), Fail> {
     for h in 0..2 {
         history.push(open(h))?;
     }
-    talks(rt.alloc(), &mut history)?;
+    talks(alloc, &mut history)?;
+    Ok(history)
+}
+
+#[test]
+fn a_datagram_goes(rt: HostRuntime) -> Result<(), Fail> {
+    let history = datagram(rt.alloc())?;
     let lines = b"0 0 0 dir.0.udp - reserve = slot 0 1
 1 0 1 dir.1.udp - reserve = slot 0 1
 2 0 0 conv.0.udp.0 0 begin 1 = ok
@@ -364,5 +370,302 @@ fn names_stand_as_they_are(rt: HostRuntime) -> Result<(), Fail> {
     let bytes = text(alloc, b"Open\n")?;
     let words = "file 1 status 65536 = bytes 4f70656e0a";
     shows(&rt, alloc, file, Reply::Bytes { bytes }, words)?;
+    Ok(())
+}
+
+fn opens(alloc: Global, name: &[u8], path: &[u8]) -> Result<Step, AllocError> {
+    let name = text(alloc, name)?;
+    let path = text(alloc, path)?;
+    Ok(Step::Open {
+        name,
+        path,
+        mode: None,
+    })
+}
+
+fn writes(alloc: Global, name: &[u8], bytes: &[u8]) -> Result<Step, AllocError> {
+    let name = text(alloc, name)?;
+    let text = text(alloc, bytes)?;
+    Ok(Step::Write { name, text })
+}
+
+fn reads(alloc: Global, name: &[u8]) -> Result<Step, AllocError> {
+    let name = text(alloc, name)?;
+    Ok(Step::Read { name, count: 8192 })
+}
+
+fn connects(alloc: Global, words: &[u8]) -> Result<StepList, AllocError> {
+    let mut steps = StepList::new(alloc);
+    steps.push(opens(alloc, b"c", b"/net/udp/clone")?)?;
+    steps.push(writes(alloc, b"c", words)?)?;
+    steps.push(opens(alloc, b"d", b"/net/udp/0/data")?)?;
+    Ok(steps)
+}
+
+fn anna(alloc: Global) -> Result<Script, AllocError> {
+    let mut steps = connects(alloc, b"connect 135.104.9.31!7 5000")?;
+    steps.push(writes(alloc, b"d", b"hi")?)?;
+    Ok(Script { host: 0, steps })
+}
+
+fn helix(alloc: Global) -> Result<Script, AllocError> {
+    let mut steps = connects(alloc, b"connect 135.104.9.6!5000 7")?;
+    steps.push(reads(alloc, b"d")?)?;
+    Ok(Script { host: 1, steps })
+}
+
+// The scripts alone: a summary asks for nothing else of a world.
+fn scripts(alloc: Global) -> Result<World, AllocError> {
+    let mut scripts = Scripts::new(alloc);
+    scripts.push(anna(alloc)?)?;
+    scripts.push(helix(alloc)?)?;
+    Ok(World {
+        end: 60000,
+        seed: 7,
+        media: Media::new(alloc),
+        hosts: Hosts::new(alloc),
+        scripts,
+        db: Db::new(alloc),
+    })
+}
+
+#[test]
+fn a_datagram_is_summed(rt: HostRuntime) -> Result<(), Fail> {
+    let alloc = rt.alloc();
+    let standing = Standing {
+        answered: 8,
+        end: End::Done,
+    };
+    let summary = summary_of(alloc, &scripts(alloc)?, &datagram(alloc)?, standing)?;
+    let lines = b"steps 8 of 8
+messages 1 1
+bytes 2 2
+end done 0
+";
+    assert!(rt; summary.as_slice() == lines.as_slice());
+    Ok(())
+}
+
+// What counts as no message: a write that is refused, a read of nothing, a read of another file.
+fn refusals(alloc: Global, history: &mut History) -> Result<(), AllocError> {
+    let write = Event::Write {
+        generation: 1,
+        text: text(alloc, b"hi")?,
+    };
+    let long = Reply::TooLong {
+        length: 2,
+        limit: 1,
+    };
+    history.push(entry(conv(0), 0, None, write, long))?;
+    let read = Event::Read {
+        generation: 1,
+        count: 8192,
+    };
+    let nothing = Reply::Bytes {
+        bytes: text(alloc, b"")?,
+    };
+    history.push(entry(conv(1), 1, None, read, nothing))?;
+    let file = Event::File {
+        generation: 1,
+        file: FileName::Status,
+        count: 8192,
+    };
+    let status = Reply::Bytes {
+        bytes: text(alloc, b"Open\n")?,
+    };
+    history.push(entry(conv(1), 1, None, file, status))
+}
+
+#[test]
+fn refusals_are_no_messages(rt: HostRuntime) -> Result<(), Fail> {
+    let alloc = rt.alloc();
+    let mut history = History::new(alloc);
+    refusals(alloc, &mut history)?;
+    for moment in [10, 60000] {
+        let event = Event::Move { moment };
+        history.push(entry(ActorName::Clock, 3, None, event, Reply::Ok))?;
+    }
+    let standing = Standing {
+        answered: 3,
+        end: End::Stopped,
+    };
+    let summary = summary_of(alloc, &scripts(alloc)?, &history, standing)?;
+    let lines = b"steps 3 of 8
+messages 0 0
+bytes 0 0
+end stopped 60000
+";
+    assert!(rt; summary.as_slice() == lines.as_slice());
+    Ok(())
+}
+
+#[test]
+fn a_directory_replies(rt: HostRuntime) -> Result<(), Fail> {
+    let alloc = rt.alloc();
+    let reserve = Event::Reserve;
+    shows(&rt, alloc, reserve, Reply::NoSlot, "reserve = noslot")?;
+    let words = "grant 4 2 135.104.9.6!5000 - = noroute";
+    shows(&rt, alloc, asks(None), Reply::NoRoute, words)?;
+    let words = "grant 4 2 135.104.9.6!5000 - = noport";
+    shows(&rt, alloc, asks(None), Reply::NoPort, words)?;
+    let words = "grant 4 2 135.104.9.6!5000 5000 = selfpair";
+    shows(&rt, alloc, asks(Some(5000)), Reply::SelfPair, words)?;
+    let words = "grant 4 2 135.104.9.6!5000 7 = pairused 12";
+    let used = Reply::PairUsed { k: 12 };
+    shows(&rt, alloc, asks(Some(7)), used, words)?;
+    let bind = Event::Bind {
+        slot: 4,
+        generation: 2,
+        port: 53,
+    };
+    shows(&rt, alloc, bind, Reply::Ok, "bind 4 2 53 = ok")?;
+    Ok(())
+}
+
+fn asks(lport: Option<u16>) -> Event {
+    Event::Grant {
+        slot: 4,
+        generation: 2,
+        remote: addr(0),
+        lport,
+    }
+}
+
+#[test]
+fn calls_are_listed(rt: HostRuntime) -> Result<(), Fail> {
+    let alloc = rt.alloc();
+    let listen = Event::Listen { slot: 4 };
+    let call = Reply::Call {
+        slot: 5,
+        generation: 1,
+    };
+    shows(&rt, alloc, listen, call, "listen 4 = call 5 1")?;
+    let withdraw = Event::Withdraw {
+        slot: 4,
+        generation: 2,
+    };
+    let mut calls = CallList::new(alloc);
+    calls.push(Call {
+        slot: 5,
+        generation: 1,
+    })?;
+    let calls = Reply::Calls { calls };
+    shows(&rt, alloc, withdraw, calls, "withdraw 4 2 = calls 5 1")?;
+    let release = Event::Release {
+        slot: 4,
+        generation: 2,
+    };
+    let calls = Reply::Calls {
+        calls: CallList::new(alloc),
+    };
+    shows(&rt, alloc, release, calls, "release 4 2 = calls -")?;
+    let born = Reply::Born {
+        slot: 5,
+        generation: 1,
+        start: 4294967295,
+        limit: 8192,
+    };
+    let words = "arrive = born 5 1 4294967295 8192";
+    shows(&rt, alloc, Event::Arrive, born, words)?;
+    shows(
+        &rt,
+        alloc,
+        Event::Arrive,
+        Reply::Refused,
+        "arrive = refused",
+    )?;
+    shows(
+        &rt,
+        alloc,
+        Event::Arrive,
+        Reply::Dropped,
+        "arrive = dropped",
+    )?;
+    Ok(())
+}
+
+#[test]
+fn a_conversation_begins(rt: HostRuntime) -> Result<(), Fail> {
+    let alloc = rt.alloc();
+    let generation = 18446744073709551615;
+    let born = Event::Born { generation };
+    shows(
+        &rt,
+        alloc,
+        born,
+        Reply::Ok,
+        "born 18446744073709551615 = ok",
+    )?;
+    let claim = Event::Claim { generation: 2 };
+    shows(&rt, alloc, claim, Reply::Stale, "claim 2 = stale")?;
+    let announced = Event::Announced { generation: 2 };
+    shows(&rt, alloc, announced, Reply::Ok, "announced 2 = ok")?;
+    let bound = Event::Bound { generation: 2 };
+    shows(&rt, alloc, bound, Reply::Ok, "bound 2 = ok")?;
+    let open = Event::Open {
+        file: FileName::Err,
+        mode: Mode::Read,
+    };
+    shows(&rt, alloc, open, Reply::NotOpen, "open err r = notopen")?;
+    let arrive = Event::ArriveAt { generation: 2 };
+    shows(&rt, alloc, arrive, Reply::Full, "arrive 2 = full")?;
+    let tick = Event::Tick { generation: 2 };
+    shows(&rt, alloc, tick, Reply::NotDue, "tick 2 = notdue")?;
+    Ok(())
+}
+
+#[test]
+fn a_conversation_refuses(rt: HostRuntime) -> Result<(), Fail> {
+    let alloc = rt.alloc();
+    let write = Event::Write {
+        generation: 2,
+        text: text(alloc, b"")?,
+    };
+    shows(&rt, alloc, write, Reply::ZeroWrite, "write 2 - = zerowrite")?;
+    let write = Event::Write {
+        generation: 2,
+        text: text(alloc, b"\x00\xff")?,
+    };
+    let long = Reply::TooLong {
+        length: 2,
+        limit: 1,
+    };
+    shows(&rt, alloc, write, long, "write 2 00ff = toolong 2 1")?;
+    let ctl = Event::Ctl {
+        generation: 2,
+        text: text(alloc, b"go\n")?,
+    };
+    let bad = Reply::BadCtl { number: 1 };
+    shows(&rt, alloc, ctl, bad, "ctl 2 676f0a = badctl 1")?;
+    let hangup = Event::Hangup { generation: 2 };
+    shows(&rt, alloc, hangup, Reply::Left, "hangup 2 = left")?;
+    let close = Event::Close { generation: 2 };
+    shows(&rt, alloc, close, Reply::Ok, "close 2 = ok")?;
+    Ok(())
+}
+
+#[test]
+fn numbers_stand_in_decimal(rt: HostRuntime) -> Result<(), Fail> {
+    let alloc = rt.alloc();
+    let query = text(alloc, b"il!")?;
+    let refused = Reply::CsRefused { number: 3 };
+    let words = "cs 696c21 = csrefused 3";
+    shows(&rt, alloc, Event::Cs { query }, refused, words)?;
+    let ttl = Event::Ttl {
+        generation: 2,
+        n: 64,
+    };
+    shows(&rt, alloc, ttl, Reply::Ok, "ttl 2 64 = ok")?;
+    let tos = Event::Tos {
+        generation: 2,
+        n: 16,
+    };
+    shows(&rt, alloc, tos, Reply::Ok, "tos 2 16 = ok")?;
+    let put = Event::Put { to: Some(7) };
+    shows(&rt, alloc, put, Reply::TooBig, "put 7 = toobig")?;
+    let until = Event::Until { moment: 10 };
+    shows(&rt, alloc, until, Reply::Ok, "until 10 = ok")?;
+    let moved = Event::Move { moment: 60000 };
+    shows(&rt, alloc, moved, Reply::Ok, "move 60000 = ok")?;
     Ok(())
 }

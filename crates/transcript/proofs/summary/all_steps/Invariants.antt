@@ -1,6 +1,9 @@
-use Rattle.std.proofs.Common.{◌≡◌, ◌+◌, ◌*◌, ◌^◌, ◌≤◌, drop}
-use Rattle.transcript.specs.Standing.{steps_in}
+use Rattle.std.proofs.Common.{◌≡◌, ◌+◌, ◌*◌, ◌^◌, ◌≤◌, ℕ, List, drop, length, sum_by}
+use Rattle.net_base.specs.declared.world.Script.{Script}
 use Rattle.transcript.proofs.summary.all_steps.Given as goal
+
+abbrev steps_in : List Script → ℕ
+steps_in scripts = sum_by (λ (s : Script). length s.steps) scripts
 
 -- what is counted, and what is still to count
 abbrev pub invariant-loop-script : goal.invariant-loop-script
