@@ -10,7 +10,7 @@ use Rattle.net_base.specs.Net.{Net, after}
 use Rattle.net_base.specs.Words.{Command, Cs, Run}
 use Rattle.net_base.specs.WorldText.{world_reading}
 use Rattle.cs_resolver.specs.Built.{built_answer}
-use Rattle.netsh.specs.Built.{first_bad, IsStatus, done, stopped, limited, IsRun, IsFound, IsGiven, IsAnswer}
+use Rattle.netsh.specs.Built.{first_bad, IsStatus, IsRun, IsFound, IsGiven, IsAnswer}
 use Rattle.netsh.specs.Ends.{Intake, Output, Told, IsInput, IsRead, Answers, IsStatusOf, IsBad, HasRun, Ends, no_row, answered, unread, no_memory, Causes}
 use Rattle.netsh.proofs.Endings.{too_long_is_bad}
 
@@ -45,9 +45,11 @@ abbrev Apart : ℕ → Type 0
 Apart n = (n ≡ 0 → ⊥) × (n ≡ 2 → ⊥) × (n ≡ 3 → ⊥) × (n ≡ 4 → ⊥) × (n ≡ 5 → ⊥)
 
 no_run_status : (w : World) (net : Net) (status n : ℕ) → IsStatus w net status → status ≡ n → Apart n → ⊥
-no_run_status w net status n (done so is) same apart = apart.0 (sym same ∙ is)
-no_run_status w net status n (stopped so is) same apart = apart.2 (sym same ∙ is)
-no_run_status w net status n (limited so is) same apart = apart.3 (sym same ∙ is)
+no_run_status w net status n is same apart = elim is.ended [
+  | inl zero ↦ apart.0 (sym same ∙ zero)
+  | inr (inl three) ↦ apart.2 (sym same ∙ three)
+  | inr (inr four) ↦ apart.3 (sym same ∙ four)
+]
 
 no_answer : (asked : Command) (input : List ℕ) (answer : Answer) (n : ℕ) → Of asked input answer → answer.status ≡ n → Apart n → ⊥
 no_answer asked input answer n (of_bad bad is two) same apart = apart.1 (sym same ∙ two)
@@ -163,9 +165,11 @@ module _ (command : Option Command) (status : ℕ) (intake : Intake) (output : O
       ]
 
   run_ends : (w : World) (net : Net) (n : ℕ) → status ≡ n → IsStatus w net n → (status ≡ 0) ⊎ (status ≡ 3) ⊎ (status ≡ 4) ⊎ (status ≡ 8)
-  run_ends w net n same (done so zero) = inl (same ∙ zero)
-  run_ends w net n same (stopped so three) = inr (inl (same ∙ three))
-  run_ends w net n same (limited so four) = inr (inr (inl (same ∙ four)))
+  run_ends w net n same is = elim is.ended [
+    | inl zero ↦ inl (same ∙ zero)
+    | inr (inl three) ↦ inr (inl (same ∙ three))
+    | inr (inr four) ↦ inr (inr (inl (same ∙ four)))
+  ]
 
   cs_or_run : (sys query : List ℕ) (workers : ℕ) → Cs sys query ≡ Run workers → ⊥
   cs_or_run sys query workers same = cc
@@ -190,12 +194,11 @@ module _ (command : Option Command) (intake : Intake) where
   bad_of of (of_bad bad is two) = record { asked = of.asked; input = of.answers.input; bad = bad; is_asked = of.is_asked; read = of.answers.read; is_bad = is }
   bad_of of (of_lines good zero sys query is) = absurd (omega (arith, of.right, zero))
   bad_of of (of_refusal good five sys query is) = absurd (omega (arith, of.right, five))
-  bad_of of (of_run good workers is w reads run) = absurd (no_two run.status)
-    where
-      no_two : IsStatus w (after w run.history) of.answer.status → ⊥
-      no_two (done so zero) = omega (arith, of.right, zero)
-      no_two (stopped so three) = omega (arith, of.right, three)
-      no_two (limited so four) = omega (arith, of.right, four)
+  bad_of of (of_run good workers is w reads run) = elim run.status.ended [
+    | inl zero ↦ absurd (omega (arith, of.right, zero))
+    | inr (inl three) ↦ absurd (omega (arith, of.right, three))
+    | inr (inr four) ↦ absurd (omega (arith, of.right, four))
+  ]
 
   -- another status than 2 is of a whole input
   end_of : (n : ℕ) → (n ≡ 2 → ⊥) → (of : IsStatusOf command n intake) → Of of.asked of.answers.input of.answer → IsAtEnd intake.rest
@@ -223,23 +226,13 @@ module _ (command : Option Command) (intake : Intake) where
   stopped_of of (of_bad bad is two) = absurd (omega (arith, of.right, two))
   stopped_of of (of_lines good zero sys query is) = absurd (omega (arith, of.right, zero))
   stopped_of of (of_refusal good five sys query is) = absurd (omega (arith, of.right, five))
-  stopped_of of (of_run good workers is w reads run) = by run.status
-    where
-      by : IsStatus w (after w run.history) of.answer.status → HasRun command calm.stopped intake
-      by (done so zero) = absurd (omega (arith, of.right, zero))
-      by (stopped so three) = ran_of calm.stopped 3 of workers is w reads run good so
-      by (limited so four) = absurd (omega (arith, of.right, four))
+  stopped_of of (of_run good workers is w reads run) = ran_of calm.stopped 3 of workers is w reads run good (run.status.stopped.0 (sym of.right))
 
   limited_of : (of : IsStatusOf command 4 intake) → Of of.asked of.answers.input of.answer → HasRun command calm.limited intake
   limited_of of (of_bad bad is two) = absurd (omega (arith, of.right, two))
   limited_of of (of_lines good zero sys query is) = absurd (omega (arith, of.right, zero))
   limited_of of (of_refusal good five sys query is) = absurd (omega (arith, of.right, five))
-  limited_of of (of_run good workers is w reads run) = by run.status
-    where
-      by : IsStatus w (after w run.history) of.answer.status → HasRun command calm.limited intake
-      by (done so zero) = absurd (omega (arith, of.right, zero))
-      by (stopped so three) = absurd (omega (arith, of.right, three))
-      by (limited so four) = ran_of calm.limited 4 of workers is w reads run good so
+  limited_of of (of_run good workers is w reads run) = ran_of calm.limited 4 of workers is w reads run good (run.status.limited.0 (sym of.right))
 
   done_of : (workers : ℕ) → command ≡ Some (Run workers) → (of : IsStatusOf command 0 intake) → Of of.asked of.answers.input of.answer → HasRun command calm.done intake
   done_of workers ran of (of_bad bad is two) = absurd (omega (arith, of.right, two))
@@ -248,12 +241,7 @@ module _ (command : Option Command) (intake : Intake) where
       apart : Some (Run workers) ≡ Some (Cs sys query) → ⊥
       apart same = cc
   done_of workers ran of (of_refusal good five sys query is) = absurd (omega (arith, of.right, five))
-  done_of workers ran of (of_run good n is w reads run) = by run.status
-    where
-      by : IsStatus w (after w run.history) of.answer.status → HasRun command calm.done intake
-      by (done so zero) = ran_of calm.done 0 of n is w reads run good so
-      by (stopped so three) = absurd (omega (arith, of.right, three))
-      by (limited so four) = absurd (omega (arith, of.right, four))
+  done_of workers ran of (of_run good n is w reads run) = ran_of calm.done 0 of n is w reads run good (run.status.done.0 (sym of.right))
 
   of_it : (n : ℕ) (of : IsStatusOf command n intake) → Of of.asked of.answers.input of.answer
   of_it n of = of_answer of.asked of.answers.input of.answer of.answers.right

@@ -2,7 +2,7 @@
 --     first_bad     the first bad line of an input, for a command
 --     IsRun         what a run over a world prints, and its status
 --     IsAnswer      an answer to a command and its input
-use Rattle.std.specs.Prelude.{◌≡◌, ℕ, true, List, [], ◌∷◌, ◌++◌, length, nat_lt, Option, Some, None, Result, Ok, Err, if◌then◌else◌}
+use Rattle.std.specs.Prelude.{◌≡◌, ◌↔◌, ◌⊎◌, ℕ, true, List, [], ◌∷◌, ◌++◌, length, nat_lt, Option, Some, None, Result, Ok, Err, if◌then◌else◌}
 use Rattle.net_base.specs.declared.address.Proto.TheVariants.{Il, Udp}
 use Rattle.net_base.specs.declared.history.Entry.{Entry}
 use Rattle.net_base.specs.declared.world.World.{World}
@@ -53,10 +53,11 @@ cs_over sys query input = unless_bad (bad_line_so_far input) (cs_found sys query
 -- Answers of run.
 
 -- the status by how the net stands at the end: every step is answered, the end moment came, or a caller has no room
-pub data IsStatus (w : World) (net : Net) (status : ℕ) : Type 0 where
-  done : calm.done w net ≡ true → status ≡ 0 → IsStatus w net status
-  stopped : calm.stopped w net ≡ true → status ≡ 3 → IsStatus w net status
-  limited : calm.limited w net ≡ true → status ≡ 4 → IsStatus w net status
+pub record IsStatus (w : World) (net : Net) (status : ℕ) : Type 0 where
+  pub done : (status ≡ 0) ↔ (calm.done w net ≡ true)
+  pub stopped : (status ≡ 3) ↔ (calm.stopped w net ≡ true)
+  pub limited : (status ≡ 4) ↔ (calm.limited w net ≡ true)
+  pub ended : (status ≡ 0) ⊎ (status ≡ 3) ⊎ (status ≡ 4)
 
 -- the text of one legal and timed history of the world with its summary, and the status by how it ends
 pub record IsRun (w : World) (answer : Answer) : Type 0 where

@@ -1,12 +1,12 @@
 //! The answers: a status, and the text that is written, made whole.
-ghost use Rattle.std.specs.Prelude.{◌≡◌, ◌≢◌, ◌++◌, IfOk, OnOk};
+ghost use Rattle.std.specs.Prelude.{◌≡◌, ◌≢◌, IfOk, OnOk};
 ghost use Rattle.net_base.specs.Answers as spec;
 ghost use Rattle.net_base.specs.Cs.{Lines as ListOf, Refused};
 ghost use Rattle.cs_resolver.specs.Built.{number_of};
-ghost use Rattle.net_base.specs.Legal.{IsLegal};
+ghost use Rattle.net_base.specs.Legal.{IsLegal, IsTimed};
 ghost use Rattle.net_base.specs.Net.{after};
-ghost use Rattle.net_base.specs.Summary.{answered_steps, summary};
-ghost use Rattle.net_base.specs.Transcript.{history_text};
+ghost use Rattle.net_base.specs.Summary.{answered_steps};
+ghost use Rattle.netsh.specs.Built.{IsRun};
 ghost use Rattle.netsh.specs.Runs.{end_of, status_of};
 ghost use Rattle.plain_runner.specs.Ended.{EndsSo};
 
@@ -79,12 +79,13 @@ impl Answer {
     }
 
     /// The text of a run's history with its summary.
+    #[tactic(auto, using(crate::proofs::RunEnds::status_is))]
     pub fn run(alloc: Global, world: &World, ran: &Ran) -> Result<Answer, AllocError>
         requires legal { IsLegal world.now ran.now.history }
+        requires timed { IsTimed world.now ran.now.history }
         requires answered { ran.now.answered ≡ answered_steps world.now ran.now.history }
         requires end { EndsSo world.now (after world.now ran.now.history) ran.now.end }
-        ensures text { IfOk result (λ answer. answer.text ≡ history_text ran.now.history ++ summary world.now ran.now.history) }
-        ensures status { IfOk result (λ answer. answer.status ≡ status_of ran.now.end) }
+        ensures { IfOk result (λ answer. IsRun world.now answer) }
     {
         let mut text = text_of(alloc, &ran.history)?;
         let standing = standing_of(ran);
