@@ -11,3 +11,6 @@ pub mod NdbExample
 pub mod WorkedRuns
 pub mod Answers
 pub mod Words
+pub mod WorldWords
+pub mod WorldLines
+pub mod WorldText

@@ -5,14 +5,17 @@ use Rattle.std.specs.Prelude.{ℕ, Bool, true, false, ◌&&◌, List, [], ◌∷
 pub data Command : Type 0 where
   -- what a host is answered to a query, by its name
   Cs : List ℕ → List ℕ → Command
+  -- the run of a world on so many workers
+  Run : ℕ → Command
 
 -- a word that has bytes
 abbrev pub is_word : List ℕ → Bool
 is_word [] = false
 is_word (byte ∷ bytes) = true
 
--- the command that words give, where they are in a row: `cs SYS QUERY`
+-- the command that words give, where they are in a row: `cs SYS QUERY`, or `run 1`
 abbrev pub command_of : List (List ℕ) → Option Command
+command_of (name ∷ workers ∷ []) = if bytes_eq name (codes "run") && bytes_eq workers (codes "1") then Some (Run 1) else None
 command_of (name ∷ sys ∷ query ∷ []) =
     if bytes_eq name (codes "cs") && is_word sys && is_word query then Some (Cs sys query) else None
 command_of _ = None
@@ -20,6 +23,7 @@ command_of _ = None
 -- whether a command may wait for threads
 abbrev pub may_wait : Command → Bool
 may_wait (Cs sys query) = false
+may_wait (Run workers) = true
 
 -- whether words give a command that may wait
 abbrev pub words_wait : Option Command → Bool

@@ -1,17 +1,24 @@
 -- How the parts of a call make its end.
-use Rattle.std.proofs.Common.{◌≡◌, ℕ, ◌+◌, ◌<◌, ◌⊎◌, Bool, true, nat_lt, List, ◌++◌, length, Option, Some, None, Err, if◌then◌else◌, refl, sym, ◌∙◌, ap, subst, inr, rules, arith}
+use Rattle.std.proofs.Common.{◌≡◌, ◌&&◌, [], ◌∷◌, ℕ, ◌+◌, ◌<◌, ◌≤◌, ◌⊎◌, Bool, true, false, nat_lt, List, ◌++◌, length, Option, Some, None, Err, Ok, if◌then◌else◌, refl, sym, ◌∙◌, ap, subst, inr, rules, arith}
+use Rattle.std.specs.Prelude.{bytes_eq, codes}
+use Rattle.std.proofs.lemmas.Bool.{false≢true}
+use Rattle.std.proofs.lemmas.Bool.Decides.{nat_tests}
 use Rattle.std.proofs.lemmas.List.{length-append}
 use Rattle.outside.specs.Streams.{Took, TookToEnd, Rose}
 use Rattle.outside.specs.declared.fault.TakeError.{TakeError}
 use Rattle.outside.specs.declared.fault.TakeError.TheVariants as error
 use Rattle.net_model.specs.Answers.{Answer, bad_input, read_fault, input_limit}
-use Rattle.net_model.specs.Words.{Command, Cs}
-use Rattle.netsh.specs.Built.{answer_to}
+use Rattle.net_model.specs.Words.{Command, Cs, Run, is_word, command_of, words_wait}
+use Rattle.netsh.specs.Built.{bad_line, first_bad, IsGiven, IsAnswer}
 use Rattle.netsh.specs.Ends.{Intake, Output, Told, IsInput, Answers, Ends, answered, unread, no_memory}
 
--- an input over the limit has one answer
-pub answer_to_too_long : (asked : Command) (input : List ℕ) → input_limit < length input → answer_to asked input ≡ bad_input 0 9
-answer_to_too_long (Cs sys query) input long = grind (arith, rules, long)
+-- an input over the limit is bad
+pub too_long_is_bad : (asked : Command) (input : List ℕ) → input_limit < length input → first_bad asked input ≡ Some (0, 9)
+too_long_is_bad asked input long = let over : nat_lt input_limit (length input) ≡ true = grind (arith, nat_tests) in rw over refl
+
+-- an input within the limit is judged by its lines
+pub within_limit : (asked : Command) (input : List ℕ) → length input ≤ input_limit → first_bad asked input ≡ bad_line asked input
+within_limit asked input fits = let over : nat_lt input_limit (length input) ≡ false = grind (arith, nat_tests) in rw over refl
 
 -- what was taken past the limit begins an input that is over it
 pub input_too_long : (left rest : Option (List ℕ)) (bytes : List ℕ) → Took left rest bytes → length bytes ≡ input_limit + 1 → (input : List ℕ) × IsInput left input × (input_limit < length input)
@@ -32,20 +39,34 @@ answers_too_long asked answer intake fault taken same right =
     in record {
       input = input.0;
       read = (input.1, inr input.2);
-      right = right ∙ sym (answer_to_too_long asked input.0 input.2);
+      right = subst (λ (bad : Option (ℕ × ℕ)). IsGiven bad asked input.0 answer) (sym (too_long_is_bad asked input.0 input.2)) right;
     }
 
 -- an answer that was told
 pub ends_answered : (asked : Command) (answer : Answer) (status : ℕ) (text : List ℕ) (result : ℕ) (intake : Intake) (output : Output) → Answers asked answer intake → status ≡ answer.status → text ≡ answer.text → Told (record { status = status; text = text }) result output → Ends (Some asked) result intake output
 ends_answered asked answer status text result intake output answers same_status same_text told =
-    let whole : Answer → Type 0 = λ a. Told a result output
-    in let by_status : ℕ → Type 0 = λ s. Told (record { status = s; text = text }) result output
+    let by_status : ℕ → Type 0 = λ s. Told (record { status = s; text = text }) result output
     in let by_text : List ℕ → Type 0 = λ t. Told (record { status = answer.status; text = t }) result output
-    in answered asked answers.input refl answers.read
-    (subst whole answers.right (subst by_text same_text (subst by_status same_status told)))
+    in answered asked answer refl answers (subst by_text same_text (subst by_status same_status told))
 
 -- a fault of the source that was told
 pub ends_unread : (asked : Command) (text : List ℕ) (result : ℕ) (intake : Intake) (output : Output) → Rose intake.before intake.after → text ≡ read_fault.text → Told (record { status = 6; text = text }) result output → Ends (Some asked) result intake output
 ends_unread asked text result intake output rose same_text told =
     let by_text : List ℕ → Type 0 = λ t. Told (record { status = 6; text = t }) result output
     in unread asked refl rose (subst by_text same_text told)
+
+-- the words that wait are those of a run on one worker
+pub waits_run : (words : List (List ℕ)) → words_wait (command_of words) ≡ true → command_of words ≡ Some (Run 1)
+waits_run [] waits = absurd (false≢true waits)
+waits_run (name ∷ []) waits = absurd (false≢true waits)
+waits_run (name ∷ workers ∷ []) waits = by (bytes_eq name (codes "run") && bytes_eq workers (codes "1")) waits
+  where
+    by : (b : Bool) → words_wait (if b then Some (Run 1) else None) ≡ true → (if b then Some (Run 1) else None) ≡ Some (Run 1)
+    by true waits = refl
+    by false waits = absurd (false≢true waits)
+waits_run (name ∷ sys ∷ query ∷ []) waits = absurd (by (bytes_eq name (codes "cs") && is_word sys && is_word query) waits)
+  where
+    by : (b : Bool) → words_wait (if b then Some (Cs sys query) else None) ≡ true → ⊥
+    by true waits = false≢true waits
+    by false waits = false≢true waits
+waits_run (name ∷ sys ∷ query ∷ more ∷ words) waits = absurd (false≢true waits)

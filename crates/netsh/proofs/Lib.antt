@@ -1,3 +1,4 @@
 pub mod CsAnswers
 pub mod Endings
 pub mod Statuses
+pub mod RunEnds

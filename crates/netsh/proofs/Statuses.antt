@@ -1,138 +1,295 @@
 -- What the statuses say, from how a call ends.
-use Rattle.std.proofs.Common.{◌≡◌, ◌≢◌, ℕ, ◌<◌, ◌⊎◌, Bool, true, false, nat_lt, List, length, Option, Some, None, IsSome, IfSome, if◌then◌else◌, refl, sym, ◌∙◌, ap, inl, inr, rules, arith}
+use Rattle.std.proofs.Common.{◌≡◌, ◌≢◌, ℕ, ◌<◌, ◌⊎◌, Bool, true, List, length, Option, Some, None, Ok, unwrap_or, IsSome, IfSome, refl, sym, ◌∙◌, ap, subst, inl, inr, rules, arith}
 use Rattle.std.specs.Io.KnownBytes.{IsAtEnd}
 use Rattle.outside.specs.Streams.{Rose}
+use Rattle.net_base.specs.declared.world.World.{World}
 use Rattle.net_model.specs.Answers.{Answer, bad_input, cs_answer, usage, read_fault, input_limit}
+use Rattle.net_base.specs.Calm as calm
 use Rattle.net_base.specs.Cs.{CsAnswer, Lines, Refused}
-use Rattle.net_model.specs.Words.{Command, Cs}
-use Rattle.netsh.specs.Built.{unless_bad, answer_to}
-use Rattle.netsh.specs.Ends.{Intake, Output, Told, IsRead, IsStatusOf, Ends, no_row, answered, unread, no_memory, Causes}
-use Rattle.netsh.proofs.Endings.{answer_to_too_long}
+use Rattle.net_base.specs.Net.{Net, after}
+use Rattle.net_model.specs.Words.{Command, Cs, Run}
+use Rattle.net_model.specs.WorldText.{world_reading}
+use Rattle.cs_resolver.specs.Built.{built_answer}
+use Rattle.netsh.specs.Built.{first_bad, IsStatus, IsRun, IsFound, IsGiven, IsAnswer}
+use Rattle.netsh.specs.Ends.{Intake, Output, Told, IsInput, IsRead, Answers, IsStatusOf, IsBad, HasRun, Ends, no_row, answered, unread, no_memory, Causes}
+use Rattle.netsh.proofs.Endings.{too_long_is_bad}
 
 some_none : (asked : Command) → Some asked ≡ None → ⊥
 some_none asked h = cc
 
--- the numbers that an answer's status may be
-pub data OfAnswer (status : ℕ) : Type 0 where
-  zero_status : status ≡ 0 → OfAnswer status
-  two_status : status ≡ 2 → OfAnswer status
-  five_status : status ≡ 5 → OfAnswer status
+-- what a status says of the command and its input, and the status that it is
+pub data Of (asked : Command) (input : List ℕ) (answer : Answer) : Type 0 where
+  of_bad : (bad : ℕ × ℕ) → first_bad asked input ≡ Some bad → answer.status ≡ 2 → Of asked input answer
+  of_lines : first_bad asked input ≡ None → answer.status ≡ 0 → (sys query : List ℕ) → asked ≡ Cs sys query → Of asked input answer
+  of_refusal : first_bad asked input ≡ None → answer.status ≡ 5 → (sys query : List ℕ) → asked ≡ Cs sys query → Of asked input answer
+  of_run : first_bad asked input ≡ None → (workers : ℕ) → asked ≡ Run workers → (w : World) → world_reading input ≡ Ok w → IsRun w answer → Of asked input answer
 
-status_of_cs : (found : CsAnswer) → OfAnswer (cs_answer found).status
-status_of_cs (Lines lines) = zero_status refl
-status_of_cs (Refused number) = five_status refl
+of_cs : (sys query input : List ℕ) (answer : Answer) (found : CsAnswer) → first_bad (Cs sys query) input ≡ None → answer ≡ cs_answer found → Of (Cs sys query) input answer
+of_cs sys query input answer (Lines lines) good is = of_lines good (ap (λ (a : Answer). a.status) is) sys query refl
+of_cs sys query input answer (Refused number) good is = of_refusal good (ap (λ (a : Answer). a.status) is) sys query refl
 
-status_unless_bad : (bad : Option (ℕ × ℕ)) (found : CsAnswer) → OfAnswer (unless_bad bad (cs_answer found)).status
-status_unless_bad None found = status_of_cs found
-status_unless_bad (Some bad) found = two_status refl
+of_found : (asked : Command) (input : List ℕ) (answer : Answer) → first_bad asked input ≡ None → IsFound asked input answer → Of asked input answer
+of_found (Cs sys query) input answer good found = of_cs sys query input answer _ good found
+of_found (Run workers) input answer good found = of_run good workers refl found.0 found.1 found.2
 
-status_if : (too_long : Bool) (answer : Answer) → OfAnswer answer.status → OfAnswer (if too_long then bad_input 0 9 else answer).status
-status_if true answer of = two_status refl
-status_if false answer of = of
+of_given : (asked : Command) (input : List ℕ) (answer : Answer) (bad : Option (ℕ × ℕ)) → first_bad asked input ≡ bad → IsGiven bad asked input answer → Of asked input answer
+of_given asked input answer None is given = of_found asked input answer is given
+of_given asked input answer (Some bad) is given = of_bad bad is (ap (λ (a : Answer). a.status) given)
 
--- the status of an answer is 0, 2 or 5
-status_of_answer : (asked : Command) (input : List ℕ) → OfAnswer (answer_to asked input).status
-status_of_answer (Cs sys query) input = status_if (nat_lt input_limit (length input)) _ (status_unless_bad _ _)
+-- what an answer says
+of_answer : (asked : Command) (input : List ℕ) (answer : Answer) → IsAnswer asked input answer → Of asked input answer
+of_answer asked input answer is = of_given asked input answer (first_bad asked input) refl is
 
--- so it is no other number
-no_answer : (status found n : ℕ) → OfAnswer found → status ≡ found → status ≡ n → (n ≡ 0 → ⊥) → (n ≡ 2 → ⊥) → (n ≡ 5 → ⊥) → ⊥
-no_answer status found n (zero_status e) same is no_zero no_two no_five = no_zero (omega (arith, e, same, is))
-no_answer status found n (two_status e) same is no_zero no_two no_five = no_two (omega (arith, e, same, is))
-no_answer status found n (five_status e) same is no_zero no_two no_five = no_five (omega (arith, e, same, is))
+-- an answer's status is none of the others
+abbrev Apart : ℕ → Type 0
+Apart n = (n ≡ 0 → ⊥) × (n ≡ 2 → ⊥) × (n ≡ 3 → ⊥) × (n ≡ 4 → ⊥) × (n ≡ 5 → ⊥)
 
--- an answer other than 2 is to an input within the limit
-read_whole : (asked : Command) (input : List ℕ) (intake : Intake) → IsRead intake input → ((answer_to asked input).status ≡ 2 → ⊥) → IsAtEnd intake.rest
-read_whole asked input intake (is, inl end) no_two = end
-read_whole asked input intake (is, inr long) no_two = absurd (no_two (ap (λ (answer : Answer). answer.status) (answer_to_too_long asked input long)))
+no_run_status : (w : World) (net : Net) (status n : ℕ) → IsStatus w net status → status ≡ n → Apart n → ⊥
+no_run_status w net status n is same apart = elim is.ended [
+  | inl zero ↦ apart.0 (sym same ∙ zero)
+  | inr (inl three) ↦ apart.2 (sym same ∙ three)
+  | inr (inr four) ↦ apart.3 (sym same ∙ four)
+]
 
-usage_only : (command : Option Command) (status : ℕ) (intake : Intake) (output : Output) → Ends command status intake output → status ≡ 1 → command ≡ None
-usage_only command status intake output (no_row none unread_source told) one = none
-usage_only command status intake output (answered asked input is read (inl t)) one =
-    absurd (no_answer status _ 1 (status_of_answer asked input) t.0 one (λ e. omega (arith, e)) (λ e. omega (arith, e)) (λ e. omega (arith, e)))
-usage_only command status intake output (answered asked input is read (inr t)) one = absurd (omega (arith, t.0, one))
-usage_only command status intake output (unread asked is rose (inl t)) one = absurd (omega (arith, t.0, one))
-usage_only command status intake output (unread asked is rose (inr t)) one = absurd (omega (arith, t.0, one))
-usage_only command status intake output (no_memory asked is eight kept) one = absurd (omega (arith, eight, one))
+no_answer : (asked : Command) (input : List ℕ) (answer : Answer) (n : ℕ) → Of asked input answer → answer.status ≡ n → Apart n → ⊥
+no_answer asked input answer n (of_bad bad is two) same apart = apart.1 (sym same ∙ two)
+no_answer asked input answer n (of_lines good zero sys query is) same apart = apart.0 (sym same ∙ zero)
+no_answer asked input answer n (of_refusal good five sys query is) same apart = apart.4 (sym same ∙ five)
+no_answer asked input answer n (of_run good workers is w reads run) same apart = no_run_status w (after w run.history) answer.status n run.status same apart
 
-only_usage : (command : Option Command) (status : ℕ) (intake : Intake) (output : Output) → Ends command status intake output → command ≡ None → (status ≡ 1) ⊎ (status ≡ 7)
-only_usage command status intake output (no_row none unread_source (inl t)) is_none = inl t.0
-only_usage command status intake output (no_row none unread_source (inr t)) is_none = inr t.0
-only_usage command status intake output (answered asked input is read told) is_none = absurd (some_none asked (sym is ∙ is_none))
-only_usage command status intake output (unread asked is rose told) is_none = absurd (some_none asked (sym is ∙ is_none))
-only_usage command status intake output (no_memory asked is eight kept) is_none = absurd (some_none asked (sym is ∙ is_none))
+apart_1 : Apart 1
+apart_1 = (λ e. omega (arith, e), λ e. omega (arith, e), λ e. omega (arith, e), λ e. omega (arith, e), λ e. omega (arith, e))
 
--- a status that only answers have
-status_of : (n : ℕ) (command : Option Command) (status : ℕ) (intake : Intake) (output : Output) → Ends command status intake output → status ≡ n → (n ≡ 1 → ⊥) → (n ≡ 6 → ⊥) → (n ≡ 7 → ⊥) → (n ≡ 8 → ⊥) → IsStatusOf command n intake
-status_of n command status intake output (no_row none unread_source (inl t)) is_n no_one no_six no_seven no_eight = absurd (no_one (sym is_n ∙ t.0))
-status_of n command status intake output (no_row none unread_source (inr t)) is_n no_one no_six no_seven no_eight = absurd (no_seven (sym is_n ∙ t.0))
-status_of n command status intake output (answered asked input is read (inl t)) is_n no_one no_six no_seven no_eight =
-    record { asked = asked; input = input; is_asked = is; read = read; right = sym is_n ∙ t.0 }
-status_of n command status intake output (answered asked input is read (inr t)) is_n no_one no_six no_seven no_eight = absurd (no_seven (sym is_n ∙ t.0))
-status_of n command status intake output (unread asked is rose (inl t)) is_n no_one no_six no_seven no_eight = absurd (no_six (sym is_n ∙ t.0))
-status_of n command status intake output (unread asked is rose (inr t)) is_n no_one no_six no_seven no_eight = absurd (no_seven (sym is_n ∙ t.0))
-status_of n command status intake output (no_memory asked is eight kept) is_n no_one no_six no_seven no_eight = absurd (no_eight (sym is_n ∙ eight))
+apart_6 : Apart 6
+apart_6 = (λ e. omega (arith, e), λ e. omega (arith, e), λ e. omega (arith, e), λ e. omega (arith, e), λ e. omega (arith, e))
 
-only_read_fault : (command : Option Command) (status : ℕ) (intake : Intake) (output : Output) → Ends command status intake output → status ≡ 6 → Rose intake.before intake.after
-only_read_fault command status intake output (no_row none unread_source (inl t)) six = absurd (omega (arith, t.0, six))
-only_read_fault command status intake output (no_row none unread_source (inr t)) six = absurd (omega (arith, t.0, six))
-only_read_fault command status intake output (answered asked input is read (inl t)) six =
-    absurd (no_answer status _ 6 (status_of_answer asked input) t.0 six (λ e. omega (arith, e)) (λ e. omega (arith, e)) (λ e. omega (arith, e)))
-only_read_fault command status intake output (answered asked input is read (inr t)) six = absurd (omega (arith, t.0, six))
-only_read_fault command status intake output (unread asked is rose told) six = rose
-only_read_fault command status intake output (no_memory asked is eight kept) six = absurd (omega (arith, eight, six))
+apart_7 : Apart 7
+apart_7 = (λ e. omega (arith, e), λ e. omega (arith, e), λ e. omega (arith, e), λ e. omega (arith, e), λ e. omega (arith, e))
 
-only_write_fault : (command : Option Command) (status : ℕ) (intake : Intake) (output : Output) → Ends command status intake output → status ≡ 7 → Rose output.before output.after
-only_write_fault command status intake output (no_row none unread_source (inl t)) seven = absurd (omega (arith, t.0, seven))
-only_write_fault command status intake output (no_row none unread_source (inr t)) seven = t.1
-only_write_fault command status intake output (answered asked input is read (inl t)) seven =
-    absurd (no_answer status _ 7 (status_of_answer asked input) t.0 seven (λ e. omega (arith, e)) (λ e. omega (arith, e)) (λ e. omega (arith, e)))
-only_write_fault command status intake output (answered asked input is read (inr t)) seven = t.1
-only_write_fault command status intake output (unread asked is rose (inl t)) seven = absurd (omega (arith, t.0, seven))
-only_write_fault command status intake output (unread asked is rose (inr t)) seven = t.1
-only_write_fault command status intake output (no_memory asked is eight kept) seven = absurd (omega (arith, eight, seven))
+apart_8 : Apart 8
+apart_8 = (λ e. omega (arith, e), λ e. omega (arith, e), λ e. omega (arith, e), λ e. omega (arith, e), λ e. omega (arith, e))
 
-only_memory : (command : Option Command) (status : ℕ) (intake : Intake) (output : Output) → Ends command status intake output → status ≡ 8 → output.holds ≡ output.held
-only_memory command status intake output (no_row none unread_source (inl t)) is_eight = absurd (omega (arith, t.0, is_eight))
-only_memory command status intake output (no_row none unread_source (inr t)) is_eight = absurd (omega (arith, t.0, is_eight))
-only_memory command status intake output (answered asked input is read (inl t)) is_eight =
-    absurd (no_answer status _ 8 (status_of_answer asked input) t.0 is_eight (λ e. omega (arith, e)) (λ e. omega (arith, e)) (λ e. omega (arith, e)))
-only_memory command status intake output (answered asked input is read (inr t)) is_eight = absurd (omega (arith, t.0, is_eight))
-only_memory command status intake output (unread asked is rose (inl t)) is_eight = absurd (omega (arith, t.0, is_eight))
-only_memory command status intake output (unread asked is rose (inr t)) is_eight = absurd (omega (arith, t.0, is_eight))
-only_memory command status intake output (no_memory asked is eight kept) is_eight = kept
+-- an answer with such a status is none
+not_of : (asked : Command) (answer : Answer) (intake : Intake) (status n : ℕ) → Answers asked answer intake → status ≡ answer.status → status ≡ n → Apart n → ⊥
+not_of asked answer intake status n answers same is apart = no_answer asked answers.input answer n (of_answer asked answers.input answer answers.right) (sym same ∙ is) apart
 
--- a status that only answers to whole inputs have
-end_of : (n : ℕ) (command : Option Command) (intake : Intake) → IsStatusOf command n intake → (n ≡ 2 → ⊥) → IsAtEnd intake.rest
-end_of n command intake of no_two = read_whole of.asked of.input intake of.read (λ two. no_two (of.right ∙ two))
+none_some : (bad : ℕ × ℕ) → None ≡ Some bad → ⊥
+none_some bad h = cc
 
-whole_at_end : (command : Option Command) (status : ℕ) (intake : Intake) (output : Output) → Ends command status intake output → (status ≡ 0) ⊎ (status ≡ 5) → IsAtEnd intake.rest
-whole_at_end command status intake output ends (inl zero) =
-    end_of 0 command intake (status_of 0 command status intake output ends zero (λ e. omega (arith, e)) (λ e. omega (arith, e)) (λ e. omega (arith, e)) (λ e. omega (arith, e))) (λ e. omega (arith, e))
-whole_at_end command status intake output ends (inr five) =
-    end_of 5 command intake (status_of 5 command status intake output ends five (λ e. omega (arith, e)) (λ e. omega (arith, e)) (λ e. omega (arith, e)) (λ e. omega (arith, e))) (λ e. omega (arith, e))
+-- a good input was read to its end
+read_whole : (asked : Command) (input : List ℕ) (intake : Intake) → IsRead intake input → first_bad asked input ≡ None → IsAtEnd intake.rest
+read_whole asked input intake (is, inl end) good = end
+read_whole asked input intake (is, inr long) good = absurd (none_some (0, 9) (sym good ∙ too_long_is_bad asked input long))
 
-complete_without_faults : (command : Option Command) (status : ℕ) (intake : Intake) (output : Output) → Ends command status intake output → ¬ Rose intake.before intake.after → ¬ Rose output.before output.after → command ≢ None → (status ≡ 8) ⊎ IsStatusOf command status intake
-complete_without_faults command status intake output (no_row none unread_source told) reads writes some = absurd (some none)
-complete_without_faults command status intake output (answered asked input is read (inl t)) reads writes some =
-    inr (record { asked = asked; input = input; is_asked = is; read = read; right = t.0 })
-complete_without_faults command status intake output (answered asked input is read (inr t)) reads writes some = absurd (writes t.1)
-complete_without_faults command status intake output (unread asked is rose told) reads writes some = absurd (reads rose)
-complete_without_faults command status intake output (no_memory asked is eight kept) reads writes some = inl eight
+module _ (command : Option Command) (status : ℕ) (intake : Intake) (output : Output) where
+  usage_only : Ends command status intake output → status ≡ 1 → command ≡ None
+  usage_only (no_row none unread_source told) one = none
+  usage_only (answered asked answer is answers (inl t)) one = absurd (not_of asked answer intake status 1 answers t.0 one apart_1)
+  usage_only (answered asked answer is answers (inr t)) one = absurd (omega (arith, t.0, one))
+  usage_only (unread asked is rose (inl t)) one = absurd (omega (arith, t.0, one))
+  usage_only (unread asked is rose (inr t)) one = absurd (omega (arith, t.0, one))
+  usage_only (no_memory asked is eight kept) one = absurd (omega (arith, eight, one))
 
--- what the statuses say
-pub causes_of : (command : Option Command) (status : ℕ) (intake : Intake) (output : Output) → Ends command status intake output → Causes command status intake output
-causes_of command status intake output ends = record {
-  usage_only = usage_only command status intake output ends;
-  no_row = only_usage command status intake output ends;
-  done = λ is. status_of 0 command status intake output ends is (λ e. omega (arith, e)) (λ e. omega (arith, e)) (λ e. omega (arith, e)) (λ e. omega (arith, e));
-  bad_input = λ is. status_of 2 command status intake output ends is (λ e. omega (arith, e)) (λ e. omega (arith, e)) (λ e. omega (arith, e)) (λ e. omega (arith, e));
-  refused = λ is. status_of 5 command status intake output ends is (λ e. omega (arith, e)) (λ e. omega (arith, e)) (λ e. omega (arith, e)) (λ e. omega (arith, e));
-  read_fault = only_read_fault command status intake output ends;
-  write_fault = only_write_fault command status intake output ends;
-  memory = only_memory command status intake output ends;
-  end = whole_at_end command status intake output ends;
-  complete = complete_without_faults command status intake output ends;
-}
+  only_usage : Ends command status intake output → command ≡ None → (status ≡ 1) ⊎ (status ≡ 7)
+  only_usage (no_row none unread_source (inl t)) is_none = inl t.0
+  only_usage (no_row none unread_source (inr t)) is_none = inr t.0
+  only_usage (answered asked answer is answers told) is_none = absurd (some_none asked (sym is ∙ is_none))
+  only_usage (unread asked is rose told) is_none = absurd (some_none asked (sym is ∙ is_none))
+  only_usage (no_memory asked is eight kept) is_none = absurd (some_none asked (sym is ∙ is_none))
+
+  -- a status that only answers have
+  status_of : (n : ℕ) → Ends command status intake output → status ≡ n → (n ≡ 1 → ⊥) → (n ≡ 6 → ⊥) → (n ≡ 7 → ⊥) → (n ≡ 8 → ⊥) → IsStatusOf command n intake
+  status_of n (no_row none unread_source (inl t)) is_n no_one no_six no_seven no_eight = absurd (no_one (sym is_n ∙ t.0))
+  status_of n (no_row none unread_source (inr t)) is_n no_one no_six no_seven no_eight = absurd (no_seven (sym is_n ∙ t.0))
+  status_of n (answered asked answer is answers (inl t)) is_n no_one no_six no_seven no_eight =
+      record { asked = asked; answer = answer; is_asked = is; answers = answers; right = sym is_n ∙ t.0 }
+  status_of n (answered asked answer is answers (inr t)) is_n no_one no_six no_seven no_eight = absurd (no_seven (sym is_n ∙ t.0))
+  status_of n (unread asked is rose (inl t)) is_n no_one no_six no_seven no_eight = absurd (no_six (sym is_n ∙ t.0))
+  status_of n (unread asked is rose (inr t)) is_n no_one no_six no_seven no_eight = absurd (no_seven (sym is_n ∙ t.0))
+  status_of n (no_memory asked is eight kept) is_n no_one no_six no_seven no_eight = absurd (no_eight (sym is_n ∙ eight))
+
+  only_read_fault : Ends command status intake output → status ≡ 6 → Rose intake.before intake.after
+  only_read_fault (no_row none unread_source (inl t)) six = absurd (omega (arith, t.0, six))
+  only_read_fault (no_row none unread_source (inr t)) six = absurd (omega (arith, t.0, six))
+  only_read_fault (answered asked answer is answers (inl t)) six = absurd (not_of asked answer intake status 6 answers t.0 six apart_6)
+  only_read_fault (answered asked answer is answers (inr t)) six = absurd (omega (arith, t.0, six))
+  only_read_fault (unread asked is rose told) six = rose
+  only_read_fault (no_memory asked is eight kept) six = absurd (omega (arith, eight, six))
+
+  only_write_fault : Ends command status intake output → status ≡ 7 → Rose output.before output.after
+  only_write_fault (no_row none unread_source (inl t)) seven = absurd (omega (arith, t.0, seven))
+  only_write_fault (no_row none unread_source (inr t)) seven = t.1
+  only_write_fault (answered asked answer is answers (inl t)) seven = absurd (not_of asked answer intake status 7 answers t.0 seven apart_7)
+  only_write_fault (answered asked answer is answers (inr t)) seven = t.1
+  only_write_fault (unread asked is rose (inl t)) seven = absurd (omega (arith, t.0, seven))
+  only_write_fault (unread asked is rose (inr t)) seven = t.1
+  only_write_fault (no_memory asked is eight kept) seven = absurd (omega (arith, eight, seven))
+
+  only_memory : Ends command status intake output → status ≡ 8 → output.holds ≡ output.held
+  only_memory (no_row none unread_source (inl t)) is_eight = absurd (omega (arith, t.0, is_eight))
+  only_memory (no_row none unread_source (inr t)) is_eight = absurd (omega (arith, t.0, is_eight))
+  only_memory (answered asked answer is answers (inl t)) is_eight = absurd (not_of asked answer intake status 8 answers t.0 is_eight apart_8)
+  only_memory (answered asked answer is answers (inr t)) is_eight = absurd (omega (arith, t.0, is_eight))
+  only_memory (unread asked is rose (inl t)) is_eight = absurd (omega (arith, t.0, is_eight))
+  only_memory (unread asked is rose (inr t)) is_eight = absurd (omega (arith, t.0, is_eight))
+  only_memory (no_memory asked is eight kept) is_eight = kept
+
+  complete_without_faults : Ends command status intake output → ¬ Rose intake.before intake.after → ¬ Rose output.before output.after → command ≢ None → (status ≡ 8) ⊎ IsStatusOf command status intake
+  complete_without_faults (no_row none unread_source told) reads writes some = absurd (some none)
+  complete_without_faults (answered asked answer is answers (inl t)) reads writes some =
+      inr (record { asked = asked; answer = answer; is_asked = is; answers = answers; right = t.0 })
+  complete_without_faults (answered asked answer is answers (inr t)) reads writes some = absurd (writes t.1)
+  complete_without_faults (unread asked is rose told) reads writes some = absurd (reads rose)
+  complete_without_faults (no_memory asked is eight kept) reads writes some = inl eight
+
+  -- an answer that a call without a fault gave is to what the source had left
+  same_command : (asked other : Command) → command ≡ Some asked → command ≡ Some other → other ≡ asked
+  same_command asked other one two = ap (λ (o : Option Command). unwrap_or o other) (sym two ∙ one)
+
+  same_bad : (of : IsStatusOf command status intake) (asked : Command) (input : List ℕ) → command ≡ Some asked → intake.left ≡ Some input → first_bad of.asked of.answers.input ≡ first_bad asked input
+  same_bad of asked input is left =
+      let same_input : of.answers.input ≡ input = subst (λ (o : Option (List ℕ)). IsInput o of.answers.input) left of.answers.read.0 in
+      ap (λ (c : Command). first_bad c of.answers.input) (same_command asked of.asked is of.is_asked) ∙ ap (first_bad asked) same_input
+
+  bad_two : (of : IsStatusOf command status intake) (bad : ℕ × ℕ) → first_bad of.asked of.answers.input ≡ Some bad → Of of.asked of.answers.input of.answer → status ≡ 2
+  bad_two of bad is (of_bad found same two) = of.right ∙ two
+  bad_two of bad is (of_lines good zero sys query same) = absurd (none_some bad (sym good ∙ is))
+  bad_two of bad is (of_refusal good five sys query same) = absurd (none_some bad (sym good ∙ is))
+  bad_two of bad is (of_run good workers same w reads run) = absurd (none_some bad (sym good ∙ is))
+
+  tells_bad : Ends command status intake output → ¬ Rose intake.before intake.after → ¬ Rose output.before output.after → (asked : Command) (input : List ℕ) (bad : ℕ × ℕ) → command ≡ Some asked → intake.left ≡ Some input → first_bad asked input ≡ Some bad → (status ≡ 2) ⊎ (status ≡ 8)
+  tells_bad ends reads writes asked input bad is left is_bad =
+      elim (complete_without_faults ends reads writes (λ none. some_none asked (sym is ∙ none))) [
+        | inl eight ↦ inr eight
+        | inr of ↦ inl (bad_two of bad (same_bad of asked input is left ∙ is_bad) (of_answer of.asked of.answers.input of.answer of.answers.right))
+      ]
+
+  run_ends : (w : World) (net : Net) (n : ℕ) → status ≡ n → IsStatus w net n → (status ≡ 0) ⊎ (status ≡ 3) ⊎ (status ≡ 4) ⊎ (status ≡ 8)
+  run_ends w net n same is = elim is.ended [
+    | inl zero ↦ inl (same ∙ zero)
+    | inr (inl three) ↦ inr (inl (same ∙ three))
+    | inr (inr four) ↦ inr (inr (inl (same ∙ four)))
+  ]
+
+  cs_or_run : (sys query : List ℕ) (workers : ℕ) → Cs sys query ≡ Run workers → ⊥
+  cs_or_run sys query workers same = cc
+
+  good_runs : (of : IsStatusOf command status intake) (workers : ℕ) → of.asked ≡ Run workers → first_bad of.asked of.answers.input ≡ None → Of of.asked of.answers.input of.answer → (status ≡ 0) ⊎ (status ≡ 3) ⊎ (status ≡ 4) ⊎ (status ≡ 8)
+  good_runs of workers ran good (of_bad bad same two) = absurd (none_some bad (sym good ∙ same))
+  good_runs of workers ran good (of_lines same zero sys query is) = absurd (cs_or_run sys query workers (sym is ∙ ran))
+  good_runs of workers ran good (of_refusal same five sys query is) = absurd (cs_or_run sys query workers (sym is ∙ ran))
+  good_runs of workers ran good (of_run same n is w reads run) = run_ends w (after w run.history) of.answer.status of.right run.status
+
+  runs : Ends command status intake output → ¬ Rose intake.before intake.after → ¬ Rose output.before output.after → (workers : ℕ) (input : List ℕ) → command ≡ Some (Run workers) → intake.left ≡ Some input → first_bad (Run workers) input ≡ None → (status ≡ 0) ⊎ (status ≡ 3) ⊎ (status ≡ 4) ⊎ (status ≡ 8)
+  runs ends reads writes workers input is left good =
+      elim (complete_without_faults ends reads writes (λ none. some_none (Run workers) (sym is ∙ none))) [
+        | inl eight ↦ inr (inr (inr eight))
+        | inr of ↦ good_runs of workers (same_command (Run workers) of.asked is of.is_asked) (same_bad of (Run workers) input is left ∙ good) (of_answer of.asked of.answers.input of.answer of.answers.right)
+      ]
+
+-- What the status of an answer says.
+
+module _ (command : Option Command) (intake : Intake) where
+  bad_of : (of : IsStatusOf command 2 intake) → Of of.asked of.answers.input of.answer → IsBad command intake
+  bad_of of (of_bad bad is two) = record { asked = of.asked; input = of.answers.input; bad = bad; is_asked = of.is_asked; read = of.answers.read; is_bad = is }
+  bad_of of (of_lines good zero sys query is) = absurd (omega (arith, of.right, zero))
+  bad_of of (of_refusal good five sys query is) = absurd (omega (arith, of.right, five))
+  bad_of of (of_run good workers is w reads run) = elim run.status.ended [
+    | inl zero ↦ absurd (omega (arith, of.right, zero))
+    | inr (inl three) ↦ absurd (omega (arith, of.right, three))
+    | inr (inr four) ↦ absurd (omega (arith, of.right, four))
+  ]
+
+  -- another status than 2 is of a whole input
+  end_of : (n : ℕ) → (n ≡ 2 → ⊥) → (of : IsStatusOf command n intake) → Of of.asked of.answers.input of.answer → IsAtEnd intake.rest
+  end_of n no_two of (of_bad bad is two) = absurd (no_two (of.right ∙ two))
+  end_of n no_two of (of_lines good zero sys query is) = read_whole of.asked of.answers.input intake of.answers.read good
+  end_of n no_two of (of_refusal good five sys query is) = read_whole of.asked of.answers.input intake of.answers.read good
+  end_of n no_two of (of_run good workers is w reads run) = read_whole of.asked of.answers.input intake of.answers.read good
+
+  ran_of : (so : World → Net → Bool) (n : ℕ) (of : IsStatusOf command n intake) (workers : ℕ) → of.asked ≡ Run workers → (w : World) → world_reading of.answers.input ≡ Ok w → (run : IsRun w of.answer) → first_bad of.asked of.answers.input ≡ None → so w (after w run.history) ≡ true → HasRun command so intake
+  ran_of so n of workers is w reads run good right = record {
+    workers = workers;
+    input = of.answers.input;
+    world = w;
+    history = run.history;
+    is_asked = of.is_asked ∙ ap (λ (c : Command). Some c) is;
+    is_input = of.answers.read.0;
+    to_end = read_whole of.asked of.answers.input intake of.answers.read good;
+    reads = reads;
+    legal = run.legal;
+    timed = run.timed;
+    right = right;
+  }
+
+  stopped_of : (of : IsStatusOf command 3 intake) → Of of.asked of.answers.input of.answer → HasRun command calm.stopped intake
+  stopped_of of (of_bad bad is two) = absurd (omega (arith, of.right, two))
+  stopped_of of (of_lines good zero sys query is) = absurd (omega (arith, of.right, zero))
+  stopped_of of (of_refusal good five sys query is) = absurd (omega (arith, of.right, five))
+  stopped_of of (of_run good workers is w reads run) = ran_of calm.stopped 3 of workers is w reads run good (run.status.stopped.0 (sym of.right))
+
+  limited_of : (of : IsStatusOf command 4 intake) → Of of.asked of.answers.input of.answer → HasRun command calm.limited intake
+  limited_of of (of_bad bad is two) = absurd (omega (arith, of.right, two))
+  limited_of of (of_lines good zero sys query is) = absurd (omega (arith, of.right, zero))
+  limited_of of (of_refusal good five sys query is) = absurd (omega (arith, of.right, five))
+  limited_of of (of_run good workers is w reads run) = ran_of calm.limited 4 of workers is w reads run good (run.status.limited.0 (sym of.right))
+
+  done_of : (workers : ℕ) → command ≡ Some (Run workers) → (of : IsStatusOf command 0 intake) → Of of.asked of.answers.input of.answer → HasRun command calm.done intake
+  done_of workers ran of (of_bad bad is two) = absurd (omega (arith, of.right, two))
+  done_of workers ran of (of_lines good zero sys query is) = absurd (apart (sym ran ∙ (of.is_asked ∙ ap (λ (c : Command). Some c) is)))
+    where
+      apart : Some (Run workers) ≡ Some (Cs sys query) → ⊥
+      apart same = cc
+  done_of workers ran of (of_refusal good five sys query is) = absurd (omega (arith, of.right, five))
+  done_of workers ran of (of_run good n is w reads run) = ran_of calm.done 0 of n is w reads run good (run.status.done.0 (sym of.right))
+
+  of_it : (n : ℕ) (of : IsStatusOf command n intake) → Of of.asked of.answers.input of.answer
+  of_it n of = of_answer of.asked of.answers.input of.answer of.answers.right
+
+module _ (command : Option Command) (status : ℕ) (intake : Intake) (output : Output) (ends : Ends command status intake output) where
+  as_0 : status ≡ 0 → IsStatusOf command 0 intake
+  as_0 is = status_of command status intake output 0 ends is (λ e. omega (arith, e)) (λ e. omega (arith, e)) (λ e. omega (arith, e)) (λ e. omega (arith, e))
+
+  as_2 : status ≡ 2 → IsStatusOf command 2 intake
+  as_2 is = status_of command status intake output 2 ends is (λ e. omega (arith, e)) (λ e. omega (arith, e)) (λ e. omega (arith, e)) (λ e. omega (arith, e))
+
+  as_3 : status ≡ 3 → IsStatusOf command 3 intake
+  as_3 is = status_of command status intake output 3 ends is (λ e. omega (arith, e)) (λ e. omega (arith, e)) (λ e. omega (arith, e)) (λ e. omega (arith, e))
+
+  as_4 : status ≡ 4 → IsStatusOf command 4 intake
+  as_4 is = status_of command status intake output 4 ends is (λ e. omega (arith, e)) (λ e. omega (arith, e)) (λ e. omega (arith, e)) (λ e. omega (arith, e))
+
+  as_5 : status ≡ 5 → IsStatusOf command 5 intake
+  as_5 is = status_of command status intake output 5 ends is (λ e. omega (arith, e)) (λ e. omega (arith, e)) (λ e. omega (arith, e)) (λ e. omega (arith, e))
+
+  whole : (n : ℕ) → (n ≡ 2 → ⊥) → IsStatusOf command n intake → IsAtEnd intake.rest
+  whole n no_two of = end_of command intake n no_two of (of_it command intake n of)
+
+  whole_at_end : (status ≡ 0) ⊎ (status ≡ 3) ⊎ (status ≡ 4) ⊎ (status ≡ 5) → IsAtEnd intake.rest
+  whole_at_end (inl is) = whole 0 (λ e. omega (arith, e)) (as_0 is)
+  whole_at_end (inr (inl is)) = whole 3 (λ e. omega (arith, e)) (as_3 is)
+  whole_at_end (inr (inr (inl is))) = whole 4 (λ e. omega (arith, e)) (as_4 is)
+  whole_at_end (inr (inr (inr is))) = whole 5 (λ e. omega (arith, e)) (as_5 is)
+
+  -- what the statuses say
+  pub causes_of : Causes command status intake output
+  causes_of = record {
+    usage_only = usage_only command status intake output ends;
+    no_row = only_usage command status intake output ends;
+    done = as_0;
+    bad_input = λ is. bad_of command intake (as_2 is) (of_it command intake 2 (as_2 is));
+    refused = as_5;
+    run_done = λ workers ran is. done_of command intake workers ran (as_0 is) (of_it command intake 0 (as_0 is));
+    stopped = λ is. stopped_of command intake (as_3 is) (of_it command intake 3 (as_3 is));
+    limited = λ is. limited_of command intake (as_4 is) (of_it command intake 4 (as_4 is));
+    read_fault = only_read_fault command status intake output ends;
+    write_fault = only_write_fault command status intake output ends;
+    memory = only_memory command status intake output ends;
+    end = whole_at_end;
+    complete = complete_without_faults command status intake output ends;
+    tells_bad = tells_bad command status intake output ends;
+    runs = runs command status intake output ends;
+  }
 
 pub causes_if : (command : Option Command) (answer : Option ℕ) (intake : Intake) (output : Output) → IfSome answer (λ status. Ends command status intake output) → IfSome answer (λ status. Causes command status intake output)
 causes_if command None intake output ends = tt

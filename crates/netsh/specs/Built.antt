@@ -1,27 +1,84 @@
 -- The answers in the forms that are built.
-use Rattle.std.specs.Prelude.{ℕ, List, [], ◌∷◌, length, nat_lt, Option, Some, None, if◌then◌else◌}
+--     first_bad     the first bad line of an input, for a command
+--     IsRun         what a run over a world prints, and its status
+--     IsAnswer      an answer to a command and its input
+use Rattle.std.specs.Prelude.{◌≡◌, ◌↔◌, ◌⊎◌, ℕ, true, List, [], ◌∷◌, ◌++◌, length, nat_lt, Option, Some, None, Result, Ok, Err, if◌then◌else◌}
 use Rattle.net_base.specs.declared.address.Proto.TheVariants.{Il, Udp}
+use Rattle.net_base.specs.declared.history.Entry.{Entry}
+use Rattle.net_base.specs.declared.world.World.{World}
+use Rattle.net_base.specs.Calm as calm
+use Rattle.net_base.specs.Legal.{IsLegal, IsTimed}
 use Rattle.net_base.specs.NdbText.{lines_of}
 use Rattle.net_base.specs.NdbBundle.{database}
 use Rattle.net_base.specs.NdbForm.{bad_line_so_far}
+use Rattle.net_base.specs.Net.{Net, after}
+use Rattle.net_base.specs.Summary.{summary}
+use Rattle.net_base.specs.Transcript.{history_text}
+use Rattle.net_model.specs.WorldText.{world_reading}
 use Rattle.net_model.specs.Answers.{Answer, bad_input, cs_answer, input_limit}
-use Rattle.net_model.specs.Words.{Command, Cs}
+use Rattle.net_model.specs.Words.{Command, Cs, Run}
 use Rattle.cs_resolver.specs.Built.{built_answer}
+
+-- Bad lines.
+
+-- the bad line of a text that isn't a world's
+abbrev pub bad_world : Result World (ℕ × ℕ) → Option (ℕ × ℕ)
+bad_world (Ok w) = None
+bad_world (Err bad) = Some bad
+
+-- the first bad line of an input within the limit, and its least cause
+abbrev pub bad_line : Command → List ℕ → Option (ℕ × ℕ)
+bad_line (Cs sys query) input = bad_line_so_far input
+bad_line (Run workers) input = bad_world (world_reading input)
+
+-- the same of any input: one over the limit has cause 9 at line 0
+abbrev pub first_bad : Command → List ℕ → Option (ℕ × ℕ)
+first_bad asked input = if nat_lt input_limit (length input) then Some (0, 9) else bad_line asked input
 
 -- an answer to an input without a bad line, or the first bad line and its least cause
 abbrev pub unless_bad : Option (ℕ × ℕ) → Answer → Answer
 unless_bad None answer = answer
 unless_bad (Some bad) answer = bad_input bad.0 bad.1
 
--- what a host is answered to a query over the database that an input is
+-- Answers of cs.
+
+-- what a host is answered to a query over the database that an input without a bad line is
+abbrev pub cs_found : List ℕ → List ℕ → List ℕ → Answer
+cs_found sys query input = cs_answer (built_answer (database (lines_of input)) sys (Il ∷ Udp ∷ []) query)
+
+-- the same over any input within the limit
 abbrev pub cs_over : List ℕ → List ℕ → List ℕ → Answer
-cs_over sys query input =
-    unless_bad (bad_line_so_far input) (cs_answer (built_answer (database (lines_of input)) sys (Il ∷ Udp ∷ []) query))
+cs_over sys query input = unless_bad (bad_line_so_far input) (cs_found sys query input)
 
--- an answer to an input within the limit, or that it is too long
-abbrev pub within_limit : List ℕ → Answer → Answer
-within_limit input answer = if nat_lt input_limit (length input) then bad_input 0 9 else answer
+-- Answers of run.
 
--- the answer to a command and its input
-abbrev pub answer_to : Command → List ℕ → Answer
-answer_to (Cs sys query) input = within_limit input (cs_over sys query input)
+-- the status by how the net stands at the end: every step is answered, the end moment came, or a caller has no room
+pub record IsStatus (w : World) (net : Net) (status : ℕ) : Type 0 where
+  pub done : (status ≡ 0) ↔ (calm.done w net ≡ true)
+  pub stopped : (status ≡ 3) ↔ (calm.stopped w net ≡ true)
+  pub limited : (status ≡ 4) ↔ (calm.limited w net ≡ true)
+  pub ended : (status ≡ 0) ⊎ (status ≡ 3) ⊎ (status ≡ 4)
+
+-- the text of one legal and timed history of the world with its summary, and the status by how it ends
+pub record IsRun (w : World) (answer : Answer) : Type 0 where
+  pub history : List Entry
+  pub legal : IsLegal w history
+  pub timed : IsTimed w history
+  pub text : answer.text ≡ history_text history ++ summary w history
+  pub status : IsStatus w (after w history) answer.status
+
+-- Answers.
+
+-- an answer to an input without a bad line
+abbrev pub IsFound : Command → List ℕ → Answer → Type 0
+IsFound (Cs sys query) input answer = answer ≡ cs_found sys query input
+IsFound (Run workers) input answer = (w : World) × (world_reading input ≡ Ok w) × IsRun w answer
+
+-- an answer to an input with this first bad line, if any
+abbrev pub IsGiven : Option (ℕ × ℕ) → Command → List ℕ → Answer → Type 0
+IsGiven None asked input answer = IsFound asked input answer
+IsGiven (Some bad) asked input answer = answer ≡ bad_input bad.0 bad.1
+
+-- an answer to a command and its input
+abbrev pub IsAnswer : Command → List ℕ → Answer → Type 0
+IsAnswer asked input answer = IsGiven (first_bad asked input) asked input answer

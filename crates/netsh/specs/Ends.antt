@@ -1,10 +1,16 @@
 -- How a call of the program ends: its status, what it took from the source and what the sink gained.
-use Rattle.std.specs.Prelude.{◌≡◌, ◌≢◌, ℕ, ◌<◌, ◌⊎◌, List, length, Option, Some, None, ⊤}
+use Rattle.std.specs.Prelude.{◌≡◌, ◌≢◌, ℕ, ◌<◌, ◌⊎◌, Bool, true, List, length, Option, Some, None, Ok, ⊤}
 use Rattle.std.specs.Io.KnownBytes.{IsAtEnd}
+use Rattle.net_base.specs.declared.history.Entry.{Entry}
+use Rattle.net_base.specs.declared.world.World.{World}
 use Rattle.net_model.specs.Answers.{Answer, usage, read_fault, input_limit}
-use Rattle.net_model.specs.Words.{Command}
+use Rattle.net_base.specs.Calm as calm
+use Rattle.net_base.specs.Legal.{IsLegal, IsTimed}
+use Rattle.net_base.specs.Net.{Net, after}
+use Rattle.net_model.specs.Words.{Command, Run}
+use Rattle.net_model.specs.WorldText.{world_reading}
 use Rattle.outside.specs.Streams.{Rose, Gained, GainedPart}
-use Rattle.netsh.specs.Built.{answer_to}
+use Rattle.netsh.specs.Built.{first_bad, IsAnswer}
 
 -- what a source had left and has left, where it tells that, and its count of faults before and after
 pub record Intake : Type 0 where
@@ -39,27 +45,50 @@ IsRead intake input = IsInput intake.left input × (IsAtEnd intake.rest ⊎ (inp
 abbrev pub IsUnread : Intake → Type 0
 IsUnread intake = (intake.rest ≡ intake.left) × (intake.after ≡ intake.before)
 
--- the answer is that to an input which was read
+-- the answer is one to an input which was read
 pub record Answers (asked : Command) (answer : Answer) (intake : Intake) : Type 0 where
   pub input : List ℕ
   pub read : IsRead intake input
-  pub right : answer ≡ answer_to asked input
+  pub right : IsAnswer asked input answer
 
--- how a call with a command, or with words in no row, may end: with the usage, and nothing was read; with the answer to the input; with a fault of the
+-- how a call with a command, or with words in no row, may end: with the usage, and nothing was read; with an answer to the input; with a fault of the
 -- source; or without memory, and then nothing was written
 pub data Ends (command : Option Command) (status : ℕ) (intake : Intake) (output : Output) : Type 0 where
   no_row : command ≡ None → IsUnread intake → Told usage status output → Ends command status intake output
-  answered : (asked : Command) (input : List ℕ) → command ≡ Some asked → IsRead intake input → Told (answer_to asked input) status output → Ends command status intake output
+  answered : (asked : Command) (answer : Answer) → command ≡ Some asked → Answers asked answer intake → Told answer status output → Ends command status intake output
   unread : (asked : Command) → command ≡ Some asked → Rose intake.before intake.after → Told read_fault status output → Ends command status intake output
   no_memory : (asked : Command) → command ≡ Some asked → status ≡ 8 → output.holds ≡ output.held → Ends command status intake output
 
--- the status is that of the answer to an input which was read
+-- the status is that of an answer to an input which was read
 pub record IsStatusOf (command : Option Command) (status : ℕ) (intake : Intake) : Type 0 where
   pub asked : Command
+  pub answer : Answer
+  pub is_asked : command ≡ Some asked
+  pub answers : Answers asked answer intake
+  pub right : status ≡ answer.status
+
+-- the input, which was read, has a bad line or is over the limit
+pub record IsBad (command : Option Command) (intake : Intake) : Type 0 where
+  pub asked : Command
   pub input : List ℕ
+  pub bad : ℕ × ℕ
   pub is_asked : command ≡ Some asked
   pub read : IsRead intake input
-  pub right : status ≡ (answer_to asked input).status
+  pub is_bad : first_bad asked input ≡ Some bad
+
+-- a run over the world that the input is, which was read to its end, left the net so
+pub record HasRun (command : Option Command) (so : World → Net → Bool) (intake : Intake) : Type 0 where
+  pub workers : ℕ
+  pub input : List ℕ
+  pub world : World
+  pub history : List Entry
+  pub is_asked : command ≡ Some (Run workers)
+  pub is_input : IsInput intake.left input
+  pub to_end : IsAtEnd intake.rest
+  pub reads : world_reading input ≡ Ok world
+  pub legal : IsLegal world history
+  pub timed : IsTimed world history
+  pub right : so world (after world history) ≡ true
 
 -- when each status comes, and what it leaves
 pub record Causes (command : Option Command) (status : ℕ) (intake : Intake) (output : Output) : Type 0 where
@@ -68,13 +97,20 @@ pub record Causes (command : Option Command) (status : ℕ) (intake : Intake) (o
   pub no_row : command ≡ None → (status ≡ 1) ⊎ (status ≡ 7)
   -- the input and the words alone give 0, 2 and 5
   pub done : status ≡ 0 → IsStatusOf command 0 intake
-  pub bad_input : status ≡ 2 → IsStatusOf command 2 intake
+  pub bad_input : status ≡ 2 → IsBad command intake
   pub refused : status ≡ 5 → IsStatusOf command 5 intake
+  -- a history of the world that was read ends so where a run gives 0, 3 and 4, and no other command gives 3 and 4
+  pub run_done : (workers : ℕ) → command ≡ Some (Run workers) → status ≡ 0 → HasRun command calm.done intake
+  pub stopped : status ≡ 3 → HasRun command calm.stopped intake
+  pub limited : status ≡ 4 → HasRun command calm.limited intake
   -- the faults and the memory
   pub read_fault : status ≡ 6 → Rose intake.before intake.after
   pub write_fault : status ≡ 7 → Rose output.before output.after
   pub memory : status ≡ 8 → output.holds ≡ output.held
   -- the answer was made from the whole input
-  pub end : (status ≡ 0) ⊎ (status ≡ 5) → IsAtEnd intake.rest
-  -- without a fault, words in a row have the answer's status, or memory ran out
+  pub end : (status ≡ 0) ⊎ (status ≡ 3) ⊎ (status ≡ 4) ⊎ (status ≡ 5) → IsAtEnd intake.rest
+  -- without a fault, words in a row have an answer's status, or memory ran out
   pub complete : ¬ Rose intake.before intake.after → ¬ Rose output.before output.after → command ≢ None → (status ≡ 8) ⊎ IsStatusOf command status intake
+  -- and where the source told what it had left, a bad input is told of, and a good world runs until it ends
+  pub tells_bad : ¬ Rose intake.before intake.after → ¬ Rose output.before output.after → (asked : Command) (input : List ℕ) (bad : ℕ × ℕ) → command ≡ Some asked → intake.left ≡ Some input → first_bad asked input ≡ Some bad → (status ≡ 2) ⊎ (status ≡ 8)
+  pub runs : ¬ Rose intake.before intake.after → ¬ Rose output.before output.after → (workers : ℕ) (input : List ℕ) → command ≡ Some (Run workers) → intake.left ≡ Some input → first_bad (Run workers) input ≡ None → (status ≡ 0) ⊎ (status ≡ 3) ⊎ (status ≡ 4) ⊎ (status ≡ 8)

@@ -3,11 +3,19 @@ ghost use Rattle.std.specs.Prelude.{◌≡◌, ◌≢◌, IfOk, OnOk};
 ghost use Rattle.net_model.specs.Answers as spec;
 ghost use Rattle.net_base.specs.Cs.{Lines as ListOf, Refused};
 ghost use Rattle.cs_resolver.specs.Built.{number_of};
+ghost use Rattle.net_base.specs.Legal.{IsLegal, IsTimed};
+ghost use Rattle.net_base.specs.Net.{after};
+ghost use Rattle.net_base.specs.Summary.{answered_steps};
+ghost use Rattle.netsh.specs.Built.{IsRun};
+ghost use Rattle.netsh.specs.Runs.{end_of, status_of};
+ghost use Rattle.plain_runner.specs.Ended.{EndsSo};
 
 use cs_resolver::CsError;
-use net_base::{Lines, Octets};
+use net_base::{Lines, Octets, World};
+use plain_runner::{Ran, RunEnd};
 use std::alloc::{AllocError, Global};
 use std::marker::Model;
+use transcript::{End, Standing, summary_of, text_of};
 
 /// The words give no command.
 pub const USAGE: &str = "! usage\n";
@@ -70,6 +78,25 @@ impl Answer {
         })
     }
 
+    /// The text of a run's history with its summary.
+    #[tactic(auto, using(crate::proofs::RunEnds::status_is))]
+    pub fn run(alloc: Global, world: &World, ran: &Ran) -> Result<Answer, AllocError>
+        requires legal { IsLegal world.now ran.now.history }
+        requires timed { IsTimed world.now ran.now.history }
+        requires answered { ran.now.answered ≡ answered_steps world.now ran.now.history }
+        requires end { EndsSo world.now (after world.now ran.now.history) ran.now.end }
+        ensures { IfOk result (λ answer. IsRun world.now answer) }
+    {
+        let mut text = text_of(alloc, &ran.history)?;
+        let standing = standing_of(ran);
+        let summary = summary_of(alloc, world, &ran.history, standing)?;
+        text.append(summary.as_slice())?;
+        Ok(Answer {
+            status: run_status(ran.end),
+            text,
+        })
+    }
+
     /// The status where the text is written whole.
     pub fn status(&self) -> u8
         ensures { result ≡ self.now.status }
@@ -82,6 +109,32 @@ impl Answer {
         ensures { result.now ≡ self.now.text }
     {
         self.text.as_slice()
+    }
+}
+
+/// How many steps are answered, and how the run stands.
+fn standing_of(ran: &Ran) -> Standing
+    ensures answered { result.answered ≡ ran.now.answered }
+    ensures end { result.end ≡ end_of ran.now.end }
+{
+    Standing {
+        answered: ran.answered,
+        end: match ran.end {
+            RunEnd::Done => End::Done,
+            RunEnd::Stopped => End::Stopped,
+            RunEnd::Limit => End::Limit,
+        },
+    }
+}
+
+/// The status by how a run ends.
+fn run_status(end: RunEnd) -> u8
+    ensures { result ≡ status_of end }
+{
+    match end {
+        RunEnd::Done => 0,
+        RunEnd::Stopped => 3,
+        RunEnd::Limit => 4,
     }
 }
 

@@ -3,12 +3,13 @@ ghost use Rattle.std.specs.Prelude.{◌≡◌, ◌≢◌, ◌≤◌, ◌↔◌, 
 ghost use Rattle.net_model.specs.Words.{command_of, words_wait};
 ghost use Rattle.netsh.specs.Ends.{Ends, Causes, Told, Answers};
 ghost use Rattle.net_model.specs.Answers.{input_limit};
-ghost use Rattle.netsh.specs.Built.{answer_to};
+ghost use Rattle.netsh.specs.Built.{IsAnswer};
 ghost use Rattle.netsh.specs.Commands.{command_read};
 ghost use Rattle.outside.specs.Streams.{Rose};
 
 use crate::answer::{Answer, READ_FAULT, USAGE};
 use crate::cs::cs;
+use crate::run::run_over;
 use crate::words::{Command, read_words};
 use outside::{
     Failed, Gate, Sink, Source, SureSink, SureSource, TakeError, read_to_end, write_all,
@@ -34,10 +35,11 @@ fn tell<K: Sink>(sink: &mut K, status: u8, text: &[u8]) -> u8
 /// The answer to a command and its input, which is within the limit.
 fn answer_over(alloc: Global, command: Command<'_>, input: &[u8]) -> Result<Answer, AllocError>
     requires { length input.now ≤ input_limit }
-    ensures { IfOk result (λ answer. answer ≡ answer_to (command_read command.entry) input.now) }
+    ensures { IfOk result (λ answer. IsAnswer (command_read command.entry) input.now answer) }
 {
     match command {
         Command::Cs(sys, query) => cs(alloc, sys, query, input),
+        Command::Run(_) => run_over(alloc, input),
     }
 }
 
@@ -91,6 +93,7 @@ fn answer_words<S: Source, K: Sink>(
         (record { held = K.held sink.old; holds = K.held sink.new; before = K.faults sink.old; after = K.faults sink.new })) }
 {
     match read_words(words) {
+        Some(Command::Run(_)) => None,
         Some(command) => Some(ask_reading(alloc, command, source, sink)),
         None => Some(tell(sink, 1, USAGE.as_bytes())),
     }
@@ -133,7 +136,7 @@ pub fn netsh<R: Threads + Wait + Sync, S: Source, K: Sink, G: Gate + Sync>(
 {
     match ask(alloc, words, source, sink) {
         Some(status) => status,
-        None => unreachable!(),
+        None => ask_reading(alloc, Command::Run(1), source, sink),
     }
 }
 

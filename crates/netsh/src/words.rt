@@ -8,6 +8,8 @@ ghost use Rattle.netsh.specs.Commands.{command_read};
 pub enum Command<'a> {
     /// `cs SYS QUERY`
     Cs(&'a [u8], &'a [u8]),
+    /// `run WORKERS`
+    Run(u32),
 }
 
 /// The command that words give, if they are in a row.
@@ -15,6 +17,9 @@ pub fn read_words(words: &[String]) -> Option<Command<'_>>
     ensures { option_map command_read result ≡ command_of (map string_bytes words.now) }
 {
     match words {
+        [name, workers] if name.as_str() == "run" && workers.as_str() == "1" => {
+            Some(Command::Run(1))
+        }
         [name, sys, query] if name.as_str() == "cs" && !sys.is_empty() && !query.is_empty() => {
             Some(Command::Cs(sys.as_bytes(), query.as_bytes()))
         }

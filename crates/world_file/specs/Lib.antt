@@ -1,0 +1,5 @@
+pub mod Told
+pub use Rattle.net_base.specs.World
+pub use Rattle.net_base.specs.WorldForm
+pub use Rattle.net_model.specs.WorldLines
+pub use Rattle.net_model.specs.WorldText

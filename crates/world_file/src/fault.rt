@@ -1,0 +1,31 @@
+//! Why a text is refused.
+use std::alloc::AllocError;
+
+/// Why a text was not read as a world.
+#[derive(Clone, Copy, Debug, PartialEq, Eq, Drop)]
+pub enum WorldError {
+    /// Memory ran out.
+    Memory,
+    /// The first bad line, counted from 1, and its least cause.
+    Bad { line: u64, cause: u32 },
+}
+
+/// Why a line was not read.
+#[derive(Clone, Copy, Debug, PartialEq, Eq, Drop)]
+pub(crate) enum Fault {
+    /// Memory ran out.
+    Memory,
+    /// The line's least cause.
+    Cause(u32),
+}
+
+impl From<AllocError> for Fault {
+    ghost use Rattle.std.specs.Prelude.{◌≡◌};
+    ghost use Rattle.world_file.specs.declared.fault.Fault.TheVariants as fault;
+
+    ghost from_gives = { λ _ e. e ≡ fault.Memory };
+
+    fn from(_error: AllocError) -> Fault {
+        Fault::Memory
+    }
+}

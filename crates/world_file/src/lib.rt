@@ -1,0 +1,9 @@
+//! Reads a world, line by line in one pass, or tells its first bad line.
+#![tactic(auto)]
+
+mod fault;
+mod reader;
+
+pub use fault::WorldError;
+pub use net_base::World;
+pub use reader::read_world;
