@@ -10,3 +10,5 @@ pub mod NdbPlain
 pub mod NdbComplete
 pub mod NdbSound
 pub mod NdbFiles
+pub mod Texts
+pub mod Controls

@@ -1,8 +1,6 @@
 mod IlCases
 pub mod Worlds
 mod ActorCases
-pub mod Texts
-pub mod Controls
 pub mod PathNames
 pub mod Ids
 pub mod Begins

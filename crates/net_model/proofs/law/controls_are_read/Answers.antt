@@ -1,4 +1,4 @@
-use Rattle.net_model.proofs.Controls.{reads_exactly, faults}
+use Rattle.net_base.proofs.Controls.{reads_exactly, faults}
 use Rattle.net_model.proofs.law.controls_are_read.Goals as goal
 
 pub returns : goal.returns
