@@ -2,12 +2,10 @@
 --     step_of          the step that words say
 --     *_line           a line by its first word, its arguments as words
 --     line_verdict     any line
-use Rattle.std.specs.Prelude.{ℕ, ◌+◌, ◌==◌, Bool, true, false, not, ◌&&◌, ◌||◌, List, [], ◌∷◌, ◌++◌, length, codes, bytes_eq, Option, Some, None, is_none, is_some, Result, Ok, nat_lt, nat_le, bit_and, position, option_map, if◌then◌else◌}
+use Rattle.std.specs.Prelude.{ℕ, ◌+◌, ◌==◌, Bool, true, false, not, ◌&&◌, ◌||◌, List, [], ◌∷◌, ◌++◌, length, codes, bytes_eq, Option, Some, None, is_none, is_some, nat_lt, nat_le, bit_and, position, option_map, if◌then◌else◌}
 use Rattle.std.specs.List.{list_any}
 use Rattle.std.specs.Option.{option_to_list, option_and_then}
 use Rattle.net_base.specs.declared.address.Proto.{Proto}
-use Rattle.net_base.specs.declared.names.Ctl.{Ctl}
-use Rattle.net_base.specs.declared.names.Ctl.TheVariants as ctl
 use Rattle.net_base.specs.declared.names.Mode.{Mode}
 use Rattle.net_base.specs.declared.world.HostSpec.{HostSpec}
 use Rattle.net_base.specs.declared.world.Iface.{Iface}
@@ -17,7 +15,6 @@ use Rattle.net_base.specs.declared.world.Step.{Step}
 use Rattle.net_base.specs.declared.world.Step.TheVariants as step
 use Rattle.net_base.specs.declared.world.World.{World}
 use Rattle.net_base.specs.Addresses.{parts_at}
-use Rattle.net_base.specs.ControlWords as control
 use Rattle.net_base.specs.NdbText.{begins, is_hash, is_empty}
 use Rattle.net_base.specs.Routes.{has_ip}
 use Rattle.net_base.specs.World.{is_name, is_nets, is_mask, is_step}
@@ -126,8 +123,9 @@ medium_named d called = position (is_medium_named called) d.media
 abbrev pub rates_line : Draft → List (List ℕ) → Verdict
 rates_line d args =
     given (four args) (λ (w : Four). refuse 13 (not (is_name w.first)) (given (number_in 0 1000 w.second) (λ loss.
-    given (number_in 0 1000 w.third) (λ twice. given (number_in 0 1000 w.fourth) (λ later. known (medium_named d w.first) (λ m.
-    refuse 18 (nat_lt 4 d.group)
+    given (number_in 0 1000 w.third) (λ twice. given (number_in 0 1000 w.fourth) (λ later.
+    refuse 15 (not (list_any (is_medium_named w.first) d.media))
+    (refuse 18 (nat_lt 4 d.group)
     (refuse 23 (nat_lt 1000 (loss + twice + later))
     (Bad 31))))))))
 
@@ -155,8 +153,8 @@ is_frames word = are_frames (parts_at 45 word)
 abbrev pub fate_line : Draft → List (List ℕ) → Verdict
 fate_line d args =
     given (three args) (λ (w : Three). refuse 13 (not (is_name w.first && (is_frames w.second && is_fate w.third)))
-    (known (medium_named d w.first) (λ m.
-    refuse 18 (nat_lt 4 d.group)
+    (refuse 15 (not (list_any (is_medium_named w.first) d.media))
+    (refuse 18 (nat_lt 4 d.group)
     (Bad 31))))
 
 -- Hosts.
@@ -283,6 +281,17 @@ abbrev pub of_two : (List ℕ → List ℕ → Step) → List (List ℕ) → Opt
 of_two make (word ∷ other ∷ []) = kept (make word other)
 of_two make _ = None
 
+abbrev pub other_of : List ℕ → List (List ℕ) → Option (Option Step)
+other_of word args =
+    if bytes_eq word (codes "until") then Some (until_of args)
+    else (if bytes_eq word (codes "dial") then Some (of_two (λ n a. step.Dial n a) args)
+    else (if bytes_eq word (codes "announce") then Some (of_two (λ n a. step.Announce n a) args)
+    else (if bytes_eq word (codes "listen") then Some (of_two (λ n f. step.Listen n f) args)
+    else (if bytes_eq word (codes "accept") then Some (of_two (λ n f. step.Accept n f) args)
+    else (if bytes_eq word (codes "reject") then Some (of_one (λ n. step.Reject n) args)
+    else (if bytes_eq word (codes "hangup") then Some (of_one (λ n. step.Hangup n) args)
+    else None))))))
+
 -- the step of a word and its arguments, which are wrong where there is none
 abbrev pub step_of : List ℕ → List (List ℕ) → Option (Option Step)
 step_of word args =
@@ -293,27 +302,49 @@ step_of word args =
     else (if bytes_eq word (codes "close") then Some (of_one (λ n. step.Close n) args)
     else (if bytes_eq word (codes "ls") then Some (of_one (λ p. step.Ls p) args)
     else (if bytes_eq word (codes "cs") then Some (cs_of args)
-    else (if bytes_eq word (codes "until") then Some (until_of args)
-    else (if bytes_eq word (codes "dial") then Some (of_two (λ n a. step.Dial n a) args)
-    else (if bytes_eq word (codes "announce") then Some (of_two (λ n a. step.Announce n a) args)
-    else (if bytes_eq word (codes "listen") then Some (of_two (λ n f. step.Listen n f) args)
-    else (if bytes_eq word (codes "accept") then Some (of_two (λ n f. step.Accept n f) args)
-    else (if bytes_eq word (codes "reject") then Some (of_one (λ n. step.Reject n) args)
-    else (if bytes_eq word (codes "hangup") then Some (of_one (λ n. step.Hangup n) args)
-    else None)))))))))))))
+    else other_of word args))))))
 
--- a control word connects to a port from a port that it names
-abbrev pub connects : Result Ctl ℕ → Bool
-connects (Ok (ctl.Connect remote (Some port))) = true
-connects _ = false
+abbrev pub is_port : List ℕ → Bool
+is_port word = is_some (number_in 1 65535 word)
+
+-- A!PORT
+abbrev pub is_place : List (List ℕ) → Bool
+is_place (ip ∷ port ∷ []) = is_some (address_in ip) && is_port port
+is_place _ = false
+
+abbrev pub connects_words : List (List ℕ) → Bool
+connects_words (word ∷ place ∷ port ∷ []) = bytes_eq word (codes "connect") && (is_place (parts_at 33 place) && is_port port)
+connects_words _ = false
+
+-- the text is `connect A!PORT LPORT`
+abbrev pub connects : List ℕ → Bool
+connects text = connects_words (words_of text)
+
+abbrev pub opens_clone : Step → Bool
+opens_clone (step.Open called path None) = bytes_eq path clone_path
+opens_clone _ = false
+
+-- a conversation of this name is connected
+abbrev pub connects_name : List ℕ → Step → Bool
+connects_name ctl_name (step.Write called text) = bytes_eq called ctl_name && connects text
+connects_name ctl_name _ = false
+
+-- a data file is opened by another name
+abbrev pub opens_data : List ℕ → Step → Bool
+opens_data ctl_name (step.Open called path None) = bytes_eq path data_path && not (bytes_eq called ctl_name)
+opens_data ctl_name _ = false
+
+abbrev pub transfers : List ℕ → Step → Bool
+transfers data_name (step.Write called text) = bytes_eq called data_name
+transfers data_name (step.Read called count) = bytes_eq called data_name
+transfers data_name _ = false
 
 -- the form asks for this step behind these
 abbrev pub follows : List Step → Step → Bool
-follows [] (step.Open called path None) = bytes_eq path clone_path
-follows (step.Open named p m ∷ []) (step.Write called text) = bytes_eq called named && connects (control.read text)
-follows (step.Open named p m ∷ s ∷ []) (step.Open called path None) = bytes_eq path data_path && not (bytes_eq called named)
-follows (s ∷ t ∷ step.Open named p m ∷ steps) (step.Write called text) = bytes_eq called named
-follows (s ∷ t ∷ step.Open named p m ∷ steps) (step.Read called count) = bytes_eq called named
+follows [] s = opens_clone s
+follows (step.Open ctl_name path mode ∷ []) s = connects_name ctl_name s
+follows (step.Open ctl_name path mode ∷ t ∷ []) s = opens_data ctl_name s
+follows (t ∷ u ∷ step.Open data_name path mode ∷ steps) s = transfers data_name s
 follows _ _ = false
 
 abbrev pub steps_of : Option Script → List Step
@@ -342,27 +373,33 @@ ndb_line d _ = wrong
 
 -- the first line stands again
 abbrev pub again_line : List (List ℕ) → Verdict
-again_line (version ∷ []) = refuse 13 (not (bytes_eq version (codes "1"))) (Bad 18)
-again_line _ = wrong
+again_line args = given (one args) (λ version. if bytes_eq version (codes "1") then Bad 18 else wrong)
 
 -- Lines.
 
--- a line by its first word and the others
-abbrev pub word_line : Draft → List ℕ → List (List ℕ) → Verdict
-word_line d word args =
+abbrev pub host_word_line : Draft → List ℕ → List (List ℕ) → Verdict
+host_word_line d word args =
+    if bytes_eq word (codes "host") then host_line d args
+    else (if bytes_eq word (codes "if") then if_line d args
+    else (if bytes_eq word (codes "route") then route_line d args
+    else (if bytes_eq word (codes "start") then start_line d args
+    else (if bytes_eq word (codes "script") then script_line d args
+    else step_line d (step_of word args)))))
+
+-- a line that doesn't begin the bundle
+abbrev pub going_line : Draft → List ℕ → List (List ℕ) → Verdict
+going_line d word args =
     if bytes_eq word (codes "networld") then again_line args
     else (if bytes_eq word (codes "end") then end_line d args
     else (if bytes_eq word (codes "seed") then seed_line d args
     else (if bytes_eq word (codes "medium") then medium_line d args
     else (if bytes_eq word (codes "rates") then rates_line d args
     else (if bytes_eq word (codes "fate") then fate_line d args
-    else (if bytes_eq word (codes "host") then host_line d args
-    else (if bytes_eq word (codes "if") then if_line d args
-    else (if bytes_eq word (codes "route") then route_line d args
-    else (if bytes_eq word (codes "start") then start_line d args
-    else (if bytes_eq word (codes "script") then script_line d args
-    else (if bytes_eq word (codes "ndb") then ndb_line d args
-    else step_line d (step_of word args))))))))))))
+    else host_word_line d word args)))))
+
+-- a line by its first word and the others
+abbrev pub word_line : Draft → List ℕ → List (List ℕ) → Verdict
+word_line d word args = if bytes_eq word (codes "ndb") then ndb_line d args else going_line d word args
 
 abbrev pub words_line : Draft → List (List ℕ) → Verdict
 words_line d [] = Bad 12

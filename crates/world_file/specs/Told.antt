@@ -1,7 +1,7 @@
 -- What the reader tells of a bad line.
-use Rattle.std.specs.Prelude.{◌≡◌, ℕ, Bool, true, false, Result, Err, ⊤, if◌then◌else◌}
+use Rattle.std.specs.Prelude.{◌≡◌, ◌≤◌, ℕ, length, Bool, true, false, Result, Err, ⊤, if◌then◌else◌}
 use Rattle.net_base.specs.declared.world.World.{World}
-use Rattle.net_model.specs.WorldLines.{Draft, Verdict, Goes, Begins, Bad, world_of}
+use Rattle.net_model.specs.WorldLines.{Draft, Verdict, Goes, Begins, Bad, hosts_of, world_of}
 use Rattle.world_file.specs.declared.fault.Fault.{Fault}
 use Rattle.world_file.specs.declared.fault.Fault.TheVariants as fault
 use Rattle.world_file.specs.declared.fault.WorldError.{WorldError}
@@ -20,3 +20,13 @@ Tells (error.Bad line cause) reading = reading ≡ Err (line, cause)
 -- a line that begins the bundle, or goes on
 abbrev pub going : Bool → Draft → Verdict
 going begins d = if begins then Begins (world_of d) else Goes d
+
+-- the same at the line with this number
+abbrev pub TellsAt : Fault → ℕ → WorldError → Type 0
+TellsAt fault.Memory number e = e ≡ error.Memory
+TellsAt (fault.Cause cause) number e = e ≡ error.Bad number cause
+
+-- so few media and hosts that their numbers fit
+pub record IsSmall (d : Draft) : Type 0 where
+  pub media : length d.media ≤ 4
+  pub hosts : length (hosts_of d) ≤ 8

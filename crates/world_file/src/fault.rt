@@ -10,6 +10,17 @@ pub enum WorldError {
     Bad { line: u64, cause: u32 },
 }
 
+impl From<AllocError> for WorldError {
+    ghost use Rattle.std.specs.Prelude.{◌≡◌};
+    ghost use Rattle.world_file.specs.declared.fault.WorldError.TheVariants as error;
+
+    ghost from_gives = { λ _ e. e ≡ error.Memory };
+
+    fn from(_error: AllocError) -> WorldError {
+        WorldError::Memory
+    }
+}
+
 /// Why a line was not read.
 #[derive(Clone, Copy, Debug, PartialEq, Eq, Drop)]
 pub(crate) enum Fault {

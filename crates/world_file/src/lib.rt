@@ -1,8 +1,18 @@
 //! Reads a world, line by line in one pass, or tells its first bad line.
 #![tactic(auto)]
 
+mod connect;
+mod draft;
 mod fault;
+mod hosts;
+mod lines;
+mod media;
 mod reader;
+mod scripts;
+mod steps;
+#[cfg(test)]
+mod tests;
+mod words;
 
 pub use fault::WorldError;
 pub use net_base::World;

@@ -1,20 +1,105 @@
 //! The text of a world, line by line.
-ghost use Rattle.std.specs.Prelude.{◌≡◌, Ok, IfOk, IfErr};
+ghost use Rattle.std.specs.Prelude.{◌≡◌, ◌+◌, ◌^◌, ◌<◌, ◌∷◌, length, drop, Ok, IfOk, IfErr};
+ghost use Rattle.std.specs.List.{position_or_len};
+ghost use Rattle.net_base.specs.NdbText.{is_newline};
+ghost use Rattle.net_base.specs.NdbForm.{bad_line_so_far};
 ghost use Rattle.net_base.specs.World.{IsWorld};
 ghost use Rattle.net_base.specs.WorldForm.{IsFirstForm};
-ghost use Rattle.net_model.specs.WorldText.{world_reading};
-ghost use Rattle.world_file.specs.Told.{Tells};
+ghost use Rattle.net_model.specs.WorldLines.{world_of};
+ghost use Rattle.net_model.specs.WorldText.{cuts_of, missing, with_database, world_reading};
+ghost use Rattle.world_file.specs.Told.{Tells, TellsAt};
 
-use crate::fault::WorldError;
+use crate::draft::Draft;
+use crate::fault::{Fault, WorldError};
+use ndb_reader::{NdbError, read_ndb};
 use net_base::World;
 use std::alloc::Global;
 
 /// The world that a text says, or its first bad line. It goes once through the bytes, and copies each at most once.
-pub fn read_world(_alloc: Global, _bytes: &[u8]) -> Result<World, WorldError>
-    ensures ok { IfOk result (λ w. world_reading _bytes.now ≡ Ok w) }
-    ensures bad { IfErr result (λ e. Tells e (world_reading _bytes.now)) }
+pub fn read_world(alloc: Global, bytes: &[u8]) -> Result<World, WorldError>
+    ensures ok { IfOk result (λ w. world_reading bytes.now ≡ Ok w) }
+    ensures bad { IfErr result (λ e. Tells e (world_reading bytes.now)) }
     ensures world { IfOk result (λ w. IsWorld w) }
     ensures form { IfOk result (λ w. IsFirstForm w) }
 {
-    Err(WorldError::Memory)
+    let mut draft = Draft::new(alloc);
+    let mut number: u64 = 1;
+    let mut rest = bytes;
+    while !rest.is_empty() {
+        let (line, behind) = cut_line(rest);
+        match draft.read_line(alloc, line) {
+            Ok(false) => {}
+            Ok(true) => return read_database(alloc, draft, number, behind),
+            Err(fault) => return Err(at_line(fault, number)),
+        }
+        number += 1;
+        rest = behind;
+    }
+    Err(WorldError::Bad {
+        line: number,
+        cause: draft.missing(),
+    })
+}
+
+/// The world of a draft with the database that stands behind the line with this number.
+fn read_database(alloc: Global, draft: Draft, number: u64, text: &[u8]) -> Result<World, WorldError>
+    requires { number + length text.now < 2 ^ 63 }
+    ensures ok { IfOk result (λ w. with_database number (world_of draft) text.now (bad_line_so_far text.now) ≡ Ok w) }
+    ensures bad { IfErr result (λ e. Tells e (with_database number (world_of draft) text.now (bad_line_so_far text.now))) }
+{
+    let mut world = draft.finish(alloc)?;
+    match read_ndb(alloc, text) {
+        Ok(db) => {
+            world.db = db;
+            Ok(world)
+        }
+        Err(NdbError::Memory) => Err(WorldError::Memory),
+        Err(NdbError::Bad { line, cause }) => Err(WorldError::Bad {
+            line: number + line,
+            cause,
+        }),
+    }
+}
+
+/// The fault of the line with this number.
+fn at_line(fault: Fault, number: u64) -> WorldError
+    ensures { TellsAt fault number result }
+{
+    match fault {
+        Fault::Memory => WorldError::Memory,
+        Fault::Cause(cause) => WorldError::Bad {
+            line: number,
+            cause,
+        },
+    }
+}
+
+/// The first line of a text, and what stands behind its newline.
+fn cut_line(text: &[u8]) -> (&[u8], &[u8])
+    requires { 0 < length text.now }
+    ensures cut { cuts_of text.now ≡ record { line = result.0.now; behind = result.1.now } ∷ cuts_of result.1.now }
+    ensures less { length result.1.now < length text.now }
+{
+    let end = line_len(text);
+    (&text[..end], behind(text, end))
+}
+
+/// How many bytes stand before the first newline.
+fn line_len(text: &[u8]) -> usize
+    ensures { result ≡ position_or_len is_newline text.now }
+{
+    text.iter()
+        .position(|byte| *byte == b'\n')
+        .unwrap_or(text.len())
+}
+
+/// What stands behind a place.
+fn behind(text: &[u8], place: usize) -> &[u8]
+    ensures { result.now ≡ drop (place + 1) text.now }
+{
+    if place < text.len() {
+        &text[place + 1..]
+    } else {
+        &[]
+    }
 }
