@@ -1,3 +1,4 @@
 pub mod Positions
 pub mod Moves
 pub mod Pushes
+pub mod Scripts

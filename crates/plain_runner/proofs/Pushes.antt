@@ -139,7 +139,7 @@ medium_beside_dir net a j v at is = rw at is
 drops_left : (fin len : ℕ) → fin ≤ len → len - (len - fin) ≡ fin
 drops_left fin len le = omega (arith, le)
 
-finished_is : (h : List Entry) (net : Net) (phase : ℕ → Phase) (c : ℕ) (s : Script) (st : Standing) → IsAt h net phase c s st
+pub finished_is : (h : List Entry) (net : Net) (phase : ℕ → Phase) (c : ℕ) (s : Script) (st : Standing) → IsAt h net phase c s st
     → finished_by (own_replies h c) s ≡ finished_at st.place
 finished_is h net phase c s st at =
     let e : position s.host s.steps [] (own_replies h c) ≡ position_at s.host s.steps at.form.ctl_name at.form.data_name st.place [] =
