@@ -1,0 +1,146 @@
+//! The files of a conversation, and who waits for it.
+ghost use Rattle.std.specs.Prelude.{◌≡◌, take, IfOk, OnErr, Some, None, is_some};
+ghost use Rattle.net_base.specs.declared.reply.Reply.TheVariants as reply;
+ghost use Rattle.net_base.specs.ControlWords as control_words;
+ghost use Rattle.net_base.specs.Conversation as spec;
+ghost use Rattle.conversation.specs.Kept.{step_to};
+
+use crate::control;
+use crate::conv::Conv;
+use crate::il;
+use crate::parts::{Core, Stage};
+use crate::said::Said;
+use crate::texts;
+use net_base::{Cause, FileName, IlState, Octets, Outcome, StateName};
+use std::alloc::AllocError;
+
+impl Conv {
+    /// One more open file, where one is open. No memory, where more than any number tells are open.
+    pub(super) fn open(&mut self) -> Result<Outcome, AllocError>
+        ensures ok { IfOk result (λ outcome. spec.opened self.old.conv.opens self.old.conv ≡ record { state = self.new.conv; outcome = outcome }) }
+        ensures slot { self.new.slot ≡ self.old.slot }
+        ensures err { OnErr result (self.new ≡ self.old) }
+    {
+        if self.opens == 0 {
+            return Ok(self.replies(Said::not_open()));
+        }
+        let Some(opens) = self.opens.checked_add(1) else {
+            return Err(AllocError);
+        };
+        self.opens = opens;
+        Ok(self.replies(Said::opened(self.generation)))
+    }
+
+    /// The names of the files, where one is open.
+    pub(super) fn ls(&self) -> Result<Outcome, AllocError>
+        ensures { IfOk result (λ outcome. spec.listed self.now.conv.opens self.now.conv ≡ record { state = self.now.conv; outcome = outcome }) }
+    {
+        if self.opens == 0 {
+            return Ok(self.replies(Said::not_open()));
+        }
+        let names = texts::file_names(self.alloc)?;
+        Ok(self.replies(Said::names(names)?))
+    }
+
+    /// The first bytes of a file's text.
+    pub(super) fn file(
+        &self,
+        generation: u64,
+        file: FileName,
+        count: u32,
+    ) -> Result<Option<Outcome>, AllocError>
+        ensures { IfOk result (λ answer. spec.in_generation generation self.now.conv (Some (spec.answers self.now.conv (reply.Bytes (take count (spec.file_text file self.now.slot self.now.conv))))) ≡ step_to self.now.conv answer) }
+    {
+        if generation != self.generation {
+            return Ok(self.stale(generation));
+        }
+        let text = self.file_text(file)?;
+        let first = texts::first_bytes(text.as_slice(), count);
+        let said = Said::bytes(self.alloc, first)?;
+        Ok(Some(self.replies(said)))
+    }
+
+    fn file_text(&self, file: FileName) -> Result<Octets, AllocError>
+        ensures { IfOk result (λ text. text ≡ spec.file_text file self.now.slot self.now.conv) }
+    {
+        match file {
+            FileName::Ctl => texts::number(self.alloc, self.slot),
+            FileName::Local => texts::address_line(self.alloc, self.pair.local),
+            FileName::Remote => texts::address_line(self.alloc, self.pair.remote),
+            FileName::Status => texts::line(
+                self.alloc,
+                texts::state_word(self.core.state_name()),
+            ),
+            FileName::Err => match self.cause() {
+                Some(cause) => texts::line(self.alloc, texts::cause_text(cause)),
+                None => Ok(Octets::new(self.alloc)),
+            },
+            FileName::Data | FileName::Listen => Ok(Octets::new(self.alloc)),
+        }
+    }
+
+    /// The last cause.
+    fn cause(&self) -> Option<Cause>
+        ensures { result ≡ spec.core_cause self.now.conv.core }
+    {
+        match &self.core {
+            Core::Il(end) => il::cause(end),
+            Core::Udp(end) => {
+                // one that is used and Closed was hung up
+                if self.stage != Stage::Unused && end.state() == StateName::Closed {
+                    Some(Cause::Hungup)
+                } else {
+                    None
+                }
+            }
+        }
+    }
+
+    /// Whether who waits for it needn't wait longer.
+    pub(super) fn may_go_on(&self) -> bool
+        ensures { result ≡ is_some (spec.awaited self.now.conv.core self.now.conv) }
+    {
+        match &self.core {
+            Core::Il(end) => il::may_go_on(end),
+            Core::Udp(_) => true,
+        }
+    }
+
+    /// What its connect came to, once it has come to something.
+    pub(super) fn wait(&self, generation: u64) -> Option<Outcome>
+        ensures { spec.in_generation generation self.now.conv (spec.awaited self.now.conv.core self.now.conv) ≡ step_to self.now.conv result }
+    {
+        if generation != self.generation {
+            return self.stale(generation);
+        }
+        match &self.core {
+            Core::Il(end) => match il::state(end) {
+                IlState::Syncer => None,
+                IlState::Closed => Some(self.told(il::cause(end))),
+                _ => Some(self.replies(Said::ok())),
+            },
+            Core::Udp(_) => Some(self.told(self.cause())),
+        }
+    }
+
+    // Hungup where there is a cause, else ok.
+    fn told(&self, cause: Option<Cause>) -> Outcome
+        ensures { result ≡ (spec.answers self.now.conv (spec.hungup_or_ok cause)).outcome }
+    {
+        match cause {
+            Some(cause) => self.replies(Said::hungup(cause)),
+            None => self.replies(Said::ok()),
+        }
+    }
+
+    /// Refuses a control text that has no reading; none where it has one.
+    pub(super) fn refuse_control(&self, generation: u64, text: &Octets) -> Option<Outcome>
+        ensures { spec.bad_control (spec.refused_control (control_words.read text.now)) generation self.now.conv ≡ step_to self.now.conv result }
+    {
+        let number = control::fault(text.as_slice())?;
+        if generation != self.generation {
+            return self.stale(generation);
+        }
+        Some(self.replies(Said::bad_control(number)))
+    }
+}

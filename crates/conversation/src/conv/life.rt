@@ -1,0 +1,309 @@
+//! How a conversation begins, is connected and ends.
+ghost use Rattle.std.specs.Prelude.{◌≡◌, ◌<◌, ◌^◌, ℕ, Bool, IfOk, OnErr, Some, None};
+ghost use Rattle.net_base.specs.declared.reply.Reply.TheVariants as reply;
+ghost use Rattle.net_base.specs.IlEnd as end_spec;
+ghost use Rattle.net_base.specs.IlTable as table;
+ghost use Rattle.net_base.specs.UdpEnd as udp;
+ghost use Rattle.net_base.specs.Conversation as spec;
+ghost use Rattle.conversation.specs.Kept.{IsKept, seen_core, seen_stage, step_to};
+
+use crate::conv::{Conv, NOWHERE};
+use crate::il;
+use crate::parts::{Core, Stage};
+use crate::said::Said;
+use net_base::{Addr, Body, Octets, Outcome, Packet, Pair, StateName};
+use std::alloc::AllocError;
+use udp_core::UdpEnd;
+
+impl Conv {
+    // Another generation, with one open file.
+    fn become_new(&mut self, generation: u64, stage: Stage, pair: Pair, limit: u32, core: Core)
+        requires { IsKept stage core }
+        ensures { self.new ≡ record { slot = self.old.slot; conv = record { generation = generation; opens = 1; pair = pair; limit = limit; ttl = 255; tos = 0; stage = seen_stage stage; core = seen_core core } } }
+    {
+        self.generation = generation;
+        self.opens = 1;
+        self.pair = pair;
+        self.limit = limit;
+        self.ttl = 255;
+        self.tos = 0;
+        self.stage = stage;
+        self.core = core;
+    }
+
+    /// Begins the next generation.
+    pub(super) fn begin(&mut self, generation: u64) -> Result<Option<Outcome>, AllocError>
+        ensures ok { IfOk result (λ answer. spec.raises generation self.old.conv (Some (spec.leaves self.old.conv reply.Ok (spec.begun generation self.old.conv) None)) ≡ step_to self.new.conv answer) }
+        ensures slot { self.new.slot ≡ self.old.slot }
+        ensures err { OnErr result (self.new ≡ self.old) }
+    {
+        if !self.is_next(generation) {
+            return Ok(self.stale(generation));
+        }
+        let core = self.core.fresh_like(self.alloc)?;
+        let was_over = self.is_over();
+        let pair = Pair {
+            local: NOWHERE,
+            remote: NOWHERE,
+        };
+        self.become_new(generation, Stage::Unused, pair, 0, core);
+        Ok(Some(self.left(was_over, Said::ok(), None)))
+    }
+
+    /// Is born as the next generation, from a packet of its protocol.
+    pub(super) fn born(
+        &mut self,
+        now: u64,
+        generation: u64,
+        packet: &Packet,
+        start: u32,
+        limit: u32,
+    ) -> Result<Option<Outcome>, AllocError>
+        requires { now < 2 ^ 63 }
+        ensures ok { IfOk result (λ answer. spec.raises generation self.old.conv (spec.brought_forth self.old.conv.core now generation start limit packet.now packet.now.body self.old.conv) ≡ step_to self.new.conv answer) }
+        ensures slot { self.new.slot ≡ self.old.slot }
+        ensures err { OnErr result (self.new ≡ self.old) }
+    {
+        if !self.is_next(generation) {
+            return Ok(self.stale(generation));
+        }
+        let pair = Pair {
+            local: packet.dst,
+            remote: packet.src,
+        };
+        match (&self.core, &packet.body) {
+            (Core::Il(_), Body::Il(message)) => {
+                let id = message.id;
+                Ok(Some(self.born_il(now, generation, pair, start, limit, id)?))
+            }
+            (Core::Udp(_), Body::Udp(text)) => Ok(Some(self.born_udp(generation, pair, limit, text)?)),
+            _ => Ok(None),
+        }
+    }
+
+    // The end is born from the sync with this id.
+    fn born_il(
+        &mut self,
+        now: u64,
+        generation: u64,
+        pair: Pair,
+        start: u32,
+        limit: u32,
+        id: u32,
+    ) -> Result<Outcome, AllocError>
+        requires { now < 2 ^ 63 }
+        ensures ok { IfOk result (λ outcome. spec.turned self.old.conv reply.Ok (table.is_born now start id end_spec.fresh_end) (record (spec.begun generation self.old.conv) { pair = pair; limit = limit; stage = spec.Connected }) ≡ record { state = self.new.conv; outcome = outcome }) }
+        ensures slot { self.new.slot ≡ self.old.slot }
+        ensures err { OnErr result (self.new ≡ self.old) }
+    {
+        let mut end = il::fresh(self.alloc)?;
+        let sync = il::born(&mut end, now, start, id);
+        let was_over = self.is_over();
+        self.become_new(generation, Stage::Connected, pair, limit, Core::Il(end));
+        Ok(self.turned(was_over, Said::ok(), Some(sync)))
+    }
+
+    // The datagram is unread.
+    fn born_udp(
+        &mut self,
+        generation: u64,
+        pair: Pair,
+        limit: u32,
+        text: &Octets,
+    ) -> Result<Outcome, AllocError>
+        ensures ok { IfOk result (λ outcome. spec.leaves self.old.conv reply.Ok (record (spec.begun generation self.old.conv) { pair = pair; limit = limit; stage = spec.Connected; core = spec.Udp (udp.datagram_comes text.now (udp.udp_connects udp.fresh_udp)) }) None ≡ record { state = self.new.conv; outcome = outcome }) }
+        ensures slot { self.new.slot ≡ self.old.slot }
+        ensures err { OnErr result (self.new ≡ self.old) }
+    {
+        let mut end = UdpEnd::fresh(self.alloc)?;
+        let text = text.clone()?;
+        end.connect();
+        // an end without datagrams has room
+        let _ = end.arrive(text);
+        let was_over = self.is_over();
+        self.become_new(generation, Stage::Connected, pair, limit, Core::Udp(end));
+        Ok(self.left(was_over, Said::ok(), None))
+    }
+
+    /// Is claimed, which changes nothing.
+    pub(super) fn claim(&self, generation: u64) -> Option<Outcome>
+        ensures { spec.in_generation generation self.now.conv (Some (spec.answers self.now.conv reply.Ok)) ≡ step_to self.now.conv result }
+    {
+        if generation != self.generation {
+            return self.stale(generation);
+        }
+        Some(self.replies(Said::ok()))
+    }
+
+    /// Connects, where it is unused.
+    pub(super) fn connect(
+        &mut self,
+        now: u64,
+        generation: u64,
+        pair: Pair,
+        start: u32,
+        limit: u32,
+    ) -> Option<Outcome>
+        requires { now < 2 ^ 63 }
+        ensures step { spec.in_generation generation self.old.conv (Some (spec.joined self.old.conv.stage self.old.conv.core now pair start limit self.old.conv)) ≡ step_to self.new.conv result }
+        ensures slot { self.new.slot ≡ self.old.slot }
+    {
+        if generation != self.generation {
+            return self.stale(generation);
+        }
+        match self.stage {
+            Stage::Unused => Some(self.join(now, pair, start, limit)),
+            Stage::Listening | Stage::Connected => Some(self.replies(Said::ok())),
+        }
+    }
+
+    // An unused conversation is connected.
+    fn join(&mut self, now: u64, pair: Pair, start: u32, limit: u32) -> Outcome
+        requires in_time { now < 2 ^ 63 }
+        requires unused { self.old.conv.stage ≡ spec.Unused }
+        ensures step { spec.joined spec.Unused self.old.conv.core now pair start limit self.old.conv ≡ record { state = self.new.conv; outcome = result } }
+        ensures slot { self.new.slot ≡ self.old.slot }
+    {
+        let was_over = self.is_over();
+        self.pair = pair;
+        self.limit = limit;
+        self.stage = Stage::Connected;
+        match &mut self.core {
+            Core::Il(end) => {
+                let sync = il::connect(end, now, start);
+                self.turned(was_over, Said::ok(), Some(sync))
+            }
+            Core::Udp(end) => {
+                end.connect();
+                self.left(was_over, Said::ok(), None)
+            }
+        }
+    }
+
+    /// Listens at an address and port, where it is unused.
+    pub(super) fn announced(&mut self, generation: u64, ip: u32, port: u16) -> Option<Outcome>
+        ensures step { spec.in_generation generation self.old.conv (Some (spec.listens self.old.conv.stage ip port self.old.conv)) ≡ step_to self.new.conv result }
+        ensures slot { self.new.slot ≡ self.old.slot }
+    {
+        if generation != self.generation {
+            return self.stale(generation);
+        }
+        match self.stage {
+            Stage::Unused => Some(self.listen(ip, port)),
+            Stage::Listening | Stage::Connected => Some(self.replies(Said::ok())),
+        }
+    }
+
+    // An unused conversation listens.
+    fn listen(&mut self, ip: u32, port: u16) -> Outcome
+        requires { self.old.conv.stage ≡ spec.Unused }
+        ensures step { spec.listens spec.Unused ip port self.old.conv ≡ record { state = self.new.conv; outcome = result } }
+        ensures slot { self.new.slot ≡ self.old.slot }
+    {
+        let was_over = self.is_over();
+        self.pair.local = Addr { ip, port };
+        self.stage = Stage::Listening;
+        match &mut self.core {
+            Core::Il(end) => il::announced(end),
+            Core::Udp(end) => end.announced(),
+        }
+        self.left(was_over, Said::ok(), None)
+    }
+
+    /// Has a port, where it is unused.
+    pub(super) fn bound(&mut self, generation: u64, port: u16) -> Option<Outcome>
+        ensures step { spec.in_generation generation self.old.conv (Some (spec.binds self.old.conv.stage port self.old.conv)) ≡ step_to self.new.conv result }
+        ensures slot { self.new.slot ≡ self.old.slot }
+    {
+        if generation != self.generation {
+            return self.stale(generation);
+        }
+        match self.stage {
+            Stage::Unused => {
+                self.pair.local.port = port;
+                Some(self.replies(Said::ok()))
+            }
+            Stage::Listening | Stage::Connected => Some(self.replies(Said::ok())),
+        }
+    }
+
+    /// Hangs up.
+    pub(super) fn hangup(&mut self, now: u64, generation: u64) -> Option<Outcome>
+        requires { now < 2 ^ 63 }
+        ensures step { spec.in_generation generation self.old.conv (Some (spec.hung_up self.old.conv.core now (spec.left_or_ok (spec.core_name self.old.conv.core)) self.old.conv self.old.conv)) ≡ step_to self.new.conv result }
+        ensures slot { self.new.slot ≡ self.old.slot }
+    {
+        if generation != self.generation {
+            return self.stale(generation);
+        }
+        let was_over = self.is_over();
+        let said = match self.core.state_name() {
+            StateName::Listening => Said::left(),
+            _ => Said::ok(),
+        };
+        Some(self.hang_up(now, was_over, said))
+    }
+
+    // Its end hangs up.
+    fn hang_up(&mut self, now: u64, was_over: bool, said: Said) -> Outcome
+        requires { now < 2 ^ 63 }
+        ensures step { (before : spec.Conv) → spec.is_over before ≡ was_over → spec.hung_up self.old.conv.core now said before self.old.conv ≡ record { state = self.new.conv; outcome = result } }
+        ensures slot { self.new.slot ≡ self.old.slot }
+    {
+        match &mut self.core {
+            Core::Il(end) => {
+                let message = il::hang_up(end, now);
+                self.turned(was_over, said, message)
+            }
+            Core::Udp(end) => {
+                end.hangup();
+                self.left(was_over, said, None)
+            }
+        }
+    }
+
+    /// One open file fewer; the last one hangs up too.
+    pub(super) fn close(&mut self, now: u64, generation: u64) -> Option<Outcome>
+        requires { now < 2 ^ 63 }
+        ensures step { spec.in_generation generation self.old.conv (Some (spec.closed self.old.conv.opens now self.old.conv)) ≡ step_to self.new.conv result }
+        ensures slot { self.new.slot ≡ self.old.slot }
+    {
+        if generation != self.generation {
+            return self.stale(generation);
+        }
+        if self.opens == 0 {
+            return Some(self.replies(Said::ok()));
+        }
+        let was_over = self.is_over();
+        self.opens -= 1;
+        if self.opens == 0 {
+            Some(self.hang_up(now, was_over, Said::ok()))
+        } else {
+            Some(self.left(was_over, Said::ok(), None))
+        }
+    }
+
+    /// Has another ttl from now on.
+    pub(super) fn set_ttl(&mut self, generation: u64, ttl: u8) -> Option<Outcome>
+        ensures step { spec.in_generation generation self.old.conv (Some (spec.leaves self.old.conv reply.Ok (record self.old.conv { ttl = ttl }) None)) ≡ step_to self.new.conv result }
+        ensures slot { self.new.slot ≡ self.old.slot }
+    {
+        if generation != self.generation {
+            return self.stale(generation);
+        }
+        self.ttl = ttl;
+        Some(self.replies(Said::ok()))
+    }
+
+    /// Has another tos from now on.
+    pub(super) fn set_tos(&mut self, generation: u64, tos: u8) -> Option<Outcome>
+        ensures step { spec.in_generation generation self.old.conv (Some (spec.leaves self.old.conv reply.Ok (record self.old.conv { tos = tos }) None)) ≡ step_to self.new.conv result }
+        ensures slot { self.new.slot ≡ self.old.slot }
+    {
+        if generation != self.generation {
+            return self.stale(generation);
+        }
+        self.tos = tos;
+        Some(self.replies(Said::ok()))
+    }
+}
