@@ -154,7 +154,7 @@ module _ (w : World) (h : List Entry) (net : Net) (phase : ℕ → Phase) (stand
       let asked = asked_duty (arrive_duty j packet n) owed in
       let v : st.state ≡ IsDir d = ap (λ (q : Step Actor). q.state) st_is in
       let e : duties w net.actors x.actor (length net.past) (work_of net x) st ≡ [] = rw (asked.0.actor, asked.0.event, st_is, asked.1) refl in
-      let f : one_duty w x.actor (length net.past) x.event (with_of (net.owed x.caller)) st.outcome ≡ [] = rw (asked.0.actor, asked.0.event, st_is, asked.1) refl in
+      let f : one_duty w x.actor (length net.past) x.event (with_of (net.owed x.caller)) st.outcome ≡ [] = rw (asked.0.actor, asked.0.event, st_is) refl in
       record {
         phase = phase;
         good = courier_pushed

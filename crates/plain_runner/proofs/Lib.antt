@@ -4,3 +4,10 @@ pub mod Pushes
 pub mod Scripts
 pub mod Puts
 pub mod Couriers
+pub mod Follows
+pub mod Ends
+pub mod Opening
+pub mod Clock
+pub mod Records
+pub mod Readies
+pub mod Actings

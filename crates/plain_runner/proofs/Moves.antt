@@ -144,7 +144,7 @@ await_replies : (c : Conv) (e : UdpEnd) → c.core ≡ Udp e → (now : ℕ) (g 
 await_replies c e core now g generation = rw (core, generation) refl
 
 -- a step that was given to a work is the one that it gives
-the_step : {S : Type 0} (o : Option (Step S)) (a b : Step S) → o ≡ Some a → o ≡ Some b → a ≡ b
+pub the_step : {S : Type 0} (o : Option (Step S)) (a b : Step S) → o ≡ Some a → o ≡ Some b → a ≡ b
 the_step o a b is was = same_Some a b (sym is ∙ was)
 
 pub await_gives : (now : ℕ) (g : With) (c : Conv) (s : Step Conv) → IsLive c → conv_step 0 (event.Await 1) g now c ≡ Some s → Talks s × (s.outcome.emit ≡ None)

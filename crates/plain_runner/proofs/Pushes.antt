@@ -50,13 +50,13 @@ next_replies h x c is cites =
 
 -- The steps of actors.
 
-step_as_is : {S : Type 0} (b : Bool) (f : S → Actor) (o : Option (Step S)) (st : Step Actor) → when b (step_as f o) ≡ Some st
+pub step_as_is : {S : Type 0} (b : Bool) (f : S → Actor) (o : Option (Step S)) (st : Step Actor) → when b (step_as f o) ≡ Some st
     → (t : Step S) × (o ≡ Some t) × (st ≡ record { state = f t.state; outcome = t.outcome })
 step_as_is true f (Some t) st is = (t, refl, sym (same_Some _ st is))
 step_as_is true f None st is = absurd (none-some st is)
 step_as_is false f o st is = absurd (none-some st is)
 
-stepped_at : (w : World) (net : Net) (x : Entry) (st : Step Actor) (a : ActorName) (state : Actor) → x.actor ≡ a → net.actors a ≡ state → step_of w net x ≡ Some st
+pub stepped_at : (w : World) (net : Net) (x : Entry) (st : Step Actor) (a : ActorName) (state : Actor) → x.actor ≡ a → net.actors a ≡ state → step_of w net x ≡ Some st
     → actor_step w a state net.moment (work_of net x) ≡ Some st
 stepped_at w net x st a state at is step =
     sym (ap (λ (s : Actor). actor_step w a s net.moment (work_of net x)) is)

@@ -1,8 +1,10 @@
 //! The scripts of a world on one worker, in virtual time.
 #![tactic(auto)]
 
+mod actors;
 mod duty;
+mod runner;
+mod seat;
 mod standing;
 
-pub use duty::Duty;
-pub use standing::{Place, Standing};
+pub use runner::{Ran, RunEnd};

@@ -1,0 +1,139 @@
+-- The actors that are kept step as those of the definitions.
+use Rattle.std.proofs.Common.{◌≡◌, ℕ, zero, suc, ◌+◌, ◌-◌, ◌<◌, ◌≤◌, ◌==◌, ◌&&◌, Bool, true, false, List, [], ◌∷◌, ◌++◌, length, map, Option, Some, None, IsSome, is_some, slice_get, slice_set, ◌⊎◌, inl, inr, refl, sym, ap, subst, ◌∙◌, arith, rules, tests, nat_lt, if◌then◌else◌}
+use Rattle.std.specs.Option.{option_map_or}
+use Rattle.std.proofs.lemmas.Bool.{true≢false, false≢true, lt-ltb, eq-eqb, ne_eqb, eqb-false}
+use Rattle.std.proofs.lemmas.Bool.Decides.{eqb_tells}
+use Rattle.std.proofs.lemmas.Option.{none-some, same_Some, slice_get_within}
+use Rattle.std.proofs.lemmas.List.{length-set}
+use Rattle.net_base.specs.declared.actor.ActorName.{ActorName}
+use Rattle.net_base.specs.declared.actor.ActorName.TheVariants as name
+use Rattle.net_base.specs.declared.address.Proto.{Proto}
+use Rattle.net_base.specs.declared.address.Proto.TheVariants as proto
+use Rattle.net_base.specs.declared.event.Event.TheVariants as event
+use Rattle.net_base.specs.declared.history.Outcome.{Outcome}
+use Rattle.net_base.specs.declared.history.Work.{Work}
+use Rattle.net_base.specs.declared.world.World.{World}
+use Rattle.net_base.specs.ActorStep.{Step, when}
+use Rattle.net_base.specs.Actors.{Actor, IsDir, IsConv, IsMedium, actor_step, opening_actor, step_as}
+use Rattle.net_base.specs.Conversation.{Conv, conv_step}
+use Rattle.net_base.specs.Directory.{Dir, dir_step}
+use Rattle.net_base.specs.Medium.{Medium, medium_step}
+use Rattle.net_base.specs.Stamped.{same_actor}
+use Rattle.medium.specs.OnMedium.{OnMedium, medium_of}
+use Rattle.plain_runner.specs.Acting.{AreOf, Steps, actor_at, conv_at, dir_at}
+use Rattle.plain_runner.specs.Seats.{SeatView, IsSeatOf, dir_of, conv_of}
+use Rattle.plain_runner.proofs.Records.{get_set, get_set_other}
+
+-- a list with one element changed, as a function of its elements
+at_set : {A B : Type 0} (f : A → B) (xs : List A) (h i : ℕ) (x y : A) (other : B) → slice_get xs h ≡ Some x → f y ≡ f x → option_map_or f (slice_get (slice_set xs h y) i) other ≡ option_map_or f (slice_get xs i) other
+at_set f xs h i x y other is same = elim (eqb_tells h i) [
+  | inl here ↦ subst (λ (k : ℕ). option_map_or f (slice_get (slice_set xs h y) k) other ≡ option_map_or f (slice_get xs k) other) here.1
+      (rw (get_set xs h y (slice_get_within xs h x is), is) same)
+  | inr apart ↦ ap (λ o. option_map_or f o other) (get_set_other xs h i y apart.1)
+]
+
+set_are : (w : World) (seats : List SeatView) (m : OnMedium) (h : ℕ) (s : SeatView) → AreOf w seats m → IsSeatOf w h s → h < length seats → AreOf w (slice_set seats h s) m
+set_are w seats m h s are of lt = record {
+  count = length-set seats h s ∙ are.count;
+  seat = λ i t is. elim (eqb_tells h i) [
+    | inl here ↦ subst (λ (k : ℕ). slice_get (slice_set seats h s) k ≡ Some t → IsSeatOf w k t) here.1
+        (λ at. subst (IsSeatOf w h) (same_Some s t (sym (get_set seats h s lt) ∙ at)) of) is
+    | inr apart ↦ are.seat i t (sym (get_set_other seats h i s apart.1) ∙ is)
+  ];
+  media = are.media;
+  seed = are.seed;
+}
+
+pub conv_acts : (w : World) (seats : List SeatView) (m : OnMedium) (h : ℕ) (s t : SeatView) (now : ℕ) (work : Work) (o : Outcome) → AreOf w seats m → slice_get seats h ≡ Some s → IsSeatOf w h t
+    → conv_step 0 work.event work.with now (conv_of s) ≡ Some (record { state = conv_of t; outcome = o }) → dir_of t ≡ dir_of s
+    → Steps w seats m (name.Conv h proto.Udp 0) now work (slice_set seats h t) m o
+conv_acts w seats m h s t now work o are is of step same = record {
+  are = set_are w seats m h t are of lt;
+  step = rw (is, get_set seats h t lt, lt-ltb h (length w.hosts) in_world, step) refl;
+  others = others;
+  laid = omega arith;
+}
+  where
+    lt : h < length seats
+    lt = slice_get_within seats h s is
+    in_world : h < length w.hosts
+    in_world = omega (arith, lt, are.count)
+    others : (b : ActorName) → same_actor (name.Conv h proto.Udp 0) b ≡ false → actor_at (slice_set seats h t) m b ≡ actor_at seats m b
+    others (name.Dir i proto.Udp) apart = at_set (λ (v : SeatView). IsDir (dir_of v)) seats h i s t (opening_actor (name.Dir i proto.Udp)) is (ap (λ (d : Dir). IsDir d) same)
+    others (name.Dir i proto.Il) apart = refl
+    others (name.Conv i proto.Udp zero) apart = ap (λ (v : Option SeatView). option_map_or (λ (s : SeatView). IsConv (conv_of s)) v (opening_actor (name.Conv i proto.Udp 0))) (get_set_other seats h i t (λ e. true≢false (sym (rw (eq-eqb h i e) refl) ∙ apart)))
+    others (name.Conv i proto.Udp (suc n)) apart = refl
+    others (name.Conv i proto.Il n) apart = refl
+    others (name.Medium zero) apart = refl
+    others (name.Medium (suc k)) apart = refl
+    others (name.Desk i) apart = refl
+    others name.Clock apart = refl
+
+pub dir_acts : (w : World) (seats : List SeatView) (m : OnMedium) (h : ℕ) (s t : SeatView) (now : ℕ) (work : Work) (o : Outcome) → AreOf w seats m → slice_get seats h ≡ Some s → IsSeatOf w h t
+    → dir_step w h proto.Udp work.event work.with (dir_of s) ≡ Some (record { state = dir_of t; outcome = o }) → conv_of t ≡ conv_of s
+    → Steps w seats m (name.Dir h proto.Udp) now work (slice_set seats h t) m o
+dir_acts w seats m h s t now work o are is of step same = record {
+  are = set_are w seats m h t are of lt;
+  step = rw (is, get_set seats h t lt, lt-ltb h (length w.hosts) in_world, step) refl;
+  others = others;
+  laid = omega arith;
+}
+  where
+    lt : h < length seats
+    lt = slice_get_within seats h s is
+    in_world : h < length w.hosts
+    in_world = omega (arith, lt, are.count)
+    others : (b : ActorName) → same_actor (name.Dir h proto.Udp) b ≡ false → actor_at (slice_set seats h t) m b ≡ actor_at seats m b
+    others (name.Conv i proto.Udp zero) apart = at_set (λ (v : SeatView). IsConv (conv_of v)) seats h i s t (opening_actor (name.Conv i proto.Udp 0)) is (ap (λ (c : Conv). IsConv c) same)
+    others (name.Conv i proto.Udp (suc n)) apart = refl
+    others (name.Conv i proto.Il n) apart = refl
+    others (name.Dir i proto.Udp) apart = ap (λ (v : Option SeatView). option_map_or (λ (s : SeatView). IsDir (dir_of s)) v (opening_actor (name.Dir i proto.Udp))) (get_set_other seats h i t (λ e. true≢false (sym (rw (eq-eqb h i e) refl) ∙ apart)))
+    others (name.Dir i proto.Il) apart = refl
+    others (name.Medium zero) apart = refl
+    others (name.Medium (suc k)) apart = refl
+    others (name.Desk i) apart = refl
+    others name.Clock apart = refl
+
+pub medium_acts : (w : World) (seats : List SeatView) (m new : OnMedium) (now : ℕ) (work : Work) (o : Outcome) → AreOf w seats m → new.spec ≡ m.spec → new.seed ≡ m.seed → new.laid ≤ m.laid + 1
+    → medium_step m.spec m.seed work.event work.with (medium_of m) ≡ Some (record { state = medium_of new; outcome = o })
+    → Steps w seats m (name.Medium 0) now work seats new o
+medium_acts w seats m new now work o are spec seed laid step = record {
+  are = record { count = are.count; seat = are.seat; media = are.media ∙ ap (λ s. s ∷ []) (sym spec); seed = seed ∙ are.seed };
+  step = rw (are.media, sym are.seed, step) refl;
+  others = others;
+  laid = laid;
+}
+  where
+    others : (b : ActorName) → same_actor (name.Medium 0) b ≡ false → actor_at seats new b ≡ actor_at seats m b
+    others (name.Conv i proto.Udp zero) apart = refl
+    others (name.Conv i proto.Udp (suc n)) apart = refl
+    others (name.Conv i proto.Il n) apart = refl
+    others (name.Dir i proto.Udp) apart = refl
+    others (name.Dir i proto.Il) apart = refl
+    others (name.Medium zero) apart = absurd (true≢false apart)
+    others (name.Medium (suc k)) apart = refl
+    others (name.Desk i) apart = refl
+    others name.Clock apart = refl
+
+-- What is ready by the definitions is ready for its own table.
+
+some_as : {S : Type 0} (b : Bool) (f : S → Actor) (o : Option (Step S)) → IsSome (when b (step_as f o)) → IsSome o
+some_as true f (Some t) is = refl
+some_as true f None is = absurd (false≢true is)
+some_as false f o is = absurd (false≢true is)
+
+pub conv_some : (w : World) (seats : List SeatView) (m : OnMedium) (h n : ℕ) (s : SeatView) (now : ℕ) (work : Work) → n ≡ 0 → slice_get seats h ≡ Some s
+    → IsSome (actor_step w (name.Conv h proto.Udp n) (actor_at seats m (name.Conv h proto.Udp n)) now work) → IsSome (conv_step 0 work.event work.with now (conv_of s))
+conv_some w seats m h n s now work zero_is is some =
+    some_as _ (λ (c : Conv). IsConv c) _
+    (subst (λ (v : Actor). IsSome (actor_step w (name.Conv h proto.Udp 0) v now work)) (ap (λ (o : Option SeatView). option_map_or (λ (t : SeatView). IsConv (conv_of t)) o (opening_actor (name.Conv h proto.Udp 0))) is)
+    (subst (λ (k : ℕ). IsSome (actor_step w (name.Conv h proto.Udp k) (actor_at seats m (name.Conv h proto.Udp k)) now work)) zero_is some))
+
+-- whether a conversation is ready
+pub conv_tells : (w : World) (seats : List SeatView) (m : OnMedium) (h n : ℕ) (s : SeatView) (now : ℕ) (work : Work) (b : Bool) → n ≡ 0 → h < length w.hosts → slice_get seats h ≡ Some s
+    → b ≡ is_some (conv_step 0 work.event work.with now (conv_of s)) → b ≡ is_some (actor_step w (name.Conv h proto.Udp n) (actor_at seats m (name.Conv h proto.Udp n)) now work)
+conv_tells w seats m h n s now work b zero_is lt is tells = rw zero_is (rw (is, lt-ltb h (length w.hosts) lt) (tells ∙ as_so (conv_step 0 work.event work.with now (conv_of s))))
+  where
+    as_so : (o : Option (Step Conv)) → is_some o ≡ is_some (step_as (λ (c : Conv). IsConv c) o)
+    as_so None = refl
+    as_so (Some t) = refl
