@@ -1,9 +1,9 @@
 -- The actors that are kept step as those of the definitions.
-use Rattle.std.proofs.Common.{◌≡◌, ℕ, zero, suc, ◌+◌, ◌-◌, ◌<◌, ◌≤◌, ◌==◌, ◌&&◌, Bool, true, false, List, [], ◌∷◌, ◌++◌, length, map, Option, Some, None, IsSome, is_some, slice_get, slice_set, ◌⊎◌, inl, inr, refl, sym, ap, subst, ◌∙◌, arith, rules, tests, nat_lt, if◌then◌else◌}
+use Rattle.std.proofs.Common.{◌≡◌, ℕ, zero, suc, ◌+◌, ◌-◌, ◌<◌, ◌≤◌, ◌==◌, ◌&&◌, Bool, true, false, List, [], ◌∷◌, ◌++◌, length, map, get_or, Option, Some, None, Result, Ok, Err, IfOk, IsTrue, IsSome, is_some, slice_get, slice_set, ◌⊎◌, inl, inr, refl, sym, ap, subst, ◌∙◌, arith, rules, tests, nat_lt, if◌then◌else◌}
 use Rattle.std.specs.Option.{option_map_or}
 use Rattle.std.proofs.lemmas.Bool.{true≢false, false≢true, lt-ltb, eq-eqb, ne_eqb, eqb-false}
 use Rattle.std.proofs.lemmas.Bool.Decides.{eqb_tells}
-use Rattle.std.proofs.lemmas.Option.{none-some, same_Some, slice_get_within}
+use Rattle.std.proofs.lemmas.Option.{none-some, same_Some, slice_get_within, slice_get_read}
 use Rattle.std.proofs.lemmas.List.{length-set}
 use Rattle.net_base.specs.declared.actor.ActorName.{ActorName}
 use Rattle.net_base.specs.declared.actor.ActorName.TheVariants as name
@@ -17,11 +17,13 @@ use Rattle.net_base.specs.ActorStep.{Step, when}
 use Rattle.net_base.specs.Actors.{Actor, IsDir, IsConv, IsMedium, actor_step, opening_actor, step_as}
 use Rattle.net_base.specs.Conversation.{Conv, conv_step}
 use Rattle.net_base.specs.Directory.{Dir, dir_step}
-use Rattle.net_base.specs.Medium.{Medium, medium_step}
+use Rattle.net_base.specs.Medium.{Medium, medium_step, takes}
+use Rattle.std.specs.declared.alloc.AllocError.{AllocError}
+use Rattle.medium.specs.declared.frame.Frame.{Frame}
 use Rattle.net_base.specs.Stamped.{same_actor}
-use Rattle.medium.specs.OnMedium.{OnMedium, medium_of}
+use Rattle.medium.specs.OnMedium.{OnMedium, medium_of, taken_of}
 use Rattle.plain_runner.specs.Acting.{AreOf, Steps, actor_at, conv_at, dir_at}
-use Rattle.plain_runner.specs.Seats.{SeatView, IsSeatOf, dir_of, conv_of}
+use Rattle.plain_runner.specs.Seats.{SeatView, IsSeatOf, dir_of, conv_of, DirSteps, ConvSteps}
 use Rattle.plain_runner.proofs.Records.{get_set, get_set_other}
 
 -- a list with one element changed, as a function of its elements
@@ -137,3 +139,41 @@ conv_tells w seats m h n s now work b zero_is lt is tells = rw zero_is (rw (is, 
     as_so : (o : Option (Step Conv)) → is_some o ≡ is_some (step_as (λ (c : Conv). IsConv c) o)
     as_so None = refl
     as_so (Some t) = refl
+
+-- The same of what a call gave.
+
+map_ok : {A E : Type 0} (r : Result A E) (P Q : A → Type 0) → ((x : A) → P x → Q x) → IfOk r P → IfOk r Q
+map_ok (Ok x) P Q f is = f x is
+map_ok (Err e) P Q f is = tt
+
+pub seat_at : (seats : List SeatView) (h : ℕ) (s : SeatView) → h < length seats → s ≡ get_or seats h s → slice_get seats h ≡ Some s
+seat_at seats h s lt is = slice_get_read seats (length seats) h s refl lt is
+
+pub conv_acts_ok : (w : World) (seats : List SeatView) (m : OnMedium) (h n : ℕ) (s t : SeatView) (now : ℕ) (work : Work) (r : Result Outcome AllocError) → AreOf w seats m → n ≡ 0 → slice_get seats h ≡ Some s
+    → IfOk r (ConvSteps s t now work) → IfOk r (Steps w seats m (name.Conv h proto.Udp n) now work (slice_set seats h t) m)
+conv_acts_ok w seats m h n s t now work r are zero_is is = map_ok r (ConvSteps s t now work) (Steps w seats m (name.Conv h proto.Udp n) now work (slice_set seats h t) m) (λ o steps.
+    let d = steps w h (are.seat h s is) in
+    subst (λ (k : ℕ). Steps w seats m (name.Conv h proto.Udp k) now work (slice_set seats h t) m o) (sym zero_is) (conv_acts w seats m h s t now work o are is d.0 d.1 d.2))
+
+pub dir_acts_ok : (w : World) (seats : List SeatView) (m : OnMedium) (h : ℕ) (p : Proto) (s t : SeatView) (now : ℕ) (work : Work) (r : Result Outcome AllocError) → AreOf w seats m → p ≡ proto.Udp → slice_get seats h ≡ Some s
+    → IfOk r (DirSteps s t work) → IfOk r (Steps w seats m (name.Dir h p) now work (slice_set seats h t) m)
+dir_acts_ok w seats m h p s t now work r are udp is = map_ok r (DirSteps s t work) (Steps w seats m (name.Dir h p) now work (slice_set seats h t) m) (λ o steps.
+    let d = steps w h (are.seat h s is) in subst (λ (q : Proto). Steps w seats m (name.Dir h q) now work (slice_set seats h t) m o) (sym udp) (dir_acts w seats m h s t now work o are is d.0 d.1 d.2))
+
+pub conv_tells_ok : (w : World) (seats : List SeatView) (m : OnMedium) (h n : ℕ) (s : SeatView) (work : Work) (r : Result Bool AllocError) → n ≡ 0 → h < length w.hosts → slice_get seats h ≡ Some s
+    → IfOk r (λ b. (now : ℕ) → b ≡ is_some (conv_step 0 work.event work.with now (conv_of s)))
+    → IfOk r (λ b. (now : ℕ) → b ≡ is_some (actor_step w (name.Conv h proto.Udp n) (actor_at seats m (name.Conv h proto.Udp n)) now work))
+conv_tells_ok w seats m h n s work r zero_is lt is = map_ok r (λ b. (now : ℕ) → b ≡ is_some (conv_step 0 work.event work.with now (conv_of s)))
+    (λ b. (now : ℕ) → b ≡ is_some (actor_step w (name.Conv h proto.Udp n) (actor_at seats m (name.Conv h proto.Udp n)) now work))
+    (λ b tells now. conv_tells w seats m h n s now work b zero_is lt is (tells now))
+
+-- a copy can be taken exactly where a frame is pending
+pub medium_tells : (w : World) (seats : List SeatView) (m : OnMedium) (now : ℕ) (work : Work) (b : Bool) → AreOf w seats m → work.event ≡ event.Take → (IsTrue b → 0 < length m.frames) × (0 < length m.frames → IsTrue b)
+    → b ≡ is_some (actor_step w (name.Medium 0) (IsMedium (medium_of m)) now work)
+medium_tells w seats m now work b are take tells = rw (are.media, take) (by_frames m.frames b tells)
+  where
+    by_frames : (fs : List Frame) (b : Bool) → (IsTrue b → 0 < length fs) × (0 < length fs → IsTrue b) → b ≡ is_some (step_as (λ (n : Medium). IsMedium n) (takes (map taken_of fs) [] (medium_of m)))
+    by_frames [] true t = absurd (omega (arith, t.0 refl))
+    by_frames [] false t = refl
+    by_frames (f ∷ fs) true t = refl
+    by_frames (f ∷ fs) false t = absurd (false≢true (t.1 (omega arith)))

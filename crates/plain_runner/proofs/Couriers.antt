@@ -80,6 +80,12 @@ takes_so (u ∷ us) held m t all_queue all_held all_q all_h is = subst Takes (sa
 takes_so [] (u ∷ us) m t all_queue all_held all_q all_h is = subst Takes (same_Some _ t is) record { copy = u; udp = all_held.0; taken = refl; queue = all_q; held = all_held.1 }
 takes_so [] [] m t all_queue all_held all_q all_h is = absurd (none-some t is)
 
+-- what a take owes
+take_duties : (w : World) (net : Net) (x : Entry) (st : Step Actor) (t : Step Medium) (copy : Taken) → x.actor ≡ name.Medium 0 → st ≡ record { state = IsMedium t.state; outcome = t.outcome } → t.outcome.taken ≡ Some copy
+    → (duties w net.actors x.actor (length net.past) (work_of net x) st ≡ courier_duty w (name.Medium 0) (length net.past) (Some copy))
+    × (one_duty w x.actor (length net.past) x.event (with_of (net.owed x.caller)) st.outcome ≡ courier_duty w (name.Medium 0) (length net.past) (Some copy))
+take_duties w net x st t copy at st_is taken = (rw (at, st_is, taken) (append-nil _ ∙ append-nil _), rw (at, st_is, taken) refl)
+
 module _ (w : World) (h : List Entry) (net : Net) (phase : ℕ → Phase) (stand : ℕ → Standing) (x : Entry) (st : Step Actor) (b : ByCourier w h net phase stand x st) where
 
   courier_pushed : ((i : ℕ) → i < length w.hosts → HasPhase (actors_after net.actors x.actor st.state) i (phase i))
@@ -133,15 +139,14 @@ module _ (w : World) (h : List Entry) (net : Net) (phase : ℕ → Phase) (stand
           let entry = medium_entry w b.form net x st m at is b.step in
           let takes = takes_so m.queue m.held m entry.0 all.0 all.1 all.0 all.1 (sym (ap (λ (e : Event). medium_step b.form.medium w.seed e (with_of (net.owed x.caller)) m) event_is) ∙ entry.1) in
           let v : st.state ≡ IsMedium entry.0.state = ap (λ (q : Step Actor). q.state) entry.2 in
-          let d : duties w net.actors x.actor (length net.past) (work_of net x) st ≡ courier_duty w (name.Medium 0) (length net.past) (Some takes.copy) = rw (at, event_is, entry.2, takes.taken) (append-nil _ ∙ append-nil _) in
-          let e : one_duty w x.actor (length net.past) x.event (with_of (net.owed x.caller)) st.outcome ≡ courier_duty w (name.Medium 0) (length net.past) (Some takes.copy) = rw (at, event_is, entry.2, takes.taken) refl in
+          let both = take_duties w net x st entry.0 takes.copy at entry.2 takes.taken in
           record {
             phase = phase;
             good = courier_pushed
                 (λ i lt. rw v (hosts_medium w net phase x.actor entry.0.state b.good.hosts at i lt))
                 (rw v (medium_set net x.actor entry.0.state at (takes.queue, takes.held)))
-                (subst (CourierOwes w phase) (sym (owes_now [] (courier_duty w (name.Medium 0) (length net.past) (Some takes.copy)) owed d)) (copy_owes w phase b.form (length net.past) takes.copy takes.udp));
-            duty = d ∙ sym e;
+                (subst (CourierOwes w phase) (sym (owes_now [] (courier_duty w (name.Medium 0) (length net.past) (Some takes.copy)) owed both.0)) (copy_owes w phase b.form (length net.past) takes.copy takes.udp));
+            duty = both.0 ∙ sym both.1;
           }
       by_actor (IsDir d) is all = absurd all
       by_actor (IsConv c) is all = absurd all

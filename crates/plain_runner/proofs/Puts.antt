@@ -27,6 +27,8 @@ use Rattle.net_base.specs.Net.{Net, actors_after, work_of, with_of, step_of}
 use Rattle.net_base.specs.Routes.{Way, way, way_from, way_to_itself, way_by, matches, Route}
 use Rattle.net_base.specs.WorldForm.{IsFirstForm, IsPlainHost}
 use Rattle.plain_runner.specs.Good.{IsUdp, AllUdp, HasDatagrams, PutOrNot, NoPut, Puts, one_duty}
+use Rattle.plain_runner.specs.Good.{put_duty}
+use Rattle.plain_runner.specs.Stations.{stations_by}
 use Rattle.plain_runner.proofs.Moves.{Emits, Nothing, Datagram}
 use Rattle.plain_runner.proofs.Pushes.{step_as_is, stepped_at}
 
@@ -127,8 +129,45 @@ put_entry w form net x st to p at event_is with_ udp has step = by_actor (net.ac
           medium = entry.0.state;
           state_is = ap (λ (q : Step Actor). q.state) entry.2;
           datagrams = (laid.queue, laid.held);
-          none = (rw (at, event_is, entry.2, laid.emit, laid.taken) refl, rw (at, event_is, entry.2, laid.emit, laid.taken) refl);
+          none = (rw (at, entry.2, laid.taken) refl, rw (at, entry.2, laid.taken, laid.emit) refl);
         }
     by_actor (IsDir d) is all = absurd all
     by_actor (IsConv c) is all = absurd all
     by_actor IsPlain is all = absurd all
+
+-- Stations.
+
+abbrev pub stationed : ℕ → Packet → Option (Option ℕ) → List Duty
+stationed s p None = []
+stationed s p (Some to) = put_duty to p s ∷ []
+
+station_is : (w : World) (n : ℕ) (h : HostSpec) (i : Iface) (ip : ℕ) (own near : Bool) → h.ifaces ≡ i ∷ [] → h.routes ≡ [] → i.medium ≡ 0 → (i.ip == ip) ≡ own → matches ip (network i) ≡ near
+    → stations_by w n i ip ≡ option_map (λ (out : Way). out.station) (way_from (find (λ (j : Iface). j.ip == ip) h.ifaces) w n h ip)
+unfolding network
+station_is w n h i ip true near ifaces routes medium own is_near = rw (ifaces, own) refl
+station_is w n h i ip false true ifaces routes medium own is_near = rw (ifaces, routes, own, is_near, medium) refl
+station_is w n h i ip false false ifaces routes medium own is_near = rw (ifaces, routes, own, is_near) refl
+
+pub station_by_way : (w : World) → IsFirstForm w → (n ip : ℕ) (h : HostSpec) (i : Iface) → slice_get w.hosts n ≡ Some h → slice_get h.ifaces 0 ≡ Some i
+    → stations_by w n i ip ≡ option_map (λ (out : Way). out.station) (way w n ip)
+station_by_way w form n ip h i get first =
+    let p = plain_host w form n h get in
+    let same : p.iface ≡ i = same_Some p.iface i (sym (ap (λ (is : List Iface). slice_get is 0) p.ifaces) ∙ first) in
+    rw get (subst (λ (j : Iface). stations_by w n j ip ≡ option_map (λ (out : Way). out.station) (way_from (find (λ (k : Iface). k.ip == ip) h.ifaces) w n h ip)) same
+    (station_is w n h p.iface ip (p.iface.ip == ip) (matches ip (network p.iface)) p.ifaces p.routes p.medium refl refl))
+
+pub no_host_no_way : (w : World) (n ip : ℕ) → slice_get w.hosts n ≡ None → None ≡ option_map (λ (out : Way). out.station) (way w n ip)
+no_host_no_way w n ip none = rw none refl
+
+-- a host of the form has an interface
+pub some_iface : (w : World) → IsFirstForm w → (n : ℕ) (h : HostSpec) → slice_get w.hosts n ≡ Some h → slice_get h.ifaces 0 ≡ None → ⊥
+some_iface w form n h get none = let p = plain_host w form n h get in none-some p.iface (sym none ∙ ap (λ (is : List Iface). slice_get is 0) p.ifaces)
+
+-- what is put, by the station
+pub put_by_station : (w : World) → IsFirstForm w → (h s : ℕ) (p : Packet) (r : Option (Option ℕ)) → r ≡ option_map (λ (out : Way). out.station) (way w h p.dst.ip)
+    → stationed s p r ≡ put_by (way w h p.dst.ip) s p
+put_by_station w form h s p r is = ap (stationed s p) is ∙ by_way (way w h p.dst.ip) refl
+  where
+    by_way : (o : Option Way) → way w h p.dst.ip ≡ o → stationed s p (option_map (λ (out : Way). out.station) o) ≡ put_by o s p
+    by_way None is = refl
+    by_way (Some out) is = rw (way_medium w form h p.dst.ip out is) refl

@@ -34,13 +34,13 @@ use Rattle.plain_runner.proofs.Scripts.{live_begun}
 
 -- an actor that is met, by its name
 met_of : ActorName → Met
-met_of (name.Dir h p) = met.Dir h
+met_of (name.Dir h p) = met.Dir h p
 met_of (name.Conv h p n) = met.Conv h n
 met_of _ = met.Medium
 
 met_is : (a : Met) → a ≡ met_of (name_of a)
 unfolding met_of
-met_is (met.Dir h) = refl
+met_is (met.Dir h p) = refl
 met_is (met.Conv h n) = refl
 met_is met.Medium = refl
 
@@ -114,7 +114,7 @@ courier_ready w form net phase o d hosts has is (Carries put) = put_is_ready w f
 courier_ready w form net phase o d hosts has is (Arrives j packet n lt udp owed) =
     let host = hosts j lt in
     let gives = arrive_gives w j packet udp.0 host.dir (phase j) udp.1 host.dir_in in
-    task_ready w net d (arrive_duty j packet n) (head_is o d (arrive_duty j packet n) is owed) record { met = (lt, udp); some = dir_ready w net j host.dir event.Arrive (given.Packet packet) gives.0 lt host.dir_is gives.1 }
+    task_ready w net d (arrive_duty j packet n) (head_is o d (arrive_duty j packet n) is owed) record { met = (lt, refl, udp); some = dir_ready w net j host.dir event.Arrive (given.Packet packet) gives.0 lt host.dir_is gives.1 }
 courier_ready w form net phase o d hosts has is (Reaches j packet n lt udp begun owed) =
     let host = hosts j lt in
     let gives = arrive_at_gives packet udp.0 net.moment host.conv (live_begun (phase j) host.conv begun host.conv_in) udp.1 in

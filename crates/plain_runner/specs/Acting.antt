@@ -1,5 +1,5 @@
 -- The actors that are kept, as those of the definitions.
-use Rattle.std.specs.Prelude.{◌≡◌, ℕ, zero, suc, ◌+◌, ◌<◌, ◌≤◌, Bool, true, false, List, [], ◌∷◌, length, Option, Some, None, slice_get}
+use Rattle.std.specs.Prelude.{◌≡◌, ℕ, zero, suc, ◌+◌, ◌<◌, ◌≤◌, Bool, true, false, List, [], ◌∷◌, length, Option, Some, None, slice_get, is_some}
 use Rattle.std.specs.Option.{option_map_or}
 use Rattle.net_base.specs.declared.actor.ActorName.{ActorName}
 use Rattle.net_base.specs.declared.actor.ActorName.TheVariants as name
@@ -53,6 +53,12 @@ IsMediumMet _ wi = ⊥
 
 -- what is asked of an actor
 abbrev pub IsMet : World → Met → Work → Type 0
-IsMet w (met.Dir h) work = (h < length w.hosts) × IsDirMet work.event work.with
+IsMet w (met.Dir h p) work = (h < length w.hosts) × (p ≡ proto.Udp) × IsDirMet work.event work.with
 IsMet w (met.Conv h n) work = (h < length w.hosts) × (n ≡ 0) × IsConvMet work.event
 IsMet w met.Medium work = IsMediumMet work.event work.with
+
+-- the directory has an answer, and the medium is asked for a copy
+abbrev pub IsSure : World → (ActorName → Actor) → Met → Work → Type 0
+IsSure w actors (met.Dir h p) work = (now : ℕ) → true ≡ is_some (actor_step w (name.Dir h p) (actors (name.Dir h p)) now work)
+IsSure w actors (met.Conv h n) work = Unit {0}
+IsSure w actors met.Medium work = work.event ≡ event.Take

@@ -5,3 +5,5 @@ pub mod Seats
 pub mod Stands
 pub mod Met
 pub mod Acting
+pub mod Entries
+pub mod Stations

@@ -11,7 +11,7 @@ use Rattle.plain_runner.specs.declared.actors.Met.TheVariants as met
 use Rattle.plain_runner.specs.declared.duty.Duty.{Duty as Task}
 
 abbrev pub name_of : Met → ActorName
-name_of (met.Dir h) = name.Dir h proto.Udp
+name_of (met.Dir h p) = name.Dir h p
 name_of (met.Conv h n) = name.Conv h proto.Udp n
 name_of met.Medium = name.Medium 0
 

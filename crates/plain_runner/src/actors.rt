@@ -8,7 +8,7 @@ ghost use Rattle.plain_runner.specs.Met.{name_of};
 ghost use Rattle.net_base.specs.ActorStep.{replies};
 ghost use Rattle.medium.specs.Replies.{reply_of};
 ghost use Rattle.std.specs.Prelude.{None};
-ghost use Rattle.plain_runner.specs.Acting.{AreOf, Steps, IsMet, actor_at};
+ghost use Rattle.plain_runner.specs.Acting.{AreOf, Steps, IsMet, IsSure, actor_at};
 
 use crate::seat::Seat;
 use medium::{Laid, Medium};
@@ -18,8 +18,8 @@ use std::alloc::{AllocError, Global};
 /// An actor that is met.
 #[derive(Clone, Copy, Debug, PartialEq, Eq)]
 pub enum Met {
-    /// The directory of a host.
-    Dir(u32),
+    /// The directory of a host and protocol.
+    Dir(u32, Proto),
     /// The conversation in a slot of a host.
     Conv(u32, u32),
     Medium,
@@ -31,7 +31,7 @@ impl Met {
         ensures { result ≡ name_of self }
     {
         match self {
-            Met::Dir(host) => ActorName::Dir(host, Proto::Udp),
+            Met::Dir(host, proto) => ActorName::Dir(host, proto),
             Met::Conv(host, slot) => ActorName::Conv(host, Proto::Udp, slot),
             Met::Medium => ActorName::Medium(0),
         }
@@ -66,10 +66,11 @@ impl Actors {
     pub fn ready(&self, _world: &World, actor: Met, work: &Work) -> Result<bool, AllocError>
         requires are { AreOf _world.now self.now.seats.items self.now.medium }
         requires met { IsMet _world.now actor work.now }
+        requires sure { IsSure _world.now (actor_at self.now.seats.items self.now.medium) actor work.now }
         ensures { IfOk result (λ is. (now : ℕ) → is ≡ is_some (actor_step _world.now (name_of actor) (actor_at self.now.seats.items self.now.medium (name_of actor)) now work.now)) }
     {
         match actor {
-            Met::Dir(_) => Ok(true),
+            Met::Dir(_, _) => Ok(true),
             Met::Conv(host, _) => self.seats[host as usize].conv_ready(work),
             Met::Medium => Ok(self.medium.pending()),
         }
@@ -85,16 +86,16 @@ impl Actors {
         ensures { IfOk result (Steps world.now self.old.seats.items self.old.medium (name_of actor) now work.now self.new.seats.items self.new.medium) }
     {
         match actor {
-            Met::Dir(host) => self.step_dir(world, now, host, work),
+            Met::Dir(host, proto) => self.step_dir(world, now, host, proto, work),
             Met::Conv(host, slot) => self.step_conv(world, now, host, slot, work),
             Met::Medium => self.step_medium(world, now, work),
         }
     }
 
-    fn step_dir(&mut self, _world: &World, _now: u64, host: u32, work: &Work) -> Result<Outcome, AllocError>
+    fn step_dir(&mut self, _world: &World, _now: u64, host: u32, _proto: Proto, work: &Work) -> Result<Outcome, AllocError>
         requires are { AreOf _world.now self.old.seats.items self.old.medium }
-        requires met { IsMet _world.now (Met.Dir host) work.now }
-        ensures { IfOk result (Steps _world.now self.old.seats.items self.old.medium (name_of (Met.Dir host)) _now work.now self.new.seats.items self.new.medium) }
+        requires met { IsMet _world.now (Met.Dir host _proto) work.now }
+        ensures { IfOk result (Steps _world.now self.old.seats.items self.old.medium (name_of (Met.Dir host _proto)) _now work.now self.new.seats.items self.new.medium) }
     {
         self.seats[host as usize].dir_step(work)
     }

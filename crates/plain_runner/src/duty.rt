@@ -1,7 +1,10 @@
 //! What a caller owes.
 ghost use Rattle.std.specs.Prelude.{◌≡◌, ℕ, ◌<◌, Some, None, if◌then◌else◌, position, slice_get};
 ghost use Rattle.net_base.specs.declared.actor.ActorName.TheVariants as name;
-ghost use Rattle.net_base.specs.Duties.{courier_duty, put_by as spec_put_by};
+ghost use Rattle.std.specs.Option.{option_map};
+ghost use Rattle.net_base.specs.Duties.{courier_duty, put_by as spec_put_by, proto_of as spec_proto_of};
+ghost use Rattle.net_base.specs.Routes.{Way};
+ghost use Rattle.plain_runner.specs.Stations.{stations_by};
 ghost use Rattle.net_base.specs.Routes as routes;
 ghost use Rattle.net_base.specs.World.{IsWorld};
 ghost use Rattle.net_base.specs.WorldForm.{IsFirstForm};
@@ -9,7 +12,7 @@ ghost use Rattle.plain_runner.specs.Good.{follows_reply, one_duty_by};
 ghost use Rattle.plain_runner.specs.Met.{name_of, owed_of};
 
 use crate::actors::Met;
-use net_base::{Event, HostSpec, Packet, Reply, Taken, With, World};
+use net_base::{Body, Event, HostSpec, Iface, Packet, Proto, Reply, Taken, With, World};
 
 /// An event that its caller must record next, and the stamp of the entry that owes it.
 #[derive(Debug, Drop)]
@@ -41,11 +44,11 @@ pub fn owed_by(
             _ => None,
         },
         (None, Some(packet)) => match actor {
-            Met::Dir(host) | Met::Conv(host, _) => put_by(world, host, stamp, packet),
+            Met::Dir(host, _) | Met::Conv(host, _) => put_by(world, host, stamp, packet),
             Met::Medium => None,
         },
         (None, None) => match actor {
-            Met::Dir(host) => follows(host, stamp, event, with, reply),
+            Met::Dir(host, _) => follows(host, stamp, event, with, reply),
             _ => None,
         },
     }
@@ -109,7 +112,7 @@ fn carries(world: &World, cites: u64, taken: Taken) -> Option<Duty>
     } = taken;
     if has_address(world, to, packet.dst.ip) {
         return Some(Duty {
-            actor: Met::Dir(to),
+            actor: Met::Dir(to, proto_of(&packet)),
             event: Event::Arrive,
             with: With::Packet(packet),
             cites,
@@ -138,28 +141,60 @@ fn has_ip(host: &HostSpec, ip: u32) -> bool
     host.ifaces.as_slice().iter().any(|iface| iface.ip == ip)
 }
 
+// The protocol of a packet.
+fn proto_of(packet: &Packet) -> Proto
+    ensures { result ≡ spec_proto_of packet.now.body }
+{
+    match packet.body {
+        Body::Il(_) => Proto::Il,
+        Body::Udp(_) => Proto::Udp,
+    }
+}
+
 // The put of a packet by the way from the host, where there is one.
 fn put_by(world: &World, host: u32, cites: u64, packet: Packet) -> Option<Duty>
     requires world { IsWorld world.now }
     requires form { IsFirstForm world.now }
     ensures { owed_of result ≡ spec_put_by (routes.way world.now host packet.dst.ip) cites packet }
 {
-    let spec = world.hosts.as_slice().get(host as usize)?;
-    let iface = spec.ifaces.as_slice().first()?;
-    let ip = packet.dst.ip;
-    let to = if iface.ip == ip {
-        Some(host)
+    match way_to(world, host, packet.dst.ip) {
+        Some(to) => Some(Duty {
+            actor: Met::Medium,
+            event: Event::Put { to },
+            with: With::Packet(packet),
+            cites,
+        }),
+        None => None,
+    }
+}
+
+// The station of the way from the host to an address.
+fn way_to(world: &World, host: u32, ip: u32) -> Option<Option<u32>>
+    requires world { IsWorld world.now }
+    requires form { IsFirstForm world.now }
+    ensures { result ≡ option_map (λ (out : Way). out.station) (routes.way world.now host ip) }
+{
+    match world.hosts.as_slice().get(host as usize) {
+        Some(spec) => match spec.ifaces.as_slice().first() {
+            Some(iface) => way_by(world, host, *iface, ip),
+            None => None,
+        },
+        None => None,
+    }
+}
+
+// The same where the host has this interface alone.
+fn way_by(world: &World, host: u32, iface: Iface, ip: u32) -> Option<Option<u32>>
+    requires { IsWorld world.now }
+    ensures { result ≡ stations_by world.now host iface ip }
+{
+    if iface.ip == ip {
+        Some(Some(host))
     } else if ip & iface.mask == iface.ip & iface.mask {
-        station_of(world, ip)
+        Some(station_of(world, ip))
     } else {
-        return None;
-    };
-    Some(Duty {
-        actor: Met::Medium,
-        event: Event::Put { to },
-        with: With::Packet(packet),
-        cites,
-    })
+        None
+    }
 }
 
 // The host with this address on the medium.
@@ -167,8 +202,17 @@ fn station_of(world: &World, ip: u32) -> Option<u32>
     requires { IsWorld world.now }
     ensures { result ≡ routes.station_of world.now 0 ip }
 {
-    let place = world.hosts.as_slice().iter().position(|host| stands_at(host, ip))?;
-    Some(place as u32)
+    match place_of(world.hosts.as_slice(), ip) {
+        Some(place) => Some(place as u32),
+        None => None,
+    }
+}
+
+// The place of the host with this address on the medium.
+fn place_of(hosts: &[HostSpec], ip: u32) -> Option<usize>
+    ensures { result ≡ position (routes.stands_at 0 ip) hosts.now }
+{
+    hosts.iter().position(|host| stands_at(host, ip))
 }
 
 fn stands_at(host: &HostSpec, ip: u32) -> bool

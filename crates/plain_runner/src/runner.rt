@@ -1,8 +1,18 @@
 //! A run: rounds over the callers in order of number, and the clock where nothing was recorded.
-use crate::actors::Actors;
-use crate::duty::Duty;
+ghost use Rattle.std.specs.Prelude.{◌≡◌, ℕ, ◌<◌, ◌-◌, ◌^◌, slice_set, slice_index, vec_len};
+ghost use Rattle.std.specs.Option.{option_map};
+ghost use Rattle.net_base.specs.Headers.{header};
+ghost use Rattle.net_base.specs.World.{IsWorld};
+ghost use Rattle.net_base.specs.WorldForm.{IsFirstForm};
+ghost use Rattle.plain_runner.specs.Entries.{shown_entry, goes_to};
+ghost use Rattle.plain_runner.specs.Good.{one_duty};
+ghost use Rattle.plain_runner.specs.Met.{name_of, owed_of};
+ghost use Rattle.plain_runner.specs.Places.{finished_at};
+
+use crate::actors::{Actors, Met};
+use crate::duty::{Duty, owed_by};
 use crate::standing::Standing;
-use net_base::History;
+use net_base::{Entry, Header, History, Outcome, Packet, Reply, Work, World};
 use std::alloc::Global;
 
 /// How a run ends.
@@ -43,3 +53,73 @@ pub struct Runner {
     pub moves: u32,
 }
 
+
+/// The entry of a step, and what it owes.
+fn entry_of(
+    world: &World,
+    actor: Met,
+    caller: u32,
+    moment: u64,
+    stamp: u64,
+    work: Work,
+    cites: Option<u64>,
+    outcome: Outcome,
+) -> (Entry, Option<Duty>)
+    requires world { IsWorld world.now }
+    requires form { IsFirstForm world.now }
+    ensures entry { result.0 ≡ shown_entry (name_of actor) caller moment work.event cites outcome }
+    ensures owed { owed_of result.1 ≡ one_duty world.now (name_of actor) stamp work.event work.with outcome }
+{
+    let Work { event, with } = work;
+    let Outcome {
+        reply,
+        copy: _,
+        emit,
+        taken,
+        ended,
+    } = outcome;
+    let emits = header_of(&emit);
+    let owed = owed_by(world, actor, stamp, &event, with, &reply, taken, emit);
+    let entry = Entry {
+        actor: actor.name(),
+        caller,
+        moment,
+        event,
+        cites,
+        reply,
+        emits,
+        ended,
+    };
+    (entry, owed)
+}
+
+// What an entry shows of a packet.
+fn header_of(emit: &Option<Packet>) -> Option<Header>
+    ensures { result ≡ option_map header emit.now }
+{
+    match emit {
+        Some(packet) => Some(packet.header()),
+        None => None,
+    }
+}
+
+// Sets what is kept of a caller.
+fn set_caller(callers: &mut Vec<Caller>, caller: usize, kept: Caller)
+    requires { caller < vec_len callers.old }
+    ensures { callers.new.items ≡ slice_set callers.old.items caller kept }
+{
+    callers[caller] = kept;
+}
+
+// Takes a script to its next place.
+fn go_on(scripts: &mut Vec<Standing>, caller: usize, reply: &Reply)
+    requires caller { caller < vec_len scripts.old }
+    requires fits { finished_at (slice_index scripts.old.items caller).place < 2 ^ 32 - 1 }
+    ensures { scripts.new.items ≡ slice_set scripts.old.items caller (goes_to (slice_index scripts.old.items caller) reply.now) }
+{
+    let place = scripts[caller].place;
+    scripts[caller] = Standing {
+        place: place.advanced(reply),
+        before: place.finished(),
+    };
+}

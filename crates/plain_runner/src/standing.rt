@@ -5,7 +5,7 @@ ghost use Rattle.plain_runner.specs.Places as spec;
 ghost use Rattle.plain_runner.specs.Met.{asks};
 
 use crate::actors::Met;
-use net_base::{Event, FileName, Mode, Reply, Script, Step};
+use net_base::{Event, FileName, Mode, Proto, Reply, Script, Step};
 use std::alloc::AllocError;
 
 /// What a script does next.
@@ -55,7 +55,7 @@ impl Place {
         requires form { IsUdpScript script.now.steps }
         ensures { (u : IsUdpScript script.now.steps) → IfOk result (λ asked. asks asked ≡ spec.ask_at script.now.host script.now.steps u.remote u.port self) }
     {
-        let dir = Met::Dir(script.host);
+        let dir = Met::Dir(script.host, Proto::Udp);
         let conv = Met::Conv(script.host, 0);
         match self {
             Place::Await => Ok(Some((conv, Event::Await { generation: 1 }))),

@@ -1,7 +1,17 @@
+use Rattle.std.proofs.Common.{arith}
+use Rattle.plain_runner.proofs.Actings.{seat_at, conv_some, conv_acts_ok}
 use Rattle.plain_runner.proofs.actors.Actors.step_conv.Goals as goal
 
 pub conv_step-requires-clause-ready : goal.conv_step-requires-clause-ready
-conv_step-requires-clause-ready c = let h = c.index_mut.ensures.value in let m = c.requires.met in ?
+conv_step-requires-clause-ready c =
+    let s = c.args.self.now in
+    let m = c.requires.met in
+    conv_some c.args._world.now s.seats.items s.medium c.args.host c.args._slot c.index_mut.result.now c.args.now c.args.work.now m.1
+    (seat_at s.seats.items c.args.host c.index_mut.result.now (omega (arith, m.0, c.requires.are.count)) c.index_mut.ensures.value) c.requires.ready
 
 pub returns : goal.returns
-returns c = let h = c.conv_step.ensures in ?
+returns c =
+    let s = c.args.self.now in
+    let m = c.requires.met in
+    conv_acts_ok c.args._world.now s.seats.items s.medium c.args.host c.args._slot c.index_mut.result.now c.conv_step.new.self c.args.now c.args.work.now c.conv_step.result c.requires.are m.1
+    (seat_at s.seats.items c.args.host c.index_mut.result.now (omega (arith, m.0, c.requires.are.count)) c.index_mut.ensures.value) c.conv_step.ensures
