@@ -22,7 +22,10 @@ use Rattle.std.specs.declared.alloc.AllocError.{AllocError}
 use Rattle.medium.specs.declared.frame.Frame.{Frame}
 use Rattle.net_base.specs.Stamped.{same_actor}
 use Rattle.medium.specs.OnMedium.{OnMedium, medium_of, taken_of}
-use Rattle.plain_runner.specs.Acting.{AreOf, Steps, actor_at, conv_at, dir_at}
+use Rattle.plain_runner.specs.declared.actors.Met.{Met}
+use Rattle.plain_runner.specs.declared.actors.Met.TheVariants as met
+use Rattle.plain_runner.specs.Acting.{AreOf, Steps, IsMet, IsSure, actor_at, conv_at, dir_at}
+use Rattle.plain_runner.specs.Met.{name_of}
 use Rattle.plain_runner.specs.Seats.{SeatView, IsSeatOf, dir_of, conv_of, DirSteps, ConvSteps}
 use Rattle.plain_runner.proofs.Records.{get_set, get_set_other}
 
@@ -177,3 +180,21 @@ medium_tells w seats m now work b are take tells = rw (are.media, take) (by_fram
     by_frames [] false t = refl
     by_frames (f ∷ fs) true t = refl
     by_frames (f ∷ fs) false t = absurd (false≢true (t.1 (omega arith)))
+
+-- By what is asked.
+
+pub sure_dir : (w : World) (seats : List SeatView) (m : OnMedium) (a : Met) (work : Work) (h : ℕ) (p : Proto) → a ≡ met.Dir h p → IsSure w (actor_at seats m) a work
+    → (now : ℕ) → true ≡ is_some (actor_step w (name_of a) (actor_at seats m (name_of a)) now work)
+sure_dir w seats m a work h p is = subst (λ (b : Met). IsSure w (actor_at seats m) b work → (now : ℕ) → true ≡ is_some (actor_step w (name_of b) (actor_at seats m (name_of b)) now work)) (sym is) (λ sure. sure)
+
+pub sure_conv : (w : World) (seats : List SeatView) (m : OnMedium) (a : Met) (work : Work) (h n : ℕ) (s : SeatView) (r : Result Bool AllocError) → AreOf w seats m → a ≡ met.Conv h n → IsMet w a work → s ≡ get_or seats h s
+    → IfOk r (λ b. (now : ℕ) → b ≡ is_some (conv_step 0 work.event work.with now (conv_of s)))
+    → IfOk r (λ b. (now : ℕ) → b ≡ is_some (actor_step w (name_of a) (actor_at seats m (name_of a)) now work))
+sure_conv w seats m a work h n s r are is met_is at tells =
+    subst (λ (b : Met). IsMet w b work → IfOk r (λ c. (now : ℕ) → c ≡ is_some (actor_step w (name_of b) (actor_at seats m (name_of b)) now work))) (sym is)
+    (λ t. conv_tells_ok w seats m h n s work r t.1 t.0 (seat_at seats h s (omega (arith, t.0, are.count)) at) tells) met_is
+
+pub sure_medium : (w : World) (seats : List SeatView) (m : OnMedium) (a : Met) (work : Work) (b : Bool) → AreOf w seats m → a ≡ met.Medium → IsSure w (actor_at seats m) a work → (IsTrue b → 0 < length m.frames) × (0 < length m.frames → IsTrue b)
+    → (now : ℕ) → b ≡ is_some (actor_step w (name_of a) (actor_at seats m (name_of a)) now work)
+sure_medium w seats m a work b are is sure tells now =
+    subst (λ (c : Met). IsSure w (actor_at seats m) c work → b ≡ is_some (actor_step w (name_of c) (actor_at seats m (name_of c)) now work)) (sym is) (λ take. medium_tells w seats m now work b are take tells) sure

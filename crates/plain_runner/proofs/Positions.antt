@@ -9,6 +9,7 @@ use Rattle.net_base.specs.declared.names.FileName.TheVariants as file
 use Rattle.net_base.specs.declared.names.Node.TheVariants as node
 use Rattle.net_base.specs.declared.address.Proto.TheVariants as proto
 use Rattle.net_base.specs.declared.actor.ActorName.TheVariants as name
+use Rattle.net_base.specs.declared.event.Event.{Event}
 use Rattle.net_base.specs.declared.event.Event.TheVariants as event
 use Rattle.net_base.specs.declared.reply.Reply.{Reply}
 use Rattle.net_base.specs.declared.reply.Reply.TheVariants as reply
@@ -144,3 +145,7 @@ comes h steps u p =
     by_place (place.Step (suc (suc zero))) = rw (opens_so h u.ctl_name u.data_name u.apart) refl
     by_place (place.Step (suc (suc (suc k)))) = transfers_come h u.ctl_name u.data_name u.rest k u.transfers
     by_place place.Await = refl
+
+pub asks_grant : (h : ℕ) (steps : List Step) (u : IsUdpScript steps) (p : Place) (k : ℕ) (e : Event) → p ≡ place.Step k → k ≡ 1 → e ≡ event.Grant 0 1 u.remote (Some u.port)
+    → Some (record { actor = name.Dir h proto.Udp; event = e }) ≡ ask_at h steps u.remote u.port p
+asks_grant h steps u p k e at one is = rw (at, one, is) refl

@@ -61,11 +61,11 @@ by_other : (h : List Entry) (x : Entry) (c : ℕ) → (x.caller ≡ c → ⊥) �
 by_other h x c apart = filter-append (λ (y : Entry). y.caller == c) h (x ∷ []) ∙ rw (ne_eqb x.caller c apart) (append-nil (by h c))
 
 -- the same standings
-good_same : (w : World) (h : List Entry) (net : Net) (phase : ℕ → Phase) (stand other : ℕ → Standing) → ((c : ℕ) → other c ≡ stand c) → Good w h net phase stand → Good w h net phase other
+good_same : (w : World) (h : List Entry) (net : Net) (phase : ℕ → Phase) (stand other : ℕ → Standing) → ((c : ℕ) → c < length w.scripts → other c ≡ stand c) → Good w h net phase stand → Good w h net phase other
 good_same w h net phase stand other same good = record {
   hosts = good.hosts;
   medium = good.medium;
-  scripts = λ c s is. subst (IsAt h net phase c s) (sym (same c)) (good.scripts c s is);
+  scripts = λ c s is. subst (IsAt h net phase c s) (sym (same c (slice_get_within w.scripts c s is))) (good.scripts c s is);
   courier = good.courier;
   clock = good.clock;
 }
@@ -80,7 +80,7 @@ pub record Changes (w : World) (r new : Runner) (c : ℕ) (x : Entry) (st : Step
   pub owed : Option Task
   pub callers : new.callers.items ≡ slice_set r.callers.items c (record { owed = owed; entries = old.entries + 1 })
   pub owes : owed_of owed ≡ one_duty w x.actor (length r.history) x.event (with_of ((after w r.history).owed x.caller)) st.outcome
-  pub scripts : (d : ℕ) → stand_of new.scripts.items d ≡ stands_after (stand_of r.scripts.items) x d
+  pub scripts : (d : ℕ) → d < length w.scripts → stand_of new.scripts.items d ≡ stands_after (stand_of r.scripts.items) x d
   pub script_count : length new.scripts.items ≡ length r.scripts.items
   pub work : Work
   pub now : ℕ

@@ -7,3 +7,4 @@ pub mod Met
 pub mod Acting
 pub mod Entries
 pub mod Stations
+pub mod Before

@@ -1,10 +1,13 @@
 //! A run: rounds over the callers in order of number, and the clock where nothing was recorded.
-ghost use Rattle.std.specs.Prelude.{◌≡◌, ℕ, ◌<◌, ◌-◌, ◌^◌, slice_set, slice_index, vec_len};
+ghost use Rattle.std.specs.Prelude.{◌≡◌, ℕ, ◌<◌, ◌-◌, ◌+◌, ◌^◌, slice_set, slice_get, vec_len, length, Some, OnOk};
+ghost use Rattle.plain_runner.specs.declared.standing.Standing.{Standing as State};
+ghost use Rattle.plain_runner.specs.Before.{Before, Goes};
+ghost use Rattle.plain_runner.specs.Stands.{Stands};
 ghost use Rattle.std.specs.Option.{option_map};
 ghost use Rattle.net_base.specs.Headers.{header};
 ghost use Rattle.net_base.specs.World.{IsWorld};
 ghost use Rattle.net_base.specs.WorldForm.{IsFirstForm};
-ghost use Rattle.plain_runner.specs.Entries.{shown_entry, goes_to};
+ghost use Rattle.plain_runner.specs.Entries.{shown_entry};
 ghost use Rattle.plain_runner.specs.Good.{one_duty};
 ghost use Rattle.plain_runner.specs.Met.{name_of, owed_of};
 ghost use Rattle.plain_runner.specs.Places.{finished_at};
@@ -13,7 +16,7 @@ use crate::actors::{Actors, Met};
 use crate::duty::{Duty, owed_by};
 use crate::standing::Standing;
 use net_base::{Entry, Header, History, Outcome, Packet, Reply, Work, World};
-use std::alloc::Global;
+use std::alloc::{AllocError, Global};
 
 /// How a run ends.
 #[derive(Clone, Copy, Debug, PartialEq, Eq)]
@@ -111,15 +114,52 @@ fn set_caller(callers: &mut Vec<Caller>, caller: usize, kept: Caller)
     callers[caller] = kept;
 }
 
-// Takes a script to its next place.
-fn go_on(scripts: &mut Vec<Standing>, caller: usize, reply: &Reply)
-    requires caller { caller < vec_len scripts.old }
-    requires fits { finished_at (slice_index scripts.old.items caller).place < 2 ^ 32 - 1 }
-    ensures { scripts.new.items ≡ slice_set scripts.old.items caller (goes_to (slice_index scripts.old.items caller) reply.now) }
+// Takes a script to its next place, where the entry is its own event.
+fn go_on(scripts: &mut Vec<Standing>, caller: usize, cites: Option<u64>, reply: &Reply)
+    requires fits { (s : State) → slice_get scripts.old.items caller ≡ Some s → finished_at s.place < 2 ^ 32 - 1 }
+    ensures { Goes scripts.old.items scripts.new.items caller cites reply.now }
 {
+    if cites.is_some() || scripts.len() <= caller {
+        return;
+    }
     let place = scripts[caller].place;
     scripts[caller] = Standing {
         place: place.advanced(reply),
         before: place.finished(),
     };
+}
+
+impl Runner {
+    /// Records the step of an actor for what a caller owes or for what comes next.
+    fn play(
+        &mut self,
+        world: &World,
+        caller: usize,
+        actor: Met,
+        work: Work,
+        cites: Option<u64>,
+    ) -> Result<(), AllocError>
+        requires world { IsWorld world.now }
+        requires form { IsFirstForm world.now }
+        requires before { Before world.now self.old caller actor work cites }
+        ensures stands { OnOk result (Stands world.now self.new) }
+        ensures longer { OnOk result (length self.new.history ≡ length self.old.history + 1) }
+    {
+        let stamp = self.history.len() as u64;
+        let outcome = self.actors.step(world, self.moment, actor, &work)?;
+        let (entry, owed) = entry_of(
+            world,
+            actor,
+            caller as u32,
+            self.moment,
+            stamp,
+            work,
+            cites,
+            outcome,
+        );
+        go_on(&mut self.scripts, caller, cites, &entry.reply);
+        let entries = self.callers[caller].entries + 1;
+        set_caller(&mut self.callers, caller, Caller { owed, entries });
+        self.history.push(entry)
+    }
 }

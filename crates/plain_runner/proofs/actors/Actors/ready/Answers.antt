@@ -1,12 +1,17 @@
-use Rattle.std.proofs.Common.{arith}
-use Rattle.plain_runner.proofs.Actings.{seat_at, conv_tells_ok, medium_tells}
+use Rattle.plain_runner.proofs.Actings.{sure_dir, sure_conv, sure_medium}
 use Rattle.plain_runner.proofs.actors.Actors.ready.Goals as goal
 
 pub returns-in-Dir : goal.returns-in-Dir
-returns-in-Dir c = let h = c.requires.sure in let i = c.in-Dir.is in ?
+returns-in-Dir c =
+    let s = c.args.self.now in
+    sure_dir c.args._world.now s.seats.items s.medium c.args.actor c.args.work.now c.in-Dir.field-0 c.in-Dir.field-1 c.in-Dir.is c.requires.sure
 
 pub returns-in-Conv : goal.returns-in-Conv
-returns-in-Conv c = let h = c.requires.met in let i = c.in-Conv.is in let e = c.conv_ready.ensures in ?
+returns-in-Conv c =
+    let s = c.args.self.now in
+    sure_conv c.args._world.now s.seats.items s.medium c.args.actor c.args.work.now c.in-Conv.host c.in-Conv.field-1 c.index.result.now c.conv_ready.result c.requires.are c.in-Conv.is c.requires.met c.index.ensures c.conv_ready.ensures
 
 pub returns-in-Medium : goal.returns-in-Medium
-returns-in-Medium c = let h = c.requires.sure in let i = c.in-Medium.is in let e = c.pending.ensures in ?
+returns-in-Medium c =
+    let s = c.args.self.now in
+    sure_medium c.args._world.now s.seats.items s.medium c.args.actor c.args.work.now c.pending.result c.requires.are c.in-Medium.is c.requires.sure c.pending.ensures
