@@ -11,3 +11,5 @@ pub mod Clock
 pub mod Records
 pub mod Readies
 pub mod Actings
+pub mod Plays
+pub mod Nexts

@@ -33,12 +33,12 @@ use Rattle.plain_runner.proofs.Moves.{begin_gives, connect_gives, arrive_gives, 
 use Rattle.plain_runner.proofs.Scripts.{live_begun}
 
 -- an actor that is met, by its name
-met_of : ActorName → Met
+unfoldable pub met_of : ActorName → Met
 met_of (name.Dir h p) = met.Dir h p
 met_of (name.Conv h p n) = met.Conv h n
 met_of _ = met.Medium
 
-met_is : (a : Met) → a ≡ met_of (name_of a)
+pub met_is : (a : Met) → a ≡ met_of (name_of a)
 unfolding met_of
 met_is (met.Dir h p) = refl
 met_is (met.Conv h n) = refl

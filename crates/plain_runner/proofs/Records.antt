@@ -1,5 +1,5 @@
 -- A run with one entry more stands for the net after its longer history.
-use Rattle.std.proofs.Common.{◌≡◌, ℕ, zero, suc, ◌+◌, ◌-◌, ◌<◌, ◌≤◌, ◌==◌, ◌&&◌, Bool, true, false, List, [], ◌∷◌, ◌++◌, length, take, drop, filter, Option, Some, None, slice_get, slice_set, ◌⊎◌, inl, inr, refl, sym, ap, subst, ◌∙◌, arith, rules, tests, if◌then◌else◌, append_assoc, append-nil, length-append}
+use Rattle.std.proofs.Common.{◌≡◌, ℕ, zero, suc, ◌+◌, ◌-◌, ◌<◌, ◌≤◌, ◌==◌, ◌&&◌, Bool, true, false, List, [], ◌∷◌, ◌++◌, length, take, drop, filter, Option, Some, None, is_none, slice_get, slice_set, ◌⊎◌, inl, inr, refl, sym, ap, subst, ◌∙◌, arith, rules, tests, if◌then◌else◌, append_assoc, append-nil, length-append}
 use Rattle.std.proofs.lemmas.Bool.{true≢false, false≢true, eq-eqb, ne_eqb}
 use Rattle.std.proofs.lemmas.Bool.Decides.{eqb_tells}
 use Rattle.std.proofs.lemmas.Option.{none-some, same_Some, slice_get_within}
@@ -26,6 +26,12 @@ use Rattle.plain_runner.specs.declared.runner.Runner.{Runner}
 use Rattle.plain_runner.specs.declared.standing.Standing.{Standing}
 use Rattle.plain_runner.specs.Good.{Good, IsAt, stands_after, one_duty}
 use Rattle.plain_runner.specs.Phases.{Phase}
+use Rattle.plain_runner.specs.Entries.{goes_to}
+use Rattle.plain_runner.specs.Places.{advanced, finished_at}
+use Rattle.plain_runner.specs.declared.standing.Place.{Place}
+use Rattle.plain_runner.specs.declared.standing.Place.TheVariants as place
+use Rattle.net_base.specs.declared.reply.Reply.{Reply}
+use Rattle.net_base.specs.declared.reply.Reply.TheVariants as reply
 use Rattle.plain_runner.specs.Acting.{AreOf, Steps, actor_at}
 use Rattle.plain_runner.specs.Met.{owed_of}
 use Rattle.plain_runner.specs.Stands.{Stands, IsCaller, stand_of}
@@ -69,6 +75,21 @@ good_same w h net phase stand other same good = record {
   courier = good.courier;
   clock = good.clock;
 }
+
+-- a script goes on by at most a step
+advanced_more : (p : Place) (q : Reply) → finished_at (advanced p q) ≤ finished_at p + 1
+advanced_more (place.Step zero) q = omega arith
+advanced_more (place.Step (suc zero)) (reply.Granted pair start limit) = omega arith
+advanced_more (place.Step (suc zero)) q = omega arith
+advanced_more (place.Step (suc (suc k))) q = omega arith
+advanced_more place.Await q = omega arith
+
+finished_more : (stand : ℕ → Standing) (x : Entry) (d : ℕ) → finished_at (stands_after stand x d).place ≤ finished_at (stand d).place + 1
+finished_more stand x d = by_own_event ((x.caller == d) && is_none x.cites)
+  where
+    by_own_event : (b : Bool) → finished_at (if b then goes_to (stand d) x.reply else stand d).place ≤ finished_at (stand d).place + 1
+    by_own_event true = advanced_more (stand d).place x.reply
+    by_own_event false = omega arith
 
 -- What changed in a run by an entry.
 pub record Changes (w : World) (r new : Runner) (c : ℕ) (x : Entry) (st : Step Actor) : Type 0 where
@@ -126,6 +147,7 @@ stands_on w r new c x st s lt caller quiet in_time rec pushed ch = record {
   moves = ap (λ (h : List Entry). length (by h (clock_number w))) ch.history ∙ ap length (by_other r.history x (clock_number w) (λ e. absurd (omega (arith, lt, caller, e)))) ∙ s.moves ∙ sym ch.moves;
   moved = rw (ch.moment, ch.moves) s.moved;
   laid = omega (arith, ch.steps.laid, s.laid, ap length ch.history, length-append r.history (x ∷ []));
+  placed = λ d lt. placed_is d lt (eqb_tells c d);
 }
   where
     net_is : after w new.history ≡ net_after w (after w r.history) x (Some st)
@@ -133,6 +155,13 @@ stands_on w r new c x st s lt caller quiet in_time rec pushed ch = record {
     actor_is : (a : ActorName) (b : Bool) → same_actor x.actor a ≡ b → (net_after w (after w r.history) x (Some st)).actors a ≡ actor_at new.actors.seats.items new.actors.medium a
     actor_is a true is = rw is (ch.state ∙ ap (actor_at new.actors.seats.items new.actors.medium) (same_actor_is x.actor a is))
     actor_is a false is = rw is (s.actors a ∙ sym (ch.steps.others a is))
+    placed_is : (d : ℕ) → d < length w.scripts → ((c == d) ≡ true) × (c ≡ d) ⊎ ((c == d) ≡ false) × (c ≡ d → ⊥) → finished_at (stand_of new.scripts.items d).place ≤ length (by new.history d)
+    placed_is d below (inl same) =
+        let more = finished_more (stand_of r.scripts.items) x d in
+        rw (ch.scripts d below) (omega (arith, more, s.placed d below, ap (λ (h : List Entry). length (by h d)) ch.history, by_own r.history x d (caller ∙ same.1)))
+    placed_is d below (inr apart) =
+        let still : stands_after (stand_of r.scripts.items) x d ≡ stand_of r.scripts.items d = rw (ne_eqb x.caller d (λ e. apart.1 (sym caller ∙ e))) refl in
+        rw (ch.scripts d below, still) (omega (arith, s.placed d below, ap (λ (h : List Entry). length (by h d)) ch.history, ap length (by_other r.history x d (λ e. apart.1 (sym caller ∙ e)))))
     duties_are : duties w (after w r.history).actors x.actor (length (after w r.history).past) (work_of (after w r.history) x) st ≡ owed_of ch.owed
     duties_are = pushed.duty ∙ ap (λ (h : List Entry). one_duty w x.actor (length h) x.event (with_of ((after w r.history).owed x.caller)) st.outcome) (past_is w r.history) ∙ sym ch.owes
     mine : IsCaller new.history (after w new.history) c (record { owed = ch.owed; entries = ch.old.entries + 1 })

@@ -11,7 +11,7 @@ use Rattle.net_base.specs.declared.history.With.{With}
 use Rattle.net_base.specs.declared.history.Work.{Work}
 use Rattle.net_base.specs.declared.world.World.{World}
 use Rattle.net_base.specs.ActorStep.{Step}
-use Rattle.net_base.specs.Actors.{Actor, IsDir, IsConv, IsMedium, opening_actor, actor_step}
+use Rattle.net_base.specs.Actors.{Actor, IsDir, IsConv, IsMedium, opening_actor, opening_dir, opening_conv, actor_step}
 use Rattle.net_base.specs.Stamped.{same_actor}
 use Rattle.medium.specs.OnMedium.{OnMedium, medium_of}
 use Rattle.plain_runner.specs.Seats.{SeatView, dir_of, conv_of, IsSeatOf, IsDirMet, IsConvMet, IsPacketGiven}
@@ -62,3 +62,8 @@ abbrev pub IsSure : World → (ActorName → Actor) → Met → Work → Type 0
 IsSure w actors (met.Dir h p) work = (now : ℕ) → true ≡ is_some (actor_step w (name.Dir h p) (actors (name.Dir h p)) now work)
 IsSure w actors (met.Conv h n) work = Unit {0}
 IsSure w actors met.Medium work = work.event ≡ event.Take
+
+-- the first n hosts, to which nothing has happened
+pub record AreOpening (w : World) (n : ℕ) (seats : List SeatView) : Type 0 where
+  pub count : length seats ≡ n
+  pub seat : (i : ℕ) (s : SeatView) → slice_get seats i ≡ Some s → IsSeatOf w i s × (dir_of s ≡ opening_dir) × (conv_of s ≡ opening_conv proto.Udp)

@@ -8,3 +8,4 @@ pub mod Acting
 pub mod Entries
 pub mod Stations
 pub mod Before
+pub mod Turns

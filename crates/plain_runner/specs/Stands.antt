@@ -24,6 +24,7 @@ use Rattle.net_base.specs.Stamped.{same_actor}
 use Rattle.medium.specs.OnMedium.{OnMedium, medium_of}
 use Rattle.plain_runner.specs.Good.{Good}
 use Rattle.plain_runner.specs.Phases.{Phase}
+use Rattle.plain_runner.specs.Places.{finished_at}
 use Rattle.plain_runner.specs.Acting.{AreOf, actor_at}
 use Rattle.plain_runner.specs.Met.{owed_of}
 use Rattle.plain_runner.specs.declared.runner.Caller.{Caller}
@@ -57,3 +58,4 @@ pub record Stands (w : World) (r : Runner) : Type 0 where
   pub moves : length (by r.history (clock_number w)) ≡ r.moves
   pub moved : (r.moves ≡ 0) × (r.moment < w.end) ⊎ ((r.moves ≤ 1) × (r.moment ≡ w.end))
   pub laid : r.actors.medium.laid ≤ length r.history
+  pub placed : (c : ℕ) → c < length w.scripts → finished_at (stand_of r.scripts.items c).place ≤ length (by r.history c)

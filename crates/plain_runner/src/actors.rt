@@ -8,7 +8,7 @@ ghost use Rattle.plain_runner.specs.Met.{name_of};
 ghost use Rattle.net_base.specs.ActorStep.{replies};
 ghost use Rattle.medium.specs.Replies.{reply_of};
 ghost use Rattle.std.specs.Prelude.{None};
-ghost use Rattle.plain_runner.specs.Acting.{AreOf, Steps, IsMet, IsSure, actor_at};
+ghost use Rattle.plain_runner.specs.Acting.{AreOf, Steps, IsMet, IsSure, AreOpening, actor_at};
 
 use crate::seat::Seat;
 use medium::{Laid, Medium};
@@ -55,10 +55,7 @@ impl Actors {
         ensures laid { IfOk result (λ a. a.medium.laid ≡ 0) }
     {
         let medium = Medium::new(alloc, &world.media.as_slice()[0], world.seed)?;
-        let mut seats = Vec::new(alloc);
-        for host in 0..world.hosts.len() {
-            seats.push(Seat::new(alloc, world, host as u32)?)?;
-        }
+        let seats = seats_of(alloc, world)?;
         Ok(Actors { seats, medium })
     }
 
@@ -132,6 +129,19 @@ impl Actors {
             }
         }
     }
+}
+
+// What is met of each host.
+fn seats_of(alloc: Global, world: &World) -> Result<Vec<Seat>, AllocError>
+    requires { IsWorld world.now }
+    ensures { IfOk result (λ seats. AreOpening world.now (length world.now.hosts) seats.items) }
+{
+    let mut seats = Vec::new(alloc);
+    for host in 0..world.hosts.len() {
+        let seat = Seat::new(alloc, world, host as u32)?;
+        seats.push(seat)?;
+    }
+    Ok(seats)
 }
 
 // What a put gives.

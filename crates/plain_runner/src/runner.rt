@@ -3,6 +3,13 @@ ghost use Rattle.std.specs.Prelude.{◌≡◌, ℕ, ◌<◌, ◌-◌, ◌+◌, �
 ghost use Rattle.plain_runner.specs.declared.standing.Standing.{Standing as State};
 ghost use Rattle.plain_runner.specs.Before.{Before, Goes};
 ghost use Rattle.plain_runner.specs.Stands.{Stands};
+ghost use Rattle.std.specs.Prelude.{None, IfOk, IsSome};
+ghost use Rattle.net_base.specs.Callers.{clock_number};
+ghost use Rattle.net_base.specs.Calm.{most_entries};
+ghost use Rattle.net_base.specs.Next.{next};
+ghost use Rattle.plain_runner.specs.Met.{asks};
+ghost use Rattle.plain_runner.specs.Turns.{IsAskOf, OwesNothing};
+ghost use Rattle.plain_runner.specs.declared.runner.Caller.{Caller as CallerNow};
 ghost use Rattle.std.specs.Option.{option_map};
 ghost use Rattle.net_base.specs.Headers.{header};
 ghost use Rattle.net_base.specs.World.{IsWorld};
@@ -15,7 +22,7 @@ ghost use Rattle.plain_runner.specs.Places.{finished_at};
 use crate::actors::{Actors, Met};
 use crate::duty::{Duty, owed_by};
 use crate::standing::Standing;
-use net_base::{Entry, Header, History, Outcome, Packet, Reply, Work, World};
+use net_base::{Entry, Event, Header, History, Outcome, Packet, Reply, With, Work, World};
 use std::alloc::{AllocError, Global};
 
 /// How a run ends.
@@ -146,6 +153,10 @@ impl Runner {
         ensures longer { OnOk result (length self.new.history ≡ length self.old.history + 1) }
     {
         let stamp = self.history.len() as u64;
+        // no longer history can be held
+        if stamp == u64::MAX {
+            return Err(AllocError);
+        }
         let outcome = self.actors.step(world, self.moment, actor, &work)?;
         let (entry, owed) = entry_of(
             world,
@@ -162,4 +173,72 @@ impl Runner {
         set_caller(&mut self.callers, caller, Caller { owed, entries });
         self.history.push(entry)
     }
+
+    /// The next event of a caller, if a step is left.
+    fn asked_of(&self, world: &World, caller: usize) -> Result<Option<(Met, Event)>, AllocError>
+        requires world { IsWorld world.now }
+        requires form { IsFirstForm world.now }
+        requires stands { Stands world.now self.now }
+        requires caller { caller < clock_number world.now }
+        ensures { IfOk result (λ o. asks o ≡ next world.now self.now.history caller) }
+    {
+        match world.scripts.as_slice().get(caller) {
+            Some(script) => self.scripts[caller].place.ask(script),
+            None => Ok(Some((Met::Medium, Event::Take))),
+        }
+    }
+
+    /// The next event of a caller, where it is ready.
+    fn ask(&self, world: &World, caller: usize) -> Result<Option<(Met, Work)>, AllocError>
+        requires world { IsWorld world.now }
+        requires form { IsFirstForm world.now }
+        requires stands { Stands world.now self.now }
+        requires caller { caller < clock_number world.now }
+        requires nothing { OwesNothing self.now caller }
+        ensures { IfOk result (IsAskOf world.now self.now caller) }
+    {
+        let Some((actor, event)) = self.asked_of(world, caller)? else {
+            return Ok(None);
+        };
+        let work = Work {
+            event,
+            with: With::Nothing,
+        };
+        if self.actors.ready(world, actor, &work)? {
+            Ok(Some((actor, work)))
+        } else {
+            Ok(None)
+        }
+    }
+
+    /// Records what a caller owes.
+    fn play_owed(&mut self, world: &World, caller: usize) -> Result<(), AllocError>
+        requires world { IsWorld world.now }
+        requires form { IsFirstForm world.now }
+        requires stands { Stands world.now self.old }
+        requires caller { caller < clock_number world.now }
+        requires owes { (k : CallerNow) → slice_get self.old.callers.items caller ≡ Some k → IsSome k.owed × (k.entries < most_entries) }
+        ensures stands { OnOk result (Stands world.now self.new) }
+        ensures longer { OnOk result (length self.new.history ≡ length self.old.history + 1) }
+    {
+        let owed = take_owed(&mut self.callers, caller);
+        let Some(duty) = owed else {
+            return Err(AllocError);
+        };
+        let Duty {
+            actor,
+            event,
+            with,
+            cites,
+        } = duty;
+        self.play(world, caller, actor, Work { event, with }, Some(cites))
+    }
+}
+
+// Takes what a caller owes from it.
+fn take_owed(callers: &mut Vec<Caller>, caller: usize) -> Option<Duty>
+    requires { caller < vec_len callers.old }
+    ensures { (k : CallerNow) → slice_get callers.old.items caller ≡ Some k → (result ≡ k.owed) × (callers.new.items ≡ slice_set callers.old.items caller (record { owed = None; entries = k.entries })) }
+{
+    callers[caller].owed.take()
 }
