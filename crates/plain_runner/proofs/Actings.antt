@@ -1,5 +1,5 @@
 -- The actors that are kept step as those of the definitions.
-use Rattle.std.proofs.Common.{◌≡◌, ℕ, zero, suc, ◌+◌, ◌-◌, ◌<◌, ◌≤◌, ◌==◌, ◌&&◌, Bool, true, false, List, [], ◌∷◌, ◌++◌, length, map, get_or, Option, Some, None, Result, Ok, Err, IfOk, IsTrue, IsSome, is_some, slice_get, slice_set, ◌⊎◌, inl, inr, refl, sym, ap, subst, ◌∙◌, arith, rules, tests, nat_lt, if◌then◌else◌}
+use Rattle.std.proofs.Common.{◌≡◌, ℕ, zero, suc, ◌+◌, ◌-◌, ◌<◌, ◌≤◌, ◌==◌, ◌&&◌, Bool, true, false, List, [], ◌∷◌, ◌++◌, length, map, get_or, Option, Some, None, Result, Ok, Err, IfOk, IsTrue, IsSome, is_some, slice_get, slice_set, ◌⊎◌, inl, inr, refl, sym, ap, subst, ◌∙◌, arith, rules, tests, nat_lt, if◌then◌else◌, length-append}
 use Rattle.std.specs.Option.{option_map_or}
 use Rattle.std.proofs.lemmas.Bool.{true≢false, false≢true, lt-ltb, eq-eqb, ne_eqb, eqb-false}
 use Rattle.std.proofs.lemmas.Bool.Decides.{eqb_tells}
@@ -12,9 +12,10 @@ use Rattle.net_base.specs.declared.address.Proto.TheVariants as proto
 use Rattle.net_base.specs.declared.event.Event.TheVariants as event
 use Rattle.net_base.specs.declared.history.Outcome.{Outcome}
 use Rattle.net_base.specs.declared.history.Work.{Work}
+use Rattle.net_base.specs.declared.world.MediumSpec.{MediumSpec}
 use Rattle.net_base.specs.declared.world.World.{World}
 use Rattle.net_base.specs.ActorStep.{Step, when}
-use Rattle.net_base.specs.Actors.{Actor, IsDir, IsConv, IsMedium, actor_step, opening_actor, step_as}
+use Rattle.net_base.specs.Actors.{Actor, IsDir, IsConv, IsMedium, actor_step, opening_actor, opening_dir, opening_conv, step_as}
 use Rattle.net_base.specs.Conversation.{Conv, conv_step}
 use Rattle.net_base.specs.Directory.{Dir, dir_step}
 use Rattle.net_base.specs.Medium.{Medium, medium_step, takes}
@@ -24,7 +25,7 @@ use Rattle.net_base.specs.Stamped.{same_actor}
 use Rattle.medium.specs.OnMedium.{OnMedium, medium_of, taken_of}
 use Rattle.plain_runner.specs.declared.actors.Met.{Met}
 use Rattle.plain_runner.specs.declared.actors.Met.TheVariants as met
-use Rattle.plain_runner.specs.Acting.{AreOf, Steps, IsMet, IsSure, actor_at, conv_at, dir_at}
+use Rattle.plain_runner.specs.Acting.{AreOf, AreOpening, Steps, IsMet, IsSure, actor_at, conv_at, dir_at}
 use Rattle.plain_runner.specs.Met.{name_of}
 use Rattle.plain_runner.specs.Seats.{SeatView, IsSeatOf, dir_of, conv_of, DirSteps, ConvSteps}
 use Rattle.plain_runner.proofs.Records.{get_set, get_set_other}
@@ -198,3 +199,42 @@ pub sure_medium : (w : World) (seats : List SeatView) (m : OnMedium) (a : Met) (
     → (now : ℕ) → b ≡ is_some (actor_step w (name_of a) (actor_at seats m (name_of a)) now work)
 sure_medium w seats m a work b are is sure tells now =
     subst (λ (c : Met). IsSure w (actor_at seats m) c work → b ≡ is_some (actor_step w (name_of c) (actor_at seats m (name_of c)) now work)) (sym is) (λ take. medium_tells w seats m now work b are take tells) sure
+
+-- Before anything happened.
+
+pub opening_more : (w : World) (n : ℕ) (seats : List SeatView) (s : SeatView) → AreOpening w n seats → IsSeatOf w n s → dir_of s ≡ opening_dir → conv_of s ≡ opening_conv proto.Udp → AreOpening w (n + 1) (seats ++ s ∷ [])
+opening_more w n seats s old of dir conv = record {
+  count = length-append seats (s ∷ []) ∙ ap (λ (k : ℕ). k + 1) old.count;
+  seat = λ i t is. elim (in_more seats s i t is) [
+    | inl there ↦ old.seat i t there
+    | inr last ↦ subst (λ (k : ℕ). IsSeatOf w k t × (dir_of t ≡ opening_dir) × (conv_of t ≡ opening_conv proto.Udp)) (sym (last.0 ∙ old.count))
+        (subst (λ (u : SeatView). IsSeatOf w n u × (dir_of u ≡ opening_dir) × (conv_of u ≡ opening_conv proto.Udp)) last.1 (of, dir, conv))
+  ];
+}
+  where
+    in_more : (xs : List SeatView) (y : SeatView) (k : ℕ) (x : SeatView) → slice_get (xs ++ y ∷ []) k ≡ Some x → (slice_get xs k ≡ Some x) ⊎ ((k ≡ length xs) × (y ≡ x))
+    in_more [] y zero x is = inr (refl, same_Some y x is)
+    in_more [] y (suc k) x is = absurd (none-some x is)
+    in_more (z ∷ xs) y zero x is = inl is
+    in_more (z ∷ xs) y (suc k) x is = elim (in_more xs y k x is) [ inl there ↦ inl there | inr last ↦ inr (ap suc last.0, last.1) ]
+
+pub opening_actors : (w : World) (seats : List SeatView) (m : OnMedium) (spec : MediumSpec) (seed : ℕ) → AreOpening w (length w.hosts) seats → m ≡ record { spec = spec; seed = seed; laid = 0; frames = [] }
+    → (b : ActorName) → actor_at seats m b ≡ opening_actor b
+opening_actors w seats m spec seed all is = at
+  where
+    dir_so : (i : ℕ) (o : Option SeatView) → slice_get seats i ≡ o → option_map_or (λ (s : SeatView). IsDir (dir_of s)) o (opening_actor (name.Dir i proto.Udp)) ≡ opening_actor (name.Dir i proto.Udp)
+    dir_so i (Some s) get = ap (λ (d : Dir). IsDir d) (all.seat i s get).1
+    dir_so i None get = refl
+    conv_so : (i : ℕ) (o : Option SeatView) → slice_get seats i ≡ o → option_map_or (λ (s : SeatView). IsConv (conv_of s)) o (opening_actor (name.Conv i proto.Udp 0)) ≡ opening_actor (name.Conv i proto.Udp 0)
+    conv_so i (Some s) get = ap (λ (c : Conv). IsConv c) (all.seat i s get).2
+    conv_so i None get = refl
+    at : (b : ActorName) → actor_at seats m b ≡ opening_actor b
+    at (name.Conv i proto.Udp zero) = conv_so i (slice_get seats i) refl
+    at (name.Conv i proto.Udp (suc n)) = refl
+    at (name.Conv i proto.Il n) = refl
+    at (name.Dir i proto.Udp) = dir_so i (slice_get seats i) refl
+    at (name.Dir i proto.Il) = refl
+    at (name.Medium zero) = ap (λ (n : OnMedium). IsMedium (medium_of n)) is
+    at (name.Medium (suc k)) = refl
+    at (name.Desk i) = refl
+    at name.Clock = refl

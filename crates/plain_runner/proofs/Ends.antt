@@ -64,7 +64,7 @@ below_clock w form c lt = by_test (c == clock_number w) refl
     by_test false is = inl (omega (arith, lt, eqb-false c (clock_number w) is))
 
 -- only the last number is the clock's
-clock_above : (w : World) (c : ℕ) → c < clock_number w → caller_of w c ≡ IsClock → ⊥
+pub clock_above : (w : World) (c : ℕ) → c < clock_number w → caller_of w c ≡ IsClock → ⊥
 clock_above w c lt is = by_script (slice_get w.scripts c) (lt-ltb c (clock_number w) lt) is
   where
     is_clock : Caller → Bool

@@ -13,3 +13,5 @@ pub mod Readies
 pub mod Actings
 pub mod Plays
 pub mod Nexts
+pub mod Turning
+pub mod Counts

@@ -67,7 +67,7 @@ pub record IsAskMet (w : World) (actors : ActorName → Actor) (a : Met) (e : Ev
   pub sure : IsSure w actors a (record { event = e; with = given.Nothing })
 
 -- from what the definitions ask
-ask_met : (w : World) (actors : ActorName → Actor) (a : Met) (e : Event) (ask : Ask) → record { actor = name_of a; event = e } ≡ ask → IsAskMet w actors (met_of ask.actor) ask.event → IsAskMet w actors a e
+pub ask_met : (w : World) (actors : ActorName → Actor) (a : Met) (e : Event) (ask : Ask) → record { actor = name_of a; event = e } ≡ ask → IsAskMet w actors (met_of ask.actor) ask.event → IsAskMet w actors a e
 ask_met w actors a e ask is done =
     subst (λ (b : Met). IsAskMet w actors b e) (sym (met_is a)) (subst (λ (q : Ask). IsAskMet w actors (met_of q.actor) q.event) (sym is) done)
 

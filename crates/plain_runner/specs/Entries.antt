@@ -1,5 +1,5 @@
 -- The entry of a step, and the place that a script goes to.
-use Rattle.std.specs.Prelude.{ℕ, Option}
+use Rattle.std.specs.Prelude.{ℕ, Option, Some, None}
 use Rattle.std.specs.Option.{option_map}
 use Rattle.net_base.specs.declared.actor.ActorName.{ActorName}
 use Rattle.net_base.specs.declared.event.Event.{Event}
@@ -8,6 +8,7 @@ use Rattle.net_base.specs.declared.history.Outcome.{Outcome}
 use Rattle.net_base.specs.declared.reply.Reply.{Reply}
 use Rattle.net_base.specs.Headers.{header}
 use Rattle.plain_runner.specs.Places.{advanced, finished_at}
+use Rattle.plain_runner.specs.declared.duty.Duty.{Duty as Task}
 use Rattle.plain_runner.specs.declared.standing.Standing.{Standing}
 
 abbrev pub shown_entry : ActorName → ℕ → ℕ → Event → Option ℕ → Outcome → Entry
@@ -25,3 +26,8 @@ shown_entry a c moment e cites o =
 
 abbrev pub goes_to : Standing → Reply → Standing
 goes_to s r = record { place = advanced s.place r; before = finished_at s.place }
+
+-- how many steps of a script are answered, by what it owes
+abbrev pub told : Option Task → Standing → ℕ
+told None s = finished_at s.place
+told (Some d) s = s.before

@@ -31,3 +31,6 @@ asks (Some a) = Some (record { actor = name_of a.0; event = a.1 })
 abbrev pub transfer_asks : ℕ → Option Event → Option Ask
 transfer_asks h None = None
 transfer_asks h (Some e) = Some (record { actor = name.Conv h proto.Udp 0; event = e })
+
+abbrev pub asks_at : Met → Event → Ask
+asks_at a e = record { actor = name_of a; event = e }

@@ -7,8 +7,8 @@ ghost use Rattle.std.specs.Prelude.{None, IfOk, IsSome};
 ghost use Rattle.net_base.specs.Callers.{clock_number};
 ghost use Rattle.net_base.specs.Calm.{most_entries};
 ghost use Rattle.net_base.specs.Next.{next};
-ghost use Rattle.plain_runner.specs.Met.{asks};
-ghost use Rattle.plain_runner.specs.Turns.{IsAskOf, OwesNothing};
+ghost use Rattle.plain_runner.specs.Met.{asks, asks_at};
+ghost use Rattle.plain_runner.specs.Turns.{IsAskOf, IsReadyNext, OwesNothing, Turned};
 ghost use Rattle.plain_runner.specs.declared.runner.Caller.{Caller as CallerNow};
 ghost use Rattle.std.specs.Option.{option_map};
 ghost use Rattle.net_base.specs.Headers.{header};
@@ -24,6 +24,9 @@ use crate::duty::{Duty, owed_by};
 use crate::standing::Standing;
 use net_base::{Entry, Event, Header, History, Outcome, Packet, Reply, With, Work, World};
 use std::alloc::{AllocError, Global};
+
+/// How many entries a caller may record.
+const MOST_ENTRIES: u32 = 131_072;
 
 /// How a run ends.
 #[derive(Clone, Copy, Debug, PartialEq, Eq)]
@@ -197,18 +200,38 @@ impl Runner {
         requires nothing { OwesNothing self.now caller }
         ensures { IfOk result (IsAskOf world.now self.now caller) }
     {
-        let Some((actor, event)) = self.asked_of(world, caller)? else {
-            return Ok(None);
-        };
+        let asked = self.asked_of(world, caller)?;
+        match asked {
+            Some((actor, event)) => self.where_ready(world, caller, actor, event),
+            None => Ok(None),
+        }
+    }
+
+    // The next event, where its actor has an answer.
+    fn where_ready(
+        &self,
+        world: &World,
+        _caller: usize,
+        actor: Met,
+        event: Event,
+    ) -> Result<Option<(Met, Work)>, AllocError>
+        requires world { IsWorld world.now }
+        requires form { IsFirstForm world.now }
+        requires stands { Stands world.now self.now }
+        requires caller { _caller < clock_number world.now }
+        requires nothing { OwesNothing self.now _caller }
+        requires asked { Some (asks_at actor event) ≡ next world.now self.now.history _caller }
+        ensures { IfOk result (IsAskOf world.now self.now _caller) }
+    {
         let work = Work {
             event,
             with: With::Nothing,
         };
-        if self.actors.ready(world, actor, &work)? {
-            Ok(Some((actor, work)))
-        } else {
-            Ok(None)
+        let is_ready = self.actors.ready(world, actor, &work)?;
+        if is_ready {
+            return Ok(Some((actor, work)));
         }
+        Ok(None)
     }
 
     /// Records what a caller owes.
@@ -232,6 +255,51 @@ impl Runner {
             cites,
         } = duty;
         self.play(world, caller, actor, Work { event, with }, Some(cites))
+    }
+
+    /// Records the next event of a caller, which is ready.
+    fn play_next(
+        &mut self,
+        world: &World,
+        caller: usize,
+        actor: Met,
+        work: Work,
+    ) -> Result<(), AllocError>
+        requires world { IsWorld world.now }
+        requires form { IsFirstForm world.now }
+        requires stands { Stands world.now self.old }
+        requires caller { caller < clock_number world.now }
+        requires nothing { OwesNothing self.old caller }
+        requires few { (k : CallerNow) → slice_get self.old.callers.items caller ≡ Some k → k.entries < most_entries }
+        requires ready { IsReadyNext world.now self.old caller actor work }
+        ensures stands { OnOk result (Stands world.now self.new) }
+        ensures longer { OnOk result (length self.new.history ≡ length self.old.history + 1) }
+    {
+        self.play(world, caller, actor, work, None)
+    }
+
+    /// The turn of a caller: its duty, or its next event where that is ready. It tells whether an entry was recorded.
+    fn turn(&mut self, world: &World, caller: usize) -> Result<bool, AllocError>
+        requires world { IsWorld world.now }
+        requires form { IsFirstForm world.now }
+        requires stands { Stands world.now self.old }
+        requires caller { caller < clock_number world.now }
+        ensures { IfOk result (Turned world.now self.old self.new caller) }
+    {
+        if self.callers[caller].entries == MOST_ENTRIES {
+            return Ok(false);
+        }
+        if self.callers[caller].owed.is_some() {
+            self.play_owed(world, caller)?;
+            return Ok(true);
+        }
+        match self.ask(world, caller)? {
+            Some((actor, work)) => {
+                self.play_next(world, caller, actor, work)?;
+                Ok(true)
+            }
+            None => Ok(false),
+        }
     }
 }
 
