@@ -3,6 +3,7 @@ use Rattle.std.proofs.Common.{◌≡◌, ℕ, zero, suc, ◌+◌, ◌-◌, ◌*�
 use Rattle.std.specs.List.{list_any, enumerate_from}
 use Rattle.std.proofs.lemmas.Bool.{true≢false, false≢true, lt-ltb}
 use Rattle.std.proofs.lemmas.Option.{none-some, same_Some, slice_get_within, slice_get_read}
+use Rattle.std.proofs.lemmas.List.Sums.{sum_by-cons}
 use Rattle.net_base.specs.declared.history.Entry.{Entry}
 use Rattle.net_base.specs.declared.reply.Reply.{Reply}
 use Rattle.net_base.specs.declared.world.Script.{Script}
@@ -33,7 +34,9 @@ drop_one (x ∷ xs) zero s is = ap (λ (y : Script). y ∷ xs) (same_Some x s is
 drop_one (x ∷ xs) (suc n) s is = drop_one xs n s is
 
 pub next_one : (xs : List Script) (n : ℕ) (s : Script) → slice_get xs n ≡ Some s → drop n xs ≡ s ∷ drop (n + 1) xs
-next_one xs n s is = subst (λ (k : ℕ). drop n xs ≡ s ∷ drop k xs) (omega arith) (drop_one xs n s is)
+next_one xs n s is =
+    let e : suc n ≡ n + 1 = omega arith in
+    subst (λ (k : ℕ). drop n xs ≡ s ∷ drop k xs) e (drop_one xs n s is)
 
 pub past_all : (xs : List Script) (n : ℕ) → length xs ≤ n → drop n xs ≡ []
 past_all [] zero le = refl
@@ -86,4 +89,4 @@ unfinished_more w r n s is = rw (next_one w.scripts n s is) refl
 
 pub answered_more : (w : World) (h : List Entry) (n : ℕ) (s : Script) → slice_get w.scripts n ≡ Some s
     → sum_by (answered_by w h) (enumerate_from n (drop n w.scripts)) ≡ answered_by w h (n, s) + sum_by (answered_by w h) (enumerate_from (n + 1) (drop (n + 1) w.scripts))
-answered_more w h n s is = rw (next_one w.scripts n s is) refl
+answered_more w h n s is = ap (λ (xs : List Script). sum_by (answered_by w h) (enumerate_from n xs)) (next_one w.scripts n s is) ∙ sum_by-cons (answered_by w h) (n, s) (enumerate_from (n + 1) (drop (n + 1) w.scripts))

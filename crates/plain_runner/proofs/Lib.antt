@@ -15,3 +15,4 @@ pub mod Plays
 pub mod Nexts
 pub mod Turning
 pub mod Counts
+pub mod Rounding

@@ -1,7 +1,7 @@
 -- The turn of a caller: what it owes or what comes next can be played.
 use Rattle.std.proofs.Common.{◌≡◌, ℕ, zero, suc, ◌+◌, ◌-◌, ◌<◌, ◌≤◌, ◌==◌, Bool, true, false, List, [], ◌∷◌, ◌++◌, length, get_or, Option, Some, None, IsSome, is_some, Result, Ok, Err, IfOk, slice_get, slice_set, ◌⊎◌, inl, inr, refl, sym, ap, subst, ◌∙◌, arith, rules, tests}
 use Rattle.std.specs.declared.alloc.AllocError.{AllocError}
-use Rattle.std.proofs.lemmas.Bool.{true≢false, false≢true}
+use Rattle.std.proofs.lemmas.Bool.{true≢false, false≢true, eqb-true, eqb-false}
 use Rattle.std.proofs.lemmas.Option.{none-some, same_Some, slice_get_within, slice_get_read, slice_get-get_or}
 use Rattle.std.proofs.lemmas.List.{set-get_or}
 use Rattle.net_base.specs.declared.actor.ActorName.{ActorName}
@@ -40,7 +40,7 @@ use Rattle.plain_runner.specs.Met.{name_of, asks, duty_of, owed_of}
 use Rattle.plain_runner.specs.Phases.{Phase, HasPhase}
 use Rattle.plain_runner.specs.Places.{ask_at}
 use Rattle.plain_runner.specs.Stands.{Stands, stand_of}
-use Rattle.plain_runner.specs.Turns.{IsReadyNext, IsAskOf, OwesNothing}
+use Rattle.plain_runner.specs.Turns.{IsReadyNext, IsAskOf, IsThrough, OwesNothing}
 use Rattle.plain_runner.proofs.Ends.{clock_above}
 use Rattle.plain_runner.proofs.Follows.{script_is}
 use Rattle.plain_runner.proofs.Nexts.{next_at, next_take, IsAskMet, ask_met, script_asks_met, goes_on_is, goes_not_on}
@@ -242,3 +242,31 @@ before_asked w r c a work s lt nothing few ready =
     let same : k ≡ record { owed = None; entries = k.entries } = ap (λ (o : Option Task). record { owed = o; entries = k.entries }) none in
     before_next w r r c k a work s lt kept.1 none (few k kept.1)
     record { history = refl; moment = refl; actors = refl; scripts = refl; moves = refl; callers = set_same r.callers.items c k kept.1 ∙ ap (slice_set r.callers.items c) same } ready
+
+-- Turns.
+
+pub full_through : (w : World) (r : Runner) (c : ℕ) (b : Bool) → Stands w r → c < clock_number w → ((k : Caller) → slice_get r.callers.items c ≡ Some k → b ≡ (k.entries == most_entries)) → b ≡ true → IsThrough w r.history c
+full_through w r c b s lt full is =
+    let kept = some_caller w r c s lt in
+    inl ((s.callers c kept.0 kept.1).entries ∙ eqb-true kept.0.entries most_entries (sym (full kept.0 kept.1) ∙ is))
+
+pub few_of : (w : World) (r : Runner) (c : ℕ) (b : Bool) → Stands w r → ((k : Caller) → slice_get r.callers.items c ≡ Some k → b ≡ (k.entries == most_entries)) → b ≡ false
+    → (k : Caller) → slice_get r.callers.items c ≡ Some k → k.entries < most_entries
+few_of w r c b s full is k at = omega (arith, (s.callers c k at).few, eqb-false k.entries most_entries (sym (full k at) ∙ is))
+
+pub owes_some : (w : World) (r : Runner) (c : ℕ) (b d : Bool) → Stands w r → ((k : Caller) → slice_get r.callers.items c ≡ Some k → b ≡ (k.entries == most_entries)) → b ≡ false
+    → ((k : Caller) → slice_get r.callers.items c ≡ Some k → d ≡ is_some k.owed) → d ≡ true
+    → (k : Caller) → slice_get r.callers.items c ≡ Some k → IsSome k.owed × (k.entries < most_entries)
+owes_some w r c b d s full is owed some k at = (sym (owed k at) ∙ some, few_of w r c b s full is k at)
+
+pub owes_nothing : (r : Runner) (c : ℕ) (d : Bool) → ((k : Caller) → slice_get r.callers.items c ≡ Some k → d ≡ is_some k.owed) → d ≡ false → OwesNothing r c
+owes_nothing r c d owed none k at = is_none_so k.owed (sym (owed k at) ∙ none)
+  where
+    is_none_so : (o : Option Task) → is_some o ≡ false → o ≡ None
+    is_none_so None is = refl
+    is_none_so (Some t) is = absurd (true≢false is)
+
+pub rests : (w : World) (r : Runner) (c : ℕ) → Stands w r → c < clock_number w → OwesNothing r c → can_go_on w (after w r.history) c ≡ false → IsThrough w r.history c
+rests w r c s lt nothing waits =
+    let kept = some_caller w r c s lt in
+    inr (owed_is w r c kept.0 s kept.1 ∙ ap owed_of (nothing kept.0 kept.1), waits)

@@ -9,3 +9,5 @@ pub mod Entries
 pub mod Stations
 pub mod Before
 pub mod Turns
+pub mod Rounds
+pub mod Ended

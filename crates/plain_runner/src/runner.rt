@@ -3,7 +3,8 @@ ghost use Rattle.std.specs.Prelude.{◌≡◌, ℕ, ◌<◌, ◌-◌, ◌+◌, �
 ghost use Rattle.plain_runner.specs.declared.standing.Standing.{Standing as State};
 ghost use Rattle.plain_runner.specs.Before.{Before, Goes};
 ghost use Rattle.plain_runner.specs.Stands.{Stands};
-ghost use Rattle.std.specs.Prelude.{None, IfOk, IsSome};
+ghost use Rattle.std.specs.Prelude.{None, IfOk, IsSome, is_some, ◌==◌, ◌||◌};
+ghost use Rattle.plain_runner.specs.Rounds.{MayGo, TurnedAll, may_record};
 ghost use Rattle.net_base.specs.Callers.{clock_number};
 ghost use Rattle.net_base.specs.Calm.{most_entries};
 ghost use Rattle.net_base.specs.Next.{next};
@@ -286,14 +287,17 @@ impl Runner {
         requires caller { caller < clock_number world.now }
         ensures { IfOk result (Turned world.now self.old self.new caller) }
     {
-        if self.callers[caller].entries == MOST_ENTRIES {
+        let is_full = self.is_full(caller);
+        if is_full {
             return Ok(false);
         }
-        if self.callers[caller].owed.is_some() {
+        let owes = self.owes(caller);
+        if owes {
             self.play_owed(world, caller)?;
             return Ok(true);
         }
-        match self.ask(world, caller)? {
+        let asked = self.ask(world, caller)?;
+        match asked {
             Some((actor, work)) => {
                 self.play_next(world, caller, actor, work)?;
                 Ok(true)
@@ -301,6 +305,76 @@ impl Runner {
             None => Ok(false),
         }
     }
+
+    // Whether a caller has as many entries as it may have.
+    fn is_full(&self, caller: usize) -> bool
+        requires { caller < length self.now.callers.items }
+        ensures { (k : CallerNow) → slice_get self.now.callers.items caller ≡ Some k → result ≡ (k.entries == most_entries) }
+    {
+        self.callers[caller].entries == MOST_ENTRIES
+    }
+
+    // Whether a caller owes a duty.
+    fn owes(&self, caller: usize) -> bool
+        requires { caller < length self.now.callers.items }
+        ensures { (k : CallerNow) → slice_get self.now.callers.items caller ≡ Some k → result ≡ is_some k.owed }
+    {
+        self.callers[caller].owed.is_some()
+    }
+
+    /// One turn for each script and the courier. It tells whether an entry was recorded.
+    fn round(&mut self, world: &World) -> Result<bool, AllocError>
+        requires world { IsWorld world.now }
+        requires form { IsFirstForm world.now }
+        requires stands { Stands world.now self.old }
+        ensures { IfOk result (TurnedAll world.now self.old self.new (clock_number world.now)) }
+    {
+        let mut recorded = false;
+        for caller in 0..self.callers.len() {
+            let turned = self.turn(world, caller)?;
+            recorded = either(recorded, turned);
+        }
+        Ok(recorded)
+    }
+
+    /// Whether a caller owes a duty or its next event is ready.
+    fn may_record(&self, world: &World, caller: usize) -> Result<bool, AllocError>
+        requires world { IsWorld world.now }
+        requires form { IsFirstForm world.now }
+        requires stands { Stands world.now self.now }
+        requires caller { caller < clock_number world.now }
+        ensures { IfOk result (λ may. may ≡ may_record world.now self.now.history caller) }
+    {
+        let owes = self.owes(caller);
+        if owes {
+            return Ok(true);
+        }
+        let asked = self.ask(world, caller)?;
+        Ok(asked.is_some())
+    }
+
+    /// Whether some caller may.
+    fn may_go_on(&self, world: &World) -> Result<bool, AllocError>
+        requires world { IsWorld world.now }
+        requires form { IsFirstForm world.now }
+        requires stands { Stands world.now self.now }
+        ensures { IfOk result (MayGo world.now self.now.history (clock_number world.now)) }
+    {
+        for caller in 0..self.callers.len() {
+            let may = self.may_record(world, caller)?;
+            if may {
+                return Ok(true);
+            }
+        }
+        Ok(false)
+    }
+}
+
+// Whether one of both is so.
+fn either(a: bool, b: bool) -> bool
+    ensures { result ≡ (a || b) }
+{
+    a || b
 }
 
 // Takes what a caller owes from it.
