@@ -17,6 +17,7 @@ use Rattle.net_base.specs.Net.{Net}
 use Rattle.net_base.specs.Next.{by, next_of, is_unfinished}
 use Rattle.net_base.specs.Steps.{Ask}
 use Rattle.net_base.specs.WorldForm.{IsFirstForm}
+use Rattle.plain_runner.specs.Idle.{IsIdle}
 use Rattle.plain_runner.proofs.Follows.{script_is, courier_is}
 
 -- Ranges.
@@ -77,12 +78,6 @@ clock_above w c lt is = by_script (slice_get w.scripts c) (lt-ltb c (clock_numbe
     by_script None below is = false≢true (ap is_clock (sym (courier_below below) ∙ is))
 
 -- Where nothing goes on.
-
--- no caller but the clock owes a duty or can go on, and no copy is pending
-pub record IsIdle (w : World) (net : Net) : Type 0 where
-  pub owed : (c : ℕ) → c < caller_count w → net.owed c ≡ []
-  pub waits : (c : ℕ) → c < clock_number w → can_go_on w net c ≡ false
-  pub quiet : is_quiet (net.actors (name.Medium 0)) ≡ true
 
 owes_not : (net : Net) (c : ℕ) → net.owed c ≡ [] → owes net c ≡ false
 owes_not net c is = rw is refl

@@ -16,3 +16,4 @@ pub mod Nexts
 pub mod Turning
 pub mod Counts
 pub mod Rounding
+pub mod Finals

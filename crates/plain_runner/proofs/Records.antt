@@ -58,16 +58,16 @@ timed_push w h x timed in_time k y is =
 pub past_is : (w : World) (h : List Entry) → (after w h).past ≡ h
 past_is w h = past_after w opening_net h
 
-by_own : (h : List Entry) (x : Entry) (c : ℕ) → x.caller ≡ c → length (by (h ++ x ∷ []) c) ≡ length (by h c) + 1
+pub by_own : (h : List Entry) (x : Entry) (c : ℕ) → x.caller ≡ c → length (by (h ++ x ∷ []) c) ≡ length (by h c) + 1
 by_own h x c is =
     let e : by (h ++ x ∷ []) c ≡ by h c ++ x ∷ [] = filter-append (λ (y : Entry). y.caller == c) h (x ∷ []) ∙ rw (eq-eqb x.caller c is) refl in
     rw e (length-append (by h c) (x ∷ []))
 
-by_other : (h : List Entry) (x : Entry) (c : ℕ) → (x.caller ≡ c → ⊥) → by (h ++ x ∷ []) c ≡ by h c
+pub by_other : (h : List Entry) (x : Entry) (c : ℕ) → (x.caller ≡ c → ⊥) → by (h ++ x ∷ []) c ≡ by h c
 by_other h x c apart = filter-append (λ (y : Entry). y.caller == c) h (x ∷ []) ∙ rw (ne_eqb x.caller c apart) (append-nil (by h c))
 
 -- the same standings
-good_same : (w : World) (h : List Entry) (net : Net) (phase : ℕ → Phase) (stand other : ℕ → Standing) → ((c : ℕ) → c < length w.scripts → other c ≡ stand c) → Good w h net phase stand → Good w h net phase other
+pub good_same : (w : World) (h : List Entry) (net : Net) (phase : ℕ → Phase) (stand other : ℕ → Standing) → ((c : ℕ) → c < length w.scripts → other c ≡ stand c) → Good w h net phase stand → Good w h net phase other
 good_same w h net phase stand other same good = record {
   hosts = good.hosts;
   medium = good.medium;

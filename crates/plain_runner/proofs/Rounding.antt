@@ -24,7 +24,8 @@ use Rattle.plain_runner.specs.Acting.{actor_at}
 use Rattle.plain_runner.specs.Rounds.{TurnedAll, MayGo, may_record}
 use Rattle.plain_runner.specs.Stands.{Stands}
 use Rattle.plain_runner.specs.Turns.{Turned, IsThrough}
-use Rattle.plain_runner.proofs.Ends.{IsIdle, is_limited, is_done, is_stopped}
+use Rattle.plain_runner.specs.Idle.{IsIdle}
+use Rattle.plain_runner.proofs.Ends.{is_limited, is_done, is_stopped}
 use Rattle.plain_runner.proofs.Nexts.{goes_on_is, next_take}
 use Rattle.plain_runner.proofs.Records.{past_is}
 

@@ -1,5 +1,5 @@
 -- The turn of a caller: what it owes or what comes next can be played.
-use Rattle.std.proofs.Common.{◌≡◌, ℕ, zero, suc, ◌+◌, ◌-◌, ◌<◌, ◌≤◌, ◌==◌, Bool, true, false, List, [], ◌∷◌, ◌++◌, length, get_or, Option, Some, None, IsSome, is_some, Result, Ok, Err, IfOk, slice_get, slice_set, ◌⊎◌, inl, inr, refl, sym, ap, subst, ◌∙◌, arith, rules, tests}
+use Rattle.std.proofs.Common.{◌≡◌, ℕ, zero, suc, ◌+◌, ◌-◌, ◌<◌, ◌≤◌, ◌==◌, Bool, true, false, List, [], ◌∷◌, ◌++◌, length, get_or, Option, Some, None, IsSome, is_some, Result, Ok, Err, IfOk, slice_get, slice_set, ◌⊎◌, inl, inr, refl, sym, ap, subst, ◌∙◌, arith, rules, tests, nat_lt, ◌||◌}
 use Rattle.std.specs.declared.alloc.AllocError.{AllocError}
 use Rattle.std.proofs.lemmas.Bool.{true≢false, false≢true, eqb-true, eqb-false}
 use Rattle.std.proofs.lemmas.Option.{none-some, same_Some, slice_get_within, slice_get_read, slice_get-get_or}
@@ -17,7 +17,8 @@ use Rattle.net_base.specs.declared.world.World.{World}
 use Rattle.net_base.specs.ActorStep.{Step}
 use Rattle.net_base.specs.Actors.{Actor, actor_step}
 use Rattle.net_base.specs.Callers.{Caller as AnyCaller, IsScript, IsCourier, IsClock, IsNobody, caller_of, clock_number, first_courier}
-use Rattle.net_base.specs.Calm.{can_go_on, most_entries}
+use Rattle.net_base.specs.Calm.{owes, can_go_on, most_entries}
+use Rattle.plain_runner.specs.Rounds.{may_record}
 use Rattle.net_base.specs.Duties.{Duty}
 use Rattle.net_base.specs.Legal.{IsAsked, IsNext, asked_by, cites_of}
 use Rattle.net_base.specs.Net.{Net, after, moment_after, with_of}
@@ -270,3 +271,39 @@ pub rests : (w : World) (r : Runner) (c : ℕ) → Stands w r → c < clock_numb
 rests w r c s lt nothing waits =
     let kept = some_caller w r c s lt in
     inr (owed_is w r c kept.0 s kept.1 ∙ ap owed_of (nothing kept.0 kept.1), waits)
+
+pub asked_none : (w : World) (r : Runner) (c : ℕ) (o : Option (Met × Work)) → IsAskOf w r c o → o ≡ None → can_go_on w (after w r.history) c ≡ false
+asked_none w r c o is none = subst (IsAskOf w r c) none is
+
+-- Whether a caller may record.
+
+owes_is : (w : World) (r : Runner) (c : ℕ) (b : Bool) → Stands w r → c < clock_number w → ((k : Caller) → slice_get r.callers.items c ≡ Some k → b ≡ is_some k.owed) → owes (after w r.history) c ≡ b
+owes_is w r c b s lt is =
+    let kept = some_caller w r c s lt in
+    rw (owed_is w r c kept.0 s kept.1) (by_owed kept.0.owed ∙ sym (is kept.0 kept.1))
+  where
+    by_owed : (o : Option Task) → nat_lt 0 (length (owed_of o)) ≡ is_some o
+    by_owed None = refl
+    by_owed (Some d) = refl
+
+pub may_by_duty : (w : World) (r : Runner) (c : ℕ) (b : Bool) → Stands w r → c < clock_number w → ((k : Caller) → slice_get r.callers.items c ≡ Some k → b ≡ is_some k.owed) → b ≡ true → true ≡ may_record w r.history c
+may_by_duty w r c b s lt is some = rw (owes_is w r c b s lt is, some) refl
+
+pub may_by_ask : (w : World) (r : Runner) (c : ℕ) (b d : Bool) (o : Option (Met × Work)) → Stands w r → c < clock_number w → ((k : Caller) → slice_get r.callers.items c ≡ Some k → b ≡ is_some k.owed) → b ≡ false
+    → IsAskOf w r c o → d ≡ is_some o → d ≡ may_record w r.history c
+may_by_ask w r c b d o s lt is none ask told = rw (owes_is w r c b s lt is, none) (told ∙ by_ask o ask)
+  where
+    by_ask : (o : Option (Met × Work)) → IsAskOf w r c o → is_some o ≡ can_go_on w (after w r.history) c
+    by_ask None ask = sym ask
+    by_ask (Some p) ask =
+        let work_is : record { event = p.1.event; with = given.Nothing } ≡ p.1 = ap (λ (v : With). record { event = p.1.event; with = v }) (sym ask.nothing) in
+        sym (goes_on_is w r c p.0 p.1.event s ask.comes
+        ∙ ap (λ (v : Work). is_some (actor_step w (name_of p.0) (actor_at r.actors.seats.items r.actors.medium (name_of p.0)) r.moment v)) work_is
+        ∙ ap is_some ask.some.1)
+
+pub none_more : (w : World) (h : List Entry) (n : ℕ) (b : Bool) → ((c : ℕ) → c < n → may_record w h c ≡ false) → b ≡ may_record w h n → b ≡ false → (c : ℕ) → c < n + 1 → may_record w h c ≡ false
+none_more w h n b old is none c lt = by_last (c == n) refl
+  where
+    by_last : (e : Bool) → (c == n) ≡ e → may_record w h c ≡ false
+    by_last true same = subst (λ (k : ℕ). may_record w h k ≡ false) (sym (eqb-true c n same)) (sym is ∙ none)
+    by_last false apart = old c (omega (arith, lt, eqb-false c n apart))

@@ -11,3 +11,4 @@ pub mod Before
 pub mod Turns
 pub mod Rounds
 pub mod Ended
+pub mod Idle

@@ -7,4 +7,4 @@ mod runner;
 mod seat;
 mod standing;
 
-pub use runner::{Ran, RunEnd};
+pub use runner::{Ran, RunEnd, run};

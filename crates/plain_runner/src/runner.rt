@@ -5,6 +5,16 @@ ghost use Rattle.plain_runner.specs.Before.{Before, Goes};
 ghost use Rattle.plain_runner.specs.Stands.{Stands};
 ghost use Rattle.std.specs.Prelude.{None, IfOk, IsSome, is_some, ◌==◌, ◌||◌};
 ghost use Rattle.plain_runner.specs.Rounds.{MayGo, TurnedAll, may_record};
+ghost use Rattle.std.specs.Prelude.{true, replicate};
+ghost use Rattle.net_base.specs.declared.world.Script.{Script as ScriptNow};
+ghost use Rattle.net_base.specs.Calm.{unfinished};
+ghost use Rattle.net_base.specs.Legal.{IsLegal, IsTimed};
+ghost use Rattle.net_base.specs.Net.{after};
+ghost use Rattle.net_base.specs.Next.{is_unfinished};
+ghost use Rattle.net_base.specs.Summary.{answered_by, answered_steps};
+ghost use Rattle.plain_runner.specs.Ended.{EndsSo, GoesOrEnds};
+ghost use Rattle.plain_runner.specs.Idle.{IsIdle};
+ghost use Rattle.plain_runner.specs.Turns.{IsThrough};
 ghost use Rattle.net_base.specs.Callers.{clock_number};
 ghost use Rattle.net_base.specs.Calm.{most_entries};
 ghost use Rattle.net_base.specs.Next.{next};
@@ -22,12 +32,18 @@ ghost use Rattle.plain_runner.specs.Places.{finished_at};
 
 use crate::actors::{Actors, Met};
 use crate::duty::{Duty, owed_by};
-use crate::standing::Standing;
-use net_base::{Entry, Event, Header, History, Outcome, Packet, Reply, With, Work, World};
+use crate::standing::{Place, Standing};
+use net_base::{ActorName, Entry, Event, Header, History, Outcome, Packet, Reply, With, Work, World};
 use std::alloc::{AllocError, Global};
 
 /// How many entries a caller may record.
 const MOST_ENTRIES: u32 = 131_072;
+
+/// A script before its first event.
+const AT_START: Standing = Standing {
+    place: Place::Step(0),
+    before: 0,
+};
 
 /// How a run ends.
 #[derive(Clone, Copy, Debug, PartialEq, Eq)]
@@ -140,7 +156,65 @@ fn go_on(scripts: &mut Vec<Standing>, caller: usize, cites: Option<u64>, reply: 
     };
 }
 
+/// Runs the scripts of a world on one worker.
+pub fn run(alloc: Global, world: &World) -> Result<Ran, AllocError>
+    requires world { IsWorld world.now }
+    requires form { IsFirstForm world.now }
+    ensures legal { IfOk result (λ ran. IsLegal world.now ran.history) }
+    ensures timed { IfOk result (λ ran. IsTimed world.now ran.history) }
+    ensures end { IfOk result (λ ran. EndsSo world.now (after world.now ran.history) ran.end) }
+    ensures answered { IfOk result (λ ran. ran.answered ≡ answered_steps world.now ran.history) }
+{
+    let mut runner = Runner::new(alloc, world)?;
+    for _ in 0..u64::MAX {
+        let end = runner.step(world)?;
+        if let Some(end) = end {
+            return Ok(ended(runner, world, end));
+        }
+    }
+    // each of these steps recorded an entry, and so many can't be held
+    Err(AllocError)
+}
+
+// The run as it ended.
+fn ended(runner: Runner, world: &World, end: RunEnd) -> Ran
+    requires stands { Stands world.now runner }
+    requires ends { EndsSo world.now (after world.now runner.history) end }
+    ensures legal { IsLegal world.now result.history }
+    ensures timed { IsTimed world.now result.history }
+    ensures end { EndsSo world.now (after world.now result.history) result.end }
+    ensures answered { result.answered ≡ answered_steps world.now result.history }
+{
+    let answered = runner.answered(world);
+    let Runner { history, .. } = runner;
+    Ran {
+        history,
+        end,
+        answered,
+    }
+}
+
 impl Runner {
+    /// The run of a world before anything is recorded.
+    fn new(alloc: Global, world: &World) -> Result<Runner, AllocError>
+        requires world { IsWorld world.now }
+        requires form { IsFirstForm world.now }
+        ensures { IfOk result (Stands world.now) }
+    {
+        let actors = Actors::new(alloc, world)?;
+        let callers = callers_of(alloc, world.scripts.len())?;
+        let scripts = vec![in alloc; AT_START; world.scripts.len()]?;
+        Ok(Runner {
+            alloc,
+            history: History::new(alloc),
+            moment: 0,
+            actors,
+            callers,
+            scripts,
+            moves: 0,
+        })
+    }
+
     /// Records the step of an actor for what a caller owes or for what comes next.
     fn play(
         &mut self,
@@ -368,6 +442,120 @@ impl Runner {
         }
         Ok(false)
     }
+
+    /// Whether a step of a script isn't finished.
+    fn unfinished(&self, world: &World) -> bool
+        requires { Stands world.now self.now }
+        ensures { result ≡ unfinished world.now (after world.now self.now.history) }
+    {
+        for caller in 0..world.scripts.len() {
+            let left = self.has_left(world, caller);
+            if left {
+                return true;
+            }
+        }
+        false
+    }
+
+    // Whether a step of this script isn't finished.
+    fn has_left(&self, world: &World, caller: usize) -> bool
+        requires stands { Stands world.now self.now }
+        requires caller { caller < length world.now.scripts }
+        ensures { (s : ScriptNow) → slice_get world.now.scripts caller ≡ Some s → result ≡ is_unfinished (after world.now self.now.history).past caller s }
+    {
+        let finished = self.scripts[caller].place.finished() as usize;
+        finished < world.scripts.as_slice()[caller].steps.len()
+    }
+
+    // How many steps of a script are answered.
+    fn steps_answered(&self, _world: &World, caller: usize) -> u32
+        requires stands { Stands _world.now self.now }
+        requires caller { caller < length _world.now.scripts }
+        ensures { (s : ScriptNow) → slice_get _world.now.scripts caller ≡ Some s → result ≡ answered_by _world.now self.now.history (caller, s) }
+    {
+        let standing = self.scripts[caller];
+        let owes = self.owes(caller);
+        if owes {
+            return standing.before;
+        }
+        standing.place.finished()
+    }
+
+    /// How many steps of all scripts are answered.
+    fn answered(&self, world: &World) -> u128
+        requires { Stands world.now self.now }
+        ensures { result ≡ answered_steps world.now self.now.history }
+    {
+        let mut answered: u128 = 0;
+        for caller in 0..world.scripts.len() {
+            let steps = self.steps_answered(world, caller);
+            answered += steps as u128;
+        }
+        answered
+    }
+
+    /// Moves the clock to the end moment, since nothing is due before.
+    fn advance(&mut self, world: &World) -> Result<(), AllocError>
+        requires form { IsFirstForm world.now }
+        requires stands { Stands world.now self.old }
+        requires idle { IsIdle world.now (after world.now self.old.history) }
+        requires more { unfinished world.now (after world.now self.old.history) ≡ true }
+        requires before { self.old.moment < world.now.end }
+        ensures { OnOk result (Stands world.now self.new) }
+    {
+        let clock = self.callers.len() as u32;
+        let entry = Entry {
+            actor: ActorName::Clock,
+            caller: clock,
+            moment: self.moment,
+            event: Event::Move { moment: world.end },
+            cites: None,
+            reply: Reply::Ok,
+            emits: None,
+            ended: false,
+        };
+        self.history.push(entry)?;
+        self.moment = world.end;
+        self.moves += 1;
+        Ok(())
+    }
+
+    /// What comes where no caller records: the run is over, or the clock moves.
+    fn rest(&mut self, world: &World) -> Result<Option<RunEnd>, AllocError>
+        requires world { IsWorld world.now }
+        requires form { IsFirstForm world.now }
+        requires stands { Stands world.now self.old }
+        requires through { (c : ℕ) → c < clock_number world.now → IsThrough world.now self.old.history c }
+        ensures { IfOk result (GoesOrEnds world.now self.new) }
+    {
+        let may = self.may_go_on(world)?;
+        if may {
+            return Ok(Some(RunEnd::Limit));
+        }
+        let more = self.unfinished(world);
+        if !more {
+            return Ok(Some(RunEnd::Done));
+        }
+        if self.moment == world.end {
+            return Ok(Some(RunEnd::Stopped));
+        }
+        self.advance(world)?;
+        Ok(None)
+    }
+
+    /// A round, and what comes after one that recorded nothing.
+    fn step(&mut self, world: &World) -> Result<Option<RunEnd>, AllocError>
+        requires world { IsWorld world.now }
+        requires form { IsFirstForm world.now }
+        requires stands { Stands world.now self.old }
+        ensures { IfOk result (GoesOrEnds world.now self.new) }
+    {
+        let recorded = self.round(world)?;
+        if recorded {
+            return Ok(None);
+        }
+        self.rest(world)
+    }
 }
 
 // Whether one of both is so.
@@ -375,6 +563,24 @@ fn either(a: bool, b: bool) -> bool
     ensures { result ≡ (a || b) }
 {
     a || b
+}
+
+// So many scripts and the courier, which owe nothing.
+fn callers_of(alloc: Global, scripts: usize) -> Result<Vec<Caller>, AllocError>
+    ensures { IfOk result (λ callers. callers.items ≡ replicate (scripts + 1) (record { owed = None; entries = 0 })) }
+{
+    let mut callers = Vec::new(alloc);
+    for _ in 0..scripts {
+        callers.push(Caller {
+            owed: None,
+            entries: 0,
+        })?;
+    }
+    callers.push(Caller {
+        owed: None,
+        entries: 0,
+    })?;
+    Ok(callers)
 }
 
 // Takes what a caller owes from it.
