@@ -1,8 +1,9 @@
 -- A run before anything is recorded, and after the move of the clock.
-use Rattle.std.proofs.Common.{◌≡◌, ℕ, zero, suc, ◌+◌, ◌-◌, ◌<◌, ◌≤◌, ◌==◌, ◌&&◌, Bool, true, false, List, [], ◌∷◌, ◌++◌, length, replicate, Option, Some, None, is_none, slice_get, ◌⊎◌, inl, inr, refl, sym, ap, subst, ◌∙◌, arith, rules, tests, nat_lt, nat_le, length-append, length-replicate, if◌then◌else◌}
+use Rattle.std.proofs.Common.{◌≡◌, ℕ, zero, suc, ◌+◌, ◌-◌, ◌<◌, ◌≤◌, ◌==◌, ◌&&◌, Bool, true, false, List, [], ◌∷◌, ◌++◌, length, replicate, Option, Some, None, is_none, slice_get, ◌⊎◌, inl, inr, refl, sym, ap, subst, ◌∙◌, arith, rules, tests, nat_lt, nat_le, length-append, if◌then◌else◌}
 use Rattle.std.specs.Option.{option_map_or}
 use Rattle.std.proofs.lemmas.Bool.{true≢false, false≢true, eq-eqb, ne_eqb, and_parts, leb-true}
 use Rattle.std.proofs.lemmas.Option.{none-some, same_Some, slice_get_within, slice_get_past}
+use Rattle.std.proofs.lemmas.List.{length-replicate}
 use Rattle.net_base.specs.declared.actor.ActorName.{ActorName}
 use Rattle.net_base.specs.declared.actor.ActorName.TheVariants as name
 use Rattle.net_base.specs.declared.address.Addr.{Addr}
@@ -216,3 +217,19 @@ moved_stands w r new x form s idle more before is history moment moves actors ca
           entries = ap (λ (h : List Entry). length (by h c)) pushed ∙ ap length (by_other r.history m c (λ e. absurd (omega (arith, lt, e)))) ∙ was.entries;
           few = was.few;
         }
+
+pub replicate_more : {A : Type 0} (n : ℕ) (x : A) → replicate n x ++ x ∷ [] ≡ replicate (n + 1) x
+replicate_more n x =
+    let e : suc n ≡ n + 1 = omega arith in
+    subst (λ (k : ℕ). replicate n x ++ x ∷ [] ≡ replicate k x) e (by_count n)
+  where
+    by_count : (n : ℕ) → replicate n x ++ x ∷ [] ≡ replicate (suc n) x
+    by_count zero = refl
+    by_count (suc n) = ap (λ xs. x ∷ xs) (by_count n)
+
+abbrev pub clock_moves : World → Runner → ℕ → Entry
+clock_moves w r n = record { actor = name.Clock; caller = n; moment = r.moment; event = event.Move w.end; cites = None; reply = reply.Ok; emits = None; ended = false }
+
+pub clock_entry : (w : World) (r : Runner) (n : ℕ) → n ≡ length r.callers.items
+    → clock_moves w r n ≡ clock_moves w r (length r.callers.items)
+clock_entry w r n is = rw is refl

@@ -17,3 +17,4 @@ pub mod Turning
 pub mod Counts
 pub mod Rounding
 pub mod Finals
+pub mod Lasts

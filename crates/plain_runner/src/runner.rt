@@ -496,6 +496,7 @@ impl Runner {
 
     /// Moves the clock to the end moment, since nothing is due before.
     fn advance(&mut self, world: &World) -> Result<(), AllocError>
+        requires world { IsWorld world.now }
         requires form { IsFirstForm world.now }
         requires stands { Stands world.now self.old }
         requires idle { IsIdle world.now (after world.now self.old.history) }
