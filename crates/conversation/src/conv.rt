@@ -1,5 +1,5 @@
 //! A conversation, and what it answers.
-ghost use Rattle.std.specs.Prelude.{◌≡◌, ℕ, ◌<◌, ◌^◌, is_some, IfOk, OnErr, Some};
+ghost use Rattle.std.specs.Prelude.{◌≡◌, ℕ, ◌<◌, ◌^◌, is_some, IfOk, IsTrue, OnErr, Some};
 ghost use Rattle.net_base.specs.Actors.{opening_conv};
 ghost use Rattle.net_base.specs.Conversation as spec;
 ghost use Rattle.net_base.specs.Duties.{due_of_core};
@@ -12,9 +12,9 @@ mod leave;
 mod life;
 mod talk;
 
-use crate::control;
+use crate::control::is_refused;
+use crate::il;
 use crate::parts::{Core, Stage};
-use il_machine::IlEnd;
 use net_base::{Addr, Event, Outcome, Pair, Proto, Work};
 use std::alloc::{AllocError, Global};
 use std::marker::Model;
@@ -63,13 +63,12 @@ impl Model for Conv {
 #[tactic(auto, unfolding(crate::specs::Stands::StandsFor, crate::specs::Stands::slot_of))]
 impl Conv {
     /// The conversation of a slot, before its first generation.
-    #[tactic(auto, unfolding(il_machine::specs::Stands::StandsFor, crate::specs::Stands::StandsFor, crate::specs::Stands::slot_of))]
     pub fn new(alloc: Global, _host: u32, proto: Proto, slot: u32) -> Result<Conv, AllocError>
         ensures opening { IfOk result (λ c. StandsFor c (opening_conv proto)) }
         ensures slot { IfOk result (λ c. slot_of c ≡ slot) }
     {
         let core = match proto {
-            Proto::Il => Core::Il(IlEnd::fresh(alloc)?),
+            Proto::Il => Core::Il(il::fresh(alloc)?),
             Proto::Udp => Core::Udp(UdpEnd::fresh(alloc)?),
         };
         Ok(Conv {
@@ -112,13 +111,22 @@ impl Conv {
         }
     }
 
+    /// Whether its end may be asked for anything: an IL end has sent and got few messages.
+    pub fn is_short(&self) -> bool
+        ensures { IsTrue result → StandsForSome self.now IsShort }
+    {
+        match &self.core {
+            Core::Il(end) => il::is_short(end),
+            Core::Udp(_) => true,
+        }
+    }
+
     /// When its IL end asks once more, if it waits for something.
-    #[tactic(auto, unfolding(il_machine::specs::Stands::StandsFor, crate::specs::Stands::StandsFor, crate::specs::Stands::slot_of))]
     pub fn due(&self) -> Option<u64>
         ensures { Says self.now result (λ c. due_of_core c.core) }
     {
         match &self.core {
-            Core::Il(end) => end.due(),
+            Core::Il(end) => il::due(end),
             Core::Udp(_) => None,
         }
     }
@@ -150,7 +158,7 @@ impl Conv {
                 self.is_answered(*generation, self.may_write(text))
             }
             Event::Ctl { generation, text } => {
-                control::fault(text.as_slice()).is_some() && self.is_answered(*generation, true)
+                is_refused(text) && self.is_answered(*generation, true)
             }
             Event::ArriveAt { generation } => self.may_arrive(*generation, &work.with),
             Event::Claim { generation }
@@ -192,7 +200,7 @@ impl Conv {
             Event::Hangup { generation } => Ok(self.hangup(now, *generation)),
             Event::Ttl { generation, n } => Ok(self.set_ttl(*generation, *n)),
             Event::Tos { generation, n } => Ok(self.set_tos(*generation, *n)),
-            Event::Ctl { generation, text } => Ok(self.refuse_control(*generation, text)),
+            Event::Ctl { generation, text } => Ok(self.refuse(*generation, text)),
             Event::Close { generation } => Ok(self.close(now, *generation)),
             Event::ArriveAt { generation } => self.arrive_with(now, *generation, &work.with),
             Event::Tick { generation } => Ok(self.tick(now, *generation)),

@@ -1,5 +1,6 @@
 //! The calls of an IL end, by the end that it stands for.
 #![tactic(auto, unfolding(il_machine::specs::Stands::StandsFor))]
+
 ghost use Rattle.std.specs.Prelude.{◌≡◌, ◌<◌, ◌^◌, Some, IfOk, OnOk, OnErr, IsTrue, take, if◌then◌else◌};
 ghost use Rattle.net_base.specs.IlEnd as spec;
 ghost use Rattle.net_base.specs.IlTable as table;
@@ -34,6 +35,12 @@ pub fn due(end: &IlEnd) -> Option<u64>
     ensures { result ≡ end.now.timer.due }
 {
     end.due()
+}
+
+pub fn is_short(end: &IlEnd) -> bool
+    ensures { IsTrue result → IsShort end.now }
+{
+    end.is_short()
 }
 
 pub fn may_read(end: &IlEnd) -> bool

@@ -6,6 +6,8 @@ mod conv;
 mod il;
 mod parts;
 mod said;
+#[cfg(test)]
+mod tests;
 mod texts;
 
 pub use conv::Conv;

@@ -5,17 +5,16 @@ ghost use Rattle.net_base.specs.ControlWords as control_words;
 ghost use Rattle.net_base.specs.Conversation as spec;
 ghost use Rattle.conversation.specs.Kept.{step_to};
 
-use crate::control;
+use crate::control::fault;
 use crate::conv::Conv;
-use crate::il;
 use crate::parts::{Core, Stage};
 use crate::said::Said;
-use crate::texts;
+use crate::{il, texts};
 use net_base::{Cause, FileName, IlState, Octets, Outcome, StateName};
 use std::alloc::AllocError;
 
 impl Conv {
-    /// One more open file, where one is open. No memory, where more than any number tells are open.
+    /// One more open file, where one is open. It answers as if memory ran out where 2^64 - 1 are.
     pub(super) fn open(&mut self) -> Result<Outcome, AllocError>
         ensures ok { IfOk result (λ outcome. spec.opened self.old.conv.opens self.old.conv ≡ record { state = self.new.conv; outcome = outcome }) }
         ensures slot { self.new.slot ≡ self.old.slot }
@@ -67,10 +66,7 @@ impl Conv {
             FileName::Ctl => texts::number(self.alloc, self.slot),
             FileName::Local => texts::address_line(self.alloc, self.pair.local),
             FileName::Remote => texts::address_line(self.alloc, self.pair.remote),
-            FileName::Status => texts::line(
-                self.alloc,
-                texts::state_word(self.core.state_name()),
-            ),
+            FileName::Status => texts::line(self.alloc, texts::state_word(self.core.state_name())),
             FileName::Err => match self.cause() {
                 Some(cause) => texts::line(self.alloc, texts::cause_text(cause)),
                 None => Ok(Octets::new(self.alloc)),
@@ -133,14 +129,18 @@ impl Conv {
         }
     }
 
-    /// Refuses a control text that has no reading; none where it has one.
-    pub(super) fn refuse_control(&self, generation: u64, text: &Octets) -> Option<Outcome>
+    /// Refuses a control text that has no reading.
+    pub(super) fn refuse(&self, generation: u64, text: &Octets) -> Option<Outcome>
         ensures { spec.bad_control (spec.refused_control (control_words.read text.now)) generation self.now.conv ≡ step_to self.now.conv result }
     {
-        let number = control::fault(text.as_slice())?;
-        if generation != self.generation {
-            return self.stale(generation);
+        match fault(text) {
+            Some(number) => {
+                if generation != self.generation {
+                    return self.stale(generation);
+                }
+                Some(self.replies(Said::bad_control(number)))
+            }
+            None => None,
         }
-        Some(self.replies(Said::bad_control(number)))
     }
 }

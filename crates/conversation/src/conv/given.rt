@@ -58,12 +58,7 @@ impl Conv {
     }
 
     /// Connects, where a grant is given.
-    pub(super) fn connect_with(
-        &mut self,
-        now: u64,
-        generation: u64,
-        with: &With,
-    ) -> Option<Outcome>
+    pub(super) fn connect_with(&mut self, now: u64, generation: u64, with: &With) -> Option<Outcome>
         requires { now < 2 ^ 63 }
         ensures step { spec.conv_step self.old.slot (event.Connect generation) with.now now self.old.conv ≡ step_to self.new.conv result }
         ensures slot { self.new.slot ≡ self.old.slot }

@@ -76,7 +76,9 @@ impl Conv {
                 let id = message.id;
                 Ok(Some(self.born_il(now, generation, pair, start, limit, id)?))
             }
-            (Core::Udp(_), Body::Udp(text)) => Ok(Some(self.born_udp(generation, pair, limit, text)?)),
+            (Core::Udp(_), Body::Udp(text)) => Ok(Some(self.born_udp(
+                generation, pair, limit, text,
+            )?)),
             _ => Ok(None),
         }
     }

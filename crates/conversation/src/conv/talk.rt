@@ -137,11 +137,7 @@ impl Conv {
     }
 
     // Writes of a message that is no longer than the limit.
-    fn write_connected(
-        &mut self,
-        now: u64,
-        text: &Octets,
-    ) -> Result<Option<Outcome>, AllocError>
+    fn write_connected(&mut self, now: u64, text: &Octets) -> Result<Option<Outcome>, AllocError>
         requires in_time { now < 2 ^ 63 }
         requires short { IsShort self.old.conv }
         requires fits { length text.now < 2 ^ 32 }

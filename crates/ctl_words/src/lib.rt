@@ -1,0 +1,13 @@
+//! What is written to a ctl file.
+#![tactic(auto)]
+
+mod controls;
+mod fault;
+mod numbers;
+mod parts;
+mod spelled;
+#[cfg(test)]
+mod tests;
+
+pub use controls::read_ctl;
+pub use fault::CtlError;
