@@ -1,6 +1,9 @@
+pub mod Answers
+pub mod Granted
 pub mod Kept
 pub mod Met
 pub mod Slots
+pub mod Ways
 pub use Rattle.net_base.specs.Actors
 pub use Rattle.net_base.specs.Directory
 pub use Rattle.net_base.specs.Routes
