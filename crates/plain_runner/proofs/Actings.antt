@@ -238,3 +238,23 @@ opening_actors w seats m spec seed all is = at
     at (name.Medium (suc k)) = refl
     at (name.Desk i) = refl
     at name.Clock = refl
+
+pub dir_some : (w : World) (seats : List SeatView) (m : OnMedium) (h : ℕ) (p : Proto) (s : SeatView) (now : ℕ) (work : Work) → p ≡ proto.Udp → slice_get seats h ≡ Some s
+    → IsSome (actor_step w (name.Dir h p) (actor_at seats m (name.Dir h p)) now work) → IsSome (dir_step w h proto.Udp work.event work.with (dir_of s))
+dir_some w seats m h p s now work udp is some =
+    some_as _ (λ (d : Dir). IsDir d) _
+    (subst (λ (v : Actor). IsSome (actor_step w (name.Dir h proto.Udp) v now work)) (ap (λ (o : Option SeatView). option_map_or (λ (t : SeatView). IsDir (dir_of t)) o (opening_actor (name.Dir h proto.Udp))) is)
+    (subst (λ (q : Proto). IsSome (actor_step w (name.Dir h q) (actor_at seats m (name.Dir h q)) now work)) udp some))
+
+-- whether a conversation is ready, as it says at once
+pub sure_conv_now : (w : World) (seats : List SeatView) (m : OnMedium) (a : Met) (work : Work) (h n : ℕ) (s : SeatView) (b : Bool) → AreOf w seats m → a ≡ met.Conv h n → IsMet w a work → s ≡ get_or seats h s
+    → ((now : ℕ) → b ≡ is_some (conv_step 0 work.event work.with now (conv_of s)))
+    → (now : ℕ) → b ≡ is_some (actor_step w (name_of a) (actor_at seats m (name_of a)) now work)
+sure_conv_now w seats m a work h n s b are is met_is at tells now =
+    subst (λ (c : Met). IsMet w c work → b ≡ is_some (actor_step w (name_of c) (actor_at seats m (name_of c)) now work)) (sym is)
+    (λ t. conv_tells w seats m h n s now work b t.1 t.0 (seat_at seats h s (omega (arith, t.0, are.count)) at) (tells now)) met_is
+
+pub seat_of_met : (w : World) (seats : List SeatView) (m : OnMedium) (a : Met) (work : Work) (h n : ℕ) (s : SeatView) → AreOf w seats m → a ≡ met.Conv h n → IsMet w a work → s ≡ get_or seats h s → IsSeatOf w h s
+seat_of_met w seats m a work h n s are is met_is at =
+    let t : IsMet w (met.Conv h n) work = subst (λ (b : Met). IsMet w b work) is met_is in
+    are.seat h s (seat_at seats h s (omega (arith, t.0, are.count)) at)

@@ -18,3 +18,4 @@ pub mod Counts
 pub mod Rounding
 pub mod Finals
 pub mod Lasts
+pub mod Forms

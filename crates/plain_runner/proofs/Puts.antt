@@ -44,7 +44,7 @@ way_is w n h i ip out true near ifaces routes own is_near is = ap (λ (o : Way).
 way_is w n h i ip out false true ifaces routes own is_near is = ap (λ (o : Way). o.medium) (sym (same_Some (way_by w ip i) out (sym (rw (ifaces, routes, own, is_near) refl) ∙ is)))
 way_is w n h i ip out false false ifaces routes own is_near is = absurd (none-some out (sym (rw (ifaces, routes, own, is_near) refl) ∙ is))
 
-plain_host : (w : World) → IsFirstForm w → (n : ℕ) (h : HostSpec) → slice_get w.hosts n ≡ Some h → IsPlainHost h
+pub plain_host : (w : World) → IsFirstForm w → (n : ℕ) (h : HostSpec) → slice_get w.hosts n ≡ Some h → IsPlainHost h
 plain_host w form n h is = subst IsPlainHost (get_or_from_slice_get w.hosts n h h is) (form.hosts n h (slice_get_within w.hosts n h is))
 
 pub way_medium : (w : World) → IsFirstForm w → (n ip : ℕ) (out : Way) → way w n ip ≡ Some out → out.medium ≡ 0

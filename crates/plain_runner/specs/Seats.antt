@@ -12,21 +12,23 @@ use Rattle.net_base.specs.declared.packet.Packet.{Packet}
 use Rattle.net_base.specs.declared.world.World.{World}
 use Rattle.net_base.specs.Conversation.{Conv, conv_step}
 use Rattle.net_base.specs.Directory.{Dir, dir_step}
+use Rattle.conversation.specs.Kept.{Seat}
+use Rattle.host_dir.specs.Kept.{HostDir, IsDirOf}
 use Rattle.plain_runner.specs.Good.{IsUdp}
 
 pub record SeatView : Type 0 where
-  pub dir : Dir
-  pub conv : Conv
+  pub host_dir : HostDir
+  pub seat : Seat
 
 abbrev pub dir_of : SeatView → Dir
-dir_of s = s.dir
+dir_of s = s.host_dir.dir
 
 abbrev pub conv_of : SeatView → Conv
-conv_of s = s.conv
+conv_of s = s.seat.conv
 
 -- it is kept of the i-th host
 unfoldable pub IsSeatOf : World → ℕ → SeatView → Type 0
-IsSeatOf w i s = Unit {0}
+IsSeatOf w i s = IsDirOf w i proto.Udp s.host_dir × (s.seat.slot ≡ 0)
 
 -- What is asked.
 

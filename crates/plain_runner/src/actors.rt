@@ -60,15 +60,15 @@ impl Actors {
     }
 
     /// Whether the actor has an answer to an event to which nothing is given.
-    pub fn ready(&self, _world: &World, actor: Met, work: &Work) -> Result<bool, AllocError>
-        requires are { AreOf _world.now self.now.seats.items self.now.medium }
-        requires met { IsMet _world.now actor work.now }
-        requires sure { IsSure _world.now (actor_at self.now.seats.items self.now.medium) actor work.now }
-        ensures { IfOk result (λ is. (now : ℕ) → is ≡ is_some (actor_step _world.now (name_of actor) (actor_at self.now.seats.items self.now.medium (name_of actor)) now work.now)) }
+    pub fn ready(&self, world: &World, actor: Met, work: &Work) -> Result<bool, AllocError>
+        requires are { AreOf world.now self.now.seats.items self.now.medium }
+        requires met { IsMet world.now actor work.now }
+        requires sure { IsSure world.now (actor_at self.now.seats.items self.now.medium) actor work.now }
+        ensures { IfOk result (λ is. (now : ℕ) → is ≡ is_some (actor_step world.now (name_of actor) (actor_at self.now.seats.items self.now.medium (name_of actor)) now work.now)) }
     {
         match actor {
             Met::Dir(_, _) => Ok(true),
-            Met::Conv(host, _) => self.seats[host as usize].conv_ready(work),
+            Met::Conv(host, _) => Ok(self.seats[host as usize].conv_ready(world, host, work)),
             Met::Medium => Ok(self.medium.pending()),
         }
     }
@@ -89,31 +89,32 @@ impl Actors {
         }
     }
 
-    fn step_dir(&mut self, _world: &World, _now: u64, host: u32, _proto: Proto, work: &Work) -> Result<Outcome, AllocError>
-        requires are { AreOf _world.now self.old.seats.items self.old.medium }
-        requires met { IsMet _world.now (Met.Dir host _proto) work.now }
-        ensures { IfOk result (Steps _world.now self.old.seats.items self.old.medium (name_of (Met.Dir host _proto)) _now work.now self.new.seats.items self.new.medium) }
+    fn step_dir(&mut self, world: &World, _now: u64, host: u32, _proto: Proto, work: &Work) -> Result<Outcome, AllocError>
+        requires are { AreOf world.now self.old.seats.items self.old.medium }
+        requires met { IsMet world.now (Met.Dir host _proto) work.now }
+        requires ready { IsSome (actor_step world.now (name_of (Met.Dir host _proto)) (actor_at self.old.seats.items self.old.medium (name_of (Met.Dir host _proto))) _now work.now) }
+        ensures { IfOk result (Steps world.now self.old.seats.items self.old.medium (name_of (Met.Dir host _proto)) _now work.now self.new.seats.items self.new.medium) }
     {
-        self.seats[host as usize].dir_step(work)
+        self.seats[host as usize].dir_step(world, host, work)
     }
 
-    fn step_conv(&mut self, _world: &World, now: u64, host: u32, _slot: u32, work: &Work) -> Result<Outcome, AllocError>
-        requires are { AreOf _world.now self.old.seats.items self.old.medium }
-        requires met { IsMet _world.now (Met.Conv host _slot) work.now }
+    fn step_conv(&mut self, world: &World, now: u64, host: u32, _slot: u32, work: &Work) -> Result<Outcome, AllocError>
+        requires are { AreOf world.now self.old.seats.items self.old.medium }
+        requires met { IsMet world.now (Met.Conv host _slot) work.now }
         requires now { now < 2 ^ 63 }
-        requires ready { IsSome (actor_step _world.now (name_of (Met.Conv host _slot)) (actor_at self.old.seats.items self.old.medium (name_of (Met.Conv host _slot))) now work.now) }
-        ensures { IfOk result (Steps _world.now self.old.seats.items self.old.medium (name_of (Met.Conv host _slot)) now work.now self.new.seats.items self.new.medium) }
+        requires ready { IsSome (actor_step world.now (name_of (Met.Conv host _slot)) (actor_at self.old.seats.items self.old.medium (name_of (Met.Conv host _slot))) now work.now) }
+        ensures { IfOk result (Steps world.now self.old.seats.items self.old.medium (name_of (Met.Conv host _slot)) now work.now self.new.seats.items self.new.medium) }
     {
-        self.seats[host as usize].conv_step(now, work)
+        self.seats[host as usize].conv_step(world, host, now, work)
     }
 
     // A put, or else a take.
-    fn step_medium(&mut self, _world: &World, _now: u64, work: &Work) -> Result<Outcome, AllocError>
-        requires are { AreOf _world.now self.old.seats.items self.old.medium }
-        requires met { IsMet _world.now Met.Medium work.now }
+    fn step_medium(&mut self, world: &World, _now: u64, work: &Work) -> Result<Outcome, AllocError>
+        requires are { AreOf world.now self.old.seats.items self.old.medium }
+        requires met { IsMet world.now Met.Medium work.now }
         requires laid { self.old.medium.laid + 1 < 2 ^ 64 }
-        requires ready { IsSome (actor_step _world.now (name_of Met.Medium) (actor_at self.old.seats.items self.old.medium (name_of Met.Medium)) _now work.now) }
-        ensures { IfOk result (Steps _world.now self.old.seats.items self.old.medium (name_of Met.Medium) _now work.now self.new.seats.items self.new.medium) }
+        requires ready { IsSome (actor_step world.now (name_of Met.Medium) (actor_at self.old.seats.items self.old.medium (name_of Met.Medium)) _now work.now) }
+        ensures { IfOk result (Steps world.now self.old.seats.items self.old.medium (name_of Met.Medium) _now work.now self.new.seats.items self.new.medium) }
     {
         match (&work.event, &work.with) {
             (Event::Put { to }, With::Packet(packet)) => Ok(laid_outcome(self.medium.put(*to, packet)?)),
@@ -133,7 +134,8 @@ impl Actors {
 
 // What is met of each host.
 fn seats_of(alloc: Global, world: &World) -> Result<Vec<Seat>, AllocError>
-    requires { IsWorld world.now }
+    requires world { IsWorld world.now }
+    requires form { IsFirstForm world.now }
     ensures { IfOk result (λ seats. AreOpening world.now (length world.now.hosts) seats.items) }
 {
     let mut seats = Vec::new(alloc);

@@ -39,12 +39,6 @@ use std::alloc::{AllocError, Global};
 /// How many entries a caller may record.
 const MOST_ENTRIES: u32 = 131_072;
 
-/// A script before its first event.
-const AT_START: Standing = Standing {
-    place: Place::Step(0),
-    before: 0,
-};
-
 /// How a run ends.
 #[derive(Clone, Copy, Debug, PartialEq, Eq)]
 pub enum RunEnd {
@@ -203,7 +197,7 @@ impl Runner {
     {
         let actors = Actors::new(alloc, world)?;
         let callers = callers_of(alloc, world.scripts.len())?;
-        let scripts = vec![in alloc; AT_START; world.scripts.len()]?;
+        let scripts = scripts_of(alloc, world.scripts.len())?;
         Ok(Runner {
             alloc,
             history: History::new(alloc),
@@ -564,6 +558,20 @@ fn either(a: bool, b: bool) -> bool
     ensures { result ≡ (a || b) }
 {
     a || b
+}
+
+// So many scripts before their first events.
+fn scripts_of(alloc: Global, count: usize) -> Result<Vec<Standing>, AllocError>
+    ensures { IfOk result (λ scripts. scripts.items ≡ replicate count (record { place = Place.Step 0; before = 0 })) }
+{
+    let mut scripts = Vec::new(alloc);
+    for _ in 0..count {
+        scripts.push(Standing {
+            place: Place::Step(0),
+            before: 0,
+        })?;
+    }
+    Ok(scripts)
 }
 
 // So many scripts and the courier, which owe nothing.

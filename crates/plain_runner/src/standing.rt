@@ -5,7 +5,8 @@ ghost use Rattle.plain_runner.specs.Places as spec;
 ghost use Rattle.plain_runner.specs.Met.{asks};
 
 use crate::actors::Met;
-use net_base::{Event, FileName, Mode, Proto, Reply, Script, Step};
+use ctl_words::read_ctl;
+use net_base::{Ctl, Event, FileName, Mode, Proto, Reply, Script, Step};
 use std::alloc::AllocError;
 
 /// What a script does next.
@@ -103,9 +104,20 @@ fn later(script: &Script, k: u32) -> Result<Option<(Met, Event)>, AllocError>
 }
 
 // What the second step asks for.
-fn grant(_script: &Script) -> Result<Event, AllocError>
-    requires { IsUdpScript _script.now.steps }
-    ensures { (u : IsUdpScript _script.now.steps) → IfOk result (λ e. e ≡ Event.Grant 0 1 u.remote (Some u.port)) }
+fn grant(script: &Script) -> Result<Event, AllocError>
+    requires { IsUdpScript script.now.steps }
+    ensures { (u : IsUdpScript script.now.steps) → IfOk result (λ e. e ≡ Event.Grant 0 1 u.remote (Some u.port)) }
 {
+    if let Some(Step::Write { text, .. }) = script.steps.as_slice().get(1) {
+        if let Ok(Ctl::Connect { remote, lport }) = read_ctl(text.as_slice()) {
+            return Ok(Event::Grant {
+                slot: 0,
+                generation: 1,
+                remote,
+                lport,
+            });
+        }
+    }
+    // the form has no other second step
     Err(AllocError)
 }

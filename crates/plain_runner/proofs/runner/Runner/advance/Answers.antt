@@ -10,4 +10,4 @@ overflow_cast-clock c = omega (arith, c.len-clock.ensures, c.requires.stands.cal
 pub returns : goal.returns
 returns c =
     moved_stands c.args.world.now c.args.self.now _ _ c.requires.form c.requires.stands c.requires.idle c.requires.more c.requires.before
-    (clock_entry c.args.world.now c.args.self.now c.len-clock.result c.len-clock.ensures) c.in_ok-push.ensures.ok refl refl refl refl refl
+    (clock_entry c.args.world.now c.args.self.now c.len-clock.result (omega (arith, c.len-clock.ensures, c.args.self.now.callers.ok.0))) c.in_ok-push.ensures.ok refl refl refl refl refl
