@@ -1,0 +1,13 @@
+use Rattle.std.proofs.Common.{refl}
+use Rattle.plain_runner.proofs.Plays.{played_ok, fits_now}
+use Rattle.plain_runner.proofs.runner.Runner.play.Goals as goal
+
+pub go_on-requires : goal.go_on-requires
+go_on-requires c = record { fits = λ t is. fits_now c.args.world.now c.args.self.now c.args.caller c.args.actor c.args.work c.args.cites c.requires.before t is }
+
+pub returns-clause-stands : goal.returns-clause-stands
+returns-clause-stands c =
+    let s = c.args.self.now in
+    let e = c.entry_of-entry.ensures in
+    played_ok c.args.world.now s _ c.args.caller c.args.actor c.args.work c.args.cites c.in_ok-outcome.outcome c.entry_of-entry.result.0 c.len-stamp.result c.entry_of-entry.result.1 c.index.result.now c.push.result
+    c.requires.world c.requires.form c.requires.before c.in_ok-outcome.ensures e.entry c.len-stamp.ensures e.owed c.go_on.ensures c.index.ensures c.set_caller.ensures refl refl c.push.ensures.ok

@@ -1,0 +1,9 @@
+use Rattle.std.proofs.Common.{◌+◌, sym, subst}
+use Rattle.plain_runner.specs.Rounds.{TurnedAll}
+use Rattle.plain_runner.proofs.Rounding.{turned_more}
+use Rattle.plain_runner.proofs.runner.Runner.round.Goals as goal
+
+pub loop-caller-preserved : goal.loop-caller-preserved
+loop-caller-preserved c =
+    subst (TurnedAll c.args.world.now c.args.self.now c.turn.new.self (c.loop-caller.caller + 1)) (sym c.either-recorded.ensures)
+    (turned_more c.args.world.now c.args.self.now c.loop-caller.self c.turn.new.self c.loop-caller.caller c.loop-caller.recorded c.in_ok-turned.turned c.loop-caller.invariant c.in_ok-turned.ensures)

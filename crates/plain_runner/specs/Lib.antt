@@ -1,0 +1,14 @@
+pub mod Places
+pub mod Phases
+pub mod Good
+pub mod Seats
+pub mod Stands
+pub mod Met
+pub mod Acting
+pub mod Entries
+pub mod Stations
+pub mod Before
+pub mod Turns
+pub mod Rounds
+pub mod Ended
+pub mod Idle

@@ -1,0 +1,61 @@
+-- What a run stands for as far as it has come: its actors, what its callers owe, and where its scripts are, are those of the net
+-- after its history.
+use Rattle.std.specs.Prelude.{◌≡◌, ℕ, zero, suc, ◌+◌, ◌<◌, ◌≤◌, Bool, true, false, List, [], ◌∷◌, length, Option, Some, None, slice_get, is_some, ◌⊎◌}
+use Rattle.std.specs.Option.{option_map_or}
+use Rattle.net_base.specs.declared.actor.ActorName.{ActorName}
+use Rattle.net_base.specs.declared.actor.ActorName.TheVariants as name
+use Rattle.net_base.specs.declared.address.Proto.TheVariants as proto
+use Rattle.net_base.specs.declared.event.Event.{Event}
+use Rattle.net_base.specs.declared.event.Event.TheVariants as event
+use Rattle.net_base.specs.declared.history.Entry.{Entry}
+use Rattle.net_base.specs.declared.history.Outcome.{Outcome}
+use Rattle.net_base.specs.declared.history.Work.{Work}
+use Rattle.net_base.specs.declared.world.MediumSpec.{MediumSpec}
+use Rattle.net_base.specs.declared.world.World.{World}
+use Rattle.net_base.specs.ActorStep.{Step}
+use Rattle.net_base.specs.Actors.{Actor, IsDir, IsConv, IsMedium, opening_actor, actor_step}
+use Rattle.net_base.specs.Callers.{clock_number}
+use Rattle.net_base.specs.Calm.{most_entries}
+use Rattle.net_base.specs.Duties.{Duty}
+use Rattle.net_base.specs.Legal.{IsLegal, IsTimed}
+use Rattle.net_base.specs.Net.{Net, after}
+use Rattle.net_base.specs.Next.{by}
+use Rattle.net_base.specs.Stamped.{same_actor}
+use Rattle.medium.specs.OnMedium.{OnMedium, medium_of}
+use Rattle.plain_runner.specs.Good.{Good}
+use Rattle.plain_runner.specs.Phases.{Phase}
+use Rattle.plain_runner.specs.Places.{finished_at}
+use Rattle.plain_runner.specs.Acting.{AreOf, actor_at}
+use Rattle.plain_runner.specs.Met.{owed_of}
+use Rattle.plain_runner.specs.declared.runner.Caller.{Caller}
+use Rattle.plain_runner.specs.declared.runner.Runner.{Runner}
+use Rattle.plain_runner.specs.declared.standing.Place.TheVariants as place
+use Rattle.plain_runner.specs.declared.standing.Standing.{Standing}
+
+-- The run.
+
+abbrev pub stand_of : List Standing → ℕ → Standing
+stand_of scripts c = option_map_or (λ (s : Standing). s) (slice_get scripts c) (record { place = place.Step 0; before = 0 })
+
+-- a caller's duty and the number of its entries
+pub record IsCaller (h : List Entry) (net : Net) (c : ℕ) (k : Caller) : Type 0 where
+  pub owed : net.owed c ≡ owed_of k.owed
+  pub entries : length (by h c) ≡ k.entries
+  pub few : k.entries ≤ most_entries
+
+pub record Stands (w : World) (r : Runner) : Type 0 where
+  pub phase : ℕ → Phase
+  pub legal : IsLegal w r.history
+  pub timed : IsTimed w r.history
+  pub good : Good w r.history (after w r.history) phase (stand_of r.scripts.items)
+  pub are : AreOf w r.actors.seats.items r.actors.medium
+  pub actors : (a : ActorName) → (after w r.history).actors a ≡ actor_at r.actors.seats.items r.actors.medium a
+  pub callers : (c : ℕ) (k : Caller) → slice_get r.callers.items c ≡ Some k → IsCaller r.history (after w r.history) c k
+  pub caller_count : length r.callers.items ≡ clock_number w
+  pub script_count : length r.scripts.items ≡ length w.scripts
+  pub moment : (after w r.history).moment ≡ r.moment
+  pub in_time : r.moment ≤ w.end
+  pub moves : length (by r.history (clock_number w)) ≡ r.moves
+  pub moved : (r.moves ≡ 0) × (r.moment < w.end) ⊎ ((r.moves ≤ 1) × (r.moment ≡ w.end))
+  pub laid : r.actors.medium.laid ≤ length r.history
+  pub placed : (c : ℕ) → c < length w.scripts → finished_at (stand_of r.scripts.items c).place ≤ length (by r.history c)
