@@ -60,7 +60,9 @@ move_keeps w h net phase stand m form good due = record {
   where
     x : Entry
     x = move_entry w net m
+
     media : length w.media ≡ 1
     media = ap length form.media
+
     hosts : (i : ℕ) → HasPhase net.actors i (phase i) → HasPhase (actors_after net.actors name.Clock IsPlain) i (phase i)
     hosts i old = record { dir = old.dir; dir_is = old.dir_is; dir_in = old.dir_in; conv = old.conv; conv_is = old.conv_is; conv_in = old.conv_in }

@@ -76,6 +76,7 @@ answered_tells w r c s k st is kept = by_owed k.owed (st.callers c k kept).owed
   where
     at : IsAt r.history (after w r.history) st.phase c s (stand_of r.scripts.items c)
     at = st.good.scripts c s is
+
     by_owed : (o : Option Task) → (after w r.history).owed c ≡ owed_of o → told o (stand_of r.scripts.items c) ≡ answered_by w r.history (c, s)
     by_owed None owed = rw owed (sym (finished_is r.history (after w r.history) st.phase c s (stand_of r.scripts.items c) at))
     by_owed (Some d) owed = rw owed (sym at.before)

@@ -63,6 +63,7 @@ copy_owes w phase form s t udp = by_address (has_address w t.to t.packet.dst.ip)
     by_ttl : (b : Bool) → CourierOwes w phase (if b then put_by (way w t.to t.packet.dst.ip) s (record t.packet { ttl = t.packet.ttl - 1 }) else [])
     by_ttl true = Carries (put_way w form t.to s (record t.packet { ttl = t.packet.ttl - 1 }) udp)
     by_ttl false = Carries (NoPut refl)
+
     by_address : (b : Bool) → has_address w t.to t.packet.dst.ip ≡ b → CourierOwes w phase (if b then owes s (name.Dir t.to (proto_of t.packet.body)) event.Arrive (given.Packet t.packet) else forwarded w t.to s t.packet)
     by_address true is = Arrives t.to t.packet s (has_host w t.to t.packet.dst.ip is) udp (rw udp.1 refl)
     by_address false is = by_ttl (nat_lt 1 t.packet.ttl)
@@ -87,7 +88,6 @@ take_duties : (w : World) (net : Net) (x : Entry) (st : Step Actor) (t : Step Me
 take_duties w net x st t copy at st_is taken = (rw (at, st_is, taken) (append-nil _ ∙ append-nil _), rw (at, st_is, taken) refl)
 
 module _ (w : World) (h : List Entry) (net : Net) (phase : ℕ → Phase) (stand : ℕ → Standing) (x : Entry) (st : Step Actor) (b : ByCourier w h net phase stand x st) where
-
   courier_pushed : ((i : ℕ) → i < length w.hosts → HasPhase (actors_after net.actors x.actor st.state) i (phase i))
       → HasDatagrams (actors_after net.actors x.actor st.state (name.Medium 0))
       → CourierOwes w phase ((net_after w net x (Some st)).owed (first_courier w))
@@ -132,6 +132,7 @@ module _ (w : World) (h : List Entry) (net : Net) (phase : ℕ → Phase) (stand
     where
       ask : record { actor = name.Medium 0; event = event.Take } ≡ asked_by x
       ask = same_Some _ _ (subst (λ (ds : List Duty). IsAsked ds (IsCourier 0) (next_of (IsCourier 0) h (first_courier w)) x) owed b.asked)
+
       by_actor : (v : Actor) → net.actors (name.Medium 0) ≡ v → HasDatagrams v → Pushed w h net stand x st
       by_actor (IsMedium m) is all =
           let at : x.actor ≡ name.Medium 0 = sym (ap (λ (a : Ask). a.actor) ask) in
@@ -210,7 +211,7 @@ module _ (w : World) (h : List Entry) (net : Net) (phase : ℕ → Phase) (stand
         phase = phase;
         good = courier_pushed
             (λ i lt. rw v (subst (HasPhase (actors_after net.actors x.actor (IsConv entry.0.state)) i) (phase_same phase j i)
-                (hosts_conv w net phase x.actor j entry.0.state (phase j) b.good.hosts asked.0.actor (λ d is dir. dir) (conv_in_begun (phase j) entry.0.state begun talks.live) i lt)))
+            (hosts_conv w net phase x.actor j entry.0.state (phase j) b.good.hosts asked.0.actor (λ d is dir. dir) (conv_in_begun (phase j) entry.0.state begun talks.live) i lt)))
             (medium_beside_conv net x.actor j st.state asked.0.actor b.good.medium)
             (Carries (NoPut (owes_now (reach_duty j packet n ∷ []) [] owed e)));
         duty = e ∙ sym f;

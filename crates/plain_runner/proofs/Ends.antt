@@ -71,8 +71,10 @@ clock_above w c lt is = by_script (slice_get w.scripts c) (lt-ltb c (clock_numbe
     is_clock : Caller → Bool
     is_clock IsClock = true
     is_clock _ = false
+
     courier_below : nat_lt c (clock_number w) ≡ true → other_caller w c ≡ IsCourier (c - first_courier w)
     courier_below below = rw below refl
+
     by_script : (o : Option Script) → nat_lt c (clock_number w) ≡ true → option_map_or (λ (t : Script). IsScript t) o (other_caller w c) ≡ IsClock → ⊥
     by_script (Some s) below is = false≢true (ap is_clock is)
     by_script None below is = false≢true (ap is_clock (sym (courier_below below) ∙ is))
@@ -87,8 +89,10 @@ idle_calm w net form idle = rw (nothing, pending, waiting) refl
   where
     nothing : nothing_owed w net ≡ true
     nothing = all_range (λ (c : ℕ). not (owes net c)) (caller_count w) 0 (λ c lt. ap not (owes_not net c (idle.owed c (omega (arith, lt)))))
+
     pending : nothing_pending w net ≡ true
     pending = rw form.media (rw idle.quiet refl)
+
     waiting : scripts_wait w net ≡ true
     waiting = all_range (λ (c : ℕ). not (can_go_on w net c)) (length w.scripts) 0 (λ c lt. ap not (idle.waits c (omega (arith, lt))))
 
@@ -107,9 +111,11 @@ idle_not_limited w net form idle moves = none_range (at_limit w net) (caller_cou
     never : (b : Bool) → (b && false) ≡ false
     never true = refl
     never false = refl
+
     goes : (c : ℕ) → (c < clock_number w) ⊎ (c ≡ clock_number w) → can_go_on w net c ≡ false
     goes c (inl lt) = idle.waits c lt
     goes c (inr is) = subst (λ (k : ℕ). can_go_on w net k ≡ false) (sym is) (clock_waits w net form)
+
     at : (c : ℕ) → (c < clock_number w) ⊎ (c ≡ clock_number w) → c < caller_count w → at_limit w net c ≡ false
     at c which lt = rw (no_record w net c (caller_of w c) (owes_not net c (idle.owed c lt)) (goes c which) moves) (never (length (by net.past c) == most_entries))
 

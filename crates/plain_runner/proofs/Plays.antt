@@ -95,26 +95,35 @@ played w now new c a work cites o owed k world form b steps owes goes at callers
   where
     r : Runner
     r = b.run
+
     net : Net
     net = after w r.history
+
     x : Entry
     x = shown_entry (name_of a) c now.moment work.event cites o
+
     st : Step Actor
     st = record { state = actor_at new.actors.seats.items new.actors.medium (name_of a); outcome = o }
+
     steps_of : Steps w r.actors.seats.items r.actors.medium (name_of a) now.moment work new.actors.seats.items new.actors.medium o
     steps_of = subst (λ (s : Actors). Steps w s.seats.items s.medium (name_of a) now.moment work new.actors.seats.items new.actors.medium o) b.actors steps
+
     work_is : work_of net x ≡ work
     work_is = ap (λ (v : With). record { event = work.event; with = v }) (sym b.given)
+
     moment_is : net.moment ≡ now.moment
     moment_is = b.stands.moment ∙ sym b.moment
+
     step_is : step_of w net x ≡ Some st
     step_is =
         ap (λ (v : Work). actor_step w (name_of a) (net.actors (name_of a)) net.moment v) work_is
         ∙ ap (λ (n : ℕ). actor_step w (name_of a) (net.actors (name_of a)) n work) moment_is
         ∙ ap (λ (v : Actor). actor_step w (name_of a) v now.moment work) (b.stands.actors (name_of a))
         ∙ steps_of.step
+
     few : length (by r.history c) < most_entries
     few = omega (arith, (b.stands.callers c b.old b.was).entries, b.few)
+
     rec : Recorded w r.history net x st
     rec = record {
       step = step_is;
@@ -125,12 +134,14 @@ played w now new c a work cites o owed k world form b steps owes goes at callers
       caller = omega (arith, b.caller);
       room = few;
     }
+
     pushed : Pushed w r.history net (stand_of r.scripts.items) x st
     pushed = by_caller (slice_get w.scripts c) refl
       where
         by_caller : (q : Option Script) → slice_get w.scripts c ≡ q → Pushed w r.history net (stand_of r.scripts.items) x st
         by_caller (Some s) is = script_keeps w r.history net b.stands.phase (stand_of r.scripts.items) c s x st form b.stands.good is (script_host w world c s is) refl rec
         by_caller None is = courier_keeps w r.history net b.stands.phase (stand_of r.scripts.items) x st form b.stands.good (courier_number w c form b.caller is) rec
+
     changes : Changes w r new c x st
     changes = record {
       history = history ∙ ap (λ (h : List Entry). h ++ x ∷ []) b.history;

@@ -23,7 +23,6 @@ use Rattle.plain_runner.specs.Places.{position_at, advanced, finished_at, ask_at
 use Rattle.plain_runner.specs.declared.standing.Place.{Place}
 use Rattle.plain_runner.specs.declared.standing.Place.TheVariants as place
 
-
 walked_data : walk data_path ≡ Some (node.File proto.Udp 0 file.Data)
 unfolding digits
 walked_data = refl
@@ -102,6 +101,7 @@ goes_on h steps u p r more a =
   where
     ss : List Step
     ss = opening_steps u.ctl_name u.text u.data_name u.rest
+
     by_place : (p : Place) → Answers p r
         → position_at h (opening_steps u.ctl_name u.text u.data_name u.rest) u.ctl_name u.data_name p (r ∷ more)
         ≡ position_at h (opening_steps u.ctl_name u.text u.data_name u.rest) u.ctl_name u.data_name (advanced p r) more

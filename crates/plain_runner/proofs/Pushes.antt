@@ -98,6 +98,7 @@ hosts_conv w net phase a j c p hosts at dirs conv i lt = rw at (elim (eqb_tells 
     here lt =
         let old = hosts j lt in
         rw (phase_here phase j p) record { dir = old.dir; dir_is = old.dir_is; dir_in = dirs old.dir old.dir_is old.dir_in; conv = c; conv_is = rw (eq-eqb j j refl) refl; conv_in = conv }
+
     there : (j == i) ≡ false → HasPhase (actors_after net.actors (name.Conv j proto.Udp 0) (IsConv c)) i (phase_set phase j p i)
     there apart =
         let old = hosts i lt in
@@ -116,6 +117,7 @@ hosts_dir w net phase a j d p hosts at convs dir i lt = rw at (elim (eqb_tells j
     here lt =
         let old = hosts j lt in
         rw (phase_here phase j p) record { dir = d; dir_is = rw (eq-eqb j j refl) refl; dir_in = dir; conv = old.conv; conv_is = old.conv_is; conv_in = convs old.conv old.conv_is old.conv_in }
+
     there : (j == i) ≡ false → HasPhase (actors_after net.actors (name.Dir j proto.Udp) (IsDir d)) i (phase_set phase j p i)
     there apart =
         let old = hosts i lt in

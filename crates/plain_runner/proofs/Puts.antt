@@ -95,6 +95,7 @@ puts_so spec seed (Some to) p m udp queue held = by_length (nat_lt spec.mtu (dat
   where
     frame : Taken
     frame = record { frame = m.frames + 1; to = to; packet = p }
+
     by_length : (b : Bool) → Lays (if b then medium_leaves reply.TooBig None m else lays (fate_of seed spec (m.frames + 1)) (record { frame = m.frames + 1; to = to; packet = p }) m)
     by_length true = record { queue = queue; held = held; emit = refl; taken = refl }
     by_length false = lays_so (fate_of seed spec (m.frames + 1)) (record { frame = m.frames + 1; to = to; packet = p }) m udp queue held

@@ -78,6 +78,7 @@ head_is o d e is owed = same_head (duty_of d) e (sym (ap owed_of is) ∙ owed)
     head_or : Duty → List Duty → Duty
     head_or other [] = other
     head_or other (x ∷ xs) = x
+
     same_head : (a b : Duty) → a ∷ [] ≡ b ∷ [] → a ≡ b
     same_head a b same = ap (λ (ds : List Duty). head_or a ds) same
 

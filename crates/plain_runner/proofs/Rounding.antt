@@ -39,6 +39,7 @@ turned_more w old now new n false false all turn = (turn.0 ∙ all.0, λ c lt. b
   where
     here : IsThrough w old.history n
     here = subst (λ (r : Runner). IsThrough w r.history n) all.0 turn.1
+
     by_last : (c : ℕ) (e : Bool) → (c == n) ≡ e → c < n + 1 → IsThrough w old.history c
     by_last c true is lt = subst (IsThrough w old.history) (sym (eqb-true c n is)) here
     by_last c false is lt = all.1 c (omega (arith, lt, eqb-false c n is))
@@ -80,16 +81,22 @@ is_idle w r form s none = record { owed = owed; waits = waits; quiet = quiet }
   where
     waits : (c : ℕ) → c < clock_number w → can_go_on w (after w r.history) c ≡ false
     waits c lt = (either_false (owes (after w r.history) c) (can_go_on w (after w r.history) c) (none c lt)).1
+
     owed : (c : ℕ) → c < caller_count w → (after w r.history).owed c ≡ []
     owed c lt = owed_by_last w r s none c (c == clock_number w) refl lt
+
     media : length w.media ≡ 1
     media = ap length form.media
+
     courier : can_go_on w (after w r.history) (first_courier w) ≡ false
     courier = waits (first_courier w) (omega (arith, media))
+
     step_none : is_some (actor_step w (name.Medium 0) (actor_at r.actors.seats.items r.actors.medium (name.Medium 0)) r.moment (record { event = event.Take; with = given.Nothing })) ≡ false
     step_none = sym (goes_on_is w r (first_courier w) met.Medium event.Take s (next_take w form r.history)) ∙ courier
+
     frames : r.actors.medium.frames ≡ []
     frames = no_frames r.actors.medium.frames (medium_of r.actors.medium) (sym (take_is w r s) ∙ step_none)
+
     quiet : is_quiet ((after w r.history).actors (name.Medium 0)) ≡ true
     quiet = rw (s.actors (name.Medium 0)) (rw frames refl)
 

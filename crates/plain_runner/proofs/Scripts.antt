@@ -165,7 +165,6 @@ other_script w h net phase stand x st after d t apart same old =
     }
 
 module _ (w : World) (h : List Entry) (net : Net) (phase : ℕ → Phase) (stand : ℕ → Standing) (c : ℕ) (s : Script) (x : Entry) (st : Step Actor) (b : ByScript w h net phase stand c s x st) where
-
   pub script_pushed : (after : ℕ → Phase)
       → ((i : ℕ) → i < length w.hosts → HasPhase (actors_after net.actors x.actor st.state) i (after i))
       → HasDatagrams (actors_after net.actors x.actor st.state (name.Medium 0))
@@ -280,7 +279,7 @@ module _ (w : World) (h : List Entry) (net : Net) (phase : ℕ → Phase) (stand
   talked t st_is at live begun i lt =
       let v : st.state ≡ IsConv t.state = ap (λ (q : Step Actor). q.state) st_is in
       rw v (subst (HasPhase (actors_after net.actors x.actor (IsConv t.state)) i) (phase_same phase s.host i)
-          (hosts_conv w net phase x.actor s.host t.state (phase s.host) b.good.hosts at (λ d is dir. dir) (conv_in_begun (phase s.host) t.state begun live) i lt))
+      (hosts_conv w net phase x.actor s.host t.state (phase s.host) b.good.hosts at (λ d is dir. dir) (conv_in_begun (phase s.host) t.state begun live) i lt))
 
   talk_pushed : (t : Step Conv) (e : Event) → st ≡ record { state = IsConv t.state; outcome = t.outcome } → x.actor ≡ name.Conv s.host proto.Udp 0 → x.event ≡ e
       → ((n : ℕ) (wi : With) (r : Reply) → follow_up (name.Conv s.host proto.Udp 0) n e wi r ≡ []) → Talks t → HasBegun (phase s.host)
@@ -430,7 +429,7 @@ module _ (w : World) (h : List Entry) (net : Net) (phase : ℕ → Phase) (stand
         phase = phase;
         good = script_pushed phase
             (λ i lt. rw v (subst (HasPhase (actors_after net.actors x.actor (IsDir d)) i) (phase_same phase s.host i)
-                (hosts_dir w net phase x.actor s.host d (phase s.host) b.good.hosts at (λ conv is within. within) (subst (λ (p : Phase). IsDirIn p d) (sym is_phase) dir_in) i lt)))
+            (hosts_dir w net phase x.actor s.host d (phase s.host) b.good.hosts at (λ conv is within. within) (subst (λ (p : Phase). IsDirIn p d) (sym is_phase) dir_in) i lt)))
             (medium_beside_dir net x.actor s.host st.state at b.good.medium)
             (λ i ne. refl)
             (λ i z. z)

@@ -93,8 +93,10 @@ asks_are_met w r c a e world form s lt nothing is = by_script (slice_get w.scrip
   where
     kept : (k : Caller) × (slice_get r.callers.items c ≡ Some k)
     kept = some_caller w r c s lt
+
     none : (after w r.history).owed c ≡ []
     none = owed_is w r c kept.0 s kept.1 ∙ ap owed_of (nothing kept.0 kept.1)
+
     by_script : (o : Option Script) → slice_get w.scripts c ≡ o → IsAskMet w (actor_at r.actors.seats.items r.actors.medium) a e
     by_script (Some t) get =
         let here = s.good.scripts c t get in
@@ -169,6 +171,7 @@ before_owed w r now c k d world form s lt was owed few taken = record {
   where
     owes : (after w r.history).owed c ≡ duty_of d ∷ []
     owes = owed_is w r c k s was ∙ ap owed_of owed
+
     by_script : (o : Option Script) → slice_get w.scripts c ≡ o → IsReady w (after w r.history) d.actor d.event d.with
     by_script (Some t) get =
         let host = script_host w world c t get in
@@ -177,6 +180,7 @@ before_owed w r now c k d world form s lt was owed few taken = record {
     by_script None get =
         courier_ready w form (after w r.history) s.phase (Some d) d s.good.hosts s.good.medium refl
         (subst (CourierOwes w s.phase) owes (subst (λ (n : ℕ). CourierOwes w s.phase ((after w r.history).owed n)) (sym (courier_number w c form lt get)) s.good.courier))
+
     ready : IsReady w (after w r.history) d.actor d.event d.with
     ready = by_script (slice_get w.scripts c) refl
 
