@@ -1,7 +1,7 @@
 -- The actors that are kept step as those of the definitions.
-use Rattle.std.proofs.Common.{◌≡◌, ℕ, zero, suc, ◌+◌, ◌-◌, ◌<◌, ◌≤◌, ◌==◌, ◌&&◌, Bool, true, false, List, [], ◌∷◌, ◌++◌, length, map, get_or, Option, Some, None, Result, Ok, Err, IfOk, IsTrue, IsSome, is_some, slice_get, slice_set, ◌⊎◌, inl, inr, refl, sym, ap, subst, ◌∙◌, arith, rules, tests, nat_lt, if◌then◌else◌, length-append}
+use Rattle.std.proofs.Common.{◌≡◌, ℕ, zero, suc, ◌+◌, ◌<◌, ◌≤◌, Bool, true, false, List, [], ◌∷◌, ◌++◌, length, map, get_or, Option, Some, None, Result, Ok, Err, IfOk, IsTrue, IsSome, is_some, slice_get, slice_set, ◌⊎◌, inl, inr, refl, sym, ap, subst, ◌∙◌, arith, length-append}
 use Rattle.std.specs.Option.{option_map_or}
-use Rattle.std.proofs.lemmas.Bool.{true≢false, false≢true, lt-ltb, eq-eqb, ne_eqb, eqb-false}
+use Rattle.std.proofs.lemmas.Bool.{true≢false, false≢true, lt-ltb, eq-eqb}
 use Rattle.std.proofs.lemmas.Bool.Decides.{eqb_tells}
 use Rattle.std.proofs.lemmas.Option.{none-some, same_Some, slice_get_within, slice_get_read}
 use Rattle.std.proofs.lemmas.List.{length-set}
@@ -25,7 +25,7 @@ use Rattle.net_base.specs.Stamped.{same_actor}
 use Rattle.medium.specs.OnMedium.{OnMedium, medium_of, taken_of}
 use Rattle.plain_runner.specs.declared.actors.Met.{Met}
 use Rattle.plain_runner.specs.declared.actors.Met.TheVariants as met
-use Rattle.plain_runner.specs.Acting.{AreOf, AreOpening, Steps, IsMet, IsSure, actor_at, conv_at, dir_at}
+use Rattle.plain_runner.specs.Acting.{AreOf, AreOpening, Steps, IsMet, IsSure, actor_at}
 use Rattle.plain_runner.specs.Met.{name_of}
 use Rattle.plain_runner.specs.Seats.{SeatView, IsSeatOf, dir_of, conv_of, DirSteps, ConvSteps}
 use Rattle.plain_runner.proofs.Records.{get_set, get_set_other}
@@ -62,8 +62,10 @@ conv_acts w seats m h s t now work o are is of step same = record {
   where
     lt : h < length seats
     lt = slice_get_within seats h s is
+
     in_world : h < length w.hosts
     in_world = omega (arith, lt, are.count)
+
     others : (b : ActorName) → same_actor (name.Conv h proto.Udp 0) b ≡ false → actor_at (slice_set seats h t) m b ≡ actor_at seats m b
     others (name.Dir i proto.Udp) apart = at_set (λ (v : SeatView). IsDir (dir_of v)) seats h i s t (opening_actor (name.Dir i proto.Udp)) is (ap (λ (d : Dir). IsDir d) same)
     others (name.Dir i proto.Il) apart = refl
@@ -87,8 +89,10 @@ dir_acts w seats m h s t now work o are is of step same = record {
   where
     lt : h < length seats
     lt = slice_get_within seats h s is
+
     in_world : h < length w.hosts
     in_world = omega (arith, lt, are.count)
+
     others : (b : ActorName) → same_actor (name.Dir h proto.Udp) b ≡ false → actor_at (slice_set seats h t) m b ≡ actor_at seats m b
     others (name.Conv i proto.Udp zero) apart = at_set (λ (v : SeatView). IsConv (conv_of v)) seats h i s t (opening_actor (name.Conv i proto.Udp 0)) is (ap (λ (c : Conv). IsConv c) same)
     others (name.Conv i proto.Udp (suc n)) apart = refl
@@ -225,9 +229,11 @@ opening_actors w seats m spec seed all is = at
     dir_so : (i : ℕ) (o : Option SeatView) → slice_get seats i ≡ o → option_map_or (λ (s : SeatView). IsDir (dir_of s)) o (opening_actor (name.Dir i proto.Udp)) ≡ opening_actor (name.Dir i proto.Udp)
     dir_so i (Some s) get = ap (λ (d : Dir). IsDir d) (all.seat i s get).1
     dir_so i None get = refl
+
     conv_so : (i : ℕ) (o : Option SeatView) → slice_get seats i ≡ o → option_map_or (λ (s : SeatView). IsConv (conv_of s)) o (opening_actor (name.Conv i proto.Udp 0)) ≡ opening_actor (name.Conv i proto.Udp 0)
     conv_so i (Some s) get = ap (λ (c : Conv). IsConv c) (all.seat i s get).2
     conv_so i None get = refl
+
     at : (b : ActorName) → actor_at seats m b ≡ opening_actor b
     at (name.Conv i proto.Udp zero) = conv_so i (slice_get seats i) refl
     at (name.Conv i proto.Udp (suc n)) = refl

@@ -1,9 +1,8 @@
 -- Each entry of the courier of a world of the first form keeps what holds of it.
-use Rattle.std.proofs.Common.{◌≡◌, ℕ, zero, suc, ◌+◌, ◌-◌, ◌<◌, ◌==◌, ◌&&◌, Bool, true, false, List, [], ◌∷◌, ◌++◌, length, drop, Option, Some, None, slice_get, ◌⊎◌, inl, inr, refl, sym, ap, subst, ◌∙◌, arith, rules, tests, if◌then◌else◌, append-nil, nat_lt}
+use Rattle.std.proofs.Common.{◌≡◌, ℕ, ◌-◌, ◌<◌, Bool, true, false, List, [], ◌∷◌, ◌++◌, length, drop, Option, Some, None, slice_get, refl, sym, ap, subst, ◌∙◌, arith, if◌then◌else◌, append-nil, nat_lt}
 use Rattle.std.specs.Option.{option_map_or}
-use Rattle.std.proofs.lemmas.Bool.{true≢false, false≢true, ne_eqb}
+use Rattle.std.proofs.lemmas.Bool.{false≢true, ne_eqb}
 use Rattle.std.proofs.lemmas.Option.{none-some, same_Some, slice_get_within}
-use Rattle.net_base.specs.declared.actor.ActorName.{ActorName}
 use Rattle.net_base.specs.declared.actor.ActorName.TheVariants as name
 use Rattle.net_base.specs.declared.address.Proto.TheVariants as proto
 use Rattle.net_base.specs.declared.event.Event.{Event}
@@ -13,30 +12,28 @@ use Rattle.net_base.specs.declared.history.Taken.{Taken}
 use Rattle.net_base.specs.declared.history.With.{With}
 use Rattle.net_base.specs.declared.history.With.TheVariants as given
 use Rattle.net_base.specs.declared.packet.Packet.{Packet}
-use Rattle.net_base.specs.declared.reply.Reply.{Reply}
-use Rattle.net_base.specs.declared.reply.Reply.TheVariants as reply
 use Rattle.net_base.specs.declared.world.HostSpec.{HostSpec}
 use Rattle.net_base.specs.declared.world.World.{World}
-use Rattle.net_base.specs.ActorStep.{Step, replies}
+use Rattle.net_base.specs.ActorStep.{Step}
 use Rattle.net_base.specs.Actors.{Actor, IsDir, IsConv, IsMedium, IsPlain}
 use Rattle.net_base.specs.Callers.{IsCourier, first_courier, clock_number}
 use Rattle.net_base.specs.Conversation.{Conv, conv_step}
 use Rattle.net_base.specs.Directory.{Dir, dir_step}
-use Rattle.net_base.specs.Duties.{Duty, duties, courier_duty, forwarded, follow_up, emitted_put, owes, proto_of, put_by}
+use Rattle.net_base.specs.Duties.{Duty, duties, courier_duty, forwarded, owes, proto_of, put_by}
 use Rattle.net_base.specs.Legal.{IsAsked, asked_by, cites_of}
-use Rattle.net_base.specs.Medium.{Medium, medium_step, takes, medium_leaves}
+use Rattle.net_base.specs.Medium.{Medium, medium_step, takes}
 use Rattle.net_base.specs.Net.{Net, actors_after, work_of, with_of, step_of, net_after}
 use Rattle.net_base.specs.Next.{next_of}
 use Rattle.net_base.specs.Routes.{has_address, has_ip, way}
 use Rattle.net_base.specs.Steps.{Ask}
 use Rattle.net_base.specs.WorldForm.{IsFirstForm}
 use Rattle.plain_runner.specs.declared.standing.Standing.{Standing}
-use Rattle.plain_runner.specs.Good.{Good, IsUdp, AllUdp, CourierOwes, Carries, Arrives, Reaches, PutOrNot, NoPut, Puts, HasDatagrams, arrive_duty, reach_duty, put_duty, stands_after, one_duty}
-use Rattle.plain_runner.specs.Phases.{Phase, HasPhase, HasBegun, IsDirIn, IsConvIn, IsLive}
+use Rattle.plain_runner.specs.Good.{Good, IsUdp, AllUdp, CourierOwes, Carries, Arrives, Reaches, NoPut, Puts, HasDatagrams, arrive_duty, reach_duty, put_duty, stands_after, one_duty}
+use Rattle.plain_runner.specs.Phases.{Phase, HasPhase, HasBegun, IsDirIn}
 use Rattle.plain_runner.proofs.Moves.{ArriveGives, Drops, Passes, arrive_gives, arrive_at_gives, Talks, the_step}
 use Rattle.plain_runner.proofs.Pushes.{conv_entry, dir_entry, phase_same, hosts_conv, hosts_dir, hosts_medium, medium_beside_conv, medium_beside_dir}
 use Rattle.plain_runner.proofs.Puts.{put_way, put_entry, medium_entry, medium_set}
-use Rattle.plain_runner.proofs.Scripts.{Pushed, IsDone, conv_in_begun, live_begun, other_script, owed_here, owed_there, one_conv}
+use Rattle.plain_runner.proofs.Scripts.{Pushed, IsDone, conv_in_begun, live_begun, other_script, owed_here, owed_there}
 
 -- An entry of the courier, with its step.
 
@@ -63,6 +60,7 @@ copy_owes w phase form s t udp = by_address (has_address w t.to t.packet.dst.ip)
     by_ttl : (b : Bool) → CourierOwes w phase (if b then put_by (way w t.to t.packet.dst.ip) s (record t.packet { ttl = t.packet.ttl - 1 }) else [])
     by_ttl true = Carries (put_way w form t.to s (record t.packet { ttl = t.packet.ttl - 1 }) udp)
     by_ttl false = Carries (NoPut refl)
+
     by_address : (b : Bool) → has_address w t.to t.packet.dst.ip ≡ b → CourierOwes w phase (if b then owes s (name.Dir t.to (proto_of t.packet.body)) event.Arrive (given.Packet t.packet) else forwarded w t.to s t.packet)
     by_address true is = Arrives t.to t.packet s (has_host w t.to t.packet.dst.ip is) udp (rw udp.1 refl)
     by_address false is = by_ttl (nat_lt 1 t.packet.ttl)
@@ -87,7 +85,6 @@ take_duties : (w : World) (net : Net) (x : Entry) (st : Step Actor) (t : Step Me
 take_duties w net x st t copy at st_is taken = (rw (at, st_is, taken) (append-nil _ ∙ append-nil _), rw (at, st_is, taken) refl)
 
 module _ (w : World) (h : List Entry) (net : Net) (phase : ℕ → Phase) (stand : ℕ → Standing) (x : Entry) (st : Step Actor) (b : ByCourier w h net phase stand x st) where
-
   courier_pushed : ((i : ℕ) → i < length w.hosts → HasPhase (actors_after net.actors x.actor st.state) i (phase i))
       → HasDatagrams (actors_after net.actors x.actor st.state (name.Medium 0))
       → CourierOwes w phase ((net_after w net x (Some st)).owed (first_courier w))
@@ -132,6 +129,7 @@ module _ (w : World) (h : List Entry) (net : Net) (phase : ℕ → Phase) (stand
     where
       ask : record { actor = name.Medium 0; event = event.Take } ≡ asked_by x
       ask = same_Some _ _ (subst (λ (ds : List Duty). IsAsked ds (IsCourier 0) (next_of (IsCourier 0) h (first_courier w)) x) owed b.asked)
+
       by_actor : (v : Actor) → net.actors (name.Medium 0) ≡ v → HasDatagrams v → Pushed w h net stand x st
       by_actor (IsMedium m) is all =
           let at : x.actor ≡ name.Medium 0 = sym (ap (λ (a : Ask). a.actor) ask) in
@@ -210,7 +208,7 @@ module _ (w : World) (h : List Entry) (net : Net) (phase : ℕ → Phase) (stand
         phase = phase;
         good = courier_pushed
             (λ i lt. rw v (subst (HasPhase (actors_after net.actors x.actor (IsConv entry.0.state)) i) (phase_same phase j i)
-                (hosts_conv w net phase x.actor j entry.0.state (phase j) b.good.hosts asked.0.actor (λ d is dir. dir) (conv_in_begun (phase j) entry.0.state begun talks.live) i lt)))
+            (hosts_conv w net phase x.actor j entry.0.state (phase j) b.good.hosts asked.0.actor (λ d is dir. dir) (conv_in_begun (phase j) entry.0.state begun talks.live) i lt)))
             (medium_beside_conv net x.actor j st.state asked.0.actor b.good.medium)
             (Carries (NoPut (owes_now (reach_duty j packet n ∷ []) [] owed e)));
         duty = e ∙ sym f;

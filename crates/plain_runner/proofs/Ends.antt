@@ -1,24 +1,19 @@
 -- When the clock moves and how a run ends, in a world of the first form.
-use Rattle.std.proofs.Common.{◌≡◌, ℕ, zero, suc, ◌+◌, ◌-◌, ◌<◌, ◌≤◌, ◌==◌, ◌&&◌, ◌||◌, Bool, true, false, not, List, [], ◌∷◌, ◌++◌, length, min, drop, Option, Some, None, is_some, slice_get, filter_map, ◌⊎◌, inl, inr, refl, sym, ap, subst, ◌∙◌, arith, rules, tests, if◌then◌else◌, nat_lt}
-use Rattle.std.specs.List.{list_any, list_all, range_with_len, enumerate_from, flat_map}
-use Rattle.std.specs.Option.{option_map, option_map_or}
-use Rattle.std.proofs.lemmas.Bool.{true≢false, false≢true, eq-eqb, ne_eqb, lt-ltb, eqb-true, eqb-false}
-use Rattle.std.proofs.lemmas.Option.{none-some, same_Some, slice_get_within, slice_get_past, slice_get_cases}
+use Rattle.std.proofs.Common.{◌≡◌, ℕ, zero, suc, ◌+◌, ◌-◌, ◌<◌, ◌≤◌, ◌==◌, ◌&&◌, ◌||◌, Bool, true, false, not, List, [], ◌∷◌, length, Option, Some, None, slice_get, filter_map, ◌⊎◌, inl, inr, refl, sym, ap, subst, ◌∙◌, arith, rules, tests, nat_lt}
+use Rattle.std.specs.List.{list_any, list_all, range_with_len, flat_map}
+use Rattle.std.specs.Option.{option_map_or}
+use Rattle.std.proofs.lemmas.Bool.{true≢false, false≢true, eq-eqb, lt-ltb, eqb-true, eqb-false}
+use Rattle.std.proofs.lemmas.Option.{slice_get_past}
 use Rattle.net_base.specs.declared.actor.ActorName.{ActorName}
-use Rattle.net_base.specs.declared.actor.ActorName.TheVariants as name
-use Rattle.net_base.specs.declared.history.Entry.{Entry}
 use Rattle.net_base.specs.declared.world.Script.{Script}
 use Rattle.net_base.specs.declared.world.World.{World}
-use Rattle.net_base.specs.Actors.{Actor}
 use Rattle.net_base.specs.Callers.{Caller, IsScript, IsCourier, IsClock, IsNobody, caller_of, other_caller, caller_count, first_courier, clock_number}
-use Rattle.net_base.specs.Calm.{owes, can_go_on, callers, nothing_owed, is_quiet, nothing_pending, scripts_wait, calm, unfinished, movable, awaited_moment, least, target, most_entries, could_record, at_limit, limited, done, stopped}
-use Rattle.net_base.specs.Duties.{due_of, conversations, tick_at, has_come}
+use Rattle.net_base.specs.Calm.{owes, can_go_on, callers, nothing_owed, nothing_pending, scripts_wait, calm, unfinished, movable, awaited_moment, target, most_entries, could_record, at_limit, limited, done, stopped}
+use Rattle.net_base.specs.Duties.{due_of, conversations}
 use Rattle.net_base.specs.Net.{Net}
-use Rattle.net_base.specs.Next.{by, next_of, is_unfinished}
-use Rattle.net_base.specs.Steps.{Ask}
+use Rattle.net_base.specs.Next.{by, next_of}
 use Rattle.net_base.specs.WorldForm.{IsFirstForm}
 use Rattle.plain_runner.specs.Idle.{IsIdle}
-use Rattle.plain_runner.proofs.Follows.{script_is, courier_is}
 
 -- Ranges.
 
@@ -71,8 +66,10 @@ clock_above w c lt is = by_script (slice_get w.scripts c) (lt-ltb c (clock_numbe
     is_clock : Caller → Bool
     is_clock IsClock = true
     is_clock _ = false
+
     courier_below : nat_lt c (clock_number w) ≡ true → other_caller w c ≡ IsCourier (c - first_courier w)
     courier_below below = rw below refl
+
     by_script : (o : Option Script) → nat_lt c (clock_number w) ≡ true → option_map_or (λ (t : Script). IsScript t) o (other_caller w c) ≡ IsClock → ⊥
     by_script (Some s) below is = false≢true (ap is_clock is)
     by_script None below is = false≢true (ap is_clock (sym (courier_below below) ∙ is))
@@ -87,8 +84,10 @@ idle_calm w net form idle = rw (nothing, pending, waiting) refl
   where
     nothing : nothing_owed w net ≡ true
     nothing = all_range (λ (c : ℕ). not (owes net c)) (caller_count w) 0 (λ c lt. ap not (owes_not net c (idle.owed c (omega (arith, lt)))))
+
     pending : nothing_pending w net ≡ true
     pending = rw form.media (rw idle.quiet refl)
+
     waiting : scripts_wait w net ≡ true
     waiting = all_range (λ (c : ℕ). not (can_go_on w net c)) (length w.scripts) 0 (λ c lt. ap not (idle.waits c (omega (arith, lt))))
 
@@ -107,9 +106,11 @@ idle_not_limited w net form idle moves = none_range (at_limit w net) (caller_cou
     never : (b : Bool) → (b && false) ≡ false
     never true = refl
     never false = refl
+
     goes : (c : ℕ) → (c < clock_number w) ⊎ (c ≡ clock_number w) → can_go_on w net c ≡ false
     goes c (inl lt) = idle.waits c lt
     goes c (inr is) = subst (λ (k : ℕ). can_go_on w net k ≡ false) (sym is) (clock_waits w net form)
+
     at : (c : ℕ) → (c < clock_number w) ⊎ (c ≡ clock_number w) → c < caller_count w → at_limit w net c ≡ false
     at c which lt = rw (no_record w net c (caller_of w c) (owes_not net c (idle.owed c lt)) (goes c which) moves) (never (length (by net.past c) == most_entries))
 

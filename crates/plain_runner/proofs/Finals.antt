@@ -1,8 +1,8 @@
 -- A run before anything is recorded, and after the move of the clock.
-use Rattle.std.proofs.Common.{◌≡◌, ℕ, zero, suc, ◌+◌, ◌-◌, ◌<◌, ◌≤◌, ◌==◌, ◌&&◌, Bool, true, false, List, [], ◌∷◌, ◌++◌, length, replicate, Option, Some, None, is_none, slice_get, ◌⊎◌, inl, inr, refl, sym, ap, subst, ◌∙◌, arith, rules, tests, nat_lt, nat_le, length-append, if◌then◌else◌}
+use Rattle.std.proofs.Common.{◌≡◌, ℕ, zero, suc, ◌+◌, ◌-◌, ◌<◌, ◌≤◌, ◌==◌, Bool, true, false, List, [], ◌∷◌, ◌++◌, length, replicate, Option, Some, None, slice_get, ◌⊎◌, inl, inr, refl, sym, ap, subst, ◌∙◌, arith, nat_lt, nat_le, length-append, if◌then◌else◌}
 use Rattle.std.specs.Option.{option_map_or}
-use Rattle.std.proofs.lemmas.Bool.{true≢false, false≢true, eq-eqb, ne_eqb, and_parts, leb-true}
-use Rattle.std.proofs.lemmas.Option.{none-some, same_Some, slice_get_within, slice_get_past}
+use Rattle.std.proofs.lemmas.Bool.{ne_eqb, and_parts, leb-true}
+use Rattle.std.proofs.lemmas.Option.{none-some, same_Some, slice_get_within}
 use Rattle.std.proofs.lemmas.List.{length-replicate}
 use Rattle.net_base.specs.declared.actor.ActorName.{ActorName}
 use Rattle.net_base.specs.declared.actor.ActorName.TheVariants as name
@@ -15,16 +15,15 @@ use Rattle.net_base.specs.declared.world.Script.{Script}
 use Rattle.net_base.specs.declared.world.Step.{Step as ScriptStep}
 use Rattle.net_base.specs.declared.world.Step.TheVariants as step
 use Rattle.net_base.specs.declared.world.World.{World}
-use Rattle.net_base.specs.ActorStep.{Step}
-use Rattle.net_base.specs.Actors.{Actor, IsPlain, IsConv, opening_actor, plain_step}
-use Rattle.net_base.specs.Callers.{Caller as AnyCaller, IsScript, IsCourier, IsClock, IsNobody, caller_of, other_caller, caller_count, clock_number, first_courier}
-use Rattle.net_base.specs.Calm.{unfinished, awaited_moment, most_entries}
-use Rattle.net_base.specs.Conversation.{Conv, Udp}
+use Rattle.net_base.specs.Actors.{IsConv, opening_actor, plain_step}
+use Rattle.net_base.specs.Callers.{Caller as AnyCaller, IsScript, IsCourier, IsClock, IsNobody, caller_of, other_caller, clock_number, first_courier}
+use Rattle.net_base.specs.Calm.{unfinished, awaited_moment}
+use Rattle.net_base.specs.Conversation.{Conv}
 use Rattle.net_base.specs.Duties.{Duty, due_of}
 use Rattle.net_base.specs.Legal.{IsLegal, IsTimed, IsAsked, cites_of}
-use Rattle.net_base.specs.Net.{Net, after, net_after, opening_net}
+use Rattle.net_base.specs.Net.{Net, after, net_after}
 use Rattle.net_base.specs.Next.{by, next, next_of}
-use Rattle.net_base.specs.World.{IsWorld, is_moment}
+use Rattle.net_base.specs.World.{IsWorld}
 use Rattle.net_base.specs.WorldForm.{IsFirstForm}
 use Rattle.net_model.proofs.Histories.{after_push, legal_push}
 use Rattle.plain_runner.specs.declared.runner.Caller.{Caller}
@@ -34,9 +33,9 @@ use Rattle.plain_runner.specs.declared.standing.Place.TheVariants as place
 use Rattle.plain_runner.specs.declared.standing.Standing.{Standing}
 use Rattle.plain_runner.specs.Acting.{AreOf, actor_at}
 use Rattle.plain_runner.specs.Good.{Good, stands_after}
-use Rattle.plain_runner.specs.Phases.{Phase, Fresh, Reserved, Begun, Granted, HasPhase, IsConvIn}
-use Rattle.plain_runner.specs.Places.{ask_at, transfer_ask, finished_at}
-use Rattle.plain_runner.specs.Seats.{SeatView, conv_of}
+use Rattle.plain_runner.specs.Phases.{Phase, Fresh, Reserved, Begun, Granted, IsConvIn}
+use Rattle.plain_runner.specs.Places.{ask_at, transfer_ask}
+use Rattle.plain_runner.specs.Seats.{SeatView}
 use Rattle.plain_runner.specs.Stands.{Stands, IsCaller, stand_of}
 use Rattle.plain_runner.proofs.Clock.{move_entry, move_step, move_keeps}
 use Rattle.plain_runner.specs.Idle.{IsIdle}
@@ -84,6 +83,7 @@ opening_stands w r world form history moment moves are actors laid callers scrip
   where
     stands : (c : ℕ) → stand_of r.scripts.items c ≡ record { place = place.Step 0; before = 0 }
     stands c = ap (λ (ss : List Standing). stand_of ss c) scripts ∙ stand_replicate (length w.scripts) c
+
     positive : 0 < w.end
     positive = omega (arith, leb-true 1 w.end (and_parts (nat_le 1 w.end) (nat_le w.end 1000000000) world.end).0)
 
@@ -103,6 +103,7 @@ nothing_due w r s a = at a
         let host = s.good.hosts i (omega (arith, slice_get_within r.actors.seats.items i v get, s.are.count)) in
         rw host.conv_is (conv_due (s.phase i) host.conv host.conv_in)
     conv_so i None get = rw (s.actors (name.Conv i proto.Udp 0), get) refl
+
     at : (a : ActorName) → due_of ((after w r.history).actors a) ≡ None
     at (name.Conv i proto.Udp zero) = conv_so i (slice_get r.actors.seats.items i) refl
     at (name.Conv i proto.Udp (suc n)) = rw (s.actors (name.Conv i proto.Udp (suc n))) refl
@@ -138,6 +139,7 @@ nothing_awaited w r s c = ap (λ (h : List Entry). awaited_moment (next_of (call
     other_so true b = refl
     other_so false true = refl
     other_so false false = refl
+
     by_script : (o : Option Script) → slice_get w.scripts c ≡ o → awaited_moment (next_of (caller_of w c) r.history c) ≡ None
     by_script (Some t) get =
         let here = s.good.scripts c t get in
@@ -174,19 +176,24 @@ moved_stands w r new x form s idle more before is history moment moves actors ca
   where
     net : Net
     net = after w r.history
+
     m : Entry
     m = move_entry w net w.end
+
     same : x ≡ m
     same = is ∙ ap (λ (n : ℕ). record { actor = name.Clock; caller = n; moment = r.moment; event = event.Move w.end; cites = None; reply = reply.Ok; emits = None; ended = false }) s.caller_count
         ∙ ap (λ (n : ℕ). record { actor = name.Clock; caller = clock_number w; moment = n; event = event.Move w.end; cites = None; reply = reply.Ok; emits = None; ended = false }) (sym s.moment)
+
     pushed : new.history ≡ r.history ++ m ∷ []
     pushed = history ∙ ap (λ (y : Entry). r.history ++ y ∷ []) same
+
     none_yet : r.moves ≡ 0
     none_yet = by_moved s.moved
       where
         by_moved : (r.moves ≡ 0) × (r.moment < w.end) ⊎ (r.moves ≤ 1) × (r.moment ≡ w.end) → r.moves ≡ 0
         by_moved (inl yet) = yet.0
         by_moved (inr ended) = absurd (omega (arith, before, ended.1))
+
     rec : Recorded w r.history net m (plain_step reply.Ok)
     rec = record {
       step = move_step w net w.end (s.actors name.Clock);
@@ -198,16 +205,20 @@ moved_stands w r new x form s idle more before is history moment moves actors ca
       caller = omega arith;
       room = omega (arith, s.moves, none_yet);
     }
+
     net_is : after w new.history ≡ net_after w net m (Some (plain_step reply.Ok))
     net_is = ap (after w) pushed ∙ after_push w r.history m ∙ ap (net_after w net m) rec.step
+
     stands : (c : ℕ) → c < length w.scripts → stand_of new.scripts.items c ≡ stands_after (stand_of r.scripts.items) m c
     stands c lt = ap (λ ss. stand_of ss.items c) scripts ∙ sym (rw (ne_eqb (clock_number w) c (λ e. absurd (omega (arith, lt, e)))) refl)
+
     actor_is : (a : ActorName) → (net_after w net m (Some (plain_step reply.Ok))).actors a ≡ actor_at new.actors.seats.items new.actors.medium a
     actor_is name.Clock = refl
     actor_is (name.Desk i) = s.actors (name.Desk i)
     actor_is (name.Dir i p) = s.actors (name.Dir i p) ∙ ap (λ v. actor_at v.seats.items v.medium (name.Dir i p)) (sym actors)
     actor_is (name.Conv i p n) = s.actors (name.Conv i p n) ∙ ap (λ v. actor_at v.seats.items v.medium (name.Conv i p n)) (sym actors)
     actor_is (name.Medium k) = s.actors (name.Medium k) ∙ ap (λ v. actor_at v.seats.items v.medium (name.Medium k)) (sym actors)
+
     caller_is : (c : ℕ) (k : Caller) → slice_get r.callers.items c ≡ Some k → IsCaller new.history (after w new.history) c k
     caller_is c k at =
         let was = s.callers c k at in

@@ -1,18 +1,15 @@
 -- What the actors of a host do in each phase.
-use Rattle.std.proofs.Common.{◌≡◌, ℕ, zero, suc, ◌+◌, ◌<◌, ◌≤◌, ◌==◌, ◌&&◌, Bool, true, false, List, [], ◌∷◌, length, min, Option, Some, None, ◌⊎◌, inl, inr, refl, sym, ap, subst, ◌∙◌, ◌-◌, arith, rules, tests, if◌then◌else◌, nat_lt, nat_le}
-use Rattle.std.proofs.lemmas.Bool.{true≢false, false≢true}
+use Rattle.std.proofs.Common.{◌≡◌, ℕ, suc, ◌+◌, ◌≤◌, ◌==◌, ◌&&◌, Bool, true, false, List, [], ◌∷◌, length, min, Option, Some, None, refl, sym, ap, subst, ◌∙◌, ◌-◌, arith, rules, tests, if◌then◌else◌, nat_lt, nat_le}
 use Rattle.std.proofs.lemmas.Option.{none-some, same_Some}
 use Rattle.net_base.specs.declared.address.Addr.{Addr}
 use Rattle.net_base.specs.declared.address.Pair.{Pair}
 use Rattle.net_base.specs.declared.address.Proto.TheVariants as proto
 use Rattle.net_base.specs.declared.event.Event.TheVariants as event
-use Rattle.net_base.specs.declared.history.Outcome.{Outcome}
 use Rattle.net_base.specs.declared.history.With.{With}
 use Rattle.net_base.specs.declared.history.With.TheVariants as given
 use Rattle.net_base.specs.declared.il.Cause.TheVariants as cause
 use Rattle.net_base.specs.declared.names.FileName.{FileName}
 use Rattle.net_base.specs.declared.names.Mode.{Mode}
-use Rattle.net_base.specs.declared.packet.Body.{Body}
 use Rattle.net_base.specs.declared.packet.Body.TheVariants as body
 use Rattle.net_base.specs.declared.packet.Packet.{Packet}
 use Rattle.net_base.specs.declared.reply.Reply.{Reply}
@@ -20,12 +17,12 @@ use Rattle.net_base.specs.declared.reply.Reply.TheVariants as reply
 use Rattle.net_base.specs.declared.world.World.{World}
 use Rattle.net_base.specs.ActorStep.{Step, replies, when}
 use Rattle.net_base.specs.Conversation.{Conv, Core, Udp, Stage, Unused, Listening, Connected, conv_step, leaves, answers, begun, is_over, is_closed_name, core_name, read_at, udp_read, write_at, joined, hungup_or_ok, core_cause, packet_of, udp_written, full_or_took}
-use Rattle.net_base.specs.Directory.{Dir, Slot, dir_step, grants_by, grants_pair, pair_place, pair_of, reserves, first_slot, is_free, arrives_at, is_live_with}
+use Rattle.net_base.specs.Directory.{Dir, dir_step, grants_by, grants_pair, pair_place, pair_of}
 use Rattle.net_base.specs.Routes.{Way, way}
 use Rattle.net_base.specs.Same.{same_addr, same_pair}
 use Rattle.net_base.specs.Steps.{is_accepted}
 use Rattle.net_base.specs.UdpEnd.{UdpEnd, fresh_udp, is_hung_up, udp_state_name, datagram_comes, takes_datagram}
-use Rattle.plain_runner.specs.Phases.{Phase, Fresh, Reserved, Begun, Granted, IsDirIn, IsConvIn, IsUnused, IsLive, HasBegun, free_slots, reserved_slot, granted_slot}
+use Rattle.plain_runner.specs.Phases.{Phase, Fresh, Reserved, Begun, Granted, IsDirIn, IsUnused, IsLive, HasBegun, free_slots, reserved_slot, granted_slot}
 
 -- The directory.
 
@@ -46,9 +43,11 @@ grant_gives_by (Some out) w h remote port d is = by_same (same_addr (record { ip
   where
     pair : Pair
     pair = record { local = record { ip = out.source; port = port }; remote = remote }
+
     by_place : (o : Option ℕ) → GrantGives d (grants_pair o w h proto.Udp 0 reserved_slot pair out.mtu d)
     by_place (Some k) = Refuses (reply.PairUsed k) refl
     by_place None = Grants pair 0 (min 8192 (out.mtu - 28)) _ (omega arith) (rw is refl)
+
     by_same : (b : Bool) → same_addr (record { ip = out.source; port = port }) remote ≡ b → GrantGives d (grants_by (Some out) (Some port) w h proto.Udp 0 reserved_slot remote d)
     by_same true same = rw same (Refuses reply.SelfPair refl)
     by_same false same = rw same (by_place (pair_place pair 1 d.pairs))
@@ -135,6 +134,7 @@ connect_gives pair start limit now c l few = (joined c.stage (Udp l.end) now pai
   where
     few_is : nat_le limit 8192 ≡ true
     few_is = search (rules, tests)
+
     by_stage : (st : Stage) → Talks (joined st (Udp l.end) now pair start limit c) × ((joined st (Udp l.end) now pair start limit c).outcome.emit ≡ None)
     by_stage Unused = (talks c _ reply.Ok None l (record { generation = l.generation; more = l.more; opens = l.opens; end = _; core = refl }), refl)
     by_stage Listening = (stays c reply.Ok l, refl)
@@ -174,9 +174,11 @@ read_gives count now g c s l is =
     by_hung : (b : Bool) → (if b then Some (answers c (reply.Hungup cause.Hungup)) else None) ≡ Some s → Talks s × (s.outcome.emit ≡ None)
     by_hung true is = subst (λ (t : Step Conv). Talks t × (t.outcome.emit ≡ None)) (same_Some _ s is) (stays c _ l, refl)
     by_hung false is = absurd (none-some s is)
+
     by_unread : (texts : List (List ℕ)) → udp_read texts count l.end c ≡ Some s → Talks s × (s.outcome.emit ≡ None)
     by_unread [] is = by_hung (is_hung_up l.end.state) is
     by_unread (t ∷ ts) is = subst (λ (t : Step Conv). Talks t × (t.outcome.emit ≡ None)) (same_Some _ s is) (talks c _ _ None l (record { generation = l.generation; more = l.more; opens = l.opens; end = _; core = refl }), refl)
+
     by_stage : (st : Stage) → read_at st (Udp l.end) count c ≡ Some s → Talks s × (s.outcome.emit ≡ None)
     by_stage Connected is = by_unread l.end.unread is
     by_stage Unused is = subst (λ (t : Step Conv). Talks t × (t.outcome.emit ≡ None)) (same_Some _ s is) (stays c _ l, refl)
@@ -191,15 +193,19 @@ write_gives text now g c s l is =
   where
     quiet : (answer : Reply) → Some (answers c answer) ≡ Some s → Talks s × Emits s.outcome.emit
     quiet answer is = subst (λ (t : Step Conv). Talks t × Emits t.outcome.emit) (same_Some _ s is) (stays c answer l, Nothing)
+
     by_state : (b : Bool) → Some (if b then answers c (reply.Hungup cause.Hungup) else leaves c (reply.Count (length text)) c (Some (packet_of c (body.Udp text)))) ≡ Some s → Talks s × Emits s.outcome.emit
     by_state true is = quiet _ is
     by_state false is = subst (λ (t : Step Conv). Talks t × Emits t.outcome.emit) (same_Some _ s is) (talks c c _ _ l l, Datagram _ text refl)
+
     by_limit : (b : Bool) → (if b then Some (answers c (reply.TooLong (length text) c.limit)) else Some (udp_written text l.end c)) ≡ Some s → Talks s × Emits s.outcome.emit
     by_limit true is = quiet _ is
     by_limit false is = by_state (is_closed_name (udp_state_name l.end.state)) is
+
     by_length : (b : Bool) → (if b then Some (answers c reply.ZeroWrite) else (if nat_lt c.limit (length text) then Some (answers c (reply.TooLong (length text) c.limit)) else Some (udp_written text l.end c))) ≡ Some s → Talks s × Emits s.outcome.emit
     by_length true is = quiet _ is
     by_length false is = by_limit (nat_lt c.limit (length text)) is
+
     by_stage : (st : Stage) → write_at st (Udp l.end) now text c ≡ Some s → Talks s × Emits s.outcome.emit
     by_stage Connected is = by_length (length text == 0) is
     by_stage Unused is = quiet _ is
@@ -207,6 +213,9 @@ write_gives text now g c s l is =
 
 pub arrive_at_gives : (packet : Packet) (text : List ℕ) (now : ℕ) (c : Conv) → IsLive c → packet.body ≡ body.Udp text
     → (s : Step Conv) × (conv_step 0 (event.ArriveAt 1) (given.Packet packet) now c ≡ Some s) × Talks s × (s.outcome.emit ≡ None)
-arrive_at_gives packet text now c l udp =
-    (leaves c (full_or_took (takes_datagram l.end.state (length l.end.unread))) (record c { core = Udp (datagram_comes text l.end) }) None, rw (l.core, l.generation, udp) refl,
-    talks c _ _ None l (record { generation = l.generation; more = l.more; opens = l.opens; end = _; core = refl }), refl)
+arrive_at_gives packet text now c l udp = (
+  leaves c (full_or_took (takes_datagram l.end.state (length l.end.unread))) (record c { core = Udp (datagram_comes text l.end) }) None,
+  rw (l.core, l.generation, udp) refl,
+  talks c _ _ None l (record { generation = l.generation; more = l.more; opens = l.opens; end = _; core = refl }),
+  refl,
+)

@@ -1,9 +1,8 @@
 -- An entry that is played keeps what a run stands for.
-use Rattle.std.proofs.Common.{◌≡◌, ℕ, zero, suc, ◌+◌, ◌-◌, ◌<◌, ◌≤◌, ◌==◌, ◌&&◌, Bool, true, false, List, [], ◌∷◌, ◌++◌, length, Option, Some, None, is_none, Result, Ok, Err, OnOk, slice_get, slice_set, get_or, ◌⊎◌, inl, inr, refl, sym, ap, subst, ◌∙◌, arith, rules, tests, if◌then◌else◌}
+use Rattle.std.proofs.Common.{◌≡◌, ℕ, zero, suc, ◌+◌, ◌<◌, ◌≤◌, ◌==◌, ◌&&◌, List, [], ◌∷◌, ◌++◌, length, Option, Some, None, is_none, Result, Ok, Err, OnOk, slice_get, slice_set, get_or, ◌⊎◌, inl, inr, refl, sym, ap, subst, ◌∙◌, arith, if◌then◌else◌}
 use Rattle.std.proofs.lemmas.Option.{none-some, same_Some, slice_get_within, slice_get_cases, slice_get_read}
 use Rattle.std.proofs.lemmas.List.{length-set}
 use Rattle.std.specs.declared.alloc.AllocError.{AllocError}
-use Rattle.net_base.specs.declared.actor.ActorName.{ActorName}
 use Rattle.net_base.specs.declared.event.Event.{Event}
 use Rattle.net_base.specs.declared.event.Event.TheVariants as event
 use Rattle.net_base.specs.declared.history.Entry.{Entry}
@@ -17,7 +16,7 @@ use Rattle.net_base.specs.Actors.{Actor, actor_step}
 use Rattle.net_base.specs.Callers.{clock_number, first_courier}
 use Rattle.net_base.specs.Calm.{most_entries}
 use Rattle.net_base.specs.Legal.{IsInTime}
-use Rattle.net_base.specs.Net.{Net, after, moment_after, step_of, work_of, with_of}
+use Rattle.net_base.specs.Net.{Net, after, moment_after, step_of, work_of}
 use Rattle.net_base.specs.Next.{by}
 use Rattle.net_base.specs.World.{IsWorld}
 use Rattle.net_base.specs.WorldForm.{IsFirstForm}
@@ -27,16 +26,16 @@ use Rattle.plain_runner.specs.declared.duty.Duty.{Duty as Task}
 use Rattle.plain_runner.specs.declared.runner.Caller.{Caller}
 use Rattle.plain_runner.specs.declared.runner.Runner.{Runner}
 use Rattle.plain_runner.specs.declared.standing.Standing.{Standing}
-use Rattle.plain_runner.specs.Acting.{AreOf, Steps, actor_at}
+use Rattle.plain_runner.specs.Acting.{Steps, actor_at}
 use Rattle.plain_runner.specs.Before.{Before, Goes}
 use Rattle.plain_runner.specs.Entries.{shown_entry, goes_to}
-use Rattle.plain_runner.specs.Good.{stands_after, one_duty}
+use Rattle.plain_runner.specs.Good.{one_duty}
 use Rattle.plain_runner.specs.Met.{name_of, owed_of}
 use Rattle.plain_runner.specs.Places.{finished_at}
 use Rattle.plain_runner.specs.Stands.{Stands, stand_of}
 use Rattle.plain_runner.proofs.Follows.{Recorded, script_keeps, courier_keeps}
 use Rattle.plain_runner.proofs.Opening.{script_host}
-use Rattle.plain_runner.proofs.Records.{Changes, IsQuiet, get_set, stands_on}
+use Rattle.plain_runner.proofs.Records.{Changes, get_set, stands_on}
 use Rattle.plain_runner.proofs.Scripts.{Pushed}
 
 -- Lists.
@@ -95,26 +94,35 @@ played w now new c a work cites o owed k world form b steps owes goes at callers
   where
     r : Runner
     r = b.run
+
     net : Net
     net = after w r.history
+
     x : Entry
     x = shown_entry (name_of a) c now.moment work.event cites o
+
     st : Step Actor
     st = record { state = actor_at new.actors.seats.items new.actors.medium (name_of a); outcome = o }
+
     steps_of : Steps w r.actors.seats.items r.actors.medium (name_of a) now.moment work new.actors.seats.items new.actors.medium o
     steps_of = subst (λ (s : Actors). Steps w s.seats.items s.medium (name_of a) now.moment work new.actors.seats.items new.actors.medium o) b.actors steps
+
     work_is : work_of net x ≡ work
     work_is = ap (λ (v : With). record { event = work.event; with = v }) (sym b.given)
+
     moment_is : net.moment ≡ now.moment
     moment_is = b.stands.moment ∙ sym b.moment
+
     step_is : step_of w net x ≡ Some st
     step_is =
         ap (λ (v : Work). actor_step w (name_of a) (net.actors (name_of a)) net.moment v) work_is
         ∙ ap (λ (n : ℕ). actor_step w (name_of a) (net.actors (name_of a)) n work) moment_is
         ∙ ap (λ (v : Actor). actor_step w (name_of a) v now.moment work) (b.stands.actors (name_of a))
         ∙ steps_of.step
+
     few : length (by r.history c) < most_entries
     few = omega (arith, (b.stands.callers c b.old b.was).entries, b.few)
+
     rec : Recorded w r.history net x st
     rec = record {
       step = step_is;
@@ -125,12 +133,14 @@ played w now new c a work cites o owed k world form b steps owes goes at callers
       caller = omega (arith, b.caller);
       room = few;
     }
+
     pushed : Pushed w r.history net (stand_of r.scripts.items) x st
     pushed = by_caller (slice_get w.scripts c) refl
       where
         by_caller : (q : Option Script) → slice_get w.scripts c ≡ q → Pushed w r.history net (stand_of r.scripts.items) x st
         by_caller (Some s) is = script_keeps w r.history net b.stands.phase (stand_of r.scripts.items) c s x st form b.stands.good is (script_host w world c s is) refl rec
         by_caller None is = courier_keeps w r.history net b.stands.phase (stand_of r.scripts.items) x st form b.stands.good (courier_number w c form b.caller is) rec
+
     changes : Changes w r new c x st
     changes = record {
       history = history ∙ ap (λ (h : List Entry). h ++ x ∷ []) b.history;

@@ -1,6 +1,6 @@
 -- A run with one entry more stands for the net after its longer history.
-use Rattle.std.proofs.Common.{◌≡◌, ℕ, zero, suc, ◌+◌, ◌-◌, ◌<◌, ◌≤◌, ◌==◌, ◌&&◌, Bool, true, false, List, [], ◌∷◌, ◌++◌, length, take, drop, filter, Option, Some, None, is_none, slice_get, slice_set, ◌⊎◌, inl, inr, refl, sym, ap, subst, ◌∙◌, arith, rules, tests, if◌then◌else◌, append_assoc, append-nil, length-append}
-use Rattle.std.proofs.lemmas.Bool.{true≢false, false≢true, eq-eqb, ne_eqb}
+use Rattle.std.proofs.Common.{◌≡◌, ℕ, zero, suc, ◌+◌, ◌<◌, ◌≤◌, ◌==◌, ◌&&◌, Bool, true, false, List, [], ◌∷◌, ◌++◌, length, take, drop, Option, Some, None, is_none, slice_get, slice_set, ◌⊎◌, inl, inr, refl, sym, ap, subst, ◌∙◌, arith, if◌then◌else◌, append-nil, length-append}
+use Rattle.std.proofs.lemmas.Bool.{eq-eqb, ne_eqb}
 use Rattle.std.proofs.lemmas.Bool.Decides.{eqb_tells}
 use Rattle.std.proofs.lemmas.Option.{none-some, same_Some, slice_get_within}
 use Rattle.std.proofs.lemmas.List.{take-append-le, take_at, length-set}
@@ -15,7 +15,7 @@ use Rattle.net_base.specs.Callers.{clock_number}
 use Rattle.net_base.specs.Calm.{most_entries}
 use Rattle.net_base.specs.Duties.{duties}
 use Rattle.net_base.specs.Legal.{IsLegal, IsTimed, IsInTime}
-use Rattle.net_base.specs.Net.{Net, after, opening_net, net_after, net_of, next_net, moment_after, step_of, work_of, with_of}
+use Rattle.net_base.specs.Net.{Net, after, opening_net, net_after, moment_after, work_of, with_of}
 use Rattle.net_base.specs.Next.{by}
 use Rattle.net_base.specs.Stamped.{same_actor}
 use Rattle.net_model.proofs.Owed.{past_after}
@@ -32,7 +32,7 @@ use Rattle.plain_runner.specs.declared.standing.Place.{Place}
 use Rattle.plain_runner.specs.declared.standing.Place.TheVariants as place
 use Rattle.net_base.specs.declared.reply.Reply.{Reply}
 use Rattle.net_base.specs.declared.reply.Reply.TheVariants as reply
-use Rattle.plain_runner.specs.Acting.{AreOf, Steps, actor_at}
+use Rattle.plain_runner.specs.Acting.{Steps, actor_at}
 use Rattle.plain_runner.specs.Met.{owed_of}
 use Rattle.plain_runner.specs.Stands.{Stands, IsCaller, stand_of}
 use Rattle.plain_runner.proofs.Follows.{Recorded, follows_so}
@@ -152,9 +152,11 @@ stands_on w r new c x st s lt caller quiet in_time rec pushed ch = record {
   where
     net_is : after w new.history ≡ net_after w (after w r.history) x (Some st)
     net_is = ap (after w) ch.history ∙ after_push w r.history x ∙ ap (net_after w (after w r.history) x) rec.step
+
     actor_is : (a : ActorName) (b : Bool) → same_actor x.actor a ≡ b → (net_after w (after w r.history) x (Some st)).actors a ≡ actor_at new.actors.seats.items new.actors.medium a
     actor_is a true is = rw is (ch.state ∙ ap (actor_at new.actors.seats.items new.actors.medium) (same_actor_is x.actor a is))
     actor_is a false is = rw is (s.actors a ∙ sym (ch.steps.others a is))
+
     placed_is : (d : ℕ) → d < length w.scripts → ((c == d) ≡ true) × (c ≡ d) ⊎ ((c == d) ≡ false) × (c ≡ d → ⊥) → finished_at (stand_of new.scripts.items d).place ≤ length (by new.history d)
     placed_is d below (inl same) =
         let more = finished_more (stand_of r.scripts.items) x d in
@@ -162,8 +164,10 @@ stands_on w r new c x st s lt caller quiet in_time rec pushed ch = record {
     placed_is d below (inr apart) =
         let still : stands_after (stand_of r.scripts.items) x d ≡ stand_of r.scripts.items d = rw (ne_eqb x.caller d (λ e. apart.1 (sym caller ∙ e))) refl in
         rw (ch.scripts d below, still) (omega (arith, s.placed d below, ap (λ (h : List Entry). length (by h d)) ch.history, ap length (by_other r.history x d (λ e. apart.1 (sym caller ∙ e)))))
+
     duties_are : duties w (after w r.history).actors x.actor (length (after w r.history).past) (work_of (after w r.history) x) st ≡ owed_of ch.owed
     duties_are = pushed.duty ∙ ap (λ (h : List Entry). one_duty w x.actor (length h) x.event (with_of ((after w r.history).owed x.caller)) st.outcome) (past_is w r.history) ∙ sym ch.owes
+
     mine : IsCaller new.history (after w new.history) c (record { owed = ch.owed; entries = ch.old.entries + 1 })
     mine =
         let was = s.callers c ch.old ch.was in
@@ -173,6 +177,7 @@ stands_on w r new c x st s lt caller quiet in_time rec pushed ch = record {
           entries = ap (λ (h : List Entry). length (by h c)) ch.history ∙ by_own r.history x c caller ∙ ap (λ (n : ℕ). n + 1) was.entries;
           few = omega (arith, was.entries, count);
         }
+
     caller_is : (d : ℕ) (k : Caller) → slice_get (slice_set r.callers.items c (record { owed = ch.owed; entries = ch.old.entries + 1 })) d ≡ Some k
         → ((c == d) ≡ true) × (c ≡ d) ⊎ ((c == d) ≡ false) × (c ≡ d → ⊥) → IsCaller new.history (after w new.history) d k
     caller_is d k is (inl same) =

@@ -74,7 +74,13 @@ impl Actors {
     }
 
     /// The step of the actor for a work that is ready.
-    pub fn step(&mut self, world: &World, now: u64, actor: Met, work: &Work) -> Result<Outcome, AllocError>
+    pub fn step(
+        &mut self,
+        world: &World,
+        now: u64,
+        actor: Met,
+        work: &Work,
+    ) -> Result<Outcome, AllocError>
         requires are { AreOf world.now self.old.seats.items self.old.medium }
         requires met { IsMet world.now actor work.now }
         requires now { now < 2 ^ 63 }
@@ -89,7 +95,14 @@ impl Actors {
         }
     }
 
-    fn step_dir(&mut self, world: &World, _now: u64, host: u32, _proto: Proto, work: &Work) -> Result<Outcome, AllocError>
+    fn step_dir(
+        &mut self,
+        world: &World,
+        _now: u64,
+        host: u32,
+        _proto: Proto,
+        work: &Work,
+    ) -> Result<Outcome, AllocError>
         requires are { AreOf world.now self.old.seats.items self.old.medium }
         requires met { IsMet world.now (Met.Dir host _proto) work.now }
         requires ready { IsSome (actor_step world.now (name_of (Met.Dir host _proto)) (actor_at self.old.seats.items self.old.medium (name_of (Met.Dir host _proto))) _now work.now) }
@@ -98,7 +111,14 @@ impl Actors {
         self.seats[host as usize].dir_step(world, host, work)
     }
 
-    fn step_conv(&mut self, world: &World, now: u64, host: u32, _slot: u32, work: &Work) -> Result<Outcome, AllocError>
+    fn step_conv(
+        &mut self,
+        world: &World,
+        now: u64,
+        host: u32,
+        _slot: u32,
+        work: &Work,
+    ) -> Result<Outcome, AllocError>
         requires are { AreOf world.now self.old.seats.items self.old.medium }
         requires met { IsMet world.now (Met.Conv host _slot) work.now }
         requires now { now < 2 ^ 63 }
@@ -117,7 +137,9 @@ impl Actors {
         ensures { IfOk result (Steps world.now self.old.seats.items self.old.medium (name_of Met.Medium) _now work.now self.new.seats.items self.new.medium) }
     {
         match (&work.event, &work.with) {
-            (Event::Put { to }, With::Packet(packet)) => Ok(laid_outcome(self.medium.put(*to, packet)?)),
+            (Event::Put { to }, With::Packet(packet)) => Ok(laid_outcome(
+                self.medium.put(*to, packet)?,
+            )),
             _ => {
                 let taken = self.medium.take()?;
                 Ok(Outcome {

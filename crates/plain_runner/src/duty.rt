@@ -69,7 +69,9 @@ fn follows(host: u32, cites: u64, event: &Event, with: With, reply: &Reply) -> O
         }),
         Reply::Granted { pair, start, limit } => match event {
             Event::Grant {
-                slot, generation, ..
+                slot,
+                generation,
+                ..
             } => Some(Duty {
                 actor: Met::Conv(host, *slot),
                 event: Event::Connect {
@@ -218,5 +220,8 @@ fn place_of(hosts: &[HostSpec], ip: u32) -> Option<usize>
 fn stands_at(host: &HostSpec, ip: u32) -> bool
     ensures { result ≡ routes.stands_at 0 ip host.now }
 {
-    host.ifaces.as_slice().iter().any(|iface| iface.medium == 0 && iface.ip == ip)
+    host.ifaces
+        .as_slice()
+        .iter()
+        .any(|iface| iface.medium == 0 && iface.ip == ip)
 }

@@ -33,7 +33,9 @@ ghost use Rattle.plain_runner.specs.Places.{finished_at};
 use crate::actors::{Actors, Met};
 use crate::duty::{Duty, owed_by};
 use crate::standing::{Place, Standing};
-use net_base::{ActorName, Entry, Event, Header, History, Outcome, Packet, Reply, With, Work, World};
+use net_base::{
+    ActorName, Entry, Event, Header, History, Outcome, Packet, Reply, With, Work, World,
+};
 use std::alloc::{AllocError, Global};
 
 /// How many entries a caller may record.
@@ -76,7 +78,6 @@ pub struct Runner {
     /// How many entries the clock recorded.
     pub moves: u32,
 }
-
 
 /// The entry of a step, and what it owes.
 fn entry_of(

@@ -51,7 +51,12 @@ impl Seat {
     }
 
     /// The answer of the directory, which has one.
-    pub fn dir_step(&mut self, _world: &World, _host: u32, work: &Work) -> Result<Outcome, AllocError>
+    pub fn dir_step(
+        &mut self,
+        _world: &World,
+        _host: u32,
+        work: &Work,
+    ) -> Result<Outcome, AllocError>
         requires of { IsSeatOf _world.now _host self.old }
         requires met { IsDirMet work.now.event work.now.with }
         requires ready { IsSome (dir_step _world.now _host proto.Udp work.now.event work.now.with (dir_of self.old)) }
@@ -61,7 +66,13 @@ impl Seat {
     }
 
     /// The answer of the conversation, which has one.
-    pub fn conv_step(&mut self, _world: &World, _host: u32, now: u64, work: &Work) -> Result<Outcome, AllocError>
+    pub fn conv_step(
+        &mut self,
+        _world: &World,
+        _host: u32,
+        now: u64,
+        work: &Work,
+    ) -> Result<Outcome, AllocError>
         requires of { IsSeatOf _world.now _host self.old }
         requires now { now < 2 ^ 63 }
         requires ready { IsSome (conv_step 0 work.now.event work.now.with now (conv_of self.old)) }
