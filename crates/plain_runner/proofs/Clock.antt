@@ -1,24 +1,21 @@
 -- The move of the clock in a world of the first form.
-use Rattle.std.proofs.Common.{◌≡◌, ℕ, zero, suc, ◌+◌, ◌-◌, ◌<◌, ◌≤◌, ◌==◌, ◌&&◌, Bool, true, false, List, [], ◌∷◌, ◌++◌, length, drop, Option, Some, None, slice_get, refl, sym, ap, subst, ◌∙◌, arith, rules, tests, if◌then◌else◌, append-nil}
+use Rattle.std.proofs.Common.{◌≡◌, ℕ, false, List, [], ◌∷◌, ◌++◌, length, Some, None, refl, ap, arith}
 use Rattle.std.specs.List.{flat_map}
 use Rattle.std.proofs.lemmas.Bool.{eq-eqb, ne_eqb}
-use Rattle.std.proofs.lemmas.Option.{none-some, same_Some, slice_get_within}
+use Rattle.std.proofs.lemmas.Option.{slice_get_within}
 use Rattle.net_base.specs.declared.actor.ActorName.{ActorName}
 use Rattle.net_base.specs.declared.actor.ActorName.TheVariants as name
 use Rattle.net_base.specs.declared.event.Event.TheVariants as event
 use Rattle.net_base.specs.declared.history.Entry.{Entry}
-use Rattle.net_base.specs.declared.history.With.TheVariants as given
 use Rattle.net_base.specs.declared.reply.Reply.TheVariants as reply
-use Rattle.net_base.specs.declared.world.Script.{Script}
 use Rattle.net_base.specs.declared.world.World.{World}
-use Rattle.net_base.specs.ActorStep.{Step, replies}
-use Rattle.net_base.specs.Actors.{Actor, IsPlain, plain_step}
+use Rattle.net_base.specs.Actors.{IsPlain, plain_step}
 use Rattle.net_base.specs.Callers.{first_courier, clock_number}
-use Rattle.net_base.specs.Duties.{Duty, duties, due_of, conversations, tick_at, has_come}
-use Rattle.net_base.specs.Net.{Net, actors_after, net_after, step_of, work_of, with_of}
+use Rattle.net_base.specs.Duties.{duties, due_of, conversations, tick_at}
+use Rattle.net_base.specs.Net.{Net, actors_after, net_after, step_of, work_of}
 use Rattle.net_base.specs.WorldForm.{IsFirstForm}
 use Rattle.plain_runner.specs.declared.standing.Standing.{Standing}
-use Rattle.plain_runner.specs.Good.{Good, HasDatagrams, CourierOwes, stands_after}
+use Rattle.plain_runner.specs.Good.{Good, stands_after}
 use Rattle.plain_runner.specs.Phases.{Phase, HasPhase}
 use Rattle.plain_runner.proofs.Ends.{no_lists}
 use Rattle.plain_runner.proofs.Scripts.{other_script, owed_there}

@@ -1,19 +1,16 @@
 -- How far the scripts are, counted over all of them.
-use Rattle.std.proofs.Common.{◌≡◌, ℕ, zero, suc, ◌+◌, ◌-◌, ◌*◌, ◌<◌, ◌≤◌, ◌==◌, ◌||◌, Bool, true, false, List, [], ◌∷◌, ◌++◌, length, drop, take, get_or, Option, Some, None, slice_get, sum_by, refl, sym, ap, subst, ◌∙◌, arith, rules, tests, nat_lt, append-nil, length-drop, if◌then◌else◌}
+use Rattle.std.proofs.Common.{◌≡◌, ℕ, zero, suc, ◌+◌, ◌-◌, ◌<◌, ◌≤◌, ◌||◌, List, [], ◌∷◌, length, drop, Option, Some, None, slice_get, sum_by, refl, sym, ap, subst, ◌∙◌, arith, rules, tests, nat_lt, append-nil, length-drop}
 use Rattle.std.specs.List.{list_any, enumerate_from}
-use Rattle.std.proofs.lemmas.Bool.{true≢false, false≢true, lt-ltb}
-use Rattle.std.proofs.lemmas.Option.{none-some, same_Some, slice_get_within, slice_get_read}
+use Rattle.std.proofs.lemmas.Option.{none-some, same_Some}
 use Rattle.std.proofs.lemmas.List.Sums.{sum_by-cons}
 use Rattle.net_base.specs.declared.history.Entry.{Entry}
 use Rattle.net_base.specs.declared.reply.Reply.{Reply}
 use Rattle.net_base.specs.declared.world.Script.{Script}
 use Rattle.net_base.specs.declared.world.World.{World}
-use Rattle.net_base.specs.Calm.{owes, unfinished}
-use Rattle.net_base.specs.Duties.{Duty}
 use Rattle.net_base.specs.Net.{Net, after}
-use Rattle.net_base.specs.Next.{own_replies, finished_by, standing, is_unfinished, answered}
+use Rattle.net_base.specs.Next.{own_replies, standing, is_unfinished}
 use Rattle.net_base.specs.Steps.{Position, position}
-use Rattle.net_base.specs.Summary.{answered_by, answered_steps}
+use Rattle.net_base.specs.Summary.{answered_by}
 use Rattle.plain_runner.specs.declared.duty.Duty.{Duty as Task}
 use Rattle.plain_runner.specs.declared.runner.Caller.{Caller}
 use Rattle.plain_runner.specs.declared.runner.Runner.{Runner}

@@ -1,9 +1,8 @@
 -- Each entry of the courier of a world of the first form keeps what holds of it.
-use Rattle.std.proofs.Common.{◌≡◌, ℕ, zero, suc, ◌+◌, ◌-◌, ◌<◌, ◌==◌, ◌&&◌, Bool, true, false, List, [], ◌∷◌, ◌++◌, length, drop, Option, Some, None, slice_get, ◌⊎◌, inl, inr, refl, sym, ap, subst, ◌∙◌, arith, rules, tests, if◌then◌else◌, append-nil, nat_lt}
+use Rattle.std.proofs.Common.{◌≡◌, ℕ, ◌-◌, ◌<◌, Bool, true, false, List, [], ◌∷◌, ◌++◌, length, drop, Option, Some, None, slice_get, refl, sym, ap, subst, ◌∙◌, arith, if◌then◌else◌, append-nil, nat_lt}
 use Rattle.std.specs.Option.{option_map_or}
-use Rattle.std.proofs.lemmas.Bool.{true≢false, false≢true, ne_eqb}
+use Rattle.std.proofs.lemmas.Bool.{false≢true, ne_eqb}
 use Rattle.std.proofs.lemmas.Option.{none-some, same_Some, slice_get_within}
-use Rattle.net_base.specs.declared.actor.ActorName.{ActorName}
 use Rattle.net_base.specs.declared.actor.ActorName.TheVariants as name
 use Rattle.net_base.specs.declared.address.Proto.TheVariants as proto
 use Rattle.net_base.specs.declared.event.Event.{Event}
@@ -13,30 +12,28 @@ use Rattle.net_base.specs.declared.history.Taken.{Taken}
 use Rattle.net_base.specs.declared.history.With.{With}
 use Rattle.net_base.specs.declared.history.With.TheVariants as given
 use Rattle.net_base.specs.declared.packet.Packet.{Packet}
-use Rattle.net_base.specs.declared.reply.Reply.{Reply}
-use Rattle.net_base.specs.declared.reply.Reply.TheVariants as reply
 use Rattle.net_base.specs.declared.world.HostSpec.{HostSpec}
 use Rattle.net_base.specs.declared.world.World.{World}
-use Rattle.net_base.specs.ActorStep.{Step, replies}
+use Rattle.net_base.specs.ActorStep.{Step}
 use Rattle.net_base.specs.Actors.{Actor, IsDir, IsConv, IsMedium, IsPlain}
 use Rattle.net_base.specs.Callers.{IsCourier, first_courier, clock_number}
 use Rattle.net_base.specs.Conversation.{Conv, conv_step}
 use Rattle.net_base.specs.Directory.{Dir, dir_step}
-use Rattle.net_base.specs.Duties.{Duty, duties, courier_duty, forwarded, follow_up, emitted_put, owes, proto_of, put_by}
+use Rattle.net_base.specs.Duties.{Duty, duties, courier_duty, forwarded, owes, proto_of, put_by}
 use Rattle.net_base.specs.Legal.{IsAsked, asked_by, cites_of}
-use Rattle.net_base.specs.Medium.{Medium, medium_step, takes, medium_leaves}
+use Rattle.net_base.specs.Medium.{Medium, medium_step, takes}
 use Rattle.net_base.specs.Net.{Net, actors_after, work_of, with_of, step_of, net_after}
 use Rattle.net_base.specs.Next.{next_of}
 use Rattle.net_base.specs.Routes.{has_address, has_ip, way}
 use Rattle.net_base.specs.Steps.{Ask}
 use Rattle.net_base.specs.WorldForm.{IsFirstForm}
 use Rattle.plain_runner.specs.declared.standing.Standing.{Standing}
-use Rattle.plain_runner.specs.Good.{Good, IsUdp, AllUdp, CourierOwes, Carries, Arrives, Reaches, PutOrNot, NoPut, Puts, HasDatagrams, arrive_duty, reach_duty, put_duty, stands_after, one_duty}
-use Rattle.plain_runner.specs.Phases.{Phase, HasPhase, HasBegun, IsDirIn, IsConvIn, IsLive}
+use Rattle.plain_runner.specs.Good.{Good, IsUdp, AllUdp, CourierOwes, Carries, Arrives, Reaches, NoPut, Puts, HasDatagrams, arrive_duty, reach_duty, put_duty, stands_after, one_duty}
+use Rattle.plain_runner.specs.Phases.{Phase, HasPhase, HasBegun, IsDirIn}
 use Rattle.plain_runner.proofs.Moves.{ArriveGives, Drops, Passes, arrive_gives, arrive_at_gives, Talks, the_step}
 use Rattle.plain_runner.proofs.Pushes.{conv_entry, dir_entry, phase_same, hosts_conv, hosts_dir, hosts_medium, medium_beside_conv, medium_beside_dir}
 use Rattle.plain_runner.proofs.Puts.{put_way, put_entry, medium_entry, medium_set}
-use Rattle.plain_runner.proofs.Scripts.{Pushed, IsDone, conv_in_begun, live_begun, other_script, owed_here, owed_there, one_conv}
+use Rattle.plain_runner.proofs.Scripts.{Pushed, IsDone, conv_in_begun, live_begun, other_script, owed_here, owed_there}
 
 -- An entry of the courier, with its step.
 

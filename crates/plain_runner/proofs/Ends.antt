@@ -1,24 +1,19 @@
 -- When the clock moves and how a run ends, in a world of the first form.
-use Rattle.std.proofs.Common.{◌≡◌, ℕ, zero, suc, ◌+◌, ◌-◌, ◌<◌, ◌≤◌, ◌==◌, ◌&&◌, ◌||◌, Bool, true, false, not, List, [], ◌∷◌, ◌++◌, length, min, drop, Option, Some, None, is_some, slice_get, filter_map, ◌⊎◌, inl, inr, refl, sym, ap, subst, ◌∙◌, arith, rules, tests, if◌then◌else◌, nat_lt}
-use Rattle.std.specs.List.{list_any, list_all, range_with_len, enumerate_from, flat_map}
-use Rattle.std.specs.Option.{option_map, option_map_or}
-use Rattle.std.proofs.lemmas.Bool.{true≢false, false≢true, eq-eqb, ne_eqb, lt-ltb, eqb-true, eqb-false}
-use Rattle.std.proofs.lemmas.Option.{none-some, same_Some, slice_get_within, slice_get_past, slice_get_cases}
+use Rattle.std.proofs.Common.{◌≡◌, ℕ, zero, suc, ◌+◌, ◌-◌, ◌<◌, ◌≤◌, ◌==◌, ◌&&◌, ◌||◌, Bool, true, false, not, List, [], ◌∷◌, length, Option, Some, None, slice_get, filter_map, ◌⊎◌, inl, inr, refl, sym, ap, subst, ◌∙◌, arith, rules, tests, nat_lt}
+use Rattle.std.specs.List.{list_any, list_all, range_with_len, flat_map}
+use Rattle.std.specs.Option.{option_map_or}
+use Rattle.std.proofs.lemmas.Bool.{true≢false, false≢true, eq-eqb, lt-ltb, eqb-true, eqb-false}
+use Rattle.std.proofs.lemmas.Option.{slice_get_past}
 use Rattle.net_base.specs.declared.actor.ActorName.{ActorName}
-use Rattle.net_base.specs.declared.actor.ActorName.TheVariants as name
-use Rattle.net_base.specs.declared.history.Entry.{Entry}
 use Rattle.net_base.specs.declared.world.Script.{Script}
 use Rattle.net_base.specs.declared.world.World.{World}
-use Rattle.net_base.specs.Actors.{Actor}
 use Rattle.net_base.specs.Callers.{Caller, IsScript, IsCourier, IsClock, IsNobody, caller_of, other_caller, caller_count, first_courier, clock_number}
-use Rattle.net_base.specs.Calm.{owes, can_go_on, callers, nothing_owed, is_quiet, nothing_pending, scripts_wait, calm, unfinished, movable, awaited_moment, least, target, most_entries, could_record, at_limit, limited, done, stopped}
-use Rattle.net_base.specs.Duties.{due_of, conversations, tick_at, has_come}
+use Rattle.net_base.specs.Calm.{owes, can_go_on, callers, nothing_owed, nothing_pending, scripts_wait, calm, unfinished, movable, awaited_moment, target, most_entries, could_record, at_limit, limited, done, stopped}
+use Rattle.net_base.specs.Duties.{due_of, conversations}
 use Rattle.net_base.specs.Net.{Net}
-use Rattle.net_base.specs.Next.{by, next_of, is_unfinished}
-use Rattle.net_base.specs.Steps.{Ask}
+use Rattle.net_base.specs.Next.{by, next_of}
 use Rattle.net_base.specs.WorldForm.{IsFirstForm}
 use Rattle.plain_runner.specs.Idle.{IsIdle}
-use Rattle.plain_runner.proofs.Follows.{script_is, courier_is}
 
 -- Ranges.
 

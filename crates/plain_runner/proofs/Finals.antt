@@ -1,8 +1,8 @@
 -- A run before anything is recorded, and after the move of the clock.
-use Rattle.std.proofs.Common.{◌≡◌, ℕ, zero, suc, ◌+◌, ◌-◌, ◌<◌, ◌≤◌, ◌==◌, ◌&&◌, Bool, true, false, List, [], ◌∷◌, ◌++◌, length, replicate, Option, Some, None, is_none, slice_get, ◌⊎◌, inl, inr, refl, sym, ap, subst, ◌∙◌, arith, rules, tests, nat_lt, nat_le, length-append, if◌then◌else◌}
+use Rattle.std.proofs.Common.{◌≡◌, ℕ, zero, suc, ◌+◌, ◌-◌, ◌<◌, ◌≤◌, ◌==◌, Bool, true, false, List, [], ◌∷◌, ◌++◌, length, replicate, Option, Some, None, slice_get, ◌⊎◌, inl, inr, refl, sym, ap, subst, ◌∙◌, arith, nat_lt, nat_le, length-append, if◌then◌else◌}
 use Rattle.std.specs.Option.{option_map_or}
-use Rattle.std.proofs.lemmas.Bool.{true≢false, false≢true, eq-eqb, ne_eqb, and_parts, leb-true}
-use Rattle.std.proofs.lemmas.Option.{none-some, same_Some, slice_get_within, slice_get_past}
+use Rattle.std.proofs.lemmas.Bool.{ne_eqb, and_parts, leb-true}
+use Rattle.std.proofs.lemmas.Option.{none-some, same_Some, slice_get_within}
 use Rattle.std.proofs.lemmas.List.{length-replicate}
 use Rattle.net_base.specs.declared.actor.ActorName.{ActorName}
 use Rattle.net_base.specs.declared.actor.ActorName.TheVariants as name
@@ -15,16 +15,15 @@ use Rattle.net_base.specs.declared.world.Script.{Script}
 use Rattle.net_base.specs.declared.world.Step.{Step as ScriptStep}
 use Rattle.net_base.specs.declared.world.Step.TheVariants as step
 use Rattle.net_base.specs.declared.world.World.{World}
-use Rattle.net_base.specs.ActorStep.{Step}
-use Rattle.net_base.specs.Actors.{Actor, IsPlain, IsConv, opening_actor, plain_step}
-use Rattle.net_base.specs.Callers.{Caller as AnyCaller, IsScript, IsCourier, IsClock, IsNobody, caller_of, other_caller, caller_count, clock_number, first_courier}
-use Rattle.net_base.specs.Calm.{unfinished, awaited_moment, most_entries}
-use Rattle.net_base.specs.Conversation.{Conv, Udp}
+use Rattle.net_base.specs.Actors.{IsConv, opening_actor, plain_step}
+use Rattle.net_base.specs.Callers.{Caller as AnyCaller, IsScript, IsCourier, IsClock, IsNobody, caller_of, other_caller, clock_number, first_courier}
+use Rattle.net_base.specs.Calm.{unfinished, awaited_moment}
+use Rattle.net_base.specs.Conversation.{Conv}
 use Rattle.net_base.specs.Duties.{Duty, due_of}
 use Rattle.net_base.specs.Legal.{IsLegal, IsTimed, IsAsked, cites_of}
-use Rattle.net_base.specs.Net.{Net, after, net_after, opening_net}
+use Rattle.net_base.specs.Net.{Net, after, net_after}
 use Rattle.net_base.specs.Next.{by, next, next_of}
-use Rattle.net_base.specs.World.{IsWorld, is_moment}
+use Rattle.net_base.specs.World.{IsWorld}
 use Rattle.net_base.specs.WorldForm.{IsFirstForm}
 use Rattle.net_model.proofs.Histories.{after_push, legal_push}
 use Rattle.plain_runner.specs.declared.runner.Caller.{Caller}
@@ -34,9 +33,9 @@ use Rattle.plain_runner.specs.declared.standing.Place.TheVariants as place
 use Rattle.plain_runner.specs.declared.standing.Standing.{Standing}
 use Rattle.plain_runner.specs.Acting.{AreOf, actor_at}
 use Rattle.plain_runner.specs.Good.{Good, stands_after}
-use Rattle.plain_runner.specs.Phases.{Phase, Fresh, Reserved, Begun, Granted, HasPhase, IsConvIn}
-use Rattle.plain_runner.specs.Places.{ask_at, transfer_ask, finished_at}
-use Rattle.plain_runner.specs.Seats.{SeatView, conv_of}
+use Rattle.plain_runner.specs.Phases.{Phase, Fresh, Reserved, Begun, Granted, IsConvIn}
+use Rattle.plain_runner.specs.Places.{ask_at, transfer_ask}
+use Rattle.plain_runner.specs.Seats.{SeatView}
 use Rattle.plain_runner.specs.Stands.{Stands, IsCaller, stand_of}
 use Rattle.plain_runner.proofs.Clock.{move_entry, move_step, move_keeps}
 use Rattle.plain_runner.specs.Idle.{IsIdle}

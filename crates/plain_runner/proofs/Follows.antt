@@ -1,25 +1,25 @@
 -- An entry that shows the step of its actor may follow, and keeps what holds of a world of the first form.
-use Rattle.std.proofs.Common.{◌≡◌, ℕ, zero, suc, ◌+◌, ◌-◌, ◌<◌, ◌≤◌, ◌==◌, ◌&&◌, Bool, true, false, List, [], ◌∷◌, ◌++◌, length, Option, Some, None, IsSome, slice_get, ◌⊎◌, inl, inr, refl, sym, ap, subst, ◌∙◌, arith, rules, tests, if◌then◌else◌, nat_lt}
+use Rattle.std.proofs.Common.{◌≡◌, ℕ, ◌+◌, ◌-◌, ◌<◌, Bool, true, false, List, length, Option, Some, None, IsSome, slice_get, refl, sym, ap, subst, ◌∙◌, arith, nat_lt}
 use Rattle.std.specs.Option.{option_map, option_map_or}
-use Rattle.std.proofs.lemmas.Bool.{true≢false, false≢true, ne_eqb, lt-ltb, ltb-false}
-use Rattle.std.proofs.lemmas.Option.{none-some, same_Some, slice_get_within, slice_get_past}
+use Rattle.std.proofs.lemmas.Bool.{lt-ltb}
+use Rattle.std.proofs.lemmas.Option.{none-some, slice_get_past}
 use Rattle.net_base.specs.declared.history.Entry.{Entry}
 use Rattle.net_base.specs.declared.history.Outcome.{Outcome}
 use Rattle.net_base.specs.declared.world.Script.{Script}
 use Rattle.net_base.specs.declared.world.World.{World}
 use Rattle.net_base.specs.ActorStep.{Step, when}
-use Rattle.net_base.specs.Actors.{Actor, actor_step, has_actor, table_step}
-use Rattle.net_base.specs.Callers.{Caller, IsScript, IsCourier, IsClock, caller_of, other_caller, caller_count, first_courier, clock_number}
+use Rattle.net_base.specs.Actors.{Actor, has_actor, table_step}
+use Rattle.net_base.specs.Callers.{Caller, IsScript, IsCourier, caller_of, other_caller, caller_count, first_courier}
 use Rattle.net_base.specs.Calm.{most_entries}
-use Rattle.net_base.specs.Legal.{Follows, Shows, IsAsked, IsLegal, IsTimed, MayFollow, Shown, shown_by, shown_of, cites_of}
-use Rattle.net_base.specs.Net.{Net, after, next_net, net_after, outcome_in, step_of, work_of}
+use Rattle.net_base.specs.Legal.{Follows, Shows, IsAsked, Shown, shown_by, shown_of, cites_of}
+use Rattle.net_base.specs.Net.{Net, outcome_in, step_of, work_of}
 use Rattle.net_base.specs.Next.{by, next, next_of}
 use Rattle.net_base.specs.WorldForm.{IsFirstForm}
 use Rattle.plain_runner.specs.declared.standing.Standing.{Standing}
 use Rattle.plain_runner.specs.Good.{Good}
 use Rattle.plain_runner.specs.Phases.{Phase}
-use Rattle.plain_runner.proofs.Scripts.{ByScript, Pushed, script_entry}
-use Rattle.plain_runner.proofs.Couriers.{ByCourier, courier_entry}
+use Rattle.plain_runner.proofs.Scripts.{Pushed, script_entry}
+use Rattle.plain_runner.proofs.Couriers.{courier_entry}
 
 -- Callers.
 

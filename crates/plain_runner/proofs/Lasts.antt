@@ -1,16 +1,16 @@
 -- The loops over the scripts, and what comes after a round.
-use Rattle.std.proofs.Common.{◌≡◌, ℕ, zero, suc, ◌+◌, ◌-◌, ◌*◌, ◌<◌, ◌≤◌, ◌||◌, Bool, true, false, List, [], ◌∷◌, length, drop, get_or, Option, Some, None, is_some, slice_get, sum_by, ◌⊎◌, inl, inr, refl, sym, ap, subst, ◌∙◌, arith, rules, tests, nat_lt}
+use Rattle.std.proofs.Common.{◌≡◌, ℕ, ◌+◌, ◌<◌, ◌≤◌, ◌||◌, Bool, true, false, List, length, drop, get_or, Option, Some, None, is_some, slice_get, sum_by, refl, sym, ap, subst, ◌∙◌, arith, nat_lt}
 use Rattle.std.specs.List.{list_any, enumerate_from}
 use Rattle.std.proofs.lemmas.Bool.{true≢false, false≢true}
-use Rattle.std.proofs.lemmas.Option.{none-some, same_Some, slice_get_within, slice_get_read}
+use Rattle.std.proofs.lemmas.Option.{same_Some, slice_get_within, slice_get_read}
 use Rattle.net_base.specs.declared.history.Entry.{Entry}
 use Rattle.net_base.specs.declared.world.Script.{Script}
 use Rattle.net_base.specs.declared.world.World.{World}
 use Rattle.net_base.specs.Callers.{clock_number}
-use Rattle.net_base.specs.Calm.{unfinished, done, stopped, limited}
+use Rattle.net_base.specs.Calm.{limited}
 use Rattle.net_base.specs.Net.{after}
 use Rattle.net_base.specs.Next.{is_unfinished}
-use Rattle.net_base.specs.Summary.{answered_by, answered_steps}
+use Rattle.net_base.specs.Summary.{answered_by}
 use Rattle.net_base.specs.WorldForm.{IsFirstForm}
 use Rattle.plain_runner.specs.declared.duty.Duty.{Duty as Task}
 use Rattle.plain_runner.specs.declared.runner.Caller.{Caller}
@@ -22,7 +22,7 @@ use Rattle.plain_runner.specs.Idle.{IsIdle}
 use Rattle.plain_runner.specs.Rounds.{TurnedAll, MayGo}
 use Rattle.plain_runner.specs.Stands.{Stands, stand_of}
 use Rattle.plain_runner.specs.Turns.{IsThrough}
-use Rattle.plain_runner.proofs.Counts.{next_one, past_all, script_at, left_tells, answered_tells, unfinished_more, answered_more}
+use Rattle.plain_runner.proofs.Counts.{past_all, script_at, left_tells, answered_tells, unfinished_more, answered_more}
 use Rattle.plain_runner.proofs.Rounding.{is_idle, limit_is}
 use Rattle.plain_runner.proofs.Turning.{some_caller}
 

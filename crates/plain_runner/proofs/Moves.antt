@@ -1,18 +1,15 @@
 -- What the actors of a host do in each phase.
-use Rattle.std.proofs.Common.{◌≡◌, ℕ, zero, suc, ◌+◌, ◌<◌, ◌≤◌, ◌==◌, ◌&&◌, Bool, true, false, List, [], ◌∷◌, length, min, Option, Some, None, ◌⊎◌, inl, inr, refl, sym, ap, subst, ◌∙◌, ◌-◌, arith, rules, tests, if◌then◌else◌, nat_lt, nat_le}
-use Rattle.std.proofs.lemmas.Bool.{true≢false, false≢true}
+use Rattle.std.proofs.Common.{◌≡◌, ℕ, suc, ◌+◌, ◌≤◌, ◌==◌, ◌&&◌, Bool, true, false, List, [], ◌∷◌, length, min, Option, Some, None, refl, sym, ap, subst, ◌∙◌, ◌-◌, arith, rules, tests, if◌then◌else◌, nat_lt, nat_le}
 use Rattle.std.proofs.lemmas.Option.{none-some, same_Some}
 use Rattle.net_base.specs.declared.address.Addr.{Addr}
 use Rattle.net_base.specs.declared.address.Pair.{Pair}
 use Rattle.net_base.specs.declared.address.Proto.TheVariants as proto
 use Rattle.net_base.specs.declared.event.Event.TheVariants as event
-use Rattle.net_base.specs.declared.history.Outcome.{Outcome}
 use Rattle.net_base.specs.declared.history.With.{With}
 use Rattle.net_base.specs.declared.history.With.TheVariants as given
 use Rattle.net_base.specs.declared.il.Cause.TheVariants as cause
 use Rattle.net_base.specs.declared.names.FileName.{FileName}
 use Rattle.net_base.specs.declared.names.Mode.{Mode}
-use Rattle.net_base.specs.declared.packet.Body.{Body}
 use Rattle.net_base.specs.declared.packet.Body.TheVariants as body
 use Rattle.net_base.specs.declared.packet.Packet.{Packet}
 use Rattle.net_base.specs.declared.reply.Reply.{Reply}
@@ -20,12 +17,12 @@ use Rattle.net_base.specs.declared.reply.Reply.TheVariants as reply
 use Rattle.net_base.specs.declared.world.World.{World}
 use Rattle.net_base.specs.ActorStep.{Step, replies, when}
 use Rattle.net_base.specs.Conversation.{Conv, Core, Udp, Stage, Unused, Listening, Connected, conv_step, leaves, answers, begun, is_over, is_closed_name, core_name, read_at, udp_read, write_at, joined, hungup_or_ok, core_cause, packet_of, udp_written, full_or_took}
-use Rattle.net_base.specs.Directory.{Dir, Slot, dir_step, grants_by, grants_pair, pair_place, pair_of, reserves, first_slot, is_free, arrives_at, is_live_with}
+use Rattle.net_base.specs.Directory.{Dir, dir_step, grants_by, grants_pair, pair_place, pair_of}
 use Rattle.net_base.specs.Routes.{Way, way}
 use Rattle.net_base.specs.Same.{same_addr, same_pair}
 use Rattle.net_base.specs.Steps.{is_accepted}
 use Rattle.net_base.specs.UdpEnd.{UdpEnd, fresh_udp, is_hung_up, udp_state_name, datagram_comes, takes_datagram}
-use Rattle.plain_runner.specs.Phases.{Phase, Fresh, Reserved, Begun, Granted, IsDirIn, IsConvIn, IsUnused, IsLive, HasBegun, free_slots, reserved_slot, granted_slot}
+use Rattle.plain_runner.specs.Phases.{Phase, Fresh, Reserved, Begun, Granted, IsDirIn, IsUnused, IsLive, HasBegun, free_slots, reserved_slot, granted_slot}
 
 -- The directory.
 

@@ -1,7 +1,7 @@
 -- What comes next for a caller that owes nothing.
-use Rattle.std.proofs.Common.{◌≡◌, ℕ, zero, suc, ◌+◌, ◌-◌, ◌<◌, ◌≤◌, Bool, true, false, List, [], ◌∷◌, ◌++◌, length, Option, Some, None, is_some, slice_get, ◌⊎◌, inl, inr, refl, sym, ap, subst, ◌∙◌, arith, rules, tests, append-nil}
-use Rattle.std.proofs.lemmas.Bool.{true≢false, false≢true, lt-ltb}
-use Rattle.std.proofs.lemmas.Option.{none-some, same_Some, slice_get_within}
+use Rattle.std.proofs.Common.{◌≡◌, ℕ, suc, ◌<◌, true, false, List, [], ◌∷◌, length, Option, Some, None, is_some, slice_get, refl, sym, ap, subst, ◌∙◌, arith, append-nil}
+use Rattle.std.proofs.lemmas.Bool.{lt-ltb}
+use Rattle.std.proofs.lemmas.Option.{none-some, same_Some}
 use Rattle.net_base.specs.declared.actor.ActorName.{ActorName}
 use Rattle.net_base.specs.declared.actor.ActorName.TheVariants as name
 use Rattle.net_base.specs.declared.address.Addr.{Addr}
@@ -10,7 +10,6 @@ use Rattle.net_base.specs.declared.event.Event.{Event}
 use Rattle.net_base.specs.declared.event.Event.TheVariants as event
 use Rattle.net_base.specs.declared.history.Entry.{Entry}
 use Rattle.net_base.specs.declared.history.With.TheVariants as given
-use Rattle.net_base.specs.declared.history.Work.{Work}
 use Rattle.net_base.specs.declared.names.FileName.TheVariants as file
 use Rattle.net_base.specs.declared.names.Mode.TheVariants as mode
 use Rattle.net_base.specs.declared.reply.Reply.{Reply}
@@ -20,7 +19,7 @@ use Rattle.net_base.specs.declared.world.Step.TheVariants as step
 use Rattle.net_base.specs.declared.world.World.{World}
 use Rattle.net_base.specs.ActorStep.{Step}
 use Rattle.net_base.specs.Actors.{Actor, IsDir, actor_step}
-use Rattle.net_base.specs.Callers.{Caller, IsScript, caller_of, first_courier}
+use Rattle.net_base.specs.Callers.{Caller, caller_of, first_courier}
 use Rattle.net_base.specs.Calm.{can_go_on, is_ready}
 use Rattle.net_base.specs.Directory.{Dir, dir_step}
 use Rattle.net_base.specs.Duties.{Duty}
@@ -29,18 +28,15 @@ use Rattle.net_base.specs.Next.{next, next_of, own_replies}
 use Rattle.net_base.specs.Steps.{Ask, Position, position}
 use Rattle.net_base.specs.WorldForm.{IsFirstForm}
 use Rattle.plain_runner.specs.declared.actors.Met.{Met}
-use Rattle.plain_runner.specs.declared.actors.Met.TheVariants as met
 use Rattle.plain_runner.specs.declared.runner.Runner.{Runner}
 use Rattle.plain_runner.specs.declared.standing.Place.{Place}
-use Rattle.plain_runner.specs.declared.standing.Place.TheVariants as place
 use Rattle.plain_runner.specs.declared.standing.Standing.{Standing}
 use Rattle.plain_runner.specs.Acting.{IsMet, IsSure, actor_at}
-use Rattle.plain_runner.specs.Good.{IsAt, ScriptOwes, Starts, Begins, Connects, Joins, Waits, Opens, Goes, PutOrNot, NoPut, Puts}
-use Rattle.plain_runner.specs.Met.{name_of, asks}
-use Rattle.plain_runner.specs.Phases.{Phase, Begun, HasPhase, IsDirIn}
+use Rattle.plain_runner.specs.Good.{IsAt, ScriptOwes, Starts, Begins, Connects, Joins, Waits, Opens, Goes}
+use Rattle.plain_runner.specs.Met.{name_of}
+use Rattle.plain_runner.specs.Phases.{Phase, HasPhase, IsDirIn}
 use Rattle.plain_runner.specs.Places.{ask_at, transfer_ask, position_at}
 use Rattle.plain_runner.specs.Stands.{Stands}
-use Rattle.plain_runner.specs.Turns.{IsReadyNext}
 use Rattle.plain_runner.proofs.Follows.{script_is, courier_is}
 use Rattle.plain_runner.proofs.Moves.{reserve_gives, grant_gives}
 use Rattle.plain_runner.proofs.Positions.{comes}

@@ -1,5 +1,5 @@
 -- What holds of a world of the first form before anything is recorded.
-use Rattle.std.proofs.Common.{◌≡◌, ℕ, zero, suc, ◌+◌, ◌-◌, ◌<◌, ◌≤◌, Bool, true, false, List, [], ◌∷◌, length, drop, Option, Some, None, slice_get, refl, sym, ap, subst, ◌∙◌, arith, rules, tests, nat_lt}
+use Rattle.std.proofs.Common.{◌≡◌, ℕ, zero, suc, ◌<◌, Bool, true, List, [], ◌∷◌, length, Some, slice_get, refl, ap, subst, arith, nat_lt}
 use Rattle.std.specs.List.{list_all}
 use Rattle.std.proofs.lemmas.Bool.{and_parts, ltb-true}
 use Rattle.std.proofs.lemmas.Option.{none-some, same_Some, slice_get_within, get_or_from_slice_get}
@@ -7,7 +7,6 @@ use Rattle.net_base.specs.declared.world.Script.{Script}
 use Rattle.net_base.specs.declared.world.World.{World}
 use Rattle.net_base.specs.Actors.{opening_dir, opening_conv}
 use Rattle.net_base.specs.Net.{opening_net}
-use Rattle.net_base.specs.Next.{finished_by}
 use Rattle.net_base.specs.Steps.{Position, position}
 use Rattle.net_base.specs.UdpEnd.{fresh_udp}
 use Rattle.net_base.specs.World.{IsWorld, is_script, is_step}
@@ -16,7 +15,7 @@ use Rattle.net_base.specs.declared.address.Proto.TheVariants as proto
 use Rattle.plain_runner.specs.declared.standing.Place.TheVariants as place
 use Rattle.plain_runner.specs.declared.standing.Standing.{Standing}
 use Rattle.plain_runner.specs.Good.{Good, IsAt, Starts, Carries, NoPut}
-use Rattle.plain_runner.specs.Phases.{Phase, Fresh, HasPhase}
+use Rattle.plain_runner.specs.Phases.{Fresh, HasPhase}
 use Rattle.plain_runner.proofs.Positions.{comes}
 
 -- a script is one of its form, and of a host of the world

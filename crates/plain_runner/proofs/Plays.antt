@@ -1,9 +1,8 @@
 -- An entry that is played keeps what a run stands for.
-use Rattle.std.proofs.Common.{◌≡◌, ℕ, zero, suc, ◌+◌, ◌-◌, ◌<◌, ◌≤◌, ◌==◌, ◌&&◌, Bool, true, false, List, [], ◌∷◌, ◌++◌, length, Option, Some, None, is_none, Result, Ok, Err, OnOk, slice_get, slice_set, get_or, ◌⊎◌, inl, inr, refl, sym, ap, subst, ◌∙◌, arith, rules, tests, if◌then◌else◌}
+use Rattle.std.proofs.Common.{◌≡◌, ℕ, zero, suc, ◌+◌, ◌<◌, ◌≤◌, ◌==◌, ◌&&◌, List, [], ◌∷◌, ◌++◌, length, Option, Some, None, is_none, Result, Ok, Err, OnOk, slice_get, slice_set, get_or, ◌⊎◌, inl, inr, refl, sym, ap, subst, ◌∙◌, arith, if◌then◌else◌}
 use Rattle.std.proofs.lemmas.Option.{none-some, same_Some, slice_get_within, slice_get_cases, slice_get_read}
 use Rattle.std.proofs.lemmas.List.{length-set}
 use Rattle.std.specs.declared.alloc.AllocError.{AllocError}
-use Rattle.net_base.specs.declared.actor.ActorName.{ActorName}
 use Rattle.net_base.specs.declared.event.Event.{Event}
 use Rattle.net_base.specs.declared.event.Event.TheVariants as event
 use Rattle.net_base.specs.declared.history.Entry.{Entry}
@@ -17,7 +16,7 @@ use Rattle.net_base.specs.Actors.{Actor, actor_step}
 use Rattle.net_base.specs.Callers.{clock_number, first_courier}
 use Rattle.net_base.specs.Calm.{most_entries}
 use Rattle.net_base.specs.Legal.{IsInTime}
-use Rattle.net_base.specs.Net.{Net, after, moment_after, step_of, work_of, with_of}
+use Rattle.net_base.specs.Net.{Net, after, moment_after, step_of, work_of}
 use Rattle.net_base.specs.Next.{by}
 use Rattle.net_base.specs.World.{IsWorld}
 use Rattle.net_base.specs.WorldForm.{IsFirstForm}
@@ -27,16 +26,16 @@ use Rattle.plain_runner.specs.declared.duty.Duty.{Duty as Task}
 use Rattle.plain_runner.specs.declared.runner.Caller.{Caller}
 use Rattle.plain_runner.specs.declared.runner.Runner.{Runner}
 use Rattle.plain_runner.specs.declared.standing.Standing.{Standing}
-use Rattle.plain_runner.specs.Acting.{AreOf, Steps, actor_at}
+use Rattle.plain_runner.specs.Acting.{Steps, actor_at}
 use Rattle.plain_runner.specs.Before.{Before, Goes}
 use Rattle.plain_runner.specs.Entries.{shown_entry, goes_to}
-use Rattle.plain_runner.specs.Good.{stands_after, one_duty}
+use Rattle.plain_runner.specs.Good.{one_duty}
 use Rattle.plain_runner.specs.Met.{name_of, owed_of}
 use Rattle.plain_runner.specs.Places.{finished_at}
 use Rattle.plain_runner.specs.Stands.{Stands, stand_of}
 use Rattle.plain_runner.proofs.Follows.{Recorded, script_keeps, courier_keeps}
 use Rattle.plain_runner.proofs.Opening.{script_host}
-use Rattle.plain_runner.proofs.Records.{Changes, IsQuiet, get_set, stands_on}
+use Rattle.plain_runner.proofs.Records.{Changes, get_set, stands_on}
 use Rattle.plain_runner.proofs.Scripts.{Pushed}
 
 -- Lists.

@@ -1,6 +1,5 @@
 -- A script of the first form goes from place to place.
-use Rattle.std.proofs.Common.{◌≡◌, ℕ, zero, suc, ◌+◌, ◌<◌, ◌≤◌, Bool, true, false, List, [], ◌∷◌, drop, length, Option, Some, None, Ok, codes, bytes_eq, slice_get, refl, sym, ap, subst, ◌∙◌, arith, rules, tests, if◌then◌else◌}
-use Rattle.std.proofs.lemmas.Bool.{true≢false, false≢true}
+use Rattle.std.proofs.Common.{◌≡◌, ℕ, zero, suc, Bool, true, false, List, [], ◌∷◌, drop, Some, None, Ok, bytes_eq, slice_get, refl, sym, subst, rules, tests}
 use Rattle.std.specs.Fmt.{digits}
 use Rattle.net_base.specs.declared.address.Addr.{Addr}
 use Rattle.net_base.specs.declared.names.Ctl.TheVariants as control_word
@@ -17,9 +16,9 @@ use Rattle.net_base.specs.declared.world.Step.{Step}
 use Rattle.net_base.specs.declared.world.Step.TheVariants as step
 use Rattle.net_base.specs.ControlWords as control
 use Rattle.net_base.specs.Paths.{walk}
-use Rattle.net_base.specs.Steps.{Ask, Bound, Fid, Play, Asks, Ends, Position, Stand, controls, if_accepted, is_accepted, is_bound, fid_of, play_of, on_fid, opened_fid, bind, position, position_by, stands}
-use Rattle.net_base.specs.WorldForm.{IsUdpScript, AreTransfers, IsTransfer, opening_steps, clone_path, data_path}
-use Rattle.plain_runner.specs.Places.{position_at, advanced, finished_at, ask_at, transfer_ask, Answers, names_at, ctl_bound, data_bound}
+use Rattle.net_base.specs.Steps.{Fid, Play, Asks, Ends, if_accepted, is_accepted, play_of, on_fid, opened_fid, bind, position, position_by}
+use Rattle.net_base.specs.WorldForm.{IsUdpScript, AreTransfers, IsTransfer, opening_steps, data_path}
+use Rattle.plain_runner.specs.Places.{position_at, advanced, finished_at, ask_at, transfer_ask, Answers, names_at, ctl_bound}
 use Rattle.plain_runner.specs.declared.standing.Place.{Place}
 use Rattle.plain_runner.specs.declared.standing.Place.TheVariants as place
 

@@ -1,9 +1,9 @@
 -- What one entry more leaves of hosts, scripts and duties: the parts that all kinds of entries share.
-use Rattle.std.proofs.Common.{◌≡◌, ℕ, zero, suc, ◌+◌, ◌-◌, ◌<◌, ◌≤◌, ◌==◌, ◌&&◌, Bool, true, false, not, List, [], ◌∷◌, ◌++◌, length, take, drop, map, filter, Option, Some, None, is_none, slice_get, ◌⊎◌, inl, inr, refl, sym, ap, subst, ◌∙◌, arith, rules, tests, if◌then◌else◌, append_assoc, append-nil, length-drop}
-use Rattle.std.proofs.lemmas.Bool.{true≢false, false≢true, eqb-true, eqb-false, eq-eqb, ne_eqb, and_parts}
+use Rattle.std.proofs.Common.{◌≡◌, ℕ, ◌-◌, ◌<◌, ◌≤◌, ◌==◌, Bool, true, false, List, [], ◌∷◌, ◌++◌, length, drop, map, filter, Option, Some, None, is_none, inl, inr, refl, sym, ap, subst, ◌∙◌, arith, append-nil, length-drop}
+use Rattle.std.proofs.lemmas.Bool.{eq-eqb, ne_eqb}
 use Rattle.std.proofs.lemmas.Bool.Decides.{eqb_tells}
-use Rattle.std.proofs.lemmas.Option.{none-some, same_Some, slice_get_within}
-use Rattle.std.proofs.lemmas.List.{map-append, take_at}
+use Rattle.std.proofs.lemmas.Option.{none-some, same_Some}
+use Rattle.std.proofs.lemmas.List.{map-append}
 use Rattle.std.proofs.lemmas.List.Elements.{filter-append}
 use Rattle.net_base.specs.declared.actor.ActorName.{ActorName}
 use Rattle.net_base.specs.declared.actor.ActorName.TheVariants as name
@@ -16,16 +16,15 @@ use Rattle.net_base.specs.ActorStep.{Step, when}
 use Rattle.net_base.specs.Actors.{Actor, IsDir, IsConv, IsMedium, actor_step, step_as}
 use Rattle.net_base.specs.Conversation.{Conv, conv_step}
 use Rattle.net_base.specs.Directory.{Dir, dir_step}
-use Rattle.net_base.specs.Medium.{Medium, medium_step}
-use Rattle.net_base.specs.Net.{Net, actors_after, work_of, with_of, step_of, net_after}
+use Rattle.net_base.specs.Medium.{Medium}
+use Rattle.net_base.specs.Net.{Net, actors_after, work_of, with_of, step_of}
 use Rattle.net_base.specs.Next.{by, own_replies, finished_by}
 use Rattle.net_base.specs.Steps.{position, Position}
-use Rattle.net_base.specs.WorldForm.{IsFirstForm, IsUdpScript}
 use Rattle.plain_runner.specs.declared.standing.Standing.{Standing}
-use Rattle.plain_runner.specs.Good.{Good, IsAt, ScriptOwes, HasDatagrams, stands_after}
+use Rattle.plain_runner.specs.Good.{IsAt, HasDatagrams}
 use Rattle.plain_runner.specs.Phases.{Phase, HasPhase, IsDirIn, IsConvIn, phase_set}
-use Rattle.plain_runner.specs.Places.{position_at, advanced, finished_at, Answers}
-use Rattle.plain_runner.proofs.Positions.{goes_on, comes}
+use Rattle.plain_runner.specs.Places.{position_at, finished_at}
+use Rattle.plain_runner.proofs.Positions.{comes}
 
 -- The replies of a caller.
 

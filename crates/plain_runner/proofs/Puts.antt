@@ -1,5 +1,5 @@
 -- Ways, and what the medium does, in a world of the first form.
-use Rattle.std.proofs.Common.{◌≡◌, ℕ, zero, suc, ◌+◌, ◌<◌, ◌==◌, ◌&&◌, Bool, true, false, List, [], ◌∷◌, ◌++◌, length, Option, Some, None, slice_get, refl, sym, ap, subst, ◌∙◌, arith, rules, tests, if◌then◌else◌, append-nil, get_or, find, nat_lt, bit_and}
+use Rattle.std.proofs.Common.{◌≡◌, ℕ, ◌+◌, ◌==◌, Bool, true, false, List, [], ◌∷◌, ◌++◌, length, Option, Some, None, slice_get, refl, sym, ap, subst, ◌∙◌, if◌then◌else◌, find, nat_lt, bit_and}
 use Rattle.std.specs.Option.{option_and_then, option_map}
 use Rattle.std.proofs.lemmas.Option.{none-some, same_Some, slice_get_within, get_or_from_slice_get}
 use Rattle.net_base.specs.declared.actor.ActorName.{ActorName}
@@ -20,9 +20,9 @@ use Rattle.net_base.specs.declared.world.Iface.{Iface}
 use Rattle.net_base.specs.declared.world.MediumSpec.{MediumSpec}
 use Rattle.net_base.specs.declared.world.World.{World}
 use Rattle.net_base.specs.ActorStep.{Step, when}
-use Rattle.net_base.specs.Actors.{Actor, IsDir, IsConv, IsMedium, IsPlain, actor_step, has_actor, step_as}
-use Rattle.net_base.specs.Duties.{Duty, duties, put_by, emitted_put, follow_up}
-use Rattle.net_base.specs.Medium.{Medium, medium_step, puts, lays, takes, datagram_length, fate_of, medium_leaves}
+use Rattle.net_base.specs.Actors.{Actor, IsDir, IsConv, IsMedium, IsPlain, has_actor, step_as}
+use Rattle.net_base.specs.Duties.{Duty, duties, put_by, emitted_put}
+use Rattle.net_base.specs.Medium.{Medium, medium_step, puts, lays, datagram_length, fate_of, medium_leaves}
 use Rattle.net_base.specs.Net.{Net, actors_after, work_of, with_of, step_of}
 use Rattle.net_base.specs.Routes.{Way, way, way_from, way_to_itself, way_by, matches, Route}
 use Rattle.net_base.specs.WorldForm.{IsFirstForm, IsPlainHost}

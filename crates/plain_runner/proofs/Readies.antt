@@ -1,7 +1,6 @@
 -- The actors are ready for what is owed and for what comes next, in a world of the first form.
-use Rattle.std.proofs.Common.{◌≡◌, ℕ, zero, suc, ◌+◌, ◌-◌, ◌<◌, ◌≤◌, ◌==◌, ◌&&◌, Bool, true, false, List, [], ◌∷◌, length, Option, Some, None, IsSome, is_some, slice_get, refl, sym, ap, subst, ◌∙◌, arith, rules, tests, nat_lt}
+use Rattle.std.proofs.Common.{◌≡◌, ℕ, ◌<◌, List, [], ◌∷◌, length, Option, Some, IsSome, refl, sym, ap, subst, ◌∙◌, arith}
 use Rattle.std.proofs.lemmas.Bool.{lt-ltb}
-use Rattle.std.proofs.lemmas.Option.{none-some, same_Some}
 use Rattle.net_base.specs.declared.actor.ActorName.{ActorName}
 use Rattle.net_base.specs.declared.actor.ActorName.TheVariants as name
 use Rattle.net_base.specs.declared.address.Proto.TheVariants as proto
@@ -9,9 +8,7 @@ use Rattle.net_base.specs.declared.event.Event.{Event}
 use Rattle.net_base.specs.declared.event.Event.TheVariants as event
 use Rattle.net_base.specs.declared.history.With.{With}
 use Rattle.net_base.specs.declared.history.With.TheVariants as given
-use Rattle.net_base.specs.declared.history.Work.{Work}
 use Rattle.net_base.specs.declared.packet.Packet.{Packet}
-use Rattle.net_base.specs.declared.world.Script.{Script}
 use Rattle.net_base.specs.declared.world.World.{World}
 use Rattle.net_base.specs.ActorStep.{Step}
 use Rattle.net_base.specs.Actors.{Actor, IsDir, IsConv, IsMedium, IsPlain, actor_step}
@@ -24,11 +21,10 @@ use Rattle.plain_runner.specs.declared.actors.Met.{Met}
 use Rattle.plain_runner.specs.declared.actors.Met.TheVariants as met
 use Rattle.plain_runner.specs.declared.duty.Duty.{Duty as Task}
 use Rattle.plain_runner.specs.declared.standing.Place.{Place}
-use Rattle.plain_runner.specs.declared.standing.Standing.{Standing}
 use Rattle.plain_runner.specs.Acting.{IsMet}
-use Rattle.plain_runner.specs.Good.{Good, HasDatagrams, IsUdp, ScriptOwes, Starts, Begins, Connects, Joins, Waits, Opens, Goes, CourierOwes, Carries, Arrives, Reaches, PutOrNot, NoPut, Puts, begin_duty, connect_duty, put_duty, arrive_duty, reach_duty}
+use Rattle.plain_runner.specs.Good.{HasDatagrams, ScriptOwes, Starts, Begins, Connects, Joins, Waits, Opens, Goes, CourierOwes, Carries, Arrives, Reaches, PutOrNot, NoPut, Puts, begin_duty, connect_duty, put_duty, arrive_duty, reach_duty}
 use Rattle.plain_runner.specs.Met.{name_of, duty_of, owed_of}
-use Rattle.plain_runner.specs.Phases.{Phase, Fresh, Reserved, Begun, Granted, HasPhase, HasBegun, IsConvIn, IsDirIn, IsLive}
+use Rattle.plain_runner.specs.Phases.{Phase, HasPhase, IsConvIn}
 use Rattle.plain_runner.proofs.Moves.{begin_gives, connect_gives, arrive_gives, arrive_at_gives}
 use Rattle.plain_runner.proofs.Scripts.{live_begun}
 

@@ -1,6 +1,6 @@
 -- A run with one entry more stands for the net after its longer history.
-use Rattle.std.proofs.Common.{◌≡◌, ℕ, zero, suc, ◌+◌, ◌-◌, ◌<◌, ◌≤◌, ◌==◌, ◌&&◌, Bool, true, false, List, [], ◌∷◌, ◌++◌, length, take, drop, filter, Option, Some, None, is_none, slice_get, slice_set, ◌⊎◌, inl, inr, refl, sym, ap, subst, ◌∙◌, arith, rules, tests, if◌then◌else◌, append_assoc, append-nil, length-append}
-use Rattle.std.proofs.lemmas.Bool.{true≢false, false≢true, eq-eqb, ne_eqb}
+use Rattle.std.proofs.Common.{◌≡◌, ℕ, zero, suc, ◌+◌, ◌<◌, ◌≤◌, ◌==◌, ◌&&◌, Bool, true, false, List, [], ◌∷◌, ◌++◌, length, take, drop, Option, Some, None, is_none, slice_get, slice_set, ◌⊎◌, inl, inr, refl, sym, ap, subst, ◌∙◌, arith, if◌then◌else◌, append-nil, length-append}
+use Rattle.std.proofs.lemmas.Bool.{eq-eqb, ne_eqb}
 use Rattle.std.proofs.lemmas.Bool.Decides.{eqb_tells}
 use Rattle.std.proofs.lemmas.Option.{none-some, same_Some, slice_get_within}
 use Rattle.std.proofs.lemmas.List.{take-append-le, take_at, length-set}
@@ -15,7 +15,7 @@ use Rattle.net_base.specs.Callers.{clock_number}
 use Rattle.net_base.specs.Calm.{most_entries}
 use Rattle.net_base.specs.Duties.{duties}
 use Rattle.net_base.specs.Legal.{IsLegal, IsTimed, IsInTime}
-use Rattle.net_base.specs.Net.{Net, after, opening_net, net_after, net_of, next_net, moment_after, step_of, work_of, with_of}
+use Rattle.net_base.specs.Net.{Net, after, opening_net, net_after, moment_after, work_of, with_of}
 use Rattle.net_base.specs.Next.{by}
 use Rattle.net_base.specs.Stamped.{same_actor}
 use Rattle.net_model.proofs.Owed.{past_after}
@@ -32,7 +32,7 @@ use Rattle.plain_runner.specs.declared.standing.Place.{Place}
 use Rattle.plain_runner.specs.declared.standing.Place.TheVariants as place
 use Rattle.net_base.specs.declared.reply.Reply.{Reply}
 use Rattle.net_base.specs.declared.reply.Reply.TheVariants as reply
-use Rattle.plain_runner.specs.Acting.{AreOf, Steps, actor_at}
+use Rattle.plain_runner.specs.Acting.{Steps, actor_at}
 use Rattle.plain_runner.specs.Met.{owed_of}
 use Rattle.plain_runner.specs.Stands.{Stands, IsCaller, stand_of}
 use Rattle.plain_runner.proofs.Follows.{Recorded, follows_so}

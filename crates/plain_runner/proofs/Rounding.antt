@@ -1,31 +1,30 @@
 -- What a round leaves, and how a run ends.
-use Rattle.std.proofs.Common.{◌≡◌, ℕ, zero, suc, ◌+◌, ◌-◌, ◌<◌, ◌≤◌, ◌==◌, ◌&&◌, ◌||◌, Bool, true, false, List, [], ◌∷◌, ◌++◌, length, map, get_or, Option, Some, None, is_some, Result, Ok, Err, IfOk, slice_get, ◌⊎◌, inl, inr, refl, sym, ap, subst, ◌∙◌, arith, rules, tests, nat_lt}
+use Rattle.std.proofs.Common.{◌≡◌, ℕ, ◌+◌, ◌<◌, ◌==◌, ◌||◌, Bool, true, false, List, [], ◌∷◌, length, map, Option, Some, None, is_some, inl, inr, refl, sym, ap, subst, ◌∙◌, arith, nat_lt}
 use Rattle.std.proofs.lemmas.Bool.{true≢false, false≢true, eqb-true, eqb-false, ltb-false}
-use Rattle.std.proofs.lemmas.Option.{none-some, same_Some, slice_get_within}
 use Rattle.net_base.specs.declared.actor.ActorName.TheVariants as name
 use Rattle.net_base.specs.declared.event.Event.TheVariants as event
 use Rattle.net_base.specs.declared.history.Entry.{Entry}
 use Rattle.net_base.specs.declared.history.With.TheVariants as given
 use Rattle.net_base.specs.declared.world.World.{World}
 use Rattle.net_base.specs.ActorStep.{Step}
-use Rattle.net_base.specs.Actors.{Actor, IsMedium, actor_step, step_as}
+use Rattle.net_base.specs.Actors.{IsMedium, actor_step, step_as}
 use Rattle.net_base.specs.Callers.{clock_number, caller_count, first_courier}
-use Rattle.net_base.specs.Calm.{owes, can_go_on, is_quiet, limited, done, stopped, unfinished, most_entries}
+use Rattle.net_base.specs.Calm.{owes, can_go_on, is_quiet, limited}
 use Rattle.net_base.specs.Duties.{Duty}
 use Rattle.net_base.specs.Medium.{Medium, takes}
 use Rattle.net_base.specs.Net.{Net, after}
 use Rattle.net_base.specs.Next.{by}
 use Rattle.net_base.specs.WorldForm.{IsFirstForm}
 use Rattle.medium.specs.declared.frame.Frame.{Frame}
-use Rattle.medium.specs.OnMedium.{OnMedium, medium_of, taken_of}
+use Rattle.medium.specs.OnMedium.{medium_of, taken_of}
 use Rattle.plain_runner.specs.declared.actors.Met.TheVariants as met
 use Rattle.plain_runner.specs.declared.runner.Runner.{Runner}
 use Rattle.plain_runner.specs.Acting.{actor_at}
-use Rattle.plain_runner.specs.Rounds.{TurnedAll, MayGo, may_record}
+use Rattle.plain_runner.specs.Rounds.{TurnedAll, MayGo}
 use Rattle.plain_runner.specs.Stands.{Stands}
 use Rattle.plain_runner.specs.Turns.{Turned, IsThrough}
 use Rattle.plain_runner.specs.Idle.{IsIdle}
-use Rattle.plain_runner.proofs.Ends.{is_limited, is_done, is_stopped}
+use Rattle.plain_runner.proofs.Ends.{is_limited}
 use Rattle.plain_runner.proofs.Nexts.{goes_on_is, next_take}
 use Rattle.plain_runner.proofs.Records.{past_is}
 

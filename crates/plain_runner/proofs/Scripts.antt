@@ -1,11 +1,10 @@
 -- Each entry of a script of a world of the first form keeps what holds of it.
-use Rattle.std.proofs.Common.{◌≡◌, ℕ, zero, suc, ◌+◌, ◌-◌, ◌<◌, ◌≤◌, ◌==◌, ◌&&◌, ◌||◌, Bool, true, false, not, List, [], ◌∷◌, ◌++◌, length, take, drop, Option, Some, None, is_none, slice_get, ◌⊎◌, inl, inr, refl, sym, ap, subst, ◌∙◌, arith, rules, tests, if◌then◌else◌, append_assoc, append-nil, length-append}
-use Rattle.std.proofs.lemmas.Bool.{true≢false, false≢true, eqb-true, eqb-false, eq-eqb, ne_eqb, and_parts, not-true}
+use Rattle.std.proofs.Common.{◌≡◌, ℕ, zero, suc, ◌-◌, ◌<◌, ◌≤◌, ◌==◌, ◌||◌, Bool, true, false, not, List, [], ◌∷◌, ◌++◌, length, take, drop, Option, Some, None, slice_get, inl, inr, refl, sym, ap, subst, ◌∙◌, arith, append_assoc, append-nil, length-append}
+use Rattle.std.proofs.lemmas.Bool.{true≢false, eq-eqb, ne_eqb, and_parts, not-true}
 use Rattle.std.proofs.lemmas.Bool.Decides.{eqb_tells}
 use Rattle.std.proofs.lemmas.Option.{none-some, same_Some, slice_get_within}
 use Rattle.std.proofs.lemmas.List.{take_at}
 use Rattle.std.specs.List.{list_any}
-use Rattle.net_base.specs.declared.actor.ActorName.{ActorName}
 use Rattle.net_base.specs.declared.actor.ActorName.TheVariants as name
 use Rattle.net_base.specs.declared.address.Addr.{Addr}
 use Rattle.net_base.specs.declared.address.Pair.{Pair}
@@ -30,24 +29,23 @@ use Rattle.net_base.specs.Actors.{Actor, IsDir, IsConv}
 use Rattle.net_base.specs.Callers.{IsScript, first_courier, clock_number}
 use Rattle.net_base.specs.Conversation.{Conv, conv_step}
 use Rattle.net_base.specs.Directory.{Dir, dir_step}
-use Rattle.net_base.specs.Duties.{Duty, duties, put_by, emitted_put, follow_up}
+use Rattle.net_base.specs.Duties.{Duty, duties, emitted_put, follow_up}
 use Rattle.net_base.specs.Legal.{IsAsked, asked_by, cites_of}
-use Rattle.net_base.specs.Net.{Net, actors_after, owed_after, work_of, with_of, step_of, net_after}
+use Rattle.net_base.specs.Net.{Net, actors_after, work_of, with_of, step_of, net_after}
 use Rattle.net_base.specs.Next.{own_replies, next_of, finished_by}
-use Rattle.net_base.specs.Routes.{Way, way}
 use Rattle.net_base.specs.Steps.{Ask, Position, position, is_accepted}
 use Rattle.net_base.specs.World.{all_apart}
 use Rattle.net_base.specs.WorldForm.{IsFirstForm, same_host}
 use Rattle.plain_runner.specs.declared.standing.Place.{Place}
 use Rattle.plain_runner.specs.declared.standing.Place.TheVariants as place
 use Rattle.plain_runner.specs.declared.standing.Standing.{Standing}
-use Rattle.plain_runner.specs.Good.{Good, IsAt, IsUdp, ScriptOwes, CourierOwes, Carries, Arrives, Reaches, PutOrNot, NoPut, Puts, HasDatagrams, Starts, Begins, Connects, Joins, Waits, Opens, Goes, begin_duty, connect_duty, put_duty, stands_after, follows_at, one_duty, one_duty_by}
-use Rattle.plain_runner.specs.Phases.{Phase, Fresh, Reserved, Begun, Granted, HasPhase, HasBegun, IsDirIn, IsConvIn, IsLive, phase_set, free_slots, reserved_slot, granted_slot}
+use Rattle.plain_runner.specs.Good.{Good, IsAt, ScriptOwes, CourierOwes, Carries, Arrives, Reaches, PutOrNot, NoPut, Puts, HasDatagrams, Starts, Begins, Connects, Joins, Waits, Opens, Goes, begin_duty, connect_duty, put_duty, stands_after, follows_at, one_duty, one_duty_by}
+use Rattle.plain_runner.specs.Phases.{Phase, Fresh, Reserved, Begun, Granted, HasPhase, HasBegun, IsDirIn, IsConvIn, IsLive, phase_set, free_slots, reserved_slot}
 use Rattle.plain_runner.specs.Places.{position_at, advanced, finished_at, ask_at, transfer_ask, Answers}
 use Rattle.plain_runner.proofs.Puts.{put_owed, put_entry, medium_set}
 use Rattle.plain_runner.proofs.Positions.{goes_on, comes}
 use Rattle.plain_runner.proofs.Pushes.{other_replies, duty_replies, next_replies, finished_is, conv_entry, dir_entry, phase_here, phase_there, phase_same, hosts_conv, hosts_dir, hosts_medium, medium_beside_conv, medium_beside_dir}
-use Rattle.plain_runner.proofs.Moves.{reserve_gives, GrantGives, Grants, Refuses, grant_gives, BeginGives, begin_gives, Talks, Emits, Nothing, Datagram, the_step, connect_gives, await_gives, open_gives, read_gives, write_gives}
+use Rattle.plain_runner.proofs.Moves.{reserve_gives, GrantGives, Grants, Refuses, grant_gives, BeginGives, begin_gives, Talks, Emits, Nothing, the_step, connect_gives, await_gives, open_gives, read_gives, write_gives}
 
 -- Scripts stand at hosts of their own.
 

@@ -1,9 +1,8 @@
 -- The turn of a caller: what it owes or what comes next can be played.
-use Rattle.std.proofs.Common.{◌≡◌, ℕ, zero, suc, ◌+◌, ◌-◌, ◌<◌, ◌≤◌, ◌==◌, Bool, true, false, List, [], ◌∷◌, ◌++◌, length, get_or, Option, Some, None, IsSome, is_some, Result, Ok, Err, IfOk, slice_get, slice_set, ◌⊎◌, inl, inr, refl, sym, ap, subst, ◌∙◌, arith, rules, tests, nat_lt, ◌||◌}
+use Rattle.std.proofs.Common.{◌≡◌, ℕ, zero, suc, ◌+◌, ◌<◌, ◌==◌, Bool, true, false, List, [], ◌∷◌, length, get_or, Option, Some, None, IsSome, is_some, Result, Ok, Err, IfOk, slice_get, slice_set, inl, inr, refl, sym, ap, subst, ◌∙◌, arith, nat_lt}
 use Rattle.std.specs.declared.alloc.AllocError.{AllocError}
 use Rattle.std.proofs.lemmas.Bool.{true≢false, false≢true, eqb-true, eqb-false}
-use Rattle.std.proofs.lemmas.Option.{none-some, same_Some, slice_get_within, slice_get_read, slice_get-get_or}
-use Rattle.std.proofs.lemmas.List.{set-get_or}
+use Rattle.std.proofs.lemmas.Option.{none-some, same_Some, slice_get_within, slice_get_read}
 use Rattle.net_base.specs.declared.actor.ActorName.{ActorName}
 use Rattle.net_base.specs.declared.actor.ActorName.TheVariants as name
 use Rattle.net_base.specs.declared.event.Event.{Event}
@@ -16,35 +15,32 @@ use Rattle.net_base.specs.declared.world.Script.{Script}
 use Rattle.net_base.specs.declared.world.World.{World}
 use Rattle.net_base.specs.ActorStep.{Step}
 use Rattle.net_base.specs.Actors.{Actor, actor_step}
-use Rattle.net_base.specs.Callers.{Caller as AnyCaller, IsScript, IsCourier, IsClock, IsNobody, caller_of, clock_number, first_courier}
+use Rattle.net_base.specs.Callers.{Caller as AnyCaller, IsScript, IsCourier, IsClock, IsNobody, caller_of, clock_number}
 use Rattle.net_base.specs.Calm.{owes, can_go_on, most_entries}
 use Rattle.plain_runner.specs.Rounds.{may_record}
 use Rattle.net_base.specs.Duties.{Duty}
 use Rattle.net_base.specs.Legal.{IsAsked, IsNext, asked_by, cites_of}
-use Rattle.net_base.specs.Net.{Net, after, moment_after, with_of}
+use Rattle.net_base.specs.Net.{after, moment_after, with_of}
 use Rattle.net_base.specs.Next.{next}
 use Rattle.net_base.specs.Steps.{Ask}
 use Rattle.net_base.specs.World.{IsWorld}
 use Rattle.net_base.specs.WorldForm.{IsFirstForm, IsUdpScript}
-use Rattle.plain_runner.specs.declared.actors.Actors.{Actors}
 use Rattle.plain_runner.specs.declared.actors.Met.{Met}
 use Rattle.plain_runner.specs.declared.actors.Met.TheVariants as met
 use Rattle.plain_runner.specs.declared.duty.Duty.{Duty as Task}
 use Rattle.plain_runner.specs.declared.runner.Caller.{Caller}
 use Rattle.plain_runner.specs.declared.runner.Runner.{Runner}
-use Rattle.plain_runner.specs.declared.standing.Place.{Place}
 use Rattle.plain_runner.specs.declared.standing.Standing.{Standing}
-use Rattle.plain_runner.specs.Acting.{IsMet, IsSure, actor_at}
+use Rattle.plain_runner.specs.Acting.{IsMet, actor_at}
 use Rattle.plain_runner.specs.Before.{Before}
-use Rattle.plain_runner.specs.Good.{IsAt, ScriptOwes, CourierOwes}
+use Rattle.plain_runner.specs.Good.{ScriptOwes, CourierOwes}
 use Rattle.plain_runner.specs.Met.{name_of, asks, duty_of, owed_of}
 use Rattle.plain_runner.specs.Phases.{Phase, HasPhase}
 use Rattle.plain_runner.specs.Places.{ask_at}
 use Rattle.plain_runner.specs.Stands.{Stands, stand_of}
 use Rattle.plain_runner.specs.Turns.{IsReadyNext, IsAskOf, IsThrough, OwesNothing}
 use Rattle.plain_runner.proofs.Ends.{clock_above}
-use Rattle.plain_runner.proofs.Follows.{script_is}
-use Rattle.plain_runner.proofs.Nexts.{next_at, next_take, IsAskMet, ask_met, script_asks_met, goes_on_is, goes_not_on}
+use Rattle.plain_runner.proofs.Nexts.{next_at, next_take, IsAskMet, ask_met, script_asks_met, goes_on_is}
 use Rattle.plain_runner.proofs.Opening.{script_host}
 use Rattle.plain_runner.proofs.Plays.{courier_number}
 use Rattle.plain_runner.proofs.Readies.{IsReady, script_ready, courier_ready, met_of}

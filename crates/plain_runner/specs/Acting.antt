@@ -1,5 +1,5 @@
 -- The actors that are kept, as those of the definitions.
-use Rattle.std.specs.Prelude.{◌≡◌, ℕ, zero, suc, ◌+◌, ◌<◌, ◌≤◌, Bool, true, false, List, [], ◌∷◌, length, Option, Some, None, slice_get, is_some}
+use Rattle.std.specs.Prelude.{◌≡◌, ℕ, zero, ◌+◌, ◌<◌, ◌≤◌, true, false, List, [], ◌∷◌, length, Some, slice_get, is_some}
 use Rattle.std.specs.Option.{option_map_or}
 use Rattle.net_base.specs.declared.actor.ActorName.{ActorName}
 use Rattle.net_base.specs.declared.actor.ActorName.TheVariants as name
@@ -10,7 +10,6 @@ use Rattle.net_base.specs.declared.history.Outcome.{Outcome}
 use Rattle.net_base.specs.declared.history.With.{With}
 use Rattle.net_base.specs.declared.history.Work.{Work}
 use Rattle.net_base.specs.declared.world.World.{World}
-use Rattle.net_base.specs.ActorStep.{Step}
 use Rattle.net_base.specs.Actors.{Actor, IsDir, IsConv, IsMedium, opening_actor, opening_dir, opening_conv, actor_step}
 use Rattle.net_base.specs.Stamped.{same_actor}
 use Rattle.medium.specs.OnMedium.{OnMedium, medium_of}

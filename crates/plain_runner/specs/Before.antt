@@ -1,6 +1,5 @@
 -- A run just before an entry is recorded: what the caller owed was taken from it.
 use Rattle.std.specs.Prelude.{◌≡◌, ℕ, ◌<◌, ◌==◌, ◌&&◌, List, length, Option, Some, None, is_none, slice_get, slice_set, if◌then◌else◌}
-use Rattle.net_base.specs.declared.event.Event.{Event}
 use Rattle.net_base.specs.declared.history.Entry.{Entry}
 use Rattle.net_base.specs.declared.history.Work.{Work}
 use Rattle.net_base.specs.declared.reply.Reply.{Reply}

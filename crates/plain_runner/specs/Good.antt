@@ -1,5 +1,5 @@
 -- What holds of a world of the first form after each legal history: how far its hosts and its scripts are, and what is owed.
-use Rattle.std.specs.Prelude.{◌≡◌, ℕ, suc, ◌+◌, ◌-◌, ◌<◌, ◌≤◌, ◌==◌, ◌&&◌, ◌++◌, List, [], ◌∷◌, length, take, Option, Some, None, is_none, slice_get, if◌then◌else◌}
+use Rattle.std.specs.Prelude.{◌≡◌, ℕ, suc, ◌-◌, ◌<◌, ◌≤◌, ◌==◌, ◌&&◌, ◌++◌, List, [], ◌∷◌, length, take, Option, Some, None, is_none, slice_get, if◌then◌else◌}
 use Rattle.net_base.specs.declared.actor.ActorName.{ActorName}
 use Rattle.net_base.specs.declared.actor.ActorName.TheVariants as name
 use Rattle.net_base.specs.declared.address.Pair.{Pair}
@@ -17,13 +17,12 @@ use Rattle.net_base.specs.declared.reply.Reply.{Reply}
 use Rattle.net_base.specs.declared.reply.Reply.TheVariants as reply
 use Rattle.net_base.specs.declared.world.Script.{Script}
 use Rattle.net_base.specs.declared.world.World.{World}
-use Rattle.net_base.specs.ActorStep.{Step}
 use Rattle.net_base.specs.Actors.{Actor, IsMedium}
 use Rattle.net_base.specs.Callers.{first_courier, clock_number}
 use Rattle.net_base.specs.Duties.{Duty, owes, emitted_put, courier_duty}
 use Rattle.net_base.specs.Net.{Net}
 use Rattle.net_base.specs.Next.{own_replies, finished_by}
-use Rattle.net_base.specs.Steps.{Position, position}
+use Rattle.net_base.specs.Steps.{position}
 use Rattle.net_base.specs.WorldForm.{IsUdpScript}
 use Rattle.plain_runner.specs.Phases.{Phase, Fresh, Reserved, Begun, Granted, HasPhase, HasBegun}
 use Rattle.plain_runner.specs.Places.{position_at, advanced, finished_at}

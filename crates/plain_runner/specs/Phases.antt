@@ -1,12 +1,12 @@
 -- How far the directory and the first conversation of a host are, in a world of the first form.
-use Rattle.std.specs.Prelude.{◌≡◌, ℕ, suc, ◌==◌, List, [], ◌∷◌, replicate, Some, if◌then◌else◌}
+use Rattle.std.specs.Prelude.{◌≡◌, ℕ, suc, ◌==◌, List, ◌∷◌, replicate, Some, if◌then◌else◌}
 use Rattle.net_base.specs.declared.actor.ActorName.{ActorName}
 use Rattle.net_base.specs.declared.actor.ActorName.TheVariants as name
 use Rattle.net_base.specs.declared.address.Pair.{Pair}
 use Rattle.net_base.specs.declared.address.Proto.TheVariants as proto
 use Rattle.net_base.specs.declared.il.StateName.TheVariants as kind
 use Rattle.net_base.specs.Actors.{Actor, IsDir, IsConv}
-use Rattle.net_base.specs.Conversation.{Conv, Core, Udp}
+use Rattle.net_base.specs.Conversation.{Conv, Udp}
 use Rattle.net_base.specs.Directory.{Dir, Slot, free_slot}
 use Rattle.net_base.specs.UdpEnd.{UdpEnd}
 

@@ -2,9 +2,8 @@
 use Rattle.std.specs.Prelude.{◌≡◌, ℕ, ◌<◌, ◌||◌, Bool, true, false, List, length}
 use Rattle.net_base.specs.declared.history.Entry.{Entry}
 use Rattle.net_base.specs.declared.world.World.{World}
-use Rattle.net_base.specs.Callers.{clock_number}
-use Rattle.net_base.specs.Calm.{done, stopped, limited, owes, can_go_on}
-use Rattle.net_base.specs.Net.{Net, after}
+use Rattle.net_base.specs.Calm.{owes, can_go_on}
+use Rattle.net_base.specs.Net.{after}
 use Rattle.plain_runner.specs.Stands.{Stands}
 use Rattle.plain_runner.specs.Turns.{IsThrough}
 use Rattle.plain_runner.specs.declared.runner.Runner.{Runner}

@@ -7,8 +7,6 @@ use Rattle.net_base.specs.declared.history.Outcome.{Outcome}
 use Rattle.net_base.specs.declared.history.With.{With}
 use Rattle.net_base.specs.declared.history.With.TheVariants as given
 use Rattle.net_base.specs.declared.history.Work.{Work}
-use Rattle.net_base.specs.declared.packet.Body.TheVariants as body
-use Rattle.net_base.specs.declared.packet.Packet.{Packet}
 use Rattle.net_base.specs.declared.world.World.{World}
 use Rattle.net_base.specs.Conversation.{Conv, conv_step}
 use Rattle.net_base.specs.Directory.{Dir, dir_step}

@@ -1,27 +1,15 @@
 -- What a run stands for as far as it has come: its actors, what its callers owe, and where its scripts are, are those of the net
 -- after its history.
-use Rattle.std.specs.Prelude.{◌≡◌, ℕ, zero, suc, ◌+◌, ◌<◌, ◌≤◌, Bool, true, false, List, [], ◌∷◌, length, Option, Some, None, slice_get, is_some, ◌⊎◌}
+use Rattle.std.specs.Prelude.{◌≡◌, ℕ, ◌<◌, ◌≤◌, List, length, Some, slice_get, ◌⊎◌}
 use Rattle.std.specs.Option.{option_map_or}
 use Rattle.net_base.specs.declared.actor.ActorName.{ActorName}
-use Rattle.net_base.specs.declared.actor.ActorName.TheVariants as name
-use Rattle.net_base.specs.declared.address.Proto.TheVariants as proto
-use Rattle.net_base.specs.declared.event.Event.{Event}
-use Rattle.net_base.specs.declared.event.Event.TheVariants as event
 use Rattle.net_base.specs.declared.history.Entry.{Entry}
-use Rattle.net_base.specs.declared.history.Outcome.{Outcome}
-use Rattle.net_base.specs.declared.history.Work.{Work}
-use Rattle.net_base.specs.declared.world.MediumSpec.{MediumSpec}
 use Rattle.net_base.specs.declared.world.World.{World}
-use Rattle.net_base.specs.ActorStep.{Step}
-use Rattle.net_base.specs.Actors.{Actor, IsDir, IsConv, IsMedium, opening_actor, actor_step}
 use Rattle.net_base.specs.Callers.{clock_number}
 use Rattle.net_base.specs.Calm.{most_entries}
-use Rattle.net_base.specs.Duties.{Duty}
 use Rattle.net_base.specs.Legal.{IsLegal, IsTimed}
 use Rattle.net_base.specs.Net.{Net, after}
 use Rattle.net_base.specs.Next.{by}
-use Rattle.net_base.specs.Stamped.{same_actor}
-use Rattle.medium.specs.OnMedium.{OnMedium, medium_of}
 use Rattle.plain_runner.specs.Good.{Good}
 use Rattle.plain_runner.specs.Phases.{Phase}
 use Rattle.plain_runner.specs.Places.{finished_at}

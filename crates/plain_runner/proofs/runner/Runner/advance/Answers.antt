@@ -1,6 +1,5 @@
 use Rattle.std.proofs.Common.{arith, refl, ap, length}
 use Rattle.std.proofs.lemmas.Bool.{leb-true}
-use Rattle.net_base.specs.declared.actor.ActorName.TheVariants as name
 use Rattle.plain_runner.proofs.Finals.{moved_stands, clock_entry}
 use Rattle.plain_runner.proofs.runner.Runner.advance.Goals as goal
 

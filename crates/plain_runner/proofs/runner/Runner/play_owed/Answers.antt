@@ -1,4 +1,4 @@
-use Rattle.std.proofs.Common.{refl, sym, ◌∙◌}
+use Rattle.std.proofs.Common.{refl}
 use Rattle.plain_runner.proofs.Turning.{before_taken}
 use Rattle.plain_runner.proofs.runner.Runner.play_owed.Goals as goal
 
