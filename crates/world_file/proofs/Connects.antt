@@ -1,5 +1,5 @@
 -- A text that connects is spelled as its control is.
-use Rattle.std.proofs.Common.{◌≡◌, ℕ, ◌+◌, ◌*◌, ◌/◌, ◌%◌, ◌<◌, ◌≤◌, ◌^◌, ◌==◌, inl, inr, zero, suc, Bool, true, false, ◌&&◌, cond, List, [], ◌∷◌, ◌++◌, length, get_or, refl, sym, ap, subst, ◌∙◌, arith, Option, Some, None, Ok, append_assoc}
+use Rattle.std.proofs.Common.{◌≡◌, ℕ, ◌+◌, ◌*◌, ◌/◌, ◌%◌, ◌<◌, ◌≤◌, ◌^◌, ◌==◌, inl, Bool, true, false, ◌&&◌, List, [], ◌∷◌, ◌++◌, length, get_or, refl, sym, ap, subst, ◌∙◌, arith, Option, Some, None, Ok, append_assoc}
 use Rattle.std.specs.Prelude.{codes, bytes_eq, decimal, nat_lt, nat_le, is_some, if◌then◌else◌}
 use Rattle.std.specs.List.{list_all, join_with_byte}
 use Rattle.std.specs.Option.{option_and_then}
@@ -17,9 +17,8 @@ use Rattle.std.specs.Int.{IsInRange}
 use Rattle.std.proofs.Common.{rules}
 use Rattle.std.proofs.lemmas.Fmt.{decimal-digits_value}
 use Rattle.net_base.specs.declared.address.Addr.{Addr}
-use Rattle.net_base.specs.declared.names.Ctl.{Ctl}
 use Rattle.net_base.specs.declared.names.Ctl.TheVariants as ctl
-use Rattle.net_base.specs.Addresses.{parts_at, read_digits, read_byte, within, join_bytes}
+use Rattle.net_base.specs.Addresses.{parts_at, read_digits, within, join_bytes}
 use Rattle.net_base.specs.ControlWords as control
 use Rattle.net_model.specs.WorldWords.{is_padded, number_in, octet_of, octets_joined, address_in, words_of}
 use Rattle.net_model.specs.WorldLines.{is_port, is_place, connects_words, connects}

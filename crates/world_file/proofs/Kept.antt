@@ -1,5 +1,5 @@
 -- The world so far is one that a file can say, in the form that is run so far, with what is still missing.
-use Rattle.std.proofs.Common.{◌≡◌, ℕ, ◌+◌, ◌*◌, ◌<◌, ◌≤◌, ◌^◌, ◌==◌, ◌⊎◌, inl, inr, zero, suc, Bool, true, false, not, ◌&&◌, ◌||◌, cond, List, [], ◌∷◌, ◌++◌, length, map, refl, sym, ap, subst, ◌∙◌, arith, Option, Some, None, Ok, Err, Result, append_assoc, append-nil, length-append}
+use Rattle.std.proofs.Common.{◌≡◌, ℕ, ◌+◌, ◌*◌, ◌<◌, ◌≤◌, ◌^◌, ◌==◌, ◌⊎◌, inl, inr, zero, suc, Bool, true, false, not, ◌&&◌, ◌||◌, cond, List, [], ◌∷◌, ◌++◌, length, map, refl, sym, ap, subst, ◌∙◌, arith, Option, Some, None, Ok, Err, Result, append-nil, length-append}
 use Rattle.std.specs.Prelude.{⊤, bit_and, codes, bytes_eq, nat_lt, nat_le, nat_eq, is_none, flat_map, position, option_map, if◌then◌else◌}
 use Rattle.std.specs.List.{All, list_any, list_all, position_or_len}
 use Rattle.std.specs.Option.{option_to_list, option_and_then}
@@ -15,9 +15,6 @@ use Rattle.std.proofs.lemmas.Grind.{flat_map-append}
 use Rattle.std.proofs.lemmas.Slice.Eq.{bytes_eq-Decides}
 use Rattle.net_base.specs.declared.address.Proto.{Proto}
 use Rattle.std.proofs.lemmas.List.Folds.{list_all-append, list_any-append}
-use Rattle.net_base.specs.declared.address.Addr.{Addr}
-use Rattle.net_base.specs.declared.names.Ctl.{Ctl}
-use Rattle.net_base.specs.declared.names.Ctl.TheVariants as ctl
 use Rattle.net_base.specs.declared.world.HostSpec.{HostSpec}
 use Rattle.net_base.specs.declared.world.Iface.{Iface}
 use Rattle.net_base.specs.declared.world.MediumSpec.{MediumSpec}
@@ -25,9 +22,8 @@ use Rattle.net_base.specs.declared.world.Script.{Script}
 use Rattle.net_base.specs.declared.world.Step.{Step}
 use Rattle.net_base.specs.declared.world.Step.TheVariants as step
 use Rattle.net_base.specs.declared.world.World.{World}
-use Rattle.net_base.specs.ControlWords as control
-use Rattle.net_base.specs.World.{all_apart, is_within, is_name, is_nets, is_mask, is_address, is_moment, is_medium, are_media, is_iface, is_host, same_medium, addresses, is_step, is_script, IsWorld, IsDatabase}
-use Rattle.net_base.specs.WorldForm.{IsTransfer, AreTransfers, clone_path, data_path, opening_steps, IsUdpScript, IsPlainMedium, IsPlainHost, same_host, IsFirstForm}
+use Rattle.net_base.specs.World.{all_apart, is_within, is_name, is_nets, is_mask, is_address, is_moment, is_medium, are_media, is_iface, is_host, addresses, is_step, is_script, IsWorld, IsDatabase}
+use Rattle.net_base.specs.WorldForm.{IsTransfer, AreTransfers, clone_path, data_path, IsUdpScript, IsPlainMedium, IsPlainHost, same_host, IsFirstForm}
 use Rattle.net_base.specs.declared.ndb.NdbPair.{NdbPair}
 use Rattle.net_base.specs.Addresses.{within, read_digits, join_bytes, parts_at}
 use Rattle.net_base.specs.Routes.{has_ip}

@@ -8,10 +8,9 @@ use Rattle.std.proofs.lemmas.Int.Digits.{digits_value-lt}
 use Rattle.std.proofs.Math.Seq.{drop-cons}
 use Rattle.std.proofs.Math.Nat.{pow-le-pow_right}
 use Rattle.net_base.specs.Addresses.{parts_at}
-use Rattle.std.specs.List.{slice_split}
-use Rattle.std.specs.Prelude.{position, option_map, Option, Some, cond, Bool, suc, zero, count_by, false}
+use Rattle.std.specs.Prelude.{false}
 use Rattle.net_base.specs.declared.world.Step.TheVariants as step
-use Rattle.net_model.specs.WorldWords.{octets_joined, address_in, joined, words_of}
+use Rattle.net_model.specs.WorldWords.{octets_joined, address_in, joined}
 use Rattle.net_model.specs.WorldLines.{connects_words, connects, is_place, are_frames, is_frames, write_of, cs_of, kept}
 use Rattle.std.proofs.lemmas.List.Splits.{join_with_byte-slice_split}
 

@@ -1,12 +1,12 @@
 -- What is kept is small.
-use Rattle.std.proofs.Common.{◌≡◌, ℕ, ◌+◌, ◌<◌, ◌≤◌, List, [], ◌∷◌, length, arith, subst, ◌∙◌, Result, Ok, Err}
+use Rattle.std.proofs.Common.{◌≡◌, ℕ, ◌≤◌, List, [], ◌∷◌, length, arith, subst, ◌∙◌, Result, Ok, Err}
 use Rattle.std.specs.Prelude.{IfOk}
 use Rattle.net_base.specs.declared.world.World.{World}
 use Rattle.net_base.specs.World.{IsWorld}
 use Rattle.net_base.specs.WorldForm.{IsFirstForm}
 use Rattle.net_model.specs.WorldText.{world_reading}
 use Rattle.net_base.specs.declared.world.MediumSpec.{MediumSpec}
-use Rattle.net_model.specs.WorldLines.{Draft, Verdict, Goes, line_verdict}
+use Rattle.net_model.specs.WorldLines.{Draft, Goes, line_verdict}
 use Rattle.world_file.specs.Told.{IsSmall}
 use Rattle.world_file.proofs.Kept.{Kept, MediaKept, Keeps, keeps-line, said}
 

@@ -1,4 +1,4 @@
-use Rattle.std.proofs.Common.{◌≡◌, ◌∙◌, ap, arith, Bool}
+use Rattle.std.proofs.Common.{◌∙◌, ap, arith, Bool}
 use Rattle.net_model.specs.WorldLines.{Begins, Goes, world_of}
 use Rattle.world_file.specs.Told.{going}
 use Rattle.world_file.proofs.Cuts.{reading-line}

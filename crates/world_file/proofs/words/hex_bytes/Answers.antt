@@ -1,4 +1,4 @@
-use Rattle.std.proofs.Common.{◌≡◌, ◌-◌, ◌+◌, ◌*◌, ap, sym, ◌∙◌, length, take, drop, arith, length-drop, List, ℕ, ◌++◌, ◌∷◌, []}
+use Rattle.std.proofs.Common.{◌-◌, ap, sym, ◌∙◌, length, drop, arith, length-drop, List, ℕ, ◌++◌}
 use Rattle.std.specs.Option.{option_map}
 use Rattle.std.proofs.lemmas.List.{take_all}
 use Rattle.net_model.specs.WorldWords as spec

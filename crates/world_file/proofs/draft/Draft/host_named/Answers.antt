@@ -1,4 +1,4 @@
-use Rattle.std.proofs.Common.{sym, ◌∙◌, ◌≡◌, None, ap, Some}
+use Rattle.std.proofs.Common.{sym, ◌∙◌}
 use Rattle.world_file.proofs.Places.{position-under}
 use Rattle.net_model.specs.WorldLines as spec
 use Rattle.world_file.proofs.draft.Draft.host_named.Goals as goal
