@@ -1,5 +1,6 @@
 pub mod Mirror
 pub mod Number
+pub mod Numeral
 pub mod Timer
 pub mod UdpEnd
 pub mod IlEnd

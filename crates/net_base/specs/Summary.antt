@@ -1,5 +1,5 @@
 -- The summary of a run: four lines.
-use Rattle.std.specs.Prelude.{ℕ, List, [], ◌∷◌, ◌++◌, length, sum_by, codes, decimal, nat_lt, if◌then◌else◌}
+use Rattle.std.specs.Prelude.{ℕ, List, [], ◌∷◌, ◌++◌, length, sum_by, codes, nat_lt, if◌then◌else◌}
 use Rattle.std.specs.List.{enumerate_from}
 use Rattle.net_base.specs.declared.event.Event.{Event}
 use Rattle.net_base.specs.declared.event.Event.TheVariants as event
@@ -11,6 +11,7 @@ use Rattle.net_base.specs.declared.world.World.{World}
 use Rattle.net_base.specs.Calm.{owes, done, stopped, limited}
 use Rattle.net_base.specs.Net.{Net, after}
 use Rattle.net_base.specs.Next.{answered}
+use Rattle.net_base.specs.Numeral.{numeral}
 
 -- a write that counts is one message
 abbrev pub written_in : Event → Reply → ℕ
@@ -77,14 +78,14 @@ end_word w net =
 -- The text.
 
 abbrev pub steps_line : ℕ → ℕ → List ℕ
-steps_line answered all = codes "steps " ++ decimal answered ++ codes " of " ++ decimal all ++ 10 ∷ []
+steps_line answered all = codes "steps " ++ numeral answered ++ codes " of " ++ numeral all ++ 10 ∷ []
 
 -- a line of what was written and what was read
 abbrev pub both_line : List ℕ → ℕ → ℕ → List ℕ
-both_line word written read = word ++ codes " " ++ decimal written ++ codes " " ++ decimal read ++ 10 ∷ []
+both_line word written read = word ++ codes " " ++ numeral written ++ codes " " ++ numeral read ++ 10 ∷ []
 
 abbrev pub end_line : List ℕ → ℕ → List ℕ
-end_line word moment = codes "end " ++ word ++ codes " " ++ decimal moment ++ 10 ∷ []
+end_line word moment = codes "end " ++ word ++ codes " " ++ numeral moment ++ 10 ∷ []
 
 abbrev pub totals_lines : Totals → List ℕ
 totals_lines t = both_line (codes "messages") t.written t.read ++ both_line (codes "bytes") t.bytes_written t.bytes_read

@@ -1,5 +1,5 @@
 -- The text of a history: a line for each entry, of words with a blank between two of them.
-use Rattle.std.specs.Prelude.{ℕ, ◌+◌, ◌/◌, ◌%◌, Bool, true, false, List, [], ◌∷◌, ◌++◌, Option, Some, None, flat_map, codes, decimal, nat_lt, if◌then◌else◌}
+use Rattle.std.specs.Prelude.{ℕ, ◌+◌, ◌/◌, ◌%◌, Bool, true, false, List, [], ◌∷◌, ◌++◌, Option, Some, None, ◌^◌, flat_map, codes, nat_lt, if◌then◌else◌}
 use Rattle.net_base.specs.declared.actor.ActorName.{ActorName}
 use Rattle.net_base.specs.declared.actor.ActorName.TheVariants as name
 use Rattle.net_base.specs.declared.actor.Call.{Call}
@@ -18,7 +18,7 @@ use Rattle.net_base.specs.declared.packet.BodyHeader.TheVariants as body
 use Rattle.net_base.specs.declared.packet.Header.{Header}
 use Rattle.net_base.specs.declared.reply.Reply.{Reply}
 use Rattle.net_base.specs.declared.reply.Reply.TheVariants as reply
-use Rattle.net_base.specs.Addresses.{address_text}
+use Rattle.net_base.specs.Numeral.{numeral}
 use Rattle.net_base.specs.Paths.{proto_name, file_name}
 use Rattle.net_base.specs.StateWords.{state_word}
 
@@ -52,19 +52,25 @@ lines_of texts = flat_map (λ text. text ++ 10 ∷ []) texts
 
 abbrev pub number_or_dash : Option ℕ → List ℕ
 number_or_dash None = dash
-number_or_dash (Some n) = decimal n
+number_or_dash (Some n) = numeral n
 
 abbrev pub number_or_star : Option ℕ → List ℕ
 number_or_star None = star
-number_or_star (Some n) = decimal n
+number_or_star (Some n) = numeral n
+
+-- an address: four numbers joined by dots
+abbrev pub ip_word : ℕ → List ℕ
+ip_word ip =
+    numeral (ip / 2 ^ 24) ++ codes "." ++ numeral (ip / 2 ^ 16 % 256)
+    ++ codes "." ++ numeral (ip / 2 ^ 8 % 256) ++ codes "." ++ numeral (ip % 256)
 
 abbrev pub ip_or_star : Option ℕ → List ℕ
 ip_or_star None = star
-ip_or_star (Some ip) = address_text ip
+ip_or_star (Some ip) = ip_word ip
 
 -- an address and its port
 unfoldable pub addr_word : Addr → List ℕ
-addr_word a = address_text a.ip ++ codes "!" ++ decimal a.port
+addr_word a = ip_word a.ip ++ codes "!" ++ numeral a.port
 
 abbrev pub mode_word : Mode → List ℕ
 mode_word mode.Read = codes "r"
@@ -87,10 +93,10 @@ kind_word kind.State = codes "state"
 kind_word kind.Close = codes "close"
 
 abbrev pub actor_word : ActorName → List ℕ
-actor_word (name.Desk h) = codes "desk." ++ decimal h
-actor_word (name.Dir h p) = codes "dir." ++ decimal h ++ codes "." ++ proto_name p
-actor_word (name.Conv h p n) = codes "conv." ++ decimal h ++ codes "." ++ proto_name p ++ codes "." ++ decimal n
-actor_word (name.Medium m) = codes "medium." ++ decimal m
+actor_word (name.Desk h) = codes "desk." ++ numeral h
+actor_word (name.Dir h p) = codes "dir." ++ numeral h ++ codes "." ++ proto_name p
+actor_word (name.Conv h p n) = codes "conv." ++ numeral h ++ codes "." ++ proto_name p ++ codes "." ++ numeral n
+actor_word (name.Medium m) = codes "medium." ++ numeral m
 actor_word name.Clock = codes "clock"
 
 -- Events.
@@ -101,44 +107,44 @@ event_words (event.LsPath path) = codes "ls" ∷ hex_word path ∷ []
 event_words (event.OpenPath path m) = codes "open" ∷ hex_word path ∷ mode_word m ∷ []
 event_words (event.Use called) = codes "use" ∷ called ∷ []
 event_words (event.Misuse called) = codes "misuse" ∷ called ∷ []
-event_words (event.Until m) = codes "until" ∷ decimal m ∷ []
+event_words (event.Until m) = codes "until" ∷ numeral m ∷ []
 event_words event.Reserve = codes "reserve" ∷ []
-event_words (event.Grant n g remote lport) = codes "grant" ∷ decimal n ∷ decimal g ∷ addr_word remote ∷ number_or_dash lport ∷ []
-event_words (event.Announce n g ip port) = codes "announce" ∷ decimal n ∷ decimal g ∷ ip_or_star ip ∷ number_or_star port ∷ []
-event_words (event.Bind n g port) = codes "bind" ∷ decimal n ∷ decimal g ∷ decimal port ∷ []
-event_words (event.Listen n) = codes "listen" ∷ decimal n ∷ []
-event_words (event.Withdraw n g) = codes "withdraw" ∷ decimal n ∷ decimal g ∷ []
-event_words (event.Release n g) = codes "release" ∷ decimal n ∷ decimal g ∷ []
+event_words (event.Grant n g remote lport) = codes "grant" ∷ numeral n ∷ numeral g ∷ addr_word remote ∷ number_or_dash lport ∷ []
+event_words (event.Announce n g ip port) = codes "announce" ∷ numeral n ∷ numeral g ∷ ip_or_star ip ∷ number_or_star port ∷ []
+event_words (event.Bind n g port) = codes "bind" ∷ numeral n ∷ numeral g ∷ numeral port ∷ []
+event_words (event.Listen n) = codes "listen" ∷ numeral n ∷ []
+event_words (event.Withdraw n g) = codes "withdraw" ∷ numeral n ∷ numeral g ∷ []
+event_words (event.Release n g) = codes "release" ∷ numeral n ∷ numeral g ∷ []
 event_words event.Arrive = codes "arrive" ∷ []
 event_words event.Ls = codes "ls" ∷ []
-event_words (event.Begin g) = codes "begin" ∷ decimal g ∷ []
-event_words (event.Born g) = codes "born" ∷ decimal g ∷ []
-event_words (event.Claim g) = codes "claim" ∷ decimal g ∷ []
-event_words (event.Connect g) = codes "connect" ∷ decimal g ∷ []
-event_words (event.Announced g) = codes "announced" ∷ decimal g ∷ []
-event_words (event.Bound g) = codes "bound" ∷ decimal g ∷ []
-event_words (event.Await g) = codes "await" ∷ decimal g ∷ []
+event_words (event.Begin g) = codes "begin" ∷ numeral g ∷ []
+event_words (event.Born g) = codes "born" ∷ numeral g ∷ []
+event_words (event.Claim g) = codes "claim" ∷ numeral g ∷ []
+event_words (event.Connect g) = codes "connect" ∷ numeral g ∷ []
+event_words (event.Announced g) = codes "announced" ∷ numeral g ∷ []
+event_words (event.Bound g) = codes "bound" ∷ numeral g ∷ []
+event_words (event.Await g) = codes "await" ∷ numeral g ∷ []
 event_words (event.Open f m) = codes "open" ∷ file_name f ∷ mode_word m ∷ []
-event_words (event.File g f count) = codes "file" ∷ decimal g ∷ file_name f ∷ decimal count ∷ []
-event_words (event.Read g count) = codes "read" ∷ decimal g ∷ decimal count ∷ []
-event_words (event.Write g text) = codes "write" ∷ decimal g ∷ hex_word text ∷ []
-event_words (event.Hangup g) = codes "hangup" ∷ decimal g ∷ []
-event_words (event.Ttl g n) = codes "ttl" ∷ decimal g ∷ decimal n ∷ []
-event_words (event.Tos g n) = codes "tos" ∷ decimal g ∷ decimal n ∷ []
-event_words (event.Ctl g text) = codes "ctl" ∷ decimal g ∷ hex_word text ∷ []
-event_words (event.Close g) = codes "close" ∷ decimal g ∷ []
-event_words (event.ArriveAt g) = codes "arrive" ∷ decimal g ∷ []
-event_words (event.Tick g) = codes "tick" ∷ decimal g ∷ []
+event_words (event.File g f count) = codes "file" ∷ numeral g ∷ file_name f ∷ numeral count ∷ []
+event_words (event.Read g count) = codes "read" ∷ numeral g ∷ numeral count ∷ []
+event_words (event.Write g text) = codes "write" ∷ numeral g ∷ hex_word text ∷ []
+event_words (event.Hangup g) = codes "hangup" ∷ numeral g ∷ []
+event_words (event.Ttl g n) = codes "ttl" ∷ numeral g ∷ numeral n ∷ []
+event_words (event.Tos g n) = codes "tos" ∷ numeral g ∷ numeral n ∷ []
+event_words (event.Ctl g text) = codes "ctl" ∷ numeral g ∷ hex_word text ∷ []
+event_words (event.Close g) = codes "close" ∷ numeral g ∷ []
+event_words (event.ArriveAt g) = codes "arrive" ∷ numeral g ∷ []
+event_words (event.Tick g) = codes "tick" ∷ numeral g ∷ []
 event_words (event.Put to) = codes "put" ∷ number_or_dash to ∷ []
 event_words event.Take = codes "take" ∷ []
-event_words (event.Move m) = codes "move" ∷ decimal m ∷ []
+event_words (event.Move m) = codes "move" ∷ numeral m ∷ []
 
 -- Replies.
 
 -- the slot and the generation of each call
 abbrev pub calls_of : List Call → List (List ℕ)
 calls_of [] = []
-calls_of (call ∷ calls) = decimal call.slot ∷ decimal call.generation ∷ calls_of calls
+calls_of (call ∷ calls) = numeral call.slot ∷ numeral call.generation ∷ calls_of calls
 
 abbrev pub call_words : List Call → List (List ℕ)
 call_words [] = dash ∷ []
@@ -146,56 +152,56 @@ call_words (call ∷ calls) = calls_of (call ∷ calls)
 
 abbrev pub reply_words : Reply → List (List ℕ)
 reply_words (reply.Lines lines) = codes "lines" ∷ hex_word (lines_of lines) ∷ []
-reply_words (reply.CsRefused n) = codes "csrefused" ∷ decimal n ∷ []
+reply_words (reply.CsRefused n) = codes "csrefused" ∷ numeral n ∷ []
 reply_words (reply.Names names) = codes "names" ∷ hex_word (lines_of names) ∷ []
 reply_words reply.NoFile = codes "nofile" ∷ []
 reply_words reply.BadMode = codes "badmode" ∷ []
 reply_words reply.BadFid = codes "badfid" ∷ []
 reply_words reply.Ok = codes "ok" ∷ []
-reply_words (reply.Slot n g) = codes "slot" ∷ decimal n ∷ decimal g ∷ []
+reply_words (reply.Slot n g) = codes "slot" ∷ numeral n ∷ numeral g ∷ []
 reply_words reply.NoSlot = codes "noslot" ∷ []
-reply_words (reply.Granted pair start limit) = codes "granted" ∷ addr_word pair.local ∷ addr_word pair.remote ∷ decimal start ∷ decimal limit ∷ []
+reply_words (reply.Granted pair start limit) = codes "granted" ∷ addr_word pair.local ∷ addr_word pair.remote ∷ numeral start ∷ numeral limit ∷ []
 reply_words (reply.WrongState s) = codes "wrong" ∷ state_word s ∷ []
 reply_words reply.NoRoute = codes "noroute" ∷ []
 reply_words reply.NoPort = codes "noport" ∷ []
 reply_words reply.SelfPair = codes "selfpair" ∷ []
-reply_words (reply.PairUsed k) = codes "pairused" ∷ decimal k ∷ []
-reply_words (reply.PortTaken n) = codes "taken" ∷ decimal n ∷ []
-reply_words (reply.Call n g) = codes "call" ∷ decimal n ∷ decimal g ∷ []
+reply_words (reply.PairUsed k) = codes "pairused" ∷ numeral k ∷ []
+reply_words (reply.PortTaken n) = codes "taken" ∷ numeral n ∷ []
+reply_words (reply.Call n g) = codes "call" ∷ numeral n ∷ numeral g ∷ []
 reply_words (reply.Calls calls) = codes "calls" ∷ call_words calls
-reply_words (reply.To n g) = codes "to" ∷ decimal n ∷ decimal g ∷ []
-reply_words (reply.Born n g start limit) = codes "born" ∷ decimal n ∷ decimal g ∷ decimal start ∷ decimal limit ∷ []
+reply_words (reply.To n g) = codes "to" ∷ numeral n ∷ numeral g ∷ []
+reply_words (reply.Born n g start limit) = codes "born" ∷ numeral n ∷ numeral g ∷ numeral start ∷ numeral limit ∷ []
 reply_words reply.Refused = codes "refused" ∷ []
 reply_words reply.Dropped = codes "dropped" ∷ []
 reply_words reply.Stale = codes "stale" ∷ []
-reply_words (reply.Hungup c) = codes "hungup" ∷ decimal (cause_number c) ∷ []
-reply_words (reply.Opened g) = codes "opened" ∷ decimal g ∷ []
+reply_words (reply.Hungup c) = codes "hungup" ∷ numeral (cause_number c) ∷ []
+reply_words (reply.Opened g) = codes "opened" ∷ numeral g ∷ []
 reply_words reply.NotOpen = codes "notopen" ∷ []
 reply_words (reply.Bytes bytes) = codes "bytes" ∷ hex_word bytes ∷ []
-reply_words (reply.Count n) = codes "count" ∷ decimal n ∷ []
+reply_words (reply.Count n) = codes "count" ∷ numeral n ∷ []
 reply_words reply.ZeroWrite = codes "zerowrite" ∷ []
-reply_words (reply.TooLong length limit) = codes "toolong" ∷ decimal length ∷ decimal limit ∷ []
+reply_words (reply.TooLong length limit) = codes "toolong" ∷ numeral length ∷ numeral limit ∷ []
 reply_words reply.Left = codes "left" ∷ []
-reply_words (reply.BadCtl n) = codes "badctl" ∷ decimal n ∷ []
+reply_words (reply.BadCtl n) = codes "badctl" ∷ numeral n ∷ []
 reply_words reply.Took = codes "took" ∷ []
 reply_words reply.Full = codes "full" ∷ []
 reply_words reply.Ticked = codes "ticked" ∷ []
 reply_words reply.NotDue = codes "notdue" ∷ []
-reply_words (reply.Laid k) = codes "laid" ∷ decimal k ∷ []
+reply_words (reply.Laid k) = codes "laid" ∷ numeral k ∷ []
 reply_words reply.TooBig = codes "toobig" ∷ []
 reply_words reply.NoStation = codes "nostation" ∷ []
-reply_words (reply.Copy k) = codes "copy" ∷ decimal k ∷ []
+reply_words (reply.Copy k) = codes "copy" ∷ numeral k ∷ []
 
 -- Lines.
 
 -- the protocol's word, the addresses, ttl and tos
 abbrev pub way_words : List ℕ → Header → List (List ℕ)
-way_words proto h = proto ∷ addr_word h.src ∷ addr_word h.dst ∷ decimal h.ttl ∷ decimal h.tos ∷ []
+way_words proto h = proto ∷ addr_word h.src ∷ addr_word h.dst ∷ numeral h.ttl ∷ numeral h.tos ∷ []
 
 -- what a body shows
 abbrev pub body_words : BodyHeader → List (List ℕ)
-body_words (body.Il k spec id ack length) = kind_word k ∷ decimal spec ∷ decimal id ∷ decimal ack ∷ decimal length ∷ []
-body_words (body.Udp length) = decimal length ∷ []
+body_words (body.Il k spec id ack length) = kind_word k ∷ numeral spec ∷ numeral id ∷ numeral ack ∷ numeral length ∷ []
+body_words (body.Udp length) = numeral length ∷ []
 
 abbrev pub proto_word : BodyHeader → List ℕ
 proto_word (body.Il k spec id ack length) = codes "il"
@@ -218,7 +224,7 @@ spaced words = flat_map (λ word. 32 ∷ word) words
 
 -- the moment, the caller, the actor and what is cited
 abbrev pub who_words : Entry → List (List ℕ)
-who_words x = decimal x.moment ∷ decimal x.caller ∷ actor_word x.actor ∷ number_or_dash x.cites ∷ []
+who_words x = numeral x.moment ∷ numeral x.caller ∷ actor_word x.actor ∷ number_or_dash x.cites ∷ []
 
 -- the reply, the header of what is emitted, and whether it ended
 abbrev pub outcome_words : Entry → List (List ℕ)
@@ -230,7 +236,7 @@ entry_words x = who_words x ++ event_words x.event ++ outcome_words x
 
 -- the line of the entry with this stamp
 unfoldable pub line_of : ℕ → Entry → List ℕ
-line_of stamp x = decimal stamp ++ spaced (entry_words x) ++ 10 ∷ []
+line_of stamp x = numeral stamp ++ spaced (entry_words x) ++ 10 ∷ []
 
 -- the lines of entries, the first of which has this stamp
 abbrev pub lines_from : ℕ → List Entry → List ℕ

@@ -41,14 +41,17 @@ abbrev pub is_name : List ℕ → Bool
 is_name [] = false
 is_name (b ∷ bs) = is_letter b && (list_all is_name_byte bs && nat_lt (length bs) 27)
 
+abbrev pub is_byte : ℕ → Bool
+is_byte b = nat_lt b 256
+
 -- it stands on one line
 abbrev pub is_text : List ℕ → Bool
-is_text text = list_all (λ b. not (b == 10)) text
+is_text text = list_all (λ b. is_byte b && not (b == 10)) text
 
 -- it is a word: not empty, without blank and newline
 abbrev pub is_word : List ℕ → Bool
 is_word [] = false
-is_word (b ∷ bs) = list_all (λ c. not ((c == 32) || (c == 10))) (b ∷ bs)
+is_word (b ∷ bs) = list_all (λ c. is_byte c && not ((c == 32) || (c == 10))) (b ∷ bs)
 
 -- a moment: 1 to 1,000,000,000
 abbrev pub is_moment : ℕ → Bool
@@ -144,7 +147,7 @@ abbrev pub is_step : Step → Bool
 is_step (step.Open name path mode) = is_name name && is_word path
 is_step (step.Read name count) = is_name name && is_within 1 65536 count
 is_step (step.Write name text) = is_name name && is_text text
-is_step (step.Writex name text) = is_name name
+is_step (step.Writex name text) = is_name name && list_all is_byte text
 is_step (step.Close name) = is_name name
 is_step (step.Ls path) = is_word path
 is_step (step.Cs query) = is_text query
