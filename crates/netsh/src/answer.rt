@@ -15,7 +15,7 @@ use net_base::{Lines, Octets, World};
 use plain_runner::{Ran, RunEnd};
 use std::alloc::{AllocError, Global};
 use std::marker::Model;
-use transcript::{End, Standing, summary_of, text_of};
+use transcript::{End, Standing, summary_by, text_of};
 
 /// The words give no command.
 pub const USAGE: &str = "! usage\n";
@@ -89,7 +89,7 @@ impl Answer {
     {
         let mut text = text_of(alloc, &ran.history)?;
         let standing = standing_of(ran);
-        let summary = summary_of(alloc, world, &ran.history, standing)?;
+        let summary = summary_by(alloc, world, &ran.history, standing)?;
         text.append(summary.as_slice())?;
         Ok(Answer {
             status: run_status(ran.end),

@@ -22,8 +22,8 @@ latest now [] = now
 latest now (x ∷ xs) = latest (moment_after now x.event) xs
 
 -- the four lines, where a run stands so
-abbrev pub summary_by : World → List Entry → Standing → List ℕ
-summary_by w h s = steps_line s.answered (all_steps w) ++ totals_lines (totals h) ++ end_line (word_of s.end) (latest 0 h)
+abbrev pub lines_by : World → List Entry → Standing → List ℕ
+lines_by w h s = steps_line s.answered (all_steps w) ++ totals_lines (totals h) ++ end_line (word_of s.end) (latest 0 h)
 
 -- the history is legal for the world, and the net behind it stands so
 pub record Stands (w : World) (h : List Entry) (s : Standing) : Type 0 where

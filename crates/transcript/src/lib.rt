@@ -14,5 +14,5 @@ mod words;
 
 pub use entry::text_of;
 pub use law::{plain_texts_tell, texts_tell_words};
-pub use summary::{End, Standing, summary_of};
+pub use summary::{End, Standing, summary_by};
 pub use totals::{Totals, totals_of};

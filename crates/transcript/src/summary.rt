@@ -3,7 +3,7 @@ ghost use Rattle.std.specs.Prelude.{◌≡◌, ◌++◌, OnOk, IfOk, codes, deci
 ghost use Rattle.net_base.specs.Net as net;
 ghost use Rattle.net_base.specs.Summary as spec;
 ghost use Rattle.net_base.specs.Summary.{summary, steps_line, both_line, end_line};
-ghost use Rattle.transcript.specs.Standing.{Stands, summary_by, word_of, latest};
+ghost use Rattle.transcript.specs.Standing.{Stands, lines_by, word_of, latest};
 
 use crate::totals::{Totals, totals_of};
 use itoa::Buffer;
@@ -28,13 +28,13 @@ pub struct Standing {
 
 /// The summary of a history, whose net stands so.
 #[tactic(auto, using(crate::proofs::Summing::stands_so))]
-pub fn summary_of(
+pub fn summary_by(
     alloc: Global,
     world: &World,
     history: &History,
     standing: Standing,
 ) -> Result<Octets, AllocError>
-    ensures lines { IfOk result (λ text. text ≡ summary_by world.now history.now standing) }
+    ensures lines { IfOk result (λ text. text ≡ lines_by world.now history.now standing) }
     ensures summary { Stands world.now history.now standing → IfOk result (λ text. text ≡ summary world.now history.now) }
 {
     let mut out = Octets::new(alloc);
@@ -48,7 +48,7 @@ fn put_summary(
     history: &History,
     standing: Standing,
 ) -> Result<(), AllocError>
-    ensures { OnOk result (out.new ≡ out.old ++ summary_by world.now history.now standing) }
+    ensures { OnOk result (out.new ≡ out.old ++ lines_by world.now history.now standing) }
 {
     put_steps(out, standing.answered, all_steps(world))?;
     put_totals(out, totals_of(history))?;

@@ -1,5 +1,5 @@
 //! A worked history with its summary, and a line for each word.
-use crate::{End, Standing, summary_of, text_of};
+use crate::{End, Standing, summary_by, text_of};
 use net_base::{
     ActorName, Addr, BodyHeader, Call, CallList, Cause, Db, Entry, Event, FileName, Header,
     History, Hosts, IlKind, Lines, Media, Mode, Octets, Pair, Proto, Reply, Script, Scripts,
@@ -436,7 +436,7 @@ fn a_datagram_is_summed(rt: HostRuntime) -> Result<(), Fail> {
         answered: 8,
         end: End::Done,
     };
-    let summary = summary_of(alloc, &scripts(alloc)?, &datagram(alloc)?, standing)?;
+    let summary = summary_by(alloc, &scripts(alloc)?, &datagram(alloc)?, standing)?;
     let lines = b"steps 8 of 8
 messages 1 1
 bytes 2 2
@@ -489,7 +489,7 @@ fn refusals_are_no_messages(rt: HostRuntime) -> Result<(), Fail> {
         answered: 3,
         end: End::Stopped,
     };
-    let summary = summary_of(alloc, &scripts(alloc)?, &history, standing)?;
+    let summary = summary_by(alloc, &scripts(alloc)?, &history, standing)?;
     let lines = b"steps 3 of 8
 messages 0 0
 bytes 0 0
