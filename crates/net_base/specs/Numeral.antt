@@ -1,6 +1,6 @@
 -- A number in decimal, without a bound on its size.
 use Rattle.std.specs.Prelude.{ℕ, zero, suc, ◌+◌, List, map, codes}
-use Rattle.core.specs.Int.Digits.{digits_of}
+use Rattle.std.specs.Int.Digits.{digits_of}
 
 -- its digits, the first of which is 0 for 0 alone
 unfoldable pub numeral : ℕ → List ℕ
