@@ -1,7 +1,8 @@
 -- The words of lines, told by their bytes.
-use Rattle.std.proofs.Common.{◌≡◌, ◌≢◌, ℕ, ◌+◌, List, [], ◌∷◌, ◌++◌, ◌⊎◌, inl, inr, map, refl, sym, ◌∙◌, append_assoc, decimal}
+use Rattle.std.proofs.Common.{◌≡◌, ◌≢◌, ℕ, ◌+◌, List, [], ◌∷◌, ◌++◌, ◌⊎◌, inl, inr, map, refl, sym, ◌∙◌, append_assoc}
 use Rattle.std.proofs.lemmas.List.{append_cancel_left}
 use Rattle.net_base.specs.declared.history.Entry.{Entry}
+use Rattle.net_base.specs.Numeral.{numeral}
 use Rattle.net_base.specs.Transcript.{spaced, entry_words, line_of, lines_from}
 use Rattle.net_base.specs.Plain.{IsClean}
 use Rattle.transcript.specs.Telling.{AreClean, HasCleanWords}
@@ -59,13 +60,13 @@ nothing_behind [] (z ∷ zs) rest none = absurd (cc)
 nothing_behind (x ∷ xs) zs rest none = absurd (cc)
 
 -- a line, as its stamp and its words
-line_is : (n : ℕ) (x : Entry) (rest : List ℕ) → line_of n x ++ rest ≡ decimal n ++ (spaced (entry_words x) ++ 10 ∷ rest)
+line_is : (n : ℕ) (x : Entry) (rest : List ℕ) → line_of n x ++ rest ≡ numeral n ++ (spaced (entry_words x) ++ 10 ∷ rest)
 unfolding line_of
 line_is n x rest = simp append_assoc refl
 
 -- a line isn't nothing
 no_line : (n : ℕ) (x : Entry) (rest : List ℕ) → line_of n x ++ rest ≡ [] → ⊥
-no_line n x rest none = nothing_behind (decimal n) (spaced (entry_words x)) rest (sym (line_is n x rest) ∙ none)
+no_line n x rest none = nothing_behind (numeral n) (spaced (entry_words x)) rest (sym (line_is n x rest) ∙ none)
 
 pub words_told : (n : ℕ) (h k : List Entry) → HasCleanWords h → HasCleanWords k → lines_from n h ≡ lines_from n k → map entry_words h ≡ map entry_words k
 words_told n [] [] ch ck same = refl
@@ -74,9 +75,9 @@ words_told n [] (y ∷ k) ch ck same =
 words_told n (x ∷ h) [] ch ck same =
     absurd (no_line n x (lines_from (n + 1) h) same)
 words_told n (x ∷ h) (y ∷ k) ch ck same =
-    let lines : decimal n ++ (spaced (entry_words x) ++ 10 ∷ lines_from (n + 1) h) ≡ decimal n ++ (spaced (entry_words y) ++ 10 ∷ lines_from (n + 1) k) =
+    let lines : numeral n ++ (spaced (entry_words x) ++ 10 ∷ lines_from (n + 1) h) ≡ numeral n ++ (spaced (entry_words y) ++ 10 ∷ lines_from (n + 1) k) =
     sym (line_is n x (lines_from (n + 1) h)) ∙ same ∙ line_is n y (lines_from (n + 1) k) in
-    let behind = append_cancel_left (decimal n) (spaced (entry_words x) ++ 10 ∷ lines_from (n + 1) h) (spaced (entry_words y) ++ 10 ∷ lines_from (n + 1) k) lines in
+    let behind = append_cancel_left (numeral n) (spaced (entry_words x) ++ 10 ∷ lines_from (n + 1) h) (spaced (entry_words y) ++ 10 ∷ lines_from (n + 1) k) lines in
     let told = line_told (entry_words x) (entry_words y) (lines_from (n + 1) h) (lines_from (n + 1) k) ch.0 ck.0 behind in
     let later = words_told (n + 1) h k ch.1 ck.1 told.1 in
     rw (told.0, later) refl

@@ -1,7 +1,7 @@
 -- What the text of a history tells of it.
 use Rattle.std.specs.Prelude.{◌≡◌, ℕ, List, [], ◌∷◌, map}
 use Rattle.net_base.specs.declared.history.Entry.{Entry}
-use Rattle.net_base.specs.Plain.{IsClean, IsPlain, IsSized}
+use Rattle.net_base.specs.Plain.{IsClean, IsPlain}
 use Rattle.net_base.specs.Transcript.{entry_words, history_text}
 
 abbrev pub AreClean : List (List ℕ) → Type 0
@@ -19,4 +19,4 @@ TextsTellWords = (h k : List Entry) → HasCleanWords h → HasCleanWords k → 
 
 -- two plain histories with the same text are equal
 abbrev pub TextsTell : Type 0
-TextsTell = (h k : List Entry) → IsPlain h → IsPlain k → IsSized h → IsSized k → history_text h ≡ history_text k → h ≡ k
+TextsTell = (h k : List Entry) → IsPlain h → IsPlain k → history_text h ≡ history_text k → h ≡ k
