@@ -27,7 +27,7 @@ pub struct Standing {
     pub end: End,
 }
 
-/// The summary of a history, whose net stands so.
+/// The summary of a history, for a caller that knows how its net stands. The standing is printed as it is told.
 #[tactic(auto, using(crate::proofs::Summing::stands_so))]
 pub fn summary_by(
     alloc: Global,
