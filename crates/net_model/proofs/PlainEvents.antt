@@ -1,5 +1,5 @@
 -- The events that scripts record are plain: the words of their steps are those of a world's file, and a dial opens lines of cs.
-use Rattle.std.proofs.Common.{◌≡◌, ◌≢◌, ℕ, zero, suc, ◌<◌, ◌==◌, ◌&&◌, ◌||◌, Bool, true, not, List, [], ◌∷◌, ◌++◌, take, Option, inl, inr, refl, arith}
+use Rattle.std.proofs.Common.{◌≡◌, ◌≢◌, ℕ, zero, suc, ◌<◌, ◌==◌, ◌&&◌, ◌||◌, Bool, true, not, List, [], ◌∷◌, take, inl, inr, refl, arith}
 use Rattle.std.specs.Prelude.{nat_lt, length}
 use Rattle.std.specs.List.{list_all, position_or_len}
 use Rattle.std.proofs.lemmas.Bool.{and_from, and_parts, or_cases, false≢true}

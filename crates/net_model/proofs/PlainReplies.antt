@@ -1,5 +1,5 @@
 -- What the steps of actors reply lists texts, and so does what an entry of a legal history replies.
-use Rattle.std.proofs.Common.{◌≡◌, ℕ, zero, suc, ◌+◌, ◌==◌, ◌&&◌, Bool, true, false, cond, List, [], ◌∷◌, length, take, Option, Some, None, refl, sym, ap, subst}
+use Rattle.std.proofs.Common.{ℕ, zero, suc, ◌+◌, ◌==◌, ◌&&◌, Bool, cond, List, [], ◌∷◌, length, Option, Some, None, sym, ap, subst}
 use Rattle.std.specs.Prelude.{IfSome, IsSome, nat_lt, slice_get}
 use Rattle.std.specs.Option.{option_map, option_and_then}
 use Rattle.std.proofs.lemmas.Bool.{cond_both, false≢true}
@@ -32,7 +32,7 @@ use Rattle.net_base.specs.declared.timer.Tick.TheVariants as tick
 use Rattle.net_base.specs.declared.world.HostSpec.{HostSpec}
 use Rattle.net_base.specs.declared.world.MediumSpec.{MediumSpec}
 use Rattle.net_base.specs.declared.world.World.{World}
-use Rattle.net_base.specs.ActorStep.{Step, when}
+use Rattle.net_base.specs.ActorStep.{Step}
 use Rattle.net_base.specs.Actors.{Actor, IsDir, IsConv, IsMedium, IsPlain, has_actor, plain_step, step_as, table_step}
 use Rattle.net_base.specs.ControlWords as control
 use Rattle.net_base.specs.Conversation as conv
@@ -42,10 +42,9 @@ use Rattle.net_base.specs.Directory as dir
 use Rattle.net_base.specs.Directory.{Dir, Slot, dir_step}
 use Rattle.net_base.specs.IlEnd.{End}
 use Rattle.net_base.specs.IlTable.{has_unread, is_closed, may_go_on, may_write}
-use Rattle.net_base.specs.Legal.{Shows, shown_by, shown_of, Shown}
+use Rattle.net_base.specs.Legal.{Shows, Shown}
 use Rattle.net_base.specs.Medium.{Medium, datagram_length, puts, takes, medium_step}
 use Rattle.net_base.specs.Net.{Net, step_of, outcome_in}
-use Rattle.net_base.specs.Paths.{names}
 use Rattle.net_base.specs.Routes.{Way, way}
 use Rattle.net_base.specs.Same.{same_addr}
 use Rattle.net_base.specs.Timer as timer
