@@ -58,6 +58,11 @@ pub mod Holders
 pub mod UdpReads
 pub mod Waits
 pub mod ConvWaits
+pub mod StepEvents
 pub mod Untils
 pub mod Rising
 pub mod Limits
+pub mod PlainTexts
+pub mod PlainReplies
+pub mod PlainEvents
+pub mod PlainHistories

@@ -359,7 +359,7 @@ in_some : {A : Type 0} (x : A) (xs : List A) → In x xs → 0 < length xs
 in_some x [] there = absurd there
 in_some x (y ∷ xs) there = omega arith
 
-all_at : {A : Type 0} (p : A → Bool) (xs : List A) (k : ℕ) (x : A) → list_all p xs ≡ true → slice_get xs k ≡ Some x → p x ≡ true
+pub all_at : {A : Type 0} (p : A → Bool) (xs : List A) (k : ℕ) (x : A) → list_all p xs ≡ true → slice_get xs k ≡ Some x → p x ≡ true
 all_at p [] k x all is = absurd (none-some x is)
 all_at p (y ∷ xs) zero x all is = subst (λ u. p u ≡ true) (same_Some y x is) (and_parts (p y) (list_all p xs) all).0
 all_at p (y ∷ xs) (suc k) x all is = all_at p xs k x (and_parts (p y) (list_all p xs) all).1 is
