@@ -61,3 +61,7 @@ pub mod ConvWaits
 pub mod Untils
 pub mod Rising
 pub mod Limits
+pub mod Plays
+pub mod LastOwn
+pub mod OwnEntries
+pub mod CsAnswers

@@ -1,0 +1,5 @@
+use Rattle.net_model.proofs.OwnEntries.{keeps_script}
+use Rattle.net_model.proofs.law.steps_stand_in_order.Goals as goal
+
+pub returns : goal.returns
+returns c = λ w h k s legal is. keeps_script w k s is h legal
