@@ -46,10 +46,10 @@ last_stays h c k x other l = record {
   caller_is = l.caller_is;
   cites_is = l.cites_is;
   last = λ j y is caller own.
-    elim (in_pushed h x j y is) [
-      | inl there ↦ l.last j y there.1 caller own
-      | inr here ↦ absurd (other (subst (λ (z : Entry). z.caller ≡ c) (sym here.1) caller) (subst (λ (z : Entry). z.cites ≡ None) (sym here.1) own))
-    ];
+      elim (in_pushed h x j y is) [
+        | inl there ↦ l.last j y there.1 caller own
+        | inr here ↦ absurd (other (subst (λ (z : Entry). z.caller ≡ c) (sym here.1) caller) (subst (λ (z : Entry). z.cites ≡ None) (sym here.1) own))
+      ];
 }
 
 -- an own entry is the last

@@ -65,3 +65,4 @@ pub mod Plays
 pub mod LastOwn
 pub mod OwnEntries
 pub mod CsAnswers
+pub mod StepsAsk

@@ -119,8 +119,7 @@ stood_push h names (s ∷ ss) zero xs x first is = by (play_push (play_of h name
         let rest = none_stood h over.0 ss in
         (suc rest.0, record { own = xs ++ x ∷ []; rest = []; bound = over.0; all = sym (append-nil (xs ++ x ∷ [])); played = over.1; later = rest.1 })
 stood_push h names (s ∷ ss) (suc n) xs x f is =
-    let rest = stood_push h f.bound ss n f.rest x f.later (sym (ap (λ (p : Position). p.next) (goes_on h names s ss n xs f)) ∙ is) in
-    (
+    let rest = stood_push h f.bound ss n f.rest x f.later (sym (ap (λ (p : Position). p.next) (goes_on h names s ss n xs f)) ∙ is) in (
       suc rest.0,
       record {
         own = f.own;
@@ -162,17 +161,15 @@ stood_take h names (s ∷ ss) (suc n) xs k f = by (nat_lt k (length f.own)) refl
 
     by : (b : Bool) → nat_lt k (length f.own) ≡ b → ((j : ℕ) → Stood h f.bound ss (take j f.rest)) → Stood h names (s ∷ ss) (take k xs)
     by true is later =
-        let lt = ltb-true k (length f.own) is in
-        (
+        let lt = ltb-true k (length f.own) is in (
           0,
           subst (Begins (play_of h names s)) (sym (cut ∙ take-append-le k f.own f.rest (omega (arith, lt))))
-          (played_take (play_of h names s) f.own f.bound k lt f.played),
+              (played_take (play_of h names s) f.own f.bound k lt f.played),
         )
     by false is later =
         let le = ltb-false k (length f.own) is in
         let rest = later (k - length f.own) in
-        let far : k ≡ length f.own + (k - length f.own) = omega (arith, le) in
-        (
+        let far : k ≡ length f.own + (k - length f.own) = omega (arith, le) in (
           suc rest.0,
           record {
             own = f.own;
