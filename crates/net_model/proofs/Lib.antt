@@ -66,3 +66,8 @@ pub mod PlainTexts
 pub mod PlainReplies
 pub mod PlainEvents
 pub mod PlainHistories
+pub mod Plays
+pub mod LastOwn
+pub mod OwnEntries
+pub mod CsAnswers
+pub mod StepsAsk

@@ -14,6 +14,7 @@ use Rattle.net_base.specs.NdbForm.{bad_line_so_far}
 use Rattle.net_base.specs.Net.{Net, after}
 use Rattle.net_base.specs.Summary.{summary}
 use Rattle.net_base.specs.Transcript.{history_text}
+use Rattle.net_model.specs.Headline.{Headline}
 use Rattle.net_model.specs.WorldText.{world_reading}
 use Rattle.net_model.specs.Answers.{Answer, bad_input, cs_answer, input_limit}
 use Rattle.net_model.specs.Words.{Command, Cs, Run}
@@ -59,11 +60,13 @@ pub record IsStatus (w : World) (net : Net) (status : ℕ) : Type 0 where
   pub limited : (status ≡ 4) ↔ (calm.limited w net ≡ true)
   pub ended : (status ≡ 0) ⊎ (status ≡ 3) ⊎ (status ≡ 4)
 
--- the text of one legal and timed history of the world with its summary, and the status by how it ends
+-- the text of one legal and timed history of the world with its summary, and the status by how it ends; the history has what
+-- each legal one keeps
 pub record IsRun (w : World) (answer : Answer) : Type 0 where
   pub history : List Entry
   pub legal : IsLegal w history
   pub timed : IsTimed w history
+  pub headline : Headline w history
   pub text : answer.text ≡ history_text history ++ summary w history
   pub status : IsStatus w (after w history) answer.status
 
