@@ -113,11 +113,11 @@ pub fn full_callers_limit()
     ensures only { (w : World) (net : Net) → limited w net ≡ true → (c : ℕ) × (length (by net.past c) ≡ most_entries) × (could_record w net (caller_of w c) c ≡ true) }
 {}
 
-<<<<<<< HEAD
 /// Every legal history of a world is plain: names are words, lines have no newline, and paths are made of bytes.
 pub fn legal_histories_are_plain()
     ensures { (w : World) → IsWorld w → (h : List Entry) → IsLegal w h → IsPlain h }
-=======
+{}
+
 /// The events of a script's steps are its caller's own entries, in order and each once, at least one a step. So many steps are
 /// finished, and so many answered, as the definitions count.
 pub fn steps_stand_in_order()
@@ -133,5 +133,4 @@ pub fn cs_answers_are_lists()
 /// What every legal history of a world keeps.
 pub fn legal_histories_keep_it()
     ensures { (w : World) (h : List Entry) → IsWorld w → IsLegal w h → Headline w h }
->>>>>>> order
 {}
