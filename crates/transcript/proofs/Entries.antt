@@ -7,13 +7,15 @@ use Rattle.net_base.specs.declared.packet.BodyHeader.{BodyHeader}
 use Rattle.net_base.specs.declared.packet.BodyHeader.TheVariants as body
 use Rattle.net_base.specs.declared.packet.Header.{Header}
 use Rattle.net_base.specs.declared.reply.Reply.{Reply}
+use Rattle.net_base.specs.declared.world.World.{World}
 use Rattle.net_base.specs.Plain.{IsClean, IsPlain, IsPlainEvent, IsPlainReply}
+use Rattle.net_base.specs.Summary.{summary}
 use Rattle.net_base.specs.Transcript.{body_words, emitted_words, ended_words, entry_words, event_words, history_text, outcome_words, proto_word, reply_words, way_words, who_words}
 use Rattle.transcript.proofs.Events.{read_event, event_told, clean_event}
 use Rattle.transcript.proofs.Numbers.{number, number_told, clean_numeral}
 use Rattle.transcript.proofs.Readers.{Word, at, read_actor, read_addr, read_kind, read_number}
 use Rattle.transcript.proofs.Replies.{Ends, read_reply, reply_told, clean_reply}
-use Rattle.transcript.proofs.Telling.{words_told}
+use Rattle.transcript.proofs.Telling.{lines_told, words_told}
 use Rattle.transcript.proofs.Told.{actor_told, addr_told, clean, clean_actor, clean_addr, clean_dash, clean_kind, dash_told, kind_told}
 use Rattle.transcript.specs.Telling.{AreClean, HasCleanWords}
 
@@ -161,3 +163,8 @@ all_told (x ∷ xs) plain = rw (entry_told x plain.0 plain.1, all_told xs plain.
 pub texts_told : (h k : List Entry) → IsPlain h → IsPlain k → history_text h ≡ history_text k → h ≡ k
 texts_told h k ph pk same =
     sym (all_told h ph) ∙ ap (map read_entry) (words_told 0 h k (all_clean h ph) (all_clean k pk) same) ∙ all_told k pk
+
+-- a summary begins with a letter
+pub printed_told : (v w : World) (h k : List Entry) → IsPlain h → IsPlain k → history_text h ++ summary v h ≡ history_text k ++ summary w k → h ≡ k
+printed_told v w h k ph pk same =
+    sym (all_told h ph) ∙ ap (map read_entry) (lines_told 0 h k (summary v h) (summary w k) (all_clean h ph) (all_clean k pk) refl refl same) ∙ all_told k pk
