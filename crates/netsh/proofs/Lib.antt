@@ -2,4 +2,4 @@ pub mod CsAnswers
 pub mod Endings
 pub mod Statuses
 pub mod OneHistory
-mod RunEnds
+pub mod RunEnds
