@@ -29,12 +29,12 @@ HostKept None = ⊤
 HostKept (Some h) = ((h.ifaces ≡ []) × (h.routes ≡ []) × (h.starts ≡ [])) ⊎ IsPlainHost h
 
 -- the first step alone
-record IsMade (ss : List Step) : Type 0 where
+pub record IsMade (ss : List Step) : Type 0 where
   pub ctl_name : List ℕ
   pub is : ss ≡ step.Open ctl_name clone_path None ∷ []
 
 -- the first two steps alone
-record IsWired (ss : List Step) : Type 0 where
+pub record IsWired (ss : List Step) : Type 0 where
   pub ctl_name : List ℕ
   pub text : List ℕ
   pub is : ss ≡ step.Open ctl_name clone_path None ∷ step.Write ctl_name text ∷ []
