@@ -14,3 +14,5 @@ pub mod Words
 pub mod WorldWords
 pub mod WorldLines
 pub mod WorldText
+pub mod WorldSpelling
+pub mod WorldExample

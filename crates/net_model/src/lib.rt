@@ -6,6 +6,7 @@ mod cs_law;
 mod law;
 mod ndb_law;
 mod wire_law;
+mod world_law;
 
 pub use cases::{
     a_call_is_refused, a_datagram_goes, a_lost_frame_is_sent_again, changes_are_faults,
@@ -31,3 +32,4 @@ pub use net_base::{
     number, same_actor,
 };
 pub use wire_law::packets_are_read;
+pub use world_law::worked_world_lines;

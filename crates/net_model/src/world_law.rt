@@ -1,0 +1,25 @@
+//! Laws of the text of a world.
+ghost use Rattle.std.specs.Prelude.{◌≡◌, ◌++◌, codes};
+ghost use Rattle.net_model.specs.WorkedUdp.{datagram_world};
+ghost use Rattle.net_model.specs.WorldExample.{every_line};
+ghost use Rattle.net_model.specs.WorldSpelling.{laid, lines_of_world};
+
+/// The lines of two worlds, by computation.
+pub fn worked_world_lines()
+    ensures one_datagram { laid (lines_of_world datagram_world)
+        ≡ codes "networld 1\nend 60000\nseed 7\nmedium ether0 1500\nhost anna il udp\n"
+        ++ (codes "if ether0 135.104.9.6 255.255.255.0\nhost helix il udp\n"
+        ++ (codes "if ether0 135.104.9.31 255.255.255.0\nscript anna\nopen c /net/udp/clone\n"
+        ++ (codes "write c connect 135.104.9.31!7 5000\nopen d /net/udp/0/data\nwrite d hi\n"
+        ++ (codes "script helix\nopen c /net/udp/clone\nwrite c connect 135.104.9.6!5000 7\n"
+        ++ (codes "open d /net/udp/0/data\nread d 8192\n"))))) }
+    ensures every_line { laid (lines_of_world every_line)
+        ≡ codes "networld 1\nend 60000\nseed 18446744073709551615\nmedium ether0 1500\n"
+        ++ (codes "rates ether0 10 0 20\nfate ether0 1 lose\nfate ether0 3-5 deliver\n"
+        ++ (codes "medium ether1 576\nhost gate udp il\nif ether1 10.0.0.1 255.0.0.0\n"
+        ++ (codes "if ether0 135.104.9.1 255.255.255.0\nroute 0.0.0.0 0.0.0.0 10.0.0.2\nstart 7\n"
+        ++ (codes "start 4294967295\nscript gate\nuntil 10\nopen c /net/il/clone\n"
+        ++ (codes "open d /net/cs rw\nread d 8192\nwrite d two  words\nwritex d 000aff\n"
+        ++ (codes "writex d -\nclose d\nls /net\ncs net!$auth!9fs\ndial e il!helix!9fs\n"
+        ++ (codes "announce a il!*!9fs\nlisten l a\naccept f l\nreject l\nhangup e\n"))))))) }
+{}
