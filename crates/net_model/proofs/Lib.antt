@@ -61,3 +61,5 @@ pub mod ConvWaits
 pub mod Untils
 pub mod Rising
 pub mod Limits
+pub mod WorldNumbers
+pub mod ConnectTexts

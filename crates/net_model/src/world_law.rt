@@ -1,8 +1,19 @@
 //! Laws of the text of a world.
-ghost use Rattle.std.specs.Prelude.{◌≡◌, ◌++◌, codes};
+ghost use Rattle.std.specs.Prelude.{◌≡◌, ◌↔◌, ◌++◌, List, ℕ, Ok, Some, true, codes};
+ghost use Rattle.net_base.specs.ControlWords as control;
+ghost use Rattle.net_base.specs.declared.address.Addr.{Addr};
+ghost use Rattle.net_base.specs.declared.names.Ctl.TheVariants as ctl;
+ghost use Rattle.net_base.specs.World.{is_text};
 ghost use Rattle.net_model.specs.WorkedUdp.{datagram_world};
 ghost use Rattle.net_model.specs.WorldExample.{every_line};
+ghost use Rattle.net_model.specs.WorldLines.{connects};
 ghost use Rattle.net_model.specs.WorldSpelling.{laid, lines_of_world};
+
+/// A text on one line connects exactly where its control is a connection with a port.
+pub fn connect_texts_agree()
+    ensures { (text : List ℕ) → is_text text ≡ true
+        → (connects text ≡ true) ↔ ((remote : Addr) × (port : ℕ) × (control.read text ≡ Ok (ctl.Connect remote (Some port)))) }
+{}
 
 /// The lines of two worlds, by computation.
 pub fn worked_world_lines()
