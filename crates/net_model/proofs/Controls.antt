@@ -26,7 +26,7 @@ address_back ip small =
 place_nested : (a : Addr) → place a ≡ dotted a.ip ++ (33 ∷ decimal a.port)
 place_nested a = simp append_assoc refl
 
-dotted_is_without : (s ip : ℕ) → s < 46 → ip < 2 ^ 32 → IsWithout s (dotted ip)
+pub dotted_is_without : (s ip : ℕ) → s < 46 → ip < 2 ^ 32 → IsWithout s (dotted ip)
 dotted_is_without s ip low small = dotted_without s (ip / 2 ^ 24) (ip / 2 ^ 16 % 256) (ip / 2 ^ 8 % 256) (ip % 256) low (omega (arith, small)) (omega arith) (omega arith) (omega arith)
 
 pub place_parts : (a : Addr) → a.ip < 2 ^ 32 → a.port < 65536 → parts_of_place (place a) ≡ dotted a.ip ∷ decimal a.port ∷ []

@@ -63,3 +63,6 @@ pub mod Rising
 pub mod Limits
 pub mod WorldNumbers
 pub mod ConnectTexts
+pub mod WorldLists
+pub mod WorldBack
+pub mod WorldRead

@@ -166,7 +166,7 @@ ascii-digits (b ∷ word) = ap (λ v. is_ascii_digit b && v) (ascii-digits word)
 digits-of : (n : ℕ) → n < 2 ^ 64 → list_all is_ascii_digit (decimal n) ≡ true
 digits-of n small = sym (ascii-digits (decimal n)) ∙ digits_decimal (numerals_by_value (λ ds. all_ascii_digits ds ≡ true) tells_all_ascii_digits) n small
 
-le-is : (m n : ℕ) → m ≤ n → nat_le m n ≡ true
+pub le-is : (m n : ℕ) → m ≤ n → nat_le m n ≡ true
 le-is m n h = grind (arith, nat_tests)
 
 read-back : (most n : ℕ) → 0 < most → n < 10 ^ most → n < 2 ^ 64 → read_digits most (decimal n) ≡ Some n

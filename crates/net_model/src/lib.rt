@@ -32,4 +32,4 @@ pub use net_base::{
     number, same_actor,
 };
 pub use wire_law::packets_are_read;
-pub use world_law::{connect_texts_agree, worked_world_lines};
+pub use world_law::{connect_texts_agree, worked_world_lines, worlds_are_spelled};

@@ -3,16 +3,23 @@ ghost use Rattle.std.specs.Prelude.{◌≡◌, ◌↔◌, ◌++◌, List, ℕ, O
 ghost use Rattle.net_base.specs.ControlWords as control;
 ghost use Rattle.net_base.specs.declared.address.Addr.{Addr};
 ghost use Rattle.net_base.specs.declared.names.Ctl.TheVariants as ctl;
+ghost use Rattle.net_base.specs.declared.world.World.{World};
 ghost use Rattle.net_base.specs.World.{is_text};
 ghost use Rattle.net_model.specs.WorkedUdp.{datagram_world};
 ghost use Rattle.net_model.specs.WorldExample.{every_line};
 ghost use Rattle.net_model.specs.WorldLines.{connects};
-ghost use Rattle.net_model.specs.WorldSpelling.{laid, lines_of_world};
+ghost use Rattle.net_model.specs.WorldText.{world_reading};
+ghost use Rattle.net_model.specs.WorldSpelling.{IsWorldText, laid, lines_of_world};
 
 /// A text on one line connects exactly where its control is a connection with a port.
 pub fn connect_texts_agree()
     ensures { (text : List ℕ) → is_text text ≡ true
         → (connects text ≡ true) ↔ ((remote : Addr) × (port : ℕ) × (control.read text ≡ Ok (ctl.Connect remote (Some port)))) }
+{}
+
+/// A text that spells a world is read as it.
+pub fn worlds_are_spelled()
+    ensures complete { (text : List ℕ) (w : World) → IsWorldText text w → world_reading text ≡ Ok w }
 {}
 
 /// The lines of two worlds, by computation.
