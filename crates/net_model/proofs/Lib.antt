@@ -66,3 +66,6 @@ pub mod ConnectTexts
 pub mod WorldLists
 pub mod WorldBack
 pub mod WorldRead
+pub mod WorldDrafts
+pub mod WorldSound
+pub mod WorldRefusals

@@ -20,6 +20,7 @@ use Rattle.net_base.specs.Routes.{has_ip}
 use Rattle.net_base.specs.World.{is_within, is_moment, is_name, is_nets, is_address, is_mask}
 use Rattle.net_model.specs.WorldWords.{words_of, number_in, address_in, nets_named}
 use Rattle.net_model.specs.WorldLines.{Draft, opening_draft, hosts_of, scripts_of, is_lacking, Verdict, Goes, Begins, Bad, refuse, given, known, line_verdict, is_passed, words_line, word_line, first_line, plain_medium, is_medium_named, medium_named, is_host_named, host_of, has_medium, with_iface, iface_of}
+use Rattle.net_model.specs.WorldRefusal.{Leads}
 use Rattle.net_model.specs.WorldText.{Cut, cuts_of, with_first, judged, reading_from}
 use Rattle.net_model.specs.WorldSpelling.{spaced, laid, is_line, speaks, line_of_end, line_of_seed, line_of_medium, line_of_host, line_of_iface}
 use Rattle.net_model.proofs.Controls.{dotted_is_without}
@@ -28,11 +29,6 @@ use Rattle.net_model.proofs.WorldLists.{false-of-not, true-of-not, or-parts, wit
 use Rattle.net_model.proofs.WorldNumbers.{le-true, within-is, number-back, address-back}
 
 -- Lines in a row.
-
--- each of these lines goes on, and the last one leaves this world
-abbrev pub Leads : Draft → List (List ℕ) → Draft → Type 0
-Leads d [] e = d ≡ e
-Leads d (line ∷ lines) e = (next : Draft) × (line_verdict d line ≡ Goes next) × Leads next lines e
 
 pub leads-more : (d e f : Draft) (xs ys : List (List ℕ)) → Leads d xs e → Leads e ys f → Leads d (xs ++ ys) f
 leads-more d e f [] ys first rest = subst (λ (x : Draft). Leads x ys f) (sym first) rest

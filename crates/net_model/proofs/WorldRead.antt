@@ -31,13 +31,14 @@ use Rattle.net_base.specs.World.{addresses, all_apart, are_media, is_within, is_
 use Rattle.net_base.specs.WorldForm.{IsTransfer, AreTransfers, IsUdpScript, IsPlainMedium, IsPlainHost, IsFirstForm, clone_path, data_path, opening_steps, same_host}
 use Rattle.net_model.specs.WorldWords.{words_of, number_in, joined, Two}
 use Rattle.net_model.specs.WorldLines.{Draft, opening_draft, hosts_of, scripts_of, is_bare, is_short, is_lacking, Verdict, Goes, Begins, Bad, refuse, given, known, line_verdict, ndb_line, plain_medium, is_host_named, host_named, host_of, with_iface, iface_of, is_script_of, script_of, kept, step_of, step_line, write_of, follows, connects, world_of}
+use Rattle.net_model.specs.WorldRefusal.{Leads}
 use Rattle.net_model.specs.WorldText.{Cut, cuts_of, with_database, judged, reading_from, world_reading}
 use Rattle.net_model.specs.WorldSpelling.{spaced, name_at, laid, is_line, speaks, line_of_end, line_of_seed, line_of_medium, lines_of_medium, line_of_host, line_of_iface, lines_of_host, line_of_step, lines_of_script, lines_of_world, words_of_step, medium_names, host_names, IsHeaded, IsWorldText}
 use Rattle.net_model.proofs.ConnectTexts.{connects-agree}
 use Rattle.net_model.proofs.Texts.{IsWithout, cut_at, one_part}
 use Rattle.net_model.proofs.WorldLists.{false-of-not, true-of-not, or-parts, without-none, name-without, list-without, own-bytes, same-bytes, same-numbers, any-cong, All-first, All-later, apart-middle, has-address, names, names-length, position-named}
 use Rattle.net_model.proofs.WorldNumbers.{le-true, le-is, lt-is, number-back}
-use Rattle.net_model.proofs.WorldBack.{Leads, leads-more, leads-all, reading-lines, AreWords, words-back, by-words, decimal-word, name-word, within-most, past, hosting, front-back, host-back, if-back}
+use Rattle.net_model.proofs.WorldBack.{leads-more, leads-all, reading-lines, AreWords, words-back, by-words, decimal-word, name-word, within-most, past, hosting, front-back, host-back, if-back}
 
 -- Hosts.
 

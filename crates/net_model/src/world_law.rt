@@ -1,5 +1,6 @@
 //! Laws of the text of a world.
-ghost use Rattle.std.specs.Prelude.{◌≡◌, ◌↔◌, ◌++◌, List, ℕ, Ok, Some, true, codes};
+ghost use Rattle.std.specs.Prelude.{◌≡◌, ◌↔◌, ◌∷◌, ◌++◌, List, ℕ, Ok, Err, Some, true, false, codes, bytes_eq};
+ghost use Rattle.std.specs.List.{filter, list_all, list_any};
 ghost use Rattle.net_base.specs.ControlWords as control;
 ghost use Rattle.net_base.specs.declared.address.Addr.{Addr};
 ghost use Rattle.net_base.specs.declared.names.Ctl.TheVariants as ctl;
@@ -7,9 +8,10 @@ ghost use Rattle.net_base.specs.declared.world.World.{World};
 ghost use Rattle.net_base.specs.World.{is_text};
 ghost use Rattle.net_model.specs.WorkedUdp.{datagram_world};
 ghost use Rattle.net_model.specs.WorldExample.{every_line};
-ghost use Rattle.net_model.specs.WorldLines.{connects};
+ghost use Rattle.net_model.specs.WorldLines.{connects, opening_draft};
+ghost use Rattle.net_model.specs.WorldRefusal.{IsBadLine, IsRefused};
 ghost use Rattle.net_model.specs.WorldText.{world_reading};
-ghost use Rattle.net_model.specs.WorldSpelling.{IsWorldText, laid, lines_of_world};
+ghost use Rattle.net_model.specs.WorldSpelling.{IsWorldText, is_line, laid, lines_of_world, speaks};
 
 /// A text on one line connects exactly where its control is a connection with a port.
 pub fn connect_texts_agree()
@@ -17,9 +19,31 @@ pub fn connect_texts_agree()
         → (connects text ≡ true) ↔ ((remote : Addr) × (port : ℕ) × (control.read text ≡ Ok (ctl.Connect remote (Some port)))) }
 {}
 
-/// A text that spells a world is read as it.
+/// A text is read as a world exactly where it spells it.
 pub fn worlds_are_spelled()
+    ensures sound { (text : List ℕ) (w : World) → world_reading text ≡ Ok w → IsWorldText text w }
     ensures complete { (text : List ℕ) (w : World) → IsWorldText text w → world_reading text ≡ Ok w }
+{}
+
+/// A text says one world at most.
+pub fn texts_say_one_world()
+    ensures { (text : List ℕ) (v w : World) → IsWorldText text v → IsWorldText text w → v ≡ w }
+{}
+
+/// Empty lines and comments before `ndb` say nothing.
+pub fn passed_lines_say_nothing()
+    ensures { (lines others : List (List ℕ)) (tail : List ℕ) (w : World)
+        → list_all is_line lines ≡ true → list_all is_line others ≡ true
+        → list_any (bytes_eq (codes "ndb")) lines ≡ false
+        → filter speaks lines ≡ filter speaks others
+        → world_reading (laid lines ++ tail) ≡ Ok w → world_reading (laid others ++ tail) ≡ Ok w }
+{}
+
+/// A refusal tells the first bad line and its cause, whatever follows that line.
+pub fn first_bad_lines_are_told()
+    ensures exact { (text : List ℕ) (n c : ℕ) → (world_reading text ≡ Err (n, c)) ↔ IsRefused opening_draft 1 text n c }
+    ensures stays { (text more : List ℕ) (n c : ℕ) → IsBadLine opening_draft 1 text n c
+        → world_reading (text ++ (10 ∷ more)) ≡ Err (n, c) }
 {}
 
 /// The lines of two worlds, by computation.
