@@ -32,10 +32,17 @@ same-err p q r e f = cc
 ok-err : (w : World) (p : ℕ × ℕ) → Ok w ≡ Err p → ⊥
 ok-err w p e = cc
 
-first-same : (m n c d : ℕ) → (m, c) ≡ (n, d) → m ≡ n
+-- a line and a cause
+abbrev bad_at : ℕ → ℕ → ℕ × ℕ
+bad_at n c = (n, c)
+
+abbrev refusal : ℕ → ℕ → Result World (ℕ × ℕ)
+refusal n c = Err (n, c)
+
+first-same : (m n c d : ℕ) → bad_at m c ≡ bad_at n d → m ≡ n
 first-same m n c d e = ap (λ (p : ℕ × ℕ). p.0) e
 
-second-same : (m n c d : ℕ) → (m, c) ≡ (n, d) → c ≡ d
+second-same : (m n c d : ℕ) → bad_at m c ≡ bad_at n d → c ≡ d
 second-same m n c d e = ap (λ (p : ℕ × ℕ). p.1) e
 
 -- one line more
@@ -190,7 +197,7 @@ read-bad d first text n c b =
     ∙ (reading-lines d b.so_far first b.good (b.line ++ b.rest) both.1 b.leads
     ∙ (ap (reading_from b.so_far (first + length b.good)) cut.2
     ∙ (ap (λ v. judged (first + length b.good) cut.0 v (λ (next : Draft). reading_from next (first + length b.good + 1) cut.1)) b.bad
-    ∙ ap (λ (m : ℕ). Err (m, c)) (sym b.place))))
+    ∙ ap (λ (m : ℕ). refusal m c) (sym b.place))))
 
 read-bundle : (d : Draft) (first : ℕ) (text : List ℕ) (n c : ℕ) → IsBadBundle d first text n c → reading_from d first (cuts_of text) ≡ Err (n, c)
 read-bundle d first text n c b = by b.parts
@@ -201,7 +208,7 @@ read-bundle d first text n c b = by b.parts
         ∙ (reading-lines d b.so_far first b.good tail b.whole b.leads
         ∙ (ap (reading_from b.so_far (first + length b.good)) cut
         ∙ (ap (λ v. judged (first + length b.good) b.bundle v (λ (next : Draft). reading_from next (first + length b.good + 1) cuts)) b.begins
-        ∙ (ap (with_database (first + length b.good) b.world b.bundle) b.bad ∙ ap (λ (m : ℕ). Err (m, c)) (sym b.place)))))
+        ∙ (ap (with_database (first + length b.good) b.world b.bundle) b.bad ∙ ap (λ (m : ℕ). refusal m c) (sym b.place)))))
 
     by : IsHeaded text b.good b.bundle → reading_from d first (cuts_of text) ≡ Err (n, c)
     by (inl is) = behind (codes "ndb\n" ++ b.bundle) (cuts_of b.bundle) is refl
@@ -215,8 +222,8 @@ leads-front d e (line ∷ before) last h = let r = leads-front h.0 e before last
 read-unended : (d : Draft) (first : ℕ) (text : List ℕ) (n c : ℕ) → IsUnended d first text n c → reading_from d first (cuts_of text) ≡ Err (n, c)
 read-unended d first text n c b = by b.parts
   where
-    told : Err (first + length b.good, missing b.so_far) ≡ Err (n, c)
-    told = ap (λ (m : ℕ). Err (m, missing b.so_far)) (sym b.place) ∙ ap (λ (k : ℕ). Err (n, k)) (sym b.cause)
+    told : refusal (first + length b.good) (missing b.so_far) ≡ refusal n c
+    told = ap (λ (m : ℕ). refusal m (missing b.so_far)) (sym b.place) ∙ ap (λ (k : ℕ). refusal n k) (sym b.cause)
 
     by : (text ≡ laid b.good) ⊎ ((before : List (List ℕ)) × (last : List ℕ) × (b.good ≡ before ++ last ∷ []) × (text ≡ laid before ++ last) × (is_empty last ≡ false)) → reading_from d first (cuts_of text) ≡ Err (n, c)
     by (inl is) = ap (λ t. reading_from d first (cuts_of t)) (is ∙ sym (append-nil (laid b.good))) ∙ (reading-lines d b.so_far first b.good [] b.whole b.leads ∙ told)
@@ -228,7 +235,7 @@ read-unended d first text n c b = by b.parts
         ∙ (reading-lines d r.0 first before last whole.0 r.1
         ∙ (ap (reading_from r.0 (first + length before)) (cuts-last last some ((and_parts (is_line last) true whole.1).0))
         ∙ (judged-goes (first + length before) [] (line_verdict r.0 last) b.so_far (λ (next : Draft). reading_from next (first + length before + 1) []) r.2
-        ∙ (ap (λ (m : ℕ). Err (m, missing b.so_far)) (omega (arith, len)) ∙ told))))
+        ∙ (ap (λ (m : ℕ). refusal m (missing b.so_far)) (omega (arith, len)) ∙ told))))
 
 pub refused-exactly : (text : List ℕ) (n c : ℕ) → (world_reading text ≡ Err (n, c)) ↔ IsRefused opening_draft 1 text n c
 refused-exactly text n c = (refused opening_draft 1 (cuts_of text) text n c refl kept-opening, back)

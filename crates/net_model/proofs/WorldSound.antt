@@ -24,7 +24,7 @@ rest (c ∷ cs) = cs
 nothing : {A : Type 0} (x : A) (xs : List A) → [] ≡ x ∷ xs → ⊥
 nothing x xs e = let n = ap (λ ys. length ys) e in absurd (omega (arith, n))
 
-no-cuts : (bytes : List ℕ) → cuts_of bytes ≡ [] → bytes ≡ []
+pub no-cuts : (bytes : List ℕ) → cuts_of bytes ≡ [] → bytes ≡ []
 no-cuts [] e = refl
 no-cuts (b ∷ bytes) e = by (is_newline b) (cuts_of bytes) e
   where
@@ -74,7 +74,7 @@ record Found (d : Draft) (text : List ℕ) (w : World) : Type 0 where
   pub world : IsWorld w
   pub form : IsFirstForm w
 
-headed : (text line behind : List ℕ) (head : List (List ℕ)) (bundle : List ℕ) → text ≡ line ++ (10 ∷ behind) → IsHeaded behind head bundle → IsHeaded text (line ∷ head) bundle
+pub headed : (text line behind : List ℕ) (head : List (List ℕ)) (bundle : List ℕ) → text ≡ line ++ (10 ∷ behind) → IsHeaded behind head bundle → IsHeaded text (line ∷ head) bundle
 headed text line behind head bundle is (inl parts) = inl (is ∙ (ap (λ (xs : List ℕ). line ++ (10 ∷ xs)) parts ∙ sym (append_assoc line (10 ∷ laid head) (codes "ndb\n" ++ bundle))))
 headed text line behind head bundle is (inr (parts, none)) = inr (is ∙ (ap (λ (xs : List ℕ). line ++ (10 ∷ xs)) parts ∙ sym (append_assoc line (10 ∷ laid head) (codes "ndb"))), none)
 
@@ -94,7 +94,7 @@ found-more d next text line behind w whole is takes f = record {
 }
 
 -- the line `ndb`
-last-parts : (text : List ℕ) (c : Cut) (cs : List Cut) → Shape text c cs → c.line ≡ codes "ndb" → IsHeaded text [] c.behind
+pub last-parts : (text : List ℕ) (c : Cut) (cs : List Cut) → Shape text c cs → c.line ≡ codes "ndb" → IsHeaded text [] c.behind
 last-parts text c cs s is = by s.parts
   where
     by : ((text ≡ c.line ++ (10 ∷ c.behind)) × (cs ≡ cuts_of c.behind)) ⊎ ((text ≡ c.line) × (c.behind ≡ []) × (cs ≡ [])) → IsHeaded text [] c.behind
