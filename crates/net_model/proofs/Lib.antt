@@ -67,5 +67,7 @@ pub mod WorldLists
 pub mod WorldBack
 pub mod WorldRead
 pub mod WorldDrafts
+pub mod WorldSteps
+pub mod WorldTaken
 pub mod WorldSound
 pub mod WorldRefusals

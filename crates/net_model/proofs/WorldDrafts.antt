@@ -39,7 +39,7 @@ use Rattle.net_model.specs.WorldLines.{is_passed, line_verdict, words_line, word
 use Rattle.net_model.specs.WorldSpelling.{spaced, line_of_end, line_of_seed, line_of_medium, lines_of_medium, line_of_host, line_of_iface, lines_of_host, line_of_step, lines_of_script, lines_of_world, medium_names, host_names, speaks}
 use Rattle.net_model.proofs.ConnectTexts.{connects-read}
 use Rattle.net_model.proofs.WorldLists.{or-parts, true-of-not, false-of-not, same-bytes, same-numbers, any-map, any-cong, All-one, apart-more, position-yes, position-no}
-use Rattle.net_model.proofs.WorldNumbers.{number_in-spelled, address-dotted}
+use Rattle.net_model.proofs.WorldNumbers.{le-is, le-true, lt-is, number_in-spelled, address-dotted, within-is}
 
 -- The invariant.
 
@@ -144,12 +144,9 @@ early-lines d g k is low =
     ∙ ap (λ (xs : List Script). lines_at g d.end d.seed [] [] xs) (k.no_scripts (omega (arith, is, low)))))
 
 -- behind the seed
-abbrev late_lines : ℕ → ℕ → List MediumSpec → List HostSpec → List Script → List (List ℕ)
+abbrev pub late_lines : ℕ → ℕ → List MediumSpec → List HostSpec → List Script → List (List ℕ)
 late_lines e s ms hs xs =
     codes "networld 1" ∷ line_of_end e ∷ line_of_seed s ∷ (flat_map lines_of_medium ms ++ (flat_map (lines_of_host (medium_names ms)) hs ++ flat_map (lines_of_script (host_names hs)) xs))
-
-le-is : (m n : ℕ) → m ≤ n → nat_le m n ≡ true
-le-is m n h = grind (arith, nat_tests)
 
 pub lines-late : (g e s : ℕ) (ms : List MediumSpec) (hs : List HostSpec) (xs : List Script) → 3 ≤ g → lines_at g e s ms hs xs ≡ late_lines e s ms hs xs
 lines-late g e s ms hs xs late =
@@ -207,9 +204,6 @@ padded-within least greatest false o n e = digits-within least greatest o n e
 pub number-within : (least greatest : ℕ) (word : List ℕ) (n : ℕ) → number_in least greatest word ≡ Some n → is_within least greatest n ≡ true
 number-within least greatest word n e = padded-within least greatest (is_padded word) (read_digits 20 word) n e
 
-le-true : (m n : ℕ) → nat_le m n ≡ true → m ≤ n
-le-true m n e = grind (arith, nat_tests)
-
 within-le : (least greatest n : ℕ) → is_within least greatest n ≡ true → n ≤ greatest
 within-le least greatest n e = le-true n greatest ((and_parts (nat_le least n) (nat_le n greatest) e).1)
 
@@ -220,7 +214,7 @@ media-any g h [] k low = low
 media-any g h (s ∷ []) k low = k
 media-any g h (s ∷ t ∷ ss) k low = k
 
-media-from : (g h : ℕ) (media : List MediumSpec) → MediaKept g media → 4 ≤ g → MediaKept h media
+pub media-from : (g h : ℕ) (media : List MediumSpec) → MediaKept g media → 4 ≤ g → MediaKept h media
 media-from g h [] k low = absurd (omega (arith, k, low))
 media-from g h (s ∷ []) k low = k
 media-from g h (s ∷ t ∷ ss) k low = k
@@ -250,10 +244,10 @@ early d g m s k low new moment small = record {
 }
 
 -- a line whose words are these
-abbrev said : List ℕ → List (List ℕ) → List ℕ
+abbrev pub said : List ℕ → List (List ℕ) → List ℕ
 said word args = joined (word ∷ args)
 
-one-is : (args : List (List ℕ)) (word : List ℕ) → one args ≡ Some word → args ≡ word ∷ []
+pub one-is : (args : List (List ℕ)) (word : List ℕ) → one args ≡ Some word → args ≡ word ∷ []
 one-is [] word e = absurd (none-some word e)
 one-is (a ∷ []) word e = ap (λ (w : List ℕ). w ∷ []) (same_Some a word e)
 one-is (a ∷ b ∷ args) word e = absurd (none-some word e)
@@ -271,10 +265,7 @@ keeps-first Q d line k none =
 lt-from : (m n : ℕ) → nat_le n m ≡ false → m < n
 lt-from m n e = grind (arith, nat_tests)
 
-lt-true : (m n : ℕ) → m < n → nat_lt m n ≡ true
-lt-true m n h = grind (arith, nat_tests)
-
-le-from : (m n : ℕ) → nat_lt m n ≡ false → n ≤ m
+pub le-from : (m n : ℕ) → nat_lt m n ≡ false → n ≤ m
 le-from m n e = grind (arith, nat_tests)
 
 end_tests : (o : Option (List ℕ)) (late : Bool) (P : Draft → Type 0) (Q : World → Type 0) (next : ℕ → Draft) → ((word : List ℕ) (n : ℕ) → o ≡ Some word → number_in 1 1000000000 word ≡ Some n → late ≡ false → P (next n))
@@ -369,7 +360,7 @@ medium_tests (Some n) false false false true bad31 P Q next f = tt
 medium_tests (Some n) false false false false true P Q next f = tt
 medium_tests (Some n) false false false false false P Q next f = f n refl refl refl refl
 
-two-are : (args : List (List ℕ)) (w : Two) → two args ≡ Some w → args ≡ w.first ∷ w.second ∷ []
+pub two-are : (args : List (List ℕ)) (w : Two) → two args ≡ Some w → args ≡ w.first ∷ w.second ∷ []
 two-are [] w e = absurd (none-some w e)
 two-are (a ∷ []) w e = absurd (none-some w e)
 two-are (a ∷ b ∷ []) w e = ap (λ (v : Two). v.first ∷ v.second ∷ []) (same_Some (record { first = a; second = b }) w e)
@@ -513,7 +504,7 @@ host_tests false false false true bad31 P Q e f = tt
 host_tests false false false false true P Q e f = tt
 host_tests false false false false false P Q e f = f refl refl refl refl refl
 
-le-false : (m n : ℕ) → nat_le m n ≡ false → n < m
+pub le-false : (m n : ℕ) → nat_le m n ≡ false → n < m
 le-false m n e = grind (arith, nat_tests)
 
 pub keeps-host : (Q : World → Type 0) (d : Draft) (args : List (List ℕ)) → Kept d → Keeps (Adds d (said (codes "host") args)) Q (host_line d args)
@@ -634,7 +625,7 @@ if_kept d i k first fits fresh none some = by d.host refl k.host
         ∙ (ap (λ (is : List Iface). list_any (is_on_medium 0) is || false) plain.ifaces ∙ ap (λ (m : ℕ). (m == 0 || false) || false) plain.medium))))
 
 address-small : (word : List ℕ) (ip : ℕ) → address_in word ≡ Some ip → is_address ip ≡ true
-address-small word ip e = lt-true ip (2 ^ 32) ((address-dotted word ip e).fits)
+address-small word ip e = lt-is ip (2 ^ 32) ((address-dotted word ip e).fits)
 
 if_tests : (b : Bool) (oip omask om : Option ℕ) (p14 p16 : ℕ → Bool) (b18 : Bool) (p20 : ℕ → Bool) (P : Draft → Type 0) (Q : World → Type 0) (next : ℕ → ℕ → ℕ → Draft)
     → ((ip mask m : ℕ) → oip ≡ Some ip → omask ≡ Some mask → om ≡ Some m → p14 m ≡ false → p16 ip ≡ false → b18 ≡ false → p20 mask ≡ false → P (next ip mask m))
@@ -730,7 +721,7 @@ keeps-if-line Q d args k = by (three args) refl
     put w args_are ip mask m address mask_is place fresh free under ones =
         let at = place-one d.group (is_medium_named w.first) d.media m k.media place in
         let fits : is_iface (length d.media) (iface_of m ip mask) ≡ true =
-        ap (λ b. b && (is_address ip && is_mask mask)) (let e = at.0 in let f = at.1 in lt-true m (length d.media) (omega (arith, e, f)))
+        ap (λ b. b && (is_address ip && is_mask mask)) (let e = at.0 in let f = at.1 in lt-is m (length d.media) (omega (arith, e, f)))
         ∙ (ap (λ b. b && is_mask mask) (address-small w.second ip address) ∙ true-of-not (is_mask mask) ones) in
         let new : list_any (has_medium 0) (option_to_list d.host) ≡ false = ap (λ (n : ℕ). list_any (has_medium n) (option_to_list d.host)) (sym at.0) ∙ fresh in
         let line : said (codes "if") args ≡ line_of_iface (medium_names d.media) (iface_of m ip mask) =
@@ -753,695 +744,3 @@ keeps-if-line Q d args k = by (three args) refl
         (λ m. list_any (has_medium m) (option_to_list d.host)) (λ ip. list_any (has_ip ip) (hosts_of d)) (is_none d.host) (λ mask. not (is_mask mask))
         (Adds d (said (codes "if") args)) Q (λ ip mask m. record d { host = option_map (with_iface (iface_of m ip mask)) d.host })
         (put w e)
-
--- Scripts.
-
-host-within : (p : HostSpec → Bool) (hs : List HostSpec) (n : ℕ) → position p hs ≡ Some n → n < length hs
-host-within p hs n e = by (nat_lt (position_or_len p hs) (length hs)) refl e
-  where
-    by : (b : Bool) → nat_lt (position_or_len p hs) (length hs) ≡ b → cond b (Some (position_or_len p hs)) None ≡ Some n → n < length hs
-    by true lt f = let h = ltb-true (position_or_len p hs) (length hs) lt in let is = same_Some (position_or_len p hs) n f in omega (arith, h, is)
-    by false lt f = absurd (none-some n f)
-
--- a script with three steps or more is whole
-whole-steps : (ss : List Step) → StepsKept ss → nat_lt (length ss) 3 ≡ false → IsUdpScript ss
-whole-steps ss (inl is) e = absurd (false≢true (sym e ∙ ap (λ (xs : List Step). nat_lt (length xs) 3) is))
-whole-steps ss (inr (inl made)) e = absurd (false≢true (sym e ∙ ap (λ (xs : List Step). nat_lt (length xs) 3) made.is))
-whole-steps ss (inr (inr (inl wired))) e = absurd (false≢true (sym e ∙ ap (λ (xs : List Step). nat_lt (length xs) 3) wired.is))
-whole-steps ss (inr (inr (inr whole))) e = whole
-
-whole-scripts : (d : Draft) → Kept d → list_any is_short (option_to_list d.script) ≡ false → All (λ (s : Script). IsUdpScript s.steps) (scripts_of d)
-whole-scripts d k whole = by d.script k.script whole
-  where
-    by : (o : Option Script) → ScriptKept o → list_any is_short (option_to_list o) ≡ false → All (λ (s : Script). IsUdpScript s.steps) (d.scripts ++ option_to_list o)
-    by None h w = All-append (λ (s : Script). IsUdpScript s.steps) d.scripts [] k.udp (All-nil (λ (s : Script). IsUdpScript s.steps))
-    by (Some s) h w = All-append (λ (s : Script). IsUdpScript s.steps) d.scripts (s ∷ []) k.udp
-        (All-one (λ (s : Script). IsUdpScript s.steps) s (whole-steps s.steps h ((or-parts (is_short s) false w).0)))
-
-late-group : (d : Draft) (n : ℕ) (called : List ℕ) → Kept d → host_named d called ≡ Some n → 5 ≤ d.group
-late-group d n called k e = by (nat_lt d.group 5) refl
-  where
-    by : (b : Bool) → nat_lt d.group 5 ≡ b → 5 ≤ d.group
-    by false h = le-from d.group 5 h
-    by true h =
-        let none : length (hosts_of d) ≡ 0 = ap (λ (hs : List HostSpec). length hs) (k.no_hosts (ltb-true d.group 5 h)) in
-        let within = host-within (is_host_named called) (hosts_of d) n e in absurd (omega (arith, none, within))
-
-with_script : (d : Draft) (n : ℕ) → Kept d → 5 ≤ d.group → n < length (hosts_of d) → length (scripts_of d) < 32 → is_lacking d ≡ false → list_any (is_script_of n) (scripts_of d) ≡ false
-    → Kept (record d { group = 6; hosts = hosts_of d; host = None; scripts = scripts_of d; script = Some (script_of n) })
-with_script d n k late within few whole fresh =
-    let lacks = or-parts (list_any is_bare (option_to_list d.host)) (list_any is_short (option_to_list d.script)) whole in
-    let same : hosts_of d ++ [] ≡ hosts_of d = append-nil (hosts_of d) in
-    record {
-      end = k.end;
-      seed = k.seed;
-      media = media-from d.group 6 d.media k.media (omega (arith, late));
-      no_media = λ h. absurd (omega (arith, h));
-      no_hosts = λ h. absurd (omega (arith, h));
-      some_hosts = λ _. let e = ap (λ (hs : List HostSpec). length hs) same in omega (arith, e, within);
-      few_hosts = let e = ap (λ (hs : List HostSpec). length hs) same in let h = k.few_hosts in omega (arith, e, h);
-      plain = plain-hosts d k lacks.0;
-      host = tt;
-      hosts = ap (list_all (is_host (length d.media))) same ∙ k.hosts;
-      named = ap (λ (hs : List HostSpec). all_apart bytes_eq (map (λ (h : HostSpec). h.name) hs)) same ∙ k.named;
-      addressed = ap (λ (hs : List HostSpec). all_apart nat_eq (flat_map addresses hs)) same ∙ k.addressed;
-      no_scripts = λ h. absurd (omega (arith, h));
-      no_scripts_yet = λ e. absurd (false≢true (sym e));
-      few_scripts = let e = length-append (scripts_of d) (script_of n ∷ []) in omega (arith, e, few);
-      udp = whole-scripts d k lacks.1;
-      script = inl refl;
-      scripts = ap (λ (hs : List HostSpec). list_all (is_script (length hs)) (scripts_of d ++ script_of n ∷ [])) same
-          ∙ (list_all-append (is_script (length (hosts_of d))) (scripts_of d) (script_of n ∷ [])
-          ∙ (ap (λ b. b && (is_script (length (hosts_of d)) (script_of n) && true)) k.scripts ∙ ap (λ b. (b && true) && true) (lt-true n (length (hosts_of d)) within)));
-      one_each = apart-more same_host (λ x y. same-numbers x.host y.host) (scripts_of d) (script_of n) k.one_each
-          (any-cong (same_host (script_of n)) (is_script_of n) (λ (s : Script). same-numbers n s.host) (scripts_of d) ∙ fresh);
-    }
-
-script_tests : (b : Bool) (o : Option ℕ) (b17 : Bool) (p31 : ℕ → Bool) (P : Draft → Type 0) (Q : World → Type 0) (next : ℕ → Draft) → ((n : ℕ) → o ≡ Some n → b17 ≡ false → p31 n ≡ false → b ≡ true → P (next n))
-    → Keeps P Q (refuse 13 (not b) (known o (λ n. refuse 17 b17 (refuse 31 (p31 n) (Goes (next n))))))
-script_tests false o b17 p31 P Q next f = tt
-script_tests true None b17 p31 P Q next f = tt
-script_tests true (Some n) true p31 P Q next f = tt
-script_tests true (Some n) false p31 P Q next f = keeps-refuse P Q 31 (p31 n) (Goes (next n)) (λ e. f n refl refl e refl)
-
--- a place by name has the name
-place-name : (hs : List HostSpec) (called : List ℕ) (n : ℕ) → position (is_host_named called) hs ≡ Some n → get_or (host_names hs) n [] ≡ called
-place-name [] called n e = absurd (none-some n e)
-place-name (h ∷ hs) called n e = by (bytes_eq called h.name) refl (λ m. place-name hs called m)
-  where
-    found : (o : Option ℕ) → option_map (λ k. suc k) o ≡ Some n → position (is_host_named called) hs ≡ o → ((m : ℕ) → position (is_host_named called) hs ≡ Some m → get_or (host_names hs) m [] ≡ called)
-        → get_or (host_names (h ∷ hs)) n [] ≡ called
-    found None f is later = absurd (none-some n f)
-    found (Some m) f is later = subst (λ (k : ℕ). get_or (host_names (h ∷ hs)) k [] ≡ called) (same_Some (suc m) n f) (later m is)
-
-    by : (b : Bool) → bytes_eq called h.name ≡ b → ((m : ℕ) → position (is_host_named called) hs ≡ Some m → get_or (host_names hs) m [] ≡ called) → get_or (host_names (h ∷ hs)) n [] ≡ called
-    by true is later =
-        subst (λ (k : ℕ). get_or (host_names (h ∷ hs)) k [] ≡ called) (same_Some 0 n (sym (position-yes (is_host_named called) h hs is) ∙ e)) (sym ((bytes_eq-Decides called h.name).0 is))
-    by false is later = found (position (is_host_named called) hs) (sym (position-no (is_host_named called) h hs is) ∙ e) refl later
-
--- one line more at the end of the scripts
-late-more : (d : Draft) (xs : List Script) (line : List ℕ) → 3 ≤ d.group → flat_map (lines_of_script (host_names (hosts_of d))) xs ≡ flat_map (lines_of_script (host_names (hosts_of d))) (scripts_of d) ++ line ∷ []
-    → late_lines d.end d.seed d.media (hosts_of d) xs ≡ lines_so_far d ++ line ∷ []
-late-more d xs line late is =
-    let media : List (List ℕ) = flat_map lines_of_medium d.media in
-    let hosts : List (List ℕ) = flat_map (lines_of_host (medium_names d.media)) (hosts_of d) in
-    let scripts : List (List ℕ) = flat_map (lines_of_script (host_names (hosts_of d))) (scripts_of d) in
-    ap (λ (ls : List (List ℕ)). codes "networld 1" ∷ line_of_end d.end ∷ line_of_seed d.seed ∷ (media ++ (hosts ++ ls))) is
-    ∙ (ap (λ (ls : List (List ℕ)). codes "networld 1" ∷ line_of_end d.end ∷ line_of_seed d.seed ∷ ls)
-    (ap (λ (ls : List (List ℕ)). media ++ ls) (sym (append_assoc hosts scripts (line ∷ []))) ∙ sym (append_assoc media (hosts ++ scripts) (line ∷ [])))
-    ∙ ap (λ (ls : List (List ℕ)). ls ++ line ∷ []) (sym (lines-late d.group d.end d.seed d.media (hosts_of d) (scripts_of d) late)))
-
-script-lines : (d : Draft) (n : ℕ) (line : List ℕ) → 5 ≤ d.group → line ≡ spaced (codes "script" ∷ get_or (host_names (hosts_of d)) n [] ∷ [])
-    → lines_so_far (record d { group = 6; hosts = hosts_of d; host = None; scripts = scripts_of d; script = Some (script_of n) }) ≡ lines_so_far d ++ line ∷ []
-script-lines d n line late is =
-    ap (λ (hs : List HostSpec). lines_at 6 d.end d.seed d.media hs (scripts_of d ++ script_of n ∷ [])) (append-nil (hosts_of d))
-    ∙ late-more d (scripts_of d ++ script_of n ∷ []) line (omega (arith, late))
-    (flat_map-append (lines_of_script (host_names (hosts_of d))) (scripts_of d) (script_of n ∷ [])
-    ∙ ap (λ (l : List ℕ). flat_map (lines_of_script (host_names (hosts_of d))) (scripts_of d) ++ l ∷ []) (sym is))
-
-pub keeps-script : (Q : World → Type 0) (d : Draft) (args : List (List ℕ)) → Kept d → Keeps (Adds d (said (codes "script") args)) Q (script_line d args)
-keeps-script Q d args k = by (one args) refl
-  where
-    by : (o : Option (List ℕ)) → one args ≡ o → Keeps (Adds d (said (codes "script") args)) Q (given o (λ called. refuse 13 (not (is_name called)) (known (host_named d called) (λ n.
-        refuse 17 (nat_le 32 (length (scripts_of d)))
-        (refuse 31 (is_lacking d || list_any (is_script_of n) (scripts_of d))
-        (Goes (record d { group = 6; hosts = hosts_of d; host = None; scripts = scripts_of d; script = Some (script_of n) })))))))
-    by None e = tt
-    by (Some called) args_are = script_tests (is_name called) (host_named d called) (nat_le 32 (length (scripts_of d))) (λ n. is_lacking d || list_any (is_script_of n) (scripts_of d))
-        (Adds d (said (codes "script") args)) Q (λ n. record d { group = 6; hosts = hosts_of d; host = None; scripts = scripts_of d; script = Some (script_of n) })
-        (λ n e few whole _.
-        let parts = or-parts (is_lacking d) (list_any (is_script_of n) (scripts_of d)) whole in
-        let late = late-group d n called k e in
-        let line : said (codes "script") args ≡ spaced (codes "script" ∷ get_or (host_names (hosts_of d)) n [] ∷ []) =
-        ap (said (codes "script")) (one-is args called args_are ∙ ap (λ (x : List ℕ). x ∷ []) (sym (place-name (hosts_of d) called n e))) in
-        (with_script d n k late (host-within (is_host_named called) (hosts_of d) n e) (le-false 32 (length (scripts_of d)) few) parts.0 parts.1, script-lines d n (said (codes "script") args) late line))
-
--- Steps.
-
--- the last script, as its host stays
-same-apart : (xs : List Script) (s t : Script) → t.host ≡ s.host → all_apart same_host (xs ++ t ∷ []) ≡ all_apart same_host (xs ++ s ∷ [])
-same-apart [] s t e = refl
-same-apart (x ∷ xs) s t e =
-    let any : list_any (same_host x) (xs ++ t ∷ []) ≡ list_any (same_host x) (xs ++ s ∷ []) =
-    list_any-append (same_host x) xs (t ∷ []) ∙ (ap (λ (n : ℕ). list_any (same_host x) xs || ((x.host == n) || false)) e ∙ sym (list_any-append (same_host x) xs (s ∷ []))) in
-    ap (λ b. not b && all_apart same_host (xs ++ t ∷ [])) any ∙ ap (λ b. not (list_any (same_host x) (xs ++ s ∷ [])) && b) (same-apart xs s t e)
-
-equal : (xs ys : List ℕ) → bytes_eq xs ys ≡ true → xs ≡ ys
-equal xs ys = (bytes_eq-Decides xs ys).0
-
-steps-more : (xs : List Step) (s : Step) → list_all is_step xs ≡ true → is_step s ≡ true → list_all is_step (xs ++ s ∷ []) ≡ true
-steps-more xs s all is = list_all-append is_step xs (s ∷ []) ∙ (ap (λ b. b && (is_step s && true)) all ∙ ap (λ b. b && true) is)
-
--- a count that a step keeps
-read-within : (called : List ℕ) (count : ℕ) → is_step (step.Read called count) ≡ true → (1 ≤ count) × (count ≤ 65536)
-read-within called count is =
-    let both = and_parts (is_name called) (is_within 1 65536 count) is in
-    let ends = and_parts (nat_le 1 count) (nat_le count 65536) both.1 in
-    (le-true 1 count ends.0, le-true count 65536 ends.1)
-
-transfer-is : (called : List ℕ) (s : Step) → transfers called s ≡ true → is_step s ≡ true → IsTransfer called s
-transfer-is called (step.Write name text) t is = equal name called t
-transfer-is called (step.Read name count) t is = let w = read-within name count is in (equal name called t, w.0, w.1)
-transfer-is called (step.Open name path mode) t is = absurd (false≢true t)
-transfer-is called (step.Writex name text) t is = absurd (false≢true t)
-transfer-is called (step.Close name) t is = absurd (false≢true t)
-transfer-is called (step.Ls path) t is = absurd (false≢true t)
-transfer-is called (step.Cs query) t is = absurd (false≢true t)
-transfer-is called (step.Until moment) t is = absurd (false≢true t)
-transfer-is called (step.Dial name address) t is = absurd (false≢true t)
-transfer-is called (step.Announce name address) t is = absurd (false≢true t)
-transfer-is called (step.Listen name from) t is = absurd (false≢true t)
-transfer-is called (step.Accept name from) t is = absurd (false≢true t)
-transfer-is called (step.Reject name) t is = absurd (false≢true t)
-transfer-is called (step.Hangup name) t is = absurd (false≢true t)
-
-transfers-more : (called : List ℕ) (ss : List Step) (s : Step) → AreTransfers called ss → IsTransfer called s → AreTransfers called (ss ++ s ∷ [])
-transfers-more called [] s all is = (is, tt)
-transfers-more called (t ∷ ts) s all is = (all.0, transfers-more called ts s all.1 is)
-
--- one more step of a whole script
-script-more : (ss : List Step) (s : Step) → IsUdpScript ss → follows ss s ≡ true → is_step s ≡ true → IsUdpScript (ss ++ s ∷ [])
-script-more ss s u f is =
-    let f' : transfers u.data_name s ≡ true = sym (ap (λ (xs : List Step). follows xs s) u.opening) ∙ f in
-    record {
-      ctl_name = u.ctl_name;
-      data_name = u.data_name;
-      text = u.text;
-      remote = u.remote;
-      port = u.port;
-      rest = u.rest ++ s ∷ [];
-      opening = ap (λ (xs : List Step). xs ++ s ∷ []) u.opening;
-      connects = u.connects;
-      apart = u.apart;
-      transfers = transfers-more u.data_name u.rest s u.transfers (transfer-is u.data_name s f' is);
-    }
-
-clone-is : (s : Step) → opens_clone s ≡ true → (called : List ℕ) × (s ≡ step.Open called clone_path None)
-clone-is (step.Open called path None) e = (called, ap (λ (p : List ℕ). step.Open called p None) (equal path clone_path e))
-clone-is (step.Open called path (Some m)) e = absurd (false≢true e)
-clone-is (step.Write name text) e = absurd (false≢true e)
-clone-is (step.Read name count) e = absurd (false≢true e)
-clone-is (step.Writex name text) e = absurd (false≢true e)
-clone-is (step.Close name) e = absurd (false≢true e)
-clone-is (step.Ls path) e = absurd (false≢true e)
-clone-is (step.Cs query) e = absurd (false≢true e)
-clone-is (step.Until moment) e = absurd (false≢true e)
-clone-is (step.Dial name address) e = absurd (false≢true e)
-clone-is (step.Announce name address) e = absurd (false≢true e)
-clone-is (step.Listen name from) e = absurd (false≢true e)
-clone-is (step.Accept name from) e = absurd (false≢true e)
-clone-is (step.Reject name) e = absurd (false≢true e)
-clone-is (step.Hangup name) e = absurd (false≢true e)
-
-wired-is : (ctl_name : List ℕ) (s : Step) → connects_name ctl_name s ≡ true → (text : List ℕ) × (s ≡ step.Write ctl_name text) × (connects text ≡ true)
-wired-is ctl_name (step.Write called text) e =
-    let both = and_parts (bytes_eq called ctl_name) (connects text) e in
-    (text, ap (λ (n : List ℕ). step.Write n text) (equal called ctl_name both.0), both.1)
-wired-is ctl_name (step.Open called path m) e = absurd (false≢true e)
-wired-is ctl_name (step.Read name count) e = absurd (false≢true e)
-wired-is ctl_name (step.Writex name text) e = absurd (false≢true e)
-wired-is ctl_name (step.Close name) e = absurd (false≢true e)
-wired-is ctl_name (step.Ls path) e = absurd (false≢true e)
-wired-is ctl_name (step.Cs query) e = absurd (false≢true e)
-wired-is ctl_name (step.Until moment) e = absurd (false≢true e)
-wired-is ctl_name (step.Dial name address) e = absurd (false≢true e)
-wired-is ctl_name (step.Announce name address) e = absurd (false≢true e)
-wired-is ctl_name (step.Listen name from) e = absurd (false≢true e)
-wired-is ctl_name (step.Accept name from) e = absurd (false≢true e)
-wired-is ctl_name (step.Reject name) e = absurd (false≢true e)
-wired-is ctl_name (step.Hangup name) e = absurd (false≢true e)
-
-data-is : (ctl_name : List ℕ) (s : Step) → opens_data ctl_name s ≡ true → (called : List ℕ) × (s ≡ step.Open called data_path None) × (bytes_eq called ctl_name ≡ false)
-data-is ctl_name (step.Open called path None) e =
-    let both = and_parts (bytes_eq path data_path) (not (bytes_eq called ctl_name)) e in
-    (called, ap (λ (p : List ℕ). step.Open called p None) (equal path data_path both.0), false-of-not (bytes_eq called ctl_name) both.1)
-data-is ctl_name (step.Open called path (Some m)) e = absurd (false≢true e)
-data-is ctl_name (step.Write name text) e = absurd (false≢true e)
-data-is ctl_name (step.Read name count) e = absurd (false≢true e)
-data-is ctl_name (step.Writex name text) e = absurd (false≢true e)
-data-is ctl_name (step.Close name) e = absurd (false≢true e)
-data-is ctl_name (step.Ls path) e = absurd (false≢true e)
-data-is ctl_name (step.Cs query) e = absurd (false≢true e)
-data-is ctl_name (step.Until moment) e = absurd (false≢true e)
-data-is ctl_name (step.Dial name address) e = absurd (false≢true e)
-data-is ctl_name (step.Announce name address) e = absurd (false≢true e)
-data-is ctl_name (step.Listen name from) e = absurd (false≢true e)
-data-is ctl_name (step.Accept name from) e = absurd (false≢true e)
-data-is ctl_name (step.Reject name) e = absurd (false≢true e)
-data-is ctl_name (step.Hangup name) e = absurd (false≢true e)
-
--- one more step
-steps-kept : (ss : List Step) (s : Step) → StepsKept ss → follows ss s ≡ true → is_step s ≡ true → StepsKept (ss ++ s ∷ [])
-steps-kept ss s (inl none) f is =
-    let c = clone-is s (sym (ap (λ (xs : List Step). follows xs s) none) ∙ f) in
-    inr (inl (record { ctl_name = c.0; is = ap (λ (xs : List Step). xs ++ s ∷ []) none ∙ ap (λ (t : Step). t ∷ []) c.1 }))
-steps-kept ss s (inr (inl made)) f is =
-    let w = wired-is made.ctl_name s (sym (ap (λ (xs : List Step). follows xs s) made.is) ∙ f) in
-    inr (inr (inl (record {
-      ctl_name = made.ctl_name;
-      text = w.0;
-      is = ap (λ (xs : List Step). xs ++ s ∷ []) made.is ∙ ap (λ (t : Step). step.Open made.ctl_name clone_path None ∷ t ∷ []) w.1;
-      wired = w.2;
-    })))
-steps-kept ss s (inr (inr (inl wired))) f is =
-    let d = data-is wired.ctl_name s (sym (ap (λ (xs : List Step). follows xs s) wired.is) ∙ f) in
-    let c = connects-read wired.text wired.wired in
-    inr (inr (inr (record {
-      ctl_name = wired.ctl_name;
-      data_name = d.0;
-      text = wired.text;
-      remote = c.remote;
-      port = c.port;
-      rest = [];
-      opening = ap (λ (xs : List Step). xs ++ s ∷ []) wired.is ∙ ap (λ (t : Step). step.Open wired.ctl_name clone_path None ∷ step.Write wired.ctl_name wired.text ∷ t ∷ []) d.1;
-      connects = c.reads;
-      apart = d.2;
-      transfers = tt;
-    })))
-steps-kept ss s (inr (inr (inr whole))) f is = inr (inr (inr (script-more ss s whole f is)))
-
-with_step_more : (d : Draft) (t : Script) (s : Step) → Kept (record d { script = Some t }) → follows t.steps s ≡ true → is_step s ≡ true → Kept (record d { script = Some (with_step s t) })
-with_step_more d t s k f is =
-    let hosts : ℕ = length (hosts_of d) in
-    let split : (list_all (is_script hosts) d.scripts && (is_script hosts t && true)) ≡ true = sym (list_all-append (is_script hosts) d.scripts (t ∷ [])) ∙ k.scripts in
-    let front = and_parts (list_all (is_script hosts) d.scripts) (is_script hosts t && true) split in
-    let last = and_parts (is_script hosts t) true front.1 in
-    let parts = and_parts (nat_lt t.host hosts) (list_all is_step t.steps) last.0 in
-    let len : length (d.scripts ++ with_step s t ∷ []) ≡ length (d.scripts ++ t ∷ []) = length-append d.scripts (with_step s t ∷ []) ∙ sym (length-append d.scripts (t ∷ [])) in
-    record {
-      end = k.end;
-      seed = k.seed;
-      media = k.media;
-      no_media = k.no_media;
-      no_hosts = k.no_hosts;
-      some_hosts = k.some_hosts;
-      few_hosts = k.few_hosts;
-      plain = k.plain;
-      host = k.host;
-      hosts = k.hosts;
-      named = k.named;
-      addressed = k.addressed;
-      no_scripts = λ low. absurd (let e = ap (λ (xs : List Script). length xs) (k.no_scripts low) in let f' = length-append d.scripts (t ∷ []) in omega (arith, e, f'));
-      no_scripts_yet = λ some. absurd (let e = ap (λ (xs : List Script). length xs) (k.no_scripts_yet some) in let f' = length-append d.scripts (t ∷ []) in omega (arith, e, f'));
-      few_scripts = let few = k.few_scripts in omega (arith, len, few);
-      udp = k.udp;
-      script = steps-kept t.steps s k.script f is;
-      scripts = list_all-append (is_script hosts) d.scripts (with_step s t ∷ [])
-          ∙ (ap (λ b. b && (is_script hosts (with_step s t) && true)) front.0
-          ∙ (ap (λ b. (b && list_all is_step (t.steps ++ s ∷ [])) && true) parts.0 ∙ ap (λ b. b && true) (steps-more t.steps s parts.1 is)));
-      one_each = same-apart d.scripts t (with_step s t) refl ∙ k.one_each;
-    }
-
-step_kept : (d : Draft) (s : Step) → Kept d → is_none d.script ≡ false → follows (steps_of d.script) s ≡ true → is_step s ≡ true → Kept (record d { script = option_map (with_step s) d.script })
-step_kept d s k some f is = by d.script refl
-  where
-    by : (o : Option Script) → d.script ≡ o → Kept (record d { script = option_map (with_step s) d.script })
-    by None e = absurd (false≢true (sym some ∙ ap (λ (x : Option Script). is_none x) e))
-    by (Some t) e =
-        subst (λ (x : Option Script). Kept (record d { script = option_map (with_step s) x })) (sym e)
-        (with_step_more d t s (subst Kept (ap (λ (x : Option Script). record d { script = x }) e) k) (sym (ap (λ (x : Option Script). follows (steps_of x) s) e) ∙ f) is)
-
--- a step of the form that is run so far
-abbrev IsFormed : Step → Type 0
-IsFormed (step.Open called path None) = ⊤
-IsFormed (step.Write called text) = ⊤
-IsFormed (step.Read called count) = ⊤
-IsFormed _ = ⊥
-
-transfer-formed : (called : List ℕ) (s : Step) → IsTransfer called s → IsFormed s
-transfer-formed called (step.Write name text) t = tt
-transfer-formed called (step.Read name count) t = tt
-transfer-formed called (step.Open name path mode) t = absurd t
-transfer-formed called (step.Writex name text) t = absurd t
-transfer-formed called (step.Close name) t = absurd t
-transfer-formed called (step.Ls path) t = absurd t
-transfer-formed called (step.Cs query) t = absurd t
-transfer-formed called (step.Until moment) t = absurd t
-transfer-formed called (step.Dial name address) t = absurd t
-transfer-formed called (step.Announce name address) t = absurd t
-transfer-formed called (step.Listen name from) t = absurd t
-transfer-formed called (step.Accept name from) t = absurd t
-transfer-formed called (step.Reject name) t = absurd t
-transfer-formed called (step.Hangup name) t = absurd t
-
--- what follows has the form
-formed : (ss : List Step) (s : Step) → StepsKept ss → follows ss s ≡ true → is_step s ≡ true → IsFormed s
-formed ss s (inl none) f is =
-    let c = clone-is s (sym (ap (λ (xs : List Step). follows xs s) none) ∙ f) in subst IsFormed (sym c.1) tt
-formed ss s (inr (inl made)) f is =
-    let w = wired-is made.ctl_name s (sym (ap (λ (xs : List Step). follows xs s) made.is) ∙ f) in subst IsFormed (sym w.1) tt
-formed ss s (inr (inr (inl wired))) f is =
-    let d = data-is wired.ctl_name s (sym (ap (λ (xs : List Step). follows xs s) wired.is) ∙ f) in subst IsFormed (sym d.1) tt
-formed ss s (inr (inr (inr whole))) f is =
-    transfer-formed whole.data_name s (transfer-is whole.data_name s (sym (ap (λ (xs : List Step). follows xs s) whole.opening) ∙ f) is)
-
-late-script : (d : Draft) → Kept d → is_none d.script ≡ false → 6 ≤ d.group
-late-script d k some = by (nat_lt d.group 6) refl d.script refl
-  where
-    by : (b : Bool) → nat_lt d.group 6 ≡ b → (o : Option Script) → d.script ≡ o → 6 ≤ d.group
-    by false e o f = le-from d.group 6 e
-    by true e None f = absurd (false≢true (sym some ∙ ap (λ (o : Option Script). is_none o) f))
-    by true e (Some t) f =
-        let none = ap (λ (xs : List Script). length xs) (sym (ap (λ (o : Option Script). d.scripts ++ option_to_list o) f) ∙ k.no_scripts (ltb-true d.group 6 e)) in
-        let len = length-append d.scripts (t ∷ []) in absurd (omega (arith, none, len))
-
--- the lines of a script with one more step
-step-more : (hosts : List (List ℕ)) (t : Script) (s : Step) → lines_of_script hosts (with_step s t) ≡ lines_of_script hosts t ++ line_of_step s ∷ []
-step-more hosts t s = ap (λ (ls : List (List ℕ)). spaced (codes "script" ∷ get_or hosts t.host [] ∷ []) ∷ ls) (map-append line_of_step t.steps (s ∷ []))
-
-step-lines : (d : Draft) (s : Step) (line : List ℕ) → Kept d → is_none d.script ≡ false → line ≡ line_of_step s → lines_so_far (record d { script = option_map (with_step s) d.script }) ≡ lines_so_far d ++ line ∷ []
-step-lines d s line k some is = by d.script refl
-  where
-    late : 6 ≤ d.group
-    late = late-script d k some
-
-    lines : List Script → List (List ℕ)
-    lines xs = flat_map (lines_of_script (host_names (hosts_of d))) xs
-
-    by : (o : Option Script) → d.script ≡ o → lines_so_far (record d { script = option_map (with_step s) d.script }) ≡ lines_so_far d ++ line ∷ []
-    by None e = absurd (false≢true (sym some ∙ ap (λ (x : Option Script). is_none x) e))
-    by (Some t) e =
-        let own : List (List ℕ) = lines_of_script (host_names (hosts_of d)) t in
-        lines-late d.group d.end d.seed d.media (hosts_of d) (d.scripts ++ option_to_list (option_map (with_step s) d.script)) (omega (arith, late))
-        ∙ (ap (λ (o : Option Script). late_lines d.end d.seed d.media (hosts_of d) (d.scripts ++ option_to_list (option_map (with_step s) o))) e
-        ∙ late-more d (d.scripts ++ with_step s t ∷ []) line (omega (arith, late))
-        (flat_map-append (lines_of_script (host_names (hosts_of d))) d.scripts (with_step s t ∷ [])
-        ∙ (ap (λ (ls : List (List ℕ)). lines d.scripts ++ (ls ++ [])) (step-more (host_names (hosts_of d)) t s ∙ ap (λ (l : List ℕ). own ++ l ∷ []) (sym is))
-        ∙ (ap (λ (ls : List (List ℕ)). lines d.scripts ++ ls) (append-nil (own ++ line ∷ []) ∙ ap (λ (ls : List (List ℕ)). ls ++ line ∷ []) (sym (append-nil own)))
-        ∙ (sym (append_assoc (lines d.scripts) (own ++ []) (line ∷ []))
-        ∙ ap (λ (ls : List (List ℕ)). ls ++ line ∷ []) (sym (flat_map-append (lines_of_script (host_names (hosts_of d))) d.scripts (t ∷ [])) ∙ ap (λ (o : Option Script). lines (d.scripts ++ option_to_list o)) (sym e)))))))
-
--- a word gives a step whose words are of its row, which spells the line where it has the form that is run so far
-abbrev IsKept : List ℕ → Option Step → Type 0
-IsKept line None = ⊤
-IsKept line (Some s) = (is_step s ≡ true) × (IsFormed s → line ≡ line_of_step s)
-
-abbrev IsOwn : List ℕ → Option (Option Step) → Type 0
-IsOwn line None = ⊤
-IsOwn line (Some o) = IsKept line o
-
-own-if : (line : List ℕ) (b : Bool) (o : Option Step) (p : Option (Option Step)) → (b ≡ true → IsKept line o) → (b ≡ false → IsOwn line p) → IsOwn line (if b then Some o else p)
-own-if line true o p h g = h refl
-own-if line false o p h g = g refl
-
-is_kept : (line : List ℕ) (s : Step) → (IsFormed s → line ≡ line_of_step s) → IsKept line (kept s)
-is_kept line s spelled = by (is_step s) refl
-  where
-    by : (b : Bool) → is_step s ≡ b → IsKept line (if b then Some s else None)
-    by true e = (e, spelled)
-    by false e = tt
-
-and_then-kept : {A : Type 0} (line : List ℕ) (f : A → Option Step) (o : Option A) → ((x : A) → o ≡ Some x → IsKept line (f x)) → IsKept line (option_and_then f o)
-and_then-kept line f None h = tt
-and_then-kept line f (Some x) h = h x refl
-
-one-kept : (line : List ℕ) (make : List ℕ → Step) (args : List (List ℕ)) → ((a : List ℕ) → IsFormed (make a) → ⊥) → IsKept line (of_one make args)
-one-kept line make [] other = tt
-one-kept line make (a ∷ []) other = is_kept line (make a) (λ f. absurd (other a f))
-one-kept line make (a ∷ b ∷ args) other = tt
-
-two-kept : (line : List ℕ) (make : List ℕ → List ℕ → Step) (args : List (List ℕ)) → ((a b : List ℕ) → IsFormed (make a b) → ⊥) → IsKept line (of_two make args)
-two-kept line make [] other = tt
-two-kept line make (a ∷ []) other = tt
-two-kept line make (a ∷ b ∷ []) other = is_kept line (make a b) (λ f. absurd (other a b f))
-two-kept line make (a ∷ b ∷ c ∷ args) other = tt
-
-open-kept : (line : List ℕ) (args : List (List ℕ)) → line ≡ said (codes "open") args → IsKept line (open_of args)
-open-kept line [] e = tt
-open-kept line (a ∷ []) e = tt
-open-kept line (a ∷ b ∷ []) e = is_kept line (step.Open a b None) (λ _. e)
-open-kept line (a ∷ b ∷ c ∷ []) e = and_then-kept line (λ (m : Mode). kept (step.Open a b (Some m))) (mode_named c) (λ m _. is_kept line (step.Open a b (Some m)) (λ f. absurd f))
-open-kept line (a ∷ b ∷ c ∷ d ∷ args) e = tt
-
-write-kept : (line : List ℕ) (args : List (List ℕ)) → line ≡ said (codes "write") args → IsKept line (write_of args)
-write-kept line [] e = tt
-write-kept line (a ∷ []) e = tt
-write-kept line (a ∷ b ∷ args) e = is_kept line (step.Write a (joined (b ∷ args))) (λ _. e)
-
-cs-kept : (line : List ℕ) (args : List (List ℕ)) → IsKept line (cs_of args)
-cs-kept line [] = tt
-cs-kept line (a ∷ args) = is_kept line (step.Cs (joined (a ∷ args))) (λ f. absurd f)
-
-read-kept : (line : List ℕ) (args : List (List ℕ)) → line ≡ said (codes "read") args → IsKept line (read_of args)
-read-kept line args e = and_then-kept line (λ (w : Two). option_and_then (λ count. kept (step.Read w.first count)) (number_in 1 65536 w.second)) (two args)
-    (λ (w : Two) args_are. and_then-kept line (λ count. kept (step.Read w.first count)) (number_in 1 65536 w.second)
-    (λ count is. is_kept line (step.Read w.first count)
-    (λ _. e ∙ ap (said (codes "read")) (two-are args w args_are ∙ ap (λ (x : List ℕ). w.first ∷ x ∷ []) ((number_in-spelled 1 65536 w.second count (omega arith) is).is)))))
-
-until-kept : (line : List ℕ) (args : List (List ℕ)) → IsKept line (until_of args)
-until-kept line args = and_then-kept line (λ word. option_and_then (λ moment. kept (step.Until moment)) (number_in 1 1000000000 word)) (one args)
-    (λ word _. and_then-kept line (λ moment. kept (step.Until moment)) (number_in 1 1000000000 word) (λ moment _. is_kept line (step.Until moment) (λ f. absurd f)))
-
-writex-kept : (line : List ℕ) (args : List (List ℕ)) → IsKept line (writex_of args)
-writex-kept line args = and_then-kept line (λ (w : Two). option_and_then (λ bytes. kept (step.Writex w.first bytes)) (hex_text w.second)) (two args)
-    (λ (w : Two) _. and_then-kept line (λ bytes. kept (step.Writex w.first bytes)) (hex_text w.second) (λ bytes _. is_kept line (step.Writex w.first bytes) (λ f. absurd f)))
-
-own-other : (line word : List ℕ) (args : List (List ℕ)) → IsOwn line (other_of word args)
-own-other line word args =
-    own-if line (bytes_eq word (codes "until")) (until_of args) _ (λ _. until-kept line args) (λ _.
-    own-if line (bytes_eq word (codes "dial")) (of_two (λ n a. step.Dial n a) args) _ (λ _. two-kept line (λ n a. step.Dial n a) args (λ a b f. f)) (λ _.
-    own-if line (bytes_eq word (codes "announce")) (of_two (λ n a. step.Announce n a) args) _ (λ _. two-kept line (λ n a. step.Announce n a) args (λ a b f. f)) (λ _.
-    own-if line (bytes_eq word (codes "listen")) (of_two (λ n f. step.Listen n f) args) _ (λ _. two-kept line (λ n f. step.Listen n f) args (λ a b f. f)) (λ _.
-    own-if line (bytes_eq word (codes "accept")) (of_two (λ n f. step.Accept n f) args) _ (λ _. two-kept line (λ n f. step.Accept n f) args (λ a b f. f)) (λ _.
-    own-if line (bytes_eq word (codes "reject")) (of_one (λ n. step.Reject n) args) _ (λ _. one-kept line (λ n. step.Reject n) args (λ a f. f)) (λ _.
-    own-if line (bytes_eq word (codes "hangup")) (of_one (λ n. step.Hangup n) args) None (λ _. one-kept line (λ n. step.Hangup n) args (λ a f. f)) (λ _. tt)))))))
-
--- the line of a word that is known
-by-word : (line word : List ℕ) (args : List (List ℕ)) (called : List ℕ) → line ≡ said word args → bytes_eq word called ≡ true → line ≡ said called args
-by-word line word args called e is = e ∙ ap (λ (w : List ℕ). said w args) ((bytes_eq-Decides word called).0 is)
-
-own-step : (line word : List ℕ) (args : List (List ℕ)) → line ≡ said word args → IsOwn line (step_of word args)
-own-step line word args e =
-    own-if line (bytes_eq word (codes "open")) (open_of args) _ (λ is. open-kept line args (by-word line word args (codes "open") e is)) (λ _.
-    own-if line (bytes_eq word (codes "read")) (read_of args) _ (λ is. read-kept line args (by-word line word args (codes "read") e is)) (λ _.
-    own-if line (bytes_eq word (codes "write")) (write_of args) _ (λ is. write-kept line args (by-word line word args (codes "write") e is)) (λ _.
-    own-if line (bytes_eq word (codes "writex")) (writex_of args) _ (λ _. writex-kept line args) (λ _.
-    own-if line (bytes_eq word (codes "close")) (of_one (λ n. step.Close n) args) _ (λ _. one-kept line (λ n. step.Close n) args (λ a f. f)) (λ _.
-    own-if line (bytes_eq word (codes "ls")) (of_one (λ p. step.Ls p) args) _ (λ _. one-kept line (λ p. step.Ls p) args (λ a f. f)) (λ _.
-    own-if line (bytes_eq word (codes "cs")) (cs_of args) (other_of word args) (λ _. cs-kept line args) (λ _. own-other line word args)))))))
-
-steps-are : (d : Draft) → Kept d → is_none d.script ≡ false → StepsKept (steps_of d.script)
-steps-are d k some = by d.script refl k.script
-  where
-    by : (o : Option Script) → d.script ≡ o → ScriptKept o → StepsKept (steps_of o)
-    by None e h = inl refl
-    by (Some t) e h = h
-
-pub keeps-step : (Q : World → Type 0) (d : Draft) (line : List ℕ) (o : Option (Option Step)) → Kept d → IsOwn line o → Keeps (Adds d line) Q (step_line d o)
-keeps-step Q d line None k h = tt
-keeps-step Q d line (Some None) k h = tt
-keeps-step Q d line (Some (Some s)) k h =
-    keeps-refuse (Adds d line) Q 18 (is_none d.script) (refuse 31 (not (follows (steps_of d.script) s)) (Goes (record d { script = option_map (with_step s) d.script }))) (λ some.
-    keeps-refuse (Adds d line) Q 31 (not (follows (steps_of d.script) s)) (Goes (record d { script = option_map (with_step s) d.script })) (λ f.
-    let after = true-of-not (follows (steps_of d.script) s) f in
-    (step_kept d s k some after h.0, step-lines d s line k some (h.1 (formed (steps_of d.script) s (steps-are d k some) after h.0)))))
-
-pub err-ok : (bad : ℕ × ℕ) (w : World) → Err bad ≡ Ok w → ⊥
-err-ok bad w e = cc
-
-pub same-ok : (v w : World) (r : Result World (ℕ × ℕ)) → r ≡ Ok v → r ≡ Ok w → v ≡ w
-same-ok v w r e f = cc
-
--- Worlds.
-
-within-is : (least most n : ℕ) → least ≤ n → n ≤ most → is_within least most n ≡ true
-within-is least most n low high = ap (λ b. b && nat_le n most) (le-is least n low) ∙ le-is n most high
-
-record OneMedium (media : List MediumSpec) : Type 0 where
-  pub medium : MediumSpec
-  pub is : media ≡ medium ∷ []
-  pub fits : is_medium 0 medium ≡ true
-  pub plain : IsPlainMedium medium
-
-one-medium : (g : ℕ) (media : List MediumSpec) → MediaKept g media → 4 ≤ g → OneMedium media
-one-medium g [] k late = absurd (omega (arith, k, late))
-one-medium g (s ∷ []) k late = record { medium = s; is = refl; fits = k.0; plain = k.1 }
-one-medium g (s ∷ t ∷ ss) k late = absurd k
-
-pub ready : (d : Draft) → Kept d → 5 ≤ d.group → is_lacking d ≡ false → IsReady (world_of d)
-ready d k late whole db text =
-    let lacks = or-parts (list_any is_bare (option_to_list d.host)) (list_any is_short (option_to_list d.script)) whole in
-    let one_of = one-medium d.group d.media k.media (omega (arith, late)) in (
-      record {
-        end = k.end;
-        seed = k.seed;
-        some_media = ap (λ (ms : List MediumSpec). is_within 1 4 (length ms)) one_of.is;
-        media = ap (are_media 0) one_of.is ∙ ap (λ b. b && true) one_of.fits;
-        media_named = ap (λ (ms : List MediumSpec). all_apart bytes_eq (map (λ (s : MediumSpec). s.name) ms)) one_of.is;
-        some_hosts = within-is 1 8 (length (hosts_of d)) (k.some_hosts late) k.few_hosts;
-        hosts = k.hosts;
-        hosts_named = k.named;
-        hosts_addressed = k.addressed;
-        few_scripts = le-is (length (scripts_of d)) 32 k.few_scripts;
-        scripts = k.scripts;
-        database = text;
-      },
-      record {
-        medium = one_of.medium;
-        media = one_of.is;
-        plain = one_of.plain;
-        hosts = plain-hosts d k lacks.0;
-        scripts = whole-scripts d k lacks.1;
-        one_each = k.one_each;
-      },
-    )
-
--- the line that begins the bundle
-pub record Ends (d : Draft) (line : List ℕ) (w : World) : Type 0 where
-  pub is : line ≡ codes "ndb"
-  pub world : w ≡ world_of d
-  pub late : 5 ≤ d.group
-  pub said_so : IsReady w
-
-pub keeps-ndb : (P : Draft → Type 0) (d : Draft) (args : List (List ℕ)) → Kept d → Keeps P (Ends d (said (codes "ndb") args)) (ndb_line d args)
-keeps-ndb P d [] k =
-    keeps-refuse P (Ends d (said (codes "ndb") [])) 19 (nat_lt d.group 5) (refuse 31 (is_lacking d) (Begins (world_of d))) (λ late.
-    keeps-refuse P (Ends d (said (codes "ndb") [])) 31 (is_lacking d) (Begins (world_of d)) (λ whole.
-    record { is = refl; world = refl; late = le-from d.group 5 late; said_so = ready d k (le-from d.group 5 late) whole }))
-keeps-ndb P d (a ∷ args) k = tt
-
--- Lines that are always bad.
-
-keeps-again : (P : Draft → Type 0) (Q : World → Type 0) (args : List (List ℕ)) → Keeps P Q (again_line args)
-keeps-again P Q args = keeps-given P Q (one args) (λ version. if bytes_eq version (codes "1") then Bad 18 else wrong) (λ version _.
-    keeps-if P Q (bytes_eq version (codes "1")) (Bad 18) wrong (λ _. tt) (λ _. tt))
-
-rates_tests : (P : Draft → Type 0) (Q : World → Type 0) (b : Bool) (o p q : Option ℕ) (b15 b18 : Bool) (b23 : ℕ → ℕ → ℕ → Bool) → Keeps P Q (refuse 13 (not b) (given o (λ x. given p (λ y. given q (λ z. refuse 15 b15 (refuse 18 b18 (refuse 23 (b23 x y z) (Bad 31))))))))
-rates_tests P Q false o p q b15 b18 b23 = tt
-rates_tests P Q true None p q b15 b18 b23 = tt
-rates_tests P Q true (Some x) None q b15 b18 b23 = tt
-rates_tests P Q true (Some x) (Some y) None b15 b18 b23 = tt
-rates_tests P Q true (Some x) (Some y) (Some z) true b18 b23 = tt
-rates_tests P Q true (Some x) (Some y) (Some z) false true b23 = tt
-rates_tests P Q true (Some x) (Some y) (Some z) false false b23 = keeps-refuse P Q 23 (b23 x y z) (Bad 31) (λ _. tt)
-
-keeps-rates : (P : Draft → Type 0) (Q : World → Type 0) (d : Draft) (args : List (List ℕ)) → Keeps P Q (rates_line d args)
-keeps-rates P Q d args = by (four args)
-  where
-    by : (o : Option Four) → Keeps P Q (given o (λ (w : Four). refuse 13 (not (is_name w.first)) (given (number_in 0 1000 w.second) (λ loss.
-        given (number_in 0 1000 w.third) (λ twice. given (number_in 0 1000 w.fourth) (λ later.
-        refuse 15 (not (list_any (is_medium_named w.first) d.media))
-        (refuse 18 (nat_lt 4 d.group)
-        (refuse 23 (nat_lt 1000 (loss + twice + later))
-        (Bad 31)))))))))
-    by None = tt
-    by (Some w) = rates_tests P Q (is_name w.first) (number_in 0 1000 w.second) (number_in 0 1000 w.third) (number_in 0 1000 w.fourth)
-        (not (list_any (is_medium_named w.first) d.media)) (nat_lt 4 d.group) (λ loss twice later. nat_lt 1000 (loss + twice + later))
-
-three_tests : (P : Draft → Type 0) (Q : World → Type 0) (a b c : Bool) → Keeps P Q (refuse 13 a (refuse 15 b (refuse 18 c (Bad 31))))
-three_tests P Q true b c = tt
-three_tests P Q false true c = tt
-three_tests P Q false false true = tt
-three_tests P Q false false false = tt
-
-keeps-fate : (P : Draft → Type 0) (Q : World → Type 0) (d : Draft) (args : List (List ℕ)) → Keeps P Q (fate_line d args)
-keeps-fate P Q d args = by (three args)
-  where
-    by : (o : Option Three) → Keeps P Q (given o (λ (w : Three). refuse 13 (not (is_name w.first && (is_frames w.second && is_fate w.third)))
-        (refuse 15 (not (list_any (is_medium_named w.first) d.media))
-        (refuse 18 (nat_lt 4 d.group)
-        (Bad 31)))))
-    by None = tt
-    by (Some w) = three_tests P Q (not (is_name w.first && (is_frames w.second && is_fate w.third))) (not (list_any (is_medium_named w.first) d.media)) (nat_lt 4 d.group)
-
-four_tests : (P : Draft → Type 0) (Q : World → Type 0) (a b c e : Bool) → Keeps P Q (refuse 18 a (refuse 20 b (refuse 21 c (refuse 22 e (Bad 31)))))
-four_tests P Q true b c e = tt
-four_tests P Q false true c e = tt
-four_tests P Q false false true e = tt
-four_tests P Q false false false true = tt
-four_tests P Q false false false false = tt
-
-route_tests : (P : Draft → Type 0) (Q : World → Type 0) (o p q : Option ℕ) (a : Bool) (b c : ℕ → ℕ → Bool) (e : ℕ → Bool) → Keeps P Q (given o (λ x. given p (λ y. given q (λ z. refuse 18 a (refuse 20 (b x y) (refuse 21 (c x y) (refuse 22 (e z) (Bad 31))))))))
-route_tests P Q None p q a b c e = tt
-route_tests P Q (Some x) None q a b c e = tt
-route_tests P Q (Some x) (Some y) None a b c e = tt
-route_tests P Q (Some x) (Some y) (Some z) a b c e = four_tests P Q a (b x y) (c x y) (e z)
-
-keeps-route : (P : Draft → Type 0) (Q : World → Type 0) (d : Draft) (args : List (List ℕ)) → Keeps P Q (route_line d args)
-keeps-route P Q d args = by (three args)
-  where
-    by : (o : Option Three) → Keeps P Q (given o (λ (w : Three). given (address_in w.first) (λ net. given (address_in w.second) (λ mask. given (address_in w.third) (λ gateway.
-        refuse 18 (is_none d.host)
-        (refuse 20 (not (is_mask mask && (bit_and net mask == net)))
-        (refuse 21 (list_any (has_network net mask) (option_to_list d.host))
-        (refuse 22 (not (list_any (reaches gateway) (option_to_list d.host)))
-        (Bad 31)))))))))
-    by None = tt
-    by (Some w) = route_tests P Q (address_in w.first) (address_in w.second) (address_in w.third) (is_none d.host) (λ net mask. not (is_mask mask && (bit_and net mask == net)))
-        (λ net mask. list_any (has_network net mask) (option_to_list d.host)) (λ gateway. not (list_any (reaches gateway) (option_to_list d.host)))
-
-start_tests : (P : Draft → Type 0) (Q : World → Type 0) (o : Option (List ℕ)) (b : Bool) → Keeps P Q (given o (λ word. given (number_in 1 4294967295 word) (λ start. refuse 18 b (Bad 31))))
-start_tests P Q None b = tt
-start_tests P Q (Some word) b = by (number_in 1 4294967295 word) b
-  where
-    by : (o : Option ℕ) (c : Bool) → Keeps P Q (given o (λ start. refuse 18 c (Bad 31)))
-    by None c = tt
-    by (Some n) true = tt
-    by (Some n) false = tt
-
--- Lines.
-
-keeps-host-word : (Q : World → Type 0) (d : Draft) (line word : List ℕ) (args : List (List ℕ)) → line ≡ said word args → Kept d → Keeps (Adds d line) Q (host_word_line d word args)
-keeps-host-word Q d line word args e k =
-    keeps-if (Adds d line) Q (bytes_eq word (codes "host")) (host_line d args) _ (λ is. called_so (codes "host") (host_line d args) is (keeps-host Q d args k)) (λ _.
-    keeps-if (Adds d line) Q (bytes_eq word (codes "if")) (if_line d args) _ (λ is. called_so (codes "if") (if_line d args) is (keeps-if-line Q d args k)) (λ _.
-    keeps-if (Adds d line) Q (bytes_eq word (codes "route")) (route_line d args) _ (λ _. keeps-route (Adds d line) Q d args) (λ _.
-    keeps-if (Adds d line) Q (bytes_eq word (codes "start")) (start_line d args) _ (λ _. start_tests (Adds d line) Q (one args) (is_none d.host)) (λ _.
-    keeps-if (Adds d line) Q (bytes_eq word (codes "script")) (script_line d args) (step_line d (step_of word args)) (λ is. called_so (codes "script") (script_line d args) is (keeps-script Q d args k)) (λ _.
-    keeps-step Q d line (step_of word args) k (own-step line word args e))))))
-  where
-    called_so : (called : List ℕ) (v : Verdict) → bytes_eq word called ≡ true → Keeps (Adds d (said called args)) Q v → Keeps (Adds d line) Q v
-    called_so called v is h = subst (λ (l : List ℕ). Keeps (Adds d l) Q v) (sym (by-word line word args called e is)) h
-
-keeps-going : (Q : World → Type 0) (d : Draft) (line word : List ℕ) (args : List (List ℕ)) → line ≡ said word args → Kept d → (d.group == 0) ≡ false → Keeps (Adds d line) Q (going_line d word args)
-keeps-going Q d line word args e k begun =
-    keeps-if (Adds d line) Q (bytes_eq word (codes "networld")) (again_line args) _ (λ _. keeps-again (Adds d line) Q args) (λ _.
-    keeps-if (Adds d line) Q (bytes_eq word (codes "end")) (end_line d args) _ (λ is. called_so (codes "end") (end_line d args) is (keeps-end Q d args k begun)) (λ _.
-    keeps-if (Adds d line) Q (bytes_eq word (codes "seed")) (seed_line d args) _ (λ is. called_so (codes "seed") (seed_line d args) is (keeps-seed Q d args k)) (λ _.
-    keeps-if (Adds d line) Q (bytes_eq word (codes "medium")) (medium_line d args) _ (λ is. called_so (codes "medium") (medium_line d args) is (keeps-medium Q d args k)) (λ _.
-    keeps-if (Adds d line) Q (bytes_eq word (codes "rates")) (rates_line d args) _ (λ _. keeps-rates (Adds d line) Q d args) (λ _.
-    keeps-if (Adds d line) Q (bytes_eq word (codes "fate")) (fate_line d args) (host_word_line d word args) (λ _. keeps-fate (Adds d line) Q d args) (λ _. keeps-host-word Q d line word args e k))))))
-  where
-    called_so : (called : List ℕ) (v : Verdict) → bytes_eq word called ≡ true → Keeps (Adds d (said called args)) Q v → Keeps (Adds d line) Q v
-    called_so called v is h = subst (λ (l : List ℕ). Keeps (Adds d l) Q v) (sym (by-word line word args called e is)) h
-
-keeps-words : (d : Draft) (line : List ℕ) (words : List (List ℕ)) → line ≡ joined words → Kept d → (d.group == 0) ≡ false → Keeps (Adds d line) (Ends d line) (words_line d words)
-keeps-words d line [] e k begun = tt
-keeps-words d line (word ∷ args) e k begun =
-    keeps-if (Adds d line) (Ends d line) (bytes_eq word (codes "ndb")) (ndb_line d args) (going_line d word args)
-    (λ is. subst (λ (l : List ℕ). Keeps (Adds d line) (Ends d l) (ndb_line d args)) (sym (by-word line word args (codes "ndb") e is)) (keeps-ndb (Adds d line) d args k))
-    (λ _. keeps-going (Ends d line) d line word args e k begun)
-
--- what a line makes of a world so far: it is kept, and the line is added where it says something
-abbrev pub Takes : Draft → List ℕ → Draft → Type 0
-Takes d line e = Kept e × (lines_so_far e ≡ lines_so_far d ++ filter speaks (line ∷ []))
-
-passed-quiet : (line : List ℕ) → is_passed line ≡ true → speaks line ≡ false
-passed-quiet [] e = refl
-passed-quiet (b ∷ line) e = ap not e
-
-other-loud : (line : List ℕ) → is_passed line ≡ false → speaks line ≡ true
-other-loud [] e = absurd (false≢true (sym e))
-other-loud (b ∷ line) e = ap not e
-
-loud-takes : (d : Draft) (line : List ℕ) (v : Verdict) → speaks line ≡ true → Keeps (Adds d line) (Ends d line) v → Keeps (Takes d line) (Ends d line) v
-loud-takes d line (Goes e) loud h = (h.0, h.1 ∙ ap (λ b. lines_so_far d ++ cond b (line ∷ []) []) (sym loud))
-loud-takes d line (Begins w) loud h = h
-loud-takes d line (Bad cause) loud h = tt
-
-pub keeps-line : (d : Draft) (line : List ℕ) → Kept d → Keeps (Takes d line) (Ends d line) (line_verdict d line)
-keeps-line d line k =
-    keeps-if (Takes d line) (Ends d line) (is_passed line) (Goes d) (if d.group == 0 then first_line d line else words_line d (words_of line))
-    (λ is. (k, sym (ap (λ b. lines_so_far d ++ cond b (line ∷ []) []) (passed-quiet line is) ∙ append-nil (lines_so_far d))))
-    (λ loud. loud-takes d line (if d.group == 0 then first_line d line else words_line d (words_of line)) (other-loud line loud)
-    (keeps-if (Adds d line) (Ends d line) (d.group == 0) (first_line d line) (words_line d (words_of line)) (λ first. keeps-first (Ends d line) d line k first)
-    (λ begun. keeps-words d line (words_of line) (sym (join_with_byte-slice_split 32 line)) k begun)))
-
--- a database that is read
-pub database-read : (text : List ℕ) → bad_line_so_far text ≡ None → reading text ≡ Some (database (lines_of text))
-database-read text good = by (is_none (bad_line text)) refl (read_so_far text good)
-  where
-    by : (b : Bool) → is_none (bad_line text) ≡ b → (if b then Some (database (lines_of text)) else None) ≡ Some (tuples_of (lines_of text)) → reading text ≡ Some (database (lines_of text))
-    by true e h = ap (λ v. if v then Some (database (lines_of text)) else None) e
-    by false e h = absurd (none-some (tuples_of (lines_of text)) h)
-

@@ -306,7 +306,7 @@ steps-lead d n steps u all = subst (λ (xs : List Step). Leads (under d n []) (m
         rest-lead d n u.ctl_name u.text u.data_name [] u.rest third.1 u.transfers)))
 
 -- the world so far has these parts, and nothing is missing
-pub record IsReady (d : Draft) (e s : ℕ) (media : List MediumSpec) (hosts : List HostSpec) (scripts : List Script) : Type 0 where
+pub record HasParts (d : Draft) (e s : ℕ) (media : List MediumSpec) (hosts : List HostSpec) (scripts : List Script) : Type 0 where
   pub end : d.end ≡ e
   pub seed : d.seed ≡ s
   pub media_are : d.media ≡ media
@@ -352,8 +352,8 @@ record AreHosts (hosts : List HostSpec) : Type 0 where
   pub named : all_apart bytes_eq (names hosts) ≡ true
 
 script-leads : (d : Draft) (e s : ℕ) (media : List MediumSpec) (hosts : List HostSpec) (done : List Script) (x : Script) (rest : List Script)
-    → IsReady d e s media hosts done → AreHosts hosts → Listed (length hosts) done (x ∷ rest)
-    → Leads d (lines_of_script (names hosts) x) (under d x.host x.steps) × IsReady (under d x.host x.steps) e s media hosts (done ++ x ∷ [])
+    → HasParts d e s media hosts done → AreHosts hosts → Listed (length hosts) done (x ∷ rest)
+    → Leads d (lines_of_script (names hosts) x) (under d x.host x.steps) × HasParts (under d x.host x.steps) e s media hosts (done ++ x ∷ [])
 script-leads d e s media hosts done x rest r h l =
     let u = All-first (λ (s : Script). IsUdpScript s.steps) x rest l.udp in
     let here = (and_parts (is_script (length hosts) x) (list_all (is_script (length hosts)) rest) l.fits).0 in
@@ -385,18 +385,18 @@ script-leads d e s media hosts done x rest r h l =
 record Staged (d : Draft) (e s : ℕ) (media : List MediumSpec) (hosts : List HostSpec) (lines : List (List ℕ)) (scripts : List Script) : Type 0 where
   pub after : Draft
   pub leads : Leads d lines after
-  pub ready : IsReady after e s media hosts scripts
+  pub ready : HasParts after e s media hosts scripts
 
 scripts-lead : (d : Draft) (e s : ℕ) (media : List MediumSpec) (hosts : List HostSpec) (done rest : List Script)
-    → IsReady d e s media hosts done → AreHosts hosts → Listed (length hosts) done rest → Staged d e s media hosts (flat_map (lines_of_script (names hosts)) rest) (done ++ rest)
-scripts-lead d e s media hosts done [] r h l = record { after = d; leads = refl; ready = subst (IsReady d e s media hosts) (sym (append-nil done)) r }
+    → HasParts d e s media hosts done → AreHosts hosts → Listed (length hosts) done rest → Staged d e s media hosts (flat_map (lines_of_script (names hosts)) rest) (done ++ rest)
+scripts-lead d e s media hosts done [] r h l = record { after = d; leads = refl; ready = subst (HasParts d e s media hosts) (sym (append-nil done)) r }
 scripts-lead d e s media hosts done (x ∷ rest) r h l =
     let first = script-leads d e s media hosts done x rest r h l in
     let later = scripts-lead (under d x.host x.steps) e s media hosts (done ++ x ∷ []) rest first.1 h (listed-more (length hosts) done x rest l) in
     record {
       after = later.after;
       leads = leads-more d (under d x.host x.steps) later.after (lines_of_script (names hosts) x) (flat_map (lines_of_script (names hosts)) rest) first.0 later.leads;
-      ready = subst (IsReady later.after e s media hosts) (append_assoc done (x ∷ []) rest) later.ready;
+      ready = subst (HasParts later.after e s media hosts) (append_assoc done (x ∷ []) rest) later.ready;
     }
 
 -- Worlds.
@@ -413,7 +413,7 @@ medium-is m p is =
 pub record Drafted (w : World) : Type 0 where
   pub draft : Draft
   pub leads : Leads opening_draft (lines_of_world w) draft
-  pub ready : IsReady draft w.end w.seed w.media w.hosts w.scripts
+  pub ready : HasParts draft w.end w.seed w.media w.hosts w.scripts
 
 -- what the parts of a world with one plain medium lead to
 record Parts (w : World) (called : List ℕ) (mtu : ℕ) : Type 0 where
@@ -439,7 +439,7 @@ drafted-parts w called mtu is f p =
     let front = front-back w.end w.seed mtu called is.end is.seed p.name p.fits in
     let housed = all-hosts w.end w.seed m w.hosts p.name (le-true 1 (length w.hosts) ends.0) (record { plain = f.hosts; fits = fits; named = is.hosts_named; addressed = is.hosts_addressed; few = le-true (length w.hosts) 8 ends.1 }) in
     let d : Draft = hosting w.end w.seed m 5 housed.hs housed.last in
-    let ready : IsReady d w.end w.seed (m ∷ []) w.hosts [] = record { end = refl; seed = refl; media_are = refl; hosts_are = housed.all; scripts_are = refl; whole = ap (λ v. v || false) housed.whole; late = omega arith } in
+    let ready : HasParts d w.end w.seed (m ∷ []) w.hosts [] = record { end = refl; seed = refl; media_are = refl; hosts_are = housed.all; scripts_are = refl; whole = ap (λ v. v || false) housed.whole; late = omega arith } in
     let staged = scripts-lead d w.end w.seed (m ∷ []) w.hosts [] w.scripts ready (record { fits = fits; named = is.hosts_named })
     (record { udp = f.scripts; fits = is.scripts; one_each = f.one_each; few = le-true (length w.scripts) 32 is.few_scripts }) in
     let hosts : List (List ℕ) = flat_map (lines_of_host (called ∷ [])) w.hosts in
@@ -450,7 +450,7 @@ drafted-parts w called mtu is f p =
     record {
       draft = staged.after;
       leads = subst (λ (ms : List MediumSpec). Leads opening_draft (lines_with w ms) staged.after) (sym p.media) all;
-      ready = subst (λ (ms : List MediumSpec). IsReady staged.after w.end w.seed ms w.hosts w.scripts) (sym p.media) staged.ready;
+      ready = subst (λ (ms : List MediumSpec). HasParts staged.after w.end w.seed ms w.hosts w.scripts) (sym p.media) staged.ready;
     }
   where
     lines_with : World → List MediumSpec → List (List ℕ)
@@ -463,7 +463,7 @@ drafted w is f = drafted-parts w f.medium.name f.medium.mtu is f (parts-of w is 
 abbrev with_parts : ℕ → ℕ → List MediumSpec → List HostSpec → List Script → List (List (List NdbPair)) → World
 with_parts e s ms hs xs db = record { end = e; seed = s; media = ms; hosts = hs; scripts = xs; db = db }
 
-world-is : (d : Draft) (w : World) (db : List (List (List NdbPair))) → IsReady d w.end w.seed w.media w.hosts w.scripts → w.db ≡ db → record (world_of d) { db = db } ≡ w
+world-is : (d : Draft) (w : World) (db : List (List (List NdbPair))) → HasParts d w.end w.seed w.media w.hosts w.scripts → w.db ≡ db → record (world_of d) { db = db } ≡ w
 world-is d w db r e =
     ap (λ (x : ℕ). with_parts x d.seed d.media (hosts_of d) (scripts_of d) db) r.end
     ∙ (ap (λ (x : ℕ). with_parts w.end x d.media (hosts_of d) (scripts_of d) db) r.seed
@@ -481,7 +481,7 @@ ndb-begins d late whole =
     lt-no m n h = grind (arith, nat_tests)
 
 -- what is read behind the lines of a world
-reading-bundle : (d : Draft) (w : World) (n : ℕ) (bundle : List ℕ) (cuts : List Cut) → IsReady d w.end w.seed w.media w.hosts w.scripts → bad_line_so_far bundle ≡ None → w.db ≡ database (lines_of bundle)
+reading-bundle : (d : Draft) (w : World) (n : ℕ) (bundle : List ℕ) (cuts : List Cut) → HasParts d w.end w.seed w.media w.hosts w.scripts → bad_line_so_far bundle ≡ None → w.db ≡ database (lines_of bundle)
     → reading_from d n (record { line = codes "ndb"; behind = bundle } ∷ cuts) ≡ Ok w
 reading-bundle d w n bundle cuts r good e =
     ap (λ v. judged n bundle v (λ (next : Draft). reading_from next (n + 1) cuts)) (ndb-begins d r.late r.whole)

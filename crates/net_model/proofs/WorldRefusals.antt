@@ -14,7 +14,8 @@ use Rattle.net_model.specs.WorldRefusal.{Leads, EndsLine, IsBadLine, IsBadBundle
 use Rattle.net_model.specs.WorldSpelling.{laid, is_line, speaks, IsHeaded, IsWorldText}
 use Rattle.net_model.specs.WorldText.{Cut, with_first, cuts_of, with_database, judged, missing, reading_from, world_reading}
 use Rattle.net_model.proofs.WorldBack.{cuts-line, judged-goes, leads-all, passed-goes, reading-lines}
-use Rattle.net_model.proofs.WorldDrafts.{Kept, kept-opening, Keeps, Takes, Ends, keeps-line, err-ok, same-ok}
+use Rattle.net_model.proofs.WorldDrafts.{Kept, kept-opening, Keeps}
+use Rattle.net_model.proofs.WorldTaken.{Takes, Ends, keeps-line, err-ok, same-ok}
 use Rattle.net_model.proofs.WorldLists.{false-of-not, or-parts}
 use Rattle.net_model.proofs.WorldRead.{spelled-read}
 use Rattle.net_model.proofs.WorldSound.{Shape, shape, no-cuts, last-parts, headed}

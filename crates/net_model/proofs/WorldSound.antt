@@ -13,7 +13,8 @@ use Rattle.net_base.specs.WorldForm.{IsFirstForm}
 use Rattle.net_model.specs.WorldLines.{Draft, opening_draft, hosts_of, scripts_of, Verdict, Goes, Begins, Bad, line_verdict, world_of}
 use Rattle.net_model.specs.WorldText.{Cut, with_first, cuts_of, with_database, judged, missing, reading_from, world_reading}
 use Rattle.net_model.specs.WorldSpelling.{laid, is_line, speaks, lines_of_world, IsHeaded, IsWorldText}
-use Rattle.net_model.proofs.WorldDrafts.{Kept, kept-opening, IsReady, Keeps, Takes, Ends, keeps-line, lines_so_far, lines-late, err-ok, same-ok, database-read}
+use Rattle.net_model.proofs.WorldDrafts.{Kept, kept-opening, IsReady, Keeps, lines_so_far, lines-late}
+use Rattle.net_model.proofs.WorldTaken.{Takes, Ends, keeps-line, err-ok, same-ok, database-read}
 
 -- Lines of a text.
 
