@@ -1,7 +1,7 @@
 -- A text connects exactly where its control is a connection with a port.
-use Rattle.std.proofs.Common.{◌≡◌, ℕ, ◌<◌, ◌≤◌, ◌^◌, ◌⊎◌, inl, inr, Bool, true, false, ◌&&◌, List, [], ◌∷◌, ◌++◌, refl, sym, ap, subst, ◌∙◌, arith, Option, Some, None, Ok, append_assoc}
+use Rattle.std.proofs.Common.{◌≡◌, ℕ, ◌<◌, ◌≤◌, ◌^◌, inl, inr, Bool, true, false, ◌&&◌, List, [], ◌∷◌, ◌++◌, refl, sym, ap, ◌∙◌, arith, Option, Some, None, Ok, append_assoc}
 use Rattle.std.specs.Prelude.{codes, bytes_eq, decimal, nat_lt, nat_le, is_some, not, if◌then◌else◌, ◌==◌, ◌↔◌}
-use Rattle.std.specs.List.{list_all, join_with_byte, slice_split}
+use Rattle.std.specs.List.{list_all, join_with_byte}
 use Rattle.std.specs.Option.{option_and_then}
 use Rattle.std.proofs.lemmas.Bool.{and_parts, false≢true, ltb-true}
 use Rattle.std.proofs.lemmas.Bool.Decides.{nat_tests}
@@ -15,7 +15,7 @@ use Rattle.net_base.specs.ControlWords as control
 use Rattle.net_base.specs.World.{is_text, is_byte}
 use Rattle.net_model.specs.WorldWords.{is_padded, number_in, address_in, words_of}
 use Rattle.net_model.specs.WorldLines.{is_port, is_place, connects_words, connects}
-use Rattle.net_model.proofs.Controls.{reads_exactly, place_facts, place_parts, place_words, place_without}
+use Rattle.net_model.proofs.Controls.{reads_exactly, place_facts, place_parts, place_without}
 use Rattle.net_model.proofs.Texts.{cut_at, one_part, decimal_without}
 use Rattle.net_model.proofs.WorldNumbers.{le-true, lt-is, number_in-spelled, address-dotted, number-back, address-back, within-is}
 

@@ -1,17 +1,12 @@
 -- The spelled lines of a world are read back.
-use Rattle.std.proofs.Common.{◌≡◌, ℕ, ◌+◌, ◌<◌, ◌≤◌, ◌^◌, ◌==◌, ◌⊎◌, inl, inr, zero, suc, Bool, true, false, not, ◌&&◌, ◌||◌, cond, List, [], ◌∷◌, ◌++◌, length, map, refl, sym, ap, subst, ◌∙◌, arith, Option, Some, None, Ok, Err, Result, append-nil, append_assoc, length-append}
-use Rattle.std.specs.Prelude.{⊤, codes, bytes_eq, decimal, flat_map, nat_lt, nat_le, nat_eq, if◌then◌else◌, get_or, position, option_map, is_none}
-use Rattle.std.specs.List.{All, list_any, list_all, filter, slice_split}
-use Rattle.std.specs.Option.{option_to_list, option_and_then}
+use Rattle.std.proofs.Common.{◌≡◌, ℕ, ◌+◌, ◌<◌, ◌≤◌, ◌^◌, ◌==◌, Bool, true, false, not, ◌&&◌, cond, List, [], ◌∷◌, ◌++◌, length, map, refl, sym, ap, subst, ◌∙◌, arith, Option, Some, None, Result, append_assoc}
+use Rattle.std.specs.Prelude.{⊤, codes, decimal, nat_lt, nat_le, if◌then◌else◌}
+use Rattle.std.specs.List.{list_any, list_all, filter}
 use Rattle.std.proofs.lemmas.Bool.{and_parts, false≢true, ltb-true}
 use Rattle.net_base.specs.declared.address.Proto.{Proto}
 use Rattle.net_base.specs.declared.address.Proto.TheVariants.{Il, Udp}
 use Rattle.net_base.specs.declared.world.HostSpec.{HostSpec}
-use Rattle.net_base.specs.declared.world.Iface.{Iface}
 use Rattle.net_base.specs.declared.world.MediumSpec.{MediumSpec}
-use Rattle.net_base.specs.declared.world.Script.{Script}
-use Rattle.net_base.specs.declared.world.Step.{Step}
-use Rattle.net_base.specs.declared.world.Step.TheVariants as step
 use Rattle.net_base.specs.declared.world.World.{World}
 use Rattle.net_base.specs.ControlWords.{dotted}
 use Rattle.net_base.specs.NdbText.{is_newline, is_hash}
@@ -19,9 +14,9 @@ use Rattle.net_base.specs.Paths.{proto_name}
 use Rattle.net_base.specs.Routes.{has_ip}
 use Rattle.net_base.specs.World.{is_within, is_moment, is_name, is_nets, is_address, is_mask}
 use Rattle.net_model.specs.WorldWords.{words_of, number_in, address_in, nets_named}
-use Rattle.net_model.specs.WorldLines.{Draft, opening_draft, hosts_of, scripts_of, is_lacking, Verdict, Goes, Begins, Bad, refuse, given, known, line_verdict, is_passed, words_line, word_line, first_line, plain_medium, is_medium_named, medium_named, is_host_named, host_of, has_medium, with_iface, iface_of}
+use Rattle.net_model.specs.WorldLines.{Draft, opening_draft, hosts_of, is_lacking, Verdict, Goes, refuse, given, known, line_verdict, is_passed, words_line, word_line, first_line, plain_medium, is_medium_named, medium_named, is_host_named, host_of, has_medium, with_iface, iface_of}
 use Rattle.net_model.specs.WorldRefusal.{Leads}
-use Rattle.net_model.specs.WorldText.{Cut, cuts_of, with_first, judged, reading_from}
+use Rattle.net_model.specs.WorldText.{cuts_of, with_first, judged, reading_from}
 use Rattle.net_model.specs.WorldSpelling.{spaced, laid, is_line, speaks, line_of_end, line_of_seed, line_of_medium, line_of_host, line_of_iface}
 use Rattle.net_model.proofs.Controls.{dotted_is_without}
 use Rattle.net_model.proofs.Texts.{IsWithout, cut_at, one_part, decimal_without}

@@ -1,7 +1,7 @@
 -- The world so far is one that a file can say, in the form that is run so far, and its lines are those that were read.
-use Rattle.std.proofs.Common.{◌≡◌, ℕ, ◌+◌, ◌*◌, ◌<◌, ◌≤◌, ◌^◌, ◌==◌, ◌⊎◌, inl, inr, zero, suc, Bool, true, false, not, ◌&&◌, ◌||◌, cond, List, [], ◌∷◌, ◌++◌, length, map, refl, sym, ap, subst, ◌∙◌, arith, Option, Some, None, Ok, Err, Result, append-nil, append_assoc, length-append}
-use Rattle.std.specs.Prelude.{⊤, bit_and, codes, bytes_eq, decimal, get_or, nat_lt, nat_le, nat_eq, is_none, flat_map, position, option_map, if◌then◌else◌}
-use Rattle.std.specs.List.{All, filter, join_with_byte, list_any, list_all, position_or_len}
+use Rattle.std.proofs.Common.{◌≡◌, ℕ, ◌<◌, ◌≤◌, ◌^◌, ◌==◌, ◌⊎◌, inl, inr, Bool, true, false, not, ◌&&◌, ◌||◌, List, [], ◌∷◌, ◌++◌, length, map, refl, sym, ap, subst, ◌∙◌, arith, Option, Some, None, append-nil, append_assoc, length-append}
+use Rattle.std.specs.Prelude.{⊤, codes, bytes_eq, get_or, nat_lt, nat_le, nat_eq, is_none, flat_map, position, option_map, if◌then◌else◌}
+use Rattle.std.specs.List.{All, list_any, list_all}
 use Rattle.std.specs.Option.{option_to_list, option_and_then}
 use Rattle.std.proofs.lemmas.Option.{none-some, same_Some}
 use Rattle.std.proofs.lemmas.Bool.{and_parts, false≢true, ltb-true, eqb-true}
@@ -10,11 +10,9 @@ use Rattle.std.proofs.lemmas.List.Elements.{All-append, All-nil}
 use Rattle.std.proofs.lemmas.List.{map-append}
 use Rattle.std.proofs.lemmas.Grind.{flat_map-append}
 use Rattle.std.proofs.lemmas.List.Folds.{list_all-append, list_any-append}
-use Rattle.std.proofs.lemmas.List.Splits.{join_with_byte-slice_split}
 use Rattle.std.proofs.lemmas.Slice.Eq.{bytes_eq-Decides}
 use Rattle.net_base.specs.declared.address.Proto.{Proto}
 use Rattle.net_base.specs.declared.address.Proto.TheVariants as proto
-use Rattle.net_base.specs.declared.names.Mode.{Mode}
 use Rattle.net_base.specs.declared.ndb.NdbPair.{NdbPair}
 use Rattle.net_base.specs.declared.world.HostSpec.{HostSpec}
 use Rattle.net_base.specs.declared.world.Iface.{Iface}
@@ -25,21 +23,17 @@ use Rattle.net_base.specs.declared.world.Step.{Step}
 use Rattle.net_base.specs.declared.world.Step.TheVariants as step
 use Rattle.net_base.specs.declared.world.World.{World}
 use Rattle.net_base.specs.ControlWords.{dotted}
-use Rattle.net_base.specs.Addresses.{within, read_digits, join_bytes, parts_at}
-use Rattle.net_base.specs.NdbText.{is_empty, is_hash, lines_of, tuples_of}
-use Rattle.net_base.specs.NdbBundle.{reading, database, bad_line}
-use Rattle.net_base.specs.NdbForm.{bad_line_so_far}
+use Rattle.net_base.specs.Addresses.{within, read_digits}
+use Rattle.net_base.specs.NdbText.{is_empty}
 use Rattle.net_base.specs.Paths.{proto_name, proto_named}
 use Rattle.net_base.specs.Routes.{has_ip}
-use Rattle.net_base.specs.World.{all_apart, is_within, is_name, is_nets, is_mask, is_address, is_moment, is_medium, are_media, is_iface, is_host, addresses, is_step, is_script, IsWorld, IsDatabase}
-use Rattle.net_base.specs.WorldForm.{IsTransfer, AreTransfers, clone_path, data_path, IsUdpScript, IsPlainMedium, IsPlainHost, same_host, IsFirstForm}
-use Rattle.net_base.proofs.NdbForms.{read_so_far}
-use Rattle.net_model.specs.WorldWords.{words_of, both_nets, Four, four, joined, mode_named, hex_text, nets_named, Two, Three, two, three, one, number_in, is_padded, address_in}
-use Rattle.net_model.specs.WorldLines.{is_passed, line_verdict, words_line, word_line, going_line, host_word_line, again_line, rates_line, fate_line, route_line, start_line, ndb_line, is_frames, is_fate, has_network, reaches, kept, open_of, read_of, until_of, write_of, writex_of, cs_of, of_one, of_two, other_of, step_of, step_line, script_line, host_named, is_script_of, if_line, has_medium, is_on_medium, medium_named, is_host_named, host_line, first_line, end_line, seed_line, medium_line, Draft, opening_draft, hosts_of, scripts_of, is_medium_named, is_bare, is_short, is_lacking, Verdict, Goes, Begins, Bad, refuse, wrong, given, known, plain_medium, host_of, with_iface, iface_of, script_of, follows, connects, opens_clone, connects_name, opens_data, transfers, steps_of, with_step, world_of}
-use Rattle.net_model.specs.WorldSpelling.{spaced, line_of_end, line_of_seed, line_of_medium, lines_of_medium, line_of_host, line_of_iface, lines_of_host, line_of_step, lines_of_script, lines_of_world, medium_names, host_names, speaks}
-use Rattle.net_model.proofs.ConnectTexts.{connects-read}
-use Rattle.net_model.proofs.WorldLists.{or-parts, true-of-not, false-of-not, same-bytes, same-numbers, any-map, any-cong, All-one, apart-more, position-yes, position-no}
-use Rattle.net_model.proofs.WorldNumbers.{le-is, le-true, lt-is, number_in-spelled, address-dotted, within-is}
+use Rattle.net_base.specs.World.{all_apart, is_within, is_name, is_nets, is_mask, is_address, is_moment, is_medium, is_iface, is_host, addresses, is_script, IsWorld, IsDatabase}
+use Rattle.net_base.specs.WorldForm.{clone_path, IsUdpScript, IsPlainMedium, IsPlainHost, same_host, IsFirstForm}
+use Rattle.net_model.specs.WorldWords.{both_nets, joined, nets_named, Two, Three, two, three, one, number_in, is_padded, address_in}
+use Rattle.net_model.specs.WorldLines.{if_line, has_medium, is_on_medium, medium_named, is_host_named, host_line, first_line, end_line, seed_line, medium_line, Draft, opening_draft, hosts_of, scripts_of, is_medium_named, is_bare, is_short, is_lacking, Verdict, Goes, Begins, Bad, refuse, given, known, plain_medium, host_of, with_iface, iface_of, connects}
+use Rattle.net_model.specs.WorldSpelling.{line_of_end, line_of_seed, line_of_medium, lines_of_medium, line_of_host, line_of_iface, lines_of_host, lines_of_script, medium_names, host_names}
+use Rattle.net_model.proofs.WorldLists.{or-parts, true-of-not, same-bytes, same-numbers, any-map, any-cong, All-one, apart-more, position-yes, position-no}
+use Rattle.net_model.proofs.WorldNumbers.{le-is, le-true, lt-is, number_in-spelled, address-dotted}
 
 -- The invariant.
 
@@ -256,10 +250,11 @@ pub keeps-first : (Q : World → Type 0) (d : Draft) (line : List ℕ) → Kept 
 keeps-first Q d line k none =
     let zero_group = eqb-true d.group 0 none in
     keeps-if (Adds d line) Q (bytes_eq line (codes "networld 1")) (Goes (record d { group = 1 })) (Bad 11)
-    (λ is.
-    (early d 1 d.end d.seed k (omega (arith, zero_group)) (omega arith) k.end k.seed,
-    early-lines (record d { group = 1 }) 1 (early d 1 d.end d.seed k (omega (arith, zero_group)) (omega arith) k.end k.seed) refl (omega arith)
-    ∙ (ap (λ (l : List ℕ). l ∷ []) (sym ((bytes_eq-Decides line (codes "networld 1")).0 is)) ∙ ap (λ (ls : List (List ℕ)). ls ++ line ∷ []) (sym (early-lines d 0 k zero_group (omega arith))))))
+    (λ is. (
+      early d 1 d.end d.seed k (omega (arith, zero_group)) (omega arith) k.end k.seed,
+      early-lines (record d { group = 1 }) 1 (early d 1 d.end d.seed k (omega (arith, zero_group)) (omega arith) k.end k.seed) refl (omega arith)
+          ∙ (ap (λ (l : List ℕ). l ∷ []) (sym ((bytes_eq-Decides line (codes "networld 1")).0 is)) ∙ ap (λ (ls : List (List ℕ)). ls ++ line ∷ []) (sym (early-lines d 0 k zero_group (omega arith)))),
+    ))
     (λ _. tt)
 
 lt-from : (m n : ℕ) → nat_le n m ≡ false → m < n
@@ -284,10 +279,11 @@ keeps-end Q d args k begun =
     let g : d.group ≡ 1 = one-group d.group begun l in
     let next : Kept (record d { group = 2; end = m }) = early d 2 m d.seed k (omega (arith, l)) (omega arith) (number-within 1 1000000000 word m is) k.seed in
     let spelled = number_in-spelled 1 1000000000 word m (omega arith) is in
-    let line : said (codes "end") args ≡ line_of_end m = ap (said (codes "end")) (one-is args word args_are ∙ ap (λ (w : List ℕ). w ∷ []) spelled.is) in
-    (next,
-    early-lines (record d { group = 2; end = m }) 2 next refl (omega arith)
-    ∙ (ap (λ (l : List ℕ). codes "networld 1" ∷ l ∷ []) (sym line) ∙ ap (λ (ls : List (List ℕ)). ls ++ said (codes "end") args ∷ []) (sym (early-lines d 1 k g (omega arith))))))
+    let line : said (codes "end") args ≡ line_of_end m = ap (said (codes "end")) (one-is args word args_are ∙ ap (λ (w : List ℕ). w ∷ []) spelled.is) in (
+      next,
+      early-lines (record d { group = 2; end = m }) 2 next refl (omega arith)
+          ∙ (ap (λ (l : List ℕ). codes "networld 1" ∷ l ∷ []) (sym line) ∙ ap (λ (ls : List (List ℕ)). ls ++ said (codes "end") args ∷ []) (sym (early-lines d 1 k g (omega arith)))),
+    ))
   where
     one-group : (g : ℕ) → (g == 0) ≡ false → g < 2 → g ≡ 1
     one-group g e h = grind (arith, nat_tests)
@@ -311,11 +307,12 @@ keeps-seed Q d args k =
     let m = le-from d.group 2 high in
     let next : Kept (record d { group = 3; seed = n }) = early d 3 d.end n k (omega (arith, l)) (omega arith) k.end (small-seed n (within-le 0 18446744073709551615 n (number-within 0 18446744073709551615 word n is))) in
     let spelled = number_in-spelled 0 18446744073709551615 word n (omega arith) is in
-    let line : said (codes "seed") args ≡ line_of_seed n = ap (said (codes "seed")) (one-is args word args_are ∙ ap (λ (w : List ℕ). w ∷ []) spelled.is) in
-    (next,
-    early-lines (record d { group = 3; seed = n }) 3 next refl (omega arith)
-    ∙ (ap (λ (l : List ℕ). codes "networld 1" ∷ line_of_end d.end ∷ l ∷ []) (sym line)
-    ∙ ap (λ (ls : List (List ℕ)). ls ++ said (codes "seed") args ∷ []) (sym (early-lines d 2 k (omega (arith, l, m)) (omega arith))))))
+    let line : said (codes "seed") args ≡ line_of_seed n = ap (said (codes "seed")) (one-is args word args_are ∙ ap (λ (w : List ℕ). w ∷ []) spelled.is) in (
+      next,
+      early-lines (record d { group = 3; seed = n }) 3 next refl (omega arith)
+          ∙ (ap (λ (l : List ℕ). codes "networld 1" ∷ line_of_end d.end ∷ l ∷ []) (sym line)
+          ∙ ap (λ (ls : List (List ℕ)). ls ++ said (codes "seed") args ∷ []) (sym (early-lines d 2 k (omega (arith, l, m)) (omega arith)))),
+    ))
 
 -- Media.
 
@@ -519,9 +516,11 @@ keeps-host Q d (called ∷ nets) k = by (is_name called) (is_nets (nets_named ne
     rest name is =
         host_tests (list_any (is_host_named called) (hosts_of d)) (nat_le 8 (length (hosts_of d))) (nat_lt 5 d.group) (nat_lt d.group 4) (is_lacking d)
         (Adds d (said (codes "host") (called ∷ nets))) Q (record d { group = 5; hosts = hosts_of d; host = Some (host_of called (nets_named nets)) })
-        (λ fresh few late early_line whole. (with_host d called (nets_named nets) k name is fresh (le-false 8 (length (hosts_of d)) few) (le-from 5 d.group late) (le-from d.group 4 early_line)
-        ((or-parts (list_any is_bare (option_to_list d.host)) (list_any is_short (option_to_list d.script)) whole).0),
-        host-lines d called (nets_named nets) (said (codes "host") (called ∷ nets)) k (le-from d.group 4 early_line) (le-from 5 d.group late) (ap (λ (ws : List (List ℕ)). said (codes "host") (called ∷ ws)) (nets-are nets is))))
+        (λ fresh few late early_line whole. (
+          with_host d called (nets_named nets) k name is fresh (le-false 8 (length (hosts_of d)) few) (le-from 5 d.group late) (le-from d.group 4 early_line)
+              ((or-parts (list_any is_bare (option_to_list d.host)) (list_any is_short (option_to_list d.script)) whole).0),
+          host-lines d called (nets_named nets) (said (codes "host") (called ∷ nets)) k (le-from d.group 4 early_line) (le-from 5 d.group late) (ap (λ (ws : List (List ℕ)). said (codes "host") (called ∷ ws)) (nets-are nets is)),
+        ))
 
     by : (b c : Bool) → is_name called ≡ b → is_nets (nets_named nets) ≡ c → Keeps (Adds d (said (codes "host") (called ∷ nets))) Q (refuse 13 (not (b && c)) (refuse 14 (list_any (is_host_named called) (hosts_of d))
         (refuse 17 (nat_le 8 (length (hosts_of d)))

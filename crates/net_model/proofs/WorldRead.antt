@@ -1,18 +1,17 @@
 -- A world of the form that is run so far is read from its lines.
-use Rattle.std.proofs.Common.{◌≡◌, ℕ, ◌+◌, ◌-◌, ◌<◌, ◌≤◌, ◌^◌, ◌==◌, ◌⊎◌, inl, inr, zero, suc, Bool, true, false, not, ◌&&◌, ◌||◌, cond, List, [], ◌∷◌, ◌++◌, length, map, refl, sym, ap, subst, ◌∙◌, arith, Option, Some, None, Ok, Err, Result, append-nil, append_assoc, length-append}
-use Rattle.std.specs.Prelude.{⊤, codes, bytes_eq, decimal, flat_map, nat_lt, nat_le, nat_eq, if◌then◌else◌, get_or, is_none, is_some, position}
-use Rattle.std.specs.List.{All, list_any, list_all, filter, slice_split, find, range_with_len, join_with_byte}
+use Rattle.std.proofs.Common.{◌≡◌, ℕ, ◌+◌, ◌-◌, ◌<◌, ◌≤◌, ◌^◌, ◌==◌, inl, inr, zero, suc, Bool, true, false, not, ◌&&◌, ◌||◌, cond, List, [], ◌∷◌, ◌++◌, length, map, refl, sym, ap, subst, ◌∙◌, arith, Option, Some, None, Ok, append-nil, append_assoc, length-append}
+use Rattle.std.specs.Prelude.{codes, bytes_eq, decimal, flat_map, nat_lt, nat_le, nat_eq, if◌then◌else◌, get_or, is_some, position}
+use Rattle.std.specs.List.{All, list_any, list_all, find, range_with_len}
 use Rattle.std.specs.Option.{option_to_list, option_and_then}
 use Rattle.std.proofs.lemmas.Bool.{and_parts, eqb-true, false≢true, ltb-true}
 use Rattle.std.proofs.lemmas.Bool.Decides.{nat_tests}
 use Rattle.std.proofs.lemmas.List.{map-append}
-use Rattle.std.proofs.lemmas.List.Folds.{list_all-append, list_any-append}
+use Rattle.std.proofs.lemmas.List.Folds.{list_any-append}
 use Rattle.std.proofs.lemmas.List.Splits.{join_with_byte-slice_split, length-slice_split}
 use Rattle.std.proofs.lemmas.Grind.{flat_map-append}
 use Rattle.std.proofs.lemmas.Nat.{pow_pos}
 use Rattle.net_base.specs.declared.address.Proto.{Proto}
 use Rattle.net_base.specs.declared.ndb.NdbPair.{NdbPair}
-use Rattle.net_base.specs.declared.names.Ctl.TheVariants as ctl
 use Rattle.net_base.specs.declared.world.FateRange.{FateRange}
 use Rattle.net_base.specs.declared.world.HostSpec.{HostSpec}
 use Rattle.net_base.specs.declared.world.Iface.{Iface}
@@ -22,23 +21,23 @@ use Rattle.net_base.specs.declared.world.Script.{Script}
 use Rattle.net_base.specs.declared.world.Step.{Step}
 use Rattle.net_base.specs.declared.world.Step.TheVariants as step
 use Rattle.net_base.specs.declared.world.World.{World}
-use Rattle.net_base.specs.Networks.{mask_bits, mask_of}
+use Rattle.net_base.specs.Networks.{mask_of}
 use Rattle.net_base.specs.NdbText.{is_empty, lines_of}
 use Rattle.net_base.specs.NdbBundle.{database}
 use Rattle.net_base.specs.NdbForm.{bad_line_so_far}
 use Rattle.net_base.specs.Routes.{has_ip}
-use Rattle.net_base.specs.World.{addresses, all_apart, are_media, is_within, is_moment, is_name, is_nets, is_address, is_host, is_iface, is_mask, is_medium, is_script, is_step, is_text, is_word, is_byte, IsWorld}
-use Rattle.net_base.specs.WorldForm.{IsTransfer, AreTransfers, IsUdpScript, IsPlainMedium, IsPlainHost, IsFirstForm, clone_path, data_path, opening_steps, same_host}
-use Rattle.net_model.specs.WorldWords.{words_of, number_in, joined, Two}
-use Rattle.net_model.specs.WorldLines.{Draft, opening_draft, hosts_of, scripts_of, is_bare, is_short, is_lacking, Verdict, Goes, Begins, Bad, refuse, given, known, line_verdict, ndb_line, plain_medium, is_host_named, host_named, host_of, with_iface, iface_of, is_script_of, script_of, kept, step_of, step_line, write_of, follows, connects, world_of}
+use Rattle.net_base.specs.World.{addresses, all_apart, are_media, is_within, is_name, is_nets, is_address, is_host, is_iface, is_mask, is_medium, is_script, is_step, is_text, is_word, is_byte, IsWorld}
+use Rattle.net_base.specs.WorldForm.{AreTransfers, IsUdpScript, IsPlainMedium, IsPlainHost, IsFirstForm, clone_path, data_path, opening_steps, same_host}
+use Rattle.net_model.specs.WorldWords.{words_of, joined}
+use Rattle.net_model.specs.WorldLines.{Draft, opening_draft, hosts_of, scripts_of, is_bare, is_lacking, Verdict, Goes, Begins, refuse, known, line_verdict, plain_medium, is_host_named, host_named, host_of, with_iface, iface_of, is_script_of, kept, step_line, follows, connects, world_of}
 use Rattle.net_model.specs.WorldRefusal.{Leads}
 use Rattle.net_model.specs.WorldText.{Cut, cuts_of, with_database, judged, reading_from, world_reading}
-use Rattle.net_model.specs.WorldSpelling.{spaced, name_at, laid, is_line, speaks, line_of_end, line_of_seed, line_of_medium, lines_of_medium, line_of_host, line_of_iface, lines_of_host, line_of_step, lines_of_script, lines_of_world, words_of_step, medium_names, host_names, IsHeaded, IsWorldText}
+use Rattle.net_model.specs.WorldSpelling.{spaced, laid, line_of_end, line_of_seed, line_of_medium, lines_of_medium, lines_of_host, line_of_step, lines_of_script, lines_of_world, medium_names, host_names, IsHeaded, IsWorldText}
 use Rattle.net_model.proofs.ConnectTexts.{connects-agree}
-use Rattle.net_model.proofs.Texts.{IsWithout, cut_at, one_part}
-use Rattle.net_model.proofs.WorldLists.{false-of-not, true-of-not, or-parts, without-none, name-without, list-without, own-bytes, same-bytes, same-numbers, any-cong, All-first, All-later, apart-middle, has-address, names, names-length, position-named}
-use Rattle.net_model.proofs.WorldNumbers.{le-true, le-is, lt-is, number-back}
-use Rattle.net_model.proofs.WorldBack.{leads-more, leads-all, reading-lines, AreWords, words-back, by-words, decimal-word, name-word, within-most, past, hosting, front-back, host-back, if-back}
+use Rattle.net_model.proofs.Texts.{IsWithout, cut_at}
+use Rattle.net_model.proofs.WorldLists.{without-none, list-without, own-bytes, same-bytes, same-numbers, any-cong, All-first, All-later, apart-middle, has-address, names, position-named}
+use Rattle.net_model.proofs.WorldNumbers.{le-true, lt-is, number-back}
+use Rattle.net_model.proofs.WorldBack.{leads-more, leads-all, reading-lines, words-back, by-words, decimal-word, name-word, within-most, past, hosting, front-back, host-back, if-back}
 
 -- Hosts.
 
@@ -133,10 +132,11 @@ one-host : (e s g : ℕ) (m : MediumSpec) (hs : List HostSpec) (o : Option HostS
     → Leads (hosting e s m g hs o) (lines_of_host (m.name ∷ []) (with_one called nets ip mask)) (hosting e s m 5 (hs ++ option_to_list o) (Some (with_one called nets ip mask)))
 one-host e s g m hs o called nets ip mask name late order there whole c =
     let done : List HostSpec = hs ++ option_to_list o in
-    let none : list_any (has_ip ip) (done ++ host_of called nets ∷ []) ≡ false = list_any-append (has_ip ip) done (host_of called nets ∷ []) ∙ ap (λ b. b || false) c.free in
-    (hosting e s m 5 done (Some (host_of called nets)),
-    host-back (hosting e s m g hs o) called nets c.name c.proto late c.fresh (le-no 8 (length done) c.few) order there (ap (λ b. b || false) whole),
-    (hosting e s m 5 done (Some (with_one called nets ip mask)), if-back e s 5 m done called nets ip mask name refl c.address c.ones (mask-small mask c.ones) none, refl))
+    let none : list_any (has_ip ip) (done ++ host_of called nets ∷ []) ≡ false = list_any-append (has_ip ip) done (host_of called nets ∷ []) ∙ ap (λ b. b || false) c.free in (
+      hosting e s m 5 done (Some (host_of called nets)),
+      host-back (hosting e s m g hs o) called nets c.name c.proto late c.fresh (le-no 8 (length done) c.few) order there (ap (λ b. b || false) whole),
+      (hosting e s m 5 done (Some (with_one called nets ip mask)), if-back e s 5 m done called nets ip mask name refl c.address c.ones (mask-small mask c.ones) none, refl),
+    )
 
 -- lines that lead to all these hosts
 record Housed (d : Draft) (e s : ℕ) (m : MediumSpec) (lines : List (List ℕ)) (hosts : List HostSpec) : Type 0 where
@@ -261,17 +261,19 @@ rest-lead : (d : Draft) (n : ℕ) (ctl_name text data_name : List ℕ) (done res
     → Leads (under d n (opening_steps ctl_name text data_name done)) (map line_of_step rest) (under d n (opening_steps ctl_name text data_name (done ++ rest)))
 rest-lead d n c t dn done [] all ts = ap (λ (xs : List Step). under d n (opening_steps c t dn xs)) (sym (append-nil done))
 rest-lead d n c t dn done (step.Write called text ∷ rest) all ts =
-    let both = and_parts (is_step (step.Write called text)) (list_all is_step rest) all in
-    (under d n (opening_steps c t dn (done ++ step.Write called text ∷ [])),
-    write-back d n (opening_steps c t dn done) called text both.0 (ap (λ (x : List ℕ). bytes_eq x dn) ts.0 ∙ own-bytes dn),
-    subst (λ (xs : List Step). Leads (under d n (opening_steps c t dn (done ++ step.Write called text ∷ []))) (map line_of_step rest) (under d n (opening_steps c t dn xs))) (append_assoc done (step.Write called text ∷ []) rest)
-    (rest-lead d n c t dn (done ++ step.Write called text ∷ []) rest both.1 ts.1))
+    let both = and_parts (is_step (step.Write called text)) (list_all is_step rest) all in (
+      under d n (opening_steps c t dn (done ++ step.Write called text ∷ [])),
+      write-back d n (opening_steps c t dn done) called text both.0 (ap (λ (x : List ℕ). bytes_eq x dn) ts.0 ∙ own-bytes dn),
+      subst (λ (xs : List Step). Leads (under d n (opening_steps c t dn (done ++ step.Write called text ∷ []))) (map line_of_step rest) (under d n (opening_steps c t dn xs))) (append_assoc done (step.Write called text ∷ []) rest)
+          (rest-lead d n c t dn (done ++ step.Write called text ∷ []) rest both.1 ts.1),
+    )
 rest-lead d n c t dn done (step.Read called count ∷ rest) all ts =
-    let both = and_parts (is_step (step.Read called count)) (list_all is_step rest) all in
-    (under d n (opening_steps c t dn (done ++ step.Read called count ∷ [])),
-    read-back d n (opening_steps c t dn done) called count both.0 (ap (λ (x : List ℕ). bytes_eq x dn) ts.0.0 ∙ own-bytes dn),
-    subst (λ (xs : List Step). Leads (under d n (opening_steps c t dn (done ++ step.Read called count ∷ []))) (map line_of_step rest) (under d n (opening_steps c t dn xs))) (append_assoc done (step.Read called count ∷ []) rest)
-    (rest-lead d n c t dn (done ++ step.Read called count ∷ []) rest both.1 ts.1))
+    let both = and_parts (is_step (step.Read called count)) (list_all is_step rest) all in (
+      under d n (opening_steps c t dn (done ++ step.Read called count ∷ [])),
+      read-back d n (opening_steps c t dn done) called count both.0 (ap (λ (x : List ℕ). bytes_eq x dn) ts.0.0 ∙ own-bytes dn),
+      subst (λ (xs : List Step). Leads (under d n (opening_steps c t dn (done ++ step.Read called count ∷ []))) (map line_of_step rest) (under d n (opening_steps c t dn xs))) (append_assoc done (step.Read called count ∷ []) rest)
+          (rest-lead d n c t dn (done ++ step.Read called count ∷ []) rest both.1 ts.1),
+    )
 rest-lead d n c t dn done (step.Open name path mode ∷ rest) all ts = absurd ts.0
 rest-lead d n c t dn done (step.Writex name text ∷ rest) all ts = absurd ts.0
 rest-lead d n c t dn done (step.Close name ∷ rest) all ts = absurd ts.0
@@ -299,11 +301,19 @@ steps-lead d n steps u all = subst (λ (xs : List Step). Leads (under d n []) (m
         let second = and_parts (is_step wired) (is_step opened && list_all is_step u.rest) first.1 in
         let third = and_parts (is_step opened) (list_all is_step u.rest) second.1 in
         let plain = (and_parts (is_name u.ctl_name) (is_text u.text) second.0).1 in
-        let connected = (connects-agree u.text plain).1 (u.remote, u.port, u.connects) in
-        (under d n (made ∷ []), open-back d n [] u.ctl_name clone_path first.0 (own-bytes clone_path),
-        (under d n (made ∷ wired ∷ []), write-back d n (made ∷ []) u.ctl_name u.text second.0 (ap (λ v. v && connects u.text) (own-bytes u.ctl_name) ∙ connected),
-        (under d n (made ∷ wired ∷ opened ∷ []), open-back d n (made ∷ wired ∷ []) u.data_name data_path third.0 (ap (λ v. v && not (bytes_eq u.data_name u.ctl_name)) (own-bytes data_path) ∙ ap not u.apart),
-        rest-lead d n u.ctl_name u.text u.data_name [] u.rest third.1 u.transfers)))
+        let connected = (connects-agree u.text plain).1 (u.remote, u.port, u.connects) in (
+          under d n (made ∷ []),
+          open-back d n [] u.ctl_name clone_path first.0 (own-bytes clone_path),
+          (
+            under d n (made ∷ wired ∷ []),
+            write-back d n (made ∷ []) u.ctl_name u.text second.0 (ap (λ v. v && connects u.text) (own-bytes u.ctl_name) ∙ connected),
+            (
+              under d n (made ∷ wired ∷ opened ∷ []),
+              open-back d n (made ∷ wired ∷ []) u.data_name data_path third.0 (ap (λ v. v && not (bytes_eq u.data_name u.ctl_name)) (own-bytes data_path) ∙ ap not u.apart),
+              rest-lead d n u.ctl_name u.text u.data_name [] u.rest third.1 u.transfers,
+            ),
+          ),
+        )
 
 -- the world so far has these parts, and nothing is missing
 pub record HasParts (d : Draft) (e s : ℕ) (media : List MediumSpec) (hosts : List HostSpec) (scripts : List Script) : Type 0 where
@@ -366,10 +376,12 @@ script-leads d e s media hosts done x rest r h l =
     let room : nat_le 32 (length (scripts_of d)) ≡ false = ap (λ (xs : List Script). nat_le 32 (length xs)) r.scripts_are ∙ le-no 32 (length done) (omega (arith, len, few)) in
     let fresh : list_any (is_script_of x.host) (scripts_of d) ≡ false =
     ap (list_any (is_script_of x.host)) r.scripts_are
-    ∙ (any-cong (is_script_of x.host) (same_host x) (λ (t : Script). same-numbers t.host x.host) done ∙ apart-middle same_host (λ t v. same-numbers t.host v.host) done x rest l.one_each) in
-    (
-      (under d x.host [], script-back d x.host (get_or (names hosts) x.host []) name (not-zero d.group r.late) place room (ap (λ v. v || list_any (is_script_of x.host) (scripts_of d)) r.whole ∙ fresh),
-      steps-lead d x.host x.steps u both.1),
+    ∙ (any-cong (is_script_of x.host) (same_host x) (λ (t : Script). same-numbers t.host x.host) done ∙ apart-middle same_host (λ t v. same-numbers t.host v.host) done x rest l.one_each) in (
+      (
+        under d x.host [],
+        script-back d x.host (get_or (names hosts) x.host []) name (not-zero d.group r.late) place room (ap (λ v. v || list_any (is_script_of x.host) (scripts_of d)) r.whole ∙ fresh),
+        steps-lead d x.host x.steps u both.1,
+      ),
       record {
         end = r.end;
         seed = r.seed;
@@ -378,7 +390,7 @@ script-leads d e s media hosts done x rest r h l =
         scripts_are = ap (λ (xs : List Script). xs ++ x ∷ []) r.scripts_are;
         whole = ap (λ v. v || false) (not-short x.steps u);
         late = omega arith;
-      }
+      },
     )
 
 -- lines that lead to all these scripts

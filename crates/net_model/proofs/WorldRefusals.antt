@@ -1,5 +1,5 @@
 -- Texts that say no world, and lines that say nothing.
-use Rattle.std.proofs.Common.{◌≡◌, ℕ, ◌+◌, ◌==◌, ◌⊎◌, inl, inr, Bool, true, false, not, ◌&&◌, ◌||◌, cond, List, [], ◌∷◌, ◌++◌, length, refl, sym, ap, subst, ◌∙◌, arith, Option, Some, None, Ok, Err, Result, append-nil, append_assoc, length-append}
+use Rattle.std.proofs.Common.{◌≡◌, ℕ, ◌+◌, ◌⊎◌, inl, inr, Bool, true, false, not, ◌&&◌, ◌||◌, cond, List, [], ◌∷◌, ◌++◌, length, refl, sym, ap, subst, ◌∙◌, arith, Option, Some, None, Ok, Err, Result, append-nil, append_assoc, length-append}
 use Rattle.std.specs.Prelude.{◌↔◌, codes, bytes_eq, if◌then◌else◌}
 use Rattle.std.specs.List.{filter, list_all, list_any}
 use Rattle.std.proofs.lemmas.Bool.{and_parts, false≢true}
@@ -58,7 +58,7 @@ refused-more d next first text line behind n c whole is goes (inl b) =
       parts = is ∙ (ap (λ (xs : List ℕ). line ++ (10 ∷ xs)) b.parts ∙ sym (append_assoc line (10 ∷ laid b.good) (b.line ++ b.rest)));
       ended = b.ended;
       whole = (let both = and_parts (is_line b.line) (list_all is_line b.good) b.whole in
-      ap (λ v. v && (is_line line && list_all is_line b.good)) both.0 ∙ (ap (λ v. v && list_all is_line b.good) whole ∙ both.1));
+          ap (λ v. v && (is_line line && list_all is_line b.good)) both.0 ∙ (ap (λ v. v && list_all is_line b.good) whole ∙ both.1));
       leads = (next, goes, b.leads);
       bad = b.bad;
       place = let p = b.place in omega (arith, p);

@@ -1,5 +1,5 @@
 -- What is read spells the world.
-use Rattle.std.proofs.Common.{◌≡◌, ℕ, ◌+◌, ◌≤◌, ◌⊎◌, inl, inr, Bool, true, false, not, ◌&&◌, ◌||◌, cond, List, [], ◌∷◌, ◌++◌, length, refl, sym, ap, subst, ◌∙◌, arith, Option, Some, None, Ok, Err, Result, append-nil, append_assoc}
+use Rattle.std.proofs.Common.{◌≡◌, ℕ, ◌+◌, ◌⊎◌, inl, inr, Bool, true, false, not, ◌&&◌, ◌||◌, cond, List, [], ◌∷◌, ◌++◌, length, refl, sym, ap, subst, ◌∙◌, arith, Option, Some, None, Ok, append-nil, append_assoc}
 use Rattle.std.specs.Prelude.{codes, get_or}
 use Rattle.std.specs.List.{filter, list_all, list_any}
 use Rattle.std.proofs.lemmas.Bool.{eqb-true}
@@ -10,10 +10,10 @@ use Rattle.net_base.specs.NdbForm.{bad_line_so_far}
 use Rattle.net_base.specs.NdbText.{is_newline, lines_of}
 use Rattle.net_base.specs.World.{IsWorld}
 use Rattle.net_base.specs.WorldForm.{IsFirstForm}
-use Rattle.net_model.specs.WorldLines.{Draft, opening_draft, hosts_of, scripts_of, Verdict, Goes, Begins, Bad, line_verdict, world_of}
+use Rattle.net_model.specs.WorldLines.{Draft, opening_draft, hosts_of, scripts_of, Verdict, Goes, Begins, Bad, line_verdict}
 use Rattle.net_model.specs.WorldText.{Cut, with_first, cuts_of, with_database, judged, missing, reading_from, world_reading}
 use Rattle.net_model.specs.WorldSpelling.{laid, is_line, speaks, lines_of_world, IsHeaded, IsWorldText}
-use Rattle.net_model.proofs.WorldDrafts.{Kept, kept-opening, IsReady, Keeps, lines_so_far, lines-late}
+use Rattle.net_model.proofs.WorldDrafts.{Kept, kept-opening, Keeps, lines_so_far, lines-late}
 use Rattle.net_model.proofs.WorldTaken.{Takes, Ends, keeps-line, err-ok, same-ok, database-read}
 
 -- Lines of a text.

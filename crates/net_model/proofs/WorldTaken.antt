@@ -1,45 +1,24 @@
 -- What any line makes of the world so far.
-use Rattle.std.proofs.Common.{◌≡◌, ℕ, ◌+◌, ◌*◌, ◌<◌, ◌≤◌, ◌^◌, ◌==◌, ◌⊎◌, inl, inr, zero, suc, Bool, true, false, not, ◌&&◌, ◌||◌, cond, List, [], ◌∷◌, ◌++◌, length, map, refl, sym, ap, subst, ◌∙◌, arith, Option, Some, None, Ok, Err, Result, append-nil, append_assoc, length-append}
-use Rattle.std.specs.Prelude.{⊤, bit_and, codes, bytes_eq, decimal, get_or, nat_lt, nat_le, nat_eq, is_none, flat_map, position, option_map, if◌then◌else◌}
-use Rattle.std.specs.List.{All, filter, join_with_byte, list_any, list_all, position_or_len}
-use Rattle.std.specs.Option.{option_to_list, option_and_then}
-use Rattle.std.proofs.lemmas.Option.{none-some, same_Some}
-use Rattle.std.proofs.lemmas.Bool.{and_parts, false≢true, ltb-true, eqb-true}
-use Rattle.std.proofs.lemmas.Bool.Decides.{nat_tests}
-use Rattle.std.proofs.lemmas.List.Elements.{All-append, All-nil}
-use Rattle.std.proofs.lemmas.List.{map-append}
-use Rattle.std.proofs.lemmas.Grind.{flat_map-append}
-use Rattle.std.proofs.lemmas.List.Folds.{list_all-append, list_any-append}
+use Rattle.std.proofs.Common.{◌≡◌, ℕ, ◌+◌, ◌≤◌, ◌==◌, Bool, true, false, not, ◌&&◌, cond, List, [], ◌∷◌, ◌++◌, length, map, refl, sym, ap, subst, ◌∙◌, arith, Option, Some, None, Ok, Err, Result, append-nil}
+use Rattle.std.specs.Prelude.{bit_and, codes, bytes_eq, nat_lt, is_none, if◌then◌else◌}
+use Rattle.std.specs.List.{filter, list_any}
+use Rattle.std.specs.Option.{option_to_list}
+use Rattle.std.proofs.lemmas.Option.{none-some}
+use Rattle.std.proofs.lemmas.Bool.{false≢true}
 use Rattle.std.proofs.lemmas.List.Splits.{join_with_byte-slice_split}
-use Rattle.std.proofs.lemmas.Slice.Eq.{bytes_eq-Decides}
-use Rattle.net_base.specs.declared.address.Proto.{Proto}
-use Rattle.net_base.specs.declared.address.Proto.TheVariants as proto
-use Rattle.net_base.specs.declared.names.Mode.{Mode}
-use Rattle.net_base.specs.declared.ndb.NdbPair.{NdbPair}
-use Rattle.net_base.specs.declared.world.HostSpec.{HostSpec}
-use Rattle.net_base.specs.declared.world.Iface.{Iface}
 use Rattle.net_base.specs.declared.world.MediumSpec.{MediumSpec}
-use Rattle.net_base.specs.declared.world.RouteLine.{RouteLine}
-use Rattle.net_base.specs.declared.world.Script.{Script}
-use Rattle.net_base.specs.declared.world.Step.{Step}
-use Rattle.net_base.specs.declared.world.Step.TheVariants as step
 use Rattle.net_base.specs.declared.world.World.{World}
-use Rattle.net_base.specs.ControlWords.{dotted}
-use Rattle.net_base.specs.Addresses.{within, read_digits, join_bytes, parts_at}
-use Rattle.net_base.specs.NdbText.{is_empty, is_hash, lines_of, tuples_of}
+use Rattle.net_base.specs.NdbText.{lines_of, tuples_of}
 use Rattle.net_base.specs.NdbBundle.{reading, database, bad_line}
 use Rattle.net_base.specs.NdbForm.{bad_line_so_far}
-use Rattle.net_base.specs.Paths.{proto_name, proto_named}
-use Rattle.net_base.specs.Routes.{has_ip}
-use Rattle.net_base.specs.World.{all_apart, is_within, is_name, is_nets, is_mask, is_address, is_moment, is_medium, are_media, is_iface, is_host, addresses, is_step, is_script, IsWorld, IsDatabase}
-use Rattle.net_base.specs.WorldForm.{IsTransfer, AreTransfers, clone_path, data_path, IsUdpScript, IsPlainMedium, IsPlainHost, same_host, IsFirstForm}
+use Rattle.net_base.specs.World.{all_apart, is_within, is_name, is_mask, is_medium, are_media}
+use Rattle.net_base.specs.WorldForm.{IsPlainMedium}
 use Rattle.net_base.proofs.NdbForms.{read_so_far}
-use Rattle.net_model.specs.WorldWords.{words_of, both_nets, Four, four, joined, mode_named, hex_text, nets_named, Two, Three, two, three, one, number_in, is_padded, address_in}
-use Rattle.net_model.specs.WorldLines.{is_passed, line_verdict, words_line, word_line, going_line, host_word_line, again_line, rates_line, fate_line, route_line, start_line, ndb_line, is_frames, is_fate, has_network, reaches, kept, open_of, read_of, until_of, write_of, writex_of, cs_of, of_one, of_two, other_of, step_of, step_line, script_line, host_named, is_script_of, if_line, has_medium, is_on_medium, medium_named, is_host_named, host_line, first_line, end_line, seed_line, medium_line, Draft, opening_draft, hosts_of, scripts_of, is_medium_named, is_bare, is_short, is_lacking, Verdict, Goes, Begins, Bad, refuse, wrong, given, known, plain_medium, host_of, with_iface, iface_of, script_of, follows, connects, opens_clone, connects_name, opens_data, transfers, steps_of, with_step, world_of}
-use Rattle.net_model.specs.WorldSpelling.{spaced, line_of_end, line_of_seed, line_of_medium, lines_of_medium, line_of_host, line_of_iface, lines_of_host, line_of_step, lines_of_script, lines_of_world, medium_names, host_names, speaks}
-use Rattle.net_model.proofs.ConnectTexts.{connects-read}
-use Rattle.net_model.proofs.WorldLists.{or-parts, true-of-not, false-of-not, same-bytes, same-numbers, any-map, any-cong, All-one, apart-more, position-yes, position-no}
-use Rattle.net_model.proofs.WorldNumbers.{le-is, le-true, lt-is, number_in-spelled, address-dotted, within-is}
+use Rattle.net_model.specs.WorldWords.{words_of, Four, four, joined, Three, three, one, number_in, address_in}
+use Rattle.net_model.specs.WorldLines.{is_passed, line_verdict, words_line, going_line, host_word_line, again_line, rates_line, fate_line, route_line, start_line, ndb_line, is_frames, is_fate, has_network, reaches, step_of, step_line, script_line, if_line, host_line, first_line, end_line, seed_line, medium_line, Draft, hosts_of, scripts_of, is_medium_named, is_bare, is_short, is_lacking, Verdict, Goes, Begins, Bad, refuse, wrong, given, world_of}
+use Rattle.net_model.specs.WorldSpelling.{speaks}
+use Rattle.net_model.proofs.WorldLists.{or-parts}
+use Rattle.net_model.proofs.WorldNumbers.{le-is, within-is}
 use Rattle.net_model.proofs.WorldDrafts.{MediaKept, Kept, lines_so_far, Adds, IsReady, Keeps, keeps-refuse, keeps-given, keeps-if, said, keeps-first, le-from, keeps-end, keeps-seed, keeps-medium, plain-hosts, keeps-host, keeps-if-line}
 use Rattle.net_model.proofs.WorldSteps.{whole-scripts, keeps-script, by-word, own-step, keeps-step}
 

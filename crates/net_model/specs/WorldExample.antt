@@ -1,5 +1,5 @@
 -- A world with each kind of line.
-use Rattle.std.specs.Prelude.{ℕ, List, [], ◌∷◌, Some, None, codes}
+use Rattle.std.specs.Prelude.{List, [], ◌∷◌, Some, None, codes}
 use Rattle.net_base.specs.declared.address.Proto.TheVariants as proto
 use Rattle.net_base.specs.declared.names.Mode.TheVariants as mode
 use Rattle.net_base.specs.declared.world.Fate.TheVariants as fate

@@ -1,5 +1,5 @@
 -- The text of a world as it is spelled: which lines a world has, and which texts say it. No text is read here.
-use Rattle.std.specs.Prelude.{◌≡◌, ℕ, ◌+◌, ◌==◌, ◌⊎◌, Bool, true, false, not, ◌&&◌, List, [], ◌∷◌, ◌++◌, map, flat_map, get_or, codes, decimal, Option, Some, None, if◌then◌else◌}
+use Rattle.std.specs.Prelude.{◌≡◌, ℕ, ◌==◌, ◌⊎◌, Bool, true, false, not, ◌&&◌, List, [], ◌∷◌, ◌++◌, map, flat_map, get_or, codes, decimal, Some, None, if◌then◌else◌}
 use Rattle.std.specs.List.{list_any, list_all, filter, join_with_byte}
 use Rattle.net_base.specs.declared.world.Fate.{Fate}
 use Rattle.net_base.specs.declared.world.Fate.TheVariants as fate
