@@ -79,5 +79,6 @@ pub mod WorldRead
 pub mod WorldDrafts
 pub mod WorldSteps
 pub mod WorldTaken
+pub mod WorldSmall
 pub mod WorldSound
 pub mod WorldRefusals

@@ -1,5 +1,5 @@
 //! Laws of the text of a world.
-ghost use Rattle.std.specs.Prelude.{◌≡◌, ◌↔◌, ◌∷◌, ◌++◌, List, ℕ, Ok, Err, Some, true, false, codes, bytes_eq};
+ghost use Rattle.std.specs.Prelude.{◌≡◌, ◌↔◌, ◌≤◌, ◌∷◌, ◌++◌, List, [], ℕ, length, Ok, Err, Some, true, false, codes, bytes_eq};
 ghost use Rattle.std.specs.List.{filter, list_all, list_any};
 ghost use Rattle.net_base.specs.ControlWords as control;
 ghost use Rattle.net_base.specs.declared.address.Addr.{Addr};
@@ -8,8 +8,8 @@ ghost use Rattle.net_base.specs.declared.world.World.{World};
 ghost use Rattle.net_base.specs.World.{is_text};
 ghost use Rattle.net_model.specs.WorkedUdp.{datagram_world};
 ghost use Rattle.net_model.specs.WorldExample.{every_line};
-ghost use Rattle.net_model.specs.WorldLines.{connects, opening_draft};
-ghost use Rattle.net_model.specs.WorldRefusal.{IsBadLine, IsRefused};
+ghost use Rattle.net_model.specs.WorldLines.{connects, hosts_of, line_verdict, opening_draft, Draft, Goes};
+ghost use Rattle.net_model.specs.WorldRefusal.{IsBadLine, IsRefused, Leads};
 ghost use Rattle.net_model.specs.WorldText.{world_reading};
 ghost use Rattle.net_model.specs.WorldSpelling.{IsWorldText, is_line, laid, lines_of_world, speaks};
 
@@ -44,6 +44,13 @@ pub fn first_bad_lines_are_told()
     ensures exact { (text : List ℕ) (n c : ℕ) → (world_reading text ≡ Err (n, c)) ↔ IsRefused opening_draft 1 text n c }
     ensures stays { (text more : List ℕ) (n c : ℕ) → IsBadLine opening_draft 1 text n c
         → world_reading (text ++ (10 ∷ more)) ≡ Err (n, c) }
+{}
+
+/// What lines lead to has at most 4 media and 8 hosts, and leads on by each line that is good behind it.
+pub fn worlds_so_far_are_small()
+    ensures next { (lines : List (List ℕ)) (line : List ℕ) (d e : Draft) → Leads opening_draft lines d → line_verdict d line ≡ Goes e → Leads opening_draft (lines ++ line ∷ []) e }
+    ensures media { (lines : List (List ℕ)) (d : Draft) → Leads opening_draft lines d → length d.media ≤ 4 }
+    ensures hosts { (lines : List (List ℕ)) (d : Draft) → Leads opening_draft lines d → length (hosts_of d) ≤ 8 }
 {}
 
 /// The lines of two worlds, by computation.

@@ -1,16 +1,3 @@
 pub mod Places
 pub mod Cuts
-pub mod Connects
-pub mod Kept
-pub mod Truths
-pub mod Apart
-pub mod Bounds
-pub mod MediaLines
-pub mod HostLines
-pub mod ScriptSteps
-pub mod ScriptLines
-pub mod OwnSteps
-pub mod BadLines
-pub mod AnyLine
-pub mod Said
-pub mod Small
+pub mod Spelled

@@ -4,7 +4,6 @@
 mod draft;
 mod fault;
 mod hosts;
-mod law;
 mod lines;
 mod media;
 mod reader;
@@ -13,6 +12,5 @@ mod scripts;
 mod tests;
 
 pub use fault::WorldError;
-pub use law::texts_say_worlds;
 pub use net_base::World;
 pub use reader::read_world;

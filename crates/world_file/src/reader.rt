@@ -6,24 +6,26 @@ ghost use Rattle.net_base.specs.NdbForm.{bad_line_so_far};
 ghost use Rattle.net_base.specs.World.{IsWorld};
 ghost use Rattle.net_base.specs.WorldForm.{IsFirstForm};
 ghost use Rattle.net_model.specs.WorldLines.{world_of};
+ghost use Rattle.net_model.specs.WorldSpelling.{IsWorldText};
 ghost use Rattle.net_model.specs.WorldText.{cuts_of, missing, with_database, world_reading};
 ghost use Rattle.world_file.specs.Told.{Tells, TellsAt};
 
 use crate::draft::Draft;
 use crate::fault::{Fault, WorldError};
-use crate::law::texts_say_worlds;
 use ndb_reader::{NdbError, read_ndb};
 use net_base::World;
+use net_model::{worlds_are_spelled, worlds_so_far_are_small};
 use std::alloc::Global;
 
 /// The world that a text says, or its first bad line. It goes once through the bytes, and copies each at most once.
 pub fn read_world(alloc: Global, bytes: &[u8]) -> Result<World, WorldError>
     ensures ok { IfOk result (λ w. world_reading bytes.now ≡ Ok w) }
     ensures bad { IfErr result (λ e. Tells e (world_reading bytes.now)) }
+    ensures spelled { IfOk result (λ w. IsWorldText bytes.now w) }
     ensures world { IfOk result (λ w. IsWorld w) }
     ensures form { IfOk result (λ w. IsFirstForm w) }
 {
-    texts_say_worlds();
+    worlds_are_spelled();
     read_lines(alloc, bytes)
 }
 
@@ -31,6 +33,7 @@ fn read_lines(alloc: Global, bytes: &[u8]) -> Result<World, WorldError>
     ensures ok { IfOk result (λ w. world_reading bytes.now ≡ Ok w) }
     ensures bad { IfErr result (λ e. Tells e (world_reading bytes.now)) }
 {
+    worlds_so_far_are_small();
     let mut draft = Draft::new(alloc);
     let mut number: u64 = 1;
     let mut rest = bytes;

@@ -1,11 +1,14 @@
-use Rattle.std.proofs.Common.{◌≡◌, ◌+◌, ◌≤◌, length}
+use Rattle.std.proofs.Common.{◌≡◌, ℕ, ◌+◌, ◌≤◌, List, length}
+use Rattle.net_model.specs.WorldLines.{opening_draft}
+use Rattle.net_model.specs.WorldRefusal.{Leads}
 use Rattle.net_model.specs.WorldText.{world_reading, reading_from, cuts_of}
-use Rattle.world_file.proofs.Kept.{Kept}
+use Rattle.world_file.specs.Told.{IsSmall}
 use Rattle.world_file.proofs.reader.read_lines.Given as goal
 
 abbrev pub invariant-loop-rest : goal.invariant-loop-rest
 invariant-loop-rest l = record {
-  kept : Kept l.draft;
+  led : (lines : List (List ℕ)) × Leads opening_draft lines l.draft;
+  small : IsSmall l.draft;
   room : l.number + length l.rest ≤ length l.bytes + 1;
   reading : world_reading l.bytes ≡ reading_from l.draft l.number (cuts_of l.rest);
 }
