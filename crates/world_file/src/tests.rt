@@ -421,8 +421,18 @@ fn the_first_steps_are_judged(rt: HostRuntime) -> Result<(), Fail> {
         (SCRIPT, b"write b connect 1.2.3.4!5 6", 9, 31),
         (SCRIPT, b"write c connect 1.2.3.4!5", 9, 31),
         (SCRIPT, b"open d /net/udp/0/data", 9, 31),
-        (SCRIPT, b"write c connect 1.2.3.4!5 6\nopen c /net/udp/0/data", 10, 31),
-        (SCRIPT, b"write c connect 1.2.3.4!5 6\nopen d /net/udp/1/data", 10, 31),
+        (
+            SCRIPT,
+            b"write c connect 1.2.3.4!5 6\nopen c /net/udp/0/data",
+            10,
+            31,
+        ),
+        (
+            SCRIPT,
+            b"write c connect 1.2.3.4!5 6\nopen d /net/udp/1/data",
+            10,
+            31,
+        ),
     ];
     for (front, lines, line, cause) in rows {
         assert!(rt;

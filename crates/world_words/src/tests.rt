@@ -4,7 +4,7 @@ use crate::{
     split_words,
 };
 use cs_resolver::split_first;
-use net_base::{Mode, Proto, Step};
+use net_base::{Proto, Step};
 use std::alloc::Global;
 use std::test::Fail;
 
@@ -243,37 +243,5 @@ fn more_wrong_arguments_are_told(rt: HostRuntime) -> Result<(), Fail> {
     }
     assert!(rt; read(rt.alloc(), b"opens c /net".as_slice())?.is_none());
     assert!(rt; read(rt.alloc(), b"".as_slice())?.is_none());
-    Ok(())
-}
-
-#[test]
-fn a_step_holds_its_words(rt: HostRuntime) -> Result<(), Fail> {
-    match read(rt.alloc(), b"open c /net/cs rw".as_slice())? {
-        Some(Some(Step::Open { name, path, mode })) => {
-            assert_eq!(rt; name.as_slice(), b"c".as_slice());
-            assert_eq!(rt; path.as_slice(), b"/net/cs".as_slice());
-            assert!(rt; matches!(mode, Some(Mode::Both)));
-        }
-        _ => assert!(rt; false, "an open"),
-    }
-    Ok(())
-}
-
-#[test]
-fn a_text_holds_its_blanks(rt: HostRuntime) -> Result<(), Fail> {
-    match read(rt.alloc(), b"write d a  b ".as_slice())? {
-        Some(Some(Step::Write { name, text })) => {
-            assert_eq!(rt; name.as_slice(), b"d".as_slice());
-            assert_eq!(rt; text.as_slice(), b"a  b ".as_slice());
-        }
-        _ => assert!(rt; false, "a write"),
-    }
-    match read(rt.alloc(), b"writex d 00ff0a".as_slice())? {
-        Some(Some(Step::Writex { name, text })) => {
-            assert_eq!(rt; name.as_slice(), b"d".as_slice());
-            assert_eq!(rt; text.as_slice(), b"\x00\xff\n".as_slice());
-        }
-        _ => assert!(rt; false, "a write of bytes"),
-    }
     Ok(())
 }
