@@ -2,7 +2,7 @@
 --     step_of          the step that words say
 --     *_line           a line by its first word, its arguments as words
 --     line_verdict     any line
-use Rattle.std.specs.Prelude.{ℕ, ◌+◌, ◌==◌, Bool, true, false, not, ◌&&◌, ◌||◌, List, [], ◌∷◌, ◌++◌, length, codes, bytes_eq, Option, Some, None, is_none, is_some, nat_lt, nat_le, bit_and, position, option_map, if◌then◌else◌}
+use Rattle.std.specs.Prelude.{ℕ, ◌+◌, ◌==◌, Bool, false, not, ◌&&◌, ◌||◌, List, [], ◌∷◌, ◌++◌, length, codes, bytes_eq, Option, Some, None, is_none, is_some, nat_lt, nat_le, bit_and, position, option_map, if◌then◌else◌}
 use Rattle.std.specs.List.{list_any}
 use Rattle.std.specs.Option.{option_to_list, option_and_then}
 use Rattle.net_base.specs.declared.address.Proto.{Proto}

@@ -1,5 +1,5 @@
 -- The words of a world's lines, and what they are read as. Exactly one blank stands between two words.
-use Rattle.std.specs.Prelude.{ℕ, ◌==◌, Bool, true, false, List, [], ◌∷◌, codes, bytes_eq, Option, Some, None, if◌then◌else◌, ◌*◌, ◌+◌, ◌-◌}
+use Rattle.std.specs.Prelude.{ℕ, ◌==◌, Bool, false, List, [], ◌∷◌, codes, bytes_eq, Option, Some, None, if◌then◌else◌, ◌*◌, ◌+◌, ◌-◌}
 use Rattle.std.specs.List.{join_with_byte}
 use Rattle.std.specs.Option.{option_to_list, option_and_then}
 use Rattle.net_base.specs.declared.address.Proto.{Proto}

@@ -1,4 +1,4 @@
-use Rattle.std.proofs.Common.{ℕ, List, [], ◌∷◌, ◌++◌, ◌∙◌, ap, arith, refl, Bool}
+use Rattle.std.proofs.Common.{ℕ, List, [], ◌∷◌, ◌++◌, ◌∙◌, ap, arith, Bool}
 use Rattle.net_model.specs.WorldLines.{Goes, opening_draft}
 use Rattle.net_model.specs.WorldRefusal.{Leads}
 use Rattle.world_file.specs.Told.{going}
