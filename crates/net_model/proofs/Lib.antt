@@ -71,3 +71,4 @@ pub mod WorldSteps
 pub mod WorldTaken
 pub mod WorldSound
 pub mod WorldRefusals
+pub mod WorldWritten

@@ -1,11 +1,15 @@
 //! Laws of the text of a world.
-ghost use Rattle.std.specs.Prelude.{◌≡◌, ◌↔◌, ◌∷◌, ◌++◌, List, ℕ, Ok, Err, Some, true, false, codes, bytes_eq};
+ghost use Rattle.std.specs.Prelude.{◌≡◌, ◌↔◌, ◌∷◌, ◌++◌, List, ℕ, Ok, Err, Some, None, true, false, codes, bytes_eq};
 ghost use Rattle.std.specs.List.{filter, list_all, list_any};
 ghost use Rattle.net_base.specs.ControlWords as control;
 ghost use Rattle.net_base.specs.declared.address.Addr.{Addr};
 ghost use Rattle.net_base.specs.declared.names.Ctl.TheVariants as ctl;
 ghost use Rattle.net_base.specs.declared.world.World.{World};
-ghost use Rattle.net_base.specs.World.{is_text};
+ghost use Rattle.net_base.specs.World.{IsWorld, is_text};
+ghost use Rattle.net_base.specs.WorldForm.{IsFirstForm};
+ghost use Rattle.net_base.specs.NdbBundle.{database};
+ghost use Rattle.net_base.specs.NdbForm.{bad_line_so_far};
+ghost use Rattle.net_base.specs.NdbText.{lines_of};
 ghost use Rattle.net_model.specs.WorkedUdp.{datagram_world};
 ghost use Rattle.net_model.specs.WorldExample.{every_line};
 ghost use Rattle.net_model.specs.WorldLines.{connects, opening_draft};
@@ -28,6 +32,13 @@ pub fn worlds_are_spelled()
 /// A text says one world at most.
 pub fn texts_say_one_world()
     ensures { (text : List ℕ) (v w : World) → IsWorldText text v → IsWorldText text w → v ≡ w }
+{}
+
+/// Each world has a text: its lines, `ndb`, and a text of its database.
+pub fn worlds_have_texts()
+    ensures { (w : World) (bundle : List ℕ) → IsWorld w → IsFirstForm w
+        → bad_line_so_far bundle ≡ None → w.db ≡ database (lines_of bundle)
+        → IsWorldText (laid (lines_of_world w) ++ (codes "ndb\n" ++ bundle)) w }
 {}
 
 /// Empty lines and comments before `ndb` say nothing.
