@@ -72,3 +72,4 @@ pub mod WorldTaken
 pub mod WorldSound
 pub mod WorldRefusals
 pub mod WorldWritten
+pub mod WorldExamples

@@ -11,7 +11,7 @@ ghost use Rattle.net_base.specs.NdbBundle.{database};
 ghost use Rattle.net_base.specs.NdbForm.{bad_line_so_far};
 ghost use Rattle.net_base.specs.NdbText.{lines_of};
 ghost use Rattle.net_model.specs.WorkedUdp.{datagram_world};
-ghost use Rattle.net_model.specs.WorldExample.{every_line};
+ghost use Rattle.net_model.specs.WorldExample.{datagram_head, datagram_text, every_line};
 ghost use Rattle.net_model.specs.WorldLines.{connects, opening_draft};
 ghost use Rattle.net_model.specs.WorldRefusal.{IsBadLine, IsRefused};
 ghost use Rattle.net_model.specs.WorldText.{world_reading};
@@ -57,15 +57,10 @@ pub fn first_bad_lines_are_told()
         → world_reading (text ++ (10 ∷ more)) ≡ Err (n, c) }
 {}
 
-/// The lines of two worlds, by computation.
+/// The lines of two worlds, by computation, and the text of one of them.
 pub fn worked_world_lines()
-    ensures one_datagram { laid (lines_of_world datagram_world)
-        ≡ codes "networld 1\nend 60000\nseed 7\nmedium ether0 1500\nhost anna il udp\n"
-        ++ (codes "if ether0 135.104.9.6 255.255.255.0\nhost helix il udp\n"
-        ++ (codes "if ether0 135.104.9.31 255.255.255.0\nscript anna\nopen c /net/udp/clone\n"
-        ++ (codes "write c connect 135.104.9.31!7 5000\nopen d /net/udp/0/data\nwrite d hi\n"
-        ++ (codes "script helix\nopen c /net/udp/clone\nwrite c connect 135.104.9.6!5000 7\n"
-        ++ (codes "open d /net/udp/0/data\nread d 8192\n"))))) }
+    ensures one_datagram { laid (lines_of_world datagram_world) ≡ datagram_head }
+    ensures its_text { world_reading datagram_text ≡ Ok datagram_world }
     ensures every_line { laid (lines_of_world every_line)
         ≡ codes "networld 1\nend 60000\nseed 18446744073709551615\nmedium ether0 1500\n"
         ++ (codes "rates ether0 10 0 20\nfate ether0 1 lose\nfate ether0 3-5 deliver\n"
