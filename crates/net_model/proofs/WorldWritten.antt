@@ -1,5 +1,5 @@
 -- The spelled lines of a world stand on one line each and say something.
-use Rattle.std.proofs.Common.{◌≡◌, ℕ, ◌<◌, ◌^◌, ◌==◌, inl, Bool, true, false, not, ◌&&◌, ◌||◌, cond, List, [], ◌∷◌, ◌++◌, length, map, refl, sym, ap, subst, ◌∙◌, arith, None, Ok}
+use Rattle.std.proofs.Common.{◌≡◌, ℕ, ◌<◌, ◌^◌, ◌==◌, inl, true, false, not, ◌&&◌, ◌||◌, cond, List, [], ◌∷◌, ◌++◌, length, map, refl, sym, ap, subst, ◌∙◌, arith, None}
 use Rattle.std.specs.Prelude.{⊤, codes, decimal, flat_map, get_or, nat_lt}
 use Rattle.std.specs.List.{All, filter, list_all}
 use Rattle.std.proofs.lemmas.Bool.{and_parts, false≢true, ltb-true}
@@ -22,12 +22,11 @@ use Rattle.net_base.specs.World.{is_byte, is_host, is_moment, is_name, is_script
 use Rattle.net_base.specs.WorldForm.{AreTransfers, IsFirstForm, IsPlainHost, IsUdpScript, clone_path, data_path, opening_steps}
 use Rattle.net_model.specs.WorldLines.{plain_medium}
 use Rattle.net_model.specs.WorldSpelling.{spaced, laid, is_line, speaks, line_of_end, line_of_seed, line_of_medium, lines_of_medium, lines_of_host, line_of_step, lines_of_script, lines_of_world, medium_names, host_names, IsWorldText}
-use Rattle.net_model.specs.WorldText.{world_reading}
 use Rattle.net_model.proofs.Controls.{dotted_is_without}
 use Rattle.net_model.proofs.Texts.{IsWithout, decimal_without, without_one}
 use Rattle.net_model.proofs.WorldBack.{within-most}
 use Rattle.net_model.proofs.WorldLists.{All-first, All-later, All-one, list-without, name-without, names, without-none}
-use Rattle.net_model.proofs.WorldRead.{with_one, plain-is, host-facts, mask-small, name-there, Parts, parts-of, spelled-read}
+use Rattle.net_model.proofs.WorldRead.{with_one, plain-is, host-facts, mask-small, name-there, Parts, parts-of}
 
 -- Lines.
 
@@ -81,11 +80,16 @@ good-front : (e s mtu : ℕ) (called : List ℕ) → is_moment e ≡ true → na
     → AreGood (codes "networld 1" ∷ line_of_end e ∷ line_of_seed s ∷ line_of_medium (plain_medium 0 called mtu) ∷ [])
 good-front e s mtu called moment small name fits =
     let end = within-most 1 1000000000 e moment in
-    let most = within-most 576 16384 mtu fits in
-    ((refl, refl),
-    (good (codes "end" ∷ decimal e ∷ []) refl (without-none 10 (codes "end") refl, (decimal-free e (omega (arith, end)), tt)),
-    (good (codes "seed" ∷ decimal s ∷ []) refl (without-none 10 (codes "seed") refl, (decimal-free s (ltb-true s (2 ^ 64) small), tt)),
-    (good (codes "medium" ∷ called ∷ decimal mtu ∷ []) refl (without-none 10 (codes "medium") refl, (name-free called name, (decimal-free mtu (omega (arith, most)), tt))), tt))))
+    let most = within-most 576 16384 mtu fits in (
+      (refl, refl),
+      (
+        good (codes "end" ∷ decimal e ∷ []) refl (without-none 10 (codes "end") refl, (decimal-free e (omega (arith, end)), tt)),
+        (
+          good (codes "seed" ∷ decimal s ∷ []) refl (without-none 10 (codes "seed") refl, (decimal-free s (ltb-true s (2 ^ 64) small), tt)),
+          (good (codes "medium" ∷ called ∷ decimal mtu ∷ []) refl (without-none 10 (codes "medium") refl, (name-free called name, (decimal-free mtu (omega (arith, most)), tt))), tt),
+        ),
+      ),
+    )
 
 nets-free : (nets : List Proto) → AreFree (map proto_name nets)
 nets-free [] = tt
@@ -97,10 +101,14 @@ good-host : (medium called : List ℕ) (nets : List Proto) (ip mask : ℕ) → i
 good-host medium called nets ip mask name plain is =
     let f = host-facts [] called nets ip mask [] (record { plain = All-one IsPlainHost (with_one called nets ip mask) plain; fits = ap (λ v. v && true) is; named = refl; addressed = refl; few = omega arith }) in
     let low = ltb-true ip (2 ^ 32) f.address in
-    let low_mask = ltb-true mask (2 ^ 32) (mask-small mask f.ones) in
-    (good (codes "host" ∷ called ∷ map proto_name nets) refl (without-none 10 (codes "host") refl, (name-free called f.name, nets-free nets)),
-    (good (codes "if" ∷ medium ∷ dotted ip ∷ dotted mask ∷ []) refl
-    (without-none 10 (codes "if") refl, (name-free medium name, (dotted_is_without 10 ip (omega arith) low, (dotted_is_without 10 mask (omega arith) low_mask, tt)))), tt))
+    let low_mask = ltb-true mask (2 ^ 32) (mask-small mask f.ones) in (
+      good (codes "host" ∷ called ∷ map proto_name nets) refl (without-none 10 (codes "host") refl, (name-free called f.name, nets-free nets)),
+      (
+        good (codes "if" ∷ medium ∷ dotted ip ∷ dotted mask ∷ []) refl
+            (without-none 10 (codes "if") refl, (name-free medium name, (dotted_is_without 10 ip (omega arith) low, (dotted_is_without 10 mask (omega arith) low_mask, tt)))),
+        tt,
+      ),
+    )
 
 good-hosts : (medium : List ℕ) (hosts : List HostSpec) → is_name medium ≡ true → All IsPlainHost hosts → list_all (is_host 1) hosts ≡ true → AreGood (flat_map (lines_of_host (medium ∷ [])) hosts)
 good-hosts medium [] name plain fits = tt
@@ -168,9 +176,10 @@ good-scripts hosts (x ∷ scripts) fits udp all =
     let both = and_parts (is_script (length hosts) x) (list_all (is_script (length hosts)) scripts) all in
     let parts = and_parts (nat_lt x.host (length hosts)) (list_all is_step x.steps) both.0 in
     let name = name-there 1 hosts x.host (ltb-true x.host (length hosts) parts.0) fits in
-    good-more (lines_of_script (names hosts) x) (flat_map (lines_of_script (names hosts)) scripts)
-    (good (codes "script" ∷ get_or (names hosts) x.host [] ∷ []) refl (without-none 10 (codes "script") refl, (name-free (get_or (names hosts) x.host []) name, tt)),
-    good-steps x.steps (All-first (λ (s : Script). IsUdpScript s.steps) x scripts udp) parts.1)
+    good-more (lines_of_script (names hosts) x) (flat_map (lines_of_script (names hosts)) scripts) (
+      good (codes "script" ∷ get_or (names hosts) x.host [] ∷ []) refl (without-none 10 (codes "script") refl, (name-free (get_or (names hosts) x.host []) name, tt)),
+      good-steps x.steps (All-first (λ (s : Script). IsUdpScript s.steps) x scripts udp) parts.1,
+    )
     (good-scripts hosts scripts fits (All-later (λ (s : Script). IsUdpScript s.steps) x scripts udp) both.1)
 
 -- Worlds.
