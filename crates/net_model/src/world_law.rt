@@ -34,7 +34,7 @@ pub fn texts_say_one_world()
     ensures { (text : List ℕ) (v w : World) → IsWorldText text v → IsWorldText text w → v ≡ w }
 {}
 
-/// Each world has a text: its lines, `ndb`, and a text of its database.
+/// Each world of the form that runs so far has a text: its lines, `ndb`, a text of its database.
 pub fn worlds_have_texts()
     ensures { (w : World) (bundle : List ℕ) → IsWorld w → IsFirstForm w
         → bad_line_so_far bundle ≡ None → w.db ≡ database (lines_of bundle)
