@@ -82,3 +82,5 @@ pub mod WorldTaken
 pub mod WorldSmall
 pub mod WorldSound
 pub mod WorldRefusals
+pub mod WorldWritten
+pub mod WorldExamples

@@ -50,7 +50,7 @@ some-found p (x ∷ xs) e = by (p x) refl e (some-found p xs)
     by false is f next = next f
 
 -- a mask is an address
-mask-small : (mask : ℕ) → is_mask mask ≡ true → is_address mask ≡ true
+pub mask-small : (mask : ℕ) → is_mask mask ≡ true → is_address mask ≡ true
 mask-small mask ones =
     let found = some-found (λ bits. mask_of bits == mask) (range_with_len 0 33) ones in
     let is = eqb-true (mask_of found.0) mask found.1 in
@@ -63,14 +63,14 @@ mask-small mask ones =
 abbrev pub with_one : List ℕ → List Proto → ℕ → ℕ → HostSpec
 with_one called nets ip mask = with_iface (iface_of 0 ip mask) (host_of called nets)
 
-plain-is : (h : HostSpec) (p : IsPlainHost h) → h ≡ with_one h.name h.nets p.iface.ip p.iface.mask
+pub plain-is : (h : HostSpec) (p : IsPlainHost h) → h ≡ with_one h.name h.nets p.iface.ip p.iface.mask
 plain-is h p =
     ap (λ (x : List Iface). record h { ifaces = x }) (p.ifaces ∙ ap (λ (n : ℕ). iface_of n p.iface.ip p.iface.mask ∷ []) p.medium)
     ∙ (ap (λ (x : List RouteLine). record (with_one h.name h.nets p.iface.ip p.iface.mask) { routes = x; starts = h.starts }) p.routes
     ∙ ap (λ (x : List ℕ). record (with_one h.name h.nets p.iface.ip p.iface.mask) { starts = x }) p.starts)
 
 -- the hosts so far and those to come
-record Lodged (done rest : List HostSpec) : Type 0 where
+pub record Lodged (done rest : List HostSpec) : Type 0 where
   pub plain : All IsPlainHost rest
   pub fits : list_all (is_host 1) rest ≡ true
   pub named : all_apart bytes_eq (names (done ++ rest)) ≡ true
@@ -89,7 +89,7 @@ lodged-more done h rest l =
     }
 
 -- a host that comes
-record Comes (done : List HostSpec) (called : List ℕ) (nets : List Proto) (ip mask : ℕ) : Type 0 where
+pub record Comes (done : List HostSpec) (called : List ℕ) (nets : List Proto) (ip mask : ℕ) : Type 0 where
   pub name : is_name called ≡ true
   pub proto : is_nets nets ≡ true
   pub address : is_address ip ≡ true
@@ -98,7 +98,7 @@ record Comes (done : List HostSpec) (called : List ℕ) (nets : List Proto) (ip 
   pub free : list_any (has_ip ip) done ≡ false
   pub few : length done < 8
 
-host-facts : (done : List HostSpec) (called : List ℕ) (nets : List Proto) (ip mask : ℕ) (rest : List HostSpec) → Lodged done (with_one called nets ip mask ∷ rest) → Comes done called nets ip mask
+pub host-facts : (done : List HostSpec) (called : List ℕ) (nets : List Proto) (ip mask : ℕ) (rest : List HostSpec) → Lodged done (with_one called nets ip mask ∷ rest) → Comes done called nets ip mask
 host-facts done called nets ip mask rest l =
     let h : HostSpec = with_one called nets ip mask in
     let here = (and_parts (is_host 1 h) (list_all (is_host 1) rest) l.fits).0 in
@@ -334,7 +334,7 @@ long-enough n = grind (arith, nat_tests)
 not-short : (steps : List Step) → IsUdpScript steps → nat_lt (length steps) 3 ≡ false
 not-short steps u = ap (λ (xs : List Step). nat_lt (length xs) 3) u.opening ∙ long-enough (length u.rest)
 
-name-there : (k : ℕ) (hs : List HostSpec) (n : ℕ) → n < length hs → list_all (is_host k) hs ≡ true → is_name (get_or (names hs) n []) ≡ true
+pub name-there : (k : ℕ) (hs : List HostSpec) (n : ℕ) → n < length hs → list_all (is_host k) hs ≡ true → is_name (get_or (names hs) n []) ≡ true
 name-there k [] n lt all = absurd (omega (arith, lt))
 name-there k (h ∷ hs) zero lt all = (and_parts (is_name h.name) _ ((and_parts (is_host k h) (list_all (is_host k) hs) all).0)).0
 name-there k (h ∷ hs) (suc n) lt all = name-there k hs n (omega (arith, lt)) ((and_parts (is_host k h) (list_all (is_host k) hs) all).1)
@@ -428,12 +428,12 @@ pub record Drafted (w : World) : Type 0 where
   pub ready : HasParts draft w.end w.seed w.media w.hosts w.scripts
 
 -- what the parts of a world with one plain medium lead to
-record Parts (w : World) (called : List ℕ) (mtu : ℕ) : Type 0 where
+pub record Parts (w : World) (called : List ℕ) (mtu : ℕ) : Type 0 where
   pub media : w.media ≡ plain_medium 0 called mtu ∷ []
   pub name : is_name called ≡ true
   pub fits : is_within 576 16384 mtu ≡ true
 
-parts-of : (w : World) → IsWorld w → (f : IsFirstForm w) → Parts w f.medium.name f.medium.mtu
+pub parts-of : (w : World) → IsWorld w → (f : IsFirstForm w) → Parts w f.medium.name f.medium.mtu
 parts-of w is f =
     let m = f.medium in
     let first = and_parts (is_medium 0 m) true (ap (are_media 0) (sym f.media) ∙ is.media) in

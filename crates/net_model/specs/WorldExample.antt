@@ -1,5 +1,5 @@
--- A world with each kind of line.
-use Rattle.std.specs.Prelude.{List, [], ◌∷◌, Some, None, codes}
+-- The text of the worked world of UDP, and a world with each kind of line.
+use Rattle.std.specs.Prelude.{ℕ, List, [], ◌∷◌, ◌++◌, Some, None, codes}
 use Rattle.net_base.specs.declared.address.Proto.TheVariants as proto
 use Rattle.net_base.specs.declared.names.Mode.TheVariants as mode
 use Rattle.net_base.specs.declared.world.Fate.TheVariants as fate
@@ -9,6 +9,33 @@ use Rattle.net_base.specs.declared.world.Step.{Step}
 use Rattle.net_base.specs.declared.world.Step.TheVariants as step
 use Rattle.net_base.specs.declared.world.World.{World}
 use Rattle.net_model.specs.Worked.{ip, script}
+
+-- The worked world of UDP.
+
+-- its lines
+abbrev pub datagram_head : List ℕ
+datagram_head =
+    codes "networld 1\nend 60000\nseed 7\nmedium ether0 1500\nhost anna il udp\n"
+    ++ (codes "if ether0 135.104.9.6 255.255.255.0\nhost helix il udp\n"
+    ++ (codes "if ether0 135.104.9.31 255.255.255.0\nscript anna\nopen c /net/udp/clone\n"
+    ++ (codes "write c connect 135.104.9.31!7 5000\nopen d /net/udp/0/data\nwrite d hi\n"
+    ++ (codes "script helix\nopen c /net/udp/clone\nwrite c connect 135.104.9.6!5000 7\n"
+    ++ (codes "open d /net/udp/0/data\nread d 8192\n")))))
+
+-- the text of its database
+abbrev pub small_bundle : List ℕ
+small_bundle =
+    codes "# local network\nipnet=astro ip=135.104.0.0 ipmask=255.255.0.0\n\tauth=bootes\n"
+    ++ (codes "ipnet=astro9 ip=135.104.9.0 ipmask=255.255.255.0\n\tauth=helix\n"
+    ++ (codes "sys=anna ip=135.104.9.6\n\tdom=anna.example.com\nsys=helix dom=helix.example.com\n"
+    ++ (codes "\tip=10.0.0.31\n\tip=135.104.9.31\nsys=bootes\n\tip=135.104.50.2\n"
+    ++ (codes "il=9fs port=17008\nudp=echo port=7\n"))))
+
+-- its text
+abbrev pub datagram_text : List ℕ
+datagram_text = datagram_head ++ (codes "ndb\n" ++ small_bundle)
+
+-- A world with each kind of line.
 
 abbrev pub lossy_medium : MediumSpec
 lossy_medium = record {

@@ -35,5 +35,5 @@ pub use net_base::{
 pub use wire_law::packets_are_read;
 pub use world_law::{
     connect_texts_agree, first_bad_lines_are_told, passed_lines_say_nothing, texts_say_one_world,
-    worked_world_lines, worlds_are_spelled, worlds_so_far_are_small,
+    worked_world_lines, worlds_are_spelled, worlds_have_texts, worlds_so_far_are_small,
 };

@@ -1,13 +1,17 @@
 //! Laws of the text of a world.
-ghost use Rattle.std.specs.Prelude.{◌≡◌, ◌↔◌, ◌≤◌, ◌∷◌, ◌++◌, List, [], ℕ, length, Ok, Err, Some, true, false, codes, bytes_eq};
+ghost use Rattle.std.specs.Prelude.{◌≡◌, ◌↔◌, ◌≤◌, ◌∷◌, ◌++◌, List, [], ℕ, length, Ok, Err, Some, None, true, false, codes, bytes_eq};
 ghost use Rattle.std.specs.List.{filter, list_all, list_any};
 ghost use Rattle.net_base.specs.ControlWords as control;
 ghost use Rattle.net_base.specs.declared.address.Addr.{Addr};
 ghost use Rattle.net_base.specs.declared.names.Ctl.TheVariants as ctl;
 ghost use Rattle.net_base.specs.declared.world.World.{World};
-ghost use Rattle.net_base.specs.World.{is_text};
+ghost use Rattle.net_base.specs.World.{IsWorld, is_text};
+ghost use Rattle.net_base.specs.WorldForm.{IsFirstForm};
+ghost use Rattle.net_base.specs.NdbBundle.{database};
+ghost use Rattle.net_base.specs.NdbForm.{bad_line_so_far};
+ghost use Rattle.net_base.specs.NdbText.{lines_of};
 ghost use Rattle.net_model.specs.WorkedUdp.{datagram_world};
-ghost use Rattle.net_model.specs.WorldExample.{every_line};
+ghost use Rattle.net_model.specs.WorldExample.{datagram_head, datagram_text, every_line};
 ghost use Rattle.net_model.specs.WorldLines.{connects, hosts_of, line_verdict, opening_draft, Draft, Goes};
 ghost use Rattle.net_model.specs.WorldRefusal.{IsBadLine, IsRefused, Leads};
 ghost use Rattle.net_model.specs.WorldText.{world_reading};
@@ -28,6 +32,13 @@ pub fn worlds_are_spelled()
 /// A text says one world at most.
 pub fn texts_say_one_world()
     ensures { (text : List ℕ) (v w : World) → IsWorldText text v → IsWorldText text w → v ≡ w }
+{}
+
+/// Each world of the form that runs so far has a text: its lines, `ndb`, a text of its database.
+pub fn worlds_have_texts()
+    ensures { (w : World) (bundle : List ℕ) → IsWorld w → IsFirstForm w
+        → bad_line_so_far bundle ≡ None → w.db ≡ database (lines_of bundle)
+        → IsWorldText (laid (lines_of_world w) ++ (codes "ndb\n" ++ bundle)) w }
 {}
 
 /// Empty lines and comments before `ndb` say nothing.
@@ -53,15 +64,10 @@ pub fn worlds_so_far_are_small()
     ensures hosts { (lines : List (List ℕ)) (d : Draft) → Leads opening_draft lines d → length (hosts_of d) ≤ 8 }
 {}
 
-/// The lines of two worlds, by computation.
+/// The lines of two worlds, by computation, and the text of one of them.
 pub fn worked_world_lines()
-    ensures one_datagram { laid (lines_of_world datagram_world)
-        ≡ codes "networld 1\nend 60000\nseed 7\nmedium ether0 1500\nhost anna il udp\n"
-        ++ (codes "if ether0 135.104.9.6 255.255.255.0\nhost helix il udp\n"
-        ++ (codes "if ether0 135.104.9.31 255.255.255.0\nscript anna\nopen c /net/udp/clone\n"
-        ++ (codes "write c connect 135.104.9.31!7 5000\nopen d /net/udp/0/data\nwrite d hi\n"
-        ++ (codes "script helix\nopen c /net/udp/clone\nwrite c connect 135.104.9.6!5000 7\n"
-        ++ (codes "open d /net/udp/0/data\nread d 8192\n"))))) }
+    ensures one_datagram { laid (lines_of_world datagram_world) ≡ datagram_head }
+    ensures its_text { world_reading datagram_text ≡ Ok datagram_world }
     ensures every_line { laid (lines_of_world every_line)
         ≡ codes "networld 1\nend 60000\nseed 18446744073709551615\nmedium ether0 1500\n"
         ++ (codes "rates ether0 10 0 20\nfate ether0 1 lose\nfate ether0 3-5 deliver\n"
