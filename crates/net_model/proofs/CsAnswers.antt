@@ -9,8 +9,6 @@ use Rattle.net_base.specs.declared.event.Event.{Event}
 use Rattle.net_base.specs.declared.event.Event.TheVariants as event
 use Rattle.net_base.specs.declared.history.Entry.{Entry}
 use Rattle.net_base.specs.declared.history.With.{With}
-use Rattle.net_base.specs.declared.history.Work.{Work}
-use Rattle.net_base.specs.declared.reply.Reply.{Reply}
 use Rattle.net_base.specs.declared.world.HostSpec.{HostSpec}
 use Rattle.net_base.specs.declared.world.MediumSpec.{MediumSpec}
 use Rattle.net_base.specs.declared.world.World.{World}
@@ -19,7 +17,7 @@ use Rattle.net_base.specs.Actors.{Actor, IsConv, IsDir, IsMedium, IsPlain, actor
 use Rattle.net_base.specs.Cs.{cs_list}
 use Rattle.net_base.specs.Desk.{cs_reply, desk_reply}
 use Rattle.net_base.specs.Legal.{IsLegal, Shown, Shows}
-use Rattle.net_base.specs.Net.{Net, after, step_of, with_of}
+use Rattle.net_base.specs.Net.{after, step_of, with_of}
 use Rattle.net_model.specs.Headline.{AnswersCs}
 
 -- where a table has an answer to a query, it is a desk's

@@ -1,5 +1,5 @@
 -- What a caller owes cites its last own entry, or what stands after it.
-use Rattle.std.proofs.Common.{◌≡◌, ℕ, ◌≤◌, ◌==◌, Bool, true, false, List, [], ◌∷◌, ◌++◌, length, drop, Option, Some, None, slice_get, ◌⊎◌, inl, inr, refl, sym, ap, subst, ◌∙◌, arith}
+use Rattle.std.proofs.Common.{◌≡◌, ℕ, ◌≤◌, ◌==◌, Bool, true, false, List, [], ◌∷◌, ◌++◌, length, drop, Option, Some, None, ◌⊎◌, inl, inr, refl, sym, ap, subst, ◌∙◌, arith}
 use Rattle.std.specs.Prelude.{if◌then◌else◌, IsSome}
 use Rattle.std.specs.Option.{option_map}
 use Rattle.std.proofs.lemmas.Bool.{eqb-true, false≢true, eq-eqb}
@@ -14,7 +14,7 @@ use Rattle.net_base.specs.Net.{Net, after, net_after, opening_net, owed, step_of
 use Rattle.net_base.specs.Stamped.{In}
 use Rattle.net_model.specs.ScriptOrder.{IsLastOwn, IsOfLastStep}
 use Rattle.net_model.proofs.Histories.{after_push, at_push, before_push, by_entries, in_pushed}
-use Rattle.net_model.proofs.Owed.{AllCite, cite_both, duties_cite, past_after}
+use Rattle.net_model.proofs.Owed.{AllCite, duties_cite, past_after}
 
 -- these duties cite entries from the stamp on
 abbrev CiteFrom : ℕ → List Duty → Type 0

@@ -1,5 +1,5 @@
 -- The own entries of a script's caller are those of its steps, in order.
-use Rattle.std.proofs.Common.{◌≡◌, ℕ, ◌+◌, ◌-◌, ◌==◌, Bool, true, false, List, [], ◌∷◌, ◌++◌, length, map, take, Option, Some, None, refl, sym, ap, subst, ◌∙◌, arith, append-nil}
+use Rattle.std.proofs.Common.{◌≡◌, ℕ, ◌-◌, ◌==◌, Bool, true, false, List, [], ◌∷◌, ◌++◌, length, take, Option, Some, None, refl, sym, ap, subst, ◌∙◌, arith, append-nil}
 use Rattle.std.specs.Prelude.{filter, is_none}
 use Rattle.std.proofs.lemmas.Bool.{eqb-true}
 use Rattle.std.proofs.lemmas.List.{length-map, take-map}
@@ -15,7 +15,6 @@ use Rattle.net_base.specs.Duties.{Duty}
 use Rattle.net_base.specs.Legal.{IsAsked, IsLegal, MayFollow, asked_by, cites_of}
 use Rattle.net_base.specs.Net.{after, owed}
 use Rattle.net_base.specs.Next.{answered, by, finished_by, next, next_of, own_replies, standing}
-use Rattle.net_base.specs.Steps.{Position, position}
 use Rattle.net_model.specs.ScriptOrder.{KeepsScript, StandInOrder, own_entries, settled}
 use Rattle.net_model.proofs.Histories.{by_entries}
 use Rattle.net_model.proofs.LastOwn.{of_last_step}
