@@ -14,11 +14,16 @@ use Rattle.net_base.specs.Net.{Net, after, net_after, opening_net, owed, step_of
 use Rattle.net_base.specs.Stamped.{In}
 use Rattle.net_model.specs.ScriptOrder.{IsLastOwn, IsOfLastStep}
 use Rattle.net_model.proofs.Histories.{after_push, at_push, before_push, by_entries, in_pushed}
-use Rattle.net_model.proofs.Owed.{AllCite, duties_cite, past_after}
+use Rattle.net_model.proofs.Ordered.{Each}
+use Rattle.net_model.proofs.Owed.{duties_each, past_after}
 
 -- these duties cite entries from the stamp on
 abbrev CiteFrom : ℕ → List Duty → Type 0
 CiteFrom k ds = (d : Duty) → In d ds → k ≤ d.cites
+
+-- these cite this entry
+abbrev AllCite : ℕ → List Duty → Type 0
+AllCite s ds = Each (λ (d : Duty). d.cites ≡ s) ds
 
 -- the caller owes nothing, or what it owes cites entries from its last own entry on
 abbrev FromLast : List Entry → ℕ → List Duty → Type 0
@@ -106,7 +111,7 @@ from_next w h net x (Some s) c past ready cites from = by (x.caller == c) refl
     new = duties w net.actors x.actor (length net.past) (work_of net x) s
 
     cite : AllCite (length h) new
-    cite = subst (λ (p : List Entry). AllCite (length p) new) past (duties_cite w net.actors x.actor (length net.past) (work_of net x) s)
+    cite = subst (λ (p : List Entry). AllCite (length p) new) past (duties_each (λ (d : Duty). d.cites ≡ length net.past) (length net.past) (λ a e gift other. refl) w net.actors x.actor (work_of net x) s)
 
     same_caller : (d : ℕ) → x.caller ≡ d → FromLast h d (net.owed d) → FromLast (h ++ x ∷ []) d (drop 1 (net.owed d) ++ new)
     same_caller d is before =

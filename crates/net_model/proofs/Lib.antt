@@ -58,9 +58,14 @@ pub mod Holders
 pub mod UdpReads
 pub mod Waits
 pub mod ConvWaits
+pub mod StepEvents
 pub mod Untils
 pub mod Rising
 pub mod Limits
+pub mod PlainTexts
+pub mod PlainReplies
+pub mod PlainEvents
+pub mod PlainHistories
 pub mod Plays
 pub mod LastOwn
 pub mod OwnEntries

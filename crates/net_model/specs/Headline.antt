@@ -1,4 +1,4 @@
--- What every legal history keeps: the steps of scripts in order, what is read at a peer, and the lists of cs.
+-- What every legal history keeps: the steps of scripts in order, what is read at a peer, the lists of cs, and that its text tells it.
 use Rattle.std.specs.Prelude.{ℕ, ◌≡◌, List, Some, None, slice_get}
 use Rattle.net_base.specs.declared.actor.ActorName.TheVariants as name
 use Rattle.net_base.specs.declared.address.Proto.TheVariants.{Il, Udp}
@@ -10,6 +10,7 @@ use Rattle.net_base.specs.declared.world.World.{World}
 use Rattle.net_base.specs.Callers.{IsScript, caller_of}
 use Rattle.net_base.specs.Cs.{cs_list}
 use Rattle.net_base.specs.Desk.{cs_reply}
+use Rattle.net_base.specs.Plain.{IsPlain}
 use Rattle.net_base.specs.Written.{Conversation, IsRead, peer}
 use Rattle.net_model.specs.PrefixLaw.{Alone, InOrder, WasWritten}
 use Rattle.net_model.specs.ScriptOrder.{KeepsScript}
@@ -32,3 +33,5 @@ pub record Headline (w : World) (h : List Entry) : Type 0 where
   pub alone : (e : Conversation) → e.proto ≡ Il → peer w h e ≡ None → Alone w h e
   -- each read at a UDP conversation
   pub datagrams : (e : Conversation) (k count : ℕ) (text : List ℕ) → e.proto ≡ Udp → IsRead h e k count text → WasWritten w h e k count text
+  -- names and lines of it break no line of its text
+  pub plain : IsPlain h

@@ -23,6 +23,7 @@ ghost use Rattle.net_base.specs.Calm.{could_record, limited, most_entries};
 ghost use Rattle.net_base.specs.Legal.{Asked, HasRoom, IsFault, IsLegal, IsTimed, Keeps, Known, Ready, Rule};
 ghost use Rattle.net_base.specs.Net.{Net, after, owed, state, played, works};
 ghost use Rattle.net_base.specs.Next.{by};
+ghost use Rattle.net_base.specs.Plain.{IsPlain};
 ghost use Rattle.net_base.specs.Duties.{Duty};
 ghost use Rattle.net_base.specs.Stamped.{In};
 ghost use Rattle.net_base.specs.Written.{Given, given_in, holder, pair_of};
@@ -110,6 +111,11 @@ pub fn full_callers_limit()
     ensures owes { (w : World) (net : Net) (c : ℕ) (d : Duty) → c < caller_count w → length (by net.past c) ≡ most_entries → In d (net.owed c) → limited w net ≡ true }
     ensures could { (w : World) (net : Net) (c : ℕ) → c < caller_count w → length (by net.past c) ≡ most_entries → could_record w net (caller_of w c) c ≡ true → limited w net ≡ true }
     ensures only { (w : World) (net : Net) → limited w net ≡ true → (c : ℕ) × (length (by net.past c) ≡ most_entries) × (could_record w net (caller_of w c) c ≡ true) }
+{}
+
+/// Every legal history of a world is plain: names are words, lines have no newline, and paths are made of bytes.
+pub fn legal_histories_are_plain()
+    ensures { (w : World) → IsWorld w → (h : List Entry) → IsLegal w h → IsPlain h }
 {}
 
 /// The events of a script's steps are its caller's own entries, in order and each once, at least one a step. So many steps are

@@ -15,8 +15,8 @@ pub use cs_law::{no_line_stands_twice, own_networks_come_first, worked_queries};
 pub use law::{
     a_fault_is_not_legal, a_pair_has_one_holder, a_pair_is_given_once, callers_have_room,
     controls_are_read, cs_answers_are_lists, duties_cite_their_own, full_callers_limit,
-    legal_histories_keep_it, moments_rise, paths_are_walked, prefix_is_legal, prefix_law,
-    state_is_fold, steps_stand_in_order, what_is_ready_is_known,
+    legal_histories_are_plain, legal_histories_keep_it, moments_rise, paths_are_walked,
+    prefix_is_legal, prefix_law, state_is_fold, steps_stand_in_order, what_is_ready_is_known,
 };
 pub use ndb_law::{
     bad_lines_are_first, causes_of_what_is_read, files_are_spelled, files_read_once,
