@@ -12,6 +12,7 @@ use Rattle.net_base.specs.NdbText.{lines_of}
 use Rattle.net_base.specs.NdbBundle.{database}
 use Rattle.net_base.specs.NdbForm.{bad_line_so_far}
 use Rattle.net_base.specs.Net.{Net, after}
+use Rattle.net_base.specs.Plain.{IsPlain}
 use Rattle.net_base.specs.Summary.{summary}
 use Rattle.net_base.specs.Transcript.{history_text}
 use Rattle.net_model.specs.Headline.{Headline}
@@ -68,6 +69,8 @@ pub record IsRun (w : World) (answer : Answer) : Type 0 where
   pub timed : IsTimed w history
   pub headline : Headline w history
   pub text : answer.text ≡ history_text history ++ summary w history
+  -- and of no other plain history
+  pub one : (v : World) (k : List Entry) → IsPlain k → answer.text ≡ history_text k ++ summary v k → k ≡ history
   pub status : IsStatus w (after w history) answer.status
 
 -- Answers.

@@ -17,7 +17,7 @@ use net_model::legal_histories_keep_it;
 use plain_runner::{Ran, RunEnd};
 use std::alloc::{AllocError, Global};
 use std::marker::Model;
-use transcript::{End, Standing, summary_by, text_of};
+use transcript::{End, Standing, printed_runs_tell, summary_by, text_of};
 
 /// The words give no command.
 pub const USAGE: &str = "! usage\n";
@@ -81,7 +81,7 @@ impl Answer {
     }
 
     /// The text of a run's history with its summary.
-    #[tactic(auto, using(crate::proofs::RunEnds::status_is))]
+    #[tactic(auto, using(crate::proofs::RunEnds::status_is, crate::proofs::OneHistory::only_one))]
     pub fn run(alloc: Global, world: &World, ran: &Ran) -> Result<Answer, AllocError>
         requires world { IsWorld world.now }
         requires legal { IsLegal world.now ran.now.history }
@@ -91,6 +91,7 @@ impl Answer {
         ensures { IfOk result (λ answer. IsRun world.now answer) }
     {
         legal_histories_keep_it();
+        printed_runs_tell();
         let mut text = text_of(alloc, &ran.history)?;
         let standing = standing_of(ran);
         let summary = summary_by(alloc, world, &ran.history, standing)?;
