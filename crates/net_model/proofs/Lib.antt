@@ -71,3 +71,13 @@ pub mod LastOwn
 pub mod OwnEntries
 pub mod CsAnswers
 pub mod StepsAsk
+pub mod WorldNumbers
+pub mod ConnectTexts
+pub mod WorldLists
+pub mod WorldBack
+pub mod WorldRead
+pub mod WorldDrafts
+pub mod WorldSteps
+pub mod WorldTaken
+pub mod WorldSound
+pub mod WorldRefusals

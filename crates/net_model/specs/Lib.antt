@@ -16,3 +16,6 @@ pub mod WorldLines
 pub mod WorldText
 pub mod ScriptOrder
 pub mod Headline
+pub mod WorldSpelling
+pub mod WorldRefusal
+pub mod WorldExample

@@ -6,6 +6,7 @@ mod cs_law;
 mod law;
 mod ndb_law;
 mod wire_law;
+mod world_law;
 
 pub use cases::{
     a_call_is_refused, a_datagram_goes, a_lost_frame_is_sent_again, changes_are_faults,
@@ -32,3 +33,7 @@ pub use net_base::{
     number, same_actor,
 };
 pub use wire_law::packets_are_read;
+pub use world_law::{
+    connect_texts_agree, first_bad_lines_are_told, passed_lines_say_nothing, texts_say_one_world,
+    worked_world_lines, worlds_are_spelled,
+};

@@ -13,7 +13,7 @@ use types.ByLocal.{alloc_all, pass_all, free_all, look_at, get, sets}
 use denote.Builtin.{RefOf}
 use denote.Exit.{yes}
 use denote.Param.{param, bounded}
-use denote.RattleType.{RattleType, owns}
+use denote.RattleType.{owns}
 use denote.Ref.{shr_vals, shr_Tells}
 use denote.Signature.{types_at, plain}
 use denote.Steps.{nothing}
