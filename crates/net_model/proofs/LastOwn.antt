@@ -14,34 +14,25 @@ use Rattle.net_base.specs.Net.{Net, after, net_after, opening_net, owed, step_of
 use Rattle.net_base.specs.Stamped.{In}
 use Rattle.net_model.specs.ScriptOrder.{IsLastOwn, IsOfLastStep}
 use Rattle.net_model.proofs.Histories.{after_push, at_push, before_push, by_entries, in_pushed}
-use Rattle.net_model.proofs.Ordered.{Each}
+use Rattle.net_model.proofs.Ordered.{Each, each_append, each_weaker}
 use Rattle.net_model.proofs.Owed.{duties_each, past_after}
 
 -- these duties cite entries from the stamp on
 abbrev CiteFrom : ℕ → List Duty → Type 0
-CiteFrom k ds = (d : Duty) → In d ds → k ≤ d.cites
-
--- these cite this entry
-abbrev AllCite : ℕ → List Duty → Type 0
-AllCite s ds = Each (λ (d : Duty). d.cites ≡ s) ds
+CiteFrom k ds = Each (λ (d : Duty). k ≤ d.cites) ds
 
 -- the caller owes nothing, or what it owes cites entries from its last own entry on
 abbrev FromLast : List Entry → ℕ → List Duty → Type 0
 FromLast h c ds = (ds ≡ []) ⊎ ((k : ℕ) × IsLastOwn h c k × CiteFrom k ds)
 
-in_parts : (ds es : List Duty) (d : Duty) → In d (ds ++ es) → In d ds ⊎ In d es
-in_parts [] es d there = inr there
-in_parts (b ∷ ds) es d (inl is) = inl (inl is)
-in_parts (b ∷ ds) es d (inr there) = elim (in_parts ds es d there) [ inl one ↦ inl (inr one) | inr two ↦ inr two ]
+rest_from : (k : ℕ) (ds : List Duty) → CiteFrom k ds → CiteFrom k (drop 1 ds)
+rest_from k [] from = tt
+rest_from k (d ∷ ds) from = from.1
 
-in_rest : (ds : List Duty) (d : Duty) → In d (drop 1 ds) → In d ds
-in_rest [] d there = there
-in_rest (b ∷ ds) d there = inr there
-
-cites_new : (s : ℕ) (ds : List Duty) (d : Duty) → AllCite s ds → In d ds → d.cites ≡ s
-cites_new s [] d all there = absurd there
-cites_new s (b ∷ ds) d all (inl is) = subst (λ (e : Duty). e.cites ≡ s) (sym is) all.0
-cites_new s (b ∷ ds) d all (inr there) = cites_new s ds d all.1 there
+each_in : (k : ℕ) (ds : List Duty) (d : Duty) → CiteFrom k ds → In d ds → k ≤ d.cites
+each_in k [] d from there = absurd there
+each_in k (b ∷ ds) d from (inl is) = subst (λ (e : Duty). k ≤ e.cites) (sym is) from.0
+each_in k (b ∷ ds) d from (inr there) = each_in k ds d from.1 there
 
 -- the last own entry stays where the entry isn't one
 last_stays : (h : List Entry) (c k : ℕ) (x : Entry) → (x.caller ≡ c → x.cites ≡ None → ⊥) → IsLastOwn h c k → IsLastOwn (h ++ x ∷ []) c k
@@ -75,27 +66,24 @@ nothing [] is = refl
 nothing (d ∷ ds) is = absurd (none-some d.cites is)
 
 -- the entry is the caller's: its own with nothing owed, or one that was owed
-mine : (h : List Entry) (x : Entry) (ds new : List Duty) → AllCite (length h) new → x.cites ≡ cites_of ds → FromLast h x.caller ds
+mine : (h : List Entry) (x : Entry) (ds new : List Duty) → CiteFrom (length h) new → x.cites ≡ cites_of ds → FromLast h x.caller ds
     → FromLast (h ++ x ∷ []) x.caller (drop 1 ds ++ new)
 mine h x ds new all cites before = by x.cites refl before
   where
-    new_from : (k : ℕ) → k ≤ length h → CiteFrom k ds → CiteFrom k (drop 1 ds ++ new)
-    new_from k le from d there =
-        elim (in_parts (drop 1 ds) new d there) [
-          | inl old ↦ from d (in_rest ds d old)
-          | inr fresh ↦ let is = cites_new (length h) new d all fresh in omega (arith, is, le)
-        ]
+    with_new : (k : ℕ) → k ≤ length h → CiteFrom k ds → CiteFrom k (drop 1 ds ++ new)
+    with_new k le from =
+        each_append (λ (d : Duty). k ≤ d.cites) (drop 1 ds) new (rest_from k ds from)
+        (each_weaker (λ (d : Duty). length h ≤ d.cites) (λ (d : Duty). k ≤ d.cites) (λ d far. omega (arith, far, le)) new all)
 
     by : (o : Option ℕ) → x.cites ≡ o → FromLast h x.caller ds → FromLast (h ++ x ∷ []) x.caller (drop 1 ds ++ new)
     by None own from =
-        let none = nothing ds (sym own ∙ cites) in
-        inr (length h, last_is h x own, new_from (length h) (omega arith) (λ d there. absurd (subst (λ (es : List Duty). In d es) none there)))
-    by (Some s) owed (inl none) = absurd (none-some s (sym (ap cites_of none) ∙ (sym cites ∙ owed)))
-    by (Some s) owed (inr from) =
+        inr (length h, last_is h x own, with_new (length h) (omega arith) (subst (CiteFrom (length h)) (sym (nothing ds (sym own ∙ cites))) tt))
+    by (Some s) is (inl none) = absurd (none-some s (sym (ap cites_of none) ∙ (sym cites ∙ is)))
+    by (Some s) is (inr from) =
         inr (
           from.0,
-          last_stays h x.caller from.0 x (λ same own. none-some s (sym own ∙ owed)) from.1,
-          new_from from.0 (last_within h x.caller from.0 from.1) from.2,
+          last_stays h x.caller from.0 x (λ same own. none-some s (sym own ∙ is)) from.1,
+          with_new from.0 (last_within h x.caller from.0 from.1) from.2,
         )
 
 another : (h : List Entry) (c : ℕ) (x : Entry) (ds : List Duty) → (x.caller ≡ c → ⊥) → FromLast h c ds → FromLast (h ++ x ∷ []) c ds
@@ -110,8 +98,10 @@ from_next w h net x (Some s) c past ready cites from = by (x.caller == c) refl
     new : List Duty
     new = duties w net.actors x.actor (length net.past) (work_of net x) s
 
-    cite : AllCite (length h) new
-    cite = subst (λ (p : List Entry). AllCite (length p) new) past (duties_each (λ (d : Duty). d.cites ≡ length net.past) (length net.past) (λ a e gift other. refl) w net.actors x.actor (work_of net x) s)
+    cite : CiteFrom (length h) new
+    cite =
+        subst (λ (p : List Entry). CiteFrom (length p) new) past
+        (duties_each (λ (d : Duty). length net.past ≤ d.cites) (length net.past) (λ a e gift other. omega arith) w net.actors x.actor (work_of net x) s)
 
     same_caller : (d : ℕ) → x.caller ≡ d → FromLast h d (net.owed d) → FromLast (h ++ x ∷ []) d (drop 1 (net.owed d) ++ new)
     same_caller d is before =
@@ -138,5 +128,5 @@ pub of_last_step : (w : World) (h : List Entry) (c : ℕ) → IsLegal w h → (d
 of_last_step w h c legal d there =
     elim (from_last w c h legal) [
       | inl none ↦ absurd (subst (λ (ds : List Duty). In d ds) none there)
-      | inr from ↦ record { stamp = from.0; is_last = from.1; cites = from.2 d there }
+      | inr from ↦ record { stamp = from.0; is_last = from.1; cites = each_in from.0 (owed w h c) d from.2 there }
     ]
