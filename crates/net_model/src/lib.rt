@@ -8,32 +8,108 @@ mod ndb_law;
 mod wire_law;
 mod world_law;
 
-pub use cases::{
-    a_call_is_refused, a_datagram_goes, a_lost_frame_is_sent_again, changes_are_faults,
-    runs_are_as_worked,
-};
-pub use cs_law::{no_line_stands_twice, own_networks_come_first, worked_queries};
-pub use law::{
-    a_fault_is_not_legal, a_pair_has_one_holder, a_pair_is_given_once, callers_have_room,
-    controls_are_read, cs_answers_are_lists, duties_cite_their_own, full_callers_limit,
-    legal_histories_are_plain, legal_histories_keep_it, moments_rise, paths_are_walked,
-    prefix_is_legal, prefix_law, state_is_fold, steps_stand_in_order, what_is_ready_is_known,
-};
-pub use ndb_law::{
-    bad_lines_are_first, causes_of_what_is_read, files_are_spelled, files_read_once,
-    lines_are_spelled, lines_read_once, text_in_one_file, texts_read_once, words_without_quotes,
-    worked_bad_lines, worked_readings,
-};
-pub use net_base::{
-    ActorList, ActorName, Addr, Body, BodyHeader, Call, CallList, Cause, Ctl, Db, Entry, Event,
-    Fate, FateRange, Fates, FileName, Header, History, HostSpec, Hosts, Iface, Ifaces, IlKind,
-    IlMsg, IlState, Line, Lines, Media, MediumSpec, Mode, NdbPair, Nets, Node, Noted, Number,
-    Octets, Outcome, Packet, Pair, Proto, Reply, RouteLine, RouteLines, Script, Scripts, Sequence,
-    Starts, StateName, Step, StepList, Taken, Tick, Tuple, UdpState, With, Work, World, mirror,
-    number, same_actor,
-};
+pub use cases::a_call_is_refused;
+pub use cases::a_datagram_goes;
+pub use cases::a_lost_frame_is_sent_again;
+pub use cases::changes_are_faults;
+pub use cases::runs_are_as_worked;
+pub use cs_law::no_line_stands_twice;
+pub use cs_law::own_networks_come_first;
+pub use cs_law::worked_queries;
+pub use law::a_fault_is_not_legal;
+pub use law::a_pair_has_one_holder;
+pub use law::a_pair_is_given_once;
+pub use law::callers_have_room;
+pub use law::controls_are_read;
+pub use law::cs_answers_are_lists;
+pub use law::duties_cite_their_own;
+pub use law::full_callers_limit;
+pub use law::legal_histories_are_plain;
+pub use law::legal_histories_keep_it;
+pub use law::moments_rise;
+pub use law::paths_are_walked;
+pub use law::prefix_is_legal;
+pub use law::prefix_law;
+pub use law::state_is_fold;
+pub use law::steps_stand_in_order;
+pub use law::what_is_ready_is_known;
+pub use ndb_law::bad_lines_are_first;
+pub use ndb_law::causes_of_what_is_read;
+pub use ndb_law::files_are_spelled;
+pub use ndb_law::files_read_once;
+pub use ndb_law::lines_are_spelled;
+pub use ndb_law::lines_read_once;
+pub use ndb_law::text_in_one_file;
+pub use ndb_law::texts_read_once;
+pub use ndb_law::words_without_quotes;
+pub use ndb_law::worked_bad_lines;
+pub use ndb_law::worked_readings;
+pub use net_base::ActorList;
+pub use net_base::ActorName;
+pub use net_base::Addr;
+pub use net_base::Body;
+pub use net_base::BodyHeader;
+pub use net_base::Call;
+pub use net_base::CallList;
+pub use net_base::Cause;
+pub use net_base::Ctl;
+pub use net_base::Db;
+pub use net_base::Entry;
+pub use net_base::Event;
+pub use net_base::Fate;
+pub use net_base::FateRange;
+pub use net_base::Fates;
+pub use net_base::FileName;
+pub use net_base::Header;
+pub use net_base::History;
+pub use net_base::HostSpec;
+pub use net_base::Hosts;
+pub use net_base::Iface;
+pub use net_base::Ifaces;
+pub use net_base::IlKind;
+pub use net_base::IlMsg;
+pub use net_base::IlState;
+pub use net_base::Line;
+pub use net_base::Lines;
+pub use net_base::Media;
+pub use net_base::MediumSpec;
+pub use net_base::Mode;
+pub use net_base::NdbPair;
+pub use net_base::Nets;
+pub use net_base::Node;
+pub use net_base::Noted;
+pub use net_base::Number;
+pub use net_base::Octets;
+pub use net_base::Outcome;
+pub use net_base::Packet;
+pub use net_base::Pair;
+pub use net_base::Proto;
+pub use net_base::Reply;
+pub use net_base::RouteLine;
+pub use net_base::RouteLines;
+pub use net_base::Script;
+pub use net_base::Scripts;
+pub use net_base::Sequence;
+pub use net_base::Starts;
+pub use net_base::StateName;
+pub use net_base::Step;
+pub use net_base::StepList;
+pub use net_base::Taken;
+pub use net_base::Tick;
+pub use net_base::Tuple;
+pub use net_base::UdpState;
+pub use net_base::With;
+pub use net_base::Work;
+pub use net_base::World;
+pub use net_base::mirror;
+pub use net_base::number;
+pub use net_base::same_actor;
 pub use wire_law::packets_are_read;
-pub use world_law::{
-    connect_texts_agree, first_bad_lines_are_told, passed_lines_say_nothing, texts_say_one_world,
-    worked_world_lines, worlds_are_spelled, worlds_have_texts, worlds_so_far_are_small,
-};
+pub use world_law::connect_texts_agree;
+pub use world_law::first_bad_lines_are_told;
+pub use world_law::passed_lines_say_nothing;
+pub use world_law::texts_say_one_world;
+pub use world_law::worked_world_lines;
+pub use world_law::worlds_are_spelled;
+pub use world_law::worlds_have_texts;
+pub use world_law::worlds_so_far_are_small;

@@ -12,7 +12,7 @@ loop-rest-preserved c =
     let line = c.cut_line.result.0.now in
     let before = c.loop-rest.invariant.led in
     let led : (lines : List (List ℕ)) × Leads opening_draft lines next =
-        (before.0 ++ line ∷ [], c.worlds_so_far_are_small.ensures.next before.0 line c.loop-rest.draft next before.1 goes) in
+    (before.0 ++ line ∷ [], c.worlds_so_far_are_small.ensures.next before.0 line c.loop-rest.draft next before.1 goes) in
     let room = c.loop-rest.invariant.room in
     let less = c.cut_line.ensures.less in
     record {
