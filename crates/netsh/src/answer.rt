@@ -13,7 +13,7 @@ ghost use Rattle.plain_runner.specs.Ended.{EndsSo};
 
 use cs_resolver::CsError;
 use net_base::{Lines, Octets, World};
-use net_model::legal_histories_keep_it;
+use net_model::{legal_histories_are_plain, legal_histories_keep_it};
 use plain_runner::{Ran, RunEnd};
 use std::alloc::{AllocError, Global};
 use std::marker::Model;
@@ -81,7 +81,6 @@ impl Answer {
     }
 
     /// The text of a run's history with its summary.
-    #[tactic(auto, using(crate::proofs::RunEnds::status_is, crate::proofs::OneHistory::only_one))]
     pub fn run(alloc: Global, world: &World, ran: &Ran) -> Result<Answer, AllocError>
         requires world { IsWorld world.now }
         requires legal { IsLegal world.now ran.now.history }
@@ -91,6 +90,7 @@ impl Answer {
         ensures { IfOk result (λ answer. IsRun world.now answer) }
     {
         legal_histories_keep_it();
+        legal_histories_are_plain();
         printed_runs_tell();
         let mut text = text_of(alloc, &ran.history)?;
         let standing = standing_of(ran);
