@@ -548,10 +548,10 @@ fn a_text_that_is_cut_lacks_a_part(rt: HostRuntime) -> Result<(), Fail> {
         if *byte != b'\n' {
             continue;
         }
-        number += 1;
-        if 19 < number {
+        if 18 < number {
             break;
         }
+        number += 1;
         assert!(rt;
             is_bad(rt.alloc(), &WORLD[..i + 1], b"", number, 19)?,
             "cut before {number}"
