@@ -1,6 +1,6 @@
 -- Every step of a conversation gives its reply twice.
 use Rattle.std.proofs.Common.{◌≡◌, ℕ, ◌+◌, zero, suc, Bool, true, false, List, [], ◌∷◌, length, Option, Some, None, refl, ap, subst, ◌∙◌, nat_lt}
-use Rattle.std.specs.Prelude.{◌==◌, ◌&&◌, if◌then◌else◌}
+use Rattle.std.specs.Prelude.{◌==◌, if◌then◌else◌}
 use Rattle.net_base.specs.declared.address.Pair.{Pair}
 use Rattle.net_base.specs.declared.event.Event.{Event}
 use Rattle.net_base.specs.declared.event.Event.TheVariants as event
@@ -16,7 +16,7 @@ use Rattle.net_base.specs.declared.reply.Reply.{Reply}
 use Rattle.net_base.specs.declared.reply.Reply.TheVariants as reply
 use Rattle.net_base.specs.ActorStep.{Step, when}
 use Rattle.net_base.specs.ControlWords as control
-use Rattle.net_base.specs.IlEnd.{End, cause_of}
+use Rattle.net_base.specs.IlEnd.{End}
 use Rattle.net_base.specs.IlTable.{has_unread, is_closed, may_write, may_go_on}
 use Rattle.net_base.specs.UdpEnd.{UdpEnd, is_hung_up, udp_state_name}
 use Rattle.net_base.specs.Conversation as conv

@@ -1,5 +1,5 @@
 -- What a read of a UDP end is for its conversation.
-use Rattle.std.proofs.Common.{◌≡◌, ℕ, Bool, Option, None, refl, sym, ap, subst, ◌∙◌}
+use Rattle.std.proofs.Common.{◌≡◌, ℕ, Bool, Option, None, sym, subst, ◌∙◌}
 use Rattle.std.specs.Option.{option_map}
 use Rattle.net_base.specs.declared.history.Outcome.{Outcome}
 use Rattle.net_base.specs.declared.reply.Reply.{Reply}

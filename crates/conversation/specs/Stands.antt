@@ -1,5 +1,5 @@
 -- What a conversation stands for, and what its calls do to that.
-use Rattle.std.specs.Prelude.{◌≡◌, ℕ, IsTrue, Option, Some, None, is_some}
+use Rattle.std.specs.Prelude.{◌≡◌, ◌↔◌, ℕ, Bool, IsTrue, Option, Some, None, is_some}
 use Rattle.net_base.specs.declared.history.Outcome.{Outcome}
 use Rattle.net_base.specs.declared.history.Work.{Work}
 use Rattle.net_base.specs.ActorStep.{Step}
@@ -18,6 +18,10 @@ slot_of kept = kept.slot
 -- it stands for a conversation of which this is so
 abbrev pub StandsForSome : Seat → (Conv → Type 0) → Type 0
 StandsForSome kept P = (c : Conv) × (StandsFor kept c × P c)
+
+-- the test tells of each conversation that it stands for whether this is so
+abbrev pub Decides : Seat → Bool → (Conv → Type 0) → Type 0
+Decides kept told P = (c : Conv) → StandsFor kept c → IsTrue told ↔ P c
 
 -- this is what the conversation says
 abbrev pub Says : {A : Type 0} → Seat → A → (Conv → A) → Type 0

@@ -1,10 +1,10 @@
 //! A conversation, and what it answers.
-ghost use Rattle.std.specs.Prelude.{◌≡◌, ℕ, ◌<◌, ◌^◌, is_some, IfOk, IsTrue, OnErr, Some};
+ghost use Rattle.std.specs.Prelude.{◌≡◌, ◌↔◌, ℕ, ◌<◌, ◌^◌, is_some, IfOk, IsTrue, OnErr, Some};
 ghost use Rattle.net_base.specs.Actors.{opening_conv};
 ghost use Rattle.net_base.specs.Conversation as spec;
 ghost use Rattle.net_base.specs.Duties.{due_of_core};
 ghost use Rattle.conversation.specs.Kept.{step_to};
-ghost use Rattle.conversation.specs.Stands.{StandsFor, StandsForSome, IsShort, IsReady, Says, Steps, slot_of, step_at};
+ghost use Rattle.conversation.specs.Stands.{StandsFor, StandsForSome, Decides, IsShort, IsReady, Says, Steps, slot_of, step_at};
 
 mod files;
 mod given;
@@ -13,7 +13,7 @@ mod life;
 mod talk;
 
 use crate::control::is_refused;
-use crate::il;
+use crate::il::IlCore;
 use crate::parts::{Core, Stage};
 use net_base::{Addr, Event, Outcome, Pair, Proto, Work};
 use std::alloc::{AllocError, Global};
@@ -62,13 +62,14 @@ impl Model for Conv {
 
 #[tactic(auto, unfolding(crate::specs::Stands::StandsFor, crate::specs::Stands::slot_of))]
 impl Conv {
-    /// The conversation of a slot, before its first generation.
+    /// The conversation of a slot, before its first generation. Each actor is made by its whole name; no row of a conversation asks
+    /// for the host, so nothing is kept of it.
     pub fn new(alloc: Global, _host: u32, proto: Proto, slot: u32) -> Result<Conv, AllocError>
         ensures opening { IfOk result (λ c. StandsFor c (opening_conv proto)) }
         ensures slot { IfOk result (λ c. slot_of c ≡ slot) }
     {
         let core = match proto {
-            Proto::Il => Core::Il(il::fresh(alloc)?),
+            Proto::Il => Core::Il(IlCore::fresh(alloc)?),
             Proto::Udp => Core::Udp(UdpEnd::fresh(alloc)?),
         };
         Ok(Conv {
@@ -111,12 +112,13 @@ impl Conv {
         }
     }
 
-    /// Whether its end may be asked for anything: an IL end has sent and got few messages.
+    /// Whether its end may be asked for anything: one of UDP always may, and one of IL that has sent and got few messages.
     pub fn is_short(&self) -> bool
-        ensures { IsTrue result → StandsForSome self.now IsShort }
+        ensures some { IsTrue result ↔ StandsForSome self.now IsShort }
+        ensures each { Decides self.now result IsShort }
     {
         match &self.core {
-            Core::Il(end) => il::is_short(end),
+            Core::Il(end) => end.is_short(),
             Core::Udp(_) => true,
         }
     }
@@ -126,7 +128,7 @@ impl Conv {
         ensures { Says self.now result (λ c. due_of_core c.core) }
     {
         match &self.core {
-            Core::Il(end) => il::due(end),
+            Core::Il(end) => end.due(),
             Core::Udp(_) => None,
         }
     }

@@ -1,8 +1,10 @@
 //! A conversation: the files round an end.
 #![tactic(auto)]
 
+mod changes;
 mod control;
 mod conv;
+mod ghost_end;
 mod il;
 mod parts;
 mod said;

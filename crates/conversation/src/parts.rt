@@ -4,8 +4,7 @@ ghost use Rattle.net_base.specs.Conversation as spec;
 ghost use Rattle.conversation.specs.Kept.{seen_core, IsKept};
 ghost use Rattle.conversation.specs.declared.parts.Stage.TheVariants as stage;
 
-use crate::il;
-use il_machine::IlEnd;
+use crate::il::IlCore;
 use net_base::{Body, IlKind, IlState, StateName};
 use std::alloc::{AllocError, Global};
 use udp_core::UdpEnd;
@@ -24,7 +23,7 @@ pub enum Stage {
 /// The end of a conversation.
 #[derive(Drop)]
 pub enum Core {
-    Il(IlEnd),
+    Il(IlCore),
     Udp(UdpEnd),
 }
 
@@ -35,7 +34,7 @@ impl Core {
         ensures kept { IfOk result (λ core. IsKept stage.Unused core) }
     {
         match self {
-            Core::Il(_) => Ok(Core::Il(il::fresh(alloc)?)),
+            Core::Il(_) => Ok(Core::Il(IlCore::fresh(alloc)?)),
             Core::Udp(_) => Ok(Core::Udp(UdpEnd::fresh(alloc)?)),
         }
     }
@@ -45,7 +44,7 @@ impl Core {
         ensures { result ≡ spec.core_name (seen_core self.now) }
     {
         match self {
-            Core::Il(end) => match il::state(end) {
+            Core::Il(end) => match end.state() {
                 IlState::Closed => StateName::Closed,
                 IlState::Syncer => StateName::Syncer,
                 IlState::Syncee => StateName::Syncee,

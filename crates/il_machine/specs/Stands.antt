@@ -1,5 +1,5 @@
 -- What an IL end stands for, and what its calls do to that.
-use Rattle.std.specs.Prelude.{◌≡◌, ℕ, ◌<◌, ◌^◌, Bool, ◌||◌, length, Option, Some, None, if◌then◌else◌}
+use Rattle.std.specs.Prelude.{◌≡◌, ◌↔◌, ℕ, ◌<◌, ◌^◌, Bool, ◌||◌, IsTrue, length, Option, Some, None, if◌then◌else◌}
 use Rattle.net_base.specs.declared.il.Cause.{Cause}
 use Rattle.net_base.specs.declared.il.IlMsg.{IlMsg}
 use Rattle.net_base.specs.declared.il.IlState.{IlState}
@@ -31,6 +31,10 @@ Turns old new emits turn = (e : End) → StandsFor old e → StandsFor new (turn
 -- the end becomes this
 abbrev pub Becomes : End → End → (End → End) → Type 0
 Becomes old new after = (e : End) → StandsFor old e → StandsFor new (after e)
+
+-- the test tells of each end that it stands for whether this is so
+abbrev pub Decides : End → Bool → (End → Type 0) → Type 0
+Decides kept told P = (e : End) → StandsFor kept e → IsTrue told ↔ P e
 
 -- this is what the end says
 abbrev pub Says : {A : Type 0} → End → A → (End → A) → Type 0

@@ -5,7 +5,7 @@ ghost use Rattle.il_machine.specs.declared.ask.Ask.TheVariants as ask;
 ghost use Rattle.net_base.specs.IlEnd as spec;
 ghost use Rattle.net_base.specs.IlEnd.{End, message, silent, sends_again};
 ghost use Rattle.net_base.specs.IlTable as table;
-ghost use Rattle.il_machine.specs.Stands.{StandsFor, StandsForSome, IsShort, Turns, Becomes, Says, TellsRefusal, is_ready, write_refusal, read_refusal, after_read};
+ghost use Rattle.il_machine.specs.Stands.{StandsFor, StandsForSome, Decides, IsShort, Turns, Becomes, Says, TellsRefusal, is_ready, write_refusal, read_refusal, after_read};
 
 mod rows;
 
@@ -323,7 +323,8 @@ impl IlEnd {
 
     /// Whether so few messages were sent and got that the end may be asked for anything.
     pub fn is_short(&self) -> bool
-        ensures { IsTrue result ↔ StandsForSome self.now IsShort }
+        ensures some { IsTrue result ↔ StandsForSome self.now IsShort }
+        ensures each { Decides self.now result IsShort }
     {
         self.sent.len() < MOST_MESSAGES && self.got.len() < MOST_MESSAGES
     }

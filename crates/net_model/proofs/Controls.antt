@@ -26,16 +26,16 @@ address_back ip small =
 place_nested : (a : Addr) → place a ≡ dotted a.ip ++ (33 ∷ decimal a.port)
 place_nested a = simp append_assoc refl
 
-dotted_is_without : (s ip : ℕ) → s < 46 → ip < 2 ^ 32 → IsWithout s (dotted ip)
+pub dotted_is_without : (s ip : ℕ) → s < 46 → ip < 2 ^ 32 → IsWithout s (dotted ip)
 dotted_is_without s ip low small = dotted_without s (ip / 2 ^ 24) (ip / 2 ^ 16 % 256) (ip / 2 ^ 8 % 256) (ip % 256) low (omega (arith, small)) (omega arith) (omega arith) (omega arith)
 
-place_parts : (a : Addr) → a.ip < 2 ^ 32 → a.port < 65536 → parts_of_place (place a) ≡ dotted a.ip ∷ decimal a.port ∷ []
+pub place_parts : (a : Addr) → a.ip < 2 ^ 32 → a.port < 65536 → parts_of_place (place a) ≡ dotted a.ip ∷ decimal a.port ∷ []
 place_parts a fit port = rw (place_nested a) (cut_at 33 (dotted a.ip) (decimal a.port) _ (dotted_is_without 33 a.ip (omega arith) fit) (one_part 33 (decimal a.port) (decimal_without a.port 33 (omega (arith, port)) (omega arith))))
 
 place_back : (a : Addr) → a.ip < 2 ^ 32 → a.port < 65536 → place_of (dotted a.ip ∷ decimal a.port ∷ []) ≡ Some a
 place_back a fit port = rw (address_back a.ip fit) (rw (value_of a.port (omega (arith, port))) refl)
 
-place_without : (s : ℕ) (a : Addr) → s < 33 → a.ip < 2 ^ 32 → a.port < 65536 → IsWithout s (place a)
+pub place_without : (s : ℕ) (a : Addr) → s < 33 → a.ip < 2 ^ 32 → a.port < 65536 → IsWithout s (place a)
 place_without s a low fit port =
     rw (place_nested a) (All-append (λ (x : ℕ). (x == s) ≡ false) (dotted a.ip) (33 ∷ decimal a.port) (dotted_is_without s a.ip (omega (arith, low)) fit) (without_one s 33 _ (ne_eqb 33 s (λ is. omega (arith, is, low))) (decimal_without a.port s (omega (arith, port)) (omega (arith, low)))))
 
@@ -44,7 +44,7 @@ place_without s a low fit port =
 abbrev words : List ℕ → List (List ℕ)
 words line = slice_split (λ b. b == blank) line
 
-place_facts : (a : Addr) → is_place a ≡ true → (a.ip < 2 ^ 32) × (a.port < 65536)
+pub place_facts : (a : Addr) → is_place a ≡ true → (a.ip < 2 ^ 32) × (a.port < 65536)
 place_facts a is =
     let both = and_parts _ _ is in
     (ltb-true _ _ both.0, ltb-true _ _ ((and_parts _ _ both.1).1))
@@ -67,7 +67,7 @@ connect_port_back a port is fits_port =
 number_words : (n : ℕ) → n < 2 ^ 64 → slice_split (λ x. x == blank) (decimal n) ≡ decimal n ∷ []
 number_words n small = one_part blank (decimal n) (decimal_without n blank small (omega arith))
 
-place_words : (a : Addr) → is_place a ≡ true → slice_split (λ x. x == blank) (place a) ≡ place a ∷ []
+pub place_words : (a : Addr) → is_place a ≡ true → slice_split (λ x. x == blank) (place a) ≡ place a ∷ []
 place_words a is = let fits = place_facts a is in one_part blank (place a) (place_without blank a (omega arith) fits.0 fits.1)
 
 control_back : (c : Ctl) → in_range c ≡ true → control_of (slice_split (λ b. b == blank) (spelling c)) ≡ Some c

@@ -154,7 +154,7 @@ first_on networks ips =
 
 -- The texts of the addresses.
 
-any_text : (host : List ℕ) → is_any host ≡ true → host ≡ codes "*"
+pub any_text : (host : List ℕ) → is_any host ≡ true → host ≡ codes "*"
 any_text host any = (bytes_eq-Decides host (codes "*")).0 any
 
 abbrev Clean : List ℕ → Type 0

@@ -52,7 +52,7 @@ after_push w h x = net_of-append w opening_net h (x ∷ [])
 pub take_before : (h : List Entry) (x : Entry) (k : ℕ) → k ≤ length h → take k (h ++ x ∷ []) ≡ take k h
 take_before h x k le = take-append-le k h (x ∷ []) le
 
-in_pushed : (h : List Entry) (y : Entry) (k : ℕ) (x : Entry) → slice_get (h ++ y ∷ []) k ≡ Some x → ((k < length h) × (slice_get h k ≡ Some x)) ⊎ ((k ≡ length h) × (y ≡ x))
+pub in_pushed : (h : List Entry) (y : Entry) (k : ℕ) (x : Entry) → slice_get (h ++ y ∷ []) k ≡ Some x → ((k < length h) × (slice_get h k ≡ Some x)) ⊎ ((k ≡ length h) × (y ≡ x))
 in_pushed [] y zero x is = inr (refl, same_Some y x is)
 in_pushed [] y (suc k) x is = absurd (none-some x is)
 in_pushed (z ∷ h) y zero x is = inl (omega arith, is)

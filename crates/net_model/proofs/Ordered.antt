@@ -1,7 +1,9 @@
 -- Relations between the elements of a list and the later ones, by recursion on the list.
-use Rattle.std.proofs.Common.{◌≡◌, ℕ, ◌<◌, zero, suc, Bool, true, false, cond, List, [], ◌∷◌, ◌++◌, length, get_or, map, refl, Option, Some, None, arith}
+use Rattle.std.proofs.Common.{◌≡◌, ℕ, ◌<◌, zero, suc, Bool, true, false, cond, List, [], ◌∷◌, ◌++◌, length, get_or, map, refl, subst, Option, Some, None, slice_get, arith}
 use Rattle.std.specs.Prelude.{filter, filter_map, flat_map, AllPairs}
-use Rattle.std.specs.List.{AllByRecursion, cons_option}
+use Rattle.std.specs.List.{AllByRecursion, cons_option, list_all}
+use Rattle.std.proofs.lemmas.Bool.{and_parts}
+use Rattle.std.proofs.lemmas.Option.{none-some, same_Some}
 
 -- P holds of each element
 abbrev pub Each : {X : Type 0} → (X → Type 0) → List X → Type 0
@@ -20,6 +22,12 @@ each_get P (x ∷ xs) all (suc k) d lt = each_get P xs all.1 k d (omega arith)
 pub each_from_get : {X : Type 0} (P : X → Type 0) (xs : List X) → ((k : ℕ) (d : X) → k < length xs → P (get_or xs k d)) → Each P xs
 each_from_get P [] all = tt
 each_from_get P (x ∷ xs) all = (all 0 x (omega arith), each_from_get P xs (λ k d lt. all (suc k) d (omega arith)))
+
+-- what passes a test that all pass
+pub all_at : {X : Type 0} (p : X → Bool) (xs : List X) (k : ℕ) (x : X) → list_all p xs ≡ true → slice_get xs k ≡ Some x → p x ≡ true
+all_at p [] k x all is = absurd (none-some x is)
+all_at p (y ∷ xs) zero x all is = subst (λ u. p u ≡ true) (same_Some y x is) (and_parts (p y) (list_all p xs) all).0
+all_at p (y ∷ xs) (suc k) x all is = all_at p xs k x (and_parts (p y) (list_all p xs) all).1 is
 
 pub pairs_from_later : {X : Type 0} (R : X → X → Type 0) (xs : List X) → Later R xs → AllPairs R xs
 pairs_from_later R [] all i j d before lt = absurd (omega arith)

@@ -37,6 +37,7 @@ use Rattle.net_model.proofs.ConvWaits.{TimedActor, actor_later, IsConvName, tick
 use Rattle.net_model.proofs.Deeds.{both_ways}
 use Rattle.net_model.proofs.Histories.{after_push, by_entries, legal_take, one_more, next_same, next_other, same_actor_is}
 use Rattle.net_model.proofs.PairsOnce.{same_itself}
+use Rattle.net_model.proofs.Ordered.{all_at}
 use Rattle.net_model.proofs.Untils.{UntilAt, FineNext, fine_position}
 use Rattle.net_model.proofs.Waits.{Beyond}
 
@@ -358,11 +359,6 @@ rests_after w h legal = by_entries w (λ (k : List Entry). Rests w (after w k)) 
 in_some : {A : Type 0} (x : A) (xs : List A) → In x xs → 0 < length xs
 in_some x [] there = absurd there
 in_some x (y ∷ xs) there = omega arith
-
-all_at : {A : Type 0} (p : A → Bool) (xs : List A) (k : ℕ) (x : A) → list_all p xs ≡ true → slice_get xs k ≡ Some x → p x ≡ true
-all_at p [] k x all is = absurd (none-some x is)
-all_at p (y ∷ xs) zero x all is = subst (λ u. p u ≡ true) (same_Some y x is) (and_parts (p y) (list_all p xs) all).0
-all_at p (y ∷ xs) (suc k) x all is = all_at p xs k x (and_parts (p y) (list_all p xs) all).1 is
 
 got : {A : Type 0} (xs : List A) (k : ℕ) → k < length xs → (x : A) × (slice_get xs k ≡ Some x)
 got [] k lt = absurd (omega arith)

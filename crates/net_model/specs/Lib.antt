@@ -14,3 +14,8 @@ pub mod Words
 pub mod WorldWords
 pub mod WorldLines
 pub mod WorldText
+pub mod ScriptOrder
+pub mod Headline
+pub mod WorldSpelling
+pub mod WorldRefusal
+pub mod WorldExample

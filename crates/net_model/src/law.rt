@@ -1,5 +1,5 @@
 //! Laws of the definitions.
-ghost use Rattle.std.specs.Prelude.{◌≡◌, ◌<◌, ◌≤◌, ◌↔◌, List, ℕ, Ok, Err, None, Some, true, false, length, take, slice_get};
+ghost use Rattle.std.specs.Prelude.{◌≡◌, ◌<◌, ◌≤◌, ◌↔◌, [], List, ℕ, Ok, Err, None, Some, true, false, length, take, slice_get};
 ghost use Rattle.net_base.specs.ControlWords as control;
 ghost use Rattle.net_base.specs.Paths as paths;
 ghost use Rattle.net_base.specs.declared.names.Ctl.{Ctl};
@@ -10,14 +10,20 @@ ghost use Rattle.net_base.specs.declared.history.Entry.{Entry};
 ghost use Rattle.net_base.specs.declared.world.World.{World};
 ghost use Rattle.net_base.specs.Actors.{opening_actor};
 ghost use Rattle.net_base.specs.declared.address.Proto.TheVariants.{Il, Udp};
+ghost use Rattle.net_model.specs.Headline.{AnswersCs, Headline};
 ghost use Rattle.net_model.specs.PrefixLaw.{Alone, InOrder, WasWritten};
+ghost use Rattle.net_model.specs.ScriptOrder.{Begins, KeepsScript};
+ghost use Rattle.net_base.specs.Steps.{Bound, play_of};
+ghost use Rattle.net_base.specs.declared.world.Step.{Step};
+ghost use Rattle.net_base.specs.declared.world.Script.{Script};
 ghost use Rattle.net_base.specs.World.{IsWorld};
 ghost use Rattle.net_base.specs.Written.{Conversation, IsRead, peer};
-ghost use Rattle.net_base.specs.Callers.{caller_count, caller_of};
+ghost use Rattle.net_base.specs.Callers.{IsScript, caller_count, caller_of};
 ghost use Rattle.net_base.specs.Calm.{could_record, limited, most_entries};
 ghost use Rattle.net_base.specs.Legal.{Asked, HasRoom, IsFault, IsLegal, IsTimed, Keeps, Known, Ready, Rule};
 ghost use Rattle.net_base.specs.Net.{Net, after, owed, state, played, works};
 ghost use Rattle.net_base.specs.Next.{by};
+ghost use Rattle.net_base.specs.Plain.{IsPlain};
 ghost use Rattle.net_base.specs.Duties.{Duty};
 ghost use Rattle.net_base.specs.Stamped.{In};
 ghost use Rattle.net_base.specs.Written.{Given, given_in, holder, pair_of};
@@ -105,4 +111,26 @@ pub fn full_callers_limit()
     ensures owes { (w : World) (net : Net) (c : ℕ) (d : Duty) → c < caller_count w → length (by net.past c) ≡ most_entries → In d (net.owed c) → limited w net ≡ true }
     ensures could { (w : World) (net : Net) (c : ℕ) → c < caller_count w → length (by net.past c) ≡ most_entries → could_record w net (caller_of w c) c ≡ true → limited w net ≡ true }
     ensures only { (w : World) (net : Net) → limited w net ≡ true → (c : ℕ) × (length (by net.past c) ≡ most_entries) × (could_record w net (caller_of w c) c ≡ true) }
+{}
+
+/// Every legal history of a world is plain: names are words, lines have no newline, and paths are made of bytes.
+pub fn legal_histories_are_plain()
+    ensures { (w : World) → IsWorld w → (h : List Entry) → IsLegal w h → IsPlain h }
+{}
+
+/// The events of a script's steps are its caller's own entries, in order and each once, at least one a step. So many steps are
+/// finished, and so many answered, as the definitions count.
+pub fn steps_stand_in_order()
+    ensures each { (h : ℕ) (names : List Bound) (s : Step) → Begins (play_of h names s) [] }
+    ensures in_order { (w : World) (h : List Entry) (c : ℕ) (s : Script) → IsLegal w h → caller_of w c ≡ IsScript s → KeepsScript w h c s }
+{}
+
+/// Each answer to a query of cs is what the database lists for the host that asks, or why it lists nothing.
+pub fn cs_answers_are_lists()
+    ensures { (w : World) (h : List Entry) (k : ℕ) (x : Entry) (query : List ℕ) → IsLegal w h → slice_get h k ≡ Some x → x.event ≡ event.Cs query → AnswersCs w x query }
+{}
+
+/// What every legal history of a world keeps.
+pub fn legal_histories_keep_it()
+    ensures { (w : World) (h : List Entry) → IsWorld w → IsLegal w h → Headline w h }
 {}

@@ -1,4 +1,5 @@
 pub mod CsAnswers
 pub mod Endings
 pub mod Statuses
+pub mod OneHistory
 pub mod RunEnds

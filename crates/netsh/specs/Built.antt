@@ -12,8 +12,10 @@ use Rattle.net_base.specs.NdbText.{lines_of}
 use Rattle.net_base.specs.NdbBundle.{database}
 use Rattle.net_base.specs.NdbForm.{bad_line_so_far}
 use Rattle.net_base.specs.Net.{Net, after}
+use Rattle.net_base.specs.Plain.{IsPlain}
 use Rattle.net_base.specs.Summary.{summary}
 use Rattle.net_base.specs.Transcript.{history_text}
+use Rattle.net_model.specs.Headline.{Headline}
 use Rattle.net_model.specs.WorldText.{world_reading}
 use Rattle.net_model.specs.Answers.{Answer, bad_input, cs_answer, input_limit}
 use Rattle.net_model.specs.Words.{Command, Cs, Run}
@@ -59,12 +61,16 @@ pub record IsStatus (w : World) (net : Net) (status : ℕ) : Type 0 where
   pub limited : (status ≡ 4) ↔ (calm.limited w net ≡ true)
   pub ended : (status ≡ 0) ⊎ (status ≡ 3) ⊎ (status ≡ 4)
 
--- the text of one legal and timed history of the world with its summary, and the status by how it ends
+-- the text of one legal and timed history of the world with its summary, and the status by how it ends; the history has what
+-- each legal one keeps
 pub record IsRun (w : World) (answer : Answer) : Type 0 where
   pub history : List Entry
   pub legal : IsLegal w history
   pub timed : IsTimed w history
+  pub headline : Headline w history
   pub text : answer.text ≡ history_text history ++ summary w history
+  -- and of no other plain history
+  pub one : (v : World) (k : List Entry) → IsPlain k → answer.text ≡ history_text k ++ summary v k → k ≡ history
   pub status : IsStatus w (after w history) answer.status
 
 -- Answers.

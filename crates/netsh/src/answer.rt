@@ -6,16 +6,18 @@ ghost use Rattle.cs_resolver.specs.Built.{number_of};
 ghost use Rattle.net_base.specs.Legal.{IsLegal, IsTimed};
 ghost use Rattle.net_base.specs.Net.{after};
 ghost use Rattle.net_base.specs.Summary.{answered_steps};
+ghost use Rattle.net_base.specs.World.{IsWorld};
 ghost use Rattle.netsh.specs.Built.{IsRun};
 ghost use Rattle.netsh.specs.Runs.{end_of, status_of};
 ghost use Rattle.plain_runner.specs.Ended.{EndsSo};
 
 use cs_resolver::CsError;
 use net_base::{Lines, Octets, World};
+use net_model::legal_histories_keep_it;
 use plain_runner::{Ran, RunEnd};
 use std::alloc::{AllocError, Global};
 use std::marker::Model;
-use transcript::{End, Standing, summary_by, text_of};
+use transcript::{End, Standing, printed_runs_tell, summary_by, text_of};
 
 /// The words give no command.
 pub const USAGE: &str = "! usage\n";
@@ -79,14 +81,17 @@ impl Answer {
     }
 
     /// The text of a run's history with its summary.
-    #[tactic(auto, using(crate::proofs::RunEnds::status_is))]
+    #[tactic(auto, using(crate::proofs::RunEnds::status_is, crate::proofs::OneHistory::only_one))]
     pub fn run(alloc: Global, world: &World, ran: &Ran) -> Result<Answer, AllocError>
+        requires world { IsWorld world.now }
         requires legal { IsLegal world.now ran.now.history }
         requires timed { IsTimed world.now ran.now.history }
         requires answered { ran.now.answered ≡ answered_steps world.now ran.now.history }
         requires end { EndsSo world.now (after world.now ran.now.history) ran.now.end }
         ensures { IfOk result (λ answer. IsRun world.now answer) }
     {
+        legal_histories_keep_it();
+        printed_runs_tell();
         let mut text = text_of(alloc, &ran.history)?;
         let standing = standing_of(ran);
         let summary = summary_by(alloc, world, &ran.history, standing)?;

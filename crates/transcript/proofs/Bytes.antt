@@ -55,13 +55,13 @@ digit_below : (n : ℕ) → n < 16 → nat_lt (hex_digit n) 103 ≡ true
 digit_below n lt = grind arith
 
 digits_are_hex : (bytes : List ℕ) → AreBytes bytes → is_hex (hex_digits bytes) ≡ true
-digits_are_hex [] sized = refl
-digits_are_hex (b ∷ bs) sized =
-    rw (digit_below (b / 16) (omega (arith, sized.0)), digit_below (b % 16) (omega arith)) (digits_are_hex bs sized.1)
+digits_are_hex [] are = refl
+digits_are_hex (b ∷ bs) are =
+    rw (digit_below (b / 16) (omega (arith, are.0)), digit_below (b % 16) (omega arith)) (digits_are_hex bs are.1)
 
 pub hex_is : (bytes : List ℕ) → AreBytes bytes → is_hex (hex_word bytes) ≡ true
-hex_is [] sized = refl
-hex_is (b ∷ bs) sized = digits_are_hex (b ∷ bs) sized
+hex_is [] are = refl
+hex_is (b ∷ bs) are = digits_are_hex (b ∷ bs) are
 
 -- Lines.
 

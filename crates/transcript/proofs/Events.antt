@@ -3,10 +3,10 @@ use Rattle.std.proofs.Common.{◌≡◌, ℕ, ◌/◌, ◌==◌, Bool, false, if
 use Rattle.net_base.specs.declared.event.Event.{Event}
 use Rattle.net_base.specs.declared.event.Event.TheVariants as event
 use Rattle.net_base.specs.declared.names.FileName.TheVariants as file
-use Rattle.net_base.specs.Plain.{IsClean, IsWord, IsPlainEvent, IsSizedEvent}
+use Rattle.net_base.specs.Plain.{IsClean, IsWord, IsPlainEvent}
 use Rattle.net_base.specs.Transcript.{event_words, hex_digit, hex_word}
 use Rattle.transcript.proofs.Bytes.{unhex, unhexed, clean_hex, is_hex, hex_is}
-use Rattle.transcript.proofs.Numbers.{number, number_told, number_starts, starts_digit, clean_decimal}
+use Rattle.transcript.proofs.Numbers.{number, number_told, number_starts, starts_digit, clean_numeral}
 use Rattle.transcript.proofs.Readers.{Word, at, chosen, read_addr, read_file, read_ip, read_mode, read_number}
 use Rattle.transcript.proofs.Told.{addr_told, clean, clean_addr, clean_dash, clean_file, clean_ip, clean_mode, clean_star, dash_told, file_told, ip_told, mode_told, star_told}
 use Rattle.transcript.specs.Telling.{AreClean}
@@ -76,88 +76,88 @@ hex_no_sign : (bytes : List ℕ) → is_sign (hex_word bytes) ≡ false
 hex_no_sign [] = refl
 hex_no_sign (b ∷ bs) = digit_no_sign (b / 16)
 
-pub event_told : (e : Event) → IsSizedEvent e → (rest : List Word) → read_event (event_words e ++ codes "=" ∷ rest) ≡ (e, codes "=" ∷ rest)
-event_told (event.Cs query) sized rest = rw (unhexed query) refl
-event_told (event.LsPath path) sized rest = rw (hex_no_sign path, unhexed path) refl
-event_told (event.OpenPath path m) sized rest = rw (hex_is path sized, unhexed path, mode_told m) refl
-event_told (event.Use called) sized rest = refl
-event_told (event.Misuse called) sized rest = refl
-event_told (event.Until m) sized rest = rw (number_told m sized) refl
-event_told event.Reserve sized rest = refl
-event_told (event.Grant n g remote lport) sized rest = rw (number_told n sized.0, number_told g sized.1, addr_told remote sized.2, dash_told lport sized.3) refl
-event_told (event.Announce n g ip port) sized rest = rw (number_told n sized.0, number_told g sized.1, ip_told ip sized.2, star_told port sized.3) refl
-event_told (event.Bind n g port) sized rest = rw (number_told n sized.0, number_told g sized.1, number_told port sized.2) refl
-event_told (event.Listen n) sized rest = rw (number_told n sized) refl
-event_told (event.Withdraw n g) sized rest = rw (number_told n sized.0, number_told g sized.1) refl
-event_told (event.Release n g) sized rest = rw (number_told n sized.0, number_told g sized.1) refl
-event_told event.Arrive sized rest = refl
-event_told event.Ls sized rest = refl
-event_told (event.Begin g) sized rest = rw (number_told g sized) refl
-event_told (event.Born g) sized rest = rw (number_told g sized) refl
-event_told (event.Claim g) sized rest = rw (number_told g sized) refl
-event_told (event.Connect g) sized rest = rw (number_told g sized) refl
-event_told (event.Announced g) sized rest = rw (number_told g sized) refl
-event_told (event.Bound g) sized rest = rw (number_told g sized) refl
-event_told (event.Await g) sized rest = rw (number_told g sized) refl
-event_told (event.Open file.Ctl m) sized rest = rw (mode_told m) refl
-event_told (event.Open file.Data m) sized rest = rw (mode_told m) refl
-event_told (event.Open file.Err m) sized rest = rw (mode_told m) refl
-event_told (event.Open file.Listen m) sized rest = rw (mode_told m) refl
-event_told (event.Open file.Local m) sized rest = rw (mode_told m) refl
-event_told (event.Open file.Remote m) sized rest = rw (mode_told m) refl
-event_told (event.Open file.Status m) sized rest = rw (mode_told m) refl
-event_told (event.File g f count) sized rest = rw (number_told g sized.0, file_told f, number_told count sized.1) refl
-event_told (event.Read g count) sized rest = rw (number_told g sized.0, number_told count sized.1) refl
-event_told (event.Write g text) sized rest = rw (number_told g sized, unhexed text) refl
-event_told (event.Hangup g) sized rest = rw (number_told g sized) refl
-event_told (event.Ttl g n) sized rest = rw (number_told g sized.0, number_told n sized.1) refl
-event_told (event.Tos g n) sized rest = rw (number_told g sized.0, number_told n sized.1) refl
-event_told (event.Ctl g text) sized rest = rw (number_told g sized, unhexed text) refl
-event_told (event.Close g) sized rest = rw (number_told g sized) refl
-event_told (event.ArriveAt g) sized rest = rw (number_starts g sized, number_told g sized) refl
-event_told (event.Tick g) sized rest = rw (number_told g sized) refl
-event_told (event.Put to) sized rest = rw (dash_told to sized) refl
-event_told event.Take sized rest = refl
-event_told (event.Move m) sized rest = rw (number_told m sized) refl
+pub event_told : (e : Event) → IsPlainEvent e → (rest : List Word) → read_event (event_words e ++ codes "=" ∷ rest) ≡ (e, codes "=" ∷ rest)
+event_told (event.Cs query) plain rest = rw (unhexed query) refl
+event_told (event.LsPath path) plain rest = rw (hex_no_sign path, unhexed path) refl
+event_told (event.OpenPath path m) plain rest = rw (hex_is path plain, unhexed path, mode_told m) refl
+event_told (event.Use called) plain rest = refl
+event_told (event.Misuse called) plain rest = refl
+event_told (event.Until m) plain rest = rw (number_told m) refl
+event_told event.Reserve plain rest = refl
+event_told (event.Grant n g remote lport) plain rest = rw (number_told n, number_told g, addr_told remote, dash_told lport) refl
+event_told (event.Announce n g ip port) plain rest = rw (number_told n, number_told g, ip_told ip, star_told port) refl
+event_told (event.Bind n g port) plain rest = rw (number_told n, number_told g, number_told port) refl
+event_told (event.Listen n) plain rest = rw (number_told n) refl
+event_told (event.Withdraw n g) plain rest = rw (number_told n, number_told g) refl
+event_told (event.Release n g) plain rest = rw (number_told n, number_told g) refl
+event_told event.Arrive plain rest = refl
+event_told event.Ls plain rest = refl
+event_told (event.Begin g) plain rest = rw (number_told g) refl
+event_told (event.Born g) plain rest = rw (number_told g) refl
+event_told (event.Claim g) plain rest = rw (number_told g) refl
+event_told (event.Connect g) plain rest = rw (number_told g) refl
+event_told (event.Announced g) plain rest = rw (number_told g) refl
+event_told (event.Bound g) plain rest = rw (number_told g) refl
+event_told (event.Await g) plain rest = rw (number_told g) refl
+event_told (event.Open file.Ctl m) plain rest = rw (mode_told m) refl
+event_told (event.Open file.Data m) plain rest = rw (mode_told m) refl
+event_told (event.Open file.Err m) plain rest = rw (mode_told m) refl
+event_told (event.Open file.Listen m) plain rest = rw (mode_told m) refl
+event_told (event.Open file.Local m) plain rest = rw (mode_told m) refl
+event_told (event.Open file.Remote m) plain rest = rw (mode_told m) refl
+event_told (event.Open file.Status m) plain rest = rw (mode_told m) refl
+event_told (event.File g f count) plain rest = rw (number_told g, file_told f, number_told count) refl
+event_told (event.Read g count) plain rest = rw (number_told g, number_told count) refl
+event_told (event.Write g text) plain rest = rw (number_told g, unhexed text) refl
+event_told (event.Hangup g) plain rest = rw (number_told g) refl
+event_told (event.Ttl g n) plain rest = rw (number_told g, number_told n) refl
+event_told (event.Tos g n) plain rest = rw (number_told g, number_told n) refl
+event_told (event.Ctl g text) plain rest = rw (number_told g, unhexed text) refl
+event_told (event.Close g) plain rest = rw (number_told g) refl
+event_told (event.ArriveAt g) plain rest = rw (number_starts g, number_told g) refl
+event_told (event.Tick g) plain rest = rw (number_told g) refl
+event_told (event.Put to) plain rest = rw (dash_told to) refl
+event_told event.Take plain rest = refl
+event_told (event.Move m) plain rest = rw (number_told m) refl
 
 clean_word : (word : List ℕ) → IsWord word → IsClean word
 clean_word [] is = absurd is
 clean_word (b ∷ bs) is = is
 
-pub clean_event : (e : Event) → IsPlainEvent e → IsSizedEvent e → AreClean (event_words e)
-clean_event (event.Cs query) plain sized = (clean (codes "cs") refl, (clean_hex query, tt))
-clean_event (event.LsPath path) plain sized = (clean (codes "ls") refl, (clean_hex path, tt))
-clean_event (event.OpenPath path m) plain sized = (clean (codes "open") refl, (clean_hex path, (clean_mode m, tt)))
-clean_event (event.Use called) plain sized = (clean (codes "use") refl, (clean_word called plain, tt))
-clean_event (event.Misuse called) plain sized = (clean (codes "misuse") refl, (clean_word called plain, tt))
-clean_event (event.Until m) plain sized = (clean (codes "until") refl, (clean_decimal m sized, tt))
-clean_event event.Reserve plain sized = (clean (codes "reserve") refl, tt)
-clean_event (event.Grant n g remote lport) plain sized = (clean (codes "grant") refl, (clean_decimal n sized.0, (clean_decimal g sized.1, (clean_addr remote sized.2, (clean_dash lport sized.3, tt)))))
-clean_event (event.Announce n g ip port) plain sized = (clean (codes "announce") refl, (clean_decimal n sized.0, (clean_decimal g sized.1, (clean_ip ip sized.2, (clean_star port sized.3, tt)))))
-clean_event (event.Bind n g port) plain sized = (clean (codes "bind") refl, (clean_decimal n sized.0, (clean_decimal g sized.1, (clean_decimal port sized.2, tt))))
-clean_event (event.Listen n) plain sized = (clean (codes "listen") refl, (clean_decimal n sized, tt))
-clean_event (event.Withdraw n g) plain sized = (clean (codes "withdraw") refl, (clean_decimal n sized.0, (clean_decimal g sized.1, tt)))
-clean_event (event.Release n g) plain sized = (clean (codes "release") refl, (clean_decimal n sized.0, (clean_decimal g sized.1, tt)))
-clean_event event.Arrive plain sized = (clean (codes "arrive") refl, tt)
-clean_event event.Ls plain sized = (clean (codes "ls") refl, tt)
-clean_event (event.Begin g) plain sized = (clean (codes "begin") refl, (clean_decimal g sized, tt))
-clean_event (event.Born g) plain sized = (clean (codes "born") refl, (clean_decimal g sized, tt))
-clean_event (event.Claim g) plain sized = (clean (codes "claim") refl, (clean_decimal g sized, tt))
-clean_event (event.Connect g) plain sized = (clean (codes "connect") refl, (clean_decimal g sized, tt))
-clean_event (event.Announced g) plain sized = (clean (codes "announced") refl, (clean_decimal g sized, tt))
-clean_event (event.Bound g) plain sized = (clean (codes "bound") refl, (clean_decimal g sized, tt))
-clean_event (event.Await g) plain sized = (clean (codes "await") refl, (clean_decimal g sized, tt))
-clean_event (event.Open f m) plain sized = (clean (codes "open") refl, (clean_file f, (clean_mode m, tt)))
-clean_event (event.File g f count) plain sized = (clean (codes "file") refl, (clean_decimal g sized.0, (clean_file f, (clean_decimal count sized.1, tt))))
-clean_event (event.Read g count) plain sized = (clean (codes "read") refl, (clean_decimal g sized.0, (clean_decimal count sized.1, tt)))
-clean_event (event.Write g text) plain sized = (clean (codes "write") refl, (clean_decimal g sized, (clean_hex text, tt)))
-clean_event (event.Hangup g) plain sized = (clean (codes "hangup") refl, (clean_decimal g sized, tt))
-clean_event (event.Ttl g n) plain sized = (clean (codes "ttl") refl, (clean_decimal g sized.0, (clean_decimal n sized.1, tt)))
-clean_event (event.Tos g n) plain sized = (clean (codes "tos") refl, (clean_decimal g sized.0, (clean_decimal n sized.1, tt)))
-clean_event (event.Ctl g text) plain sized = (clean (codes "ctl") refl, (clean_decimal g sized, (clean_hex text, tt)))
-clean_event (event.Close g) plain sized = (clean (codes "close") refl, (clean_decimal g sized, tt))
-clean_event (event.ArriveAt g) plain sized = (clean (codes "arrive") refl, (clean_decimal g sized, tt))
-clean_event (event.Tick g) plain sized = (clean (codes "tick") refl, (clean_decimal g sized, tt))
-clean_event (event.Put to) plain sized = (clean (codes "put") refl, (clean_dash to sized, tt))
-clean_event event.Take plain sized = (clean (codes "take") refl, tt)
-clean_event (event.Move m) plain sized = (clean (codes "move") refl, (clean_decimal m sized, tt))
+pub clean_event : (e : Event) → IsPlainEvent e → AreClean (event_words e)
+clean_event (event.Cs query) plain = (clean (codes "cs") refl, (clean_hex query, tt))
+clean_event (event.LsPath path) plain = (clean (codes "ls") refl, (clean_hex path, tt))
+clean_event (event.OpenPath path m) plain = (clean (codes "open") refl, (clean_hex path, (clean_mode m, tt)))
+clean_event (event.Use called) plain = (clean (codes "use") refl, (clean_word called plain, tt))
+clean_event (event.Misuse called) plain = (clean (codes "misuse") refl, (clean_word called plain, tt))
+clean_event (event.Until m) plain = (clean (codes "until") refl, (clean_numeral m, tt))
+clean_event event.Reserve plain = (clean (codes "reserve") refl, tt)
+clean_event (event.Grant n g remote lport) plain = (clean (codes "grant") refl, (clean_numeral n, (clean_numeral g, (clean_addr remote, (clean_dash lport, tt)))))
+clean_event (event.Announce n g ip port) plain = (clean (codes "announce") refl, (clean_numeral n, (clean_numeral g, (clean_ip ip, (clean_star port, tt)))))
+clean_event (event.Bind n g port) plain = (clean (codes "bind") refl, (clean_numeral n, (clean_numeral g, (clean_numeral port, tt))))
+clean_event (event.Listen n) plain = (clean (codes "listen") refl, (clean_numeral n, tt))
+clean_event (event.Withdraw n g) plain = (clean (codes "withdraw") refl, (clean_numeral n, (clean_numeral g, tt)))
+clean_event (event.Release n g) plain = (clean (codes "release") refl, (clean_numeral n, (clean_numeral g, tt)))
+clean_event event.Arrive plain = (clean (codes "arrive") refl, tt)
+clean_event event.Ls plain = (clean (codes "ls") refl, tt)
+clean_event (event.Begin g) plain = (clean (codes "begin") refl, (clean_numeral g, tt))
+clean_event (event.Born g) plain = (clean (codes "born") refl, (clean_numeral g, tt))
+clean_event (event.Claim g) plain = (clean (codes "claim") refl, (clean_numeral g, tt))
+clean_event (event.Connect g) plain = (clean (codes "connect") refl, (clean_numeral g, tt))
+clean_event (event.Announced g) plain = (clean (codes "announced") refl, (clean_numeral g, tt))
+clean_event (event.Bound g) plain = (clean (codes "bound") refl, (clean_numeral g, tt))
+clean_event (event.Await g) plain = (clean (codes "await") refl, (clean_numeral g, tt))
+clean_event (event.Open f m) plain = (clean (codes "open") refl, (clean_file f, (clean_mode m, tt)))
+clean_event (event.File g f count) plain = (clean (codes "file") refl, (clean_numeral g, (clean_file f, (clean_numeral count, tt))))
+clean_event (event.Read g count) plain = (clean (codes "read") refl, (clean_numeral g, (clean_numeral count, tt)))
+clean_event (event.Write g text) plain = (clean (codes "write") refl, (clean_numeral g, (clean_hex text, tt)))
+clean_event (event.Hangup g) plain = (clean (codes "hangup") refl, (clean_numeral g, tt))
+clean_event (event.Ttl g n) plain = (clean (codes "ttl") refl, (clean_numeral g, (clean_numeral n, tt)))
+clean_event (event.Tos g n) plain = (clean (codes "tos") refl, (clean_numeral g, (clean_numeral n, tt)))
+clean_event (event.Ctl g text) plain = (clean (codes "ctl") refl, (clean_numeral g, (clean_hex text, tt)))
+clean_event (event.Close g) plain = (clean (codes "close") refl, (clean_numeral g, tt))
+clean_event (event.ArriveAt g) plain = (clean (codes "arrive") refl, (clean_numeral g, tt))
+clean_event (event.Tick g) plain = (clean (codes "tick") refl, (clean_numeral g, tt))
+clean_event (event.Put to) plain = (clean (codes "put") refl, (clean_dash to, tt))
+clean_event event.Take plain = (clean (codes "take") refl, tt)
+clean_event (event.Move m) plain = (clean (codes "move") refl, (clean_numeral m, tt))

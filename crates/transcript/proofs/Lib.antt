@@ -4,6 +4,7 @@ mod Events
 mod Latest
 mod LineDigits
 mod Numbers
+mod Numerals
 mod Readers
 mod Replies
 mod Spacing

@@ -1,7 +1,8 @@
 -- Numbers among the bytes of a word.
-use Rattle.std.proofs.Common.{◌≡◌, ℕ, zero, suc, ◌+◌, ◌-◌, ◌*◌, ◌/◌, ◌%◌, ◌<◌, Bool, true, false, ◌&&◌, nat_le, if◌then◌else◌, List, [], ◌∷◌, ◌++◌, drop, refl, sym, ◌∙◌, ap, append_assoc, append-nil, arith, decimal}
-use Rattle.std.proofs.lemmas.Fmt.{decimal_by_steps}
-use Rattle.net_base.specs.Plain.{IsClean, IsSmall}
+use Rattle.std.proofs.Common.{◌≡◌, ℕ, zero, suc, ◌+◌, ◌-◌, ◌*◌, ◌/◌, ◌%◌, ◌<◌, Bool, true, false, ◌&&◌, nat_le, if◌then◌else◌, List, [], ◌∷◌, ◌++◌, drop, refl, sym, ◌∙◌, ap, append_assoc, append-nil, arith}
+use Rattle.net_base.specs.Numeral.{numeral}
+use Rattle.net_base.specs.Plain.{IsClean}
+use Rattle.transcript.proofs.Numerals.{numeral_by_steps}
 
 abbrev pub is_digit : ℕ → Bool
 is_digit b = nat_le 48 b && nat_le b 57
@@ -34,49 +35,49 @@ one_digit : (so_far d : ℕ) (rest : List ℕ) → d < 10 → take_number so_far
 unfolding take_number
 one_digit so_far d rest lt = rw (digit_is d lt) (ap (λ n. take_number (so_far * 10 + n) rest) (omega arith))
 
-pub number_then : (n : ℕ) → IsSmall n → (rest : List ℕ) → take_number 0 (decimal n ++ rest) ≡ take_number n rest
-number_then n small =
-    decimal_by_steps (λ m ds. (rest : List ℕ) → take_number 0 (ds ++ rest) ≡ take_number m rest)
+pub number_then : (n : ℕ) → (rest : List ℕ) → take_number 0 (numeral n ++ rest) ≡ take_number n rest
+number_then n =
+    numeral_by_steps (λ m ds. (rest : List ℕ) → take_number 0 (ds ++ rest) ≡ take_number m rest)
     (λ m lt rest. one_digit 0 m rest lt ∙ ap (λ k. take_number k rest) (omega arith))
     (λ m ds le told rest.
     ap (take_number 0) (append_assoc ds ((48 + m % 10) ∷ []) rest)
     ∙ told ((48 + m % 10) ∷ rest)
     ∙ one_digit (m / 10) (m % 10) rest (omega arith)
     ∙ ap (λ k. take_number k rest) (omega arith))
-    n small
+    n
 
 -- a number ends at the end
-pub number_last : (n : ℕ) → IsSmall n → take_number 0 (decimal n) ≡ (n, [])
+pub number_last : (n : ℕ) → take_number 0 (numeral n) ≡ (n, [])
 unfolding take_number
-number_last n small = ap (take_number 0) (sym (append-nil (decimal n))) ∙ number_then n small []
+number_last n = ap (take_number 0) (sym (append-nil (numeral n))) ∙ number_then n []
 
 -- and at a byte that is no digit
-pub number_before : (n byte : ℕ) (rest : List ℕ) → IsSmall n → is_digit byte ≡ false → take_number 0 (decimal n ++ byte ∷ rest) ≡ (n, byte ∷ rest)
+pub number_before : (n byte : ℕ) (rest : List ℕ) → is_digit byte ≡ false → take_number 0 (numeral n ++ byte ∷ rest) ≡ (n, byte ∷ rest)
 unfolding take_number
-number_before n byte rest small none = number_then n small (byte ∷ rest) ∙ rw none refl
+number_before n byte rest none = number_then n (byte ∷ rest) ∙ rw none refl
 
-pub number_told : (n : ℕ) → IsSmall n → number (decimal n) ≡ n
+pub number_told : (n : ℕ) → number (numeral n) ≡ n
 unfolding number
-number_told n small = ap (λ (p : ℕ × List ℕ). p.0) (number_last n small)
+number_told n = ap (λ (p : ℕ × List ℕ). p.0) (number_last n)
 
-pub numbers_last : (n : ℕ) → IsSmall n → numbers 1 (decimal n) ≡ n ∷ []
+pub numbers_last : (n : ℕ) → numbers 1 (numeral n) ≡ n ∷ []
 unfolding numbers
-numbers_last n small = ap (λ (p : ℕ × List ℕ). p.0 ∷ []) (number_last n small)
+numbers_last n = ap (λ (p : ℕ × List ℕ). p.0 ∷ []) (number_last n)
 
-pub numbers_more : (k n byte : ℕ) (rest : List ℕ) → IsSmall n → is_digit byte ≡ false → numbers (suc k) (decimal n ++ byte ∷ rest) ≡ n ∷ numbers k rest
+pub numbers_more : (k n byte : ℕ) (rest : List ℕ) → is_digit byte ≡ false → numbers (suc k) (numeral n ++ byte ∷ rest) ≡ n ∷ numbers k rest
 unfolding numbers
-numbers_more k n byte rest small none = ap (λ (p : ℕ × List ℕ). p.0 ∷ numbers k (drop 1 p.1)) (number_before n byte rest small none)
+numbers_more k n byte rest none = ap (λ (p : ℕ × List ℕ). p.0 ∷ numbers k (drop 1 p.1)) (number_before n byte rest none)
 
 starts_before : (ds rest : List ℕ) → starts_digit ds ≡ true → starts_digit (ds ++ rest) ≡ true
 starts_before [] rest starts = absurd (cc)
 starts_before (d ∷ ds) rest starts = starts
 
-pub number_starts : (n : ℕ) → IsSmall n → starts_digit (decimal n) ≡ true
-number_starts n small =
-    decimal_by_steps (λ m ds. starts_digit ds ≡ true) (λ m lt. digit_is m lt) (λ m ds le told. starts_before ds ((48 + m % 10) ∷ []) told) n small
+pub number_starts : (n : ℕ) → starts_digit (numeral n) ≡ true
+number_starts n =
+    numeral_by_steps (λ m ds. starts_digit ds ≡ true) (λ m lt. digit_is m lt) (λ m ds le told. starts_before ds ((48 + m % 10) ∷ []) told) n
 
-pub starts_with : (n : ℕ) (rest : List ℕ) → IsSmall n → starts_digit (decimal n ++ rest) ≡ true
-starts_with n rest small = starts_before (decimal n) rest (number_starts n small)
+pub starts_with : (n : ℕ) (rest : List ℕ) → starts_digit (numeral n ++ rest) ≡ true
+starts_with n rest = starts_before (numeral n) rest (number_starts n)
 
 -- Clean words.
 
@@ -87,6 +88,6 @@ clean_both (b ∷ bs) cs cb cc' = (cb.0, cb.1, clean_both bs cs cb.2 cc')
 clean_digit : (d : ℕ) → IsClean ((48 + d) ∷ [])
 clean_digit d = (λ is. omega (arith, is), λ is. omega (arith, is), tt)
 
-pub clean_decimal : (n : ℕ) → IsSmall n → IsClean (decimal n)
-clean_decimal n small =
-    decimal_by_steps (λ m ds. IsClean ds) (λ m lt. clean_digit m) (λ m ds le told. clean_both ds ((48 + m % 10) ∷ []) told (clean_digit (m % 10))) n small
+pub clean_numeral : (n : ℕ) → IsClean (numeral n)
+clean_numeral n =
+    numeral_by_steps (λ m ds. IsClean ds) (λ m lt. clean_digit m) (λ m ds le told. clean_both ds ((48 + m % 10) ∷ []) told (clean_digit (m % 10))) n

@@ -3,12 +3,12 @@ use Rattle.std.proofs.Common.{◌≡◌, false, if◌then◌else◌, List, [], �
 use Rattle.net_base.specs.declared.actor.Call.{Call}
 use Rattle.net_base.specs.declared.reply.Reply.{Reply}
 use Rattle.net_base.specs.declared.reply.Reply.TheVariants as reply
-use Rattle.net_base.specs.Plain.{IsPlainReply, IsSizedReply, AreSizedCalls}
-use Rattle.net_base.specs.Transcript.{reply_words, call_words, calls_of, lines_of}
+use Rattle.net_base.specs.Plain.{IsPlainReply}
+use Rattle.net_base.specs.Transcript.{reply_words, cause_number, call_words, calls_of, lines_of}
 use Rattle.transcript.proofs.Bytes.{unhex, unhexed, clean_hex, cut_lines, lines_told}
-use Rattle.transcript.proofs.Numbers.{number, number_told, number_starts, starts_digit, clean_decimal}
+use Rattle.transcript.proofs.Numbers.{number, number_told, number_starts, starts_digit, clean_numeral}
 use Rattle.transcript.proofs.Readers.{Word, at, chosen, numbered, read_addr, read_state}
-use Rattle.transcript.proofs.Told.{addr_told, cause_told, clean, clean_addr, clean_cause, clean_state, state_told}
+use Rattle.transcript.proofs.Told.{addr_told, cause_told, clean, clean_addr, clean_state, state_told}
 use Rattle.transcript.specs.Telling.{AreClean}
 
 -- a reply, and the words that follow it
@@ -39,11 +39,11 @@ no_calls [] ends = refl
 no_calls (w ∷ []) ends = refl
 no_calls (w ∷ v ∷ ws) ends = rw ends refl
 
-calls_told : (calls : List Call) → AreSizedCalls calls → (rest : List Word) → Ends rest → read_calls (calls_of calls ++ rest) ≡ (calls, rest)
+calls_told : (calls : List Call) → (rest : List Word) → Ends rest → read_calls (calls_of calls ++ rest) ≡ (calls, rest)
 unfolding read_calls
-calls_told [] sized rest ends = no_calls rest ends
-calls_told (call ∷ calls) sized rest ends =
-    rw (number_starts call.slot sized.0, calls_told calls sized.2 rest ends, number_told call.slot sized.0, number_told call.generation sized.1) refl
+calls_told [] rest ends = no_calls rest ends
+calls_told (call ∷ calls) rest ends =
+    rw (number_starts call.slot, calls_told calls rest ends, number_told call.slot, number_told call.generation) refl
 
 abbrev of_calls : CallsRead → Read
 of_calls read = (reply.Calls read.0, read.1)
@@ -99,98 +99,98 @@ rows =
 abbrev pub read_reply : List Word → Read
 read_reply words = chosen (λ ws. (reply.Ok, ws)) rows (at words 0) (drop 1 words)
 
-waited_told : (calls : List Call) → AreSizedCalls calls → (rest : List Word) → Ends rest → waited (call_words calls ++ rest) ≡ (reply.Calls calls, rest)
-waited_told [] sized rest ends = refl
-waited_told (call ∷ calls) sized rest ends = rw (number_starts call.slot sized.0, calls_told (call ∷ calls) sized rest ends) refl
+waited_told : (calls : List Call) → (rest : List Word) → Ends rest → waited (call_words calls ++ rest) ≡ (reply.Calls calls, rest)
+waited_told [] rest ends = refl
+waited_told (call ∷ calls) rest ends = rw (number_starts call.slot, calls_told (call ∷ calls) rest ends) refl
 
-pub reply_told : (r : Reply) → IsPlainReply r → IsSizedReply r → (rest : List Word) → Ends rest → read_reply (reply_words r ++ rest) ≡ (r, rest)
-reply_told (reply.Lines lines) plain sized rest ends = rw (unhexed (lines_of lines), lines_told lines plain) refl
-reply_told (reply.CsRefused n) plain sized rest ends = rw (number_told n sized) refl
-reply_told (reply.Names names) plain sized rest ends = rw (unhexed (lines_of names), lines_told names plain) refl
-reply_told reply.NoFile plain sized rest ends = refl
-reply_told reply.BadMode plain sized rest ends = refl
-reply_told reply.BadFid plain sized rest ends = refl
-reply_told reply.Ok plain sized rest ends = refl
-reply_told (reply.Slot n g) plain sized rest ends = rw (number_told n sized.0, number_told g sized.1) refl
-reply_told reply.NoSlot plain sized rest ends = refl
-reply_told (reply.Granted pair start limit) plain sized rest ends = rw (addr_told pair.local sized.0, addr_told pair.remote sized.1, number_told start sized.2, number_told limit sized.3) refl
-reply_told (reply.WrongState s) plain sized rest ends = rw (state_told s) refl
-reply_told reply.NoRoute plain sized rest ends = refl
-reply_told reply.NoPort plain sized rest ends = refl
-reply_told reply.SelfPair plain sized rest ends = refl
-reply_told (reply.PairUsed k) plain sized rest ends = rw (number_told k sized) refl
-reply_told (reply.PortTaken n) plain sized rest ends = rw (number_told n sized) refl
-reply_told (reply.Call n g) plain sized rest ends = rw (number_told n sized.0, number_told g sized.1) refl
-reply_told (reply.Calls calls) plain sized rest ends = waited_told calls sized rest ends
-reply_told (reply.To n g) plain sized rest ends = rw (number_told n sized.0, number_told g sized.1) refl
-reply_told (reply.Born n g start limit) plain sized rest ends = rw (number_told n sized.0, number_told g sized.1, number_told start sized.2, number_told limit sized.3) refl
-reply_told reply.Refused plain sized rest ends = refl
-reply_told reply.Dropped plain sized rest ends = refl
-reply_told reply.Stale plain sized rest ends = refl
-reply_told (reply.Hungup c) plain sized rest ends = rw (cause_told c) refl
-reply_told (reply.Opened g) plain sized rest ends = rw (number_told g sized) refl
-reply_told reply.NotOpen plain sized rest ends = refl
-reply_told (reply.Bytes bytes) plain sized rest ends = rw (unhexed bytes) refl
-reply_told (reply.Count n) plain sized rest ends = rw (number_told n sized) refl
-reply_told reply.ZeroWrite plain sized rest ends = refl
-reply_told (reply.TooLong length limit) plain sized rest ends = rw (number_told length sized.0, number_told limit sized.1) refl
-reply_told reply.Left plain sized rest ends = refl
-reply_told (reply.BadCtl n) plain sized rest ends = rw (number_told n sized) refl
-reply_told reply.Took plain sized rest ends = refl
-reply_told reply.Full plain sized rest ends = refl
-reply_told reply.Ticked plain sized rest ends = refl
-reply_told reply.NotDue plain sized rest ends = refl
-reply_told (reply.Laid k) plain sized rest ends = rw (number_told k sized) refl
-reply_told reply.TooBig plain sized rest ends = refl
-reply_told reply.NoStation plain sized rest ends = refl
-reply_told (reply.Copy k) plain sized rest ends = rw (number_told k sized) refl
+pub reply_told : (r : Reply) → IsPlainReply r → (rest : List Word) → Ends rest → read_reply (reply_words r ++ rest) ≡ (r, rest)
+reply_told (reply.Lines lines) plain rest ends = rw (unhexed (lines_of lines), lines_told lines plain) refl
+reply_told (reply.CsRefused n) plain rest ends = rw (number_told n) refl
+reply_told (reply.Names names) plain rest ends = rw (unhexed (lines_of names), lines_told names plain) refl
+reply_told reply.NoFile plain rest ends = refl
+reply_told reply.BadMode plain rest ends = refl
+reply_told reply.BadFid plain rest ends = refl
+reply_told reply.Ok plain rest ends = refl
+reply_told (reply.Slot n g) plain rest ends = rw (number_told n, number_told g) refl
+reply_told reply.NoSlot plain rest ends = refl
+reply_told (reply.Granted pair start limit) plain rest ends = rw (addr_told pair.local, addr_told pair.remote, number_told start, number_told limit) refl
+reply_told (reply.WrongState s) plain rest ends = rw (state_told s) refl
+reply_told reply.NoRoute plain rest ends = refl
+reply_told reply.NoPort plain rest ends = refl
+reply_told reply.SelfPair plain rest ends = refl
+reply_told (reply.PairUsed k) plain rest ends = rw (number_told k) refl
+reply_told (reply.PortTaken n) plain rest ends = rw (number_told n) refl
+reply_told (reply.Call n g) plain rest ends = rw (number_told n, number_told g) refl
+reply_told (reply.Calls calls) plain rest ends = waited_told calls rest ends
+reply_told (reply.To n g) plain rest ends = rw (number_told n, number_told g) refl
+reply_told (reply.Born n g start limit) plain rest ends = rw (number_told n, number_told g, number_told start, number_told limit) refl
+reply_told reply.Refused plain rest ends = refl
+reply_told reply.Dropped plain rest ends = refl
+reply_told reply.Stale plain rest ends = refl
+reply_told (reply.Hungup c) plain rest ends = rw (cause_told c) refl
+reply_told (reply.Opened g) plain rest ends = rw (number_told g) refl
+reply_told reply.NotOpen plain rest ends = refl
+reply_told (reply.Bytes bytes) plain rest ends = rw (unhexed bytes) refl
+reply_told (reply.Count n) plain rest ends = rw (number_told n) refl
+reply_told reply.ZeroWrite plain rest ends = refl
+reply_told (reply.TooLong length limit) plain rest ends = rw (number_told length, number_told limit) refl
+reply_told reply.Left plain rest ends = refl
+reply_told (reply.BadCtl n) plain rest ends = rw (number_told n) refl
+reply_told reply.Took plain rest ends = refl
+reply_told reply.Full plain rest ends = refl
+reply_told reply.Ticked plain rest ends = refl
+reply_told reply.NotDue plain rest ends = refl
+reply_told (reply.Laid k) plain rest ends = rw (number_told k) refl
+reply_told reply.TooBig plain rest ends = refl
+reply_told reply.NoStation plain rest ends = refl
+reply_told (reply.Copy k) plain rest ends = rw (number_told k) refl
 
-clean_calls_of : (calls : List Call) → AreSizedCalls calls → AreClean (calls_of calls)
-clean_calls_of [] sized = tt
-clean_calls_of (call ∷ calls) sized = (clean_decimal call.slot sized.0, (clean_decimal call.generation sized.1, clean_calls_of calls sized.2))
+clean_calls_of : (calls : List Call) → AreClean (calls_of calls)
+clean_calls_of [] = tt
+clean_calls_of (call ∷ calls) = (clean_numeral call.slot, (clean_numeral call.generation, clean_calls_of calls))
 
-clean_calls : (calls : List Call) → AreSizedCalls calls → AreClean (call_words calls)
-clean_calls [] sized = (clean (codes "-") refl, tt)
-clean_calls (call ∷ calls) sized = clean_calls_of (call ∷ calls) sized
+clean_calls : (calls : List Call) → AreClean (call_words calls)
+clean_calls [] = (clean (codes "-") refl, tt)
+clean_calls (call ∷ calls) = clean_calls_of (call ∷ calls)
 
-pub clean_reply : (r : Reply) → IsSizedReply r → AreClean (reply_words r)
-clean_reply (reply.Lines lines) sized = (clean (codes "lines") refl, (clean_hex (lines_of lines), tt))
-clean_reply (reply.CsRefused n) sized = (clean (codes "csrefused") refl, (clean_decimal n sized, tt))
-clean_reply (reply.Names names) sized = (clean (codes "names") refl, (clean_hex (lines_of names), tt))
-clean_reply reply.NoFile sized = (clean (codes "nofile") refl, tt)
-clean_reply reply.BadMode sized = (clean (codes "badmode") refl, tt)
-clean_reply reply.BadFid sized = (clean (codes "badfid") refl, tt)
-clean_reply reply.Ok sized = (clean (codes "ok") refl, tt)
-clean_reply (reply.Slot n g) sized = (clean (codes "slot") refl, (clean_decimal n sized.0, (clean_decimal g sized.1, tt)))
-clean_reply reply.NoSlot sized = (clean (codes "noslot") refl, tt)
-clean_reply (reply.Granted pair start limit) sized = (clean (codes "granted") refl, (clean_addr pair.local sized.0, (clean_addr pair.remote sized.1, (clean_decimal start sized.2, (clean_decimal limit sized.3, tt)))))
-clean_reply (reply.WrongState s) sized = (clean (codes "wrong") refl, (clean_state s, tt))
-clean_reply reply.NoRoute sized = (clean (codes "noroute") refl, tt)
-clean_reply reply.NoPort sized = (clean (codes "noport") refl, tt)
-clean_reply reply.SelfPair sized = (clean (codes "selfpair") refl, tt)
-clean_reply (reply.PairUsed k) sized = (clean (codes "pairused") refl, (clean_decimal k sized, tt))
-clean_reply (reply.PortTaken n) sized = (clean (codes "taken") refl, (clean_decimal n sized, tt))
-clean_reply (reply.Call n g) sized = (clean (codes "call") refl, (clean_decimal n sized.0, (clean_decimal g sized.1, tt)))
-clean_reply (reply.Calls calls) sized = (clean (codes "calls") refl, clean_calls calls sized)
-clean_reply (reply.To n g) sized = (clean (codes "to") refl, (clean_decimal n sized.0, (clean_decimal g sized.1, tt)))
-clean_reply (reply.Born n g start limit) sized = (clean (codes "born") refl, (clean_decimal n sized.0, (clean_decimal g sized.1, (clean_decimal start sized.2, (clean_decimal limit sized.3, tt)))))
-clean_reply reply.Refused sized = (clean (codes "refused") refl, tt)
-clean_reply reply.Dropped sized = (clean (codes "dropped") refl, tt)
-clean_reply reply.Stale sized = (clean (codes "stale") refl, tt)
-clean_reply (reply.Hungup c) sized = (clean (codes "hungup") refl, (clean_cause c, tt))
-clean_reply (reply.Opened g) sized = (clean (codes "opened") refl, (clean_decimal g sized, tt))
-clean_reply reply.NotOpen sized = (clean (codes "notopen") refl, tt)
-clean_reply (reply.Bytes bytes) sized = (clean (codes "bytes") refl, (clean_hex bytes, tt))
-clean_reply (reply.Count n) sized = (clean (codes "count") refl, (clean_decimal n sized, tt))
-clean_reply reply.ZeroWrite sized = (clean (codes "zerowrite") refl, tt)
-clean_reply (reply.TooLong length limit) sized = (clean (codes "toolong") refl, (clean_decimal length sized.0, (clean_decimal limit sized.1, tt)))
-clean_reply reply.Left sized = (clean (codes "left") refl, tt)
-clean_reply (reply.BadCtl n) sized = (clean (codes "badctl") refl, (clean_decimal n sized, tt))
-clean_reply reply.Took sized = (clean (codes "took") refl, tt)
-clean_reply reply.Full sized = (clean (codes "full") refl, tt)
-clean_reply reply.Ticked sized = (clean (codes "ticked") refl, tt)
-clean_reply reply.NotDue sized = (clean (codes "notdue") refl, tt)
-clean_reply (reply.Laid k) sized = (clean (codes "laid") refl, (clean_decimal k sized, tt))
-clean_reply reply.TooBig sized = (clean (codes "toobig") refl, tt)
-clean_reply reply.NoStation sized = (clean (codes "nostation") refl, tt)
-clean_reply (reply.Copy k) sized = (clean (codes "copy") refl, (clean_decimal k sized, tt))
+pub clean_reply : (r : Reply) → AreClean (reply_words r)
+clean_reply (reply.Lines lines) = (clean (codes "lines") refl, (clean_hex (lines_of lines), tt))
+clean_reply (reply.CsRefused n) = (clean (codes "csrefused") refl, (clean_numeral n, tt))
+clean_reply (reply.Names names) = (clean (codes "names") refl, (clean_hex (lines_of names), tt))
+clean_reply reply.NoFile = (clean (codes "nofile") refl, tt)
+clean_reply reply.BadMode = (clean (codes "badmode") refl, tt)
+clean_reply reply.BadFid = (clean (codes "badfid") refl, tt)
+clean_reply reply.Ok = (clean (codes "ok") refl, tt)
+clean_reply (reply.Slot n g) = (clean (codes "slot") refl, (clean_numeral n, (clean_numeral g, tt)))
+clean_reply reply.NoSlot = (clean (codes "noslot") refl, tt)
+clean_reply (reply.Granted pair start limit) = (clean (codes "granted") refl, (clean_addr pair.local, (clean_addr pair.remote, (clean_numeral start, (clean_numeral limit, tt)))))
+clean_reply (reply.WrongState s) = (clean (codes "wrong") refl, (clean_state s, tt))
+clean_reply reply.NoRoute = (clean (codes "noroute") refl, tt)
+clean_reply reply.NoPort = (clean (codes "noport") refl, tt)
+clean_reply reply.SelfPair = (clean (codes "selfpair") refl, tt)
+clean_reply (reply.PairUsed k) = (clean (codes "pairused") refl, (clean_numeral k, tt))
+clean_reply (reply.PortTaken n) = (clean (codes "taken") refl, (clean_numeral n, tt))
+clean_reply (reply.Call n g) = (clean (codes "call") refl, (clean_numeral n, (clean_numeral g, tt)))
+clean_reply (reply.Calls calls) = (clean (codes "calls") refl, clean_calls calls)
+clean_reply (reply.To n g) = (clean (codes "to") refl, (clean_numeral n, (clean_numeral g, tt)))
+clean_reply (reply.Born n g start limit) = (clean (codes "born") refl, (clean_numeral n, (clean_numeral g, (clean_numeral start, (clean_numeral limit, tt)))))
+clean_reply reply.Refused = (clean (codes "refused") refl, tt)
+clean_reply reply.Dropped = (clean (codes "dropped") refl, tt)
+clean_reply reply.Stale = (clean (codes "stale") refl, tt)
+clean_reply (reply.Hungup c) = (clean (codes "hungup") refl, (clean_numeral (cause_number c), tt))
+clean_reply (reply.Opened g) = (clean (codes "opened") refl, (clean_numeral g, tt))
+clean_reply reply.NotOpen = (clean (codes "notopen") refl, tt)
+clean_reply (reply.Bytes bytes) = (clean (codes "bytes") refl, (clean_hex bytes, tt))
+clean_reply (reply.Count n) = (clean (codes "count") refl, (clean_numeral n, tt))
+clean_reply reply.ZeroWrite = (clean (codes "zerowrite") refl, tt)
+clean_reply (reply.TooLong length limit) = (clean (codes "toolong") refl, (clean_numeral length, (clean_numeral limit, tt)))
+clean_reply reply.Left = (clean (codes "left") refl, tt)
+clean_reply (reply.BadCtl n) = (clean (codes "badctl") refl, (clean_numeral n, tt))
+clean_reply reply.Took = (clean (codes "took") refl, tt)
+clean_reply reply.Full = (clean (codes "full") refl, tt)
+clean_reply reply.Ticked = (clean (codes "ticked") refl, tt)
+clean_reply reply.NotDue = (clean (codes "notdue") refl, tt)
+clean_reply (reply.Laid k) = (clean (codes "laid") refl, (clean_numeral k, tt))
+clean_reply reply.TooBig = (clean (codes "toobig") refl, tt)
+clean_reply reply.NoStation = (clean (codes "nostation") refl, tt)
+clean_reply (reply.Copy k) = (clean (codes "copy") refl, (clean_numeral k, tt))

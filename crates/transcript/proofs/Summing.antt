@@ -1,5 +1,5 @@
 -- The lines of a summary, by what the net behind a history tells.
-use Rattle.std.proofs.Common.{◌≡◌, ℕ, List, [], ◌++◌, refl}
+use Rattle.std.proofs.Common.{◌≡◌, ℕ, List, ◌++◌, refl}
 use Rattle.net_base.specs.declared.history.Entry.{Entry}
 use Rattle.net_base.specs.declared.world.World.{World}
 use Rattle.net_base.specs.Net.{after}
@@ -18,7 +18,3 @@ summed w h word answered moment each how when = rw (each, how, when) refl
 
 pub stands_so : (w : World) (h : List Entry) (s : Standing) → Stands w h s → lines_by w h s ≡ summary w h
 stands_so w h s stands = summed w h (word_of s.end) s.answered (latest 0 h) stands.answered stands.end (moment_of_legal w h stands.legal)
-
--- three pieces, each put behind those before it
-pub put_all : (none first second third a b c : List ℕ) → none ≡ [] → first ≡ none ++ a → second ≡ first ++ b → third ≡ second ++ c → third ≡ a ++ b ++ c
-put_all none first second third a b c empty some more all = rw (all, more, some, empty) refl

@@ -1,9 +1,12 @@
 -- The words of lines, told by their bytes.
-use Rattle.std.proofs.Common.{◌≡◌, ◌≢◌, ℕ, ◌+◌, List, [], ◌∷◌, ◌++◌, ◌⊎◌, inl, inr, map, refl, sym, ◌∙◌, append_assoc, decimal}
+use Rattle.std.proofs.Common.{◌≡◌, ◌≢◌, ℕ, ◌+◌, List, [], ◌∷◌, ◌++◌, ◌⊎◌, inl, inr, map, refl, sym, ◌∙◌, ap, append_assoc, append-nil, false}
 use Rattle.std.proofs.lemmas.List.{append_cancel_left}
+use Rattle.std.proofs.lemmas.Bool.{true≢false}
 use Rattle.net_base.specs.declared.history.Entry.{Entry}
+use Rattle.net_base.specs.Numeral.{numeral}
 use Rattle.net_base.specs.Transcript.{spaced, entry_words, line_of, lines_from}
 use Rattle.net_base.specs.Plain.{IsClean}
+use Rattle.transcript.proofs.Numbers.{starts_digit, starts_with}
 use Rattle.transcript.specs.Telling.{AreClean, HasCleanWords}
 
 -- a blank or a newline comes first
@@ -52,31 +55,33 @@ line_told (w ∷ ws) (v ∷ vs) rest others cw cv same =
     let later = line_told ws vs rest others cw.1 cv.1 word.1 in
     (rw (word.0, later.0) refl, later.1)
 
--- a newline is a byte
-nothing_behind : (xs zs rest : List ℕ) → xs ++ (zs ++ 10 ∷ rest) ≡ [] → ⊥
-nothing_behind [] [] rest none = absurd (cc)
-nothing_behind [] (z ∷ zs) rest none = absurd (cc)
-nothing_behind (x ∷ xs) zs rest none = absurd (cc)
-
 -- a line, as its stamp and its words
-line_is : (n : ℕ) (x : Entry) (rest : List ℕ) → line_of n x ++ rest ≡ decimal n ++ (spaced (entry_words x) ++ 10 ∷ rest)
+line_is : (n : ℕ) (x : Entry) (rest : List ℕ) → line_of n x ++ rest ≡ numeral n ++ (spaced (entry_words x) ++ 10 ∷ rest)
 unfolding line_of
 line_is n x rest = simp append_assoc refl
 
--- a line isn't nothing
-no_line : (n : ℕ) (x : Entry) (rest : List ℕ) → line_of n x ++ rest ≡ [] → ⊥
-no_line n x rest none = nothing_behind (decimal n) (spaced (entry_words x)) rest (sym (line_is n x rest) ∙ none)
+-- a line begins with a digit, and so isn't what stands behind the lines
+no_line : (n : ℕ) (x : Entry) (rest behind : List ℕ) → starts_digit behind ≡ false → line_of n x ++ rest ≡ behind → ⊥
+no_line n x rest behind none same =
+    true≢false (sym (starts_with n (spaced (entry_words x) ++ 10 ∷ rest)) ∙ ap starts_digit (sym (line_is n x rest) ∙ same) ∙ none)
+
+-- the lines of entries, with bytes behind them that don't begin with a digit
+pub lines_told : (n : ℕ) (h k : List Entry) (r s : List ℕ) → HasCleanWords h → HasCleanWords k → starts_digit r ≡ false → starts_digit s ≡ false → lines_from n h ++ r ≡ lines_from n k ++ s → map entry_words h ≡ map entry_words k
+lines_told n [] [] r s ch ck nr ns same = refl
+lines_told n [] (y ∷ k) r s ch ck nr ns same =
+    absurd (no_line n y (lines_from (n + 1) k ++ s) r nr (sym (append_assoc (line_of n y) (lines_from (n + 1) k) s) ∙ sym same))
+lines_told n (x ∷ h) [] r s ch ck nr ns same =
+    absurd (no_line n x (lines_from (n + 1) h ++ r) s ns (sym (append_assoc (line_of n x) (lines_from (n + 1) h) r) ∙ same))
+lines_told n (x ∷ h) (y ∷ k) r s ch ck nr ns same =
+    let behind_x = lines_from (n + 1) h ++ r in
+    let behind_y = lines_from (n + 1) k ++ s in
+    let lines : numeral n ++ (spaced (entry_words x) ++ 10 ∷ behind_x) ≡ numeral n ++ (spaced (entry_words y) ++ 10 ∷ behind_y) =
+    sym (line_is n x behind_x) ∙ sym (append_assoc (line_of n x) (lines_from (n + 1) h) r) ∙ same ∙ append_assoc (line_of n y) (lines_from (n + 1) k) s ∙ line_is n y behind_y in
+    let behind = append_cancel_left (numeral n) (spaced (entry_words x) ++ 10 ∷ behind_x) (spaced (entry_words y) ++ 10 ∷ behind_y) lines in
+    let told = line_told (entry_words x) (entry_words y) behind_x behind_y ch.0 ck.0 behind in
+    let later = lines_told (n + 1) h k r s ch.1 ck.1 nr ns told.1 in
+    rw (told.0, later) refl
 
 pub words_told : (n : ℕ) (h k : List Entry) → HasCleanWords h → HasCleanWords k → lines_from n h ≡ lines_from n k → map entry_words h ≡ map entry_words k
-words_told n [] [] ch ck same = refl
-words_told n [] (y ∷ k) ch ck same =
-    absurd (no_line n y (lines_from (n + 1) k) (sym same))
-words_told n (x ∷ h) [] ch ck same =
-    absurd (no_line n x (lines_from (n + 1) h) same)
-words_told n (x ∷ h) (y ∷ k) ch ck same =
-    let lines : decimal n ++ (spaced (entry_words x) ++ 10 ∷ lines_from (n + 1) h) ≡ decimal n ++ (spaced (entry_words y) ++ 10 ∷ lines_from (n + 1) k) =
-    sym (line_is n x (lines_from (n + 1) h)) ∙ same ∙ line_is n y (lines_from (n + 1) k) in
-    let behind = append_cancel_left (decimal n) (spaced (entry_words x) ++ 10 ∷ lines_from (n + 1) h) (spaced (entry_words y) ++ 10 ∷ lines_from (n + 1) k) lines in
-    let told = line_told (entry_words x) (entry_words y) (lines_from (n + 1) h) (lines_from (n + 1) k) ch.0 ck.0 behind in
-    let later = words_told (n + 1) h k ch.1 ck.1 told.1 in
-    rw (told.0, later) refl
+words_told n h k ch ck same =
+    lines_told n h k [] [] ch ck refl refl (append-nil (lines_from n h) ∙ same ∙ sym (append-nil (lines_from n k)))

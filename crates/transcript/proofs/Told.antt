@@ -1,5 +1,5 @@
 -- Words say what they were made of, and are clean.
-use Rattle.std.proofs.Common.{◌≡◌, ℕ, ◌+◌, ◌*◌, ◌/◌, ◌%◌, ◌^◌, ◌==◌, Bool, true, ◌&&◌, not, List, [], ◌∷◌, ◌++◌, Option, Some, None, refl, ◌∙◌, ap, append_assoc, arith, codes, decimal}
+use Rattle.std.proofs.Common.{◌≡◌, ℕ, ◌+◌, ◌*◌, ◌/◌, ◌%◌, ◌^◌, ◌==◌, Bool, true, ◌&&◌, not, List, [], ◌∷◌, ◌++◌, Option, Some, None, refl, ◌∙◌, ap, append_assoc, arith, codes}
 use Rattle.std.specs.List.{list_all}
 use Rattle.net_base.specs.declared.actor.ActorName.{ActorName}
 use Rattle.net_base.specs.declared.actor.ActorName.TheVariants as name
@@ -16,12 +16,12 @@ use Rattle.net_base.specs.declared.names.FileName.{FileName}
 use Rattle.net_base.specs.declared.names.FileName.TheVariants as file
 use Rattle.net_base.specs.declared.names.Mode.{Mode}
 use Rattle.net_base.specs.declared.names.Mode.TheVariants as mode
-use Rattle.net_base.specs.Addresses.{address_text}
+use Rattle.net_base.specs.Numeral.{numeral}
 use Rattle.net_base.specs.Paths.{proto_name, file_name}
-use Rattle.net_base.specs.Plain.{IsClean, IsSmall, IsSmallWhere, IsSizedAddr, IsSizedActor}
+use Rattle.net_base.specs.Plain.{IsClean}
 use Rattle.net_base.specs.StateWords.{state_word}
-use Rattle.net_base.specs.Transcript.{actor_word, addr_word, cause_number, ip_or_star, kind_word, mode_word, number_or_dash, number_or_star}
-use Rattle.transcript.proofs.Numbers.{number, take_number, numbers, numbers_last, numbers_more, number_before, number_told, number_starts, starts_with, clean_both, clean_decimal}
+use Rattle.net_base.specs.Transcript.{actor_word, addr_word, cause_number, ip_or_star, ip_word, kind_word, mode_word, number_or_dash, number_or_star}
+use Rattle.transcript.proofs.Numbers.{number, take_number, numbers, numbers_last, numbers_more, number_before, number_told, number_starts, starts_with, clean_both, clean_numeral}
 use Rattle.transcript.proofs.Readers.{read_mode, read_file, read_kind, read_state, numbered, read_number, read_ip, read_addr, read_actor, ip_of, addr_of, dir_of, conv_of}
 
 -- Literal words.
@@ -107,104 +107,92 @@ clean_state state.Listening = clean (codes "Listening") refl
 clean_state state.Closing = clean (codes "Closing") refl
 clean_state state.Open = clean (codes "Open") refl
 
-small_cause : (c : Cause) → IsSmall (cause_number c)
-small_cause cause.Refused = omega arith
-small_cause cause.TimedOut = omega arith
-small_cause cause.Hungup = omega arith
-small_cause cause.ByPeer = omega arith
-
 numbered_told : (c : Cause) → numbered (cause_number c) ≡ c
 numbered_told cause.Refused = refl
 numbered_told cause.TimedOut = refl
 numbered_told cause.Hungup = refl
 numbered_told cause.ByPeer = refl
 
-pub cause_told : (c : Cause) → numbered (number (decimal (cause_number c))) ≡ c
-cause_told c = ap numbered (number_told (cause_number c) (small_cause c)) ∙ numbered_told c
-
-pub clean_cause : (c : Cause) → IsClean (decimal (cause_number c))
-clean_cause c = clean_decimal (cause_number c) (small_cause c)
+pub cause_told : (c : Cause) → numbered (number (numeral (cause_number c))) ≡ c
+cause_told c = ap numbered (number_told (cause_number c)) ∙ numbered_told c
 
 -- Numbers or a mark.
 
-pub dash_told : (n : Option ℕ) → IsSmallWhere n → read_number (number_or_dash n) ≡ n
+pub dash_told : (n : Option ℕ) → read_number (number_or_dash n) ≡ n
 unfolding read_number
-dash_told None small = refl
-dash_told (Some n) small = rw (number_starts n small) (ap Some (number_told n small))
+dash_told None = refl
+dash_told (Some n) = rw (number_starts n) (ap Some (number_told n))
 
-pub star_told : (n : Option ℕ) → IsSmallWhere n → read_number (number_or_star n) ≡ n
+pub star_told : (n : Option ℕ) → read_number (number_or_star n) ≡ n
 unfolding read_number
-star_told None small = refl
-star_told (Some n) small = rw (number_starts n small) (ap Some (number_told n small))
+star_told None = refl
+star_told (Some n) = rw (number_starts n) (ap Some (number_told n))
 
-pub clean_dash : (n : Option ℕ) → IsSmallWhere n → IsClean (number_or_dash n)
-clean_dash None small = clean (codes "-") refl
-clean_dash (Some n) small = clean_decimal n small
+pub clean_dash : (n : Option ℕ) → IsClean (number_or_dash n)
+clean_dash None = clean (codes "-") refl
+clean_dash (Some n) = clean_numeral n
 
-pub clean_star : (n : Option ℕ) → IsSmallWhere n → IsClean (number_or_star n)
-clean_star None small = clean (codes "*") refl
-clean_star (Some n) small = clean_decimal n small
+pub clean_star : (n : Option ℕ) → IsClean (number_or_star n)
+clean_star None = clean (codes "*") refl
+clean_star (Some n) = clean_numeral n
 
 -- Addresses.
 
 -- an address, and what follows it
-dotted : (ip : ℕ) (rest : List ℕ) → address_text ip ++ rest ≡ decimal (ip / 2 ^ 24) ++ 46 ∷ (decimal (ip / 2 ^ 16 % 256) ++ 46 ∷ (decimal (ip / 2 ^ 8 % 256) ++ 46 ∷ (decimal (ip % 256) ++ rest)))
+dotted : (ip : ℕ) (rest : List ℕ) → ip_word ip ++ rest ≡ numeral (ip / 2 ^ 24) ++ 46 ∷ (numeral (ip / 2 ^ 16 % 256) ++ 46 ∷ (numeral (ip / 2 ^ 8 % 256) ++ 46 ∷ (numeral (ip % 256) ++ rest)))
 dotted ip rest = simp append_assoc refl
 
-address_is : (ip : ℕ) → address_text ip ≡ decimal (ip / 2 ^ 24) ++ 46 ∷ (decimal (ip / 2 ^ 16 % 256) ++ 46 ∷ (decimal (ip / 2 ^ 8 % 256) ++ 46 ∷ decimal (ip % 256)))
+address_is : (ip : ℕ) → ip_word ip ≡ numeral (ip / 2 ^ 24) ++ 46 ∷ (numeral (ip / 2 ^ 16 % 256) ++ 46 ∷ (numeral (ip / 2 ^ 8 % 256) ++ 46 ∷ numeral (ip % 256)))
 address_is ip = simp append_assoc refl
 
-four_numbers : (a b c d : ℕ) → IsSmall a → IsSmall b → IsSmall c → IsSmall d → numbers 4 (decimal a ++ 46 ∷ (decimal b ++ 46 ∷ (decimal c ++ 46 ∷ decimal d))) ≡ a ∷ b ∷ c ∷ d ∷ []
-four_numbers a b c d sa sb sc sd =
-    numbers_more 3 a 46 (decimal b ++ 46 ∷ (decimal c ++ 46 ∷ decimal d)) sa refl
-    ∙ ap (λ ns. a ∷ ns) (numbers_more 2 b 46 (decimal c ++ 46 ∷ decimal d) sb refl)
-    ∙ ap (λ ns. a ∷ b ∷ ns) (numbers_more 1 c 46 (decimal d) sc refl)
-    ∙ ap (λ ns. a ∷ b ∷ c ∷ ns) (numbers_last d sd)
+four_numbers : (a b c d : ℕ) → numbers 4 (numeral a ++ 46 ∷ (numeral b ++ 46 ∷ (numeral c ++ 46 ∷ numeral d))) ≡ a ∷ b ∷ c ∷ d ∷ []
+four_numbers a b c d =
+    numbers_more 3 a 46 (numeral b ++ 46 ∷ (numeral c ++ 46 ∷ numeral d)) refl
+    ∙ ap (λ ns. a ∷ ns) (numbers_more 2 b 46 (numeral c ++ 46 ∷ numeral d) refl)
+    ∙ ap (λ ns. a ∷ b ∷ ns) (numbers_more 1 c 46 (numeral d) refl)
+    ∙ ap (λ ns. a ∷ b ∷ c ∷ ns) (numbers_last d)
 
-five_numbers : (a b c d e : ℕ) → IsSmall a → IsSmall b → IsSmall c → IsSmall d → IsSmall e → numbers 5 (decimal a ++ 46 ∷ (decimal b ++ 46 ∷ (decimal c ++ 46 ∷ (decimal d ++ 33 ∷ decimal e)))) ≡ a ∷ b ∷ c ∷ d ∷ e ∷ []
-five_numbers a b c d e sa sb sc sd se =
-    numbers_more 4 a 46 (decimal b ++ 46 ∷ (decimal c ++ 46 ∷ (decimal d ++ 33 ∷ decimal e))) sa refl
-    ∙ ap (λ ns. a ∷ ns) (numbers_more 3 b 46 (decimal c ++ 46 ∷ (decimal d ++ 33 ∷ decimal e)) sb refl)
-    ∙ ap (λ ns. a ∷ b ∷ ns) (numbers_more 2 c 46 (decimal d ++ 33 ∷ decimal e) sc refl)
-    ∙ ap (λ ns. a ∷ b ∷ c ∷ ns) (numbers_more 1 d 33 (decimal e) sd refl)
-    ∙ ap (λ ns. a ∷ b ∷ c ∷ d ∷ ns) (numbers_last e se)
+five_numbers : (a b c d e : ℕ) → numbers 5 (numeral a ++ 46 ∷ (numeral b ++ 46 ∷ (numeral c ++ 46 ∷ (numeral d ++ 33 ∷ numeral e)))) ≡ a ∷ b ∷ c ∷ d ∷ e ∷ []
+five_numbers a b c d e =
+    numbers_more 4 a 46 (numeral b ++ 46 ∷ (numeral c ++ 46 ∷ (numeral d ++ 33 ∷ numeral e))) refl
+    ∙ ap (λ ns. a ∷ ns) (numbers_more 3 b 46 (numeral c ++ 46 ∷ (numeral d ++ 33 ∷ numeral e)) refl)
+    ∙ ap (λ ns. a ∷ b ∷ ns) (numbers_more 2 c 46 (numeral d ++ 33 ∷ numeral e) refl)
+    ∙ ap (λ ns. a ∷ b ∷ c ∷ ns) (numbers_more 1 d 33 (numeral e) refl)
+    ∙ ap (λ ns. a ∷ b ∷ c ∷ d ∷ ns) (numbers_last e)
 
 joined : (ip : ℕ) → ((ip / 2 ^ 24 * 256 + ip / 2 ^ 16 % 256) * 256 + ip / 2 ^ 8 % 256) * 256 + ip % 256 ≡ ip
 joined ip = omega arith
 
-pub ip_told : (ip : Option ℕ) → IsSmallWhere ip → read_ip (ip_or_star ip) ≡ ip
+pub ip_told : (ip : Option ℕ) → read_ip (ip_or_star ip) ≡ ip
 unfolding read_ip
-ip_told None small = refl
-ip_told (Some ip) small =
-    rw (address_is ip, starts_with (ip / 2 ^ 24) (46 ∷ (decimal (ip / 2 ^ 16 % 256) ++ 46 ∷ (decimal (ip / 2 ^ 8 % 256) ++ 46 ∷ decimal (ip % 256)))) (omega (arith, small)))
-    (ap (λ ns. Some (ip_of ns)) (four_numbers (ip / 2 ^ 24) (ip / 2 ^ 16 % 256) (ip / 2 ^ 8 % 256) (ip % 256) (omega (arith, small)) (omega arith) (omega arith) (omega arith))
+ip_told None = refl
+ip_told (Some ip) =
+    rw (address_is ip, starts_with (ip / 2 ^ 24) (46 ∷ (numeral (ip / 2 ^ 16 % 256) ++ 46 ∷ (numeral (ip / 2 ^ 8 % 256) ++ 46 ∷ numeral (ip % 256)))))
+    (ap (λ ns. Some (ip_of ns)) (four_numbers (ip / 2 ^ 24) (ip / 2 ^ 16 % 256) (ip / 2 ^ 8 % 256) (ip % 256))
     ∙ ap Some (joined ip))
 
-pub addr_told : (a : Addr) → IsSizedAddr a → read_addr (addr_word a) ≡ a
+pub addr_told : (a : Addr) → read_addr (addr_word a) ≡ a
 unfolding read_addr addr_word
-addr_told a sized =
-    ap (λ word. addr_of (numbers 5 word)) (append_assoc (address_text a.ip) (codes "!") (decimal a.port) ∙ dotted a.ip (33 ∷ decimal a.port))
-    ∙ ap addr_of (five_numbers (a.ip / 2 ^ 24) (a.ip / 2 ^ 16 % 256) (a.ip / 2 ^ 8 % 256) (a.ip % 256) a.port (omega (arith, sized.0)) (omega arith) (omega arith) (omega arith) sized.1)
+addr_told a =
+    ap (λ word. addr_of (numbers 5 word)) (append_assoc (ip_word a.ip) (codes "!") (numeral a.port) ∙ dotted a.ip (33 ∷ numeral a.port))
+    ∙ ap addr_of (five_numbers (a.ip / 2 ^ 24) (a.ip / 2 ^ 16 % 256) (a.ip / 2 ^ 8 % 256) (a.ip % 256) a.port)
     ∙ ap (λ ip. record { ip = ip; port = a.port }) (joined a.ip)
 
 clean_dot : IsClean (46 ∷ [])
 clean_dot = clean (codes ".") refl
 
-clean_address : (ip : ℕ) → IsSmall ip → IsClean (address_text ip)
-clean_address ip small =
-    let high = clean_decimal (ip / 2 ^ 24) (omega (arith, small)) in
-    let second = clean_decimal (ip / 2 ^ 16 % 256) (omega arith) in
-    let third = clean_decimal (ip / 2 ^ 8 % 256) (omega arith) in
-    let low = clean_decimal (ip % 256) (omega arith) in
-    clean_both _ _ (clean_both _ _ (clean_both _ _ (clean_both _ _ (clean_both _ _ (clean_both _ _ high clean_dot) second) clean_dot) third) clean_dot) low
+clean_address : (ip : ℕ) → IsClean (ip_word ip)
+clean_address ip =
+    let dot = λ (bs : List ℕ) (n : ℕ) (cb : IsClean bs). clean_both (bs ++ codes ".") (numeral n) (clean_both bs (codes ".") cb clean_dot) (clean_numeral n) in
+    dot _ (ip % 256) (dot _ (ip / 2 ^ 8 % 256) (dot _ (ip / 2 ^ 16 % 256) (clean_numeral (ip / 2 ^ 24))))
 
-pub clean_ip : (ip : Option ℕ) → IsSmallWhere ip → IsClean (ip_or_star ip)
-clean_ip None small = clean (codes "*") refl
-clean_ip (Some ip) small = clean_address ip small
+pub clean_ip : (ip : Option ℕ) → IsClean (ip_or_star ip)
+clean_ip None = clean (codes "*") refl
+clean_ip (Some ip) = clean_address ip
 
-pub clean_addr : (a : Addr) → IsSizedAddr a → IsClean (addr_word a)
+pub clean_addr : (a : Addr) → IsClean (addr_word a)
 unfolding addr_word
-clean_addr a sized = clean_both _ _ (clean_both _ _ (clean_address a.ip sized.0) (clean (codes "!") refl)) (clean_decimal a.port sized.1)
+clean_addr a = clean_both _ _ (clean_both _ _ (clean_address a.ip) (clean (codes "!") refl)) (clean_numeral a.port)
 
 -- Actors.
 
@@ -212,43 +200,43 @@ dir_told : (h : ℕ) (p : Proto) → dir_of (h, 46 ∷ proto_name p) ≡ name.Di
 dir_told h proto.Il = refl
 dir_told h proto.Udp = refl
 
-conv_told : (h : ℕ) (p : Proto) (n : ℕ) → IsSmall n → conv_of (h, 46 ∷ (proto_name p ++ 46 ∷ decimal n)) ≡ name.Conv h p n
-conv_told h proto.Il n small = ap (name.Conv h proto.Il) (number_told n small)
-conv_told h proto.Udp n small = ap (name.Conv h proto.Udp) (number_told n small)
+conv_told : (h : ℕ) (p : Proto) (n : ℕ) → conv_of (h, 46 ∷ (proto_name p ++ 46 ∷ numeral n)) ≡ name.Conv h p n
+conv_told h proto.Il n = ap (name.Conv h proto.Il) (number_told n)
+conv_told h proto.Udp n = ap (name.Conv h proto.Udp) (number_told n)
 
-conv_tail : (h n : ℕ) (p : Proto) → decimal h ++ codes "." ++ proto_name p ++ codes "." ++ decimal n ≡ decimal h ++ 46 ∷ (proto_name p ++ 46 ∷ decimal n)
+conv_tail : (h n : ℕ) (p : Proto) → numeral h ++ codes "." ++ proto_name p ++ codes "." ++ numeral n ≡ numeral h ++ 46 ∷ (proto_name p ++ 46 ∷ numeral n)
 conv_tail h n p = simp append_assoc refl
 
-pub actor_told : (a : ActorName) → IsSizedActor a → read_actor (actor_word a) ≡ a
+pub actor_told : (a : ActorName) → read_actor (actor_word a) ≡ a
 unfolding read_actor
-actor_told (name.Desk h) small = ap name.Desk (number_told h small)
-actor_told (name.Dir h p) small =
-    ap (λ bytes. dir_of (take_number 0 bytes)) (append_assoc (decimal h) (codes ".") (proto_name p))
-    ∙ ap dir_of (number_before h 46 (proto_name p) small refl)
+actor_told (name.Desk h) = ap name.Desk (number_told h)
+actor_told (name.Dir h p) =
+    ap (λ bytes. dir_of (take_number 0 bytes)) (append_assoc (numeral h) (codes ".") (proto_name p))
+    ∙ ap dir_of (number_before h 46 (proto_name p) refl)
     ∙ dir_told h p
-actor_told (name.Conv h p n) small =
+actor_told (name.Conv h p n) =
     ap (λ bytes. conv_of (take_number 0 bytes)) (conv_tail h n p)
-    ∙ ap conv_of (number_before h 46 (proto_name p ++ 46 ∷ decimal n) small.0 refl)
-    ∙ conv_told h p n small.1
-actor_told (name.Medium m) small = ap name.Medium (number_told m small)
-actor_told name.Clock small = refl
+    ∙ ap conv_of (number_before h 46 (proto_name p ++ 46 ∷ numeral n) refl)
+    ∙ conv_told h p n
+actor_told (name.Medium m) = ap name.Medium (number_told m)
+actor_told name.Clock = refl
 
 clean_proto : (p : Proto) → IsClean (proto_name p)
 clean_proto proto.Il = clean (codes "il") refl
 clean_proto proto.Udp = clean (codes "udp") refl
 
 -- a word, a number and a dot
-clean_front : (word : List ℕ) (n : ℕ) → IsClean word → IsSmall n → IsClean (word ++ decimal n ++ 46 ∷ [])
-clean_front word n cw small = clean_both (word ++ decimal n) (46 ∷ []) (clean_both word (decimal n) cw (clean_decimal n small)) clean_dot
+clean_front : (word : List ℕ) (n : ℕ) → IsClean word → IsClean (word ++ numeral n ++ 46 ∷ [])
+clean_front word n cw = clean_both (word ++ numeral n) (46 ∷ []) (clean_both word (numeral n) cw (clean_numeral n)) clean_dot
 
-pub clean_actor : (a : ActorName) → IsSizedActor a → IsClean (actor_word a)
-clean_actor (name.Desk h) small = clean_both (codes "desk.") (decimal h) (clean (codes "desk.") refl) (clean_decimal h small)
-clean_actor (name.Dir h p) small =
-    clean_both (codes "dir." ++ decimal h ++ codes ".") (proto_name p) (clean_front (codes "dir.") h (clean (codes "dir.") refl) small) (clean_proto p)
-clean_actor (name.Conv h p n) small =
-    let front = clean_front (codes "conv.") h (clean (codes "conv.") refl) small.0 in
-    let host = clean_both (codes "conv." ++ decimal h ++ codes ".") (proto_name p) front (clean_proto p) in
-    let dot = clean_both (codes "conv." ++ decimal h ++ codes "." ++ proto_name p) (codes ".") host clean_dot in
-    clean_both (codes "conv." ++ decimal h ++ codes "." ++ proto_name p ++ codes ".") (decimal n) dot (clean_decimal n small.1)
-clean_actor (name.Medium m) small = clean_both (codes "medium.") (decimal m) (clean (codes "medium.") refl) (clean_decimal m small)
-clean_actor name.Clock small = clean (codes "clock") refl
+pub clean_actor : (a : ActorName) → IsClean (actor_word a)
+clean_actor (name.Desk h) = clean_both (codes "desk.") (numeral h) (clean (codes "desk.") refl) (clean_numeral h)
+clean_actor (name.Dir h p) =
+    clean_both (codes "dir." ++ numeral h ++ codes ".") (proto_name p) (clean_front (codes "dir.") h (clean (codes "dir.") refl)) (clean_proto p)
+clean_actor (name.Conv h p n) =
+    let front = clean_front (codes "conv.") h (clean (codes "conv.") refl) in
+    let host = clean_both (codes "conv." ++ numeral h ++ codes ".") (proto_name p) front (clean_proto p) in
+    let dot = clean_both (codes "conv." ++ numeral h ++ codes "." ++ proto_name p) (codes ".") host clean_dot in
+    clean_both (codes "conv." ++ numeral h ++ codes "." ++ proto_name p ++ codes ".") (numeral n) dot (clean_numeral n)
+clean_actor (name.Medium m) = clean_both (codes "medium.") (numeral m) (clean (codes "medium.") refl) (clean_numeral m)
+clean_actor name.Clock = clean (codes "clock") refl

@@ -1,7 +1,9 @@
 -- What the text of a history tells of it.
-use Rattle.std.specs.Prelude.{◌≡◌, ℕ, List, [], ◌∷◌, map}
+use Rattle.std.specs.Prelude.{◌≡◌, ℕ, List, [], ◌∷◌, ◌++◌, map}
 use Rattle.net_base.specs.declared.history.Entry.{Entry}
-use Rattle.net_base.specs.Plain.{IsClean, IsPlain, IsSized}
+use Rattle.net_base.specs.declared.world.World.{World}
+use Rattle.net_base.specs.Plain.{IsClean, IsPlain}
+use Rattle.net_base.specs.Summary.{summary}
 use Rattle.net_base.specs.Transcript.{entry_words, history_text}
 
 abbrev pub AreClean : List (List ℕ) → Type 0
@@ -19,4 +21,8 @@ TextsTellWords = (h k : List Entry) → HasCleanWords h → HasCleanWords k → 
 
 -- two plain histories with the same text are equal
 abbrev pub TextsTell : Type 0
-TextsTell = (h k : List Entry) → IsPlain h → IsPlain k → IsSized h → IsSized k → history_text h ≡ history_text k → h ≡ k
+TextsTell = (h k : List Entry) → IsPlain h → IsPlain k → history_text h ≡ history_text k → h ≡ k
+
+-- what is printed of two plain histories, each with a summary behind its text, is the same only where the histories are equal
+abbrev pub PrintedTell : Type 0
+PrintedTell = (v w : World) (h k : List Entry) → IsPlain h → IsPlain k → history_text h ++ summary v h ≡ history_text k ++ summary w k → h ≡ k

@@ -13,6 +13,6 @@ mod totals;
 mod words;
 
 pub use entry::text_of;
-pub use law::{plain_texts_tell, texts_tell_words};
+pub use law::{plain_texts_tell, printed_runs_tell, texts_tell_words};
 pub use summary::{End, Standing, summary_by};
 pub use totals::{Totals, totals_of};

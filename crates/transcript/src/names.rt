@@ -1,10 +1,9 @@
 //! Addresses, actors and modes as words.
-ghost use Rattle.std.specs.Prelude.{◌≡◌, ◌∷◌, ◌++◌, [], OnOk, codes, decimal};
-ghost use Rattle.net_base.specs.Addresses.{address_text};
+ghost use Rattle.std.specs.Prelude.{◌≡◌, ◌∷◌, ◌++◌, [], OnOk, codes};
 ghost use Rattle.net_base.specs.Paths as paths;
 ghost use Rattle.net_base.specs.StateWords as states;
 ghost use Rattle.net_base.specs.Transcript as spec;
-ghost use Rattle.net_base.specs.Transcript.{spaced, addr_word, actor_word, number_or_dash, number_or_star, ip_or_star};
+ghost use Rattle.net_base.specs.Transcript.{spaced, addr_word, actor_word, number_or_dash, number_or_star, ip_or_star, ip_word};
 
 use crate::words::{put_decimal, put_number, put_word};
 use net_base::{ActorName, Addr, FileName, IlKind, Mode, Octets, Proto, StateName};
@@ -78,7 +77,7 @@ pub fn state_word(state: StateName) -> &'static [u8]
 
 // An address without its port, and without a blank.
 fn put_address(out: &mut Octets, ip: u32) -> Result<(), AllocError>
-    ensures { OnOk result (out.new ≡ out.old ++ address_text ip) }
+    ensures { OnOk result (out.new ≡ out.old ++ ip_word ip) }
 {
     put_decimal(out, (ip >> 24) as u64)?;
     out.append(b".")?;

@@ -1,6 +1,7 @@
 //! The summary of a run.
-ghost use Rattle.std.specs.Prelude.{◌≡◌, ◌++◌, OnOk, IfOk, codes, decimal};
+ghost use Rattle.std.specs.Prelude.{◌≡◌, ◌++◌, OnOk, IfOk, codes};
 ghost use Rattle.net_base.specs.Net as net;
+ghost use Rattle.net_base.specs.Numeral.{numeral};
 ghost use Rattle.net_base.specs.Summary as spec;
 ghost use Rattle.net_base.specs.Summary.{summary, steps_line, both_line, end_line};
 ghost use Rattle.transcript.specs.Standing.{Stands, lines_by, word_of, latest};
@@ -26,7 +27,7 @@ pub struct Standing {
     pub end: End,
 }
 
-/// The summary of a history, whose net stands so.
+/// The summary of a history, for a caller that knows how its net stands. The standing is printed as it is told.
 #[tactic(auto, using(crate::proofs::Summing::stands_so))]
 pub fn summary_by(
     alloc: Global,
@@ -85,8 +86,9 @@ fn all_steps(world: &World) -> u128
     steps
 }
 
+#[tactic(auto, using(crate::proofs::Numerals::decimal_is_numeral))]
 fn put_number(out: &mut Octets, n: u128) -> Result<(), AllocError>
-    ensures { OnOk result (out.new ≡ out.old ++ decimal n) }
+    ensures { OnOk result (out.new ≡ out.old ++ numeral n) }
 {
     let mut buffer = Buffer::new();
     out.append(buffer.format(n).as_bytes())

@@ -1,5 +1,6 @@
 //! Words of a line, each with a blank before it.
-ghost use Rattle.std.specs.Prelude.{◌≡◌, ◌<◌, ◌∷◌, ◌++◌, [], OnOk, decimal};
+ghost use Rattle.std.specs.Prelude.{◌≡◌, ◌<◌, ◌∷◌, ◌++◌, [], OnOk};
+ghost use Rattle.net_base.specs.Numeral.{numeral};
 ghost use Rattle.net_base.specs.Transcript as spec;
 ghost use Rattle.net_base.specs.Transcript.{spaced, hex_digits, hex_word, lines_of};
 ghost use Rattle.transcript.specs.Digits.{line_digits};
@@ -9,8 +10,9 @@ use net_base::{Lines, Octets};
 use std::alloc::AllocError;
 
 /// A number's digits, without a blank.
+#[tactic(auto, using(crate::proofs::Numerals::decimal_is_numeral))]
 pub fn put_decimal(out: &mut Octets, n: u64) -> Result<(), AllocError>
-    ensures { OnOk result (out.new ≡ out.old ++ decimal n) }
+    ensures { OnOk result (out.new ≡ out.old ++ numeral n) }
 {
     let mut buffer = Buffer::new();
     out.append(buffer.format(n).as_bytes())
@@ -26,7 +28,7 @@ pub fn put_word(out: &mut Octets, word: &[u8]) -> Result<(), AllocError>
 
 /// A number.
 pub fn put_number(out: &mut Octets, n: u64) -> Result<(), AllocError>
-    ensures { OnOk result (out.new ≡ out.old ++ spaced (decimal n ∷ [])) }
+    ensures { OnOk result (out.new ≡ out.old ++ spaced (numeral n ∷ [])) }
 {
     out.push(b' ')?;
     put_decimal(out, n)
@@ -34,7 +36,7 @@ pub fn put_number(out: &mut Octets, n: u64) -> Result<(), AllocError>
 
 /// A word with a number behind it.
 pub fn put_with_number(out: &mut Octets, word: &[u8], n: u64) -> Result<(), AllocError>
-    ensures { OnOk result (out.new ≡ out.old ++ spaced (word.now ∷ decimal n ∷ [])) }
+    ensures { OnOk result (out.new ≡ out.old ++ spaced (word.now ∷ numeral n ∷ [])) }
 {
     put_word(out, word)?;
     put_number(out, n)
@@ -42,7 +44,7 @@ pub fn put_with_number(out: &mut Octets, word: &[u8], n: u64) -> Result<(), Allo
 
 /// A word with two numbers behind it.
 pub fn put_with_numbers(out: &mut Octets, word: &[u8], n: u64, m: u64) -> Result<(), AllocError>
-    ensures { OnOk result (out.new ≡ out.old ++ spaced (word.now ∷ decimal n ∷ decimal m ∷ [])) }
+    ensures { OnOk result (out.new ≡ out.old ++ spaced (word.now ∷ numeral n ∷ numeral m ∷ [])) }
 {
     put_with_number(out, word, n)?;
     put_number(out, m)

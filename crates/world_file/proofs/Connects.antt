@@ -22,21 +22,13 @@ use Rattle.net_base.specs.Addresses.{parts_at, read_digits, within, join_bytes}
 use Rattle.net_base.specs.ControlWords as control
 use Rattle.net_model.specs.WorldWords.{is_padded, number_in, octet_of, octets_joined, address_in, words_of}
 use Rattle.net_model.specs.WorldLines.{is_port, is_place, connects_words, connects}
-use Rattle.net_model.proofs.Controls.{reads_exactly}
+use Rattle.world_file.proofs.Truths.{le-true, lt-true, lt-is}
+use Rattle.world_file.proofs.Bounds.{least-within}
 
 -- Numbers.
 
 in-range : (b : ℕ) → is_ascii_digit b ≡ true → IsInRange 48 57 b
 in-range b e = search (rules, e)
-
-le-true : (m n : ℕ) → nat_le m n ≡ true → m ≤ n
-le-true m n e = grind (arith, nat_tests)
-
-lt-true : (m n : ℕ) → nat_lt m n ≡ true → m < n
-lt-true m n e = grind (arith, nat_tests)
-
-lt-is : (m n : ℕ) → m < n → nat_lt m n ≡ true
-lt-is m n h = grind (arith, nat_tests)
 
 digit-here : (b : ℕ) → is_ascii_digit b ≡ true → (48 ≤ b) × (b < 58)
 digit-here b e = (grind (arith, nat_tests), grind (arith, nat_tests))
@@ -145,7 +137,7 @@ words-dotted (a ∷ b ∷ []) text ip j e = absurd (none-some ip e)
 words-dotted (a ∷ b ∷ c ∷ []) text ip j e = absurd (none-some ip e)
 words-dotted (a ∷ b ∷ c ∷ d ∷ f ∷ words) text ip j e = absurd (none-some ip e)
 
-address-dotted : (word : List ℕ) (ip : ℕ) → address_in word ≡ Some ip → Dotted word ip
+pub address-dotted : (word : List ℕ) (ip : ℕ) → address_in word ≡ Some ip → Dotted word ip
 address-dotted word ip e = words-dotted (parts_at 46 word) word ip (join_with_byte-slice_split 46 word) e
 
 -- Texts.
@@ -165,19 +157,6 @@ port-fits n low high = grind (arith, nat_tests)
 
 place-fits : (ip port : ℕ) → ip < 2 ^ 32 → control.is_port port ≡ true → control.is_place (record { ip = ip; port = port }) ≡ true
 place-fits ip port fits is = ap (λ b. b && control.is_port port) (lt-is ip (2 ^ 32) fits) ∙ is
-
-least-within : (least greatest : ℕ) (word : List ℕ) (n : ℕ) → number_in least greatest word ≡ Some n → least ≤ n
-least-within least greatest word n e = by (is_padded word) (read_digits 20 word) e
-  where
-    at : (m : ℕ) (b c : Bool) → nat_le least m ≡ b → (if b && c then Some m else None) ≡ Some n → least ≤ n
-    at m true true low f = let is = same_Some m n f in let l = le-true least m low in omega (arith, is, l)
-    at m true false low f = absurd (none-some n f)
-    at m false c low f = absurd (none-some n f)
-
-    by : (b : Bool) (o : Option ℕ) → (if b then None else option_and_then (within least greatest) o) ≡ Some n → least ≤ n
-    by true o f = absurd (none-some n f)
-    by false None f = absurd (none-some n f)
-    by false (Some m) f = at m (nat_le least m) (nat_le m greatest) refl f
 
 place-nested : (a : Addr) → control.place a ≡ control.dotted a.ip ++ (33 ∷ decimal a.port)
 place-nested a = simp append_assoc refl
@@ -204,7 +183,7 @@ place-words (a ∷ b ∷ c ∷ words) text j e = absurd (false≢true e)
 pub record Connects (text : List ℕ) : Type 0 where
   pub remote : Addr
   pub port : ℕ
-  pub reads : control.read text ≡ Ok (ctl.Connect remote (Some port))
+  pub reads : control.Reads text (ctl.Connect remote (Some port))
 
 connect-nested : (a : Addr) (port : ℕ) → control.spelling (ctl.Connect a (Some port)) ≡ codes "connect" ++ (32 ∷ (control.place a ++ (32 ∷ decimal port)))
 connect-nested a port = simp append_assoc refl
@@ -224,12 +203,12 @@ words-read (word ∷ place ∷ port ∷ []) text j e =
     ∙ (ap (λ (t : List ℕ). t ++ (32 ∷ (place ++ (32 ∷ port)))) is
     ∙ (ap (λ (t : List ℕ). codes "connect" ++ (32 ∷ (t ++ (32 ∷ port)))) p.is
     ∙ (ap (λ (t : List ℕ). codes "connect" ++ (32 ∷ (control.place p.at ++ (32 ∷ t)))) s.is ∙ sym (connect-nested p.at number.0)))) in
-    record { remote = p.at; port = number.0; reads = (reads_exactly text (ctl.Connect p.at (Some number.0))).0 (inl (fits, inl spelled)) }
+    record { remote = p.at; port = number.0; reads = inl (fits, inl spelled) }
 words-read [] text j e = absurd (false≢true e)
 words-read (a ∷ []) text j e = absurd (false≢true e)
 words-read (a ∷ b ∷ []) text j e = absurd (false≢true e)
 words-read (a ∷ b ∷ c ∷ d ∷ words) text j e = absurd (false≢true e)
 
--- a text that connects reads so
+-- a text that connects says so
 pub connects-read : (text : List ℕ) → connects text ≡ true → Connects text
 connects-read text e = words-read (words_of text) text (join_with_byte-slice_split 32 text) e

@@ -7,9 +7,9 @@ ghost use Rattle.world_file.specs.Told.{TellsCause, IsSmall, going};
 
 use crate::draft::Draft;
 use crate::fault::Fault;
-use crate::words::{one, split_words};
 use cs_resolver::split_first;
 use std::alloc::Global;
+use world_words::{one, split_words};
 
 impl Draft {
     /// What a line is, behind those so far: whether it begins the bundle.

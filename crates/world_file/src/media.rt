@@ -1,16 +1,14 @@
 //! The lines of the end, the seed and the media.
 ghost use Rattle.std.specs.Prelude.{◌≡◌, ◌≤◌, ◌∷◌, ◌++◌, [], map, length, OnOk, IfOk, IfErr, position};
 ghost use Rattle.std.specs.List.{list_any};
-ghost use Rattle.net_base.specs.Addresses.{parts_at};
 ghost use Rattle.net_model.specs.WorldLines as spec;
 ghost use Rattle.world_file.specs.Told.{TellsCause};
 
 use crate::draft::Draft;
 use crate::fault::Fault;
-use crate::words::{four, is_name, number_in, one, three, two};
-use cs_resolver::split_first;
 use net_base::{MediumSpec, Octets, Sequence};
 use std::alloc::{AllocError, Global};
+use world_words::{four, is_fate, is_frames, is_name, number_in, one, three, two};
 
 impl Draft {
     /// `end M`
@@ -191,38 +189,4 @@ fn medium_of(alloc: Global, name: &[u8], mtu: u32) -> Result<MediumSpec, AllocEr
         later: 0,
         fates: Sequence::new(alloc),
     })
-}
-
-/// K, or K-L where L isn't below K.
-fn is_frames(word: &[u8]) -> bool
-    ensures { result ≡ spec.is_frames word.now }
-{
-    let (first, rest) = split_first(word, b'-');
-    let Some(rest) = rest else {
-        return frame_in(first).is_some();
-    };
-    let (last, rest) = split_first(rest, b'-');
-    if let Some(_) = rest {
-        return false;
-    }
-    match (frame_in(first), frame_in(last)) {
-        (Some(first), Some(last)) => first <= last,
-        _ => false,
-    }
-}
-
-/// The number of a frame, from 1.
-fn frame_in(word: &[u8]) -> Option<u64>
-    ensures { result ≡ spec.frame_in word.now }
-{
-    number_in(1, u64::MAX, word)
-}
-
-fn is_fate(word: &[u8]) -> bool
-    ensures { result ≡ spec.is_fate word.now }
-{
-    word == b"deliver".as_slice()
-        || word == b"lose".as_slice()
-        || word == b"twice".as_slice()
-        || word == b"later".as_slice()
 }

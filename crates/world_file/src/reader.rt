@@ -11,6 +11,7 @@ ghost use Rattle.world_file.specs.Told.{Tells, TellsAt};
 
 use crate::draft::Draft;
 use crate::fault::{Fault, WorldError};
+use crate::law::texts_say_worlds;
 use ndb_reader::{NdbError, read_ndb};
 use net_base::World;
 use std::alloc::Global;
@@ -21,6 +22,14 @@ pub fn read_world(alloc: Global, bytes: &[u8]) -> Result<World, WorldError>
     ensures bad { IfErr result (λ e. Tells e (world_reading bytes.now)) }
     ensures world { IfOk result (λ w. IsWorld w) }
     ensures form { IfOk result (λ w. IsFirstForm w) }
+{
+    texts_say_worlds();
+    read_lines(alloc, bytes)
+}
+
+fn read_lines(alloc: Global, bytes: &[u8]) -> Result<World, WorldError>
+    ensures ok { IfOk result (λ w. world_reading bytes.now ≡ Ok w) }
+    ensures bad { IfErr result (λ e. Tells e (world_reading bytes.now)) }
 {
     let mut draft = Draft::new(alloc);
     let mut number: u64 = 1;

@@ -6,14 +6,12 @@ ghost use Rattle.net_base.specs.Addresses.{parts_at};
 ghost use Rattle.net_model.specs.WorldLines as spec;
 ghost use Rattle.world_file.specs.Told.{TellsCause, IsSmall};
 
-use crate::connect::connects;
 use crate::draft::Draft;
 use crate::fault::Fault;
 use crate::hosts::{is_called, is_host_named};
-use crate::steps::read_step;
-use crate::words::{is_name, one};
 use net_base::{HostSpec, Script, Sequence, Step};
 use std::alloc::{AllocError, Global};
+use world_words::{connects, is_name, one, read_step};
 
 impl Draft {
     /// `script HOST`

@@ -46,6 +46,12 @@ const WHOLE: &[u8] =
     b"networld 1\nend 1\nseed 0\nmedium a 576\nhost h udp\nif a 10.0.0.1 255.0.0.0\nscript h\nopen c /net/udp/clone\n\
 write c connect 10.0.0.1!7 7\nopen d /net/udp/0/data\n";
 
+const EIGHT: &[u8] = b"networld 1\nend 1\nseed 0\nmedium a 576\n\
+host a udp\nif a 10.0.0.1 255.0.0.0\nhost b udp\nif a 10.0.0.2 255.0.0.0\n\
+host c udp\nif a 10.0.0.3 255.0.0.0\nhost d udp\nif a 10.0.0.4 255.0.0.0\n\
+host e udp\nif a 10.0.0.5 255.0.0.0\nhost f udp\nif a 10.0.0.6 255.0.0.0\n\
+host g udp\nif a 10.0.0.7 255.0.0.0\nhost h udp\nif a 10.0.0.8 255.0.0.0\n";
+
 /// Whether the lines behind a beginning are bad at this line for this cause.
 fn is_bad(alloc: Global, front: &[u8], lines: &[u8], at: u64, least: u32) -> Result<bool, Fail> {
     let mut text = Vec::from_slice(alloc, front)?;
@@ -118,22 +124,91 @@ fn other_worlds_are_read(rt: HostRuntime) -> Result<(), Fail> {
 }
 
 #[test]
-fn the_first_lines_have_an_order(rt: HostRuntime) -> Result<(), Fail> {
+fn the_first_line_stands_once(rt: HostRuntime) -> Result<(), Fail> {
     let rows = [
         (b"".as_slice(), b"".as_slice(), 1, 11),
-        (b"#a\n\n", b"networld 2\n", 3, 11),
-        (START, b"", 2, 19),
-        (START, b"nothing", 2, 12),
+        (b"", b"#a\n\n", 3, 11),
+        (b"", b"#a\n\nnetworld 2\n", 3, 11),
+        (b"", b"networld", 1, 11),
+        (b"", b"networld 1 ", 1, 11),
+        (b"", b"end 1\n", 1, 11),
+        (START, b"networld", 2, 13),
+        (START, b"networld 2", 2, 13),
+        (START, b"networld 1 1", 2, 13),
+        (START, b"networld 1", 2, 18),
+        (WHOLE, b"networld 2", 11, 13),
+        (WHOLE, b"networld 1", 11, 18),
+    ];
+    for (front, lines, line, cause) in rows {
+        assert!(rt;
+            is_bad(rt.alloc(), front, lines, line, cause)?,
+            "{line} is bad for {cause}"
+        );
+    }
+    Ok(())
+}
+
+#[test]
+fn words_are_known(rt: HostRuntime) -> Result<(), Fail> {
+    let rows = [
+        (START, b"nothing".as_slice(), 2, 12),
         (START, b" end 1", 2, 12),
+        (START, b" ", 2, 12),
+        (START, b"END 1", 2, 12),
+        (START, b"\tend 1", 2, 12),
+        (START, b"#end\n\nends", 4, 12),
+        (MEDIA, b"mediums b 576", 5, 12),
+        (HOSTS, b"network a", 9, 12),
+        (WHOLE, b"writes d hi", 11, 12),
+        (WHOLE, b"ndb\r", 11, 12),
+    ];
+    for (front, lines, line, cause) in rows {
+        assert!(rt;
+            is_bad(rt.alloc(), front, lines, line, cause)?,
+            "{line} is bad for {cause}"
+        );
+    }
+    Ok(())
+}
+
+#[test]
+fn the_end_is_judged(rt: HostRuntime) -> Result<(), Fail> {
+    let rows = [
+        (START, b"end".as_slice(), 2, 13),
         (START, b"end  1", 2, 13),
+        (START, b"end 1 2", 2, 13),
         (START, b"end 0", 2, 13),
         (START, b"end 01", 2, 13),
+        (START, b"end 1\r", 2, 13),
         (START, b"end 1000000001", 2, 13),
-        (START, b"seed 1", 2, 19),
-        (START, b"seed 18446744073709551616", 2, 13),
+        (START, b"end 1\nend 0", 3, 13),
         (START, b"end 1\nend 1", 3, 18),
-        (START, b"networld 1", 2, 18),
-        (START, b"networld 2", 2, 13),
+        (START, b"end 1\nseed 1\nend 1", 4, 18),
+        (MEDIA, b"end 1", 5, 18),
+        (HOSTS, b"end 1", 9, 18),
+        (WHOLE, b"end 1", 11, 18),
+    ];
+    for (front, lines, line, cause) in rows {
+        assert!(rt;
+            is_bad(rt.alloc(), front, lines, line, cause)?,
+            "{line} is bad for {cause}"
+        );
+    }
+    Ok(())
+}
+
+#[test]
+fn the_seed_is_judged(rt: HostRuntime) -> Result<(), Fail> {
+    let rows = [
+        (START, b"seed".as_slice(), 2, 13),
+        (START, b"seed -1", 2, 13),
+        (START, b"seed 1 2", 2, 13),
+        (START, b"seed 18446744073709551616", 2, 13),
+        (START, b"end 1\nseed 1\nseed 1", 4, 18),
+        (MEDIA, b"seed 1", 5, 18),
+        (HOSTS, b"seed 1", 9, 18),
+        (WHOLE, b"seed 1", 11, 18),
+        (START, b"seed 1", 2, 19),
     ];
     for (front, lines, line, cause) in rows {
         assert!(rt;
@@ -149,18 +224,63 @@ fn media_are_judged(rt: HostRuntime) -> Result<(), Fail> {
     let rows = [
         (START, b"end 1\nseed 1\nmedium A 576".as_slice(), 4, 13),
         (START, b"end 1\nseed 1\nmedium a 575", 4, 13),
-        (START, b"end 1\nmedium a 576", 3, 19),
+        (START, b"end 1\nseed 1\nmedium a 16385", 4, 13),
+        (START, b"end 1\nseed 1\nmedium a", 4, 13),
         (MEDIA, b"medium a 576", 5, 14),
+        (WHOLE, b"medium a 576", 11, 14),
+        (HOSTS, b"medium b 576", 9, 18),
+        (WHOLE, b"medium b 576", 11, 18),
+        (START, b"medium a 576", 2, 19),
+        (START, b"end 1\nmedium a 576", 3, 19),
         (MEDIA, b"medium b 576", 5, 31),
-        (MEDIA, b"end 1", 5, 18),
-        (MEDIA, b"rates b 0 0 0", 5, 15),
-        (MEDIA, b"rates a 600 600 0", 5, 23),
+    ];
+    for (front, lines, line, cause) in rows {
+        assert!(rt;
+            is_bad(rt.alloc(), front, lines, line, cause)?,
+            "{line} is bad for {cause}"
+        );
+    }
+    Ok(())
+}
+
+#[test]
+fn rates_are_judged(rt: HostRuntime) -> Result<(), Fail> {
+    let rows = [
+        (MEDIA, b"rates a 0 0".as_slice(), 5, 13),
+        (MEDIA, b"rates A 0 0 0", 5, 13),
+        (MEDIA, b"rates a 1001 0 0", 5, 13),
+        (MEDIA, b"rates a 0 x 0", 5, 13),
         (MEDIA, b"rates a 0 0 1001", 5, 13),
-        (MEDIA, b"rates a 0 0 0", 5, 31),
+        (START, b"rates a 0 0 0", 2, 15),
+        (MEDIA, b"rates b 600 600 0", 5, 15),
+        (HOSTS, b"rates a 0 0 0", 9, 18),
+        (WHOLE, b"rates a 600 600 0", 11, 18),
+        (MEDIA, b"rates a 600 400 1", 5, 23),
+        (MEDIA, b"rates a 600 400 0", 5, 31),
+    ];
+    for (front, lines, line, cause) in rows {
+        assert!(rt;
+            is_bad(rt.alloc(), front, lines, line, cause)?,
+            "{line} is bad for {cause}"
+        );
+    }
+    Ok(())
+}
+
+#[test]
+fn fates_are_judged(rt: HostRuntime) -> Result<(), Fail> {
+    let rows = [
+        (MEDIA, b"fate a 1".as_slice(), 5, 13),
+        (MEDIA, b"fate A 1 lose", 5, 13),
+        (MEDIA, b"fate a 0 lose", 5, 13),
         (MEDIA, b"fate a 2-1 lose", 5, 13),
         (MEDIA, b"fate a 1-2-3 lose", 5, 13),
+        (MEDIA, b"fate a 1 drop", 5, 13),
+        (START, b"fate a 1 lose", 2, 15),
+        (MEDIA, b"fate b 1 lose", 5, 15),
+        (HOSTS, b"fate a 1 lose", 9, 18),
         (MEDIA, b"fate a 1 twice", 5, 31),
-        (MEDIA, b"", 5, 19),
+        (MEDIA, b"fate a 1-2 deliver", 5, 31),
     ];
     for (front, lines, line, cause) in rows {
         assert!(rt;
@@ -174,20 +294,45 @@ fn media_are_judged(rt: HostRuntime) -> Result<(), Fail> {
 #[test]
 fn hosts_are_judged(rt: HostRuntime) -> Result<(), Fail> {
     let rows = [
-        (MEDIA, b"host h il il".as_slice(), 5, 13),
-        (MEDIA, b"if a 1.2.3.4 255.0.0.0", 5, 18),
+        (MEDIA, b"host".as_slice(), 5, 13),
+        (MEDIA, b"host h", 5, 13),
+        (MEDIA, b"host H udp", 5, 13),
+        (MEDIA, b"host h il il", 5, 13),
+        (MEDIA, b"host h tcp", 5, 13),
         (HOST, b"host h udp", 6, 14),
+        (WHOLE, b"host h udp", 11, 14),
+        (EIGHT, b"host h udp", 21, 14),
+        (EIGHT, b"host i udp", 21, 17),
+        (SCRIPT, b"host g udp", 9, 18),
+        (START, b"host h udp", 2, 19),
+        (START, b"end 1\nseed 1\nhost h udp", 4, 19),
         (HOST, b"host g udp", 6, 31),
-        (HOST, b"if b 1.2.3.4 255.0.255.0", 6, 15),
-        (HOST, b"if a 1.2.3.4 255.0.255.0", 6, 20),
+    ];
+    for (front, lines, line, cause) in rows {
+        assert!(rt;
+            is_bad(rt.alloc(), front, lines, line, cause)?,
+            "{line} is bad for {cause}"
+        );
+    }
+    Ok(())
+}
+
+#[test]
+fn interfaces_are_judged(rt: HostRuntime) -> Result<(), Fail> {
+    let rows = [
+        (HOST, b"if a 1.2.3.4".as_slice(), 6, 13),
+        (HOST, b"if A 1.2.3.4 255.0.0.0", 6, 13),
         (HOST, b"if a 1.2.3.256 255.0.0.0", 6, 13),
         (HOST, b"if a 01.2.3.4 255.0.0.0", 6, 13),
-        (HOSTS, b"if a 10.0.0.3 255.0.0.0", 9, 14),
-        (HOSTS, b"host f udp\nif a 10.0.0.1 0.0.0.0", 10, 16),
-        (HOSTS, b"medium b 576", 9, 18),
-        (HOSTS, b"start 0", 9, 13),
-        (HOSTS, b"start 1", 9, 31),
-        (HOSTS, b"", 9, 19),
+        (HOST, b"if a 1.2.3.4 255.0.0", 6, 13),
+        (HOSTS, b"if a 10.0.0.3 255.0.1.0", 9, 14),
+        (START, b"if a 1.2.3.4 255.0.0.0", 2, 15),
+        (HOST, b"if b 1.2.3.4 255.0.1.0", 6, 15),
+        (HOSTS, b"host f udp\nif a 10.0.0.1 0.0.1.0", 10, 16),
+        (SCRIPT, b"if a 10.0.0.1 255.0.0.0", 9, 16),
+        (MEDIA, b"if a 1.2.3.4 255.0.1.0", 5, 18),
+        (SCRIPT, b"if a 10.0.0.9 255.0.0.0", 9, 18),
+        (HOST, b"if a 1.2.3.4 255.0.1.0", 6, 20),
     ];
     for (front, lines, line, cause) in rows {
         assert!(rt;
@@ -201,13 +346,38 @@ fn hosts_are_judged(rt: HostRuntime) -> Result<(), Fail> {
 #[test]
 fn routes_are_judged(rt: HostRuntime) -> Result<(), Fail> {
     let rows = [
-        (MEDIA, b"route 1.0.0.0 255.0.0.0 10.0.0.9".as_slice(), 5, 18),
+        (HOSTS, b"route 1.0.0.0 255.0.0.0".as_slice(), 9, 13),
+        (HOSTS, b"route 1.0.0 255.0.0.0 10.0.0.9", 9, 13),
+        (HOSTS, b"route 1.0.0.0 255 10.0.0.9", 9, 13),
+        (HOSTS, b"route 1.0.0.0 255.0.0.0 gate", 9, 13),
+        (MEDIA, b"route 1.0.0.0 255.0.1.0 10.0.0.9", 5, 18),
+        (SCRIPT, b"route 1.0.0.0 255.0.0.0 10.0.0.9", 9, 18),
         (HOSTS, b"route 1.0.0.0 255.0.1.0 10.0.0.9", 9, 20),
         (HOSTS, b"route 1.0.0.1 255.0.0.0 10.0.0.9", 9, 20),
-        (HOSTS, b"route 10.0.0.0 255.0.0.0 10.0.0.9", 9, 21),
+        (HOSTS, b"route 10.0.0.0 255.0.0.0 11.0.0.9", 9, 21),
         (HOSTS, b"route 1.0.0.0 255.0.0.0 11.0.0.9", 9, 22),
-        (HOSTS, b"route 1.0.0.0 255.0.0.0 10.0.0.9", 9, 31),
         (HOST, b"route 1.0.0.0 255.0.0.0 10.0.0.9", 6, 22),
+        (HOSTS, b"route 1.0.0.0 255.0.0.0 10.0.0.9", 9, 31),
+    ];
+    for (front, lines, line, cause) in rows {
+        assert!(rt;
+            is_bad(rt.alloc(), front, lines, line, cause)?,
+            "{line} is bad for {cause}"
+        );
+    }
+    Ok(())
+}
+
+#[test]
+fn starts_are_judged(rt: HostRuntime) -> Result<(), Fail> {
+    let rows = [
+        (HOSTS, b"start".as_slice(), 9, 13),
+        (HOSTS, b"start 0", 9, 13),
+        (HOSTS, b"start 4294967296", 9, 13),
+        (HOSTS, b"start 1 2", 9, 13),
+        (MEDIA, b"start 1", 5, 18),
+        (SCRIPT, b"start 1", 9, 18),
+        (HOSTS, b"start 1", 9, 31),
     ];
     for (front, lines, line, cause) in rows {
         assert!(rt;
@@ -221,24 +391,13 @@ fn routes_are_judged(rt: HostRuntime) -> Result<(), Fail> {
 #[test]
 fn scripts_are_judged(rt: HostRuntime) -> Result<(), Fail> {
     let rows = [
-        (HOSTS, b"script f".as_slice(), 9, 15),
+        (HOSTS, b"script".as_slice(), 9, 13),
+        (HOSTS, b"script H", 9, 13),
+        (HOSTS, b"script h g", 9, 13),
+        (MEDIA, b"script h", 5, 15),
+        (HOSTS, b"script f", 9, 15),
         (HOST, b"script h", 6, 31),
-        (HOST, b"ndb", 6, 31),
-        (HOSTS, b"ndb x", 9, 13),
-        (HOSTS, b"open c /net/udp/clone", 9, 18),
-        (SCRIPT, b"ndb", 9, 31),
-        (SCRIPT, b"", 9, 19),
-        (SCRIPT, b"host g udp", 9, 18),
-        (SCRIPT, b"write c hello", 9, 31),
-        (SCRIPT, b"write b connect 1.2.3.4!5 6", 9, 31),
-        (SCRIPT, b"write c connect 1.2.3.4!5", 9, 31),
-        (SCRIPT, b"write c", 9, 13),
-        (
-            SCRIPT,
-            b"write c connect 1.2.3.4!5 6\nopen c /net/udp/0/data",
-            10,
-            31,
-        ),
+        (SCRIPT, b"script h", 9, 31),
         (WHOLE, b"script h", 11, 31),
     ];
     for (front, lines, line, cause) in rows {
@@ -251,22 +410,94 @@ fn scripts_are_judged(rt: HostRuntime) -> Result<(), Fail> {
 }
 
 #[test]
-fn steps_are_judged(rt: HostRuntime) -> Result<(), Fail> {
+fn the_first_steps_are_judged(rt: HostRuntime) -> Result<(), Fail> {
     let rows = [
-        (WHOLE, b"read d 0".as_slice(), 11, 13),
-        (WHOLE, b"read d 65537", 11, 13),
-        (WHOLE, b"read c 1", 11, 31),
-        (WHOLE, b"writex d 0", 11, 13),
+        (HOSTS, b"open c /net/udp/clone".as_slice(), 9, 18),
+        (HOSTS, b"until 1", 9, 18),
+        (HOSTS, b"script h\nopen c /net/il/clone", 10, 31),
+        (HOSTS, b"script h\nopen c /net/udp/clone rw", 10, 31),
+        (HOSTS, b"script h\nwrite c hello", 10, 31),
+        (SCRIPT, b"write c hello", 9, 31),
+        (SCRIPT, b"write b connect 1.2.3.4!5 6", 9, 31),
+        (SCRIPT, b"write c connect 1.2.3.4!5", 9, 31),
+        (SCRIPT, b"open d /net/udp/0/data", 9, 31),
+        (SCRIPT, b"write c connect 1.2.3.4!5 6\nopen c /net/udp/0/data", 10, 31),
+        (SCRIPT, b"write c connect 1.2.3.4!5 6\nopen d /net/udp/1/data", 10, 31),
+    ];
+    for (front, lines, line, cause) in rows {
+        assert!(rt;
+            is_bad(rt.alloc(), front, lines, line, cause)?,
+            "{line} is bad for {cause}"
+        );
+    }
+    Ok(())
+}
+
+#[test]
+fn steps_with_wrong_arguments_are_told(rt: HostRuntime) -> Result<(), Fail> {
+    let rows = [
+        (WHOLE, b"open e".as_slice(), 11, 13),
+        (WHOLE, b"read d 0", 11, 13),
+        (WHOLE, b"write d", 11, 13),
         (WHOLE, b"writex d AA", 11, 13),
-        (WHOLE, b"writex d -", 11, 31),
-        (WHOLE, b"until 0", 11, 13),
-        (WHOLE, b"until 10", 11, 31),
-        (WHOLE, b"open e /net/cs x", 11, 13),
-        (WHOLE, b"cs", 11, 13),
-        (WHOLE, b"cs ", 11, 31),
+        (WHOLE, b"close", 11, 13),
         (WHOLE, b"ls ", 11, 13),
+        (WHOLE, b"cs", 11, 13),
+        (HOSTS, b"until 0", 9, 13),
         (WHOLE, b"dial D a", 11, 13),
+        (WHOLE, b"announce d", 11, 13),
+        (WHOLE, b"listen d D", 11, 13),
+        (WHOLE, b"accept d", 11, 13),
+        (WHOLE, b"reject", 11, 13),
+        (WHOLE, b"hangup d d", 11, 13),
+    ];
+    for (front, lines, line, cause) in rows {
+        assert!(rt;
+            is_bad(rt.alloc(), front, lines, line, cause)?,
+            "{line} is bad for {cause}"
+        );
+    }
+    Ok(())
+}
+
+#[test]
+fn steps_that_are_not_built_are_told(rt: HostRuntime) -> Result<(), Fail> {
+    let rows = [
+        (WHOLE, b"open e /net/cs".as_slice(), 11, 31),
+        (WHOLE, b"read c 1", 11, 31),
+        (WHOLE, b"write c hi", 11, 31),
+        (WHOLE, b"writex d -", 11, 31),
+        (WHOLE, b"close d", 11, 31),
+        (WHOLE, b"ls /net", 11, 31),
+        (WHOLE, b"cs ", 11, 31),
+        (WHOLE, b"until 10", 11, 31),
+        (WHOLE, b"dial d a", 11, 31),
+        (WHOLE, b"announce d a", 11, 31),
+        (WHOLE, b"listen d a", 11, 31),
+        (WHOLE, b"accept d a", 11, 31),
+        (WHOLE, b"reject d", 11, 31),
         (WHOLE, b"hangup d", 11, 31),
+    ];
+    for (front, lines, line, cause) in rows {
+        assert!(rt;
+            is_bad(rt.alloc(), front, lines, line, cause)?,
+            "{line} is bad for {cause}"
+        );
+    }
+    Ok(())
+}
+
+#[test]
+fn the_line_of_the_bundle_is_judged(rt: HostRuntime) -> Result<(), Fail> {
+    let rows = [
+        (HOSTS, b"ndb x".as_slice(), 9, 13),
+        (START, b"ndb ", 2, 13),
+        (START, b"ndb", 2, 19),
+        (START, b"end 1\nseed 1\nndb", 4, 19),
+        (MEDIA, b"ndb", 5, 19),
+        (HOST, b"ndb", 6, 31),
+        (SCRIPT, b"ndb", 9, 31),
+        (SCRIPT, b"write c connect 1.2.3.4!5 6\nndb", 10, 31),
     ];
     for (front, lines, line, cause) in rows {
         assert!(rt;
@@ -281,13 +512,43 @@ fn steps_are_judged(rt: HostRuntime) -> Result<(), Fail> {
 fn the_bundle_counts_on(rt: HostRuntime) -> Result<(), Fail> {
     let rows = [
         (HOSTS, b"ndb\n\ta=b\n".as_slice(), 10, 1),
+        (HOSTS, b"ndb\n\t=b\0\n", 10, 1),
         (HOSTS, b"ndb\na=b\n =c\n", 11, 3),
+        (WHOLE, b"ndb\na=b\n\n\n=c", 15, 3),
+        (HOSTS, b"ndb\na=b\0\n", 10, 5),
+        (HOSTS, b"ndb\n%x\n", 10, 6),
+        (HOSTS, b"#a\n\nndb\n#b\n%x\n", 13, 6),
         (HOSTS, b"ndb\na=\"b\"\n", 10, 31),
+        (HOSTS, b"ndb\n%file x\n", 10, 31),
+        (HOSTS, b"ndb\na=b\ndatabase=c\n", 11, 31),
     ];
     for (front, lines, line, cause) in rows {
         assert!(rt;
             is_bad(rt.alloc(), front, lines, line, cause)?,
             "{line} is bad for {cause}"
+        );
+    }
+    Ok(())
+}
+
+#[test]
+fn a_text_that_is_cut_lacks_a_part(rt: HostRuntime) -> Result<(), Fail> {
+    let mut number = 1;
+    for (i, byte) in WORLD.iter().enumerate() {
+        if *byte != b'\n' {
+            continue;
+        }
+        number += 1;
+        if 19 < number {
+            break;
+        }
+        assert!(rt;
+            is_bad(rt.alloc(), &WORLD[..i + 1], b"", number, 19)?,
+            "cut before {number}"
+        );
+        assert!(rt;
+            is_bad(rt.alloc(), &WORLD[..i], b"", number, 19)?,
+            "cut before the newline of the line before {number}"
         );
     }
     Ok(())

@@ -9,7 +9,7 @@ use crate::control::fault;
 use crate::conv::Conv;
 use crate::parts::{Core, Stage};
 use crate::said::Said;
-use crate::{il, texts};
+use crate::texts;
 use net_base::{Cause, FileName, IlState, Octets, Outcome, StateName};
 use std::alloc::AllocError;
 
@@ -80,7 +80,7 @@ impl Conv {
         ensures { result ≡ spec.core_cause self.now.conv.core }
     {
         match &self.core {
-            Core::Il(end) => il::cause(end),
+            Core::Il(end) => end.cause(),
             Core::Udp(end) => {
                 // one that is used and Closed was hung up
                 if self.stage != Stage::Unused && end.state() == StateName::Closed {
@@ -97,7 +97,7 @@ impl Conv {
         ensures { result ≡ is_some (spec.awaited self.now.conv.core self.now.conv) }
     {
         match &self.core {
-            Core::Il(end) => il::may_go_on(end),
+            Core::Il(end) => end.may_go_on(),
             Core::Udp(_) => true,
         }
     }
@@ -110,9 +110,9 @@ impl Conv {
             return self.stale(generation);
         }
         match &self.core {
-            Core::Il(end) => match il::state(end) {
+            Core::Il(end) => match end.state() {
                 IlState::Syncer => None,
-                IlState::Closed => Some(self.told(il::cause(end))),
+                IlState::Closed => Some(self.told(end.cause())),
                 _ => Some(self.replies(Said::ok())),
             },
             Core::Udp(_) => Some(self.told(self.cause())),

@@ -8,7 +8,7 @@ ghost use Rattle.net_base.specs.Conversation as spec;
 ghost use Rattle.conversation.specs.Kept.{IsKept, seen_core, seen_stage, step_to};
 
 use crate::conv::{Conv, NOWHERE};
-use crate::il;
+use crate::il::IlCore;
 use crate::parts::{Core, Stage};
 use crate::said::Said;
 use net_base::{Addr, Body, Octets, Outcome, Packet, Pair, StateName};
@@ -98,8 +98,8 @@ impl Conv {
         ensures slot { self.new.slot ≡ self.old.slot }
         ensures err { OnErr result (self.new ≡ self.old) }
     {
-        let mut end = il::fresh(self.alloc)?;
-        let sync = il::born(&mut end, now, start, id);
+        let mut end = IlCore::fresh(self.alloc)?;
+        let sync = end.born(now, start, id);
         let was_over = self.is_over();
         self.become_new(generation, Stage::Connected, pair, limit, Core::Il(end));
         Ok(self.turned(was_over, Said::ok(), Some(sync)))
@@ -172,7 +172,7 @@ impl Conv {
         self.stage = Stage::Connected;
         match &mut self.core {
             Core::Il(end) => {
-                let sync = il::connect(end, now, start);
+                let sync = end.connect(now, start);
                 self.turned(was_over, Said::ok(), Some(sync))
             }
             Core::Udp(end) => {
@@ -206,7 +206,7 @@ impl Conv {
         self.pair.local = Addr { ip, port };
         self.stage = Stage::Listening;
         match &mut self.core {
-            Core::Il(end) => il::announced(end),
+            Core::Il(end) => end.announced(),
             Core::Udp(end) => end.announced(),
         }
         self.left(was_over, Said::ok(), None)
@@ -254,7 +254,7 @@ impl Conv {
     {
         match &mut self.core {
             Core::Il(end) => {
-                let message = il::hang_up(end, now);
+                let message = end.hang_up(now);
                 self.turned(was_over, said, message)
             }
             Core::Udp(end) => {

@@ -8,10 +8,9 @@ ghost use Rattle.conversation.specs.Kept.{step_to};
 ghost use Rattle.conversation.specs.Stands.{IsShort};
 
 use crate::conv::Conv;
-use crate::il;
+use crate::il::IlCore;
 use crate::parts::{Core, Stage};
 use crate::said::Said;
-use il_machine::IlEnd;
 use net_base::{Body, Cause, IlState, Octets, Outcome, Packet, StateName};
 use std::alloc::{AllocError, Global};
 use udp_core::UdpEnd;
@@ -24,7 +23,7 @@ impl Conv {
         match self.stage {
             Stage::Unused | Stage::Listening => true,
             Stage::Connected => match &self.core {
-                Core::Il(end) => il::may_read(end),
+                Core::Il(end) => end.may_read(),
                 Core::Udp(end) => end.ready_read(),
             },
         }
@@ -41,7 +40,7 @@ impl Conv {
                     return true;
                 }
                 match &self.core {
-                    Core::Il(end) => il::may_write(end),
+                    Core::Il(end) => end.may_write(),
                     Core::Udp(_) => true,
                 }
             }
@@ -149,14 +148,14 @@ impl Conv {
         let count = text.len() as u32;
         match &mut self.core {
             Core::Il(end) => {
-                if !il::may_write(end) {
+                if !end.may_write() {
                     return Ok(None);
                 }
-                if il::state(end) != IlState::Established {
-                    let cause = il::cause(end).unwrap_or(Cause::Hungup);
+                if end.state() != IlState::Established {
+                    let cause = end.cause().unwrap_or(Cause::Hungup);
                     return Ok(Some(self.replies(Said::hungup(cause))));
                 }
-                let message = il::write(end, now, text.as_slice())?;
+                let message = end.write(now, text.as_slice())?;
                 Ok(Some(self.turned(was_over, Said::count(count), Some(message))))
             }
             Core::Udp(end) => {
@@ -188,7 +187,7 @@ impl Conv {
         let was_over = self.is_over();
         match (&mut self.core, &packet.body) {
             (Core::Il(end), Body::Il(message)) => {
-                let answer = il::arrive(end, now, message)?;
+                let answer = end.arrive(now, message)?;
                 Ok(Some(self.turned(was_over, Said::took(), answer)))
             }
             (Core::Udp(end), Body::Udp(text)) => {
@@ -214,12 +213,12 @@ impl Conv {
         let was_over = self.is_over();
         match &mut self.core {
             Core::Il(end) => {
-                let said = if il::is_due(end, now) {
+                let said = if end.is_due(now) {
                     Said::ticked()
                 } else {
                     Said::not_due()
                 };
-                let message = il::tick(end, now);
+                let message = end.tick(now);
                 Some(self.turned(was_over, said, message))
             }
             Core::Udp(_) => Some(self.replies(Said::not_due())),
@@ -228,16 +227,16 @@ impl Conv {
 }
 
 // What a read of an IL end tells; none where it isn't ready.
-fn read_il(alloc: Global, end: &mut IlEnd, count: usize) -> Result<Option<Said>, AllocError>
+fn read_il(alloc: Global, end: &mut IlCore, count: usize) -> Result<Option<Said>, AllocError>
     requires { 0 < count }
     ensures ok { IfOk result (λ said. (c : spec.Conv) → spec.il_read count end.old (record c { core = spec.Il end.old }) ≡ option_map (λ (answer : Answer). spec.leaves (record c { core = spec.Il end.old }) answer (record c { core = spec.Il end.new }) None) said) }
     ensures err { OnErr result (end.new ≡ end.old) }
 {
-    if !il::may_read(end) {
+    if !end.may_read() {
         return Ok(None);
     }
-    let said = Said::bytes(alloc, il::peek(end, count))?;
-    match il::read(end, count)? {
+    let said = Said::bytes(alloc, end.peek(count))?;
+    match end.read(count)? {
         None => Ok(Some(said)),
         Some(cause) => Ok(Some(Said::hungup(cause))),
     }

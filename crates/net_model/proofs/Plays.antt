@@ -1,0 +1,182 @@
+-- Entries of plays and of steps: one entry more, fewer entries, and how many steps are finished.
+use Rattle.std.proofs.Common.{◌≡◌, ℕ, zero, suc, ◌+◌, ◌-◌, ◌<◌, ◌≤◌, nat_lt, Bool, true, false, List, [], ◌∷◌, ◌++◌, length, map, take, Option, Some, None, ◌⊎◌, inl, inr, refl, sym, ap, subst, ◌∙◌, arith, append_assoc, append-nil}
+use Rattle.std.proofs.lemmas.Bool.{ltb-true, ltb-false}
+use Rattle.std.proofs.lemmas.List.{map-append, take-append-le}
+use Rattle.std.proofs.lemmas.Option.{none-some, same_Some}
+use Rattle.std.proofs.Math.Seq.{take-append-add}
+use Rattle.net_base.specs.declared.actor.ActorName.{ActorName}
+use Rattle.net_base.specs.declared.event.Event.{Event}
+use Rattle.net_base.specs.declared.history.Entry.{Entry}
+use Rattle.net_base.specs.declared.reply.Reply.{Reply}
+use Rattle.net_base.specs.declared.world.Step.{Step}
+use Rattle.net_base.specs.Legal.{asked_by}
+use Rattle.net_base.specs.Steps.{Ask, Bound, Play, Asks, Ends, Position, Stand, Asking, Finished, play_of, position, position_by, stands}
+use Rattle.net_model.specs.ScriptOrder.{Begins, Finishes, IsPlayed, StandInOrder}
+
+abbrev pub replies : List Entry → List Reply
+replies xs = map (λ (x : Entry). x.reply) xs
+
+-- Plays.
+
+-- a play that isn't over asks
+begins_asks : (p : Play) (xs : List Entry) → Begins p xs → (ask : Ask) × (stands p (replies xs) ≡ Asking ask)
+begins_asks (Ends names) xs first = absurd first
+begins_asks (Asks a e next) [] first = (record { actor = a; event = e }, refl)
+begins_asks (Asks a e next) (x ∷ xs) first = begins_asks (next x.reply) xs first.1
+
+played_finishes : (p : Play) (xs : List Entry) (bound : List Bound) (rs : List Reply) → IsPlayed p xs bound → stands p (replies xs ++ rs) ≡ Finished bound rs
+played_finishes (Ends names) [] bound rs played = ap (λ (ns : List Bound). Finished ns rs) played
+played_finishes (Ends names) (x ∷ xs) bound rs played = absurd played
+played_finishes (Asks a e next) [] bound rs played = absurd played
+played_finishes (Asks a e next) (x ∷ xs) bound rs played = played_finishes (next x.reply) xs bound rs played.1
+
+-- the play isn't over after these entries, or it is
+abbrev Goes : Play → List Entry → Type 0
+Goes p xs = Begins p xs ⊎ ((bound : List Bound) × IsPlayed p xs bound)
+
+no_entry : (p : Play) → Goes p []
+no_entry (Ends names) = inr (names, refl)
+no_entry (Asks a e next) = inl tt
+
+one_before : (a : ActorName) (e : Event) (next : Reply → Play) (x : Entry) (xs : List Entry)
+    → asked_by x ≡ record { actor = a; event = e } → Goes (next x.reply) xs → Goes (Asks a e next) (x ∷ xs)
+one_before a e next x xs asked (inl first) = inl (asked, first)
+one_before a e next x xs asked (inr over) = inr (over.0, (asked, over.1))
+
+abbrev ask_in : Stand → Ask → Ask
+ask_in (Asking ask) other = ask
+ask_in (Finished bound rs) other = other
+
+play_push : (p : Play) (xs : List Entry) (x : Entry) → Begins p xs → stands p (replies xs) ≡ Asking (asked_by x) → Goes p (xs ++ x ∷ [])
+play_push (Ends names) xs x first is = absurd first
+play_push (Asks a e next) [] x first is =
+    one_before a e next x [] (sym (ap (λ (s : Stand). ask_in s (asked_by x)) is)) (no_entry (next x.reply))
+play_push (Asks a e next) (y ∷ ys) x first is =
+    one_before a e next y (ys ++ x ∷ []) first.0 (play_push (next y.reply) ys x first.1 is)
+
+begins_take : (p : Play) (xs : List Entry) (k : ℕ) → Begins p xs → Begins p (take k xs)
+begins_take (Ends names) xs k first = absurd first
+begins_take (Asks a e next) [] zero first = tt
+begins_take (Asks a e next) [] (suc k) first = tt
+begins_take (Asks a e next) (x ∷ xs) zero first = tt
+begins_take (Asks a e next) (x ∷ xs) (suc k) first = (first.0, begins_take (next x.reply) xs k first.1)
+
+played_take : (p : Play) (xs : List Entry) (bound : List Bound) (k : ℕ) → k < length xs → IsPlayed p xs bound → Begins p (take k xs)
+played_take (Ends names) [] bound k lt played = absurd (omega (arith, lt))
+played_take (Ends names) (x ∷ xs) bound k lt played = absurd played
+played_take (Asks a e next) [] bound k lt played = absurd played
+played_take (Asks a e next) (x ∷ xs) bound zero lt played = tt
+played_take (Asks a e next) (x ∷ xs) bound (suc k) lt played = (played.0, played_take (next x.reply) xs bound k (omega (arith, lt)) played.1)
+
+-- Steps.
+
+-- the entries stand in order, some of the steps finished
+abbrev pub Stood : ℕ → List Bound → List Step → List Entry → Type 0
+Stood h names ss xs = (n : ℕ) × StandInOrder h names ss n xs
+
+pub none_stood : (h : ℕ) (names : List Bound) (ss : List Step) → Stood h names ss []
+none_stood h names [] = (0, (refl, refl))
+none_stood h names (s ∷ ss) = by (no_entry (play_of h names s)) (λ bound. none_stood h bound ss)
+  where
+    by : Goes (play_of h names s) [] → ((bound : List Bound) → Stood h bound ss []) → Stood h names (s ∷ ss) []
+    by (inl first) later = (0, first)
+    by (inr over) later =
+        let rest = later over.0 in
+        (suc rest.0, record { own = []; rest = []; bound = over.0; all = refl; played = over.1; later = rest.1 })
+
+position_at : (h : ℕ) (names : List Bound) (s : Step) (ss : List Step) (rs : List Reply) (at : Stand) → stands (play_of h names s) rs ≡ at
+    → position h (s ∷ ss) names rs ≡ position_by at (s ∷ ss) (λ (bound : List Bound) (later : List Reply). position h ss bound later)
+position_at h names s ss rs at is = ap (λ (stand : Stand). position_by stand (s ∷ ss) (λ (bound : List Bound) (later : List Reply). position h ss bound later)) is
+
+-- where a step is finished, the later steps go on by the other replies
+goes_on : (h : ℕ) (names : List Bound) (s : Step) (ss : List Step) (n : ℕ) (xs : List Entry)
+    → (f : Finishes (play_of h names s) (λ bound rest. StandInOrder h bound ss n rest) xs) → position h (s ∷ ss) names (replies xs) ≡ position h ss f.bound (replies f.rest)
+goes_on h names s ss n xs f = position_at h names s ss (replies xs) (Finished f.bound (replies f.rest)) finished
+  where
+    finished : stands (play_of h names s) (replies xs) ≡ Finished f.bound (replies f.rest)
+    finished =
+        ap (λ (ys : List Entry). stands (play_of h names s) (replies ys)) f.all
+        ∙ (ap (λ (rs : List Reply). stands (play_of h names s) rs) (map-append (λ (x : Entry). x.reply) f.own f.rest)
+        ∙ played_finishes (play_of h names s) f.own f.bound (replies f.rest) f.played)
+
+pub stood_push : (h : ℕ) (names : List Bound) (ss : List Step) (n : ℕ) (xs : List Entry) (x : Entry)
+    → StandInOrder h names ss n xs → (position h ss names (replies xs)).next ≡ Some (asked_by x) → Stood h names ss (xs ++ x ∷ [])
+stood_push h names [] n xs x there is = absurd (none-some (asked_by x) is)
+stood_push h names (s ∷ ss) zero xs x first is = by (play_push (play_of h names s) xs x first asks)
+  where
+    asking : (ask : Ask) × (stands (play_of h names s) (replies xs) ≡ Asking ask)
+    asking = begins_asks (play_of h names s) xs first
+
+    asks : stands (play_of h names s) (replies xs) ≡ Asking (asked_by x)
+    asks =
+        asking.1
+        ∙ ap (λ (ask : Ask). Asking ask)
+        (same_Some asking.0 (asked_by x) (sym (ap (λ (p : Position). p.next) (position_at h names s ss (replies xs) (Asking asking.0) asking.1)) ∙ is))
+
+    by : Goes (play_of h names s) (xs ++ x ∷ []) → Stood h names (s ∷ ss) (xs ++ x ∷ [])
+    by (inl more) = (0, more)
+    by (inr over) =
+        let rest = none_stood h over.0 ss in
+        (suc rest.0, record { own = xs ++ x ∷ []; rest = []; bound = over.0; all = sym (append-nil (xs ++ x ∷ [])); played = over.1; later = rest.1 })
+stood_push h names (s ∷ ss) (suc n) xs x f is =
+    let rest = stood_push h f.bound ss n f.rest x f.later (sym (ap (λ (p : Position). p.next) (goes_on h names s ss n xs f)) ∙ is) in (
+      suc rest.0,
+      record {
+        own = f.own;
+        rest = f.rest ++ x ∷ [];
+        bound = f.bound;
+        all = ap (λ (ys : List Entry). ys ++ x ∷ []) f.all ∙ append_assoc f.own f.rest (x ∷ []);
+        played = f.played;
+        later = rest.1;
+      },
+    )
+
+-- the steps that aren't finished are left
+pub counted : (h : ℕ) (names : List Bound) (ss : List Step) (n : ℕ) (xs : List Entry)
+    → StandInOrder h names ss n xs → length (position h ss names (replies xs)).left + n ≡ length ss
+counted h names [] n xs there = omega (arith, there.0)
+counted h names (s ∷ ss) zero xs first =
+    let asking = begins_asks (play_of h names s) xs first in
+    let left : length (position h (s ∷ ss) names (replies xs)).left ≡ length (s ∷ ss) =
+    ap (λ (p : Position). length p.left) (position_at h names s ss (replies xs) (Asking asking.0) asking.1) in
+    omega (arith, left)
+counted h names (s ∷ ss) (suc n) xs f =
+    let rest = counted h f.bound ss n f.rest f.later in
+    let left : length (position h (s ∷ ss) names (replies xs)).left ≡ length (position h ss f.bound (replies f.rest)).left =
+    ap (λ (p : Position). length p.left) (goes_on h names s ss n xs f) in
+    omega (arith, rest, left)
+
+-- the first entries stand in order too
+pub stood_take : (h : ℕ) (names : List Bound) (ss : List Step) (n : ℕ) (xs : List Entry) (k : ℕ) → StandInOrder h names ss n xs → Stood h names ss (take k xs)
+stood_take h names [] n xs k there = (0, (refl, ap (λ (ys : List Entry). take k ys) there.1 ∙ of_none k))
+  where
+    of_none : (j : ℕ) → take {A = Entry} j [] ≡ []
+    of_none zero = refl
+    of_none (suc j) = refl
+stood_take h names (s ∷ ss) zero xs k first = (0, begins_take (play_of h names s) xs k first)
+stood_take h names (s ∷ ss) (suc n) xs k f = by (nat_lt k (length f.own)) refl (λ j. stood_take h f.bound ss n f.rest j f.later)
+  where
+    cut : take k xs ≡ take k (f.own ++ f.rest)
+    cut = ap (λ (ys : List Entry). take k ys) f.all
+
+    by : (b : Bool) → nat_lt k (length f.own) ≡ b → ((j : ℕ) → Stood h f.bound ss (take j f.rest)) → Stood h names (s ∷ ss) (take k xs)
+    by true is later =
+        let lt = ltb-true k (length f.own) is in (
+          0,
+          subst (Begins (play_of h names s)) (sym (cut ∙ take-append-le k f.own f.rest (omega (arith, lt))))
+              (played_take (play_of h names s) f.own f.bound k lt f.played),
+        )
+    by false is later =
+        let le = ltb-false k (length f.own) is in
+        let rest = later (k - length f.own) in
+        let far : k ≡ length f.own + (k - length f.own) = omega (arith, le) in (
+          suc rest.0,
+          record {
+            own = f.own;
+            rest = take (k - length f.own) f.rest;
+            bound = f.bound;
+            all = cut ∙ (ap (λ (j : ℕ). take j (f.own ++ f.rest)) far ∙ take-append-add f.own f.rest (k - length f.own));
+            played = f.played;
+            later = rest.1;
+          },
+        )

@@ -1,0 +1,75 @@
+-- Each step records an event, whatever names are bound.
+use Rattle.std.proofs.Common.{ℕ, Bool, true, false, List, [], Option, Some, None, Ok, Err}
+use Rattle.std.specs.Prelude.{Result, if◌then◌else◌}
+use Rattle.net_base.specs.declared.names.Ctl.{Ctl}
+use Rattle.net_base.specs.declared.names.Ctl.TheVariants as ctl
+use Rattle.net_base.specs.declared.names.FileName.{FileName}
+use Rattle.net_base.specs.declared.names.FileName.TheVariants as file
+use Rattle.net_base.specs.declared.world.Step.{Step}
+use Rattle.net_base.specs.declared.world.Step.TheVariants as step
+use Rattle.net_base.specs.ControlWords as control
+use Rattle.net_base.specs.Paths.{reads, writes}
+use Rattle.net_base.specs.Steps.{Bound, Fid, Play, Ends, asks_cs, controls, dials, dotted_name, fid_of, is_bound, misuses, on_fid, play_of, puts, uses, with_bound, with_new, with_readable, with_writable}
+use Rattle.net_model.specs.ScriptOrder.{Begins}
+
+-- the play asks first
+abbrev Asking : Play → Type 0
+Asking p = Begins p []
+
+either : (b : Bool) (p q : Play) → Asking p → Asking q → Asking (if b then p else q)
+either true p q one two = one
+either false p q one two = two
+
+on : (o : Option Fid) (p : Play) (next : Fid → Play) → Asking p → ((f : Fid) → Asking (next f)) → Asking (on_fid o p next)
+on None p next none each = none
+on (Some f) p next none each = each f
+
+new : (h : ℕ) (called : List ℕ) (names : List Bound) (next : Play) → Asking next → Asking (with_new h called names next)
+new h called names next asks = either (is_bound names called) (uses h called names) next tt asks
+
+bound : (h : ℕ) (called : List ℕ) (names : List Bound) (next : Fid → Play) → ((f : Fid) → Asking (next f)) → Asking (with_bound h called names next)
+bound h called names next each = on (fid_of called names) (uses h called names) next tt each
+
+readable : (h : ℕ) (called : List ℕ) (names : List Bound) (next : Fid → Play) → ((f : Fid) → Asking (next f)) → Asking (with_readable h called names next)
+readable h called names next each =
+    bound h called names (λ (f : Fid). if reads f.mode then next f else misuses h called names)
+    (λ f. either (reads f.mode) (next f) (misuses h called names) (each f) tt)
+
+writable : (h : ℕ) (called : List ℕ) (names : List Bound) (next : Fid → Play) → ((f : Fid) → Asking (next f)) → Asking (with_writable h called names next)
+writable h called names next each =
+    bound h called names (λ (f : Fid). if writes f.mode then next f else misuses h called names)
+    (λ f. either (writes f.mode) (next f) (misuses h called names) (each f) tt)
+
+controlling : (h : ℕ) (f : Fid) (text : List ℕ) (said : Result Ctl ℕ) (refused next : Play) → Asking (controls h f text said refused next)
+controlling h f text (Ok (ctl.Connect remote lport)) refused next = tt
+controlling h f text (Ok (ctl.Announce ip port)) refused next = tt
+controlling h f text (Ok (ctl.Bind port)) refused next = tt
+controlling h f text (Ok ctl.Hangup) refused next = tt
+controlling h f text (Ok (ctl.Ttl n)) refused next = tt
+controlling h f text (Ok (ctl.Tos n)) refused next = tt
+controlling h f text (Err fault) refused next = tt
+
+putting : (h : ℕ) (f : Fid) (into : FileName) (text : List ℕ) (refused next : Play) → Asking (puts h f into text refused next)
+putting h f file.Data text refused next = tt
+putting h f file.Ctl text refused next = controlling h f text (control.read text) refused next
+putting h f file.Err text refused next = controlling h f text (control.read text) refused next
+putting h f file.Listen text refused next = controlling h f text (control.read text) refused next
+putting h f file.Local text refused next = controlling h f text (control.read text) refused next
+putting h f file.Remote text refused next = controlling h f text (control.read text) refused next
+putting h f file.Status text refused next = controlling h f text (control.read text) refused next
+
+pub step_asks : (h : ℕ) (names : List Bound) (s : Step) → Begins (play_of h names s) []
+step_asks h names (step.Open called path m) = new h called names _ tt
+step_asks h names (step.Read called count) = readable h called names _ (λ f. tt)
+step_asks h names (step.Write called text) = writable h called names _ (λ f. putting h f f.file text (Ends names) (Ends names))
+step_asks h names (step.Writex called text) = writable h called names _ (λ f. putting h f f.file text (Ends names) (Ends names))
+step_asks h names (step.Close called) = bound h called names _ (λ f. tt)
+step_asks h names (step.Ls path) = tt
+step_asks h names (step.Cs query) = tt
+step_asks h names (step.Until moment) = tt
+step_asks h names (step.Dial called address) = new h called names _ (new h (dotted_name called) names (asks_cs h address (dials h called names)) tt)
+step_asks h names (step.Announce called address) = new h called names _ tt
+step_asks h names (step.Listen called from) = bound h from names _ (λ f. new h called names _ tt)
+step_asks h names (step.Accept called from) = bound h from names _ (λ f. new h called names _ tt)
+step_asks h names (step.Reject called) = writable h called names _ (λ f. putting h f f.file _ _ _)
+step_asks h names (step.Hangup called) = writable h called names _ (λ f. putting h f f.file _ _ _)

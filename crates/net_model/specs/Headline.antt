@@ -1,0 +1,37 @@
+-- What every legal history keeps: the steps of scripts in order, what is read at a peer, the lists of cs, and that its text tells it.
+use Rattle.std.specs.Prelude.{ℕ, ◌≡◌, List, Some, None, slice_get}
+use Rattle.net_base.specs.declared.actor.ActorName.TheVariants as name
+use Rattle.net_base.specs.declared.address.Proto.TheVariants.{Il, Udp}
+use Rattle.net_base.specs.declared.event.Event.TheVariants as event
+use Rattle.net_base.specs.declared.history.Entry.{Entry}
+use Rattle.net_base.specs.declared.world.HostSpec.{HostSpec}
+use Rattle.net_base.specs.declared.world.Script.{Script}
+use Rattle.net_base.specs.declared.world.World.{World}
+use Rattle.net_base.specs.Callers.{IsScript, caller_of}
+use Rattle.net_base.specs.Cs.{cs_list}
+use Rattle.net_base.specs.Desk.{cs_reply}
+use Rattle.net_base.specs.Plain.{IsPlain}
+use Rattle.net_base.specs.Written.{Conversation, IsRead, peer}
+use Rattle.net_model.specs.PrefixLaw.{Alone, InOrder, WasWritten}
+use Rattle.net_model.specs.ScriptOrder.{KeepsScript}
+
+-- the entry is at the desk of a host of the world, and replies the list of that host's database, or why there is none
+pub record AnswersCs (w : World) (x : Entry) (query : List ℕ) : Type 0 where
+  pub number : ℕ
+  pub host : HostSpec
+  pub host_is : slice_get w.hosts number ≡ Some host
+  pub actor_is : x.actor ≡ name.Desk number
+  pub reply_is : x.reply ≡ cs_reply (cs_list w.db host.name host.nets query)
+
+pub record Headline (w : World) (h : List Entry) : Type 0 where
+  -- the events of each script's steps, in order
+  pub in_script_order : (c : ℕ) (s : Script) → caller_of w c ≡ IsScript s → KeepsScript w h c s
+  -- each answer of cs
+  pub cs : (k : ℕ) (x : Entry) (query : List ℕ) → slice_get h k ≡ Some x → x.event ≡ event.Cs query → AnswersCs w x query
+  -- each IL conversation and its peer, and one that has none
+  pub in_order : (e f : Conversation) → e.proto ≡ Il → peer w h e ≡ Some f → InOrder w h e f
+  pub alone : (e : Conversation) → e.proto ≡ Il → peer w h e ≡ None → Alone w h e
+  -- each read at a UDP conversation
+  pub datagrams : (e : Conversation) (k count : ℕ) (text : List ℕ) → e.proto ≡ Udp → IsRead h e k count text → WasWritten w h e k count text
+  -- names and lines of it break no line of its text
+  pub plain : IsPlain h

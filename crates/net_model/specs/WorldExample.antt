@@ -1,0 +1,57 @@
+-- A world with each kind of line.
+use Rattle.std.specs.Prelude.{List, [], ◌∷◌, Some, None, codes}
+use Rattle.net_base.specs.declared.address.Proto.TheVariants as proto
+use Rattle.net_base.specs.declared.names.Mode.TheVariants as mode
+use Rattle.net_base.specs.declared.world.Fate.TheVariants as fate
+use Rattle.net_base.specs.declared.world.HostSpec.{HostSpec}
+use Rattle.net_base.specs.declared.world.MediumSpec.{MediumSpec}
+use Rattle.net_base.specs.declared.world.Step.{Step}
+use Rattle.net_base.specs.declared.world.Step.TheVariants as step
+use Rattle.net_base.specs.declared.world.World.{World}
+use Rattle.net_model.specs.Worked.{ip, script}
+
+abbrev pub lossy_medium : MediumSpec
+lossy_medium = record {
+  number = 0;
+  name = codes "ether0";
+  mtu = 1500;
+  loss = 10;
+  twice = 0;
+  later = 20;
+  fates = record { first = 1; last = 1; fate = fate.Lose } ∷ record { first = 3; last = 5; fate = fate.Deliver } ∷ [];
+}
+
+abbrev pub plain_medium : MediumSpec
+plain_medium = record { number = 1; name = codes "ether1"; mtu = 576; loss = 0; twice = 0; later = 0; fates = [] }
+
+abbrev pub gate : HostSpec
+gate = record {
+  name = codes "gate";
+  nets = proto.Udp ∷ proto.Il ∷ [];
+  ifaces = record { medium = 1; ip = ip 10 0 0 1; mask = ip 255 0 0 0 } ∷ record { medium = 0; ip = ip 135 104 9 1; mask = ip 255 255 255 0 } ∷ [];
+  routes = record { net = 0; mask = 0; gateway = ip 10 0 0 2 } ∷ [];
+  starts = 7 ∷ 4294967295 ∷ [];
+}
+
+abbrev pub all_steps : List Step
+all_steps =
+    step.Until 10
+    ∷ step.Open (codes "c") (codes "/net/il/clone") None
+    ∷ step.Open (codes "d") (codes "/net/cs") (Some mode.Both)
+    ∷ step.Read (codes "d") 8192
+    ∷ step.Write (codes "d") (codes "two  words")
+    ∷ step.Writex (codes "d") (0 ∷ 10 ∷ 255 ∷ [])
+    ∷ step.Writex (codes "d") []
+    ∷ step.Close (codes "d")
+    ∷ step.Ls (codes "/net")
+    ∷ step.Cs (codes "net!$auth!9fs")
+    ∷ step.Dial (codes "e") (codes "il!helix!9fs")
+    ∷ step.Announce (codes "a") (codes "il!*!9fs")
+    ∷ step.Listen (codes "l") (codes "a")
+    ∷ step.Accept (codes "f") (codes "l")
+    ∷ step.Reject (codes "l")
+    ∷ step.Hangup (codes "e")
+    ∷ []
+
+abbrev pub every_line : World
+every_line = record { end = 60000; seed = 18446744073709551615; media = lossy_medium ∷ plain_medium ∷ []; hosts = gate ∷ []; scripts = script 0 all_steps ∷ []; db = [] }

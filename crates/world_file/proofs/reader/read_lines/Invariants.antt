@@ -1,0 +1,14 @@
+use Rattle.std.proofs.Common.{◌≡◌, ◌+◌, ◌≤◌, length}
+use Rattle.net_model.specs.WorldText.{world_reading, reading_from, cuts_of}
+use Rattle.world_file.proofs.Kept.{Kept}
+use Rattle.world_file.proofs.reader.read_lines.Given as goal
+
+abbrev pub invariant-loop-rest : goal.invariant-loop-rest
+invariant-loop-rest l = record {
+  kept : Kept l.draft;
+  room : l.number + length l.rest ≤ length l.bytes + 1;
+  reading : world_reading l.bytes ≡ reading_from l.draft l.number (cuts_of l.rest);
+}
+
+abbrev pub decreases-loop-rest : goal.decreases-loop-rest
+decreases-loop-rest l = length l.rest

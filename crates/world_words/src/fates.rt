@@ -1,0 +1,40 @@
+//! Frames and their fates, by their words.
+ghost use Rattle.std.specs.Prelude.{◌≡◌};
+ghost use Rattle.net_model.specs.WorldLines as spec;
+
+use crate::numbers::number_in;
+use cs_resolver::split_first;
+
+/// K, or K-L where L isn't below K.
+pub fn is_frames(word: &[u8]) -> bool
+    ensures { result ≡ spec.is_frames word.now }
+{
+    let (first, rest) = split_first(word, b'-');
+    let Some(rest) = rest else {
+        return frame_in(first).is_some();
+    };
+    let (last, rest) = split_first(rest, b'-');
+    if let Some(_) = rest {
+        return false;
+    }
+    match (frame_in(first), frame_in(last)) {
+        (Some(first), Some(last)) => first <= last,
+        _ => false,
+    }
+}
+
+/// The number of a frame, from 1.
+fn frame_in(word: &[u8]) -> Option<u64>
+    ensures { result ≡ spec.frame_in word.now }
+{
+    number_in(1, u64::MAX, word)
+}
+
+pub fn is_fate(word: &[u8]) -> bool
+    ensures { result ≡ spec.is_fate word.now }
+{
+    word == b"deliver".as_slice()
+        || word == b"lose".as_slice()
+        || word == b"twice".as_slice()
+        || word == b"later".as_slice()
+}
