@@ -1,8 +1,7 @@
 -- How a run stands after any legal history: done, stopped, limited, or none of these.
-use Rattle.std.proofs.Common.{◌≡◌, ℕ, zero, suc, ◌+◌, ◌-◌, ◌<◌, ◌≤◌, ◌==◌, ◌&&◌, ◌||◌, Bool, true, false, not, List, [], ◌∷◌, length, map, Option, Some, None, is_some, codes, slice_get, ◌⊎◌, inl, inr, refl, sym, ap, subst, ◌∙◌, arith, nat_lt, if◌then◌else◌}
+use Rattle.std.proofs.Common.{◌≡◌, ℕ, zero, suc, ◌+◌, ◌<◌, ◌≤◌, ◌==◌, ◌&&◌, ◌||◌, Bool, true, false, not, List, [], ◌∷◌, length, map, Option, Some, None, is_some, codes, slice_get, ◌⊎◌, inl, inr, refl, sym, ap, subst, ◌∙◌, arith, nat_lt, if◌then◌else◌}
 use Rattle.std.specs.List.{list_any, list_all, range_with_len}
-use Rattle.std.specs.Option.{option_map_or}
-use Rattle.std.proofs.lemmas.Bool.{true≢false, false≢true, eqb-true, eqb-false, eq-eqb, ne_eqb, lt-ltb, le-ltb, ltb-false}
+use Rattle.std.proofs.lemmas.Bool.{true≢false, false≢true, eqb-true, eqb-false, eq-eqb, ne_eqb, ltb-true, and_parts}
 use Rattle.std.proofs.lemmas.Option.{slice_get_within}
 use Rattle.net_base.specs.declared.actor.ActorName.TheVariants as name
 use Rattle.net_base.specs.declared.event.Event.TheVariants as event
@@ -12,7 +11,7 @@ use Rattle.net_base.specs.declared.world.Script.{Script}
 use Rattle.net_base.specs.declared.world.World.{World}
 use Rattle.net_base.specs.Actors.{Actor, IsMedium, actor_step}
 use Rattle.net_base.specs.Callers.{Caller as AnyCaller, IsScript, IsCourier, IsClock, IsNobody, caller_of, caller_count, clock_number, first_courier}
-use Rattle.net_base.specs.Calm.{at_limit, calm, callers, can_go_on, could_record, done, is_quiet, limited, most_entries, movable, nothing_owed, nothing_pending, owes, scripts_wait, stopped, unfinished}
+use Rattle.net_base.specs.Calm.{at_limit, calm, can_go_on, could_record, done, is_quiet, limited, most_entries, movable, nothing_owed, nothing_pending, owes, scripts_wait, stopped, unfinished}
 use Rattle.net_base.specs.declared.history.Taken.{Taken}
 use Rattle.net_base.specs.Medium.{takes}
 use Rattle.net_base.specs.Net.{Net, after}
@@ -27,7 +26,7 @@ use Rattle.plain_runner.specs.declared.runner.Runner.{Runner}
 use Rattle.plain_runner.specs.Idle.{IsIdle}
 use Rattle.plain_runner.specs.Rounds.{MayGo, may_record}
 use Rattle.plain_runner.specs.Stands.{Tracks}
-use Rattle.plain_runner.proofs.Ends.{clock_above, clock_is, idle_calm, idle_not_limited, is_done, is_movable, is_stopped, none_range, some_range}
+use Rattle.plain_runner.proofs.Ends.{clock_above, clock_is, idle_not_limited, is_done, is_movable, is_stopped, none_range, owes_not, some_range}
 use Rattle.plain_runner.proofs.Nexts.{goes_on_is, next_take}
 use Rattle.plain_runner.proofs.Plays.{courier_number}
 use Rattle.plain_runner.proofs.Records.{past_is}
@@ -43,14 +42,17 @@ and_right : (a b : Bool) → b ≡ false → (a && b) ≡ false
 and_right true b is = is
 and_right false b is = refl
 
+and_both : (a b : Bool) → a ≡ true → b ≡ true → (a && b) ≡ true
+and_both a b left right = rw (left, right) refl
+
 -- a range with a number that fails
 fails_range : (test : ℕ → Bool) (n a k : ℕ) → a ≤ k → k < a + n → test k ≡ false → list_all test (range_with_len a n) ≡ false
 fails_range test zero a k above below is = absurd (omega (arith, above, below))
-fails_range test (suc n) a k above below is = by_first (a == k) refl
+fails_range test (suc n) a k above below is = by_first (a == k) refl (λ apart. fails_range test n (a + 1) k (omega (arith, above, apart)) (omega (arith, below)) is)
   where
-    by_first : (e : Bool) → (a == k) ≡ e → (test a && list_all test (range_with_len (a + 1) n)) ≡ false
-    by_first true same = and_left (test a) (list_all test (range_with_len (a + 1) n)) (ap test (eqb-true a k same) ∙ is)
-    by_first false apart = and_right (test a) (list_all test (range_with_len (a + 1) n)) (fails_range test n (a + 1) k (omega (arith, above, eqb-false a k apart)) (omega (arith, below)) is)
+    by_first : (e : Bool) → (a == k) ≡ e → ((a ≡ k → ⊥) → list_all test (range_with_len (a + 1) n) ≡ false) → (test a && list_all test (range_with_len (a + 1) n)) ≡ false
+    by_first true same rest = and_left (test a) (list_all test (range_with_len (a + 1) n)) (ap test (eqb-true a k same) ∙ is)
+    by_first false apart rest = and_right (test a) (list_all test (range_with_len (a + 1) n)) (rest (eqb-false a k apart))
 
 -- Where a caller may go on.
 
@@ -65,7 +67,7 @@ some_frame w r form s goes = rw s.are.medium (by_frames r.actors.medium.frames (
 
     by_frames : (fs : List Frame) → is_some (takes (map taken_of fs) [] (medium_of r.actors.medium)) ≡ true → ((length (map taken_of fs) == 0) && (length {A = Taken} [] == 0)) ≡ false
     by_frames [] is = absurd (false≢true is)
-    by_frames (f ∷ fs) is = refl
+    by_frames (f ∷ fs) is = and_left (length (map taken_of (f ∷ fs)) == 0) (length {A = Taken} [] == 0) (ne_eqb (length (map taken_of (f ∷ fs))) 0 (λ e. absurd (omega (arith, e))))
 
 pub busy : (w : World) (r : Runner) → IsFirstForm w → Tracks w r → MayGo w r.history (clock_number w) true → calm w (after w r.history) ≡ false
 busy w r form s may = by_owes (owes (after w r.history) may.0) refl may.2
@@ -91,7 +93,8 @@ busy w r form s may = by_owes (owes (after w r.history) may.0) refl may.2
 -- the clock isn't at its limit where it may not move
 clock_free : (w : World) (r : Runner) → IsFirstForm w → Tracks w r → movable w (after w r.history) ≡ false → at_limit w (after w r.history) (clock_number w) ≡ false
 clock_free w r form s moves =
-    and_right (length (by (after w r.history).past (clock_number w)) == most_entries) _ (rw (clock_is w form) (rw (s.good.clock, moves) refl))
+    and_right (length (by (after w r.history).past (clock_number w)) == most_entries) _
+    (subst (λ (k : AnyCaller). could_record w (after w r.history) k (clock_number w) ≡ false) (sym (clock_is w form)) (rw (owes_not (after w r.history) (clock_number w) s.good.clock, moves) refl))
 
 -- none of them is at its limit
 pub not_limited : (w : World) (r : Runner) → IsFirstForm w → Tracks w r → movable w (after w r.history) ≡ false → ((c : ℕ) → c < clock_number w → at_limit w (after w r.history) c ≡ false) → limited w (after w r.history) ≡ false
@@ -108,7 +111,7 @@ some_limited w net c lt is = some_range (at_limit w net) (caller_count w) 0 c (o
 pub limit_tells : (w : World) (r : Runner) (c : ℕ) (full may is : Bool) → Tracks w r → c < clock_number w → ((k : Caller) → slice_get r.callers.items c ≡ Some k → full ≡ (k.entries == most_entries)) → may ≡ may_record w r.history c → is ≡ (full && may)
     → is ≡ at_limit w (after w r.history) c
 limit_tells w r c full may is s lt full_is may_is told =
-    told ∙ ap (λ (b : Bool). b && may) count ∙ ap (λ (b : Bool). (length (by (after w r.history).past c) == most_entries) && b) (may_is ∙ sym (records (caller_of w c) refl))
+    told ∙ ap (λ (b : Bool). b && may) count ∙ ap (λ (b : Bool). (length (by (after w r.history).past c) == most_entries) && b) (may_is ∙ sym (records (caller_of w c) (clock_above w c lt)))
   where
     kept : (k : Caller) × (slice_get r.callers.items c ≡ Some k)
     kept = some_caller w r c s lt
@@ -116,11 +119,11 @@ limit_tells w r c full may is s lt full_is may_is told =
     count : full ≡ (length (by (after w r.history).past c) == most_entries)
     count = full_is kept.0 kept.1 ∙ ap (λ (n : ℕ). n == most_entries) (sym (s.callers c kept.0 kept.1).entries ∙ ap (λ (h : List Entry). length (by h c)) (sym (past_is w r.history)))
 
-    records : (k : AnyCaller) → caller_of w c ≡ k → could_record w (after w r.history) (caller_of w c) c ≡ may_record w r.history c
-    records (IsScript t) is = rw is refl
-    records (IsCourier m) is = rw is refl
-    records IsNobody is = rw is refl
-    records IsClock is = absurd (clock_above w c lt is)
+    records : (k : AnyCaller) → (k ≡ IsClock → ⊥) → could_record w (after w r.history) k c ≡ may_record w r.history c
+    records (IsScript t) other = refl
+    records (IsCourier m) other = refl
+    records IsNobody other = refl
+    records IsClock other = absurd (other refl)
 
 -- The word.
 
@@ -157,18 +160,25 @@ stopped_word w net form idle more ends = rw (done_not w net more, is_stopped w n
 not_stopped : (w : World) (net : Net) → (net.moment ≡ w.end → ⊥) → stopped w net ≡ false
 not_stopped w net apart = and_right (calm w net) _ (and_right (not (limited w net)) _ (and_right (unfinished w net) _ (ne_eqb net.moment w.end apart)))
 
-pub full_word : (w : World) (r : Runner) → IsFirstForm w → Tracks w r → IsIdle w (after w r.history) → unfinished w (after w r.history) ≡ true → r.moment < w.end → r.moves ≡ most_entries → codes "limit" ≡ end_word w (after w r.history)
-full_word w r form s idle more before full =
+pub full_word : (w : World) (r : Runner) → IsFirstForm w → Tracks w r → IsIdle w (after w r.history) → unfinished w (after w r.history) ≡ true → (nat_lt r.moment w.end && (r.moves == most_entries)) ≡ true → codes "limit" ≡ end_word w (after w r.history)
+full_word w r form s idle more stuck =
     rw (done_not w net more, not_stopped w net (λ e. absurd (omega (arith, before, s.moment, e))), some_limited w net (clock_number w) (omega arith) at) refl
   where
     net : Net
     net = after w r.history
 
+    before : r.moment < w.end
+    before = ltb-true r.moment w.end (and_parts (nat_lt r.moment w.end) (r.moves == most_entries) stuck).0
+
+    full : r.moves ≡ most_entries
+    full = eqb-true r.moves most_entries (and_parts (nat_lt r.moment w.end) (r.moves == most_entries) stuck).1
+
     at : at_limit w net (clock_number w) ≡ true
     at =
         let count : length (by net.past (clock_number w)) ≡ most_entries = ap (λ (h : List Entry). length (by h (clock_number w))) (past_is w r.history) ∙ s.moves ∙ full in
         let moves = is_movable w net form idle more (omega (arith, before, s.moment)) in
-        rw (eq-eqb (length (by net.past (clock_number w))) most_entries count, clock_is w form) (rw (s.good.clock, moves) refl)
+        and_both (length (by net.past (clock_number w)) == most_entries) _ (eq-eqb (length (by net.past (clock_number w))) most_entries count)
+        (subst (λ (k : AnyCaller). could_record w net k (clock_number w) ≡ true) (sym (clock_is w form)) (rw (owes_not net (clock_number w) s.good.clock, moves) refl))
 
 idle_free : (w : World) (r : Runner) → IsFirstForm w → Tracks w r → IsIdle w (after w r.history) → (movable w (after w r.history) ≡ false) ⊎ (r.moves ≡ most_entries → ⊥) → limited w (after w r.history) ≡ false
 idle_free w r form s idle (inl still) = idle_not_limited w (after w r.history) form idle still
@@ -177,18 +187,20 @@ idle_free w r form s idle (inr few) = none_range (at_limit w net) (caller_count 
     net : Net
     net = after w r.history
 
-    rests : (c : ℕ) (k : AnyCaller) → c < clock_number w → caller_of w c ≡ k → could_record w net (caller_of w c) c ≡ false
-    rests c IsClock lt is = absurd (clock_above w c lt is)
-    rests c (IsScript t) lt is = rw is (rw (idle.owed c (omega (arith, lt)), idle.waits c lt) refl)
-    rests c (IsCourier m) lt is = rw is (rw (idle.owed c (omega (arith, lt)), idle.waits c lt) refl)
-    rests c IsNobody lt is = rw is (rw (idle.owed c (omega (arith, lt)), idle.waits c lt) refl)
+    rests : (c : ℕ) (k : AnyCaller) → (k ≡ IsClock → ⊥) → c < clock_number w → could_record w net k c ≡ false
+    rests c IsClock other lt = absurd (other refl)
+    rests c (IsScript t) other lt = rw (owes_not net c (idle.owed c (omega (arith, lt))), idle.waits c lt) refl
+    rests c (IsCourier m) other lt = rw (owes_not net c (idle.owed c (omega (arith, lt))), idle.waits c lt) refl
+    rests c IsNobody other lt = rw (owes_not net c (idle.owed c (omega (arith, lt))), idle.waits c lt) refl
 
     by_clock : (c : ℕ) (b : Bool) → (c == clock_number w) ≡ b → c < caller_count w → at_limit w net c ≡ false
     by_clock c true is lt =
         let count : length (by net.past (clock_number w)) ≡ r.moves = ap (λ (h : List Entry). length (by h (clock_number w))) (past_is w r.history) ∙ s.moves in
         subst (λ (k : ℕ). at_limit w net k ≡ false) (sym (eqb-true c (clock_number w) is))
         (and_left (length (by net.past (clock_number w)) == most_entries) _ (ne_eqb (length (by net.past (clock_number w))) most_entries (λ e. few (sym count ∙ e))))
-    by_clock c false is lt = and_right (length (by net.past c) == most_entries) _ (rests c (caller_of w c) (omega (arith, lt, eqb-false c (clock_number w) is)) refl)
+    by_clock c false is lt =
+        let below : c < clock_number w = omega (arith, lt, eqb-false c (clock_number w) is) in
+        and_right (length (by net.past c) == most_entries) _ (rests c (caller_of w c) (clock_above w c below) below)
 
 pub other_word : (w : World) (r : Runner) → IsFirstForm w → Tracks w r → IsIdle w (after w r.history) → unfinished w (after w r.history) ≡ true → (r.moment ≡ w.end → ⊥)
     → (nat_lt r.moment w.end && (r.moves == most_entries)) ≡ false → codes "unfinished" ≡ end_word w (after w r.history)

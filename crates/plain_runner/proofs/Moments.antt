@@ -19,7 +19,7 @@ use Rattle.net_base.specs.Conversation.{Conv, Core, Udp, Stage, Unused, Listenin
 use Rattle.net_base.specs.UdpEnd.{UdpEnd}
 use Rattle.conversation.specs.Kept.{Seat}
 use Rattle.conversation.specs.Stands.{StandsFor, StandsForSome, IsShort, IsReady, Steps, Gives, slot_of, step_at}
-use Rattle.host_dir.specs.Kept.{IsDirOf}
+use Rattle.host_dir.specs.Kept.{HostDir, IsDirOf}
 use Rattle.plain_runner.specs.Seats.{ConvSteps, IsSeatOf, IsUdpReady, SeatView, Talks}
 
 -- The moment.
@@ -91,14 +91,21 @@ talks_at kept new work o slot steps c end now stands core =
     let t = talks_so new work o c (conv_step 0 work.event work.with 0 c) refl (subst (λ (n : ℕ). Gives new o (conv_step n work.event work.with 0 c)) slot (steps c stands)) in
     record { after = t.after; step = any_moment 0 work.event work.with now 0 c end core ∙ t.step; stands = t.stands }
 
+pub map_ok : {A E : Type 0} (r : Result A E) (P Q : A → Type 0) → ((x : A) → P x → Q x) → IfOk r P → IfOk r Q
+map_ok (Ok x) P Q f is = f x is
+map_ok (Err e) P Q f is = tt
+
 -- the conversation of a seat, and not its directory
-pub conv_steps : (w : World) (h : ℕ) (old new : SeatView) (work : Work) (o : Outcome) → IsSeatOf w h old → slot_of new.seat ≡ slot_of old.seat → Steps old.seat new.seat 0 work o → new.host_dir ≡ old.host_dir → ConvSteps old new work o
+conv_steps : (w : World) (h : ℕ) (old new : SeatView) (work : Work) (o : Outcome) → IsSeatOf w h old → slot_of new.seat ≡ slot_of old.seat → Steps old.seat new.seat 0 work o → new.host_dir ≡ old.host_dir → ConvSteps old new work o
 conv_steps w h old new work o of slot steps dir = record {
-  of = λ v i is. record { dir = subst (IsDirOf v i proto.Udp) (sym dir) is.dir; slot = slot ∙ is.slot };
+  of = λ v i is. record { dir = subst (λ (d : HostDir). IsDirOf v i proto.Udp d) (sym dir) is.dir; slot = slot ∙ is.slot };
   talks = talks_at old.seat new.seat work o of.slot steps;
   dir = dir;
 }
 
-pub map_ok : {A E : Type 0} (r : Result A E) (P Q : A → Type 0) → ((x : A) → P x → Q x) → IfOk r P → IfOk r Q
-map_ok (Ok x) P Q f is = f x is
-map_ok (Err e) P Q f is = tt
+-- the same of the calls that step it
+pub conv_steps_ok : (w : World) (h : ℕ) (old new : SeatView) (work : Work) (r : Result Outcome AllocError) (kept : Seat) (dir : HostDir) → IsSeatOf w h old → record { host_dir = dir; seat = kept } ≡ old → slot_of new.seat ≡ slot_of kept → new.host_dir ≡ dir
+    → IfOk r (Steps kept new.seat 0 work) → IfOk r (ConvSteps old new work)
+conv_steps_ok w h old new work r kept dir of is slot same =
+    map_ok r (Steps kept new.seat 0 work) (ConvSteps old new work) (λ o steps.
+    conv_steps w h old new work o of (slot ∙ ap (λ (s : SeatView). slot_of s.seat) is) (subst (λ (s : SeatView). Steps s.seat new.seat 0 work o) is steps) (same ∙ ap (λ (s : SeatView). s.host_dir) is))

@@ -1,10 +1,9 @@
 -- A legal history fixes each entry by its caller, so that a run which follows it records the same entries.
-use Rattle.std.proofs.Common.{◌≡◌, ℕ, zero, suc, ◌+◌, ◌<◌, ◌==◌, Bool, true, false, List, [], ◌∷◌, ◌++◌, length, take, Option, Some, None, IsSome, is_some, Result, OnOk, slice_get, refl, sym, ap, subst, ◌∙◌, arith}
+use Rattle.std.proofs.Common.{◌≡◌, ℕ, zero, suc, ◌+◌, ◌<◌, ◌≤◌, Bool, true, List, [], ◌∷◌, ◌++◌, length, take, get_or, Option, Some, None, IsSome, is_some, slice_get, refl, sym, ap, subst, ◌∙◌, arith}
 use Rattle.std.specs.Option.{option_map}
-use Rattle.std.specs.declared.alloc.AllocError.{AllocError}
-use Rattle.std.proofs.lemmas.Bool.{eqb-true, eqb-false, false≢true, true≢false}
-use Rattle.std.proofs.lemmas.Option.{none-some, same_Some}
-use Rattle.std.proofs.lemmas.List.{take_at}
+use Rattle.std.proofs.lemmas.Bool.{false≢true}
+use Rattle.std.proofs.lemmas.Option.{none-some, same_Some, slice_get_read}
+use Rattle.std.proofs.lemmas.List.{take_all, take_at}
 use Rattle.net_base.specs.declared.actor.ActorName.{ActorName}
 use Rattle.net_base.specs.declared.actor.ActorName.TheVariants as name
 use Rattle.net_base.specs.declared.event.Event.{Event}
@@ -13,7 +12,6 @@ use Rattle.net_base.specs.declared.history.Entry.{Entry}
 use Rattle.net_base.specs.declared.history.Outcome.{Outcome}
 use Rattle.net_base.specs.declared.history.With.{With}
 use Rattle.net_base.specs.declared.history.With.TheVariants as given
-use Rattle.net_base.specs.declared.history.Work.{Work}
 use Rattle.net_base.specs.declared.packet.Header.{Header}
 use Rattle.net_base.specs.declared.reply.Reply.{Reply}
 use Rattle.net_base.specs.declared.world.World.{World}
@@ -29,10 +27,9 @@ use Rattle.net_base.specs.Steps.{Ask}
 use Rattle.net_base.specs.World.{IsWorld}
 use Rattle.net_base.specs.WorldForm.{IsFirstForm}
 use Rattle.plain_runner.specs.declared.actors.Met.{Met}
-use Rattle.plain_runner.specs.declared.duty.Duty.{Duty as Task}
 use Rattle.plain_runner.specs.declared.runner.Caller.{Caller}
 use Rattle.plain_runner.specs.declared.runner.Runner.{Runner}
-use Rattle.plain_runner.specs.Followed.{FollowedBy, IsMoveEvent, MayPlay}
+use Rattle.plain_runner.specs.Followed.{Followed, FollowedBy, IsMoveEvent, MayPlay}
 use Rattle.plain_runner.specs.Met.{asks, name_of, owed_of}
 use Rattle.plain_runner.specs.Moved.{Moved, clock_moves}
 use Rattle.plain_runner.specs.Stands.{Plays, Tracks}
@@ -54,7 +51,7 @@ same_fields x y actor caller moment e cites shown =
     build actor caller moment e cites answer emits ended
   where
     build : {a b : ActorName} {c d : ℕ} {m n : ℕ} {e f : Event} {i j : Option ℕ} {r s : Reply} {p q : Option Header} {u v : Bool} → a ≡ b → c ≡ d → m ≡ n → e ≡ f → i ≡ j → r ≡ s → p ≡ q → u ≡ v
-        → record { actor = a; caller = c; moment = m; event = e; cites = i; reply = r; emits = p; ended = u } ≡ record { actor = b; caller = d; moment = n; event = f; cites = j; reply = s; emits = q; ended = v }
+        → ◌≡◌ {A = Entry} (record { actor = a; caller = c; moment = m; event = e; cites = i; reply = r; emits = p; ended = u }) (record { actor = b; caller = d; moment = n; event = f; cites = j; reply = s; emits = q; ended = v })
     build one two three four five six seven eight = rw (one, two, three, four, five, six, seven, eight) refl
 
 -- two entries that may follow, with one event of one caller
@@ -112,8 +109,8 @@ plays_follow w r new c x may caller lt plays = record {
 -- Who records it.
 
 -- the clock's own number, and those below
-pub caller_below : (w : World) (r : Runner) (x : Entry) (len : ℕ) → Tracks w r → MayFollow w r.history x → len ≡ length r.callers.items → (x.caller == len) ≡ false → x.caller < clock_number w
-caller_below w r x len s may is apart = omega (arith, may.is_known.1, s.caller_count, is, eqb-false x.caller len apart)
+pub caller_below : (w : World) (r : Runner) (x : Entry) (len : ℕ) → Tracks w r → MayFollow w r.history x → len ≡ length r.callers.items → (x.caller ≡ len → ⊥) → x.caller < clock_number w
+caller_below w r x len s may is apart = omega (arith, may.is_known.1, s.caller_count, is, apart)
 
 pub clock_asked : (w : World) (r : Runner) (x : Entry) → IsFirstForm w → Tracks w r → MayFollow w r.history x → x.caller ≡ clock_number w → IsMove x.actor x.event
 clock_asked w r x form s may is =
@@ -121,25 +118,25 @@ clock_asked w r x form s may is =
     (subst (λ (ds : List Duty). IsAsked ds (caller_of w (clock_number w)) (next w r.history (clock_number w)) x) s.good.clock
     (subst (λ (c : ℕ). IsAsked ((after w r.history).owed c) (caller_of w c) (next w r.history c) x) is may.is_asked))
 
-pub is_clock_number : (w : World) (r : Runner) (x : Entry) (len : ℕ) → Tracks w r → len ≡ length r.callers.items → (x.caller == len) ≡ true → x.caller ≡ clock_number w
-is_clock_number w r x len s is same = eqb-true x.caller len same ∙ is ∙ s.caller_count
+pub is_clock_number : (w : World) (r : Runner) (x : Entry) (len : ℕ) → Tracks w r → len ≡ length r.callers.items → x.caller ≡ len → x.caller ≡ clock_number w
+is_clock_number w r x len s is same = same ∙ is ∙ s.caller_count
 
 move_event : (a : ActorName) (e : Event) → IsMove a e → IsMoveEvent e
 move_event name.Clock (event.Move m) is = tt
 move_event _ _ is = absurd is
 
-pub clock_event : (w : World) (r : Runner) (x : Entry) (len : ℕ) → IsFirstForm w → Tracks w r → MayFollow w r.history x → len ≡ length r.callers.items → (x.caller == len) ≡ true → IsMoveEvent x.event
+pub clock_event : (w : World) (r : Runner) (x : Entry) (len : ℕ) → IsFirstForm w → Tracks w r → MayFollow w r.history x → len ≡ length r.callers.items → x.caller ≡ len → IsMoveEvent x.event
 clock_event w r x len form s may is same = move_event x.actor x.event (clock_asked w r x form s may (is_clock_number w r x len s is same))
 
-pub clock_room : (w : World) (r : Runner) (x : Entry) (len : ℕ) → Tracks w r → MayFollow w r.history x → len ≡ length r.callers.items → (x.caller == len) ≡ true → r.moves < most_entries
+pub clock_room : (w : World) (r : Runner) (x : Entry) (len : ℕ) → Tracks w r → MayFollow w r.history x → len ≡ length r.callers.items → x.caller ≡ len → r.moves < most_entries
 clock_room w r x len s may is same =
     omega (arith, s.moves, subst (λ (c : ℕ). length (by r.history c) < most_entries) (is_clock_number w r x len s is same) may.has_room)
 
-move_ask : (a : ActorName) (e : Event) (to : ℕ) → IsMove a e → e ≡ event.Move to → record { actor = name.Clock; event = event.Move to } ≡ record { actor = a; event = e }
+move_ask : (a : ActorName) (e : Event) (to : ℕ) → IsMove a e → e ≡ event.Move to → ◌≡◌ {A = Ask} (record { actor = name.Clock; event = event.Move to }) (record { actor = a; event = e })
 move_ask name.Clock (event.Move m) to is same = ap (λ (f : Event). record { actor = name.Clock; event = f }) (sym same)
 move_ask _ _ to is same = absurd is
 
-pub clock_follows : (w : World) (r new : Runner) (x : Entry) (len to : ℕ) → IsFirstForm w → Tracks w r → MayFollow w r.history x → len ≡ length r.callers.items → (x.caller == len) ≡ true → x.event ≡ event.Move to → Moved w r new to
+pub clock_follows : (w : World) (r new : Runner) (x : Entry) (len to : ℕ) → IsFirstForm w → Tracks w r → MayFollow w r.history x → len ≡ length r.callers.items → x.caller ≡ len → x.event ≡ event.Move to → Moved w r new to
     → FollowedBy w r new x
 clock_follows w r new x len to form s may is at e moved = record {
   tracks = moved.tracks;
@@ -149,7 +146,7 @@ clock_follows w r new x len to form s may is at e moved = record {
     same : clock_moves r to ≡ x
     same =
         same_ask w r.history (after w r.history) (clock_moves r to) x (last_follows w r.history (clock_moves r to) (subst (IsLegal w) moved.moves.history moved.tracks.legal)) may
-        (sym is ∙ sym (eqb-true x.caller len at)) (move_ask x.actor x.event to (clock_asked w r x form s may (is_clock_number w r x len s is at)) e)
+        (sym is ∙ sym at) (move_ask x.actor x.event to (clock_asked w r x form s may (is_clock_number w r x len s is at)) e)
 
 -- What a caller may record.
 
@@ -159,6 +156,9 @@ room_of w r x k s may is = omega (arith, (s.callers x.caller k is).entries, may.
 pub owes_room : (w : World) (r : Runner) (x : Entry) (b : Bool) → Tracks w r → MayFollow w r.history x → ((k : Caller) → slice_get r.callers.items x.caller ≡ Some k → b ≡ is_some k.owed) → b ≡ true
     → (k : Caller) → slice_get r.callers.items x.caller ≡ Some k → IsSome k.owed × (k.entries < most_entries)
 owes_room w r x b s may owes some k is = (sym (owes k is) ∙ some, room_of w r x k s may is)
+
+pub asked_room : (w : World) (r : Runner) (c : ℕ) → Tracks w r → MayPlay w r c → (k : Caller) → slice_get r.callers.items c ≡ Some k → k.entries < most_entries
+asked_room w r c s may k is = omega (arith, (s.callers c k is).entries, subst (λ (d : ℕ). length (by r.history d) < most_entries) may.2 may.1.has_room)
 
 some_step : (o : Option (Step Actor)) → IsSome (option_map (λ (s : Step Actor). s.outcome) o) → (s : Step Actor) × (o ≡ Some s)
 some_step (Some s) is = (s, refl)
@@ -215,7 +215,7 @@ asked_some w r c o s lt nothing may told is = none-some (asked_by may.0) (sym (a
 
 -- One entry more.
 
-pub follow_more : (w : World) (h : List Entry) (r new : Runner) (n : ℕ) (x : Entry) → r.history ≡ take n h → slice_get h n ≡ Some x → FollowedBy w r new x → new.history ≡ take (n + 1) h
+follow_more : (w : World) (h : List Entry) (r new : Runner) (n : ℕ) (x : Entry) → r.history ≡ take n h → slice_get h n ≡ Some x → FollowedBy w r new x → new.history ≡ take (n + 1) h
 follow_more w h r new n x before is next = next.history ∙ ap (λ (p : List Entry). p ++ x ∷ []) before ∙ one_more h n x is
   where
     one_more : (h : List Entry) (n : ℕ) (x : Entry) → slice_get h n ≡ Some x → take n h ++ x ∷ [] ≡ take (n + 1) h
@@ -225,3 +225,18 @@ follow_more w h r new n x before is next = next.history ∙ ap (λ (p : List Ent
         by_place [] n x is = absurd (none-some x is)
         by_place (y ∷ h) zero x is = ap (λ (z : Entry). z ∷ []) (sym (same_Some y x is))
         by_place (y ∷ h) (suc n) x is = ap (λ (p : List Entry). y ∷ p) (by_place h n x is)
+
+-- an entry of a list
+got : (xs : List Entry) (n : ℕ) (x : Entry) → n < length xs → x ≡ get_or xs n x → slice_get xs n ≡ Some x
+got xs n x lt is = slice_get_read xs (length xs) n x refl lt is
+
+-- the next entry of a legal history may follow those before it
+pub may_next : (w : World) (h items : List Entry) (r : Runner) (n : ℕ) (x : Entry) → IsLegal w h → items ≡ h → n < length items → x ≡ get_or items n x → r.history ≡ take n items → MayFollow w r.history x
+may_next w h items r n x legal same lt is before =
+    subst (λ (p : List Entry). MayFollow w p x) (sym (before ∙ ap (take n) same)) (legal n x (subst (λ (p : List Entry). slice_get p n ≡ Some x) same (got items n x lt is)))
+
+pub followed_more : (w : World) (items : List Entry) (r new : Runner) (n : ℕ) (x : Entry) → n < length items → x ≡ get_or items n x → r.history ≡ take n items → FollowedBy w r new x → Followed w (take (n + 1) items) new
+followed_more w items r new n x lt is before next = record { tracks = next.tracks; history = follow_more w items r new n x before (got items n x lt is) next }
+
+pub followed_all : (w : World) (h items : List Entry) (r : Runner) (n : ℕ) → items ≡ h → length items ≤ n → Followed w (take n items) r → Followed w h r
+followed_all w h items r n same le followed = record { tracks = followed.tracks; history = followed.history ∙ take_all n items le ∙ same }

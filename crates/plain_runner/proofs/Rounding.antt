@@ -67,7 +67,7 @@ as_so : (o : Option (Step Medium)) → is_some (step_as (λ (m : Medium). IsMedi
 as_so None = refl
 as_so (Some t) = refl
 
-take_is : (w : World) (r : Runner) → Tracks w r → is_some (actor_step w (name.Medium 0) (IsMedium (medium_of r.actors.medium)) (after w r.history).moment (record { event = event.Take; with = given.Nothing })) ≡ is_some (takes (map taken_of r.actors.medium.frames) [] (medium_of r.actors.medium))
+pub take_is : (w : World) (r : Runner) → Tracks w r → is_some (actor_step w (name.Medium 0) (IsMedium (medium_of r.actors.medium)) (after w r.history).moment (record { event = event.Take; with = given.Nothing })) ≡ is_some (takes (map taken_of r.actors.medium.frames) [] (medium_of r.actors.medium))
 take_is w r s = rw s.are.media (as_so (takes (map taken_of r.actors.medium.frames) [] (medium_of r.actors.medium)))
 
 owed_by_last : (w : World) (r : Runner) → Tracks w r → MayGo w r.history (clock_number w) false → (c : ℕ) (e : Bool) → (c == clock_number w) ≡ e → c < caller_count w → (after w r.history).owed c ≡ []

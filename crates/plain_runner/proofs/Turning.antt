@@ -76,7 +76,7 @@ asked_script w r c s t q st is at told =
 pub asked_take : (w : World) (r : Runner) (c : ℕ) → IsFirstForm w → c < clock_number w → slice_get w.scripts c ≡ None → Some (record { actor = name.Medium 0; event = event.Take }) ≡ next w r.history c
 asked_take w r c form lt none = subst (λ (k : ℕ). Some (record { actor = name.Medium 0; event = event.Take }) ≡ next w r.history k) (sym (courier_number w c form lt none)) (sym (next_take w form r.history))
 
-owed_is : (w : World) (r : Runner) (c : ℕ) (k : Caller) → Tracks w r → slice_get r.callers.items c ≡ Some k → (after w r.history).owed c ≡ owed_of k.owed
+pub owed_is : (w : World) (r : Runner) (c : ℕ) (k : Caller) → Tracks w r → slice_get r.callers.items c ≡ Some k → (after w r.history).owed c ≡ owed_of k.owed
 owed_is w r c k s is = (s.callers c k is).owed
 
 pub asks_are_met : (w : World) (r : Runner) (c : ℕ) (a : Met) (e : Event) → IsWorld w → IsFirstForm w → Tracks w r → c < clock_number w → OwesNothing r c → Some (record { actor = name_of a; event = e }) ≡ next w r.history c

@@ -4,7 +4,6 @@ ghost use Rattle.net_base.specs.Callers.{clock_number};
 ghost use Rattle.net_base.specs.Legal.{IsLegal, MayFollow};
 ghost use Rattle.net_base.specs.World.{IsWorld};
 ghost use Rattle.net_base.specs.WorldForm.{IsFirstForm};
-ghost use Rattle.net_base.specs.declared.event.Event.TheVariants as event;
 ghost use Rattle.plain_runner.specs.Followed.{Followed, FollowedBy, IsMoveEvent, MayPlay};
 ghost use Rattle.plain_runner.specs.Stands.{Plays, Tracks};
 ghost use Rattle.plain_runner.specs.Turns.{OwesNothing};
@@ -72,7 +71,7 @@ impl Runner {
 // Where a move goes.
 fn moment_of(event: &Event) -> u64
     requires { IsMoveEvent event.now }
-    ensures { event.now ≡ event.Move result }
+    ensures { event.now ≡ Event.Move result }
 {
     match event {
         Event::Move { moment } => *moment,

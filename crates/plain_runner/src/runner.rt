@@ -6,7 +6,7 @@ ghost use Rattle.plain_runner.specs.Moved.{Moved};
 ghost use Rattle.plain_runner.specs.Stands.{Plays, Stands, Tracks};
 ghost use Rattle.std.specs.Prelude.{None, IfOk, IsSome, is_some, ◌==◌, ◌||◌};
 ghost use Rattle.plain_runner.specs.Rounds.{MayGo, TurnedAll, may_record};
-ghost use Rattle.std.specs.Prelude.{true, replicate};
+ghost use Rattle.std.specs.Prelude.{[], true, replicate};
 ghost use Rattle.net_base.specs.declared.world.Script.{Script as ScriptNow};
 ghost use Rattle.net_base.specs.Calm.{unfinished};
 ghost use Rattle.net_base.specs.Legal.{IsLegal, IsTimed};
@@ -195,7 +195,8 @@ impl Runner {
     pub fn new(alloc: Global, world: &World) -> Result<Runner, AllocError>
         requires world { IsWorld world.now }
         requires form { IsFirstForm world.now }
-        ensures { IfOk result (Stands world.now) }
+        ensures stands { IfOk result (Stands world.now) }
+        ensures empty { IfOk result (λ r. r.history ≡ []) }
     {
         let actors = Actors::new(alloc, world)?;
         let callers = callers_of(alloc, world.scripts.len())?;

@@ -107,7 +107,18 @@ fn grant(script: &Script) -> Event
 {
     let text = second_text(script);
     match read_ctl(text) {
-        Ok(Ctl::Connect { remote, lport }) => Event::Grant {
+        Ok(control) => granted(control),
+        Err(_) => unreachable!(),
+    }
+}
+
+// The grant that a connect asks for.
+fn granted(control: Ctl) -> Event
+    requires { spec.IsConnect control }
+    ensures { result ≡ spec.grant_by control }
+{
+    match control {
+        Ctl::Connect { remote, lport } => Event::Grant {
             slot: 0,
             generation: 1,
             remote,

@@ -1,7 +1,7 @@
 //! The summary of a history, from its world alone.
-ghost use Rattle.std.specs.Prelude.{◌≡◌, ◌<◌, IfOk, true};
+ghost use Rattle.std.specs.Prelude.{◌≡◌, ◌<◌, ◌==◌, ◌&&◌, IfOk, nat_lt, true};
 ghost use Rattle.net_base.specs.Callers.{clock_number};
-ghost use Rattle.net_base.specs.Calm.{at_limit};
+ghost use Rattle.net_base.specs.Calm.{at_limit, most_entries};
 ghost use Rattle.net_base.specs.Legal.{IsLegal};
 ghost use Rattle.net_base.specs.Net.{after};
 ghost use Rattle.net_base.specs.Summary.{end_word, summary};
@@ -92,9 +92,17 @@ impl Runner {
         if self.moment == world.end {
             return End::Stopped;
         }
-        if self.moment < world.end && self.moves == MOST_ENTRIES {
+        let stuck = self.is_stuck(world);
+        if stuck {
             return End::Limit;
         }
         End::Unfinished
+    }
+
+    // Whether the clock has all its entries before the end moment.
+    fn is_stuck(&self, world: &World) -> bool
+        ensures { result ≡ (nat_lt self.now.moment world.now.end && (self.now.moves == most_entries)) }
+    {
+        self.moment < world.end && self.moves == MOST_ENTRIES
     }
 }
