@@ -1,8 +1,8 @@
 -- The actors that are kept step as those of the definitions.
-use Rattle.std.proofs.Common.{◌≡◌, ℕ, zero, suc, ◌+◌, ◌<◌, ◌≤◌, Bool, true, false, List, [], ◌∷◌, ◌++◌, length, map, get_or, Option, Some, None, Result, IfOk, IsTrue, IsSome, is_some, slice_get, slice_set, ◌⊎◌, inl, inr, refl, sym, ap, subst, ◌∙◌, arith, length-append, nat_lt}
-use Rattle.std.proofs.lemmas.Bool.{true≢false, false≢true, lt-ltb, ltb-true, eq-eqb, ne_eqb}
+use Rattle.std.proofs.Common.{◌≡◌, ℕ, zero, suc, ◌+◌, ◌<◌, ◌≤◌, Bool, true, false, List, [], ◌∷◌, ◌++◌, length, map, get_or, Option, Some, None, Result, IfOk, IsTrue, IsSome, is_some, slice_get, slice_set, ◌⊎◌, inl, inr, refl, sym, ap, subst, ◌∙◌, arith, length-append}
+use Rattle.std.proofs.lemmas.Bool.{true≢false, false≢true, lt-ltb, eq-eqb, ne_eqb}
 use Rattle.std.proofs.lemmas.Bool.Decides.{eqb_tells}
-use Rattle.std.proofs.lemmas.Option.{none-some, same_Some, slice_get_within, slice_get_read, slice_get_cases}
+use Rattle.std.proofs.lemmas.Option.{none-some, same_Some, slice_get_within, slice_get_read}
 use Rattle.std.proofs.lemmas.List.{length-set}
 use Rattle.net_base.specs.declared.actor.ActorName.{ActorName}
 use Rattle.net_base.specs.declared.actor.ActorName.TheVariants as name
@@ -31,8 +31,7 @@ use Rattle.net_model.proofs.Histories.{same_actor_is}
 use Rattle.plain_runner.specs.declared.actors.Met.{Met}
 use Rattle.plain_runner.specs.declared.actors.Met.TheVariants as met
 use Rattle.net_base.specs.WorldForm.{IsFirstForm}
-use Rattle.plain_runner.specs.Acting.{AreAt, AreOpening, AreUdp, CanStep, IsHostAt, IsMet, IsSure, MediumSteps, Steps, StepsAll, TellsReady, is_kept}
-use Rattle.plain_runner.specs.Met.{name_of}
+use Rattle.plain_runner.specs.Acting.{AreAt, AreOpening, CanStep, IsHostAt, IsMet, MediumSteps, Steps, StepsAll, TellsReady, is_kept}
 use Rattle.plain_runner.specs.Seats.{SeatView, IsSeatOf, IsUdpReady, TellsConv, dir_of, DirSteps, ConvSteps}
 use Rattle.plain_runner.proofs.Moments.{any_moment, map_ok}
 use Rattle.plain_runner.proofs.Records.{get_set, get_set_other}

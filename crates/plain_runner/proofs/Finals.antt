@@ -35,7 +35,7 @@ use Rattle.plain_runner.specs.Acting.{AreAt, is_kept}
 use Rattle.plain_runner.specs.Good.{Good, stands_after}
 use Rattle.plain_runner.specs.Phases.{Phase, Fresh, Reserved, Begun, Granted, IsConvIn}
 use Rattle.plain_runner.specs.Places.{ask_at, transfer_ask}
-use Rattle.plain_runner.specs.Stands.{Stands, Tracks, IsOnTime, Plays, IsCaller, stand_of}
+use Rattle.plain_runner.specs.Stands.{Stands, Tracks, IsOnTime, IsCaller, stand_of}
 use Rattle.plain_runner.specs.declared.actors.Actors.{Actors}
 use Rattle.plain_runner.proofs.Actings.{clock_acts}
 use Rattle.plain_runner.proofs.Clock.{move_entry, move_step, move_keeps}

@@ -1,6 +1,5 @@
 -- A conversation of UDP does the same at any moment, and what is kept of one answers as it does.
-use Rattle.std.proofs.Common.{◌≡◌, ℕ, zero, suc, ◌&&◌, List, Option, Some, None, Result, Ok, Err, IfOk, IsSome, IsTrue, is_some, refl, sym, ap, subst, ◌∙◌}
-use Rattle.std.proofs.lemmas.Option.{none-some, same_Some}
+use Rattle.std.proofs.Common.{◌≡◌, ℕ, zero, suc, ◌&&◌, List, Option, Some, None, Result, Ok, Err, IfOk, IsTrue, is_some, refl, sym, ap, subst, ◌∙◌}
 use Rattle.std.specs.declared.alloc.AllocError.{AllocError}
 use Rattle.net_base.specs.declared.address.Pair.{Pair}
 use Rattle.net_base.specs.declared.address.Proto.TheVariants as proto
@@ -18,7 +17,7 @@ use Rattle.net_base.specs.ActorStep.{Step, when}
 use Rattle.net_base.specs.Conversation.{Conv, Core, Udp, Stage, Unused, Listening, Connected, conv_step, in_generation, raises, brought_forth, may_bear, may_connect, joined, write_at, has_protocol, taken_in, hung_up, left_or_ok, core_name, closed, ticked}
 use Rattle.net_base.specs.UdpEnd.{UdpEnd}
 use Rattle.conversation.specs.Kept.{Seat}
-use Rattle.conversation.specs.Stands.{StandsFor, StandsForSome, IsShort, IsReady, Steps, Gives, slot_of, step_at}
+use Rattle.conversation.specs.Stands.{StandsFor, StandsForSome, IsShort, IsReady, Steps, Gives, slot_of}
 use Rattle.host_dir.specs.Kept.{HostDir, IsDirOf}
 use Rattle.plain_runner.specs.Seats.{ConvSteps, IsSeatOf, IsUdpReady, SeatView, Talks}
 

@@ -17,10 +17,10 @@ use Rattle.net_base.specs.declared.reply.Reply.{Reply}
 use Rattle.net_base.specs.declared.world.World.{World}
 use Rattle.net_base.specs.ActorStep.{Step}
 use Rattle.net_base.specs.Actors.{Actor, actor_step}
-use Rattle.net_base.specs.Callers.{Caller as AnyCaller, IsScript, IsCourier, IsClock, IsNobody, caller_of, caller_count, clock_number}
+use Rattle.net_base.specs.Callers.{Caller as AnyCaller, IsScript, IsCourier, IsClock, IsNobody, caller_of, clock_number}
 use Rattle.net_base.specs.Calm.{most_entries}
 use Rattle.net_base.specs.Duties.{Duty}
-use Rattle.net_base.specs.Legal.{Follows, IsAsked, IsLegal, IsNext, IsMove, MayFollow, Shows, Shown, asked_by, cites_of, shown_by, shown_of}
+use Rattle.net_base.specs.Legal.{Follows, IsAsked, IsLegal, IsNext, IsMove, MayFollow, Shows, Shown, asked_by, cites_of, shown_by}
 use Rattle.net_base.specs.Net.{Net, after, outcome_in, step_of, with_of, work_of}
 use Rattle.net_base.specs.Next.{by, next}
 use Rattle.net_base.specs.Steps.{Ask}

@@ -13,8 +13,7 @@ use Rattle.net_base.specs.declared.history.With.TheVariants as given
 use Rattle.net_base.specs.declared.history.Work.{Work}
 use Rattle.net_base.specs.declared.world.Script.{Script}
 use Rattle.net_base.specs.declared.world.World.{World}
-use Rattle.net_base.specs.ActorStep.{Step}
-use Rattle.net_base.specs.Actors.{Actor, actor_step}
+use Rattle.net_base.specs.Actors.{actor_step}
 use Rattle.net_base.specs.Callers.{Caller as AnyCaller, IsScript, IsCourier, IsClock, IsNobody, caller_of, clock_number}
 use Rattle.net_base.specs.Calm.{owes, can_go_on, most_entries}
 use Rattle.plain_runner.specs.Rounds.{may_record}
@@ -35,7 +34,6 @@ use Rattle.plain_runner.specs.Acting.{IsMet}
 use Rattle.plain_runner.specs.Before.{Before}
 use Rattle.plain_runner.specs.Good.{ScriptOwes, CourierOwes}
 use Rattle.plain_runner.specs.Met.{name_of, asks, duty_of, owed_of}
-use Rattle.plain_runner.specs.Phases.{Phase}
 use Rattle.plain_runner.specs.Places.{ask_at}
 use Rattle.plain_runner.specs.Stands.{Plays, Stands, Tracks, stand_of}
 use Rattle.plain_runner.specs.Turns.{IsReadyNext, IsAskOf, IsThrough, Owes, OwesNothing, Turned}

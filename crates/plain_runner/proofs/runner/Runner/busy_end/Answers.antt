@@ -1,5 +1,4 @@
-use Rattle.std.proofs.Common.{◌≡◌, ℕ, ◌<◌, false, arith, subst}
-use Rattle.net_base.specs.Calm.{at_limit}
+use Rattle.std.proofs.Common.{arith}
 use Rattle.net_base.specs.Net.{after}
 use Rattle.plain_runner.proofs.Halts.{free_more, limit_word, unfinished_word}
 use Rattle.plain_runner.proofs.runner.Runner.busy_end.Goals as goal

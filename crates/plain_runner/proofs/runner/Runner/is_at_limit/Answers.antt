@@ -1,4 +1,4 @@
-use Rattle.std.proofs.Common.{◌≡◌, ◌&&◌, Bool, false, true, refl, sym, ap, ◌∙◌}
+use Rattle.std.proofs.Common.{◌≡◌, ◌&&◌, Bool, false, refl, sym, ap}
 use Rattle.plain_runner.specs.Rounds.{may_record}
 use Rattle.plain_runner.proofs.Halts.{limit_tells}
 use Rattle.plain_runner.proofs.Moments.{map_ok}

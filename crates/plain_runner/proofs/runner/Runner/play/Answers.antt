@@ -1,4 +1,4 @@
-use Rattle.std.proofs.Common.{◌+◌, refl, arith}
+use Rattle.std.proofs.Common.{refl, arith}
 use Rattle.plain_runner.proofs.Lengths.{few_entries}
 use Rattle.plain_runner.proofs.Plays.{played_ok, fits_now, can_step, laid_now}
 use Rattle.plain_runner.proofs.runner.Runner.play.Goals as goal

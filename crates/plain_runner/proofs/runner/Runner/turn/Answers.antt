@@ -1,5 +1,5 @@
 use Rattle.std.proofs.Common.{refl}
-use Rattle.plain_runner.proofs.Turning.{full_through, few_of, owes_some, owes_nothing, plays_turn, rests, asked_none}
+use Rattle.plain_runner.proofs.Turning.{full_through, few_of, owes_some, owes_nothing, rests, asked_none}
 use Rattle.plain_runner.proofs.runner.Runner.turn.Goals as goal
 
 pub returns-then-is_full : goal.returns-then-is_full
