@@ -55,8 +55,13 @@ most_below (suc n) h few = omega (arith, one_more n h, few n (omega arith), most
 -- at most 32 scripts, the courier and the clock record
 pub few_entries : (w : World) (r : Runner) → IsWorld w → IsFirstForm w → Tracks w r → length r.history ≤ 4456448
 few_entries w r world form s =
-    omega (arith, most_below (caller_count w) r.history few, all_below (caller_count w) r.history (λ k x is. (s.legal k x is).is_known.1),
-    ap (λ ms. length ms) form.media, leb-true (length w.scripts) 32 world.few_scripts)
+    omega (
+      arith,
+      most_below (caller_count w) r.history few,
+      all_below (caller_count w) r.history (λ k x is. (s.legal k x is).is_known.1),
+      ap (λ ms. length ms) form.media,
+      leb-true (length w.scripts) 32 world.few_scripts,
+    )
   where
     by_clock : (c : ℕ) (b : Bool) → (c == clock_number w) ≡ b → c < caller_count w → length (by r.history c) ≤ 131072
     by_clock c true is lt = subst (λ (k : ℕ). length (by r.history k) ≤ 131072) (sym (eqb-true c (clock_number w) is)) (omega (arith, s.moves, s.few_moves))
