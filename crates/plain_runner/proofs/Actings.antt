@@ -1,7 +1,6 @@
 -- The actors that are kept step as those of the definitions.
-use Rattle.std.proofs.Common.{◌≡◌, ℕ, zero, suc, ◌+◌, ◌<◌, ◌≤◌, Bool, true, false, List, [], ◌∷◌, ◌++◌, length, map, get_or, Option, Some, None, Result, Ok, Err, IfOk, IsTrue, IsSome, is_some, slice_get, slice_set, ◌⊎◌, inl, inr, refl, sym, ap, subst, ◌∙◌, arith, length-append}
-use Rattle.std.specs.Option.{option_map_or}
-use Rattle.std.proofs.lemmas.Bool.{true≢false, false≢true, lt-ltb, eq-eqb}
+use Rattle.std.proofs.Common.{◌≡◌, ℕ, zero, suc, ◌+◌, ◌<◌, ◌≤◌, Bool, true, false, List, [], ◌∷◌, ◌++◌, length, map, get_or, Option, Some, None, Result, IfOk, IsTrue, IsSome, is_some, slice_get, slice_set, ◌⊎◌, inl, inr, refl, sym, ap, subst, ◌∙◌, arith, length-append}
+use Rattle.std.proofs.lemmas.Bool.{true≢false, false≢true, lt-ltb, eq-eqb, ne_eqb}
 use Rattle.std.proofs.lemmas.Bool.Decides.{eqb_tells}
 use Rattle.std.proofs.lemmas.Option.{none-some, same_Some, slice_get_within, slice_get_read}
 use Rattle.std.proofs.lemmas.List.{length-set}
@@ -16,47 +15,62 @@ use Rattle.net_base.specs.declared.world.MediumSpec.{MediumSpec}
 use Rattle.net_base.specs.declared.world.World.{World}
 use Rattle.net_base.specs.ActorStep.{Step, when}
 use Rattle.net_base.specs.Actors.{Actor, IsDir, IsConv, IsMedium, actor_step, opening_actor, opening_dir, opening_conv, step_as}
-use Rattle.net_base.specs.Conversation.{Conv, conv_step}
+use Rattle.net_base.specs.Conversation.{Conv, Udp, conv_step}
 use Rattle.net_base.specs.Directory.{Dir, dir_step}
 use Rattle.net_base.specs.Medium.{Medium, medium_step, takes}
-use Rattle.std.specs.declared.alloc.AllocError.{AllocError}
-use Rattle.medium.specs.declared.frame.Frame.{Frame}
+use Rattle.net_base.specs.Net.{actors_after}
 use Rattle.net_base.specs.Stamped.{same_actor}
+use Rattle.net_base.specs.UdpEnd.{UdpEnd}
+use Rattle.std.specs.declared.alloc.AllocError.{AllocError}
+use Rattle.conversation.specs.Kept.{Seat}
+use Rattle.conversation.specs.Stands.{StandsFor}
+use Rattle.host_dir.specs.Kept.{HostDir}
+use Rattle.medium.specs.declared.frame.Frame.{Frame}
 use Rattle.medium.specs.OnMedium.{OnMedium, medium_of, taken_of}
+use Rattle.net_model.proofs.Histories.{same_actor_is}
 use Rattle.plain_runner.specs.declared.actors.Met.{Met}
 use Rattle.plain_runner.specs.declared.actors.Met.TheVariants as met
-use Rattle.plain_runner.specs.Acting.{AreOf, AreOpening, Steps, IsMet, IsSure, actor_at}
-use Rattle.plain_runner.specs.Met.{name_of}
-use Rattle.plain_runner.specs.Seats.{SeatView, IsSeatOf, dir_of, conv_of, DirSteps, ConvSteps}
+use Rattle.net_base.specs.WorldForm.{IsFirstForm}
+use Rattle.plain_runner.specs.Acting.{AreAt, AreOpening, CanStep, IsHostAt, IsMet, MediumSteps, Steps, StepsAll, TellsReady, is_kept}
+use Rattle.plain_runner.specs.Seats.{SeatView, IsSeatOf, IsUdpReady, TellsConv, dir_of, DirSteps, ConvSteps}
+use Rattle.plain_runner.proofs.Moments.{any_moment, map_ok}
 use Rattle.plain_runner.proofs.Records.{get_set, get_set_other}
 
--- a list with one element changed, as a function of its elements
-at_set : {A B : Type 0} (f : A → B) (xs : List A) (h i : ℕ) (x y : A) (other : B) → slice_get xs h ≡ Some x → f y ≡ f x → option_map_or f (slice_get (slice_set xs h y) i) other ≡ option_map_or f (slice_get xs i) other
-at_set f xs h i x y other is same = elim (eqb_tells h i) [
-  | inl here ↦ subst (λ (k : ℕ). option_map_or f (slice_get (slice_set xs h y) k) other ≡ option_map_or f (slice_get xs k) other) here.1
-      (rw (get_set xs h y (slice_get_within xs h x is), is) same)
-  | inr apart ↦ ap (λ o. option_map_or f o other) (get_set_other xs h i y apart.1)
+-- What an actor becomes.
+
+-- an actor that is kept isn't one that isn't
+kept_apart : (n : ℕ) (b a : ActorName) → is_kept n b ≡ true → is_kept n a ≡ false → same_actor b a ≡ false
+kept_apart n b a kept other = by_test (same_actor b a) refl
+  where
+    by_test : (e : Bool) → same_actor b a ≡ e → same_actor b a ≡ false
+    by_test true same = absurd (true≢false (sym kept ∙ ap (is_kept n) (same_actor_is b a same) ∙ other))
+    by_test false apart = apart
+
+-- the seat of a host becomes another, with the actors
+others_set : (w : World) (seats : List SeatView) (h : ℕ) (t : SeatView) (old new : ActorName → Actor) → h < length seats → IsHostAt w new h t
+    → ((i : ℕ) (s : SeatView) → (h ≡ i → ⊥) → IsHostAt w old i s → IsHostAt w new i s)
+    → ((i : ℕ) (s : SeatView) → slice_get seats i ≡ Some s → IsHostAt w old i s)
+    → (i : ℕ) (s : SeatView) → slice_get (slice_set seats h t) i ≡ Some s → IsHostAt w new i s
+others_set w seats h t old new lt here there all i s is = elim (eqb_tells h i) [
+  | inl same ↦ subst (λ (k : ℕ). slice_get (slice_set seats h t) k ≡ Some s → IsHostAt w new k s) same.1
+      (λ at. subst (IsHostAt w new h) (same_Some t s (sym (get_set seats h t lt) ∙ at)) here) is
+  | inr apart ↦ there i s apart.1 (all i s (sym (get_set_other seats h i t apart.1) ∙ is))
 ]
 
-set_are : (w : World) (seats : List SeatView) (m : OnMedium) (h : ℕ) (s : SeatView) → AreOf w seats m → IsSeatOf w h s → h < length seats → AreOf w (slice_set seats h s) m
-set_are w seats m h s are of lt = record {
-  count = length-set seats h s ∙ are.count;
-  seat = λ i t is. elim (eqb_tells h i) [
-    | inl here ↦ subst (λ (k : ℕ). slice_get (slice_set seats h s) k ≡ Some t → IsSeatOf w k t) here.1
-        (λ at. subst (IsSeatOf w h) (same_Some s t (sym (get_set seats h s lt) ∙ at)) of) is
-    | inr apart ↦ are.seat i t (sym (get_set_other seats h i s apart.1) ∙ is)
-  ];
-  media = are.media;
-  seed = are.seed;
-}
-
-pub conv_acts : (w : World) (seats : List SeatView) (m : OnMedium) (h : ℕ) (s t : SeatView) (now : ℕ) (work : Work) (o : Outcome) → AreOf w seats m → slice_get seats h ≡ Some s → IsSeatOf w h t
-    → conv_step 0 work.event work.with now (conv_of s) ≡ Some (record { state = conv_of t; outcome = o }) → dir_of t ≡ dir_of s
-    → Steps w seats m (name.Conv h proto.Udp 0) now work (slice_set seats h t) m o
-conv_acts w seats m h s t now work o are is of step same = record {
-  are = set_are w seats m h t are of lt;
-  step = rw (is, get_set seats h t lt, lt-ltb h (length w.hosts) in_world, step) refl;
-  others = others;
+pub conv_acts : (w : World) (seats : List SeatView) (m : OnMedium) (actors : ActorName → Actor) (h : ℕ) (s t : SeatView) (now : ℕ) (work : Work) (o : Outcome) (c d : Conv) → AreAt w seats m actors → slice_get seats h ≡ Some s → IsSeatOf w h t
+    → t.host_dir ≡ s.host_dir → actors (name.Conv h proto.Udp 0) ≡ IsConv c → StandsFor t.seat d → conv_step 0 work.event work.with now c ≡ Some (record { state = d; outcome = o })
+    → Steps w actors m (name.Conv h proto.Udp 0) now work (slice_set seats h t) m o
+conv_acts w seats m actors h s t now work o c d are is of same conv_is stands step = record {
+  state = IsConv d;
+  step = rw (conv_is, lt-ltb h (length w.hosts) in_world, step) refl;
+  are = record {
+    count = length-set seats h t ∙ are.count;
+    seat = others_set w seats h t actors new lt here there are.seat;
+    media = are.media;
+    seed = are.seed;
+    medium = are.medium;
+    others = λ a not_kept. rw (kept_apart (length w.hosts) (name.Conv h proto.Udp 0) a (lt-ltb h (length w.hosts) in_world) not_kept) (are.others a not_kept);
+  };
   laid = omega arith;
 }
   where
@@ -66,24 +80,35 @@ conv_acts w seats m h s t now work o are is of step same = record {
     in_world : h < length w.hosts
     in_world = omega (arith, lt, are.count)
 
-    others : (b : ActorName) → same_actor (name.Conv h proto.Udp 0) b ≡ false → actor_at (slice_set seats h t) m b ≡ actor_at seats m b
-    others (name.Dir i proto.Udp) apart = at_set (λ (v : SeatView). IsDir (dir_of v)) seats h i s t (opening_actor (name.Dir i proto.Udp)) is (ap (λ (d : Dir). IsDir d) same)
-    others (name.Dir i proto.Il) apart = refl
-    others (name.Conv i proto.Udp zero) apart = ap (λ (v : Option SeatView). option_map_or (λ (s : SeatView). IsConv (conv_of s)) v (opening_actor (name.Conv i proto.Udp 0))) (get_set_other seats h i t (λ e. true≢false (sym (rw (eq-eqb h i e) refl) ∙ apart)))
-    others (name.Conv i proto.Udp (suc n)) apart = refl
-    others (name.Conv i proto.Il n) apart = refl
-    others (name.Medium zero) apart = refl
-    others (name.Medium (suc k)) apart = refl
-    others (name.Desk i) apart = refl
-    others name.Clock apart = refl
+    new : ActorName → Actor
+    new = actors_after actors (name.Conv h proto.Udp 0) (IsConv d)
 
-pub dir_acts : (w : World) (seats : List SeatView) (m : OnMedium) (h : ℕ) (s t : SeatView) (now : ℕ) (work : Work) (o : Outcome) → AreOf w seats m → slice_get seats h ≡ Some s → IsSeatOf w h t
-    → dir_step w h proto.Udp work.event work.with (dir_of s) ≡ Some (record { state = dir_of t; outcome = o }) → conv_of t ≡ conv_of s
-    → Steps w seats m (name.Dir h proto.Udp) now work (slice_set seats h t) m o
-dir_acts w seats m h s t now work o are is of step same = record {
-  are = set_are w seats m h t are of lt;
-  step = rw (is, get_set seats h t lt, lt-ltb h (length w.hosts) in_world, step) refl;
-  others = others;
+    here : IsHostAt w new h t
+    here = record {
+      of = of;
+      dir = (are.seat h s is).dir ∙ ap (λ (k : HostDir). IsDir k.dir) (sym same);
+      conv = d;
+      stands = stands;
+      conv_is = rw (eq-eqb h h refl) refl;
+    }
+
+    there : (i : ℕ) (u : SeatView) → (h ≡ i → ⊥) → IsHostAt w actors i u → IsHostAt w new i u
+    there i u apart old = record { of = old.of; dir = old.dir; conv = old.conv; stands = old.stands; conv_is = rw (ne_eqb h i apart) old.conv_is }
+
+pub dir_acts : (w : World) (seats : List SeatView) (m : OnMedium) (actors : ActorName → Actor) (h : ℕ) (s t : SeatView) (now : ℕ) (work : Work) (o : Outcome) → AreAt w seats m actors → slice_get seats h ≡ Some s → IsSeatOf w h t
+    → dir_step w h proto.Udp work.event work.with (dir_of s) ≡ Some (record { state = dir_of t; outcome = o }) → t.seat ≡ s.seat
+    → Steps w actors m (name.Dir h proto.Udp) now work (slice_set seats h t) m o
+dir_acts w seats m actors h s t now work o are is of step same = record {
+  state = IsDir (dir_of t);
+  step = rw ((are.seat h s is).dir, lt-ltb h (length w.hosts) in_world, step) refl;
+  are = record {
+    count = length-set seats h t ∙ are.count;
+    seat = others_set w seats h t actors new lt here there are.seat;
+    media = are.media;
+    seed = are.seed;
+    medium = are.medium;
+    others = λ a not_kept. rw (kept_apart (length w.hosts) (name.Dir h proto.Udp) a (lt-ltb h (length w.hosts) in_world) not_kept) (are.others a not_kept);
+  };
   laid = omega arith;
 }
   where
@@ -93,37 +118,48 @@ dir_acts w seats m h s t now work o are is of step same = record {
     in_world : h < length w.hosts
     in_world = omega (arith, lt, are.count)
 
-    others : (b : ActorName) → same_actor (name.Dir h proto.Udp) b ≡ false → actor_at (slice_set seats h t) m b ≡ actor_at seats m b
-    others (name.Conv i proto.Udp zero) apart = at_set (λ (v : SeatView). IsConv (conv_of v)) seats h i s t (opening_actor (name.Conv i proto.Udp 0)) is (ap (λ (c : Conv). IsConv c) same)
-    others (name.Conv i proto.Udp (suc n)) apart = refl
-    others (name.Conv i proto.Il n) apart = refl
-    others (name.Dir i proto.Udp) apart = ap (λ (v : Option SeatView). option_map_or (λ (s : SeatView). IsDir (dir_of s)) v (opening_actor (name.Dir i proto.Udp))) (get_set_other seats h i t (λ e. true≢false (sym (rw (eq-eqb h i e) refl) ∙ apart)))
-    others (name.Dir i proto.Il) apart = refl
-    others (name.Medium zero) apart = refl
-    others (name.Medium (suc k)) apart = refl
-    others (name.Desk i) apart = refl
-    others name.Clock apart = refl
+    new : ActorName → Actor
+    new = actors_after actors (name.Dir h proto.Udp) (IsDir (dir_of t))
 
-pub medium_acts : (w : World) (seats : List SeatView) (m new : OnMedium) (now : ℕ) (work : Work) (o : Outcome) → AreOf w seats m → new.spec ≡ m.spec → new.seed ≡ m.seed → new.laid ≤ m.laid + 1
+    here : IsHostAt w new h t
+    here =
+        let old = are.seat h s is in
+        record { of = of; dir = rw (eq-eqb h h refl) refl; conv = old.conv; stands = subst (λ (k : Seat). StandsFor k old.conv) (sym same) old.stands; conv_is = old.conv_is }
+
+    there : (i : ℕ) (u : SeatView) → (h ≡ i → ⊥) → IsHostAt w actors i u → IsHostAt w new i u
+    there i u apart old = record { of = old.of; dir = rw (ne_eqb h i apart) old.dir; conv = old.conv; stands = old.stands; conv_is = old.conv_is }
+
+pub medium_acts : (w : World) (seats : List SeatView) (m new : OnMedium) (actors : ActorName → Actor) (now : ℕ) (work : Work) (o : Outcome) → AreAt w seats m actors → new.spec ≡ m.spec → new.seed ≡ m.seed → new.laid ≤ m.laid + 1
     → medium_step m.spec m.seed work.event work.with (medium_of m) ≡ Some (record { state = medium_of new; outcome = o })
-    → Steps w seats m (name.Medium 0) now work seats new o
-medium_acts w seats m new now work o are spec seed laid step = record {
-  are = record { count = are.count; seat = are.seat; media = are.media ∙ ap (λ s. s ∷ []) (sym spec); seed = seed ∙ are.seed };
-  step = rw (are.media, sym are.seed, step) refl;
-  others = others;
+    → Steps w actors m (name.Medium 0) now work seats new o
+medium_acts w seats m new actors now work o are spec seed laid step = record {
+  state = IsMedium (medium_of new);
+  step = rw (are.medium, are.media, sym are.seed, step) refl;
+  are = record {
+    count = are.count;
+    seat = λ i s is. let old = are.seat i s is in record { of = old.of; dir = old.dir; conv = old.conv; stands = old.stands; conv_is = old.conv_is };
+    media = are.media ∙ ap (λ s. s ∷ []) (sym spec);
+    seed = seed ∙ are.seed;
+    medium = refl;
+    others = λ a not_kept. rw (kept_apart (length w.hosts) (name.Medium 0) a refl not_kept) (are.others a not_kept);
+  };
   laid = laid;
 }
+
+-- the clock keeps nothing
+pub clock_acts : (w : World) (seats : List SeatView) (m : OnMedium) (actors : ActorName → Actor) → AreAt w seats m actors → AreAt w seats m (actors_after actors name.Clock (opening_actor name.Clock))
+clock_acts w seats m actors are = record {
+  count = are.count;
+  seat = λ i s is. let old = are.seat i s is in record { of = old.of; dir = old.dir; conv = old.conv; stands = old.stands; conv_is = old.conv_is };
+  media = are.media;
+  seed = are.seed;
+  medium = are.medium;
+  others = λ a not_kept. by_clock a (same_actor name.Clock a) refl not_kept;
+}
   where
-    others : (b : ActorName) → same_actor (name.Medium 0) b ≡ false → actor_at seats new b ≡ actor_at seats m b
-    others (name.Conv i proto.Udp zero) apart = refl
-    others (name.Conv i proto.Udp (suc n)) apart = refl
-    others (name.Conv i proto.Il n) apart = refl
-    others (name.Dir i proto.Udp) apart = refl
-    others (name.Dir i proto.Il) apart = refl
-    others (name.Medium zero) apart = absurd (true≢false apart)
-    others (name.Medium (suc k)) apart = refl
-    others (name.Desk i) apart = refl
-    others name.Clock apart = refl
+    by_clock : (a : ActorName) (b : Bool) → same_actor name.Clock a ≡ b → is_kept (length w.hosts) a ≡ false → actors_after actors name.Clock (opening_actor name.Clock) a ≡ opening_actor a
+    by_clock a true same not_kept = rw same (ap opening_actor (same_actor_is name.Clock a same))
+    by_clock a false apart not_kept = rw apart (are.others a not_kept)
 
 -- What is ready by the definitions is ready for its own table.
 
@@ -132,53 +168,71 @@ some_as true f (Some t) is = refl
 some_as true f None is = absurd (false≢true is)
 some_as false f o is = absurd (false≢true is)
 
-pub conv_some : (w : World) (seats : List SeatView) (m : OnMedium) (h n : ℕ) (s : SeatView) (now : ℕ) (work : Work) → n ≡ 0 → slice_get seats h ≡ Some s
-    → IsSome (actor_step w (name.Conv h proto.Udp n) (actor_at seats m (name.Conv h proto.Udp n)) now work) → IsSome (conv_step 0 work.event work.with now (conv_of s))
-conv_some w seats m h n s now work zero_is is some =
-    some_as _ (λ (c : Conv). IsConv c) _
-    (subst (λ (v : Actor). IsSome (actor_step w (name.Conv h proto.Udp 0) v now work)) (ap (λ (o : Option SeatView). option_map_or (λ (t : SeatView). IsConv (conv_of t)) o (opening_actor (name.Conv h proto.Udp 0))) is)
-    (subst (λ (k : ℕ). IsSome (actor_step w (name.Conv h proto.Udp k) (actor_at seats m (name.Conv h proto.Udp k)) now work)) zero_is some))
-
--- whether a conversation is ready
-pub conv_tells : (w : World) (seats : List SeatView) (m : OnMedium) (h n : ℕ) (s : SeatView) (now : ℕ) (work : Work) (b : Bool) → n ≡ 0 → h < length w.hosts → slice_get seats h ≡ Some s
-    → b ≡ is_some (conv_step 0 work.event work.with now (conv_of s)) → b ≡ is_some (actor_step w (name.Conv h proto.Udp n) (actor_at seats m (name.Conv h proto.Udp n)) now work)
-conv_tells w seats m h n s now work b zero_is lt is tells = rw zero_is (rw (is, lt-ltb h (length w.hosts) lt) (tells ∙ as_so (conv_step 0 work.event work.with now (conv_of s))))
-  where
-    as_so : (o : Option (Step Conv)) → is_some o ≡ is_some (step_as (λ (c : Conv). IsConv c) o)
-    as_so None = refl
-    as_so (Some t) = refl
-
--- The same of what a call gave.
-
-map_ok : {A E : Type 0} (r : Result A E) (P Q : A → Type 0) → ((x : A) → P x → Q x) → IfOk r P → IfOk r Q
-map_ok (Ok x) P Q f is = f x is
-map_ok (Err e) P Q f is = tt
+as_so : {S : Type 0} (f : S → Actor) (o : Option (Step S)) → is_some o ≡ is_some (step_as f o)
+as_so f None = refl
+as_so f (Some t) = refl
 
 pub seat_at : (seats : List SeatView) (h : ℕ) (s : SeatView) → h < length seats → s ≡ get_or seats h s → slice_get seats h ≡ Some s
 seat_at seats h s lt is = slice_get_read seats (length seats) h s refl lt is
 
-pub conv_acts_ok : (w : World) (seats : List SeatView) (m : OnMedium) (h n : ℕ) (s t : SeatView) (now : ℕ) (work : Work) (r : Result Outcome AllocError) → AreOf w seats m → n ≡ 0 → slice_get seats h ≡ Some s
-    → IfOk r (ConvSteps s t now work) → IfOk r (Steps w seats m (name.Conv h proto.Udp n) now work (slice_set seats h t) m)
-conv_acts_ok w seats m h n s t now work r are zero_is is = map_ok r (ConvSteps s t now work) (Steps w seats m (name.Conv h proto.Udp n) now work (slice_set seats h t) m) (λ o steps.
-    let d = steps w h (are.seat h s is) in
-    subst (λ (k : ℕ). Steps w seats m (name.Conv h proto.Udp k) now work (slice_set seats h t) m o) (sym zero_is) (conv_acts w seats m h s t now work o are is d.0 d.1 d.2))
+-- the seat of a host that is met
+pub seat_in : (w : World) (seats : List SeatView) (h : ℕ) (s : SeatView) → length seats ≡ length w.hosts → h < length w.hosts → s ≡ get_or seats h s → slice_get seats h ≡ Some s
+seat_in w seats h s count lt is = seat_at seats h s (omega (arith, count, lt)) is
 
-pub dir_acts_ok : (w : World) (seats : List SeatView) (m : OnMedium) (h : ℕ) (p : Proto) (s t : SeatView) (now : ℕ) (work : Work) (r : Result Outcome AllocError) → AreOf w seats m → p ≡ proto.Udp → slice_get seats h ≡ Some s
-    → IfOk r (DirSteps s t work) → IfOk r (Steps w seats m (name.Dir h p) now work (slice_set seats h t) m)
-dir_acts_ok w seats m h p s t now work r are udp is = map_ok r (DirSteps s t work) (Steps w seats m (name.Dir h p) now work (slice_set seats h t) m) (λ o steps.
-    let d = steps w h (are.seat h s is) in subst (λ (q : Proto). Steps w seats m (name.Dir h q) now work (slice_set seats h t) m o) (sym udp) (dir_acts w seats m h s t now work o are is d.0 d.1 d.2))
+pub conv_can : (w : World) (seats : List SeatView) (m : OnMedium) (h n : ℕ) (s : SeatView) (work : Work) → n ≡ 0 → h < length w.hosts → slice_get seats h ≡ Some s
+    → CanStep w seats m (name.Conv h proto.Udp n) work → IsUdpReady s.seat work
+conv_can w seats m h n s work zero_is lt is can = record { conv = at.conv; stands = at.stands; end = udp.0; core = udp.1; some = some }
+  where
+    at : IsHostAt w can.actors h s
+    at = can.are.seat h s is
 
-pub conv_tells_ok : (w : World) (seats : List SeatView) (m : OnMedium) (h n : ℕ) (s : SeatView) (work : Work) (r : Result Bool AllocError) → n ≡ 0 → h < length w.hosts → slice_get seats h ≡ Some s
-    → IfOk r (λ b. (now : ℕ) → b ≡ is_some (conv_step 0 work.event work.with now (conv_of s)))
-    → IfOk r (λ b. (now : ℕ) → b ≡ is_some (actor_step w (name.Conv h proto.Udp n) (actor_at seats m (name.Conv h proto.Udp n)) now work))
-conv_tells_ok w seats m h n s work r zero_is lt is = map_ok r (λ b. (now : ℕ) → b ≡ is_some (conv_step 0 work.event work.with now (conv_of s)))
-    (λ b. (now : ℕ) → b ≡ is_some (actor_step w (name.Conv h proto.Udp n) (actor_at seats m (name.Conv h proto.Udp n)) now work))
-    (λ b tells now. conv_tells w seats m h n s now work b zero_is lt is (tells now))
+    udp : (end : UdpEnd) × (at.conv.core ≡ Udp end)
+    udp = can.udp h at.conv lt at.conv_is
+
+    some : IsSome (conv_step 0 work.event work.with 0 at.conv)
+    some =
+        subst (λ (o : Option (Step Conv)). IsSome o) (any_moment 0 work.event work.with can.now 0 at.conv udp.0 udp.1)
+        (some_as _ (λ (c : Conv). IsConv c) _
+        (subst (λ (v : Actor). IsSome (actor_step w (name.Conv h proto.Udp 0) v can.now work)) at.conv_is
+        (subst (λ (k : ℕ). IsSome (actor_step w (name.Conv h proto.Udp k) (can.actors (name.Conv h proto.Udp k)) can.now work)) zero_is can.some)))
+
+pub medium_can : (w : World) (seats : List SeatView) (m : OnMedium) (work : Work) → CanStep w seats m (name.Medium 0) work → IsSome (medium_step m.spec m.seed work.event work.with (medium_of m))
+medium_can w seats m work can = some_as true (λ (n : Medium). IsMedium n) (medium_step m.spec m.seed work.event work.with (medium_of m)) (subst IsSome (rw (can.are.medium, can.are.media, sym can.are.seed) refl) can.some)
+
+pub dir_can : (w : World) (seats : List SeatView) (m : OnMedium) (h : ℕ) (p : Proto) (s : SeatView) (work : Work) → p ≡ proto.Udp → slice_get seats h ≡ Some s
+    → CanStep w seats m (name.Dir h p) work → IsSome (dir_step w h proto.Udp work.event work.with (dir_of s))
+dir_can w seats m h p s work udp is can =
+    some_as _ (λ (d : Dir). IsDir d) _
+    (subst (λ (v : Actor). IsSome (actor_step w (name.Dir h proto.Udp) v can.now work)) (can.are.seat h s is).dir
+    (subst (λ (q : Proto). IsSome (actor_step w (name.Dir h q) (can.actors (name.Dir h q)) can.now work)) udp can.some))
+
+-- The same of what a call gave.
+
+pub conv_acts_ok : (w : World) (seats : List SeatView) (m : OnMedium) (h n : ℕ) (s t : SeatView) (work : Work) (r : Result Outcome AllocError) → n ≡ 0 → h < length w.hosts → slice_get seats h ≡ Some s
+    → IfOk r (ConvSteps s t work) → IfOk r (StepsAll w seats m (name.Conv h proto.Udp n) work (slice_set seats h t) m)
+conv_acts_ok w seats m h n s t work r zero_is lt is = map_ok r (ConvSteps s t work) (StepsAll w seats m (name.Conv h proto.Udp n) work (slice_set seats h t) m) (λ o steps actors now are udp.
+    let at = are.seat h s is in
+    let end = udp h at.conv lt at.conv_is in
+    let talks = steps.talks at.conv end.0 now at.stands end.1 in
+    subst (λ (k : ℕ). Steps w actors m (name.Conv h proto.Udp k) now work (slice_set seats h t) m o) (sym zero_is)
+    (conv_acts w seats m actors h s t now work o at.conv talks.after are is (steps.of w h at.of) steps.dir at.conv_is talks.stands talks.step))
+
+pub dir_acts_ok : (w : World) (seats : List SeatView) (m : OnMedium) (h : ℕ) (p : Proto) (s t : SeatView) (work : Work) (r : Result Outcome AllocError) → p ≡ proto.Udp → slice_get seats h ≡ Some s
+    → IfOk r (DirSteps s t work) → IfOk r (StepsAll w seats m (name.Dir h p) work (slice_set seats h t) m)
+dir_acts_ok w seats m h p s t work r udp is = map_ok r (DirSteps s t work) (StepsAll w seats m (name.Dir h p) work (slice_set seats h t) m) (λ o steps actors now are all_udp.
+    let d = steps w h (are.seat h s is).of in
+    subst (λ (q : Proto). Steps w actors m (name.Dir h q) now work (slice_set seats h t) m o) (sym udp) (dir_acts w seats m actors h s t now work o are is d.0 d.1 d.2))
+
+pub medium_acts_ok : (w : World) (seats : List SeatView) (m new : OnMedium) (work : Work) (r : Result Outcome AllocError) → IfOk r (MediumSteps m new work) → IfOk r (StepsAll w seats m (name.Medium 0) work seats new)
+medium_acts_ok w seats m new work r = map_ok r (MediumSteps m new work) (StepsAll w seats m (name.Medium 0) work seats new) (λ o steps actors now are udp.
+    medium_acts w seats m new actors now work o are steps.spec steps.seed steps.laid steps.step)
+
+-- What is ready.
 
 -- a copy can be taken exactly where a frame is pending
-pub medium_tells : (w : World) (seats : List SeatView) (m : OnMedium) (now : ℕ) (work : Work) (b : Bool) → AreOf w seats m → work.event ≡ event.Take → (IsTrue b → 0 < length m.frames) × (0 < length m.frames → IsTrue b)
-    → b ≡ is_some (actor_step w (name.Medium 0) (IsMedium (medium_of m)) now work)
-medium_tells w seats m now work b are take tells = rw (are.media, take) (by_frames m.frames b tells)
+medium_tells : (w : World) (seats : List SeatView) (m : OnMedium) (actors : ActorName → Actor) (now : ℕ) (work : Work) (b : Bool) → AreAt w seats m actors → work.event ≡ event.Take → (IsTrue b → 0 < length m.frames) × (0 < length m.frames → IsTrue b)
+    → b ≡ is_some (actor_step w (name.Medium 0) (actors (name.Medium 0)) now work)
+medium_tells w seats m actors now work b are take tells = rw (are.medium, are.media, take) (by_frames m.frames b tells)
   where
     by_frames : (fs : List Frame) (b : Bool) → (IsTrue b → 0 < length fs) × (0 < length fs → IsTrue b) → b ≡ is_some (step_as (λ (n : Medium). IsMedium n) (takes (map taken_of fs) [] (medium_of m)))
     by_frames [] true t = absurd (omega (arith, t.0 refl))
@@ -186,33 +240,29 @@ medium_tells w seats m now work b are take tells = rw (are.media, take) (by_fram
     by_frames (f ∷ fs) true t = refl
     by_frames (f ∷ fs) false t = absurd (false≢true (t.1 (omega arith)))
 
--- By what is asked.
+pub tells_dir : (w : World) (seats : List SeatView) (m : OnMedium) (a : Met) (work : Work) (h : ℕ) (p : Proto) → a ≡ met.Dir h p → TellsReady w seats m a work true
+tells_dir w seats m a work h p is = subst (λ (b : Met). TellsReady w seats m b work true) (sym is) (λ actors now are sure. sure now)
 
-pub sure_dir : (w : World) (seats : List SeatView) (m : OnMedium) (a : Met) (work : Work) (h : ℕ) (p : Proto) → a ≡ met.Dir h p → IsSure w (actor_at seats m) a work
-    → (now : ℕ) → true ≡ is_some (actor_step w (name_of a) (actor_at seats m (name_of a)) now work)
-sure_dir w seats m a work h p is = subst (λ (b : Met). IsSure w (actor_at seats m) b work → (now : ℕ) → true ≡ is_some (actor_step w (name_of b) (actor_at seats m (name_of b)) now work)) (sym is) (λ sure. sure)
+pub tells_medium : (w : World) (seats : List SeatView) (m : OnMedium) (a : Met) (work : Work) (b : Bool) → a ≡ met.Medium → (IsTrue b → 0 < length m.frames) × (0 < length m.frames → IsTrue b) → TellsReady w seats m a work b
+tells_medium w seats m a work b is tells = subst (λ (c : Met). TellsReady w seats m c work b) (sym is) (λ actors now are sure. medium_tells w seats m actors now work b are sure tells)
 
-pub sure_conv : (w : World) (seats : List SeatView) (m : OnMedium) (a : Met) (work : Work) (h n : ℕ) (s : SeatView) (r : Result Bool AllocError) → AreOf w seats m → a ≡ met.Conv h n → IsMet w a work → s ≡ get_or seats h s
-    → IfOk r (λ b. (now : ℕ) → b ≡ is_some (conv_step 0 work.event work.with now (conv_of s)))
-    → IfOk r (λ b. (now : ℕ) → b ≡ is_some (actor_step w (name_of a) (actor_at seats m (name_of a)) now work))
-sure_conv w seats m a work h n s r are is met_is at tells =
-    subst (λ (b : Met). IsMet w b work → IfOk r (λ c. (now : ℕ) → c ≡ is_some (actor_step w (name_of b) (actor_at seats m (name_of b)) now work))) (sym is)
-    (λ t. conv_tells_ok w seats m h n s work r t.1 t.0 (seat_at seats h s (omega (arith, t.0, are.count)) at) tells) met_is
-
-pub sure_medium : (w : World) (seats : List SeatView) (m : OnMedium) (a : Met) (work : Work) (b : Bool) → AreOf w seats m → a ≡ met.Medium → IsSure w (actor_at seats m) a work → (IsTrue b → 0 < length m.frames) × (0 < length m.frames → IsTrue b)
-    → (now : ℕ) → b ≡ is_some (actor_step w (name_of a) (actor_at seats m (name_of a)) now work)
-sure_medium w seats m a work b are is sure tells now =
-    subst (λ (c : Met). IsSure w (actor_at seats m) c work → b ≡ is_some (actor_step w (name_of c) (actor_at seats m (name_of c)) now work)) (sym is) (λ take. medium_tells w seats m now work b are take tells) sure
+pub tells_conv : (w : World) (seats : List SeatView) (m : OnMedium) (a : Met) (work : Work) (h n : ℕ) (s : SeatView) (b : Bool) → a ≡ met.Conv h n → length seats ≡ length w.hosts → IsMet w a work → s ≡ get_or seats h s
+    → TellsConv s work b → TellsReady w seats m a work b
+tells_conv w seats m a work h n s b is count met_is at tells =
+    subst (λ (c : Met). IsMet w c work → TellsReady w seats m c work b) (sym is) (λ t actors now are sure.
+    let host = are.seat h s (seat_in w seats h s count t.0 at) in
+    subst (λ (k : ℕ). b ≡ is_some (actor_step w (name.Conv h proto.Udp k) (actors (name.Conv h proto.Udp k)) now work)) (sym t.1)
+    (rw (host.conv_is, lt-ltb h (length w.hosts) t.0) (tells w h now host.conv host.of host.stands ∙ as_so (λ (c : Conv). IsConv c) (conv_step 0 work.event work.with now host.conv)))) met_is
 
 -- Before anything happened.
 
-pub opening_more : (w : World) (n : ℕ) (seats : List SeatView) (s : SeatView) → AreOpening w n seats → IsSeatOf w n s → dir_of s ≡ opening_dir → conv_of s ≡ opening_conv proto.Udp → AreOpening w (n + 1) (seats ++ s ∷ [])
+pub opening_more : (w : World) (n : ℕ) (seats : List SeatView) (s : SeatView) → AreOpening w n seats → IsSeatOf w n s → dir_of s ≡ opening_dir → StandsFor s.seat (opening_conv proto.Udp) → AreOpening w (n + 1) (seats ++ s ∷ [])
 opening_more w n seats s old of dir conv = record {
   count = length-append seats (s ∷ []) ∙ ap (λ (k : ℕ). k + 1) old.count;
   seat = λ i t is. elim (in_more seats s i t is) [
     | inl there ↦ old.seat i t there
-    | inr last ↦ subst (λ (k : ℕ). IsSeatOf w k t × (dir_of t ≡ opening_dir) × (conv_of t ≡ opening_conv proto.Udp)) (sym (last.0 ∙ old.count))
-        (subst (λ (u : SeatView). IsSeatOf w n u × (dir_of u ≡ opening_dir) × (conv_of u ≡ opening_conv proto.Udp)) last.1 (of, dir, conv))
+    | inr last ↦ subst (λ (k : ℕ). IsSeatOf w k t × (dir_of t ≡ opening_dir) × StandsFor t.seat (opening_conv proto.Udp)) (sym (last.0 ∙ old.count))
+        (subst (λ (u : SeatView). IsSeatOf w n u × (dir_of u ≡ opening_dir) × StandsFor u.seat (opening_conv proto.Udp)) last.1 (of, dir, conv))
   ];
 }
   where
@@ -222,45 +272,22 @@ opening_more w n seats s old of dir conv = record {
     in_more (z ∷ xs) y zero x is = inl is
     in_more (z ∷ xs) y (suc k) x is = elim (in_more xs y k x is) [ inl there ↦ inl there | inr last ↦ inr (ap suc last.0, last.1) ]
 
-pub opening_actors : (w : World) (seats : List SeatView) (m : OnMedium) (spec : MediumSpec) (seed : ℕ) → AreOpening w (length w.hosts) seats → m ≡ record { spec = spec; seed = seed; laid = 0; frames = [] }
-    → (b : ActorName) → actor_at seats m b ≡ opening_actor b
-opening_actors w seats m spec seed all is = at
-  where
-    dir_so : (i : ℕ) (o : Option SeatView) → slice_get seats i ≡ o → option_map_or (λ (s : SeatView). IsDir (dir_of s)) o (opening_actor (name.Dir i proto.Udp)) ≡ opening_actor (name.Dir i proto.Udp)
-    dir_so i (Some s) get = ap (λ (d : Dir). IsDir d) (all.seat i s get).1
-    dir_so i None get = refl
+pub opening_are : (w : World) (seats : List SeatView) (m : OnMedium) (spec : MediumSpec) → AreOpening w (length w.hosts) seats → m ≡ record { spec = spec; seed = w.seed; laid = 0; frames = [] } → w.media ≡ spec ∷ []
+    → AreAt w seats m opening_actor
+opening_are w seats m spec all is media = record {
+  count = all.count;
+  seat = λ i s at. let host = all.seat i s at in record { of = host.0; dir = ap (λ (d : Dir). IsDir d) (sym host.1); conv = opening_conv proto.Udp; stands = host.2; conv_is = refl };
+  media = rw is media;
+  seed = rw is refl;
+  medium = rw is refl;
+  others = λ a other. refl;
+}
 
-    conv_so : (i : ℕ) (o : Option SeatView) → slice_get seats i ≡ o → option_map_or (λ (s : SeatView). IsConv (conv_of s)) o (opening_actor (name.Conv i proto.Udp 0)) ≡ opening_actor (name.Conv i proto.Udp 0)
-    conv_so i (Some s) get = ap (λ (c : Conv). IsConv c) (all.seat i s get).2
-    conv_so i None get = refl
+one_medium : (w : World) (form : IsFirstForm w) (xs : List MediumSpec) (s : MediumSpec) → xs ≡ w.media → s ≡ get_or xs 0 s → w.media ≡ s ∷ []
+one_medium w form xs s same is =
+    let first : s ≡ form.medium = is ∙ ap (λ (ms : List MediumSpec). get_or ms 0 s) (same ∙ form.media) in
+    form.media ∙ ap (λ (t : MediumSpec). t ∷ []) (sym first)
 
-    at : (b : ActorName) → actor_at seats m b ≡ opening_actor b
-    at (name.Conv i proto.Udp zero) = conv_so i (slice_get seats i) refl
-    at (name.Conv i proto.Udp (suc n)) = refl
-    at (name.Conv i proto.Il n) = refl
-    at (name.Dir i proto.Udp) = dir_so i (slice_get seats i) refl
-    at (name.Dir i proto.Il) = refl
-    at (name.Medium zero) = ap (λ (n : OnMedium). IsMedium (medium_of n)) is
-    at (name.Medium (suc k)) = refl
-    at (name.Desk i) = refl
-    at name.Clock = refl
-
-pub dir_some : (w : World) (seats : List SeatView) (m : OnMedium) (h : ℕ) (p : Proto) (s : SeatView) (now : ℕ) (work : Work) → p ≡ proto.Udp → slice_get seats h ≡ Some s
-    → IsSome (actor_step w (name.Dir h p) (actor_at seats m (name.Dir h p)) now work) → IsSome (dir_step w h proto.Udp work.event work.with (dir_of s))
-dir_some w seats m h p s now work udp is some =
-    some_as _ (λ (d : Dir). IsDir d) _
-    (subst (λ (v : Actor). IsSome (actor_step w (name.Dir h proto.Udp) v now work)) (ap (λ (o : Option SeatView). option_map_or (λ (t : SeatView). IsDir (dir_of t)) o (opening_actor (name.Dir h proto.Udp))) is)
-    (subst (λ (q : Proto). IsSome (actor_step w (name.Dir h q) (actor_at seats m (name.Dir h q)) now work)) udp some))
-
--- whether a conversation is ready, as it says at once
-pub sure_conv_now : (w : World) (seats : List SeatView) (m : OnMedium) (a : Met) (work : Work) (h n : ℕ) (s : SeatView) (b : Bool) → AreOf w seats m → a ≡ met.Conv h n → IsMet w a work → s ≡ get_or seats h s
-    → ((now : ℕ) → b ≡ is_some (conv_step 0 work.event work.with now (conv_of s)))
-    → (now : ℕ) → b ≡ is_some (actor_step w (name_of a) (actor_at seats m (name_of a)) now work)
-sure_conv_now w seats m a work h n s b are is met_is at tells now =
-    subst (λ (c : Met). IsMet w c work → b ≡ is_some (actor_step w (name_of c) (actor_at seats m (name_of c)) now work)) (sym is)
-    (λ t. conv_tells w seats m h n s now work b t.1 t.0 (seat_at seats h s (omega (arith, t.0, are.count)) at) (tells now)) met_is
-
-pub seat_of_met : (w : World) (seats : List SeatView) (m : OnMedium) (a : Met) (work : Work) (h n : ℕ) (s : SeatView) → AreOf w seats m → a ≡ met.Conv h n → IsMet w a work → s ≡ get_or seats h s → IsSeatOf w h s
-seat_of_met w seats m a work h n s are is met_is at =
-    let t : IsMet w (met.Conv h n) work = subst (λ (b : Met). IsMet w b work) is met_is in
-    are.seat h s (seat_at seats h s (omega (arith, t.0, are.count)) at)
+pub opening_first : (w : World) (form : IsFirstForm w) (seats : List SeatView) (m : OnMedium) (xs : List MediumSpec) (s : MediumSpec) → AreOpening w (length w.hosts) seats → m ≡ record { spec = s; seed = w.seed; laid = 0; frames = [] }
+    → xs ≡ w.media → s ≡ get_or xs 0 s → AreAt w seats m opening_actor
+opening_first w form seats m xs s all is same first = opening_are w seats m s all is (one_medium w form xs s same first)

@@ -20,7 +20,7 @@ use Rattle.plain_runner.specs.Met.{owed_of}
 use Rattle.plain_runner.specs.Entries.{told}
 use Rattle.plain_runner.specs.Phases.{Phase}
 use Rattle.plain_runner.specs.Places.{finished_at, position_at}
-use Rattle.plain_runner.specs.Stands.{Stands, stand_of}
+use Rattle.plain_runner.specs.Stands.{Tracks, stand_of}
 use Rattle.plain_runner.proofs.Positions.{comes}
 use Rattle.plain_runner.proofs.Pushes.{finished_is}
 use Rattle.plain_runner.proofs.Records.{past_is}
@@ -58,7 +58,7 @@ below : (a b : ℕ) → nat_lt 0 (b - a) ≡ nat_lt a b
 below a b = search (rules, tests)
 
 -- whether a step of a script is left
-pub left_tells : (w : World) (r : Runner) (c : ℕ) (s : Script) → Stands w r → slice_get w.scripts c ≡ Some s
+pub left_tells : (w : World) (r : Runner) (c : ℕ) (s : Script) → Tracks w r → slice_get w.scripts c ≡ Some s
     → nat_lt (finished_at (stand_of r.scripts.items c).place) (length s.steps) ≡ is_unfinished (after w r.history).past c s
 left_tells w r c s st is =
     let at = st.good.scripts c s is in
@@ -67,7 +67,7 @@ left_tells w r c s st is =
     sym (ap (λ (h : List Entry). nat_lt 0 (length (standing h c s).left)) (past_is w r.history) ∙ ap (nat_lt 0) left ∙ below (finished_at (stand_of r.scripts.items c).place) (length s.steps))
 
 -- how many steps of a script are answered
-pub answered_tells : (w : World) (r : Runner) (c : ℕ) (s : Script) (k : Caller) → Stands w r → slice_get w.scripts c ≡ Some s → slice_get r.callers.items c ≡ Some k
+pub answered_tells : (w : World) (r : Runner) (c : ℕ) (s : Script) (k : Caller) → Tracks w r → slice_get w.scripts c ≡ Some s → slice_get r.callers.items c ≡ Some k
     → told k.owed (stand_of r.scripts.items c) ≡ answered_by w r.history (c, s)
 answered_tells w r c s k st is kept = by_owed k.owed (st.callers c k kept).owed
   where

@@ -76,7 +76,7 @@ clock_above w c lt is = by_script (slice_get w.scripts c) (lt-ltb c (clock_numbe
 
 -- Where nothing goes on.
 
-owes_not : (net : Net) (c : ℕ) → net.owed c ≡ [] → owes net c ≡ false
+pub owes_not : (net : Net) (c : ℕ) → net.owed c ≡ [] → owes net c ≡ false
 owes_not net c is = rw is refl
 
 pub idle_calm : (w : World) (net : Net) → IsFirstForm w → IsIdle w net → calm w net ≡ true

@@ -1,7 +1,7 @@
 -- A run before anything is recorded, and after the move of the clock.
 use Rattle.std.proofs.Common.{◌≡◌, ℕ, zero, suc, ◌+◌, ◌-◌, ◌<◌, ◌≤◌, ◌==◌, Bool, true, false, List, [], ◌∷◌, ◌++◌, length, replicate, Option, Some, None, slice_get, ◌⊎◌, inl, inr, refl, sym, ap, subst, ◌∙◌, arith, nat_lt, nat_le, length-append, if◌then◌else◌}
 use Rattle.std.specs.Option.{option_map_or}
-use Rattle.std.proofs.lemmas.Bool.{ne_eqb, and_parts, leb-true}
+use Rattle.std.proofs.lemmas.Bool.{ne_eqb, and_parts, leb-true, ltb-true, false≢true}
 use Rattle.std.proofs.lemmas.Option.{none-some, same_Some, slice_get_within}
 use Rattle.std.proofs.lemmas.List.{length-replicate}
 use Rattle.net_base.specs.declared.actor.ActorName.{ActorName}
@@ -17,7 +17,7 @@ use Rattle.net_base.specs.declared.world.Step.TheVariants as step
 use Rattle.net_base.specs.declared.world.World.{World}
 use Rattle.net_base.specs.Actors.{IsConv, opening_actor, plain_step}
 use Rattle.net_base.specs.Callers.{Caller as AnyCaller, IsScript, IsCourier, IsClock, IsNobody, caller_of, other_caller, clock_number, first_courier}
-use Rattle.net_base.specs.Calm.{unfinished, awaited_moment}
+use Rattle.net_base.specs.Calm.{unfinished, awaited_moment, most_entries}
 use Rattle.net_base.specs.Conversation.{Conv}
 use Rattle.net_base.specs.Duties.{Duty, due_of}
 use Rattle.net_base.specs.Legal.{IsLegal, IsTimed, IsAsked, cites_of}
@@ -31,14 +31,16 @@ use Rattle.plain_runner.specs.declared.runner.Runner.{Runner}
 use Rattle.plain_runner.specs.declared.standing.Place.{Place}
 use Rattle.plain_runner.specs.declared.standing.Place.TheVariants as place
 use Rattle.plain_runner.specs.declared.standing.Standing.{Standing}
-use Rattle.plain_runner.specs.Acting.{AreOf, actor_at}
+use Rattle.plain_runner.specs.Acting.{AreAt, is_kept}
 use Rattle.plain_runner.specs.Good.{Good, stands_after}
 use Rattle.plain_runner.specs.Phases.{Phase, Fresh, Reserved, Begun, Granted, IsConvIn}
 use Rattle.plain_runner.specs.Places.{ask_at, transfer_ask}
-use Rattle.plain_runner.specs.Seats.{SeatView}
-use Rattle.plain_runner.specs.Stands.{Stands, IsCaller, stand_of}
+use Rattle.plain_runner.specs.Stands.{Stands, Tracks, IsOnTime, IsCaller, stand_of}
+use Rattle.plain_runner.specs.declared.actors.Actors.{Actors}
+use Rattle.plain_runner.proofs.Actings.{clock_acts}
 use Rattle.plain_runner.proofs.Clock.{move_entry, move_step, move_keeps}
 use Rattle.plain_runner.specs.Idle.{IsIdle}
+use Rattle.plain_runner.specs.Moved.{Moves, Moved, clock_moves}
 use Rattle.plain_runner.proofs.Ends.{clock_is, is_movable, target_is}
 use Rattle.plain_runner.proofs.Follows.{Recorded, follows_so}
 use Rattle.plain_runner.proofs.Nexts.{next_at}
@@ -58,27 +60,16 @@ stand_replicate zero c = refl
 stand_replicate (suc n) zero = refl
 stand_replicate (suc n) (suc c) = stand_replicate n c
 
-pub opening_stands : (w : World) (r : Runner) → IsWorld w → IsFirstForm w → r.history ≡ [] → r.moment ≡ 0 → r.moves ≡ 0 → AreOf w r.actors.seats.items r.actors.medium
-    → ((b : ActorName) → actor_at r.actors.seats.items r.actors.medium b ≡ opening_actor b) → r.actors.medium.laid ≡ 0
+pub opening_stands : (w : World) (r : Runner) → IsWorld w → IsFirstForm w → r.history ≡ [] → r.moment ≡ 0 → r.moves ≡ 0 → AreAt w r.actors.seats.items r.actors.medium opening_actor → r.actors.medium.laid ≡ 0
     → r.callers.items ≡ replicate (length w.scripts + 1) (record { owed = None; entries = 0 })
     → r.scripts.items ≡ replicate (length w.scripts) (record { place = place.Step 0; before = 0 }) → Stands w r
-opening_stands w r world form history moment moves are actors laid callers scripts = record {
-  phase = λ i. Fresh;
-  legal = rw history (λ k x is. absurd (none-some x is));
-  timed = rw history (λ k x is. absurd (none-some x is));
-  good = rw history (opening_good w form (stand_of r.scripts.items) (λ c lt. stands c));
-  are = are;
-  actors = λ a. rw history (sym (actors a));
-  callers = λ c k is. subst (IsCaller r.history (after w r.history) c) (get_replicate (length w.scripts + 1) (record { owed = None; entries = 0 }) k c (sym (ap (λ (ks : List Caller). slice_get ks c) callers) ∙ is))
-      (rw history record { owed = refl; entries = refl; few = omega arith });
-  caller_count = ap length callers ∙ length-replicate (length w.scripts + 1) _ ∙ ap (λ (n : ℕ). length w.scripts + n) (sym (ap length form.media));
-  script_count = ap length scripts ∙ length-replicate (length w.scripts) _;
-  moment = rw (history, moment) refl;
-  in_time = rw moment (omega arith);
-  moves = rw (history, moves) refl;
-  moved = rw (moment, moves) (inl (refl, positive));
-  laid = rw laid (omega arith);
-  placed = λ c lt. rw (stands c) (omega arith);
+opening_stands w r world form history moment moves are laid callers scripts = record {
+  tracks = tracks;
+  on_time = record {
+    timed = rw history (λ k x is. absurd (none-some x is));
+    in_time = rw moment (omega arith);
+    moved = rw (moment, moves) (inl (refl, positive));
+  };
 }
   where
     stands : (c : ℕ) → stand_of r.scripts.items c ≡ record { place = place.Step 0; before = 0 }
@@ -86,6 +77,23 @@ opening_stands w r world form history moment moves are actors laid callers scrip
 
     positive : 0 < w.end
     positive = omega (arith, leb-true 1 w.end (and_parts (nat_le 1 w.end) (nat_le w.end 1000000000) world.end).0)
+
+    tracks : Tracks w r
+    tracks = record {
+      phase = λ i. Fresh;
+      legal = rw history (λ k x is. absurd (none-some x is));
+      good = rw history (opening_good w form (stand_of r.scripts.items) (λ c lt. stands c));
+      are = rw history are;
+      callers = λ c k is. subst (IsCaller r.history (after w r.history) c) (get_replicate (length w.scripts + 1) (record { owed = None; entries = 0 }) k c (sym (ap (λ (ks : List Caller). slice_get ks c) callers) ∙ is))
+          (rw history record { owed = refl; entries = refl; few = omega arith });
+      caller_count = ap length callers ∙ length-replicate (length w.scripts + 1) _ ∙ ap (λ (n : ℕ). length w.scripts + n) (sym (ap length form.media));
+      script_count = ap length scripts ∙ length-replicate (length w.scripts) _;
+      moment = rw (history, moment) refl;
+      moves = rw (history, moves) refl;
+      few_moves = rw moves (omega arith);
+      laid = rw laid (omega arith);
+      placed = λ c lt. rw (stands c) (omega arith);
+    }
 
 -- Nothing is due, and no script waits for a moment.
 
@@ -95,29 +103,25 @@ conv_due Reserved c is = rw is.core refl
 conv_due Begun c is = rw is.core refl
 conv_due Granted c is = rw is.core refl
 
-pub nothing_due : (w : World) (r : Runner) → Stands w r → (a : ActorName) → due_of ((after w r.history).actors a) ≡ None
-nothing_due w r s a = at a
+pub nothing_due : (w : World) (r : Runner) → Tracks w r → (a : ActorName) → due_of ((after w r.history).actors a) ≡ None
+nothing_due w r s a = at a (is_kept (length w.hosts) a) refl
   where
-    conv_so : (i : ℕ) (o : Option SeatView) → slice_get r.actors.seats.items i ≡ o → due_of ((after w r.history).actors (name.Conv i proto.Udp 0)) ≡ None
-    conv_so i (Some v) get =
-        let host = s.good.hosts i (omega (arith, slice_get_within r.actors.seats.items i v get, s.are.count)) in
-        rw host.conv_is (conv_due (s.phase i) host.conv host.conv_in)
-    conv_so i None get = rw (s.actors (name.Conv i proto.Udp 0), get) refl
+    opening : (a : ActorName) → due_of (opening_actor a) ≡ None
+    opening (name.Conv i proto.Udp n) = refl
+    opening (name.Conv i proto.Il n) = refl
+    opening (name.Dir i p) = refl
+    opening (name.Medium k) = refl
+    opening (name.Desk i) = refl
+    opening name.Clock = refl
 
-    at : (a : ActorName) → due_of ((after w r.history).actors a) ≡ None
-    at (name.Conv i proto.Udp zero) = conv_so i (slice_get r.actors.seats.items i) refl
-    at (name.Conv i proto.Udp (suc n)) = rw (s.actors (name.Conv i proto.Udp (suc n))) refl
-    at (name.Conv i proto.Il n) = rw (s.actors (name.Conv i proto.Il n)) refl
-    at (name.Dir i proto.Udp) = dir_so i (slice_get r.actors.seats.items i) refl
-      where
-        dir_so : (i : ℕ) (o : Option SeatView) → slice_get r.actors.seats.items i ≡ o → due_of ((after w r.history).actors (name.Dir i proto.Udp)) ≡ None
-        dir_so i (Some v) get = rw (s.actors (name.Dir i proto.Udp), get) refl
-        dir_so i None get = rw (s.actors (name.Dir i proto.Udp), get) refl
-    at (name.Dir i proto.Il) = rw (s.actors (name.Dir i proto.Il)) refl
-    at (name.Medium zero) = rw (s.actors (name.Medium 0)) refl
-    at (name.Medium (suc k)) = rw (s.actors (name.Medium (suc k))) refl
-    at (name.Desk i) = rw (s.actors (name.Desk i)) refl
-    at name.Clock = rw (s.actors name.Clock) refl
+    at : (a : ActorName) (b : Bool) → is_kept (length w.hosts) a ≡ b → due_of ((after w r.history).actors a) ≡ None
+    at a false is = rw (s.are.others a is) (opening a)
+    at (name.Conv i proto.Udp zero) true is =
+        let host = s.good.hosts i (ltb-true i (length w.hosts) is) in
+        rw host.conv_is (conv_due (s.phase i) host.conv host.conv_in)
+    at (name.Dir i proto.Udp) true is = rw (s.good.hosts i (ltb-true i (length w.hosts) is)).dir_is refl
+    at (name.Medium zero) true is = rw s.are.medium refl
+    at _ true is = absurd (false≢true is)
 
 transfer_never : (h : ℕ) (o : Option ScriptStep) → awaited_moment (transfer_ask h o) ≡ None
 transfer_never h (Some (step.Read called count)) = refl
@@ -132,7 +136,7 @@ ask_never h steps remote port (place.Step (suc (suc zero))) = refl
 ask_never h steps remote port (place.Step (suc (suc (suc k)))) = transfer_never h (slice_get steps (suc (suc (suc k))))
 ask_never h steps remote port place.Await = refl
 
-pub nothing_awaited : (w : World) (r : Runner) → Stands w r → (c : ℕ) → awaited_moment (next_of (caller_of w c) (after w r.history).past c) ≡ None
+pub nothing_awaited : (w : World) (r : Runner) → Tracks w r → (c : ℕ) → awaited_moment (next_of (caller_of w c) (after w r.history).past c) ≡ None
 nothing_awaited w r s c = ap (λ (h : List Entry). awaited_moment (next_of (caller_of w c) h c)) (past_is w r.history) ∙ by_script (slice_get w.scripts c) refl
   where
     other_so : (a b : Bool) → awaited_moment (next_of (if a then IsCourier (c - first_courier w) else (if b then IsClock else IsNobody)) r.history c) ≡ None
@@ -150,74 +154,59 @@ nothing_awaited w r s c = ap (λ (h : List Entry). awaited_moment (next_of (call
 
 -- The move.
 
-pub moved_stands : (w : World) (r new : Runner) (x : Entry) → IsFirstForm w → Stands w r → IsIdle w (after w r.history) → unfinished w (after w r.history) ≡ true → r.moment < w.end
-    → x ≡ record { actor = name.Clock; caller = length r.callers.items; moment = r.moment; event = event.Move w.end; cites = None; reply = reply.Ok; emits = None; ended = false }
-    → new.history ≡ r.history ++ x ∷ [] → new.moment ≡ w.end → new.moves ≡ r.moves + 1 → new.actors ≡ r.actors → new.callers ≡ r.callers → new.scripts ≡ r.scripts → Stands w new
-moved_stands w r new x form s idle more before is history moment moves actors callers scripts = record {
+-- The move.
+
+pub move_is : (w : World) (r : Runner) (to : ℕ) → Tracks w r → clock_moves r to ≡ move_entry w (after w r.history) to
+move_is w r to s =
+    ap (λ (n : ℕ). record { actor = name.Clock; caller = n; moment = r.moment; event = event.Move to; cites = None; reply = reply.Ok; emits = None; ended = false }) s.caller_count
+    ∙ ap (λ (n : ℕ). record { actor = name.Clock; caller = clock_number w; moment = n; event = event.Move to; cites = None; reply = reply.Ok; emits = None; ended = false }) (sym s.moment)
+
+pub moved_tracks : (w : World) (r new : Runner) (to : ℕ) → IsFirstForm w → Tracks w r → r.moves < most_entries → Moves r new to → Tracks w new
+moved_tracks w r new to form s few mv = record {
   phase = s.phase;
   legal = subst (IsLegal w) (sym pushed) (legal_push w r.history m s.legal (follows_so w r.history net m (plain_step reply.Ok) rec));
-  timed = subst (IsTimed w) (sym pushed) (timed_push w r.history m s.timed (is_movable w net form idle more (omega (arith, s.moment, before)), sym (target_is w net (nothing_due w r s) (nothing_awaited w r s))));
   good = good_same w new.history (after w new.history) s.phase (stands_after (stand_of r.scripts.items) m) (stand_of new.scripts.items) stands
       (subst (λ (n : Net). Good w new.history n s.phase (stands_after (stand_of r.scripts.items) m)) (sym net_is)
       (subst (λ (h : List Entry). Good w h (net_after w net m (Some (plain_step reply.Ok))) s.phase (stands_after (stand_of r.scripts.items) m)) (sym pushed)
-      (move_keeps w r.history net s.phase (stand_of r.scripts.items) w.end form s.good (nothing_due w r s))));
-  are = rw actors s.are;
-  actors = λ a. ap (λ (n : Net). n.actors a) net_is ∙ actor_is a;
-  callers = λ c k at. caller_is c k (subst (λ ks. slice_get ks.items c ≡ Some k) callers at);
-  caller_count = rw callers s.caller_count;
-  script_count = rw scripts s.script_count;
-  moment = ap (λ (n : Net). n.moment) net_is ∙ sym moment;
-  in_time = rw moment (omega arith);
-  moves = ap (λ (h : List Entry). length (by h (clock_number w))) pushed ∙ by_own r.history m (clock_number w) refl ∙ ap (λ (n : ℕ). n + 1) s.moves ∙ sym moves;
-  moved = inr (omega (arith, moves, none_yet), moment);
-  laid = rw actors (omega (arith, s.laid, ap length pushed, length-append r.history (m ∷ [])));
-  placed = λ c lt. rw scripts (omega (arith, s.placed c lt, ap (λ (h : List Entry). length (by h c)) pushed, ap length (by_other r.history m c (λ e. absurd (omega (arith, lt, e))))));
+      (move_keeps w r.history net s.phase (stand_of r.scripts.items) to form s.good (nothing_due w r s))));
+  are = subst (λ (v : Actors). AreAt w v.seats.items v.medium (after w new.history).actors) (sym mv.actors)
+      (subst (AreAt w r.actors.seats.items r.actors.medium) (sym (ap (λ (n : Net). n.actors) net_is)) (clock_acts w r.actors.seats.items r.actors.medium net.actors s.are));
+  callers = λ c k at. caller_is c k (subst (λ ks. slice_get ks.items c ≡ Some k) mv.callers at);
+  caller_count = rw mv.callers s.caller_count;
+  script_count = rw mv.scripts s.script_count;
+  moment = ap (λ (n : Net). n.moment) net_is ∙ sym mv.moment;
+  moves = ap (λ (h : List Entry). length (by h (clock_number w))) pushed ∙ by_own r.history m (clock_number w) refl ∙ ap (λ (n : ℕ). n + 1) s.moves ∙ sym mv.moves;
+  few_moves = omega (arith, mv.moves, few);
+  laid = rw mv.actors (omega (arith, s.laid, ap length pushed, length-append r.history (m ∷ [])));
+  placed = λ c lt. rw mv.scripts (omega (arith, s.placed c lt, ap (λ (h : List Entry). length (by h c)) pushed, ap length (by_other r.history m c (λ e. absurd (omega (arith, lt, e))))));
 }
   where
     net : Net
     net = after w r.history
 
     m : Entry
-    m = move_entry w net w.end
-
-    same : x ≡ m
-    same = is ∙ ap (λ (n : ℕ). record { actor = name.Clock; caller = n; moment = r.moment; event = event.Move w.end; cites = None; reply = reply.Ok; emits = None; ended = false }) s.caller_count
-        ∙ ap (λ (n : ℕ). record { actor = name.Clock; caller = clock_number w; moment = n; event = event.Move w.end; cites = None; reply = reply.Ok; emits = None; ended = false }) (sym s.moment)
+    m = move_entry w net to
 
     pushed : new.history ≡ r.history ++ m ∷ []
-    pushed = history ∙ ap (λ (y : Entry). r.history ++ y ∷ []) same
-
-    none_yet : r.moves ≡ 0
-    none_yet = by_moved s.moved
-      where
-        by_moved : (r.moves ≡ 0) × (r.moment < w.end) ⊎ (r.moves ≤ 1) × (r.moment ≡ w.end) → r.moves ≡ 0
-        by_moved (inl yet) = yet.0
-        by_moved (inr ended) = absurd (omega (arith, before, ended.1))
+    pushed = mv.history ∙ ap (λ (y : Entry). r.history ++ y ∷ []) (move_is w r to s)
 
     rec : Recorded w r.history net m (plain_step reply.Ok)
     rec = record {
-      step = move_step w net w.end (s.actors name.Clock);
+      step = move_step w net to (s.are.others name.Clock refl);
       shows = refl;
       moment = refl;
       cites = ap cites_of (sym s.good.clock);
       asked = subst (λ (ds : List Duty). IsAsked ds (caller_of w (clock_number w)) (next w r.history (clock_number w)) m) (sym s.good.clock)
           (subst (λ (k : AnyCaller). IsAsked [] k (next w r.history (clock_number w)) m) (sym (clock_is w form)) tt);
       caller = omega arith;
-      room = omega (arith, s.moves, none_yet);
+      room = omega (arith, s.moves, few);
     }
 
     net_is : after w new.history ≡ net_after w net m (Some (plain_step reply.Ok))
     net_is = ap (after w) pushed ∙ after_push w r.history m ∙ ap (net_after w net m) rec.step
 
     stands : (c : ℕ) → c < length w.scripts → stand_of new.scripts.items c ≡ stands_after (stand_of r.scripts.items) m c
-    stands c lt = ap (λ ss. stand_of ss.items c) scripts ∙ sym (rw (ne_eqb (clock_number w) c (λ e. absurd (omega (arith, lt, e)))) refl)
-
-    actor_is : (a : ActorName) → (net_after w net m (Some (plain_step reply.Ok))).actors a ≡ actor_at new.actors.seats.items new.actors.medium a
-    actor_is name.Clock = refl
-    actor_is (name.Desk i) = s.actors (name.Desk i)
-    actor_is (name.Dir i p) = s.actors (name.Dir i p) ∙ ap (λ v. actor_at v.seats.items v.medium (name.Dir i p)) (sym actors)
-    actor_is (name.Conv i p n) = s.actors (name.Conv i p n) ∙ ap (λ v. actor_at v.seats.items v.medium (name.Conv i p n)) (sym actors)
-    actor_is (name.Medium k) = s.actors (name.Medium k) ∙ ap (λ v. actor_at v.seats.items v.medium (name.Medium k)) (sym actors)
+    stands c lt = ap (λ ss. stand_of ss.items c) mv.scripts ∙ sym (rw (ne_eqb (clock_number w) c (λ e. absurd (omega (arith, lt, e)))) refl)
 
     caller_is : (c : ℕ) (k : Caller) → slice_get r.callers.items c ≡ Some k → IsCaller new.history (after w new.history) c k
     caller_is c k at =
@@ -229,18 +218,58 @@ moved_stands w r new x form s idle more before is history moment moves actors ca
           few = was.few;
         }
 
-pub replicate_more : {A : Type 0} (n : ℕ) (x : A) → replicate n x ++ x ∷ [] ≡ replicate (n + 1) x
-replicate_more n x =
-    let e : suc n ≡ n + 1 = omega arith in
-    subst (λ (k : ℕ). replicate n x ++ x ∷ [] ≡ replicate k x) e (by_count n)
+-- a move to the end moment, where nothing goes on
+pub moved_on_time : (w : World) (r new : Runner) → IsFirstForm w → Stands w r → IsIdle w (after w r.history) → unfinished w (after w r.history) ≡ true → r.moment < w.end → Moves r new w.end → IsOnTime w new
+moved_on_time w r new form s idle more before mv = record {
+  timed = subst (IsTimed w) (sym pushed)
+      (timed_push w r.history m s.on_time.timed (is_movable w net form idle more (omega (arith, s.tracks.moment, before)), sym (target_is w net (nothing_due w r s.tracks) (nothing_awaited w r s.tracks))));
+  in_time = rw mv.moment (omega arith);
+  moved = inr (omega (arith, mv.moves, none_yet), mv.moment);
+}
   where
-    by_count : (n : ℕ) → replicate n x ++ x ∷ [] ≡ replicate (suc n) x
-    by_count zero = refl
-    by_count (suc n) = ap (λ xs. x ∷ xs) (by_count n)
+    net : Net
+    net = after w r.history
 
-abbrev pub clock_moves : World → Runner → ℕ → Entry
-clock_moves w r n = record { actor = name.Clock; caller = n; moment = r.moment; event = event.Move w.end; cites = None; reply = reply.Ok; emits = None; ended = false }
+    m : Entry
+    m = move_entry w net w.end
 
-pub clock_entry : (w : World) (r : Runner) (n : ℕ) → n ≡ length r.callers.items
-    → clock_moves w r n ≡ clock_moves w r (length r.callers.items)
-clock_entry w r n is = rw is refl
+    pushed : new.history ≡ r.history ++ m ∷ []
+    pushed = mv.history ∙ ap (λ (y : Entry). r.history ++ y ∷ []) (move_is w r w.end s.tracks)
+
+    none_yet : r.moves ≡ 0
+    none_yet = by_moved s.on_time.moved
+      where
+        by_moved : (r.moves ≡ 0) × (r.moment < w.end) ⊎ (r.moves ≤ 1) × (r.moment ≡ w.end) → r.moves ≡ 0
+        by_moved (inl yet) = yet.0
+        by_moved (inr ended) = absurd (omega (arith, before, ended.1))
+
+-- the clock moved once at most
+pub few_moves_so : (w : World) (r : Runner) → IsOnTime w r → r.moves < most_entries
+few_moves_so w r s = by_moved s.moved
+  where
+    by_moved : (r.moves ≡ 0) × (r.moment < w.end) ⊎ (r.moves ≤ 1) × (r.moment ≡ w.end) → r.moves < most_entries
+    by_moved (inl yet) = omega (arith, yet.0)
+    by_moved (inr ended) = omega (arith, ended.0)
+
+-- the same of the call that moves it
+pub moved_so : (w : World) (r new : Runner) (n to : ℕ) → IsFirstForm w → Tracks w r → r.moves < most_entries → n ≡ length r.callers.items
+    → new.history ≡ r.history ++ record (clock_moves r to) { caller = n } ∷ [] → new.moment ≡ to → new.moves ≡ r.moves + 1 → new.actors ≡ r.actors → new.callers ≡ r.callers → new.scripts ≡ r.scripts → Moved w r new to
+moved_so w r new n to form s few is history moment moves actors callers scripts = record { tracks = moved_tracks w r new to form s few mv; moves = mv }
+  where
+    mv : Moves r new to
+    mv = record {
+      history = history ∙ ap (λ (k : ℕ). r.history ++ record (clock_moves r to) { caller = k } ∷ []) is;
+      moment = moment;
+      moves = moves;
+      actors = actors;
+      callers = callers;
+      scripts = scripts;
+    }
+
+-- a run that moved to the end moment
+pub advanced_so : (w : World) (r new : Runner) → IsFirstForm w → Stands w r → IsIdle w (after w r.history) → unfinished w (after w r.history) ≡ true → r.moment < w.end → Moved w r new w.end
+    → Stands w new × (length r.history < length new.history)
+advanced_so w r new form s idle more before moved = (
+  record { tracks = moved.tracks; on_time = moved_on_time w r new form s idle more before moved.moves },
+  omega (arith, ap length moved.moves.history, length-append r.history (clock_moves r w.end ∷ [])),
+)

@@ -1,17 +1,17 @@
 -- What the first form says of hosts and of a script's second step.
-use Rattle.std.proofs.Common.{◌≡◌, ℕ, zero, suc, ◌<◌, List, [], ◌∷◌, length, Option, Some, Result, Ok, slice_get, refl, sym, ap, ◌∙◌, arith}
-use Rattle.net_base.specs.declared.address.Addr.{Addr}
-use Rattle.net_base.specs.declared.event.Event.{Event}
-use Rattle.net_base.specs.declared.event.Event.TheVariants as event
+use Rattle.std.proofs.Common.{◌≡◌, ℕ, zero, suc, ◌<◌, Bool, true, false, List, [], ◌∷◌, length, Some, Result, Ok, Err, slice_get, refl, sym, ap, ◌∙◌, arith}
+use Rattle.std.proofs.lemmas.Bool.{false≢true}
 use Rattle.net_base.specs.declared.names.Ctl.{Ctl}
 use Rattle.net_base.specs.declared.names.Ctl.TheVariants as ctl
 use Rattle.net_base.specs.declared.world.HostSpec.{HostSpec}
 use Rattle.net_base.specs.declared.world.Step.{Step}
-use Rattle.net_base.specs.declared.world.Step.TheVariants as step
 use Rattle.net_base.specs.declared.world.World.{World}
 use Rattle.net_base.specs.ControlWords as control
 use Rattle.net_base.specs.WorldForm.{IsFirstForm, IsUdpScript}
+use Rattle.ctl_words.specs.Told.{told}
+use Rattle.ctl_words.specs.declared.fault.CtlError.{CtlError}
 use Rattle.host_dir.specs.Ways.{HasOneWay}
+use Rattle.plain_runner.specs.Places.{IsConnect}
 use Rattle.plain_runner.proofs.Puts.{plain_host}
 
 host_at : (hs : List HostSpec) (n : ℕ) → n < length hs → (h : HostSpec) × (slice_get hs n ≡ Some h)
@@ -25,20 +25,23 @@ one_way w form n lt =
     let p = plain_host w form n h.0 h.1 in
     record { spec = h.0; at = h.1; iface = p.iface; ifaces = p.ifaces; routes = p.routes }
 
--- the grant that a control asks for
-grant_of : Result Ctl ℕ → Event
-grant_of (Ok (ctl.Connect remote lport)) = event.Grant 0 1 remote lport
-grant_of _ = event.Reserve
+-- the control of the second step is a connect
 
-text_of : Option Step → List ℕ
-text_of (Some (step.Write called text)) = text
-text_of _ = []
+control_or : Ctl → Result Ctl ℕ → Ctl
+control_or other (Ok k) = k
+control_or other (Err n) = other
 
-pub second_text : (steps : List Step) (u : IsUdpScript steps) (called text : List ℕ) → slice_get steps 1 ≡ Some (step.Write called text) → text ≡ u.text
-unfolding text_of
-second_text steps u called text is = ap text_of (sym is) ∙ ap (λ (ss : List Step). text_of (slice_get ss 1)) u.opening
+is_read : Result Ctl ℕ → Bool
+is_read (Ok k) = true
+is_read (Err n) = false
 
-pub grant_so : (steps : List Step) (u : IsUdpScript steps) (called text : List ℕ) (remote : Addr) (lport : Option ℕ) → slice_get steps 1 ≡ Some (step.Write called text) → control.read text ≡ Ok (ctl.Connect remote lport)
-    → event.Grant 0 1 remote lport ≡ event.Grant 0 1 u.remote (Some u.port)
-unfolding grant_of
-grant_so steps u called text remote lport is says = ap grant_of (sym says ∙ ap control.read (second_text steps u called text is) ∙ u.connects)
+pub says_connect : (steps : List Step) (u : IsUdpScript steps) (text : List ℕ) (r : Result Ctl CtlError) (k : Ctl) → text ≡ u.text → told r ≡ control.read text → r ≡ Ok k → k ≡ ctl.Connect u.remote (Some u.port)
+unfolding control_or
+says_connect steps u text r k same tells is = ap (control_or k) (sym (ap told is) ∙ tells ∙ ap control.read same ∙ u.connects)
+
+pub says_something : (steps : List Step) (u : IsUdpScript steps) (text : List ℕ) (r : Result Ctl CtlError) (e : CtlError) → text ≡ u.text → told r ≡ control.read text → r ≡ Err e → ⊥
+unfolding is_read
+says_something steps u text r e same tells is = false≢true (ap is_read (sym (ap told is) ∙ tells ∙ ap control.read same ∙ u.connects))
+
+pub connects_so : (steps : List Step) (u : IsUdpScript steps) (k : Ctl) → k ≡ ctl.Connect u.remote (Some u.port) → IsConnect k
+connects_so steps u k is = rw is tt

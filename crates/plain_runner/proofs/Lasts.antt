@@ -20,7 +20,7 @@ use Rattle.plain_runner.specs.Entries.{told}
 use Rattle.plain_runner.specs.Places.{finished_at}
 use Rattle.plain_runner.specs.Idle.{IsIdle}
 use Rattle.plain_runner.specs.Rounds.{TurnedAll, MayGo}
-use Rattle.plain_runner.specs.Stands.{Stands, stand_of}
+use Rattle.plain_runner.specs.Stands.{Stands, Tracks, stand_of}
 use Rattle.plain_runner.specs.Turns.{IsThrough}
 use Rattle.plain_runner.proofs.Counts.{past_all, script_at, left_tells, answered_tells, unfinished_more, answered_more}
 use Rattle.plain_runner.proofs.Rounding.{is_idle, limit_is}
@@ -70,7 +70,7 @@ stands_of w old new false s all = subst (Stands w) (sym all.0) s
 pub limit_so : (w : World) (r : Runner) (b : Bool) → IsFirstForm w → ((c : ℕ) → c < clock_number w → IsThrough w r.history c) → MayGo w r.history (clock_number w) b → b ≡ true → limited w (after w r.history) ≡ true
 limit_so w r b form all may some = limit_is w r form all (subst (MayGo w r.history (clock_number w)) some may)
 
-pub idle_so : (w : World) (r : Runner) (b : Bool) → IsFirstForm w → Stands w r → MayGo w r.history (clock_number w) b → b ≡ false → IsIdle w (after w r.history)
+pub idle_so : (w : World) (r : Runner) (b : Bool) → IsFirstForm w → Tracks w r → MayGo w r.history (clock_number w) b → b ≡ false → IsIdle w (after w r.history)
 idle_so w r b form s may none = is_idle w r form s (subst (MayGo w r.history (clock_number w)) none may)
 
 -- One script.
@@ -78,10 +78,10 @@ idle_so w r b form s may none = is_idle w r form s (subst (MayGo w r.history (cl
 got : {A : Type 0} (xs : List A) (i : ℕ) (x : A) → i < length xs → x ≡ get_or xs i x → slice_get xs i ≡ Some x
 got xs i x lt is = slice_get_read xs (length xs) i x refl lt is
 
-standing_is : (w : World) (r : Runner) (c : ℕ) (s : Script) (t : Standing) → Stands w r → slice_get w.scripts c ≡ Some s → t ≡ get_or r.scripts.items c t → stand_of r.scripts.items c ≡ t
+standing_is : (w : World) (r : Runner) (c : ℕ) (s : Script) (t : Standing) → Tracks w r → slice_get w.scripts c ≡ Some s → t ≡ get_or r.scripts.items c t → stand_of r.scripts.items c ≡ t
 standing_is w r c s t st is at = rw (got r.scripts.items c t (omega (arith, slice_get_within w.scripts c s is, st.script_count)) at) refl
 
-pub has_left_so : (w : World) (r : Runner) (c : ℕ) (s : Script) (t : Standing) (u : Script) (fin len : ℕ) → Stands w r → slice_get w.scripts c ≡ Some s → t ≡ get_or r.scripts.items c t
+pub has_left_so : (w : World) (r : Runner) (c : ℕ) (s : Script) (t : Standing) (u : Script) (fin len : ℕ) → Tracks w r → slice_get w.scripts c ≡ Some s → t ≡ get_or r.scripts.items c t
     → u ≡ get_or w.scripts c u → fin ≡ finished_at t.place → len ≡ length u.steps → nat_lt fin len ≡ is_unfinished (after w r.history).past c s
 has_left_so w r c s t u fin len st is at at_u fins lens =
     let same : u ≡ s = same_Some u s (sym (got w.scripts c u (slice_get_within w.scripts c s is) at_u) ∙ is) in
@@ -90,7 +90,7 @@ has_left_so w r c s t u fin len st is at at_u fins lens =
     let l : len ≡ length s.steps = lens ∙ ap (λ (z : Script). length z.steps) same in
     rw (f, l) (left_tells w r c s st is)
 
-pub answered_owing : (w : World) (r : Runner) (c : ℕ) (s : Script) (t : Standing) (b : Bool) → Stands w r → slice_get w.scripts c ≡ Some s → t ≡ get_or r.scripts.items c t
+pub answered_owing : (w : World) (r : Runner) (c : ℕ) (s : Script) (t : Standing) (b : Bool) → Tracks w r → slice_get w.scripts c ≡ Some s → t ≡ get_or r.scripts.items c t
     → ((k : Caller) → slice_get r.callers.items c ≡ Some k → b ≡ is_some k.owed) → b ≡ true → t.before ≡ answered_by w r.history (c, s)
 answered_owing w r c s t b st is at owes some =
     let kept = some_caller w r c st (omega (arith, slice_get_within w.scripts c s is)) in
@@ -100,7 +100,7 @@ answered_owing w r c s t b st is at owes some =
     by_owed (Some d) is = refl
     by_owed None is = absurd (false≢true is)
 
-pub answered_free : (w : World) (r : Runner) (c : ℕ) (s : Script) (t : Standing) (b : Bool) → Stands w r → slice_get w.scripts c ≡ Some s → t ≡ get_or r.scripts.items c t
+pub answered_free : (w : World) (r : Runner) (c : ℕ) (s : Script) (t : Standing) (b : Bool) → Tracks w r → slice_get w.scripts c ≡ Some s → t ≡ get_or r.scripts.items c t
     → ((k : Caller) → slice_get r.callers.items c ≡ Some k → b ≡ is_some k.owed) → b ≡ false → finished_at t.place ≡ answered_by w r.history (c, s)
 answered_free w r c s t b st is at owes none =
     let kept = some_caller w r c st (omega (arith, slice_get_within w.scripts c s is)) in

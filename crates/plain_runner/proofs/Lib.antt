@@ -10,12 +10,16 @@ pub mod Opening
 pub mod Clock
 pub mod Records
 pub mod Readies
+pub mod Moments
 pub mod Actings
 pub mod Plays
 pub mod Nexts
 pub mod Turning
+pub mod Lengths
 pub mod Counts
 pub mod Rounding
 pub mod Finals
+pub mod Repeats
+pub mod Halts
 pub mod Lasts
 pub mod Forms

@@ -31,12 +31,11 @@ use Rattle.plain_runner.specs.declared.actors.Met.{Met}
 use Rattle.plain_runner.specs.declared.runner.Runner.{Runner}
 use Rattle.plain_runner.specs.declared.standing.Place.{Place}
 use Rattle.plain_runner.specs.declared.standing.Standing.{Standing}
-use Rattle.plain_runner.specs.Acting.{IsMet, IsSure, actor_at}
+use Rattle.plain_runner.specs.Acting.{IsMet, IsSure}
 use Rattle.plain_runner.specs.Good.{IsAt, ScriptOwes, Starts, Begins, Connects, Joins, Waits, Opens, Goes}
 use Rattle.plain_runner.specs.Met.{name_of}
 use Rattle.plain_runner.specs.Phases.{Phase, HasPhase, IsDirIn}
 use Rattle.plain_runner.specs.Places.{ask_at, transfer_ask, position_at}
-use Rattle.plain_runner.specs.Stands.{Stands}
 use Rattle.plain_runner.proofs.Follows.{script_is, courier_is}
 use Rattle.plain_runner.proofs.Moves.{reserve_gives, grant_gives}
 use Rattle.plain_runner.proofs.Positions.{comes}
@@ -110,13 +109,10 @@ script_asks_met w actors h p at ds steps remote port a e lt host (Joins pair sta
 
 -- Whether it is ready.
 
-pub goes_on_is : (w : World) (r : Runner) (c : ℕ) (a : Met) (e : Event) → Stands w r → next w r.history c ≡ Some (record { actor = name_of a; event = e })
-    → can_go_on w (after w r.history) c ≡ is_some (actor_step w (name_of a) (actor_at r.actors.seats.items r.actors.medium (name_of a)) r.moment (record { event = e; with = given.Nothing }))
-goes_on_is w r c a e s is =
-    ap (λ (h : List Entry). is_ready w (after w r.history) (next_of (caller_of w c) h c)) (past_is w r.history)
-    ∙ ap (is_ready w (after w r.history)) is
-    ∙ ap (λ (v : Actor). is_some (actor_step w (name_of a) v (after w r.history).moment (record { event = e; with = given.Nothing }))) (s.actors (name_of a))
-    ∙ ap (λ (m : ℕ). is_some (actor_step w (name_of a) (actor_at r.actors.seats.items r.actors.medium (name_of a)) m (record { event = e; with = given.Nothing }))) s.moment
+pub goes_on_is : (w : World) (r : Runner) (c : ℕ) (a : Met) (e : Event) → next w r.history c ≡ Some (record { actor = name_of a; event = e })
+    → can_go_on w (after w r.history) c ≡ is_some (actor_step w (name_of a) ((after w r.history).actors (name_of a)) (after w r.history).moment (record { event = e; with = given.Nothing }))
+goes_on_is w r c a e is =
+    ap (λ (h : List Entry). is_ready w (after w r.history) (next_of (caller_of w c) h c)) (past_is w r.history) ∙ ap (is_ready w (after w r.history)) is
 
 pub goes_not_on : (w : World) (r : Runner) (c : ℕ) → next w r.history c ≡ None → can_go_on w (after w r.history) c ≡ false
 goes_not_on w r c is =

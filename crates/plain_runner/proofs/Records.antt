@@ -5,7 +5,6 @@ use Rattle.std.proofs.lemmas.Bool.Decides.{eqb_tells}
 use Rattle.std.proofs.lemmas.Option.{none-some, same_Some, slice_get_within}
 use Rattle.std.proofs.lemmas.List.{take-append-le, take_at, length-set}
 use Rattle.std.proofs.lemmas.List.Elements.{filter-append}
-use Rattle.net_base.specs.declared.actor.ActorName.{ActorName}
 use Rattle.net_base.specs.declared.history.Entry.{Entry}
 use Rattle.net_base.specs.declared.history.Work.{Work}
 use Rattle.net_base.specs.declared.world.World.{World}
@@ -15,11 +14,10 @@ use Rattle.net_base.specs.Callers.{clock_number}
 use Rattle.net_base.specs.Calm.{most_entries}
 use Rattle.net_base.specs.Duties.{duties}
 use Rattle.net_base.specs.Legal.{IsLegal, IsTimed, IsInTime}
-use Rattle.net_base.specs.Net.{Net, after, opening_net, net_after, moment_after, work_of, with_of}
+use Rattle.net_base.specs.Net.{Net, actors_after, after, opening_net, net_after, moment_after, work_of, with_of}
 use Rattle.net_base.specs.Next.{by}
-use Rattle.net_base.specs.Stamped.{same_actor}
 use Rattle.net_model.proofs.Owed.{past_after}
-use Rattle.net_model.proofs.Histories.{after_push, legal_push, same_actor_is}
+use Rattle.net_model.proofs.Histories.{after_push, legal_push}
 use Rattle.plain_runner.specs.declared.duty.Duty.{Duty as Task}
 use Rattle.plain_runner.specs.declared.runner.Caller.{Caller}
 use Rattle.plain_runner.specs.declared.runner.Runner.{Runner}
@@ -32,9 +30,9 @@ use Rattle.plain_runner.specs.declared.standing.Place.{Place}
 use Rattle.plain_runner.specs.declared.standing.Place.TheVariants as place
 use Rattle.net_base.specs.declared.reply.Reply.{Reply}
 use Rattle.net_base.specs.declared.reply.Reply.TheVariants as reply
-use Rattle.plain_runner.specs.Acting.{Steps, actor_at}
+use Rattle.plain_runner.specs.Acting.{AreAt, Steps}
 use Rattle.plain_runner.specs.Met.{owed_of}
-use Rattle.plain_runner.specs.Stands.{Stands, IsCaller, stand_of}
+use Rattle.plain_runner.specs.Stands.{Tracks, IsOnTime, IsCaller, stand_of}
 use Rattle.plain_runner.proofs.Follows.{Recorded, follows_so}
 use Rattle.plain_runner.proofs.Scripts.{Pushed, owed_here, owed_there}
 
@@ -105,8 +103,8 @@ pub record Changes (w : World) (r new : Runner) (c : ℕ) (x : Entry) (st : Step
   pub script_count : length new.scripts.items ≡ length r.scripts.items
   pub work : Work
   pub now : ℕ
-  pub steps : Steps w r.actors.seats.items r.actors.medium x.actor now work new.actors.seats.items new.actors.medium st.outcome
-  pub state : st.state ≡ actor_at new.actors.seats.items new.actors.medium x.actor
+  pub steps : Steps w (after w r.history).actors r.actors.medium x.actor now work new.actors.seats.items new.actors.medium st.outcome
+  pub state : st.state ≡ steps.state
 
 drop_owed : (o : Option Task) → drop 1 (owed_of o) ≡ []
 drop_owed None = refl
@@ -128,34 +126,35 @@ get_set_other (x ∷ xs) zero (suc j) y apart = refl
 get_set_other (x ∷ xs) (suc i) zero y apart = refl
 get_set_other (x ∷ xs) (suc i) (suc j) y apart = get_set_other xs i j y (λ e. apart (ap suc e))
 
-pub stands_on : (w : World) (r new : Runner) (c : ℕ) (x : Entry) (st : Step Actor) → Stands w r → c < clock_number w → x.caller ≡ c → IsQuiet x → IsInTime (after w r.history) w x.event
-    → Recorded w r.history (after w r.history) x st → Pushed w r.history (after w r.history) (stand_of r.scripts.items) x st → Changes w r new c x st → Stands w new
-stands_on w r new c x st s lt caller quiet in_time rec pushed ch = record {
+-- the moves are in time as before
+pub on_time : (w : World) (r new : Runner) (c : ℕ) (x : Entry) (st : Step Actor) → IsInTime (after w r.history) w x.event → Changes w r new c x st → IsOnTime w r → IsOnTime w new
+on_time w r new c x st in_time ch s = record {
+  timed = subst (IsTimed w) (sym ch.history) (timed_push w r.history x s.timed in_time);
+  in_time = rw ch.moment s.in_time;
+  moved = rw (ch.moment, ch.moves) s.moved;
+}
+
+pub tracks_on : (w : World) (r new : Runner) (c : ℕ) (x : Entry) (st : Step Actor) → Tracks w r → c < clock_number w → x.caller ≡ c → IsQuiet x
+    → Recorded w r.history (after w r.history) x st → Pushed w r.history (after w r.history) (stand_of r.scripts.items) x st → Changes w r new c x st → Tracks w new
+tracks_on w r new c x st s lt caller quiet rec pushed ch = record {
   phase = pushed.phase;
   legal = subst (IsLegal w) (sym ch.history) (legal_push w r.history x s.legal (follows_so w r.history (after w r.history) x st rec));
-  timed = subst (IsTimed w) (sym ch.history) (timed_push w r.history x s.timed in_time);
   good = good_same w new.history (after w new.history) pushed.phase (stands_after (stand_of r.scripts.items) x) (stand_of new.scripts.items) ch.scripts
       (subst (λ (net : Net). Good w new.history net pushed.phase (stands_after (stand_of r.scripts.items) x)) (sym net_is)
       (subst (λ (h : List Entry). Good w h (net_after w (after w r.history) x (Some st)) pushed.phase (stands_after (stand_of r.scripts.items) x)) (sym ch.history) pushed.good));
-  are = ch.steps.are;
-  actors = λ a. ap (λ (net : Net). net.actors a) net_is ∙ actor_is a (same_actor x.actor a) refl;
+  are = subst (AreAt w new.actors.seats.items new.actors.medium) (sym (ap (λ (net : Net). net.actors) net_is ∙ ap (actors_after (after w r.history).actors x.actor) ch.state)) ch.steps.are;
   callers = λ d k is. caller_is d k (subst (λ (ks : List Caller). slice_get ks d ≡ Some k) ch.callers is) (eqb_tells c d);
   caller_count = ap length ch.callers ∙ length-set r.callers.items c _ ∙ s.caller_count;
   script_count = ch.script_count ∙ s.script_count;
   moment = ap (λ (net : Net). net.moment) net_is ∙ quiet (after w r.history).moment ∙ s.moment ∙ sym ch.moment;
-  in_time = rw ch.moment s.in_time;
   moves = ap (λ (h : List Entry). length (by h (clock_number w))) ch.history ∙ ap length (by_other r.history x (clock_number w) (λ e. absurd (omega (arith, lt, caller, e)))) ∙ s.moves ∙ sym ch.moves;
-  moved = rw (ch.moment, ch.moves) s.moved;
+  few_moves = rw ch.moves s.few_moves;
   laid = omega (arith, ch.steps.laid, s.laid, ap length ch.history, length-append r.history (x ∷ []));
   placed = λ d lt. placed_is d lt (eqb_tells c d);
 }
   where
     net_is : after w new.history ≡ net_after w (after w r.history) x (Some st)
     net_is = ap (after w) ch.history ∙ after_push w r.history x ∙ ap (net_after w (after w r.history) x) rec.step
-
-    actor_is : (a : ActorName) (b : Bool) → same_actor x.actor a ≡ b → (net_after w (after w r.history) x (Some st)).actors a ≡ actor_at new.actors.seats.items new.actors.medium a
-    actor_is a true is = rw is (ch.state ∙ ap (actor_at new.actors.seats.items new.actors.medium) (same_actor_is x.actor a is))
-    actor_is a false is = rw is (s.actors a ∙ sym (ch.steps.others a is))
 
     placed_is : (d : ℕ) → d < length w.scripts → ((c == d) ≡ true) × (c ≡ d) ⊎ ((c == d) ≡ false) × (c ≡ d → ⊥) → finished_at (stand_of new.scripts.items d).place ≤ length (by new.history d)
     placed_is d below (inl same) =

@@ -7,7 +7,7 @@ use Rattle.net_base.specs.declared.history.Entry.{Entry}
 use Rattle.net_base.specs.declared.history.With.TheVariants as given
 use Rattle.net_base.specs.declared.world.World.{World}
 use Rattle.net_base.specs.ActorStep.{Step}
-use Rattle.net_base.specs.Actors.{IsMedium, actor_step, step_as}
+use Rattle.net_base.specs.Actors.{Actor, IsMedium, actor_step, step_as}
 use Rattle.net_base.specs.Callers.{clock_number, caller_count, first_courier}
 use Rattle.net_base.specs.Calm.{owes, can_go_on, is_quiet, limited}
 use Rattle.net_base.specs.Duties.{Duty}
@@ -19,9 +19,8 @@ use Rattle.medium.specs.declared.frame.Frame.{Frame}
 use Rattle.medium.specs.OnMedium.{medium_of, taken_of}
 use Rattle.plain_runner.specs.declared.actors.Met.TheVariants as met
 use Rattle.plain_runner.specs.declared.runner.Runner.{Runner}
-use Rattle.plain_runner.specs.Acting.{actor_at}
 use Rattle.plain_runner.specs.Rounds.{TurnedAll, MayGo}
-use Rattle.plain_runner.specs.Stands.{Stands}
+use Rattle.plain_runner.specs.Stands.{Stands, Tracks}
 use Rattle.plain_runner.specs.Turns.{Turned, IsThrough}
 use Rattle.plain_runner.specs.Idle.{IsIdle}
 use Rattle.plain_runner.proofs.Ends.{is_limited}
@@ -68,14 +67,14 @@ as_so : (o : Option (Step Medium)) → is_some (step_as (λ (m : Medium). IsMedi
 as_so None = refl
 as_so (Some t) = refl
 
-take_is : (w : World) (r : Runner) → Stands w r → is_some (actor_step w (name.Medium 0) (IsMedium (medium_of r.actors.medium)) r.moment (record { event = event.Take; with = given.Nothing })) ≡ is_some (takes (map taken_of r.actors.medium.frames) [] (medium_of r.actors.medium))
+pub take_is : (w : World) (r : Runner) → Tracks w r → is_some (actor_step w (name.Medium 0) (IsMedium (medium_of r.actors.medium)) (after w r.history).moment (record { event = event.Take; with = given.Nothing })) ≡ is_some (takes (map taken_of r.actors.medium.frames) [] (medium_of r.actors.medium))
 take_is w r s = rw s.are.media (as_so (takes (map taken_of r.actors.medium.frames) [] (medium_of r.actors.medium)))
 
-owed_by_last : (w : World) (r : Runner) → Stands w r → MayGo w r.history (clock_number w) false → (c : ℕ) (e : Bool) → (c == clock_number w) ≡ e → c < caller_count w → (after w r.history).owed c ≡ []
+owed_by_last : (w : World) (r : Runner) → Tracks w r → MayGo w r.history (clock_number w) false → (c : ℕ) (e : Bool) → (c == clock_number w) ≡ e → c < caller_count w → (after w r.history).owed c ≡ []
 owed_by_last w r s none c true is lt = subst (λ (k : ℕ). (after w r.history).owed k ≡ []) (sym (eqb-true c (clock_number w) is)) s.good.clock
 owed_by_last w r s none c false is lt = owes_none (after w r.history) c (either_false (owes (after w r.history) c) (can_go_on w (after w r.history) c) (none c (omega (arith, lt, eqb-false c (clock_number w) is)))).0
 
-pub is_idle : (w : World) (r : Runner) → IsFirstForm w → Stands w r → MayGo w r.history (clock_number w) false → IsIdle w (after w r.history)
+pub is_idle : (w : World) (r : Runner) → IsFirstForm w → Tracks w r → MayGo w r.history (clock_number w) false → IsIdle w (after w r.history)
 is_idle w r form s none = record { owed = owed; waits = waits; quiet = quiet }
   where
     waits : (c : ℕ) → c < clock_number w → can_go_on w (after w r.history) c ≡ false
@@ -90,14 +89,16 @@ is_idle w r form s none = record { owed = owed; waits = waits; quiet = quiet }
     courier : can_go_on w (after w r.history) (first_courier w) ≡ false
     courier = waits (first_courier w) (omega (arith, media))
 
-    step_none : is_some (actor_step w (name.Medium 0) (actor_at r.actors.seats.items r.actors.medium (name.Medium 0)) r.moment (record { event = event.Take; with = given.Nothing })) ≡ false
-    step_none = sym (goes_on_is w r (first_courier w) met.Medium event.Take s (next_take w form r.history)) ∙ courier
+    step_none : is_some (actor_step w (name.Medium 0) (IsMedium (medium_of r.actors.medium)) (after w r.history).moment (record { event = event.Take; with = given.Nothing })) ≡ false
+    step_none =
+        ap (λ (v : Actor). is_some (actor_step w (name.Medium 0) v (after w r.history).moment (record { event = event.Take; with = given.Nothing }))) (sym s.are.medium)
+        ∙ sym (goes_on_is w r (first_courier w) met.Medium event.Take (next_take w form r.history)) ∙ courier
 
     frames : r.actors.medium.frames ≡ []
     frames = no_frames r.actors.medium.frames (medium_of r.actors.medium) (sym (take_is w r s) ∙ step_none)
 
     quiet : is_quiet ((after w r.history).actors (name.Medium 0)) ≡ true
-    quiet = rw (s.actors (name.Medium 0)) (rw frames refl)
+    quiet = rw s.are.medium (rw frames refl)
 
 -- a caller that could record, and is through, is at its limit
 pub limit_is : (w : World) (r : Runner) → IsFirstForm w → ((c : ℕ) → c < clock_number w → IsThrough w r.history c) → MayGo w r.history (clock_number w) true → limited w (after w r.history) ≡ true

@@ -11,10 +11,10 @@ use Rattle.net_base.specs.Calm.{most_entries}
 use Rattle.net_base.specs.Legal.{IsAsked, cites_of}
 use Rattle.net_base.specs.Net.{after, with_of, moment_after}
 use Rattle.net_base.specs.Next.{next}
-use Rattle.plain_runner.specs.Acting.{IsMet, actor_at}
+use Rattle.plain_runner.specs.Acting.{IsMet}
 use Rattle.plain_runner.specs.Entries.{goes_to}
 use Rattle.plain_runner.specs.Met.{name_of}
-use Rattle.plain_runner.specs.Stands.{Stands, stand_of}
+use Rattle.plain_runner.specs.Stands.{Tracks, stand_of}
 use Rattle.plain_runner.specs.declared.actors.Met.{Met}
 use Rattle.plain_runner.specs.declared.runner.Caller.{Caller}
 use Rattle.plain_runner.specs.declared.runner.Runner.{Runner}
@@ -27,7 +27,7 @@ pub record Goes (old new : List Standing) (c : ℕ) (cites : Option ℕ) (r : Re
 
 pub record Before (w : World) (now : Runner) (c : ℕ) (a : Met) (work : Work) (cites : Option ℕ) : Type 0 where
   pub run : Runner
-  pub stands : Stands w run
+  pub tracks : Tracks w run
   pub history : now.history ≡ run.history
   pub moment : now.moment ≡ run.moment
   pub actors : now.actors ≡ run.actors
@@ -42,5 +42,5 @@ pub record Before (w : World) (now : Runner) (c : ℕ) (a : Met) (work : Work) (
   pub cites_it : cites ≡ cites_of ((after w run.history).owed c)
   pub given : work.with ≡ with_of ((after w run.history).owed c)
   pub met : IsMet w a work
-  pub some : (s : Step Actor) × (actor_step w (name_of a) (actor_at run.actors.seats.items run.actors.medium (name_of a)) run.moment work ≡ Some s)
+  pub some : (s : Step Actor) × (actor_step w (name_of a) ((after w run.history).actors (name_of a)) (after w run.history).moment work ≡ Some s)
   pub quiet : (now : ℕ) → moment_after now work.event ≡ now

@@ -1,5 +1,5 @@
 -- How a run ends.
-use Rattle.std.specs.Prelude.{◌≡◌, true, Option, Some, None}
+use Rattle.std.specs.Prelude.{◌≡◌, ◌<◌, true, length, Option, Some, None}
 use Rattle.net_base.specs.declared.world.World.{World}
 use Rattle.net_base.specs.Calm.{done, stopped, limited}
 use Rattle.net_base.specs.Net.{Net, after}
@@ -14,7 +14,7 @@ EndsSo w net ends.Done = done w net ≡ true
 EndsSo w net ends.Stopped = stopped w net ≡ true
 EndsSo w net ends.Limit = limited w net ≡ true
 
--- the run goes on, or it ended so
-abbrev pub GoesOrEnds : World → Runner → Option RunEnd → Type 0
-GoesOrEnds w r None = Stands w r
-GoesOrEnds w r (Some e) = Stands w r × EndsSo w (after w r.history) e
+-- the run goes on with more entries, or it ended so
+abbrev pub GoesOrEnds : World → Runner → Runner → Option RunEnd → Type 0
+GoesOrEnds w old new None = Stands w new × (length old.history < length new.history)
+GoesOrEnds w old new (Some e) = Stands w new × EndsSo w (after w new.history) e

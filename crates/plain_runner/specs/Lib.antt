@@ -12,3 +12,6 @@ pub mod Turns
 pub mod Rounds
 pub mod Ended
 pub mod Idle
+pub mod Moved
+pub mod Followed
+pub mod Worked

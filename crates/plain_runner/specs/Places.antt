@@ -3,7 +3,10 @@ use Rattle.std.specs.Prelude.{◌≡◌, ℕ, zero, suc, false, List, [], ◌∷
 use Rattle.net_base.specs.declared.address.Addr.{Addr}
 use Rattle.net_base.specs.declared.actor.ActorName.TheVariants as name
 use Rattle.net_base.specs.declared.address.Proto.TheVariants as proto
+use Rattle.net_base.specs.declared.event.Event.{Event}
 use Rattle.net_base.specs.declared.event.Event.TheVariants as event
+use Rattle.net_base.specs.declared.names.Ctl.{Ctl}
+use Rattle.net_base.specs.declared.names.Ctl.TheVariants as ctl
 use Rattle.net_base.specs.declared.names.FileName.{FileName}
 use Rattle.net_base.specs.declared.names.FileName.TheVariants as file
 use Rattle.net_base.specs.declared.names.Mode.TheVariants as mode
@@ -52,6 +55,15 @@ advanced place.Await r = place.Step 2
 abbrev pub finished_at : Place → ℕ
 finished_at (place.Step k) = k
 finished_at place.Await = 1
+
+-- the grant that a connect asks for
+abbrev pub IsConnect : Ctl → Type 0
+IsConnect (ctl.Connect remote port) = Unit {0}
+IsConnect _ = ⊥
+
+abbrev pub grant_by : Ctl → Event
+grant_by (ctl.Connect remote port) = event.Grant 0 1 remote port
+grant_by _ = event.Reserve
 
 -- the event of a step, and of a place
 abbrev pub step_ask : ℕ → Step → Option Ask

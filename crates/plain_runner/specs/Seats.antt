@@ -1,5 +1,5 @@
 -- What is kept of a host, and what its actors are asked.
-use Rattle.std.specs.Prelude.{◌≡◌, ℕ, Some}
+use Rattle.std.specs.Prelude.{◌≡◌, ℕ, Bool, Some, IsSome, is_some}
 use Rattle.net_base.specs.declared.address.Proto.TheVariants as proto
 use Rattle.net_base.specs.declared.event.Event.{Event}
 use Rattle.net_base.specs.declared.event.Event.TheVariants as event
@@ -8,12 +8,15 @@ use Rattle.net_base.specs.declared.history.With.{With}
 use Rattle.net_base.specs.declared.history.With.TheVariants as given
 use Rattle.net_base.specs.declared.history.Work.{Work}
 use Rattle.net_base.specs.declared.world.World.{World}
-use Rattle.net_base.specs.Conversation.{Conv, conv_step}
+use Rattle.net_base.specs.Conversation.{Conv, Udp, conv_step}
 use Rattle.net_base.specs.Directory.{Dir, dir_step}
+use Rattle.net_base.specs.UdpEnd.{UdpEnd}
 use Rattle.conversation.specs.Kept.{Seat}
+use Rattle.conversation.specs.Stands.{StandsFor, slot_of}
 use Rattle.host_dir.specs.Kept.{HostDir, IsDirOf}
 use Rattle.plain_runner.specs.Good.{IsUdp}
 
+-- the directory, and the conversation as it is kept
 pub record SeatView : Type 0 where
   pub host_dir : HostDir
   pub seat : Seat
@@ -21,12 +24,10 @@ pub record SeatView : Type 0 where
 abbrev pub dir_of : SeatView → Dir
 dir_of s = s.host_dir.dir
 
-abbrev pub conv_of : SeatView → Conv
-conv_of s = s.seat.conv
-
 -- it is kept of the i-th host
-unfoldable pub IsSeatOf : World → ℕ → SeatView → Type 0
-IsSeatOf w i s = IsDirOf w i proto.Udp s.host_dir × (s.seat.slot ≡ 0)
+pub record IsSeatOf (w : World) (i : ℕ) (s : SeatView) : Type 0 where
+  pub dir : IsDirOf w i proto.Udp s.host_dir
+  pub slot : slot_of s.seat ≡ 0
 
 -- What is asked.
 
@@ -51,14 +52,33 @@ IsConvMet (event.Write g text) = Unit {0}
 IsConvMet (event.ArriveAt g) = Unit {0}
 IsConvMet _ = ⊥
 
+-- whether the conversation has an answer
+abbrev pub TellsConv : SeatView → Work → Bool → Type 0
+TellsConv s work is =
+    (w : World) (h now : ℕ) (c : Conv) → IsSeatOf w h s → StandsFor s.seat c → is ≡ is_some (conv_step 0 work.event work.with now c)
+
+-- a conversation of UDP, which answers the work
+pub record IsUdpReady (kept : Seat) (work : Work) : Type 0 where
+  pub conv : Conv
+  pub stands : StandsFor kept conv
+  pub end : UdpEnd
+  pub core : conv.core ≡ Udp end
+  pub some : IsSome (conv_step 0 work.event work.with 0 conv)
+
 -- the directory steps, and the conversation stays
 abbrev pub DirSteps : SeatView → SeatView → Work → Outcome → Type 0
 DirSteps old new work o =
     (w : World) (h : ℕ) → IsSeatOf w h old
-    → IsSeatOf w h new × (dir_step w h proto.Udp work.event work.with (dir_of old) ≡ Some (record { state = dir_of new; outcome = o })) × (conv_of new ≡ conv_of old)
+    → IsSeatOf w h new × (dir_step w h proto.Udp work.event work.with (dir_of old) ≡ Some (record { state = dir_of new; outcome = o })) × (new.seat ≡ old.seat)
+
+-- the step of a conversation of UDP at a moment, which is kept after it
+pub record Talks (new : Seat) (now : ℕ) (work : Work) (o : Outcome) (c : Conv) : Type 0 where
+  pub after : Conv
+  pub step : conv_step 0 work.event work.with now c ≡ Some (record { state = after; outcome = o })
+  pub stands : StandsFor new after
 
 -- the conversation steps, and the directory stays
-abbrev pub ConvSteps : SeatView → SeatView → ℕ → Work → Outcome → Type 0
-ConvSteps old new now work o =
-    (w : World) (h : ℕ) → IsSeatOf w h old
-    → IsSeatOf w h new × (conv_step 0 work.event work.with now (conv_of old) ≡ Some (record { state = conv_of new; outcome = o })) × (dir_of new ≡ dir_of old)
+pub record ConvSteps (old new : SeatView) (work : Work) (o : Outcome) : Type 0 where
+  pub of : (w : World) (h : ℕ) → IsSeatOf w h old → IsSeatOf w h new
+  pub talks : (c : Conv) (end : UdpEnd) (now : ℕ) → StandsFor old.seat c → c.core ≡ Udp end → Talks new.seat now work o c
+  pub dir : new.host_dir ≡ old.host_dir

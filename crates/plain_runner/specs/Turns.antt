@@ -1,5 +1,5 @@
 -- The turn of a caller.
-use Rattle.std.specs.Prelude.{◌≡◌, ℕ, ◌<◌, Bool, true, false, List, [], length, Option, Some, None, slice_get, ◌⊎◌}
+use Rattle.std.specs.Prelude.{◌≡◌, ℕ, ◌<◌, Bool, true, false, List, [], length, Option, Some, None, IsSome, slice_get, ◌⊎◌}
 use Rattle.net_base.specs.declared.history.Entry.{Entry}
 use Rattle.net_base.specs.declared.history.With.TheVariants as given
 use Rattle.net_base.specs.declared.history.Work.{Work}
@@ -9,7 +9,7 @@ use Rattle.net_base.specs.Actors.{Actor, actor_step}
 use Rattle.net_base.specs.Calm.{can_go_on, most_entries}
 use Rattle.net_base.specs.Net.{after}
 use Rattle.net_base.specs.Next.{by, next}
-use Rattle.plain_runner.specs.Acting.{IsMet, actor_at}
+use Rattle.plain_runner.specs.Acting.{IsMet}
 use Rattle.plain_runner.specs.Met.{name_of}
 use Rattle.plain_runner.specs.Stands.{Stands}
 use Rattle.plain_runner.specs.declared.actors.Met.{Met}
@@ -21,12 +21,16 @@ pub record IsReadyNext (w : World) (r : Runner) (c : ℕ) (a : Met) (work : Work
   pub comes : next w r.history c ≡ Some (record { actor = name_of a; event = work.event })
   pub nothing : work.with ≡ given.Nothing
   pub met : IsMet w a work
-  pub some : (s : Step Actor) × (actor_step w (name_of a) (actor_at r.actors.seats.items r.actors.medium (name_of a)) r.moment work ≡ Some s)
+  pub some : (s : Step Actor) × (actor_step w (name_of a) ((after w r.history).actors (name_of a)) (after w r.history).moment work ≡ Some s)
 
 -- the next event of a caller, if it is ready
 abbrev pub IsAskOf : World → Runner → ℕ → Option (Met × Work) → Type 0
 IsAskOf w r c None = can_go_on w (after w r.history) c ≡ false
 IsAskOf w r c (Some p) = IsReadyNext w r c p.0 p.1
+
+-- the caller owes a duty
+abbrev pub Owes : List Caller → ℕ → Type 0
+Owes callers c = (k : Caller) × (slice_get callers c ≡ Some k) × IsSome k.owed
 
 -- the caller owes nothing
 abbrev pub OwesNothing : Runner → ℕ → Type 0

@@ -1,14 +1,16 @@
 //! The actors that are met: the directory and the first conversation of each host, and the medium.
-ghost use Rattle.std.specs.Prelude.{◌≡◌, ℕ, ◌<◌, ◌+◌, ◌^◌, length, IfOk, IsSome, is_some};
-ghost use Rattle.net_base.specs.declared.actor.ActorName.{ActorName as Named};
-ghost use Rattle.net_base.specs.Actors.{actor_step, opening_actor};
+ghost use Rattle.std.specs.Prelude.{◌≡◌, ◌<◌, ◌+◌, ◌^◌, length, IfOk};
+ghost use Rattle.net_base.specs.Actors.{opening_actor};
 ghost use Rattle.net_base.specs.World.{IsWorld};
 ghost use Rattle.net_base.specs.WorldForm.{IsFirstForm};
 ghost use Rattle.plain_runner.specs.Met.{name_of};
 ghost use Rattle.net_base.specs.ActorStep.{replies};
 ghost use Rattle.medium.specs.Replies.{reply_of};
 ghost use Rattle.std.specs.Prelude.{None};
-ghost use Rattle.plain_runner.specs.Acting.{AreOf, Steps, IsMet, IsSure, AreOpening, actor_at};
+ghost use Rattle.std.specs.Prelude.{IsSome};
+ghost use Rattle.net_base.specs.Medium.{medium_step};
+ghost use Rattle.medium.specs.OnMedium.{medium_of};
+ghost use Rattle.plain_runner.specs.Acting.{AreAt, AreOpening, CanStep, IsMediumMet, IsMet, MediumSteps, StepsAll, TellsReady};
 
 use crate::seat::Seat;
 use medium::{Laid, Medium};
@@ -50,8 +52,7 @@ impl Actors {
     pub fn new(alloc: Global, world: &World) -> Result<Actors, AllocError>
         requires world { IsWorld world.now }
         requires form { IsFirstForm world.now }
-        ensures are { IfOk result (λ a. AreOf world.now a.seats.items a.medium) }
-        ensures opening { IfOk result (λ a. (b : Named) → actor_at a.seats.items a.medium b ≡ opening_actor b) }
+        ensures are { IfOk result (λ a. AreAt world.now a.seats.items a.medium opening_actor) }
         ensures laid { IfOk result (λ a. a.medium.laid ≡ 0) }
     {
         let medium = Medium::new(alloc, &world.media.as_slice()[0], world.seed)?;
@@ -60,53 +61,42 @@ impl Actors {
     }
 
     /// Whether the actor has an answer to an event to which nothing is given.
-    pub fn ready(&self, world: &World, actor: Met, work: &Work) -> Result<bool, AllocError>
-        requires are { AreOf world.now self.now.seats.items self.now.medium }
-        requires met { IsMet world.now actor work.now }
-        requires sure { IsSure world.now (actor_at self.now.seats.items self.now.medium) actor work.now }
-        ensures { IfOk result (λ is. (now : ℕ) → is ≡ is_some (actor_step world.now (name_of actor) (actor_at self.now.seats.items self.now.medium (name_of actor)) now work.now)) }
+    pub fn ready(&self, _world: &World, actor: Met, work: &Work) -> bool
+        requires count { length self.now.seats.items ≡ length _world.now.hosts }
+        requires met { IsMet _world.now actor work.now }
+        ensures { TellsReady _world.now self.now.seats.items self.now.medium actor work.now result }
     {
         match actor {
-            Met::Dir(_, _) => Ok(true),
-            Met::Conv(host, _) => Ok(self.seats[host as usize].conv_ready(world, host, work)),
-            Met::Medium => Ok(self.medium.pending()),
+            Met::Dir(_, _) => true,
+            Met::Conv(host, _) => self.seats[host as usize].conv_ready(work),
+            Met::Medium => self.medium.pending(),
         }
     }
 
     /// The step of the actor for a work that is ready.
-    pub fn step(
-        &mut self,
-        world: &World,
-        now: u64,
-        actor: Met,
-        work: &Work,
-    ) -> Result<Outcome, AllocError>
-        requires are { AreOf world.now self.old.seats.items self.old.medium }
+    pub fn step(&mut self, world: &World, actor: Met, work: &Work) -> Result<Outcome, AllocError>
         requires met { IsMet world.now actor work.now }
-        requires now { now < 2 ^ 63 }
         requires laid { self.old.medium.laid + 1 < 2 ^ 64 }
-        requires ready { IsSome (actor_step world.now (name_of actor) (actor_at self.old.seats.items self.old.medium (name_of actor)) now work.now) }
-        ensures { IfOk result (Steps world.now self.old.seats.items self.old.medium (name_of actor) now work.now self.new.seats.items self.new.medium) }
+        requires ready { CanStep world.now self.old.seats.items self.old.medium (name_of actor) work.now }
+        ensures { IfOk result (StepsAll world.now self.old.seats.items self.old.medium (name_of actor) work.now self.new.seats.items self.new.medium) }
     {
         match actor {
-            Met::Dir(host, proto) => self.step_dir(world, now, host, proto, work),
-            Met::Conv(host, slot) => self.step_conv(world, now, host, slot, work),
-            Met::Medium => self.step_medium(world, now, work),
+            Met::Dir(host, proto) => self.step_dir(world, host, proto, work),
+            Met::Conv(host, slot) => self.step_conv(world, host, slot, work),
+            Met::Medium => self.step_medium(world, work),
         }
     }
 
     fn step_dir(
         &mut self,
         world: &World,
-        _now: u64,
         host: u32,
         _proto: Proto,
         work: &Work,
     ) -> Result<Outcome, AllocError>
-        requires are { AreOf world.now self.old.seats.items self.old.medium }
         requires met { IsMet world.now (Met.Dir host _proto) work.now }
-        requires ready { IsSome (actor_step world.now (name_of (Met.Dir host _proto)) (actor_at self.old.seats.items self.old.medium (name_of (Met.Dir host _proto))) _now work.now) }
-        ensures { IfOk result (Steps world.now self.old.seats.items self.old.medium (name_of (Met.Dir host _proto)) _now work.now self.new.seats.items self.new.medium) }
+        requires ready { CanStep world.now self.old.seats.items self.old.medium (name_of (Met.Dir host _proto)) work.now }
+        ensures { IfOk result (StepsAll world.now self.old.seats.items self.old.medium (name_of (Met.Dir host _proto)) work.now self.new.seats.items self.new.medium) }
     {
         self.seats[host as usize].dir_step(world, host, work)
     }
@@ -114,42 +104,45 @@ impl Actors {
     fn step_conv(
         &mut self,
         world: &World,
-        now: u64,
         host: u32,
         _slot: u32,
         work: &Work,
     ) -> Result<Outcome, AllocError>
-        requires are { AreOf world.now self.old.seats.items self.old.medium }
         requires met { IsMet world.now (Met.Conv host _slot) work.now }
-        requires now { now < 2 ^ 63 }
-        requires ready { IsSome (actor_step world.now (name_of (Met.Conv host _slot)) (actor_at self.old.seats.items self.old.medium (name_of (Met.Conv host _slot))) now work.now) }
-        ensures { IfOk result (Steps world.now self.old.seats.items self.old.medium (name_of (Met.Conv host _slot)) now work.now self.new.seats.items self.new.medium) }
+        requires ready { CanStep world.now self.old.seats.items self.old.medium (name_of (Met.Conv host _slot)) work.now }
+        ensures { IfOk result (StepsAll world.now self.old.seats.items self.old.medium (name_of (Met.Conv host _slot)) work.now self.new.seats.items self.new.medium) }
     {
-        self.seats[host as usize].conv_step(world, host, now, work)
+        self.seats[host as usize].conv_step(world, host, work)
     }
 
-    // A put, or else a take.
-    fn step_medium(&mut self, world: &World, _now: u64, work: &Work) -> Result<Outcome, AllocError>
-        requires are { AreOf world.now self.old.seats.items self.old.medium }
+    fn step_medium(&mut self, world: &World, work: &Work) -> Result<Outcome, AllocError>
         requires met { IsMet world.now Met.Medium work.now }
         requires laid { self.old.medium.laid + 1 < 2 ^ 64 }
-        requires ready { IsSome (actor_step world.now (name_of Met.Medium) (actor_at self.old.seats.items self.old.medium (name_of Met.Medium)) _now work.now) }
-        ensures { IfOk result (Steps world.now self.old.seats.items self.old.medium (name_of Met.Medium) _now work.now self.new.seats.items self.new.medium) }
+        requires ready { CanStep world.now self.old.seats.items self.old.medium (name_of Met.Medium) work.now }
+        ensures { IfOk result (StepsAll world.now self.old.seats.items self.old.medium (name_of Met.Medium) work.now self.new.seats.items self.new.medium) }
     {
-        match (&work.event, &work.with) {
-            (Event::Put { to }, With::Packet(packet)) => Ok(laid_outcome(
-                self.medium.put(*to, packet)?,
-            )),
-            _ => {
-                let taken = self.medium.take()?;
-                Ok(Outcome {
-                    reply: Reply::Copy { frame: taken.frame },
-                    copy: Some(Reply::Copy { frame: taken.frame }),
-                    emit: None,
-                    taken: Some(taken),
-                    ended: false,
-                })
-            }
+        put_or_take(&mut self.medium, work)
+    }
+}
+
+// A put, or else a take.
+fn put_or_take(medium: &mut Medium, work: &Work) -> Result<Outcome, AllocError>
+    requires met { IsMediumMet work.now.event work.now.with }
+    requires laid { medium.old.laid + 1 < 2 ^ 64 }
+    requires ready { IsSome (medium_step medium.old.spec medium.old.seed work.now.event work.now.with (medium_of medium.old)) }
+    ensures { IfOk result (MediumSteps medium.old medium.new work.now) }
+{
+    match (&work.event, &work.with) {
+        (Event::Put { to }, With::Packet(packet)) => Ok(laid_outcome(medium.put(*to, packet)?)),
+        _ => {
+            let taken = medium.take()?;
+            Ok(Outcome {
+                reply: Reply::Copy { frame: taken.frame },
+                copy: Some(Reply::Copy { frame: taken.frame }),
+                emit: None,
+                taken: Some(taken),
+                ended: false,
+            })
         }
     }
 }

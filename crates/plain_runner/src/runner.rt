@@ -2,10 +2,11 @@
 ghost use Rattle.std.specs.Prelude.{◌≡◌, ℕ, ◌<◌, ◌-◌, ◌+◌, ◌^◌, slice_set, slice_get, vec_len, length, Some, OnOk};
 ghost use Rattle.plain_runner.specs.declared.standing.Standing.{Standing as State};
 ghost use Rattle.plain_runner.specs.Before.{Before, Goes};
-ghost use Rattle.plain_runner.specs.Stands.{Stands};
+ghost use Rattle.plain_runner.specs.Moved.{Moved};
+ghost use Rattle.plain_runner.specs.Stands.{Plays, Stands, Tracks};
 ghost use Rattle.std.specs.Prelude.{None, IfOk, IsSome, is_some, ◌==◌, ◌||◌};
 ghost use Rattle.plain_runner.specs.Rounds.{MayGo, TurnedAll, may_record};
-ghost use Rattle.std.specs.Prelude.{true, replicate};
+ghost use Rattle.std.specs.Prelude.{[], true, replicate};
 ghost use Rattle.net_base.specs.declared.world.Script.{Script as ScriptNow};
 ghost use Rattle.net_base.specs.Calm.{unfinished};
 ghost use Rattle.net_base.specs.Legal.{IsLegal, IsTimed};
@@ -19,7 +20,7 @@ ghost use Rattle.net_base.specs.Callers.{clock_number};
 ghost use Rattle.net_base.specs.Calm.{most_entries};
 ghost use Rattle.net_base.specs.Next.{next};
 ghost use Rattle.plain_runner.specs.Met.{asks, asks_at};
-ghost use Rattle.plain_runner.specs.Turns.{IsAskOf, IsReadyNext, OwesNothing, Turned};
+ghost use Rattle.plain_runner.specs.Turns.{IsAskOf, IsReadyNext, Owes, OwesNothing, Turned};
 ghost use Rattle.plain_runner.specs.declared.runner.Caller.{Caller as CallerNow};
 ghost use Rattle.std.specs.Option.{option_map};
 ghost use Rattle.net_base.specs.Headers.{header};
@@ -39,7 +40,7 @@ use net_base::{
 use std::alloc::{AllocError, Global};
 
 /// How many entries a caller may record.
-const MOST_ENTRIES: u32 = 131_072;
+pub const MOST_ENTRIES: u32 = 131_072;
 
 /// How a run ends.
 #[derive(Clone, Copy, Debug, PartialEq, Eq)]
@@ -167,8 +168,8 @@ pub fn run(alloc: Global, world: &World) -> Result<Ran, AllocError>
             return Ok(ended(runner, world, end));
         }
     }
-    // each of these steps recorded an entry, and so many can't be held
-    Err(AllocError)
+    // each of these steps recorded an entry, and no legal history is as long
+    unreachable!()
 }
 
 // The run as it ended.
@@ -191,10 +192,11 @@ fn ended(runner: Runner, world: &World, end: RunEnd) -> Ran
 
 impl Runner {
     /// The run of a world before anything is recorded.
-    fn new(alloc: Global, world: &World) -> Result<Runner, AllocError>
+    pub fn new(alloc: Global, world: &World) -> Result<Runner, AllocError>
         requires world { IsWorld world.now }
         requires form { IsFirstForm world.now }
-        ensures { IfOk result (Stands world.now) }
+        ensures stands { IfOk result (Stands world.now) }
+        ensures empty { IfOk result (λ r. r.history ≡ []) }
     {
         let actors = Actors::new(alloc, world)?;
         let callers = callers_of(alloc, world.scripts.len())?;
@@ -222,15 +224,10 @@ impl Runner {
         requires world { IsWorld world.now }
         requires form { IsFirstForm world.now }
         requires before { Before world.now self.old caller actor work cites }
-        ensures stands { OnOk result (Stands world.now self.new) }
-        ensures longer { OnOk result (length self.new.history ≡ length self.old.history + 1) }
+        ensures { OnOk result (Plays world.now self.old self.new caller) }
     {
         let stamp = self.history.len() as u64;
-        // no longer history can be held
-        if stamp == u64::MAX {
-            return Err(AllocError);
-        }
-        let outcome = self.actors.step(world, self.moment, actor, &work)?;
+        let outcome = self.actors.step(world, actor, &work)?;
         let (entry, owed) = entry_of(
             world,
             actor,
@@ -248,10 +245,10 @@ impl Runner {
     }
 
     /// The next event of a caller, if a step is left.
-    fn asked_of(&self, world: &World, caller: usize) -> Result<Option<(Met, Event)>, AllocError>
+    pub fn asked_of(&self, world: &World, caller: usize) -> Result<Option<(Met, Event)>, AllocError>
         requires world { IsWorld world.now }
         requires form { IsFirstForm world.now }
-        requires stands { Stands world.now self.now }
+        requires tracks { Tracks world.now self.now }
         requires caller { caller < clock_number world.now }
         ensures { IfOk result (λ o. asks o ≡ next world.now self.now.history caller) }
     {
@@ -265,14 +262,14 @@ impl Runner {
     fn ask(&self, world: &World, caller: usize) -> Result<Option<(Met, Work)>, AllocError>
         requires world { IsWorld world.now }
         requires form { IsFirstForm world.now }
-        requires stands { Stands world.now self.now }
+        requires tracks { Tracks world.now self.now }
         requires caller { caller < clock_number world.now }
         requires nothing { OwesNothing self.now caller }
         ensures { IfOk result (IsAskOf world.now self.now caller) }
     {
         let asked = self.asked_of(world, caller)?;
         match asked {
-            Some((actor, event)) => self.where_ready(world, caller, actor, event),
+            Some((actor, event)) => Ok(self.where_ready(world, caller, actor, event)),
             None => Ok(None),
         }
     }
@@ -284,40 +281,36 @@ impl Runner {
         _caller: usize,
         actor: Met,
         event: Event,
-    ) -> Result<Option<(Met, Work)>, AllocError>
+    ) -> Option<(Met, Work)>
         requires world { IsWorld world.now }
         requires form { IsFirstForm world.now }
-        requires stands { Stands world.now self.now }
+        requires tracks { Tracks world.now self.now }
         requires caller { _caller < clock_number world.now }
         requires nothing { OwesNothing self.now _caller }
         requires asked { Some (asks_at actor event) ≡ next world.now self.now.history _caller }
-        ensures { IfOk result (IsAskOf world.now self.now _caller) }
+        ensures { IsAskOf world.now self.now _caller result }
     {
         let work = Work {
             event,
             with: With::Nothing,
         };
-        let is_ready = self.actors.ready(world, actor, &work)?;
+        let is_ready = self.actors.ready(world, actor, &work);
         if is_ready {
-            return Ok(Some((actor, work)));
+            return Some((actor, work));
         }
-        Ok(None)
+        None
     }
 
     /// Records what a caller owes.
-    fn play_owed(&mut self, world: &World, caller: usize) -> Result<(), AllocError>
+    pub fn play_owed(&mut self, world: &World, caller: usize) -> Result<(), AllocError>
         requires world { IsWorld world.now }
         requires form { IsFirstForm world.now }
-        requires stands { Stands world.now self.old }
+        requires tracks { Tracks world.now self.old }
         requires caller { caller < clock_number world.now }
         requires owes { (k : CallerNow) → slice_get self.old.callers.items caller ≡ Some k → IsSome k.owed × (k.entries < most_entries) }
-        ensures stands { OnOk result (Stands world.now self.new) }
-        ensures longer { OnOk result (length self.new.history ≡ length self.old.history + 1) }
+        ensures { OnOk result (Plays world.now self.old self.new caller) }
     {
-        let owed = take_owed(&mut self.callers, caller);
-        let Some(duty) = owed else {
-            return Err(AllocError);
-        };
+        let duty = take_duty(&mut self.callers, caller);
         let Duty {
             actor,
             event,
@@ -328,7 +321,7 @@ impl Runner {
     }
 
     /// Records the next event of a caller, which is ready.
-    fn play_next(
+    pub fn play_next(
         &mut self,
         world: &World,
         caller: usize,
@@ -337,13 +330,12 @@ impl Runner {
     ) -> Result<(), AllocError>
         requires world { IsWorld world.now }
         requires form { IsFirstForm world.now }
-        requires stands { Stands world.now self.old }
+        requires tracks { Tracks world.now self.old }
         requires caller { caller < clock_number world.now }
         requires nothing { OwesNothing self.old caller }
         requires few { (k : CallerNow) → slice_get self.old.callers.items caller ≡ Some k → k.entries < most_entries }
         requires ready { IsReadyNext world.now self.old caller actor work }
-        ensures stands { OnOk result (Stands world.now self.new) }
-        ensures longer { OnOk result (length self.new.history ≡ length self.old.history + 1) }
+        ensures { OnOk result (Plays world.now self.old self.new caller) }
     {
         self.play(world, caller, actor, work, None)
     }
@@ -376,7 +368,7 @@ impl Runner {
     }
 
     // Whether a caller has as many entries as it may have.
-    fn is_full(&self, caller: usize) -> bool
+    pub fn is_full(&self, caller: usize) -> bool
         requires { caller < length self.now.callers.items }
         ensures { (k : CallerNow) → slice_get self.now.callers.items caller ≡ Some k → result ≡ (k.entries == most_entries) }
     {
@@ -384,7 +376,7 @@ impl Runner {
     }
 
     // Whether a caller owes a duty.
-    fn owes(&self, caller: usize) -> bool
+    pub fn owes(&self, caller: usize) -> bool
         requires { caller < length self.now.callers.items }
         ensures { (k : CallerNow) → slice_get self.now.callers.items caller ≡ Some k → result ≡ is_some k.owed }
     {
@@ -407,10 +399,10 @@ impl Runner {
     }
 
     /// Whether a caller owes a duty or its next event is ready.
-    fn may_record(&self, world: &World, caller: usize) -> Result<bool, AllocError>
+    pub fn may_record(&self, world: &World, caller: usize) -> Result<bool, AllocError>
         requires world { IsWorld world.now }
         requires form { IsFirstForm world.now }
-        requires stands { Stands world.now self.now }
+        requires tracks { Tracks world.now self.now }
         requires caller { caller < clock_number world.now }
         ensures { IfOk result (λ may. may ≡ may_record world.now self.now.history caller) }
     {
@@ -423,10 +415,10 @@ impl Runner {
     }
 
     /// Whether some caller may.
-    fn may_go_on(&self, world: &World) -> Result<bool, AllocError>
+    pub fn may_go_on(&self, world: &World) -> Result<bool, AllocError>
         requires world { IsWorld world.now }
         requires form { IsFirstForm world.now }
-        requires stands { Stands world.now self.now }
+        requires tracks { Tracks world.now self.now }
         ensures { IfOk result (MayGo world.now self.now.history (clock_number world.now)) }
     {
         for caller in 0..self.callers.len() {
@@ -439,8 +431,8 @@ impl Runner {
     }
 
     /// Whether a step of a script isn't finished.
-    fn unfinished(&self, world: &World) -> bool
-        requires { Stands world.now self.now }
+    pub fn unfinished(&self, world: &World) -> bool
+        requires { Tracks world.now self.now }
         ensures { result ≡ unfinished world.now (after world.now self.now.history) }
     {
         for caller in 0..world.scripts.len() {
@@ -454,7 +446,7 @@ impl Runner {
 
     // Whether a step of this script isn't finished.
     fn has_left(&self, world: &World, caller: usize) -> bool
-        requires stands { Stands world.now self.now }
+        requires tracks { Tracks world.now self.now }
         requires caller { caller < length world.now.scripts }
         ensures { (s : ScriptNow) → slice_get world.now.scripts caller ≡ Some s → result ≡ is_unfinished (after world.now self.now.history).past caller s }
     {
@@ -464,7 +456,7 @@ impl Runner {
 
     // How many steps of a script are answered.
     fn steps_answered(&self, _world: &World, caller: usize) -> u32
-        requires stands { Stands _world.now self.now }
+        requires tracks { Tracks _world.now self.now }
         requires caller { caller < length _world.now.scripts }
         ensures { (s : ScriptNow) → slice_get _world.now.scripts caller ≡ Some s → result ≡ answered_by _world.now self.now.history (caller, s) }
     {
@@ -477,8 +469,8 @@ impl Runner {
     }
 
     /// How many steps of all scripts are answered.
-    fn answered(&self, world: &World) -> u128
-        requires { Stands world.now self.now }
+    pub fn answered(&self, world: &World) -> u128
+        requires { Tracks world.now self.now }
         ensures { result ≡ answered_steps world.now self.now.history }
     {
         let mut answered: u128 = 0;
@@ -489,6 +481,31 @@ impl Runner {
         answered
     }
 
+    /// Moves the clock.
+    pub fn move_to(&mut self, world: &World, moment: u64) -> Result<(), AllocError>
+        requires world { IsWorld world.now }
+        requires form { IsFirstForm world.now }
+        requires tracks { Tracks world.now self.old }
+        requires few { self.old.moves < most_entries }
+        ensures { OnOk result (Moved world.now self.old self.new moment) }
+    {
+        let clock = self.callers.len() as u32;
+        let entry = Entry {
+            actor: ActorName::Clock,
+            caller: clock,
+            moment: self.moment,
+            event: Event::Move { moment },
+            cites: None,
+            reply: Reply::Ok,
+            emits: None,
+            ended: false,
+        };
+        self.history.push(entry)?;
+        self.moment = moment;
+        self.moves += 1;
+        Ok(())
+    }
+
     /// Moves the clock to the end moment, since nothing is due before.
     fn advance(&mut self, world: &World) -> Result<(), AllocError>
         requires world { IsWorld world.now }
@@ -497,23 +514,9 @@ impl Runner {
         requires idle { IsIdle world.now (after world.now self.old.history) }
         requires more { unfinished world.now (after world.now self.old.history) ≡ true }
         requires before { self.old.moment < world.now.end }
-        ensures { OnOk result (Stands world.now self.new) }
+        ensures { OnOk result (Stands world.now self.new × (length self.old.history < length self.new.history)) }
     {
-        let clock = self.callers.len() as u32;
-        let entry = Entry {
-            actor: ActorName::Clock,
-            caller: clock,
-            moment: self.moment,
-            event: Event::Move { moment: world.end },
-            cites: None,
-            reply: Reply::Ok,
-            emits: None,
-            ended: false,
-        };
-        self.history.push(entry)?;
-        self.moment = world.end;
-        self.moves += 1;
-        Ok(())
+        self.move_to(world, world.end)
     }
 
     /// What comes where no caller records: the run is over, or the clock moves.
@@ -522,7 +525,7 @@ impl Runner {
         requires form { IsFirstForm world.now }
         requires stands { Stands world.now self.old }
         requires through { (c : ℕ) → c < clock_number world.now → IsThrough world.now self.old.history c }
-        ensures { IfOk result (GoesOrEnds world.now self.new) }
+        ensures { IfOk result (GoesOrEnds world.now self.old self.new) }
     {
         let may = self.may_go_on(world)?;
         if may {
@@ -544,7 +547,7 @@ impl Runner {
         requires world { IsWorld world.now }
         requires form { IsFirstForm world.now }
         requires stands { Stands world.now self.old }
-        ensures { IfOk result (GoesOrEnds world.now self.new) }
+        ensures { IfOk result (GoesOrEnds world.now self.old self.new) }
     {
         let recorded = self.round(world)?;
         if recorded {
@@ -591,6 +594,18 @@ fn callers_of(alloc: Global, scripts: usize) -> Result<Vec<Caller>, AllocError>
         entries: 0,
     })?;
     Ok(callers)
+}
+
+// Takes the duty of a caller, which owes one.
+fn take_duty(callers: &mut Vec<Caller>, caller: usize) -> Duty
+    requires caller { caller < vec_len callers.old }
+    requires owes { Owes callers.old.items caller }
+    ensures { (k : CallerNow) → slice_get callers.old.items caller ≡ Some k → (k.owed ≡ Some result) × (callers.new.items ≡ slice_set callers.old.items caller (record { owed = None; entries = k.entries })) }
+{
+    match take_owed(callers, caller) {
+        Some(duty) => duty,
+        None => unreachable!(),
+    }
 }
 
 // Takes what a caller owes from it.

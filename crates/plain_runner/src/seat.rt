@@ -1,11 +1,11 @@
 //! What is met of a host: its directory and its first conversation.
-ghost use Rattle.std.specs.Prelude.{◌≡◌, ℕ, ◌<◌, ◌^◌, IfOk, IsSome, is_some};
+ghost use Rattle.std.specs.Prelude.{◌≡◌, IfOk, IsSome};
 ghost use Rattle.net_base.specs.Actors.{opening_dir, opening_conv};
-ghost use Rattle.net_base.specs.Conversation.{conv_step};
 ghost use Rattle.net_base.specs.Directory.{dir_step};
 ghost use Rattle.net_base.specs.declared.address.Proto.TheVariants as proto;
+ghost use Rattle.conversation.specs.Stands.{StandsFor};
 ghost use Rattle.host_dir.specs.Kept.{HasOneWay};
-ghost use Rattle.plain_runner.specs.Seats.{IsSeatOf, dir_of, conv_of, DirSteps, ConvSteps, IsDirMet, IsConvMet};
+ghost use Rattle.plain_runner.specs.Seats.{IsSeatOf, IsUdpReady, TellsConv, dir_of, DirSteps, ConvSteps, IsDirMet};
 
 use conversation::Conv;
 use host_dir::Dir;
@@ -28,24 +28,22 @@ impl Model for Seat {
     ghost view = { λ s. record { host_dir = s.dir; seat = s.conv } };
 }
 
-#[tactic(auto, unfolding(crate::specs::Seats::IsSeatOf, conversation::specs::Stands::StandsFor, conversation::specs::Stands::slot_of))]
 impl Seat {
     /// What is met of a host of the world, before anything happened.
     pub fn new(alloc: Global, world: &World, host: u32) -> Result<Seat, AllocError>
         requires { HasOneWay world.now host }
         ensures of { IfOk result (λ s. IsSeatOf world.now host s) }
         ensures dir { IfOk result (λ s. dir_of s ≡ opening_dir) }
-        ensures conv { IfOk result (λ s. conv_of s ≡ opening_conv proto.Udp) }
+        ensures conv { IfOk result (λ s. StandsFor s.seat (opening_conv proto.Udp)) }
     {
         let dir = Dir::new(alloc, world, host, Proto::Udp)?;
         let conv = Conv::new(alloc, host, Proto::Udp, 0)?;
         Ok(Seat { dir, conv })
     }
 
-    /// Whether the conversation has an answer.
-    pub fn conv_ready(&self, _world: &World, _host: u32, work: &Work) -> bool
-        requires of { IsSeatOf _world.now _host self.now }
-        ensures { (now : ℕ) → result ≡ is_some (conv_step 0 work.now.event work.now.with now (conv_of self.now)) }
+    /// Whether the conversation has an answer, at whatever moment.
+    pub fn conv_ready(&self, work: &Work) -> bool
+        ensures { TellsConv self.now work.now result }
     {
         self.conv.ready(work)
     }
@@ -70,18 +68,13 @@ impl Seat {
         &mut self,
         _world: &World,
         _host: u32,
-        now: u64,
         work: &Work,
     ) -> Result<Outcome, AllocError>
         requires of { IsSeatOf _world.now _host self.old }
-        requires now { now < 2 ^ 63 }
-        requires ready { IsSome (conv_step 0 work.now.event work.now.with now (conv_of self.old)) }
-        ensures { IfOk result (ConvSteps self.old self.new now work.now) }
+        requires ready { IsUdpReady self.old.seat work.now }
+        ensures { IfOk result (ConvSteps self.old self.new work.now) }
     {
-        // one of UDP always is
-        if !self.conv.is_short() {
-            return Err(AllocError);
-        }
-        self.conv.step(now, work)
+        // one of UDP does the same at any moment
+        self.conv.step(0, work)
     }
 }

@@ -61,10 +61,7 @@ impl Place {
         match self {
             Place::Await => Ok(Some((conv, Event::Await { generation: 1 }))),
             Place::Step(0) => Ok(Some((dir, Event::Reserve))),
-            Place::Step(1) => {
-                let event = grant(script)?;
-                Ok(Some((dir, event)))
-            }
+            Place::Step(1) => Ok(Some((dir, grant(script)))),
             Place::Step(2) => Ok(Some((
                 conv,
                 Event::Open {
@@ -104,20 +101,40 @@ fn later(script: &Script, k: u32) -> Result<Option<(Met, Event)>, AllocError>
 }
 
 // What the second step asks for.
-fn grant(script: &Script) -> Result<Event, AllocError>
+fn grant(script: &Script) -> Event
     requires { IsUdpScript script.now.steps }
-    ensures { (u : IsUdpScript script.now.steps) → IfOk result (λ e. e ≡ Event.Grant 0 1 u.remote (Some u.port)) }
+    ensures { (u : IsUdpScript script.now.steps) → result ≡ Event.Grant 0 1 u.remote (Some u.port) }
 {
-    if let Some(Step::Write { text, .. }) = script.steps.as_slice().get(1) {
-        if let Ok(Ctl::Connect { remote, lport }) = read_ctl(text.as_slice()) {
-            return Ok(Event::Grant {
-                slot: 0,
-                generation: 1,
-                remote,
-                lport,
-            });
-        }
+    let text = second_text(script);
+    match read_ctl(text) {
+        Ok(control) => granted(control),
+        Err(_) => unreachable!(),
     }
-    // the form has no other second step
-    Err(AllocError)
+}
+
+// The grant that a connect asks for.
+fn granted(control: Ctl) -> Event
+    requires { spec.IsConnect control }
+    ensures { result ≡ spec.grant_by control }
+{
+    match control {
+        Ctl::Connect { remote, lport } => Event::Grant {
+            slot: 0,
+            generation: 1,
+            remote,
+            lport,
+        },
+        _ => unreachable!(),
+    }
+}
+
+// What the second step writes.
+fn second_text(script: &Script) -> &[u8]
+    requires { IsUdpScript script.now.steps }
+    ensures { (u : IsUdpScript script.now.steps) → result.now ≡ u.text }
+{
+    match script.steps.as_slice().get(1) {
+        Some(Step::Write { text, .. }) => text.as_slice(),
+        _ => unreachable!(),
+    }
 }

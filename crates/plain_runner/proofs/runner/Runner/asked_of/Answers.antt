@@ -7,7 +7,7 @@ use Rattle.plain_runner.proofs.runner.Runner.asked_of.Goals as goal
 pub returns-in-Some : goal.returns-in-Some
 returns-in-Some c =
     let look = c.in-Some.ensures.lookup in
-    asked_script c.args.world.now c.args.self.now c.args.caller c.in-Some.script.now c.index.result.now c.ask.result c.requires.stands
+    asked_script c.args.world.now c.args.self.now c.args.caller c.in-Some.script.now c.index.result.now c.ask.result c.requires.tracks
     (subst (λ (xs : List Script). slice_get xs c.args.caller ≡ Some c.in-Some.script.now) c.as_slice.ensures (slice_get_read c.as_slice.result.now _ c.args.caller c.in-Some.script.now refl look.3.0 look.1))
     c.index.ensures c.ask.ensures
 

@@ -5,6 +5,6 @@ use Rattle.plain_runner.proofs.runner.Runner.has_left.Goals as goal
 
 pub returns : goal.returns
 returns c = λ s is.
-    has_left_so c.args.world.now c.args.self.now c.args.caller s c.index.result.now c.index-as_slice-caller.result c.finished-finished.result c.len.result c.requires.stands is c.index.ensures
+    has_left_so c.args.world.now c.args.self.now c.args.caller s c.index.result.now c.index-as_slice-caller.result c.finished-finished.result c.len.result c.requires.tracks is c.index.ensures
     (subst (λ (xs : List Script). c.index-as_slice-caller.result ≡ get_or xs c.args.caller c.index-as_slice-caller.result) c.as_slice.ensures c.index-as_slice-caller.is) c.finished-finished.ensures
     (c.len.ensures ∙ ap (λ (u : Script). length u.steps) (sym c.index-as_slice-caller.is))

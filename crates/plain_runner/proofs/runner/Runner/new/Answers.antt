@@ -5,9 +5,9 @@ use Rattle.plain_runner.specs.declared.standing.Standing.{Standing}
 use Rattle.plain_runner.proofs.Finals.{opening_stands}
 use Rattle.plain_runner.proofs.runner.Runner.new.Goals as goal
 
-pub returns : goal.returns
-returns c =
+pub returns-clause-stands : goal.returns-clause-stands
+returns-clause-stands c =
     let a = c.in_ok-actors.ensures in
-    opening_stands c.args.world.now _ c.requires.world c.requires.form c.new-2.ensures refl refl a.are a.opening a.laid
+    opening_stands c.args.world.now _ c.requires.world c.requires.form c.new-2.ensures refl refl a.are a.laid
     (c.in_ok-callers.ensures ∙ ap (λ n. replicate {A = Caller} (n + 1) (record { owed = None; entries = 0 })) c.len.ensures)
     (c.in_ok-scripts.ensures ∙ ap (λ n. replicate {A = Standing} n (record { place = place.Step 0; before = 0 })) c.len-2.ensures)
