@@ -21,5 +21,6 @@ pub mod Rounding
 pub mod Finals
 pub mod Repeats
 pub mod Halts
+pub mod Samples
 pub mod Lasts
 pub mod Forms

@@ -1,6 +1,5 @@
 //! Small worlds: a datagram that is read, and one that never comes.
-ghost use Rattle.std.specs.Prelude.{◌≡◌, ◌∷◌, [], IfOk, take, codes, None, true};
-ghost use Rattle.net_base.specs.Legal.{IsLegal};
+ghost use Rattle.std.specs.Prelude.{◌≡◌, ◌∷◌, [], IfOk, take, codes, None};
 ghost use Rattle.net_base.specs.World.{IsWorld};
 ghost use Rattle.net_base.specs.WorldForm.{IsFirstForm};
 ghost use Rattle.net_model.specs.Worked as worked;
@@ -11,6 +10,7 @@ use net_base::{
     Db, Fates, History, HostSpec, Hosts, Iface, Ifaces, Media, MediumSpec, Nets, Octets, Proto,
     RouteLines, Script, Scripts, Starts, Step, StepList, World,
 };
+use net_model::prefix_is_legal;
 use std::alloc::{AllocError, Global};
 use std::process::Abort;
 use std::test::*;
@@ -238,6 +238,7 @@ fn begins(
     requires form { IsFirstForm world.now }
 {
     let Ran { history, .. } = run(alloc, world)?;
+    prefix_is_legal();
     let history = beginning(history, count);
     let summary = summary_of(alloc, world, &history)?;
     assert!(rt; summary.as_slice() == wanted, "{count}");
