@@ -10,3 +10,4 @@ pub mod NdbPlain
 pub mod NdbComplete
 pub mod NdbSound
 pub mod NdbFiles
+pub mod Texts

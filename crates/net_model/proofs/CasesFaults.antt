@@ -20,10 +20,10 @@ use Rattle.net_base.specs.declared.packet.BodyHeader.TheVariants as shown
 use Rattle.net_base.specs.declared.il.IlKind.{IlKind}
 use Rattle.net_base.specs.declared.il.IlKind.TheVariants.{Data}
 use Rattle.net_base.specs.Legal.{Shown}
-use Rattle.net_model.specs.WorkedUdp.{datagram_world, datagram_history}
-use Rattle.net_model.specs.WorkedIl.{lossy_world, lossy_history, refused_world, refused_history}
-use Rattle.net_model.specs.WorkedFaults.{with_at, another_text, another_moment, another_cite, another_event, taken_too_early, moved_too_early, moved_too_far, sent_as_data, read_too_early, refused_otherwise, not_ended}
-use Rattle.net_model.proofs.Histories.{legal_take, timed_take}
+use Rattle.worked_worlds.specs.WorkedUdp.{datagram_world, datagram_history}
+use Rattle.worked_worlds.specs.WorkedIl.{lossy_world, lossy_history, refused_world, refused_history}
+use Rattle.worked_worlds.specs.WorkedFaults.{with_at, another_text, another_moment, another_cite, another_event, taken_too_early, moved_too_early, moved_too_far, sent_as_data, read_too_early, refused_otherwise, not_ended}
+use Rattle.history_laws.proofs.Histories.{legal_take, timed_take}
 use Rattle.net_model.proofs.CasesUdp.{datagram_is_legal, datagram_is_timed}
 use Rattle.net_model.proofs.CasesIl.{lossy_is_legal, lossy_is_timed, refused_is_legal, refused_is_timed}
 

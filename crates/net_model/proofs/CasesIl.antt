@@ -7,8 +7,8 @@ use Rattle.net_base.specs.Legal.{IsLegal, IsTimed}
 use Rattle.net_base.specs.Net.{after, opening_net}
 use Rattle.net_base.specs.Number.{number}
 use Rattle.net_model.specs.Rounds.{run_of}
-use Rattle.net_model.specs.WorkedIl.{lossy_world, lossy_history, refused_world, refused_history}
-use Rattle.net_model.proofs.Walk.{Follow, InTime, is_legal, is_timed}
+use Rattle.worked_worlds.specs.WorkedIl.{lossy_world, lossy_history, refused_world, refused_history}
+use Rattle.history_laws.proofs.Walk.{Follow, InTime, is_legal, is_timed}
 
 lossy_follows : Follow lossy_world [] opening_net lossy_history
 unfolding number digits state_after

@@ -16,7 +16,7 @@ use Rattle.net_base.specs.Legal.{IsAsked, IsLegal, MayFollow, asked_by, cites_of
 use Rattle.net_base.specs.Net.{after, owed}
 use Rattle.net_base.specs.Next.{answered, by, finished_by, next, next_of, own_replies, standing}
 use Rattle.net_model.specs.ScriptOrder.{KeepsScript, StandInOrder, own_entries, settled}
-use Rattle.net_model.proofs.Histories.{by_entries}
+use Rattle.history_laws.proofs.Histories.{by_entries}
 use Rattle.net_model.proofs.LastOwn.{of_last_step}
 use Rattle.net_model.proofs.Plays.{Stood, counted, none_stood, replies, stood_push, stood_take}
 

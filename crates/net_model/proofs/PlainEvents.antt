@@ -14,9 +14,9 @@ use Rattle.net_base.specs.declared.world.Step.TheVariants as step
 use Rattle.net_base.specs.Plain.{IsClean, IsWord, IsLine, AreLines, AreBytes, IsPlainEvent, IsPlainReply}
 use Rattle.net_base.specs.Steps.{is_blank, clone_path, lines_in, dotted_name}
 use Rattle.net_base.specs.World.{is_within, is_letter, is_name_byte, is_name, is_byte, is_text, is_word, is_step}
-use Rattle.net_model.proofs.Ordered.{Each}
+use Rattle.history_laws.proofs.Ordered.{Each}
 use Rattle.net_model.proofs.PlainTexts.{IsText, ListsTexts}
-use Rattle.net_model.proofs.StepEvents.{IsOther, IsOpened, IsNamed, Fits, Says}
+use Rattle.history_laws.proofs.StepEvents.{IsOther, IsOpened, IsNamed, Fits, Says}
 
 -- The words of a file.
 

@@ -22,7 +22,7 @@ use Rattle.net_base.specs.Desk.{cs_reply, ls_reply, open_refusal, desk_reply, cl
 use Rattle.net_base.specs.Paths.{walk, may_open, names}
 use Rattle.net_base.specs.World.{is_text}
 use Rattle.net_model.proofs.CsLaws.{any_text}
-use Rattle.net_model.proofs.Ordered.{Each, each_any, each_append, each_map, each_flat_map}
+use Rattle.history_laws.proofs.Ordered.{Each, each_any, each_append, each_map, each_flat_map}
 
 -- Texts.
 

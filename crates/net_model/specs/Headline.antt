@@ -12,7 +12,7 @@ use Rattle.net_base.specs.Cs.{cs_list}
 use Rattle.net_base.specs.Desk.{cs_reply}
 use Rattle.net_base.specs.Plain.{IsPlain}
 use Rattle.net_base.specs.Written.{Conversation, IsRead, peer}
-use Rattle.net_model.specs.PrefixLaw.{Alone, InOrder, WasWritten}
+use Rattle.prefix_law.specs.PrefixLaw.{Alone, InOrder, WasWritten}
 use Rattle.net_model.specs.ScriptOrder.{KeepsScript}
 
 -- the entry is at the desk of a host of the world, and replies the list of that host's database, or why there is none

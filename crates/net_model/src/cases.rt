@@ -5,11 +5,11 @@ ghost use Rattle.net_base.specs.Calm.{done, stopped};
 ghost use Rattle.net_base.specs.Legal.{IsLegal, IsTimed, IsFault, Answers, AtMoment, Cites, Asked, Ready, InTime};
 ghost use Rattle.net_base.specs.Net.{after, opening_net};
 ghost use Rattle.net_model.specs.Rounds.{rounds, run_of};
-ghost use Rattle.net_model.specs.WorkedFaults as fault;
-ghost use Rattle.net_model.specs.WorkedFaults.{with_at};
-ghost use Rattle.net_model.specs.WorkedIl.{lossy_world, lossy_history, refused_world, refused_history};
-ghost use Rattle.net_model.specs.WorkedRuns.{moves, texts_read, kinds, data_ids, hello_world, early_close_world, repeated_world, wrapping_world, cut_world, nobody_world, lost_world, dropped_world, two_calls_world};
-ghost use Rattle.net_model.specs.WorkedUdp.{datagram_world, datagram_history};
+ghost use Rattle.worked_worlds.specs.WorkedFaults as fault;
+ghost use Rattle.worked_worlds.specs.WorkedFaults.{with_at};
+ghost use Rattle.worked_worlds.specs.WorkedIl.{lossy_world, lossy_history, refused_world, refused_history};
+ghost use Rattle.worked_worlds.specs.WorkedRuns.{moves, texts_read, kinds, data_ids, hello_world, early_close_world, repeated_world, wrapping_world, cut_world, nobody_world, lost_world, dropped_world, two_calls_world};
+ghost use Rattle.worked_worlds.specs.WorkedUdp.{datagram_world, datagram_history};
 
 /// A datagram that anna writes is read by helix, in 18 entries.
 pub fn a_datagram_goes()

@@ -8,7 +8,7 @@ use Rattle.net_base.specs.Calm as calm
 use Rattle.net_base.specs.Cs.{CsAnswer, Lines, Refused}
 use Rattle.net_base.specs.Net.{Net, after}
 use Rattle.net_model.specs.Words.{Command, Cs, Run}
-use Rattle.net_model.specs.WorldText.{world_reading}
+use Rattle.world_text.specs.WorldText.{world_reading}
 use Rattle.cs_resolver.specs.Built.{built_answer}
 use Rattle.netsh.specs.Built.{first_bad, IsStatus, IsRun, IsFound, IsGiven, IsAnswer}
 use Rattle.netsh.specs.Ends.{Intake, Output, Told, IsInput, IsRead, Answers, IsStatusOf, IsBad, HasRun, Ends, no_row, answered, unread, no_memory, Causes}

@@ -16,7 +16,7 @@ use Rattle.net_base.specs.Plain.{IsPlain}
 use Rattle.net_base.specs.Summary.{summary}
 use Rattle.net_base.specs.Transcript.{history_text}
 use Rattle.net_model.specs.Headline.{Headline}
-use Rattle.net_model.specs.WorldText.{world_reading}
+use Rattle.world_text.specs.WorldText.{world_reading}
 use Rattle.net_model.specs.Answers.{Answer, bad_input, cs_answer, input_limit}
 use Rattle.net_model.specs.Words.{Command, Cs, Run}
 use Rattle.cs_resolver.specs.Built.{built_answer}

@@ -8,7 +8,7 @@ use Rattle.net_base.specs.Calm as calm
 use Rattle.net_base.specs.Legal.{IsLegal, IsTimed}
 use Rattle.net_base.specs.Net.{Net, after}
 use Rattle.net_model.specs.Words.{Command, Run}
-use Rattle.net_model.specs.WorldText.{world_reading}
+use Rattle.world_text.specs.WorldText.{world_reading}
 use Rattle.outside.specs.Streams.{Rose, Gained, GainedPart}
 use Rattle.netsh.specs.Built.{first_bad, IsAnswer}
 

@@ -27,7 +27,7 @@ use Rattle.conversation.specs.Stands.{StandsFor}
 use Rattle.host_dir.specs.Kept.{HostDir}
 use Rattle.medium.specs.declared.frame.Frame.{Frame}
 use Rattle.medium.specs.OnMedium.{OnMedium, medium_of, taken_of}
-use Rattle.net_model.proofs.Histories.{same_actor_is}
+use Rattle.history_laws.proofs.Histories.{same_actor_is}
 use Rattle.plain_runner.specs.declared.actors.Met.{Met}
 use Rattle.plain_runner.specs.declared.actors.Met.TheVariants as met
 use Rattle.net_base.specs.WorldForm.{IsFirstForm}

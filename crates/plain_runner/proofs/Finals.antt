@@ -25,7 +25,7 @@ use Rattle.net_base.specs.Net.{Net, after, net_after}
 use Rattle.net_base.specs.Next.{by, next, next_of}
 use Rattle.net_base.specs.World.{IsWorld}
 use Rattle.net_base.specs.WorldForm.{IsFirstForm}
-use Rattle.net_model.proofs.Histories.{after_push, legal_push}
+use Rattle.history_laws.proofs.Histories.{after_push, legal_push}
 use Rattle.plain_runner.specs.declared.runner.Caller.{Caller}
 use Rattle.plain_runner.specs.declared.runner.Runner.{Runner}
 use Rattle.plain_runner.specs.declared.standing.Place.{Place}

@@ -16,8 +16,8 @@ use Rattle.net_base.specs.Duties.{duties}
 use Rattle.net_base.specs.Legal.{IsLegal, IsTimed, IsInTime}
 use Rattle.net_base.specs.Net.{Net, actors_after, after, opening_net, net_after, moment_after, work_of, with_of}
 use Rattle.net_base.specs.Next.{by}
-use Rattle.net_model.proofs.Owed.{past_after}
-use Rattle.net_model.proofs.Histories.{after_push, legal_push}
+use Rattle.history_laws.proofs.Owed.{past_after}
+use Rattle.history_laws.proofs.Histories.{after_push, legal_push}
 use Rattle.plain_runner.specs.declared.duty.Duty.{Duty as Task}
 use Rattle.plain_runner.specs.declared.runner.Caller.{Caller}
 use Rattle.plain_runner.specs.declared.runner.Runner.{Runner}

@@ -8,7 +8,7 @@ use Rattle.net_base.specs.declared.world.Step.{Step}
 use Rattle.net_base.specs.declared.world.Step.TheVariants as step
 use Rattle.net_base.specs.declared.world.World.{World}
 use Rattle.net_base.specs.WorldForm.{AreTransfers, IsFirstForm, IsPlainHost, IsUdpScript}
-use Rattle.net_model.specs.Worked.{anna, at, helix, ip}
+use Rattle.worked_worlds.specs.Worked.{anna, at, helix, ip}
 use Rattle.plain_runner.specs.Worked.{small_world, written}
 use Rattle.plain_runner.proofs.Moments.{map_ok}
 

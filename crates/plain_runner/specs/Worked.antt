@@ -3,7 +3,7 @@ use Rattle.std.specs.Prelude.{Bool, true, false, List, [], ◌∷◌, None, code
 use Rattle.net_base.specs.declared.world.Step.{Step}
 use Rattle.net_base.specs.declared.world.Step.TheVariants as step
 use Rattle.net_base.specs.declared.world.World.{World}
-use Rattle.net_model.specs.Worked.{anna, helix, host, script, world}
+use Rattle.worked_worlds.specs.Worked.{anna, helix, host, script, world}
 
 -- what anna writes
 abbrev pub written : Bool → List Step

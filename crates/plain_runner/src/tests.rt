@@ -2,7 +2,7 @@
 ghost use Rattle.std.specs.Prelude.{◌≡◌, ◌∷◌, [], IfOk, take, codes, None};
 ghost use Rattle.net_base.specs.World.{IsWorld};
 ghost use Rattle.net_base.specs.WorldForm.{IsFirstForm};
-ghost use Rattle.net_model.specs.Worked as worked;
+ghost use Rattle.worked_worlds.specs.Worked as worked;
 ghost use Rattle.plain_runner.specs.Worked.{small_world, written};
 
 use crate::{Ran, RunEnd, run, summary_of};
@@ -10,7 +10,7 @@ use net_base::{
     Db, Fates, History, HostSpec, Hosts, Iface, Ifaces, Media, MediumSpec, Nets, Octets, Proto,
     RouteLines, Script, Scripts, Starts, Step, StepList, World,
 };
-use net_model::prefix_is_legal;
+use history_laws::prefix_is_legal;
 use std::alloc::{AllocError, Global};
 use std::process::Abort;
 use std::test::*;

@@ -7,8 +7,8 @@ use Rattle.std.proofs.lemmas.List.Sums.{count_by-le-length}
 use Rattle.net_base.specs.NdbText.{is_newline, lines_of}
 use Rattle.net_base.specs.NdbBundle.{first_bad, told, least, has_tuple}
 use Rattle.net_base.specs.NdbForm.{causes_so_far, bad_line_so_far}
-use Rattle.net_model.specs.WorldLines.{Draft, Verdict, line_verdict}
-use Rattle.net_model.specs.WorldText.{Cut, with_first, cuts_of, judged, reading_from}
+use Rattle.world_text.specs.WorldLines.{Draft, Verdict, line_verdict}
+use Rattle.world_text.specs.WorldText.{Cut, with_first, cuts_of, judged, reading_from}
 
 abbrev cut_at : ℕ → ℕ → List ℕ → List Cut
 cut_at n m text = record { line = take n text; behind = drop m text } ∷ cuts_of (drop m text)

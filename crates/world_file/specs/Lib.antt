@@ -1,6 +1,6 @@
 pub mod Told
 pub use Rattle.net_base.specs.World
 pub use Rattle.net_base.specs.WorldForm
-pub use Rattle.net_model.specs.WorldLines
-pub use Rattle.net_model.specs.WorldSpelling
-pub use Rattle.net_model.specs.WorldText
+pub use Rattle.world_text.specs.WorldLines
+pub use Rattle.world_text.specs.WorldSpelling
+pub use Rattle.world_text.specs.WorldText

@@ -1,7 +1,7 @@
 -- What the reader tells of a bad line.
 use Rattle.std.specs.Prelude.{◌≡◌, ◌≤◌, ℕ, length, Bool, Result, Err, ⊤, if◌then◌else◌}
 use Rattle.net_base.specs.declared.world.World.{World}
-use Rattle.net_model.specs.WorldLines.{Draft, Verdict, Goes, Begins, Bad, hosts_of, world_of}
+use Rattle.world_text.specs.WorldLines.{Draft, Verdict, Goes, Begins, Bad, hosts_of, world_of}
 use Rattle.world_file.specs.declared.fault.Fault.{Fault}
 use Rattle.world_file.specs.declared.fault.Fault.TheVariants as fault
 use Rattle.world_file.specs.declared.fault.WorldError.{WorldError}

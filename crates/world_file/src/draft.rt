@@ -2,7 +2,7 @@
 ghost use Rattle.std.specs.Prelude.{◌≡◌, None, OnOk, IfOk};
 ghost use Rattle.std.specs.List.{list_any};
 ghost use Rattle.std.specs.Option.{option_to_list};
-ghost use Rattle.net_model.specs.WorldLines as spec;
+ghost use Rattle.world_text.specs.WorldLines as spec;
 
 use net_base::{HostSpec, MediumSpec, Script, Sequence, World};
 use std::alloc::{AllocError, Global};
@@ -24,7 +24,7 @@ pub(crate) struct Draft {
 }
 
 impl Model for Draft {
-    ghost use Rattle.net_model.specs.WorldLines.{Draft};
+    ghost use Rattle.world_text.specs.WorldLines.{Draft};
 
     ghost Value = { Draft };
 

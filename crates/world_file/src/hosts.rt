@@ -4,8 +4,8 @@ ghost use Rattle.std.specs.List.{list_any};
 ghost use Rattle.std.specs.Option.{option_to_list};
 ghost use Rattle.net_base.specs.Routes.{has_ip};
 ghost use Rattle.net_base.specs.World as world;
-ghost use Rattle.net_model.specs.WorldLines as spec;
-ghost use Rattle.net_model.specs.WorldWords.{nets_named};
+ghost use Rattle.world_text.specs.WorldLines as spec;
+ghost use Rattle.world_text.specs.WorldWords.{nets_named};
 ghost use Rattle.world_file.specs.Told.{TellsCause, IsSmall};
 
 use crate::draft::Draft;

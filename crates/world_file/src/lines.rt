@@ -1,8 +1,8 @@
 //! A line by its first word.
 ghost use Rattle.std.specs.Prelude.{◌≡◌, ◌∷◌, [], map, MatchOption, IfOk, OnOk, IfErr};
 ghost use Rattle.net_base.specs.Addresses.{parts_at};
-ghost use Rattle.net_model.specs.WorldLines as spec;
-ghost use Rattle.net_model.specs.WorldText.{missing};
+ghost use Rattle.world_text.specs.WorldLines as spec;
+ghost use Rattle.world_text.specs.WorldText.{missing};
 ghost use Rattle.world_file.specs.Told.{TellsCause, IsSmall, going};
 
 use crate::draft::Draft;

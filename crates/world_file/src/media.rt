@@ -1,7 +1,7 @@
 //! The lines of the end, the seed and the media.
 ghost use Rattle.std.specs.Prelude.{◌≡◌, ◌≤◌, ◌∷◌, ◌++◌, [], map, length, OnOk, IfOk, IfErr, position};
 ghost use Rattle.std.specs.List.{list_any};
-ghost use Rattle.net_model.specs.WorldLines as spec;
+ghost use Rattle.world_text.specs.WorldLines as spec;
 ghost use Rattle.world_file.specs.Told.{TellsCause};
 
 use crate::draft::Draft;

@@ -5,16 +5,16 @@ ghost use Rattle.net_base.specs.NdbText.{is_newline};
 ghost use Rattle.net_base.specs.NdbForm.{bad_line_so_far};
 ghost use Rattle.net_base.specs.World.{IsWorld};
 ghost use Rattle.net_base.specs.WorldForm.{IsFirstForm};
-ghost use Rattle.net_model.specs.WorldLines.{world_of};
-ghost use Rattle.net_model.specs.WorldSpelling.{IsWorldText};
-ghost use Rattle.net_model.specs.WorldText.{cuts_of, missing, with_database, world_reading};
+ghost use Rattle.world_text.specs.WorldLines.{world_of};
+ghost use Rattle.world_text.specs.WorldSpelling.{IsWorldText};
+ghost use Rattle.world_text.specs.WorldText.{cuts_of, missing, with_database, world_reading};
 ghost use Rattle.world_file.specs.Told.{Tells, TellsAt};
 
 use crate::draft::Draft;
 use crate::fault::{Fault, WorldError};
 use ndb_reader::{NdbError, read_ndb};
 use net_base::World;
-use net_model::{worlds_are_spelled, worlds_so_far_are_small};
+use world_text::{worlds_are_spelled, worlds_so_far_are_small};
 use std::alloc::Global;
 
 /// The world that a text says, or its first bad line. It goes once through the bytes, and copies each at most once.

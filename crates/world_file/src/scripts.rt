@@ -3,7 +3,7 @@ ghost use Rattle.std.specs.Prelude.{◌≡◌, ◌≤◌, [], map, length, posit
 ghost use Rattle.std.specs.List.{list_any};
 ghost use Rattle.std.specs.Option.{option_to_list};
 ghost use Rattle.net_base.specs.Addresses.{parts_at};
-ghost use Rattle.net_model.specs.WorldLines as spec;
+ghost use Rattle.world_text.specs.WorldLines as spec;
 ghost use Rattle.world_file.specs.Told.{TellsCause, IsSmall};
 
 use crate::draft::Draft;

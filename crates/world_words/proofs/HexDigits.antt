@@ -1,7 +1,7 @@
 -- Digits of lower-case hexadecimal, two by two.
 use Rattle.std.proofs.Common.{◌≡◌, ℕ, ◌+◌, ◌*◌, ◌≤◌, List, [], ◌∷◌, ◌++◌, length, get_or, drop, refl, sym, ap, ◌∙◌, arith, Option, Some, None, append_assoc}
 use Rattle.std.specs.Prelude.{option_map}
-use Rattle.net_model.specs.WorldWords.{hex_digit, hex_byte, hex_bytes}
+use Rattle.world_text.specs.WorldWords.{hex_digit, hex_byte, hex_bytes}
 
 behind : (bytes : List ℕ) (high low : ℕ) (o : Option (List ℕ)) → option_map (λ (more : List ℕ). bytes ++ more) (hex_byte (Some high) (Some low) o) ≡ option_map (λ (more : List ℕ). (bytes ++ (high * 16 + low) ∷ []) ++ more) o
 behind bytes high low None = refl

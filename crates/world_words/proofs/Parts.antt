@@ -7,8 +7,8 @@ use Rattle.std.proofs.Math.Nat.{pow-le-pow_right}
 use Rattle.net_base.specs.Addresses.{parts_at}
 use Rattle.std.specs.Prelude.{false}
 use Rattle.net_base.specs.declared.world.Step.TheVariants as step
-use Rattle.net_model.specs.WorldWords.{octets_joined, address_in, joined}
-use Rattle.net_model.specs.WorldLines.{connects_words, connects, is_place, are_frames, is_frames, write_of, cs_of, kept}
+use Rattle.world_text.specs.WorldWords.{octets_joined, address_in, joined}
+use Rattle.world_text.specs.WorldLines.{connects_words, connects, is_place, are_frames, is_frames, write_of, cs_of, kept}
 use Rattle.std.proofs.lemmas.List.Splits.{join_with_byte-slice_split}
 
 -- so few digits spell a number that can be multiplied by ten once more

@@ -1,4 +1,4 @@
 pub use Rattle.net_base.specs.Addresses
 pub use Rattle.net_base.specs.World
-pub use Rattle.net_model.specs.WorldLines
-pub use Rattle.net_model.specs.WorldWords
+pub use Rattle.world_text.specs.WorldLines
+pub use Rattle.world_text.specs.WorldWords

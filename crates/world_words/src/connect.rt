@@ -1,7 +1,7 @@
 //! The control word that a script of the form is connected by.
 ghost use Rattle.std.specs.Prelude.{◌≡◌};
 ghost use Rattle.net_base.specs.Addresses.{parts_at};
-ghost use Rattle.net_model.specs.WorldLines as spec;
+ghost use Rattle.world_text.specs.WorldLines as spec;
 
 use crate::numbers::{address_in, number_in};
 use cs_resolver::split_first;

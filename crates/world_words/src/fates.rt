@@ -1,6 +1,6 @@
 //! Frames and their fates, by their words.
 ghost use Rattle.std.specs.Prelude.{◌≡◌};
-ghost use Rattle.net_model.specs.WorldLines as spec;
+ghost use Rattle.world_text.specs.WorldLines as spec;
 
 use crate::numbers::number_in;
 use cs_resolver::split_first;

@@ -1,6 +1,6 @@
 //! Lower-case hexadecimal.
 ghost use Rattle.std.specs.Prelude.{◌≡◌, IfOk};
-ghost use Rattle.net_model.specs.WorldWords as spec;
+ghost use Rattle.world_text.specs.WorldWords as spec;
 
 use net_base::Octets;
 use std::alloc::{AllocError, Global};

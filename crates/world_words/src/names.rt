@@ -3,7 +3,7 @@ ghost use Rattle.std.specs.Prelude.{◌≡◌, ◌==◌, not, ◌&&◌, ◌||◌
 ghost use Rattle.std.specs.List.{list_all};
 ghost use Rattle.net_base.specs.Paths.{proto_named};
 ghost use Rattle.net_base.specs.World as world;
-ghost use Rattle.net_model.specs.WorldWords as spec;
+ghost use Rattle.world_text.specs.WorldWords as spec;
 
 use net_base::{Mode, Nets, Proto, Sequence};
 use std::alloc::{AllocError, Global};

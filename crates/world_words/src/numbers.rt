@@ -1,7 +1,7 @@
 //! Numbers and addresses.
 ghost use Rattle.std.specs.Prelude.{◌≡◌, ◌≤◌, IfSome};
 ghost use Rattle.net_base.specs.Addresses as address;
-ghost use Rattle.net_model.specs.WorldWords as spec;
+ghost use Rattle.world_text.specs.WorldWords as spec;
 
 use cs_resolver::split_first;
 

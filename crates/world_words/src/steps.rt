@@ -3,7 +3,7 @@ ghost use Rattle.std.specs.Prelude.{◌≡◌, ◌∷◌, [], map, Option, Some,
 ghost use Rattle.net_base.specs.declared.world.Step.TheVariants as step;
 ghost use Rattle.net_base.specs.Addresses.{parts_at};
 ghost use Rattle.net_base.specs.World as world;
-ghost use Rattle.net_model.specs.WorldLines as spec;
+ghost use Rattle.world_text.specs.WorldLines as spec;
 
 use crate::hex::hex_text;
 use crate::names::{are_bytes, is_name, is_text, is_word, mode_named};

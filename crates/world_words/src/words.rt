@@ -1,6 +1,6 @@
 //! The words of a line.
 ghost use Rattle.std.specs.Prelude.{◌≡◌, map, Some, None, MatchOption, IfOk};
-ghost use Rattle.net_model.specs.WorldWords as spec;
+ghost use Rattle.world_text.specs.WorldWords as spec;
 
 use std::alloc::{AllocError, Global};
 

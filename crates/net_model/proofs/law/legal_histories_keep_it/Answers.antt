@@ -1,9 +1,9 @@
 use Rattle.net_model.proofs.CsAnswers.{answers_cs}
-use Rattle.net_model.proofs.InOrders.{in_order}
-use Rattle.net_model.proofs.NoPeer.{alone}
+use Rattle.prefix_law.proofs.InOrders.{in_order}
+use Rattle.prefix_law.proofs.NoPeer.{alone}
 use Rattle.net_model.proofs.OwnEntries.{keeps_script}
 use Rattle.net_model.proofs.PlainHistories.{legal_is_plain}
-use Rattle.net_model.proofs.UdpReads.{was_written}
+use Rattle.prefix_law.proofs.UdpReads.{was_written}
 use Rattle.net_model.proofs.law.legal_histories_keep_it.Goals as goal
 
 pub returns : goal.returns

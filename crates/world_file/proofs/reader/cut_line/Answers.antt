@@ -1,5 +1,5 @@
 use Rattle.std.proofs.Common.{ap, sym, ◌∙◌, ◌∷◌, take, drop, ℕ, List, ◌+◌}
-use Rattle.net_model.specs.WorldText.{cuts_of}
+use Rattle.world_text.specs.WorldText.{cuts_of}
 use Rattle.world_file.proofs.Cuts.{cuts-first}
 use Rattle.world_file.proofs.reader.cut_line.Goals as goal
 

@@ -1,6 +1,6 @@
 use Rattle.std.proofs.Common.{ℕ, List, [], ◌∷◌, ◌++◌, ◌∙◌, ap, arith, Bool}
-use Rattle.net_model.specs.WorldLines.{Goes, opening_draft}
-use Rattle.net_model.specs.WorldRefusal.{Leads}
+use Rattle.world_text.specs.WorldLines.{Goes, opening_draft}
+use Rattle.world_text.specs.WorldRefusal.{Leads}
 use Rattle.world_file.specs.Told.{going}
 use Rattle.world_file.proofs.Cuts.{reading-line}
 use Rattle.world_file.proofs.reader.read_lines.Goals as goal

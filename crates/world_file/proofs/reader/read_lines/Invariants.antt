@@ -1,7 +1,7 @@
 use Rattle.std.proofs.Common.{◌≡◌, ℕ, ◌+◌, ◌≤◌, List, length}
-use Rattle.net_model.specs.WorldLines.{opening_draft}
-use Rattle.net_model.specs.WorldRefusal.{Leads}
-use Rattle.net_model.specs.WorldText.{world_reading, reading_from, cuts_of}
+use Rattle.world_text.specs.WorldLines.{opening_draft}
+use Rattle.world_text.specs.WorldRefusal.{Leads}
+use Rattle.world_text.specs.WorldText.{world_reading, reading_from, cuts_of}
 use Rattle.world_file.specs.Told.{IsSmall}
 use Rattle.world_file.proofs.reader.read_lines.Given as goal
 

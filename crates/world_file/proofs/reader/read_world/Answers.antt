@@ -1,6 +1,6 @@
 use Rattle.net_base.specs.World.{IsWorld}
 use Rattle.net_base.specs.WorldForm.{IsFirstForm}
-use Rattle.net_model.specs.WorldSpelling.{IsWorldText}
+use Rattle.world_text.specs.WorldSpelling.{IsWorldText}
 use Rattle.world_file.proofs.Spelled.{holds}
 use Rattle.world_file.proofs.reader.read_world.Goals as goal
 

@@ -1,7 +1,7 @@
 use Rattle.std.proofs.Common.{◌-◌, ap, sym, ◌∙◌, length, drop, arith, length-drop, List, ℕ, ◌++◌}
 use Rattle.std.specs.Option.{option_map}
 use Rattle.std.proofs.lemmas.List.{take_all}
-use Rattle.net_model.specs.WorldWords as spec
+use Rattle.world_text.specs.WorldWords as spec
 use Rattle.world_words.proofs.HexDigits.{hex-step}
 use Rattle.world_words.proofs.hex.hex_bytes.Goals as goal
 

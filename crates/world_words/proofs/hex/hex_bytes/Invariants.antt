@@ -1,6 +1,6 @@
 use Rattle.std.proofs.Common.{◌≡◌, length, ◌++◌}
 use Rattle.std.specs.Option.{option_map}
-use Rattle.net_model.specs.WorldWords as spec
+use Rattle.world_text.specs.WorldWords as spec
 use Rattle.world_words.proofs.hex.hex_bytes.Given as goal
 
 abbrev pub invariant-loop-rest : goal.invariant-loop-rest

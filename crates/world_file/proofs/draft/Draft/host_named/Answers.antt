@@ -1,6 +1,6 @@
 use Rattle.std.proofs.Common.{sym, ◌∙◌}
 use Rattle.world_file.proofs.Places.{position-under}
-use Rattle.net_model.specs.WorldLines as spec
+use Rattle.world_text.specs.WorldLines as spec
 use Rattle.world_file.proofs.draft.Draft.host_named.Goals as goal
 
 pub returns-then-is_called : goal.returns-then-is_called

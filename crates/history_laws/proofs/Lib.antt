@@ -1,0 +1,9 @@
+pub mod Histories
+pub mod Walk
+pub mod Short
+pub mod Ordered
+pub mod Owed
+pub mod DirPairs
+pub mod PairsOnce
+pub mod StepEvents
+pub mod Limits

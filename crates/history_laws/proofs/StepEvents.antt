@@ -1,0 +1,222 @@
+-- What holds of each event that a script records, where its replies are of a kind.
+use Rattle.std.proofs.Common.{ℕ, Bool, cond, List, [], ◌∷◌, ◌++◌, Option, Some, None, Ok, Err}
+use Rattle.std.specs.Prelude.{codes, Result, unwrap_or}
+use Rattle.std.proofs.lemmas.Bool.{cond_both}
+use Rattle.net_base.specs.declared.actor.ActorName.{ActorName}
+use Rattle.net_base.specs.declared.actor.ActorName.TheVariants as name
+use Rattle.net_base.specs.declared.address.Proto.{Proto}
+use Rattle.net_base.specs.declared.event.Event.{Event}
+use Rattle.net_base.specs.declared.event.Event.TheVariants as event
+use Rattle.net_base.specs.declared.names.Ctl.{Ctl}
+use Rattle.net_base.specs.declared.names.Ctl.TheVariants as ctl
+use Rattle.net_base.specs.declared.names.FileName.{FileName}
+use Rattle.net_base.specs.declared.names.FileName.TheVariants as file
+use Rattle.net_base.specs.declared.names.Mode.{Mode}
+use Rattle.net_base.specs.declared.names.Mode.TheVariants as mode
+use Rattle.net_base.specs.declared.names.Node.{Node}
+use Rattle.net_base.specs.declared.names.Node.TheVariants as node
+use Rattle.net_base.specs.declared.reply.Reply.{Reply}
+use Rattle.net_base.specs.declared.world.Step.{Step}
+use Rattle.net_base.specs.declared.world.Step.TheVariants as step
+use Rattle.net_base.specs.ControlWords as control
+use Rattle.net_base.specs.Paths.{walk, reads, writes as may_write}
+use Rattle.net_base.specs.Steps.{Fid, Bound, fid_of, is_bound, bind, unbind, Play, Asks, Ends, is_accepted, if_accepted, ends_with, uses, misuses, on_fid, with_bound, with_new, with_readable, with_writable, conversation_of, default_mode, openable, open_actor, open_event, opened_fid, opens_node, opens, opens_beside, read_event, controls, puts, closes, ls_actor, ls_event, netmkaddr, lines_in, asks_cs, clone_path, line_address, dotted_name, connected, dials, announces, play_of, Ask, Stand, Asking, Finished, stands, Position, position_by, position}
+use Rattle.history_laws.proofs.Ordered.{Each}
+
+-- an event that neither opens a path at the desk, nor names what isn't open, nor waits for a moment
+abbrev pub IsOther : Event → Type 0
+IsOther (event.OpenPath path mode) = ⊥
+IsOther (event.Use called) = ⊥
+IsOther (event.Misuse called) = ⊥
+IsOther (event.Until moment) = ⊥
+IsOther _ = Unit {0}
+
+-- P holds of each event that the play records, where R holds of its replies
+abbrev pub Records : (ActorName → Event → Type 0) → (Reply → Type 0) → Play → Type 0
+Records P R (Asks a e next) = P a e × ((r : Reply) → R r → Records P R (next r))
+Records P R (Ends names) = Unit {0}
+
+abbrev pub IsOpened : (ActorName → Event → Type 0) → List ℕ → Type 0
+IsOpened P path = (a : ActorName) (m : Mode) → P a (event.OpenPath path m)
+
+abbrev pub IsNamed : ℕ → (ActorName → Event → Type 0) → List ℕ → Type 0
+IsNamed h P called = P (name.Desk h) (event.Use called) × P (name.Desk h) (event.Misuse called)
+
+-- P holds of the events for which it doesn't matter what the step says, and of opening what a reply gives to dial
+pub record Fits (P : ActorName → Event → Type 0) (R : Reply → Type 0) : Type 0 where
+  pub other : (a : ActorName) (e : Event) → IsOther e → P a e
+  pub dialled : (r : Reply) → R r → Each (λ (line : List ℕ). IsOpened P (clone_path line)) (lines_in r)
+
+-- P holds of the events that repeat what a step says
+abbrev pub Says : ℕ → (ActorName → Event → Type 0) → Step → Type 0
+Says h P (step.Open called path m) = IsNamed h P called × IsOpened P path
+Says h P (step.Read called count) = IsNamed h P called
+Says h P (step.Write called text) = IsNamed h P called
+Says h P (step.Writex called text) = IsNamed h P called
+Says h P (step.Close called) = IsNamed h P called
+Says h P (step.Ls path) = Unit {0}
+Says h P (step.Cs query) = Unit {0}
+Says h P (step.Until moment) = P (name.Desk h) (event.Until moment)
+Says h P (step.Dial called address) = IsNamed h P called × IsNamed h P (dotted_name called)
+Says h P (step.Announce called address) = IsNamed h P called
+Says h P (step.Listen called from) = IsNamed h P called × IsNamed h P from
+Says h P (step.Accept called from) = IsNamed h P called × IsNamed h P from
+Says h P (step.Reject called) = IsNamed h P called
+Says h P (step.Hangup called) = IsNamed h P called
+
+abbrev pub IsNextEvent : (ActorName → Event → Type 0) → Option Ask → Type 0
+IsNextEvent P None = Unit {0}
+IsNextEvent P (Some ask) = P ask.actor ask.event
+
+module _ (h : ℕ) (P : ActorName → Event → Type 0) (R : Reply → Type 0) (fits : Fits P R) where
+  abbrev Good : Play → Type 0
+  Good p = Records P R p
+
+  ending : (a : ActorName) (e : Event) (names : List Bound) → P a e → Good (ends_with a e names)
+  ending a e names f = (f, λ r fine. tt)
+
+  either : (b : Bool) (x y : Play) → Good x → Good y → Good (cond b x y)
+  either b x y f g = cond_both b x y (λ (p : Play). Good p) (λ _. f) (λ _. g)
+
+  on_found : (found : Option Fid) (otherwise : Play) (next : Fid → Play) → Good otherwise → ((f : Fid) → Good (next f)) → Good (on_fid found otherwise next)
+  on_found None otherwise next f g = f
+  on_found (Some x) otherwise next f g = g x
+
+  bound : (called : List ℕ) (names : List Bound) (next : Fid → Play) → IsNamed h P called → ((f : Fid) → Good (next f)) → Good (with_bound h called names next)
+  bound called names next named g = on_found (fid_of called names) (uses h called names) next (ending _ _ names named.0) g
+
+  new : (called : List ℕ) (names : List Bound) (next : Play) → IsNamed h P called → Good next → Good (with_new h called names next)
+  new called names next named f = either (is_bound names called) (uses h called names) next (ending _ _ names named.0) f
+
+  readable : (called : List ℕ) (names : List Bound) (next : Fid → Play) → IsNamed h P called → ((f : Fid) → Good (next f)) → Good (with_readable h called names next)
+  readable called names next named g =
+      bound called names (λ (f : Fid). cond (reads f.mode) (next f) (misuses h called names)) named
+      (λ f. either (reads f.mode) (next f) (misuses h called names) (g f) (ending _ _ names named.1))
+
+  writable : (called : List ℕ) (names : List Bound) (next : Fid → Play) → IsNamed h P called → ((f : Fid) → Good (next f)) → Good (with_writable h called names next)
+  writable called names next named g =
+      bound called names (λ (f : Fid). cond (may_write f.mode) (next f) (misuses h called names)) named
+      (λ f. either (may_write f.mode) (next f) (misuses h called names) (g f) (ending _ _ names named.1))
+
+  open_of : (a : ActorName) (path : List ℕ) (m : Mode) (n : Option Node) → IsOpened P path → P a (open_event path m n)
+  open_of a path m (Some (node.Clone p)) opened = fits.other a event.Reserve tt
+  open_of a path m (Some (node.File p n file.Listen)) opened = fits.other a (event.Listen n) tt
+  open_of a path m (Some (node.File p n f)) opened = fits.other a (event.Open f m) tt
+  open_of a path m _ opened = opened a m
+
+  open_beside : (a : ActorName) (m : Mode) (p : Proto) (n : ℕ) (f : FileName) → P a (open_event [] m (Some (node.File p n f)))
+  open_beside a m p n file.Listen = fits.other a (event.Listen n) tt
+  open_beside a m p n f = fits.other a (event.Open f m) tt
+
+  opens_at : (path : List ℕ) (m : Mode) (n : Option Node) (refused : Play) (next : Fid → Play) → P (open_actor h n) (open_event path m n) → Good refused → ((f : Fid) → Good (next f)) → Good (opens_node h path m n refused next)
+  opens_at path m n refused next asked f g = (asked, λ r fine. on_found (opened_fid m n r) refused next f g)
+
+  opens_path : (path : List ℕ) (m : Mode) (refused : Play) (next : Fid → Play) → IsOpened P path → Good refused → ((f : Fid) → Good (next f)) → Good (opens h path m refused next)
+  opens_path path m refused next opened f g =
+      opens_at path m (openable (walk path) m) refused next (open_of (open_actor h (openable (walk path) m)) path m (openable (walk path) m) opened) f g
+
+  beside : (x : Fid) (other : FileName) (refused : Play) (next : Fid → Play) → Good refused → ((f : Fid) → Good (next f)) → Good (opens_beside h x other refused next)
+  beside x other refused next f g =
+      let n : Option Node = Some (node.File x.proto x.slot other) in
+      opens_at [] mode.Both n refused next (open_beside (open_actor h n) mode.Both x.proto x.slot other) f g
+
+  reads_of : (a : ActorName) (f : Fid) (count : ℕ) (name : FileName) → P a (read_event f count name)
+  reads_of a f count file.Data = fits.other a (event.Read f.generation count) tt
+  reads_of a f count name = fits.other a (event.File f.generation name count) tt
+
+  accepted : (r : Reply) (next refused : Play) → Good next → Good refused → Good (if_accepted r next refused)
+  accepted r next refused f g = either (is_accepted r) next refused f g
+
+  -- an event that is refused or not
+  tried : (a : ActorName) (e : Event) (refused next : Play) → IsOther e → Good refused → Good next → Good (Asks a e (λ (r : Reply). if_accepted r next refused))
+  tried a e refused next other f g = (fits.other a e other, λ r fine. accepted r next refused g f)
+
+  controlled : (x : Fid) (text : List ℕ) (read : Result Ctl ℕ) (refused next : Play) → Good refused → Good next → Good (controls h x text read refused next)
+  controlled x text (Ok (ctl.Connect remote lport)) refused next f g = tried _ (event.Grant x.slot x.generation remote lport) refused _ tt f (tried _ (event.Await x.generation) refused next tt f g)
+  controlled x text (Ok (ctl.Announce ip port)) refused next f g = tried _ (event.Announce x.slot x.generation ip port) refused next tt f g
+  controlled x text (Ok (ctl.Bind port)) refused next f g = tried _ (event.Bind x.slot x.generation port) refused next tt f g
+  controlled x text (Ok ctl.Hangup) refused next f g = tried _ (event.Hangup x.generation) refused next tt f g
+  controlled x text (Ok (ctl.Ttl n)) refused next f g = tried _ (event.Ttl x.generation n) refused next tt f g
+  controlled x text (Ok (ctl.Tos n)) refused next f g = tried _ (event.Tos x.generation n) refused next tt f g
+  controlled x text (Err fault) refused next f g = tried _ (event.Ctl x.generation text) refused next tt f g
+
+  put : (x : Fid) (name : FileName) (text : List ℕ) (refused next : Play) → Good refused → Good next → Good (puts h x name text refused next)
+  put x file.Data text refused next f g = tried _ (event.Write x.generation text) refused next tt f g
+  put x file.Ctl text refused next f g = controlled x text (control.read text) refused next f g
+  put x file.Listen text refused next f g = controlled x text (control.read text) refused next f g
+  put x file.Local text refused next f g = controlled x text (control.read text) refused next f g
+  put x file.Remote text refused next f g = controlled x text (control.read text) refused next f g
+  put x file.Status text refused next f g = controlled x text (control.read text) refused next f g
+  put x file.Err text refused next f g = controlled x text (control.read text) refused next f g
+
+  closing : (x : Fid) (refused next : Play) → Good refused → Good next → Good (closes h x refused next)
+  closing x refused next f g = tried _ (event.Close x.generation) refused next tt f g
+
+  ls_of : (a : ActorName) (path : List ℕ) (n : Option Node) → P a (ls_event path n)
+  ls_of a path (Some (node.Proto p)) = fits.other a event.Ls tt
+  ls_of a path (Some (node.Dir p n)) = fits.other a event.Ls tt
+  ls_of a path _ = fits.other a (event.LsPath path) tt
+
+  connects : (called : List ℕ) (names : List Bound) (made : Fid) → Good (connected h called names made)
+  connects called names made = beside made file.Data (Ends names) _ tt (λ f. closing made (Ends names) (Ends (bind called f names)) tt tt)
+
+  dialling : (called : List ℕ) (names : List Bound) (lines : List (List ℕ)) → Each (λ (line : List ℕ). IsOpened P (clone_path line)) lines → Good (dials h called names lines)
+  dialling called names [] all = tt
+  dialling called names (line ∷ lines) all =
+      opens_path (clone_path line) mode.Both (dials h called names lines) _ all.0 (dialling called names lines all.1) (λ made.
+      put made made.file (codes "connect " ++ line_address line) _ _
+      (closing made (Ends names) (dials h called names lines) tt (dialling called names lines all.1))
+      (connects called names made))
+
+  announcing : (called : List ℕ) (names : List Bound) (lines : List (List ℕ)) → Each (λ (line : List ℕ). IsOpened P (clone_path line)) lines → Good (announces h called names lines)
+  announcing called names [] all = tt
+  announcing called names (line ∷ lines) all =
+      opens_path (clone_path line) mode.Both (Ends names) _ all.0 tt (λ made.
+      put made made.file (codes "announce " ++ line_address line) _ _
+      (closing made (Ends names) (Ends names) tt tt) tt)
+
+  asks_lines : (address : List ℕ) (next : List (List ℕ) → Play) → ((lines : List (List ℕ)) → Each (λ (line : List ℕ). IsOpened P (clone_path line)) lines → Good (next lines)) → Good (asks_cs h address next)
+  asks_lines address next g = (fits.other _ (event.Cs (netmkaddr address (codes "net") (codes "9fs"))) tt, λ r fine. g (lines_in r) (fits.dialled r fine))
+
+  played : (names : List Bound) (s : Step) → Says h P s → Good (play_of h names s)
+  played names (step.Open called path m) says = new called names _ says.0 (opens_path path (unwrap_or m (default_mode (walk path))) (Ends names) _ says.1 tt (λ f. tt))
+  played names (step.Read called count) says = readable called names _ says (λ f. ending _ _ names (reads_of (conversation_of h f) f count f.file))
+  played names (step.Write called text) says = writable called names _ says (λ f. put f f.file text (Ends names) (Ends names) tt tt)
+  played names (step.Writex called text) says = writable called names _ says (λ f. put f f.file text (Ends names) (Ends names) tt tt)
+  played names (step.Close called) says = bound called names _ says (λ f. ending _ _ (unbind called names) (fits.other (conversation_of h f) (event.Close f.generation) tt))
+  played names (step.Ls path) says = ending _ _ names (ls_of (ls_actor h (walk path)) path (walk path))
+  played names (step.Cs query) says = ending _ _ names (fits.other (name.Desk h) (event.Cs query) tt)
+  played names (step.Until moment) says = ending _ _ names says
+  played names (step.Dial called address) says =
+      new called names _ says.0 (new (dotted_name called) names _ says.1 (asks_lines address (dials h called names) (dialling called names)))
+  played names (step.Announce called address) says = new called names _ says (asks_lines address (announces h called names) (announcing called names))
+  played names (step.Listen called from) says =
+      bound from names _ says.1 (λ f. new called names _ says.0 (beside f file.Listen (Ends names) _ tt (λ call. tt)))
+  played names (step.Accept called from) says =
+      bound from names _ says.1 (λ f. new called names _ says.0 (beside f file.Data (Ends names) _ tt (λ made. tt)))
+  played names (step.Reject called) says =
+      writable called names _ says (λ f. put f f.file (codes "hangup") (Ends names) _ tt (ending _ _ (unbind called names) (fits.other (conversation_of h f) (event.Close f.generation) tt)))
+  played names (step.Hangup called) says = writable called names _ says (λ f. put f f.file (codes "hangup") (Ends names) (Ends names) tt tt)
+
+  -- where a play stands
+
+  abbrev IsStand : Stand → Type 0
+  IsStand (Asking ask) = P ask.actor ask.event
+  IsStand (Finished names rs) = Each R rs
+
+  standing : (p : Play) (rs : List Reply) → Good p → Each R rs → IsStand (stands p rs)
+  standing (Ends names) rs f fine = fine
+  standing (Asks a e next) [] f fine = f.0
+  standing (Asks a e next) (r ∷ rs) f fine = standing (next r) rs (f.1 r fine.0) fine.1
+
+  next_by : (s : Stand) (steps : List Step) (go_on : List Bound → List Reply → Position) → IsStand s → ((names : List Bound) (rs : List Reply) → Each R rs → IsNextEvent P (go_on names rs).next) → IsNextEvent P (position_by s steps go_on).next
+  next_by (Asking ask) steps go_on f g = f
+  next_by (Finished names rs) steps go_on f g = g names rs f
+
+  -- what a script records next
+  pub next_event : (steps : List Step) (names : List Bound) (rs : List Reply) → Each (λ (s : Step). Says h P s) steps → Each R rs → IsNextEvent P (position h steps names rs).next
+  next_event [] names rs says fine = tt
+  next_event (s ∷ ss) names rs says fine =
+      next_by (stands (play_of h names s) rs) (s ∷ ss) (λ (bound : List Bound) (later : List Reply). position h ss bound later)
+      (standing (play_of h names s) rs (played names s says.0) fine)
+      (λ bound later fine. next_event ss bound later says.1 fine)

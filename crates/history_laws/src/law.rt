@@ -1,0 +1,62 @@
+//! Laws of histories that look into no actor.
+ghost use Rattle.std.specs.Prelude.{◌≡◌, ◌<◌, ◌≤◌, List, ℕ, Some, true, length, take, slice_get};
+ghost use Rattle.net_base.specs.declared.actor.ActorName.{ActorName};
+ghost use Rattle.net_base.specs.declared.event.Event.TheVariants as event;
+ghost use Rattle.net_base.specs.declared.history.Entry.{Entry};
+ghost use Rattle.net_base.specs.declared.world.World.{World};
+ghost use Rattle.net_base.specs.Actors.{opening_actor};
+ghost use Rattle.net_base.specs.Callers.{caller_count, caller_of};
+ghost use Rattle.net_base.specs.Calm.{could_record, limited, most_entries};
+ghost use Rattle.net_base.specs.Legal.{Asked, HasRoom, IsFault, IsLegal, IsTimed, Keeps, Known, Ready, Rule};
+ghost use Rattle.net_base.specs.Net.{Net, after, owed, state, played, works};
+ghost use Rattle.net_base.specs.Next.{by};
+ghost use Rattle.net_base.specs.Duties.{Duty};
+ghost use Rattle.net_base.specs.Stamped.{In};
+ghost use Rattle.net_base.specs.Written.{Given, given_in};
+
+/// A beginning of a legal history is legal, and of a timed one timed.
+pub fn prefix_is_legal()
+    ensures legal { (w : World) (h : List Entry) (k : ℕ) → IsLegal w h → IsLegal w (take k h) }
+    ensures timed { (w : World) (h : List Entry) (k : ℕ) → IsTimed w h → IsTimed w (take k h) }
+{}
+
+/// An actor's state is the fold of its own step over its own works, from its opening state.
+pub fn state_is_fold()
+    ensures { (w : World) (h : List Entry) (a : ActorName) → state w h a ≡ played w a (opening_actor a) (works w h a) }
+{}
+
+/// A history with a fault isn't both legal and timed.
+pub fn a_fault_is_not_legal()
+    ensures { (w : World) (h : List Entry) (stamp : ℕ) (rule : Rule) → IsFault w h stamp rule → IsLegal w h → IsTimed w h → ⊥ }
+{}
+
+/// Each duty that a caller owes cites an earlier entry of its own.
+pub fn duties_cite_their_own()
+    ensures { (w : World) (h : List Entry) (c : ℕ) (d : Duty) → In d (owed w h c) → (x : Entry) × (slice_get h d.cites ≡ Some x) × (x.caller ≡ c) }
+{}
+
+/// In a legal history a directory grants a pair, or bears a conversation with it, at most once.
+pub fn a_pair_is_given_once()
+    ensures { (w : World) (h : List Entry) → IsLegal w h → (i j : ℕ) (f g : Given) → slice_get (given_in w h) i ≡ Some f → slice_get (given_in w h) j ≡ Some g → f.to.host ≡ g.to.host → f.to.proto ≡ g.to.proto → f.pair ≡ g.pair → i ≡ j }
+{}
+
+/// An entry that is its caller's next and is ready is at an actor and of a caller of the world, so that the rule of known ones is
+/// never the least that an entry breaks.
+pub fn what_is_ready_is_known()
+    ensures known { (w : World) (h : List Entry) (x : Entry) → IsLegal w h → Keeps Asked w h (after w h) x → Keeps Ready w h (after w h) x → Keeps Known w h (after w h) x }
+    ensures never_least { (w : World) (h : List Entry) (stamp : ℕ) → IsFault w h stamp Known → ⊥ }
+{}
+
+/// A caller records at most 131,072 entries, and one more breaks the rule of room.
+pub fn callers_have_room()
+    ensures within { (w : World) (h : List Entry) (c : ℕ) → IsLegal w h → length (by h c) ≤ most_entries }
+    ensures full { (w : World) (past : List Entry) (net : Net) (x : Entry) → length (by past x.caller) ≡ most_entries → Keeps HasRoom w past net x → ⊥ }
+    ensures fault { (w : World) (h : List Entry) (stamp : ℕ) → IsFault w h stamp HasRoom → (x : Entry) × (slice_get h stamp ≡ Some x) × (length (by (take stamp h) x.caller) ≡ most_entries) }
+{}
+
+/// A run is limited exactly where a caller that has all its entries owes a duty or could record its next event.
+pub fn full_callers_limit()
+    ensures owes { (w : World) (net : Net) (c : ℕ) (d : Duty) → c < caller_count w → length (by net.past c) ≡ most_entries → In d (net.owed c) → limited w net ≡ true }
+    ensures could { (w : World) (net : Net) (c : ℕ) → c < caller_count w → length (by net.past c) ≡ most_entries → could_record w net (caller_of w c) c ≡ true → limited w net ≡ true }
+    ensures only { (w : World) (net : Net) → limited w net ≡ true → (c : ℕ) × (length (by net.past c) ≡ most_entries) × (could_record w net (caller_of w c) c ≡ true) }
+{}

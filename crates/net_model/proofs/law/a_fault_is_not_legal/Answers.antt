@@ -1,5 +1,0 @@
-use Rattle.net_model.proofs.Histories.{fault_is_not_legal}
-use Rattle.net_model.proofs.law.a_fault_is_not_legal.Goals as goal
-
-pub returns : goal.returns
-returns c = fault_is_not_legal

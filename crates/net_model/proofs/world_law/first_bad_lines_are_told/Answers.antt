@@ -1,5 +1,0 @@
-use Rattle.net_model.proofs.WorldRefusals.{bad-stays, refused-exactly}
-use Rattle.net_model.proofs.world_law.first_bad_lines_are_told.Goals as goal
-
-pub returns : goal.returns
-returns c = record { exact = refused-exactly; stays = bad-stays }

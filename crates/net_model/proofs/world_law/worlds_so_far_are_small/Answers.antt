@@ -1,5 +1,0 @@
-use Rattle.net_model.proofs.WorldSmall.{hosts-led, led-next, media-led}
-use Rattle.net_model.proofs.world_law.worlds_so_far_are_small.Goals as goal
-
-pub returns : goal.returns
-returns c = record { next = led-next; media = media-led; hosts = hosts-led }

@@ -1,0 +1,47 @@
+-- A script waits for a moment at its own host's desk.
+use Rattle.std.proofs.Common.{◌≡◌, ℕ, List, Option, refl}
+use Rattle.net_base.specs.declared.actor.ActorName.{ActorName}
+use Rattle.net_base.specs.declared.actor.ActorName.TheVariants as name
+use Rattle.net_base.specs.declared.event.Event.{Event}
+use Rattle.net_base.specs.declared.event.Event.TheVariants as event
+use Rattle.net_base.specs.declared.reply.Reply.{Reply}
+use Rattle.net_base.specs.declared.world.Step.{Step}
+use Rattle.net_base.specs.declared.world.Step.TheVariants as step
+use Rattle.net_base.specs.Steps.{Bound, clone_path, lines_in, Ask, position}
+use Rattle.history_laws.proofs.Ordered.{each_any}
+use Rattle.history_laws.proofs.StepEvents.{IsOther, IsOpened, Fits, Says, IsNextEvent, next_event}
+
+-- a wait for a moment is recorded at the host's desk
+abbrev pub UntilAt : ℕ → ActorName → Event → Type 0
+UntilAt h a (event.Until m) = a ≡ name.Desk h
+UntilAt h a _ = Unit {0}
+
+abbrev pub FineNext : ℕ → Option Ask → Type 0
+FineNext h ask = IsNextEvent (UntilAt h) ask
+
+other_until : (h : ℕ) (a : ActorName) (e : Event) → IsOther e → UntilAt h a e
+other_until h a (event.Until m) other = absurd other
+other_until h a _ other = tt
+
+fits_until : (h : ℕ) → Fits (UntilAt h) (λ (r : Reply). Unit {0})
+fits_until h = record {
+  other = other_until h;
+  dialled = λ r fine. each_any (λ (line : List ℕ). IsOpened (UntilAt h) (clone_path line)) (λ line a m. tt) (lines_in r);
+}
+
+says_until : (h : ℕ) (s : Step) → Says h (UntilAt h) s
+says_until h (step.Open called path m) = ((tt, tt), λ a m. tt)
+says_until h (step.Until moment) = refl
+says_until h (step.Ls path) = tt
+says_until h (step.Cs query) = tt
+says_until h (step.Dial called address) = ((tt, tt), (tt, tt))
+says_until h (step.Listen called from) = ((tt, tt), (tt, tt))
+says_until h (step.Accept called from) = ((tt, tt), (tt, tt))
+says_until h _ = (tt, tt)
+
+-- what a script records next
+pub fine_position : (h : ℕ) (steps : List Step) (names : List Bound) (rs : List Reply) → FineNext h (position h steps names rs).next
+fine_position h steps names rs =
+    next_event h (UntilAt h) (λ (r : Reply). Unit {0}) (fits_until h) steps names rs
+    (each_any (λ (s : Step). Says h (UntilAt h) s) (says_until h) steps)
+    (each_any (λ (r : Reply). Unit {0}) (λ r. tt) rs)

@@ -1,0 +1,8 @@
+//! The prefix law: what is read was written at the peer, over every legal history.
+#![tactic(auto)]
+
+mod law;
+
+pub use law::a_pair_has_one_holder;
+pub use law::moments_rise;
+pub use law::prefix_law;

@@ -1,0 +1,5 @@
+pub mod Worked
+pub mod WorkedUdp
+pub mod WorkedIl
+pub mod WorkedFaults
+pub mod WorkedRuns

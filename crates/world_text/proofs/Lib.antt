@@ -1,0 +1,15 @@
+pub mod Controls
+pub mod PathNames
+pub mod WorldNumbers
+pub mod ConnectTexts
+pub mod WorldLists
+pub mod WorldBack
+pub mod WorldRead
+pub mod WorldDrafts
+pub mod WorldSteps
+pub mod WorldTaken
+pub mod WorldSmall
+pub mod WorldSound
+pub mod WorldRefusals
+pub mod WorldWritten
+pub mod WorldExamples

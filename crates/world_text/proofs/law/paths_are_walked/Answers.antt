@@ -1,0 +1,5 @@
+use Rattle.world_text.proofs.PathNames.{walks_exactly}
+use Rattle.world_text.proofs.law.paths_are_walked.Goals as goal
+
+pub returns : goal.returns
+returns c = walks_exactly

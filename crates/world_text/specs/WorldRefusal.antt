@@ -1,0 +1,61 @@
+-- Where a text says no world: the lines before the first bad one, and what is bad.
+use Rattle.std.specs.Prelude.{◌≡◌, ℕ, ◌+◌, ◌⊎◌, true, false, List, [], ◌∷◌, ◌++◌, length, codes, Some}
+use Rattle.std.specs.List.{list_all}
+use Rattle.net_base.specs.declared.world.World.{World}
+use Rattle.net_base.specs.NdbForm.{bad_line_so_far}
+use Rattle.net_base.specs.NdbText.{is_empty}
+use Rattle.world_text.specs.WorldLines.{Draft, Goes, Begins, Bad, line_verdict}
+use Rattle.world_text.specs.WorldSpelling.{laid, is_line, IsHeaded}
+use Rattle.world_text.specs.WorldText.{missing}
+
+-- each of these lines goes on, and the last one leaves this world
+abbrev pub Leads : Draft → List (List ℕ) → Draft → Type 0
+Leads d [] e = d ≡ e
+Leads d (line ∷ lines) e = (next : Draft) × (line_verdict d line ≡ Goes next) × Leads next lines e
+
+-- a line ends here: nothing follows, or a newline
+abbrev pub EndsLine : List ℕ → Type 0
+EndsLine rest = (rest ≡ []) ⊎ ((more : List ℕ) × (rest ≡ 10 ∷ more))
+
+-- the n-th line of a text, whose first line has this number and stands behind that world so far, is bad for the cause c
+pub record IsBadLine (d : Draft) (first : ℕ) (text : List ℕ) (n c : ℕ) : Type 0 where
+  pub good : List (List ℕ)
+  pub line : List ℕ
+  pub rest : List ℕ
+  pub so_far : Draft
+  pub parts : text ≡ laid good ++ (line ++ rest)
+  pub ended : EndsLine rest
+  pub whole : list_all is_line (line ∷ good) ≡ true
+  pub leads : Leads d good so_far
+  pub bad : line_verdict so_far line ≡ Bad c
+  pub place : n ≡ first + length good
+
+-- the lines up to `ndb` are good, and a line of the database behind it is bad
+pub record IsBadBundle (d : Draft) (first : ℕ) (text : List ℕ) (n c : ℕ) : Type 0 where
+  pub good : List (List ℕ)
+  pub bundle : List ℕ
+  pub so_far : Draft
+  pub world : World
+  pub line : ℕ
+  pub parts : IsHeaded text good bundle
+  pub whole : list_all is_line good ≡ true
+  pub leads : Leads d good so_far
+  pub begins : line_verdict so_far (codes "ndb") ≡ Begins world
+  pub bad : bad_line_so_far bundle ≡ Some (line, c)
+  pub place : n ≡ first + length good + line
+
+-- all lines are good, and none is `ndb`: the number is one past the last line
+pub record IsUnended (d : Draft) (first : ℕ) (text : List ℕ) (n c : ℕ) : Type 0 where
+  pub good : List (List ℕ)
+  pub so_far : Draft
+  -- the last line may lack its newline, where it isn't empty
+  pub parts : (text ≡ laid good)
+      ⊎ ((before : List (List ℕ)) × (last : List ℕ) × (good ≡ before ++ last ∷ []) × (text ≡ laid before ++ last) × (is_empty last ≡ false))
+  pub whole : list_all is_line good ≡ true
+  pub leads : Leads d good so_far
+  pub place : n ≡ first + length good
+  pub cause : c ≡ missing so_far
+
+-- the text is refused at its n-th line for the cause c
+abbrev pub IsRefused : Draft → ℕ → List ℕ → ℕ → ℕ → Type 0
+IsRefused d first text n c = IsBadLine d first text n c ⊎ (IsBadBundle d first text n c ⊎ IsUnended d first text n c)
