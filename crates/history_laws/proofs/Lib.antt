@@ -1,5 +1,4 @@
 pub mod Histories
-pub mod Walk
 pub mod Short
 pub mod Ordered
 pub mod Owed

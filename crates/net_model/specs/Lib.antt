@@ -1,6 +1,5 @@
 pub mod CsExample
 pub mod CsOrder
-pub mod Rounds
 pub mod NdbFirst
 pub mod NdbExample
 pub mod Answers
@@ -19,3 +18,4 @@ pub use Rattle.world_text.specs.WorldText
 pub use Rattle.world_text.specs.WorldSpelling
 pub use Rattle.world_text.specs.WorldRefusal
 pub use Rattle.world_text.specs.WorldExample
+pub use Rattle.worked_cases.specs.Rounds

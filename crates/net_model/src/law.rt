@@ -13,6 +13,8 @@ ghost use Rattle.net_base.specs.Callers.{IsScript, caller_of};
 ghost use Rattle.net_base.specs.Legal.{IsLegal};
 ghost use Rattle.net_base.specs.Plain.{IsPlain};
 
+use prefix_law::prefix_law;
+
 /// Every legal history of a world is plain: names are words, lines have no newline, and paths are made of bytes.
 pub fn legal_histories_are_plain()
     ensures { (w : World) → IsWorld w → (h : List Entry) → IsLegal w h → IsPlain h }
@@ -33,4 +35,6 @@ pub fn cs_answers_are_lists()
 /// What every legal history of a world keeps.
 pub fn legal_histories_keep_it()
     ensures { (w : World) (h : List Entry) → IsWorld w → IsLegal w h → Headline w h }
-{}
+{
+    prefix_law();
+}

@@ -1,17 +1,11 @@
 //! The network's plain data and definitions, given on, and the laws over them.
 #![tactic(auto)]
 
-mod cases;
 mod cs_law;
 mod law;
 mod ndb_law;
 mod wire_law;
 
-pub use cases::a_call_is_refused;
-pub use cases::a_datagram_goes;
-pub use cases::a_lost_frame_is_sent_again;
-pub use cases::changes_are_faults;
-pub use cases::runs_are_as_worked;
 pub use cs_law::no_line_stands_twice;
 pub use cs_law::own_networks_come_first;
 pub use cs_law::worked_queries;
@@ -102,6 +96,11 @@ pub use prefix_law::a_pair_has_one_holder;
 pub use prefix_law::moments_rise;
 pub use prefix_law::prefix_law;
 pub use wire_law::packets_are_read;
+pub use worked_cases::a_call_is_refused;
+pub use worked_cases::a_datagram_goes;
+pub use worked_cases::a_lost_frame_is_sent_again;
+pub use worked_cases::changes_are_faults;
+pub use worked_cases::runs_are_as_worked;
 pub use world_text::connect_texts_agree;
 pub use world_text::controls_are_read;
 pub use world_text::first_bad_lines_are_told;

@@ -4,7 +4,7 @@ ghost use Rattle.net_base.specs.declared.il.IlKind.TheVariants.{Sync, Data, Data
 ghost use Rattle.net_base.specs.Calm.{done, stopped};
 ghost use Rattle.net_base.specs.Legal.{IsLegal, IsTimed, IsFault, Answers, AtMoment, Cites, Asked, Ready, InTime};
 ghost use Rattle.net_base.specs.Net.{after, opening_net};
-ghost use Rattle.net_model.specs.Rounds.{rounds, run_of};
+ghost use Rattle.worked_cases.specs.Rounds.{rounds, run_of};
 ghost use Rattle.worked_worlds.specs.WorkedFaults as fault;
 ghost use Rattle.worked_worlds.specs.WorkedFaults.{with_at};
 ghost use Rattle.worked_worlds.specs.WorkedIl.{lossy_world, lossy_history, refused_world, refused_history};

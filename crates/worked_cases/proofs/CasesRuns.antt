@@ -6,7 +6,7 @@ use Rattle.net_base.specs.declared.il.IlKind.TheVariants.{Sync, Data, DataQuery,
 use Rattle.net_base.specs.Calm.{done, stopped}
 use Rattle.net_base.specs.Net.{opening_net}
 use Rattle.net_base.specs.Number.{number}
-use Rattle.net_model.specs.Rounds.{rounds, run_of}
+use Rattle.worked_cases.specs.Rounds.{rounds, run_of}
 use Rattle.worked_worlds.specs.WorkedRuns.{moves, texts_read, kinds, data_ids, hello_world, early_close_world, repeated_world, wrapping_world, cut_world, nobody_world, lost_world, dropped_world, two_calls_world}
 
 pub hello_texts_read : texts_read (run_of 100 hello_world) ≡ codes "hello" ∷ [] ∷ []

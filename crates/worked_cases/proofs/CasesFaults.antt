@@ -24,8 +24,8 @@ use Rattle.worked_worlds.specs.WorkedUdp.{datagram_world, datagram_history}
 use Rattle.worked_worlds.specs.WorkedIl.{lossy_world, lossy_history, refused_world, refused_history}
 use Rattle.worked_worlds.specs.WorkedFaults.{with_at, another_text, another_moment, another_cite, another_event, taken_too_early, moved_too_early, moved_too_far, sent_as_data, read_too_early, refused_otherwise, not_ended}
 use Rattle.history_laws.proofs.Histories.{legal_take, timed_take}
-use Rattle.net_model.proofs.CasesUdp.{datagram_is_legal, datagram_is_timed}
-use Rattle.net_model.proofs.CasesIl.{lossy_is_legal, lossy_is_timed, refused_is_legal, refused_is_timed}
+use Rattle.worked_cases.proofs.CasesUdp.{datagram_is_legal, datagram_is_timed}
+use Rattle.worked_cases.proofs.CasesIl.{lossy_is_legal, lossy_is_timed, refused_is_legal, refused_is_timed}
 
 changed : (w : World) (h : List Entry) (k : ℕ) (x : Entry) (rule : Rule) → IsLegal w h → IsTimed w h → take k (with_at k x h) ≡ take k h → slice_get (with_at k x h) k ≡ Some x
     → ((r : Rule) → rule_number r < rule_number rule → Keeps r w (take k h) (after w (take k h)) x) → (Keeps rule w (take k h) (after w (take k h)) x → ⊥)

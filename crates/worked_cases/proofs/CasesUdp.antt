@@ -6,9 +6,9 @@ use Rattle.net_base.specs.Calm.{done}
 use Rattle.net_base.specs.Legal.{IsLegal, IsTimed}
 use Rattle.net_base.specs.Net.{after, opening_net}
 use Rattle.net_base.specs.Number.{number}
-use Rattle.net_model.specs.Rounds.{run_of}
+use Rattle.worked_cases.specs.Rounds.{run_of}
 use Rattle.worked_worlds.specs.WorkedUdp.{datagram_world, datagram_history}
-use Rattle.history_laws.proofs.Walk.{Follow, is_legal, is_timed}
+use Rattle.worked_cases.proofs.Walk.{Follow, is_legal, is_timed}
 
 pub datagram_is_done : done datagram_world (after datagram_world datagram_history) ≡ true
 unfolding number digits state_after

@@ -6,9 +6,9 @@ use Rattle.net_base.specs.Calm.{done}
 use Rattle.net_base.specs.Legal.{IsLegal, IsTimed}
 use Rattle.net_base.specs.Net.{after, opening_net}
 use Rattle.net_base.specs.Number.{number}
-use Rattle.net_model.specs.Rounds.{run_of}
+use Rattle.worked_cases.specs.Rounds.{run_of}
 use Rattle.worked_worlds.specs.WorkedIl.{lossy_world, lossy_history, refused_world, refused_history}
-use Rattle.history_laws.proofs.Walk.{Follow, InTime, is_legal, is_timed}
+use Rattle.worked_cases.proofs.Walk.{Follow, InTime, is_legal, is_timed}
 
 lossy_follows : Follow lossy_world [] opening_net lossy_history
 unfolding number digits state_after

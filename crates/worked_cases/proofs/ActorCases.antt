@@ -28,7 +28,7 @@ use Rattle.net_base.specs.Directory.{Dir, free_slot, dir_step}
 use Rattle.net_base.specs.Draws.{drawn_word}
 use Rattle.net_base.specs.Medium.{Medium, quiet_medium, medium_step}
 use Rattle.net_base.specs.Routes.{Route, way, longest_match}
-use Rattle.net_model.proofs.Worlds.{il_world, small_database, anna, anna_ip, helix_ip, ether0}
+use Rattle.worked_cases.proofs.Worlds.{il_world, small_database, anna, anna_ip, helix_ip, ether0}
 
 -- Directories.
 
