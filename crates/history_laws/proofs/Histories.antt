@@ -77,6 +77,16 @@ legal_push w h x legal may k y is =
           subst (λ (p : List Entry). MayFollow w p y) (sym here) (subst (λ (z : Entry). MayFollow w h z) last.1 may)
     ]
 
+-- a timed one
+pub timed_push : (w : World) (h : List Entry) (x : Entry) → IsTimed w h → IsInTime (after w h) w x.event → IsTimed w (h ++ x ∷ [])
+timed_push w h x timed in_time k y is =
+    elim (in_pushed h x k y is) [
+      | inl there ↦ subst (λ (p : List Entry). IsInTime (after w p) w y.event) (sym (take-append-le k h (x ∷ []) (omega (arith, there.0)))) (timed k y there.1)
+      | inr last ↦
+          let here : take k (h ++ x ∷ []) ≡ h = rw last.0 (take_at h (x ∷ []) (length h) refl) in
+          subst (λ (p : List Entry). IsInTime (after w p) w y.event) (sym here) (subst (λ (z : Entry). IsInTime (after w h) w z.event) last.1 in_time)
+    ]
+
 -- its parts
 pub legal_front : (w : World) (h : List Entry) (x : Entry) → IsLegal w (h ++ x ∷ []) → IsLegal w h × MayFollow w h x
 legal_front w h x legal = (

@@ -1,5 +1,5 @@
-//! Laws of histories that look into no actor.
-ghost use Rattle.std.specs.Prelude.{◌≡◌, ◌<◌, ◌≤◌, List, ℕ, Some, true, length, take, slice_get};
+//! Laws of legal histories that look into no conversation.
+ghost use Rattle.std.specs.Prelude.{◌≡◌, ◌<◌, ◌≤◌, ◌∷◌, ◌++◌, List, [], ℕ, Some, true, length, take, slice_get};
 ghost use Rattle.net_base.specs.declared.actor.ActorName.{ActorName};
 ghost use Rattle.net_base.specs.declared.event.Event.TheVariants as event;
 ghost use Rattle.net_base.specs.declared.history.Entry.{Entry};
@@ -7,17 +7,30 @@ ghost use Rattle.net_base.specs.declared.world.World.{World};
 ghost use Rattle.net_base.specs.Actors.{opening_actor};
 ghost use Rattle.net_base.specs.Callers.{caller_count, caller_of};
 ghost use Rattle.net_base.specs.Calm.{could_record, limited, most_entries};
-ghost use Rattle.net_base.specs.Legal.{Asked, HasRoom, IsFault, IsLegal, IsTimed, Keeps, Known, Ready, Rule};
-ghost use Rattle.net_base.specs.Net.{Net, after, owed, state, played, works};
+ghost use Rattle.net_base.specs.Legal.{Asked, HasRoom, IsFault, IsInTime, IsLegal, IsTimed, Keeps, Known, MayFollow, Ready, Rule};
+ghost use Rattle.net_base.specs.Net.{Net, after, next_net, owed, state, played, works};
 ghost use Rattle.net_base.specs.Next.{by};
 ghost use Rattle.net_base.specs.Duties.{Duty};
-ghost use Rattle.net_base.specs.Stamped.{In};
+ghost use Rattle.net_base.specs.Stamped.{In, same_actor};
 ghost use Rattle.net_base.specs.Written.{Given, given_in};
 
 /// A beginning of a legal history is legal, and of a timed one timed.
 pub fn prefix_is_legal()
     ensures legal { (w : World) (h : List Entry) (k : ℕ) → IsLegal w h → IsLegal w (take k h) }
     ensures timed { (w : World) (h : List Entry) (k : ℕ) → IsTimed w h → IsTimed w (take k h) }
+{}
+
+/// With an entry more a legal history is legal where the entry may follow, and a timed one timed; the net is the next one.
+pub fn histories_grow()
+    ensures net { (w : World) (h : List Entry) (x : Entry) → after w (h ++ x ∷ []) ≡ next_net w (after w h) x }
+    ensures past { (w : World) (h : List Entry) → (after w h).past ≡ h }
+    ensures legal { (w : World) (h : List Entry) (x : Entry) → IsLegal w h → MayFollow w h x → IsLegal w (h ++ x ∷ []) }
+    ensures timed { (w : World) (h : List Entry) (x : Entry) → IsTimed w h → IsInTime (after w h) w x.event → IsTimed w (h ++ x ∷ []) }
+{}
+
+/// Actors that pass the test of being the same are equal.
+pub fn same_actors_are_equal()
+    ensures { (a b : ActorName) → same_actor a b ≡ true → a ≡ b }
 {}
 
 /// An actor's state is the fold of its own step over its own works, from its opening state.

@@ -3,11 +3,8 @@
 
 mod law;
 
-pub use law::a_fault_is_not_legal;
-pub use law::a_pair_is_given_once;
-pub use law::callers_have_room;
-pub use law::duties_cite_their_own;
-pub use law::full_callers_limit;
-pub use law::prefix_is_legal;
-pub use law::state_is_fold;
-pub use law::what_is_ready_is_known;
+pub use law::{
+    a_fault_is_not_legal, a_pair_is_given_once, callers_have_room, duties_cite_their_own,
+    full_callers_limit, histories_grow, prefix_is_legal, same_actors_are_equal, state_is_fold,
+    what_is_ready_is_known,
+};

@@ -25,7 +25,7 @@ use Rattle.net_base.specs.Net.{Net, after, net_after}
 use Rattle.net_base.specs.Next.{by, next, next_of}
 use Rattle.net_base.specs.World.{IsWorld}
 use Rattle.net_base.specs.WorldForm.{IsFirstForm}
-use Rattle.history_laws.proofs.Histories.{after_push, legal_push}
+use Rattle.history_laws.proofs.Histories.{after_push, legal_push, timed_push}
 use Rattle.plain_runner.specs.declared.runner.Caller.{Caller}
 use Rattle.plain_runner.specs.declared.runner.Runner.{Runner}
 use Rattle.plain_runner.specs.declared.standing.Place.{Place}
@@ -45,7 +45,7 @@ use Rattle.plain_runner.proofs.Ends.{clock_is, is_movable, target_is}
 use Rattle.plain_runner.proofs.Follows.{Recorded, follows_so}
 use Rattle.plain_runner.proofs.Nexts.{next_at}
 use Rattle.plain_runner.proofs.Opening.{opening_good}
-use Rattle.plain_runner.proofs.Records.{by_own, by_other, good_same, past_is, timed_push}
+use Rattle.plain_runner.proofs.Records.{by_own, by_other, good_same, past_is}
 use Rattle.plain_runner.proofs.Scripts.{owed_there}
 
 -- The opening.

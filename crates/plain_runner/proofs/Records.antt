@@ -17,7 +17,7 @@ use Rattle.net_base.specs.Legal.{IsLegal, IsTimed, IsInTime}
 use Rattle.net_base.specs.Net.{Net, actors_after, after, opening_net, net_after, moment_after, work_of, with_of}
 use Rattle.net_base.specs.Next.{by}
 use Rattle.history_laws.proofs.Owed.{past_after}
-use Rattle.history_laws.proofs.Histories.{after_push, legal_push}
+use Rattle.history_laws.proofs.Histories.{after_push, legal_push, timed_push}
 use Rattle.plain_runner.specs.declared.duty.Duty.{Duty as Task}
 use Rattle.plain_runner.specs.declared.runner.Caller.{Caller}
 use Rattle.plain_runner.specs.declared.runner.Runner.{Runner}
@@ -37,21 +37,6 @@ use Rattle.plain_runner.proofs.Follows.{Recorded, follows_so}
 use Rattle.plain_runner.proofs.Scripts.{Pushed, owed_here, owed_there}
 
 -- Histories.
-
-in_pushed : (h : List Entry) (y : Entry) (k : ℕ) (x : Entry) → slice_get (h ++ y ∷ []) k ≡ Some x → (k < length h) × (slice_get h k ≡ Some x) ⊎ (k ≡ length h) × (y ≡ x)
-in_pushed [] y zero x is = inr (refl, same_Some y x is)
-in_pushed [] y (suc k) x is = absurd (none-some x is)
-in_pushed (z ∷ h) y zero x is = inl (omega arith, is)
-in_pushed (z ∷ h) y (suc k) x is = elim (in_pushed h y k x is) [ inl there ↦ inl (omega (arith, there.0), there.1) | inr last ↦ inr (ap suc last.0, last.1) ]
-
-pub timed_push : (w : World) (h : List Entry) (x : Entry) → IsTimed w h → IsInTime (after w h) w x.event → IsTimed w (h ++ x ∷ [])
-timed_push w h x timed in_time k y is =
-    elim (in_pushed h x k y is) [
-      | inl there ↦ subst (λ (p : List Entry). IsInTime (after w p) w y.event) (sym (take-append-le k h (x ∷ []) (omega (arith, there.0)))) (timed k y there.1)
-      | inr last ↦
-          let here : take k (h ++ x ∷ []) ≡ h = rw last.0 (take_at h (x ∷ []) (length h) refl) in
-          subst (λ (p : List Entry). IsInTime (after w p) w y.event) (sym here) (subst (λ (z : Entry). IsInTime (after w h) w z.event) last.1 in_time)
-    ]
 
 pub past_is : (w : World) (h : List Entry) → (after w h).past ≡ h
 past_is w h = past_after w opening_net h

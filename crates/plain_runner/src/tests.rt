@@ -6,11 +6,11 @@ ghost use Rattle.worked_worlds.specs.Worked as worked;
 ghost use Rattle.plain_runner.specs.Worked.{small_world, written};
 
 use crate::{Ran, RunEnd, run, summary_of};
+use history_laws::prefix_is_legal;
 use net_base::{
     Db, Fates, History, HostSpec, Hosts, Iface, Ifaces, Media, MediumSpec, Nets, Octets, Proto,
     RouteLines, Script, Scripts, Starts, Step, StepList, World,
 };
-use history_laws::prefix_is_legal;
 use std::alloc::{AllocError, Global};
 use std::process::Abort;
 use std::test::*;

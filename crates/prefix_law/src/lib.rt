@@ -3,6 +3,4 @@
 
 mod law;
 
-pub use law::a_pair_has_one_holder;
-pub use law::moments_rise;
-pub use law::prefix_law;
+pub use law::{a_pair_has_one_holder, moments_rise, prefix_law};

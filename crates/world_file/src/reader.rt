@@ -14,8 +14,8 @@ use crate::draft::Draft;
 use crate::fault::{Fault, WorldError};
 use ndb_reader::{NdbError, read_ndb};
 use net_base::World;
-use world_text::{worlds_are_spelled, worlds_so_far_are_small};
 use std::alloc::Global;
+use world_text::{worlds_are_spelled, worlds_so_far_are_small};
 
 /// The world that a text says, or its first bad line. It goes once through the bytes, and copies each at most once.
 pub fn read_world(alloc: Global, bytes: &[u8]) -> Result<World, WorldError>

@@ -4,13 +4,8 @@
 mod law;
 mod world_law;
 
-pub use law::controls_are_read;
-pub use law::paths_are_walked;
-pub use world_law::connect_texts_agree;
-pub use world_law::first_bad_lines_are_told;
-pub use world_law::passed_lines_say_nothing;
-pub use world_law::texts_say_one_world;
-pub use world_law::worked_world_lines;
-pub use world_law::worlds_are_spelled;
-pub use world_law::worlds_have_texts;
-pub use world_law::worlds_so_far_are_small;
+pub use law::{controls_are_read, paths_are_walked};
+pub use world_law::{
+    connect_texts_agree, first_bad_lines_are_told, passed_lines_say_nothing, texts_say_one_world,
+    worked_world_lines, worlds_are_spelled, worlds_have_texts, worlds_so_far_are_small,
+};
