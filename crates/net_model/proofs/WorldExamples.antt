@@ -30,7 +30,7 @@ said = record {
   hosts_addressed = refl;
   few_scripts = refl;
   scripts = refl;
-  database = (small_bundle, refl);
+  database = (small_bundle, refl, refl);
 }
 
 plain : (called : List ℕ) (ip : ℕ) → IsPlainHost (host called ip [])
