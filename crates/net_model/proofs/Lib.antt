@@ -47,6 +47,7 @@ pub mod InOrders
 pub mod NoPeer
 pub mod PairsOnce
 pub mod NdbFirsts
+pub mod CasesLimits
 pub mod CasesRuns
 pub mod Copies
 pub mod UdpDuties

@@ -8,11 +8,13 @@ mod ndb_law;
 mod wire_law;
 mod world_law;
 
+pub use cases::a_call_has_two_ends;
 pub use cases::a_call_is_refused;
 pub use cases::a_datagram_goes;
 pub use cases::a_lost_frame_is_sent_again;
 pub use cases::changes_are_faults;
 pub use cases::runs_are_as_worked;
+pub use cases::small_limits_end_runs;
 pub use cs_law::no_line_stands_twice;
 pub use cs_law::own_networks_come_first;
 pub use cs_law::worked_queries;
