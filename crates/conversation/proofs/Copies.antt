@@ -117,7 +117,7 @@ closing (suc zero) now c = hanging c.core now reply.Ok c _
 closing (suc (suc n)) now c = refl
 
 refusing : (o : Option ℕ) (g : ℕ) (c : Conv) → Copies (conv.bad_control o g c)
-refusing None g c = tt
+refusing None g c = in_time g c None tt
 refusing (Some n) g c = in_time g c (Some _) refl
 
 taking : (k : Core) (b : Body) (now : ℕ) (c : Conv) → Copies (conv.taken_in k b now c)

@@ -160,7 +160,7 @@ impl Conv {
                 self.is_answered(*generation, self.may_write(text))
             }
             Event::Ctl { generation, text } => {
-                is_refused(text) && self.is_answered(*generation, true)
+                self.is_answered(*generation, is_refused(text))
             }
             Event::ArriveAt { generation } => self.may_arrive(*generation, &work.with),
             Event::Claim { generation }

@@ -20,7 +20,7 @@ use Rattle.net_base.specs.declared.world.Step.{Step}
 use Rattle.net_base.specs.declared.world.Step.TheVariants as step
 use Rattle.net_base.specs.ControlWords as control
 use Rattle.net_base.specs.Paths.{walk, reads, writes as may_write}
-use Rattle.net_base.specs.Steps.{Fid, Bound, fid_of, is_bound, bind, unbind, Play, Asks, Ends, is_accepted, if_accepted, ends_with, uses, misuses, on_fid, with_bound, with_new, with_readable, with_writable, conversation_of, default_mode, openable, open_actor, open_event, opened_fid, opens_node, opens, opens_beside, read_event, controls, puts, closes, ls_actor, ls_event, netmkaddr, lines_in, asks_cs, clone_path, line_address, dotted_name, connected, dials, announces, play_of, Ask, Stand, Asking, Finished, stands, Position, position_by, position}
+use Rattle.net_base.specs.Steps.{Fid, Bound, fid_of, is_bound, bind, unbind, Play, Asks, Ends, is_accepted, if_accepted, ends_with, uses, misuses, on_fid, with_bound, with_new, with_readable, with_writable, conversation_of, default_mode, openable, open_actor, open_event, opened_fid, opens_node, opens, opens_beside, read_event, controls, puts, closes, closes_last, ls_actor, ls_event, netmkaddr, lines_in, asks_cs, clone_path, line_address, dotted_name, connected, dials, announces, play_of, Ask, Stand, Asking, Finished, stands, Position, position_by, position}
 use Rattle.history_laws.proofs.Ordered.{Each}
 
 -- an event that neither opens a path at the desk, nor names what isn't open, nor waits for a moment
@@ -158,7 +158,9 @@ module _ (h : ℕ) (P : ActorName → Event → Type 0) (R : Reply → Type 0) (
   ls_of a path _ = fits.other a (event.LsPath path) tt
 
   connects : (called : List ℕ) (names : List Bound) (made : Fid) → Good (connected h called names made)
-  connects called names made = beside made file.Data (Ends names) _ tt (λ f. closing made (Ends names) (Ends (bind called f names)) tt tt)
+  connects called names made =
+      let closed : P (conversation_of h made) (event.Close made.generation) = fits.other (conversation_of h made) (event.Close made.generation) tt in
+      beside made file.Data (closes_last h made names) _ (ending _ _ names closed) (λ f. ending _ _ (bind called f names) closed)
 
   dialling : (called : List ℕ) (names : List Bound) (lines : List (List ℕ)) → Each (λ (line : List ℕ). IsOpened P (clone_path line)) lines → Good (dials h called names lines)
   dialling called names [] all = tt

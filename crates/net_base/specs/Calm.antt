@@ -87,16 +87,24 @@ target w net =
 abbrev pub most_entries : ℕ
 most_entries = 131072
 
--- this caller can't record more, though it owes a duty or could go on
+-- this caller owes a duty or could go on
 abbrev pub could_record : World → Net → Caller → ℕ → Bool
 could_record w net IsClock c = owes net c || movable w net
 could_record w net _ c = owes net c || can_go_on w net c
 
+-- it has recorded the most entries that a caller may, and could record more
+abbrev pub at_limit_of : ℕ → World → Net → ℕ → Bool
+at_limit_of most w net c = (length (by net.past c) == most) && could_record w net (caller_of w c) c
+
 abbrev pub at_limit : World → Net → ℕ → Bool
-at_limit w net c = (length (by net.past c) == most_entries) && could_record w net (caller_of w c) c
+at_limit w net = at_limit_of most_entries w net
+
+-- some caller is at the limit
+abbrev pub limited_to : ℕ → World → Net → Bool
+limited_to most w net = list_any (at_limit_of most w net) (callers w)
 
 abbrev pub limited : World → Net → Bool
-limited w net = list_any (at_limit w net) (callers w)
+limited w net = limited_to most_entries w net
 
 -- every step is answered
 abbrev pub done : World → Net → Bool

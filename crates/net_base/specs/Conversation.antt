@@ -323,9 +323,9 @@ abbrev pub refused_control : Result Ctl ℕ → Option ℕ
 refused_control (Ok c) = None
 refused_control (Err n) = Some n
 
+-- stale in an older generation, whatever the text says
 abbrev pub bad_control : Option ℕ → ℕ → Conv → Option (Step Conv)
-bad_control None g c = None
-bad_control (Some n) g c = in_generation g c (Some (answers c (reply.BadCtl n)))
+bad_control fault g c = in_generation g c (option_map (λ (n : ℕ). answers c (reply.BadCtl n)) fault)
 
 -- Arrive and tick.
 

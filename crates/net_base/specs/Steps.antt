@@ -226,10 +226,13 @@ line_address line = after_first is_blank line
 abbrev pub dotted_name : List ℕ → List ℕ
 dotted_name called = codes "." ++ called
 
--- the data file of what was dialled is opened, and its ctl file closed
+-- a file is closed, with which the step is finished, whatever the reply
+abbrev pub closes_last : ℕ → Fid → List Bound → Play
+closes_last h f names = ends_with (conversation_of h f) (event.Close f.generation) names
+
+-- the data file of what was dialled is opened, and its ctl file closed, whatever the replies; a data file that is open is bound
 abbrev pub connected : ℕ → List ℕ → List Bound → Fid → Play
-connected h called names made =
-    opens_beside h made file.Data (Ends names) (λ (data_file : Fid). closes h made (Ends names) (Ends (bind called data_file names)))
+connected h called names made = opens_beside h made file.Data (closes_last h made names) (λ (data_file : Fid). closes_last h made (bind called data_file names))
 
 -- the lines are dialled in order, until one succeeds
 abbrev pub dials : ℕ → List ℕ → List Bound → List (List ℕ) → Play

@@ -165,9 +165,9 @@ is_script hosts s = nat_lt s.host hosts && list_all is_step s.steps
 
 -- Worlds.
 
--- a database that some text of a bundle reads as
+-- a database that some bundle, a text of bytes, reads as
 abbrev pub IsDatabase : List (List (List NdbPair)) → Type 0
-IsDatabase db = (text : List ℕ) × (reading text ≡ Some db)
+IsDatabase db = (text : List ℕ) × (list_all is_byte text ≡ true) × (reading text ≡ Some db)
 
 -- the world is one that a file can say
 pub record IsWorld (w : World) : Type 0 where

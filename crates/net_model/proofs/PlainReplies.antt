@@ -222,7 +222,7 @@ closed (suc zero) now c = hung_up c.core now _ c _ tt
 closed (suc (suc n)) now c = tt
 
 controlled : (found : Option ℕ) (g : ℕ) (c : Conv) → Answers (conv.bad_control found g c)
-controlled None g c = tt
+controlled None g c = own g c _ tt
 controlled (Some n) g c = own g c _ tt
 
 taken : (k : Core) (b : Body) (now : ℕ) (c : Conv) → Answers (conv.taken_in k b now c)

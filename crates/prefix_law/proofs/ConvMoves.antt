@@ -262,7 +262,7 @@ lists zero now gift c e = same now c e _ gift reply.NotOpen (refl, refl)
 lists (suc n) now gift c e = same now c e _ gift (reply.Names file_names) (refl, refl)
 
 refuses_control : (found : Option ℕ) (now g : ℕ) (text : List ℕ) (gift : With) (c : Conv) (e : End) → Moves now c e (event.Ctl g text) gift (bad_control found g (of_end c e))
-refuses_control None now g text gift c e = tt
+refuses_control None now g text gift c e = own now g c e _ _ _ (λ _. tt)
 refuses_control (Some n) now g text gift c e = own now g c e _ _ _ (λ _. same now c e _ _ (reply.BadCtl n) (refl, refl))
 
 takes_in : (now g : ℕ) (p : Packet) (b : Body) (c : Conv) (e : End) → p.body ≡ b → g ≡ c.generation → Moves now c e (event.ArriveAt g) (given.Packet p) (taken_in (Il e) b now (of_end c e))

@@ -1,4 +1,4 @@
--- An end without a peer reads nothing, and nothing of it is acknowledged.
+-- An end without a peer gets and reads nothing, and nothing of it is acknowledged.
 use Rattle.std.proofs.Common.{◌≡◌, ℕ, ◌≤◌, List, [], ◌∷◌, length, Option, Some, None, inl, refl, sym, ap, subst, ◌∙◌, arith}
 use Rattle.std.specs.Option.{option_and_then}
 use Rattle.std.proofs.lemmas.List.{take_all}
@@ -13,7 +13,7 @@ use Rattle.net_base.specs.Legal.{IsLegal}
 use Rattle.net_base.specs.Mirror.{mirror}
 use Rattle.net_base.specs.Net.{after}
 use Rattle.net_base.specs.World.{IsWorld}
-use Rattle.net_base.specs.Written.{Conversation, given_in, holder, pair_of, peer, joined}
+use Rattle.net_base.specs.Written.{Conversation, given_in, holder, pair_of, peer, joined, stood}
 use Rattle.prefix_law.specs.PrefixLaw.{Alone}
 use Rattle.prefix_law.proofs.Accounts.{HasEmpty, given_out}
 use Rattle.prefix_law.proofs.Begins.{begins_length}
@@ -23,7 +23,7 @@ use Rattle.prefix_law.proofs.InOrders.{conv_of_is}
 use Rattle.prefix_law.proofs.Linked.{Linked, owner_in}
 use Rattle.prefix_law.proofs.Pairs.{Side}
 use Rattle.prefix_law.proofs.Peers.{pair_owned, owned_pair, nobody_holds}
-use Rattle.prefix_law.proofs.Standing.{all_stood}
+use Rattle.prefix_law.proofs.Standing.{Same, all_stood}
 use Rattle.prefix_law.proofs.Talking.{Bond}
 use Rattle.prefix_law.proofs.Trace.{Owner, Trace, trace, empty_side}
 use Rattle.prefix_law.proofs.Whole.{Kept}
@@ -62,7 +62,9 @@ alone w h e world legal il is =
 
     -- it has no pair
     bare : pair_of w h e ≡ None → Alone w h (conv_of o)
-    bare none = record { unread = (kept.books.none o unowned).1; unacked = ((all_stood w world h legal).none o unowned).acked_is }
+    bare none =
+        let last = (all_stood w world h legal).none o unowned in
+        record { got = last.got_is; unread = (kept.books.none o unowned).1; unacked = last.acked_is }
       where
         unowned : (p : Pair) → t.owner p ≡ Some o → ⊥
         unowned p owns = none-some p (sym none ∙ (ap (λ (x : Conversation). pair_of w h x) (sym e_is) ∙ owned_pair w h t link p o kept.fine.owned.unique owns))
@@ -70,12 +72,16 @@ alone w h e world legal il is =
     -- nobody has the mirror of its pair
     unmet : (p : Pair) → t.owner p ≡ Some o → t.side (mirror p) ≡ empty_side → Alone w h (conv_of o)
     unmet p owns empty = record {
+      got = last.got_is ∙ none;
       unread = no_texts _ (sym (kept.books.given_is p o owns) ∙ nothing_given near.taken near.cut near.got none) (λ read. absurd (none-some _ (bond.all_got (kept.books.ended p o owns read).0).0.1));
-      unacked = ((all_stood w world h legal).had p o owns).acked_is ∙ omega (arith, bond.acked_got);
+      unacked = last.acked_is ∙ omega (arith, bond.acked_got);
     }
       where
         near : End
         near = (t.side p).end
+
+        last : Same (stood w h (conv_of o)) near
+        last = (all_stood w world h legal).had p o owns
 
         bond : Bond near.rstart near.acked near.got near.early near.marked fresh_end.start fresh_end.fresh fresh_end.sent fresh_end.got fresh_end.cause
         bond = subst (λ (s : Side). Bond near.rstart near.acked near.got near.early near.marked s.end.start s.end.fresh s.end.sent s.end.got s.end.cause) empty (kept.fine.owned.talk p).link

@@ -112,7 +112,7 @@ udp_listed zero c e = (tt, tt)
 udp_listed (suc n) c e = (tt, tt)
 
 udp_control : (found : Option ℕ) (g : ℕ) (c : Conv) (e : UdpEnd) → UdpSteps (bad_control found g (of_udp c e))
-udp_control None g c e = tt
+udp_control None g c e = udp_own g c e _ tt
 udp_control (Some n) g c e = udp_own g c e _ (tt, tt)
 
 udp_reads : (unread : List (List ℕ)) (count : ℕ) (c : Conv) (e : UdpEnd) → UdpSteps (udp_read unread count e (of_udp c e))

@@ -145,7 +145,7 @@ module _ (K : Given → Type 0) (W : Pair → List ℕ → Type 0) (h n : ℕ) w
   files (suc many) ev c e none f = (record { fine = f; sent = tt; read = none _ }, record { fine = f; sent = tt; read = none _ })
 
   controls : (found : Option ℕ) (g : ℕ) (text : List ℕ) (c : Conv) (e : UdpEnd) → Fine c e → UdpSteps (event.Ctl g text) (bad_control found g (of_udp c e))
-  controls None g text c e f = tt
+  controls None g text c e f = own g c e (event.Ctl g text) _ f (λ _. tt)
   controls (Some i) g text c e f = own g c e (event.Ctl g text) _ f (λ _. record { fine = f; sent = tt; read = tt })
 
   -- the first datagram is read

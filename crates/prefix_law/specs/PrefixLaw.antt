@@ -31,7 +31,8 @@ pub record InOrder (w : World) (h : List Entry) (e f : Conversation) : Type 0 wh
 
 -- what holds of an IL conversation that has no peer
 pub record Alone (w : World) (h : List Entry) (e : Conversation) : Type 0 where
-  -- no read replies bytes, and nothing counts as acknowledged
+  -- it has got nothing, no read replies bytes, and nothing counts as acknowledged
+  pub got : (stood w h e).got ≡ []
   pub unread : reads h e ≡ []
   pub unacked : (stood w h e).acked ≡ 0
 

@@ -1,13 +1,16 @@
 -- The histories of a lost frame and of a refused call are legal, timed and done, and are the runs'.
-use Rattle.std.proofs.Common.{◌≡◌, true, [], refl, arith}
+use Rattle.std.proofs.Common.{◌≡◌, true, [], ◌∷◌, Some, codes, refl, arith}
 use Rattle.std.specs.Fmt.{digits}
 use Rattle.rand_pcg.specs.Lcg.{state_after}
 use Rattle.net_base.specs.Calm.{done}
 use Rattle.net_base.specs.Legal.{IsLegal, IsTimed}
 use Rattle.net_base.specs.Net.{after, opening_net}
 use Rattle.net_base.specs.Number.{number}
+use Rattle.net_base.specs.World.{IsWorld}
+use Rattle.net_base.specs.Written.{peer, reads, writes}
 use Rattle.worked_cases.specs.Rounds.{run_of}
-use Rattle.worked_worlds.specs.WorkedIl.{lossy_world, lossy_history, refused_world, refused_history}
+use Rattle.worked_worlds.specs.WorkedIl.{lossy_world, lossy_history, calling, called, refused_world, refused_history}
+use Rattle.worked_worlds.specs.Worked.{small_bundle}
 use Rattle.worked_cases.proofs.Walk.{Follow, InTime, is_legal, is_timed}
 
 lossy_follows : Follow lossy_world [] opening_net lossy_history
@@ -181,6 +184,36 @@ lossy_is_done = refl
 pub lossy_is_the_run : run_of 60 lossy_world ≡ lossy_history
 unfolding number digits state_after
 lossy_is_the_run = refl
+
+pub lossy_is_a_world : IsWorld lossy_world
+lossy_is_a_world = record {
+  end = refl;
+  seed = refl;
+  some_media = refl;
+  media = refl;
+  media_named = refl;
+  some_hosts = refl;
+  hosts = refl;
+  hosts_named = refl;
+  hosts_addressed = refl;
+  few_scripts = refl;
+  scripts = refl;
+  database = (small_bundle, refl, refl);
+}
+
+pub called_is_met : peer lossy_world lossy_history called ≡ Some calling
+unfolding number digits state_after
+called_is_met = refl
+
+pub calling_is_met : peer lossy_world lossy_history calling ≡ Some called
+unfolding number digits state_after
+calling_is_met = refl
+
+pub called_reads : reads lossy_history called ≡ codes "hello" ∷ []
+called_reads = refl
+
+pub calling_writes : writes lossy_history calling ≡ codes "hello" ∷ []
+calling_writes = refl
 
 refused_follows : Follow refused_world [] opening_net refused_history
 unfolding number digits state_after

@@ -6,3 +6,4 @@ pub mod CasesUdp
 pub mod CasesIl
 pub mod CasesFaults
 pub mod CasesRuns
+pub mod CasesLimits

@@ -121,7 +121,7 @@ il_world_is_said = record {
   hosts_addressed = refl;
   few_scripts = refl;
   scripts = refl;
-  database = (small_text, refl);
+  database = (small_text, refl, refl);
 }
 
 pub udp_world_is_said : IsWorld udp_world
@@ -137,5 +137,5 @@ udp_world_is_said = record {
   hosts_addressed = refl;
   few_scripts = refl;
   scripts = refl;
-  database = (small_text, refl);
+  database = (small_text, refl, refl);
 }

@@ -1,6 +1,7 @@
 -- The run of a world in rounds: in a round each caller in order of number records its first duty, or its next event, where
--- that is ready; after a round that recorded nothing the clock moves, where it may.
-use Rattle.std.specs.Prelude.{ℕ, zero, suc, ◌==◌, Bool, true, false, List, [], ◌∷◌, length, Option, Some, None}
+-- that is ready; one that has recorded the most entries that a caller may is passed over. After a round that recorded nothing
+-- the run is over where a caller is at this limit, and else the clock moves, where it may.
+use Rattle.std.specs.Prelude.{ℕ, zero, suc, ◌==◌, Bool, true, false, List, [], ◌∷◌, length, Option, Some, None, nat_lt, if◌then◌else◌}
 use Rattle.net_base.specs.declared.actor.ActorName.TheVariants as name
 use Rattle.net_base.specs.declared.event.Event.TheVariants as event
 use Rattle.net_base.specs.declared.history.Entry.{Entry}
@@ -8,11 +9,11 @@ use Rattle.net_base.specs.declared.world.World.{World}
 use Rattle.net_base.specs.ActorStep.{Step}
 use Rattle.net_base.specs.Actors.{Actor, actor_step}
 use Rattle.net_base.specs.Callers.{caller_of, clock_number}
-use Rattle.net_base.specs.Calm.{callers, movable, target}
+use Rattle.net_base.specs.Calm.{callers, limited_to, most_entries, movable, target}
 use Rattle.net_base.specs.Duties.{Duty}
 use Rattle.net_base.specs.Legal.{cites_of, shown_of}
 use Rattle.net_base.specs.Net.{Net, opening_net, next_net, with_of}
-use Rattle.net_base.specs.Next.{next_of}
+use Rattle.net_base.specs.Next.{by, next_of}
 use Rattle.net_base.specs.Steps.{Ask}
 
 -- the first duty's event, or the caller's next one where none is owed
@@ -44,30 +45,34 @@ abbrev pub with_entry : World → Net → Option Entry → Net
 with_entry w net None = net
 with_entry w net (Some x) = next_net w net x
 
--- the turn of a caller
-abbrev pub turn : World → ℕ → Net → Net
-turn w c net = with_entry w net (recorded w net c (asked w net c (net.owed c)))
+-- what a caller records on its turn, where it may record so many entries
+abbrev pub plays : ℕ → World → Net → ℕ → Option Entry
+plays most w net c = if nat_lt (length (by net.past c)) most then recorded w net c (asked w net c (net.owed c)) else None
 
-abbrev pub round : World → List ℕ → Net → Net
-round w [] net = net
-round w (c ∷ cs) net = round w cs (turn w c net)
+abbrev pub round : ℕ → World → List ℕ → Net → Net
+round most w [] net = net
+round most w (c ∷ cs) net = round most w cs (with_entry w net (plays most w net c))
 
 -- the clock moves
 abbrev pub moves : World → Net → Net
 moves w net = with_entry w net (recorded w net (clock_number w) (Some (record { actor = name.Clock; event = event.Move (target w net) })))
 
--- after a round that recorded nothing the clock moves or the run is over
-abbrev pub goes_on : Bool → Bool → World → Net → Net → (Net → Net) → Net
-goes_on false may_move w before after rounds = rounds after
-goes_on true true w before after rounds = rounds (moves w before)
-goes_on true false w before after rounds = before
+-- after a round that recorded nothing the run is over where a caller is at its limit; else the clock moves, or the run is over
+abbrev pub goes_on : Bool → Bool → Bool → World → Net → Net → (Net → Net) → Net
+goes_on false is_limited may_move w before after rounds = rounds after
+goes_on true true may_move w before after rounds = before
+goes_on true false true w before after rounds = rounds (moves w before)
+goes_on true false false w before after rounds = before
 
--- at most so many rounds and moves
+-- at most so many rounds and moves, where a caller may record so many entries
+abbrev pub rounds_to : ℕ → ℕ → World → Net → Net
+rounds_to most zero w net = net
+rounds_to most (suc n) w net =
+    let after = round most w (callers w) net in
+    goes_on (length after.past == length net.past) (limited_to most w net) (movable w net) w net after (rounds_to most n w)
+
 abbrev pub rounds : ℕ → World → Net → Net
-rounds zero w net = net
-rounds (suc n) w net =
-    let after = round w (callers w) net in
-    goes_on (length after.past == length net.past) (movable w net) w net after (rounds n w)
+rounds n w net = rounds_to most_entries n w net
 
 -- the history of the run
 abbrev pub run_of : ℕ → World → List Entry

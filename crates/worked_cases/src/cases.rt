@@ -1,14 +1,16 @@
 //! Worked histories, computed by the definitions.
-ghost use Rattle.std.specs.Prelude.{◌≡◌, ◌∷◌, [], codes, true};
+ghost use Rattle.std.specs.Prelude.{◌≡◌, ◌∷◌, ◌++◌, [], Some, codes, take, true, false};
 ghost use Rattle.net_base.specs.declared.il.IlKind.TheVariants.{Sync, Data, DataQuery, Ack, State, Close};
-ghost use Rattle.net_base.specs.Calm.{done, stopped};
+ghost use Rattle.net_base.specs.Calm.{done, limited_to, stopped};
 ghost use Rattle.net_base.specs.Legal.{IsLegal, IsTimed, IsFault, Answers, AtMoment, Cites, Asked, Ready, InTime};
 ghost use Rattle.net_base.specs.Net.{after, opening_net};
-ghost use Rattle.worked_cases.specs.Rounds.{rounds, run_of};
+ghost use Rattle.net_base.specs.World.{IsWorld};
+ghost use Rattle.net_base.specs.Written.{peer, reads, writes};
+ghost use Rattle.worked_cases.specs.Rounds.{rounds, rounds_to, run_of};
 ghost use Rattle.worked_worlds.specs.WorkedFaults as fault;
 ghost use Rattle.worked_worlds.specs.WorkedFaults.{with_at};
-ghost use Rattle.worked_worlds.specs.WorkedIl.{lossy_world, lossy_history, refused_world, refused_history};
-ghost use Rattle.worked_worlds.specs.WorkedRuns.{moves, texts_read, kinds, data_ids, hello_world, early_close_world, repeated_world, wrapping_world, cut_world, nobody_world, lost_world, dropped_world, two_calls_world};
+ghost use Rattle.worked_worlds.specs.WorkedIl.{lossy_world, lossy_history, calling, called, refused_world, refused_history};
+ghost use Rattle.worked_worlds.specs.WorkedRuns.{callers_of, moves, texts_read, kinds, data_ids, hello_world, early_close_world, repeated_world, wrapping_world, cut_world, nobody_world, lost_world, dropped_world, two_calls_world};
 ghost use Rattle.worked_worlds.specs.WorkedUdp.{datagram_world, datagram_history};
 
 /// A datagram that anna writes is read by helix, in 18 entries.
@@ -25,6 +27,14 @@ pub fn a_lost_frame_is_sent_again()
     ensures timed { IsTimed lossy_world lossy_history }
     ensures done { done lossy_world (after lossy_world lossy_history) ≡ true }
     ensures in_rounds { run_of 60 lossy_world ≡ lossy_history }
+{}
+
+/// The law of what is read speaks of such a world: both conversations of the call are peers, and what the one wrote the other reads.
+pub fn a_call_has_two_ends()
+    ensures call { IsWorld lossy_world × IsLegal lossy_world lossy_history × (peer lossy_world lossy_history called ≡ Some calling) }
+    ensures back { peer lossy_world lossy_history calling ≡ Some called }
+    ensures written { writes lossy_history calling ≡ codes "hello" ∷ [] }
+    ensures read { reads lossy_history called ≡ codes "hello" ∷ [] }
 {}
 
 /// A call that nobody listens for is refused, in 17 entries.
@@ -75,4 +85,14 @@ pub fn runs_are_as_worked()
     ensures dropped_is_stopped { stopped dropped_world (rounds 100 dropped_world opening_net) ≡ true }
     ensures two_calls_texts_read { texts_read (run_of 100 two_calls_world) ≡ codes "one" ∷ codes "two" ∷ codes "eno" ∷ codes "owt" ∷ [] }
     ensures two_calls_is_done { done two_calls_world (rounds 100 two_calls_world opening_net) ≡ true }
+{}
+
+/// Where callers may record few entries, one that has so many is passed over, and the run ends as limited, where it could record more.
+pub fn small_limits_end_runs()
+    ensures passed { callers_of (rounds_to 7 60 lossy_world opening_net).past ≡ callers_of (take 19 lossy_history) ++ (2 ∷ 2 ∷ 2 ∷ []) }
+    ensures limited { limited_to 7 lossy_world (rounds_to 7 60 lossy_world opening_net) ≡ true }
+    ensures enough { (rounds_to 8 30 datagram_world opening_net).past ≡ datagram_history }
+    ensures enough_is_unlimited { limited_to 8 datagram_world (rounds_to 8 30 datagram_world opening_net) ≡ false }
+    ensures clock_moves { moves (rounds_to 10 100 nobody_world opening_net).past ≡ 10 ∷ 510 ∷ 1510 ∷ 3510 ∷ [] }
+    ensures clock_is_limited { limited_to 10 nobody_world (rounds_to 10 100 nobody_world opening_net) ≡ true }
 {}

@@ -1,5 +1,5 @@
 -- Words for worlds and entries of worked histories.
-use Rattle.std.specs.Prelude.{ℕ, ◌+◌, ◌*◌, true, false, List, [], ◌∷◌, Some, None, codes}
+use Rattle.std.specs.Prelude.{ℕ, ◌+◌, ◌*◌, true, false, List, [], ◌∷◌, ◌++◌, Some, None, codes}
 use Rattle.net_base.specs.declared.actor.ActorName.{ActorName}
 use Rattle.net_base.specs.declared.address.Addr.{Addr}
 use Rattle.net_base.specs.declared.address.Pair.{Pair}
@@ -79,6 +79,15 @@ world end fates hosts scripts =
 
 abbrev pub script : ℕ → List Step → Script
 script h steps = record { host = h; steps = steps }
+
+-- the text of the database
+abbrev pub small_bundle : List ℕ
+small_bundle =
+    codes "# local network\nipnet=astro ip=135.104.0.0 ipmask=255.255.0.0\n\tauth=bootes\n"
+    ++ (codes "ipnet=astro9 ip=135.104.9.0 ipmask=255.255.255.0\n\tauth=helix\n"
+    ++ (codes "sys=anna ip=135.104.9.6\n\tdom=anna.example.com\nsys=helix dom=helix.example.com\n"
+    ++ (codes "\tip=10.0.0.31\n\tip=135.104.9.31\nsys=bootes\n\tip=135.104.50.2\n"
+    ++ (codes "il=9fs port=17008\nudp=echo port=7\n"))))
 
 -- Entries.
 

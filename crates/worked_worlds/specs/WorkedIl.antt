@@ -15,6 +15,7 @@ use Rattle.net_base.specs.declared.world.Fate.TheVariants.{Lose}
 use Rattle.net_base.specs.declared.world.Step.TheVariants as step
 use Rattle.net_base.specs.declared.world.HostSpec.{HostSpec}
 use Rattle.net_base.specs.declared.world.World.{World}
+use Rattle.net_base.specs.Written.{Conversation}
 use Rattle.worked_worlds.specs.Worked.{at, anna, helix, pair, host, script, world, own, due, emits, ends, il}
 
 -- Both hosts have a start of their own.
@@ -107,6 +108,13 @@ lossy_history =
     ∷ due 510 2 (dir 0) 48 event.Arrive (reply.To 0 1)
     ∷ due 510 2 (conv 0 0) 49 (event.ArriveAt 1) reply.Took
     ∷ []
+
+-- anna's conversation, and helix's
+abbrev pub calling : Conversation
+calling = record { host = 0; proto = proto.Il; slot = 0; generation = 1 }
+
+abbrev pub called : Conversation
+called = record { host = 1; proto = proto.Il; slot = 1; generation = 1 }
 
 -- Nobody announces: the directory of helix refuses the sync.
 

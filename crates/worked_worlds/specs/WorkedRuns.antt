@@ -1,5 +1,5 @@
 -- Worked worlds whose runs are known by what is read, emitted and moved to.
-use Rattle.std.specs.Prelude.{ℕ, zero, suc, List, [], ◌∷◌, Option, Some, None, codes, filter_map}
+use Rattle.std.specs.Prelude.{ℕ, zero, suc, List, [], ◌∷◌, map, Option, Some, None, codes, filter_map}
 use Rattle.net_base.specs.declared.event.Event.{Event}
 use Rattle.net_base.specs.declared.event.Event.TheVariants as event
 use Rattle.net_base.specs.declared.history.Entry.{Entry}
@@ -19,6 +19,10 @@ use Rattle.net_base.specs.declared.world.World.{World}
 use Rattle.worked_worlds.specs.Worked.{anna, helix, host, script, world}
 
 -- What is seen of a history.
+
+-- who records each entry
+abbrev pub callers_of : List Entry → List ℕ
+callers_of h = map (λ (x : Entry). x.caller) h
 
 -- the moments that the clock moves to
 abbrev pub moves : List Entry → List ℕ

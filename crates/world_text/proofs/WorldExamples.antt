@@ -9,7 +9,8 @@ use Rattle.net_base.specs.declared.world.Step.TheVariants as step
 use Rattle.net_base.specs.ControlWords as control
 use Rattle.net_base.specs.World.{IsWorld}
 use Rattle.net_base.specs.WorldForm.{IsFirstForm, IsPlainHost, IsUdpScript}
-use Rattle.world_text.specs.WorldExample.{datagram_head, datagram_text, small_bundle}
+use Rattle.worked_worlds.specs.Worked.{small_bundle}
+use Rattle.world_text.specs.WorldExample.{datagram_head, datagram_text}
 use Rattle.world_text.specs.WorldSpelling.{laid, lines_of_world, IsWorldText}
 use Rattle.world_text.specs.WorldText.{world_reading}
 use Rattle.worked_worlds.specs.Worked.{anna, at, helix, host}
@@ -30,7 +31,7 @@ said = record {
   hosts_addressed = refl;
   few_scripts = refl;
   scripts = refl;
-  database = (small_bundle, refl);
+  database = (small_bundle, refl, refl);
 }
 
 plain : (called : List ℕ) (ip : ℕ) → IsPlainHost (host called ip [])

@@ -2,13 +2,14 @@
 use Rattle.std.proofs.Common.{◌≡◌, ℕ, ◌+◌, ◌⊎◌, inl, inr, Bool, true, false, not, ◌&&◌, ◌||◌, cond, List, [], ◌∷◌, ◌++◌, length, refl, sym, ap, subst, ◌∙◌, arith, Option, Some, None, Ok, append-nil, append_assoc}
 use Rattle.std.specs.Prelude.{codes, get_or}
 use Rattle.std.specs.List.{filter, list_all, list_any}
-use Rattle.std.proofs.lemmas.Bool.{eqb-true}
+use Rattle.std.proofs.lemmas.Bool.{and_parts, eqb-true}
 use Rattle.std.proofs.lemmas.List.Elements.{filter-append}
+use Rattle.std.proofs.lemmas.List.Folds.{list_all-append}
 use Rattle.net_base.specs.declared.world.World.{World}
 use Rattle.net_base.specs.NdbBundle.{database}
 use Rattle.net_base.specs.NdbForm.{bad_line_so_far}
 use Rattle.net_base.specs.NdbText.{is_newline, lines_of}
-use Rattle.net_base.specs.World.{IsWorld}
+use Rattle.net_base.specs.World.{IsWorld, is_byte}
 use Rattle.net_base.specs.WorldForm.{IsFirstForm}
 use Rattle.world_text.specs.WorldLines.{Draft, opening_draft, hosts_of, scripts_of, Verdict, Goes, Begins, Bad, line_verdict}
 use Rattle.world_text.specs.WorldText.{Cut, with_first, cuts_of, with_database, judged, missing, reading_from, world_reading}
@@ -61,6 +62,16 @@ shape (b ∷ bytes) c cs e = by (is_newline b) (cuts_of bytes) refl refl e (shap
         let s = later d ds cut in
         placed (record { line = b ∷ d.line; behind = d.behind }) ds f (record { whole = ap (λ v. not (v || list_any is_newline d.line)) is ∙ s.whole; parts = more d ds s.parts })
 
+-- what stands behind the first line of a text of bytes is one too
+bytes-behind : (text : List ℕ) (c : Cut) (cs : List Cut) → Shape text c cs → list_all is_byte text ≡ true → list_all is_byte c.behind ≡ true
+bytes-behind text c cs s all = by s.parts
+  where
+    by : ((text ≡ c.line ++ (10 ∷ c.behind)) × (cs ≡ cuts_of c.behind)) ⊎ ((text ≡ c.line) × (c.behind ≡ []) × (cs ≡ [])) → list_all is_byte c.behind ≡ true
+    by (inl (is, later)) =
+        (and_parts (list_all is_byte c.line) (list_all is_byte c.behind)
+        (sym (list_all-append is_byte c.line (10 ∷ c.behind)) ∙ (ap (list_all is_byte) (sym is) ∙ all))).1
+    by (inr (is, none, nil)) = ap (list_all is_byte) none
+
 -- Worlds.
 
 -- the text goes on with the spelling of a world whose first lines stand before it
@@ -102,13 +113,14 @@ last-parts text c cs s is = by s.parts
     by (inl (same, later)) = inl (same ∙ ap (λ (l : List ℕ). l ++ (10 ∷ c.behind)) is)
     by (inr (same, none, nil)) = inr (same ∙ is, none)
 
-found-last : (d : Draft) (n : ℕ) (text : List ℕ) (c : Cut) (cs : List Cut) (v w : World) → Shape text c cs → Ends d c.line v → with_database n v c.behind (bad_line_so_far c.behind) ≡ Ok w → Found d text w
-found-last d n text c cs v w s ends e = by (bad_line_so_far c.behind) refl e
+found-last : (d : Draft) (n : ℕ) (text : List ℕ) (c : Cut) (cs : List Cut) (v w : World) → Shape text c cs → list_all is_byte text ≡ true → Ends d c.line v
+    → with_database n v c.behind (bad_line_so_far c.behind) ≡ Ok w → Found d text w
+found-last d n text c cs v w s all ends e = by (bad_line_so_far c.behind) refl e
   where
     by : (o : Option (ℕ × ℕ)) → bad_line_so_far c.behind ≡ o → with_database n v c.behind o ≡ Ok w → Found d text w
     by None good f =
         let is : record v { db = database (lines_of c.behind) } ≡ w = same-ok (record v { db = database (lines_of c.behind) }) w (Ok (record v { db = database (lines_of c.behind) })) refl f in
-        let said = ends.said_so (database (lines_of c.behind)) (c.behind, database-read c.behind good) in
+        let said = ends.said_so (database (lines_of c.behind)) (c.behind, bytes-behind text c cs s all, database-read c.behind good) in
         let late = ends.late in
         record {
           head = [];
@@ -125,9 +137,11 @@ found-last d n text c cs v w s ends e = by (bad_line_so_far c.behind) refl e
         }
     by (Some bad) some f = absurd (err-ok (n + bad.0, bad.1) w f)
 
-found : (d : Draft) (n : ℕ) (cuts : List Cut) (text : List ℕ) (w : World) → cuts_of text ≡ cuts → Kept d → reading_from d n cuts ≡ Ok w → Found d text w
-found d n [] text w cut k e = absurd (err-ok (n, missing d) w e)
-found d n (c ∷ cs) text w cut k e = by (line_verdict d c.line) (keeps-line d c.line k) e (shape text c cs cut) (λ next same h f. found next (n + 1) cs c.behind w same h f)
+found : (d : Draft) (n : ℕ) (cuts : List Cut) (text : List ℕ) (w : World) → cuts_of text ≡ cuts → list_all is_byte text ≡ true → Kept d → reading_from d n cuts ≡ Ok w → Found d text w
+found d n [] text w cut all k e = absurd (err-ok (n, missing d) w e)
+found d n (c ∷ cs) text w cut all k e =
+    let s = shape text c cs cut in
+    by (line_verdict d c.line) (keeps-line d c.line k) e s (λ next same h f. found next (n + 1) cs c.behind w same (bytes-behind text c cs s all) h f)
   where
     goes : (next : Draft) → Takes d c.line next → reading_from next (n + 1) cs ≡ Ok w → (s : Shape text c cs)
         → ((text ≡ c.line ++ (10 ∷ c.behind)) × (cs ≡ cuts_of c.behind)) ⊎ ((text ≡ c.line) × (c.behind ≡ []) × (cs ≡ []))
@@ -138,10 +152,10 @@ found d n (c ∷ cs) text w cut k e = by (line_verdict d c.line) (keeps-line d c
     by : (v : Verdict) → Keeps (Takes d c.line) (Ends d c.line) v → judged n c.behind v (λ (next : Draft). reading_from next (n + 1) cs) ≡ Ok w → Shape text c cs
         → ((next : Draft) → cuts_of c.behind ≡ cs → Kept next → reading_from next (n + 1) cs ≡ Ok w → Found next c.behind w) → Found d text w
     by (Goes next) h f s go = goes next h f s s.parts (go next)
-    by (Begins v) h f s go = found-last d n text c cs v w s h f
+    by (Begins v) h f s go = found-last d n text c cs v w s all h f
     by (Bad cause) h f s go = absurd (err-ok (n, cause) w f)
 
-pub read-spelled : (text : List ℕ) (w : World) → world_reading text ≡ Ok w → IsWorldText text w
-read-spelled text w e =
-    let f = found opening_draft 1 (cuts_of text) text w refl kept-opening e in
+pub read-spelled : (text : List ℕ) (w : World) → list_all is_byte text ≡ true → world_reading text ≡ Ok w → IsWorldText text w
+read-spelled text w all e =
+    let f = found opening_draft 1 (cuts_of text) text w refl all kept-opening e in
     record { head = f.head; bundle = f.bundle; parts = f.parts; whole = f.whole; spelled = f.spelled; good = f.good; read = f.read; world = f.world; form = f.form }

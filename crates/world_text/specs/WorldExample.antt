@@ -22,15 +22,6 @@ datagram_head =
     ++ (codes "script helix\nopen c /net/udp/clone\nwrite c connect 135.104.9.6!5000 7\n"
     ++ (codes "open d /net/udp/0/data\nread d 8192\n")))))
 
--- the text of its database
-abbrev pub small_bundle : List ℕ
-small_bundle =
-    codes "# local network\nipnet=astro ip=135.104.0.0 ipmask=255.255.0.0\n\tauth=bootes\n"
-    ++ (codes "ipnet=astro9 ip=135.104.9.0 ipmask=255.255.255.0\n\tauth=helix\n"
-    ++ (codes "sys=anna ip=135.104.9.6\n\tdom=anna.example.com\nsys=helix dom=helix.example.com\n"
-    ++ (codes "\tip=10.0.0.31\n\tip=135.104.9.31\nsys=bootes\n\tip=135.104.50.2\n"
-    ++ (codes "il=9fs port=17008\nudp=echo port=7\n"))))
-
 -- its text
 abbrev pub datagram_text : List ℕ
 datagram_text = datagram_head ++ (codes "ndb\n" ++ small_bundle)

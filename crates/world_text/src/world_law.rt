@@ -5,7 +5,7 @@ ghost use Rattle.net_base.specs.ControlWords as control;
 ghost use Rattle.net_base.specs.declared.address.Addr.{Addr};
 ghost use Rattle.net_base.specs.declared.names.Ctl.TheVariants as ctl;
 ghost use Rattle.net_base.specs.declared.world.World.{World};
-ghost use Rattle.net_base.specs.World.{IsWorld, is_text};
+ghost use Rattle.net_base.specs.World.{IsWorld, is_byte, is_text};
 ghost use Rattle.net_base.specs.WorldForm.{IsFirstForm};
 ghost use Rattle.net_base.specs.NdbBundle.{database};
 ghost use Rattle.net_base.specs.NdbForm.{bad_line_so_far};
@@ -23,9 +23,9 @@ pub fn connect_texts_agree()
         → (connects text ≡ true) ↔ ((remote : Addr) × (port : ℕ) × (control.read text ≡ Ok (ctl.Connect remote (Some port)))) }
 {}
 
-/// A text is read as a world exactly where it spells it.
+/// A text of bytes is read as a world exactly where it spells it.
 pub fn worlds_are_spelled()
-    ensures sound { (text : List ℕ) (w : World) → world_reading text ≡ Ok w → IsWorldText text w }
+    ensures sound { (text : List ℕ) (w : World) → list_all is_byte text ≡ true → world_reading text ≡ Ok w → IsWorldText text w }
     ensures complete { (text : List ℕ) (w : World) → IsWorldText text w → world_reading text ≡ Ok w }
 {}
 

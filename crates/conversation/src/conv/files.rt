@@ -129,17 +129,15 @@ impl Conv {
         }
     }
 
-    /// Refuses a control text that has no reading.
+    /// Refuses a control text that has no reading, and in an older generation any.
     pub(super) fn refuse(&self, generation: u64, text: &Octets) -> Option<Outcome>
         ensures { spec.bad_control (spec.refused_control (control_words.read text.now)) generation self.now.conv ≡ step_to self.now.conv result }
     {
+        if generation != self.generation {
+            return self.stale(generation);
+        }
         match fault(text) {
-            Some(number) => {
-                if generation != self.generation {
-                    return self.stale(generation);
-                }
-                Some(self.replies(Said::bad_control(number)))
-            }
+            Some(number) => Some(self.replies(Said::bad_control(number))),
             None => None,
         }
     }

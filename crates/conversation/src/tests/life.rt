@@ -41,6 +41,8 @@ fn a_second_life_knows_nothing_of_the_first(rt: HostRuntime) -> Result<(), Fail>
         (0, Deed::Ttl(1, 9), Told::Stale, NOTHING, false),
         (0, Deed::Tos(1, 9), Told::Stale, NOTHING, false),
         (0, Deed::Ctl(1, b"ttl 0"), Told::Stale, NOTHING, false),
+        (0, Deed::Ctl(1, b"ttl 255"), Told::Stale, NOTHING, false),
+        (0, Deed::Ctl(2, b"ttl 255"), Told::Waits, NOTHING, false),
         (0, Deed::Ctl(3, b"ttl 0"), Told::Waits, NOTHING, false),
         (0, Deed::Close(1), Told::Stale, NOTHING, false),
         (0, Deed::Arrive(1, SYNC), Told::Stale, NOTHING, false),
