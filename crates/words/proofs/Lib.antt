@@ -1,0 +1,4 @@
+pub mod Numerals
+mod Digits
+mod HexPairs
+mod Splits

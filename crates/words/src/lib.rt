@@ -1,0 +1,16 @@
+//! Words: numbers, addresses, hexadecimal and names, read and written.
+#![tactic(auto)]
+
+mod address;
+mod hexadecimal;
+mod names;
+mod number;
+mod parts;
+#[cfg(test)]
+mod tests;
+
+pub use address::{address_in, put_address, put_place, read_address};
+pub use hexadecimal::{put_hex_digits, put_hex_word, read_hex_word};
+pub use names::{cause_text, file_name, kind_word, mode_word, proto_name, proto_named, state_word};
+pub use number::{number_in, number_up_to, put_decimal, read_port};
+pub use parts::{four_parts, single, split_first, two_parts};
