@@ -3,6 +3,7 @@
 
 mod address;
 mod hexadecimal;
+mod mask;
 mod names;
 mod number;
 mod parts;
@@ -11,6 +12,9 @@ mod tests;
 
 pub use address::{address_in, put_address, put_place, read_address};
 pub use hexadecimal::{put_hex_digits, put_hex_word, read_hex_word};
-pub use names::{cause_text, file_name, kind_word, mode_word, proto_name, proto_named, state_word};
+pub use mask::{mask_bits, mask_of, read_mask};
+pub use names::{
+    cause_text, file_name, file_named, kind_word, mode_word, proto_name, proto_named, state_word,
+};
 pub use number::{number_in, number_up_to, put_decimal, read_port};
 pub use parts::{four_parts, single, split_first, two_parts};

@@ -44,6 +44,29 @@ pub fn file_name(file: FileName) -> &'static [u8]
     }
 }
 
+/// The file of a name.
+pub fn file_named(word: &[u8]) -> Option<FileName>
+    ensures { result ≡ paths.file_named word.now }
+{
+    if word == b"ctl".as_slice() {
+        Some(FileName::Ctl)
+    } else if word == b"data".as_slice() {
+        Some(FileName::Data)
+    } else if word == b"err".as_slice() {
+        Some(FileName::Err)
+    } else if word == b"listen".as_slice() {
+        Some(FileName::Listen)
+    } else if word == b"local".as_slice() {
+        Some(FileName::Local)
+    } else if word == b"remote".as_slice() {
+        Some(FileName::Remote)
+    } else if word == b"status".as_slice() {
+        Some(FileName::Status)
+    } else {
+        None
+    }
+}
+
 /// How a file is opened.
 pub fn mode_word(mode: Mode) -> &'static [u8]
     ensures { result.now ≡ transcript.mode_word mode }
