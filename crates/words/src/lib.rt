@@ -16,5 +16,5 @@ pub use mask::{mask_bits, mask_of, read_mask};
 pub use names::{
     cause_text, file_name, file_named, kind_word, mode_word, proto_name, proto_named, state_word,
 };
-pub use number::{number_in, number_up_to, put_decimal, read_port};
+pub use number::{number_in, number_up_to, put_decimal, put_wide_decimal, read_port};
 pub use parts::{four_parts, single, split_first, two_parts};

@@ -19,6 +19,15 @@ pub fn put_decimal(out: &mut Octets, n: u64) -> Result<(), AllocError>
     out.append(buffer.format(n).as_bytes())
 }
 
+/// Adds the digits of a number of 128 bits.
+#[tactic(auto, using(crate::proofs::Numerals::decimal_is_numeral))]
+pub fn put_wide_decimal(out: &mut Octets, n: u128) -> Result<(), AllocError>
+    ensures { OnOk result (out.new ≡ out.old ++ numeral n) }
+{
+    let mut buffer = Buffer::new();
+    out.append(buffer.format(n).as_bytes())
+}
+
 /// The number that one digit to `most` digits spell.
 pub fn read_digits(most: usize, word: &[u8]) -> Option<u128>
     requires { most ≤ 20 }
