@@ -4,8 +4,8 @@ use Rattle.net_base.specs.declared.il.Cause.{Cause}
 use Rattle.net_base.specs.declared.il.IlMsg.{IlMsg}
 use Rattle.net_base.specs.declared.il.IlState.{IlState}
 use Rattle.net_base.specs.declared.il.IlState.TheVariants.{Established}
-use Rattle.net_base.specs.IlEnd.{End, Turn, cause_of}
-use Rattle.net_base.specs.IlTable.{has_unread, reads, may_write, may_read, may_go_on}
+use Rattle.net_base.specs.IlEnd.{End, Turn, cause_of, establishes, hears}
+use Rattle.net_base.specs.IlTable.{at_established, has_unread, reads, may_write, may_read, may_go_on}
 use Rattle.il_machine.specs.declared.ask.Ask.{Ask}
 use Rattle.il_machine.specs.declared.ask.Ask.TheVariants as ask
 use Rattle.il_machine.specs.declared.fault.HungupError.{HungupError}
@@ -46,6 +46,12 @@ is_ready ask.Write e = may_write e.state e
 is_ready ask.Read e = may_read e
 is_ready ask.Wait e = may_go_on e.state
 
+-- The handshake.
+
+-- the end becomes Established, and handles the message as Established
+abbrev pub handshake_completed : ℕ → IlMsg → End → Turn
+handshake_completed now m e = at_established m.kind now m (establishes (hears now e))
+
 -- Writing and reading.
 
 -- why nothing more is written
@@ -58,7 +64,7 @@ write_refusal e = refusal_in e.state e
 
 -- why nothing more is read
 abbrev pub read_refusal : End → Option Cause
-read_refusal e = if has_unread e || e.marked then None else Some (cause_of e)
+read_refusal e = if has_unread e || e.closed_by_peer then None else Some (cause_of e)
 
 -- the end after a read of so many bytes
 abbrev pub after_read : ℕ → End → End

@@ -208,7 +208,7 @@ steps s o (Writes now text) few h back =
     stepped s o (writes now text s.end) h (let met = writer_met s.end.state s.end.rstart s.end.fresh s.end.cause may h.knows.0 in good_writes now text s.end o.end met.0 met.1 h.link h.knows))
     (λ _. stays s o h)
 steps s o (Reads count) few h back =
-    stepped_if (nat_lt s.end.taken (length s.end.got)) _ _
+    stepped_if (nat_lt s.end.read_count (length s.end.got)) _ _
     (λ _. stepped_silent s o (reads count s.end) h (good_reads count s.end o.end h.link h.knows))
     (λ _. stays s o h)
 steps s o (Arrives now which) few h back =

@@ -56,7 +56,7 @@ accepted now m e0 e' e few back n c t = accepts_talks m e0 e' (hears_ack now m e
 
 -- a close that comes after the last message marks the end
 all_came : (now : ℕ) (m : IlMsg) (e0 e' e : End) → Few e e' → Closes e'.start e'.sent e'.cause m → Talking e0 e' e → Talking e0 e' (hears_ack now m e) → m.id ≡ recvd e
-    → Talking e0 e' (closes (Some cause.ByPeer) (record (hears_ack now m e) { marked = true }))
+    → Talking e0 e' (closes (Some cause.ByPeer) (record (hears_ack now m e) { closed_by_peer = true }))
 all_came now m e0 e' e few c t talks last =
     let got_few : length e.got < 2 ^ 31 = omega (arith, few.1, begins_length e.got e'.sent t.0.in_order) in
     let ids : id_of e'.start (length e.got) ≡ id_of e'.start (length e'.sent) = ap (λ (r : ℕ). id_of r (length e.got)) (sym (rstart_known e0 e' e t)) ∙ (sym last ∙ c.id_is) in
@@ -92,7 +92,7 @@ good_established Close now m e0 e' e few back s t =
     let talks : Talking e0 e' (hears_ack now m e) = heard now m e0 e' e few back s.0 t in
     good_if (m.spec == 0) _ _
     (λ _. good_if (m.id == recvd e) _ _
-    (λ last. good_close e0 e' (closes (Some cause.ByPeer) (record (hears_ack now m e) { marked = true })) (all_came now m e0 e' e few s.1 t talks (eqb-true m.id (recvd e) last)) (cause.ByPeer, refl))
+    (λ last. good_close e0 e' (closes (Some cause.ByPeer) (record (hears_ack now m e) { closed_by_peer = true })) (all_came now m e0 e' e few s.1 t talks (eqb-true m.id (recvd e) last)) (cause.ByPeer, refl))
     (λ _. good_state e0 e' (hears_ack now m e) talks))
     (λ _. good_silent e0 e' e t)
 
@@ -158,8 +158,8 @@ good_syncee kind now m e e' few l back knows as_s old s =
 
 good_closed : (kind : IlKind) (now : ℕ) (m : IlMsg) (e e' : End) → Link e e' → Knows e → Good e e' (at_closed kind now m e)
 good_closed Close now m e e' l knows =
-    good_if (e.marked && (m.spec == 0)) _ _
-    (λ tests. let marked = knows.1 (and_parts e.marked (m.spec == 0) tests).0 in good_close e e' (hears now e) (talking e e' l marked.0 knows) marked.1)
+    good_if (e.closed_by_peer && (m.spec == 0)) _ _
+    (λ tests. let closed_by_peer = knows.1 (and_parts e.closed_by_peer (m.spec == 0) tests).0 in good_close e e' (hears now e) (talking e e' l closed_by_peer.0 knows) closed_by_peer.1)
     (λ _. good_same e e' l knows)
 good_closed _ now m e e' l knows = good_same e e' l knows
 

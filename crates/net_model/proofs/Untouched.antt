@@ -8,22 +8,22 @@ use Rattle.net_base.specs.declared.il.IlState.{IlState}
 use Rattle.net_base.specs.declared.il.IlState.TheVariants.{Closed, Syncer, Syncee, Established, Listening, Closing}
 use Rattle.net_base.specs.declared.il.Cause.TheVariants as cause
 use Rattle.net_base.specs.Number.{number}
-use Rattle.net_base.specs.IlEnd.{End, Turn, rstart_of, recvd, has_unacked, standing, silent, says, hears, establishes, closes, acked_to, hears_ack, early_at, becomes_early, comes_in_turn, come_in_turn, accepts}
+use Rattle.net_base.specs.IlEnd.{End, Turn, rstart_of, recvd, has_unacked, backlog, silent, says, hears, establishes, closes, acked_to, hears_ack, early_at, becomes_early, comes_in_turn, come_in_turn, accepts}
 use Rattle.net_base.specs.IlTable.{is_sized, refuses, at_established, at_syncer, at_syncee, at_closing, at_closed, row, arrives, hangs_up_at, asks_again, ticks_to}
 use Rattle.net_base.specs.declared.timer.Tick.{Tick}
 use Rattle.net_base.specs.declared.timer.Tick.TheVariants as tick
 use Rattle.net_base.specs.Timer.{Timer}
 use Rattle.net_model.proofs.Begins.{Begins, begins_itself, begins_more}
 
-pub record Left (sent sent' got got' : List (List ℕ)) (taken taken' cut cut' : ℕ) (marked marked' : Bool) : Type 0 where
+pub record Left (sent sent' got got' : List (List ℕ)) (taken taken' cut cut' : ℕ) (closed_by_peer closed_by_peer' : Bool) : Type 0 where
   pub sent_is : sent' ≡ sent
   pub taken_is : taken' ≡ taken
   pub cut_is : cut' ≡ cut
   pub got_more : Begins got got'
-  pub marked_stays : marked ≡ true → marked' ≡ true
+  pub marked_stays : closed_by_peer ≡ true → closed_by_peer' ≡ true
 
 abbrev pub Leaves : End → End → Type 0
-Leaves e e' = Left e.sent e'.sent e.got e'.got e.taken e'.taken e.cut e'.cut e.marked e'.marked
+Leaves e e' = Left e.sent e'.sent e.got e'.got e.read_count e'.read_count e.read_offset e'.read_offset e.closed_by_peer e'.closed_by_peer
 
 pub leaves_itself : (e : End) → Leaves e e
 leaves_itself e = record { sent_is = refl; taken_is = refl; cut_is = refl; got_more = begins_itself e.got; marked_stays = λ h. h }
@@ -43,7 +43,7 @@ ack_leaves now m e0 e l = acked_leaves now (number e.start m.ack e.acked) e0 (he
 
 early_leaves : (found : Option ℕ) (text : List ℕ) (e0 e : End) → Leaves e0 e → Leaves e0 (becomes_early found text e)
 early_leaves None text e0 e l = l
-early_leaves (Some k) text e0 e l = cond_both (is_some (early_at k e.early) || nat_le 64 (standing e)) _ _ (λ (x : End). Leaves e0 x) (λ _. l) (λ _. l)
+early_leaves (Some k) text e0 e l = cond_both (is_some (early_at k e.early) || nat_le 64 (backlog e)) _ _ (λ (x : End). Leaves e0 x) (λ _. l) (λ _. l)
 
 turn_leaves : (found : Option (List ℕ)) (e0 e : End) → Leaves e0 e → Leaves e0 (comes_in_turn found e)
 turn_leaves None e0 e l = l
@@ -76,7 +76,7 @@ established_leaves State now m e0 e l =
 established_leaves Close now m e0 e l =
     let x = ack_leaves now m e0 e l in
     leaves_if e0 (m.spec == 0) _ _
-    (leaves_if e0 (m.id == recvd e) _ _ (at_leaves e0 (says Close (closes (Some cause.ByPeer) (record (hears_ack now m e) { marked = true }))) (record { sent_is = x.sent_is; taken_is = x.taken_is; cut_is = x.cut_is; got_more = x.got_more; marked_stays = λ _. refl })) (at_leaves e0 (says State (hears_ack now m e)) x))
+    (leaves_if e0 (m.id == recvd e) _ _ (at_leaves e0 (says Close (closes (Some cause.ByPeer) (record (hears_ack now m e) { closed_by_peer = true }))) (record { sent_is = x.sent_is; taken_is = x.taken_is; cut_is = x.cut_is; got_more = x.got_more; marked_stays = λ _. refl })) (at_leaves e0 (says State (hears_ack now m e)) x))
     (at_leaves e0 (silent e) l)
 
 closing_leaves : (kind : IlKind) (now : ℕ) (m : IlMsg) (e : End) → LeavesAt e (at_closing kind now m e)
@@ -104,7 +104,7 @@ syncee_leaves Sync now m e = leaves_if e (m.id == rstart_of e) _ _ (record { lea
 syncee_leaves kind now m e = joins_leaves kind now m e
 
 closed_leaves : (kind : IlKind) (now : ℕ) (m : IlMsg) (e : End) → LeavesAt e (at_closed kind now m e)
-closed_leaves Close now m e = leaves_if e (e.marked && (m.spec == 0)) _ _ (record { leaves = leaves_itself e }) (record { leaves = leaves_itself e })
+closed_leaves Close now m e = leaves_if e (e.closed_by_peer && (m.spec == 0)) _ _ (record { leaves = leaves_itself e }) (record { leaves = leaves_itself e })
 closed_leaves _ now m e = record { leaves = leaves_itself e }
 
 row_leaves : (s : IlState) (kind : IlKind) (now : ℕ) (m : IlMsg) (e : End) → LeavesAt e (row s kind now m e)

@@ -4,7 +4,7 @@ ghost use Rattle.net_base.specs.declared.il.IlKind.TheVariants as kind;
 ghost use Rattle.net_base.specs.declared.il.IlState.TheVariants as state;
 ghost use Rattle.net_base.specs.IlEnd as spec;
 ghost use Rattle.net_base.specs.IlTable as table;
-ghost use Rattle.il_machine.specs.Stands.{IsShort};
+ghost use Rattle.il_machine.specs.Stands.{IsShort, handshake_completed};
 
 use crate::end::IlEnd;
 use il_queues::Timer;
@@ -54,18 +54,18 @@ impl IlEnd {
             }
             IlKind::Sync => Ok(None),
             IlKind::Close if message.spec == 1 => Ok(None),
-            _ if message.ack == self.start => self.join(now, message),
+            _ if message.ack == self.start => self.complete_handshake(now, message),
             _ => Ok(None),
         }
     }
 
-    /// Becomes Established, and then as Established.
-    fn join(&mut self, now: u64, message: &IlMsg) -> Result<Option<IlMsg>, AllocError>
+    /// Becomes Established, and handles the message as Established.
+    fn complete_handshake(&mut self, now: u64, message: &IlMsg) -> Result<Option<IlMsg>, AllocError>
         requires in_time { now < 2 ^ 63 }
         requires short { IsShort self.old }
         requires syncee { self.old.state ≡ state.Syncee }
-        ensures end { OnOk result (self.new ≡ (table.at_established message.now.kind now message.now (spec.establishes (spec.hears now self.old))).end) }
-        ensures emits { IfOk result (λ emits. emits ≡ (table.at_established message.now.kind now message.now (spec.establishes (spec.hears now self.old))).emits) }
+        ensures end { OnOk result (self.new ≡ (handshake_completed now message.now self.old).end) }
+        ensures emits { IfOk result (λ emits. emits ≡ (handshake_completed now message.now self.old).emits) }
         ensures err { OnErr result (self.new ≡ self.old) }
     {
         let timer = Timer {
@@ -122,9 +122,9 @@ impl IlEnd {
                 Ok(Some(self.says(IlKind::State)))
             }
             IlKind::State => {
-                let again = self.again(self.acked_after(message))?;
+                let retransmission = self.retransmission(self.acked_after(message))?;
                 self.hear_ack(now, message);
-                Ok(again)
+                Ok(retransmission)
             }
             IlKind::Close => Ok(self.close_comes(now, message)),
         }
@@ -145,7 +145,7 @@ impl IlEnd {
         if !is_last {
             return Some(self.says(IlKind::State));
         }
-        self.marked = true;
+        self.closed_by_peer = true;
         self.close(Some(Cause::ByPeer));
         Some(self.says(IlKind::Close))
     }
@@ -176,9 +176,9 @@ impl IlEnd {
                 Ok(None)
             }
             IlKind::State => {
-                let again = self.again(self.acked_after(message))?;
+                let retransmission = self.retransmission(self.acked_after(message))?;
                 self.hear_ack(now, message);
-                match again {
+                match retransmission {
                     Some(first) => Ok(Some(first)),
                     None => Ok(Some(self.says(IlKind::Close))),
                 }
@@ -192,14 +192,14 @@ impl IlEnd {
         }
     }
 
-    /// Closed: an end that is marked answers a close that comes again.
+    /// Closed: an end that its peer closed answers a close that comes again.
     pub(super) fn arrive_at_closed(&mut self, now: u64, message: &IlMsg) -> Option<IlMsg>
         requires { now < 2 ^ 63 }
         ensures end { self.new ≡ (table.at_closed message.now.kind now message.now self.old).end }
         ensures emits { result ≡ (table.at_closed message.now.kind now message.now self.old).emits }
     {
         match message.kind {
-            IlKind::Close if self.marked && message.spec == 0 => {
+            IlKind::Close if self.closed_by_peer && message.spec == 0 => {
                 self.hear(now);
                 Some(self.says(IlKind::Close))
             }
