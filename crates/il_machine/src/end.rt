@@ -1,11 +1,11 @@
 //! An IL end.
-ghost use Rattle.std.specs.Prelude.{◌≡◌, ◌↔◌, ℕ, ◌+◌, ◌<◌, ◌≤◌, ◌^◌, [], length, take, Some, None, IfOk, IfErr, OnOk, OnErr, IsTrue, is_some};
+ghost use Rattle.std.specs.Prelude.{◌≡◌, ◌↔◌, ℕ, ◌+◌, ◌<◌, ◌≤◌, ◌^◌, [], length, take, Some, None, IfOk, IfErr, OnOk, OnErr, IsTrue, is_some, true};
 ghost use Rattle.net_base.specs.Number as number_spec;
 ghost use Rattle.il_machine.specs.declared.ask.Ask.TheVariants as ask;
 ghost use Rattle.net_base.specs.IlEnd as spec;
 ghost use Rattle.net_base.specs.IlEnd.{End, message, silent, retransmits};
 ghost use Rattle.net_base.specs.IlTable as table;
-ghost use Rattle.il_machine.specs.Stands.{StandsFor, StandsForSome, Decides, IsShort, Turns, Becomes, Says, TellsRefusal, is_ready, write_refusal, read_refusal, after_read};
+ghost use Rattle.il_machine.specs.Stands.{StandsFor, StandsForSome, Decides, IsShort, Turns, Becomes, Says, TellsRefusal, after_read, arrival_takes, is_kept, is_ready, read_refusal, write_refusal, write_takes};
 
 mod rows;
 
@@ -197,6 +197,7 @@ impl IlEnd {
         ensures ok { OnOk result (self.new ≡ spec.accepts message.now self.old) }
         ensures within { length self.new.got ≤ length self.old.got + 64 }
         ensures err { OnErr result (self.new ≡ self.old) }
+        ensures memory { OnErr result (is_kept message.now self.old ≡ true) }
     {
         let Some(k) = number(self.rstart.unwrap_or(0), message.id, self.got.len() as u64) else {
             return Ok(());
@@ -219,6 +220,7 @@ impl IlEnd {
         ensures ok { OnOk result (self.new ≡ spec.accepts message.now (spec.hears_ack now message.now self.old)) }
         ensures within { length self.new.got ≤ length self.old.got + 64 }
         ensures err { OnErr result (self.new ≡ self.old) }
+        ensures memory { OnErr result (is_kept message.now self.old ≡ true) }
     {
         self.accept(message)?;
         self.hear_ack(now, message);
@@ -227,7 +229,9 @@ impl IlEnd {
 
     /// The first message that isn't acknowledged once so many are, to be sent again.
     fn retransmission(&self, acked: u64) -> Result<Option<IlMsg>, AllocError>
-        ensures { IfOk result (λ emits. emits ≡ (retransmits (record self.now { acked = acked }) (silent self.now)).emits) }
+        ensures ok { IfOk result (λ emits.
+            emits ≡ (retransmits (record self.now { acked = acked }) (silent self.now)).emits) }
+        ensures memory { OnErr result (spec.has_unacked (record self.now { acked = acked }) ≡ true) }
     {
         if acked < self.sent.len() as u64 {
             return Ok(Some(IlMsg {
@@ -255,7 +259,8 @@ impl IlEnd {
     /// Whether a message is still to be got.
     fn misses(&self, message: &IlMsg) -> bool
         requires { length self.now.got < 2 ^ 32 }
-        ensures { result ≡ is_some (number_spec.number (spec.rstart_of self.now) message.now.id (length self.now.got)) }
+        ensures { result
+            ≡ is_some (number_spec.number (spec.rstart_of self.now) message.now.id (length self.now.got)) }
     {
         match number(self.rstart.unwrap_or(0), message.id, self.got.len() as u64) {
             Some(_) => true,
@@ -335,6 +340,7 @@ impl IlEnd {
         requires short { StandsForSome self.old IsShort }
         ensures ok { IfOk result (λ emits. Turns self.old self.new emits (λ e. table.arrives now message.now e)) }
         ensures err { OnErr result (self.new ≡ self.old) }
+        ensures memory { OnErr result (Says self.old true (arrival_takes now message.now)) }
     {
         if !is_sized(message.kind, message.text.len()) {
             return Ok(None);
@@ -356,7 +362,8 @@ impl IlEnd {
         requires ready { StandsForSome self.old (λ e. IsTrue (is_ready ask.Write e)) }
         ensures ok { IfOk result (λ message. Says self.old None write_refusal
             × Turns self.old self.new (Some message) (λ e. table.writes now text.now e)) }
-        ensures err { IfErr result (λ error. TellsRefusal self.old error write_refusal × (self.new ≡ self.old)) }
+        ensures err { IfErr result (λ error.
+            TellsRefusal self.old error write_refusal write_takes × (self.new ≡ self.old)) }
     {
         if self.state != IlState::Established {
             return Err(HungupError::Hungup(self.cause.unwrap_or(Cause::Hungup)));
@@ -379,15 +386,16 @@ impl IlEnd {
         })
     }
 
-    /// Reads the first bytes of the first unread message, at most `count`; no bytes where the other end closed after its last
-    /// message. Or says why nothing more is read.
+    /// Reads the first bytes, at most `count`, of the first unread message; none where the other end closed after its last.
+    /// Or says why nothing more is read.
     pub fn read(&mut self, count: usize) -> Result<Octets, HungupError>
         requires ready { StandsForSome self.old (λ e. IsTrue (is_ready ask.Read e)) }
         requires some { 0 < count }
         ensures ok { IfOk result (λ bytes. Says self.old None read_refusal
             × Says self.old bytes (λ e. take count (table.first_unread e))) }
         ensures end { OnOk result (Becomes self.old self.new (after_read count)) }
-        ensures err { IfErr result (λ error. TellsRefusal self.old error read_refusal × (self.new ≡ self.old)) }
+        ensures err { IfErr result (λ error.
+            TellsRefusal self.old error read_refusal table.has_unread × (self.new ≡ self.old)) }
     {
         if self.read_count >= self.got.len() {
             if self.closed_by_peer {

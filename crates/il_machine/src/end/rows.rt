@@ -1,10 +1,10 @@
 //! The rows of the table for what comes, a function for each state.
-ghost use Rattle.std.specs.Prelude.{◌≡◌, ℕ, ◌<◌, ◌^◌, IfOk, OnOk, OnErr};
+ghost use Rattle.std.specs.Prelude.{◌≡◌, ℕ, ◌<◌, ◌^◌, IfOk, OnOk, OnErr, true};
 ghost use Rattle.net_base.specs.declared.il.IlKind.TheVariants as kind;
 ghost use Rattle.net_base.specs.declared.il.IlState.TheVariants as state;
 ghost use Rattle.net_base.specs.IlEnd as spec;
 ghost use Rattle.net_base.specs.IlTable as table;
-ghost use Rattle.il_machine.specs.Stands.{IsShort, handshake_completed};
+ghost use Rattle.il_machine.specs.Stands.{IsShort, closing_takes, established_takes, handshake_completed, takes_in};
 
 use crate::end::IlEnd;
 use il_queues::Timer;
@@ -44,8 +44,10 @@ impl IlEnd {
         requires short { IsShort self.old }
         requires syncee { self.old.state ≡ state.Syncee }
         ensures end { OnOk result (self.new ≡ (table.at_syncee message.now.kind now message.now self.old).end) }
-        ensures emits { IfOk result (λ emits. emits ≡ (table.at_syncee message.now.kind now message.now self.old).emits) }
+        ensures emits { IfOk result (λ emits.
+            emits ≡ (table.at_syncee message.now.kind now message.now self.old).emits) }
         ensures err { OnErr result (self.new ≡ self.old) }
+        ensures memory { OnErr result (takes_in state.Syncee now message.now self.old ≡ true) }
     {
         match message.kind {
             IlKind::Sync if message.id == self.rstart.unwrap_or(0) => {
@@ -67,6 +69,7 @@ impl IlEnd {
         ensures end { OnOk result (self.new ≡ (handshake_completed now message.now self.old).end) }
         ensures emits { IfOk result (λ emits. emits ≡ (handshake_completed now message.now self.old).emits) }
         ensures err { OnErr result (self.new ≡ self.old) }
+        ensures memory { OnErr result (established_takes message.now.kind now message.now self.old ≡ true) }
     {
         let timer = Timer {
             due: self.timer.due,
@@ -92,8 +95,10 @@ impl IlEnd {
         requires in_time { now < 2 ^ 63 }
         requires short { IsShort self.old }
         ensures end { OnOk result (self.new ≡ (table.at_established message.now.kind now message.now self.old).end) }
-        ensures emits { IfOk result (λ emits. emits ≡ (table.at_established message.now.kind now message.now self.old).emits) }
+        ensures emits { IfOk result (λ emits.
+            emits ≡ (table.at_established message.now.kind now message.now self.old).emits) }
         ensures err { OnErr result (self.new ≡ self.old) }
+        ensures memory { OnErr result (established_takes message.now.kind now message.now self.old ≡ true) }
     {
         match message.kind {
             IlKind::Sync if message.id == self.rstart.unwrap_or(0) => {
@@ -159,8 +164,10 @@ impl IlEnd {
         requires in_time { now < 2 ^ 63 }
         requires short { IsShort self.old }
         ensures end { OnOk result (self.new ≡ (table.at_closing message.now.kind now message.now self.old).end) }
-        ensures emits { IfOk result (λ emits. emits ≡ (table.at_closing message.now.kind now message.now self.old).emits) }
+        ensures emits { IfOk result (λ emits.
+            emits ≡ (table.at_closing message.now.kind now message.now self.old).emits) }
         ensures err { OnErr result (self.new ≡ self.old) }
+        ensures memory { OnErr result (closing_takes message.now.kind now message.now self.old ≡ true) }
     {
         match message.kind {
             IlKind::Sync => {
