@@ -109,7 +109,7 @@ impl IlEnd {
     }
 
     /// A message of this kind without a text, with the end's own numbers.
-    fn says(&self, kind: IlKind) -> IlMsg
+    fn own_message(&self, kind: IlKind) -> IlMsg
         ensures { result ≡ message kind (spec.next self.now) (spec.recvd self.now) [] }
     {
         IlMsg {
@@ -443,7 +443,7 @@ impl IlEnd {
                 self.state = IlState::Closing;
                 self.cause = Some(Cause::Hungup);
                 self.timer.start(now);
-                Some(self.says(IlKind::Close))
+                Some(self.own_message(IlKind::Close))
             }
             IlState::Closing | IlState::Closed => None,
         }
@@ -470,8 +470,8 @@ impl IlEnd {
     {
         match self.state {
             IlState::Syncer | IlState::Syncee => Some(self.sync()),
-            IlState::Established => Some(self.says(IlKind::Query)),
-            IlState::Closing => Some(self.says(IlKind::Close)),
+            IlState::Established => Some(self.own_message(IlKind::Query)),
+            IlState::Closing => Some(self.own_message(IlKind::Close)),
             IlState::Closed | IlState::Listening => None,
         }
     }

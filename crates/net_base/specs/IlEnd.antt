@@ -97,8 +97,8 @@ abbrev pub silent : End → Turn
 silent e = record { end = e; emits = None }
 
 -- a message of this kind without a text, with the end's own numbers
-abbrev pub says : IlKind → End → Turn
-says kind e = record { end = e; emits = Some (message kind (next e) (recvd e) []) }
+abbrev pub emitting : IlKind → End → Turn
+emitting kind e = record { end = e; emits = Some (message kind (next e) (recvd e) []) }
 
 -- the end's sync, whose ack is the start of the sync that it answers, or 0
 abbrev pub syncs : End → Turn

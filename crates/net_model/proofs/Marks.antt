@@ -15,7 +15,7 @@ use Rattle.net_base.specs.declared.packet.Packet.{Packet}
 use Rattle.net_base.specs.declared.timer.Tick.{Tick}
 use Rattle.net_base.specs.declared.timer.Tick.TheVariants as tick
 use Rattle.net_base.specs.Conversation.{Conv}
-use Rattle.net_base.specs.IlEnd.{End, Turn, rstart_of, has_unacked, backlog, silent, says, hears, establishes, acked_to, hears_ack, early_at, becomes_early, comes_in_turn, come_in_turn, accepts, starts, closes}
+use Rattle.net_base.specs.IlEnd.{End, Turn, rstart_of, has_unacked, backlog, silent, emitting, hears, establishes, acked_to, hears_ack, early_at, becomes_early, comes_in_turn, come_in_turn, accepts, starts, closes}
 use Rattle.net_base.specs.IlTable.{is_sized, refuses, at_syncer, at_syncee, at_established, at_closing, at_closed, row, arrives, sends, writes, reads, first_unread, hangs_up_at, asks_again, ticks_to}
 use Rattle.net_base.specs.Number.{number}
 use Rattle.net_base.specs.Timer as timer
@@ -62,27 +62,27 @@ accepts_marked m e =
 
 established_marked : (kind : IlKind) (now : ℕ) (m : IlMsg) (e : End) → MarkedAs kind m.spec e (at_established kind now m e)
 established_marked Sync now m e =
-    marked_if Sync m.spec e (m.id == rstart_of e) _ _ (λ _. same_marked Sync m.spec e (says Ack (hears now e)) refl) (λ _. same_marked Sync m.spec e (silent e) refl)
-established_marked Data now m e = same_marked Data m.spec e (says Ack (accepts m (hears_ack now m e))) (accepts_marked m (hears_ack now m e) ∙ ack_marked now m e)
+    marked_if Sync m.spec e (m.id == rstart_of e) _ _ (λ _. same_marked Sync m.spec e (emitting Ack (hears now e)) refl) (λ _. same_marked Sync m.spec e (silent e) refl)
+established_marked Data now m e = same_marked Data m.spec e (emitting Ack (accepts m (hears_ack now m e))) (accepts_marked m (hears_ack now m e) ∙ ack_marked now m e)
 established_marked DataQuery now m e =
     let after = accepts m (hears_ack now m e) in
     let same : after.closed_by_peer ≡ e.closed_by_peer = accepts_marked m (hears_ack now m e) ∙ ack_marked now m e in
-    marked_if DataQuery m.spec e (is_some (number (rstart_of e) m.id (length after.got))) _ _ (λ _. same_marked DataQuery m.spec e (says Ack after) same) (λ _. same_marked DataQuery m.spec e (says State after) same)
+    marked_if DataQuery m.spec e (is_some (number (rstart_of e) m.id (length after.got))) _ _ (λ _. same_marked DataQuery m.spec e (emitting Ack after) same) (λ _. same_marked DataQuery m.spec e (emitting State after) same)
 established_marked Ack now m e = same_marked Ack m.spec e (silent (hears_ack now m e)) (ack_marked now m e)
-established_marked Query now m e = same_marked Query m.spec e (says State (hears_ack now m e)) (ack_marked now m e)
+established_marked Query now m e = same_marked Query m.spec e (emitting State (hears_ack now m e)) (ack_marked now m e)
 established_marked State now m e =
     marked_if State m.spec e (has_unacked (hears_ack now m e)) _ _ (λ _. record { back = λ h. inl (sym (ack_marked now m e) ∙ h) }) (λ _. same_marked State m.spec e (silent (hears_ack now m e)) (ack_marked now m e))
 established_marked Close now m e =
     marked_if Close m.spec e (m.spec == 0) _ _ (λ is. record { back = λ _. inr (refl, eqb-true m.spec 0 is) }) (λ _. same_marked Close m.spec e (silent e) refl)
 
 closing_marked : (kind : IlKind) (now : ℕ) (m : IlMsg) (e : End) → MarkedAs kind m.spec e (at_closing kind now m e)
-closing_marked Sync now m e = same_marked Sync m.spec e (says Close (hears now e)) refl
-closing_marked Data now m e = same_marked Data m.spec e (says Close (hears_ack now m e)) (ack_marked now m e)
-closing_marked DataQuery now m e = same_marked DataQuery m.spec e (says Close (hears_ack now m e)) (ack_marked now m e)
-closing_marked Query now m e = same_marked Query m.spec e (says Close (hears_ack now m e)) (ack_marked now m e)
+closing_marked Sync now m e = same_marked Sync m.spec e (emitting Close (hears now e)) refl
+closing_marked Data now m e = same_marked Data m.spec e (emitting Close (hears_ack now m e)) (ack_marked now m e)
+closing_marked DataQuery now m e = same_marked DataQuery m.spec e (emitting Close (hears_ack now m e)) (ack_marked now m e)
+closing_marked Query now m e = same_marked Query m.spec e (emitting Close (hears_ack now m e)) (ack_marked now m e)
 closing_marked Ack now m e = same_marked Ack m.spec e (silent (hears_ack now m e)) (ack_marked now m e)
 closing_marked State now m e =
-    marked_if State m.spec e (has_unacked (hears_ack now m e)) _ _ (λ _. record { back = λ h. inl (sym (ack_marked now m e) ∙ h) }) (λ _. same_marked State m.spec e (says Close (hears_ack now m e)) (ack_marked now m e))
+    marked_if State m.spec e (has_unacked (hears_ack now m e)) _ _ (λ _. record { back = λ h. inl (sym (ack_marked now m e) ∙ h) }) (λ _. same_marked State m.spec e (emitting Close (hears_ack now m e)) (ack_marked now m e))
 closing_marked Close now m e =
     marked_if Close m.spec e (m.spec == 0) _ _ (λ _. same_marked Close m.spec e (silent (closes e.cause (hears_ack now m e))) (ack_marked now m e)) (λ _. same_marked Close m.spec e (silent e) refl)
 
@@ -131,7 +131,7 @@ asks_marked state.Established e = refl
 asks_marked state.Closing e = refl
 asks_marked _ e = refl
 
-ticks_marked : (says : Tick) (left : Timer) (e : End) → (ticks_to says left e).end.closed_by_peer ≡ e.closed_by_peer
+ticks_marked : (emitting : Tick) (left : Timer) (e : End) → (ticks_to emitting left e).end.closed_by_peer ≡ e.closed_by_peer
 ticks_marked tick.NotDue left e = refl
 ticks_marked tick.TimedOut left e = refl
 ticks_marked tick.Again left e = asks_marked e.state (record e { timer = left })

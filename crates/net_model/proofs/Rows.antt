@@ -10,7 +10,7 @@ use Rattle.net_base.specs.declared.il.IlState.TheVariants.{Closed, Syncer, Synce
 use Rattle.net_base.specs.declared.il.Cause.{Cause}
 use Rattle.net_base.specs.declared.il.Cause.TheVariants as cause
 use Rattle.net_base.specs.Number.{id_of, number}
-use Rattle.net_base.specs.IlEnd.{End, rstart_of, recvd, silent, says, hears, establishes, closes, hears_ack, accepts}
+use Rattle.net_base.specs.IlEnd.{End, rstart_of, recvd, silent, emitting, hears, establishes, closes, hears_ack, accepts}
 use Rattle.net_base.specs.IlTable.{is_sized, refuses, at_syncer, at_syncee, at_established, at_closing, at_closed, row, arrives}
 use Rattle.net_model.proofs.Ids.{id_of_same}
 use Rattle.net_model.proofs.Begins.{begins_itself, begins_length, begins_back}
@@ -104,11 +104,11 @@ good_closing Ack now m e0 e' e why few back s t = good_silent e0 e' (hears_ack n
 good_closing Query now m e0 e' e why few back s t = let talks : Talking e0 e' (hears_ack now m e) = heard now m e0 e' e few back s t in good_close e0 e' (hears_ack now m e) talks (talks.2.no_more why).0
 good_closing State now m e0 e' e why few back s t =
     let talks : Talking e0 e' (hears_ack now m e) = heard now m e0 e' e few back s t in
-    good_again e0 e' (hears_ack now m e) (says Close (hears_ack now m e)) talks (good_close e0 e' (hears_ack now m e) talks (talks.2.no_more why).0)
+    good_again e0 e' (hears_ack now m e) (emitting Close (hears_ack now m e)) talks (good_close e0 e' (hears_ack now m e) talks (talks.2.no_more why).0)
 good_closing Close now m e0 e' e why few back s t =
     let talks : Talking e0 e' (hears_ack now m e) = heard now m e0 e' e few back s.0 t in
     good_if (m.spec == 0) _ _
-    (λ _. record { link = talks.0; knows = (tt, λ h. (talks.1, (t.2.no_more why).0), met_untold _ _ talks.1); grows = growth_at e0 (hears_ack now m e) e.cause (talks.2) (t.2.no_more why).0; says = tt })
+    (λ _. record { link = talks.0; knows = (tt, λ h. (talks.1, (t.2.no_more why).0), met_untold _ _ talks.1); grows = growth_at e0 (hears_ack now m e) e.cause (talks.2) (t.2.no_more why).0; emitting = tt })
     (λ _. good_silent e0 e' e t)
 
 -- an end that has met the other
@@ -144,7 +144,7 @@ good_syncer Sync now m e e' few l back knows as_s old s =
     (λ _. good_same e e' l knows)
 good_syncer Close now m e e' few l back knows as_s old s =
     good_if ((m.spec == 1) && (m.ack == e.start)) _ _
-    (λ _. record { link = l; knows = (tt, λ h. ((knows.1 h).0, (cause.Refused, refl)), knows.2); grows = gets_cause e cause.Refused; says = tt })
+    (λ _. record { link = l; knows = (tt, λ h. ((knows.1 h).0, (cause.Refused, refl)), knows.2); grows = gets_cause e cause.Refused; emitting = tt })
     (λ _. good_same e e' l knows)
 good_syncer _ now m e e' few l back knows as_s old s = good_same e e' l knows
 

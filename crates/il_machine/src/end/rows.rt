@@ -23,7 +23,7 @@ impl IlEnd {
                 self.rstart = Some(message.id);
                 self.hear(now);
                 self.establish();
-                Some(self.says(IlKind::Ack))
+                Some(self.own_message(IlKind::Ack))
             }
             IlKind::Close if message.spec == 1 && message.ack == self.start => {
                 self.hear(now);
@@ -103,19 +103,19 @@ impl IlEnd {
         match message.kind {
             IlKind::Sync if message.id == self.rstart.unwrap_or(0) => {
                 self.hear(now);
-                Ok(Some(self.says(IlKind::Ack)))
+                Ok(Some(self.own_message(IlKind::Ack)))
             }
             IlKind::Sync => Ok(None),
             IlKind::Data => {
                 self.take_in(now, message)?;
-                Ok(Some(self.says(IlKind::Ack)))
+                Ok(Some(self.own_message(IlKind::Ack)))
             }
             IlKind::DataQuery => {
                 self.take_in(now, message)?;
                 if self.misses(message) {
-                    Ok(Some(self.says(IlKind::Ack)))
+                    Ok(Some(self.own_message(IlKind::Ack)))
                 } else {
-                    Ok(Some(self.says(IlKind::State)))
+                    Ok(Some(self.own_message(IlKind::State)))
                 }
             }
             IlKind::Ack => {
@@ -124,7 +124,7 @@ impl IlEnd {
             }
             IlKind::Query => {
                 self.hear_ack(now, message);
-                Ok(Some(self.says(IlKind::State)))
+                Ok(Some(self.own_message(IlKind::State)))
             }
             IlKind::State => {
                 let retransmission = self.retransmission(self.acked_after(message))?;
@@ -148,11 +148,11 @@ impl IlEnd {
         let is_last = message.id == self.recvd();
         self.hear_ack(now, message);
         if !is_last {
-            return Some(self.says(IlKind::State));
+            return Some(self.own_message(IlKind::State));
         }
         self.closed_by_peer = true;
         self.close(Some(Cause::ByPeer));
-        Some(self.says(IlKind::Close))
+        Some(self.own_message(IlKind::Close))
     }
 
     /// Closing: all is answered by a close, until one comes.
@@ -172,11 +172,11 @@ impl IlEnd {
         match message.kind {
             IlKind::Sync => {
                 self.hear(now);
-                Ok(Some(self.says(IlKind::Close)))
+                Ok(Some(self.own_message(IlKind::Close)))
             }
             IlKind::Data | IlKind::DataQuery | IlKind::Query => {
                 self.hear_ack(now, message);
-                Ok(Some(self.says(IlKind::Close)))
+                Ok(Some(self.own_message(IlKind::Close)))
             }
             IlKind::Ack => {
                 self.hear_ack(now, message);
@@ -187,7 +187,7 @@ impl IlEnd {
                 self.hear_ack(now, message);
                 match retransmission {
                     Some(first) => Ok(Some(first)),
-                    None => Ok(Some(self.says(IlKind::Close))),
+                    None => Ok(Some(self.own_message(IlKind::Close))),
                 }
             }
             IlKind::Close if message.spec == 0 => {
@@ -208,7 +208,7 @@ impl IlEnd {
         match message.kind {
             IlKind::Close if self.closed_by_peer && message.spec == 0 => {
                 self.hear(now);
-                Some(self.says(IlKind::Close))
+                Some(self.own_message(IlKind::Close))
             }
             _ => None,
         }
