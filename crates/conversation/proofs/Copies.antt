@@ -81,7 +81,7 @@ reading_udp [] count e c = in_either (is_hung_up e.state) (Some _) None refl tt
 
 reading : (s : Stage) (k : Core) (count : ℕ) (c : Conv) → Copies (conv.read_at s k count c)
 reading Connected (Il e) count c =
-    in_either (has_unread e) (Some _) _ refl (in_either e.marked (Some _) _ refl (in_either (is_closed e.state) (Some _) None refl tt))
+    in_either (has_unread e) (Some _) _ refl (in_either e.closed_by_peer (Some _) _ refl (in_either (is_closed e.state) (Some _) None refl tt))
 reading Connected (Udp e) count c = reading_udp e.unread count e c
 reading Unused k count c = refl
 reading Listening k count c = refl

@@ -1,3 +1,4 @@
+pub mod Memory
 pub mod Kept
 pub mod Stands
 pub use Rattle.net_base.specs.Actors

@@ -25,7 +25,7 @@ Decides kept told P = (c : Conv) → StandsFor kept c → IsTrue told ↔ P c
 
 -- this is what the conversation says
 abbrev pub Says : {A : Type 0} → Seat → A → (Conv → A) → Type 0
-Says kept told said = (c : Conv) → StandsFor kept c → told ≡ said c
+Says kept told answer = (c : Conv) → StandsFor kept c → told ≡ answer c
 
 -- an IL end has few messages
 abbrev pub IsShortCore : Core → Type 0

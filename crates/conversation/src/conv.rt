@@ -1,9 +1,10 @@
 //! A conversation, and what it answers.
-ghost use Rattle.std.specs.Prelude.{◌≡◌, ◌↔◌, ℕ, ◌<◌, ◌^◌, is_some, IfOk, IsTrue, OnErr, Some};
+ghost use Rattle.std.specs.Prelude.{◌≡◌, ◌↔◌, ℕ, ◌<◌, ◌^◌, is_some, IfOk, IsTrue, OnErr, Some, true};
 ghost use Rattle.net_base.specs.Actors.{opening_conv};
 ghost use Rattle.net_base.specs.Conversation as spec;
 ghost use Rattle.net_base.specs.Duties.{due_of_core};
 ghost use Rattle.conversation.specs.Kept.{step_to};
+ghost use Rattle.conversation.specs.Memory.{work_takes};
 ghost use Rattle.conversation.specs.Stands.{StandsFor, StandsForSome, Decides, IsShort, IsReady, Says, Steps, slot_of, step_at};
 
 mod files;
@@ -105,6 +106,7 @@ impl Conv {
         ensures slot { slot_of self.new ≡ slot_of self.old }
         ensures copy { IfOk result (λ outcome. outcome.copy ≡ Some outcome.reply) }
         ensures err { OnErr result (self.new ≡ self.old) }
+        ensures memory { OnErr result (Says self.old true (work_takes now work.now)) }
     {
         match self.answer(now, work)? {
             Some(outcome) => Ok(outcome),
@@ -182,6 +184,7 @@ impl Conv {
         ensures ok { IfOk result (λ answer. spec.conv_step self.old.slot work.now.event work.now.with now self.old.conv ≡ step_to self.new.conv answer) }
         ensures slot { self.new.slot ≡ self.old.slot }
         ensures err { OnErr result (self.new ≡ self.old) }
+        ensures memory { OnErr result (work_takes now work.now self.old.conv ≡ true) }
     {
         match &work.event {
             Event::Begin { generation } => self.begin(*generation),

@@ -1,8 +1,8 @@
 //! The IL end of a conversation, with the end that it stands for.
-ghost use Rattle.std.specs.Prelude.{◌≡◌, ◌↔◌, ◌<◌, ◌^◌, Some, IfOk, OnOk, OnErr, IsTrue, take, if◌then◌else◌};
+ghost use Rattle.std.specs.Prelude.{◌≡◌, ◌↔◌, ◌<◌, ◌^◌, Some, IfOk, OnOk, OnErr, IsTrue, take, true, if◌then◌else◌};
 ghost use Rattle.net_base.specs.IlEnd as spec;
 ghost use Rattle.net_base.specs.IlTable as table;
-ghost use Rattle.il_machine.specs.Stands.{IsShort, read_refusal, after_read};
+ghost use Rattle.il_machine.specs.Stands.{IsShort, after_read, arrival_takes, read_refusal, write_takes};
 ghost use Rattle.net_base.specs.declared.reply.Reply.TheVariants as reply;
 ghost use Rattle.net_base.specs.Conversation as conv;
 ghost use Rattle.net_base.specs.Timer as timer;
@@ -137,6 +137,7 @@ impl IlCore {
         ensures end { IfOk result (λ emits. self.new ≡ (table.arrives now message.now self.old).end) }
         ensures emits { IfOk result (λ emits. emits ≡ (table.arrives now message.now self.old).emits) }
         ensures err { OnErr result (self.new ≡ self.old) }
+        ensures memory { OnErr result (arrival_takes now message.now self.old ≡ true) }
     {
         let emits = self.kept.arrive(now, message)?;
         self.stood_for = self.stood_for.after(&Arrives { now, message });
@@ -150,6 +151,7 @@ impl IlCore {
         ensures end { IfOk result (λ message. self.new ≡ (table.writes now text.now self.old).end) }
         ensures emits { IfOk result (λ message. Some message ≡ (table.writes now text.now self.old).emits) }
         ensures err { OnErr result (self.new ≡ self.old) }
+        ensures memory { OnErr result (write_takes self.old ≡ true) }
     {
         match self.kept.write(now, text) {
             Ok(message) => {
@@ -173,6 +175,7 @@ impl IlCore {
         ensures refusal { IfOk result (λ cause. cause ≡ read_refusal self.old) }
         ensures end { OnOk result (self.new ≡ after_read count self.old) }
         ensures err { OnErr result (self.new ≡ self.old) }
+        ensures memory { OnErr result (table.has_unread self.old ≡ true) }
     {
         match self.kept.read(count) {
             Ok(_) => {

@@ -7,7 +7,7 @@ mod conv;
 mod ghost_end;
 mod il;
 mod parts;
-mod said;
+mod reply_and_copy;
 #[cfg(test)]
 mod tests;
 mod texts;

@@ -3,7 +3,7 @@ use Rattle.std.proofs.Common.{◌≡◌, ℕ, zero, suc, ◌+◌, Bool, true, fa
 use Rattle.net_base.specs.declared.il.IlMsg.{IlMsg}
 use Rattle.net_base.specs.Number.{number}
 use Rattle.net_base.specs.Timer.{Timer}
-use Rattle.net_base.specs.IlEnd.{End, rstart_of, standing, early_at, without, becomes_early, comes_in_turn, come_in_turn, accepts, acked_to, hears, hears_ack, moves}
+use Rattle.net_base.specs.IlEnd.{End, rstart_of, backlog, early_at, without, becomes_early, comes_in_turn, come_in_turn, accepts, acked_to, hears, hears_ack, moves}
 use Rattle.il_machine.proofs.InTurn.{none_moves}
 
 -- only got and early change
@@ -43,7 +43,7 @@ both_room k text e false = refl
 
 both_of : (o : Option ℕ) (text : List ℕ) (e : End) → ChangesBoth e (come_in_turn (length (becomes_early o text e).early) (becomes_early o text e))
 both_of None text e = both_then e e refl
-both_of (Some k) text e = both_then e (becomes_early (Some k) text e) (both_room k text e (is_some (early_at k e.early) || nat_le 64 (standing e)))
+both_of (Some k) text e = both_then e (becomes_early (Some k) text e) (both_room k text e (is_some (early_at k e.early) || nat_le 64 (backlog e)))
 
 stamped_room : (k : ℕ) (text : List ℕ) (acked : ℕ) (t : Timer) (e : End) (b : Bool)
     → (if b then stamped acked t e else record (stamped acked t e) { early = record { number = k; text = text } ∷ e.early })
@@ -53,7 +53,7 @@ stamped_room k text acked t e false = refl
 
 stamped_early : (o : Option ℕ) (text : List ℕ) (acked : ℕ) (t : Timer) (e : End) → becomes_early o text (stamped acked t e) ≡ stamped acked t (becomes_early o text e)
 stamped_early None text acked t e = refl
-stamped_early (Some k) text acked t e = stamped_room k text acked t e (is_some (early_at k e.early) || nat_le 64 (standing e))
+stamped_early (Some k) text acked t e = stamped_room k text acked t e (is_some (early_at k e.early) || nat_le 64 (backlog e))
 
 stamped_of : (o : Option ℕ) (text : List ℕ) (acked : ℕ) (t : Timer) (e : End)
     → come_in_turn (length (becomes_early o text (stamped acked t e)).early) (becomes_early o text (stamped acked t e))
@@ -123,7 +123,7 @@ early_already m e k next some early = rw (some, early) (sym (none_moves (length 
 
 -- there is no room
 pub no_room : (m : IlMsg) (e : End) (k : ℕ) → early_at (length e.got + 1) e.early ≡ None → number (rstart_of e) m.id (length e.got) ≡ Some k
-    → nat_le 64 (standing e) ≡ true → e ≡ accepts m e
+    → nat_le 64 (backlog e) ≡ true → e ≡ accepts m e
 no_room m e k next some full = full_if (is_some (early_at k e.early)) refl
   where
     full_if : (b : Bool) → is_some (early_at k e.early) ≡ b → e ≡ accepts m e

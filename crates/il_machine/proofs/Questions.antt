@@ -4,7 +4,7 @@ use Rattle.net_base.specs.declared.il.IlKind.{IlKind}
 use Rattle.net_base.specs.declared.il.IlKind.TheVariants.{DataQuery, Ack, State}
 use Rattle.net_base.specs.declared.il.IlMsg.{IlMsg}
 use Rattle.net_base.specs.Number.{number}
-use Rattle.net_base.specs.IlEnd.{End, Turn, rstart_of, next, recvd, message, says, accepts, acked_to, hears, hears_ack, moves}
+use Rattle.net_base.specs.IlEnd.{End, Turn, rstart_of, next, recvd, message, emitting, accepts, acked_to, hears, hears_ack, moves}
 use Rattle.net_base.specs.IlTable.{at_established}
 use Rattle.il_machine.proofs.Accepting.{accepts_both}
 
@@ -25,7 +25,7 @@ abbrev pub answer_kind : Bool → IlKind
 answer_kind true = Ack
 answer_kind false = State
 
-answered_if : (after : End) (b : Bool) → (let t : Turn = if b then says Ack after else says State after in t.emits) ≡ Some (message (answer_kind b) (next after) (recvd after) [])
+answered_if : (after : End) (b : Bool) → (let t : Turn = if b then emitting Ack after else emitting State after in t.emits) ≡ Some (message (answer_kind b) (next after) (recvd after) [])
 answered_if after true = refl
 answered_if after false = refl
 
@@ -36,4 +36,4 @@ question_answered now m e after kind b is_question was missing =
     let taken : End = accepts m (hears_ack now m e) in
     rw (is_question, missing, was)
     (sym (answered_if taken (is_some (number (rstart_of taken) m.id (length taken.got))))
-    ∙ ap (λ (r : ℕ). let t : Turn = if is_some (number r m.id (length taken.got)) then says Ack taken else says State taken in t.emits) (rstart_kept now m e))
+    ∙ ap (λ (r : ℕ). let t : Turn = if is_some (number r m.id (length taken.got)) then emitting Ack taken else emitting State taken in t.emits) (rstart_kept now m e))

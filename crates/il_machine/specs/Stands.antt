@@ -1,11 +1,14 @@
 -- What an IL end stands for, and what its calls do to that.
-use Rattle.std.specs.Prelude.{◌≡◌, ◌↔◌, ℕ, ◌<◌, ◌^◌, Bool, ◌||◌, IsTrue, length, Option, Some, None, if◌then◌else◌}
+use Rattle.std.specs.Prelude.{◌≡◌, ◌↔◌, ℕ, ◌<◌, ◌^◌, ◌==◌, Bool, true, false, not, ◌||◌, IsTrue, length, Option, Some, None, is_some, nat_le, if◌then◌else◌}
 use Rattle.net_base.specs.declared.il.Cause.{Cause}
+use Rattle.net_base.specs.declared.il.IlKind.{IlKind}
+use Rattle.net_base.specs.declared.il.IlKind.TheVariants.{Data, DataQuery, State}
 use Rattle.net_base.specs.declared.il.IlMsg.{IlMsg}
 use Rattle.net_base.specs.declared.il.IlState.{IlState}
-use Rattle.net_base.specs.declared.il.IlState.TheVariants.{Established}
-use Rattle.net_base.specs.IlEnd.{End, Turn, cause_of}
-use Rattle.net_base.specs.IlTable.{has_unread, reads, may_write, may_read, may_go_on}
+use Rattle.net_base.specs.declared.il.IlState.TheVariants.{Established, Syncee, Closing}
+use Rattle.net_base.specs.Number.{number}
+use Rattle.net_base.specs.IlEnd.{End, Turn, backlog, cause_of, early_at, establishes, has_unacked, hears, hears_ack, rstart_of}
+use Rattle.net_base.specs.IlTable.{at_established, has_unread, reads, may_write, may_read, may_go_on}
 use Rattle.il_machine.specs.declared.ask.Ask.{Ask}
 use Rattle.il_machine.specs.declared.ask.Ask.TheVariants as ask
 use Rattle.il_machine.specs.declared.fault.HungupError.{HungupError}
@@ -46,6 +49,12 @@ is_ready ask.Write e = may_write e.state e
 is_ready ask.Read e = may_read e
 is_ready ask.Wait e = may_go_on e.state
 
+-- The handshake.
+
+-- the end becomes Established, and handles the message as Established
+abbrev pub handshake_completed : ℕ → IlMsg → End → Turn
+handshake_completed now m e = at_established m.kind now m (establishes (hears now e))
+
 -- Writing and reading.
 
 -- why nothing more is written
@@ -58,13 +67,55 @@ write_refusal e = refusal_in e.state e
 
 -- why nothing more is read
 abbrev pub read_refusal : End → Option Cause
-read_refusal e = if has_unread e || e.marked then None else Some (cause_of e)
+read_refusal e = if has_unread e || e.closed_by_peer then None else Some (cause_of e)
 
 -- the end after a read of so many bytes
 abbrev pub after_read : ℕ → End → End
 after_read count e = if has_unread e then reads count e else e
 
--- an error tells the end's refusal, or that there was no memory
-abbrev pub TellsRefusal : End → HungupError → (End → Option Cause) → Type 0
-TellsRefusal old (Hungup why) refusal = Says old (Some why) refusal
-TellsRefusal old Memory refusal = Unit {0}
+-- an error tells the end's refusal, or that there was no memory for what this says memory is taken for
+abbrev pub TellsRefusal : End → HungupError → (End → Option Cause) → (End → Bool) → Type 0
+TellsRefusal old (Hungup why) refusal takes = Says old (Some why) refusal
+TellsRefusal old Memory refusal takes = Says old true takes
+
+-- Memory.
+
+-- a write takes memory where it isn't refused
+abbrev pub write_takes : End → Bool
+write_takes e = not (is_some (write_refusal e))
+
+-- a message with this number becomes early
+abbrev pub is_new : Option ℕ → End → Bool
+is_new None e = false
+is_new (Some k) e = not (is_some (early_at k e.early) || nat_le 64 (backlog e))
+
+-- the message is kept
+abbrev pub is_kept : IlMsg → End → Bool
+is_kept m e = is_new (number (rstart_of e) m.id (length e.got)) e
+
+-- a message isn't acknowledged, once the ack of this one is taken
+abbrev pub leaves_unacked : ℕ → IlMsg → End → Bool
+leaves_unacked now m e = has_unacked (record e { acked = (hears_ack now m e).acked })
+
+-- Established takes memory for data that it keeps and for a retransmission
+abbrev pub established_takes : IlKind → ℕ → IlMsg → End → Bool
+established_takes Data now m e = is_kept m e
+established_takes DataQuery now m e = is_kept m e
+established_takes State now m e = leaves_unacked now m e
+established_takes _ now m e = false
+
+-- Closing takes memory for a retransmission
+abbrev pub closing_takes : IlKind → ℕ → IlMsg → End → Bool
+closing_takes State now m e = leaves_unacked now m e
+closing_takes _ now m e = false
+
+-- memory is taken for a message that comes in this state
+abbrev pub takes_in : IlState → ℕ → IlMsg → End → Bool
+takes_in Established now m e = established_takes m.kind now m e
+takes_in Syncee now m e = if m.ack == e.start then established_takes m.kind now m e else false
+takes_in Closing now m e = closing_takes m.kind now m e
+takes_in _ now m e = false
+
+-- memory is taken for a message that comes
+abbrev pub arrival_takes : ℕ → IlMsg → End → Bool
+arrival_takes now m e = takes_in e.state now m e

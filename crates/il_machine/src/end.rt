@@ -1,11 +1,11 @@
 //! An IL end.
-ghost use Rattle.std.specs.Prelude.{◌≡◌, ◌↔◌, ℕ, ◌+◌, ◌<◌, ◌≤◌, ◌^◌, [], length, take, Some, None, IfOk, IfErr, OnOk, OnErr, IsTrue, is_some};
+ghost use Rattle.std.specs.Prelude.{◌≡◌, ◌↔◌, ℕ, ◌+◌, ◌<◌, ◌≤◌, ◌^◌, [], length, take, Some, None, IfOk, IfErr, OnOk, OnErr, IsTrue, is_some, true};
 ghost use Rattle.net_base.specs.Number as number_spec;
 ghost use Rattle.il_machine.specs.declared.ask.Ask.TheVariants as ask;
 ghost use Rattle.net_base.specs.IlEnd as spec;
-ghost use Rattle.net_base.specs.IlEnd.{End, message, silent, sends_again};
+ghost use Rattle.net_base.specs.IlEnd.{End, message, silent, retransmits};
 ghost use Rattle.net_base.specs.IlTable as table;
-ghost use Rattle.il_machine.specs.Stands.{StandsFor, StandsForSome, Decides, IsShort, Turns, Becomes, Says, TellsRefusal, is_ready, write_refusal, read_refusal, after_read};
+ghost use Rattle.il_machine.specs.Stands.{StandsFor, StandsForSome, Decides, IsShort, Turns, Becomes, Says, TellsRefusal, after_read, arrival_takes, is_kept, is_ready, read_refusal, write_refusal, write_takes};
 
 mod rows;
 
@@ -21,7 +21,7 @@ use std::marker::Model;
 const WINDOW: usize = 20;
 
 /// How many messages may be unread or early.
-const MOST_STANDING: usize = 64;
+const MOST_BACKLOG: usize = 64;
 
 /// How many messages may not be sent or got, so that their numbers tell their ids apart.
 const MOST_MESSAGES: usize = 1 << 31;
@@ -44,9 +44,9 @@ pub struct IlEnd {
     acked: u64,
     got: Vec<Octets>,
     early: Vec<Numbered>,
-    taken: usize,
-    cut: usize,
-    marked: bool,
+    read_count: usize,
+    read_offset: usize,
+    closed_by_peer: bool,
     cause: Option<Cause>,
     timer: Timer,
 }
@@ -66,9 +66,9 @@ impl Model for IlEnd {
       acked = e.acked;
       got = e.got.items;
       early = seen e.early.items;
-      taken = e.taken;
-      cut = e.cut;
-      marked = e.marked;
+      read_count = e.read_count;
+      read_offset = e.read_offset;
+      closed_by_peer = e.closed_by_peer;
       cause = e.cause;
       timer = e.timer;
     } };
@@ -109,7 +109,7 @@ impl IlEnd {
     }
 
     /// A message of this kind without a text, with the end's own numbers.
-    fn says(&self, kind: IlKind) -> IlMsg
+    fn own_message(&self, kind: IlKind) -> IlMsg
         ensures { result ≡ message kind (spec.next self.now) (spec.recvd self.now) [] }
     {
         IlMsg {
@@ -183,11 +183,11 @@ impl IlEnd {
     }
 
     /// How many messages are unread or early.
-    fn standing(&self) -> usize
+    fn backlog(&self) -> usize
         requires { length self.now.got < 2 ^ 31 }
-        ensures { result ≡ spec.standing self.now }
+        ensures { result ≡ spec.backlog self.now }
     {
-        self.got.len().saturating_sub(self.taken) + self.early.len()
+        self.got.len().saturating_sub(self.read_count) + self.early.len()
     }
 
     /// Accepts a message: it becomes early, and what is next in sequence is got.
@@ -197,11 +197,12 @@ impl IlEnd {
         ensures ok { OnOk result (self.new ≡ spec.accepts message.now self.old) }
         ensures within { length self.new.got ≤ length self.old.got + 64 }
         ensures err { OnErr result (self.new ≡ self.old) }
+        ensures memory { OnErr result (is_kept message.now self.old ≡ true) }
     {
         let Some(k) = number(self.rstart.unwrap_or(0), message.id, self.got.len() as u64) else {
             return Ok(());
         };
-        if is_early(&self.early, k) || MOST_STANDING <= self.standing() {
+        if is_early(&self.early, k) || MOST_BACKLOG <= self.backlog() {
             return Ok(());
         }
         let text = message.text.clone()?;
@@ -219,6 +220,7 @@ impl IlEnd {
         ensures ok { OnOk result (self.new ≡ spec.accepts message.now (spec.hears_ack now message.now self.old)) }
         ensures within { length self.new.got ≤ length self.old.got + 64 }
         ensures err { OnErr result (self.new ≡ self.old) }
+        ensures memory { OnErr result (is_kept message.now self.old ≡ true) }
     {
         self.accept(message)?;
         self.hear_ack(now, message);
@@ -226,8 +228,10 @@ impl IlEnd {
     }
 
     /// The first message that isn't acknowledged once so many are, to be sent again.
-    fn again(&self, acked: u64) -> Result<Option<IlMsg>, AllocError>
-        ensures { IfOk result (λ emits. emits ≡ (sends_again (record self.now { acked = acked }) (silent self.now)).emits) }
+    fn retransmission(&self, acked: u64) -> Result<Option<IlMsg>, AllocError>
+        ensures ok { IfOk result (λ emits.
+            emits ≡ (retransmits (record self.now { acked = acked }) (silent self.now)).emits) }
+        ensures memory { OnErr result (spec.has_unacked (record self.now { acked = acked }) ≡ true) }
     {
         if acked < self.sent.len() as u64 {
             return Ok(Some(IlMsg {
@@ -255,7 +259,8 @@ impl IlEnd {
     /// Whether a message is still to be got.
     fn misses(&self, message: &IlMsg) -> bool
         requires { length self.now.got < 2 ^ 32 }
-        ensures { result ≡ is_some (number_spec.number (spec.rstart_of self.now) message.now.id (length self.now.got)) }
+        ensures { result
+            ≡ is_some (number_spec.number (spec.rstart_of self.now) message.now.id (length self.now.got)) }
     {
         match number(self.rstart.unwrap_or(0), message.id, self.got.len() as u64) {
             Some(_) => true,
@@ -280,9 +285,9 @@ impl IlEnd {
             acked: 0,
             got: Vec::new(alloc),
             early: Vec::new(alloc),
-            taken: 0,
-            cut: 0,
-            marked: false,
+            read_count: 0,
+            read_offset: 0,
+            closed_by_peer: false,
             cause: None,
             timer: Timer::idle(),
         })
@@ -335,6 +340,7 @@ impl IlEnd {
         requires short { StandsForSome self.old IsShort }
         ensures ok { IfOk result (λ emits. Turns self.old self.new emits (λ e. table.arrives now message.now e)) }
         ensures err { OnErr result (self.new ≡ self.old) }
+        ensures memory { OnErr result (Says self.old true (arrival_takes now message.now)) }
     {
         if !is_sized(message.kind, message.text.len()) {
             return Ok(None);
@@ -354,8 +360,10 @@ impl IlEnd {
         requires in_time { now < 2 ^ 63 }
         requires short { StandsForSome self.old IsShort }
         requires ready { StandsForSome self.old (λ e. IsTrue (is_ready ask.Write e)) }
-        ensures ok { IfOk result (λ message. Says self.old None write_refusal × Turns self.old self.new (Some message) (λ e. table.writes now text.now e)) }
-        ensures err { IfErr result (λ error. TellsRefusal self.old error write_refusal × (self.new ≡ self.old)) }
+        ensures ok { IfOk result (λ message. Says self.old None write_refusal
+            × Turns self.old self.new (Some message) (λ e. table.writes now text.now e)) }
+        ensures err { IfErr result (λ error.
+            TellsRefusal self.old error write_refusal write_takes × (self.new ≡ self.old)) }
     {
         if self.state != IlState::Established {
             return Err(HungupError::Hungup(self.cause.unwrap_or(Cause::Hungup)));
@@ -378,27 +386,33 @@ impl IlEnd {
         })
     }
 
-    /// Reads the first bytes of the first unread message, at most `count`; no bytes where the other end closed after its last
-    /// message. Or says why nothing more is read.
+    /// Reads the first bytes, at most `count`, of the first unread message; none where the other end closed after its last.
+    /// Or says why nothing more is read.
     pub fn read(&mut self, count: usize) -> Result<Octets, HungupError>
         requires ready { StandsForSome self.old (λ e. IsTrue (is_ready ask.Read e)) }
         requires some { 0 < count }
-        ensures ok { IfOk result (λ bytes. Says self.old None read_refusal × Says self.old bytes (λ e. take count (table.first_unread e))) }
+        ensures ok { IfOk result (λ bytes. Says self.old None read_refusal
+            × Says self.old bytes (λ e. take count (table.first_unread e))) }
         ensures end { OnOk result (Becomes self.old self.new (after_read count)) }
-        ensures err { IfErr result (λ error. TellsRefusal self.old error read_refusal × (self.new ≡ self.old)) }
+        ensures err { IfErr result (λ error.
+            TellsRefusal self.old error read_refusal table.has_unread × (self.new ≡ self.old)) }
     {
-        if self.taken >= self.got.len() {
-            if self.marked {
+        if self.read_count >= self.got.len() {
+            if self.closed_by_peer {
                 return Ok(Octets::new(self.alloc));
             }
             return Err(HungupError::Hungup(self.cause.unwrap_or(Cause::Hungup)));
         }
         let bytes = Octets::from_slice(self.alloc, self.peek(count))?;
-        if count < self.got[self.taken].len().saturating_sub(self.cut) {
-            self.cut += count;
+        if count
+            < self.got[self.read_count]
+                .len()
+                .saturating_sub(self.read_offset)
+        {
+            self.read_offset += count;
         } else {
-            self.taken += 1;
-            self.cut = 0;
+            self.read_count += 1;
+            self.read_offset = 0;
         }
         Ok(bytes)
     }
@@ -407,11 +421,11 @@ impl IlEnd {
     pub fn peek(&self, count: usize) -> &[u8]
         ensures { Says self.now result.now (λ e. take count (table.first_unread e)) }
     {
-        if self.taken >= self.got.len() {
+        if self.read_count >= self.got.len() {
             return &[];
         }
-        let message = &self.got[self.taken];
-        let rest = &message.as_slice()[self.cut.min(message.len())..];
+        let message = &self.got[self.read_count];
+        let rest = &message.as_slice()[self.read_offset.min(message.len())..];
         &rest[..count.min(rest.len())]
     }
 
@@ -429,7 +443,7 @@ impl IlEnd {
                 self.state = IlState::Closing;
                 self.cause = Some(Cause::Hungup);
                 self.timer.start(now);
-                Some(self.says(IlKind::Close))
+                Some(self.own_message(IlKind::Close))
             }
             IlState::Closing | IlState::Closed => None,
         }
@@ -456,8 +470,8 @@ impl IlEnd {
     {
         match self.state {
             IlState::Syncer | IlState::Syncee => Some(self.sync()),
-            IlState::Established => Some(self.says(IlKind::Query)),
-            IlState::Closing => Some(self.says(IlKind::Close)),
+            IlState::Established => Some(self.own_message(IlKind::Query)),
+            IlState::Closing => Some(self.own_message(IlKind::Close)),
             IlState::Closed | IlState::Listening => None,
         }
     }
@@ -472,8 +486,8 @@ impl IlEnd {
                 IlState::Established => self.sent.len() as u64 - self.acked < WINDOW as u64,
                 IlState::Closed | IlState::Listening | IlState::Closing => true,
             },
-            Ask::Read => self.taken < self.got.len()
-                || self.marked
+            Ask::Read => self.read_count < self.got.len()
+                || self.closed_by_peer
                 || self.state == IlState::Closed,
             Ask::Wait => self.state != IlState::Syncer,
         }

@@ -256,7 +256,7 @@ abbrev pub il_read : ℕ → End → Conv → Option (Step Conv)
 il_read count e c =
     if has_unread e
     then Some (leaves c (reply.Bytes (take count (first_unread e))) (record c { core = Il (reads count e) }) None)
-    else (if e.marked
+    else (if e.closed_by_peer
     then Some (answers c (reply.Bytes []))
     else (if is_closed e.state then Some (answers c (reply.Hungup (cause_of e))) else None))
 

@@ -31,10 +31,10 @@ pub record End : Type 0 where
   pub got : List (List ℕ)
   pub early : List Early
   -- how many messages of got were read whole, and how many bytes of the next one were read
-  pub taken : ℕ
-  pub cut : ℕ
+  pub read_count : ℕ
+  pub read_offset : ℕ
   -- the other end closed after its last message
-  pub marked : Bool
+  pub closed_by_peer : Bool
   pub cause : Option Cause
   pub timer : Timer
 
@@ -50,9 +50,9 @@ fresh_end =
       acked = 0;
       got = [];
       early = [];
-      taken = 0;
-      cut = 0;
-      marked = false;
+      read_count = 0;
+      read_offset = 0;
+      closed_by_peer = false;
       cause = None;
       timer = timer.idle_timer;
     }
@@ -83,8 +83,8 @@ abbrev pub has_unacked : End → Bool
 has_unacked e = nat_lt e.acked (length e.sent)
 
 -- how many messages are unread or early
-abbrev pub standing : End → ℕ
-standing e = length e.got - e.taken + length e.early
+abbrev pub backlog : End → ℕ
+backlog e = length e.got - e.read_count + length e.early
 
 -- Emitting.
 
@@ -97,16 +97,16 @@ abbrev pub silent : End → Turn
 silent e = record { end = e; emits = None }
 
 -- a message of this kind without a text, with the end's own numbers
-abbrev pub says : IlKind → End → Turn
-says kind e = record { end = e; emits = Some (message kind (next e) (recvd e) []) }
+abbrev pub emitting : IlKind → End → Turn
+emitting kind e = record { end = e; emits = Some (message kind (next e) (recvd e) []) }
 
 -- the end's sync, whose ack is the start of the sync that it answers, or 0
 abbrev pub syncs : End → Turn
 syncs e = record { end = e; emits = Some (message Sync e.start (rstart_of e) []) }
 
 -- the first unacknowledged message as dataquery, or the other turn where there is none
-abbrev pub sends_again : End → Turn → Turn
-sends_again e other =
+abbrev pub retransmits : End → Turn → Turn
+retransmits e other =
     if has_unacked e
     then record { end = e; emits = Some (message DataQuery (id_of e.start (e.acked + 1)) (recvd e) (slice_index_or e.sent e.acked [])) }
     else other
@@ -164,7 +164,7 @@ without k (x ∷ xs) = if x.number == k then xs else x ∷ without k xs
 abbrev pub becomes_early : Option ℕ → List ℕ → End → End
 becomes_early None text e = e
 becomes_early (Some k) text e =
-    if is_some (early_at k e.early) || nat_le 64 (standing e)
+    if is_some (early_at k e.early) || nat_le 64 (backlog e)
     then e
     else record e { early = record { number = k; text = text } ∷ e.early }
 

@@ -11,7 +11,7 @@ use Rattle.net_base.specs.declared.timer.Tick.{Tick}
 use Rattle.net_base.specs.declared.timer.Tick.TheVariants as tick
 use Rattle.net_base.specs.Timer as timer
 use Rattle.net_base.specs.Timer.{Timer}
-use Rattle.net_base.specs.IlEnd.{End, Turn, rstart_of, next, recvd, has_unacked, message, silent, says, syncs, sends_again, starts, hears, establishes, closes, hears_ack, accepts}
+use Rattle.net_base.specs.IlEnd.{End, Turn, rstart_of, next, recvd, has_unacked, message, silent, emitting, syncs, retransmits, starts, hears, establishes, closes, hears_ack, accepts}
 
 -- Fresh.
 
@@ -37,26 +37,26 @@ refuses _ spec = false
 -- Syncer: its sync is answered or refused
 abbrev pub at_syncer : IlKind → ℕ → IlMsg → End → Turn
 at_syncer Sync now m e =
-    if m.ack == e.start then says Ack (establishes (hears now (record e { rstart = Some m.id }))) else silent e
+    if m.ack == e.start then emitting Ack (establishes (hears now (record e { rstart = Some m.id }))) else silent e
 at_syncer Close now m e =
     if (m.spec == 1) && (m.ack == e.start) then silent (closes (Some cause.Refused) (hears now e)) else silent e
 at_syncer _ now m e = silent e
 
 -- Established
 abbrev pub at_established : IlKind → ℕ → IlMsg → End → Turn
-at_established Sync now m e = if m.id == rstart_of e then says Ack (hears now e) else silent e
-at_established Data now m e = says Ack (accepts m (hears_ack now m e))
+at_established Sync now m e = if m.id == rstart_of e then emitting Ack (hears now e) else silent e
+at_established Data now m e = emitting Ack (accepts m (hears_ack now m e))
 at_established DataQuery now m e =
     let after = accepts m (hears_ack now m e) in
-    if is_some (number (rstart_of e) m.id (length after.got)) then says Ack after else says State after
+    if is_some (number (rstart_of e) m.id (length after.got)) then emitting Ack after else emitting State after
 at_established Ack now m e = silent (hears_ack now m e)
-at_established Query now m e = says State (hears_ack now m e)
-at_established State now m e = sends_again (hears_ack now m e) (silent (hears_ack now m e))
+at_established Query now m e = emitting State (hears_ack now m e)
+at_established State now m e = retransmits (hears_ack now m e) (silent (hears_ack now m e))
 at_established Close now m e =
     if m.spec == 0
     then (if m.id == recvd e
-    then says Close (closes (Some cause.ByPeer) (record (hears_ack now m e) { marked = true }))
-    else says State (hears_ack now m e))
+    then emitting Close (closes (Some cause.ByPeer) (record (hears_ack now m e) { closed_by_peer = true }))
+    else emitting State (hears_ack now m e))
     else silent e
 
 -- Syncee: the sync that it was born from comes again, or the first message that acknowledges its own
@@ -67,17 +67,17 @@ at_syncee kind now m e =
 
 -- Closing
 abbrev pub at_closing : IlKind → ℕ → IlMsg → End → Turn
-at_closing Sync now m e = says Close (hears now e)
-at_closing Data now m e = says Close (hears_ack now m e)
-at_closing DataQuery now m e = says Close (hears_ack now m e)
-at_closing Query now m e = says Close (hears_ack now m e)
+at_closing Sync now m e = emitting Close (hears now e)
+at_closing Data now m e = emitting Close (hears_ack now m e)
+at_closing DataQuery now m e = emitting Close (hears_ack now m e)
+at_closing Query now m e = emitting Close (hears_ack now m e)
 at_closing Ack now m e = silent (hears_ack now m e)
-at_closing State now m e = sends_again (hears_ack now m e) (says Close (hears_ack now m e))
+at_closing State now m e = retransmits (hears_ack now m e) (emitting Close (hears_ack now m e))
 at_closing Close now m e = if m.spec == 0 then silent (closes e.cause (hears_ack now m e)) else silent e
 
--- Closed: an end that is marked answers a close that comes again
+-- Closed: an end that its peer closed answers a close that comes again
 abbrev pub at_closed : IlKind → ℕ → IlMsg → End → Turn
-at_closed Close now m e = if e.marked && (m.spec == 0) then says Close (hears now e) else silent e
+at_closed Close now m e = if e.closed_by_peer && (m.spec == 0) then emitting Close (hears now e) else silent e
 at_closed _ now m e = silent e
 
 -- the rows of what comes, by the end's state
@@ -104,8 +104,8 @@ arrives now m e = if is_sized m.kind (length m.text) then row e.state m.kind now
 -- the rows of a hangup, by the end's state
 abbrev pub hangs_up_at : IlState → ℕ → End → Turn
 hangs_up_at Syncer now e = silent (closes (Some cause.Hungup) e)
-hangs_up_at Syncee now e = says Close (starts now (record e { state = Closing; cause = Some cause.Hungup }))
-hangs_up_at Established now e = says Close (starts now (record e { state = Closing; cause = Some cause.Hungup }))
+hangs_up_at Syncee now e = emitting Close (starts now (record e { state = Closing; cause = Some cause.Hungup }))
+hangs_up_at Established now e = emitting Close (starts now (record e { state = Closing; cause = Some cause.Hungup }))
 hangs_up_at Listening now e = silent (closes (Some cause.Hungup) e)
 hangs_up_at _ now e = silent e
 
@@ -129,18 +129,18 @@ writes now text e = if has_unacked e then sends text e else sends text (starts n
 
 -- some message is unread
 abbrev pub has_unread : End → Bool
-has_unread e = nat_lt e.taken (length e.got)
+has_unread e = nat_lt e.read_count (length e.got)
 
 -- what is left of the first unread message
 abbrev pub first_unread : End → List ℕ
-first_unread e = drop e.cut (slice_index_or e.got e.taken [])
+first_unread e = drop e.read_offset (slice_index_or e.got e.read_count [])
 
 -- so many bytes are read, where a message is unread: they are the first of its first unread message
 abbrev pub reads : ℕ → End → End
 reads count e =
     if nat_lt count (length (first_unread e))
-    then record e { cut = e.cut + count }
-    else record e { taken = e.taken + 1; cut = 0 }
+    then record e { read_offset = e.read_offset + count }
+    else record e { read_count = e.read_count + 1; read_offset = 0 }
 
 -- What is ready.
 
@@ -157,7 +157,7 @@ is_closed _ = false
 
 -- a read has an answer
 abbrev pub may_read : End → Bool
-may_read e = has_unread e || (e.marked || is_closed e.state)
+may_read e = has_unread e || (e.closed_by_peer || is_closed e.state)
 
 -- who waits for the end to be connected needn't wait longer
 abbrev pub may_go_on : IlState → Bool
@@ -170,8 +170,8 @@ may_go_on _ = true
 abbrev pub asks_again : IlState → End → Turn
 asks_again Syncer e = syncs e
 asks_again Syncee e = syncs e
-asks_again Established e = says Query e
-asks_again Closing e = says Close e
+asks_again Established e = emitting Query e
+asks_again Closing e = emitting Close e
 asks_again _ e = silent e
 
 -- what the timer says, and the timer that it leaves

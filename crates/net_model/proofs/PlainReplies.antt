@@ -183,7 +183,7 @@ listed zero c = tt
 listed (suc n) c = names_text (node.Dir proto.Il 0) []
 
 il_read : (count : ℕ) (e : End) (c : Conv) → Answers (conv.il_read count e c)
-il_read count e c = either (has_unread e) _ _ tt (either e.marked _ _ tt (either (is_closed e.state) _ _ tt tt))
+il_read count e c = either (has_unread e) _ _ tt (either e.closed_by_peer _ _ tt (either (is_closed e.state) _ _ tt tt))
 
 udp_read : (unread : List (List ℕ)) (count : ℕ) (e : UdpEnd) (c : Conv) → Answers (conv.udp_read unread count e c)
 udp_read [] count e c = either (is_hung_up e.state) _ _ tt tt

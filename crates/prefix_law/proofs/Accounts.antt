@@ -31,10 +31,10 @@ abbrev pub IsReading : ℕ → ℕ → List (List ℕ) → Type 0
 IsReading taken cut got = ((taken < length got) × ((cut ≡ 0) ⊎ (cut < length (slice_index_or got taken [])))) ⊎ ((taken ≡ length got) × (cut ≡ 0))
 
 abbrev pub given_by : End → List ℕ
-given_by e = given_out e.taken e.cut e.got
+given_by e = given_out e.read_count e.read_offset e.got
 
 abbrev pub Reading : End → Type 0
-Reading e = IsReading e.taken e.cut e.got
+Reading e = IsReading e.read_count e.read_offset e.got
 
 -- a message has 1 to 8,192 bytes
 abbrev pub IsSized : List ℕ → Type 0
@@ -50,7 +50,7 @@ ReadsAll g _ _ = Unit {0}
 
 -- all that will ever come was given
 abbrev pub AtEnd : End → Type 0
-AtEnd e = (e.marked ≡ true) × (e.taken ≡ length e.got) × (e.cut ≡ 0)
+AtEnd e = (e.closed_by_peer ≡ true) × (e.read_count ≡ length e.got) × (e.read_offset ≡ 0)
 
 -- an entry's event and reply say what the end wrote and gave
 pub record Account (g : ℕ) (ev : Event) (r : Reply) (e e' : End) : Type 0 where
@@ -61,7 +61,7 @@ pub record Account (g : ℕ) (ev : Event) (r : Reply) (e e' : End) : Type 0 wher
   -- a read of nothing comes at the end alone
   pub ends : Reading e → AllSized e.got → HasEmpty (read_in g ev r) → AtEnd e × AtEnd e'
   -- reads with room for every message take whole messages
-  pub whole : ReadsAll g ev r → Reading e → AllSized e.got → e.cut ≡ 0 → (e'.cut ≡ 0) × (take e'.taken e'.got ≡ take e.taken e.got ++ filter is_filled (read_in g ev r))
+  pub whole : ReadsAll g ev r → Reading e → AllSized e.got → e.read_offset ≡ 0 → (e'.read_offset ≡ 0) × (take e'.read_count e'.got ≡ take e.read_count e.got ++ filter is_filled (read_in g ev r))
   -- nothing more is read at the end
   pub quiet : AtEnd e → joined (read_in g ev r) ≡ []
   -- the end stays the end, where nothing more comes
@@ -97,15 +97,15 @@ left_account g ev r e e' l silent = record {
   sent_is = rw silent.0 (l.sent_is ∙ sym (append-nil e.sent));
   read_is = λ reading.
       let more = begins_prefix e.got e'.got l.got_more in
-      rw silent.1 (rw (l.taken_is, l.cut_is, ← more.1) (given_more e.taken e.cut e.got more.0 reading ∙ sym (append-nil (given_by e))));
+      rw silent.1 (rw (l.taken_is, l.cut_is, ← more.1) (given_more e.read_count e.read_offset e.got more.0 reading ∙ sym (append-nil (given_by e))));
   reading = λ reading.
       let more = begins_prefix e.got e'.got l.got_more in
-      rw (l.taken_is, l.cut_is, ← more.1) (reading_more e.taken e.cut e.got more.0 reading);
+      rw (l.taken_is, l.cut_is, ← more.1) (reading_more e.read_count e.read_offset e.got more.0 reading);
   sized = λ all. rw l.sent_is all;
   ends = λ _ _ h. absurd (no_empty (read_in g ev r) silent.1 h);
   whole = λ _ reading _ none.
       let more = begins_prefix e.got e'.got l.got_more in
-      (l.cut_is ∙ none, rw silent.1 (rw (l.taken_is, ← more.1) (taken_more e.taken e.cut e.got more.0 reading ∙ sym (append-nil (take e.taken e.got)))));
+      (l.cut_is ∙ none, rw silent.1 (rw (l.taken_is, ← more.1) (taken_more e.read_count e.read_offset e.got more.0 reading ∙ sym (append-nil (take e.read_count e.got)))));
   quiet = λ _. ap joined silent.1;
   stays = λ at back. (l.marked_stays at.0, omega (arith, l.taken_is, at.1, begins_length e.got e'.got l.got_more, begins_length e'.got e.got back), l.cut_is ∙ at.2);
 }
@@ -113,16 +113,16 @@ left_account g ev r e e' l silent = record {
 sized_push : (xs : List (List ℕ)) (y : List ℕ) → IsSized y → AllSized xs → AllSized (xs ++ y ∷ [])
 sized_push xs y some all k t is = elim (in_pushed xs y k t is) [ inl old ↦ all k t old | inr last ↦ subst (λ (u : List ℕ). IsSized u) last.1 some ]
 
-pub sends_account : (g g' : ℕ) (text : List ℕ) (n : ℕ) (e e' : End) → g' ≡ g → e'.sent ≡ e.sent ++ text ∷ [] → e'.taken ≡ e.taken → e'.cut ≡ e.cut → e'.got ≡ e.got → e'.marked ≡ e.marked → IsSized text → Account g (event.Write g' text) (reply.Count n) e e'
-sends_account g g' text n e e' own sent taken cut got marked some = record {
+pub sends_account : (g g' : ℕ) (text : List ℕ) (n : ℕ) (e e' : End) → g' ≡ g → e'.sent ≡ e.sent ++ text ∷ [] → e'.read_count ≡ e.read_count → e'.read_offset ≡ e.read_offset → e'.got ≡ e.got → e'.closed_by_peer ≡ e.closed_by_peer → IsSized text → Account g (event.Write g' text) (reply.Count n) e e'
+sends_account g g' text n e e' own sent taken cut got closed_by_peer some = record {
   sent_is = rw (eq-eqb g' g own) sent;
   read_is = λ reading. rw (taken, cut, got) (sym (append-nil (given_by e)));
   reading = λ reading. rw (taken, cut, got) reading;
   sized = λ all. rw sent (sized_push e.sent text some all);
   ends = λ _ _ h. absurd h;
-  whole = λ _ _ _ none. (cut ∙ none, rw (taken, got) (sym (append-nil (take e.taken e.got))));
+  whole = λ _ _ _ none. (cut ∙ none, rw (taken, got) (sym (append-nil (take e.read_count e.got))));
   quiet = λ _. refl;
-  stays = λ at back. (marked ∙ at.0, omega (arith, taken, at.1, ap length got), cut ∙ at.2);
+  stays = λ at back. (closed_by_peer ∙ at.0, omega (arith, taken, at.1, ap length got), cut ∙ at.2);
 }
 
 pub write_account : (g g' now : ℕ) (text : List ℕ) (n : ℕ) (e : End) → g' ≡ g → IsSized text → Account g (event.Write g' text) (reply.Count n) e (writes_end now text e).end
@@ -148,64 +148,64 @@ one_empty : (xs : List ℕ) → HasEmpty (xs ∷ []) → xs ≡ []
 one_empty xs (inl is) = is
 one_empty xs (inr h) = absurd h
 
-within : (e : End) → e.taken < length e.got → Reading e → AllSized e.got → e.cut < length (slice_index_or e.got e.taken [])
+within : (e : End) → e.read_count < length e.got → Reading e → AllSized e.got → e.read_offset < length (slice_index_or e.got e.read_count [])
 within e there reading all =
-    let here : 0 < length (slice_index_or e.got e.taken []) = (all e.taken (slice_index_or e.got e.taken []) (slice_get-get_or e.got e.taken [] there)).0 in
+    let here : 0 < length (slice_index_or e.got e.read_count []) = (all e.read_count (slice_index_or e.got e.read_count []) (slice_get-get_or e.got e.read_count [] there)).0 in
     elim reading [ inl x ↦ elim x.1 [ inl none ↦ omega (arith, none, here) | inr less ↦ less ] | inr end ↦ absurd (omega (arith, end.0)) ]
 
-some_read : (g g' count : ℕ) (e : End) → g' ≡ g → 0 < count → e.taken < length e.got → Reading e → AllSized e.got → HasEmpty (read_in g (event.Read g' count) (reply.Bytes (take count (first_unread e)))) → ⊥
+some_read : (g g' count : ℕ) (e : End) → g' ≡ g → 0 < count → e.read_count < length e.got → Reading e → AllSized e.got → HasEmpty (read_in g (event.Read g' count) (reply.Bytes (take count (first_unread e)))) → ⊥
 some_read g g' count e own some there reading all h =
     let one : HasEmpty (take count (first_unread e) ∷ []) = rw (eq-eqb g' g own) at h in
-    some_bytes count e.cut (slice_index_or e.got e.taken []) some (within e there reading all) (one_empty (take count (first_unread e)) one)
+    some_bytes count e.read_offset (slice_index_or e.got e.read_count []) some (within e there reading all) (one_empty (take count (first_unread e)) one)
 
-pub read_account : (g g' count : ℕ) (e : End) → g' ≡ g → 0 < count → e.taken < length e.got → Account g (event.Read g' count) (reply.Bytes (take count (first_unread e))) e (reads_end count e)
+pub read_account : (g g' count : ℕ) (e : End) → g' ≡ g → 0 < count → e.read_count < length e.got → Account g (event.Read g' count) (reply.Bytes (take count (first_unread e))) e (reads_end count e)
 read_account g g' count e own some there =
-    let m = slice_index_or e.got e.taken [] in
-    let js = joined (take e.taken e.got) in
+    let m = slice_index_or e.got e.read_count [] in
+    let js = joined (take e.read_count e.got) in
     cond_both (nat_lt count (length (first_unread e))) _ _ (λ (x : End). Account g (event.Read g' count) (reply.Bytes (take count (first_unread e))) e x)
     (λ more. record {
       sent_is = sym (append-nil e.sent);
-      read_is = λ _. rw (eq-eqb g' g own) (rw (take-add e.cut count m) (one_piece js (take e.cut m) (take count (drop e.cut m))));
-      reading = λ _. inl (there, inr (omega (arith, ltb-true count (length (drop e.cut m)) more, length-drop e.cut m)));
+      read_is = λ _. rw (eq-eqb g' g own) (rw (take-add e.read_offset count m) (one_piece js (take e.read_offset m) (take count (drop e.read_offset m))));
+      reading = λ _. inl (there, inr (omega (arith, ltb-true count (length (drop e.read_offset m)) more, length-drop e.read_offset m)));
       sized = λ all. all;
       ends = λ reading all h. absurd (some_read g g' count e own some there reading all h);
-      whole = λ room reading all none. absurd (omega (arith, room own, (all e.taken m (slice_get-get_or e.got e.taken [] there)).1, ltb-true count (length (drop e.cut m)) more, length-drop e.cut m));
+      whole = λ room reading all none. absurd (omega (arith, room own, (all e.read_count m (slice_get-get_or e.got e.read_count [] there)).1, ltb-true count (length (drop e.read_offset m)) more, length-drop e.read_offset m));
       quiet = λ at. absurd (omega (arith, at.1));
       stays = λ at back. absurd (omega (arith, at.1));
     })
     (λ not. record {
       sent_is = sym (append-nil e.sent);
       read_is = λ _.
-          let all : take count (drop e.cut m) ≡ drop e.cut m = take_all count (drop e.cut m) (ltb-false count (length (drop e.cut m)) not) in
-          let next : joined (take (e.taken + 1) e.got) ≡ js ++ ((take e.cut m ++ drop e.cut m) ++ []) =
-          ap joined (take_more e.got e.taken [] there) ∙ (joined-append (take e.taken e.got) (m ∷ []) ∙ ap (λ (x : List ℕ). js ++ (x ++ [])) (sym (take-append-drop e.cut m))) in
-          rw (eq-eqb g' g own) (rw (all, next) (last_piece js (take e.cut m) (drop e.cut m)));
-      reading = λ _. elim (cases_lt (e.taken + 1) (length e.got)) [ inl less ↦ inl (less, inl refl) | inr more ↦ inr (omega arith, refl) ];
+          let all : take count (drop e.read_offset m) ≡ drop e.read_offset m = take_all count (drop e.read_offset m) (ltb-false count (length (drop e.read_offset m)) not) in
+          let next : joined (take (e.read_count + 1) e.got) ≡ js ++ ((take e.read_offset m ++ drop e.read_offset m) ++ []) =
+          ap joined (take_more e.got e.read_count [] there) ∙ (joined-append (take e.read_count e.got) (m ∷ []) ∙ ap (λ (x : List ℕ). js ++ (x ++ [])) (sym (take-append-drop e.read_offset m))) in
+          rw (eq-eqb g' g own) (rw (all, next) (last_piece js (take e.read_offset m) (drop e.read_offset m)));
+      reading = λ _. elim (cases_lt (e.read_count + 1) (length e.got)) [ inl less ↦ inl (less, inl refl) | inr more ↦ inr (omega arith, refl) ];
       sized = λ all. all;
       ends = λ reading all h. absurd (some_read g g' count e own some there reading all h);
       whole = λ room reading all none.
-          let here : IsSized m = all e.taken m (slice_get-get_or e.got e.taken [] there) in
-          let cut_none : drop e.cut m ≡ m = rw none refl in
-          let text_is : take count (drop e.cut m) ≡ m = ap (take count) cut_none ∙ take_all count m (omega (arith, room own, here.1)) in
+          let here : IsSized m = all e.read_count m (slice_get-get_or e.got e.read_count [] there) in
+          let cut_none : drop e.read_offset m ≡ m = rw none refl in
+          let text_is : take count (drop e.read_offset m) ≡ m = ap (take count) cut_none ∙ take_all count m (omega (arith, room own, here.1)) in
           let filled : filter is_filled (m ∷ []) ≡ m ∷ [] = rw (lt-ltb 0 (length m) here.0) refl in
-          (refl, rw (eq-eqb g' g own) (take_more e.got e.taken [] there ∙ ap (λ (xs : List (List ℕ)). take e.taken e.got ++ xs) (sym (ap (λ (x : List ℕ). filter is_filled (x ∷ [])) text_is ∙ filled))));
+          (refl, rw (eq-eqb g' g own) (take_more e.got e.read_count [] there ∙ ap (λ (xs : List (List ℕ)). take e.read_count e.got ++ xs) (sym (ap (λ (x : List ℕ). filter is_filled (x ∷ [])) text_is ∙ filled))));
       quiet = λ at. absurd (omega (arith, at.1));
       stays = λ at back. absurd (omega (arith, at.1));
     })
 
 -- the end of what came gives no bytes
-pub end_account : (g g' count : ℕ) (e : End) → e.marked ≡ true → length e.got ≤ e.taken → Account g (event.Read g' count) (reply.Bytes []) e e
-end_account g g' count e marked all = record {
+pub end_account : (g g' count : ℕ) (e : End) → e.closed_by_peer ≡ true → length e.got ≤ e.read_count → Account g (event.Read g' count) (reply.Bytes []) e e
+end_account g g' count e closed_by_peer all = record {
   sent_is = sym (append-nil e.sent);
   read_is = λ _. cond_both (g' == g) _ _ (λ (xs : List (List ℕ)). given_by e ≡ given_by e ++ joined xs) (λ _. sym (append-nil (given_by e))) (λ _. sym (append-nil (given_by e)));
   reading = λ r. r;
   sized = λ x. x;
   ends = λ reading _ _.
-      let end : (e.taken ≡ length e.got) × (e.cut ≡ 0) = elim reading [ inl x ↦ absurd (omega (arith, x.0)) | inr end ↦ end ] in
-      ((marked, end.0, end.1), (marked, end.0, end.1));
+      let end : (e.read_count ≡ length e.got) × (e.read_offset ≡ 0) = elim reading [ inl x ↦ absurd (omega (arith, x.0)) | inr end ↦ end ] in
+      ((closed_by_peer, end.0, end.1), (closed_by_peer, end.0, end.1));
   whole = λ _ _ _ none. (
     none,
-    cond_both (g' == g) _ _ (λ (xs : List (List ℕ)). take e.taken e.got ≡ take e.taken e.got ++ filter is_filled xs) (λ _. sym (append-nil (take e.taken e.got))) (λ _. sym (append-nil (take e.taken e.got))),
+    cond_both (g' == g) _ _ (λ (xs : List (List ℕ)). take e.read_count e.got ≡ take e.read_count e.got ++ filter is_filled xs) (λ _. sym (append-nil (take e.read_count e.got))) (λ _. sym (append-nil (take e.read_count e.got))),
   );
   quiet = λ _. cond_both (g' == g) _ _ (λ (xs : List (List ℕ)). joined xs ≡ []) (λ _. refl) (λ _. refl);
   stays = λ at _. at;

@@ -54,7 +54,7 @@ refusal_row state.Established now m e e' one l knows =
 refusal_row state.Closing now m e e' one l knows =
     good_if (m.spec == 0) _ _ (λ is. absurd (not_zero m.spec one is)) (λ _. good_same e e' l knows)
 refusal_row state.Closed now m e e' one l knows =
-    good_if (e.marked && (m.spec == 0)) _ _ (λ is. absurd (not_zero m.spec one (and_parts e.marked (m.spec == 0) is).1)) (λ _. good_same e e' l knows)
+    good_if (e.closed_by_peer && (m.spec == 0)) _ _ (λ is. absurd (not_zero m.spec one (and_parts e.closed_by_peer (m.spec == 0) is).1)) (λ _. good_same e e' l knows)
 refusal_row state.Listening now m e e' one l knows = good_same e e' l knows
 
 good_refusal : (now : ℕ) (m : IlMsg) (e e' : End) → Refusal m → Link e e' → Knows e → Good e e' (arrives now m e)
@@ -89,13 +89,13 @@ IdleAs _ = ⊥
 
 -- an end that never connected
 abbrev pub Idle : End → Type 0
-Idle e = IdleAs e.state × (e.marked ≡ false) × (e.timer.due ≡ None) × (e.sent ≡ []) × (e.got ≡ []) × (e.acked ≡ 0)
+Idle e = IdleAs e.state × (e.closed_by_peer ≡ false) × (e.timer.due ≡ None) × (e.sent ≡ []) × (e.got ≡ []) × (e.acked ≡ 0)
 
-idle_closed : (kind : IlKind) (now : ℕ) (m : IlMsg) (e : End) → e.marked ≡ false → at_closed kind now m e ≡ silent e
+idle_closed : (kind : IlKind) (now : ℕ) (m : IlMsg) (e : End) → e.closed_by_peer ≡ false → at_closed kind now m e ≡ silent e
 idle_closed Close now m e unmarked = rw unmarked refl
 idle_closed _ now m e unmarked = refl
 
-idle_row : (s : IlState) (kind : IlKind) (now : ℕ) (m : IlMsg) (e : End) → IdleAs s → e.marked ≡ false → row s kind now m e ≡ silent e
+idle_row : (s : IlState) (kind : IlKind) (now : ℕ) (m : IlMsg) (e : End) → IdleAs s → e.closed_by_peer ≡ false → row s kind now m e ≡ silent e
 idle_row state.Closed kind now m e idle unmarked = idle_closed kind now m e unmarked
 idle_row state.Listening _ now m e idle unmarked = refl
 idle_row _ _ now m e idle unmarked = absurd idle

@@ -66,7 +66,7 @@ pub record EntryAccount (o : Owner) (a : ActorName) (ev : Event) (r : Reply) (e 
   pub reading : Reading e → Reading e'
   pub sized : AllSized e.sent → AllSized e'.sent
   pub ends : Reading e → AllSized e.got → HasEmpty (read_here o a ev r) → AtEnd e × AtEnd e'
-  pub whole : (is_at o a ≡ true → ReadsAll o.generation ev r) → Reading e → AllSized e.got → e.cut ≡ 0 → (e'.cut ≡ 0) × (take e'.taken e'.got ≡ take e.taken e.got ++ filter is_filled (read_here o a ev r))
+  pub whole : (is_at o a ≡ true → ReadsAll o.generation ev r) → Reading e → AllSized e.got → e.read_offset ≡ 0 → (e'.read_offset ≡ 0) × (take e'.read_count e'.got ≡ take e.read_count e.got ++ filter is_filled (read_here o a ev r))
   pub quiet : AtEnd e → joined (read_here o a ev r) ≡ []
   pub stays : AtEnd e → AtEnd e'
 
@@ -77,7 +77,7 @@ no_entry_account o a ev r e n = record {
   reading = λ x. x;
   sized = λ x. x;
   ends = λ _ _ h. absurd (no_empty (read_here o a ev r) n.read_none h);
-  whole = λ _ _ _ none. (none, rw n.read_none (sym (append-nil (take e.taken e.got))));
+  whole = λ _ _ _ none. (none, rw n.read_none (sym (append-nil (take e.read_count e.got))));
   quiet = λ _. ap joined n.read_none;
   stays = λ x. x;
 }
@@ -196,13 +196,13 @@ module _ (h n : ℕ) (ev : Event) (r : Reply) where
       silent : (((h == o.host) && true) && (n == o.slot)) ≡ true → Silent o.generation ev r
       silent is = let parts = and_parts ((h == o.host) && true) (n == o.slot) is in f (eqb-true h o.host (and_parts (h == o.host) true parts.0).0) (eqb-true n o.slot parts.1)
 
-  entry_account : (g : ℕ) (e e' : End) → Account g ev r e e' → (e.marked ≡ true → Begins e'.got e.got) → EntryAccount (record { host = h; slot = n; generation = g }) (actor.Conv h proto.Il n) ev r e e'
+  entry_account : (g : ℕ) (e e' : End) → Account g ev r e e' → (e.closed_by_peer ≡ true → Begins e'.got e.got) → EntryAccount (record { host = h; slot = n; generation = g }) (actor.Conv h proto.Il n) ev r e e'
   entry_account g e e' a back =
       let here : (((h == h) && true) && (n == n)) ≡ true = and_from ((h == h) && true) (n == n) (and_from (h == h) true (eq-eqb h h refl) refl) (eq-eqb n n refl) in
       record { sent_is = rw here a.sent_is; read_is = λ x. rw here (a.read_is x); reading = a.reading; sized = a.sized; ends = λ reading all h. a.ends reading all (rw here at h); whole = λ room reading all none. rw here (a.whole (room here) reading all none); quiet = λ at. rw here (a.quiet at); stays = λ at. a.stays at (back at.0) }
 
   -- the pair's own end takes part, and no other
-  booked_touched : (k : ℕ) (t : Trace) (p : Pair) (turn : Turn) (g : ℕ) → Owned k t → t.owner p ≡ owner_of h n g → Account g ev r (t.side p).end turn.end → ((g' : ℕ) → (g' ≡ g → ⊥) → Silent g' ev r) → ((t.side p).end.marked ≡ true → Begins turn.end.got (t.side p).end.got)
+  booked_touched : (k : ℕ) (t : Trace) (p : Pair) (turn : Turn) (g : ℕ) → Owned k t → t.owner p ≡ owner_of h n g → Account g ev r (t.side p).end turn.end → ((g' : ℕ) → (g' ≡ g → ⊥) → Silent g' ev r) → ((t.side p).end.closed_by_peer ≡ true → Begins turn.end.got (t.side p).end.got)
       → Booked t (touched t p turn) (actor.Conv h proto.Il n) ev r
   booked_touched k t p turn g w is account others back = record {
     had = λ q o owner. inl (owner, had q o owner (same_pair p q) refl);
@@ -227,9 +227,9 @@ module _ (h n : ℕ) (ev : Event) (r : Reply) where
           same_pair_of : (q : Pair) (o : Owner) → t.owner q ≡ Some o → h ≡ o.host → n ≡ o.slot → o.generation ≡ g → same_pair p q ≡ true
           same_pair_of q o owner one two three = same_pair_from p q (w.unique p q o (is ∙ ap (λ (x : Owner). Some x) (same_owner h n g o one two (sym three))) owner)
 
--- a marked end gets no more
-back_touched : (k : ℕ) (t : Trace) (p : Pair) (turn : Turn) (o : Owner) → t.owner p ≡ Some o → Owned k t → Owned (k + 1) (touched t p turn) → (t.side p).end.marked ≡ true → Begins turn.end.got (t.side p).end.got
-back_touched k t p turn o is w w' marked i x there = ((w.talk p).link.all_got marked).1 i x (order i x there)
+-- a closed_by_peer end gets no more
+back_touched : (k : ℕ) (t : Trace) (p : Pair) (turn : Turn) (o : Owner) → t.owner p ≡ Some o → Owned k t → Owned (k + 1) (touched t p turn) → (t.side p).end.closed_by_peer ≡ true → Begins turn.end.got (t.side p).end.got
+back_touched k t p turn o is w w' closed_by_peer i x there = ((w.talk p).link.all_got closed_by_peer).1 i x (order i x there)
   where
     order : Begins turn.end.got (t.side (mirror p)).end.sent
     order =
@@ -275,7 +275,7 @@ module _ (k h n : ℕ) (t : Trace) (w : Owned k t) (now : ℕ) (c : Conv) (e : E
       (booked_touched h n ev s.outcome.reply k t p turn g w is
       (subst (λ (x : Side). Account g ev s.outcome.reply x.end turn.end) (sym empty) (left_account g ev s.outcome.reply fresh_end turn.end l (silent g)))
       (λ g' _. silent g')
-      (λ m. absurd (both_ways m (ap (λ (x : Side). x.end.marked) empty))))
+      (λ m. absurd (both_ways m (ap (λ (x : Side). x.end.closed_by_peer) empty))))
 
   pub conv_booked : Owned (k + 1) (conv_trace s.state.stage s.state.core s.state s.outcome.emit t) → ConvFine t h n (of_end c e) → GiftFine t h n ev gift → Elsewhere c ev s.outcome.reply → Move now c e ev gift s → IsBooked
   conv_booked after fine gift_fine other (Stay turn act st) = stay_booked after c.stage refl fine.0 other turn st

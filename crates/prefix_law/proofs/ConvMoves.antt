@@ -216,9 +216,9 @@ shows_port now g port gift c e Connected is = same now c e _ gift reply.Ok (refl
 reads_il : (now g count : ℕ) (gift : With) (c : Conv) (e : End) → 0 < count → g ≡ c.generation → c.stage ≡ Connected → Moves now c e (event.Read g count) gift (il_read count e (of_end c e))
 reads_il now g count gift c e some mine is =
     let ev = event.Read g count in
-    moves_if now c e _ _ (nat_lt e.taken (length e.got)) _ _
-    (λ there. Stay (silent (reads count e)) (Reading count is refl) (record { generation_is = refl; pair_is = λ _. refl; stage_is = refl; limit_is = refl; core_is = refl; emits = record { by = c; pair_is = refl; emit_is = refl }; account = read_account c.generation g count e mine some (ltb-true e.taken (length e.got) there) }))
-    (λ all. moves_if now c e _ _ e.marked _ _ (λ marked. rests now c c e ev gift (reply.Bytes []) refl refl refl refl (end_account c.generation g count e marked (ltb-false e.taken (length e.got) all)))
+    moves_if now c e _ _ (nat_lt e.read_count (length e.got)) _ _
+    (λ there. Stay (silent (reads count e)) (Reading count is refl) (record { generation_is = refl; pair_is = λ _. refl; stage_is = refl; limit_is = refl; core_is = refl; emits = record { by = c; pair_is = refl; emit_is = refl }; account = read_account c.generation g count e mine some (ltb-true e.read_count (length e.got) there) }))
+    (λ all. moves_if now c e _ _ e.closed_by_peer _ _ (λ closed_by_peer. rests now c c e ev gift (reply.Bytes []) refl refl refl refl (end_account c.generation g count e closed_by_peer (ltb-false e.read_count (length e.got) all)))
     (λ _. moves_if now c e _ _ (is_closed e.state) _ _ (λ _. same now c e ev gift (reply.Hungup (cause_of e)) (refl, refl)) (λ _. tt)))
 
 reads_at : (now g count : ℕ) (gift : With) (c : Conv) (e : End) (s : Stage) → 0 < count → g ≡ c.generation → c.stage ≡ s → Moves now c e (event.Read g count) gift (read_at s (Il e) count (of_end c e))

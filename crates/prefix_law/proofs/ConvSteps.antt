@@ -76,7 +76,7 @@ keeps k h n t s w fine not none =
       later = record { owner_stays = λ p o is. is; out_stays = λ p m there. there };
       emitted = subst (λ (x : Option Packet). EmittedIf t x) (sym none) tt;
       still = λ q o owns other. refl;
-      marked = λ q is. inl is;
+      closed_by_peer = λ q is. inl is;
       says = λ q m there. inl there;
     })
 
@@ -113,7 +113,7 @@ module _ (k h n : ℕ) (t : Trace) (few : k < 2 ^ 31) (w : Owned k t) (now : ℕ
       (λ is_marked. heard (act_marked now c (t.side p).end ev gift turn (subst (λ (x : End). Act now c x ev gift turn) (sym has.1) act) is_marked)))
     where
       -- the other end said the close that comes
-      heard : ((t.side c.pair).end.marked ≡ true) ⊎ CloseComes c ev gift → ((t.side c.pair).end.marked ≡ true) ⊎ HeardClose t c.pair
+      heard : ((t.side c.pair).end.closed_by_peer ≡ true) ⊎ CloseComes c ev gift → ((t.side c.pair).end.closed_by_peer ≡ true) ⊎ HeardClose t c.pair
       heard (inl old) = inl old
       heard (inr x) =
           let fine : GiftFine t h n (event.ArriveAt c.generation) (given.Packet x.packet) = subst (λ (g : With). GiftFine t h n (event.ArriveAt c.generation) g) x.given_is (subst (λ (y : Event). GiftFine t h n y gift) x.event_is gift_fine) in
@@ -164,7 +164,7 @@ module _ (k h n : ℕ) (t : Trace) (few : k < 2 ^ 31) (w : Owned k t) (now : ℕ
       (good_connects now j.start (t.side p).end (t.side (mirror p)).end (ap (λ (x : Side). x.end.fresh) empty) (ap (λ (x : Side). x.end.cause) empty) holds.link holds.knows) in
       subst (λ (u : Trace). ConvStep k h n t u s) (trace_touched t p (connects now j.start e) s j.stage_is j.core_is j.pair_is j.emits)
       (touches t p (connects now j.start e) k h n c.generation c s owner (omega arith) not_yet w good j.generation_is j.pair_is j.stage_is j.core_is j.emits
-      (λ is_marked. absurd (both_ways is_marked (ap (λ (x : End). x.marked) end_is))))
+      (λ is_marked. absurd (both_ways is_marked (ap (λ (x : End). x.closed_by_peer) end_is))))
 
   come : NotYet t h n c → GiftFine t h n ev gift → Comes now c ev gift s → ConvStep k h n t (conv_trace s.state.stage s.state.core s.state s.outcome.emit t) s
   come not_yet gift_fine x =

@@ -167,21 +167,21 @@ module _ (w : World) (world : IsWorld w) where
                 let same : q ≡ p = (kept_at w world h legal).fine.owned.unique q p o (owner_stays h legal (suc k) q o has) owns in
                 none-some o (sym is ∙ subst (λ (x : Pair). (trace w (take (suc k) h)).owner x ≡ Some o) same has)
 
-    marked : ((trace w before).side p).end.marked ≡ true
-    marked = go ((booked_at before r.entry d).had p o (subst (λ (xs : List Entry). (trace w xs).owner p ≡ Some o) r.stands had_pair))
+    closed_by_peer : ((trace w before).side p).end.closed_by_peer ≡ true
+    closed_by_peer = go ((booked_at before r.entry d).had p o (subst (λ (xs : List Entry). (trace w xs).owner p ≡ Some o) r.stands had_pair))
       where
         some : HasEmpty (read_here o r.entry.actor r.entry.event r.entry.reply)
         some = subst HasEmpty (sym r.here) (inl refl)
 
         go : (((trace w before).owner p ≡ Some o) × EntryAccount o r.entry.actor r.entry.event r.entry.reply ((trace w before).side p).end ((trace w (before ++ r.entry ∷ [])).side p).end)
             ⊎ (((q : Pair) → (trace w before).owner q ≡ Some o → ⊥) × ((trace w (before ++ r.entry ∷ [])).side p ≡ empty_side) × NoEntry o r.entry.actor r.entry.event r.entry.reply)
-            → ((trace w before).side p).end.marked ≡ true
+            → ((trace w before).side p).end.closed_by_peer ≡ true
         go (inl old) = (old.1.ends (kept.books.reading p o old.0) (got_sized (length before) (trace w before) before kept.fine.owned kept.books p) some).0.0
         go (inr new) = absurd (no_empty (read_here o r.entry.actor r.entry.event r.entry.reply) new.2.read_none some)
 
     -- the other end closed before
     pub closed_before : (f : Owner) → (trace w h).owner (mirror p) ≡ Some f → HasClosed w (take k h) (conv_of f)
     closed_before f is =
-        let c = closed_by w world before legal_before p marked in
+        let c = closed_by w world before legal_before p closed_by_peer in
         let same : c.0 ≡ f = same_Some c.0 f (sym (owner_stays h legal k (mirror p) c.0 c.1) ∙ is) in
         subst (λ (x : Owner). HasClosed w (take k h) (conv_of x)) same c.2

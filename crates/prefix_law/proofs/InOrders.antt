@@ -105,22 +105,22 @@ in_order w h e f world legal il is = record {
     bytes =
         subst (λ (xs : List ℕ). IsPrefix xs (joined (writes h f))) given
         (subst (λ (ys : List (List ℕ)). IsPrefix (given_by near) (joined ys)) written
-        (prefix_trans (given_by near) (joined near.got) (joined far.sent) (given_prefix near.taken near.cut near.got (kept.books.reading p (owner_in e) own.1)) (joined_prefix near.got far.sent begun)))
+        (prefix_trans (given_by near) (joined near.got) (joined far.sent) (given_prefix near.read_count near.read_offset near.got (kept.books.reading p (owner_in e) own.1)) (joined_prefix near.got far.sent begun)))
 
     messages : HaveRoom h e → IsPrefix (filter is_filled (reads h e)) (writes h f)
     messages room =
         let whole = (given_whole w world h legal p (owner_in e) own.1 (subst (λ (x : Conversation). HaveRoom h x) (sym e_is) room)).1 in
-        let texts : take near.taken near.got ≡ filter is_filled (reads h e) = whole ∙ ap (λ (x : Conversation). filter is_filled (reads h x)) e_is in
+        let texts : take near.read_count near.got ≡ filter is_filled (reads h e) = whole ∙ ap (λ (x : Conversation). filter is_filled (reads h x)) e_is in
         subst (λ (xs : List (List ℕ)). IsPrefix xs (writes h f)) texts
-        (subst (λ (ys : List (List ℕ)). IsPrefix (take near.taken near.got) ys) written
-        (prefix_trans (take near.taken near.got) near.got far.sent (drop near.taken near.got, take-append-drop near.taken near.got) begun))
+        (subst (λ (ys : List (List ℕ)). IsPrefix (take near.read_count near.got) ys) written
+        (prefix_trans (take near.read_count near.got) near.got far.sent (drop near.read_count near.got, take-append-drop near.read_count near.got) begun))
 
     all_read : HasEmpty (reads h e) → joined (reads h e) ≡ joined (writes h f)
     all_read empty =
         let at : AtEnd near = kept.books.ended p (owner_in e) own.1 (subst (λ (x : Conversation). HasEmpty (reads h x)) (sym e_is) empty) in
         let link = (kept.fine.owned.talk p).link in
         let all : near.got ≡ far.sent = begins_same near.got far.sent link.in_order (link.all_got at.0).1 in
-        sym given ∙ (given_all near.taken near.cut near.got at.1 at.2 ∙ ap joined (all ∙ written))
+        sym given ∙ (given_all near.read_count near.read_offset near.got at.1 at.2 ∙ ap joined (all ∙ written))
 
     at_end : (k : ℕ) → IsEndOfFile h e k → Reads h (owner_in e) k
     at_end k eof = reads_nothing h (owner_in e) k eof.0 (subst (λ (x : Conversation). IsRead h x k eof.0 []) (sym e_is) eof.1)

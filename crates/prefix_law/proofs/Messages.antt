@@ -57,12 +57,12 @@ room_here o h x room here = by_event x.event refl
 abbrev pub GivenWhole : Trace → List Entry → Type 0
 GivenWhole t h =
     (p : Pair) (o : Owner) → t.owner p ≡ Some o → HaveRoom h (conv_of o)
-    → ((t.side p).end.cut ≡ 0) × (take (t.side p).end.taken (t.side p).end.got ≡ filter is_filled (reads o h))
+    → ((t.side p).end.read_offset ≡ 0) × (take (t.side p).end.read_count (t.side p).end.got ≡ filter is_filled (reads o h))
 
 module _ (w : World) (world : IsWorld w) where
   more : (h : List Entry) (x : Entry) → IsLegal w h → MayFollow w h x → GivenWhole (trace w h) h → GivenWhole (trace w (h ++ x ∷ [])) (h ++ x ∷ [])
   more h x legal may before = λ p o owns room.
-      subst (λ (s : Side). (s.end.cut ≡ 0) × (take s.end.taken s.end.got ≡ filter is_filled (reads o (h ++ x ∷ [])))) (sym (ap (λ (t : Trace). t.side p) d.trace_is))
+      subst (λ (s : Side). (s.end.read_offset ≡ 0) × (take s.end.read_count s.end.got ≡ filter is_filled (reads o (h ++ x ∷ [])))) (sym (ap (λ (t : Trace). t.side p) d.trace_is))
       (whole p o room (booked.had p o (sym (ap (λ (t : Trace). t.owner p) d.trace_is) ∙ owns)))
     where
       t : Trace
@@ -82,7 +82,7 @@ module _ (w : World) (world : IsWorld w) where
 
       whole : (p : Pair) (o : Owner) → HaveRoom (h ++ x ∷ []) (conv_of o)
           → ((t.owner p ≡ Some o) × EntryAccount o x.actor x.event x.reply (t.side p).end (u.side p).end) ⊎ (((q : Pair) → t.owner q ≡ Some o → ⊥) × (u.side p ≡ empty_side) × NoEntry o x.actor x.event x.reply)
-          → ((u.side p).end.cut ≡ 0) × (take (u.side p).end.taken (u.side p).end.got ≡ filter is_filled (reads o (h ++ x ∷ [])))
+          → ((u.side p).end.read_offset ≡ 0) × (take (u.side p).end.read_count (u.side p).end.got ≡ filter is_filled (reads o (h ++ x ∷ [])))
       whole p o room (inl old) =
           let here = read_here o x.actor x.event x.reply in
           let was = before p o old.0 (room_before h x (conv_of o) room) in
@@ -91,8 +91,8 @@ module _ (w : World) (world : IsWorld w) where
           (now.0, now.1 ∙ (ap (λ (xs : List (List ℕ)). xs ++ filter is_filled here) was.1 ∙ sym read))
       whole p o room (inr new) =
           let none : reads o (h ++ x ∷ []) ≡ [] = rw (reads_push o h x) (rw ((kept.books.none o new.0).1, new.2.read_none) refl) in (
-            ap (λ (s : Side). s.end.cut) new.1,
-            ap (λ (s : Side). take s.end.taken s.end.got) new.1 ∙ sym (ap (filter is_filled) none),
+            ap (λ (s : Side). s.end.read_offset) new.1,
+            ap (λ (s : Side). take s.end.read_count s.end.got) new.1 ∙ sym (ap (filter is_filled) none),
           )
 
   pub given_whole : (h : List Entry) → IsLegal w h → GivenWhole (trace w h) h

@@ -73,7 +73,7 @@ alone w h e world legal il is =
     unmet : (p : Pair) → t.owner p ≡ Some o → t.side (mirror p) ≡ empty_side → Alone w h (conv_of o)
     unmet p owns empty = record {
       got = last.got_is ∙ none;
-      unread = no_texts _ (sym (kept.books.given_is p o owns) ∙ nothing_given near.taken near.cut near.got none) (λ read. absurd (none-some _ (bond.all_got (kept.books.ended p o owns read).0).0.1));
+      unread = no_texts _ (sym (kept.books.given_is p o owns) ∙ nothing_given near.read_count near.read_offset near.got none) (λ read. absurd (none-some _ (bond.all_got (kept.books.ended p o owns read).0).0.1));
       unacked = last.acked_is ∙ omega (arith, bond.acked_got);
     }
       where
@@ -83,8 +83,8 @@ alone w h e world legal il is =
         last : Same (stood w h (conv_of o)) near
         last = (all_stood w world h legal).had p o owns
 
-        bond : Bond near.rstart near.acked near.got near.early near.marked fresh_end.start fresh_end.fresh fresh_end.sent fresh_end.got fresh_end.cause
-        bond = subst (λ (s : Side). Bond near.rstart near.acked near.got near.early near.marked s.end.start s.end.fresh s.end.sent s.end.got s.end.cause) empty (kept.fine.owned.talk p).link
+        bond : Bond near.rstart near.acked near.got near.early near.closed_by_peer fresh_end.start fresh_end.fresh fresh_end.sent fresh_end.got fresh_end.cause
+        bond = subst (λ (s : Side). Bond near.rstart near.acked near.got near.early near.closed_by_peer s.end.start s.end.fresh s.end.sent s.end.got s.end.cause) empty (kept.fine.owned.talk p).link
 
         none : near.got ≡ []
         none = no_length near.got (begins_length near.got [] bond.in_order)

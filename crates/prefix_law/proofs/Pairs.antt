@@ -71,7 +71,7 @@ does s out (Is_born now start which) = born_from now start s (slice_get out whic
 does s out Is_announced = if s.end.fresh then record s { end = announced s.end } else s
 does s out (Writes now text) =
     if may_write s.end.state && nat_lt (length s.end.sent - s.end.acked) 20 then leaves s (writes now text s.end) else s
-does s out (Reads count) = if nat_lt s.end.taken (length s.end.got) then record s { end = reads count s.end } else s
+does s out (Reads count) = if nat_lt s.end.read_count (length s.end.got) then record s { end = reads count s.end } else s
 does s out (Arrives now which) = comes_to now s (slice_get out which)
 does s out (Hangs_up now) = leaves s (hangs_up now s.end)
 does s out (Ticks now) = leaves s (ticks now s.end)

@@ -10,7 +10,7 @@ use Rattle.net_base.specs.declared.il.IlState.TheVariants.{Closed, Syncer, Synce
 use Rattle.net_base.specs.declared.il.Cause.{Cause}
 use Rattle.net_base.specs.declared.il.Cause.TheVariants as cause
 use Rattle.net_base.specs.Number.{id_of, number}
-use Rattle.net_base.specs.IlEnd.{End, rstart_of, recvd, silent, says, hears, establishes, closes, hears_ack, accepts}
+use Rattle.net_base.specs.IlEnd.{End, rstart_of, recvd, silent, emitting, hears, establishes, closes, hears_ack, accepts}
 use Rattle.net_base.specs.IlTable.{is_sized, refuses, at_syncer, at_syncee, at_established, at_closing, at_closed, row, arrives}
 use Rattle.prefix_law.proofs.Ids.{id_of_same}
 use Rattle.prefix_law.proofs.Begins.{begins_itself, begins_length, begins_back}
@@ -56,7 +56,7 @@ accepted now m e0 e' e few back n c t = accepts_talks m e0 e' (hears_ack now m e
 
 -- a close that comes after the last message marks the end
 all_came : (now : ℕ) (m : IlMsg) (e0 e' e : End) → Few e e' → Closes e'.start e'.sent e'.cause m → Talking e0 e' e → Talking e0 e' (hears_ack now m e) → m.id ≡ recvd e
-    → Talking e0 e' (closes (Some cause.ByPeer) (record (hears_ack now m e) { marked = true }))
+    → Talking e0 e' (closes (Some cause.ByPeer) (record (hears_ack now m e) { closed_by_peer = true }))
 all_came now m e0 e' e few c t talks last =
     let got_few : length e.got < 2 ^ 31 = omega (arith, few.1, begins_length e.got e'.sent t.0.in_order) in
     let ids : id_of e'.start (length e.got) ≡ id_of e'.start (length e'.sent) = ap (λ (r : ℕ). id_of r (length e.got)) (sym (rstart_known e0 e' e t)) ∙ (sym last ∙ c.id_is) in
@@ -92,7 +92,7 @@ good_established Close now m e0 e' e few back s t =
     let talks : Talking e0 e' (hears_ack now m e) = heard now m e0 e' e few back s.0 t in
     good_if (m.spec == 0) _ _
     (λ _. good_if (m.id == recvd e) _ _
-    (λ last. good_close e0 e' (closes (Some cause.ByPeer) (record (hears_ack now m e) { marked = true })) (all_came now m e0 e' e few s.1 t talks (eqb-true m.id (recvd e) last)) (cause.ByPeer, refl))
+    (λ last. good_close e0 e' (closes (Some cause.ByPeer) (record (hears_ack now m e) { closed_by_peer = true })) (all_came now m e0 e' e few s.1 t talks (eqb-true m.id (recvd e) last)) (cause.ByPeer, refl))
     (λ _. good_state e0 e' (hears_ack now m e) talks))
     (λ _. good_silent e0 e' e t)
 
@@ -104,11 +104,11 @@ good_closing Ack now m e0 e' e why few back s t = good_silent e0 e' (hears_ack n
 good_closing Query now m e0 e' e why few back s t = let talks : Talking e0 e' (hears_ack now m e) = heard now m e0 e' e few back s t in good_close e0 e' (hears_ack now m e) talks (talks.2.no_more why).0
 good_closing State now m e0 e' e why few back s t =
     let talks : Talking e0 e' (hears_ack now m e) = heard now m e0 e' e few back s t in
-    good_again e0 e' (hears_ack now m e) (says Close (hears_ack now m e)) talks (good_close e0 e' (hears_ack now m e) talks (talks.2.no_more why).0)
+    good_again e0 e' (hears_ack now m e) (emitting Close (hears_ack now m e)) talks (good_close e0 e' (hears_ack now m e) talks (talks.2.no_more why).0)
 good_closing Close now m e0 e' e why few back s t =
     let talks : Talking e0 e' (hears_ack now m e) = heard now m e0 e' e few back s.0 t in
     good_if (m.spec == 0) _ _
-    (λ _. record { link = talks.0; knows = (tt, λ h. (talks.1, (t.2.no_more why).0), met_untold _ _ talks.1); grows = growth_at e0 (hears_ack now m e) e.cause (talks.2) (t.2.no_more why).0; says = tt })
+    (λ _. record { link = talks.0; knows = (tt, λ h. (talks.1, (t.2.no_more why).0), met_untold _ _ talks.1); grows = growth_at e0 (hears_ack now m e) e.cause (talks.2) (t.2.no_more why).0; emitting = tt })
     (λ _. good_silent e0 e' e t)
 
 -- an end that has met the other
@@ -144,7 +144,7 @@ good_syncer Sync now m e e' few l back knows as_s old s =
     (λ _. good_same e e' l knows)
 good_syncer Close now m e e' few l back knows as_s old s =
     good_if ((m.spec == 1) && (m.ack == e.start)) _ _
-    (λ _. record { link = l; knows = (tt, λ h. ((knows.1 h).0, (cause.Refused, refl)), knows.2); grows = gets_cause e cause.Refused; says = tt })
+    (λ _. record { link = l; knows = (tt, λ h. ((knows.1 h).0, (cause.Refused, refl)), knows.2); grows = gets_cause e cause.Refused; emitting = tt })
     (λ _. good_same e e' l knows)
 good_syncer _ now m e e' few l back knows as_s old s = good_same e e' l knows
 
@@ -158,8 +158,8 @@ good_syncee kind now m e e' few l back knows as_s old s =
 
 good_closed : (kind : IlKind) (now : ℕ) (m : IlMsg) (e e' : End) → Link e e' → Knows e → Good e e' (at_closed kind now m e)
 good_closed Close now m e e' l knows =
-    good_if (e.marked && (m.spec == 0)) _ _
-    (λ tests. let marked = knows.1 (and_parts e.marked (m.spec == 0) tests).0 in good_close e e' (hears now e) (talking e e' l marked.0 knows) marked.1)
+    good_if (e.closed_by_peer && (m.spec == 0)) _ _
+    (λ tests. let closed_by_peer = knows.1 (and_parts e.closed_by_peer (m.spec == 0) tests).0 in good_close e e' (hears now e) (talking e e' l closed_by_peer.0 knows) closed_by_peer.1)
     (λ _. good_same e e' l knows)
 good_closed _ now m e e' l knows = good_same e e' l knows
 

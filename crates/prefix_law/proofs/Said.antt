@@ -1,4 +1,4 @@
--- What an end has said was emitted by an entry of its conversation, and an end is marked by a close that the other said.
+-- What an end has said was emitted by an entry of its conversation, and an end is closed_by_peer by a close that the other said.
 use Rattle.std.proofs.Common.{◌≡◌, ℕ, true, false, List, [], ◌∷◌, ◌++◌, length, Option, Some, None, slice_get, ◌⊎◌, inl, inr, refl, sym, ap, subst, ◌∙◌}
 use Rattle.std.specs.Option.{option_map}
 use Rattle.std.proofs.lemmas.Option.{none-some, same_Some}
@@ -37,8 +37,8 @@ pub record Emitted (h : List Entry) (o : Owner) (q : Pair) (m : IlMsg) : Type 0 
 
 pub record Said (t : Trace) (h : List Entry) : Type 0 where
   pub emitted : (q : Pair) (o : Owner) (m : IlMsg) → t.owner q ≡ Some o → IsIn m (t.side q).out → Emitted h o q m
-  -- the other end of a marked one has said a close
-  pub marked : (q : Pair) → (t.side q).end.marked ≡ true → HeardClose t q
+  -- the other end of a closed_by_peer one has said a close
+  pub closed_by_peer : (q : Pair) → (t.side q).end.closed_by_peer ≡ true → HeardClose t q
 
 emitted_pushed : (h : List Entry) (x : Entry) (o : Owner) (q : Pair) (m : IlMsg) → Emitted h o q m → Emitted (h ++ x ∷ []) o q m
 emitted_pushed h x o q m e = record { k = e.k; entry = e.entry; by = e.by; stands = before_push h x e.entry e.k e.stands; actor_is = e.actor_is; pair_is = e.pair_is; emits_is = e.emits_is }
@@ -53,7 +53,7 @@ module _ (w : World) (world : IsWorld w) where
       go None is = absurd (subst (λ (s : Side). IsIn m s.out) ((kept_at w world h legal).fine.owned.untouched q is) there)
 
   more : (h : List Entry) (x : Entry) → IsLegal w h → MayFollow w h x → Said (trace w h) h → Said (trace w (h ++ x ∷ [])) (h ++ x ∷ [])
-  more h x legal may before = subst (λ (u : Trace). Said u (h ++ x ∷ [])) (sym d.trace_is) (record { emitted = emitted; marked = marked })
+  more h x legal may before = subst (λ (u : Trace). Said u (h ++ x ∷ [])) (sym d.trace_is) (record { emitted = emitted; closed_by_peer = closed_by_peer })
     where
       t : Trace
       t = trace w h
@@ -81,21 +81,21 @@ module _ (w : World) (world : IsWorld w) where
       later : (q : Pair) → HeardClose t q → HeardClose u q
       later q heard = record { m = heard.m; there = d.leaves.later.out_stays (mirror q) heard.m heard.there; kind_is = heard.kind_is; spec_is = heard.spec_is }
 
-      marked : (q : Pair) → (u.side q).end.marked ≡ true → HeardClose u q
-      marked q is = elim (d.leaves.marked q is) [ inl old ↦ later q (before.marked q old) | inr heard ↦ later q heard ]
+      closed_by_peer : (q : Pair) → (u.side q).end.closed_by_peer ≡ true → HeardClose u q
+      closed_by_peer q is = elim (d.leaves.closed_by_peer q is) [ inl old ↦ later q (before.closed_by_peer q old) | inr heard ↦ later q heard ]
 
   pub all_said : (h : List Entry) → IsLegal w h → Said (trace w h) h
   all_said h legal =
-      by_entries w (λ (k : List Entry). Said (trace w k) k) (record { emitted = λ q o m is. absurd (none-some o is); marked = λ q is. absurd (unmarked is) }) more h legal
+      by_entries w (λ (k : List Entry). Said (trace w k) k) (record { emitted = λ q o m is. absurd (none-some o is); closed_by_peer = λ q is. absurd (unmarked is) }) more h legal
     where
       unmarked : false ≡ true → ⊥
       unmarked is = cc is
 
-  -- the other end of a marked one is a conversation's, which has closed
-  pub closed_by : (h : List Entry) → IsLegal w h → (q : Pair) → ((trace w h).side q).end.marked ≡ true → (o : Owner) × ((trace w h).owner (mirror q) ≡ Some o) × HasClosed w h (conv_of o)
+  -- the other end of a closed_by_peer one is a conversation's, which has closed
+  pub closed_by : (h : List Entry) → IsLegal w h → (q : Pair) → ((trace w h).side q).end.closed_by_peer ≡ true → (o : Owner) × ((trace w h).owner (mirror q) ≡ Some o) × HasClosed w h (conv_of o)
   closed_by h legal q is =
       let said = all_said h legal in
-      let heard = said.marked q is in
+      let heard = said.closed_by_peer q is in
       let who = speaker h legal (mirror q) heard.m heard.there in
       let e = said.emitted (mirror q) who.0 heard.m who.1 heard.there in
       let unique = (kept_at w world h legal).fine.owned.unique in (

@@ -9,7 +9,7 @@ use Rattle.net_base.specs.declared.il.IlState.{IlState}
 use Rattle.net_base.specs.declared.il.IlState.TheVariants.{Syncer, Syncee, Established, Closing}
 use Rattle.net_base.specs.declared.il.Cause.{Cause}
 use Rattle.net_base.specs.Number.{id_of, number}
-use Rattle.net_base.specs.IlEnd.{Early, End, Turn, rstart_of, next, recvd, standing, message, silent, says, syncs, sends_again, has_unacked, hears, acked_to, hears_ack, early_at, without, becomes_early, comes_in_turn, come_in_turn, accepts}
+use Rattle.net_base.specs.IlEnd.{Early, End, Turn, rstart_of, next, recvd, backlog, message, silent, emitting, syncs, retransmits, has_unacked, hears, acked_to, hears_ack, early_at, without, becomes_early, comes_in_turn, come_in_turn, accepts}
 use Rattle.prefix_law.proofs.Ids.{number_meant}
 use Rattle.prefix_law.proofs.Begins.{Begins, begins_itself, begins_more, pushed_begins, begins_length}
 
@@ -87,7 +87,7 @@ pub met_untold : {rstart : Option ℕ} {fresh : Bool} (sent got : List (List ℕ
 met_untold sent got met none = absurd (none-some met.r (sym none ∙ met.rstart_is))
 
 abbrev pub Knows : End → Type 0
-Knows e = KnowsAs e.state e.rstart e.fresh e.cause × (e.marked ≡ true → HasMet e × HasCause e.cause) × Untold e.rstart e.sent e.got
+Knows e = KnowsAs e.state e.rstart e.fresh e.cause × (e.closed_by_peer ≡ true → HasMet e × HasCause e.cause) × Untold e.rstart e.sent e.got
 
 -- what only grows
 pub record Growth (start start' : ℕ) (fresh fresh' : Bool) (rstart rstart' : Option ℕ) (sent sent' got got' : List (List ℕ)) (cause cause' : Option Cause) : Type 0 where
@@ -155,16 +155,16 @@ EarlyIn sent [] = Unit {0}
 EarlyIn sent (x ∷ xs) = ((k : ℕ) × (x.number ≡ k + 1) × (slice_get sent k ≡ Some x.text)) × EarlyIn sent xs
 
 -- what an end has from the other, which has this start and these lists
-pub record Bond (rstart : Option ℕ) (acked : ℕ) (got : List (List ℕ)) (early : List Early) (marked : Bool) (start' : ℕ) (fresh' : Bool) (sent' got' : List (List ℕ)) (cause' : Option Cause) : Type 0 where
+pub record Bond (rstart : Option ℕ) (acked : ℕ) (got : List (List ℕ)) (early : List Early) (closed_by_peer : Bool) (start' : ℕ) (fresh' : Bool) (sent' got' : List (List ℕ)) (cause' : Option Cause) : Type 0 where
   pub rstart_is : (r : ℕ) → rstart ≡ Some r → (r ≡ start') × (fresh' ≡ false)
   pub in_order : Begins got sent'
   pub early_is : EarlyIn sent' early
   pub acked_got : acked ≤ length got'
-  -- a marked end has all that the other wrote, who writes no more
-  pub all_got : marked ≡ true → HasCause cause' × Begins sent' got
+  -- a closed_by_peer end has all that the other wrote, who writes no more
+  pub all_got : closed_by_peer ≡ true → HasCause cause' × Begins sent' got
 
 abbrev pub Link : End → End → Type 0
-Link e e' = Bond e.rstart e.acked e.got e.early e.marked e'.start e'.fresh e'.sent e'.got e'.cause
+Link e e' = Bond e.rstart e.acked e.got e.early e.closed_by_peer e'.start e'.fresh e'.sent e'.got e'.cause
 
 early_in_more : (xs ys : List (List ℕ)) (es : List Early) → Begins xs ys → EarlyIn xs es → EarlyIn ys es
 early_in_more xs ys [] begins all = tt
@@ -221,7 +221,7 @@ Written sent k text = (j : ℕ) × (k ≡ j + 1) × (slice_get sent j ≡ Some t
 becomes_early_talks : (found : Option ℕ) (text : List ℕ) (e0 e' e : End) → ((k : ℕ) → found ≡ Some k → Written e'.sent k text) → Talking e0 e' e → Talking e0 e' (becomes_early found text e)
 becomes_early_talks None text e0 e' e written t = t
 becomes_early_talks (Some k) text e0 e' e written t =
-    cond_both (is_some (early_at k e.early) || nat_le 64 (standing e)) _ _ (λ x. Talking e0 e' x)
+    cond_both (is_some (early_at k e.early) || nat_le 64 (backlog e)) _ _ (λ x. Talking e0 e' x)
     (λ _. t)
     (λ _. (record { rstart_is = t.0.rstart_is; in_order = t.0.in_order; early_is = (written k refl, t.0.early_is); acked_got = t.0.acked_got; all_got = t.0.all_got }, t.1, t.2, t.3))
 
@@ -297,17 +297,17 @@ pub record Good (e0 e' : End) (turn : Turn) : Type 0 where
   pub link : Link turn.end e'
   pub knows : Knows turn.end
   pub grows : Grows e0 turn.end
-  pub says : Says turn.emits turn.end
+  pub emitting : Says turn.emits turn.end
 
 pub good_if : {e0 e' : End} (b : Bool) (x y : Turn) → (b ≡ true → Good e0 e' x) → (b ≡ false → Good e0 e' y) → Good e0 e' (cond b x y)
 good_if {e0} {e'} b x y f g = cond_both b x y (λ t. Good e0 e' t) f g
 
 -- nothing changes
 pub good_same : (e e' : End) → Link e e' → Knows e → Good e e' (silent e)
-good_same e e' l k = record { link = l; knows = k; grows = grows_itself e; says = tt }
+good_same e e' l k = record { link = l; knows = k; grows = grows_itself e; emitting = tt }
 
 pub good_silent : (e0 e' e : End) → Talking e0 e' e → Good e0 e' (silent e)
-good_silent e0 e' e t = record { link = t.0; knows = t.3; grows = t.2; says = tt }
+good_silent e0 e' e t = record { link = t.0; knows = t.3; grows = t.2; emitting = tt }
 
 -- what an end says with the ids of its last messages
 pub last_numbered : (kind : IlKind) (text : List ℕ) (e : End) → HasMet e → Numbered e.start e.rstart e.sent e.got (message kind (next e) (recvd e) text)
@@ -322,25 +322,25 @@ last_numbered kind text e met = record {
   ack_is = ap (λ (o : Option ℕ). id_of (unwrap_or o 0) (length e.got)) met.rstart_is;
 }
 
-good_says : (kind : IlKind) (e0 e' e : End) → Talking e0 e' e → SoundAs kind e.start e.rstart e.sent e.got e.cause (message kind (next e) (recvd e) []) → Good e0 e' (says kind e)
-good_says kind e0 e' e t sound = record { link = t.0; knows = t.3; grows = t.2; says = (t.1.not_fresh, sound) }
+good_says : (kind : IlKind) (e0 e' e : End) → Talking e0 e' e → SoundAs kind e.start e.rstart e.sent e.got e.cause (message kind (next e) (recvd e) []) → Good e0 e' (emitting kind e)
+good_says kind e0 e' e t sound = record { link = t.0; knows = t.3; grows = t.2; emitting = (t.1.not_fresh, sound) }
 
-pub good_ack : (e0 e' e : End) → Talking e0 e' e → Good e0 e' (says Ack e)
+pub good_ack : (e0 e' e : End) → Talking e0 e' e → Good e0 e' (emitting Ack e)
 good_ack e0 e' e t = good_says Ack e0 e' e t (last_numbered Ack [] e t.1)
 
-pub good_query : (e0 e' e : End) → Talking e0 e' e → Good e0 e' (says Query e)
+pub good_query : (e0 e' e : End) → Talking e0 e' e → Good e0 e' (emitting Query e)
 good_query e0 e' e t = good_says Query e0 e' e t (last_numbered Query [] e t.1)
 
-pub good_state : (e0 e' e : End) → Talking e0 e' e → Good e0 e' (says State e)
+pub good_state : (e0 e' e : End) → Talking e0 e' e → Good e0 e' (emitting State e)
 good_state e0 e' e t = good_says State e0 e' e t (last_numbered State [] e t.1)
 
-pub good_close : (e0 e' e : End) → Talking e0 e' e → HasCause e.cause → Good e0 e' (says Close e)
+pub good_close : (e0 e' e : End) → Talking e0 e' e → HasCause e.cause → Good e0 e' (emitting Close e)
 good_close e0 e' e t why = good_says Close e0 e' e t (last_numbered Close [] e t.1, record { id_is = refl; has_cause = why })
 
 pub good_sync : (e0 e' e : End) → Talking e0 e' e → Good e0 e' (syncs e)
-good_sync e0 e' e t = record { link = t.0; knows = t.3; grows = t.2; says = (t.1.not_fresh, (refl, answers e.rstart)) }
+good_sync e0 e' e t = record { link = t.0; knows = t.3; grows = t.2; emitting = (t.1.not_fresh, (refl, answers e.rstart)) }
 
-pub good_again : (e0 e' e : End) (turn : Turn) → Talking e0 e' e → Good e0 e' turn → Good e0 e' (sends_again e turn)
+pub good_again : (e0 e' e : End) (turn : Turn) → Talking e0 e' e → Good e0 e' turn → Good e0 e' (retransmits e turn)
 good_again e0 e' e turn t other =
     good_if (has_unacked e) _ _
     (λ waits.
@@ -349,7 +349,7 @@ good_again e0 e' e turn t other =
       link = t.0;
       knows = t.3;
       grows = t.2;
-      says = (
+      emitting = (
         t.1.not_fresh,
         (
           record {

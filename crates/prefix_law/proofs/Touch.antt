@@ -104,7 +104,7 @@ pub record ConvStep (k h n : ℕ) (t u : Trace) (s : Step Conv) : Type 0 where
   pub emitted : EmittedIf u s.outcome.emit
   -- what other conversations and generations have stays as it is
   pub still : (q : Pair) (o : Owner) → t.owner q ≡ Some o → (◌≡◌ {A = Owner} (record { host = h; slot = n; generation = s.state.generation }) o → ⊥) → u.side q ≡ t.side q
-  pub marked : (q : Pair) → (u.side q).end.marked ≡ true → ((t.side q).end.marked ≡ true) ⊎ HeardClose t q
+  pub closed_by_peer : (q : Pair) → (u.side q).end.closed_by_peer ≡ true → ((t.side q).end.closed_by_peer ≡ true) ⊎ HeardClose t q
   pub says : (q : Pair) (m : IlMsg) → IsIn m (u.side q).out → IsIn m (t.side q).out ⊎ Utters t h n s.state.generation q m s.outcome.emit
 
 -- Where a side takes a turn.
@@ -190,7 +190,7 @@ module _ (t : Trace) (p : Pair) (turn : Turn) where
 
   -- the conversation h, n comes to have the pair in generation g, or has it
   pub touches : (k h n g : ℕ) (c : Conv) (s : Step Conv) → t.owner p ≡ owner_of h n g → c.generation ≤ g → NotYet t h n c → Owned k t → Good (t.side p).end (t.side (mirror p)).end turn
-      → s.state.generation ≡ g → s.state.pair ≡ p → s.state.stage ≡ Connected → s.state.core ≡ Il turn.end → Emits p s.outcome.emit turn.emits → (turn.end.marked ≡ true → ((t.side p).end.marked ≡ true) ⊎ HeardClose t p)
+      → s.state.generation ≡ g → s.state.pair ≡ p → s.state.stage ≡ Connected → s.state.core ≡ Il turn.end → Emits p s.outcome.emit turn.emits → (turn.end.closed_by_peer ≡ true → ((t.side p).end.closed_by_peer ≡ true) ⊎ HeardClose t p)
       → ConvStep k h n t (touched t p turn) s
   touches k h n g c s is le not_yet w good gen_is pair_is stage_is core_is emits marks = record {
     owned = owned_touched k (record { host = h; slot = n; generation = g }) is w (stepped (t.side p) (t.side (mirror p)) turn (w.talk p) good);
@@ -202,15 +202,15 @@ module _ (t : Trace) (p : Pair) (turn : Turn) where
     later = later_touched;
     emitted = emitted_touched s.outcome.emit emits;
     still = λ q o owns other. still q o owns other (same_pair p q) refl;
-    marked = λ q m. marked q m (same_pair p q) refl;
+    closed_by_peer = λ q m. closed_by_peer q m (same_pair p q) refl;
     says = λ q m there. says q m there (same_pair p q) refl;
   }
     where
-      marked : (q : Pair) → ((touched t p turn).side q).end.marked ≡ true → (b : Bool) → same_pair p q ≡ b → ((t.side q).end.marked ≡ true) ⊎ HeardClose t q
-      marked q m true same =
-          subst (λ (r : Pair). ((t.side r).end.marked ≡ true) ⊎ HeardClose t r) (same_pair_is p q same)
-          (marks (subst (λ (x : Side). x.end.marked ≡ true) (side_at q true same) m))
-      marked q m false same = inl (subst (λ (x : Side). x.end.marked ≡ true) (side_at q false same) m)
+      closed_by_peer : (q : Pair) → ((touched t p turn).side q).end.closed_by_peer ≡ true → (b : Bool) → same_pair p q ≡ b → ((t.side q).end.closed_by_peer ≡ true) ⊎ HeardClose t q
+      closed_by_peer q m true same =
+          subst (λ (r : Pair). ((t.side r).end.closed_by_peer ≡ true) ⊎ HeardClose t r) (same_pair_is p q same)
+          (marks (subst (λ (x : Side). x.end.closed_by_peer ≡ true) (side_at q true same) m))
+      closed_by_peer q m false same = inl (subst (λ (x : Side). x.end.closed_by_peer ≡ true) (side_at q false same) m)
 
       utters : (m : IlMsg) → turn.emits ≡ Some m → Utters t h n s.state.generation p m s.outcome.emit
       utters m says_it = record {

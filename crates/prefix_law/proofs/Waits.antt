@@ -8,7 +8,7 @@ use Rattle.net_base.specs.declared.il.IlMsg.{IlMsg}
 use Rattle.net_base.specs.declared.il.IlState.{IlState}
 use Rattle.net_base.specs.declared.il.IlState.TheVariants.{Closed, Syncer, Syncee, Established, Listening, Closing}
 use Rattle.net_base.specs.Number.{number}
-use Rattle.net_base.specs.IlEnd.{End, Turn, rstart_of, recvd, has_unacked, standing, silent, hears, establishes, acked_to, hears_ack, early_at, becomes_early, comes_in_turn, come_in_turn, accepts, is_closing}
+use Rattle.net_base.specs.IlEnd.{End, Turn, rstart_of, recvd, has_unacked, backlog, silent, hears, establishes, acked_to, hears_ack, early_at, becomes_early, comes_in_turn, come_in_turn, accepts, is_closing}
 use Rattle.net_base.specs.IlTable.{is_sized, refuses, at_established, at_syncer, at_syncee, at_closing, at_closed, row, arrives, hangs_up_at, hangs_up, asks_again, ticks_to, ticks, writes, reads, first_unread}
 use Rattle.net_base.specs.Timer as timer
 use Rattle.net_base.specs.Timer.{Timer, Ticked}
@@ -86,7 +86,7 @@ heard now m e = acked_later now (number e.start m.ack e.acked) e (hears now e) (
 early_timer : (found : Option ℕ) (text : List ℕ) (e : End) → (becomes_early found text e).timer ≡ e.timer
 early_timer None text e = refl
 early_timer (Some k) text e =
-    cond_both (is_some (early_at k e.early) || nat_le 64 (standing e)) _ _ (λ (x : End). x.timer ≡ e.timer) (λ _. refl) (λ _. refl)
+    cond_both (is_some (early_at k e.early) || nat_le 64 (backlog e)) _ _ (λ (x : End). x.timer ≡ e.timer) (λ _. refl) (λ _. refl)
 
 turn_timer : (found : Option (List ℕ)) (e : End) → (comes_in_turn found e).timer ≡ e.timer
 turn_timer None e = refl
@@ -152,7 +152,7 @@ closing_later State now m e = turn_if now e (has_unacked (hears_ack now m e)) _ 
 closing_later Close now m e = turn_if now e (m.spec == 0) _ _ (halts now e.timer _ refl) (end_kept now e)
 
 closed_later : (kind : IlKind) (now : ℕ) (m : IlMsg) (e : End) → EndLater now e (at_closed kind now m e).end
-closed_later Close now m e = turn_if now e (e.marked && (m.spec == 0)) _ _ (kept now e.timer (hears now e).timer refl refl) (end_kept now e)
+closed_later Close now m e = turn_if now e (e.closed_by_peer && (m.spec == 0)) _ _ (kept now e.timer (hears now e).timer refl refl) (end_kept now e)
 closed_later _ now m e = end_kept now e
 
 row_later : (s : IlState) (kind : IlKind) (now : ℕ) (m : IlMsg) (e : End) → EndLater now e (row s kind now m e).end

@@ -134,8 +134,8 @@ pub record Next (w : World) (k : ℕ) (actors : ActorName → Actor) (stamp : �
   pub booked : Booked t u a work.event s.outcome.reply
   -- what other conversations and generations have stays as it is
   pub still : (q : Pair) (o : Owner) → t.owner q ≡ Some o → ((c : Conv) → s.state ≡ IsConv c → a ≡ actor.Conv o.host proto.Il o.slot → c.generation ≡ o.generation → ⊥) → u.side q ≡ t.side q
-  -- an end is marked by a close of the other end
-  pub marked : (q : Pair) → (u.side q).end.marked ≡ true → ((t.side q).end.marked ≡ true) ⊎ HeardClose t q
+  -- an end is closed_by_peer by a close of the other end
+  pub closed_by_peer : (q : Pair) → (u.side q).end.closed_by_peer ≡ true → ((t.side q).end.closed_by_peer ≡ true) ⊎ HeardClose t q
   -- what a pair has said now it had said, or says by this step
   pub says : (q : Pair) (m : IlMsg) → IsIn m (u.side q).out → IsIn m (t.side q).out ⊎ SaidHere t q a m s.outcome.emit
 
@@ -250,7 +250,7 @@ module _ (w : World) (world : HasPlaces w) (k : ℕ) (few : k < 2 ^ 31) (net : N
         follow = conv_follow w u h n (length net.past) proto.Il ev gift s.outcome.reply;
         booked = booked;
         still = λ q o owns other. step.still q o owns (λ e. other s.state refl (ap (λ (x : Owner). actor.Conv x.host proto.Il x.slot) e) (ap (λ (x : Owner). x.generation) e));
-        marked = step.marked;
+        closed_by_peer = step.closed_by_peer;
         says = says_here h n s.state.generation s.outcome.emit u step.says;
       }
 
@@ -286,7 +286,7 @@ module _ (w : World) (world : HasPlaces w) (k : ℕ) (few : k < 2 ^ 31) (net : N
     follow = follow;
     booked = booked_quiet t a ev s.outcome.reply none;
     still = λ q o owns other. refl;
-    marked = λ q is. inl is;
+    closed_by_peer = λ q is. inl is;
     says = λ q m there. inl there;
   }
 
@@ -401,8 +401,8 @@ module _ (w : World) (world : HasPlaces w) (k : ℕ) (few : k < 2 ^ 31) (net : N
                 sized = λ x. subst (λ (y : Side). AllSized y.end.sent) (sym (step.side_same p)) x;
                 ends = λ _ _ h. absurd h;
                 whole = λ _ _ _ none. (
-                  ap (λ (y : Side). y.end.cut) (step.side_same p) ∙ none,
-                  ap (λ (y : Side). take y.end.taken y.end.got) (step.side_same p) ∙ sym (append-nil (take (t.side p).end.taken (t.side p).end.got)),
+                  ap (λ (y : Side). y.end.read_offset) (step.side_same p) ∙ none,
+                  ap (λ (y : Side). take y.end.read_count y.end.got) (step.side_same p) ∙ sym (append-nil (take (t.side p).end.read_count (t.side p).end.got)),
                 );
                 quiet = λ _. refl;
                 stays = λ x. subst (λ (y : Side). AtEnd y.end) (sym (step.side_same p)) x;
@@ -413,7 +413,7 @@ module _ (w : World) (world : HasPlaces w) (k : ℕ) (few : k < 2 ^ 31) (net : N
           none = λ o alone. (λ p is. alone p (step.later.owner_stays p o is), record { written_none = refl; read_none = refl });
         };
         still = λ q o owns other'. step.side_same q;
-        marked = λ q is. inl (subst (λ (y : Side). y.end.marked ≡ true) (step.side_same q) is);
+        closed_by_peer = λ q is. inl (subst (λ (y : Side). y.end.closed_by_peer ≡ true) (step.side_same q) is);
         says = λ q m there. inl (subst (λ (y : Side). IsIn m y.out) (step.side_same q) there);
       }
     where

@@ -1,5 +1,5 @@
 //! A UDP end.
-ghost use Rattle.std.specs.Prelude.{◌≡◌, ◌<◌, ◌↔◌, ◌++◌, ◌∷◌, List, [], length, take, is_ok, IsTrue, IsOk, IfOk, IfErr, OnOk, OnErr, IsErrOf};
+ghost use Rattle.std.specs.Prelude.{◌≡◌, ◌<◌, ◌↔◌, ◌++◌, ◌∷◌, List, [], length, not, take, is_ok, IsTrue, IsOk, IfOk, IfErr, OnOk, OnErr, IsErrOf};
 ghost use Rattle.net_base.specs.UdpEnd as spec;
 ghost use Rattle.net_base.specs.UdpEnd.{IsDrained};
 
@@ -107,6 +107,18 @@ impl UdpEnd {
         self.texts.try_push_back(text)
     }
 
+    /// Whether a datagram that comes is handed back: 64 are unread, or the end is hung up.
+    pub fn is_full(&self) -> bool
+        ensures { result ≡ not (spec.takes_datagram self.now.state (length self.now.unread)) }
+    {
+        match self.state {
+            UdpState::HungUp => true,
+            UdpState::Fresh | UdpState::Listening | UdpState::Open => {
+                self.texts.len() >= MOST_UNREAD
+            }
+        }
+    }
+
     /// Whether a read has an answer: a datagram waits, or the end is hung up.
     pub fn ready_read(&self) -> bool
         ensures { result ≡ spec.udp_reads_now self.now.state self.now.unread }
@@ -121,6 +133,7 @@ impl UdpEnd {
         ensures ok { IfOk result (λ text. text ≡ take count (spec.first_datagram self.old.unread)) }
         ensures end { OnOk result (self.new ≡ spec.datagram_read self.old) }
         ensures err { OnErr result (self.new ≡ self.old) }
+        ensures memory { IfErr result (λ error. error ≡ HungupError.Memory → 0 < length self.old.unread) }
     {
         if self.texts.is_empty() {
             return Err(HungupError::Hungup);

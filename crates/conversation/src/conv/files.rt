@@ -1,14 +1,15 @@
 //! The files of a conversation, and who waits for it.
-ghost use Rattle.std.specs.Prelude.{◌≡◌, take, IfOk, OnErr, Some, None, is_some};
+ghost use Rattle.std.specs.Prelude.{◌≡◌, ◌==◌, nat_lt, take, IfOk, OnErr, Some, None, is_some, true};
 ghost use Rattle.net_base.specs.declared.reply.Reply.TheVariants as reply;
 ghost use Rattle.net_base.specs.ControlWords as control_words;
 ghost use Rattle.net_base.specs.Conversation as spec;
 ghost use Rattle.conversation.specs.Kept.{step_to};
+ghost use Rattle.conversation.specs.Memory.{most_opens};
 
 use crate::control::fault;
 use crate::conv::Conv;
 use crate::parts::{Core, Stage};
-use crate::said::Said;
+use crate::reply_and_copy::ReplyAndCopy;
 use crate::texts;
 use net_base::{Cause, FileName, IlState, Octets, Outcome, StateName};
 use std::alloc::AllocError;
@@ -19,26 +20,28 @@ impl Conv {
         ensures ok { IfOk result (λ outcome. spec.opened self.old.conv.opens self.old.conv ≡ record { state = self.new.conv; outcome = outcome }) }
         ensures slot { self.new.slot ≡ self.old.slot }
         ensures err { OnErr result (self.new ≡ self.old) }
+        ensures memory { OnErr result ((self.old.conv.opens == most_opens) ≡ true) }
     {
         if self.opens == 0 {
-            return Ok(self.replies(Said::not_open()));
+            return Ok(self.replies(ReplyAndCopy::not_open()));
         }
         let Some(opens) = self.opens.checked_add(1) else {
             return Err(AllocError);
         };
         self.opens = opens;
-        Ok(self.replies(Said::opened(self.generation)))
+        Ok(self.replies(ReplyAndCopy::opened(self.generation)))
     }
 
     /// The names of the files, where one is open.
     pub(super) fn ls(&self) -> Result<Outcome, AllocError>
-        ensures { IfOk result (λ outcome. spec.listed self.now.conv.opens self.now.conv ≡ record { state = self.now.conv; outcome = outcome }) }
+        ensures ok { IfOk result (λ outcome. spec.listed self.now.conv.opens self.now.conv ≡ record { state = self.now.conv; outcome = outcome }) }
+        ensures memory { OnErr result (nat_lt 0 self.now.conv.opens ≡ true) }
     {
         if self.opens == 0 {
-            return Ok(self.replies(Said::not_open()));
+            return Ok(self.replies(ReplyAndCopy::not_open()));
         }
         let names = texts::file_names(self.alloc)?;
-        Ok(self.replies(Said::names(names)?))
+        Ok(self.replies(ReplyAndCopy::names(names)?))
     }
 
     /// The first bytes of a file's text.
@@ -48,15 +51,16 @@ impl Conv {
         file: FileName,
         count: u32,
     ) -> Result<Option<Outcome>, AllocError>
-        ensures { IfOk result (λ answer. spec.in_generation generation self.now.conv (Some (spec.answers self.now.conv (reply.Bytes (take count (spec.file_text file self.now.slot self.now.conv))))) ≡ step_to self.now.conv answer) }
+        ensures ok { IfOk result (λ answer. spec.in_generation generation self.now.conv (Some (spec.answers self.now.conv (reply.Bytes (take count (spec.file_text file self.now.slot self.now.conv))))) ≡ step_to self.now.conv answer) }
+        ensures memory { OnErr result ((generation == self.now.conv.generation) ≡ true) }
     {
         if generation != self.generation {
             return Ok(self.stale(generation));
         }
         let text = self.file_text(file)?;
         let first = texts::first_bytes(text.as_slice(), count);
-        let said = Said::bytes(self.alloc, first)?;
-        Ok(Some(self.replies(said)))
+        let answer = ReplyAndCopy::bytes(self.alloc, first)?;
+        Ok(Some(self.replies(answer)))
     }
 
     fn file_text(&self, file: FileName) -> Result<Octets, AllocError>
@@ -113,7 +117,7 @@ impl Conv {
             Core::Il(end) => match end.state() {
                 IlState::Syncer => None,
                 IlState::Closed => Some(self.told(end.cause())),
-                _ => Some(self.replies(Said::ok())),
+                _ => Some(self.replies(ReplyAndCopy::ok())),
             },
             Core::Udp(_) => Some(self.told(self.cause())),
         }
@@ -124,8 +128,8 @@ impl Conv {
         ensures { result ≡ (spec.answers self.now.conv (spec.hungup_or_ok cause)).outcome }
     {
         match cause {
-            Some(cause) => self.replies(Said::hungup(cause)),
-            None => self.replies(Said::ok()),
+            Some(cause) => self.replies(ReplyAndCopy::hungup(cause)),
+            None => self.replies(ReplyAndCopy::ok()),
         }
     }
 
@@ -137,7 +141,7 @@ impl Conv {
             return self.stale(generation);
         }
         match fault(text) {
-            Some(number) => Some(self.replies(Said::bad_control(number))),
+            Some(number) => Some(self.replies(ReplyAndCopy::bad_control(number))),
             None => None,
         }
     }

@@ -1,8 +1,9 @@
 //! Events that ask for what a cited entry gives.
-ghost use Rattle.std.specs.Prelude.{◌≡◌, ℕ, ◌<◌, ◌^◌, IfOk, OnErr, is_some};
+ghost use Rattle.std.specs.Prelude.{◌≡◌, ℕ, ◌<◌, ◌^◌, IfOk, OnErr, is_some, true};
 ghost use Rattle.net_base.specs.declared.event.Event.TheVariants as event;
 ghost use Rattle.net_base.specs.Conversation as spec;
 ghost use Rattle.conversation.specs.Kept.{step_to};
+ghost use Rattle.conversation.specs.Memory.{event_takes};
 ghost use Rattle.conversation.specs.Stands.{IsShort};
 
 use crate::conv::Conv;
@@ -21,6 +22,7 @@ impl Conv {
         ensures ok { IfOk result (λ answer. spec.conv_step self.old.slot (event.Born generation) with.now now self.old.conv ≡ step_to self.new.conv answer) }
         ensures slot { self.new.slot ≡ self.old.slot }
         ensures err { OnErr result (self.new ≡ self.old) }
+        ensures memory { OnErr result (event_takes (event.Born generation) with.now now self.old.conv ≡ true) }
     {
         match with {
             With::Birth {
@@ -140,6 +142,7 @@ impl Conv {
         ensures ok { IfOk result (λ answer. spec.conv_step self.old.slot (event.ArriveAt generation) with.now now self.old.conv ≡ step_to self.new.conv answer) }
         ensures slot { self.new.slot ≡ self.old.slot }
         ensures err { OnErr result (self.new ≡ self.old) }
+        ensures memory { OnErr result (event_takes (event.ArriveAt generation) with.now now self.old.conv ≡ true) }
     {
         match with {
             With::Packet(packet) => {

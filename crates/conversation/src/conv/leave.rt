@@ -9,7 +9,7 @@ ghost use Rattle.net_base.specs.Conversation as spec;
 ghost use Rattle.conversation.specs.Kept.{step_to};
 
 use crate::conv::Conv;
-use crate::said::Said;
+use crate::reply_and_copy::ReplyAndCopy;
 use net_base::{Body, IlMsg, Outcome, Packet, StateName};
 
 impl Conv {
@@ -21,10 +21,10 @@ impl Conv {
     }
 
     /// What a step gives that leaves the conversation so.
-    pub(super) fn left(&self, was_over: bool, said: Said, emit: Option<Packet>) -> Outcome
-        ensures { result ≡ record { reply = said; copy = Some said; emit = emit; taken = None; ended = if was_over then false else spec.is_over self.now.conv } }
+    pub(super) fn left(&self, was_over: bool, answer: ReplyAndCopy, emit: Option<Packet>) -> Outcome
+        ensures { result ≡ record { reply = answer; copy = Some answer; emit = emit; taken = None; ended = if was_over then false else spec.is_over self.now.conv } }
     {
-        let Said { reply, copy } = said;
+        let ReplyAndCopy { reply, copy } = answer;
         Outcome {
             reply,
             copy: Some(copy),
@@ -35,10 +35,10 @@ impl Conv {
     }
 
     /// What a step gives that changes nothing.
-    pub(super) fn replies(&self, said: Said) -> Outcome
-        ensures { result ≡ (spec.answers self.now.conv said).outcome }
+    pub(super) fn replies(&self, answer: ReplyAndCopy) -> Outcome
+        ensures { result ≡ (spec.answers self.now.conv answer).outcome }
     {
-        self.left(self.is_over(), said, None)
+        self.left(self.is_over(), answer, None)
     }
 
     /// A packet to the other end.
@@ -55,14 +55,19 @@ impl Conv {
     }
 
     /// What a step gives that leaves the conversation so, and whose IL end emits this.
-    pub(super) fn turned(&self, was_over: bool, said: Said, message: Option<IlMsg>) -> Outcome
-        ensures { result ≡ record { reply = said; copy = Some said; emit = option_map (λ (m : Message). spec.packet_of self.now.conv (body_of.Il m)) message; taken = None; ended = if was_over then false else spec.is_over self.now.conv } }
+    pub(super) fn turned(
+        &self,
+        was_over: bool,
+        answer: ReplyAndCopy,
+        message: Option<IlMsg>,
+    ) -> Outcome
+        ensures { result ≡ record { reply = answer; copy = Some answer; emit = option_map (λ (m : Message). spec.packet_of self.now.conv (body_of.Il m)) message; taken = None; ended = if was_over then false else spec.is_over self.now.conv } }
     {
         let emit = match message {
             Some(message) => Some(self.packet(Body::Il(message))),
             None => None,
         };
-        self.left(was_over, said, emit)
+        self.left(was_over, answer, emit)
     }
 
     /// What an event of another generation gets: an older one is stale, and a newer one waits.
@@ -70,7 +75,7 @@ impl Conv {
         ensures { step_to self.now.conv result ≡ (if nat_lt generation self.now.conv.generation then Some (spec.answers self.now.conv reply.Stale) else None) }
     {
         if generation < self.generation {
-            Some(self.replies(Said::stale()))
+            Some(self.replies(ReplyAndCopy::stale()))
         } else {
             None
         }

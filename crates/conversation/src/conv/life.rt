@@ -1,5 +1,5 @@
 //! How a conversation begins, is connected and ends.
-ghost use Rattle.std.specs.Prelude.{◌≡◌, ◌<◌, ◌^◌, ℕ, Bool, IfOk, OnErr, Some, None};
+ghost use Rattle.std.specs.Prelude.{◌≡◌, ◌<◌, ◌^◌, ◌+◌, ◌==◌, ℕ, Bool, IfOk, OnErr, Some, None, true};
 ghost use Rattle.net_base.specs.declared.reply.Reply.TheVariants as reply;
 ghost use Rattle.net_base.specs.IlEnd as end_spec;
 ghost use Rattle.net_base.specs.IlTable as table;
@@ -10,7 +10,7 @@ ghost use Rattle.conversation.specs.Kept.{IsKept, seen_core, seen_stage, step_to
 use crate::conv::{Conv, NOWHERE};
 use crate::il::IlCore;
 use crate::parts::{Core, Stage};
-use crate::said::Said;
+use crate::reply_and_copy::ReplyAndCopy;
 use net_base::{Addr, Body, Octets, Outcome, Packet, Pair, StateName};
 use std::alloc::AllocError;
 use udp_core::UdpEnd;
@@ -36,6 +36,7 @@ impl Conv {
         ensures ok { IfOk result (λ answer. spec.raises generation self.old.conv (Some (spec.leaves self.old.conv reply.Ok (spec.begun generation self.old.conv) None)) ≡ step_to self.new.conv answer) }
         ensures slot { self.new.slot ≡ self.old.slot }
         ensures err { OnErr result (self.new ≡ self.old) }
+        ensures memory { OnErr result ((generation == self.old.conv.generation + 1) ≡ true) }
     {
         if !self.is_next(generation) {
             return Ok(self.stale(generation));
@@ -47,7 +48,7 @@ impl Conv {
             remote: NOWHERE,
         };
         self.become_new(generation, Stage::Unused, pair, 0, core);
-        Ok(Some(self.left(was_over, Said::ok(), None)))
+        Ok(Some(self.left(was_over, ReplyAndCopy::ok(), None)))
     }
 
     /// Is born as the next generation, from a packet of its protocol.
@@ -63,6 +64,7 @@ impl Conv {
         ensures ok { IfOk result (λ answer. spec.raises generation self.old.conv (spec.brought_forth self.old.conv.core now generation start limit packet.now packet.now.body self.old.conv) ≡ step_to self.new.conv answer) }
         ensures slot { self.new.slot ≡ self.old.slot }
         ensures err { OnErr result (self.new ≡ self.old) }
+        ensures memory { OnErr result ((generation == self.old.conv.generation + 1) ≡ true) }
     {
         if !self.is_next(generation) {
             return Ok(self.stale(generation));
@@ -102,7 +104,7 @@ impl Conv {
         let sync = end.born(now, start, id);
         let was_over = self.is_over();
         self.become_new(generation, Stage::Connected, pair, limit, Core::Il(end));
-        Ok(self.turned(was_over, Said::ok(), Some(sync)))
+        Ok(self.turned(was_over, ReplyAndCopy::ok(), Some(sync)))
     }
 
     // The datagram is unread.
@@ -124,7 +126,7 @@ impl Conv {
         let _ = end.arrive(text);
         let was_over = self.is_over();
         self.become_new(generation, Stage::Connected, pair, limit, Core::Udp(end));
-        Ok(self.left(was_over, Said::ok(), None))
+        Ok(self.left(was_over, ReplyAndCopy::ok(), None))
     }
 
     /// Is claimed, which changes nothing.
@@ -134,7 +136,7 @@ impl Conv {
         if generation != self.generation {
             return self.stale(generation);
         }
-        Some(self.replies(Said::ok()))
+        Some(self.replies(ReplyAndCopy::ok()))
     }
 
     /// Connects, where it is unused.
@@ -155,7 +157,7 @@ impl Conv {
         }
         match self.stage {
             Stage::Unused => Some(self.join(now, pair, start, limit)),
-            Stage::Listening | Stage::Connected => Some(self.replies(Said::ok())),
+            Stage::Listening | Stage::Connected => Some(self.replies(ReplyAndCopy::ok())),
         }
     }
 
@@ -173,11 +175,11 @@ impl Conv {
         match &mut self.core {
             Core::Il(end) => {
                 let sync = end.connect(now, start);
-                self.turned(was_over, Said::ok(), Some(sync))
+                self.turned(was_over, ReplyAndCopy::ok(), Some(sync))
             }
             Core::Udp(end) => {
                 end.connect();
-                self.left(was_over, Said::ok(), None)
+                self.left(was_over, ReplyAndCopy::ok(), None)
             }
         }
     }
@@ -192,7 +194,7 @@ impl Conv {
         }
         match self.stage {
             Stage::Unused => Some(self.listen(ip, port)),
-            Stage::Listening | Stage::Connected => Some(self.replies(Said::ok())),
+            Stage::Listening | Stage::Connected => Some(self.replies(ReplyAndCopy::ok())),
         }
     }
 
@@ -209,7 +211,7 @@ impl Conv {
             Core::Il(end) => end.announced(),
             Core::Udp(end) => end.announced(),
         }
-        self.left(was_over, Said::ok(), None)
+        self.left(was_over, ReplyAndCopy::ok(), None)
     }
 
     /// Has a port, where it is unused.
@@ -223,9 +225,9 @@ impl Conv {
         match self.stage {
             Stage::Unused => {
                 self.pair.local.port = port;
-                Some(self.replies(Said::ok()))
+                Some(self.replies(ReplyAndCopy::ok()))
             }
-            Stage::Listening | Stage::Connected => Some(self.replies(Said::ok())),
+            Stage::Listening | Stage::Connected => Some(self.replies(ReplyAndCopy::ok())),
         }
     }
 
@@ -239,27 +241,27 @@ impl Conv {
             return self.stale(generation);
         }
         let was_over = self.is_over();
-        let said = match self.core.state_name() {
-            StateName::Listening => Said::left(),
-            _ => Said::ok(),
+        let answer = match self.core.state_name() {
+            StateName::Listening => ReplyAndCopy::left(),
+            _ => ReplyAndCopy::ok(),
         };
-        Some(self.hang_up(now, was_over, said))
+        Some(self.hang_up(now, was_over, answer))
     }
 
     // Its end hangs up.
-    fn hang_up(&mut self, now: u64, was_over: bool, said: Said) -> Outcome
+    fn hang_up(&mut self, now: u64, was_over: bool, answer: ReplyAndCopy) -> Outcome
         requires { now < 2 ^ 63 }
-        ensures step { (before : spec.Conv) → spec.is_over before ≡ was_over → spec.hung_up self.old.conv.core now said before self.old.conv ≡ record { state = self.new.conv; outcome = result } }
+        ensures step { (before : spec.Conv) → spec.is_over before ≡ was_over → spec.hung_up self.old.conv.core now answer before self.old.conv ≡ record { state = self.new.conv; outcome = result } }
         ensures slot { self.new.slot ≡ self.old.slot }
     {
         match &mut self.core {
             Core::Il(end) => {
                 let message = end.hang_up(now);
-                self.turned(was_over, said, message)
+                self.turned(was_over, answer, message)
             }
             Core::Udp(end) => {
                 end.hangup();
-                self.left(was_over, said, None)
+                self.left(was_over, answer, None)
             }
         }
     }
@@ -274,14 +276,14 @@ impl Conv {
             return self.stale(generation);
         }
         if self.opens == 0 {
-            return Some(self.replies(Said::ok()));
+            return Some(self.replies(ReplyAndCopy::ok()));
         }
         let was_over = self.is_over();
         self.opens -= 1;
         if self.opens == 0 {
-            Some(self.hang_up(now, was_over, Said::ok()))
+            Some(self.hang_up(now, was_over, ReplyAndCopy::ok()))
         } else {
-            Some(self.left(was_over, Said::ok(), None))
+            Some(self.left(was_over, ReplyAndCopy::ok(), None))
         }
     }
 
@@ -294,7 +296,7 @@ impl Conv {
             return self.stale(generation);
         }
         self.ttl = ttl;
-        Some(self.replies(Said::ok()))
+        Some(self.replies(ReplyAndCopy::ok()))
     }
 
     /// Has another tos from now on.
@@ -306,6 +308,6 @@ impl Conv {
             return self.stale(generation);
         }
         self.tos = tos;
-        Some(self.replies(Said::ok()))
+        Some(self.replies(ReplyAndCopy::ok()))
     }
 }

@@ -1,16 +1,18 @@
 //! What is read and written, and what comes.
-ghost use Rattle.std.specs.Prelude.{◌≡◌, ◌<◌, ◌^◌, ℕ, IfOk, OnErr, Some, None, is_some, length, nat_lt};
+ghost use Rattle.std.specs.Prelude.{◌≡◌, ◌<◌, ◌^◌, ◌==◌, ◌&&◌, ℕ, IfOk, OnErr, Some, None, is_some, length, nat_lt, true};
 ghost use Rattle.std.specs.Option.{option_map};
 ghost use Rattle.net_base.specs.declared.reply.Reply.{Reply as Answer};
 ghost use Rattle.net_base.specs.ActorStep.{when};
 ghost use Rattle.net_base.specs.Conversation as spec;
 ghost use Rattle.conversation.specs.Kept.{step_to};
+ghost use Rattle.net_base.specs.IlTable.{has_unread};
+ghost use Rattle.conversation.specs.Memory.{core_has_unread, core_sends, packet_takes, read_takes, text_takes};
 ghost use Rattle.conversation.specs.Stands.{IsShort};
 
 use crate::conv::Conv;
 use crate::il::IlCore;
 use crate::parts::{Core, Stage};
-use crate::said::Said;
+use crate::reply_and_copy::ReplyAndCopy;
 use net_base::{Body, Cause, IlState, Octets, Outcome, Packet, StateName};
 use std::alloc::{AllocError, Global};
 use udp_core::UdpEnd;
@@ -56,6 +58,7 @@ impl Conv {
         ensures ok { IfOk result (λ answer. when (nat_lt 0 count) (spec.in_generation generation self.old.conv (spec.read_at self.old.conv.stage self.old.conv.core count self.old.conv)) ≡ step_to self.new.conv answer) }
         ensures slot { self.new.slot ≡ self.old.slot }
         ensures err { OnErr result (self.new ≡ self.old) }
+        ensures memory { OnErr result ((generation == self.old.conv.generation) && read_takes self.old.conv.stage self.old.conv.core ≡ true) }
     {
         if count == 0 {
             return Ok(None);
@@ -65,7 +68,7 @@ impl Conv {
         }
         match self.stage {
             Stage::Unused | Stage::Listening => {
-                Ok(Some(self.replies(Said::wrong(self.core.state_name()))))
+                Ok(Some(self.replies(ReplyAndCopy::wrong(self.core.state_name()))))
             }
             Stage::Connected => self.read_connected(count as usize),
         }
@@ -78,26 +81,27 @@ impl Conv {
         ensures ok { IfOk result (λ answer. spec.read_at spec.Connected self.old.conv.core count self.old.conv ≡ step_to self.new.conv answer) }
         ensures slot { self.new.slot ≡ self.old.slot }
         ensures err { OnErr result (self.new ≡ self.old) }
+        ensures memory { OnErr result (core_has_unread self.old.conv.core ≡ true) }
     {
         let was_over = self.is_over();
         match &mut self.core {
             Core::Il(end) => {
-                let said = read_il(self.alloc, end, count)?;
-                Ok(self.left_if(was_over, said))
+                let answer = read_il(self.alloc, end, count)?;
+                Ok(self.left_if(was_over, answer))
             }
             Core::Udp(end) => {
-                let said = read_udp(self.alloc, end, count)?;
-                Ok(self.left_if(was_over, said))
+                let answer = read_udp(self.alloc, end, count)?;
+                Ok(self.left_if(was_over, answer))
             }
         }
     }
 
     // What a step gives that leaves the conversation so, if it says something.
-    fn left_if(&self, was_over: bool, said: Option<Said>) -> Option<Outcome>
-        ensures { (before : spec.Conv) → spec.is_over before ≡ was_over → option_map (λ (answer : Answer). spec.leaves before answer self.now.conv None) said ≡ step_to self.now.conv result }
+    fn left_if(&self, was_over: bool, answer: Option<ReplyAndCopy>) -> Option<Outcome>
+        ensures { (before : spec.Conv) → spec.is_over before ≡ was_over → option_map (λ (answer : Answer). spec.leaves before answer self.now.conv None) answer ≡ step_to self.now.conv result }
     {
-        match said {
-            Some(said) => Some(self.left(was_over, said, None)),
+        match answer {
+            Some(answer) => Some(self.left(was_over, answer, None)),
             None => None,
         }
     }
@@ -114,21 +118,23 @@ impl Conv {
         ensures ok { IfOk result (λ answer. spec.in_generation generation self.old.conv (spec.write_at self.old.conv.stage self.old.conv.core now text.now self.old.conv) ≡ step_to self.new.conv answer) }
         ensures slot { self.new.slot ≡ self.old.slot }
         ensures err { OnErr result (self.new ≡ self.old) }
+        ensures memory { OnErr result ((generation == self.old.conv.generation)
+            && text_takes self.old.conv.stage (length text.now) self.old.conv ≡ true) }
     {
         if generation != self.generation {
             return Ok(self.stale(generation));
         }
         match self.stage {
             Stage::Unused | Stage::Listening => {
-                Ok(Some(self.replies(Said::wrong(self.core.state_name()))))
+                Ok(Some(self.replies(ReplyAndCopy::wrong(self.core.state_name()))))
             }
             Stage::Connected => {
                 if text.len() == 0 {
-                    return Ok(Some(self.replies(Said::zero_write())));
+                    return Ok(Some(self.replies(ReplyAndCopy::zero_write())));
                 }
                 if text.len() > self.limit as usize {
-                    let said = Said::too_long(text.len() as u64, self.limit);
-                    return Ok(Some(self.replies(said)));
+                    let answer = ReplyAndCopy::too_long(text.len() as u64, self.limit);
+                    return Ok(Some(self.replies(answer)));
                 }
                 self.write_connected(now, text)
             }
@@ -143,6 +149,7 @@ impl Conv {
         ensures ok { IfOk result (λ answer. spec.core_written self.old.conv.core now text.now self.old.conv ≡ step_to self.new.conv answer) }
         ensures slot { self.new.slot ≡ self.old.slot }
         ensures err { OnErr result (self.new ≡ self.old) }
+        ensures memory { OnErr result (core_sends self.old.conv.core ≡ true) }
     {
         let was_over = self.is_over();
         let count = text.len() as u32;
@@ -153,17 +160,17 @@ impl Conv {
                 }
                 if end.state() != IlState::Established {
                     let cause = end.cause().unwrap_or(Cause::Hungup);
-                    return Ok(Some(self.replies(Said::hungup(cause))));
+                    return Ok(Some(self.replies(ReplyAndCopy::hungup(cause))));
                 }
                 let message = end.write(now, text.as_slice())?;
-                Ok(Some(self.turned(was_over, Said::count(count), Some(message))))
+                Ok(Some(self.turned(was_over, ReplyAndCopy::count(count), Some(message))))
             }
             Core::Udp(end) => {
                 if end.state() == StateName::Closed {
-                    return Ok(Some(self.replies(Said::hungup(Cause::Hungup))));
+                    return Ok(Some(self.replies(ReplyAndCopy::hungup(Cause::Hungup))));
                 }
                 let packet = self.packet(Body::Udp(text.clone()?));
-                Ok(Some(self.left(was_over, Said::count(count), Some(packet))))
+                Ok(Some(self.left(was_over, ReplyAndCopy::count(count), Some(packet))))
             }
         }
     }
@@ -180,6 +187,8 @@ impl Conv {
         ensures ok { IfOk result (λ answer. spec.in_generation generation self.old.conv (spec.taken_in self.old.conv.core packet.now.body now self.old.conv) ≡ step_to self.new.conv answer) }
         ensures slot { self.new.slot ≡ self.old.slot }
         ensures err { OnErr result (self.new ≡ self.old) }
+        ensures memory { OnErr result ((generation == self.old.conv.generation)
+            && packet_takes self.old.conv.core packet.now.body now ≡ true) }
     {
         if generation != self.generation {
             return Ok(self.stale(generation));
@@ -188,14 +197,16 @@ impl Conv {
         match (&mut self.core, &packet.body) {
             (Core::Il(end), Body::Il(message)) => {
                 let answer = end.arrive(now, message)?;
-                Ok(Some(self.turned(was_over, Said::took(), answer)))
+                Ok(Some(self.turned(was_over, ReplyAndCopy::took(), answer)))
             }
             (Core::Udp(end), Body::Udp(text)) => {
-                let said = match end.arrive(text.clone()?) {
-                    Ok(()) => Said::took(),
-                    Err(_) => Said::full(),
-                };
-                Ok(Some(self.left(was_over, said, None)))
+                if end.is_full() {
+                    return Ok(Some(self.replies(ReplyAndCopy::full())));
+                }
+                let text = text.clone()?;
+                // there is room for it
+                let _ = end.arrive(text);
+                Ok(Some(self.left(was_over, ReplyAndCopy::took(), None)))
             }
             _ => Ok(None),
         }
@@ -213,48 +224,58 @@ impl Conv {
         let was_over = self.is_over();
         match &mut self.core {
             Core::Il(end) => {
-                let said = if end.is_due(now) {
-                    Said::ticked()
+                let answer = if end.is_due(now) {
+                    ReplyAndCopy::ticked()
                 } else {
-                    Said::not_due()
+                    ReplyAndCopy::not_due()
                 };
                 let message = end.tick(now);
-                Some(self.turned(was_over, said, message))
+                Some(self.turned(was_over, answer, message))
             }
-            Core::Udp(_) => Some(self.replies(Said::not_due())),
+            Core::Udp(_) => Some(self.replies(ReplyAndCopy::not_due())),
         }
     }
 }
 
 // What a read of an IL end tells; none where it isn't ready.
-fn read_il(alloc: Global, end: &mut IlCore, count: usize) -> Result<Option<Said>, AllocError>
+fn read_il(
+    alloc: Global,
+    end: &mut IlCore,
+    count: usize,
+) -> Result<Option<ReplyAndCopy>, AllocError>
     requires { 0 < count }
-    ensures ok { IfOk result (λ said. (c : spec.Conv) → spec.il_read count end.old (record c { core = spec.Il end.old }) ≡ option_map (λ (answer : Answer). spec.leaves (record c { core = spec.Il end.old }) answer (record c { core = spec.Il end.new }) None) said) }
+    ensures ok { IfOk result (λ answer. (c : spec.Conv) → spec.il_read count end.old (record c { core = spec.Il end.old }) ≡ option_map (λ (answer : Answer). spec.leaves (record c { core = spec.Il end.old }) answer (record c { core = spec.Il end.new }) None) answer) }
     ensures err { OnErr result (end.new ≡ end.old) }
+    ensures memory { OnErr result (has_unread end.old ≡ true) }
 {
     if !end.may_read() {
         return Ok(None);
     }
-    let said = Said::bytes(alloc, end.peek(count))?;
+    let answer = ReplyAndCopy::bytes(alloc, end.peek(count))?;
     match end.read(count)? {
-        None => Ok(Some(said)),
-        Some(cause) => Ok(Some(Said::hungup(cause))),
+        None => Ok(Some(answer)),
+        Some(cause) => Ok(Some(ReplyAndCopy::hungup(cause))),
     }
 }
 
 // What a read of a UDP end tells; none where it isn't ready.
-fn read_udp(alloc: Global, end: &mut UdpEnd, count: usize) -> Result<Option<Said>, AllocError>
-    ensures ok { IfOk result (λ said. (c : spec.Conv) → spec.udp_read end.old.unread count end.old (record c { core = spec.Udp end.old }) ≡ option_map (λ (answer : Answer). spec.leaves (record c { core = spec.Udp end.old }) answer (record c { core = spec.Udp end.new }) None) said) }
+fn read_udp(
+    alloc: Global,
+    end: &mut UdpEnd,
+    count: usize,
+) -> Result<Option<ReplyAndCopy>, AllocError>
+    ensures ok { IfOk result (λ answer. (c : spec.Conv) → spec.udp_read end.old.unread count end.old (record c { core = spec.Udp end.old }) ≡ option_map (λ (answer : Answer). spec.leaves (record c { core = spec.Udp end.old }) answer (record c { core = spec.Udp end.new }) None) answer) }
     ensures err { OnErr result (end.new ≡ end.old) }
+    ensures memory { OnErr result (0 < length end.old.unread) }
     ensures state { end.new.state ≡ end.old.state }
 {
     if !end.ready_read() {
         return Ok(None);
     }
-    let said = Said::bytes(alloc, end.peek(count))?;
+    let answer = ReplyAndCopy::bytes(alloc, end.peek(count))?;
     match end.read(count) {
-        Ok(_) => Ok(Some(said)),
-        Err(udp_core::HungupError::Hungup) => Ok(Some(Said::hungup(Cause::Hungup))),
+        Ok(_) => Ok(Some(answer)),
+        Err(udp_core::HungupError::Hungup) => Ok(Some(ReplyAndCopy::hungup(Cause::Hungup))),
         Err(udp_core::HungupError::Memory) => Err(AllocError),
     }
 }

@@ -1,10 +1,10 @@
 //! The rows of the table for what comes, a function for each state.
-ghost use Rattle.std.specs.Prelude.{◌≡◌, ℕ, ◌<◌, ◌^◌, IfOk, OnOk, OnErr};
+ghost use Rattle.std.specs.Prelude.{◌≡◌, ℕ, ◌<◌, ◌^◌, IfOk, OnOk, OnErr, true};
 ghost use Rattle.net_base.specs.declared.il.IlKind.TheVariants as kind;
 ghost use Rattle.net_base.specs.declared.il.IlState.TheVariants as state;
 ghost use Rattle.net_base.specs.IlEnd as spec;
 ghost use Rattle.net_base.specs.IlTable as table;
-ghost use Rattle.il_machine.specs.Stands.{IsShort};
+ghost use Rattle.il_machine.specs.Stands.{IsShort, closing_takes, established_takes, handshake_completed, takes_in};
 
 use crate::end::IlEnd;
 use il_queues::Timer;
@@ -23,7 +23,7 @@ impl IlEnd {
                 self.rstart = Some(message.id);
                 self.hear(now);
                 self.establish();
-                Some(self.says(IlKind::Ack))
+                Some(self.own_message(IlKind::Ack))
             }
             IlKind::Close if message.spec == 1 && message.ack == self.start => {
                 self.hear(now);
@@ -44,8 +44,10 @@ impl IlEnd {
         requires short { IsShort self.old }
         requires syncee { self.old.state ≡ state.Syncee }
         ensures end { OnOk result (self.new ≡ (table.at_syncee message.now.kind now message.now self.old).end) }
-        ensures emits { IfOk result (λ emits. emits ≡ (table.at_syncee message.now.kind now message.now self.old).emits) }
+        ensures emits { IfOk result (λ emits.
+            emits ≡ (table.at_syncee message.now.kind now message.now self.old).emits) }
         ensures err { OnErr result (self.new ≡ self.old) }
+        ensures memory { OnErr result (takes_in state.Syncee now message.now self.old ≡ true) }
     {
         match message.kind {
             IlKind::Sync if message.id == self.rstart.unwrap_or(0) => {
@@ -54,19 +56,20 @@ impl IlEnd {
             }
             IlKind::Sync => Ok(None),
             IlKind::Close if message.spec == 1 => Ok(None),
-            _ if message.ack == self.start => self.join(now, message),
+            _ if message.ack == self.start => self.complete_handshake(now, message),
             _ => Ok(None),
         }
     }
 
-    /// Becomes Established, and then as Established.
-    fn join(&mut self, now: u64, message: &IlMsg) -> Result<Option<IlMsg>, AllocError>
+    /// Becomes Established, and handles the message as Established.
+    fn complete_handshake(&mut self, now: u64, message: &IlMsg) -> Result<Option<IlMsg>, AllocError>
         requires in_time { now < 2 ^ 63 }
         requires short { IsShort self.old }
         requires syncee { self.old.state ≡ state.Syncee }
-        ensures end { OnOk result (self.new ≡ (table.at_established message.now.kind now message.now (spec.establishes (spec.hears now self.old))).end) }
-        ensures emits { IfOk result (λ emits. emits ≡ (table.at_established message.now.kind now message.now (spec.establishes (spec.hears now self.old))).emits) }
+        ensures end { OnOk result (self.new ≡ (handshake_completed now message.now self.old).end) }
+        ensures emits { IfOk result (λ emits. emits ≡ (handshake_completed now message.now self.old).emits) }
         ensures err { OnErr result (self.new ≡ self.old) }
+        ensures memory { OnErr result (established_takes message.now.kind now message.now self.old ≡ true) }
     {
         let timer = Timer {
             due: self.timer.due,
@@ -92,25 +95,27 @@ impl IlEnd {
         requires in_time { now < 2 ^ 63 }
         requires short { IsShort self.old }
         ensures end { OnOk result (self.new ≡ (table.at_established message.now.kind now message.now self.old).end) }
-        ensures emits { IfOk result (λ emits. emits ≡ (table.at_established message.now.kind now message.now self.old).emits) }
+        ensures emits { IfOk result (λ emits.
+            emits ≡ (table.at_established message.now.kind now message.now self.old).emits) }
         ensures err { OnErr result (self.new ≡ self.old) }
+        ensures memory { OnErr result (established_takes message.now.kind now message.now self.old ≡ true) }
     {
         match message.kind {
             IlKind::Sync if message.id == self.rstart.unwrap_or(0) => {
                 self.hear(now);
-                Ok(Some(self.says(IlKind::Ack)))
+                Ok(Some(self.own_message(IlKind::Ack)))
             }
             IlKind::Sync => Ok(None),
             IlKind::Data => {
                 self.take_in(now, message)?;
-                Ok(Some(self.says(IlKind::Ack)))
+                Ok(Some(self.own_message(IlKind::Ack)))
             }
             IlKind::DataQuery => {
                 self.take_in(now, message)?;
                 if self.misses(message) {
-                    Ok(Some(self.says(IlKind::Ack)))
+                    Ok(Some(self.own_message(IlKind::Ack)))
                 } else {
-                    Ok(Some(self.says(IlKind::State)))
+                    Ok(Some(self.own_message(IlKind::State)))
                 }
             }
             IlKind::Ack => {
@@ -119,12 +124,12 @@ impl IlEnd {
             }
             IlKind::Query => {
                 self.hear_ack(now, message);
-                Ok(Some(self.says(IlKind::State)))
+                Ok(Some(self.own_message(IlKind::State)))
             }
             IlKind::State => {
-                let again = self.again(self.acked_after(message))?;
+                let retransmission = self.retransmission(self.acked_after(message))?;
                 self.hear_ack(now, message);
-                Ok(again)
+                Ok(retransmission)
             }
             IlKind::Close => Ok(self.close_comes(now, message)),
         }
@@ -143,11 +148,11 @@ impl IlEnd {
         let is_last = message.id == self.recvd();
         self.hear_ack(now, message);
         if !is_last {
-            return Some(self.says(IlKind::State));
+            return Some(self.own_message(IlKind::State));
         }
-        self.marked = true;
+        self.closed_by_peer = true;
         self.close(Some(Cause::ByPeer));
-        Some(self.says(IlKind::Close))
+        Some(self.own_message(IlKind::Close))
     }
 
     /// Closing: all is answered by a close, until one comes.
@@ -159,28 +164,30 @@ impl IlEnd {
         requires in_time { now < 2 ^ 63 }
         requires short { IsShort self.old }
         ensures end { OnOk result (self.new ≡ (table.at_closing message.now.kind now message.now self.old).end) }
-        ensures emits { IfOk result (λ emits. emits ≡ (table.at_closing message.now.kind now message.now self.old).emits) }
+        ensures emits { IfOk result (λ emits.
+            emits ≡ (table.at_closing message.now.kind now message.now self.old).emits) }
         ensures err { OnErr result (self.new ≡ self.old) }
+        ensures memory { OnErr result (closing_takes message.now.kind now message.now self.old ≡ true) }
     {
         match message.kind {
             IlKind::Sync => {
                 self.hear(now);
-                Ok(Some(self.says(IlKind::Close)))
+                Ok(Some(self.own_message(IlKind::Close)))
             }
             IlKind::Data | IlKind::DataQuery | IlKind::Query => {
                 self.hear_ack(now, message);
-                Ok(Some(self.says(IlKind::Close)))
+                Ok(Some(self.own_message(IlKind::Close)))
             }
             IlKind::Ack => {
                 self.hear_ack(now, message);
                 Ok(None)
             }
             IlKind::State => {
-                let again = self.again(self.acked_after(message))?;
+                let retransmission = self.retransmission(self.acked_after(message))?;
                 self.hear_ack(now, message);
-                match again {
+                match retransmission {
                     Some(first) => Ok(Some(first)),
-                    None => Ok(Some(self.says(IlKind::Close))),
+                    None => Ok(Some(self.own_message(IlKind::Close))),
                 }
             }
             IlKind::Close if message.spec == 0 => {
@@ -192,16 +199,16 @@ impl IlEnd {
         }
     }
 
-    /// Closed: an end that is marked answers a close that comes again.
+    /// Closed: an end that its peer closed answers a close that comes again.
     pub(super) fn arrive_at_closed(&mut self, now: u64, message: &IlMsg) -> Option<IlMsg>
         requires { now < 2 ^ 63 }
         ensures end { self.new ≡ (table.at_closed message.now.kind now message.now self.old).end }
         ensures emits { result ≡ (table.at_closed message.now.kind now message.now self.old).emits }
     {
         match message.kind {
-            IlKind::Close if self.marked && message.spec == 0 => {
+            IlKind::Close if self.closed_by_peer && message.spec == 0 => {
                 self.hear(now);
-                Some(self.says(IlKind::Close))
+                Some(self.own_message(IlKind::Close))
             }
             _ => None,
         }

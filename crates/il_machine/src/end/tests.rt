@@ -11,7 +11,7 @@ use std::test::*;
 
 /// A message in a row.
 #[derive(Clone, Copy)]
-struct Said {
+struct Emitted {
     kind: IlKind,
     spec: u8,
     id: u32,
@@ -25,7 +25,7 @@ enum Deed {
     Connect(u32),
     Born(u32, u32),
     Announce,
-    Hear(Said),
+    Hear(Emitted),
     Write(&'static [u8]),
     WriteHungup(Cause),
     Read(usize, &'static [u8]),
@@ -40,14 +40,14 @@ enum Deed {
 struct Row {
     now: u64,
     deed: Deed,
-    says: Option<Said>,
+    says: Option<Emitted>,
     state: IlState,
     due: Option<u64>,
 }
 
 /// A message with spec 0.
-const fn says(kind: IlKind, id: u32, ack: u32, text: &'static [u8]) -> Said {
-    Said {
+const fn own(kind: IlKind, id: u32, ack: u32, text: &'static [u8]) -> Emitted {
+    Emitted {
         kind,
         spec: 0,
         id,
@@ -57,8 +57,8 @@ const fn says(kind: IlKind, id: u32, ack: u32, text: &'static [u8]) -> Said {
 }
 
 /// A close with this spec.
-const fn close(spec: u8, id: u32, ack: u32) -> Said {
-    Said {
+const fn close(spec: u8, id: u32, ack: u32) -> Emitted {
+    Emitted {
         kind: IlKind::Close,
         spec,
         id,
@@ -67,7 +67,7 @@ const fn close(spec: u8, id: u32, ack: u32) -> Said {
     }
 }
 
-const fn at(now: u64, deed: Deed, says: Option<Said>, state: IlState, due: Option<u64>) -> Row {
+const fn at(now: u64, deed: Deed, says: Option<Emitted>, state: IlState, due: Option<u64>) -> Row {
     Row {
         now,
         deed,
@@ -85,7 +85,7 @@ fn is_ready(end: &IlEnd, ask: Ask) -> bool
     end.ready(ask)
 }
 
-fn message(alloc: Global, said: Said) -> Result<IlMsg, AllocError> {
+fn message(alloc: Global, said: Emitted) -> Result<IlMsg, AllocError> {
     Ok(IlMsg {
         kind: said.kind,
         spec: said.spec,
@@ -240,34 +240,28 @@ use IlState::{Closed, Closing, Established, Listening, Syncee, Syncer};
 fn one_end_connects_and_writes(rt: HostRuntime) -> Result<(), Fail> {
     let mut end = IlEnd::fresh(rt.alloc())?;
     let rows = [
-        at(
-            0,
-            Connect(1),
-            Some(says(Sync, 1, 0, b"")),
-            Syncer,
-            Some(500),
-        ),
+        at(0, Connect(1), Some(own(Sync, 1, 0, b"")), Syncer, Some(500)),
         at(499, Tick, None, Syncer, Some(500)),
-        at(500, Tick, Some(says(Sync, 1, 0, b"")), Syncer, Some(1500)),
+        at(500, Tick, Some(own(Sync, 1, 0, b"")), Syncer, Some(1500)),
         at(
             600,
-            Hear(says(Sync, 100, 1, b"")),
-            Some(says(Ack, 1, 100, b"")),
+            Hear(own(Sync, 100, 1, b"")),
+            Some(own(Ack, 1, 100, b"")),
             Established,
             None,
         ),
         at(
             600,
             Write(b"hello"),
-            Some(says(Data, 2, 100, b"hello")),
+            Some(own(Data, 2, 100, b"hello")),
             Established,
             Some(1100),
         ),
-        at(640, Hear(says(Ack, 100, 2, b"")), None, Established, None),
+        at(640, Hear(own(Ack, 100, 2, b"")), None, Established, None),
         at(
             700,
             Write(b"x"),
-            Some(says(Data, 3, 100, b"x")),
+            Some(own(Data, 3, 100, b"x")),
             Established,
             Some(1200),
         ),
@@ -318,7 +312,7 @@ fn shake_hands<R: Abort>(rt: &R, alloc: Global, ends: &mut Ends) -> Result<(), A
             at(
                 10,
                 Connect(start),
-                Some(says(Sync, start, 0, b"")),
+                Some(own(Sync, start, 0, b"")),
                 Syncer,
                 Some(510),
             ),
@@ -335,7 +329,7 @@ fn shake_hands<R: Abort>(rt: &R, alloc: Global, ends: &mut Ends) -> Result<(), A
             NEAR,
             at(
                 400,
-                Hear(says(Ack, 100, start, b"")),
+                Hear(own(Ack, 100, start, b"")),
                 None,
                 Syncer,
                 Some(510),
@@ -343,14 +337,14 @@ fn shake_hands<R: Abort>(rt: &R, alloc: Global, ends: &mut Ends) -> Result<(), A
         ),
         (
             NEAR,
-            at(400, Hear(says(Sync, 100, 7, b"")), None, Syncer, Some(510)),
+            at(400, Hear(own(Sync, 100, 7, b"")), None, Syncer, Some(510)),
         ),
         (
             NEAR,
             at(
                 510,
                 Tick,
-                Some(says(Sync, start, 0, b"")),
+                Some(own(Sync, start, 0, b"")),
                 Syncer,
                 Some(1510),
             ),
@@ -360,7 +354,7 @@ fn shake_hands<R: Abort>(rt: &R, alloc: Global, ends: &mut Ends) -> Result<(), A
             at(
                 20,
                 Born(100, start),
-                Some(says(Sync, 100, start, b"")),
+                Some(own(Sync, 100, start, b"")),
                 Syncee,
                 Some(520),
             ),
@@ -369,22 +363,22 @@ fn shake_hands<R: Abort>(rt: &R, alloc: Global, ends: &mut Ends) -> Result<(), A
             FAR,
             at(
                 30,
-                Hear(says(Sync, start, 0, b"")),
-                Some(says(Sync, 100, start, b"")),
+                Hear(own(Sync, start, 0, b"")),
+                Some(own(Sync, 100, start, b"")),
                 Syncee,
                 Some(520),
             ),
         ),
         (
             FAR,
-            at(40, Hear(says(Sync, 9, 0, b"")), None, Syncee, Some(520)),
+            at(40, Hear(own(Sync, 9, 0, b"")), None, Syncee, Some(520)),
         ),
         (
             FAR,
             at(
                 520,
                 Tick,
-                Some(says(Sync, 100, start, b"")),
+                Some(own(Sync, 100, start, b"")),
                 Syncee,
                 Some(1520),
             ),
@@ -397,8 +391,8 @@ fn shake_hands<R: Abort>(rt: &R, alloc: Global, ends: &mut Ends) -> Result<(), A
             NEAR,
             at(
                 530,
-                Hear(says(Sync, 100, start, b"")),
-                Some(says(Ack, start, 100, b"")),
+                Hear(own(Sync, 100, start, b"")),
+                Some(own(Ack, start, 100, b"")),
                 Established,
                 None,
             ),
@@ -407,8 +401,8 @@ fn shake_hands<R: Abort>(rt: &R, alloc: Global, ends: &mut Ends) -> Result<(), A
             NEAR,
             at(
                 540,
-                Hear(says(Sync, 100, start, b"")),
-                Some(says(Ack, start, 100, b"")),
+                Hear(own(Sync, 100, start, b"")),
+                Some(own(Ack, start, 100, b"")),
                 Established,
                 None,
             ),
@@ -417,7 +411,7 @@ fn shake_hands<R: Abort>(rt: &R, alloc: Global, ends: &mut Ends) -> Result<(), A
             NEAR,
             at(
                 540,
-                Hear(says(Sync, 101, start, b"")),
+                Hear(own(Sync, 101, start, b"")),
                 None,
                 Established,
                 None,
@@ -436,7 +430,7 @@ fn lose_a_message<R: Abort>(rt: &R, alloc: Global, ends: &mut Ends) -> Result<()
             at(
                 600,
                 Write(b"a"),
-                Some(says(Data, 4294967295, 100, b"a")),
+                Some(own(Data, 4294967295, 100, b"a")),
                 Established,
                 Some(1100),
             ),
@@ -446,25 +440,25 @@ fn lose_a_message<R: Abort>(rt: &R, alloc: Global, ends: &mut Ends) -> Result<()
             at(
                 610,
                 Write(b"b"),
-                Some(says(Data, 0, 100, b"b")),
+                Some(own(Data, 0, 100, b"b")),
                 Established,
                 Some(1100),
             ),
         ),
         (
             FAR,
-            at(615, Hear(says(Data, 0, 100, b"")), None, Syncee, Some(1520)),
+            at(615, Hear(own(Data, 0, 100, b"")), None, Syncee, Some(1520)),
         ),
         (
             FAR,
-            at(615, Hear(says(Data, 0, 99, b"b")), None, Syncee, Some(1520)),
+            at(615, Hear(own(Data, 0, 99, b"b")), None, Syncee, Some(1520)),
         ),
         (
             FAR,
             at(
                 620,
-                Hear(says(Data, 0, 100, b"b")),
-                Some(says(Ack, 100, start, b"")),
+                Hear(own(Data, 0, 100, b"b")),
+                Some(own(Ack, 100, start, b"")),
                 Established,
                 None,
             ),
@@ -477,7 +471,7 @@ fn lose_a_message<R: Abort>(rt: &R, alloc: Global, ends: &mut Ends) -> Result<()
             NEAR,
             at(
                 630,
-                Hear(says(Ack, 100, start, b"")),
+                Hear(own(Ack, 100, start, b"")),
                 None,
                 Established,
                 Some(1100),
@@ -488,7 +482,7 @@ fn lose_a_message<R: Abort>(rt: &R, alloc: Global, ends: &mut Ends) -> Result<()
             at(
                 1100,
                 Tick,
-                Some(says(Query, 0, 100, b"")),
+                Some(own(Query, 0, 100, b"")),
                 Established,
                 Some(2100),
             ),
@@ -497,8 +491,8 @@ fn lose_a_message<R: Abort>(rt: &R, alloc: Global, ends: &mut Ends) -> Result<()
             FAR,
             at(
                 1110,
-                Hear(says(Query, 0, 100, b"")),
-                Some(says(State, 100, start, b"")),
+                Hear(own(Query, 0, 100, b"")),
+                Some(own(State, 100, start, b"")),
                 Established,
                 None,
             ),
@@ -507,8 +501,8 @@ fn lose_a_message<R: Abort>(rt: &R, alloc: Global, ends: &mut Ends) -> Result<()
             NEAR,
             at(
                 1120,
-                Hear(says(State, 100, start, b"")),
-                Some(says(DataQuery, 4294967295, 100, b"a")),
+                Hear(own(State, 100, start, b"")),
+                Some(own(DataQuery, 4294967295, 100, b"a")),
                 Established,
                 Some(2100),
             ),
@@ -517,21 +511,15 @@ fn lose_a_message<R: Abort>(rt: &R, alloc: Global, ends: &mut Ends) -> Result<()
             FAR,
             at(
                 1130,
-                Hear(says(DataQuery, 4294967295, 100, b"a")),
-                Some(says(State, 100, 0, b"")),
+                Hear(own(DataQuery, 4294967295, 100, b"a")),
+                Some(own(State, 100, 0, b"")),
                 Established,
                 None,
             ),
         ),
         (
             NEAR,
-            at(
-                1140,
-                Hear(says(State, 100, 0, b"")),
-                None,
-                Established,
-                None,
-            ),
+            at(1140, Hear(own(State, 100, 0, b"")), None, Established, None),
         ),
         (FAR, at(1140, Read(8192, b"a"), None, Established, None)),
         (FAR, at(1140, Read(8192, b"b"), None, Established, None)),
@@ -547,7 +535,7 @@ fn repeat_a_message<R: Abort>(rt: &R, alloc: Global, ends: &mut Ends) -> Result<
             at(
                 1200,
                 Write(b"hello"),
-                Some(says(Data, 101, 0, b"hello")),
+                Some(own(Data, 101, 0, b"hello")),
                 Established,
                 Some(1700),
             ),
@@ -556,8 +544,8 @@ fn repeat_a_message<R: Abort>(rt: &R, alloc: Global, ends: &mut Ends) -> Result<
             NEAR,
             at(
                 1210,
-                Hear(says(Data, 101, 0, b"hello")),
-                Some(says(Ack, 0, 101, b"")),
+                Hear(own(Data, 101, 0, b"hello")),
+                Some(own(Ack, 0, 101, b"")),
                 Established,
                 None,
             ),
@@ -566,8 +554,8 @@ fn repeat_a_message<R: Abort>(rt: &R, alloc: Global, ends: &mut Ends) -> Result<
             NEAR,
             at(
                 1220,
-                Hear(says(Data, 101, 0, b"hello")),
-                Some(says(Ack, 0, 101, b"")),
+                Hear(own(Data, 101, 0, b"hello")),
+                Some(own(Ack, 0, 101, b"")),
                 Established,
                 None,
             ),
@@ -580,7 +568,7 @@ fn repeat_a_message<R: Abort>(rt: &R, alloc: Global, ends: &mut Ends) -> Result<
         ),
         (
             FAR,
-            at(1230, Hear(says(Ack, 0, 101, b"")), None, Established, None),
+            at(1230, Hear(own(Ack, 0, 101, b"")), None, Established, None),
         ),
     ];
     play_both(rt, alloc, ends, &rows)
@@ -595,7 +583,7 @@ fn close_too_soon<R: Abort>(rt: &R, alloc: Global, ends: &mut Ends) -> Result<()
             at(
                 1300,
                 Write(b"c"),
-                Some(says(Data, 1, 101, b"c")),
+                Some(own(Data, 1, 101, b"c")),
                 Established,
                 Some(1800),
             ),
@@ -605,7 +593,7 @@ fn close_too_soon<R: Abort>(rt: &R, alloc: Global, ends: &mut Ends) -> Result<()
             at(
                 1310,
                 Hangup,
-                Some(says(Close, 1, 101, b"")),
+                Some(own(Close, 1, 101, b"")),
                 Closing,
                 Some(1810),
             ),
@@ -619,7 +607,7 @@ fn close_too_soon<R: Abort>(rt: &R, alloc: Global, ends: &mut Ends) -> Result<()
             at(
                 1320,
                 Hear(close(0, 1, 101)),
-                Some(says(State, 101, 0, b"")),
+                Some(own(State, 101, 0, b"")),
                 Established,
                 None,
             ),
@@ -628,8 +616,8 @@ fn close_too_soon<R: Abort>(rt: &R, alloc: Global, ends: &mut Ends) -> Result<()
             NEAR,
             at(
                 1330,
-                Hear(says(State, 101, 0, b"")),
-                Some(says(DataQuery, 1, 101, b"c")),
+                Hear(own(State, 101, 0, b"")),
+                Some(own(DataQuery, 1, 101, b"c")),
                 Closing,
                 Some(1810),
             ),
@@ -638,8 +626,8 @@ fn close_too_soon<R: Abort>(rt: &R, alloc: Global, ends: &mut Ends) -> Result<()
             FAR,
             at(
                 1340,
-                Hear(says(DataQuery, 1, 101, b"c")),
-                Some(says(State, 101, 1, b"")),
+                Hear(own(DataQuery, 1, 101, b"c")),
+                Some(own(State, 101, 1, b"")),
                 Established,
                 None,
             ),
@@ -648,8 +636,8 @@ fn close_too_soon<R: Abort>(rt: &R, alloc: Global, ends: &mut Ends) -> Result<()
             NEAR,
             at(
                 1350,
-                Hear(says(State, 101, 1, b"")),
-                Some(says(Close, 1, 101, b"")),
+                Hear(own(State, 101, 1, b"")),
+                Some(own(Close, 1, 101, b"")),
                 Closing,
                 Some(1850),
             ),
@@ -658,8 +646,8 @@ fn close_too_soon<R: Abort>(rt: &R, alloc: Global, ends: &mut Ends) -> Result<()
             NEAR,
             at(
                 1360,
-                Hear(says(Sync, 100, start, b"")),
-                Some(says(Close, 1, 101, b"")),
+                Hear(own(Sync, 100, start, b"")),
+                Some(own(Close, 1, 101, b"")),
                 Closing,
                 Some(1850),
             ),
@@ -668,8 +656,8 @@ fn close_too_soon<R: Abort>(rt: &R, alloc: Global, ends: &mut Ends) -> Result<()
             NEAR,
             at(
                 1360,
-                Hear(says(Data, 102, 1, b"late")),
-                Some(says(Close, 1, 101, b"")),
+                Hear(own(Data, 102, 1, b"late")),
+                Some(own(Close, 1, 101, b"")),
                 Closing,
                 Some(1850),
             ),
@@ -678,8 +666,8 @@ fn close_too_soon<R: Abort>(rt: &R, alloc: Global, ends: &mut Ends) -> Result<()
             NEAR,
             at(
                 1360,
-                Hear(says(DataQuery, 102, 1, b"late")),
-                Some(says(Close, 1, 101, b"")),
+                Hear(own(DataQuery, 102, 1, b"late")),
+                Some(own(Close, 1, 101, b"")),
                 Closing,
                 Some(1850),
             ),
@@ -688,21 +676,15 @@ fn close_too_soon<R: Abort>(rt: &R, alloc: Global, ends: &mut Ends) -> Result<()
             NEAR,
             at(
                 1360,
-                Hear(says(Query, 102, 1, b"")),
-                Some(says(Close, 1, 101, b"")),
+                Hear(own(Query, 102, 1, b"")),
+                Some(own(Close, 1, 101, b"")),
                 Closing,
                 Some(1850),
             ),
         ),
         (
             NEAR,
-            at(
-                1360,
-                Hear(says(Ack, 102, 1, b"")),
-                None,
-                Closing,
-                Some(1850),
-            ),
+            at(1360, Hear(own(Ack, 102, 1, b"")), None, Closing, Some(1850)),
         ),
         (
             NEAR,
@@ -713,7 +695,7 @@ fn close_too_soon<R: Abort>(rt: &R, alloc: Global, ends: &mut Ends) -> Result<()
             at(
                 1850,
                 Tick,
-                Some(says(Close, 1, 101, b"")),
+                Some(own(Close, 1, 101, b"")),
                 Closing,
                 Some(2850),
             ),
@@ -723,7 +705,7 @@ fn close_too_soon<R: Abort>(rt: &R, alloc: Global, ends: &mut Ends) -> Result<()
             at(
                 1860,
                 Hear(close(0, 1, 101)),
-                Some(says(Close, 101, 1, b"")),
+                Some(own(Close, 101, 1, b"")),
                 Closed,
                 None,
             ),
@@ -747,14 +729,14 @@ fn read_what_is_left<R: Abort>(rt: &R, alloc: Global, ends: &mut Ends) -> Result
             at(
                 1880,
                 Hear(close(0, 1, 101)),
-                Some(says(Close, 101, 1, b"")),
+                Some(own(Close, 101, 1, b"")),
                 Closed,
                 None,
             ),
         ),
         (
             FAR,
-            at(1880, Hear(says(Ack, 1, 101, b"")), None, Closed, None),
+            at(1880, Hear(own(Ack, 1, 101, b"")), None, Closed, None),
         ),
         (NEAR, at(1880, Hear(close(0, 101, 1)), None, Closed, None)),
         (
@@ -789,7 +771,7 @@ fn the_far_end_closes_first(rt: HostRuntime) -> Result<(), Fail> {
         at(
             0,
             Born(100, 1),
-            Some(says(Sync, 100, 1, b"")),
+            Some(own(Sync, 100, 1, b"")),
             Syncee,
             Some(500),
         ),
@@ -797,15 +779,15 @@ fn the_far_end_closes_first(rt: HostRuntime) -> Result<(), Fail> {
         at(10, Hear(close(2, 1, 100)), None, Established, None),
         at(
             20,
-            Hear(says(Data, 2, 100, b"one")),
-            Some(says(Ack, 100, 2, b"")),
+            Hear(own(Data, 2, 100, b"one")),
+            Some(own(Ack, 100, 2, b"")),
             Established,
             None,
         ),
         at(
             30,
             Hear(close(0, 2, 100)),
-            Some(says(Close, 100, 2, b"")),
+            Some(own(Close, 100, 2, b"")),
             Closed,
             None,
         ),
@@ -822,13 +804,7 @@ fn the_far_end_closes_first(rt: HostRuntime) -> Result<(), Fail> {
 fn a_sync_is_refused(rt: HostRuntime) -> Result<(), Fail> {
     let mut end = IlEnd::fresh(rt.alloc())?;
     let rows = [
-        at(
-            0,
-            Connect(7),
-            Some(says(Sync, 7, 0, b"")),
-            Syncer,
-            Some(500),
-        ),
+        at(0, Connect(7), Some(own(Sync, 7, 0, b"")), Syncer, Some(500)),
         at(5, Hear(close(1, 0, 8)), None, Syncer, Some(500)),
         at(5, Hear(close(0, 0, 7)), None, Syncer, Some(500)),
         at(10, Hear(close(1, 0, 7)), None, Closed, None),
@@ -854,13 +830,7 @@ fn an_end_is_hung_up_in_every_state(rt: HostRuntime) -> Result<(), Fail> {
     assert_eq!(rt; fresh.cause(), None);
     let mut syncer = IlEnd::fresh(rt.alloc())?;
     let rows = [
-        at(
-            0,
-            Connect(7),
-            Some(says(Sync, 7, 0, b"")),
-            Syncer,
-            Some(500),
-        ),
+        at(0, Connect(7), Some(own(Sync, 7, 0, b"")), Syncer, Some(500)),
         at(10, Hangup, None, Closed, None),
         at(20, Hangup, None, Closed, None),
     ];
@@ -868,21 +838,15 @@ fn an_end_is_hung_up_in_every_state(rt: HostRuntime) -> Result<(), Fail> {
     assert_eq!(rt; syncer.cause(), Some(Cause::Hungup));
     let mut syncee = IlEnd::fresh(rt.alloc())?;
     let rows = [
-        at(
-            0,
-            Born(7, 9),
-            Some(says(Sync, 7, 9, b"")),
-            Syncee,
-            Some(500),
-        ),
-        at(10, Hangup, Some(says(Close, 7, 9, b"")), Closing, Some(510)),
+        at(0, Born(7, 9), Some(own(Sync, 7, 9, b"")), Syncee, Some(500)),
+        at(10, Hangup, Some(own(Close, 7, 9, b"")), Closing, Some(510)),
         at(20, Hangup, None, Closing, Some(510)),
     ];
     play(&rt, rt.alloc(), &mut syncee, &rows)?;
     let mut listener = IlEnd::fresh(rt.alloc())?;
     let rows = [
         at(0, Announce, None, Listening, None),
-        at(5, Hear(says(Sync, 9, 0, b"")), None, Listening, None),
+        at(5, Hear(own(Sync, 9, 0, b"")), None, Listening, None),
         at(10, Hangup, None, Closed, None),
     ];
     play(&rt, rt.alloc(), &mut listener, &rows)?;
@@ -893,7 +857,7 @@ fn an_end_is_hung_up_in_every_state(rt: HostRuntime) -> Result<(), Fail> {
 #[test]
 fn an_end_that_hears_nothing_gives_up(rt: HostRuntime) -> Result<(), Fail> {
     let mut end = IlEnd::fresh(rt.alloc())?;
-    let sync = Some(says(Sync, 7, 0, b""));
+    let sync = Some(own(Sync, 7, 0, b""));
     let rows = [
         at(10, Connect(7), sync, Syncer, Some(510)),
         at(510, Tick, sync, Syncer, Some(1510)),
@@ -915,17 +879,11 @@ fn an_end_that_hears_nothing_gives_up(rt: HostRuntime) -> Result<(), Fail> {
 fn twenty_messages_may_be_unacknowledged(rt: HostRuntime) -> Result<(), Fail> {
     let mut end = IlEnd::fresh(rt.alloc())?;
     let rows = [
-        at(
-            0,
-            Connect(1),
-            Some(says(Sync, 1, 0, b"")),
-            Syncer,
-            Some(500),
-        ),
+        at(0, Connect(1), Some(own(Sync, 1, 0, b"")), Syncer, Some(500)),
         at(
             10,
-            Hear(says(Sync, 100, 1, b"")),
-            Some(says(Ack, 1, 100, b"")),
+            Hear(own(Sync, 100, 1, b"")),
+            Some(own(Ack, 1, 100, b"")),
             Established,
             None,
         ),
@@ -946,12 +904,12 @@ fn twenty_messages_may_be_unacknowledged(rt: HostRuntime) -> Result<(), Fail> {
         // an ack of what was never sent, and one of all
         at(
             30,
-            Hear(says(Ack, 100, 22, b"")),
+            Hear(own(Ack, 100, 22, b"")),
             None,
             Established,
             Some(520),
         ),
-        at(40, Hear(says(Ack, 100, 21, b"")), None, Established, None),
+        at(40, Hear(own(Ack, 100, 21, b"")), None, Established, None),
         at(40, Ask(crate::Ask::Write, true), None, Established, None),
     ];
     play(&rt, rt.alloc(), &mut end, &rows)?;
@@ -964,7 +922,7 @@ fn sixty_four_messages_may_be_unread(rt: HostRuntime) -> Result<(), Fail> {
     let born = at(
         0,
         Born(100, 1),
-        Some(says(Sync, 100, 1, b"")),
+        Some(own(Sync, 100, 1, b"")),
         Syncee,
         Some(500),
     );
@@ -972,8 +930,8 @@ fn sixty_four_messages_may_be_unread(rt: HostRuntime) -> Result<(), Fail> {
     for k in 2..66 {
         let came = at(
             10,
-            Hear(says(Data, k, 100, b"x")),
-            Some(says(Ack, 100, k, b"")),
+            Hear(own(Data, k, 100, b"x")),
+            Some(own(Ack, 100, k, b"")),
             Established,
             None,
         );
@@ -982,24 +940,24 @@ fn sixty_four_messages_may_be_unread(rt: HostRuntime) -> Result<(), Fail> {
     let rows = [
         at(
             20,
-            Hear(says(Data, 66, 100, b"y")),
-            Some(says(Ack, 100, 65, b"")),
+            Hear(own(Data, 66, 100, b"y")),
+            Some(own(Ack, 100, 65, b"")),
             Established,
             None,
         ),
         // there is no room for it, so it is still missing
         at(
             20,
-            Hear(says(DataQuery, 66, 100, b"y")),
-            Some(says(Ack, 100, 65, b"")),
+            Hear(own(DataQuery, 66, 100, b"y")),
+            Some(own(Ack, 100, 65, b"")),
             Established,
             None,
         ),
         at(30, Read(8192, b"x"), None, Established, None),
         at(
             40,
-            Hear(says(DataQuery, 66, 100, b"y")),
-            Some(says(State, 100, 66, b"")),
+            Hear(own(DataQuery, 66, 100, b"y")),
+            Some(own(State, 100, 66, b"")),
             Established,
             None,
         ),

@@ -1,5 +1,5 @@
 //! A reply with its copy.
-ghost use Rattle.std.specs.Prelude.{◌≡◌, IfOk};
+ghost use Rattle.std.specs.Prelude.{◌≡◌, ◌<◌, [], length, IfOk, OnErr};
 ghost use Rattle.net_base.specs.declared.reply.Reply.TheVariants as reply;
 
 use net_base::{Cause, Lines, Octets, Reply, StateName};
@@ -8,12 +8,12 @@ use std::marker::Model;
 
 /// A reply, twice, so that one can stand in the entry. Clauses see the reply.
 #[derive(Drop)]
-pub struct Said {
+pub struct ReplyAndCopy {
     pub reply: Reply,
     pub copy: Reply,
 }
 
-impl Model for Said {
+impl Model for ReplyAndCopy {
     ghost use Rattle.std.specs.Prelude.{◌≡◌};
     ghost use Rattle.net_base.specs.declared.reply.Reply.{Reply as Answer};
 
@@ -24,160 +24,177 @@ impl Model for Said {
     ghost invariant = { λ s. s.copy ≡ s.reply };
 }
 
-impl Said {
-    pub fn ok() -> Said
+impl ReplyAndCopy {
+    pub fn ok() -> ReplyAndCopy
         ensures { result ≡ reply.Ok }
     {
-        Said {
+        ReplyAndCopy {
             reply: Reply::Ok,
             copy: Reply::Ok,
         }
     }
 
-    pub fn stale() -> Said
+    pub fn stale() -> ReplyAndCopy
         ensures { result ≡ reply.Stale }
     {
-        Said {
+        ReplyAndCopy {
             reply: Reply::Stale,
             copy: Reply::Stale,
         }
     }
 
-    pub fn left() -> Said
+    pub fn left() -> ReplyAndCopy
         ensures { result ≡ reply.Left }
     {
-        Said {
+        ReplyAndCopy {
             reply: Reply::Left,
             copy: Reply::Left,
         }
     }
 
-    pub fn took() -> Said
+    pub fn took() -> ReplyAndCopy
         ensures { result ≡ reply.Took }
     {
-        Said {
+        ReplyAndCopy {
             reply: Reply::Took,
             copy: Reply::Took,
         }
     }
 
-    pub fn full() -> Said
+    pub fn full() -> ReplyAndCopy
         ensures { result ≡ reply.Full }
     {
-        Said {
+        ReplyAndCopy {
             reply: Reply::Full,
             copy: Reply::Full,
         }
     }
 
-    pub fn ticked() -> Said
+    pub fn ticked() -> ReplyAndCopy
         ensures { result ≡ reply.Ticked }
     {
-        Said {
+        ReplyAndCopy {
             reply: Reply::Ticked,
             copy: Reply::Ticked,
         }
     }
 
-    pub fn not_due() -> Said
+    pub fn not_due() -> ReplyAndCopy
         ensures { result ≡ reply.NotDue }
     {
-        Said {
+        ReplyAndCopy {
             reply: Reply::NotDue,
             copy: Reply::NotDue,
         }
     }
 
-    pub fn not_open() -> Said
+    pub fn not_open() -> ReplyAndCopy
         ensures { result ≡ reply.NotOpen }
     {
-        Said {
+        ReplyAndCopy {
             reply: Reply::NotOpen,
             copy: Reply::NotOpen,
         }
     }
 
-    pub fn zero_write() -> Said
+    pub fn zero_write() -> ReplyAndCopy
         ensures { result ≡ reply.ZeroWrite }
     {
-        Said {
+        ReplyAndCopy {
             reply: Reply::ZeroWrite,
             copy: Reply::ZeroWrite,
         }
     }
 
-    pub fn opened(generation: u64) -> Said
+    pub fn opened(generation: u64) -> ReplyAndCopy
         ensures { result ≡ reply.Opened generation }
     {
-        Said {
+        ReplyAndCopy {
             reply: Reply::Opened { generation },
             copy: Reply::Opened { generation },
         }
     }
 
-    pub fn wrong(state: StateName) -> Said
+    pub fn wrong(state: StateName) -> ReplyAndCopy
         ensures { result ≡ reply.WrongState state }
     {
-        Said {
+        ReplyAndCopy {
             reply: Reply::WrongState { state },
             copy: Reply::WrongState { state },
         }
     }
 
-    pub fn hungup(cause: Cause) -> Said
+    pub fn hungup(cause: Cause) -> ReplyAndCopy
         ensures { result ≡ reply.Hungup cause }
     {
-        Said {
+        ReplyAndCopy {
             reply: Reply::Hungup { cause },
             copy: Reply::Hungup { cause },
         }
     }
 
-    pub fn count(count: u32) -> Said
+    pub fn count(count: u32) -> ReplyAndCopy
         ensures { result ≡ reply.Count count }
     {
-        Said {
+        ReplyAndCopy {
             reply: Reply::Count { count },
             copy: Reply::Count { count },
         }
     }
 
-    pub fn too_long(length: u64, limit: u32) -> Said
+    pub fn too_long(length: u64, limit: u32) -> ReplyAndCopy
         ensures { result ≡ reply.TooLong length limit }
     {
-        Said {
+        ReplyAndCopy {
             reply: Reply::TooLong { length, limit },
             copy: Reply::TooLong { length, limit },
         }
     }
 
-    pub fn bad_control(number: u32) -> Said
+    pub fn bad_control(number: u32) -> ReplyAndCopy
         ensures { result ≡ reply.BadCtl number }
     {
-        Said {
+        ReplyAndCopy {
             reply: Reply::BadCtl { number },
             copy: Reply::BadCtl { number },
         }
     }
 
-    /// These bytes.
-    pub fn bytes(alloc: Global, bytes: &[u8]) -> Result<Said, AllocError>
-        ensures { IfOk result (λ said. said ≡ reply.Bytes bytes.now) }
+    pub fn no_bytes(alloc: Global) -> ReplyAndCopy
+        ensures { result ≡ reply.Bytes [] }
     {
+        ReplyAndCopy {
+            reply: Reply::Bytes {
+                bytes: Octets::new(alloc),
+            },
+            copy: Reply::Bytes {
+                bytes: Octets::new(alloc),
+            },
+        }
+    }
+
+    /// These bytes.
+    pub fn bytes(alloc: Global, bytes: &[u8]) -> Result<ReplyAndCopy, AllocError>
+        ensures ok { IfOk result (λ answer. answer ≡ reply.Bytes bytes.now) }
+        ensures memory { OnErr result (0 < length bytes.now) }
+    {
+        if bytes.is_empty() {
+            return Ok(ReplyAndCopy::no_bytes(alloc));
+        }
         let copy = Octets::from_slice(alloc, bytes)?;
         let bytes = Octets::from_slice(alloc, bytes)?;
-        Ok(Said {
+        Ok(ReplyAndCopy {
             reply: Reply::Bytes { bytes },
             copy: Reply::Bytes { bytes: copy },
         })
     }
 
     /// These names.
-    pub fn names(names: Lines) -> Result<Said, AllocError>
-        ensures { IfOk result (λ said. said ≡ reply.Names names) }
+    pub fn names(names: Lines) -> Result<ReplyAndCopy, AllocError>
+        ensures { IfOk result (λ answer. answer ≡ reply.Names names) }
     {
         let copy = names.clone()?;
-        Ok(Said {
+        Ok(ReplyAndCopy {
             reply: Reply::Names { names },
             copy: Reply::Names { names: copy },
         })
