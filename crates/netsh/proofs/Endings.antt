@@ -4,7 +4,8 @@ use Rattle.std.specs.Prelude.{bytes_eq, codes}
 use Rattle.std.proofs.lemmas.Bool.{false≢true}
 use Rattle.std.proofs.lemmas.Bool.Decides.{nat_tests}
 use Rattle.std.proofs.lemmas.List.{length-append}
-use Rattle.outside.specs.Streams.{Took, TookToEnd, Rose}
+use Rattle.std.specs.Io.KnownBytes.{Consumes}
+use Rattle.outside.specs.Streams.{ConsumedToEnd, Rose}
 use Rattle.outside.specs.declared.fault.TakeError.{TakeError}
 use Rattle.outside.specs.declared.fault.TakeError.TheVariants as error
 use Rattle.net_model.specs.Answers.{Answer, bad_input, read_fault, input_limit}
@@ -21,24 +22,24 @@ pub within_limit : (asked : Command) (input : List ℕ) → length input ≤ inp
 within_limit asked input fits = let over : nat_lt input_limit (length input) ≡ false = grind (arith, nat_tests) in rw over refl
 
 -- what was taken past the limit begins an input that is over it
-pub input_too_long : (left rest : Option (List ℕ)) (bytes : List ℕ) → Took left rest bytes → length bytes ≡ input_limit + 1 → (input : List ℕ) × IsInput left input × (input_limit < length input)
-input_too_long left None bytes took long = (bytes, subst (λ (o : Option (List ℕ)). IsInput o bytes) (sym took) tt, omega (arith, long))
-input_too_long left (Some rest) bytes took long = (
-  bytes ++ rest,
-  subst (λ (o : Option (List ℕ)). IsInput o (bytes ++ rest)) (sym took) refl,
-  omega (arith, length-append bytes rest, long),
-)
+pub input_too_long : (left rest : Option (List ℕ)) (bytes : List ℕ) → Consumes left rest bytes → length bytes ≡ input_limit + 1 → (input : List ℕ) × IsInput left input × (input_limit < length input)
+input_too_long None rest bytes taken long = (bytes, tt, omega (arith, long))
+input_too_long (Some left) None bytes taken long = absurd taken
+input_too_long (Some left) (Some rest) bytes taken long =
+    (bytes ++ rest, sym taken, omega (arith, length-append bytes rest, long))
 
 -- the answer to an input of which more was taken than the limit
 pub answers_too_long :
     (asked : Command) (answer : Answer) (intake : Intake) (fault : TakeError) →
-    TookToEnd intake.left intake.rest input_limit (Err fault) → fault ≡ error.TooLarge → answer ≡ bad_input 0 9 →
+    ConsumedToEnd intake.left intake.rest input_limit (Err fault) → fault ≡ error.TooLarge →
+    intake.after ≡ intake.before → answer ≡ bad_input 0 9 →
     Answers asked answer intake
-answers_too_long asked answer intake fault taken same right =
-    let input = input_too_long intake.left intake.rest taken.bytes taken.took (taken.too_large.0 (ap Err same))
+answers_too_long asked answer intake fault taken same kept right =
+    let input = input_too_long intake.left intake.rest taken.bytes taken.consumed (taken.too_large.0 (ap Err same))
     in record {
       input = input.0;
       read = (input.1, inr input.2);
+      same = kept;
       right = subst (λ (bad : Option (ℕ × ℕ)). IsGiven bad asked input.0 answer) (sym (too_long_is_bad asked input.0 input.2)) right;
     }
 

@@ -11,7 +11,7 @@ use Rattle.net_model.specs.Words.{Command, Cs, Run}
 use Rattle.world_text.specs.WorldText.{world_reading}
 use Rattle.cs_resolver.specs.Built.{built_answer}
 use Rattle.netsh.specs.Built.{first_bad, IsStatus, IsRun, IsFound, IsGiven, IsAnswer}
-use Rattle.netsh.specs.Ends.{Intake, Output, Told, IsInput, IsRead, Answers, IsStatusOf, IsBad, HasRun, Ends, no_row, answered, unread, no_memory, Causes}
+use Rattle.netsh.specs.Ends.{Intake, Output, Told, IsUnwritten, IsInput, IsRead, Answers, IsStatusOf, IsBad, HasRun, Ends, no_row, answered, unread, no_memory, Causes}
 use Rattle.netsh.proofs.Endings.{too_long_is_bad}
 
 some_none : (asked : Command) → Some asked ≡ None → ⊥
@@ -88,14 +88,14 @@ module _ (command : Option Command) (status : ℕ) (intake : Intake) (output : O
   usage_only (answered asked answer is answers (inr t)) one = absurd (omega (arith, t.0, one))
   usage_only (unread asked is rose (inl t)) one = absurd (omega (arith, t.0, one))
   usage_only (unread asked is rose (inr t)) one = absurd (omega (arith, t.0, one))
-  usage_only (no_memory asked is eight kept) one = absurd (omega (arith, eight, one))
+  usage_only (no_memory asked is eight unfaulted kept) one = absurd (omega (arith, eight, one))
 
   only_usage : Ends command status intake output → command ≡ None → (status ≡ 1) ⊎ (status ≡ 7)
   only_usage (no_row none unread_source (inl t)) is_none = inl t.0
   only_usage (no_row none unread_source (inr t)) is_none = inr t.0
   only_usage (answered asked answer is answers told) is_none = absurd (some_none asked (sym is ∙ is_none))
   only_usage (unread asked is rose told) is_none = absurd (some_none asked (sym is ∙ is_none))
-  only_usage (no_memory asked is eight kept) is_none = absurd (some_none asked (sym is ∙ is_none))
+  only_usage (no_memory asked is eight unfaulted kept) is_none = absurd (some_none asked (sym is ∙ is_none))
 
   -- a status that only answers have
   status_of : (n : ℕ) → Ends command status intake output → status ≡ n → (n ≡ 1 → ⊥) → (n ≡ 6 → ⊥) → (n ≡ 7 → ⊥) → (n ≡ 8 → ⊥) → IsStatusOf command n intake
@@ -106,7 +106,7 @@ module _ (command : Option Command) (status : ℕ) (intake : Intake) (output : O
   status_of n (answered asked answer is answers (inr t)) is_n no_one no_six no_seven no_eight = absurd (no_seven (sym is_n ∙ t.0))
   status_of n (unread asked is rose (inl t)) is_n no_one no_six no_seven no_eight = absurd (no_six (sym is_n ∙ t.0))
   status_of n (unread asked is rose (inr t)) is_n no_one no_six no_seven no_eight = absurd (no_seven (sym is_n ∙ t.0))
-  status_of n (no_memory asked is eight kept) is_n no_one no_six no_seven no_eight = absurd (no_eight (sym is_n ∙ eight))
+  status_of n (no_memory asked is eight unfaulted kept) is_n no_one no_six no_seven no_eight = absurd (no_eight (sym is_n ∙ eight))
 
   only_read_fault : Ends command status intake output → status ≡ 6 → Rose intake.before intake.after
   only_read_fault (no_row none unread_source (inl t)) six = absurd (omega (arith, t.0, six))
@@ -114,7 +114,7 @@ module _ (command : Option Command) (status : ℕ) (intake : Intake) (output : O
   only_read_fault (answered asked answer is answers (inl t)) six = absurd (not_of asked answer intake status 6 answers t.0 six apart_6)
   only_read_fault (answered asked answer is answers (inr t)) six = absurd (omega (arith, t.0, six))
   only_read_fault (unread asked is rose told) six = rose
-  only_read_fault (no_memory asked is eight kept) six = absurd (omega (arith, eight, six))
+  only_read_fault (no_memory asked is eight unfaulted kept) six = absurd (omega (arith, eight, six))
 
   only_write_fault : Ends command status intake output → status ≡ 7 → Rose output.before output.after
   only_write_fault (no_row none unread_source (inl t)) seven = absurd (omega (arith, t.0, seven))
@@ -123,16 +123,34 @@ module _ (command : Option Command) (status : ℕ) (intake : Intake) (output : O
   only_write_fault (answered asked answer is answers (inr t)) seven = t.1
   only_write_fault (unread asked is rose (inl t)) seven = absurd (omega (arith, t.0, seven))
   only_write_fault (unread asked is rose (inr t)) seven = t.1
-  only_write_fault (no_memory asked is eight kept) seven = absurd (omega (arith, eight, seven))
+  only_write_fault (no_memory asked is eight unfaulted kept) seven = absurd (omega (arith, eight, seven))
 
-  only_memory : Ends command status intake output → status ≡ 8 → output.holds ≡ output.held
+  only_memory : Ends command status intake output → status ≡ 8 → (intake.after ≡ intake.before) × IsUnwritten output
   only_memory (no_row none unread_source (inl t)) is_eight = absurd (omega (arith, t.0, is_eight))
   only_memory (no_row none unread_source (inr t)) is_eight = absurd (omega (arith, t.0, is_eight))
   only_memory (answered asked answer is answers (inl t)) is_eight = absurd (not_of asked answer intake status 8 answers t.0 is_eight apart_8)
   only_memory (answered asked answer is answers (inr t)) is_eight = absurd (omega (arith, t.0, is_eight))
   only_memory (unread asked is rose (inl t)) is_eight = absurd (omega (arith, t.0, is_eight))
   only_memory (unread asked is rose (inr t)) is_eight = absurd (omega (arith, t.0, is_eight))
-  only_memory (no_memory asked is eight kept) is_eight = kept
+  only_memory (no_memory asked is eight unfaulted kept) is_eight = (unfaulted, kept)
+
+  -- a count that rose was told
+  told_read_fault : Ends command status intake output → intake.after ≢ intake.before → (status ≡ 6) ⊎ (status ≡ 7)
+  told_read_fault (no_row none unread_source told) rose = absurd (rose unread_source.1)
+  told_read_fault (answered asked answer is answers told) rose = absurd (rose answers.same)
+  told_read_fault (unread asked is rising (inl t)) rose = inl t.0
+  told_read_fault (unread asked is rising (inr t)) rose = inr t.0
+  told_read_fault (no_memory asked is eight unfaulted kept) rose = absurd (rose unfaulted)
+
+  told_in : (answer : Answer) → Told answer status output → output.after ≢ output.before → status ≡ 7
+  told_in answer (inl t) rose = absurd (rose t.2)
+  told_in answer (inr t) rose = t.0
+
+  told_write_fault : Ends command status intake output → output.after ≢ output.before → status ≡ 7
+  told_write_fault (no_row none unread_source told) rose = told_in usage told rose
+  told_write_fault (answered asked answer is answers told) rose = told_in answer told rose
+  told_write_fault (unread asked is rising told) rose = told_in read_fault told rose
+  told_write_fault (no_memory asked is eight unfaulted kept) rose = absurd (rose kept.1)
 
   complete_without_faults : Ends command status intake output → ¬ Rose intake.before intake.after → ¬ Rose output.before output.after → command ≢ None → (status ≡ 8) ⊎ IsStatusOf command status intake
   complete_without_faults (no_row none unread_source told) reads writes some = absurd (some none)
@@ -140,7 +158,7 @@ module _ (command : Option Command) (status : ℕ) (intake : Intake) (output : O
       inr (record { asked = asked; answer = answer; is_asked = is; answers = answers; right = t.0 })
   complete_without_faults (answered asked answer is answers (inr t)) reads writes some = absurd (writes t.1)
   complete_without_faults (unread asked is rose told) reads writes some = absurd (reads rose)
-  complete_without_faults (no_memory asked is eight kept) reads writes some = inl eight
+  complete_without_faults (no_memory asked is eight unfaulted kept) reads writes some = inl eight
 
   -- an answer that a call without a fault gave is to what the source had left
   same_command : (asked other : Command) → command ≡ Some asked → command ≡ Some other → other ≡ asked
@@ -285,6 +303,8 @@ module _ (command : Option Command) (status : ℕ) (intake : Intake) (output : O
     read_fault = only_read_fault command status intake output ends;
     write_fault = only_write_fault command status intake output ends;
     memory = only_memory command status intake output ends;
+    read_faults = told_read_fault command status intake output ends;
+    write_faults = told_write_fault command status intake output ends;
     end = whole_at_end;
     complete = complete_without_faults command status intake output ends;
     tells_bad = tells_bad command status intake output ends;

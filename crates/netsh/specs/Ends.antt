@@ -1,6 +1,6 @@
 -- How a call of the program ends: its status, what it took from the source and what the sink gained.
 use Rattle.std.specs.Prelude.{◌≡◌, ◌≢◌, ℕ, ◌<◌, ◌⊎◌, Bool, true, List, length, Option, Some, None, Ok, ⊤}
-use Rattle.std.specs.Io.KnownBytes.{IsAtEnd}
+use Rattle.std.specs.Io.KnownBytes.{Appends, IsAtEnd}
 use Rattle.net_base.specs.declared.history.Entry.{Entry}
 use Rattle.net_base.specs.declared.world.World.{World}
 use Rattle.net_model.specs.Answers.{Answer, usage, read_fault, input_limit}
@@ -9,7 +9,7 @@ use Rattle.net_base.specs.Legal.{IsLegal, IsTimed}
 use Rattle.net_base.specs.Net.{Net, after}
 use Rattle.net_model.specs.Words.{Command, Run}
 use Rattle.world_text.specs.WorldText.{world_reading}
-use Rattle.outside.specs.Streams.{Rose, Gained, GainedPart}
+use Rattle.outside.specs.Streams.{Rose, AppendsPart}
 use Rattle.netsh.specs.Built.{first_bad, IsAnswer}
 
 -- what a source had left and has left, where it tells that, and its count of faults before and after
@@ -29,8 +29,12 @@ pub record Output : Type 0 where
 -- the answer was written whole, or the sink failed, which is status 7, and gained a part of its text
 abbrev pub Told : Answer → ℕ → Output → Type 0
 Told answer status output =
-    ((status ≡ answer.status) × Gained output.held output.holds answer.text)
-    ⊎ ((status ≡ 7) × Rose output.before output.after × GainedPart output.held output.holds answer.text)
+    ((status ≡ answer.status) × Appends output.held output.holds answer.text × (output.after ≡ output.before))
+    ⊎ ((status ≡ 7) × Rose output.before output.after × AppendsPart output.held output.holds answer.text)
+
+-- nothing was written
+abbrev pub IsUnwritten : Output → Type 0
+IsUnwritten output = (output.holds ≡ output.held) × (output.after ≡ output.before)
 
 -- the input is what the source had left, where it told that
 abbrev pub IsInput : Option (List ℕ) → List ℕ → Type 0
@@ -45,19 +49,20 @@ IsRead intake input = IsInput intake.left input × (IsAtEnd intake.rest ⊎ (inp
 abbrev pub IsUnread : Intake → Type 0
 IsUnread intake = (intake.rest ≡ intake.left) × (intake.after ≡ intake.before)
 
--- the answer is one to an input which was read
+-- the answer is one to an input which was read without a fault
 pub record Answers (asked : Command) (answer : Answer) (intake : Intake) : Type 0 where
   pub input : List ℕ
   pub read : IsRead intake input
+  pub same : intake.after ≡ intake.before
   pub right : IsAnswer asked input answer
 
--- how a call with a command, or with words in no row, may end: with the usage, and nothing was read; with an answer to the input; with a fault of the
--- source; or without memory, and then nothing was written
+-- how a call with a command, or with words in no row, may end: with the usage, and nothing was read; with an answer to the
+-- input; with a fault of the source; or without memory, and then there was no fault and nothing was written
 pub data Ends (command : Option Command) (status : ℕ) (intake : Intake) (output : Output) : Type 0 where
   no_row : command ≡ None → IsUnread intake → Told usage status output → Ends command status intake output
   answered : (asked : Command) (answer : Answer) → command ≡ Some asked → Answers asked answer intake → Told answer status output → Ends command status intake output
   unread : (asked : Command) → command ≡ Some asked → Rose intake.before intake.after → Told read_fault status output → Ends command status intake output
-  no_memory : (asked : Command) → command ≡ Some asked → status ≡ 8 → output.holds ≡ output.held → Ends command status intake output
+  no_memory : (asked : Command) → command ≡ Some asked → status ≡ 8 → intake.after ≡ intake.before → IsUnwritten output → Ends command status intake output
 
 -- the status is that of an answer to an input which was read
 pub record IsStatusOf (command : Option Command) (status : ℕ) (intake : Intake) : Type 0 where
@@ -106,7 +111,10 @@ pub record Causes (command : Option Command) (status : ℕ) (intake : Intake) (o
   -- the faults and the memory
   pub read_fault : status ≡ 6 → Rose intake.before intake.after
   pub write_fault : status ≡ 7 → Rose output.before output.after
-  pub memory : status ≡ 8 → output.holds ≡ output.held
+  pub memory : status ≡ 8 → (intake.after ≡ intake.before) × IsUnwritten output
+  -- and no fault is told as anything else: one of the source is 6, or 7 where that can't be written
+  pub read_faults : intake.after ≢ intake.before → (status ≡ 6) ⊎ (status ≡ 7)
+  pub write_faults : output.after ≢ output.before → status ≡ 7
   -- the answer was made from the whole input
   pub end : (status ≡ 0) ⊎ (status ≡ 3) ⊎ (status ≡ 4) ⊎ (status ≡ 5) → IsAtEnd intake.rest
   -- without a fault, words in a row have an answer's status, or memory ran out

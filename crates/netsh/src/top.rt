@@ -1,5 +1,5 @@
 //! The top call: words and an input in, a status and a text out.
-ghost use Rattle.std.specs.Prelude.{◌≡◌, ◌≢◌, ◌≤◌, ◌↔◌, map, string_bytes, length, IsNone, IfNone, IfSome, IfOk, IsErrOf, IsTrue, Some, None};
+ghost use Rattle.std.specs.Prelude.{◌≡◌, ◌≢◌, ◌≤◌, ◌↔◌, map, string_bytes, length, IsNone, IfNone, IfSome, IfOk, IsErrOf, IsTrue, Some, None, Err};
 ghost use Rattle.net_model.specs.Words.{command_of, words_wait};
 ghost use Rattle.netsh.specs.Ends.{Ends, Causes, Told, Answers};
 ghost use Rattle.net_model.specs.Answers.{input_limit};
@@ -52,6 +52,7 @@ fn read_and_answer<S: Source>(
     ensures ok { IfOk result (λ answer. Answers (command_read command.entry) answer
         (record { left = S.left source.old; rest = S.left source.new; before = S.faults source.old; after = S.faults source.new })) }
     ensures failed { IsErrOf result TakeError.Failed → Rose (S.faults source.old) (S.faults source.new) }
+    ensures same { result ≢ Err TakeError.Failed → S.faults source.new ≡ S.faults source.old }
     ensures within { IsErrOf result TakeError.TooLarge → ⊥ }
 {
     match read_to_end(alloc, source, INPUT_LIMIT) {

@@ -1,8 +1,9 @@
 -- Pieces that are taken from a source or given to a sink one after another.
-use Rattle.std.proofs.Common.{◌≡◌, ℕ, ◌+◌, ◌-◌, ◌≤◌, Option, Some, None, List, ◌++◌, length, take, drop, option_map, ◌<◌, [], min, Err, sym, ◌∙◌, ap, refl, subst, arith}
+use Rattle.std.proofs.Common.{◌≡◌, ℕ, ◌+◌, ◌-◌, ◌≤◌, Option, Some, None, List, ◌++◌, length, take, drop, ◌<◌, [], min, Err, sym, ◌∙◌, ap, refl, subst, arith}
 use Rattle.std.proofs.lemmas.List.{append_assoc, length-append, length-drop, length-take-le, drop_all, take_all}
 use Rattle.std.proofs.Math.Seq.{take-add}
-use Rattle.outside.specs.Streams.{Took, Gained, TookToEnd}
+use Rattle.std.specs.Io.KnownBytes.{Appends, Consumes, Keeps}
+use Rattle.outside.specs.Streams.{ConsumedToEnd}
 use Rattle.outside.specs.declared.fault.TakeError.TheVariants as error
 
 -- the whole rest of a list, spelled as a slice from a place on
@@ -10,23 +11,39 @@ pub rest_of : (xs : List ℕ) (at : ℕ) → take (length xs - at) (drop at xs) 
 rest_of xs at = take_all (length xs - at) (drop at xs) (omega (arith, length-drop at xs))
 
 -- a piece taken after others
-pub took_more : (old between new : Option (List ℕ)) (first second : List ℕ) → Took old between first → Took between new second → Took old new (first ++ second)
-took_more old between None first second a b = a ∙ ap (option_map (λ (left : List ℕ). first ++ left)) b
-took_more old between (Some left) first second a b =
-    a ∙ ap (option_map (λ (left : List ℕ). first ++ left)) b ∙ ap Some (sym (append_assoc first second left))
+pub consumes_more : (old between new : Option (List ℕ)) (first second : List ℕ) → Consumes old between first → Consumes between new second → Consumes old new (first ++ second)
+consumes_more None between new first second a b = tt
+consumes_more (Some xs) None new first second a b = absurd a
+consumes_more (Some xs) (Some left) None first second a b = absurd b
+consumes_more (Some xs) (Some left) (Some rest) first second a b = a ∙ ap (λ more. first ++ more) b ∙ sym (append_assoc first second rest)
+
+-- pieces taken before a read that took nothing
+pub consumes_kept : (old between new : Option (List ℕ)) (bytes : List ℕ) → Consumes old between bytes → Keeps between new → Consumes old new bytes
+consumes_kept None between new bytes a b = tt
+consumes_kept (Some xs) None new bytes a b = absurd a
+consumes_kept (Some xs) (Some left) None bytes a b = absurd b
+consumes_kept (Some xs) (Some left) (Some rest) bytes a b = a ∙ ap (λ more. bytes ++ more) (sym b)
 
 -- a piece given after others
-pub gained_more : (old between new : Option (List ℕ)) (first second : List ℕ) → Gained old between first → Gained between new second → Gained old new (first ++ second)
-gained_more None between new first second a b = b ∙ ap (option_map (λ (held : List ℕ). held ++ second)) a
-gained_more (Some held) between new first second a b =
-    b ∙ ap (option_map (λ (held : List ℕ). held ++ second)) a ∙ ap Some (append_assoc held first second)
+pub appends_more : (old between new : Option (List ℕ)) (first second : List ℕ) → Appends old between first → Appends between new second → Appends old new (first ++ second)
+appends_more None between new first second a b = tt
+appends_more (Some xs) None new first second a b = absurd a
+appends_more (Some xs) (Some held) None first second a b = absurd b
+appends_more (Some xs) (Some held) (Some holds) first second a b = b ∙ ap (λ (front : List ℕ). front ++ second) a ∙ append_assoc xs first second
+
+-- pieces given before a write that gave nothing
+pub appends_kept : (old between new : Option (List ℕ)) (bytes : List ℕ) → Appends old between bytes → Keeps between new → Appends old new bytes
+appends_kept None between new bytes a b = tt
+appends_kept (Some xs) None new bytes a b = absurd a
+appends_kept (Some xs) (Some held) None bytes a b = absurd b
+appends_kept (Some xs) (Some held) (Some holds) bytes a b = b ∙ a
 
 -- a piece given from the place where the pieces before it ended
-pub gained_next : (old between new : Option (List ℕ)) (xs : List ℕ) (done n : ℕ) → Gained old between (take done xs) → Gained between new (take n (take (length xs - done) (drop done xs))) → Gained old new (take (done + n) xs)
-gained_next old between new xs done n a b =
-    let P : List ℕ → Type 0 = λ piece. Gained old new piece
+pub appends_next : (old between new : Option (List ℕ)) (xs : List ℕ) (done n : ℕ) → Appends old between (take done xs) → Appends between new (take n (take (length xs - done) (drop done xs))) → Appends old new (take (done + n) xs)
+appends_next old between new xs done n a b =
+    let P : List ℕ → Type 0 = λ piece. Appends old new piece
     in subst P (sym (take-add done n xs ∙ ap (λ rest. take done xs ++ take n rest) (sym (rest_of xs done))))
-    (gained_more old between new _ _ a b)
+    (appends_more old between new _ _ a b)
 
 -- a read into some room that gave nothing leaves nothing
 pub nothing_left : (xs all : List ℕ) (at n room : ℕ) → all ≡ xs → n ≡ min room (length (take (length all - at) (drop at all))) → 0 < room → n ≡ 0 → drop (at + n) xs ≡ []
@@ -34,12 +51,12 @@ nothing_left xs all at n room same most more none =
     drop_all (at + n) xs (grind (arith, same, most, more, none, ap length (rest_of all at), length-drop at all))
 
 -- a piece that passes the limit by one byte
-pub one_too_many : (old between new : Option (List ℕ)) (first second : List ℕ) (limit : ℕ) → Took old between first → Took between new second → length first + length second ≡ limit + 1 → TookToEnd old new limit (Err error.TooLarge)
+pub one_too_many : (old between new : Option (List ℕ)) (first second : List ℕ) (limit : ℕ) → Consumes old between first → Consumes between new second → length first + length second ≡ limit + 1 → ConsumedToEnd old new limit (Err error.TooLarge)
 one_too_many old between new first second limit a b e =
     let all : length (first ++ second) ≡ limit + 1 = length-append first second ∙ e
     in record {
       bytes = first ++ second;
-      took = took_more old between new first second a b;
+      consumed = consumes_more old between new first second a b;
       within = omega (arith, all);
       too_large = (λ _. all, λ _. refl);
       all = tt;
@@ -47,12 +64,12 @@ one_too_many old between new first second limit a b e =
     }
 
 -- a piece within the limit for which there is no memory
-pub no_memory : (old between new : Option (List ℕ)) (first second : List ℕ) (limit : ℕ) → Took old between first → Took between new second → length first + length second ≤ limit → TookToEnd old new limit (Err error.Memory)
+pub no_memory : (old between new : Option (List ℕ)) (first second : List ℕ) (limit : ℕ) → Consumes old between first → Consumes between new second → length first + length second ≤ limit → ConsumedToEnd old new limit (Err error.Memory)
 no_memory old between new first second limit a b fits =
     let all : length (first ++ second) ≤ limit = omega (arith, length-append first second, fits)
     in record {
       bytes = first ++ second;
-      took = took_more old between new first second a b;
+      consumed = consumes_more old between new first second a b;
       within = omega (arith, all);
       too_large = (λ h. cc, λ h. absurd (omega (arith, all, h)));
       all = tt;

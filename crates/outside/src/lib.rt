@@ -4,17 +4,19 @@
 mod fault;
 mod gate;
 mod memory;
+mod reader;
 mod sink;
 mod source;
-mod standard;
 mod sure;
 #[cfg(test)]
 mod tests;
+mod writer;
 
 pub use fault::{Failed, TakeError};
 pub use gate::{Gate, OpenGate};
 pub use memory::{FailList, MemSink, MemSource};
+pub use reader::{ReadSource, StdSource};
 pub use sink::{Sink, write_all};
 pub use source::{Source, read_to_end};
-pub use standard::{StdSink, StdSource};
 pub use sure::{SureSink, SureSource};
+pub use writer::{StdSink, WriteSink};

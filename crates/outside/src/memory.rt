@@ -1,8 +1,8 @@
 //! A source and a sink in memory, which fail in the calls that they are told.
-ghost use Rattle.std.specs.Prelude.{◌≡◌, ◌↔◌, ◌⊎◌, ℕ, List, [], Some, ◌+◌, ◌-◌, ◌<◌, ◌≤◌, ◌++◌, min, length, take, drop, IfOk, OnErr, IsErr};
+ghost use Rattle.std.specs.Prelude.{◌≡◌, ◌↔◌, ◌⊎◌, ℕ, List, [], Some, ◌+◌, ◌-◌, ◌<◌, ◌≤◌, ◌++◌, min, length, take, drop, IfOk, OnOk, OnErr, IsErr};
 ghost use Rattle.std.specs.List.{Contains};
-ghost use Rattle.std.specs.Io.KnownBytes.{IsAtEnd};
-ghost use Rattle.outside.specs.Streams.{Rose, Took, Gained};
+ghost use Rattle.std.specs.Io.KnownBytes.{Appends, Consumes, IsAtEnd, Keeps};
+ghost use Rattle.outside.specs.Streams.{Rose};
 ghost use Rattle.outside.specs.Memory.{counted};
 
 use crate::fault::Failed;
@@ -57,18 +57,20 @@ impl Source for MemSource {
     fn read(&mut self, into: &mut [u8]) -> Result<usize, Failed>
         requires { 0 < length into.old }
         ensures within { IfOk result (λ n. n ≤ length into.old) }
-        ensures took { IfOk result (λ n. Took (Some self.old.left) (Some self.new.left) (take n into.new)) }
+        ensures took { IfOk result (λ n. Consumes (Some self.old.left) (Some self.new.left) (take n into.new)) }
         ensures end { IfOk result (λ n. n ≡ 0 → IsAtEnd (Some self.new.left)) }
+        ensures same { OnOk result (self.new.faults ≡ self.old.faults) }
         ensures failed { OnErr result (Rose self.old.faults self.new.faults) }
-        ensures kept { OnErr result (Some self.new.left ≡ Some self.old.left) }
-        ensures count { self.old.faults ≤ self.new.faults }
+        ensures kept { OnErr result (Keeps (Some self.old.left) (Some self.new.left)) }
         ensures once { self.new.calls ≤ self.old.calls + 1 }
 
         // What this source does at each call.
         ensures listed { IsErr result ↔ Contains self.old.fails (counted self.old.calls) }
         ensures most { IfOk result (λ n. n ≡ min (length into.old) (length self.old.left)) }
-        ensures ok { IfOk result (λ n. self.new ≡ record self.old { left = drop n self.old.left; calls = counted self.old.calls }) }
-        ensures err { OnErr result (self.new ≡ record self.old { calls = counted self.old.calls; faults = counted self.old.faults }) }
+        ensures ok { IfOk result (λ n. self.new
+            ≡ record self.old { left = drop n self.old.left; calls = counted self.old.calls }) }
+        ensures err { OnErr result (self.new
+            ≡ record self.old { calls = counted self.old.calls; faults = counted self.old.faults }) }
     {
         self.calls = self.calls.saturating_add(1);
         if self.fail.as_slice().contains(&self.calls) {
@@ -95,7 +97,13 @@ impl Model for MemSink {
 
     ghost Value = { Store };
 
-    ghost view = { λ k. record { held = k.bytes.items; room = k.room; fails = k.fail; calls = k.calls; faults = k.faults } };
+    ghost view = { λ k. record {
+      held = k.bytes.items;
+      room = k.room;
+      fails = k.fail;
+      calls = k.calls;
+      faults = k.faults;
+    } };
 
     ghost invariant = { λ k. (vec_len k.bytes ≤ k.room) × (k.room ≤ vec_capacity k.bytes) };
 }
@@ -129,17 +137,20 @@ impl Sink for MemSink {
 
     fn write(&mut self, bytes: &[u8]) -> Result<usize, Failed>
         ensures within { IfOk result (λ n. n ≤ length bytes.now) }
-        ensures gained { IfOk result (λ n. Gained (Some self.old.held) (Some self.new.held) (take n bytes.now)) }
+        ensures gained { IfOk result (λ n. Appends (Some self.old.held) (Some self.new.held) (take n bytes.now)) }
         ensures some { IfOk result (λ n. n ≡ 0 → bytes.now ≡ []) }
+        ensures same { OnOk result (self.new.faults ≡ self.old.faults) }
         ensures failed { OnErr result (Rose self.old.faults self.new.faults) }
-        ensures kept { OnErr result (Some self.new.held ≡ Some self.old.held) }
-        ensures count { self.old.faults ≤ self.new.faults }
+        ensures kept { OnErr result (Keeps (Some self.old.held) (Some self.new.held)) }
 
         // What this sink does at each call.
-        ensures refused { IsErr result ↔ (Contains self.old.fails (counted self.old.calls) ⊎ ((self.old.room ≤ length self.old.held) × (0 < length bytes.now))) }
+        ensures refused { IsErr result ↔ (Contains self.old.fails (counted self.old.calls)
+            ⊎ ((self.old.room ≤ length self.old.held) × (0 < length bytes.now))) }
         ensures most { IfOk result (λ n. n ≡ min (length bytes.now) (self.old.room - length self.old.held)) }
-        ensures ok { IfOk result (λ n. self.new ≡ record self.old { held = self.old.held ++ take n bytes.now; calls = counted self.old.calls }) }
-        ensures err { OnErr result (self.new ≡ record self.old { calls = counted self.old.calls; faults = counted self.old.faults }) }
+        ensures ok { IfOk result (λ n. self.new
+            ≡ record self.old { held = self.old.held ++ take n bytes.now; calls = counted self.old.calls }) }
+        ensures err { OnErr result (self.new
+            ≡ record self.old { calls = counted self.old.calls; faults = counted self.old.faults }) }
     {
         self.calls = self.calls.saturating_add(1);
         let room = self.room - self.bytes.len();

@@ -1,7 +1,7 @@
 //! Sources of bytes.
-ghost use Rattle.std.specs.Prelude.{◌≡◌, ℕ, Option, List, [], None, ◌+◌, ◌<◌, ◌≤◌, ◌++◌, length, min, take, drop, IfOk, OnErr, IsErrOf};
-ghost use Rattle.std.specs.Io.KnownBytes.{IsAtEnd};
-ghost use Rattle.outside.specs.Streams.{Rose, Took, TookToEnd};
+ghost use Rattle.std.specs.Prelude.{◌≡◌, ◌≢◌, ℕ, Option, List, [], None, Err, ◌+◌, ◌<◌, ◌≤◌, ◌++◌, length, min, take, drop, IfOk, OnOk, OnErr, IsErrOf};
+ghost use Rattle.std.specs.Io.KnownBytes.{Consumes, IsAtEnd, Keeps};
+ghost use Rattle.outside.specs.Streams.{Rose, ConsumedToEnd};
 
 use crate::fault::{Failed, TakeError};
 use net_base::Octets;
@@ -12,7 +12,7 @@ pub trait Source {
     // what is left, where the source tells it
     ghost left: { Self → Option (List ℕ) };
 
-    // how many faults there were
+    // how many reads failed
     ghost faults: { Self → ℕ };
 
     // how often it was read, where the source counts that
@@ -22,11 +22,11 @@ pub trait Source {
     fn read(&mut self, into: &mut [u8]) -> Result<usize, Failed>
         requires { 0 < length into.old }
         ensures within { IfOk result (λ n. n ≤ length into.old) }
-        ensures took { IfOk result (λ n. Took (left self.old) (left self.new) (take n into.new)) }
+        ensures took { IfOk result (λ n. Consumes (left self.old) (left self.new) (take n into.new)) }
         ensures end { IfOk result (λ n. n ≡ 0 → IsAtEnd (left self.new)) }
+        ensures same { OnOk result (faults self.new ≡ faults self.old) }
         ensures failed { OnErr result (Rose (faults self.old) (faults self.new)) }
-        ensures kept { OnErr result (left self.new ≡ left self.old) }
-        ensures count { faults self.old ≤ faults self.new }
+        ensures kept { OnErr result (Keeps (left self.old) (left self.new)) }
         ensures once { reads self.new ≤ reads self.old + 1 };
 }
 
@@ -39,9 +39,9 @@ pub fn read_to_end<S: Source>(
     source: &mut S,
     limit: usize,
 ) -> Result<Octets, TakeError>
-    ensures bytes { TookToEnd (S.left source.old) (S.left source.new) limit result }
+    ensures bytes { ConsumedToEnd (S.left source.old) (S.left source.new) limit result }
     ensures failed { IsErrOf result TakeError.Failed → Rose (S.faults source.old) (S.faults source.new) }
-    ensures count { S.faults source.old ≤ S.faults source.new }
+    ensures same { result ≢ Err TakeError.Failed → S.faults source.new ≡ S.faults source.old }
     ensures reads { S.reads source.new ≤ S.reads source.old + (limit + 2) }
 {
     let mut taken = Octets::new(alloc);

@@ -1,7 +1,7 @@
 //! A source and a sink that never fail.
 ghost use Rattle.std.specs.Prelude.{◌≡◌, ℕ, List, [], Option, Some, None, ◌+◌, ◌<◌, ◌≤◌, ◌++◌, min, length, take, drop, IfOk, OnErr, Ok};
-ghost use Rattle.std.specs.Io.KnownBytes.{IsAtEnd};
-ghost use Rattle.outside.specs.Streams.{Rose, Took, Gained};
+ghost use Rattle.std.specs.Io.KnownBytes.{Appends, Consumes, IsAtEnd, Keeps};
+ghost use Rattle.outside.specs.Streams.{Rose};
 
 use crate::fault::Failed;
 use crate::sink::Sink;
@@ -43,11 +43,11 @@ impl Source for SureSource {
     fn read(&mut self, into: &mut [u8]) -> Result<usize, Failed>
         requires { 0 < length into.old }
         ensures within { IfOk result (λ n. n ≤ length into.old) }
-        ensures took { IfOk result (λ n. Took (Some self.old) (Some self.new) (take n into.new)) }
+        ensures took { IfOk result (λ n. Consumes (Some self.old) (Some self.new) (take n into.new)) }
         ensures end { IfOk result (λ n. n ≡ 0 → IsAtEnd (Some self.new)) }
+        ensures same { ◌≡◌ {A = ℕ} 0 0 }
         ensures failed { OnErr result (Rose 0 0) }
-        ensures kept { OnErr result (Some self.new ≡ Some self.old) }
-        ensures count { 0 ≤ 0 }
+        ensures kept { OnErr result (Keeps (Some self.old) (Some self.new)) }
         ensures once { 0 ≤ 0 + 1 }
 
         // What this source does at each call.
@@ -77,11 +77,11 @@ impl Sink for SureSink {
 
     fn write(&mut self, bytes: &[u8]) -> Result<usize, Failed>
         ensures within { IfOk result (λ n. n ≤ length bytes.now) }
-        ensures gained { IfOk result (λ n. Gained None None (take n bytes.now)) }
+        ensures gained { IfOk result (λ n. Appends None None (take n bytes.now)) }
         ensures some { IfOk result (λ n. n ≡ 0 → bytes.now ≡ []) }
+        ensures same { ◌≡◌ {A = ℕ} 0 0 }
         ensures failed { OnErr result (Rose 0 0) }
-        ensures kept { OnErr result (let nothing : Option (List ℕ) = None in nothing ≡ nothing) }
-        ensures count { 0 ≤ 0 }
+        ensures kept { OnErr result (Keeps None None) }
 
         // What this sink does at each call.
         ensures ok { result ≡ Ok (length bytes.now) }

@@ -13,4 +13,4 @@ returns-in-Err-Failed g c =
     c.tell-in-Err-Failed.ensures.told
 
 pub returns-in-Err : goal.returns-in-Err
-returns-in-Err g c = no_memory _ refl refl refl
+returns-in-Err g c = no_memory _ refl refl (c.in-Err.ensures.same (λ h. cc)) (refl, refl)

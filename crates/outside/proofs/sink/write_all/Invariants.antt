@@ -1,12 +1,12 @@
-use Rattle.std.proofs.Common.{length, ◌-◌, ◌≤◌, take}
-use Rattle.outside.specs.Streams.{Gained}
+use Rattle.std.proofs.Common.{◌≡◌, length, ◌-◌, ◌≤◌, take}
+use Rattle.std.specs.Io.KnownBytes.{Appends}
 use Rattle.outside.proofs.sink.write_all.Given as goal
 
 abbrev pub invariant-loop-done : goal.invariant-loop-done
 invariant-loop-done g l =
     (l.done ≤ length l.bytes) ×
-    Gained (g.K.Sink.held l.initial.sink) (g.K.Sink.held l.sink) (take l.done l.bytes) ×
-    (g.K.Sink.faults l.initial.sink ≤ g.K.Sink.faults l.sink)
+    Appends (g.K.Sink.held l.initial.sink) (g.K.Sink.held l.sink) (take l.done l.bytes) ×
+    (g.K.Sink.faults l.sink ≡ g.K.Sink.faults l.initial.sink)
 
 abbrev pub decreases-loop-done : goal.decreases-loop-done
 decreases-loop-done g l = length l.bytes - l.done

@@ -1,5 +1,0 @@
-use Rattle.std.proofs.Common.{◌≤◌}
-use Rattle.outside.proofs.standard.StdSourceSource.read.Given as goal
-
-abbrev pub invariant-loop : goal.invariant-loop
-invariant-loop l = l.initial.self.faults ≤ l.self.faults
