@@ -147,11 +147,11 @@ impl IlCore {
     pub fn write(&mut self, now: u64, text: &[u8]) -> Result<IlMsg, AllocError>
         requires in_time { now < 2 ^ 63 }
         requires short { IsShort self.old }
+        requires sends { write_takes self.old ≡ true }
         requires ready { IsTrue (table.may_write self.old.state self.old) }
         ensures end { IfOk result (λ message. self.new ≡ (table.writes now text.now self.old).end) }
         ensures emits { IfOk result (λ message. Some message ≡ (table.writes now text.now self.old).emits) }
         ensures err { OnErr result (self.new ≡ self.old) }
-        ensures memory { OnErr result (write_takes self.old ≡ true) }
     {
         match self.kept.write(now, text) {
             Ok(message) => {
