@@ -1,5 +1,7 @@
 #!/usr/bin/env python3
-"""Whether docs/MAP.md names every module of src/, specs/ and proofs/ under its right crate: prints each fault, and ends with 1 where there is one.
+"""Whether docs/MAP.md names every module of src/, specs/ and proofs/ under its right crate.
+
+Prints each fault, and ends with 1 where there is one.
 
 With --write the lists of the section 'Modules of each crate' are written anew.
 """
@@ -97,8 +99,9 @@ def list_faults(text):
     for crate in crates():
         for kind, names in modules(crate).items():
             stand = lists.get(crate, {}).get(kind, [])
-            faults += [f"docs/MAP.md doesn't name `{name}` under {kind} of {crate}" for name in names if name not in stand]
-            faults += [f"docs/MAP.md names `{name}` under {kind} of {crate}, where it isn't" for name in stand if name not in names]
+            place = f"under {kind} of {crate}"
+            faults += [f"docs/MAP.md doesn't name `{name}` {place}" for name in names if name not in stand]
+            faults += [f"docs/MAP.md names `{name}` {place}, where it isn't" for name in stand if name not in names]
     return faults
 
 
