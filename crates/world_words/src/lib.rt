@@ -13,7 +13,7 @@ mod words;
 
 pub use connect::connects;
 pub use fates::{is_fate, is_frames};
-pub use names::{is_name, nets_named};
+pub use names::{are_bytes, is_name, nets_named};
 pub use numbers::{address_in, number_in};
 pub use steps::read_step;
 pub use words::{four, one, split_words, three, two};
