@@ -18,6 +18,7 @@ use Rattle.net_base.specs.declared.names.Ctl.TheVariants as ctl
 abbrev pub dotted : ℕ → List ℕ
 dotted ip = dotted_text (ip / 2 ^ 24) (ip / 2 ^ 16 % 256) (ip / 2 ^ 8 % 256) (ip % 256)
 
+-- an address with its port: A!PORT
 abbrev pub place : Addr → List ℕ
 place a = dotted a.ip ++ codes "!" ++ decimal a.port
 
@@ -118,6 +119,7 @@ abbrev pub with_number : (ℕ → Ctl) → List (List ℕ) → Option Ctl
 with_number control (n ∷ []) = Some (control (digits_value 10 n))
 with_number control _ = None
 
+-- the one word of a list that has no other
 abbrev pub single : List (List ℕ) → Option (List ℕ)
 single (only ∷ []) = Some only
 single _ = None
