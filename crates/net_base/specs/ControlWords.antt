@@ -14,6 +14,7 @@ pub use Rattle.net_base.specs.Addresses.{address_text as dotted}
 
 -- Spellings.
 
+-- an address with its port: A!PORT
 abbrev pub place : Addr → List ℕ
 place a = dotted a.ip ++ codes "!" ++ decimal a.port
 
@@ -114,6 +115,7 @@ abbrev pub with_number : (ℕ → Ctl) → List (List ℕ) → Option Ctl
 with_number control (n ∷ []) = Some (control (digits_value 10 n))
 with_number control _ = None
 
+-- the one word of a list that has no other
 abbrev pub single : List (List ℕ) → Option (List ℕ)
 single (only ∷ []) = Some only
 single _ = None

@@ -306,7 +306,7 @@ abbrev pub left_or_ok : StateName → Reply
 left_or_ok name.Listening = reply.Left
 left_or_ok _ = reply.Ok
 
--- the end of the conversation hangs up, which was so before the step and is so after it but for the end
+-- the step in which the end hangs up, of a conversation that was `before` and becomes `after` with the end that hung up in it
 abbrev pub hung_up : Core → ℕ → Reply → Conv → Conv → Step Conv
 hung_up (Il e) now answer before after = turned before answer (hangs_up now e) after
 hung_up (Udp e) now answer before after = leaves before answer (record after { core = Udp (udp_hangs_up e) }) None

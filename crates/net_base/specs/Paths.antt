@@ -60,6 +60,7 @@ file_named name = slice_get (filter (λ (f : FileName). bytes_eq name (file_name
 abbrev pub cs_or_proto : List ℕ → Option Node
 cs_or_proto name = if bytes_eq name (codes "cs") then Some node.Cs else option_map (λ (p : Proto). node.Proto p) (proto_named name)
 
+-- what stands under a protocol: its clone file, or the directory of a conversation by its number
 abbrev pub clone_or_dir : List ℕ → Proto → Node
 clone_or_dir name p = if bytes_eq name (codes "clone") then node.Clone p else node.Dir p (digits_value 10 name)
 

@@ -2,7 +2,7 @@
 ghost use Rattle.std.specs.Prelude.{◌≡◌, ◌<◌, ◌==◌, ◌&&◌, IfOk, nat_lt, true};
 ghost use Rattle.net_base.specs.Callers.{clock_number};
 ghost use Rattle.net_base.specs.Calm.{at_limit, most_entries};
-ghost use Rattle.net_base.specs.Legal.{IsLegal};
+ghost use Rattle.net_base.specs.Legal.{IsLegal, IsTimed};
 ghost use Rattle.net_base.specs.Net.{after};
 ghost use Rattle.net_base.specs.Summary.{end_word, summary};
 ghost use Rattle.net_base.specs.World.{IsWorld};
@@ -18,11 +18,12 @@ use net_base::{History, Octets, World};
 use std::alloc::{AllocError, Global};
 use transcript::{End, Standing, summary_by};
 
-/// The summary of a legal history of a world, whether its run has ended or not.
+/// The summary of a legal and timed history of a world, whether its run has ended or not.
 pub fn summary_of(alloc: Global, world: &World, history: &History) -> Result<Octets, AllocError>
     requires world { IsWorld world.now }
     requires form { IsFirstForm world.now }
     requires legal { IsLegal world.now history.now }
+    requires timed { IsTimed world.now history.now }
     ensures { IfOk result (λ text. text ≡ summary world.now history.now) }
 {
     let runner = replayed(alloc, world, history)?;

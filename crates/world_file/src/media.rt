@@ -11,6 +11,9 @@ use std::alloc::{AllocError, Global};
 use words::number_in;
 use world_words::{four, is_fate, is_frames, is_name, one, three, two};
 
+/// The greatest number that is read as a rate, in thousandths; a sum above 1000 is told apart from one that is no number.
+const MOST_RATE: u64 = 4_294_967_295;
+
 impl Draft {
     /// `end M`
     pub(crate) fn read_end(&mut self, args: &[&[u8]]) -> Result<(), Fault>
@@ -105,13 +108,13 @@ impl Draft {
         if !is_name(name) {
             return 13;
         }
-        let Some(loss) = number_in(0, 1000, loss) else {
+        let Some(loss) = number_in(0, MOST_RATE, loss) else {
             return 13;
         };
-        let Some(twice) = number_in(0, 1000, twice) else {
+        let Some(twice) = number_in(0, MOST_RATE, twice) else {
             return 13;
         };
-        let Some(later) = number_in(0, 1000, later) else {
+        let Some(later) = number_in(0, MOST_RATE, later) else {
             return 13;
         };
         if !has_medium_named(self.media.as_slice(), name) {

@@ -16,6 +16,7 @@ use ndb_reader::{NdbError, read_ndb};
 use net_base::World;
 use std::alloc::Global;
 use world_text::{worlds_are_spelled, worlds_so_far_are_small};
+use world_words::are_bytes;
 
 /// The world that a text says, or its first bad line. It goes once through the bytes, and copies each at most once.
 pub fn read_world(alloc: Global, bytes: &[u8]) -> Result<World, WorldError>
@@ -26,6 +27,7 @@ pub fn read_world(alloc: Global, bytes: &[u8]) -> Result<World, WorldError>
     ensures form { IfOk result (λ w. IsFirstForm w) }
 {
     worlds_are_spelled();
+    are_bytes(bytes);
     read_lines(alloc, bytes)
 }
 

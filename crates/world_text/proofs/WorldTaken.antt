@@ -15,7 +15,7 @@ use Rattle.net_base.specs.World.{all_apart, is_within, is_name, is_mask, is_medi
 use Rattle.net_base.specs.WorldForm.{IsPlainMedium}
 use Rattle.net_base.proofs.NdbForms.{read_so_far}
 use Rattle.world_text.specs.WorldWords.{words_of, Four, four, joined, Three, three, one, number_in, address_in}
-use Rattle.world_text.specs.WorldLines.{is_passed, line_verdict, words_line, going_line, host_word_line, again_line, rates_line, fate_line, route_line, start_line, ndb_line, is_frames, is_fate, has_network, reaches, step_of, step_line, script_line, if_line, host_line, first_line, end_line, seed_line, medium_line, Draft, hosts_of, scripts_of, is_medium_named, is_bare, is_short, is_lacking, Verdict, Goes, Begins, Bad, refuse, wrong, given, world_of}
+use Rattle.world_text.specs.WorldLines.{is_passed, line_verdict, words_line, going_line, host_word_line, again_line, rate_in, rates_line, fate_line, route_line, start_line, ndb_line, is_frames, is_fate, has_network, reaches, step_of, step_line, script_line, if_line, host_line, first_line, end_line, seed_line, medium_line, Draft, hosts_of, scripts_of, is_medium_named, is_bare, is_short, is_lacking, Verdict, Goes, Begins, Bad, refuse, wrong, given, world_of}
 use Rattle.world_text.specs.WorldSpelling.{speaks}
 use Rattle.world_text.proofs.WorldLists.{or-parts}
 use Rattle.world_text.proofs.WorldNumbers.{le-is, within-is}
@@ -101,14 +101,14 @@ rates_tests P Q true (Some x) (Some y) (Some z) false false b23 = keeps-refuse P
 keeps-rates : (P : Draft → Type 0) (Q : World → Type 0) (d : Draft) (args : List (List ℕ)) → Keeps P Q (rates_line d args)
 keeps-rates P Q d args = by (four args)
   where
-    by : (o : Option Four) → Keeps P Q (given o (λ (w : Four). refuse 13 (not (is_name w.first)) (given (number_in 0 1000 w.second) (λ loss.
-        given (number_in 0 1000 w.third) (λ twice. given (number_in 0 1000 w.fourth) (λ later.
+    by : (o : Option Four) → Keeps P Q (given o (λ (w : Four). refuse 13 (not (is_name w.first)) (given (rate_in w.second) (λ loss.
+        given (rate_in w.third) (λ twice. given (rate_in w.fourth) (λ later.
         refuse 15 (not (list_any (is_medium_named w.first) d.media))
         (refuse 18 (nat_lt 4 d.group)
         (refuse 23 (nat_lt 1000 (loss + twice + later))
         (Bad 31)))))))))
     by None = tt
-    by (Some w) = rates_tests P Q (is_name w.first) (number_in 0 1000 w.second) (number_in 0 1000 w.third) (number_in 0 1000 w.fourth)
+    by (Some w) = rates_tests P Q (is_name w.first) (rate_in w.second) (rate_in w.third) (rate_in w.fourth)
         (not (list_any (is_medium_named w.first) d.media)) (nat_lt 4 d.group) (λ loss twice later. nat_lt 1000 (loss + twice + later))
 
 three_tests : (P : Draft → Type 0) (Q : World → Type 0) (a b c : Bool) → Keeps P Q (refuse 13 a (refuse 15 b (refuse 18 c (Bad 31))))

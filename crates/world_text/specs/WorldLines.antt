@@ -120,10 +120,14 @@ medium_line d args =
 abbrev pub medium_named : Draft → List ℕ → Option ℕ
 medium_named d called = position (is_medium_named called) d.media
 
+-- a rate: any number below 2^32, alone or in the sum not above 1000
+abbrev pub rate_in : List ℕ → Option ℕ
+rate_in word = number_in 0 4294967295 word
+
 abbrev pub rates_line : Draft → List (List ℕ) → Verdict
 rates_line d args =
-    given (four args) (λ (w : Four). refuse 13 (not (is_name w.first)) (given (number_in 0 1000 w.second) (λ loss.
-    given (number_in 0 1000 w.third) (λ twice. given (number_in 0 1000 w.fourth) (λ later.
+    given (four args) (λ (w : Four). refuse 13 (not (is_name w.first)) (given (rate_in w.second) (λ loss.
+    given (rate_in w.third) (λ twice. given (rate_in w.fourth) (λ later.
     refuse 15 (not (list_any (is_medium_named w.first) d.media))
     (refuse 18 (nat_lt 4 d.group)
     (refuse 23 (nat_lt 1000 (loss + twice + later))

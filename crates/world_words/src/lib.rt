@@ -12,5 +12,5 @@ mod tests;
 pub use arguments::{four, one, split_words, three, two};
 pub use connect::connects;
 pub use fates::{is_fate, is_frames};
-pub use names::{is_name, nets_named};
+pub use names::{are_bytes, is_name, nets_named};
 pub use steps::read_step;

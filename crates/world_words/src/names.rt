@@ -91,6 +91,6 @@ fn is_run(bytes: &[u8]) -> bool
 }
 
 /// Each byte is below 256, by its type.
-pub(crate) fn are_bytes(bytes: &[u8])
+pub fn are_bytes(bytes: &[u8])
     ensures { list_all world.is_byte bytes.now ≡ true }
 {}

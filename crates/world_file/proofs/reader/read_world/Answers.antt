@@ -5,10 +5,10 @@ use Rattle.world_file.proofs.Spelled.{holds}
 use Rattle.world_file.proofs.reader.read_world.Goals as goal
 
 pub returns-clause-spelled : goal.returns-clause-spelled
-returns-clause-spelled c = holds (IsWorldText c.args.bytes.now) c.read_lines.result _ (c.worlds_are_spelled.ensures.sound c.args.bytes.now) c.read_lines.ensures.ok
+returns-clause-spelled c = holds (IsWorldText c.args.bytes.now) c.read_lines.result _ (λ w is. c.worlds_are_spelled.ensures.sound c.args.bytes.now w c.are_bytes.ensures is) c.read_lines.ensures.ok
 
 pub returns-clause-world : goal.returns-clause-world
-returns-clause-world c = holds IsWorld c.read_lines.result _ (λ w is. (c.worlds_are_spelled.ensures.sound c.args.bytes.now w is).world) c.read_lines.ensures.ok
+returns-clause-world c = holds IsWorld c.read_lines.result _ (λ w is. (c.worlds_are_spelled.ensures.sound c.args.bytes.now w c.are_bytes.ensures is).world) c.read_lines.ensures.ok
 
 pub returns-clause-form : goal.returns-clause-form
-returns-clause-form c = holds IsFirstForm c.read_lines.result _ (λ w is. (c.worlds_are_spelled.ensures.sound c.args.bytes.now w is).form) c.read_lines.ensures.ok
+returns-clause-form c = holds IsFirstForm c.read_lines.result _ (λ w is. (c.worlds_are_spelled.ensures.sound c.args.bytes.now w c.are_bytes.ensures is).form) c.read_lines.ensures.ok
