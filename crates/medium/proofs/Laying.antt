@@ -1,7 +1,8 @@
 -- A frame that is laid, as the step of a medium.
-use Rattle.std.proofs.Common.{◌≡◌, ℕ, ◌+◌, ◌-◌, length, take, drop, ◌≤◌, false, List, [], ◌∷◌, ◌++◌, Some, nat_lt, refl, sym, ap, ◌∙◌, arith}
+use Rattle.std.proofs.Common.{◌≡◌, ℕ, ◌+◌, ◌-◌, ◌≤◌, length, take, drop, map, false, List, [], ◌∷◌, ◌++◌, Option, Some, None, IsSome, IsTrue, nat_lt, option_map, option_to_list, refl, sym, ap, subst, ◌∙◌, inl, inr, arith}
 use Rattle.std.proofs.lemmas.Bool.{le-ltb}
-use Rattle.std.proofs.lemmas.List.{append-nil, drop_at, drop_all, length-drop, length-take-le, map_push}
+use Rattle.std.proofs.lemmas.List.{append-nil, drop_at, drop_all, length-drop, length-take-le, map-append}
+use Rattle.std.proofs.Common.{append_assoc}
 use borrow.Rule.Slice.PartMut.{put_mid}
 use Rattle.net_base.specs.declared.history.Taken.{Taken}
 use Rattle.net_base.specs.declared.packet.Body.{Body}
@@ -9,14 +10,13 @@ use Rattle.net_base.specs.declared.packet.Body.TheVariants as body
 use Rattle.net_base.specs.declared.packet.Packet.{Packet}
 use Rattle.net_base.specs.declared.reply.Reply.TheVariants as reply
 use Rattle.net_base.specs.declared.world.Fate.{Fate}
-use Rattle.net_base.specs.declared.world.Fate.TheVariants.{Deliver}
-use Rattle.net_base.specs.declared.world.MediumSpec.{MediumSpec}
+use Rattle.net_base.specs.declared.world.Fate.TheVariants.{Deliver, Lose, Twice, Later}
 use Rattle.net_base.specs.Datagram.{IsPacket, body_bytes, header_for, packet_of, spelling}
 use Rattle.net_base.specs.Ipv4.{Ipv4, flagged_bytes, summed}
-use Rattle.net_base.specs.Medium.{Medium, datagram_length, fate_of, lays, puts}
+use Rattle.net_base.specs.Medium.{Medium, datagram_length, fate_of, held_of, lays, now_of, puts}
 use Rattle.net_base.proofs.DatagramLaws.{packet_again}
 use Rattle.medium.specs.declared.frame.Frame.{Frame}
-use Rattle.medium.specs.OnMedium.{OnMedium, AllSpelled, DeliversAll, medium_of, taken_of}
+use Rattle.medium.specs.OnMedium.{OnMedium, AllSpelled, copies_now, copy_held, medium_of, taken_of, with_frame}
 use Rattle.medium.specs.Spelled.{IsSpelled}
 
 pub is_spelled : (p : Packet) (bytes : List ℕ) → IsPacket p → bytes ≡ spelling p → IsSpelled bytes
@@ -24,32 +24,68 @@ is_spelled p bytes h e =
     let again : packet_of bytes ≡ p = ap packet_of e ∙ packet_again p h in
     rw again (h, e)
 
-pub AllSpelled-push : (frames : List Frame) (f : Frame) → AllSpelled frames → IsSpelled f.bytes → AllSpelled (frames ++ f ∷ [])
-AllSpelled-push [] f all one = (one, tt)
-AllSpelled-push (g ∷ frames) f all one = (all.0, AllSpelled-push frames f all.1 one)
+pub AllSpelled-append : (xs ys : List Frame) → AllSpelled xs → AllSpelled ys → AllSpelled (xs ++ ys)
+AllSpelled-append [] ys all more = more
+AllSpelled-append (x ∷ xs) ys all more = (all.0, AllSpelled-append xs ys all.1 more)
 
-pub AllSpelled-rest : (f : Frame) (frames : List Frame) → AllSpelled (f ∷ frames) → AllSpelled frames
-AllSpelled-rest f frames all = all.1
+-- the copies of a frame
 
--- the medium with these parts
-abbrev pub on : MediumSpec → ℕ → ℕ → List Frame → OnMedium
-on spec seed laid frames = record { spec = spec; seed = seed; laid = laid; frames = frames }
+pub spelled_now : (fate : Fate) (f : Frame) → IsSpelled f.bytes → AllSpelled (copies_now fate f)
+spelled_now Deliver f s = (s, tt)
+spelled_now Lose f s = tt
+spelled_now Twice f s = (s, (s, tt))
+spelled_now Later f s = tt
 
-lays_delivered : (fate : Fate) (t : Taken) (m : Medium) → fate ≡ Deliver → m.held ≡ [] → (lays fate t m).state ≡ record { frames = t.frame; queue = m.queue ++ t ∷ []; held = [] }
-lays_delivered fate t m e h = rw (e, h) (ap (λ (q : List Taken). record { frames = t.frame; queue = q; held = [] }) (append-nil (m.queue ++ t ∷ [])))
+pub spelled_held : (fate : Fate) (f : Frame) → IsSpelled f.bytes → AllSpelled (option_to_list (copy_held fate f))
+spelled_held Deliver f s = tt
+spelled_held Lose f s = tt
+spelled_held Twice f s = tt
+spelled_held Later f s = (s, tt)
 
-pub laid_state : (spec : MediumSpec) (seed laid to : ℕ) (frames : List Frame) (p : Packet) (bytes : List ℕ) → DeliversAll spec seed → datagram_length p.body ≤ spec.mtu → IsPacket p → bytes ≡ spelling p
-    → medium_of (on spec seed (laid + 1) (frames ++ record { number = laid + 1; to = to; bytes = bytes } ∷ [])) ≡ (puts spec seed (Some to) p (medium_of (on spec seed laid frames))).state
-laid_state spec seed laid to frames p bytes all short fits e =
+-- what joins one after another
+pub AllSpelled-joined : (queue one two three first second held : List Frame) (fate : Fate) (f : Frame) → one ≡ queue ++ first → two ≡ one ++ second → three ≡ two ++ held → first ++ second ≡ copies_now fate f
+    → AllSpelled queue → AllSpelled held → IsSpelled f.bytes → AllSpelled three
+AllSpelled-joined queue one two three first second held fate f e1 e2 e3 now before after s =
+    let all : three ≡ (queue ++ copies_now fate f) ++ held =
+    e3 ∙ ap (λ (front : List Frame). front ++ held) (e2 ∙ ap (λ (front : List Frame). front ++ second) e1 ∙ append_assoc queue first second ∙ ap (λ (copies : List Frame). queue ++ copies) now) in
+    subst AllSpelled (sym all) (AllSpelled-append (queue ++ copies_now fate f) held (AllSpelled-append queue (copies_now fate f) before (spelled_now fate f s)) after)
+
+now_taken : (fate : Fate) (f : Frame) → map taken_of (copies_now fate f) ≡ now_of fate (taken_of f)
+now_taken Deliver f = refl
+now_taken Lose f = refl
+now_taken Twice f = refl
+now_taken Later f = refl
+
+held_taken : (fate : Fate) (f : Frame) → map taken_of (option_to_list (copy_held fate f)) ≡ held_of fate (taken_of f)
+held_taken Deliver f = refl
+held_taken Lose f = refl
+held_taken Twice f = refl
+held_taken Later f = refl
+
+taken_in_row : (queue now held : List Frame) → map taken_of ((queue ++ now) ++ held) ≡ (map taken_of queue ++ map taken_of now) ++ map taken_of held
+taken_in_row queue now held = map-append taken_of (queue ++ now) held ∙ ap (λ (front : List Taken). front ++ map taken_of held) (map-append taken_of queue now)
+
+-- a further frame is the definitions' step
+lays_frame : (queue : List Frame) (held : Option Frame) (laid : ℕ) (fate : Fate) (f : Frame)
+    → record { frames = f.number; queue = map taken_of ((queue ++ copies_now fate f) ++ option_to_list held); held = map taken_of (option_to_list (copy_held fate f)) }
+    ≡ (lays fate (taken_of f) (record { frames = laid; queue = map taken_of queue; held = map taken_of (option_to_list held) })).state
+lays_frame queue held laid fate f =
+    ap (λ (q : List Taken). record { frames = f.number; queue = q; held = map taken_of (option_to_list (copy_held fate f)) })
+    (taken_in_row queue (copies_now fate f) (option_to_list held) ∙ ap (λ (now : List Taken). (map taken_of queue ++ now) ++ map taken_of (option_to_list held)) (now_taken fate f))
+    ∙ ap (λ (h : List Taken). record { frames = f.number; queue = (map taken_of queue ++ now_of fate (taken_of f)) ++ map taken_of (option_to_list held); held = h }) (held_taken fate f)
+
+pub laid_state : (m : OnMedium) (to : ℕ) (p : Packet) (bytes : List ℕ) → datagram_length p.body ≤ m.spec.mtu → IsPacket p → bytes ≡ spelling p
+    → medium_of (with_frame (record { number = m.laid + 1; to = to; bytes = bytes }) m) ≡ (puts m.spec m.seed (Some to) p (medium_of m)).state
+laid_state m to p bytes short fits e =
     let again : packet_of bytes ≡ p = ap packet_of e ∙ packet_again p fits in
-    let small : nat_lt spec.mtu (datagram_length p.body) ≡ false = le-ltb spec.mtu (datagram_length p.body) short in
-    rw (small, map_push taken_of frames (record { number = laid + 1; to = to; bytes = bytes }), again)
-    (sym (lays_delivered (fate_of seed spec (laid + 1)) (record { frame = laid + 1; to = to; packet = p }) (medium_of (on spec seed laid frames)) (all (laid + 1)) refl))
+    let small : nat_lt m.spec.mtu (datagram_length p.body) ≡ false = le-ltb m.spec.mtu (datagram_length p.body) short in
+    rw small
+    (lays_frame m.queue m.held m.laid (fate_of m.seed m.spec (m.laid + 1)) (record { number = m.laid + 1; to = to; bytes = bytes })
+    ∙ ap (λ (x : Packet). (lays (fate_of m.seed m.spec (m.laid + 1)) (record { frame = m.laid + 1; to = to; packet = x }) (medium_of m)).state) again)
 
-pub laid_reply : (spec : MediumSpec) (seed laid to : ℕ) (frames : List Frame) (p : Packet) → datagram_length p.body ≤ spec.mtu
-    → reply.Laid (laid + 1) ≡ (puts spec seed (Some to) p (medium_of (on spec seed laid frames))).outcome.reply
-laid_reply spec seed laid to frames p short =
-    let small : nat_lt spec.mtu (datagram_length p.body) ≡ false = le-ltb spec.mtu (datagram_length p.body) short in
+pub laid_reply : (m : OnMedium) (to : ℕ) (p : Packet) → datagram_length p.body ≤ m.spec.mtu → reply.Laid (m.laid + 1) ≡ (puts m.spec m.seed (Some to) p (medium_of m)).outcome.reply
+laid_reply m to p short =
+    let small : nat_lt m.spec.mtu (datagram_length p.body) ≡ false = le-ltb m.spec.mtu (datagram_length p.body) short in
     rw small refl
 
 -- a header that is written in front of a body

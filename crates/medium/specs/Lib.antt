@@ -1,3 +1,4 @@
+pub mod OnFates
 pub mod OnMedium
 pub mod Replies
 pub mod Spelled

@@ -2,6 +2,7 @@
 #![tactic(auto)]
 
 mod datagram;
+mod fates;
 mod frame;
 mod medium;
 

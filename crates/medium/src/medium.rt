@@ -1,13 +1,18 @@
 //! A medium.
-ghost use Rattle.std.specs.Prelude.{◌≡◌, ◌+◌, ◌^◌, ◌<◌, ◌↔◌, [], length, IfOk, IsSome, IsTrue, OnErr, OnOk};
+ghost use Rattle.std.specs.Prelude.{◌≡◌, ℕ, ◌+◌, ◌^◌, ◌<◌, ◌≤◌, ◌↔◌, ◌++◌, [], true, length, option_to_list, IfOk, IsFalse, IsSome, IsTrue, OnErr, OnOk, option_copied};
+ghost use Rattle.std.specs.VecDeque.{deque_capacity, deque_len};
+ghost use Rattle.medium.specs.OnFates.{next_number};
 ghost use Rattle.net_base.specs.declared.reply.Reply.TheVariants as reply;
 ghost use Rattle.net_base.specs.Datagram.{spelling};
 ghost use Rattle.net_base.specs.Medium.{datagram_length, medium_leaves, puts, takes};
-ghost use Rattle.medium.specs.OnMedium.{DeliversAll, HasMtu, medium_of};
-ghost use Rattle.medium.specs.Replies.{PutsBytes, TakesFirst, reply_of};
+ghost use Rattle.net_base.specs.World.{is_medium};
+ghost use Rattle.medium.specs.OnMedium.{IsPending, medium_of, taken_of, with_frame};
+ghost use Rattle.medium.specs.Replies.{PutsBytes, TakesFirst, first_copy, reply_of};
+ghost use Rattle.medium.specs.Spelled.{IsSpelled};
 
 use crate::datagram::{datagram_of, packet_from};
-use crate::frame::Frame;
+use crate::fates::Fates;
+use crate::frame::{Copies, Frame};
 use net_base::{Body, MediumSpec, Packet, Taken};
 use std::alloc::{AllocError, Global};
 use std::collections::VecDeque;
@@ -26,37 +31,35 @@ pub enum Laid {
 
 /// A medium, which holds the bytes of packets until they are taken.
 ///
-/// Clauses see the bytes, the oldest first.
+/// Clauses see the copies that come next, the oldest first, and the one that is held.
 #[derive(Drop)]
 pub struct Medium {
-    spec: MediumSpec,
-    seed: u64,
-    laid: u64,
-    frames: VecDeque<Frame>,
+    fates: Fates,
+    queue: VecDeque<Frame>,
+    held: Option<Frame>,
 }
 
 impl Model for Medium {
-    ghost use Rattle.medium.specs.OnMedium.{OnMedium, AllSpelled, DeliversAll, HasMtu};
+    ghost use Rattle.std.specs.Prelude.{option_to_list};
+    ghost use Rattle.medium.specs.OnMedium.{OnMedium, AllSpelled};
 
     ghost Value = { OnMedium };
 
-    ghost view = { λ m. record { spec = m.spec; seed = m.seed; laid = m.laid; frames = m.frames.items } };
+    ghost view = { λ m. record { spec = m.fates.spec; seed = m.fates.seed; laid = m.fates.laid; queue = m.queue.items; held = m.held } };
 
-    ghost invariant = { λ m. HasMtu m.spec × DeliversAll m.spec m.seed × AllSpelled m.frames.items };
+    ghost invariant = { λ m. AllSpelled m.queue.items × AllSpelled (option_to_list m.held) };
 }
 
 impl Medium {
-    /// A medium on which nothing was laid. For now every frame has to be delivered.
+    /// A medium of a world, on which nothing was laid.
     pub fn new(alloc: Global, spec: &MediumSpec, seed: u64) -> Result<Medium, AllocError>
-        requires mtu { HasMtu spec.now }
-        requires delivers { DeliversAll spec.now seed }
-        ensures { IfOk result (λ m. m ≡ record { spec = spec.now; seed = seed; laid = 0; frames = [] }) }
+        requires { is_medium spec.now.number spec.now ≡ true }
+        ensures { IfOk result (λ m. m ≡ record { spec = spec.now; seed = seed; laid = 0; queue = []; held = None }) }
     {
         Ok(Medium {
-            spec: spec.clone()?,
-            seed,
-            laid: 0,
-            frames: VecDeque::new(alloc),
+            fates: Fates::new(alloc, spec, seed)?,
+            queue: VecDeque::new(alloc),
+            held: None,
         })
     }
 
@@ -77,41 +80,65 @@ impl Medium {
         if self.is_too_long(packet) {
             return Ok(Laid::TooBig);
         }
-        let bytes = datagram_of(*self.frames.allocator(), packet)?;
-        let number = self.laid.saturating_add(1);
-        self.frames.push_back(Frame { number, to, bytes })?;
-        self.laid = number;
+        let bytes = datagram_of(*self.queue.allocator(), packet)?;
+        let number = self.fates.number();
+        self.lay(Frame { number, to, bytes })?;
         Ok(Laid::Frame(number))
+    }
+
+    // Lays a frame with the next number. What may run out of memory comes first.
+    fn lay(&mut self, frame: Frame) -> Result<(), AllocError>
+        requires number { frame.number ≡ next_number self.old.laid }
+        requires spelled { IsSpelled frame.bytes }
+        ensures ok { OnOk result (self.new ≡ with_frame frame self.old) }
+        ensures err { OnErr result (self.new ≡ self.old) }
+    {
+        self.queue.reserve(3)?;
+        let Copies {
+            first,
+            second,
+            held,
+        } = frame.copies(self.fates.ahead())?;
+        join(&mut self.queue, first);
+        join(&mut self.queue, second);
+        join(&mut self.queue, self.held.take());
+        self.held = held;
+        self.fates.pass();
+        Ok(())
     }
 
     /// The next copy. It stays where memory ran out.
     pub fn take(&mut self) -> Result<Taken, AllocError>
-        requires { 0 < length self.old.frames }
-        // It is the step of a medium, and takes the oldest frame.
+        requires { IsPending self.old }
+        // It is the step of a medium, and takes the oldest copy.
         ensures step { IfOk result (λ taken. takes (medium_of self.old).queue (medium_of self.old).held (medium_of self.old) ≡ Some (medium_leaves (reply.Copy taken.frame) (Some taken) (medium_of self.new))) }
         ensures first { IfOk result (TakesFirst self.old self.new) }
         ensures err { OnErr result (self.new ≡ self.old) }
     {
-        let alloc = *self.frames.allocator();
-        let first = self.frames.front().unwrap();
-        let packet = packet_from(alloc, first.bytes.as_slice())?;
-        let Frame {
-            number,
-            to,
-            bytes: _,
-        } = self.frames.pop_front().unwrap();
-        Ok(Taken {
-            frame: number,
-            to,
-            packet,
-        })
+        let alloc = *self.queue.allocator();
+        let taken = taken_from(alloc, self.first().unwrap())?;
+        if self.queue.pop_front().is_none() {
+            self.held = None;
+        }
+        Ok(taken)
+    }
+
+    // The copy that comes next.
+    fn first(&self) -> Option<&Frame>
+        ensures { option_copied result ≡ first_copy self.now.queue self.now.held }
+    {
+        match self.queue.front() {
+            Some(frame) => Some(frame),
+            None => self.held.as_ref(),
+        }
     }
 
     // Tells whether the packet's datagram is longer than the mtu.
     fn is_too_long(&self, packet: &Packet) -> bool
-        ensures { IsTrue result ↔ (self.now.spec.mtu < datagram_length packet.now.body) }
+        ensures long { IsTrue result ↔ (self.now.spec.mtu < datagram_length packet.now.body) }
+        ensures short { IsFalse result → (datagram_length packet.now.body ≤ self.now.spec.mtu) × (self.now.spec.mtu ≤ 16384) }
     {
-        let mtu = self.spec.mtu as usize;
+        let mtu = self.fates.mtu() as usize;
         match &packet.body {
             Body::Il(message) => message.text.len() > mtu - 38,
             Body::Udp(text) => text.len() > mtu - 28,
@@ -120,8 +147,32 @@ impl Medium {
 
     /// Tells whether there is a copy to take.
     pub fn pending(&self) -> bool
-        ensures { IsTrue result ↔ (0 < length self.now.frames) }
+        ensures { IsTrue result ↔ IsPending self.now }
     {
-        !self.frames.is_empty()
+        !self.queue.is_empty() || self.held.is_some()
     }
+}
+
+// A copy joins the queue, if there is one.
+fn join(queue: &mut VecDeque<Frame>, copy: Option<Frame>)
+    requires room { deque_len queue.old < deque_capacity queue.old }
+    ensures items { queue.new.items ≡ queue.old.items ++ option_to_list copy }
+    ensures len { deque_len queue.new ≤ deque_len queue.old + 1 }
+    ensures room { deque_capacity queue.new ≡ deque_capacity queue.old }
+{
+    if let Some(frame) = copy {
+        queue.push_back_reserved(frame);
+    }
+}
+
+// The frame as the copy that is taken.
+fn taken_from(alloc: Global, frame: &Frame) -> Result<Taken, AllocError>
+    requires { IsSpelled frame.now.bytes }
+    ensures { IfOk result (λ taken. taken ≡ taken_of frame.now) }
+{
+    Ok(Taken {
+        frame: frame.number,
+        to: frame.to,
+        packet: packet_from(alloc, frame.bytes.as_slice())?,
+    })
 }

@@ -1,9 +1,12 @@
-ghost use Rattle.std.specs.Prelude.{◌≡◌, ◌+◌, length, IfOk};
+ghost use Rattle.std.specs.Prelude.{◌≡◌, ◌+◌, ◌≤◌, length, IfOk};
 ghost use Rattle.net_base.specs.Medium.{datagram_length};
+ghost use Rattle.medium.specs.OnFates.{AreLines};
 
 use crate::datagram::datagram_of;
 use crate::{Laid, Medium};
-use net_base::{Addr, Body, IlKind, IlMsg, MediumSpec, Octets, Packet, Sequence};
+use net_base::{
+    Addr, Body, Fate, FateRange, Fates, IlKind, IlMsg, MediumSpec, Octets, Packet, Sequence,
+};
 use std::alloc::{AllocError, Global};
 use std::test::Fail;
 
@@ -24,17 +27,72 @@ const FRAME: [u8; 30] = [
 ];
 
 fn ether(alloc: Global) -> Result<Medium, AllocError> {
+    fated(alloc, 0, 0, 0, Sequence::new(alloc))
+}
+
+/// A medium under seed 1, with these rates and lines.
+fn fated(
+    alloc: Global,
+    loss: u32,
+    twice: u32,
+    later: u32,
+    fates: Fates,
+) -> Result<Medium, AllocError>
+    requires rates { loss + twice + later ≤ 1000 }
+    requires lines { AreLines fates }
+{
     let spec = MediumSpec {
         number: 0,
         name: Octets::from_slice(alloc, b"ether0")?,
         mtu: 576,
-        loss: 0,
-        twice: 0,
-        later: 0,
-        fates: Sequence::new(alloc),
+        loss,
+        twice,
+        later,
+        fates,
     };
     Medium::new(alloc, &spec, 1)
 }
+
+/// The numbers of the copies that come, in their order, where so many frames are laid before.
+fn copies_of(alloc: Global, medium: &mut Medium, frames: usize) -> Result<Vec<u64>, AllocError> {
+    let packet = udp(alloc, b"hi")?;
+    for _ in 0..frames {
+        medium.put(Some(1), &packet)?;
+    }
+    let mut copies = Vec::new(alloc);
+    for _ in 0..16 {
+        if medium.pending() {
+            copies.push(medium.take()?.frame)?;
+        }
+    }
+    Ok(copies)
+}
+
+/// The copies of two frames under these rates. The first words, modulo 1000, are 86 and 797.
+fn copies_by_rates(alloc: Global, loss: u32, twice: u32, later: u32) -> Result<Vec<u64>, AllocError>
+    requires { loss + twice + later ≤ 1000 }
+{
+    let mut medium = fated(alloc, loss, twice, later, Sequence::new(alloc))?;
+    copies_of(alloc, &mut medium, 2)
+}
+
+const LINES: [FateRange; 3] = [
+    FateRange {
+        first: 4,
+        last: 5,
+        fate: Fate::Twice,
+    },
+    FateRange {
+        first: 1,
+        last: 1,
+        fate: Fate::Lose,
+    },
+    FateRange {
+        first: 2,
+        last: 3,
+        fate: Fate::Later,
+    },
+];
 
 fn udp(alloc: Global, text: &[u8]) -> Result<Packet, AllocError>
     ensures { IfOk result (λ p. datagram_length p.body ≡ length text.now + 28) }
@@ -139,5 +197,59 @@ fn packets_up_to_the_mtu(rt: HostRuntime) -> Result<(), Fail> {
         medium.put(Some(0), &il(rt.alloc(), &text[..539])?)?,
         Laid::TooBig
     );
+    Ok(())
+}
+
+#[test]
+fn fates_by_lines(rt: HostRuntime) -> Result<(), Fail> {
+    let lines = Sequence::from_vec(Vec::from_slice(rt.alloc(), &LINES)?);
+    let mut medium = fated(rt.alloc(), 0, 0, 0, lines)?;
+    let copies = copies_of(rt.alloc(), &mut medium, 6)?;
+    assert_eq!(rt; copies.as_slice(), [2, 4, 4, 3, 5, 5, 6].as_slice());
+    Ok(())
+}
+
+#[test]
+fn fates_by_rates(rt: HostRuntime) -> Result<(), Fail> {
+    let lost = copies_by_rates(rt.alloc(), 87, 0, 0)?;
+    assert_eq!(rt; lost.as_slice(), [2].as_slice(), "86 below the loss of 87");
+    let kept = copies_by_rates(rt.alloc(), 86, 0, 0)?;
+    assert_eq!(rt; kept.as_slice(), [1, 2].as_slice(), "86 at the loss of 86");
+    let twice = copies_by_rates(rt.alloc(), 80, 7, 0)?;
+    assert_eq!(rt;
+        twice.as_slice(),
+        [1, 1, 2].as_slice(),
+        "86 below loss and twice"
+    );
+    let later = copies_by_rates(rt.alloc(), 80, 6, 1)?;
+    assert_eq!(rt;
+        later.as_slice(),
+        [2, 1].as_slice(),
+        "86 at loss and twice, below all three"
+    );
+    let delivered = copies_by_rates(rt.alloc(), 40, 40, 6)?;
+    assert_eq!(rt; delivered.as_slice(), [1, 2].as_slice(), "86 at all three");
+    Ok(())
+}
+
+#[test]
+fn words_are_drawn_for_all_frames(rt: HostRuntime) -> Result<(), Fail> {
+    // 86, 797, 970, 809, 448, 80, 103, 790, 936 and 677
+    let mut medium = fated(rt.alloc(), 500, 0, 0, Sequence::new(rt.alloc()))?;
+    let copies = copies_of(rt.alloc(), &mut medium, 10)?;
+    assert_eq!(rt; copies.as_slice(), [2, 3, 4, 8, 9, 10].as_slice());
+    let lines = Sequence::from_vec(Vec::from_slice(rt.alloc(), &LINES)?);
+    let mut medium = fated(rt.alloc(), 500, 0, 0, lines)?;
+    let copies = copies_of(rt.alloc(), &mut medium, 10)?;
+    assert_eq!(rt; copies.as_slice(), [2, 4, 4, 3, 5, 5, 8, 9, 10].as_slice());
+    Ok(())
+}
+
+#[test]
+fn the_last_held_copy_of_an_idle_medium(rt: HostRuntime) -> Result<(), Fail> {
+    let mut medium = fated(rt.alloc(), 0, 0, 1000, Sequence::new(rt.alloc()))?;
+    let copies = copies_of(rt.alloc(), &mut medium, 2)?;
+    assert_eq!(rt; copies.as_slice(), [1, 2].as_slice());
+    assert!(rt; !medium.pending());
     Ok(())
 }

@@ -1,6 +1,6 @@
 -- The actors that are kept step as those of the definitions.
-use Rattle.std.proofs.Common.{◌≡◌, ℕ, zero, suc, ◌+◌, ◌<◌, ◌≤◌, Bool, true, false, List, [], ◌∷◌, ◌++◌, length, map, get_or, Option, Some, None, Result, IfOk, IsTrue, IsSome, is_some, slice_get, slice_set, ◌⊎◌, inl, inr, refl, sym, ap, subst, ◌∙◌, arith, length-append}
-use Rattle.std.proofs.lemmas.Bool.{true≢false, false≢true, lt-ltb, eq-eqb, ne_eqb}
+use Rattle.std.proofs.Common.{◌≡◌, ℕ, zero, suc, ◌+◌, ◌<◌, ◌≤◌, Bool, true, false, List, [], ◌∷◌, ◌++◌, length, map, get_or, Option, Some, None, Result, IfOk, IsTrue, IsSome, is_some, slice_get, slice_set, option_to_list, ◌==◌, ◌⊎◌, inl, inr, refl, sym, ap, subst, ◌∙◌, arith, length-append}
+use Rattle.std.proofs.lemmas.Bool.{true≢false, false≢true, and_parts, lt-ltb, eq-eqb, eqb-true, ne_eqb}
 use Rattle.std.proofs.lemmas.Bool.Decides.{eqb_tells}
 use Rattle.std.proofs.lemmas.Option.{none-some, same_Some, slice_get_within, slice_get_read}
 use Rattle.std.proofs.lemmas.List.{length-set}
@@ -26,10 +26,11 @@ use Rattle.conversation.specs.Kept.{Seat}
 use Rattle.conversation.specs.Stands.{StandsFor}
 use Rattle.host_dir.specs.Kept.{HostDir}
 use Rattle.medium.specs.declared.frame.Frame.{Frame}
-use Rattle.medium.specs.OnMedium.{OnMedium, medium_of, taken_of}
+use Rattle.medium.specs.OnMedium.{OnMedium, IsPending, medium_of, taken_of}
 use Rattle.history_laws.proofs.Histories.{same_actor_is}
 use Rattle.plain_runner.specs.declared.actors.Met.{Met}
 use Rattle.plain_runner.specs.declared.actors.Met.TheVariants as met
+use Rattle.net_base.specs.World.{IsWorld, are_media, is_medium}
 use Rattle.net_base.specs.WorldForm.{IsFirstForm}
 use Rattle.plain_runner.specs.Acting.{AreAt, AreOpening, CanStep, IsHostAt, IsMet, MediumSteps, Steps, StepsAll, TellsReady, is_kept}
 use Rattle.plain_runner.specs.Seats.{SeatView, IsSeatOf, IsUdpReady, TellsConv, dir_of, DirSteps, ConvSteps}
@@ -229,21 +230,33 @@ medium_acts_ok w seats m new work r = map_ok r (MediumSteps m new work) (StepsAl
 
 -- What is ready.
 
--- a copy can be taken exactly where a frame is pending
-medium_tells : (w : World) (seats : List SeatView) (m : OnMedium) (actors : ActorName → Actor) (now : ℕ) (work : Work) (b : Bool) → AreAt w seats m actors → work.event ≡ event.Take → (IsTrue b → 0 < length m.frames) × (0 < length m.frames → IsTrue b)
+-- a copy can be taken exactly where one is pending
+medium_tells : (w : World) (seats : List SeatView) (m : OnMedium) (actors : ActorName → Actor) (now : ℕ) (work : Work) (b : Bool) → AreAt w seats m actors → work.event ≡ event.Take → (IsTrue b → IsPending m) × (IsPending m → IsTrue b)
     → b ≡ is_some (actor_step w (name.Medium 0) (actors (name.Medium 0)) now work)
-medium_tells w seats m actors now work b are take tells = rw (are.medium, are.media, take) (by_frames m.frames b tells)
+medium_tells w seats m actors now work b are take tells = rw (are.medium, are.media, take) (by_copies m.queue m.held b tells)
   where
-    by_frames : (fs : List Frame) (b : Bool) → (IsTrue b → 0 < length fs) × (0 < length fs → IsTrue b) → b ≡ is_some (step_as (λ (n : Medium). IsMedium n) (takes (map taken_of fs) [] (medium_of m)))
-    by_frames [] true t = absurd (omega (arith, t.0 refl))
-    by_frames [] false t = refl
-    by_frames (f ∷ fs) true t = refl
-    by_frames (f ∷ fs) false t = absurd (false≢true (t.1 (omega arith)))
+    by_copies : (fs : List Frame) (held : Option Frame) (b : Bool) → (IsTrue b → (0 < length fs) ⊎ IsSome held) × ((0 < length fs) ⊎ IsSome held → IsTrue b)
+        → b ≡ is_some (step_as (λ (n : Medium). IsMedium n) (takes (map taken_of fs) (map taken_of (option_to_list held)) (medium_of m)))
+    by_copies [] None true t = elim (t.0 refl) [ inl some ↦ absurd (omega (arith, some)) | inr some ↦ absurd (false≢true some) ]
+    by_copies [] None false t = refl
+    by_copies [] (Some f) true t = refl
+    by_copies [] (Some f) false t = absurd (false≢true (t.1 (inr refl)))
+    by_copies (f ∷ fs) held true t = refl
+    by_copies (f ∷ fs) held false t = absurd (false≢true (t.1 (inl (omega arith))))
+
+-- where a copy can be taken, one is pending
+pub is_pending : (m : OnMedium) → IsSome (takes (medium_of m).queue (medium_of m).held (medium_of m)) → IsPending m
+is_pending m some = by_copies m.queue m.held some
+  where
+    by_copies : (fs : List Frame) (held : Option Frame) → IsSome (takes (map taken_of fs) (map taken_of (option_to_list held)) (medium_of m)) → (0 < length fs) ⊎ IsSome held
+    by_copies [] None some = absurd (false≢true some)
+    by_copies [] (Some f) some = inr refl
+    by_copies (f ∷ fs) held some = inl (omega arith)
 
 pub tells_dir : (w : World) (seats : List SeatView) (m : OnMedium) (a : Met) (work : Work) (h : ℕ) (p : Proto) → a ≡ met.Dir h p → TellsReady w seats m a work true
 tells_dir w seats m a work h p is = subst (λ (b : Met). TellsReady w seats m b work true) (sym is) (λ actors now are sure. sure now)
 
-pub tells_medium : (w : World) (seats : List SeatView) (m : OnMedium) (a : Met) (work : Work) (b : Bool) → a ≡ met.Medium → (IsTrue b → 0 < length m.frames) × (0 < length m.frames → IsTrue b) → TellsReady w seats m a work b
+pub tells_medium : (w : World) (seats : List SeatView) (m : OnMedium) (a : Met) (work : Work) (b : Bool) → a ≡ met.Medium → (IsTrue b → IsPending m) × (IsPending m → IsTrue b) → TellsReady w seats m a work b
 tells_medium w seats m a work b is tells = subst (λ (c : Met). TellsReady w seats m c work b) (sym is) (λ actors now are sure. medium_tells w seats m actors now work b are sure tells)
 
 pub tells_conv : (w : World) (seats : List SeatView) (m : OnMedium) (a : Met) (work : Work) (h n : ℕ) (s : SeatView) (b : Bool) → a ≡ met.Conv h n → length seats ≡ length w.hosts → IsMet w a work → s ≡ get_or seats h s
@@ -272,7 +285,7 @@ opening_more w n seats s old of dir conv = record {
     in_more (z ∷ xs) y zero x is = inl is
     in_more (z ∷ xs) y (suc k) x is = elim (in_more xs y k x is) [ inl there ↦ inl there | inr last ↦ inr (ap suc last.0, last.1) ]
 
-pub opening_are : (w : World) (seats : List SeatView) (m : OnMedium) (spec : MediumSpec) → AreOpening w (length w.hosts) seats → m ≡ record { spec = spec; seed = w.seed; laid = 0; frames = [] } → w.media ≡ spec ∷ []
+pub opening_are : (w : World) (seats : List SeatView) (m : OnMedium) (spec : MediumSpec) → AreOpening w (length w.hosts) seats → m ≡ record { spec = spec; seed = w.seed; laid = 0; queue = []; held = None } → w.media ≡ spec ∷ []
     → AreAt w seats m opening_actor
 opening_are w seats m spec all is media = record {
   count = all.count;
@@ -288,6 +301,14 @@ one_medium w form xs s same is =
     let first : s ≡ form.medium = is ∙ ap (λ (ms : List MediumSpec). get_or ms 0 s) (same ∙ form.media) in
     form.media ∙ ap (λ (t : MediumSpec). t ∷ []) (sym first)
 
-pub opening_first : (w : World) (form : IsFirstForm w) (seats : List SeatView) (m : OnMedium) (xs : List MediumSpec) (s : MediumSpec) → AreOpening w (length w.hosts) seats → m ≡ record { spec = s; seed = w.seed; laid = 0; frames = [] }
+-- the first medium is one of a world
+pub first_medium : (w : World) → IsWorld w → (form : IsFirstForm w) (xs : List MediumSpec) (s : MediumSpec) → xs ≡ w.media → s ≡ get_or xs 0 s → is_medium s.number s ≡ true
+first_medium w world form xs s same is =
+    let one : are_media 0 (s ∷ []) ≡ true = ap (λ (ms : List MediumSpec). are_media 0 ms) (sym (one_medium w form xs s same is)) ∙ world.media in
+    let medium = and_parts (is_medium 0 s) true one in
+    let numbered = eqb-true s.number 0 (and_parts (s.number == 0) _ medium.0).0 in
+    subst (λ (n : ℕ). is_medium n s ≡ true) (sym numbered) medium.0
+
+pub opening_first : (w : World) (form : IsFirstForm w) (seats : List SeatView) (m : OnMedium) (xs : List MediumSpec) (s : MediumSpec) → AreOpening w (length w.hosts) seats → m ≡ record { spec = s; seed = w.seed; laid = 0; queue = []; held = None }
     → xs ≡ w.media → s ≡ get_or xs 0 s → AreAt w seats m opening_actor
 opening_first w form seats m xs s all is same first = opening_are w seats m s all is (one_medium w form xs s same first)

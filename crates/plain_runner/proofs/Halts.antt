@@ -1,5 +1,5 @@
 -- How a run stands after any legal history: done, stopped, limited, or none of these.
-use Rattle.std.proofs.Common.{◌≡◌, ℕ, zero, suc, ◌+◌, ◌<◌, ◌≤◌, ◌==◌, ◌&&◌, ◌||◌, Bool, true, false, not, List, [], ◌∷◌, length, map, Option, Some, None, is_some, codes, slice_get, ◌⊎◌, inl, inr, refl, sym, ap, subst, ◌∙◌, arith, nat_lt, if◌then◌else◌}
+use Rattle.std.proofs.Common.{◌≡◌, ℕ, zero, suc, ◌+◌, ◌<◌, ◌≤◌, ◌==◌, ◌&&◌, ◌||◌, Bool, true, false, not, List, [], ◌∷◌, length, map, Option, Some, None, is_some, codes, slice_get, option_to_list, ◌⊎◌, inl, inr, refl, sym, ap, subst, ◌∙◌, arith, nat_lt, if◌then◌else◌}
 use Rattle.std.specs.List.{list_all, range_with_len}
 use Rattle.std.proofs.lemmas.Bool.{true≢false, false≢true, eqb-true, eqb-false, eq-eqb, ne_eqb, ltb-true, and_parts}
 use Rattle.std.proofs.lemmas.Option.{slice_get_within}
@@ -12,7 +12,6 @@ use Rattle.net_base.specs.declared.world.World.{World}
 use Rattle.net_base.specs.Actors.{Actor, IsMedium, actor_step}
 use Rattle.net_base.specs.Callers.{Caller as AnyCaller, IsScript, IsCourier, IsClock, IsNobody, caller_of, caller_count, clock_number, first_courier}
 use Rattle.net_base.specs.Calm.{at_limit, calm, can_go_on, could_record, done, is_quiet, limited, most_entries, movable, nothing_owed, nothing_pending, owes, scripts_wait, stopped, unfinished}
-use Rattle.net_base.specs.declared.history.Taken.{Taken}
 use Rattle.net_base.specs.Medium.{takes}
 use Rattle.net_base.specs.Net.{Net, after}
 use Rattle.net_base.specs.Next.{by}
@@ -58,16 +57,18 @@ fails_range test (suc n) a k above below is = by_first (a == k) refl (λ apart. 
 
 -- a copy that can be taken is queued
 some_frame : (w : World) (r : Runner) → IsFirstForm w → Tracks w r → can_go_on w (after w r.history) (first_courier w) ≡ true → is_quiet ((after w r.history).actors (name.Medium 0)) ≡ false
-some_frame w r form s goes = rw s.are.medium (by_frames r.actors.medium.frames (sym (take_is w r s) ∙ ready))
+some_frame w r form s goes = rw s.are.medium (by_copies r.actors.medium.queue r.actors.medium.held (sym (take_is w r s) ∙ ready))
   where
     ready : is_some (actor_step w (name.Medium 0) (IsMedium (medium_of r.actors.medium)) (after w r.history).moment (record { event = event.Take; with = given.Nothing })) ≡ true
     ready =
         ap (λ (v : Actor). is_some (actor_step w (name.Medium 0) v (after w r.history).moment (record { event = event.Take; with = given.Nothing }))) (sym s.are.medium)
         ∙ sym (goes_on_is w r (first_courier w) met.Medium event.Take (next_take w form r.history)) ∙ goes
 
-    by_frames : (fs : List Frame) → is_some (takes (map taken_of fs) [] (medium_of r.actors.medium)) ≡ true → ((length (map taken_of fs) == 0) && (length {A = Taken} [] == 0)) ≡ false
-    by_frames [] is = absurd (false≢true is)
-    by_frames (f ∷ fs) is = and_left (length (map taken_of (f ∷ fs)) == 0) (length {A = Taken} [] == 0) (ne_eqb (length (map taken_of (f ∷ fs))) 0 (λ e. absurd (omega (arith, e))))
+    by_copies : (fs : List Frame) (held : Option Frame) → is_some (takes (map taken_of fs) (map taken_of (option_to_list held)) (medium_of r.actors.medium)) ≡ true
+        → ((length (map taken_of fs) == 0) && (length (map taken_of (option_to_list held)) == 0)) ≡ false
+    by_copies [] None is = absurd (false≢true is)
+    by_copies [] (Some f) is = refl
+    by_copies (f ∷ fs) held is = and_left (length (map taken_of (f ∷ fs)) == 0) (length (map taken_of (option_to_list held)) == 0) (ne_eqb (length (map taken_of (f ∷ fs))) 0 (λ e. absurd (omega (arith, e))))
 
 pub busy : (w : World) (r : Runner) → IsFirstForm w → Tracks w r → MayGo w r.history (clock_number w) true → calm w (after w r.history) ≡ false
 busy w r form s may = by_owes (owes (after w r.history) may.0) refl may.2

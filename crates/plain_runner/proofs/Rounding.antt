@@ -1,5 +1,5 @@
 -- What a round leaves, and how a run ends.
-use Rattle.std.proofs.Common.{◌≡◌, ℕ, ◌+◌, ◌<◌, ◌==◌, ◌||◌, Bool, true, false, List, [], ◌∷◌, length, map, Option, Some, None, is_some, inl, inr, refl, sym, ap, subst, ◌∙◌, arith, nat_lt}
+use Rattle.std.proofs.Common.{◌≡◌, ℕ, ◌+◌, ◌<◌, ◌==◌, ◌||◌, Bool, true, false, List, [], ◌∷◌, length, map, Option, Some, None, is_some, option_to_list, inl, inr, refl, sym, ap, subst, ◌∙◌, arith, nat_lt}
 use Rattle.std.proofs.lemmas.Bool.{true≢false, false≢true, eqb-true, eqb-false, ltb-false}
 use Rattle.net_base.specs.declared.actor.ActorName.TheVariants as name
 use Rattle.net_base.specs.declared.event.Event.TheVariants as event
@@ -59,16 +59,17 @@ owes_none net c is = by_list (net.owed c) is
     by_list [] is = refl
     by_list (d ∷ ds) is = absurd (omega (arith, ltb-false 0 (length (d ∷ ds)) is))
 
-no_frames : (fs : List Frame) (m : Medium) → is_some (takes (map taken_of fs) [] m) ≡ false → fs ≡ []
-no_frames [] m is = refl
-no_frames (f ∷ fs) m is = absurd (true≢false is)
+no_copies : (fs : List Frame) (held : Option Frame) (m : Medium) → is_some (takes (map taken_of fs) (map taken_of (option_to_list held)) m) ≡ false → (fs ≡ []) × (held ≡ None)
+no_copies [] None m is = (refl, refl)
+no_copies [] (Some f) m is = absurd (true≢false is)
+no_copies (f ∷ fs) held m is = absurd (true≢false is)
 
 as_so : (o : Option (Step Medium)) → is_some (step_as (λ (m : Medium). IsMedium m) o) ≡ is_some o
 as_so None = refl
 as_so (Some t) = refl
 
-pub take_is : (w : World) (r : Runner) → Tracks w r → is_some (actor_step w (name.Medium 0) (IsMedium (medium_of r.actors.medium)) (after w r.history).moment (record { event = event.Take; with = given.Nothing })) ≡ is_some (takes (map taken_of r.actors.medium.frames) [] (medium_of r.actors.medium))
-take_is w r s = rw s.are.media (as_so (takes (map taken_of r.actors.medium.frames) [] (medium_of r.actors.medium)))
+pub take_is : (w : World) (r : Runner) → Tracks w r → is_some (actor_step w (name.Medium 0) (IsMedium (medium_of r.actors.medium)) (after w r.history).moment (record { event = event.Take; with = given.Nothing })) ≡ is_some (takes (medium_of r.actors.medium).queue (medium_of r.actors.medium).held (medium_of r.actors.medium))
+take_is w r s = rw s.are.media (as_so (takes (medium_of r.actors.medium).queue (medium_of r.actors.medium).held (medium_of r.actors.medium)))
 
 owed_by_last : (w : World) (r : Runner) → Tracks w r → MayGo w r.history (clock_number w) false → (c : ℕ) (e : Bool) → (c == clock_number w) ≡ e → c < caller_count w → (after w r.history).owed c ≡ []
 owed_by_last w r s none c true is lt = subst (λ (k : ℕ). (after w r.history).owed k ≡ []) (sym (eqb-true c (clock_number w) is)) s.good.clock
@@ -94,11 +95,11 @@ is_idle w r form s none = record { owed = owed; waits = waits; quiet = quiet }
         ap (λ (v : Actor). is_some (actor_step w (name.Medium 0) v (after w r.history).moment (record { event = event.Take; with = given.Nothing }))) (sym s.are.medium)
         ∙ sym (goes_on_is w r (first_courier w) met.Medium event.Take (next_take w form r.history)) ∙ courier
 
-    frames : r.actors.medium.frames ≡ []
-    frames = no_frames r.actors.medium.frames (medium_of r.actors.medium) (sym (take_is w r s) ∙ step_none)
+    copies : (r.actors.medium.queue ≡ []) × (r.actors.medium.held ≡ None)
+    copies = no_copies r.actors.medium.queue r.actors.medium.held (medium_of r.actors.medium) (sym (take_is w r s) ∙ step_none)
 
     quiet : is_quiet ((after w r.history).actors (name.Medium 0)) ≡ true
-    quiet = rw s.are.medium (rw frames refl)
+    quiet = rw s.are.medium (rw (copies.0, copies.1) refl)
 
 -- a caller that could record, and is through, is at its limit
 pub limit_is : (w : World) (r : Runner) → IsFirstForm w → ((c : ℕ) → c < clock_number w → IsThrough w r.history c) → MayGo w r.history (clock_number w) true → limited w (after w r.history) ≡ true

@@ -49,6 +49,7 @@ pub struct Actors {
 
 impl Actors {
     /// The actors of a world before anything happened.
+    #[tactic(auto, using(crate::proofs::Actings::first_medium))]
     pub fn new(alloc: Global, world: &World) -> Result<Actors, AllocError>
         requires world { IsWorld world.now }
         requires form { IsFirstForm world.now }
@@ -126,6 +127,7 @@ impl Actors {
 }
 
 // A put, or else a take.
+#[tactic(auto, using(crate::proofs::Actings::is_pending))]
 fn put_or_take(medium: &mut Medium, work: &Work) -> Result<Outcome, AllocError>
     requires met { IsMediumMet work.now.event work.now.with }
     requires laid { medium.old.laid + 1 < 2 ^ 64 }
