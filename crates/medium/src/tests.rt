@@ -53,27 +53,59 @@ fn fated(
     Medium::new(alloc, &spec, 1)
 }
 
-/// The numbers of the copies that come, in their order, where so many frames are laid before.
-fn copies_of(alloc: Global, medium: &mut Medium, frames: usize) -> Result<Vec<u64>, AllocError> {
+/// Lays so many frames.
+fn lay(alloc: Global, medium: &mut Medium, frames: usize) -> Result<(), AllocError> {
     let packet = udp(alloc, b"hi")?;
     for _ in 0..frames {
         medium.put(Some(1), &packet)?;
     }
-    let mut copies = Vec::new(alloc);
-    for _ in 0..16 {
-        if medium.pending() {
-            copies.push(medium.take()?.frame)?;
-        }
-    }
-    Ok(copies)
+    Ok(())
 }
 
-/// The copies of two frames under these rates. The first words, modulo 1000, are 86 and 797.
-fn copies_by_rates(alloc: Global, loss: u32, twice: u32, later: u32) -> Result<Vec<u64>, AllocError>
+/// Whether the copies of these frames come, and no others.
+fn come(medium: &mut Medium, expected: &[u64]) -> Result<bool, AllocError> {
+    for frame in expected {
+        if !medium.pending() {
+            return Ok(false);
+        }
+        let taken = medium.take()?;
+        if taken.frame != *frame {
+            return Ok(false);
+        }
+    }
+    Ok(!medium.pending())
+}
+
+/// Whether these copies come of so many frames on a medium with these lines.
+fn lines_give(
+    alloc: Global,
+    loss: u32,
+    lines: &[FateRange],
+    frames: usize,
+    expected: &[u64],
+) -> Result<bool, AllocError>
+    requires rates { loss ≤ 1000 }
+    requires lines { AreLines lines.now }
+{
+    let lines = Sequence::from_vec(Vec::from_slice(alloc, lines)?);
+    let mut medium = fated(alloc, loss, 0, 0, lines)?;
+    lay(alloc, &mut medium, frames)?;
+    come(&mut medium, expected)
+}
+
+/// Whether these copies come of two frames under these rates. The first words, modulo 1000, are 86 and 797.
+fn rates_give(
+    alloc: Global,
+    loss: u32,
+    twice: u32,
+    later: u32,
+    expected: &[u64],
+) -> Result<bool, AllocError>
     requires { loss + twice + later ≤ 1000 }
 {
     let mut medium = fated(alloc, loss, twice, later, Sequence::new(alloc))?;
-    copies_of(alloc, &mut medium, 2)
+    lay(alloc, &mut medium, 2)?;
+    come(&mut medium, expected)
 }
 
 const LINES: [FateRange; 3] = [
@@ -202,54 +234,43 @@ fn packets_up_to_the_mtu(rt: HostRuntime) -> Result<(), Fail> {
 
 #[test]
 fn fates_by_lines(rt: HostRuntime) -> Result<(), Fail> {
-    let lines = Sequence::from_vec(Vec::from_slice(rt.alloc(), &LINES)?);
-    let mut medium = fated(rt.alloc(), 0, 0, 0, lines)?;
-    let copies = copies_of(rt.alloc(), &mut medium, 6)?;
-    assert_eq!(rt; copies.as_slice(), [2, 4, 4, 3, 5, 5, 6].as_slice());
+    assert!(rt; lines_give(rt.alloc(), 0, &LINES, 6, &[2, 4, 4, 3, 5, 5, 6])?);
     Ok(())
 }
 
 #[test]
 fn fates_by_rates(rt: HostRuntime) -> Result<(), Fail> {
-    let lost = copies_by_rates(rt.alloc(), 87, 0, 0)?;
-    assert_eq!(rt; lost.as_slice(), [2].as_slice(), "86 below the loss of 87");
-    let kept = copies_by_rates(rt.alloc(), 86, 0, 0)?;
-    assert_eq!(rt; kept.as_slice(), [1, 2].as_slice(), "86 at the loss of 86");
-    let twice = copies_by_rates(rt.alloc(), 80, 7, 0)?;
-    assert_eq!(rt;
-        twice.as_slice(),
-        [1, 1, 2].as_slice(),
+    let alloc = rt.alloc();
+    assert!(rt;
+        rates_give(alloc, 87, 0, 0, &[2])?,
+        "86 below the loss of 87"
+    );
+    assert!(rt;
+        rates_give(alloc, 86, 0, 0, &[1, 2])?,
+        "86 at the loss of 86"
+    );
+    assert!(rt;
+        rates_give(alloc, 80, 7, 0, &[1, 1, 2])?,
         "86 below loss and twice"
     );
-    let later = copies_by_rates(rt.alloc(), 80, 6, 1)?;
-    assert_eq!(rt;
-        later.as_slice(),
-        [2, 1].as_slice(),
+    assert!(rt;
+        rates_give(alloc, 80, 6, 1, &[2, 1])?,
         "86 at loss and twice, below all three"
     );
-    let delivered = copies_by_rates(rt.alloc(), 40, 40, 6)?;
-    assert_eq!(rt; delivered.as_slice(), [1, 2].as_slice(), "86 at all three");
+    assert!(rt; rates_give(alloc, 40, 40, 6, &[1, 2])?, "86 at all three");
     Ok(())
 }
 
 #[test]
 fn words_are_drawn_for_all_frames(rt: HostRuntime) -> Result<(), Fail> {
     // 86, 797, 970, 809, 448, 80, 103, 790, 936 and 677
-    let mut medium = fated(rt.alloc(), 500, 0, 0, Sequence::new(rt.alloc()))?;
-    let copies = copies_of(rt.alloc(), &mut medium, 10)?;
-    assert_eq!(rt; copies.as_slice(), [2, 3, 4, 8, 9, 10].as_slice());
-    let lines = Sequence::from_vec(Vec::from_slice(rt.alloc(), &LINES)?);
-    let mut medium = fated(rt.alloc(), 500, 0, 0, lines)?;
-    let copies = copies_of(rt.alloc(), &mut medium, 10)?;
-    assert_eq!(rt; copies.as_slice(), [2, 4, 4, 3, 5, 5, 8, 9, 10].as_slice());
+    assert!(rt; lines_give(rt.alloc(), 500, &[], 10, &[2, 3, 4, 8, 9, 10])?);
+    assert!(rt; lines_give(rt.alloc(), 500, &LINES, 10, &[2, 4, 4, 3, 5, 5, 8, 9, 10])?);
     Ok(())
 }
 
 #[test]
 fn the_last_held_copy_of_an_idle_medium(rt: HostRuntime) -> Result<(), Fail> {
-    let mut medium = fated(rt.alloc(), 0, 0, 1000, Sequence::new(rt.alloc()))?;
-    let copies = copies_of(rt.alloc(), &mut medium, 2)?;
-    assert_eq!(rt; copies.as_slice(), [1, 2].as_slice());
-    assert!(rt; !medium.pending());
+    assert!(rt; rates_give(rt.alloc(), 0, 0, 1000, &[1, 2])?);
     Ok(())
 }
