@@ -1,0 +1,2 @@
+-- Guesses.
+use Rattle.std.specs.Prelude.{ℕ}

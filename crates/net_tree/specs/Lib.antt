@@ -1,0 +1,5 @@
+pub mod Bindings
+pub mod Fault
+pub mod Guess
+pub use Rattle.net_base.specs.Paths
+pub use Rattle.net_base.specs.Steps

@@ -1,0 +1,15 @@
+//! The tree under /net: paths, what may be opened, the names in a directory, and names bound to open files.
+#![tactic(auto)]
+
+// mod directory;
+mod fault;
+mod fids;
+// mod path;
+// mod slots;
+
+
+
+
+pub use fault::TreeError;
+pub use fids::{Fid, Fids};
+
