@@ -1,1 +1,4 @@
+pub mod Guesses
 pub mod Newest
+pub mod Slashes
+pub mod Taken

@@ -1,0 +1,88 @@
+//! Paths, modes, directories and bound names.
+use crate::{Fid, Fids, TreeError, may_open, names, walk};
+use net_base::{FileName, Lines, Mode, Node, Proto};
+use std::alloc::Global;
+use std::test::*;
+
+fn fid(slot: u32) -> Fid {
+    Fid {
+        proto: Proto::Il,
+        slot,
+        generation: 7,
+        file: FileName::Data,
+        mode: Mode::Both,
+    }
+}
+
+#[test]
+fn paths_name_nodes(rt: HostRuntime) -> Result<(), Fail> {
+    let rows: [(&[u8], Node); 9] = [
+        (b"/net", Node::Root),
+        (b"/net/cs", Node::Cs),
+        (b"/net/il", Node::Proto(Proto::Il)),
+        (b"/net/udp/clone", Node::Clone(Proto::Udp)),
+        (b"/net/il/0", Node::Dir(Proto::Il, 0)),
+        (b"/net/udp/31", Node::Dir(Proto::Udp, 31)),
+        (
+            b"/net/il/7/ctl",
+            Node::File(Proto::Il, 7, FileName::Ctl),
+        ),
+        (
+            b"/net/udp/30/status",
+            Node::File(Proto::Udp, 30, FileName::Status),
+        ),
+        (
+            b"/net/udp/10/listen",
+            Node::File(Proto::Udp, 10, FileName::Listen),
+        ),
+    ];
+    for (path, node) in rows {
+        assert_eq!(rt; walk(path), Ok(node));
+    }
+    Ok(())
+}
+
+#[test]
+fn other_paths_name_nothing(rt: HostRuntime) -> Result<(), Fail> {
+    let paths: [&[u8]; 14] = [
+        b"",
+        b"/",
+        b"net",
+        b"/net/",
+        b"//net",
+        b"/net/tcp",
+        b"/net/il/32",
+        b"/net/il/07",
+        b"/net/il/00",
+        b"/net/il/",
+        b"/net/cs/0",
+        b"/net/il/clone/ctl",
+        b"/net/il/0/Data",
+        b"/net/il/0/data/",
+    ];
+    for path in paths {
+        assert_eq!(rt; walk(path), Err(TreeError::NoFile));
+    }
+    assert_eq!(rt; TreeError::NoFile.number(), 1);
+    assert_eq!(rt; TreeError::BadMode.number(), 2);
+    assert_eq!(rt; TreeError::BadFid.number(), 3);
+    Ok(())
+}
+
+#[test]
+fn directories_have_names(rt: HostRuntime) -> Result<(), Fail> {
+    let alloc = rt.allocator();
+    let root = names(alloc, Node::Root, 0)?;
+    is_list(rt, &root, &[b"cs", b"il", b"udp"]);
+    let proto = names(alloc, Node::Proto(Proto::Il), 0x8000_0005)?;
+    is_list(rt, &proto, &[b"clone", b"0", b"2", b"31"]);
+    let dir = names(alloc, Node::Dir(Proto::Udp, 3), 8)?;
+    is_list(
+        rt,
+        &dir,
+        &[
+            b"ctl", b"data", b"err", b"listen", b"local", b"remote", b"status",
+        ],
+    );
+    Ok(())
+}
