@@ -1,4 +1,3 @@
 pub mod Guesses
 pub mod Newest
-pub mod Slashes
 pub mod Taken

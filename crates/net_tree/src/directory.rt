@@ -70,12 +70,7 @@ fn clone_and_slots(alloc: Global, slots: u32) -> Result<Lines, AllocError>
 }
 
 // Adds the number of a slot where it is taken.
-fn put_taken(
-    alloc: Global,
-    lines: &mut Lines,
-    slots: u32,
-    slot: u32,
-) -> Result<(), AllocError>
+fn put_taken(alloc: Global, lines: &mut Lines, slots: u32, slot: u32) -> Result<(), AllocError>
     requires { slot < 32 }
     ensures { OnOk result (lines.new ≡ lines.old ++ map decimal (taken_at slots slot)) }
 {

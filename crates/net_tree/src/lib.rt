@@ -4,7 +4,6 @@
 mod directory;
 mod fault;
 mod fids;
-mod parts;
 mod path;
 #[cfg(test)]
 mod tests;

@@ -1,15 +1,16 @@
 //! The node that a path names.
 ghost use Rattle.std.specs.Prelude.{◌≡◌, ◌==◌, ◌++◌, ◌∷◌, ◌&&◌, [], true, List, ℕ, Some, ok_or, bytes_eq, codes, decimal};
 ghost use Rattle.std.specs.List.{slice_split};
+ghost use Rattle.std.specs.Str.Parse.{digits_value};
 ghost use Rattle.net_base.specs.declared.names.Node.TheVariants as node;
 ghost use Rattle.net_base.specs.Paths as spec;
 ghost use Rattle.net_tree.specs.declared.fault.TreeError.TheVariants.{NoFile};
-ghost use Rattle.net_tree.specs.Guess.{Begins, kept, under_proto};
+ghost use Rattle.net_tree.specs.Guess.{Begins, kept, kept_slot, under_proto};
 
 use crate::fault::TreeError;
-use crate::parts::{slot_of, split_first};
 use itoa::Buffer;
 use net_base::{FileName, Node, Proto};
+use words::{file_named, number_up_to, proto_named, split_first};
 
 /// The node that a path names.
 pub fn walk(path: &[u8]) -> Result<Node, TreeError>
@@ -65,18 +66,6 @@ fn cs_or_proto(name: &[u8]) -> Option<Node>
     }
 }
 
-fn proto_named(name: &[u8]) -> Option<Proto>
-    ensures { result ≡ spec.proto_named name.now }
-{
-    if name == b"il".as_slice() {
-        Some(Proto::Il)
-    } else if name == b"udp".as_slice() {
-        Some(Proto::Udp)
-    } else {
-        None
-    }
-}
-
 // What the parts behind a protocol would name.
 fn under_proto(proto: Proto, path: &[u8]) -> Option<Node>
     ensures { result ≡ kept (under_proto proto (slice_split (λ b. b == 47) path.now)) }
@@ -112,23 +101,13 @@ fn file_of_slot(proto: Proto, slot: &[u8], file: &[u8]) -> Option<Node>
     }
 }
 
-fn file_named(name: &[u8]) -> Option<FileName>
-    ensures { result ≡ spec.file_named name.now }
+// A slot below 32. What isn't spelled so is refused later, where the whole path is compared.
+fn slot_of(text: &[u8]) -> Option<u32>
+    ensures { result ≡ kept_slot (digits_value 10 text.now) }
 {
-    if name == b"ctl".as_slice() {
-        Some(FileName::Ctl)
-    } else if name == b"data".as_slice() {
-        Some(FileName::Data)
-    } else if name == b"err".as_slice() {
-        Some(FileName::Err)
-    } else if name == b"listen".as_slice() {
-        Some(FileName::Listen)
-    } else if name == b"local".as_slice() {
-        Some(FileName::Local)
-    } else if name == b"remote".as_slice() {
-        Some(FileName::Remote)
-    } else if name == b"status".as_slice() {
-        Some(FileName::Status)
+    let number = number_up_to(32, text);
+    if number < 32 {
+        Some(number as u32)
     } else {
         None
     }

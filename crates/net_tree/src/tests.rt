@@ -1,7 +1,6 @@
 //! Paths, modes, directories and bound names.
 use crate::{Fid, Fids, TreeError, may_open, names, walk};
 use net_base::{FileName, Lines, Mode, Node, Proto};
-use std::alloc::Global;
 use std::test::*;
 
 fn fid(slot: u32) -> Fid {
@@ -23,10 +22,7 @@ fn paths_name_nodes(rt: HostRuntime) -> Result<(), Fail> {
         (b"/net/udp/clone", Node::Clone(Proto::Udp)),
         (b"/net/il/0", Node::Dir(Proto::Il, 0)),
         (b"/net/udp/31", Node::Dir(Proto::Udp, 31)),
-        (
-            b"/net/il/7/ctl",
-            Node::File(Proto::Il, 7, FileName::Ctl),
-        ),
+        (b"/net/il/7/ctl", Node::File(Proto::Il, 7, FileName::Ctl)),
         (
             b"/net/udp/30/status",
             Node::File(Proto::Udp, 30, FileName::Status),
@@ -71,7 +67,7 @@ fn other_paths_name_nothing(rt: HostRuntime) -> Result<(), Fail> {
 
 #[test]
 fn directories_have_names(rt: HostRuntime) -> Result<(), Fail> {
-    let alloc = rt.allocator();
+    let alloc = rt.alloc();
     let root = names(alloc, Node::Root, 0)?;
     is_list(rt, &root, &[b"cs", b"il", b"udp"]);
     let proto = names(alloc, Node::Proto(Proto::Il), 0x8000_0005)?;
@@ -84,5 +80,25 @@ fn directories_have_names(rt: HostRuntime) -> Result<(), Fail> {
             b"ctl", b"data", b"err", b"listen", b"local", b"remote", b"status",
         ],
     );
+    Ok(())
+}
+
+fn is_list(rt: HostRuntime, lines: &Lines, words: &[&[u8]]) {
+    assert_eq!(rt; lines.len(), words.len());
+    for (line, word) in lines.as_slice().iter().zip(words.iter()) {
+        assert_eq!(rt; line.as_slice(), *word);
+    }
+}
+
+#[test]
+fn names_are_bound_and_unbound(rt: HostRuntime) -> Result<(), Fail> {
+    let mut fids = Fids::new(rt.alloc());
+    assert_eq!(rt; fids.bind(b"a", fid(1)), Ok(()));
+    assert_eq!(rt; fids.bind(b"b", fid(2)), Ok(()));
+    assert_eq!(rt; fids.bind(b"a", fid(3)), Err(TreeError::BadFid));
+    assert_eq!(rt; fids.get(b"a"), Some(fid(1)));
+    assert_eq!(rt; fids.unbind(b"a"), Some(fid(1)));
+    assert_eq!(rt; fids.unbind(b"a"), None);
+    assert_eq!(rt; fids.get(b"b"), Some(fid(2)));
     Ok(())
 }
