@@ -69,25 +69,25 @@ fn other_paths_name_nothing(rt: HostRuntime) -> Result<(), Fail> {
 fn directories_have_names(rt: HostRuntime) -> Result<(), Fail> {
     let alloc = rt.alloc();
     let root = names(alloc, Node::Root, 0)?;
-    is_list(rt, &root, &[b"cs", b"il", b"udp"]);
+    assert!(rt; is_list(&root, &[b"cs", b"il", b"udp"]));
     let proto = names(alloc, Node::Proto(Proto::Il), 0x8000_0005)?;
-    is_list(rt, &proto, &[b"clone", b"0", b"2", b"31"]);
+    assert!(rt; is_list(&proto, &[b"clone", b"0", b"2", b"31"]));
     let dir = names(alloc, Node::Dir(Proto::Udp, 3), 8)?;
-    is_list(
-        rt,
-        &dir,
-        &[
-            b"ctl", b"data", b"err", b"listen", b"local", b"remote", b"status",
-        ],
-    );
+    let files: [&[u8]; 7] = [
+        b"ctl", b"data", b"err", b"listen", b"local", b"remote", b"status",
+    ];
+    assert!(rt; is_list(&dir, &files));
+    assert!(rt; is_list(&names(alloc, Node::Cs, 1)?, &[]));
     Ok(())
 }
 
-fn is_list(rt: HostRuntime, lines: &Lines, words: &[&[u8]]) {
-    assert_eq!(rt; lines.len(), words.len());
-    for (line, word) in lines.as_slice().iter().zip(words.iter()) {
-        assert_eq!(rt; line.as_slice(), *word);
-    }
+fn is_list(lines: &Lines, words: &[&[u8]]) -> bool {
+    let lines = lines.as_slice();
+    lines.len() == words.len()
+        && lines
+            .iter()
+            .zip(words.iter())
+            .all(|(line, word)| line.as_slice() == *word)
 }
 
 #[test]
@@ -101,4 +101,14 @@ fn names_are_bound_and_unbound(rt: HostRuntime) -> Result<(), Fail> {
     assert_eq!(rt; fids.unbind(b"a"), None);
     assert_eq!(rt; fids.get(b"b"), Some(fid(2)));
     Ok(())
+}
+
+// Run it with each allocation failing in turn: where there was memory for the room, there is none that the binding wants.
+#[test]
+fn a_reserved_name_is_bound(rt: HostRuntime) {
+    let mut fids = Fids::new(rt.alloc());
+    if fids.reserve(b"conversation").is_ok() {
+        assert_eq!(rt; fids.bind(b"conversation", fid(1)), Ok(()));
+        assert_eq!(rt; fids.get(b"conversation"), Some(fid(1)));
+    }
 }
