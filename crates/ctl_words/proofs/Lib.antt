@@ -1,3 +1,3 @@
-mod Begins
 mod Newlines
+mod Pieces
 mod Splits

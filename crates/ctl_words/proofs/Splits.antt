@@ -7,14 +7,6 @@ use Rattle.std.proofs.Math.Seq.{drop-cons}
 use Rattle.net_base.specs.ControlWords.{address_of, place_of}
 use Rattle.ctl_words.specs.Kept.{kept_ip, kept_place, AreMany}
 
--- the first part ends at the first separator
-pub parts_first : (separator : ℕ) (word : List ℕ) (i : ℕ) → i < length word → All (λ byte. (byte == separator) ≡ false) (take i word) → (get_or word i 0 == separator) ≡ true → slice_split (λ b. b == separator) word ≡ take i word ∷ slice_split (λ b. b == separator) (drop (i + 1) word)
-parts_first separator word i within none here =
-    let whole : take i word ++ get_or word i 0 ∷ drop (i + 1) word ≡ word =
-    rw add-one (ap (λ rest. take i word ++ rest) (sym (drop-cons word i 0 within)) ∙ take-append-drop i word) in
-    ap (slice_split (λ b. b == separator)) (sym whole)
-    ∙ slice_split_at (λ byte. byte == separator) (take i word) (get_or word i 0) (drop (i + 1) word) none here
-
 -- there is always a part
 some_part : (separator : ℕ) (word : List ℕ) → 0 < length (slice_split (λ b. b == separator) word)
 some_part separator word = omega (arith, length-slice_split (λ b. b == separator) word)

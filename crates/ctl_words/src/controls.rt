@@ -10,9 +10,10 @@ ghost use Rattle.ctl_words.specs.Told.{told};
 
 use crate::fault::CtlError;
 use crate::numbers::{byte, place, port};
-use crate::parts::{first_word, is_word, single, split_first, without_newline};
+use crate::parts::{first_word, is_word, single, without_newline};
 use crate::spelled::is_spelled;
 use net_base::{Addr, Ctl};
+use words::split_first;
 
 /// The control that a text says, which a newline may end.
 pub fn read_ctl(text: &[u8]) -> Result<Ctl, CtlError>
@@ -54,7 +55,7 @@ fn keep(line: &[u8], control: Ctl) -> Option<Ctl>
     requires { spec.in_range control ≡ true }
     ensures { result ≡ spec.checked line.now (Some control) }
 {
-    if is_spelled(line, control) {
+    if is_spelled(line, &control) {
         Some(control)
     } else {
         None

@@ -11,3 +11,4 @@ mod tests;
 
 pub use controls::read_ctl;
 pub use fault::CtlError;
+pub use spelled::write_ctl;

@@ -1,56 +1,21 @@
 //! Numbers and addresses in control texts.
-ghost use Rattle.std.specs.Prelude.{◌≡◌, ◌≤◌, ◌==◌, ◌+◌, ◌*◌, ◌^◌, Some, min};
-ghost use Rattle.std.specs.Char.{digit_value};
+ghost use Rattle.std.specs.Prelude.{◌≡◌, ◌≤◌, ◌==◌, ◌+◌, ◌*◌, ◌^◌, Some};
 ghost use Rattle.std.specs.List.{slice_split};
 ghost use Rattle.std.specs.Str.Parse.{digits_value};
 ghost use Rattle.net_base.specs.ControlWords as spec;
 ghost use Rattle.ctl_words.specs.Kept.{cap, kept_port, kept_byte, kept_ip, kept_place};
 
-use crate::parts::split_first;
 use net_base::Addr;
+use words::{number_up_to, split_first};
 
 /// Stands for all numbers that are as large.
 const CAP: u64 = 68_719_476_736;
-
-// The value of a digit or a letter, and 36 for another byte. What isn't spelled by digits is refused later, where the whole
-// text is compared.
-fn digit(byte: u8) -> u64
-    ensures value { result ≡ digit_value byte }
-    ensures small { result ≤ 36 }
-{
-    if byte < b'0' {
-        36
-    } else if byte < b':' {
-        (byte - b'0') as u64
-    } else if byte < b'A' {
-        36
-    } else if byte < b'[' {
-        (byte - 55) as u64
-    } else if byte < b'a' {
-        36
-    } else if byte < b'{' {
-        (byte - 87) as u64
-    } else {
-        36
-    }
-}
-
-/// The number that a text writes, or the cap where it is larger.
-pub fn value(text: &[u8]) -> u64
-    ensures { result ≡ min (digits_value 10 text.now) cap }
-{
-    let mut number: u64 = 0;
-    for byte in text {
-        number = (number * 10 + digit(*byte)).min(CAP);
-    }
-    number
-}
 
 /// A port, 1 to 65535.
 pub fn port(text: &[u8]) -> Option<u16>
     ensures { result ≡ kept_port (digits_value 10 text.now) }
 {
-    let number = value(text);
+    let number = number_up_to(CAP, text);
     if 0 < number && number < 65536 {
         Some(number as u16)
     } else {
@@ -62,7 +27,7 @@ pub fn port(text: &[u8]) -> Option<u16>
 pub fn byte(text: &[u8]) -> Option<u8>
     ensures { result ≡ kept_byte (digits_value 10 text.now) }
 {
-    let number = value(text);
+    let number = number_up_to(CAP, text);
     if number < 256 {
         Some(number as u8)
     } else {
@@ -81,7 +46,12 @@ fn address(text: &[u8]) -> Option<u32>
     if let Some(_) = rest {
         return None;
     }
-    join(value(first), value(second), value(third), value(fourth))
+    join(
+        number_up_to(CAP, first),
+        number_up_to(CAP, second),
+        number_up_to(CAP, third),
+        number_up_to(CAP, fourth),
+    )
 }
 
 // The address of four numbers, where it is one.

@@ -4,19 +4,7 @@ ghost use Rattle.std.specs.List.{slice_split, position_or_len};
 ghost use Rattle.net_base.specs.ControlWords as spec;
 ghost use Rattle.ctl_words.specs.Kept.{AreMany};
 
-/// The bytes before the first separator, and those after it, if there is one.
-pub fn split_first(text: &[u8], separator: u8) -> (&[u8], Option<&[u8]>)
-    ensures { MatchOption result.1
-        (slice_split (λ b. b == separator) text.now ≡ result.0.now ∷ [])
-        (λ rest. slice_split (λ b. b == separator) text.now ≡ result.0.now ∷ slice_split (λ b. b == separator) rest.now) }
-{
-    for (i, byte) in text.iter().enumerate() {
-        if *byte == separator {
-            return (&text[..i], Some(&text[i + 1..]));
-        }
-    }
-    (text, None)
-}
+use words::split_first;
 
 /// A text, where the separator isn't in it.
 pub fn single(text: &[u8], separator: u8) -> Option<&[u8]>

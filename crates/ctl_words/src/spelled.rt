@@ -1,12 +1,11 @@
-//! Whether a text is the one that a control is written as.
-ghost use Rattle.std.specs.Prelude.{◌≡◌, ◌++◌, ◌||◌, List, ℕ, bytes_eq, codes, decimal, false};
+//! The text that a control is written as.
+ghost use Rattle.std.specs.Prelude.{◌≡◌, ◌≤◌, ◌+◌, ◌++◌, ◌||◌, List, ℕ, bytes_eq, codes, decimal, drop, false, length, take, true};
 ghost use Rattle.std.specs.Option.{option_map_or};
 ghost use Rattle.net_base.specs.ControlWords as spec;
-ghost use Rattle.ctl_words.specs.Kept.{Begins};
-ghost use Rattle.ctl_words.specs.Written.{piece_text, written};
+ghost use Rattle.ctl_words.specs.Written.{Lays, piece_text, written};
 
 use itoa::Buffer;
-use net_base::{Addr, Ctl};
+use net_base::Ctl;
 
 /// A part of a text.
 #[derive(Clone, Copy)]
@@ -15,119 +14,158 @@ pub enum Piece {
     Number(u32),
 }
 
-// What stands behind some bytes, where the text begins with them.
-fn behind<'a>(text: &'a [u8], front: &[u8]) -> Option<&'a [u8]>
-    ensures { Begins text.now front.now result }
+/// Writes a control without a newline, and gives its length.
+pub fn write_ctl(ctl: &Ctl, out: &mut [u8; 48]) -> usize
+    requires in_range { spec.in_range ctl.now ≡ true }
+    ensures len { result ≡ length (spec.spelling ctl.now) }
+    ensures written { out.new ≡ spec.spelling ctl.now ++ drop result out.old }
 {
-    text.strip_prefix(front)
-}
-
-// What stands behind a piece, where the text begins with it.
-fn behind_piece<'a>(text: &'a [u8], piece: &Piece) -> Option<&'a [u8]>
-    ensures { Begins text.now (piece_text piece.now) result }
-{
-    match piece {
-        Piece::Text(front) => behind(text, front),
-        Piece::Number(n) => {
-            let mut buffer = Buffer::new();
-            behind(text, buffer.format(*n).as_bytes())
-        }
+    match *ctl {
+        Ctl::Connect {
+            remote,
+            lport: None,
+        } => write_place(out, b"connect ", remote.ip, remote.port),
+        Ctl::Connect {
+            remote,
+            lport: Some(last),
+        } => write_place_with_port(out, b"connect ", remote.ip, remote.port, last),
+        Ctl::Announce {
+            ip: None,
+            port: Some(port),
+        } => write_number(out, b"announce *!", port as u32),
+        Ctl::Announce {
+            ip: Some(ip),
+            port: Some(port),
+        } => write_place(out, b"announce ", ip, port),
+        Ctl::Announce { port: None, .. } => write(out, &[Piece::Text(b"announce *")]),
+        Ctl::Bind { port } => write_number(out, b"bind ", port as u32),
+        Ctl::Hangup => write(out, &[Piece::Text(b"hangup")]),
+        Ctl::Ttl { n } => write_number(out, b"ttl ", n as u32),
+        Ctl::Tos { n } => write_number(out, b"tos ", n as u32),
     }
 }
 
-// Whether a text is these pieces.
-fn is_written(text: &[u8], pieces: &[Piece]) -> bool
-    ensures { result ≡ bytes_eq text.now (written pieces.now) }
+/// Whether a line is the one that a control is written as, or its short form.
+pub fn is_spelled(line: &[u8], control: &Ctl) -> bool
+    requires { spec.in_range control.now ≡ true }
+    ensures { result ≡ (bytes_eq line.now (spec.spelling control.now) || option_map_or (λ (short : List ℕ). bytes_eq line.now short) (spec.short_spelling control.now) false) }
 {
-    let mut text = text;
-    for piece in pieces {
-        match behind_piece(text, piece) {
-            Some(rest) => text = rest,
-            None => return false,
+    let mut out = [0; 48];
+    let len = write_ctl(control, &mut out);
+    line == &out[..len] || is_short(line, control)
+}
+
+// Whether a line is the short form of a control.
+fn is_short(line: &[u8], control: &Ctl) -> bool
+    ensures { result ≡ option_map_or (λ (short : List ℕ). bytes_eq line.now short) (spec.short_spelling control.now) false }
+{
+    match *control {
+        Ctl::Announce {
+            ip: None,
+            port: Some(port),
+        } => {
+            let mut out = [0; 48];
+            let len = write_number(&mut out, b"announce ", port as u32);
+            line == &out[..len]
         }
+        _ => false,
     }
-    text.is_empty()
 }
 
-// Whether a text is a word and a number.
-fn is_number(text: &[u8], word: &'static [u8], n: u32) -> bool
-    ensures { result ≡ bytes_eq text.now (word.now ++ decimal n) }
+// Writes a word and a number.
+fn write_number(out: &mut [u8; 48], word: &'static [u8], n: u32) -> usize
+    requires { length word.now ≤ 11 }
+    ensures { Lays (word.now ++ decimal n) out.old out.new result }
 {
-    is_written(text, &[Piece::Text(word), Piece::Number(n)])
+    write(out, &[Piece::Text(word), Piece::Number(n)])
 }
 
-// Whether a text is a word, an address and a port.
-fn is_place(text: &[u8], word: &'static [u8], at: Addr) -> bool
-    ensures { result ≡ bytes_eq text.now (word.now ++ spec.place at) }
+// Writes a word, an address and a port.
+fn write_place(out: &mut [u8; 48], word: &'static [u8], ip: u32, port: u16) -> usize
+    requires { length word.now ≤ 11 }
+    ensures { Lays (word.now ++ spec.place (record { ip = ip; port = port })) out.old out.new result }
 {
-    is_written(
-        text,
+    write(
+        out,
         &[
             Piece::Text(word),
-            Piece::Number(at.ip / (1 << 24)),
+            Piece::Number(ip / (1 << 24)),
             Piece::Text(b"."),
-            Piece::Number(at.ip / (1 << 16) % 256),
+            Piece::Number(ip / (1 << 16) % 256),
             Piece::Text(b"."),
-            Piece::Number(at.ip / (1 << 8) % 256),
+            Piece::Number(ip / (1 << 8) % 256),
             Piece::Text(b"."),
-            Piece::Number(at.ip % 256),
+            Piece::Number(ip % 256),
             Piece::Text(b"!"),
-            Piece::Number(at.port as u32),
-        ],
-    )
-}
-
-// Whether a text is a word, an address and two ports.
-fn is_place_with_port(text: &[u8], word: &'static [u8], at: Addr, port: u16) -> bool
-    ensures { result ≡ bytes_eq text.now (word.now ++ spec.place at ++ codes " " ++ decimal port) }
-{
-    is_written(
-        text,
-        &[
-            Piece::Text(word),
-            Piece::Number(at.ip / (1 << 24)),
-            Piece::Text(b"."),
-            Piece::Number(at.ip / (1 << 16) % 256),
-            Piece::Text(b"."),
-            Piece::Number(at.ip / (1 << 8) % 256),
-            Piece::Text(b"."),
-            Piece::Number(at.ip % 256),
-            Piece::Text(b"!"),
-            Piece::Number(at.port as u32),
-            Piece::Text(b" "),
             Piece::Number(port as u32),
         ],
     )
 }
 
-/// Whether a line is the one that a control is written as, or its short form.
-pub fn is_spelled(line: &[u8], control: Ctl) -> bool
-    ensures { result ≡ (bytes_eq line.now (spec.spelling control) || option_map_or (λ (short : List ℕ). bytes_eq line.now short) (spec.short_spelling control) false) }
+// Writes a word, an address and two ports.
+fn write_place_with_port(
+    out: &mut [u8; 48],
+    word: &'static [u8],
+    ip: u32,
+    port: u16,
+    last: u16,
+) -> usize
+    requires { length word.now ≤ 11 }
+    ensures { Lays (word.now ++ spec.place (record { ip = ip; port = port }) ++ codes " " ++ decimal last) out.old out.new result }
 {
-    match control {
-        Ctl::Connect {
-            remote,
-            lport: None,
-        } => is_place(line, b"connect ", remote),
-        Ctl::Connect {
-            remote,
-            lport: Some(port),
-        } => is_place_with_port(line, b"connect ", remote, port),
-        Ctl::Announce {
-            ip: None,
-            port: Some(port),
-        } => {
-            is_number(line, b"announce *!", port as u32)
-                || is_number(line, b"announce ", port as u32)
-        }
-        Ctl::Announce {
-            ip: Some(ip),
-            port: Some(port),
-        } => is_place(line, b"announce ", Addr { ip, port }),
-        Ctl::Announce { port: None, .. } => line == b"announce *".as_slice(),
-        Ctl::Bind { port } => is_number(line, b"bind ", port as u32),
-        Ctl::Hangup => line == b"hangup".as_slice(),
-        Ctl::Ttl { n } => is_number(line, b"ttl ", n as u32),
-        Ctl::Tos { n } => is_number(line, b"tos ", n as u32),
+    write(
+        out,
+        &[
+            Piece::Text(word),
+            Piece::Number(ip / (1 << 24)),
+            Piece::Text(b"."),
+            Piece::Number(ip / (1 << 16) % 256),
+            Piece::Text(b"."),
+            Piece::Number(ip / (1 << 8) % 256),
+            Piece::Text(b"."),
+            Piece::Number(ip % 256),
+            Piece::Text(b"!"),
+            Piece::Number(port as u32),
+            Piece::Text(b" "),
+            Piece::Number(last as u32),
+        ],
+    )
+}
+
+// Writes pieces in a row from the start, and gives their length.
+fn write(out: &mut [u8; 48], pieces: &[Piece]) -> usize
+    requires { length (written pieces.now) ≤ 48 }
+    ensures { Lays (written pieces.now) out.old out.new result }
+{
+    let mut at = 0;
+    for piece in pieces {
+        at = put_piece(out, at, piece);
     }
+    at
+}
+
+// Writes a piece at a place, and gives the place behind it.
+fn put_piece(out: &mut [u8; 48], at: usize, piece: &Piece) -> usize
+    requires { at + length (piece_text piece.now) ≤ 48 }
+    ensures end { result ≡ at + length (piece_text piece.now) }
+    ensures text { out.new ≡ take at out.old ++ (piece_text piece.now ++ drop result out.old) }
+{
+    match piece {
+        Piece::Text(text) => put(out, at, text),
+        Piece::Number(n) => {
+            let mut buffer = Buffer::new();
+            put(out, at, buffer.format(*n).as_bytes())
+        }
+    }
+}
+
+// Writes a text at a place, and gives the place behind it.
+fn put(out: &mut [u8; 48], at: usize, text: &[u8]) -> usize
+    requires { at + length text.now ≤ 48 }
+    ensures end { result ≡ at + length text.now }
+    ensures text { out.new ≡ take at out.old ++ (text.now ++ drop result out.old) }
+{
+    let end = at + text.len();
+    out[at..end].copy_from_slice(text);
+    end
 }

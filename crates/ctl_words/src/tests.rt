@@ -1,5 +1,8 @@
 //! Texts that are controls, and texts that are none.
-use crate::{CtlError, read_ctl};
+ghost use Rattle.std.specs.Prelude.{◌≡◌, true};
+ghost use Rattle.net_base.specs.ControlWords.{in_range};
+
+use crate::{CtlError, read_ctl, write_ctl};
 use net_base::{Addr, Ctl};
 use std::test::*;
 
@@ -100,4 +103,68 @@ fn other_texts_are_refused(rt: HostRuntime) -> Result<(), Fail> {
     assert_eq!(rt; CtlError::BadWord.number(), 1);
     assert_eq!(rt; CtlError::BadArgument.number(), 2);
     Ok(())
+}
+
+// Whether what is written of a control reads so.
+fn is_read_back(control: Ctl) -> bool
+    requires { in_range control ≡ true }
+{
+    let mut out = [b'!'; 48];
+    let len = write_ctl(&control, &mut out);
+    read_ctl(&out[..len]) == Ok(control)
+}
+
+#[test]
+fn written_controls_are_read_back(rt: HostRuntime) {
+    assert!(rt;
+        is_read_back(Ctl::Connect {
+            remote: HELIX,
+            lport: None
+        })
+    );
+    assert!(rt;
+        is_read_back(Ctl::Connect {
+            remote: HELIX,
+            lport: Some(7)
+        })
+    );
+    assert!(rt;
+        is_read_back(Ctl::Announce {
+            ip: None,
+            port: None
+        })
+    );
+    assert!(rt;
+        is_read_back(Ctl::Announce {
+            ip: None,
+            port: Some(17008)
+        })
+    );
+    assert!(rt;
+        is_read_back(Ctl::Announce {
+            ip: Some(HELIX.ip),
+            port: Some(1)
+        })
+    );
+    assert!(rt; is_read_back(Ctl::Bind { port: 65535 }));
+    assert!(rt; is_read_back(Ctl::Hangup));
+    assert!(rt; is_read_back(Ctl::Ttl { n: 255 }));
+    assert!(rt; is_read_back(Ctl::Tos { n: 0 }));
+}
+
+#[test]
+fn the_longest_text_fits(rt: HostRuntime) {
+    let control = Ctl::Connect {
+        remote: Addr {
+            ip: 0xffff_ffff,
+            port: 65535,
+        },
+        lport: Some(65535),
+    };
+    let mut out = [b'!'; 48];
+    let len = write_ctl(&control, &mut out);
+    assert_eq!(rt;
+        &out[..len],
+        b"connect 255.255.255.255!65535 65535".as_slice()
+    );
 }
