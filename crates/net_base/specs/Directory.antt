@@ -1,5 +1,5 @@
 -- The steps of the directory of a host and protocol.
-use Rattle.std.specs.Prelude.{ℕ, zero, suc, ◌+◌, ◌-◌, ◌==◌, Bool, true, false, not, ◌&&◌, List, [], ◌∷◌, ◌++◌, length, Option, Some, None, is_none, unwrap_or, slice_get, slice_set, nat_lt, min, if◌then◌else◌}
+use Rattle.std.specs.Prelude.{ℕ, zero, suc, ◌+◌, ◌-◌, ◌==◌, Bool, true, false, not, ◌&&◌, List, [], ◌∷◌, ◌++◌, length, Option, Some, None, is_none, unwrap_or, slice_get, slice_set, nat_eq, nat_lt, min, if◌then◌else◌}
 use Rattle.std.specs.List.{list_any}
 use Rattle.std.specs.Option.{option_map_or, option_and_then}
 use Rattle.net_base.specs.declared.actor.Call.{Call}
@@ -53,7 +53,7 @@ pub record Dir : Type 0 where
   pub slots : List Slot
   -- every pair that was ever granted or born here, in order
   pub pairs : List Pair
-  -- every port that was ever drawn, bound, announced or named
+  -- every port that was ever drawn, bound, announced or named, each once, in order
   pub ports : List ℕ
   -- how many starts were given out
   pub starts : ℕ
@@ -156,7 +156,11 @@ limit_of proto.Udp mtu = min 8192 (mtu - 28)
 -- the least port from here on that isn't used, among so many
 abbrev pub drawn_port : ℕ → ℕ → List ℕ → Option ℕ
 drawn_port zero port used = None
-drawn_port (suc n) port used = if list_any (λ (p : ℕ). p == port) used then drawn_port n (port + 1) used else Some port
+drawn_port (suc n) port used = if list_any (nat_eq port) used then drawn_port n (port + 1) used else Some port
+
+-- the ports that are used, with one more
+abbrev pub with_port : ℕ → List ℕ → List ℕ
+with_port port used = if list_any (nat_eq port) used then used else used ++ port ∷ []
 
 -- the port that was named, or the bound one, or a drawn one, from 5000 to 65535
 abbrev pub port_for : Option ℕ → Option ℕ → Dir → Option ℕ
@@ -179,7 +183,7 @@ grants_pair None at n s pair mtu d =
     (record d {
       slots = slice_set d.slots n (record s { kind = name.Granted; pair = Some pair });
       pairs = d.pairs ++ pair ∷ [];
-      ports = pair.local.port ∷ d.ports;
+      ports = with_port pair.local.port d.ports;
       starts = starts_after at.proto d.starts;
     })
 
@@ -220,7 +224,7 @@ gets None n new ports d = dir_leaves reply.Ok None (record d { slots = slice_set
 
 abbrev pub ports_with : Option ℕ → List ℕ → List ℕ
 ports_with None ports = ports
-ports_with (Some port) ports = port ∷ ports
+ports_with (Some port) ports = with_port port ports
 
 -- a Reserved slot becomes Announced
 abbrev pub announces : ℕ → Option ℕ → Option ℕ → Dir → Slot → Step Dir
@@ -234,7 +238,7 @@ announces n ip port d s =
 abbrev pub binds : ℕ → ℕ → Dir → Slot → Step Dir
 binds n port d s =
     if is_reserved s.kind
-    then gets (first_slot (is_bound port) 0 d.slots) n (record s { bound = Some port }) (port ∷ d.ports) d
+    then gets (first_slot (is_bound port) 0 d.slots) n (record s { bound = Some port }) (with_port port d.ports) d
     else dir_answers (reply.WrongState s.kind) d
 
 -- Listen: the oldest call of an Announced slot, once there is one; nofile where the slot is Free.

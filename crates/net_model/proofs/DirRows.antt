@@ -25,7 +25,7 @@ use Rattle.net_base.specs.Mirror.{mirror}
 use Rattle.net_base.specs.declared.world.World.{World}
 use Rattle.net_base.specs.Routes.{Way, way, has_address}
 use Rattle.net_base.specs.ActorStep.{Step}
-use Rattle.net_base.specs.Directory.{Key, is_keyed, is_bound, gets, ports_with, announces, binds, withdraws, next_call, listens_at, listens, Slot, Dir, free_slot, is_free, is_reserved, is_announced, Taker, taker_of, home_at, first_slot, pair_place, in_found_slot, reserves, grants_pair, grants_by, port_for, grants, frees, refused_or_dropped, bears, born_or_not, arrives_at, is_live_with, is_of, dir_step}
+use Rattle.net_base.specs.Directory.{Key, is_keyed, is_bound, gets, ports_with, announces, binds, withdraws, next_call, listens_at, listens, Slot, Dir, free_slot, is_free, is_reserved, is_announced, Taker, taker_of, home_at, with_port, first_slot, pair_place, in_found_slot, reserves, grants_pair, grants_by, port_for, grants, frees, refused_or_dropped, bears, born_or_not, arrives_at, is_live_with, is_of, dir_step}
 use Rattle.net_base.specs.Duties.{close_calls, follow_up}
 use Rattle.net_model.proofs.Trace.{Owner, Trace, dir_trace, HasPlaces}
 use Rattle.net_model.proofs.Deeds.{both_ways}
@@ -185,7 +185,7 @@ module _ (w : World) (world : HasPlaces w) (k h stamp : ℕ) (t : Trace) (owned 
   bind_after n g port (Some s) d is f =
       after_if (event.Bind n g port) gift (s.generation == g) _ _
       (λ _. after_if (event.Bind n g port) gift (is_reserved s.kind) _ _
-      (λ _. gets_after (event.Bind n g port) (first_slot (is_bound port) 0 d.slots) n (record s { bound = Some port }) (port ∷ d.ports) d f (f.slots_fine n s is) (bind_quiet n g port))
+      (λ _. gets_after (event.Bind n g port) (first_slot (is_bound port) 0 d.slots) n (record s { bound = Some port }) (with_port port d.ports) d f (f.slots_fine n s is) (bind_quiet n g port))
       (λ _. dir_keeps w k h stamp (event.Bind n g port) gift t _ owned addressed f tt tt))
       (λ _. dir_keeps w k h stamp (event.Bind n g port) gift t _ owned addressed f tt tt)
 

@@ -32,7 +32,7 @@ use Rattle.net_base.specs.Same.{same_addr}
 use Rattle.net_base.specs.declared.il.StateName.{StateName}
 use Rattle.net_base.specs.declared.il.StateName.TheVariants as name
 use Rattle.net_base.specs.Directory.{is_keyed, is_bound, gets, ports_with, announces, binds, withdraws, next_call, listens_at, Slot, Dir, is_reserved, first_slot, pair_place, in_found_slot, reserves, grants_pair, grants_by, port_for, grants, frees, refused_or_dropped, born_or_not, arrives_at, is_of, dir_step}
-use Rattle.net_base.specs.Directory.{Taker, home_at, listens as dir_listens}
+use Rattle.net_base.specs.Directory.{Taker, home_at, with_port, listens as dir_listens}
 use Rattle.net_base.specs.Duties.{close_calls, follow_up}
 use Rattle.net_model.proofs.Trace.{Trace}
 use Rattle.net_model.proofs.Touch.{Emitted, EmittedAs, EmittedIf, Later as Growing, emitted_later}
@@ -228,7 +228,7 @@ module _ (w : World) (h : ℕ) (p : Proto) where
       (λ s. dir_if (is_reserved s.kind) _ _ (gets_harmless (first_slot (is_keyed (record { ip = ip; port = port })) 0 d.slots) n (record s { kind = name.Announced; key = Some (record { ip = ip; port = port }) }) (ports_with port d.ports) d) (record { emits = tt }))
   dir_harmless (event.Bind n g port) gift d =
       in_slot_harmless (slice_get d.slots n) g d (binds n port d)
-      (λ s. dir_if (is_reserved s.kind) _ _ (gets_harmless (first_slot (is_bound port) 0 d.slots) n (record s { bound = Some port }) (port ∷ d.ports) d) (record { emits = tt }))
+      (λ s. dir_if (is_reserved s.kind) _ _ (gets_harmless (first_slot (is_bound port) 0 d.slots) n (record s { bound = Some port }) (with_port port d.ports) d) (record { emits = tt }))
   dir_harmless (event.Listen n) gift d = listens_harmless (slice_get d.slots n) n d
   dir_harmless (event.Withdraw n g) gift d = in_slot_harmless (slice_get d.slots n) g d (withdraws n d) (λ s. record { emits = tt })
   dir_harmless (event.Release n g) gift d = in_slot_harmless (slice_get d.slots n) g d (frees n d) (λ s. record { emits = tt })

@@ -21,7 +21,7 @@ use Rattle.net_base.specs.declared.packet.Packet.{Packet}
 use Rattle.net_base.specs.declared.world.World.{World}
 use Rattle.net_base.specs.ActorStep.{Step}
 use Rattle.net_base.specs.Conversation.{is_sync}
-use Rattle.net_base.specs.Directory.{Key, is_keyed, is_bound, gets, ports_with, announces, binds, withdraws, next_call, listens_at, listens, Slot, Dir, free_slot, is_free, is_reserved, is_announced, Taker, taker_of, home_at, first_slot, pair_place, in_found_slot, reserves, grants_pair, grants_by, port_for, grants, frees, refused_or_dropped, bears, born_or_not, arrives_at, is_live_with, is_of, pair_of, dir_step}
+use Rattle.net_base.specs.Directory.{Key, is_keyed, is_bound, gets, ports_with, announces, binds, withdraws, next_call, listens_at, listens, Slot, Dir, free_slot, is_free, is_reserved, is_announced, Taker, taker_of, home_at, with_port, first_slot, pair_place, in_found_slot, reserves, grants_pair, grants_by, port_for, grants, frees, refused_or_dropped, bears, born_or_not, arrives_at, is_live_with, is_of, pair_of, dir_step}
 use Rattle.net_base.specs.Duties.{close_calls, follow_up}
 use Rattle.net_base.specs.Routes.{Way, way, has_address}
 use Rattle.net_base.specs.Same.{same_addr}
@@ -205,7 +205,7 @@ module _ (w : World) (world : HasPlaces w) (K : Given → Type 0) (W : Pair → 
   bind_after n g port (Some s) d is f =
       after_if (event.Bind n g port) gift (s.generation == g) _ _
       (λ _. after_if (event.Bind n g port) gift (is_reserved s.kind) _ _
-      (λ _. bind_gets (first_slot (is_bound port) 0 d.slots) n g port (record s { bound = Some port }) (port ∷ d.ports) d f (f n s is))
+      (λ _. bind_gets (first_slot (is_bound port) 0 d.slots) n g port (record s { bound = Some port }) (with_port port d.ports) d f (f n s is))
       (λ _. record { fine = f; new = tt; sent = tt; follow = tt }))
       (λ _. record { fine = f; new = tt; sent = tt; follow = tt })
 
