@@ -1,24 +1,12 @@
 -- What is kept of a world for the ways from one of its hosts.
-use Rattle.std.specs.Prelude.{◌≡◌, ℕ, ◌==◌, ◌&&◌, Bool, List, Option, Some, None, map, find, position, slice_get, unwrap_or}
-use Rattle.std.specs.List.{list_any}
+use Rattle.std.specs.Prelude.{◌≡◌, ℕ, ◌==◌, ◌&&◌, Bool, List, Option, Some, None, find, slice_get, unwrap_or}
+use Rattle.std.specs.List.{list_any, position_from}
 use Rattle.std.specs.Option.{option_map, option_and_then}
 use Rattle.net_base.specs.declared.world.HostSpec.{HostSpec}
 use Rattle.net_base.specs.declared.world.Iface.{Iface}
 use Rattle.net_base.specs.declared.world.World.{World}
 use Rattle.net_base.specs.Routes.{Route, Way, longest_match, mtu_of, way, has_address}
 use Rattle.ip_route.specs.declared.ways.Out.{Out}
-
--- the ways from a host to each address, and which addresses it has
-pub record HostWays : Type 0 where
-  pub way : ℕ → Option Way
-  pub has : ℕ → Bool
-
--- these are the ways from the h-th host of the world, and its addresses
-pub record AreWaysOf (w : World) (h : ℕ) (ways : HostWays) : Type 0 where
-  pub ways_are : (ip : ℕ) → ways.way ip ≡ way w h ip
-  pub own : (ip : ℕ) → ways.has ip ≡ has_address w h ip
-
--- What is kept.
 
 -- an interface with the mtu of its medium
 abbrev pub out_of : World → Iface → Out
@@ -30,7 +18,7 @@ stands_on medium ip ifaces = list_any (λ (i : Iface). (i.medium == medium) && (
 
 -- the first of the hosts with these interfaces that has the address on the medium
 abbrev pub station_among : List (List Iface) → ℕ → ℕ → Option ℕ
-station_among hosts medium ip = position (stands_on medium ip) hosts
+station_among hosts medium ip = position_from (stands_on medium ip) 0 hosts
 
 -- out by this interface to the next address
 abbrev pub way_out : List (List Iface) → ℕ → Out → Way
@@ -52,6 +40,22 @@ way_kept None h outs routes hosts ip =
 abbrev pub has_out : ℕ → List Out → Bool
 has_out ip outs = list_any (λ (o : Out). o.ip == ip) outs
 
-abbrev pub ways_kept : ℕ → List Out → List Route → List (List Iface) → HostWays
-ways_kept h outs routes hosts =
-    record { way = λ ip. way_kept (own_out ip outs) h outs routes hosts ip; has = λ ip. has_out ip outs }
+-- the ways from a host, as they are kept
+pub record HostWays : Type 0 where
+  pub host : ℕ
+  pub outs : List Out
+  pub routes : List Route
+  -- the interfaces of each host
+  pub hosts : List (List Iface)
+
+-- the way to an address
+abbrev pub way_to : HostWays → ℕ → Option Way
+way_to k ip = way_kept (own_out ip k.outs) k.host k.outs k.routes k.hosts ip
+
+-- the address is one of the host's own
+abbrev pub is_own : HostWays → ℕ → Bool
+is_own k ip = has_out ip k.outs
+
+-- these are the ways from the h-th host of the world, and its addresses
+unfoldable pub AreWaysOf : World → ℕ → HostWays → Type 0
+AreWaysOf w h k = (ip : ℕ) → (way_to k ip ≡ way w h ip) × (is_own k ip ≡ has_address w h ip)

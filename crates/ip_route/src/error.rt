@@ -1,5 +1,4 @@
 //! Why a route isn't added.
-use std::alloc::AllocError;
 
 /// Why a route isn't added.
 #[derive(Clone, Copy, Debug, PartialEq, Eq)]
@@ -10,14 +9,4 @@ pub enum RouteError {
     Twice(u32),
     /// There was no memory.
     Memory,
-}
-
-impl From<AllocError> for RouteError {
-    ghost use Rattle.ip_route.specs.declared.error.RouteError.{RouteError};
-
-    ghost from_gives = { λ _ e. e ≡ RouteError.Memory };
-
-    fn from(_: AllocError) -> RouteError {
-        RouteError::Memory
-    }
 }

@@ -1,5 +1,5 @@
 //! Routes, and the search for the one that an address takes.
-ghost use Rattle.std.specs.Prelude.{◌≡◌, ◌+◌, ◌<◌, ◌≤◌, ◌^◌, ◌++◌, ◌∷◌, [], length, map, IfOk, OnOk, OnErr};
+ghost use Rattle.std.specs.Prelude.{◌≡◌, ◌+◌, ◌<◌, ◌≤◌, ◌^◌, ◌++◌, ◌∷◌, [], length, IfOk, IfSome, OnOk, OnErr};
 ghost use Rattle.std.specs.List.{position_from};
 ghost use Rattle.std.specs.Option.{option_map};
 ghost use Rattle.net_base.specs.Routes as spec;
@@ -76,6 +76,7 @@ fn better(best: Option<Route>, route: Route) -> Option<Route>
 }
 
 /// The route with the longest mask that matches, the first of those.
+#[tactic(auto, using(crate::proofs::Longest::next_matches, crate::proofs::Longest::next_not))]
 fn longest_match(routes: &[Route], ip: u32) -> Option<Route>
     ensures { result ≡ spec.longest_match ip routes.now }
 {
@@ -88,9 +89,17 @@ fn longest_match(routes: &[Route], ip: u32) -> Option<Route>
     best
 }
 
+/// Whether the ones of the mask are its first bits, and the net has no bits outside it.
+fn is_network(net: u32, mask: u32) -> bool
+    ensures { result ≡ is_network net mask }
+{
+    is_mask(mask) && net & mask == net
+}
+
 /// Where the first route to this network stands.
 fn place_of(routes: &[Route], net: u32, mask: u32) -> Option<usize>
-    ensures { result ≡ position_from (same_network (route_by net mask (record { iface = 0; next = None }))) 0 routes.now }
+    ensures within { IfSome result (λ n. n < length routes.now) }
+    ensures value { result ≡ position_from (same_network (route_by net mask (record { iface = 0; next = None }))) 0 routes.now }
 {
     routes.iter().position(|route| route.is_to(net, mask))
 }
@@ -166,24 +175,37 @@ impl Routes {
     }
 
     /// Adds a route to a network, unless the network is none or has a route already.
+    #[tactic(auto, using(crate::proofs::Refusals::twice, crate::proofs::Refusals::none))]
     pub fn add(&mut self, net: u32, mask: u32, hop: Hop) -> Result<(), RouteError>
         requires few { length self.old < 2 ^ 32 }
         ensures refused { Answers (refusal (route_by net mask hop) self.old) result }
         ensures ok { OnOk result (self.new ≡ self.old ++ route_by net mask hop ∷ []) }
         ensures err { OnErr result (self.new ≡ self.old) }
     {
-        if !is_mask(mask) || net & mask != net {
+        if !is_network(net, mask) {
             return Err(RouteError::BadMask);
         }
         if let Some(place) = place_of(&self.routes, net, mask) {
             return Err(RouteError::Twice(place as u32));
         }
-        self.routes.push(Route {
+        let added = self.push(Route {
             net,
             mask,
             iface: hop.iface,
             next: hop.next,
-        })?;
+        });
+        match added {
+            Ok(()) => Ok(()),
+            Err(_) => Err(RouteError::Memory),
+        }
+    }
+
+    /// Adds a route.
+    fn push(&mut self, route: Route) -> Result<(), AllocError>
+        ensures ok { OnOk result (self.new ≡ self.old ++ route ∷ []) }
+        ensures err { OnErr result (self.new ≡ self.old) }
+    {
+        self.routes.push(route)?;
         Ok(())
     }
 

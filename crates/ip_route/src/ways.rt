@@ -1,10 +1,10 @@
 //! The ways of a host's packets.
-ghost use Rattle.std.specs.Prelude.{◌≡◌, ◌<◌, ◌≤◌, ◌^◌, find, length, map, slice_get, IfOk, Some};
+ghost use Rattle.std.specs.Prelude.{◌≡◌, ◌<◌, ◌≤◌, ◌^◌, find, length, map, slice_get, IfOk, IfSome};
 ghost use Rattle.std.specs.Option.{option_map};
 ghost use Rattle.net_base.specs.declared.world.HostSpec.{HostSpec as AnyHost};
 ghost use Rattle.net_base.specs.Routes as spec;
 ghost use Rattle.net_base.specs.World.{IsWorld};
-ghost use Rattle.ip_route.specs.Kept.{AreWaysOf, has_out, out_of, own_out, station_among, stands_on, way_home, way_out};
+ghost use Rattle.ip_route.specs.Kept.{AreWaysOf, is_own, out_of, own_out, station_among, stands_on, way_to};
 
 use crate::routes::Routes;
 use net_base::{Iface, Ifaces, World};
@@ -50,11 +50,11 @@ pub struct Ways {
 
 impl Model for Ways {
     ghost use Rattle.std.specs.Prelude.{◌≤◌, length};
-    ghost use Rattle.ip_route.specs.Kept.{HostWays, ways_kept};
+    ghost use Rattle.ip_route.specs.Kept.{HostWays};
 
     ghost Value = { HostWays };
 
-    ghost view = { λ w. ways_kept w.host w.outs.items w.routes w.hosts.items };
+    ghost view = { λ w. record { host = w.host; outs = w.outs.items; routes = w.routes; hosts = w.hosts.items } };
 
     ghost invariant = { λ w. length w.hosts.items ≤ 8 };
 }
@@ -107,16 +107,31 @@ fn stands_on(ifaces: &Ifaces, medium: u32, ip: u32) -> bool
 fn own_out(outs: &[Out], ip: u32) -> Option<Out>
     ensures { result ≡ own_out ip outs.now }
 {
-    outs.iter().find(|out| out.ip == ip).copied()
+    for out in outs {
+        if out.ip == ip {
+            return Some(*out);
+        }
+    }
+    None
 }
 
 /// The first of the hosts with these interfaces that has the address on the medium.
+fn place_of(hosts: &[Ifaces], medium: u32, ip: u32) -> Option<usize>
+    ensures value { result ≡ station_among hosts.now medium ip }
+    ensures within { IfSome result (λ host. host < length hosts.now) }
+{
+    hosts.iter().position(|ifaces| stands_on(ifaces, medium, ip))
+}
+
+/// The number of that host.
 fn station(hosts: &[Ifaces], medium: u32, ip: u32) -> Option<u32>
     requires { length hosts.now ≤ 8 }
     ensures { result ≡ station_among hosts.now medium ip }
 {
-    let host = hosts.iter().position(|ifaces| stands_on(ifaces, medium, ip))?;
-    Some(host as u32)
+    match place_of(hosts, medium, ip) {
+        Some(host) => Some(host as u32),
+        None => None,
+    }
 }
 
 impl Ways {
@@ -137,7 +152,7 @@ impl Ways {
 
     /// The way to an address. One of the host's own goes to itself, over that address's medium.
     pub fn to(&self, ip: u32) -> Option<Way>
-        ensures { result ≡ self.now.way ip }
+        ensures { result ≡ way_to self.now ip }
     {
         if let Some(own) = own_out(&self.outs, ip) {
             return Some(Way {
@@ -159,7 +174,7 @@ impl Ways {
 
     /// Whether the host has the address.
     pub fn has(&self, ip: u32) -> bool
-        ensures { result ≡ self.now.has ip }
+        ensures { result ≡ is_own self.now ip }
     {
         self.outs.iter().any(|out| out.ip == ip)
     }
