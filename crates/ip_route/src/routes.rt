@@ -104,17 +104,19 @@ fn place_of(routes: &[Route], net: u32, mask: u32) -> Option<usize>
     routes.iter().position(|route| route.is_to(net, mask))
 }
 
-/// The networks of interfaces.
+/// The networks of interfaces. More interfaces than numbers of them count as want of memory.
 fn networks_of(alloc: Global, ifaces: &[Iface]) -> Result<Vec<Route>, AllocError>
-    requires { length ifaces.now ≤ 4 }
     ensures { IfOk result (λ routes. routes.items ≡ spec.iface_routes 0 ifaces.now) }
 {
     let mut routes = Vec::new(alloc);
     for (n, iface) in ifaces.iter().enumerate() {
+        let Ok(number) = u32::try_from(n) else {
+            return Err(AllocError);
+        };
         routes.push(Route {
             net: iface.ip & iface.mask,
             mask: iface.mask,
-            iface: n as u32,
+            iface: number,
             next: None,
         })?;
     }
@@ -161,7 +163,6 @@ impl Routes {
 
     /// All routes of a host: its interfaces' networks, and then its route lines.
     pub fn of_host(alloc: Global, host: &HostSpec) -> Result<Routes, AllocError>
-        requires { length host.now.ifaces ≤ 4 }
         ensures { IfOk result (λ r. r ≡ spec.host_routes host.now) }
     {
         let networks = networks_of(alloc, host.ifaces.as_slice())?;

@@ -3,7 +3,6 @@ ghost use Rattle.std.specs.Prelude.{◌≡◌, ◌<◌, ◌≤◌, ◌^◌, find
 ghost use Rattle.std.specs.Option.{option_map};
 ghost use Rattle.net_base.specs.declared.world.HostSpec.{HostSpec as AnyHost};
 ghost use Rattle.net_base.specs.Routes as spec;
-ghost use Rattle.net_base.specs.World.{IsWorld};
 ghost use Rattle.ip_route.specs.Kept.{AreWaysOf, is_own, out_of, own_out, station_among, stands_on, way_to};
 
 use crate::routes::Routes;
@@ -49,14 +48,14 @@ pub struct Ways {
 }
 
 impl Model for Ways {
-    ghost use Rattle.std.specs.Prelude.{◌≤◌, length};
+    ghost use Rattle.std.specs.Prelude.{◌<◌, ◌^◌, length};
     ghost use Rattle.ip_route.specs.Kept.{HostWays};
 
     ghost Value = { HostWays };
 
     ghost view = { λ w. record { host = w.host; outs = w.outs.items; routes = w.routes; hosts = w.hosts.items } };
 
-    ghost invariant = { λ w. length w.hosts.items ≤ 8 };
+    ghost invariant = { λ w. length w.hosts.items < 2 ^ 32 };
 }
 
 /// The mtu of a medium, by its number.
@@ -84,14 +83,18 @@ fn outs_of(alloc: Global, world: &World, ifaces: &[Iface]) -> Result<Vec<Out>, A
     Ok(outs)
 }
 
-/// The interfaces of each host.
+/// The interfaces of each host. More hosts than numbers of them count as want of memory.
 fn ifaces_of(alloc: Global, world: &World) -> Result<Vec<Ifaces>, AllocError>
-    ensures { IfOk result (λ hosts. hosts.items ≡ map (λ (h : AnyHost). h.ifaces) world.now.hosts) }
+    ensures few { IfOk result (λ hosts. length hosts.items < 2 ^ 32) }
+    ensures value { IfOk result (λ hosts. hosts.items ≡ map (λ (h : AnyHost). h.ifaces) world.now.hosts) }
 {
     let mut hosts = Vec::new(alloc);
     for host in world.hosts.as_slice() {
         let ifaces = host.ifaces.clone()?;
         hosts.push(ifaces)?;
+    }
+    if u32::try_from(hosts.len()).is_err() {
+        return Err(AllocError);
     }
     Ok(hosts)
 }
@@ -125,7 +128,7 @@ fn place_of(hosts: &[Ifaces], medium: u32, ip: u32) -> Option<usize>
 
 /// The number of that host.
 fn station(hosts: &[Ifaces], medium: u32, ip: u32) -> Option<u32>
-    requires { length hosts.now ≤ 8 }
+    requires { length hosts.now < 2 ^ 32 }
     ensures { result ≡ station_among hosts.now medium ip }
 {
     match place_of(hosts, medium, ip) {
@@ -137,8 +140,7 @@ fn station(hosts: &[Ifaces], medium: u32, ip: u32) -> Option<u32>
 impl Ways {
     /// The ways from a host of the world.
     pub fn new(alloc: Global, world: &World, host: u32) -> Result<Ways, AllocError>
-        requires world { IsWorld world.now }
-        requires host { host < length world.now.hosts }
+        requires { host < length world.now.hosts }
         ensures { IfOk result (AreWaysOf world.now host) }
     {
         let spec = &world.hosts.as_slice()[host as usize];

@@ -8,5 +8,5 @@ returns c =
     let host = c.index-as_slice-host.result in
     let hosts = c.args.world.now.hosts in
     let at : slice_get hosts c.args.host ≡ Some host =
-    slice_get_read hosts _ c.args.host host refl c.requires.host (c.index-as_slice-host.is ∙ rw (c.as_slice.ensures) (refl)) in
+    slice_get_read hosts _ c.args.host host refl c.requires (c.index-as_slice-host.is ∙ rw (c.as_slice.ensures) (refl)) in
     are_ways c.args.world.now c.args.host host _ at (search rules)
