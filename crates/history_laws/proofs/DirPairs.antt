@@ -22,10 +22,11 @@ use Rattle.net_base.specs.declared.world.World.{World}
 use Rattle.net_base.specs.ActorStep.{Step, when}
 use Rattle.net_base.specs.Conversation.{is_sync}
 use Rattle.net_base.specs.Directory as directory
-use Rattle.net_base.specs.Directory.{Dir, Slot, Key, dir_step, pair_place, pair_of, in_slot, in_found_slot, first_slot, is_free, reserves, grants, grants_by, grants_pair, announces, binds, gets, listens, listens_at, next_call, withdraws, frees, bears, born_or_not, has_taker, refused_or_dropped, arrives_at, is_live_with, match_of, is_of, is_reserved, port_for}
+use Rattle.net_base.specs.Directory.{Dir, Slot, Key, dir_step, pair_place, pair_of, in_slot, in_found_slot, first_slot, is_free, reserves, grants, grants_by, grants_pair, announces, binds, gets, listens, listens_at, next_call, withdraws, frees, bears, born_or_not, Taker, taker_of, home_at, refused_or_dropped, arrives_at, is_live_with, match_of, is_of, is_reserved, port_for}
 use Rattle.net_base.specs.Routes.{Way, way}
 use Rattle.net_base.specs.Same.{same_addr, same_pair}
 use Rattle.net_base.specs.Stamped.{In}
+use Rattle.prefix_law.proofs.DirSteps.{taker_found}
 
 -- Membership.
 
@@ -105,12 +106,12 @@ in_slot_moves d with (Some s) g step each = by (s.generation == g)
     by true = each s
     by false = plain d with _ refl refl
 
-grants_pair_move : (w : World) (h : ℕ) (p : Proto) (n : ℕ) (s : Slot) (pair : Pair) (mtu : ℕ) (d : Dir) (with : With) (o : Option ℕ) → pair_place pair 1 d.pairs ≡ o → Moves d with (grants_pair o w h p n s pair mtu d)
+grants_pair_move : (w : World) (h : ℕ) (p : Proto) (n : ℕ) (s : Slot) (pair : Pair) (mtu : ℕ) (d : Dir) (with : With) (o : Option ℕ) → pair_place pair 1 d.pairs ≡ o → Moves d with (grants_pair o (home_at w h p) n s pair mtu d)
 grants_pair_move w h p n s pair mtu d with (Some k) is = plain d with _ refl refl
 grants_pair_move w h p n s pair mtu d with None is =
     record {
       grows = λ q there. in_more q d.pairs (pair ∷ []) there;
-      granted = λ other start limit same. subst (λ (q : Pair). IsNew q d (grants_pair None w h p n s pair mtu d).state) (pair_given same) (not_placed pair 1 d.pairs is, in_last pair d.pairs);
+      granted = λ other start limit same. subst (λ (q : Pair). IsNew q d (grants_pair None (home_at w h p) n s pair mtu d).state) (pair_given same) (not_placed pair 1 d.pairs is, in_last pair d.pairs);
       born = λ packet m g start limit given same. absurd (true≢false (ap is_grant same));
     }
   where
@@ -125,14 +126,14 @@ grants_pair_move w h p n s pair mtu d with None is =
     pair_given : {r : Reply} {other : Pair} {start limit : ℕ} → r ≡ reply.Granted other start limit → granted_pair r ≡ other
     pair_given same = ap granted_pair same
 
-grants_by_move : (w : World) (h : ℕ) (p : Proto) (n : ℕ) (s : Slot) (remote : Addr) (d : Dir) (with : With) (out : Option Way) (port : Option ℕ) → Moves d with (grants_by out port w h p n s remote d)
+grants_by_move : (w : World) (h : ℕ) (p : Proto) (n : ℕ) (s : Slot) (remote : Addr) (d : Dir) (with : With) (out : Option Way) (port : Option ℕ) → Moves d with (grants_by out port (home_at w h p) n s remote d)
 grants_by_move w h p n s remote d with None port = plain d with _ refl refl
 grants_by_move w h p n s remote d with (Some out) None = plain d with _ refl refl
 grants_by_move w h p n s remote d with (Some out) (Some port) =
     let pair : Pair = record { local = record { ip = out.source; port = port }; remote = remote } in
     either d with (same_addr pair.local remote) _ _ (plain d with _ refl refl) (grants_pair_move w h p n s pair out.mtu d with (pair_place pair 1 d.pairs) refl)
 
-grants_move : (w : World) (h : ℕ) (p : Proto) (n : ℕ) (remote : Addr) (port : Option ℕ) (d : Dir) (with : With) (s : Slot) → Moves d with (grants w h p n remote port d s)
+grants_move : (w : World) (h : ℕ) (p : Proto) (n : ℕ) (remote : Addr) (port : Option ℕ) (d : Dir) (with : With) (s : Slot) → Moves d with (grants (home_at w h p) n remote port d s)
 grants_move w h p n remote port d with s =
     either d with (is_reserved s.kind) _ _ (grants_by_move w h p n s remote d with (way w h remote.ip) (port_for port s.bound d)) (plain d with _ refl refl)
 
@@ -165,13 +166,13 @@ refused_moves : (b : Body) (packet : Packet) (d : Dir) (with : With) → Moves d
 refused_moves (body.Udp text) packet d with = plain d with _ refl refl
 refused_moves (body.Il m) packet d with = either d with (is_sync m.kind) _ _ (plain d with _ refl refl) (plain d with _ refl refl)
 
-bears_moves : (w : World) (h : ℕ) (p : Proto) (packet : Packet) (n : ℕ) (s : Slot) (at : ℕ) (listener : Slot) (d : Dir) → pair_place (pair_of packet) 1 d.pairs ≡ None → Moves d (given.Packet packet) (bears w h p (pair_of packet) n s at listener d)
-bears_moves w h p packet n s at listener d is =
+bears_moves : (w : World) (h : ℕ) (p : Proto) (packet : Packet) (t : Taker) (d : Dir) → pair_place (pair_of packet) 1 d.pairs ≡ None → Moves d (given.Packet packet) (bears (home_at w h p) (pair_of packet) t d)
+bears_moves w h p packet t d is =
     record {
       grows = λ q there. in_more q d.pairs (pair_of packet ∷ []) there;
       granted = λ other start limit same. absurd (true≢false (ap is_birth same));
       born = λ other m g start limit same_given same.
-          subst (λ (q : Packet). IsNew (pair_of q) d (bears w h p (pair_of packet) n s at listener d).state) (ap packet_in same_given) (not_placed (pair_of packet) 1 d.pairs is, in_last (pair_of packet) d.pairs);
+          subst (λ (q : Packet). IsNew (pair_of q) d (bears (home_at w h p) (pair_of packet) t d).state) (ap packet_in same_given) (not_placed (pair_of packet) 1 d.pairs is, in_last (pair_of packet) d.pairs);
     }
   where
     is_birth : Reply → Bool
@@ -182,23 +183,14 @@ bears_moves w h p packet n s at listener d is =
     packet_in (given.Packet q) = q
     packet_in _ = packet
 
-none_is : {A : Type 0} (o : Option A) → is_none o ≡ true → o ≡ None
-none_is None is = refl
-none_is (Some x) is = absurd (false≢true is)
+born_or_not_moves : (w : World) (h : ℕ) (p : Proto) (packet : Packet) (d : Dir) (taker : Option Taker) → taker_of (pair_of packet) packet d ≡ taker
+    → Moves d (given.Packet packet) (born_or_not taker (home_at w h p) (pair_of packet) packet d)
+born_or_not_moves w h p packet d None is = refused_moves packet.body packet d (given.Packet packet)
+born_or_not_moves w h p packet d (Some t) is = bears_moves w h p packet t d (taker_found (pair_of packet) packet d t is).unlisted
 
-born_or_not_moves : (w : World) (h : ℕ) (p : Proto) (packet : Packet) (d : Dir) (free listener : Option (ℕ × Slot)) → Moves d (given.Packet packet) (born_or_not free listener w h p (pair_of packet) packet d)
-born_or_not_moves w h p packet d None listener = refused_moves packet.body packet d (given.Packet packet)
-born_or_not_moves w h p packet d (Some free) None = refused_moves packet.body packet d (given.Packet packet)
-born_or_not_moves w h p packet d (Some free) (Some listener) = by (has_taker (pair_of packet) packet listener.1 d) refl
-  where
-    by : (b : Bool) → has_taker (pair_of packet) packet listener.1 d ≡ b
-        → Moves d (given.Packet packet) (if b then bears w h p (pair_of packet) free.0 free.1 listener.0 listener.1 d else refused_or_dropped packet.body packet d)
-    by false no_taker = refused_moves packet.body packet d (given.Packet packet)
-    by true taker = bears_moves w h p packet free.0 free.1 listener.0 listener.1 d (none_is (pair_place (pair_of packet) 1 d.pairs) ((and_parts _ _ taker).0))
-
-arrives_moves : (w : World) (h : ℕ) (p : Proto) (packet : Packet) (d : Dir) (o : Option (ℕ × Slot)) → Moves d (given.Packet packet) (arrives_at o w h p (pair_of packet) packet d)
+arrives_moves : (w : World) (h : ℕ) (p : Proto) (packet : Packet) (d : Dir) (o : Option (ℕ × Slot)) → Moves d (given.Packet packet) (arrives_at o (home_at w h p) (pair_of packet) packet d)
 arrives_moves w h p packet d (Some found) = plain d (given.Packet packet) _ refl refl
-arrives_moves w h p packet d None = born_or_not_moves w h p packet d (first_slot is_free 0 d.slots) (match_of packet.dst d.slots)
+arrives_moves w h p packet d None = born_or_not_moves w h p packet d _ refl
 
 when_moves : (d : Dir) (with : With) (b : Bool) (s : Step Dir) → Moves d with s → MovesIf d with (when b (Some s))
 when_moves d with true s moves = moves

@@ -1,5 +1,7 @@
-pub mod Kept
-pub mod OneWay
-pub mod Places
+pub mod Drawn
+pub mod Firsts
+pub mod Index
 pub mod Ready
-pub mod Steps
+pub mod Rows
+pub mod Sure
+pub mod Takers

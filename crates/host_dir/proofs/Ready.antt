@@ -8,11 +8,7 @@ use Rattle.net_base.specs.declared.history.With.TheVariants as given
 use Rattle.net_base.specs.declared.world.World.{World}
 use Rattle.net_base.specs.ActorStep.{Step, when}
 use Rattle.net_base.specs.Directory.{Dir, Slot, dir_step, in_found_slot, is_of, listens}
-use Rattle.host_dir.specs.declared.slots.Kind.{Kind}
-use Rattle.host_dir.specs.declared.slots.Kind.TheVariants as kind
-use Rattle.host_dir.specs.declared.slots.Slot.{Slot as BuiltSlot}
-use Rattle.host_dir.specs.Met.{is_ready}
-use Rattle.host_dir.specs.Slots.{slot_of}
+use Rattle.host_dir.specs.Ready.{is_ready}
 
 past_none : (n : ℕ) → nat_lt n 0 ≡ false
 past_none n = grind arith
@@ -83,14 +79,3 @@ ready_is w h p (event.Tick g) with d = refl
 ready_is w h p (event.Put t) with d = refl
 ready_is w h p event.Take with d = refl
 ready_is w h p (event.Move m) with d = refl
-
--- no slot that is built announces, so at each of them a listen has an answer
-pub listens_is : (n k : ℕ) (d : Dir) (ss : List BuiltSlot) → nat_lt n (length ss) ≡ is_some (listens (slice_get (map slot_of ss) n) k d)
-listens_is n k d [] = past_none n
-listens_is zero k d (s ∷ ss) = in_front (length ss) ∙ listens_at_one s.kind s.generation
-  where
-    listens_at_one : (kind : Kind) (g : ℕ) → true ≡ is_some (listens (Some (slot_of (record { generation = g; kind = kind }))) k d)
-    listens_at_one kind.Free g = refl
-    listens_at_one kind.Reserved g = refl
-    listens_at_one (kind.Granted pair) g = refl
-listens_is (suc n) k d (s ∷ ss) = both_more n (length ss) ∙ listens_is n k d ss

@@ -1,32 +1,44 @@
 -- A directory as it is built: what it keeps of the world, and what it is in the definitions.
-use Rattle.std.specs.Prelude.{◌≡◌, ℕ, Some}
+use Rattle.std.specs.Prelude.{◌≡◌, ℕ, Option, Some}
 use Rattle.net_base.specs.declared.address.Proto.{Proto}
 use Rattle.net_base.specs.declared.history.Outcome.{Outcome}
 use Rattle.net_base.specs.declared.history.Work.{Work}
 use Rattle.net_base.specs.declared.world.World.{World}
-use Rattle.net_base.specs.Directory.{Dir, dir_step}
-use Rattle.host_dir.specs.declared.routes.Ways.{Ways}
-pub use Rattle.host_dir.specs.Ways.{HasOneWay}
-use Rattle.host_dir.specs.Ways.{IsKeptOf}
+use Rattle.net_base.specs.ActorStep.{Step}
+use Rattle.net_base.specs.Directory.{Dir, Home, dir_step, home_at}
+use Rattle.ip_route.specs.Kept.{AreWaysOf, HostWays}
+use Rattle.host_dir.specs.declared.starts.Starts.{Starts}
+use Rattle.host_dir.specs.Starts.{AreStartsOf}
 
 -- a directory, with what it keeps of the world
 pub record HostDir : Type 0 where
   pub proto : Proto
-  pub ways : Ways
+  pub ways : HostWays
+  pub starts : Starts
   pub dir : Dir
 
 -- it is a directory of this host and protocol in the world
 pub record IsDirOf (w : World) (h : ℕ) (p : Proto) (d : HostDir) : Type 0 where
   pub proto_is : d.proto ≡ p
-  pub ways_are : IsKeptOf w h d.ways
+  pub ways_are : AreWaysOf w h d.ways
+  pub starts_are : AreStartsOf w h d.starts
 
 -- its protocol stays, and what it keeps of the world
 pub record Stays (old new : HostDir) : Type 0 where
   pub proto : new.proto ≡ old.proto
   pub ways : new.ways ≡ old.ways
+  pub starts : new.starts ≡ old.starts
+
+-- the step leaves this directory, with this outcome
+abbrev pub Leaves : HostDir → Outcome → Option (Step Dir) → Type 0
+Leaves new outcome step = step ≡ Some (record { state = new.dir; outcome = outcome })
+
+-- in each world and at each host of which it is a directory, the step there leaves this one, with this outcome
+abbrev pub Gives : HostDir → HostDir → Outcome → (Home → Option (Step Dir)) → Type 0
+Gives old new outcome step = (w : World) (h : ℕ) → IsDirOf w h old.proto old → Leaves new outcome (step (home_at w h old.proto))
 
 -- in each world and at each host of which it is a directory, it steps as the table says, and stays one
 abbrev pub Steps : HostDir → HostDir → Work → Outcome → Type 0
 Steps old new work outcome =
     (w : World) (h : ℕ) (p : Proto) → IsDirOf w h p old
-    → IsDirOf w h p new × (dir_step w h p work.event work.with old.dir ≡ Some (record { state = new.dir; outcome = outcome }))
+    → IsDirOf w h p new × Leaves new outcome (dir_step w h p work.event work.with old.dir)

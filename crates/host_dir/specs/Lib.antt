@@ -1,9 +1,11 @@
 pub mod Answers
-pub mod Granted
+pub mod Found
 pub mod Kept
-pub mod Met
-pub mod Slots
-pub mod Ways
+pub mod Ports
+pub mod Ready
+pub mod Starts
+pub mod Tables
+pub mod Taking
 pub use Rattle.net_base.specs.Actors
 pub use Rattle.net_base.specs.Directory
 pub use Rattle.net_base.specs.Routes

@@ -1,29 +1,41 @@
 //! A directory.
-ghost use Rattle.std.specs.Prelude.{◌≡◌, ◌<◌, ℕ, length, is_some, slice_get, None, Some, IfOk, OnErr, IsTrue};
+ghost use Rattle.std.specs.Prelude.{◌≡◌, ◌≢◌, ◌<◌, ℕ, length, is_some, slice_get, true, None, Some, IfOk, IfSome, OnErr, OnOk, IsTrue};
 ghost use Rattle.std.specs.Option.{option_map};
-ghost use Rattle.net_base.specs.declared.address.Proto.TheVariants as proto;
+ghost use Rattle.net_base.specs.declared.il.StateName.TheVariants as state_name;
+ghost use Rattle.net_base.specs.declared.reply.Reply.TheVariants as reply;
 ghost use Rattle.net_base.specs.declared.world.World.{World as AnyWorld};
+ghost use Rattle.net_base.specs.declared.names.Node.TheVariants as node;
 ghost use Rattle.net_base.specs.Actors.{opening_dir};
+ghost use Rattle.net_base.specs.ActorStep.{replies};
 ghost use Rattle.net_base.specs.Directory as spec;
-ghost use Rattle.net_base.specs.Directory.{dir_step};
+ghost use Rattle.net_base.specs.Directory.{Dir as AnyDir, dir_step, home_at};
+ghost use Rattle.net_base.specs.Paths.{names};
 ghost use Rattle.net_base.specs.Routes.{way};
-ghost use Rattle.host_dir.specs.Answers.{Leaves};
-ghost use Rattle.host_dir.specs.Granted.{chosen};
-ghost use Rattle.host_dir.specs.Kept.{IsDirOf, Stays, Steps};
-ghost use Rattle.host_dir.specs.Met.{is_met, is_ready, takes};
-ghost use Rattle.host_dir.specs.Slots.{reserved};
-ghost use Rattle.host_dir.specs.Ways.{HasOneWay, IsKeptOf, hop_of};
+ghost use Rattle.host_dir.specs.Found.{slot_at, taker_at};
+ghost use Rattle.host_dir.specs.Kept.{Gives, IsDirOf, Leaves, Stays, Steps};
+ghost use Rattle.host_dir.specs.Ports.{drawn};
+ghost use Rattle.host_dir.specs.Ready.{is_ready, takes};
+ghost use Rattle.host_dir.specs.Taking.{Takes, chosen, may_take};
 
-use crate::answer::Answer;
-use crate::granted::Granted;
-use crate::routes::{Hop, Ways, ways_of};
-use crate::slots::{Kind, Slot, Slots};
-use net_base::{Addr, Body, Event, Outcome, Packet, Pair, Proto, With, Work, World};
+use crate::answer::{Answer, outcome};
+use crate::names::names_of;
+use crate::ports::Ports;
+use crate::slot::Key;
+use crate::slots::{Slots, TakerAt};
+use crate::starts::Starts;
+use ip_route::{Way, Ways};
+use listen_queue::MOST_CALLS;
+use net_base::{
+    Addr, Body, Event, IlKind, IlMsg, Octets, Outcome, Packet, Pair, Proto, Reply, StateName, With, Work, World, mirror,
+};
 use std::alloc::{AllocError, Global};
 use std::marker::Model;
 
 /// The longest message that a directory allows, in bytes.
 const LONGEST_MESSAGE: u32 = 8192;
+
+/// How many bytes of a datagram the headers of IPv4 and IL take.
+const IL_HEADERS: u32 = 38;
 
 /// How many bytes of a datagram the headers of IPv4 and UDP take.
 const UDP_HEADERS: u32 = 28;
@@ -36,37 +48,39 @@ pub struct Dir {
     alloc: Global,
     proto: Proto,
     ways: Ways,
+    starts: Starts,
     slots: Slots,
-    granted: Granted,
+    ports: Ports,
 }
 
 impl Model for Dir {
-    ghost use Rattle.host_dir.specs.Granted.{ports_of};
     ghost use Rattle.host_dir.specs.Kept.{HostDir};
+    ghost use Rattle.host_dir.specs.Starts.{given_with};
 
     ghost Value = { HostDir };
 
-    // no start was given out: UDP has none
     ghost view = { λ d. record {
       proto = d.proto;
       ways = d.ways;
-      dir = record { slots = d.slots; pairs = d.granted; ports = ports_of d.granted; starts = 0 };
+      starts = d.starts;
+      dir = record { slots = d.slots.slots; pairs = d.slots.pairs; ports = d.ports.used; starts = given_with d.proto d.slots.pairs };
     } };
 }
 
 impl Dir {
-    /// A directory to which nothing has happened. For now the host has one interface, and no route lines.
+    /// A directory to which nothing has happened.
     pub fn new(alloc: Global, world: &World, host: u32, proto: Proto) -> Result<Dir, AllocError>
-        requires one_way { HasOneWay world.now host }
-        ensures of { IfOk result (λ d. IsDirOf world.now host proto d) }
+        requires { host < length world.now.hosts }
+        ensures of { IfOk result (IsDirOf world.now host proto) }
         ensures opening { IfOk result (λ d. d.dir ≡ opening_dir) }
     {
         Ok(Dir {
             alloc,
             proto,
-            ways: ways_of(world, host),
+            ways: Ways::new(alloc, world, host)?,
+            starts: Starts::new(world, host)?,
             slots: Slots::new(alloc)?,
-            granted: Granted::new(alloc),
+            ports: Ports::new(alloc),
         })
     }
 
@@ -88,7 +102,7 @@ impl Dir {
             Event::Grant { slot, .. } => self.slots.has(*slot),
             Event::Announce { slot, .. } => self.slots.has(*slot),
             Event::Bind { slot, .. } => self.slots.has(*slot),
-            Event::Listen { slot } => self.slots.has(*slot),
+            Event::Listen { slot } => self.slots.hears(*slot),
             Event::Withdraw { slot, .. } => self.slots.has(*slot),
             Event::Release { slot, .. } => self.slots.has(*slot),
             Event::Arrive => self.takes(with),
@@ -110,29 +124,24 @@ impl Dir {
         }
     }
 
-    /// The answer to a work, after which the directory is another. So far UDP has answers, to some events.
+    /// The answer to a work, after which the directory is another.
     pub fn step(&mut self, work: &Work) -> Result<Outcome, AllocError>
-        requires ready { IsTrue (is_ready self.old.proto work.now.event work.now.with self.old.dir) }
-        requires met { IsTrue (is_met work.now.event) }
-        requires udp { self.old.proto ≡ Proto.Udp }
-        ensures ok { IfOk result (λ outcome. Steps self.old self.new work.now outcome) }
+        requires { IsTrue (is_ready self.old.proto work.now.event work.now.with self.old.dir) }
+        ensures ok { IfOk result (Steps self.old self.new work.now) }
         ensures stays { Stays self.old self.new }
         ensures err { OnErr result (self.new ≡ self.old) }
     {
-        let answer = self.answer(work)?;
-        Ok(answer.outcome(self.alloc))
+        self.row(&work.event, &work.with)
     }
 
-    /// The answer to a work, which picks the group of rows.
-    fn answer(&mut self, work: &Work) -> Result<Answer, AllocError>
-        requires ready { IsTrue (is_ready self.old.proto work.now.event work.now.with self.old.dir) }
-        requires met { IsTrue (is_met work.now.event) }
-        requires udp { self.old.proto ≡ Proto.Udp }
-        ensures ok { IfOk result (λ given. (w : AnyWorld) (h : ℕ) → IsKeptOf w h self.old.ways → Leaves self.new given (dir_step w h Proto.Udp work.now.event work.now.with self.old.dir)) }
+    /// The answer of the event's row.
+    fn row(&mut self, event: &Event, with: &With) -> Result<Outcome, AllocError>
+        requires { IsTrue (is_ready self.old.proto event.now with.now self.old.dir) }
+        ensures ok { IfOk result (λ o. Gives self.old self.new o (λ at. dir_step at.world at.host at.proto event.now with.now self.old.dir)) }
         ensures stays { Stays self.old self.new }
         ensures err { OnErr result (self.new ≡ self.old) }
     {
-        match &work.event {
+        match event {
             Event::Reserve => self.reserve(),
             Event::Grant {
                 slot,
@@ -140,79 +149,47 @@ impl Dir {
                 remote,
                 lport,
             } => self.grant(*slot, *generation, *remote, *lport),
-            Event::Release { slot, generation } => Ok(self.release(*slot, *generation)),
-            Event::Arrive => match &work.with {
-                With::Packet(packet) => Ok(self.arrive(packet)),
+            Event::Announce {
+                slot,
+                generation,
+                ip,
+                port,
+            } => self.announce(*slot, *generation, *ip, *port),
+            Event::Bind {
+                slot,
+                generation,
+                port,
+            } => self.bind(*slot, *generation, *port),
+            Event::Listen { slot } => Ok(self.listen(*slot)),
+            Event::Withdraw { slot, generation } => self.withdraw(*slot, *generation),
+            Event::Release { slot, generation } => self.release(*slot, *generation),
+            Event::Arrive => match with {
+                With::Packet(packet) => self.arrive(packet),
                 _ => unreachable!(),
             },
+            Event::Ls => self.ls(),
             _ => unreachable!(),
         }
     }
 
     /// Reserves the lowest free slot. A slot that was taken as often as a generation can count isn't taken again, and counts as
     /// want of memory.
-    fn reserve(&mut self) -> Result<Answer, AllocError>
-        ensures ok { IfOk result (λ given. Leaves self.new given (Some (spec.reserves (spec.first_slot spec.is_free 0 self.old.dir.slots) self.old.dir))) }
+    fn reserve(&mut self) -> Result<Outcome, AllocError>
+        ensures ok { IfOk result (λ o. Leaves self.new o (Some (spec.reserves (spec.first_slot spec.is_free 0 self.old.dir.slots) self.old.dir))) }
         ensures stays { Stays self.old self.new }
         ensures err { OnErr result (self.new ≡ self.old) }
     {
-        let Some(place) = self.slots.first_free() else {
-            return Ok(Answer::NoSlot);
+        let Some(n) = self.slots.first_free() else {
+            return Ok(Answer::NoSlot.outcome());
         };
-        let Some(generation) = place.generation.checked_add(1) else {
+        let Some(generation) = self.slots.at(n).generation().checked_add(1) else {
             return Err(AllocError);
         };
-        self.slots.put(
-            place.slot,
-            Slot {
-                generation,
-                kind: Kind::Reserved,
-            },
-        );
+        self.slots.reserve(n, generation);
         Ok(Answer::Slot {
-            slot: place.slot,
+            slot: n,
             generation,
-        })
-    }
-
-    /// Frees a slot. No call waits at one.
-    fn release(&mut self, n: u32, generation: u64) -> Answer
-        requires { n < length self.old.dir.slots }
-        ensures stays { Stays self.old self.new }
-        ensures step { Leaves self.new result (spec.in_slot n generation self.old.dir (spec.frees n self.old.dir)) }
-    {
-        if self.slots.at(n).generation != generation {
-            return Answer::Stale;
-        }
-        self.slots.put(
-            n,
-            Slot {
-                generation,
-                kind: Kind::Free,
-            },
-        );
-        Answer::NoCalls
-    }
-
-    /// Where a packet goes: to the slot that was given its pair, or nowhere, since none announces.
-    #[tactic(auto, using(crate::proofs::Steps::dropped_is))]
-    fn arrive(&self, packet: &Packet) -> Answer
-        requires { IsTrue (spec.is_of Proto.Udp packet.now.body) }
-        ensures { (w : AnyWorld) (h : ℕ) → Leaves self.now result (Some (spec.arrives_at
-            (spec.first_slot (spec.is_live_with (spec.pair_of packet.now)) 0 self.now.dir.slots)
-            w h Proto.Udp (spec.pair_of packet.now) packet.now self.now.dir)) }
-    {
-        let pair = Pair {
-            local: packet.dst,
-            remote: packet.src,
-        };
-        match self.slots.with_pair(pair) {
-            Some(place) => Answer::To {
-                slot: place.slot,
-                generation: place.generation,
-            },
-            None => Answer::Dropped,
-        }
+        }.outcome())
     }
 
     /// Grants a pair to a slot.
@@ -222,100 +199,361 @@ impl Dir {
         generation: u64,
         remote: Addr,
         lport: Option<u16>,
-    ) -> Result<Answer, AllocError>
+    ) -> Result<Outcome, AllocError>
         requires { n < length self.old.dir.slots }
-        ensures ok { IfOk result (λ given. (w : AnyWorld) (h : ℕ) → IsKeptOf w h self.old.ways →
-            Leaves self.new given (spec.in_slot n generation self.old.dir (spec.grants w h Proto.Udp n remote lport self.old.dir))) }
+        ensures ok { IfOk result (λ o. Gives self.old self.new o (λ at.
+            spec.in_slot n generation self.old.dir (spec.grants at n remote lport self.old.dir))) }
         ensures stays { Stays self.old self.new }
         ensures err { OnErr result (self.new ≡ self.old) }
     {
         let slot = self.slots.at(n);
-        if slot.generation != generation {
-            return Ok(Answer::Stale);
+        if slot.generation() != generation {
+            return Ok(Answer::Stale.outcome());
         }
-        match slot.kind {
-            Kind::Reserved => self.grant_reserved(n, generation, remote, lport),
-            Kind::Free | Kind::Granted(_) => Ok(Answer::WrongState(slot.name())),
+        if !slot.is_reserved() {
+            return Ok(Answer::WrongState(slot.kind()).outcome());
         }
+        self.grant_reserved(n, remote, lport)
     }
 
-    /// Grants a pair to a reserved slot of this generation.
-    fn grant_reserved(
-        &mut self,
-        n: u32,
-        generation: u64,
-        remote: Addr,
-        lport: Option<u16>,
-    ) -> Result<Answer, AllocError>
+    /// Grants a pair to a reserved slot.
+    fn grant_reserved(&mut self, n: u32, remote: Addr, lport: Option<u16>) -> Result<Outcome, AllocError>
         requires { n < length self.old.dir.slots }
-        ensures ok { IfOk result (λ given. (w : AnyWorld) (h : ℕ) → IsKeptOf w h self.old.ways →
-            Leaves self.new given (Some (spec.grants_by (way w h remote.ip) (chosen lport self.old.dir.ports) w h Proto.Udp n (reserved generation) remote self.old.dir))) }
+        ensures ok { IfOk result (λ o. Gives self.old self.new o (λ at. Some (spec.grants_by
+            (way at.world at.host remote.ip) (chosen lport (slot_at self.old.dir.slots n).bound self.old.dir.ports)
+            at n (slot_at self.old.dir.slots n) remote self.old.dir))) }
         ensures stays { Stays self.old self.new }
         ensures err { OnErr result (self.new ≡ self.old) }
     {
-        let Some(hop) = self.hop_to(remote.ip) else {
-            return Ok(Answer::NoRoute);
+        let Some(way) = self.way_to(remote.ip) else {
+            return Ok(Answer::NoRoute.outcome());
         };
-        let Some(port) = self.port_for(lport) else {
-            return Ok(Answer::NoPort);
+        let Some(port) = self.port_for(n, lport) else {
+            return Ok(Answer::NoPort.outcome());
         };
         let local = Addr {
-            ip: hop.source,
+            ip: way.source,
             port,
         };
         if local == remote {
-            return Ok(Answer::SelfPair);
+            return Ok(Answer::SelfPair.outcome());
         }
-        self.give(n, generation, Pair { local, remote }, hop.mtu)
+        self.give(n, Pair { local, remote }, way.mtu)
     }
 
-    /// The hop to an address, in each world in which the directory stands.
-    #[tactic(auto, unfolding(crate::specs::Ways::IsKeptOf))]
-    fn hop_to(&self, ip: u32) -> Option<Hop>
-        ensures { (w : AnyWorld) (h : ℕ) → IsKeptOf w h self.now.ways → option_map hop_of (way w h ip) ≡ result }
+    /// The way to an address, in each world in which the directory stands.
+    #[tactic(auto, unfolding(ip_route::specs::Kept::AreWaysOf))]
+    fn way_to(&self, ip: u32) -> Option<Way>
+        ensures { (w : AnyWorld) (h : ℕ) → IsDirOf w h self.now.proto self.now → way w h ip ≡ result }
     {
-        self.ways.hop_to(ip)
+        self.ways.to(ip)
     }
 
-    /// The port that was named, or a drawn one.
-    fn port_for(&self, lport: Option<u16>) -> Option<u16>
-        ensures { result ≡ chosen lport self.now.dir.ports }
-    {
-        match lport {
-            Some(port) => Some(port),
-            None => self.granted.draw(),
-        }
-    }
-
-    /// Gives a pair to a reserved slot, where it was never given before.
-    fn give(&mut self, n: u32, generation: u64, pair: Pair, mtu: u32) -> Result<Answer, AllocError>
+    /// The port that was named, or the slot's bound one, or a drawn one.
+    fn port_for(&mut self, n: u32, lport: Option<u16>) -> Option<u16>
         requires { n < length self.old.dir.slots }
-        ensures ok { IfOk result (λ given. (w : AnyWorld) (h : ℕ) →
-            Leaves self.new given (Some (spec.grants_pair (spec.pair_place pair 1 self.old.dir.pairs) w h Proto.Udp n (reserved generation) pair mtu self.old.dir))) }
+        ensures value { result ≡ chosen lport (slot_at self.old.dir.slots n).bound self.old.dir.ports }
+        ensures same { self.new ≡ self.old }
+    {
+        match (lport, self.slots.at(n).bound()) {
+            (Some(port), _) => Some(port),
+            (None, Some(port)) => Some(port),
+            (None, None) => self.ports.draw(),
+        }
+    }
+
+    /// Gives a pair to a slot, where it was never granted or born before.
+    fn give(&mut self, n: u32, pair: Pair, mtu: u32) -> Result<Outcome, AllocError>
+        requires { n < length self.old.dir.slots }
+        ensures ok { IfOk result (λ o. Gives self.old self.new o (λ at. Some (spec.grants_pair
+            (spec.pair_place pair 1 self.old.dir.pairs) at n (slot_at self.old.dir.slots n) pair mtu self.old.dir))) }
         ensures stays { Stays self.old self.new }
         ensures err { OnErr result (self.new ≡ self.old) }
     {
-        if let Some(k) = self.granted.number_of(pair) {
-            return Ok(Answer::PairUsed(k));
+        if let Some(k) = self.slots.number_of(pair) {
+            return Ok(Answer::PairUsed(k).outcome());
         }
-        self.granted.add(pair)?;
-        self.slots.put(
-            n,
-            Slot {
+        let start = self.next_start();
+        let limit = limit_of(self.proto, mtu);
+        self.ports.reserve()?;
+        self.slots.give(n, pair)?;
+        self.ports.add(pair.local.port);
+        Ok(Answer::Granted { pair, start, limit }.outcome())
+    }
+
+    /// The start that is given out next; 0 for UDP.
+    fn next_start(&self) -> u32
+        ensures { (w : AnyWorld) (h : ℕ) → IsDirOf w h self.now.proto self.now → spec.start_of (home_at w h self.now.proto) self.now.dir ≡ result }
+    {
+        match self.proto {
+            Proto::Il => self.starts.after(self.slots.pairs()),
+            Proto::Udp => 0,
+        }
+    }
+
+    /// A slot announces an address, any where there is none, and a port, any where there is none.
+    fn announce(
+        &mut self,
+        n: u32,
+        generation: u64,
+        ip: Option<u32>,
+        port: Option<u16>,
+    ) -> Result<Outcome, AllocError>
+        requires { n < length self.old.dir.slots }
+        ensures ok { IfOk result (λ o. Leaves self.new o (spec.in_slot n generation self.old.dir (spec.announces n ip port self.old.dir))) }
+        ensures stays { Stays self.old self.new }
+        ensures err { OnErr result (self.new ≡ self.old) }
+    {
+        let slot = self.slots.at(n);
+        if slot.generation() != generation {
+            return Ok(Answer::Stale.outcome());
+        }
+        if !slot.is_reserved() {
+            return Ok(Answer::WrongState(slot.kind()).outcome());
+        }
+        let key = Key { ip, port };
+        if let Some(holder) = self.slots.announcing(key) {
+            return Ok(Answer::PortTaken(holder).outcome());
+        }
+        if let Some(port) = port {
+            self.ports.reserve()?;
+            self.slots.announce(n, key);
+            self.ports.add(port);
+            return Ok(Answer::Ok.outcome());
+        }
+        self.slots.announce(n, key);
+        Ok(Answer::Ok.outcome())
+    }
+
+    /// A slot is bound to a port.
+    fn bind(&mut self, n: u32, generation: u64, port: u16) -> Result<Outcome, AllocError>
+        requires { n < length self.old.dir.slots }
+        ensures ok { IfOk result (λ o. Leaves self.new o (spec.in_slot n generation self.old.dir (spec.binds n port self.old.dir))) }
+        ensures stays { Stays self.old self.new }
+        ensures err { OnErr result (self.new ≡ self.old) }
+    {
+        let slot = self.slots.at(n);
+        if slot.generation() != generation {
+            return Ok(Answer::Stale.outcome());
+        }
+        if !slot.is_reserved() {
+            return Ok(Answer::WrongState(slot.kind()).outcome());
+        }
+        if let Some(holder) = self.slots.bound_to(port) {
+            return Ok(Answer::PortTaken(holder).outcome());
+        }
+        self.ports.reserve()?;
+        self.slots.bind(n, port);
+        self.ports.add(port);
+        Ok(Answer::Ok.outcome())
+    }
+
+    /// Takes the oldest call of an announcing slot.
+    fn listen(&mut self, n: u32) -> Outcome
+        requires { IsTrue (is_some (spec.listens (slice_get self.old.dir.slots n) n self.old.dir)) }
+        ensures step { Leaves self.new result (spec.listens (slice_get self.old.dir.slots n) n self.old.dir) }
+        ensures stays { Stays self.old self.new }
+    {
+        match self.slots.at(n).kind() {
+            StateName::Announced => {
+                let Some(call) = self.slots.take_call(n) else {
+                    unreachable!();
+                };
+                Answer::Call {
+                    slot: call.slot,
+                    generation: call.generation,
+                }.outcome()
+            }
+            StateName::Free => Answer::NoFile.outcome(),
+            kind => Answer::WrongState(kind).outcome(),
+        }
+    }
+
+    /// A slot announces no more, and its calls are sent away.
+    fn withdraw(&mut self, n: u32, generation: u64) -> Result<Outcome, AllocError>
+        requires { n < length self.old.dir.slots }
+        ensures ok { IfOk result (λ o. Leaves self.new o (spec.in_slot n generation self.old.dir (spec.withdraws n self.old.dir))) }
+        ensures stays { Stays self.old self.new }
+        ensures err { OnErr result (self.new ≡ self.old) }
+    {
+        if self.slots.at(n).generation() != generation {
+            return Ok(Answer::Stale.outcome());
+        }
+        let calls = self.calls_at(n)?;
+        self.slots.withdraw(n);
+        Ok(calls)
+    }
+
+    /// Frees a slot, and its calls are sent away.
+    fn release(&mut self, n: u32, generation: u64) -> Result<Outcome, AllocError>
+        requires { n < length self.old.dir.slots }
+        ensures ok { IfOk result (λ o. Leaves self.new o (spec.in_slot n generation self.old.dir (spec.frees n self.old.dir))) }
+        ensures stays { Stays self.old self.new }
+        ensures err { OnErr result (self.new ≡ self.old) }
+    {
+        if self.slots.at(n).generation() != generation {
+            return Ok(Answer::Stale.outcome());
+        }
+        let calls = self.calls_at(n)?;
+        self.slots.release(n);
+        Ok(calls)
+    }
+
+    /// Tells the calls that wait at a slot.
+    fn calls_at(&self, n: u32) -> Result<Outcome, AllocError>
+        requires { n < length self.now.dir.slots }
+        ensures { IfOk result (λ o. o ≡ replies (reply.Calls (slot_at self.now.dir.slots n).calls) None) }
+    {
+        let calls = self.slots.at(n).calls();
+        let told = calls.list(self.alloc)?;
+        let copy = calls.list(self.alloc)?;
+        Ok(outcome(Reply::Calls { calls: told }, Reply::Calls { calls: copy }, None))
+    }
+
+    /// Tells the names in the directory.
+    fn ls(&self) -> Result<Outcome, AllocError>
+        ensures { IfOk result (λ o. o ≡ replies (reply.Names (names (node.Proto self.now.proto) (spec.taken_from 0 self.now.dir.slots))) None) }
+    {
+        let told = names_of(self.alloc, self.slots.all())?;
+        let copy = names_of(self.alloc, self.slots.all())?;
+        Ok(outcome(Reply::Names { names: told }, Reply::Names { names: copy }, None))
+    }
+
+    /// Where a packet of the protocol goes: to the live slot that has its pair, or to its taker; an IL sync with neither is
+    /// refused, and all else is dropped.
+    fn arrive(&mut self, packet: &Packet) -> Result<Outcome, AllocError>
+        ensures ok { IfOk result (λ o. Gives self.old self.new o (λ at. Some (spec.arrives_at
+            (spec.first_slot (spec.is_live_with (spec.pair_of packet.now)) 0 self.old.dir.slots)
+            at (spec.pair_of packet.now) packet.now self.old.dir))) }
+        ensures stays { Stays self.old self.new }
+        ensures err { OnErr result (self.new ≡ self.old) }
+    {
+        let pair = Pair {
+            local: packet.dst,
+            remote: packet.src,
+        };
+        if let Some(n) = self.slots.with_pair(pair) {
+            let generation = self.slots.at(n).generation();
+            return Ok(Answer::To {
+                slot: n,
                 generation,
-                kind: Kind::Granted(pair),
-            },
-        );
-        Ok(Answer::Granted {
-            pair,
-            limit: limit_of(mtu),
-        })
+            }.outcome());
+        }
+        match self.taker(pair, packet) {
+            Some(taker) => self.bear(pair, taker),
+            None => Ok(refused_or_dropped(self.alloc, packet)),
+        }
+    }
+
+    /// Who takes a packet that no slot has.
+    #[tactic(auto, using(crate::proofs::Takers::takes_is))]
+    fn taker(&self, pair: Pair, packet: &Packet) -> Option<TakerAt>
+        ensures value { spec.taker_of pair packet.now self.now.dir ≡ option_map (taker_at self.now.dir.slots) result }
+        ensures takes { IfSome result (Takes self.now.dir pair) }
+    {
+        let Some(free) = self.slots.first_free() else {
+            return None;
+        };
+        let Some(listener) = self.slots.listener(packet.dst) else {
+            return None;
+        };
+        if self.may_take(pair, packet, listener) {
+            Some(TakerAt { free, listener })
+        } else {
+            None
+        }
+    }
+
+    /// Whether the pair is new and isn't its own mirror, the packet may bear, and there is room at the listener.
+    fn may_take(&self, pair: Pair, packet: &Packet, listener: u32) -> bool
+        requires { listener < length self.now.dir.slots }
+        ensures { result ≡ may_take pair packet.now (slot_at self.now.dir.slots listener) self.now.dir }
+    {
+        self.slots.number_of(pair).is_none()
+            && pair != mirror(pair)
+            && may_bear(&packet.body)
+            && self.slots.at(listener).calls().len() < MOST_CALLS
+    }
+
+    /// Bears a conversation. A slot that was taken as often as a generation can count counts as want of memory.
+    #[tactic(auto, using(crate::proofs::Takers::two_slots))]
+    fn bear(&mut self, pair: Pair, taker: TakerAt) -> Result<Outcome, AllocError>
+        requires { Takes self.old.dir pair taker }
+        ensures ok { IfOk result (λ o. Gives self.old self.new o (λ at.
+            Some (spec.bears at pair (taker_at self.old.dir.slots taker) self.old.dir))) }
+        ensures stays { Stays self.old self.new }
+        ensures err { OnErr result (self.new ≡ self.old) }
+    {
+        let Some(generation) = self.slots.at(taker.free).generation().checked_add(1) else {
+            return Err(AllocError);
+        };
+        let start = self.next_start();
+        let limit = self.limit_to(pair.remote.ip);
+        self.slots.bear(taker, generation, pair)?;
+        Ok(Answer::Born {
+            slot: taker.free,
+            generation,
+            start,
+            limit,
+        }.outcome())
+    }
+
+    /// The longest message to an address, in bytes; 8,192 without a way.
+    fn limit_to(&self, ip: u32) -> u32
+        ensures { (w : AnyWorld) (h : ℕ) → IsDirOf w h self.now.proto self.now → spec.limit_to (way w h ip) self.now.proto ≡ result }
+    {
+        match self.way_to(ip) {
+            Some(way) => limit_of(self.proto, way.mtu),
+            None => LONGEST_MESSAGE,
+        }
     }
 }
 
 /// The longest message over a way of this mtu, both in bytes.
-fn limit_of(mtu: u32) -> u32
-    ensures { result ≡ spec.limit_of Proto.Udp mtu }
+fn limit_of(proto: Proto, mtu: u32) -> u32
+    ensures { result ≡ spec.limit_of proto mtu }
 {
-    LONGEST_MESSAGE.min(mtu.saturating_sub(UDP_HEADERS))
+    match proto {
+        Proto::Il => LONGEST_MESSAGE.min(mtu.saturating_sub(IL_HEADERS)),
+        Proto::Udp => LONGEST_MESSAGE.min(mtu.saturating_sub(UDP_HEADERS)),
+    }
+}
+
+/// Whether the packet with this body may bear a conversation: a datagram of UDP, or a sync of IL with ack 0.
+fn may_bear(body: &Body) -> bool
+    ensures { result ≡ spec.may_bear body.now }
+{
+    match body {
+        Body::Il(message) => message.kind == IlKind::Sync && message.ack == 0,
+        Body::Udp(_) => true,
+    }
+}
+
+/// The close that refuses a sync.
+fn refusal(alloc: Global, message: &IlMsg, packet: &Packet) -> Packet
+    ensures { result ≡ spec.refusal message.now packet.now }
+{
+    Packet {
+        src: packet.dst,
+        dst: packet.src,
+        ttl: 255,
+        tos: 0,
+        body: Body::Il(IlMsg {
+            kind: IlKind::Close,
+            spec: 1,
+            id: message.ack,
+            ack: message.id,
+            text: Octets::new(alloc),
+        }),
+    }
+}
+
+/// What becomes of a packet without a taker: a sync is refused, and all else is dropped.
+fn refused_or_dropped(alloc: Global, packet: &Packet) -> Outcome
+    ensures { (d : AnyDir) → spec.refused_or_dropped packet.now.body packet.now d ≡ record { state = d; outcome = result } }
+{
+    match &packet.body {
+        Body::Il(message) if message.kind == IlKind::Sync => Answer::Refused.emitting(refusal(alloc, message, packet)),
+        _ => Answer::Dropped.outcome(),
+    }
 }

@@ -1,11 +1,13 @@
-//! The directory of a host and protocol: its slots, its pairs, its ports, and the ways from the host.
+//! The directory of a host and protocol: its slots, its pairs, its ports and its starts.
 #![tactic(auto)]
 
 mod answer;
 mod dir;
-mod granted;
-mod routes;
+mod names;
+mod ports;
+mod slot;
 mod slots;
+mod starts;
 #[cfg(test)]
 mod tests;
 

@@ -1,7 +1,7 @@
 -- The steps of the directory of a host and protocol.
-use Rattle.std.specs.Prelude.{ℕ, zero, suc, ◌+◌, ◌-◌, ◌==◌, Bool, true, false, not, ◌&&◌, List, [], ◌∷◌, ◌++◌, length, Option, Some, None, is_none, unwrap_or, slice_get, slice_set, nat_lt, min, if◌then◌else◌}
+use Rattle.std.specs.Prelude.{ℕ, zero, suc, ◌+◌, ◌-◌, ◌==◌, Bool, true, false, not, ◌&&◌, List, [], ◌∷◌, ◌++◌, length, Option, Some, None, is_none, unwrap_or, slice_get, slice_set, nat_eq, nat_lt, min, if◌then◌else◌}
 use Rattle.std.specs.List.{list_any}
-use Rattle.std.specs.Option.{option_map_or}
+use Rattle.std.specs.Option.{option_map_or, option_and_then}
 use Rattle.net_base.specs.declared.actor.Call.{Call}
 use Rattle.net_base.specs.declared.address.Addr.{Addr}
 use Rattle.net_base.specs.declared.address.Pair.{Pair}
@@ -53,10 +53,19 @@ pub record Dir : Type 0 where
   pub slots : List Slot
   -- every pair that was ever granted or born here, in order
   pub pairs : List Pair
-  -- every port that was ever drawn, bound, announced or named
+  -- every port that was ever drawn, bound, announced or named, each once, in order
   pub ports : List ℕ
   -- how many starts were given out
   pub starts : ℕ
+
+-- where a directory stands
+pub record Home : Type 0 where
+  pub world : World
+  pub host : ℕ
+  pub proto : Proto
+
+abbrev pub home_at : World → ℕ → Proto → Home
+home_at w h p = record { world = w; host = h; proto = p }
 
 abbrev pub free_slot : Slot
 free_slot = record { kind = name.Free; generation = 0; bound = None; key = None; pair = None; calls = [] }
@@ -127,9 +136,12 @@ host_start w h lines k =
     nonzero n = if n == 0 then 1 else n
 
 -- the start that is given out next; 0 for UDP
-abbrev pub start_of : Proto → World → ℕ → Dir → ℕ
-start_of proto.Il w h d = host_start w h (option_map_or (λ (s : HostSpec). s.starts) (slice_get w.hosts h) []) (d.starts + 1)
-start_of proto.Udp w h d = 0
+abbrev pub start_of : Home → Dir → ℕ
+start_of at d = start_for at.proto at.world at.host d.starts
+  where
+    start_for : Proto → World → ℕ → ℕ → ℕ
+    start_for proto.Il w h given = host_start w h (option_map_or (λ (s : HostSpec). s.starts) (slice_get w.hosts h) []) (given + 1)
+    start_for proto.Udp w h given = 0
 
 -- how many starts are then given out; none for UDP
 abbrev pub starts_after : Proto → ℕ → ℕ
@@ -144,7 +156,11 @@ limit_of proto.Udp mtu = min 8192 (mtu - 28)
 -- the least port from here on that isn't used, among so many
 abbrev pub drawn_port : ℕ → ℕ → List ℕ → Option ℕ
 drawn_port zero port used = None
-drawn_port (suc n) port used = if list_any (λ (p : ℕ). p == port) used then drawn_port n (port + 1) used else Some port
+drawn_port (suc n) port used = if list_any (nat_eq port) used then drawn_port n (port + 1) used else Some port
+
+-- the ports that are used, with one more
+abbrev pub with_port : ℕ → List ℕ → List ℕ
+with_port port used = if list_any (nat_eq port) used then used else used ++ port ∷ []
 
 -- the port that was named, or the bound one, or a drawn one, from 5000 to 65535
 abbrev pub port_for : Option ℕ → Option ℕ → Dir → Option ℕ
@@ -160,32 +176,32 @@ pair_place p k (q ∷ qs) = if same_pair p q then Some k else pair_place p (k + 
 -- Grant: wrong, noroute, noport, selfpair, pairused, in this order.
 
 -- the slot is Granted with the pair; pairused where it was granted or born before
-abbrev pub grants_pair : Option ℕ → World → ℕ → Proto → ℕ → Slot → Pair → ℕ → Dir → Step Dir
-grants_pair (Some k) w h p n s pair mtu d = dir_answers (reply.PairUsed k) d
-grants_pair None w h p n s pair mtu d =
-    dir_leaves (reply.Granted pair (start_of p w h d) (limit_of p mtu)) None
+abbrev pub grants_pair : Option ℕ → Home → ℕ → Slot → Pair → ℕ → Dir → Step Dir
+grants_pair (Some k) at n s pair mtu d = dir_answers (reply.PairUsed k) d
+grants_pair None at n s pair mtu d =
+    dir_leaves (reply.Granted pair (start_of at d) (limit_of at.proto mtu)) None
     (record d {
       slots = slice_set d.slots n (record s { kind = name.Granted; pair = Some pair });
       pairs = d.pairs ++ pair ∷ [];
-      ports = pair.local.port ∷ d.ports;
-      starts = starts_after p d.starts;
+      ports = with_port pair.local.port d.ports;
+      starts = starts_after at.proto d.starts;
     })
 
 -- by this way, if there is one, and from this port, if there is one
-abbrev pub grants_by : Option Way → Option ℕ → World → ℕ → Proto → ℕ → Slot → Addr → Dir → Step Dir
-grants_by None port w h p n s remote d = dir_answers reply.NoRoute d
-grants_by (Some out) None w h p n s remote d = dir_answers reply.NoPort d
-grants_by (Some out) (Some port) w h p n s remote d =
+abbrev pub grants_by : Option Way → Option ℕ → Home → ℕ → Slot → Addr → Dir → Step Dir
+grants_by None port at n s remote d = dir_answers reply.NoRoute d
+grants_by (Some out) None at n s remote d = dir_answers reply.NoPort d
+grants_by (Some out) (Some port) at n s remote d =
     let pair : Pair = record { local = record { ip = out.source; port = port }; remote = remote } in
     if same_addr pair.local remote
     then dir_answers reply.SelfPair d
-    else grants_pair (pair_place pair 1 d.pairs) w h p n s pair out.mtu d
+    else grants_pair (pair_place pair 1 d.pairs) at n s pair out.mtu d
 
 -- of a Reserved slot
-abbrev pub grants : World → ℕ → Proto → ℕ → Addr → Option ℕ → Dir → Slot → Step Dir
-grants w h p n remote port d s =
+abbrev pub grants : Home → ℕ → Addr → Option ℕ → Dir → Slot → Step Dir
+grants at n remote port d s =
     if is_reserved s.kind
-    then grants_by (way w h remote.ip) (port_for port s.bound d) w h p n s remote d
+    then grants_by (way at.world at.host remote.ip) (port_for port s.bound d) at n s remote d
     else dir_answers (reply.WrongState s.kind) d
 
 -- Announce and bind.
@@ -208,7 +224,7 @@ gets None n new ports d = dir_leaves reply.Ok None (record d { slots = slice_set
 
 abbrev pub ports_with : Option ℕ → List ℕ → List ℕ
 ports_with None ports = ports
-ports_with (Some port) ports = port ∷ ports
+ports_with (Some port) ports = with_port port ports
 
 -- a Reserved slot becomes Announced
 abbrev pub announces : ℕ → Option ℕ → Option ℕ → Dir → Slot → Step Dir
@@ -222,7 +238,7 @@ announces n ip port d s =
 abbrev pub binds : ℕ → ℕ → Dir → Slot → Step Dir
 binds n port d s =
     if is_reserved s.kind
-    then gets (first_slot (is_bound port) 0 d.slots) n (record s { bound = Some port }) (port ∷ d.ports) d
+    then gets (first_slot (is_bound port) 0 d.slots) n (record s { bound = Some port }) (with_port port d.ports) d
     else dir_answers (reply.WrongState s.kind) d
 
 -- Listen: the oldest call of an Announced slot, once there is one; nofile where the slot is Free.
@@ -283,14 +299,23 @@ abbrev pub may_bear : Body → Bool
 may_bear (body.Udp text) = true
 may_bear (body.Il m) = is_sync m.kind && (m.ack == 0)
 
--- the pair and the packet may have a taker, if the listener has room: the pair was never granted or born here and isn't its
--- own mirror, the packet may bear, and fewer than 10 calls wait
-abbrev pub has_taker : Pair → Packet → Slot → Dir → Bool
-has_taker pair packet listener d =
-    is_none (pair_place pair 1 d.pairs)
+-- who takes a packet that no slot has: a free slot becomes its own, and its call waits at the listener
+pub record Taker : Type 0 where
+  pub free : ℕ × Slot
+  pub listener : ℕ × Slot
+
+-- the taker, where a slot is free, an announcement matches, the pair was never granted or born here and isn't its own mirror, the
+-- packet may bear, and fewer than 10 calls wait at the announcing slot
+abbrev pub taker_of : Pair → Packet → Dir → Option Taker
+taker_of pair packet d =
+    option_and_then (λ (free : ℕ × Slot). option_and_then (λ (listener : ℕ × Slot).
+    if is_none (pair_place pair 1 d.pairs)
     && (not (same_pair pair (mirror pair))
     && (may_bear packet.body
-    && nat_lt (length listener.calls) 10))
+    && nat_lt (length listener.1.calls) 10))
+    then Some (record { free = free; listener = listener })
+    else None)
+    (match_of packet.dst d.slots)) (first_slot is_free 0 d.slots)
 
 -- the longest message to the pair's remote address; 8,192 without a way
 abbrev pub limit_to : Option Way → Proto → ℕ
@@ -298,15 +323,18 @@ limit_to (Some out) p = limit_of p out.mtu
 limit_to None p = 8192
 
 -- the lowest free slot is Granted, and its call waits at the listener
-abbrev pub bears : World → ℕ → Proto → Pair → ℕ → Slot → ℕ → Slot → Dir → Step Dir
-bears w h p pair n s at listener d =
-    dir_leaves (reply.Born n (s.generation + 1) (start_of p w h d) (limit_to (way w h pair.remote.ip) p)) None
+abbrev pub bears : Home → Pair → Taker → Dir → Step Dir
+bears at pair t d =
+    let generation : ℕ = t.free.1.generation + 1 in
+    dir_leaves (reply.Born t.free.0 generation (start_of at d) (limit_to (way at.world at.host pair.remote.ip) at.proto)) None
     (record d {
       slots =
-          slice_set (slice_set d.slots n (record free_slot { kind = name.Granted; generation = s.generation + 1; pair = Some pair })) at
-          (record listener { calls = listener.calls ++ record { slot = n; generation = s.generation + 1 } ∷ [] });
+          slice_set
+          (slice_set d.slots t.free.0 (record free_slot { kind = name.Granted; generation = generation; pair = Some pair }))
+          t.listener.0
+          (record t.listener.1 { calls = t.listener.1.calls ++ record { slot = t.free.0; generation = generation } ∷ [] });
       pairs = d.pairs ++ pair ∷ [];
-      starts = starts_after p d.starts;
+      starts = starts_after at.proto d.starts;
     })
 
 -- a close with spec 1, the sync's ack as id and the sync's id as ack
@@ -320,18 +348,15 @@ refused_or_dropped (body.Il m) packet d =
     if is_sync m.kind then dir_leaves reply.Refused (Some (refusal m packet)) d else dir_answers reply.Dropped d
 refused_or_dropped (body.Udp text) packet d = dir_answers reply.Dropped d
 
--- with the lowest free slot and the announcing slot that matches, if there are such
-abbrev pub born_or_not : Option (ℕ × Slot) → Option (ℕ × Slot) → World → ℕ → Proto → Pair → Packet → Dir → Step Dir
-born_or_not (Some free) (Some listener) w h p pair packet d =
-    if has_taker pair packet listener.1 d
-    then bears w h p pair free.0 free.1 listener.0 listener.1 d
-    else refused_or_dropped packet.body packet d
-born_or_not _ _ w h p pair packet d = refused_or_dropped packet.body packet d
+-- with the taker, if there is one
+abbrev pub born_or_not : Option Taker → Home → Pair → Packet → Dir → Step Dir
+born_or_not (Some t) at pair packet d = bears at pair t d
+born_or_not None at pair packet d = refused_or_dropped packet.body packet d
 
 -- with the live slot that has the pair, if there is one
-abbrev pub arrives_at : Option (ℕ × Slot) → World → ℕ → Proto → Pair → Packet → Dir → Step Dir
-arrives_at (Some found) w h p pair packet d = dir_answers (reply.To found.0 found.1.generation) d
-arrives_at None w h p pair packet d = born_or_not (first_slot is_free 0 d.slots) (match_of packet.dst d.slots) w h p pair packet d
+abbrev pub arrives_at : Option (ℕ × Slot) → Home → Pair → Packet → Dir → Step Dir
+arrives_at (Some found) at pair packet d = dir_answers (reply.To found.0 found.1.generation) d
+arrives_at None at pair packet d = born_or_not (taker_of pair packet d) at pair packet d
 
 abbrev pub is_live_with : Pair → Slot → Bool
 is_live_with pair s = not (is_free s) && option_map_or (same_pair pair) s.pair false
@@ -349,7 +374,7 @@ is_of _ _ = false
 -- the table of the directory of a host and protocol; none where no row answers
 abbrev pub dir_step : World → ℕ → Proto → Event → With → Dir → Option (Step Dir)
 dir_step w h p event.Reserve with d = Some (reserves (first_slot is_free 0 d.slots) d)
-dir_step w h p (event.Grant n g remote port) with d = in_slot n g d (grants w h p n remote port d)
+dir_step w h p (event.Grant n g remote port) with d = in_slot n g d (grants (home_at w h p) n remote port d)
 dir_step w h p (event.Announce n g ip port) with d = in_slot n g d (announces n ip port d)
 dir_step w h p (event.Bind n g port) with d = in_slot n g d (binds n port d)
 dir_step w h p (event.Listen n) with d = listens (slice_get d.slots n) n d
@@ -357,6 +382,6 @@ dir_step w h p (event.Withdraw n g) with d = in_slot n g d (withdraws n d)
 dir_step w h p (event.Release n g) with d = in_slot n g d (frees n d)
 dir_step w h p event.Arrive (given.Packet packet) d =
     when (is_of p packet.body)
-    (Some (arrives_at (first_slot (is_live_with (pair_of packet)) 0 d.slots) w h p (pair_of packet) packet d))
+    (Some (arrives_at (first_slot (is_live_with (pair_of packet)) 0 d.slots) (home_at w h p) (pair_of packet) packet d))
 dir_step w h p event.Ls with d = Some (dir_answers (reply.Names (names (node.Proto p) (taken_from 0 d.slots))) d)
 dir_step w h p _ _ d = None

@@ -72,11 +72,11 @@ module _ (w : World) (h : ℕ) (p : Proto) where
   reserved None d = tt
   reserved (Some x) d = tt
 
-  granted : (place : Option ℕ) (n : ℕ) (s : Slot) (pair : Pair) (mtu : ℕ) (d : Dir) → Replies (dir.grants_pair place w h p n s pair mtu d)
+  granted : (place : Option ℕ) (n : ℕ) (s : Slot) (pair : Pair) (mtu : ℕ) (d : Dir) → Replies (dir.grants_pair place (dir.home_at w h p) n s pair mtu d)
   granted None n s pair mtu d = tt
   granted (Some k) n s pair mtu d = tt
 
-  granted_by : (out : Option Way) (port : Option ℕ) (n : ℕ) (s : Slot) (remote : Addr) (d : Dir) → Replies (dir.grants_by out port w h p n s remote d)
+  granted_by : (out : Option Way) (port : Option ℕ) (n : ℕ) (s : Slot) (remote : Addr) (d : Dir) → Replies (dir.grants_by out port (dir.home_at w h p) n s remote d)
   granted_by None port n s remote d = tt
   granted_by (Some out) None n s remote d = tt
   granted_by (Some out) (Some port) n s remote d =
@@ -108,19 +108,18 @@ module _ (w : World) (h : ℕ) (p : Proto) where
   refused (body.Udp text) packet d = tt
   refused (body.Il m) packet d = one_of (conv.is_sync m.kind) _ _ tt tt
 
-  born : (free listener : Option (ℕ × Slot)) (pair : Pair) (packet : Packet) (d : Dir) → Replies (dir.born_or_not free listener w h p pair packet d)
-  born None listener pair packet d = refused packet.body packet d
-  born (Some free) None pair packet d = refused packet.body packet d
-  born (Some free) (Some listener) pair packet d = one_of (dir.has_taker pair packet listener.1 d) _ _ tt (refused packet.body packet d)
+  born : (taker : Option dir.Taker) (pair : Pair) (packet : Packet) (d : Dir) → Replies (dir.born_or_not taker (dir.home_at w h p) pair packet d)
+  born None pair packet d = refused packet.body packet d
+  born (Some t) pair packet d = tt
 
-  arrived : (found : Option (ℕ × Slot)) (pair : Pair) (packet : Packet) (d : Dir) → Replies (dir.arrives_at found w h p pair packet d)
+  arrived : (found : Option (ℕ × Slot)) (pair : Pair) (packet : Packet) (d : Dir) → Replies (dir.arrives_at found (dir.home_at w h p) pair packet d)
   arrived (Some found) pair packet d = tt
-  arrived None pair packet d = born _ _ pair packet d
+  arrived None pair packet d = born _ pair packet d
 
   dir_replies : (e : Event) (gift : With) (d : Dir) → Answers (dir_step w h p e gift d)
   dir_replies event.Reserve gift d = reserved _ d
   dir_replies (event.Grant n g remote port) gift d =
-      at_slot (slice_get d.slots n) g d (dir.grants w h p n remote port d)
+      at_slot (slice_get d.slots n) g d (dir.grants (dir.home_at w h p) n remote port d)
       (λ s. one_of (dir.is_reserved s.kind) _ _ (granted_by (way w h remote.ip) (dir.port_for port s.bound d) n s remote d) tt)
   dir_replies (event.Announce n g ip port) gift d =
       at_slot (slice_get d.slots n) g d (dir.announces n ip port d) (λ s. one_of (dir.is_reserved s.kind) _ _ (got _ n _ _ d) tt)

@@ -10,20 +10,7 @@ use Rattle.net_base.specs.ControlWords as control
 use Rattle.net_base.specs.WorldForm.{IsFirstForm, IsUdpScript}
 use Rattle.ctl_words.specs.Told.{told}
 use Rattle.ctl_words.specs.declared.fault.CtlError.{CtlError}
-use Rattle.host_dir.specs.Ways.{HasOneWay}
 use Rattle.plain_runner.specs.Places.{IsConnect}
-use Rattle.plain_runner.proofs.Puts.{plain_host}
-
-host_at : (hs : List HostSpec) (n : ℕ) → n < length hs → (h : HostSpec) × (slice_get hs n ≡ Some h)
-host_at [] n lt = absurd (omega (arith, lt))
-host_at (h ∷ hs) zero lt = (h, refl)
-host_at (h ∷ hs) (suc n) lt = host_at hs n (omega (arith, lt))
-
-pub one_way : (w : World) → IsFirstForm w → (n : ℕ) → n < length w.hosts → HasOneWay w n
-one_way w form n lt =
-    let h = host_at w.hosts n lt in
-    let p = plain_host w form n h.0 h.1 in
-    record { spec = h.0; at = h.1; iface = p.iface; ifaces = p.ifaces; routes = p.routes }
 
 -- the control of the second step is a connect
 

@@ -1,10 +1,9 @@
 //! What is met of a host: its directory and its first conversation.
-ghost use Rattle.std.specs.Prelude.{◌≡◌, IfOk, IsSome};
+ghost use Rattle.std.specs.Prelude.{◌≡◌, ◌<◌, length, IfOk, IsSome};
 ghost use Rattle.net_base.specs.Actors.{opening_dir, opening_conv};
 ghost use Rattle.net_base.specs.Directory.{dir_step};
 ghost use Rattle.net_base.specs.declared.address.Proto.TheVariants as proto;
 ghost use Rattle.conversation.specs.Stands.{StandsFor};
-ghost use Rattle.host_dir.specs.Kept.{HasOneWay};
 ghost use Rattle.plain_runner.specs.Seats.{IsSeatOf, IsUdpReady, TellsConv, dir_of, DirSteps, ConvSteps, IsDirMet};
 
 use conversation::Conv;
@@ -31,7 +30,7 @@ impl Model for Seat {
 impl Seat {
     /// What is met of a host of the world, before anything happened.
     pub fn new(alloc: Global, world: &World, host: u32) -> Result<Seat, AllocError>
-        requires { HasOneWay world.now host }
+        requires { host < length world.now.hosts }
         ensures of { IfOk result (λ s. IsSeatOf world.now host s) }
         ensures dir { IfOk result (λ s. dir_of s ≡ opening_dir) }
         ensures conv { IfOk result (λ s. StandsFor s.seat (opening_conv proto.Udp)) }

@@ -25,13 +25,13 @@ use Rattle.net_base.specs.Mirror.{mirror}
 use Rattle.net_base.specs.declared.world.World.{World}
 use Rattle.net_base.specs.Routes.{Way, way, has_address}
 use Rattle.net_base.specs.ActorStep.{Step}
-use Rattle.net_base.specs.Directory.{Key, is_keyed, is_bound, gets, ports_with, announces, binds, withdraws, next_call, listens_at, listens, Slot, Dir, free_slot, is_free, is_reserved, is_announced, match_of, has_taker, first_slot, pair_place, in_found_slot, reserves, grants_pair, grants_by, port_for, grants, frees, refused_or_dropped, bears, born_or_not, arrives_at, is_live_with, is_of, dir_step}
+use Rattle.net_base.specs.Directory.{Key, is_keyed, is_bound, gets, ports_with, announces, binds, withdraws, next_call, listens_at, listens, Slot, Dir, free_slot, is_free, is_reserved, is_announced, Taker, taker_of, home_at, with_port, first_slot, pair_place, in_found_slot, reserves, grants_pair, grants_by, port_for, grants, frees, refused_or_dropped, bears, born_or_not, arrives_at, is_live_with, is_of, dir_step}
 use Rattle.net_base.specs.Duties.{close_calls, follow_up}
 use Rattle.prefix_law.proofs.Trace.{Owner, Trace, dir_trace, HasPlaces}
 use Rattle.prefix_law.proofs.Deeds.{both_ways}
 use Rattle.prefix_law.proofs.Sides.{put_here}
 use Rattle.prefix_law.proofs.Touch.{owner_of, Owned, Later, Emitted, emitted_later}
-use Rattle.prefix_law.proofs.DirSteps.{WithFine, EachDuty, SlotFine, SlotIsFine, DirFine, DirIsFine, Addressed, DirStep, dir_keeps, owns, owner_stays, owner_back, owned_owns, addressed_owns, convs_owns, slot_owns, slot_gets, other_dir_owns, known_owns, slot_found, set_cases, place_push, place_last, has_pair_is, free_or_announced, match_at}
+use Rattle.prefix_law.proofs.DirSteps.{WithFine, EachDuty, SlotFine, SlotIsFine, DirFine, DirIsFine, Addressed, DirStep, dir_keeps, owns, owner_stays, owner_back, owned_owns, addressed_owns, convs_owns, slot_owns, slot_gets, other_dir_owns, known_owns, slot_found, set_cases, place_push, place_last, has_pair_is, free_or_announced, taker_found}
 
 -- a slot that was had as it is, with another text
 set_fine : (t : Trace) (h : ℕ) (d : Dir) (n : ℕ) (new : Slot) → DirIsFine t h d → SlotIsFine t h n new → DirFine t h (slice_set d.slots n new) d.pairs
@@ -61,14 +61,6 @@ nobody w t h d p world a f here none = go (t.owner p) refl
         let host : o.host ≡ h = world.one_host o.host h p.local.ip (a p o is) here in
         absurd (both_ways (f.known p o is host) (ap (λ (x : Option ℕ). is_some x) none))
 
-none_is : {A : Type 0} (o : Option A) → is_none o ≡ true → o ≡ None
-none_is None is = refl
-none_is (Some x) is = absurd (both_ways is refl)
-
-not_is : (b : Bool) → not b ≡ true → b ≡ false
-not_is false is = refl
-not_is true is = absurd (both_ways is refl)
-
 module _ (w : World) (world : HasPlaces w) (k h stamp : ℕ) (t : Trace) (owned : Owned k t) (addressed : Addressed w t) (gift : With) where
   -- what a step with this reply leaves
   abbrev pub After : Event → With → Step Dir → Type 0
@@ -90,7 +82,7 @@ module _ (w : World) (world : HasPlaces w) (k h stamp : ℕ) (t : Trace) (owned 
   -- a pair goes to a slot that was reserved for it
   grants_pair_after : (place : Option ℕ) (n g : ℕ) (remote : Addr) (port : Option ℕ) (s : Slot) (pair : Pair) (mtu : ℕ) (d : Dir) → pair_place pair 1 d.pairs ≡ place → DirIsFine t h d
       → slice_get d.slots n ≡ Some s → s.generation ≡ g → is_reserved s.kind ≡ true → has_address w h pair.local.ip ≡ true → same_pair pair (mirror pair) ≡ false
-      → After (event.Grant n g remote port) gift (grants_pair place w h proto.Il n s pair mtu d)
+      → After (event.Grant n g remote port) gift (grants_pair place (home_at w h proto.Il) n s pair mtu d)
   grants_pair_after (Some place) n g remote port s pair mtu d is f there gen reserved here apart =
       dir_keeps w k h stamp (event.Grant n g remote port) gift t _ owned addressed f tt tt
   grants_pair_after None n g remote port s pair mtu d is f there gen reserved here apart =
@@ -120,7 +112,7 @@ module _ (w : World) (world : HasPlaces w) (k h stamp : ℕ) (t : Trace) (owned 
       }
 
   grants_by_after : (out : Option Way) (port' : Option ℕ) (n g : ℕ) (remote : Addr) (port : Option ℕ) (s : Slot) (d : Dir) → way w h remote.ip ≡ out → DirIsFine t h d → slice_get d.slots n ≡ Some s → s.generation ≡ g → is_reserved s.kind ≡ true
-      → After (event.Grant n g remote port) gift (grants_by out port' w h proto.Il n s remote d)
+      → After (event.Grant n g remote port) gift (grants_by out port' (home_at w h proto.Il) n s remote d)
   grants_by_after None port' n g remote port s d is f there gen reserved = dir_keeps w k h stamp (event.Grant n g remote port) gift t _ owned addressed f tt tt
   grants_by_after (Some out) None n g remote port s d is f there gen reserved = dir_keeps w k h stamp (event.Grant n g remote port) gift t _ owned addressed f tt tt
   grants_by_after (Some out) (Some p) n g remote port s d is f there gen reserved =
@@ -130,7 +122,7 @@ module _ (w : World) (world : HasPlaces w) (k h stamp : ℕ) (t : Trace) (owned 
       (λ apart. grants_pair_after (pair_place pair 1 d.pairs) n g remote port s pair out.mtu d refl f there gen reserved (world.own_source h remote.ip out is) (and_left _ _ apart))
 
   grant_after : (n g : ℕ) (remote : Addr) (port : Option ℕ) (found : Option Slot) (d : Dir) → slice_get d.slots n ≡ found → DirIsFine t h d
-      → IfSome (in_found_slot found g d (grants w h proto.Il n remote port d)) (λ s. After (event.Grant n g remote port) gift s)
+      → IfSome (in_found_slot found g d (grants (home_at w h proto.Il) n remote port d)) (λ s. After (event.Grant n g remote port) gift s)
   grant_after n g remote port None d is f = tt
   grant_after n g remote port (Some s) d is f =
       after_if (event.Grant n g remote port) gift (s.generation == g) _ _
@@ -193,7 +185,7 @@ module _ (w : World) (world : HasPlaces w) (k h stamp : ℕ) (t : Trace) (owned 
   bind_after n g port (Some s) d is f =
       after_if (event.Bind n g port) gift (s.generation == g) _ _
       (λ _. after_if (event.Bind n g port) gift (is_reserved s.kind) _ _
-      (λ _. gets_after (event.Bind n g port) (first_slot (is_bound port) 0 d.slots) n (record s { bound = Some port }) (port ∷ d.ports) d f (f.slots_fine n s is) (bind_quiet n g port))
+      (λ _. gets_after (event.Bind n g port) (first_slot (is_bound port) 0 d.slots) n (record s { bound = Some port }) (with_port port d.ports) d f (f.slots_fine n s is) (bind_quiet n g port))
       (λ _. dir_keeps w k h stamp (event.Bind n g port) gift t _ owned addressed f tt tt))
       (λ _. dir_keeps w k h stamp (event.Bind n g port) gift t _ owned addressed f tt tt)
 
@@ -232,7 +224,7 @@ module _ (w : World) (world : HasPlaces w) (k h stamp : ℕ) (t : Trace) (owned 
   bears_after : (packet : Packet) (free listener : ℕ × Slot) (d : Dir) → DirIsFine t h d → Emitted t packet → has_address w h packet.dst.ip ≡ true
       → (slice_get d.slots free.0 ≡ Some free.1) → is_free free.1 ≡ true → (slice_get d.slots listener.0 ≡ Some listener.1) → is_announced listener.1.kind ≡ true
       → pair_place (record { local = packet.dst; remote = packet.src }) 1 d.pairs ≡ None → same_pair (record { local = packet.dst; remote = packet.src }) (record { local = packet.src; remote = packet.dst }) ≡ false
-      → After event.Arrive (given.Packet packet) (bears w h proto.Il (record { local = packet.dst; remote = packet.src }) free.0 free.1 listener.0 listener.1 d)
+      → After event.Arrive (given.Packet packet) (bears (home_at w h proto.Il) (record { local = packet.dst; remote = packet.src }) (record { free = free; listener = listener }) d)
   bears_after packet free listener d f emitted here at_free is_free' at_listener announces unlisted apart =
       let pair : Pair = record { local = packet.dst; remote = packet.src } in
       let n = free.0 in
@@ -270,23 +262,16 @@ module _ (w : World) (world : HasPlaces w) (k h stamp : ℕ) (t : Trace) (owned 
         follow = ((put_here t.owner pair (owner_of h n g), emitted_later t (owns t pair h n g) packet later emitted), tt);
       }
 
-  born_after : (free listener : Option (ℕ × Slot)) (packet : Packet) (d : Dir) → first_slot is_free 0 d.slots ≡ free → match_of packet.dst d.slots ≡ listener → DirIsFine t h d → Emitted t packet → has_address w h packet.dst.ip ≡ true
-      → After event.Arrive (given.Packet packet) (born_or_not free listener w h proto.Il (record { local = packet.dst; remote = packet.src }) packet d)
-  born_after None listener packet d is is' f emitted here = refused_after packet.body packet d f
-  born_after (Some free) None packet d is is' f emitted here = refused_after packet.body packet d f
-  born_after (Some free) (Some listener) packet d is is' f emitted here =
-      after_if event.Arrive (given.Packet packet) (has_taker (record { local = packet.dst; remote = packet.src }) packet listener.1 d) _ _
-      (λ tests.
-      let there = slot_found is_free d.slots free is in
-      let listens_there = match_at packet.dst d.slots listener is' in
-      let unlisted = and_parts (is_none (pair_place (record { local = packet.dst; remote = packet.src }) 1 d.pairs)) _ tests in
-      let apart = and_parts (not (same_pair (record { local = packet.dst; remote = packet.src }) (record { local = packet.src; remote = packet.dst }))) _ unlisted.1 in
-      bears_after packet free listener d f emitted here there.0 there.1 listens_there.0 listens_there.1 (none_is _ unlisted.0) (not_is _ apart.0))
-      (λ _. refused_after packet.body packet d f)
+  born_after : (taker : Option Taker) (packet : Packet) (d : Dir) → taker_of (record { local = packet.dst; remote = packet.src }) packet d ≡ taker → DirIsFine t h d → Emitted t packet → has_address w h packet.dst.ip ≡ true
+      → After event.Arrive (given.Packet packet) (born_or_not taker (home_at w h proto.Il) (record { local = packet.dst; remote = packet.src }) packet d)
+  born_after None packet d is f emitted here = refused_after packet.body packet d f
+  born_after (Some taker) packet d is f emitted here =
+      let found = taker_found (record { local = packet.dst; remote = packet.src }) packet d taker is in
+      bears_after packet taker.free taker.listener d f emitted here found.at_free found.free found.at_listener found.announces found.unlisted found.apart
 
   pub arrive_after : (found : Option (ℕ × Slot)) (packet : Packet) (d : Dir) → first_slot (is_live_with (record { local = packet.dst; remote = packet.src })) 0 d.slots ≡ found → DirIsFine t h d → Emitted t packet → has_address w h packet.dst.ip ≡ true
-      → After event.Arrive (given.Packet packet) (arrives_at found w h proto.Il (record { local = packet.dst; remote = packet.src }) packet d)
-  arrive_after None packet d is f emitted here = born_after _ _ packet d refl refl f emitted here
+      → After event.Arrive (given.Packet packet) (arrives_at found (home_at w h proto.Il) (record { local = packet.dst; remote = packet.src }) packet d)
+  arrive_after None packet d is f emitted here = born_after _ packet d refl f emitted here
   arrive_after (Some found) packet d is f emitted here =
       let pair : Pair = record { local = packet.dst; remote = packet.src } in
       let there = slot_found (is_live_with pair) d.slots found is in

@@ -1,7 +1,7 @@
 -- Each step of a directory keeps what holds of all pairs.
-use Rattle.std.proofs.Common.{◌≡◌, ℕ, zero, suc, ◌+◌, ◌<◌, ◌≤◌, not, Bool, true, false, cond, List, [], ◌∷◌, ◌++◌, Option, Some, None, is_some, slice_get, ◌⊎◌, inl, inr, refl, sym, ap, subst, ◌∙◌, arith}
+use Rattle.std.proofs.Common.{◌≡◌, ℕ, zero, suc, ◌+◌, ◌<◌, ◌≤◌, not, Bool, true, false, cond, List, [], ◌∷◌, ◌++◌, Option, Some, None, is_some, is_none, length, nat_lt, ◌&&◌, if◌then◌else◌, slice_get, ◌⊎◌, inl, inr, refl, sym, ap, subst, ◌∙◌, arith}
 use Rattle.std.specs.Prelude.{slice_set, replicate}
-use Rattle.std.specs.Option.{option_map_or}
+use Rattle.std.specs.Option.{option_map_or, option_and_then}
 use Rattle.std.proofs.lemmas.Option.{none-some, same_Some}
 use Rattle.std.proofs.lemmas.Bool.{and_parts, cond_both}
 use Rattle.net_base.specs.declared.address.Pair.{Pair}
@@ -15,13 +15,14 @@ use Rattle.net_base.specs.declared.event.Event.{Event}
 use Rattle.net_base.specs.declared.event.Event.TheVariants as event
 use Rattle.net_base.specs.declared.history.With.{With}
 use Rattle.net_base.specs.declared.history.With.TheVariants as given
+use Rattle.net_base.specs.declared.packet.Packet.{Packet}
 use Rattle.net_base.specs.Same.{same_pair}
 use Rattle.net_base.specs.Mirror.{mirror}
 use Rattle.net_base.specs.declared.world.World.{World}
 use Rattle.net_base.specs.Routes.{has_address}
 use Rattle.net_base.specs.ActorStep.{Step}
 use Rattle.net_base.specs.Conversation.{Core, Il, Udp, Stage, Unused, Listening, Connected}
-use Rattle.net_base.specs.Directory.{Key, Slot, Dir, free_slot, is_free, is_reserved, is_announced, is_keyed, Exactly, ByPort, ByAny, key_at, match_of, or_else, first_slot, pair_place}
+use Rattle.net_base.specs.Directory.{Key, Slot, Dir, free_slot, is_free, is_reserved, is_announced, is_keyed, Exactly, ByPort, ByAny, key_at, match_of, or_else, first_slot, pair_place, Taker, taker_of, may_bear}
 use Rattle.net_base.specs.Actors.{Actor, IsConv}
 use Rattle.net_base.specs.Duties.{Duty, follow_up}
 use Rattle.prefix_law.proofs.Trace.{Owner, Trace, empty_side, put_at}
@@ -272,6 +273,60 @@ match_at a slots found is = go (first_slot (is_keyed (key_at Exactly a)) 0 slots
     go (Some x) y one two same = keyed_at (key_at Exactly a) slots found (one ∙ same)
     go None (Some y) one two same = keyed_at (key_at ByPort a) slots found (two ∙ same)
     go None None one two same = keyed_at (key_at ByAny a) slots found same
+
+-- what holds of a taker
+pub record TakerFound (pair : Pair) (packet : Packet) (d : Dir) (t : Taker) : Type 0 where
+  pub at_free : slice_get d.slots t.free.0 ≡ Some t.free.1
+  pub free : is_free t.free.1 ≡ true
+  pub at_listener : slice_get d.slots t.listener.0 ≡ Some t.listener.1
+  pub announces : is_announced t.listener.1.kind ≡ true
+  pub unlisted : pair_place pair 1 d.pairs ≡ None
+  pub apart : same_pair pair (mirror pair) ≡ false
+
+none_is : {A : Type 0} (o : Option A) → is_none o ≡ true → o ≡ None
+none_is None is = refl
+none_is (Some x) is = absurd (both_ways is refl)
+
+not_is : (b : Bool) → not b ≡ true → b ≡ false
+not_is false is = refl
+not_is true is = absurd (both_ways is refl)
+
+-- the pair is new, and passes the other tests
+abbrev new_and : Pair → Packet → Slot → Dir → Bool
+new_and pair packet listener d =
+    is_none (pair_place pair 1 d.pairs)
+    && (not (same_pair pair (mirror pair))
+    && (may_bear packet.body
+    && nat_lt (length listener.calls) 10))
+
+abbrev taken : Pair → Packet → Dir → Option (ℕ × Slot) → Option (ℕ × Slot) → Option Taker
+taken pair packet d x y =
+    option_and_then (λ (free : ℕ × Slot). option_and_then (λ (listener : ℕ × Slot).
+    if new_and pair packet listener.1 d then Some (record { free = free; listener = listener }) else None) y) x
+
+pub taker_found : (pair : Pair) (packet : Packet) (d : Dir) (t : Taker) → taker_of pair packet d ≡ Some t → TakerFound pair packet d t
+taker_found pair packet d t is = go (first_slot is_free 0 d.slots) (match_of packet.dst d.slots) refl refl is
+  where
+    by : (free listener : ℕ × Slot) (b : Bool) → first_slot is_free 0 d.slots ≡ Some free → match_of packet.dst d.slots ≡ Some listener → new_and pair packet listener.1 d ≡ b
+        → (if b then Some (record { free = free; listener = listener }) else None) ≡ Some t → TakerFound pair packet d t
+    by free listener false one two tests same = absurd (none-some t same)
+    by free listener true one two tests same =
+        let there = slot_found is_free d.slots free one in
+        let hears = match_at packet.dst d.slots listener two in
+        let unlisted = and_parts (is_none (pair_place pair 1 d.pairs)) _ tests in
+        let apart = and_parts (not (same_pair pair (mirror pair))) _ unlisted.1 in
+        subst (λ (t : Taker). TakerFound pair packet d t) (same_Some (record { free = free; listener = listener }) t same) (record {
+          at_free = there.0;
+          free = there.1;
+          at_listener = hears.0;
+          announces = hears.1;
+          unlisted = none_is _ unlisted.0;
+          apart = not_is _ apart.0;
+        })
+    go : (x y : Option (ℕ × Slot)) → first_slot is_free 0 d.slots ≡ x → match_of packet.dst d.slots ≡ y → taken pair packet d x y ≡ Some t → TakerFound pair packet d t
+    go None y one two same = absurd (none-some t same)
+    go (Some free) None one two same = absurd (none-some t same)
+    go (Some free) (Some listener) one two same = by free listener (new_and pair packet listener.1 d) one two refl same
 
 -- every slot of a fresh directory is free
 pub all_free : (k n : ℕ) (s : Slot) → slice_get (replicate k free_slot) n ≡ Some s → free_slot ≡ s

@@ -32,7 +32,7 @@ use Rattle.net_base.specs.Same.{same_addr}
 use Rattle.net_base.specs.declared.il.StateName.{StateName}
 use Rattle.net_base.specs.declared.il.StateName.TheVariants as name
 use Rattle.net_base.specs.Directory.{is_keyed, is_bound, gets, ports_with, announces, binds, withdraws, next_call, listens_at, Slot, Dir, is_reserved, first_slot, pair_place, in_found_slot, reserves, grants_pair, grants_by, port_for, grants, frees, refused_or_dropped, born_or_not, arrives_at, is_of, dir_step}
-use Rattle.net_base.specs.Directory.{has_taker, listens as dir_listens}
+use Rattle.net_base.specs.Directory.{Taker, home_at, with_port, listens as dir_listens}
 use Rattle.net_base.specs.Duties.{close_calls, follow_up}
 use Rattle.prefix_law.proofs.Trace.{Trace}
 use Rattle.prefix_law.proofs.Touch.{Emitted, EmittedAs, EmittedIf, Later as Growing, emitted_later}
@@ -175,11 +175,11 @@ module _ (w : World) (h : ℕ) (p : Proto) where
   reserved_harmless None d = record { emits = tt }
   reserved_harmless (Some x) d = record { emits = tt }
 
-  granted_harmless : (place : Option ℕ) (n : ℕ) (s : Slot) (pair : Pair) (mtu : ℕ) (d : Dir) → IsHarmless (grants_pair place w h p n s pair mtu d)
+  granted_harmless : (place : Option ℕ) (n : ℕ) (s : Slot) (pair : Pair) (mtu : ℕ) (d : Dir) → IsHarmless (grants_pair place (home_at w h p) n s pair mtu d)
   granted_harmless None n s pair mtu d = record { emits = tt }
   granted_harmless (Some k) n s pair mtu d = record { emits = tt }
 
-  grants_harmless : (way : Option Way) (port : Option ℕ) (n : ℕ) (s : Slot) (remote : Addr) (d : Dir) → IsHarmless (grants_by way port w h p n s remote d)
+  grants_harmless : (way : Option Way) (port : Option ℕ) (n : ℕ) (s : Slot) (remote : Addr) (d : Dir) → IsHarmless (grants_by way port (home_at w h p) n s remote d)
   grants_harmless None port n s remote d = record { emits = tt }
   grants_harmless (Some way) None n s remote d = record { emits = tt }
   grants_harmless (Some way) (Some port) n s remote d =
@@ -211,26 +211,24 @@ module _ (w : World) (h : ℕ) (p : Proto) where
   refused_harmless (body.Udp text) packet d = record { emits = tt }
   refused_harmless (body.Il m) packet d = dir_if (is_sync m.kind) _ _ (record { emits = (refl, refl) }) (record { emits = tt })
 
-  born_harmless : (free listener : Option (ℕ × Slot)) (pair : Pair) (packet : Packet) (d : Dir) → IsHarmless (born_or_not free listener w h p pair packet d)
-  born_harmless None listener pair packet d = refused_harmless packet.body packet d
-  born_harmless (Some free) None pair packet d = refused_harmless packet.body packet d
-  born_harmless (Some free) (Some listener) pair packet d =
-      dir_if (has_taker pair packet listener.1 d) _ _ (record { emits = tt }) (refused_harmless packet.body packet d)
+  born_harmless : (taker : Option Taker) (pair : Pair) (packet : Packet) (d : Dir) → IsHarmless (born_or_not taker (home_at w h p) pair packet d)
+  born_harmless None pair packet d = refused_harmless packet.body packet d
+  born_harmless (Some t) pair packet d = record { emits = tt }
 
-  arrives_harmless : (found : Option (ℕ × Slot)) (pair : Pair) (packet : Packet) (d : Dir) → IsHarmless (arrives_at found w h p pair packet d)
+  arrives_harmless : (found : Option (ℕ × Slot)) (pair : Pair) (packet : Packet) (d : Dir) → IsHarmless (arrives_at found (home_at w h p) pair packet d)
   arrives_harmless (Some found) pair packet d = record { emits = tt }
-  arrives_harmless None pair packet d = born_harmless _ _ pair packet d
+  arrives_harmless None pair packet d = born_harmless _ pair packet d
 
   pub dir_harmless : (ev : Event) (gift : With) (d : Dir) → IfSome (dir_step w h p ev gift d) (λ s. IsHarmless s)
   dir_harmless event.Reserve gift d = reserved_harmless _ d
   dir_harmless (event.Grant n g remote port) gift d =
-      in_slot_harmless (slice_get d.slots n) g d (grants w h p n remote port d) (λ s. dir_if (is_reserved s.kind) _ _ (grants_harmless (way w h remote.ip) (port_for port s.bound d) n s remote d) (record { emits = tt }))
+      in_slot_harmless (slice_get d.slots n) g d (grants (home_at w h p) n remote port d) (λ s. dir_if (is_reserved s.kind) _ _ (grants_harmless (way w h remote.ip) (port_for port s.bound d) n s remote d) (record { emits = tt }))
   dir_harmless (event.Announce n g ip port) gift d =
       in_slot_harmless (slice_get d.slots n) g d (announces n ip port d)
       (λ s. dir_if (is_reserved s.kind) _ _ (gets_harmless (first_slot (is_keyed (record { ip = ip; port = port })) 0 d.slots) n (record s { kind = name.Announced; key = Some (record { ip = ip; port = port }) }) (ports_with port d.ports) d) (record { emits = tt }))
   dir_harmless (event.Bind n g port) gift d =
       in_slot_harmless (slice_get d.slots n) g d (binds n port d)
-      (λ s. dir_if (is_reserved s.kind) _ _ (gets_harmless (first_slot (is_bound port) 0 d.slots) n (record s { bound = Some port }) (port ∷ d.ports) d) (record { emits = tt }))
+      (λ s. dir_if (is_reserved s.kind) _ _ (gets_harmless (first_slot (is_bound port) 0 d.slots) n (record s { bound = Some port }) (with_port port d.ports) d) (record { emits = tt }))
   dir_harmless (event.Listen n) gift d = listens_harmless (slice_get d.slots n) n d
   dir_harmless (event.Withdraw n g) gift d = in_slot_harmless (slice_get d.slots n) g d (withdraws n d) (λ s. record { emits = tt })
   dir_harmless (event.Release n g) gift d = in_slot_harmless (slice_get d.slots n) g d (frees n d) (λ s. record { emits = tt })

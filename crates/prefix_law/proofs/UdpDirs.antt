@@ -21,13 +21,13 @@ use Rattle.net_base.specs.declared.packet.Packet.{Packet}
 use Rattle.net_base.specs.declared.world.World.{World}
 use Rattle.net_base.specs.ActorStep.{Step}
 use Rattle.net_base.specs.Conversation.{is_sync}
-use Rattle.net_base.specs.Directory.{Key, is_keyed, is_bound, gets, ports_with, announces, binds, withdraws, next_call, listens_at, listens, Slot, Dir, free_slot, is_free, is_reserved, is_announced, match_of, has_taker, first_slot, pair_place, in_found_slot, reserves, grants_pair, grants_by, port_for, grants, frees, refused_or_dropped, bears, born_or_not, arrives_at, is_live_with, is_of, pair_of, dir_step}
+use Rattle.net_base.specs.Directory.{Key, is_keyed, is_bound, gets, ports_with, announces, binds, withdraws, next_call, listens_at, listens, Slot, Dir, free_slot, is_free, is_reserved, is_announced, Taker, taker_of, home_at, with_port, first_slot, pair_place, in_found_slot, reserves, grants_pair, grants_by, port_for, grants, frees, refused_or_dropped, bears, born_or_not, arrives_at, is_live_with, is_of, pair_of, dir_step}
 use Rattle.net_base.specs.Duties.{close_calls, follow_up}
 use Rattle.net_base.specs.Routes.{Way, way, has_address}
 use Rattle.net_base.specs.Same.{same_addr}
 use Rattle.net_base.specs.Written.{Given, gave}
 use Rattle.prefix_law.proofs.Deeds.{both_ways}
-use Rattle.prefix_law.proofs.DirSteps.{slot_found, set_cases, has_pair_is, free_or_announced, match_at}
+use Rattle.prefix_law.proofs.DirSteps.{slot_found, set_cases, has_pair_is, free_or_announced, taker_found}
 use Rattle.prefix_law.proofs.Trace.{HasPlaces}
 use Rattle.prefix_law.proofs.UdpConvs.{SentIf}
 use Rattle.prefix_law.proofs.UdpDuties.{given_to, Emitted, EachDuty, WithFine}
@@ -123,7 +123,7 @@ module _ (w : World) (world : HasPlaces w) (K : Given → Type 0) (W : Pair → 
   -- a pair goes to a slot that was reserved for it
   grants_pair_after : (place : Option ℕ) (n g : ℕ) (remote : Addr) (port : Option ℕ) (s : Slot) (pair : Pair) (mtu : ℕ) (d : Dir) → DirFine K h p d.slots
       → slice_get d.slots n ≡ Some s → s.generation ≡ g → is_reserved s.kind ≡ true → has_address w h pair.local.ip ≡ true
-      → After (event.Grant n g remote port) gift (grants_pair place w h p n s pair mtu d)
+      → After (event.Grant n g remote port) gift (grants_pair place (home_at w h p) n s pair mtu d)
   grants_pair_after (Some place) n g remote port s pair mtu d f there gen reserved here = record { fine = f; new = tt; sent = tt; follow = tt }
   grants_pair_after None n g remote port s pair mtu d f there gen reserved here =
       let slot = f n s there in
@@ -144,7 +144,7 @@ module _ (w : World) (world : HasPlaces w) (K : Given → Type 0) (W : Pair → 
       }
 
   grants_by_after : (out : Option Way) (port' : Option ℕ) (n g : ℕ) (remote : Addr) (port : Option ℕ) (s : Slot) (d : Dir) → way w h remote.ip ≡ out → DirFine K h p d.slots → slice_get d.slots n ≡ Some s → s.generation ≡ g → is_reserved s.kind ≡ true
-      → After (event.Grant n g remote port) gift (grants_by out port' w h p n s remote d)
+      → After (event.Grant n g remote port) gift (grants_by out port' (home_at w h p) n s remote d)
   grants_by_after None port' n g remote port s d is f there gen reserved = record { fine = f; new = tt; sent = tt; follow = tt }
   grants_by_after (Some out) None n g remote port s d is f there gen reserved = record { fine = f; new = tt; sent = tt; follow = tt }
   grants_by_after (Some out) (Some own) n g remote port s d is f there gen reserved =
@@ -154,7 +154,7 @@ module _ (w : World) (world : HasPlaces w) (K : Given → Type 0) (W : Pair → 
       (λ _. grants_pair_after (pair_place pair 1 d.pairs) n g remote port s pair out.mtu d f there gen reserved (world.own_source h remote.ip out is))
 
   grant_after : (n g : ℕ) (remote : Addr) (port : Option ℕ) (found : Option Slot) (d : Dir) → slice_get d.slots n ≡ found → DirFine K h p d.slots
-      → IfSome (in_found_slot found g d (grants w h p n remote port d)) (λ s. After (event.Grant n g remote port) gift s)
+      → IfSome (in_found_slot found g d (grants (home_at w h p) n remote port d)) (λ s. After (event.Grant n g remote port) gift s)
   grant_after n g remote port None d is f = tt
   grant_after n g remote port (Some s) d is f =
       after_if (event.Grant n g remote port) gift (s.generation == g) _ _
@@ -205,7 +205,7 @@ module _ (w : World) (world : HasPlaces w) (K : Given → Type 0) (W : Pair → 
   bind_after n g port (Some s) d is f =
       after_if (event.Bind n g port) gift (s.generation == g) _ _
       (λ _. after_if (event.Bind n g port) gift (is_reserved s.kind) _ _
-      (λ _. bind_gets (first_slot (is_bound port) 0 d.slots) n g port (record s { bound = Some port }) (port ∷ d.ports) d f (f n s is))
+      (λ _. bind_gets (first_slot (is_bound port) 0 d.slots) n g port (record s { bound = Some port }) (with_port port d.ports) d f (f n s is))
       (λ _. record { fine = f; new = tt; sent = tt; follow = tt }))
       (λ _. record { fine = f; new = tt; sent = tt; follow = tt })
 
@@ -246,7 +246,7 @@ module _ (w : World) (world : HasPlaces w) (K : Given → Type 0) (W : Pair → 
   -- a packet that brings a conversation forth
   bears_after : (packet : Packet) (free listener : ℕ × Slot) (d : Dir) → DirFine K h p d.slots → Emitted W packet → has_address w h packet.dst.ip ≡ true
       → slice_get d.slots free.0 ≡ Some free.1 → is_free free.1 ≡ true → slice_get d.slots listener.0 ≡ Some listener.1 → is_announced listener.1.kind ≡ true
-      → After event.Arrive (given.Packet packet) (bears w h p (pair_of packet) free.0 free.1 listener.0 listener.1 d)
+      → After event.Arrive (given.Packet packet) (bears (home_at w h p) (pair_of packet) (record { free = free; listener = listener }) d)
   bears_after packet free listener d f emitted here at_free is_free' at_listener announces' =
       let pair : Pair = pair_of packet in
       let n = free.0 in
@@ -272,21 +272,16 @@ module _ (w : World) (world : HasPlaces w) (K : Given → Type 0) (W : Pair → 
         follow = ((inr refl, emitted), tt);
       }
 
-  born_after : (free listener : Option (ℕ × Slot)) (packet : Packet) (d : Dir) → first_slot is_free 0 d.slots ≡ free → match_of packet.dst d.slots ≡ listener → DirFine K h p d.slots → Emitted W packet → has_address w h packet.dst.ip ≡ true
-      → After event.Arrive (given.Packet packet) (born_or_not free listener w h p (pair_of packet) packet d)
-  born_after None listener packet d is is' f emitted here = refused_after packet.body packet d f
-  born_after (Some free) None packet d is is' f emitted here = refused_after packet.body packet d f
-  born_after (Some free) (Some listener) packet d is is' f emitted here =
-      after_if event.Arrive (given.Packet packet) (has_taker (pair_of packet) packet listener.1 d) _ _
-      (λ _.
-      let there = slot_found is_free d.slots free is in
-      let listens_there = match_at packet.dst d.slots listener is' in
-      bears_after packet free listener d f emitted here there.0 there.1 listens_there.0 listens_there.1)
-      (λ _. refused_after packet.body packet d f)
+  born_after : (taker : Option Taker) (packet : Packet) (d : Dir) → taker_of (pair_of packet) packet d ≡ taker → DirFine K h p d.slots → Emitted W packet → has_address w h packet.dst.ip ≡ true
+      → After event.Arrive (given.Packet packet) (born_or_not taker (home_at w h p) (pair_of packet) packet d)
+  born_after None packet d is f emitted here = refused_after packet.body packet d f
+  born_after (Some taker) packet d is f emitted here =
+      let found = taker_found (pair_of packet) packet d taker is in
+      bears_after packet taker.free taker.listener d f emitted here found.at_free found.free found.at_listener found.announces
 
   arrive_after : (found : Option (ℕ × Slot)) (packet : Packet) (d : Dir) → first_slot (is_live_with (pair_of packet)) 0 d.slots ≡ found → DirFine K h p d.slots → Emitted W packet → has_address w h packet.dst.ip ≡ true
-      → After event.Arrive (given.Packet packet) (arrives_at found w h p (pair_of packet) packet d)
-  arrive_after None packet d is f emitted here = born_after _ _ packet d refl refl f emitted here
+      → After event.Arrive (given.Packet packet) (arrives_at found (home_at w h p) (pair_of packet) packet d)
+  arrive_after None packet d is f emitted here = born_after _ packet d refl f emitted here
   arrive_after (Some found) packet d is f emitted here =
       let there = slot_found (is_live_with (pair_of packet)) d.slots found is in
       let has : found.1.pair ≡ Some (pair_of packet) = has_pair_is (pair_of packet) found.1.pair (and_parts (not (is_free found.1)) _ there.1).1 in

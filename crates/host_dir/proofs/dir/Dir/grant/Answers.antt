@@ -1,14 +1,16 @@
-use Rattle.std.proofs.Common.{◌≡◌, Some, slice_get, sym, ap, ◌∙◌}
-use Rattle.host_dir.specs.Kept.{HostDir}
-use Rattle.host_dir.specs.Slots.{reserved}
-use Rattle.host_dir.proofs.Steps.{at_reserved, reserved_is, then_ok}
+use Rattle.std.proofs.Common.{◌≡◌, true, Some, slice_get, rules, sym, ap, ◌∙◌}
+use Rattle.net_base.specs.Directory.{home_at, is_reserved}
+use Rattle.host_dir.specs.Found.{slot_at}
+use Rattle.host_dir.proofs.Rows.{at_reserved, then_ok}
 use Rattle.host_dir.proofs.dir.Dir.grant.Goals as goal
 
-pub returns-in-Reserved-clause-ok : goal.returns-in-Reserved-clause-ok
-returns-in-Reserved-clause-ok c =
+pub returns-clause-ok : goal.returns-clause-ok
+returns-clause-ok c =
     let d = c.args.self.now.dir in
-    let got : slice_get d.slots c.args.n ≡ Some (reserved c.args.generation) =
-    ap (λ (d : HostDir). slice_get d.dir.slots c.args.n) (sym c.self.view_is) ∙ c.at-slot.ensures
-    ∙ ap Some (reserved_is c.at-slot.result c.args.generation c.if-slot-generation.false c.in-Reserved.is) in
-    then_ok c.grant_reserved.result _ _ (λ given leaves w h kept. at_reserved w h c.args.n c.args.generation c.args.remote c.args.lport d got ∙ leaves w h kept)
+    let s = slot_at d.slots c.args.n in
+    let got : slice_get d.slots c.args.n ≡ Some s = search rules in
+    let same : s.generation ≡ c.args.generation = search rules in
+    let reserved : is_reserved s.kind ≡ true = search rules in
+    then_ok c.grant_reserved.result _ _ (λ o gives w h of.
+    at_reserved (home_at w h c.args.self.now.proto) c.args.n c.args.generation c.args.remote c.args.lport d s got same reserved ∙ gives w h of)
     c.grant_reserved.ensures.ok

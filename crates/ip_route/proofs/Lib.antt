@@ -1,0 +1,4 @@
+pub mod Longest
+pub mod OfWorld
+pub mod Ranges
+pub mod Refusals

@@ -1,0 +1,1 @@
+pub use Rattle.net_base.specs.Directory
