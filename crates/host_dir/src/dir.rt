@@ -315,10 +315,10 @@ impl Dir {
         if let Some(holder) = self.slots.announcing(key) {
             return Ok(Answer::PortTaken(holder).outcome());
         }
-        if let Some(port) = port {
+        if let Some(named) = port {
             self.ports.reserve()?;
             self.slots.announce(n, key);
-            self.ports.add(port);
+            self.ports.add(named);
             return Ok(Answer::Ok.outcome());
         }
         self.slots.announce(n, key);
