@@ -1,6 +1,6 @@
 -- Rows of the table.
 use Rattle.std.proofs.Common.{◌≡◌, ℕ, ◌==◌, Result, Ok, Err, Bool, true, Option, Some, None, refl, ap, ◌∙◌, arith, slice_get, if◌then◌else◌}
-use Rattle.std.specs.Prelude.{IfOk}
+use Rattle.std.specs.Prelude.{IfOk, OnErr}
 use Rattle.net_base.specs.declared.address.Addr.{Addr}
 use Rattle.net_base.specs.ActorStep.{Step}
 use Rattle.net_base.specs.Directory.{Dir, Home, Slot, grants, grants_by, in_slot, is_reserved, port_for}
@@ -26,3 +26,7 @@ at_reserved at n g remote port d s got same reserved =
 pub then_ok : {X E : Type 0} (r : Result X E) (P Q : X → Type 0) → ((x : X) → P x → Q x) → IfOk r P → IfOk r Q
 then_ok (Ok x) P Q further holds = further x holds
 then_ok (Err e) P Q further holds = holds
+
+pub then_err : {X E : Type 0} (r : Result X E) (P Q : Type 0) → (P → Q) → OnErr r P → OnErr r Q
+then_err (Ok x) P Q further holds = holds
+then_err (Err e) P Q further holds = further holds

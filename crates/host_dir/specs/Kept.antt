@@ -1,8 +1,10 @@
 -- A directory as it is built: what it keeps of the world, and what it is in the definitions.
-use Rattle.std.specs.Prelude.{◌≡◌, ℕ, Option, Some}
+use Rattle.std.specs.Prelude.{◌≡◌, ℕ, ◌^◌, ◌≤◌, Option, Some, IfSome}
 use Rattle.net_base.specs.declared.address.Proto.{Proto}
 use Rattle.net_base.specs.declared.history.Outcome.{Outcome}
 use Rattle.net_base.specs.declared.history.Work.{Work}
+use Rattle.net_base.specs.declared.reply.Reply.{Reply}
+use Rattle.net_base.specs.declared.reply.Reply.TheVariants as reply
 use Rattle.net_base.specs.declared.world.World.{World}
 use Rattle.net_base.specs.ActorStep.{Step}
 use Rattle.net_base.specs.Directory.{Dir, Home, dir_step, home_at}
@@ -42,3 +44,23 @@ abbrev pub Steps : HostDir → HostDir → Work → Outcome → Type 0
 Steps old new work outcome =
     (w : World) (h : ℕ) (p : Proto) → IsDirOf w h p old
     → IsDirOf w h p new × Leaves new outcome (dir_step w h p work.event work.with old.dir)
+
+-- Want of memory.
+
+-- a step with this reply may want memory; a reservation only where its generation passes all that a slot can count
+abbrev pub MayWant : Reply → Type 0
+MayWant (reply.Slot n g) = 2 ^ 64 ≤ g
+MayWant (reply.Granted pair start limit) = Unit {0}
+MayWant reply.Ok = Unit {0}
+MayWant (reply.Calls calls) = Unit {0}
+MayWant (reply.Born n g start limit) = Unit {0}
+MayWant (reply.Names names) = Unit {0}
+MayWant _ = ⊥
+
+-- the step may want memory
+abbrev pub StepMayWant : Option (Step Dir) → Type 0
+StepMayWant step = IfSome step (λ s. MayWant s.outcome.reply)
+
+-- in each world and at each host of which it is a directory, the step there may want memory
+abbrev pub Wants : HostDir → (Home → Option (Step Dir)) → Type 0
+Wants old step = (w : World) (h : ℕ) → IsDirOf w h old.proto old → StepMayWant (step (home_at w h old.proto))

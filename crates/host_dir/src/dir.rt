@@ -12,7 +12,7 @@ ghost use Rattle.net_base.specs.Directory.{Dir as AnyDir, dir_step, home_at};
 ghost use Rattle.net_base.specs.Paths.{names};
 ghost use Rattle.net_base.specs.Routes.{way};
 ghost use Rattle.host_dir.specs.Found.{slot_at, taker_at};
-ghost use Rattle.host_dir.specs.Kept.{Gives, IsDirOf, Leaves, Stays, Steps};
+ghost use Rattle.host_dir.specs.Kept.{Gives, IsDirOf, Leaves, Stays, StepMayWant, Steps, Wants};
 ghost use Rattle.host_dir.specs.Ports.{drawn};
 ghost use Rattle.host_dir.specs.Ready.{is_ready, takes};
 ghost use Rattle.host_dir.specs.Taking.{Takes, chosen, may_take};
@@ -130,6 +130,7 @@ impl Dir {
         ensures ok { IfOk result (Steps self.old self.new work.now) }
         ensures stays { Stays self.old self.new }
         ensures err { OnErr result (self.new ≡ self.old) }
+        ensures memory { OnErr result (Wants self.old (λ at. dir_step at.world at.host at.proto work.now.event work.now.with self.old.dir)) }
     {
         self.row(&work.event, &work.with)
     }
@@ -140,6 +141,7 @@ impl Dir {
         ensures ok { IfOk result (λ o. Gives self.old self.new o (λ at. dir_step at.world at.host at.proto event.now with.now self.old.dir)) }
         ensures stays { Stays self.old self.new }
         ensures err { OnErr result (self.new ≡ self.old) }
+        ensures memory { OnErr result (Wants self.old (λ at. dir_step at.world at.host at.proto event.now with.now self.old.dir)) }
     {
         match event {
             Event::Reserve => self.reserve(),
@@ -178,6 +180,7 @@ impl Dir {
         ensures ok { IfOk result (λ o. Leaves self.new o (Some (spec.reserves (spec.first_slot spec.is_free 0 self.old.dir.slots) self.old.dir))) }
         ensures stays { Stays self.old self.new }
         ensures err { OnErr result (self.new ≡ self.old) }
+        ensures memory { OnErr result (StepMayWant (Some (spec.reserves (spec.first_slot spec.is_free 0 self.old.dir.slots) self.old.dir))) }
     {
         let Some(n) = self.slots.first_free() else {
             return Ok(Answer::NoSlot.outcome());
@@ -205,6 +208,8 @@ impl Dir {
             spec.in_slot n generation self.old.dir (spec.grants at n remote lport self.old.dir))) }
         ensures stays { Stays self.old self.new }
         ensures err { OnErr result (self.new ≡ self.old) }
+        ensures memory { OnErr result (Wants self.old (λ at.
+            spec.in_slot n generation self.old.dir (spec.grants at n remote lport self.old.dir))) }
     {
         let slot = self.slots.at(n);
         if slot.generation() != generation {
@@ -224,6 +229,9 @@ impl Dir {
             at n (slot_at self.old.dir.slots n) remote self.old.dir))) }
         ensures stays { Stays self.old self.new }
         ensures err { OnErr result (self.new ≡ self.old) }
+        ensures memory { OnErr result (Wants self.old (λ at. Some (spec.grants_by
+            (way at.world at.host remote.ip) (chosen lport (slot_at self.old.dir.slots n).bound self.old.dir.ports)
+            at n (slot_at self.old.dir.slots n) remote self.old.dir))) }
     {
         let Some(way) = self.way_to(remote.ip) else {
             return Ok(Answer::NoRoute.outcome());
@@ -269,6 +277,8 @@ impl Dir {
             (spec.pair_place pair 1 self.old.dir.pairs) at n (slot_at self.old.dir.slots n) pair mtu self.old.dir))) }
         ensures stays { Stays self.old self.new }
         ensures err { OnErr result (self.new ≡ self.old) }
+        ensures memory { OnErr result (Wants self.old (λ at. Some (spec.grants_pair
+            (spec.pair_place pair 1 self.old.dir.pairs) at n (slot_at self.old.dir.slots n) pair mtu self.old.dir))) }
     {
         if let Some(k) = self.slots.number_of(pair) {
             return Ok(Answer::PairUsed(k).outcome());
@@ -303,6 +313,7 @@ impl Dir {
         ensures ok { IfOk result (λ o. Leaves self.new o (spec.in_slot n generation self.old.dir (spec.announces n ip port self.old.dir))) }
         ensures stays { Stays self.old self.new }
         ensures err { OnErr result (self.new ≡ self.old) }
+        ensures memory { OnErr result (StepMayWant (spec.in_slot n generation self.old.dir (spec.announces n ip port self.old.dir))) }
     {
         let slot = self.slots.at(n);
         if slot.generation() != generation {
@@ -315,10 +326,10 @@ impl Dir {
         if let Some(holder) = self.slots.announcing(key) {
             return Ok(Answer::PortTaken(holder).outcome());
         }
-        if let Some(port) = port {
+        if let Some(named) = port {
             self.ports.reserve()?;
             self.slots.announce(n, key);
-            self.ports.add(port);
+            self.ports.add(named);
             return Ok(Answer::Ok.outcome());
         }
         self.slots.announce(n, key);
@@ -331,6 +342,7 @@ impl Dir {
         ensures ok { IfOk result (λ o. Leaves self.new o (spec.in_slot n generation self.old.dir (spec.binds n port self.old.dir))) }
         ensures stays { Stays self.old self.new }
         ensures err { OnErr result (self.new ≡ self.old) }
+        ensures memory { OnErr result (StepMayWant (spec.in_slot n generation self.old.dir (spec.binds n port self.old.dir))) }
     {
         let slot = self.slots.at(n);
         if slot.generation() != generation {
@@ -375,6 +387,7 @@ impl Dir {
         ensures ok { IfOk result (λ o. Leaves self.new o (spec.in_slot n generation self.old.dir (spec.withdraws n self.old.dir))) }
         ensures stays { Stays self.old self.new }
         ensures err { OnErr result (self.new ≡ self.old) }
+        ensures memory { OnErr result (StepMayWant (spec.in_slot n generation self.old.dir (spec.withdraws n self.old.dir))) }
     {
         if self.slots.at(n).generation() != generation {
             return Ok(Answer::Stale.outcome());
@@ -390,6 +403,7 @@ impl Dir {
         ensures ok { IfOk result (λ o. Leaves self.new o (spec.in_slot n generation self.old.dir (spec.frees n self.old.dir))) }
         ensures stays { Stays self.old self.new }
         ensures err { OnErr result (self.new ≡ self.old) }
+        ensures memory { OnErr result (StepMayWant (spec.in_slot n generation self.old.dir (spec.frees n self.old.dir))) }
     {
         if self.slots.at(n).generation() != generation {
             return Ok(Answer::Stale.outcome());
@@ -427,6 +441,9 @@ impl Dir {
             at (spec.pair_of packet.now) packet.now self.old.dir))) }
         ensures stays { Stays self.old self.new }
         ensures err { OnErr result (self.new ≡ self.old) }
+        ensures memory { OnErr result (Wants self.old (λ at. Some (spec.arrives_at
+            (spec.first_slot (spec.is_live_with (spec.pair_of packet.now)) 0 self.old.dir.slots)
+            at (spec.pair_of packet.now) packet.now self.old.dir))) }
     {
         let pair = Pair {
             local: packet.dst,
@@ -483,6 +500,8 @@ impl Dir {
             Some (spec.bears at pair (taker_at self.old.dir.slots taker) self.old.dir))) }
         ensures stays { Stays self.old self.new }
         ensures err { OnErr result (self.new ≡ self.old) }
+        ensures memory { OnErr result (Wants self.old (λ at.
+            Some (spec.bears at pair (taker_at self.old.dir.slots taker) self.old.dir))) }
     {
         let Some(generation) = self.slots.at(taker.free).generation().checked_add(1) else {
             return Err(AllocError);
