@@ -26,7 +26,7 @@ use Rattle.net_base.specs.Directory.{Dir, Slot, Key, dir_step, pair_place, pair_
 use Rattle.net_base.specs.Routes.{Way, way}
 use Rattle.net_base.specs.Same.{same_addr, same_pair}
 use Rattle.net_base.specs.Stamped.{In}
-use Rattle.prefix_law.proofs.DirSteps.{taker_found}
+use Rattle.history_laws.proofs.Takers.{taker_found}
 
 -- Membership.
 

@@ -1,3 +1,4 @@
+pub mod Takers
 pub mod Histories
 pub mod Short
 pub mod Ordered

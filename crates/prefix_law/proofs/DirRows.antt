@@ -31,7 +31,8 @@ use Rattle.prefix_law.proofs.Trace.{Owner, Trace, dir_trace, HasPlaces}
 use Rattle.prefix_law.proofs.Deeds.{both_ways}
 use Rattle.prefix_law.proofs.Sides.{put_here}
 use Rattle.prefix_law.proofs.Touch.{owner_of, Owned, Later, Emitted, emitted_later}
-use Rattle.prefix_law.proofs.DirSteps.{WithFine, EachDuty, SlotFine, SlotIsFine, DirFine, DirIsFine, Addressed, DirStep, dir_keeps, owns, owner_stays, owner_back, owned_owns, addressed_owns, convs_owns, slot_owns, slot_gets, other_dir_owns, known_owns, slot_found, set_cases, place_push, place_last, has_pair_is, free_or_announced, taker_found}
+use Rattle.history_laws.proofs.Takers.{slot_found, taker_found}
+use Rattle.prefix_law.proofs.DirSteps.{WithFine, EachDuty, SlotFine, SlotIsFine, DirFine, DirIsFine, Addressed, DirStep, dir_keeps, owns, owner_stays, owner_back, owned_owns, addressed_owns, convs_owns, slot_owns, slot_gets, other_dir_owns, known_owns, set_cases, place_push, place_last, has_pair_is, free_or_announced}
 
 -- a slot that was had as it is, with another text
 set_fine : (t : Trace) (h : ℕ) (d : Dir) (n : ℕ) (new : Slot) → DirIsFine t h d → SlotIsFine t h n new → DirFine t h (slice_set d.slots n new) d.pairs

@@ -27,7 +27,8 @@ use Rattle.net_base.specs.Routes.{Way, way, has_address}
 use Rattle.net_base.specs.Same.{same_addr}
 use Rattle.net_base.specs.Written.{Given, gave}
 use Rattle.prefix_law.proofs.Deeds.{both_ways}
-use Rattle.prefix_law.proofs.DirSteps.{slot_found, set_cases, has_pair_is, free_or_announced, taker_found}
+use Rattle.history_laws.proofs.Takers.{slot_found, taker_found}
+use Rattle.prefix_law.proofs.DirSteps.{set_cases, has_pair_is, free_or_announced}
 use Rattle.prefix_law.proofs.Trace.{HasPlaces}
 use Rattle.prefix_law.proofs.UdpConvs.{SentIf}
 use Rattle.prefix_law.proofs.UdpDuties.{given_to, Emitted, EachDuty, WithFine}
