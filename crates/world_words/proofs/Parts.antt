@@ -1,14 +1,11 @@
 -- The parts of a word between the occurrences of a byte, and digits.
-use Rattle.std.proofs.Common.{None, ◌≡◌, ℕ, ◌^◌, ◌<◌, ◌≤◌, false, ◌==◌, List, [], ◌∷◌, length, refl, sym, ap, ◌∙◌, arith}
-use Rattle.std.specs.Str.Parse.{digits_value, AllDigits}
+use Rattle.std.proofs.Common.{◌≡◌, ℕ, ◌<◌, false, ◌==◌, List, [], ◌∷◌, length, refl, ap, ◌∙◌, arith}
 use Rattle.std.proofs.lemmas.List.Splits.{length-slice_split}
-use Rattle.std.proofs.lemmas.Int.Digits.{digits_value-lt}
-use Rattle.std.proofs.Math.Nat.{pow-le-pow_right}
 use Rattle.net_base.specs.Addresses.{parts_at}
 use Rattle.std.specs.Prelude.{false}
 use Rattle.net_base.specs.declared.world.Step.TheVariants as step
-use Rattle.world_text.specs.WorldWords.{octets_joined, address_in, joined}
-use Rattle.world_text.specs.WorldLines.{connects_words, connects, is_place, are_frames, is_frames, write_of, cs_of, kept}
+use Rattle.world_text.specs.WorldWords.{joined}
+use Rattle.world_text.specs.WorldLines.{connects_words, connects, write_of, cs_of, kept}
 use Rattle.std.proofs.lemmas.List.Splits.{join_with_byte-slice_split}
 
 -- there is always a part

@@ -14,9 +14,7 @@ pub fn connects(text: &[u8]) -> bool
         return false;
     };
     match two_parts(rest, b' ') {
-        Some((place, port)) => {
-            word == b"connect".as_slice() && is_place(place) && is_port(port)
-        }
+        Some((place, port)) => { word == b"connect".as_slice() && is_place(place) && is_port(port) }
         None => false,
     }
 }

@@ -1,7 +1,5 @@
 //! Worked words, and those that are refused.
-use crate::{
-    connects, is_fate, is_frames, is_name, nets_named, read_step, split_words,
-};
+use crate::{connects, is_fate, is_frames, is_name, nets_named, read_step, split_words};
 use net_base::{Proto, Step};
 use std::alloc::Global;
 use std::test::Fail;
