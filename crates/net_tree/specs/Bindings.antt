@@ -1,5 +1,5 @@
 -- What a contract sees of the names that are bound.
-use Rattle.std.specs.Prelude.{◌≡◌, ℕ, ◌<◌, Bool, List, [], ◌∷◌, Vec, vec_items, Option, Some, None, IfSome, bytes_eq, option_map}
+use Rattle.std.specs.Prelude.{ℕ, List, [], ◌∷◌, Vec, vec_items, Option, bytes_eq}
 use Rattle.std.specs.List.{IsDistinct}
 use Rattle.std.specs.Map.{keys_of}
 use Rattle.net_base.specs.Steps.{Bound, Fid as File}

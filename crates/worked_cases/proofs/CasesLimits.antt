@@ -5,7 +5,7 @@ use Rattle.rand_pcg.specs.Lcg.{state_after}
 use Rattle.net_base.specs.Calm.{limited_to}
 use Rattle.net_base.specs.Net.{opening_net}
 use Rattle.net_base.specs.Number.{number}
-use Rattle.plain_runner.specs.Rounds.{rounds_to}
+use Rattle.worked_cases.specs.Rounds.{rounds_to}
 use Rattle.worked_worlds.specs.WorkedIl.{lossy_world, lossy_history}
 use Rattle.worked_worlds.specs.WorkedRuns.{callers_of, moves, nobody_world}
 use Rattle.worked_worlds.specs.WorkedUdp.{datagram_world, datagram_history}

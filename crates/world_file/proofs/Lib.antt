@@ -1,3 +1,4 @@
 pub mod Places
+pub mod Connects
 pub mod Cuts
 pub mod Spelled

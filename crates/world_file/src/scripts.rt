@@ -1,17 +1,21 @@
 //! The lines of the scripts.
-ghost use Rattle.std.specs.Prelude.{◌≡◌, ◌≤◌, [], map, length, position, option_map, Some, None, MatchOption, OnOk, IfErr};
+ghost use Rattle.std.specs.Prelude.{◌≡◌, ◌≤◌, [], map, length, position, option_map, Some, None, true, MatchOption, OnOk, IfErr};
 ghost use Rattle.std.specs.List.{list_any};
 ghost use Rattle.std.specs.Option.{option_to_list};
 ghost use Rattle.net_base.specs.Addresses.{parts_at};
+ghost use Rattle.net_base.specs.World.{is_step, is_text};
 ghost use Rattle.world_text.specs.WorldLines as spec;
+ghost use Rattle.world_file.specs.Connecting.{connects_from_port};
 ghost use Rattle.world_file.specs.Told.{TellsCause, IsSmall};
 
 use crate::draft::Draft;
 use crate::fault::Fault;
 use crate::hosts::{is_called, is_host_named};
-use net_base::{HostSpec, Script, Sequence, Step};
+use ctl_words::read_ctl;
+use net_base::{Ctl, HostSpec, Script, Sequence, Step};
+use net_model::connect_texts_agree;
 use std::alloc::{AllocError, Global};
-use world_words::{connects, is_name, one, read_step};
+use world_words::{is_name, one, read_step};
 
 impl Draft {
     /// `script HOST`
@@ -61,6 +65,7 @@ impl Draft {
     }
 
     fn take_step(&mut self, step: Step) -> Result<(), Fault>
+        requires { is_step step ≡ true }
         ensures ok { OnOk result (spec.step_line self.old (Some (Some step)) ≡ spec.Goes self.new) }
         ensures bad { IfErr result (λ fault. TellsCause fault (spec.step_line self.old (Some (Some step)))) }
     {
@@ -151,6 +156,7 @@ fn is_script_of(script: &Option<Script>, host: u32) -> bool
 
 /// Whether the form asks for this step next.
 fn follows_script(script: &Option<Script>, step: &Step) -> bool
+    requires { is_step step.now ≡ true }
     ensures { result ≡ spec.follows (spec.steps_of script.now) step.now }
 {
     match script {
@@ -161,6 +167,7 @@ fn follows_script(script: &Option<Script>, step: &Step) -> bool
 
 /// Whether the form asks for this step behind these.
 fn follows(steps: &[Step], step: &Step) -> bool
+    requires { is_step step.now ≡ true }
     ensures { result ≡ spec.follows steps.now step.now }
 {
     match steps {
@@ -188,10 +195,33 @@ fn is_clone(step: &Step) -> bool
 
 /// Whether a step connects the conversation of this name.
 fn is_connected(ctl: &[u8], step: &Step) -> bool
+    requires { is_step step.now ≡ true }
     ensures { result ≡ spec.connects_name ctl.now step.now }
 {
     match step {
         Step::Write { name, text } => name.as_slice() == ctl && connects(text.as_slice()),
+        _ => false,
+    }
+}
+
+/// Whether a text on one line connects a conversation from a port.
+fn connects(text: &[u8]) -> bool
+    requires { is_text text.now ≡ true }
+    ensures { result ≡ spec.connects text.now }
+{
+    connect_texts_agree();
+    match read_ctl(text) {
+        Ok(control) => has_port(control),
+        Err(_) => false,
+    }
+}
+
+/// Whether a control connects from a port.
+fn has_port(control: Ctl) -> bool
+    ensures { result ≡ connects_from_port control }
+{
+    match control {
+        Ctl::Connect { lport: Some(_), .. } => true,
         _ => false,
     }
 }

@@ -1,25 +1,15 @@
--- The parts of a word between the occurrences of a byte, and digits.
-use Rattle.std.proofs.Common.{◌≡◌, ℕ, ◌<◌, false, ◌==◌, List, [], ◌∷◌, length, refl, ap, ◌∙◌, arith}
+-- The parts of a line between its blanks.
+use Rattle.std.proofs.Common.{◌≡◌, ℕ, ◌<◌, ◌==◌, List, [], ◌∷◌, length, ap, ◌∙◌, arith}
 use Rattle.std.proofs.lemmas.List.Splits.{length-slice_split}
 use Rattle.net_base.specs.Addresses.{parts_at}
-use Rattle.std.specs.Prelude.{false}
 use Rattle.net_base.specs.declared.world.Step.TheVariants as step
 use Rattle.world_text.specs.WorldWords.{joined}
-use Rattle.world_text.specs.WorldLines.{connects_words, connects, write_of, cs_of, kept}
+use Rattle.world_text.specs.WorldLines.{write_of, cs_of, kept}
 use Rattle.std.proofs.lemmas.List.Splits.{join_with_byte-slice_split}
 
 -- there is always a part
 pub some_part : (separator : ℕ) (word : List ℕ) → 0 < length (parts_at separator word)
 some_part separator word = omega (arith, length-slice_split (λ byte. byte == separator) word)
-
-more_connects : (a b c : List ℕ) (others : List (List ℕ)) → 0 < length others → connects_words (a ∷ b ∷ c ∷ others) ≡ false
-more_connects a b c [] more = absurd (omega arith)
-more_connects a b c (d ∷ others) more = refl
-
--- a text with three blanks doesn't connect
-pub more_words : (text after_a after_b after_c a b c : List ℕ) → parts_at 32 text ≡ a ∷ parts_at 32 after_a → parts_at 32 after_a ≡ b ∷ parts_at 32 after_b → parts_at 32 after_b ≡ c ∷ parts_at 32 after_c → connects text ≡ false
-more_words text after_a after_b after_c a b c first second third =
-    rw (first, second, third) (more_connects a b c (parts_at 32 after_c) (some_part 32 after_c))
 
 write_by : (name text : List ℕ) (words : List (List ℕ)) → 0 < length words → joined words ≡ text → write_of (name ∷ words) ≡ kept (step.Write name text)
 write_by name text [] more e = absurd (omega arith)

@@ -2,7 +2,6 @@
 #![tactic(auto)]
 
 mod arguments;
-mod connect;
 mod fates;
 mod names;
 mod steps;
@@ -10,7 +9,6 @@ mod steps;
 mod tests;
 
 pub use arguments::{four, one, split_words, three, two};
-pub use connect::connects;
 pub use fates::{is_fate, is_frames};
 pub use names::{are_bytes, is_name, nets_named};
 pub use steps::read_step;

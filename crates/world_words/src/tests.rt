@@ -1,5 +1,5 @@
 //! Worked words, and those that are refused.
-use crate::{connects, is_fate, is_frames, is_name, nets_named, read_step, split_words};
+use crate::{is_fate, is_frames, is_name, nets_named, read_step, split_words};
 use net_base::{Proto, Step};
 use std::alloc::Global;
 use std::test::Fail;
@@ -72,53 +72,6 @@ fn frames_and_fates_are_told(rt: HostRuntime) {
         assert!(rt; is_fate(word));
     }
     assert!(rt; !is_fate(b"never".as_slice()));
-}
-
-#[test]
-fn a_text_connects(rt: HostRuntime) {
-    let rows = [
-        (b"connect 10.0.0.1!7 5000".as_slice(), true),
-        (b"connect 10.0.0.1!65535 1", true),
-        (b"connect 10.0.0.1!7", false),
-        (b"connect 10.0.0.1!7 5000 ", false),
-        (b"connect 10.0.0.1!7!8 5000", false),
-        (b"connect 10.0.0.1 5000", false),
-        (b"connect 10.0.0.1!0 5000", false),
-        (b"connect 10.0.0.1!7 65536", false),
-        (b"connect 10.0.0!7 5000", false),
-        (b"announce 10.0.0.1!7 5000", false),
-    ];
-    for (text, want) in rows {
-        assert_eq!(rt; connects(text), want);
-    }
-}
-
-/// What a line of a script is read as.
-fn read(alloc: Global, line: &[u8]) -> Result<Option<Option<Step>>, Fail> {
-    let (word, rest) = split_first(line, b' ');
-    match rest {
-        Some(rest) => {
-            let words = split_words(alloc, rest)?;
-            Ok(read_step(alloc, word, words.as_slice(), Some(rest))?)
-        }
-        None => Ok(read_step(alloc, word, &[], None)?),
-    }
-}
-
-/// Whether a line is the words of a step.
-fn is_read(alloc: Global, line: &[u8]) -> Result<bool, Fail> {
-    match read(alloc, line)? {
-        Some(Some(_)) => Ok(true),
-        _ => Ok(false),
-    }
-}
-
-/// Whether a line begins with the word of a step, and its arguments are wrong.
-fn is_wrong(alloc: Global, line: &[u8]) -> Result<bool, Fail> {
-    match read(alloc, line)? {
-        Some(None) => Ok(true),
-        _ => Ok(false),
-    }
 }
 
 #[test]

@@ -1,6 +1,6 @@
 use Rattle.std.proofs.Common.{ap, ◌∙◌, option_map, vec_items, List, []}
 use Rattle.net_base.specs.Steps.{Bound}
-use Rattle.net_tree.specs.Bindings.{Bindings, file_of, newest_onto}
+use Rattle.net_tree.specs.Bindings.{file_of, newest_onto}
 use Rattle.net_tree.proofs.Newest.{fid_found, unbound}
 use Rattle.net_tree.proofs.fids.Fids.unbind.Goals as goal
 
