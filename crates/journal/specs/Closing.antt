@@ -20,7 +20,8 @@ use Rattle.journal.specs.Tokens.{stamped, Holds}
 abbrev pub plain : ℕ × Noted → ℕ × Entry
 plain x = (x.0, x.1.entry)
 
--- the history h is all that the pass has seen. The entries of each book's actor are the book's, and those of each of the pass's callers are that caller's
+-- the history h is all that the pass has seen. The entries of each book's actor are the book's, and those of each of the
+-- pass's callers are that caller's
 pub record IsWhole (r : Roster) (p : Sight) (books : List Volume) (h : List Entry) : Type 0 where
   pub entries : h ≡ map (λ (x : Noted). x.entry) p.seen
   pub actors : (b : Volume) → In b books → of_actor b.actor h ≡ map plain b.list
@@ -41,15 +42,20 @@ pub record Gathered (v : View) (books : List Volume) (w : View) (entries : List 
   pub before : IsPrefix v.seen w.seen
   pub taken : (b : Volume) → In b books → In (number.Actor b.actor, b.list) w.held
   pub all : (b : Volume) (y : ℕ × Noted) → In b books → In y b.list → In (stamped y) entries
-  pub sound : (e : Stamped) → In e entries → (b : Volume) × In b books × (y : ℕ × Noted) × In y b.list × (e ≡ stamped y)
+  pub sound : (e : Stamped) → In e entries →
+      (b : Volume) × In b books × (y : ℕ × Noted) × In y b.list × (e ≡ stamped y)
 
 -- the entries are those of log, at their stamps
 pub record IsCover (log : List Entry) (entries : List Stamped) : Type 0 where
   pub sound : (e : Stamped) → In e entries → get_elem? log e.stamp ≡ some e.entry
   pub all : (n : ℕ) (x : Entry) → get_elem? log n ≡ some x → In record { stamp = n; entry = x } entries
 
--- where a list of that length has these entries at their stamps, they are put in their places, and what was in its place stays
+-- where a list of that length has these entries at their stamps, they are put in their places, and what was in its place
+-- stays
 pub record IsPlaced (entries : List Stamped) (before after : List (Option Entry)) : Type 0 where
   pub long : length after ≡ length before
-  pub put : (log : List Entry) → length log ≡ length before → ((e : Stamped) → In e entries → get_elem? log e.stamp ≡ some e.entry) → (n : ℕ) (x : Entry) → get_elem? log n ≡ some x
-      → In record { stamp = n; entry = x } entries ⊎ (get_elem? before n ≡ some (Some x)) → get_elem? after n ≡ some (Some x)
+  pub put : (log : List Entry) → length log ≡ length before →
+      ((e : Stamped) → In e entries → get_elem? log e.stamp ≡ some e.entry) →
+      (n : ℕ) (x : Entry) → get_elem? log n ≡ some x →
+      In record { stamp = n; entry = x } entries ⊎ (get_elem? before n ≡ some (Some x)) →
+      get_elem? after n ≡ some (Some x)

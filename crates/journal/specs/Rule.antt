@@ -35,6 +35,7 @@ pub record Fits (r : Roster) (past : List Noted) (x : Noted) : Type 0 where
   pub room : length (at (number.Caller x.entry.caller) past) < 131072
   pub event_is : x.entry.event ≡ x.work.event
 
+-- each entry may stand after those before it
 abbrev pub Lawful : Roster → List Noted → Type 0
 Lawful r log = (p : List Noted) (x : Noted) (q : List Noted) → log ≡ p ++ x ∷ q → Fits r p x
 
@@ -59,7 +60,8 @@ abbrev pub has_caller : List Held → Bool
 has_caller [] = false
 has_caller (x ∷ xs) = if is_caller x then true else has_caller xs
 
--- what a seat knows is so: beginnings of the history, all entries of its numbers, and, where it has a caller's number, all of the clock's
+-- what a seat knows is so: beginnings of the history, all entries of its numbers, and, where it has a caller's number, all of
+-- the clock's
 pub record Knows (r : Roster) (log : List Noted) (v : View) : Type 0 where
   pub seen : IsPrefix v.seen log
   pub olds : (old : List Noted) → In old v.olds → IsPrefix old log
@@ -77,9 +79,11 @@ Has k v = (es : List (ℕ × Noted)) × In (k, es) v.held
 
 -- no two seats hold one number
 abbrev pub Apart : List View → Type 0
-Apart views = (i j : ℕ) (v w : View) (k : Number) (es fs : List (ℕ × Noted)) → get_elem? views i ≡ some v → get_elem? views j ≡ some w → In (k, es) v.held → In (k, fs) w.held → i ≡ j
+Apart views = (i j : ℕ) (v w : View) (k : Number) (es fs : List (ℕ × Noted)) →
+    get_elem? views i ≡ some v → get_elem? views j ≡ some w → In (k, es) v.held → In (k, fs) w.held → i ≡ j
 
--- there is a history, whose length is the word. Each seat knows a beginning of it, and one knows the whole. Each number is held by one seat
+-- there is a history, whose length is the word. Each seat knows a beginning of it, and one knows the whole. Each number is
+-- held by one seat
 pub record Kept (r : Roster) (s : State (Unit {0}) View) : Type 0 where
   pub log : List Noted
   pub few : r.callers ≤ 37
@@ -99,8 +103,15 @@ abbrev pub actor_numbers : List ActorName → List Held
 actor_numbers [] = []
 actor_numbers (a ∷ as') = (number.Actor a, []) ∷ actor_numbers as'
 
+-- what the first seat knows
 abbrev pub newcomer : Roster → View
-newcomer r = record { seen = []; olds = []; held = caller_numbers r.callers ++ actor_numbers r.actors; clock = []; clocks = [] }
+newcomer r = record {
+  seen = [];
+  olds = [];
+  held = caller_numbers r.callers ++ actor_numbers r.actors;
+  clock = [];
+  clocks = [];
+}
 
 abbrev pub same_number : Number → Number → Bool
 same_number (number.Caller a) (number.Caller b) = a == b
@@ -109,12 +120,25 @@ same_number _ _ = false
 
 -- a seat hands a number over
 abbrev pub without : Number → View → View
-without k v = record { seen = v.seen; olds = v.olds; held = filter (λ (h : Held). not (same_number h.0 k)) v.held; clock = v.clock; clocks = v.clocks }
+without k v = record {
+  seen = v.seen;
+  olds = v.olds;
+  held = filter (λ (h : Held). not (same_number h.0 k)) v.held;
+  clock = v.clock;
+  clocks = v.clocks;
+}
 
 -- the seat that gets it has seen as much
 abbrev pub only : Number → View → View
-only k v = record { seen = v.seen; olds = v.olds; held = filter (λ (h : Held). same_number h.0 k) v.held; clock = v.clock; clocks = v.clocks }
+only k v = record {
+  seen = v.seen;
+  olds = v.olds;
+  held = filter (λ (h : Held). same_number h.0 k) v.held;
+  clock = v.clock;
+  clocks = v.clocks;
+}
 
+-- of two beginnings of one history the longer
 abbrev pub longer : List Noted → List Noted → List Noted
 longer xs ys = if nat_lt (length xs) (length ys) then ys else xs
 
@@ -122,10 +146,17 @@ longer xs ys = if nat_lt (length xs) (length ys) then ys else xs
 abbrev pub clock_of : View → List (List (ℕ × Noted))
 clock_of v = if has_caller v.held then v.clock ∷ [] else []
 
--- a seat takes another in, and both beginnings are remembered
+-- a seat takes another in: what each had seen stays known, until the next step on the word shows that all of it is one history
 abbrev pub both : View → View → View
-both v w = record { seen = longer v.seen w.seen; olds = v.seen ∷ w.seen ∷ []; held = v.held ++ w.held; clock = if has_caller v.held then v.clock else w.clock; clocks = clock_of v ++ clock_of w }
+both v w = record {
+  seen = longer v.seen w.seen;
+  olds = v.seen ∷ w.seen ∷ [];
+  held = v.held ++ w.held;
+  clock = if has_caller v.held then v.clock else w.clock;
+  clocks = clock_of v ++ clock_of w;
+}
 
+-- what a seat knows that was taken in
 abbrev pub spent : View
 spent = record { seen = []; olds = []; held = []; clock = []; clocks = [] }
 
@@ -147,7 +178,8 @@ gain n x h = (h.0, if matches h.0 x then h.1 ++ (n, x) ∷ [] else h.1)
 
 -- the entry isn't the clock's, or the seat holds every caller's number
 abbrev pub Timely : Roster → List Held → Noted → Type 0
-Timely r held x = (matches clock x ≡ false) ⊎ ((c : ℕ) → c < r.callers → (es : List (ℕ × Noted)) × In (number.Caller c, es) held)
+Timely r held x = (matches clock x ≡ false)
+    ⊎ ((c : ℕ) → c < r.callers → (es : List (ℕ × Noted)) × In (number.Caller c, es) held)
 
 -- the seat holds the numbers of the entry, and knows that it may come next
 pub record MayAdd (r : Roster) (v : View) (x : Noted) : Type 0 where
@@ -178,8 +210,25 @@ pub record Adds (r : Roster) (x : Noted) (v : View) (found : ℕ) (w : View) : T
 abbrev pub IsSeat : TableId → Seat (Unit {0}) View → Type 0
 IsSeat table s = (s.table_id ≡ table) × (s.me.1 ≡ [])
 
+-- some entry, where none is named
 abbrev pub nothing_noted : Noted
-nothing_noted = record { entry = record { actor = name.Clock; caller = 0; moment = 0; event = event.Take; cites = None; reply = reply.Ok; emits = None; ended = false }; work = record { event = event.Take; with = given.Nothing } }
+nothing_noted = record {
+  entry = record {
+    actor = name.Clock;
+    caller = 0;
+    moment = 0;
+    event = event.Take;
+    cites = None;
+    reply = reply.Ok;
+    emits = None;
+    ended = false;
+  };
+  work = record { event = event.Take; with = given.Nothing };
+}
 
+-- some journal, where none is named
 abbrev pub no_run : Run
-no_run = record { table = record { words = 0; slots = 0; views_name = 0; atom = 0; block = 0; offset = 0; slot_names = [] }; roster = record { callers = 0; actors = [] } }
+no_run = record {
+  table = record { words = 0; slots = 0; views_name = 0; atom = 0; block = 0; offset = 0; slot_names = [] };
+  roster = record { callers = 0; actors = [] };
+}

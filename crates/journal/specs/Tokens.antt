@@ -39,7 +39,8 @@ OnlyCallers hs = (k : Number) (es : List (ℕ × Noted)) → In (k, es) hs → I
 -- how many entries each of these callers has, and 0 for the others
 pub record Counted (counts : List ℕ) (hs : List Held) : Type 0 where
   pub long : length counts ≡ 37
-  pub each : (c : ℕ) (es : List (ℕ × Noted)) → In (number.Caller c, es) hs → (c < 37) × (slice_index counts c ≡ length es) × (length es ≤ 131072)
+  pub each : (c : ℕ) (es : List (ℕ × Noted)) → In (number.Caller c, es) hs →
+      (c < 37) × (slice_index counts c ≡ length es) × (length es ≤ 131072)
   pub none : (c : ℕ) → (slice_index counts c ≡ 0) ⊎ ((es : List (ℕ × Noted)) × In (number.Caller c, es) hs)
 
 pub record IsPass (table : TableId) (s : Seat (Unit {0}) View) (counts : List ℕ) : Type 0 where
@@ -52,7 +53,8 @@ abbrev pub first : List Held → List (ℕ × Noted)
 first [] = []
 first (h ∷ hs) = h.1
 
--- a book as contracts see it: its actor, what was seen, the actor's entries with their stamps and works, and the room reserved
+-- a book as contracts see it: its actor, what was seen, the actor's entries with their stamps and works, and the room that
+-- is reserved
 abbrev pub volume : ActorName → ℕ → List View → ℕ → Volume
 volume a i [] n = record { actor = a; number = i; seen = []; list = []; room = n }
 volume a i (v ∷ vs) n = record { actor = a; number = i; seen = v.seen; list = first v.held; room = n }
@@ -85,9 +87,10 @@ pub record MayRecord (p : Sight) (b : Volume) (x : Noted) : Type 0 where
   pub moment_is : x.entry.moment ≡ moment p.seen
   pub event_is : x.entry.event ≡ x.work.event
 
--- past is the history before the stamp. It has all that the pass and the book had seen, and no more of the pass's callers and the book's actor than these had.
--- The lists of the entry's caller and of its actor gain the entry, and the others stay
-pub record Recorded (r : Roster) (b : Volume) (p : Sight) (x : Noted) (stamp : ℕ) (b' : Volume) (p' : Sight) : Type 0 where
+-- past is the history before the stamp. It has all that the pass and the book had seen, and no more of the pass's callers and
+-- the book's actor than these had. The lists of the entry's caller and of its actor gain the entry, and the others stay
+pub record Recorded (r : Roster) (b : Volume) (p : Sight) (x : Noted) (stamp : ℕ)
+    (b' : Volume) (p' : Sight) : Type 0 where
   pub past : List Noted
   pub stamp_is : length past ≡ stamp
   pub seen : p'.seen ≡ past ++ x ∷ []

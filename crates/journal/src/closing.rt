@@ -13,7 +13,7 @@ use net_base::{Entry, History};
 use std::alloc::{AllocError, Global};
 
 impl<J: Naming> Journal<J> {
-    /// The whole history by stamp, from the pass that holds every caller's number and the books of all actors in their order.
+    /// The whole history by stamp. It needs the pass of all callers and the books of all actors, in their order.
     pub fn close(
         self,
         alloc: Global,
@@ -43,13 +43,15 @@ impl<J: Naming> Journal<J> {
     fn gather(&self, all: &mut Token, mut books: Vec<Book<J>>, places: &mut Vec<Option<Entry>>)
         requires { IsSeat J.run.table all.old }
         ensures seat { IsSeat J.run.table all.new }
-        ensures gathered { (es : List Stamped) × Gathered all.old.me.0 books.items all.new.me.0 es × IsPlaced es places.old.items places.new.items }
+        ensures gathered { (es : List Stamped) × Gathered all.old.me.0 books.items all.new.me.0 es
+            × IsPlaced es places.old.items places.new.items }
     {
         while let Some(book) = books.pop() {
             self.gather_one(all, book, places);
         }
     }
 
+    // The same for one book.
     fn gather_one(&self, all: &mut Token, book: Book<J>, places: &mut Vec<Option<Entry>>)
         requires { IsSeat J.run.table all.old }
         ensures seat { IsSeat J.run.table all.new }
@@ -78,6 +80,7 @@ fn put_all(mut entries: Vec<Stamped>, places: &mut Vec<Option<Entry>>)
     }
 }
 
+// Puts an entry at its stamp.
 fn put(next: Stamped, places: &mut Vec<Option<Entry>>)
     ensures { places.new.items ≡ slice_set places.old.items next.stamp (Some next.entry) }
 {
@@ -102,6 +105,7 @@ fn in_order(mut places: Vec<Option<Entry>>, history: &mut Vec<Entry>)
     history.reverse();
 }
 
+// So many empty places.
 fn nothing(alloc: Global, count: usize) -> Result<Vec<Option<Entry>>, AllocError>
     ensures { IfOk result (λ v. v.items ≡ replicate count None) }
 {

@@ -11,17 +11,21 @@ pub struct Roster {
     pub actors: ActorList,
 }
 
-/// What a seat knows: a beginning of the history, beginnings that it also saw, the lists of the numbers that it holds,
-/// and the entries of the clock, as each seat that was taken in had them. No value of it is made.
+/// What a seat of the journal knows of the history. No value of it is made.
 pub struct View {
+    /// The beginning of the history that the seat has seen.
     pub seen: LinkedList<Noted>,
+    /// What two seats had each seen before the one took the other in.
     pub olds: LinkedList<LinkedList<Noted>>,
+    /// The callers and actors that the seat acts for, each with all of its entries.
     pub held: LinkedList<(Number, LinkedList<(u64, Noted)>)>,
+    /// The clock's entries, by which the seat tells the moment.
     pub clock: LinkedList<(u64, Noted)>,
+    /// The clock's entries as two seats each had them before the one took the other in.
     pub clocks: LinkedList<LinkedList<(u64, Noted)>>,
 }
 
-/// The rule of the journal's word, over what all seats know.
+/// The rule that every step on the journal's word keeps, over what all seats know.
 pub struct Law;
 
 impl TableRule<(), View, Roster> for Law {
@@ -32,14 +36,14 @@ impl TableRule<(), View, Roster> for Law {
     ghost first = { newcomer };
 }
 
-/// Which journal it is. Each run of a program picks it.
+/// Which journal it is. Each run of a program names one.
 pub trait Naming {
     ghost use Rattle.journal.specs.Rule.{Run};
 
     ghost run: { Run };
 }
 
-/// A look at the word.
+/// A read of the word: the seat has then seen the whole history.
 pub struct Look<J: Naming> {
     of: PhantomData<J>,
 }
@@ -51,7 +55,7 @@ impl<J: Naming> Play<(), View> for Look<J> {
     ghost then = { λ s me found after. (after.1 ≡ me.1) × Looks J.run.roster me.0 found after.0 };
 }
 
-/// Which entry a step adds. Each call picks it.
+/// Which entry a step adds. Each call names it.
 pub trait Adding {
     ghost use Rattle.net_base.specs.declared.noted.Noted.{Noted};
 
@@ -71,7 +75,7 @@ impl<J: Naming, E: Adding> Play<(), View> for Add<J, E> {
     ghost then = { λ s me found after. (after.1 ≡ me.1) × Adds J.run.roster E.noted me.0 found after.0 };
 }
 
-/// Which number is handed over. Each call picks it.
+/// Which number is handed over. Each call names it.
 pub trait Handing {
     ghost use Rattle.net_base.specs.declared.noted.Number.{Number};
 

@@ -1,4 +1,4 @@
-// The tokens of callers and actors.
+// What callers and actors hold: passes and books.
 ghost use Rattle.std.specs.Prelude.{◌≡◌, ◌≢◌, ◌+◌, ◌<◌, ◌≤◌, ◌++◌, slice_index, max, filter, not, length, vec_len, vec_capacity, false, OnOk, OnErr, IsOk};
 ghost use Rattle.std.specs.Prelude.{ℕ, List};
 ghost use mathlib.Core.List.{IsPrefix};
@@ -40,7 +40,7 @@ pub struct Volume {
     pub room: usize,
 }
 
-/// The token of callers: their numbers, and a beginning of the history that was seen.
+/// What some callers hold: their numbers, and the beginning of the history that they have seen.
 #[derive(Drop)]
 pub struct Pass<J: Naming> {
     pub(crate) seat: Token,
@@ -59,7 +59,7 @@ impl<J: Naming> Model for Pass<J> {
     ghost invariant = { λ p. IsPass J.run.table p.seat p.counts };
 }
 
-/// The token of an actor: its entries with their stamps.
+/// What an actor holds: its entries with their stamps.
 #[derive(Drop)]
 pub struct Book<J: Naming> {
     pub(crate) badge: Badge<View>,
@@ -99,7 +99,8 @@ impl<J: Naming> Book<J> {
 
     /// Room for one entry more.
     pub fn reserve(&mut self) -> Result<(), AllocError>
-        ensures same { (self.new.actor ≡ self.old.actor) × (self.new.number ≡ self.old.number) × (self.new.seen ≡ self.old.seen) × (self.new.list ≡ self.old.list) }
+        ensures same { (self.new.actor ≡ self.old.actor) × (self.new.number ≡ self.old.number)
+            × (self.new.seen ≡ self.old.seen) × (self.new.list ≡ self.old.list) }
         ensures room { OnOk result (0 < self.new.room) }
         ensures short { length self.new.list ≤ 4849664 }
     {
@@ -152,7 +153,7 @@ impl<J: Naming> Journal<J> {
         self.put(book, pass, entry, work)
     }
 
-    /// The front that the pass has now seen.
+    /// The length of the history, all of which the pass has then seen.
     pub fn look(&self, pass: &mut Pass<J>) -> u64
         ensures { Looked J.run.roster pass.old result pass.new }
     {
@@ -171,11 +172,13 @@ impl<J: Naming> Journal<J> {
         front
     }
 
-    /// Hands over one number.
+    /// A new pass with this caller's number, which the pass then has no more.
     pub fn split_pass(&self, pass: &mut Pass<J>, caller: u32) -> Pass<J>
         requires { (es : List (ℕ × Noted)) × Holds pass.old caller es }
-        ensures kept { (pass.new.seen ≡ pass.old.seen) × (pass.new.held ≡ filter (λ h. not (same_number h.0 (Caller caller))) pass.old.held) }
-        ensures given { (result.seen ≡ pass.old.seen) × (result.held ≡ filter (λ h. same_number h.0 (Caller caller)) pass.old.held) }
+        ensures kept { (pass.new.seen ≡ pass.old.seen)
+            × (pass.new.held ≡ filter (λ h. not (same_number h.0 (Caller caller))) pass.old.held) }
+        ensures given { (result.seen ≡ pass.old.seen)
+            × (result.held ≡ filter (λ h. same_number h.0 (Caller caller)) pass.old.held) }
     {
         let place = caller as usize;
         let seat = self.hand::<Brand>(&mut pass.seat, Number::Caller(caller));
@@ -189,7 +192,7 @@ impl<J: Naming> Journal<J> {
         }
     }
 
-    /// Takes the other's numbers, and all that it had seen.
+    /// Takes the other pass in, with its numbers and all that it had seen.
     pub fn meet(&self, pass: &mut Pass<J>, other: Pass<J>)
         ensures { Met J.run.roster pass.old other pass.new }
     {

@@ -15,8 +15,8 @@ use Rattle.journal.specs.declared.tokens.Volume.{Volume}
 use Rattle.journal.specs.Tokens.{Holds, AreBlank}
 use Rattle.journal.proofs.Lists.{in-gain}
 use Rattle.journal.proofs.Steps.{in_has_caller}
-use Rattle.locked.specs.declared.desk.Answer.{Answer}
-use Rattle.locked.specs.declared.desk.Answer.TheVariants as answered
+use Rattle.locked.specs.declared.guarded.Answer.{Answer}
+use Rattle.locked.specs.declared.guarded.Answer.TheVariants as answered
 use Rattle.locked.specs.Acts.{made, Acted}
 
 gained_one : (n : ℕ) (x : Noted) (b : Bool) (es : List (ℕ × Noted)) → length (if b then es ++ (n, x) ∷ [] else es) ≤ length es + 1

@@ -16,8 +16,8 @@ use Rattle.journal.specs.declared.tokens.Sight.{Sight}
 use Rattle.journal.specs.declared.tokens.Volume.{Volume}
 use Rattle.journal.specs.Rule.{Lawful, gain}
 use Rattle.journal.specs.Tokens.{HoldsAll, Looked}
-use Rattle.locked.specs.declared.desk.Answer.{Answer}
-use Rattle.locked.specs.declared.desk.Answer.TheVariants as answered
+use Rattle.locked.specs.declared.guarded.Answer.{Answer}
+use Rattle.locked.specs.declared.guarded.Answer.TheVariants as answered
 
 -- the state that a step leaves; where the work isn't ready it stays
 abbrev pub left_by : {S : Type 0} → S → Option (Step S) → S
@@ -31,7 +31,16 @@ without_copy o = record { reply = o.reply; copy = None; emit = o.emit; taken = o
 -- the entry of a call, with its work
 abbrev pub made : ActorName → ℕ → ℕ → Work → Option ℕ → Outcome → Noted
 made a c now work cites o = record {
-  entry = record { actor = a; caller = c; moment = now; event = work.event; cites = cites; reply = o.reply; emits = option_map header o.emit; ended = o.ended };
+  entry = record {
+    actor = a;
+    caller = c;
+    moment = now;
+    event = work.event;
+    cites = cites;
+    reply = o.reply;
+    emits = option_map header o.emit;
+    ended = o.ended;
+  };
   work = work;
 }
 
@@ -54,6 +63,7 @@ module _ {S : Type 0} (begin : ActorName → S) (answer : S → ℕ → Work →
     pub emits : x.entry.emits ≡ option_map header step.outcome.emit
     pub ended : x.entry.ended ≡ step.outcome.ended
 
+  -- each entry was ready in the state that those before it leave, and has what its step gives
   abbrev pub Replays : S → List (ℕ × Noted) → Type 0
   Replays s [] = Unit {0}
   Replays s (x ∷ xs) = Keeps s x.1 × Replays (left_by s (answer s x.1.entry.moment x.1.work)) xs
@@ -64,7 +74,8 @@ module _ {S : Type 0} (begin : ActorName → S) (answer : S → ℕ → Work →
     pub replays : Replays (begin book.actor) book.list
 
   -- one entry was recorded, at its stamp. past is the history before it
-  pub record IsDone (r : Roster) (a : ActorName) (c now : ℕ) (work : Work) (cites : Option ℕ) (p : Sight) (stamp : ℕ) (o : Outcome) (p' : Sight) : Type 0 where
+  pub record IsDone (r : Roster) (a : ActorName) (c now : ℕ) (work : Work) (cites : Option ℕ)
+      (p : Sight) (stamp : ℕ) (o : Outcome) (p' : Sight) : Type 0 where
     pub past : List Noted
     pub stamp_is : length past ≡ stamp
     pub before : IsPrefix p.seen past
@@ -80,10 +91,12 @@ module _ {S : Type 0} (begin : ActorName → S) (answer : S → ℕ → Work →
     pub lawful : Lawful r p'.seen
 
   -- the work isn't ready at this front, and no list gained an entry
-  pub record IsNotReady (r : Roster) (a : ActorName) (now : ℕ) (work : Work) (p : Sight) (front : ℕ) (p' : Sight) : Type 0 where
+  pub record IsNotReady (r : Roster) (a : ActorName) (now : ℕ) (work : Work)
+      (p : Sight) (front : ℕ) (p' : Sight) : Type 0 where
     pub look : Looked r p front p'
     pub unready : answer (state_at a p'.seen) now work ≡ None
 
+  -- what a call on the actor did to the pass, by its answer
   abbrev pub Acted : Roster → ActorName → ℕ → ℕ → Work → Option ℕ → Sight → Answer → Sight → Type 0
   Acted r a c now work cites p (answered.Done stamp o) p' = IsDone r a c now work cites p stamp o p'
   Acted r a c now work cites p (answered.NotReady front) p' = IsNotReady r a now work p front p'

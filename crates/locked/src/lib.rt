@@ -1,11 +1,11 @@
 //! Actors behind locks: each event is one step of one actor, at one place of one history.
 #![tactic(auto)]
 
-mod desk;
+mod guarded;
 mod lock;
 mod machine;
 
-pub use desk::{Answer, Desk, View};
+pub use guarded::{Answer, Guarded, View};
 pub use lock::Locked;
 pub use machine::Machine;
 

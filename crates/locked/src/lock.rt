@@ -6,7 +6,7 @@ ghost use Rattle.net_base.specs.Stamped.{same_actor, moment};
 ghost use Rattle.journal.specs.Tokens.{Holds, HoldsAll, Looked};
 ghost use Rattle.locked.specs.Acts.{Acted, Stands, state_at};
 
-use crate::desk::{Answer, Desk, View};
+use crate::guarded::{Answer, Guarded, View};
 use crate::machine::Machine;
 use journal::{Book, Journal, Naming, Pass};
 use net_base::{ActorName, Work, same_actor};
@@ -18,7 +18,7 @@ use std::sync::{Mutex, Wait};
 pub struct Locked<J: Naming, M: Machine> {
     actor: ActorName,
     number: u32,
-    desk: Mutex<Desk<J, M>>,
+    guarded: Mutex<Guarded<J, M>>,
     ghost few: { number < 2147483648 },
 }
 
@@ -26,12 +26,13 @@ impl<J: Naming, M: Machine> Locked<J, M> {
     /// The actor of the book, whose machine stands for the book's entries.
     pub fn new(machine: M, book: Book<J>) -> Locked<J, M>
         requires { Stands M.begin M.answer machine book }
-        ensures { result.actor ≡ book.actor }
+        ensures actor { result.actor ≡ book.actor }
+        ensures number { result.number ≡ book.number }
     {
         Locked {
             actor: book.actor(),
             number: book.number(),
-            desk: Mutex::new(Desk::new(machine, book)),
+            guarded: Mutex::new(Guarded::new(machine, book)),
         }
     }
 
@@ -52,14 +53,15 @@ impl<J: Naming, M: Machine> Locked<J, M> {
         requires moment { now ≡ moment pass.old.seen }
         requires now { now < 2 ^ 63 }
         requires actor { same_actor self.now.actor Clock ≡ false }
-        ensures { Acted M.begin M.answer J.run.roster self.now.actor caller now work.now cites pass.old result pass.new }
+        ensures { Acted M.begin M.answer J.run.roster self.now.actor caller now work.now cites
+            pass.old result pass.new }
     {
         let answer = {
-            let mut guard = self.desk.lock(rt);
-            let desk = &mut *guard;
-            // Nothing is known of what lies behind a lock but its type, so that it is this actor is seen here. It always is.
-            if same_actor(desk.actor(), self.actor) {
-                desk.act(journal, gate, pass, caller, now, work, cites)
+            let mut guard = self.guarded.lock(rt);
+            let guarded = &mut *guard;
+            // Nothing is known of what lies behind a lock but its type, so the actor is compared here. It is always this one.
+            if same_actor(guarded.actor(), self.actor) {
+                guarded.act(journal, gate, pass, caller, now, work, cites)
             } else {
                 Answer::Memory
             }
@@ -84,13 +86,14 @@ impl<J: Naming, M: Machine> Locked<J, M> {
         requires moment { now ≡ moment pass.old.seen }
         requires now { now < 2 ^ 63 }
         requires all { HoldsAll J.run.roster pass.old }
-        ensures { Acted M.begin M.answer J.run.roster self.now.actor caller now work.now cites pass.old result pass.new }
+        ensures { Acted M.begin M.answer J.run.roster self.now.actor caller now work.now cites
+            pass.old result pass.new }
     {
         let answer = {
-            let mut guard = self.desk.lock(rt);
-            let desk = &mut *guard;
-            if same_actor(desk.actor(), self.actor) {
-                desk.act_clock(journal, gate, pass, caller, now, work, cites)
+            let mut guard = self.guarded.lock(rt);
+            let guarded = &mut *guard;
+            if same_actor(guarded.actor(), self.actor) {
+                guarded.act_clock(journal, gate, pass, caller, now, work, cites)
             } else {
                 Answer::Memory
             }
@@ -99,6 +102,7 @@ impl<J: Naming, M: Machine> Locked<J, M> {
         answer
     }
 
+    // Says to the gate that the lock is released, where an entry was recorded.
     fn leave<G: Gate>(&self, gate: &G, answer: &Answer) {
         if let Answer::Done { .. } = answer {
             gate.at(2 * self.number + 1);
@@ -115,15 +119,16 @@ impl<J: Naming, M: Machine> Locked<J, M> {
         work: Option<&Work>,
     ) -> View
         ensures front { Looked J.run.roster pass.old result.front pass.new }
-        ensures ready { MatchOption work.entry (result.ready ≡ false) (λ w. result.ready ≡ is_some (M.answer (state_at M.begin M.answer self.now.actor pass.new.seen) now w.now)) }
+        ensures ready { MatchOption work.entry (result.ready ≡ false)
+            (λ w. result.ready ≡ is_some (M.answer (state_at M.begin M.answer self.now.actor pass.new.seen) now w.now)) }
         ensures due { result.due ≡ M.due_of (state_at M.begin M.answer self.now.actor pass.new.seen) }
     {
         // The first round ends it, since the lock has this actor.
         for _ in rt.forever() {
-            let mut guard = self.desk.lock(rt);
-            let desk = &mut *guard;
-            if same_actor(desk.actor(), self.actor) {
-                return desk.view(journal, pass, now, work);
+            let mut guard = self.guarded.lock(rt);
+            let guarded = &mut *guard;
+            if same_actor(guarded.actor(), self.actor) {
+                return guarded.view(journal, pass, now, work);
             }
         }
         unreachable!()
@@ -136,8 +141,8 @@ impl<J: Naming, M: Machine> Locked<J, M> {
         let Locked {
             actor: _,
             number: _,
-            desk,
+            guarded,
         } = self;
-        desk.into_inner().into_parts()
+        guarded.into_inner().into_parts()
     }
 }

@@ -28,8 +28,10 @@ pub trait Machine: Drop {
     fn step(&mut self, now: u64, work: &Work) -> Result<Outcome, AllocError>
         requires ready { is_some (answer self.old now work.now) ≡ true }
         requires now { now < 2 ^ 63 }
-        requires reached { (a : ActorName) × (works : List (ℕ × Noted)) × (length works < 2 ^ 30) × (self.old ≡ state begin answer (begin a) works) }
-        ensures ok { IfOk result (λ o. answer self.old now work.now ≡ Some record { state = self.new; outcome = o }) }
+        requires reached { (a : ActorName) × (works : List (ℕ × Noted)) × (length works < 2 ^ 30)
+            × (self.old ≡ state begin answer (begin a) works) }
+        ensures ok { IfOk result
+            (λ o. answer self.old now work.now ≡ Some record { state = self.new; outcome = o }) }
         ensures copy { IfOk result (λ o. o.copy ≡ Some o.reply) }
         ensures err { OnErr result (self.new ≡ self.old) };
 

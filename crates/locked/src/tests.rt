@@ -16,8 +16,8 @@ use outside::{Gate, OpenGate};
 use std::alloc::Global;
 use std::marker::Brand;
 use std::process::Abort;
-use std::sync::Wait;
 use std::sync::atomic::{AtomicU64, Ordering};
+use std::sync::{Mutex, Wait};
 use std::test::*;
 use std::thread::{Threads, join};
 
@@ -163,16 +163,21 @@ fn two_threads_count(rt: HostRuntime) -> Result<(), Fail> {
     counted_by_two::<Brand, _>(&rt, rt.alloc(), opened)
 }
 
-// Acts twice at a desk, once where it isn't ready, and then at the clock.
+// Acts at a desk, once where it isn't ready, and then at the clock. At each call of the gate, a pass without numbers looks at
+// the journal: each entry is recorded between two calls.
 fn watched<J: Naming, R: Wait + Abort>(rt: &R, alloc: Global, opened: Opened) -> Result<(), Fail>
     requires name { opened ≡ J.run }
     requires callers { J.run.roster.callers ≡ 1 }
     requires actors { J.run.roster.actors ≡ DeskName 0 ∷ ClockName ∷ [] }
 {
+    let (journal, mut idle, mut books) = opened.named::<J>(alloc)?;
+    let pass = journal.split_pass(&mut idle, 0);
     let gate = Watch {
-        places: AtomicU64::new(0),
+        rt,
+        journal: &journal,
+        pass: Mutex::new(idle),
+        calls: AtomicU64::new(0),
     };
-    let (journal, pass, mut books) = opened.named::<J>(alloc)?;
     let (Some(second), Some(first)) = (books.pop(), books.pop()) else {
         panic!(rt; "two books")
     };
@@ -180,10 +185,10 @@ fn watched<J: Naming, R: Wait + Abort>(rt: &R, alloc: Global, opened: Opened) ->
     let clock = Locked::new(Counter { count: 0 }, second);
     let (told, pass) = act_once(rt, &journal, &gate, &desk, pass, 0, 0, &await_count(1));
     assert_eq!(rt; told, Told::NotReady(0));
-    assert_eq!(rt; gate.places.load(Ordering::SeqCst), 0);
+    assert_eq!(rt; gate.calls.load(Ordering::SeqCst), 0);
     let (told, pass) = act_once(rt, &journal, &gate, &desk, pass, 0, 1, &take());
     assert_eq!(rt; told, Told::Counted(0, 1));
-    assert_eq!(rt; gate.places.load(Ordering::SeqCst), 12);
+    assert_eq!(rt; gate.calls.load(Ordering::SeqCst), 1021);
     let (told, mut pass) = act_once(rt, &journal, &gate, &desk, pass, 0, 2, &await_count(1));
     assert_eq!(rt; told, Told::Counted(1, 2));
     let work = Work {
@@ -192,14 +197,14 @@ fn watched<J: Naming, R: Wait + Abort>(rt: &R, alloc: Global, opened: Opened) ->
     };
     let told = heard(clock.act_clock(rt, &journal, &gate, &mut pass, 0, 0, &work, None));
     assert_eq!(rt; told, Told::Counted(2, 1));
-    assert_eq!(rt; gate.places.load(Ordering::SeqCst), 121234);
+    assert_eq!(rt; gate.calls.load(Ordering::SeqCst), 102111223243);
     let seen = desk.view(rt, &journal, &mut pass, 7, Some(&await_count(3)));
     assert!(rt; !seen.ready && seen.due.is_none() && seen.front == 3);
     let seen = desk.view(rt, &journal, &mut pass, 7, Some(&work));
     assert!(rt; seen.ready && seen.front == 3);
     let seen = clock.view(rt, &journal, &mut pass, 7, None);
     assert!(rt; !seen.ready && seen.front == 3);
-    assert_eq!(rt; gate.places.load(Ordering::SeqCst), 121234);
+    assert_eq!(rt; gate.calls.load(Ordering::SeqCst), 102111223243);
     Ok(())
 }
 

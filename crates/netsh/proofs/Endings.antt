@@ -1,5 +1,5 @@
 -- How the parts of a call make its end.
-use Rattle.std.proofs.Common.{◌≡◌, ◌&&◌, [], ◌∷◌, ℕ, ◌+◌, ◌<◌, ◌≤◌, ◌⊎◌, Bool, true, false, nat_lt, List, ◌++◌, length, Option, Some, None, Err, Ok, if◌then◌else◌, refl, sym, ◌∙◌, ap, subst, inr, rules, arith}
+use Rattle.std.proofs.Common.{◌≡◌, ◌≢◌, ◌&&◌, [], ◌∷◌, ℕ, ◌+◌, ◌<◌, ◌≤◌, ◌⊎◌, Bool, true, false, nat_lt, List, ◌++◌, length, Option, Some, None, Result, Err, Ok, if◌then◌else◌, refl, sym, ◌∙◌, ap, subst, inr, rules, arith}
 use Rattle.std.specs.Prelude.{bytes_eq, codes}
 use Rattle.std.proofs.lemmas.Bool.{false≢true}
 use Rattle.std.proofs.lemmas.Bool.Decides.{nat_tests}
@@ -42,6 +42,16 @@ answers_too_long asked answer intake fault taken same kept right =
       same = kept;
       right = subst (λ (bad : Option (ℕ × ℕ)). IsGiven bad asked input.0 answer) (sym (too_long_is_bad asked input.0 input.2)) right;
     }
+
+-- want of memory is told as no other error
+abbrev failing : (A : Type 0) → TakeError → Result A TakeError
+failing A fault = Err fault
+
+pub memory_is_no_fault : (A : Type 0) (fault : TakeError) → fault ≡ error.Memory → failing A fault ≢ failing A error.Failed
+memory_is_no_fault A fault is same = apart (ap (failing A) (sym is) ∙ same)
+  where
+    apart : failing A error.Memory ≡ failing A error.Failed → ⊥
+    apart both = cc
 
 -- an answer that was told
 pub ends_answered : (asked : Command) (answer : Answer) (status : ℕ) (text : List ℕ) (result : ℕ) (intake : Intake) (output : Output) → Answers asked answer intake → status ≡ answer.status → text ≡ answer.text → Told (record { status = status; text = text }) result output → Ends (Some asked) result intake output

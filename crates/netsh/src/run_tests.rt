@@ -1,8 +1,8 @@
 //! The worked runs of worlds, over sources and sinks in memory.
-use crate::tests::words_of;
+use crate::tests::{LongComment, words_of};
 use crate::top::{ask, netsh};
 use net_base::Octets;
-use outside::{FailList, MemSink, MemSource, OpenGate};
+use outside::{FailList, MemSink, MemSource, OpenGate, SureSource};
 use std::alloc::Global;
 use std::process::Abort;
 use std::sync::Wait;
@@ -96,6 +96,10 @@ fn bad_worlds(rt: HostRuntime) -> Result<(), Fail> {
         ("", "! line 1 cause 11\n"),
         ("networld 2\n", "! line 1 cause 11\n"),
         ("networld 1\nend 60000\nseed 7\n", "! line 4 cause 19\n"),
+        (
+            "networld 1\nend 60000\nseed 7\nmedium ether0 1500\nmedium b 576\n",
+            "! line 5 cause 31\n",
+        ),
     ];
     for (input, text) in rows {
         let (status, held) = run(&rt, rt.alloc(), &["run", "1"], input.as_bytes(), &[], &[])?;
@@ -107,11 +111,30 @@ fn bad_worlds(rt: HostRuntime) -> Result<(), Fail> {
 
 #[test]
 fn a_world_past_the_limit(rt: HostRuntime) -> Result<(), Fail> {
-    let mut input = Vec::new(rt.alloc());
-    input.resize(4194305, b'\n')?;
-    let (status, held) = run(&rt, rt.alloc(), &["run", "1"], &input, &[], &[])?;
+    let words = words_of(rt.alloc(), &["run", "1"])?;
+    let mut source = LongComment { left: 4194305 };
+    let mut sink = MemSink::new(rt.alloc(), 100, FailList::from_vec(Vec::new(rt.alloc())))?;
+    let status = netsh(&rt, rt.alloc(), &words, &mut source, &mut sink, &OpenGate);
     assert_eq!(rt; status, 2);
-    assert_eq!(rt; held.as_str(), "! line 0 cause 9\n");
+    assert_eq!(rt; sink.held(), b"! line 0 cause 9\n".as_slice());
+    Ok(())
+}
+
+#[test]
+fn a_script_of_many_lines(rt: HostRuntime) -> Result<(), Fail> {
+    let (before, after) = DATAGRAM.split_once("write d hi\n").ok_or("no such line")?;
+    let mut input = String::from_str(rt.alloc(), before)?;
+    for _ in 0..70 {
+        input.push_str("write d hi\n")?;
+    }
+    input.push_str(after)?;
+    let words = words_of(rt.alloc(), &["run", "1"])?;
+    let none = FailList::from_vec(Vec::new(rt.alloc()));
+    let mut source = SureSource::new(Octets::from_slice(rt.alloc(), input.as_bytes())?);
+    let mut sink = MemSink::new(rt.alloc(), 40000, none)?;
+    let status = netsh(&rt, rt.alloc(), &words, &mut source, &mut sink, &OpenGate);
+    assert_eq!(rt; status, 0);
+    assert!(rt; sink.held().ends_with(b"steps 77 of 77\nmessages 70 1\nbytes 140 2\nend done 0\n"));
     Ok(())
 }
 

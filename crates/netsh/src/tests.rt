@@ -1,5 +1,8 @@
 //! The worked runs of the program, over sources and sinks in memory.
+mod comment;
+
 use crate::top::{ask, ask_surely};
+pub(crate) use comment::LongComment;
 use net_base::Octets;
 use outside::{FailList, MemSink, MemSource, SureSink, SureSource};
 use std::alloc::{AllocError, Global};
@@ -31,7 +34,7 @@ fn run(
     let reads = FailList::from_vec(Vec::from_slice(alloc, reads)?);
     let writes = FailList::from_vec(Vec::from_slice(alloc, writes)?);
     let mut source = MemSource::new(Octets::from_slice(alloc, input)?, reads);
-    let mut sink = MemSink::new(alloc, 1000, writes)?;
+    let mut sink = MemSink::new(alloc, 4000, writes)?;
     let status = ask(alloc, &words, &mut source, &mut sink);
     let held = String::from_utf8(Vec::from_slice(alloc, sink.held())?)?;
     Ok((status, held))
@@ -149,17 +152,58 @@ fn faults_of_the_source_and_the_sink(rt: HostRuntime) -> Result<(), Fail> {
 
 #[test]
 fn an_input_past_the_limit(rt: HostRuntime) -> Result<(), Fail> {
-    let helix = ["cs", "anna", "net!helix!9fs"].as_slice();
-    let mut input = Vec::new(rt.alloc());
-    input.resize(4194304, b'\n')?;
-    let (status, held) = run(rt.alloc(), helix, &input, &[], &[])?;
-    assert_eq!(rt; status, Some(5));
-    assert_eq!(rt; held.as_str(), "! 3 no host\n");
-    input.push(b'\n')?;
-    let (status, held) = run(rt.alloc(), helix, &input, &[], &[])?;
-    assert_eq!(rt; status, Some(2));
-    assert_eq!(rt; held.as_str(), "! line 0 cause 9\n");
+    let rows = [
+        (4194304, 5, "! 3 no host\n"),
+        (4194305, 2, "! line 0 cause 9\n"),
+    ];
+    let words = words_of(rt.alloc(), &["cs", "anna", "net!helix!9fs"])?;
+    for (length, status, text) in rows {
+        let mut sink = MemSink::new(rt.alloc(), 100, FailList::from_vec(Vec::new(rt.alloc())))?;
+        let answered = ask(
+            rt.alloc(),
+            &words,
+            &mut LongComment { left: length },
+            &mut sink,
+        );
+        assert_eq!(rt; answered, Some(status));
+        assert_eq!(rt; sink.held(), text.as_bytes());
+    }
     Ok(())
+}
+
+#[test]
+fn many_lines_attributes_and_addresses(rt: HostRuntime) -> Result<(), Fail> {
+    let alloc = rt.alloc();
+    let mut database = String::new(alloc);
+    let mut lines = String::new(alloc);
+    for i in 1..71 {
+        write!(database, "sys=host{i} ip=10.1.0.{i}\n")?;
+    }
+    database.push_str("sys=many\n")?;
+    for i in 1..71 {
+        write!(database, "\tdom=name{i}.example.com\n")?;
+    }
+    for i in 1..71 {
+        write!(database, "\tip=10.0.0.{i}\n")?;
+        write!(lines, "/net/il/clone 10.0.0.{i}!17008\n")?;
+    }
+    database.push_str("il=9fs port=17008\n")?;
+    expect(
+        &rt,
+        alloc,
+        &["cs", "anna", "net!many!9fs"],
+        &database,
+        0,
+        &lines,
+    )?;
+    expect(
+        &rt,
+        alloc,
+        &["cs", "anna", "net!host70!9fs"],
+        &database,
+        0,
+        "/net/il/clone 10.1.0.70!17008\n",
+    )
 }
 
 #[test]

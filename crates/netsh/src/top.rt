@@ -76,7 +76,8 @@ fn ask_reading<S: Source, K: Sink>(
     match read_and_answer(alloc, command, source) {
         Ok(answer) => tell(sink, answer.status(), answer.text()),
         Err(TakeError::Failed) => tell(sink, 6, READ_FAULT.as_bytes()),
-        Err(_) => 8,
+        Err(TakeError::Memory) => 8,
+        Err(TakeError::TooLarge) => unreachable!(),
     }
 }
 

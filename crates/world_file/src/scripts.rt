@@ -13,7 +13,7 @@ use crate::fault::Fault;
 use crate::hosts::{is_called, is_host_named};
 use ctl_words::read_ctl;
 use net_base::{Ctl, HostSpec, Script, Sequence, Step};
-use net_model::connect_texts_agree;
+use world_text::connect_texts_agree;
 use std::alloc::{AllocError, Global};
 use world_words::{is_name, one, read_step};
 

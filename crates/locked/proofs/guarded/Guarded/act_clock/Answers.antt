@@ -3,7 +3,7 @@ use Rattle.net_base.specs.declared.actor.ActorName.{ActorName}
 use Rattle.journal.specs.declared.tokens.Volume.{Volume}
 use Rattle.locked.specs.Acts.{made, IsDone, Stands}
 use Rattle.locked.proofs.Standing.{stands_same, stands_after, is_done}
-use Rattle.locked.proofs.desk.Desk.act.Goals as goal
+use Rattle.locked.proofs.guarded.Guarded.act_clock.Goals as goal
 
 pub invariant_of-self-in-Ok : goal.invariant_of-self-in-Ok
 invariant_of-self-in-Ok g c =
@@ -14,8 +14,8 @@ invariant_of-self-in-Ok g c =
     let stands : Stands m.begin m.answer c.self.inside.machine b = stands_same m.begin m.answer c.self.inside.machine c.self.inside.book b c.self.invariant book.0 book.3 in
     let entry : c.in-Ok.entry ≡ (made b.actor c.args.caller c.args.now c.args.work.now c.args.cites t.1).entry =
     t.4 ∙ ap (λ (a : ActorName). (made a c.args.caller c.args.now c.args.work.now c.args.cites t.1).entry) (sym book.0) in
-    stands_after m.begin m.answer g.J.Naming.run.roster c.args.caller c.args.now c.args.work.now c.args.cites c.args.pass.now c.record-stamp.new.pass b c.record-stamp.new.book
-    c.self.inside.machine c.prepare.new.machine t.1 c.in-Ok.outcome c.in-Ok.entry c.record-stamp.result stands t.2 entry c.record-stamp.ensures
+    stands_after m.begin m.answer g.J.Naming.run.roster c.args.caller c.args.now c.args.work.now c.args.cites c.args.pass.now c.record_clock-stamp.new.pass b c.record_clock-stamp.new.book
+    c.self.inside.machine c.prepare.new.machine t.1 c.in-Ok.outcome c.in-Ok.entry c.record_clock-stamp.result stands t.2 entry c.record_clock-stamp.ensures
 
 pub returns-in-Ok-clause-acted : goal.returns-in-Ok-clause-acted
 returns-in-Ok-clause-acted g c =
@@ -27,7 +27,7 @@ returns-in-Ok-clause-acted g c =
     let stands : Stands m.begin m.answer c.self.inside.machine b = stands_same m.begin m.answer c.self.inside.machine c.self.inside.book b c.self.invariant book.0 book.3 in
     let entry : c.in-Ok.entry ≡ (made b.actor c.args.caller c.args.now c.args.work.now c.args.cites t.1).entry =
     t.4 ∙ ap (λ (a : ActorName). (made a c.args.caller c.args.now c.args.work.now c.args.cites t.1).entry) (sym book.0) in
-    subst (λ (a : ActorName). IsDone m.begin m.answer r a c.args.caller c.args.now c.args.work.now c.args.cites c.args.pass.now c.record-stamp.result c.in-Ok.outcome c.record-stamp.new.pass)
+    subst (λ (a : ActorName). IsDone m.begin m.answer r a c.args.caller c.args.now c.args.work.now c.args.cites c.args.pass.now c.record_clock-stamp.result c.in-Ok.outcome c.record_clock-stamp.new.pass)
     (book.0 ∙ ap (λ (z : Volume). z.actor) c.self.view_is)
-    (is_done m.begin m.answer r c.args.caller c.args.now c.args.work.now c.args.cites c.args.pass.now c.record-stamp.new.pass b c.record-stamp.new.book
-    c.self.inside.machine c.prepare.new.machine t.1 c.in-Ok.outcome c.in-Ok.entry c.record-stamp.result stands t.2 entry c.record-stamp.ensures t.3 c.requires.moment)
+    (is_done m.begin m.answer r c.args.caller c.args.now c.args.work.now c.args.cites c.args.pass.now c.record_clock-stamp.new.pass b c.record_clock-stamp.new.book
+    c.self.inside.machine c.prepare.new.machine t.1 c.in-Ok.outcome c.in-Ok.entry c.record_clock-stamp.result stands t.2 entry c.record_clock-stamp.ensures t.3 c.requires.moment)

@@ -1,4 +1,4 @@
-//! What lies under a lock: a machine beside the book that says how it came about.
+//! What a lock guards: a machine beside the book that says how its state came about.
 ghost use Rattle.std.specs.Prelude.{◌≡◌, ℕ, ◌<◌, ◌^◌, List, length, true, false, Some, is_some, option_map, IfOk, OnErr, IfErr, MatchOption};
 ghost use Rattle.net_base.specs.declared.actor.ActorName.TheVariants.{Clock};
 ghost use Rattle.net_base.specs.declared.noted.Noted.{Noted};
@@ -29,31 +29,31 @@ pub struct View {
     pub front: u64,
 }
 
-/// A machine that stands for the entries of its book. Contracts see the book.
+/// A machine whose state is that after the entries of its book. Contracts see the book.
 #[derive(Drop)]
-pub struct Desk<J: Naming, M: Machine> {
+pub struct Guarded<J: Naming, M: Machine> {
     machine: M,
     book: Book<J>,
 }
 
-impl<J: Naming, M: Machine> Model for Desk<J, M> {
+impl<J: Naming, M: Machine> Model for Guarded<J, M> {
     ghost use Rattle.journal.specs.declared.tokens.Volume.{Volume};
     ghost use Rattle.locked.specs.Acts.{Stands};
 
     ghost Value = { Volume };
 
-    ghost view = { λ d. d.book };
+    ghost view = { λ g. g.book };
 
-    ghost invariant = { λ d. Stands M.begin M.answer d.machine d.book };
+    ghost invariant = { λ g. Stands M.begin M.answer g.machine g.book };
 }
 
-impl<J: Naming, M: Machine> Desk<J, M> {
+impl<J: Naming, M: Machine> Guarded<J, M> {
     /// A machine beside the book of its actor.
-    pub fn new(machine: M, book: Book<J>) -> Desk<J, M>
+    pub fn new(machine: M, book: Book<J>) -> Guarded<J, M>
         requires { Stands M.begin M.answer machine book }
         ensures { result ≡ book }
     {
-        Desk { machine, book }
+        Guarded { machine, book }
     }
 
     /// Which actor.
@@ -78,7 +78,8 @@ impl<J: Naming, M: Machine> Desk<J, M> {
         requires moment { now ≡ moment pass.old.seen }
         requires now { now < 2 ^ 63 }
         requires actor { same_actor self.old.actor Clock ≡ false }
-        ensures acted { Acted M.begin M.answer J.run.roster self.old.actor caller now work.now cites pass.old result pass.new }
+        ensures acted { Acted M.begin M.answer J.run.roster self.old.actor caller now work.now cites
+            pass.old result pass.new }
         ensures book { Leaves self.old.actor caller now work.now cites self.old result pass.new self.new }
         ensures actor { (self.new.actor ≡ self.old.actor) × (self.new.number ≡ self.old.number) }
     {
@@ -111,7 +112,8 @@ impl<J: Naming, M: Machine> Desk<J, M> {
         requires moment { now ≡ moment pass.old.seen }
         requires now { now < 2 ^ 63 }
         requires all { HoldsAll J.run.roster pass.old }
-        ensures acted { Acted M.begin M.answer J.run.roster self.old.actor caller now work.now cites pass.old result pass.new }
+        ensures acted { Acted M.begin M.answer J.run.roster self.old.actor caller now work.now cites
+            pass.old result pass.new }
         ensures book { Leaves self.old.actor caller now work.now cites self.old result pass.new self.new }
         ensures actor { (self.new.actor ≡ self.old.actor) × (self.new.number ≡ self.old.number) }
     {
@@ -138,7 +140,8 @@ impl<J: Naming, M: Machine> Desk<J, M> {
         work: Option<&Work>,
     ) -> View
         ensures front { LookedWith J.run.roster self.old pass.old result.front self.new pass.new }
-        ensures ready { MatchOption work.entry (result.ready ≡ false) (λ w. result.ready ≡ is_some (M.answer (state_at M.begin M.answer self.old.actor pass.new.seen) now w.now)) }
+        ensures ready { MatchOption work.entry (result.ready ≡ false)
+            (λ w. result.ready ≡ is_some (M.answer (state_at M.begin M.answer self.old.actor pass.new.seen) now w.now)) }
         ensures due { result.due ≡ M.due_of (state_at M.begin M.answer self.old.actor pass.new.seen) }
     {
         let ready = match work {
@@ -155,7 +158,7 @@ impl<J: Naming, M: Machine> Desk<J, M> {
         ensures stands { Stands M.begin M.answer result.0 result.1 }
         ensures book { result.1 ≡ self }
     {
-        let Desk { machine, book } = self;
+        let Guarded { machine, book } = self;
         (machine, book)
     }
 }
@@ -172,8 +175,11 @@ fn prepare<J: Naming, M: Machine>(
     requires stands { Stands M.begin M.answer machine.old book.old }
     requires ready { is_some (M.answer machine.old now work.now) ≡ true }
     requires now { now < 2 ^ 63 }
-    ensures book { (book.new.actor ≡ book.old.actor) × (book.new.number ≡ book.old.number) × (book.new.seen ≡ book.old.seen) × (book.new.list ≡ book.old.list) }
-    ensures ok { IfOk result (λ r. (0 < book.new.room) × (o : Outcome) × (M.answer machine.old now work.now ≡ Some record { state = machine.new; outcome = o }) × (r.1 ≡ without_copy o) × (r.0 ≡ (made book.old.actor caller now work.now cites o).entry)) }
+    ensures book { (book.new.actor ≡ book.old.actor) × (book.new.number ≡ book.old.number)
+        × (book.new.seen ≡ book.old.seen) × (book.new.list ≡ book.old.list) }
+    ensures ok { IfOk result (λ r. (0 < book.new.room)
+        × (o : Outcome) × (M.answer machine.old now work.now ≡ Some record { state = machine.new; outcome = o })
+        × (r.1 ≡ without_copy o) × (r.0 ≡ (made book.old.actor caller now work.now cites o).entry)) }
     ensures err { OnErr result (machine.new ≡ machine.old) }
 {
     let event = work.event.clone()?;
