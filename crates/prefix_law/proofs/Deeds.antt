@@ -42,7 +42,7 @@ good_connects now start e e' fresh none l knows = record {
   link = l;
   knows = ((refl, none), λ h. (record { r = (knows.1 h).0.r; rstart_is = (knows.1 h).0.rstart_is; not_fresh = refl }, (knows.1 h).1), knows.2);
   grows = begins_anew start e.rstart e fresh (λ r h. h);
-  emitting = (refl, (refl, answers e.rstart));
+  says = (refl, (refl, answers e.rstart));
 }
 
 pub good_is_born : (now start id : ℕ) (e e' : End) → e.fresh ≡ true → e.cause ≡ None → e'.fresh ≡ false → id ≡ e'.start → Link e e' → Knows e → Good e e' (is_born now start id e)
@@ -52,7 +52,7 @@ good_is_born now start id e e' fresh none old' is l knows =
       link = record { rstart_is = λ r h. (sym (same_Some id r h) ∙ is, old'); in_order = l.in_order; early_is = l.early_is; acked_got = l.acked_got; all_got = l.all_got };
       knows = ((met, none), λ h. (met, (knows.1 h).1), met_untold _ _ met);
       grows = begins_anew start (Some id) e fresh (λ r h. ap (λ (n : ℕ). Some n) (is ∙ sym (l.rstart_is r h).0));
-      emitting = (refl, (refl, answers (Some id)));
+      says = (refl, (refl, answers (Some id)));
     }
 
 pub good_announced : (e e' : End) → e.fresh ≡ true → Link e e' → Knows e → Good e e' (silent (announced e))
@@ -60,7 +60,7 @@ good_announced e e' fresh l knows = record {
   link = l;
   knows = (tt, λ h. (record { r = (knows.1 h).0.r; rstart_is = (knows.1 h).0.rstart_is; not_fresh = refl }, (knows.1 h).1), knows.2);
   grows = begins_anew e.start e.rstart e fresh (λ r h. h);
-  emitting = tt;
+  says = tt;
 }
 
 good_sends : (text : List ℕ) (e e0 e' : End) → Talking e0 e' e → e.sent ≡ e0.sent → e0.cause ≡ None → Good e0 e' (sends text e)
@@ -79,7 +79,7 @@ good_sends text e e0 e' t same none =
         got_more = t.2.got_more;
         no_more = λ h. absurd (none-some h.0 (sym none ∙ h.1));
       };
-      emitting = (t.1.not_fresh, (last_numbered Data text after met, record { k = length e.sent; text_is = at_push e.sent text; id_is = rw n refl }));
+      says = (t.1.not_fresh, (last_numbered Data text after met, record { k = length e.sent; text_is = at_push e.sent text; id_is = rw n refl }));
     }
 
 pub good_writes : (now : ℕ) (text : List ℕ) (e e' : End) → HasMet e → e.cause ≡ None → Link e e' → Knows e → Good e e' (writes now text e)
@@ -89,27 +89,27 @@ good_writes now text e e' met none l knows =
 pub good_reads : (count : ℕ) (e e' : End) → Link e e' → Knows e → Good e e' (silent (reads count e))
 good_reads count e e' l knows =
     cond_both (nat_lt count (length (first_unread e))) _ _ (λ (x : End). Good e e' (silent x))
-    (λ _. record { link = l; knows = knows; grows = grows_itself e; emitting = tt })
-    (λ _. record { link = l; knows = knows; grows = grows_itself e; emitting = tt })
+    (λ _. record { link = l; knows = knows; grows = grows_itself e; says = tt })
+    (λ _. record { link = l; knows = knows; grows = grows_itself e; says = tt })
 
 pub good_hangs_up_at : (s : IlState) (now : ℕ) (e e' : End) → Link e e' → Knows e → KnowsAs s e.rstart e.fresh e.cause → Good e e' (hangs_up_at s now e)
-good_hangs_up_at Syncer now e e' l knows as_s = record { link = l; knows = (tt, λ h. ((knows.1 h).0, (cause.Hungup, refl)), knows.2); grows = gets_cause e cause.Hungup; emitting = tt }
-good_hangs_up_at Listening now e e' l knows as_s = record { link = l; knows = (tt, λ h. ((knows.1 h).0, (cause.Hungup, refl)), knows.2); grows = gets_cause e cause.Hungup; emitting = tt }
+good_hangs_up_at Syncer now e e' l knows as_s = record { link = l; knows = (tt, λ h. ((knows.1 h).0, (cause.Hungup, refl)), knows.2); grows = gets_cause e cause.Hungup; says = tt }
+good_hangs_up_at Listening now e e' l knows as_s = record { link = l; knows = (tt, λ h. ((knows.1 h).0, (cause.Hungup, refl)), knows.2); grows = gets_cause e cause.Hungup; says = tt }
 good_hangs_up_at Syncee now e e' l knows as_s = good_close e e' (starts now (record e { state = Closing; cause = Some cause.Hungup })) (l, as_s.0, gets_cause e cause.Hungup, ((as_s.0, (cause.Hungup, refl)), λ h. ((knows.1 h).0, (cause.Hungup, refl)), knows.2)) (cause.Hungup, refl)
 good_hangs_up_at Established now e e' l knows as_s = good_close e e' (starts now (record e { state = Closing; cause = Some cause.Hungup })) (l, as_s.0, gets_cause e cause.Hungup, ((as_s.0, (cause.Hungup, refl)), λ h. ((knows.1 h).0, (cause.Hungup, refl)), knows.2)) (cause.Hungup, refl)
 good_hangs_up_at _ now e e' l knows as_s = good_same e e' l knows
 
 good_asks_again : (s : IlState) (e0 e e' : End) → Link e e' → Knows e → Grows e0 e → KnowsAs s e.rstart e.fresh e.cause → Good e0 e' (asks_again s e)
-good_asks_again Syncer e0 e e' l knows grows as_s = record { link = l; knows = knows; grows = grows; emitting = (as_s.0, (refl, answers e.rstart)) }
+good_asks_again Syncer e0 e e' l knows grows as_s = record { link = l; knows = knows; grows = grows; says = (as_s.0, (refl, answers e.rstart)) }
 good_asks_again Syncee e0 e e' l knows grows as_s = good_sync e0 e' e (l, as_s.0, grows, knows)
 good_asks_again Established e0 e e' l knows grows as_s = good_query e0 e' e (l, as_s.0, grows, knows)
 good_asks_again Closing e0 e e' l knows grows as_s = good_close e0 e' e (l, as_s.0, grows, knows) as_s.1
-good_asks_again _ e0 e e' l knows grows as_s = record { link = l; knows = knows; grows = grows; emitting = tt }
+good_asks_again _ e0 e e' l knows grows as_s = record { link = l; knows = knows; grows = grows; says = tt }
 
 pub good_ticks : (emitting : Tick) (left : Timer) (e e' : End) → Link e e' → Knows e → Good e e' (ticks_to emitting left e)
 good_ticks tick.NotDue left e e' l knows = good_same e e' l knows
 good_ticks tick.TimedOut left e e' l knows =
-    record { link = l; knows = (tt, λ h. ((knows.1 h).0, (cause.TimedOut, refl)), knows.2); grows = gets_cause e cause.TimedOut; emitting = tt }
+    record { link = l; knows = (tt, λ h. ((knows.1 h).0, (cause.TimedOut, refl)), knows.2); grows = gets_cause e cause.TimedOut; says = tt }
 good_ticks tick.Again left e e' l knows = good_asks_again e.state e (record e { timer = left }) e' l knows (grows_itself e) knows.0
 
 -- Sides.

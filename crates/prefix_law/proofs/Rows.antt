@@ -108,7 +108,7 @@ good_closing State now m e0 e' e why few back s t =
 good_closing Close now m e0 e' e why few back s t =
     let talks : Talking e0 e' (hears_ack now m e) = heard now m e0 e' e few back s.0 t in
     good_if (m.spec == 0) _ _
-    (λ _. record { link = talks.0; knows = (tt, λ h. (talks.1, (t.2.no_more why).0), met_untold _ _ talks.1); grows = growth_at e0 (hears_ack now m e) e.cause (talks.2) (t.2.no_more why).0; emitting = tt })
+    (λ _. record { link = talks.0; knows = (tt, λ h. (talks.1, (t.2.no_more why).0), met_untold _ _ talks.1); grows = growth_at e0 (hears_ack now m e) e.cause (talks.2) (t.2.no_more why).0; says = tt })
     (λ _. good_silent e0 e' e t)
 
 -- an end that has met the other
@@ -144,7 +144,7 @@ good_syncer Sync now m e e' few l back knows as_s old s =
     (λ _. good_same e e' l knows)
 good_syncer Close now m e e' few l back knows as_s old s =
     good_if ((m.spec == 1) && (m.ack == e.start)) _ _
-    (λ _. record { link = l; knows = (tt, λ h. ((knows.1 h).0, (cause.Refused, refl)), knows.2); grows = gets_cause e cause.Refused; emitting = tt })
+    (λ _. record { link = l; knows = (tt, λ h. ((knows.1 h).0, (cause.Refused, refl)), knows.2); grows = gets_cause e cause.Refused; says = tt })
     (λ _. good_same e e' l knows)
 good_syncer _ now m e e' few l back knows as_s old s = good_same e e' l knows
 

@@ -297,17 +297,17 @@ pub record Good (e0 e' : End) (turn : Turn) : Type 0 where
   pub link : Link turn.end e'
   pub knows : Knows turn.end
   pub grows : Grows e0 turn.end
-  pub emitting : Says turn.emits turn.end
+  pub says : Says turn.emits turn.end
 
 pub good_if : {e0 e' : End} (b : Bool) (x y : Turn) → (b ≡ true → Good e0 e' x) → (b ≡ false → Good e0 e' y) → Good e0 e' (cond b x y)
 good_if {e0} {e'} b x y f g = cond_both b x y (λ t. Good e0 e' t) f g
 
 -- nothing changes
 pub good_same : (e e' : End) → Link e e' → Knows e → Good e e' (silent e)
-good_same e e' l k = record { link = l; knows = k; grows = grows_itself e; emitting = tt }
+good_same e e' l k = record { link = l; knows = k; grows = grows_itself e; says = tt }
 
 pub good_silent : (e0 e' e : End) → Talking e0 e' e → Good e0 e' (silent e)
-good_silent e0 e' e t = record { link = t.0; knows = t.3; grows = t.2; emitting = tt }
+good_silent e0 e' e t = record { link = t.0; knows = t.3; grows = t.2; says = tt }
 
 -- what an end says with the ids of its last messages
 pub last_numbered : (kind : IlKind) (text : List ℕ) (e : End) → HasMet e → Numbered e.start e.rstart e.sent e.got (message kind (next e) (recvd e) text)
@@ -323,7 +323,7 @@ last_numbered kind text e met = record {
 }
 
 good_says : (kind : IlKind) (e0 e' e : End) → Talking e0 e' e → SoundAs kind e.start e.rstart e.sent e.got e.cause (message kind (next e) (recvd e) []) → Good e0 e' (emitting kind e)
-good_says kind e0 e' e t sound = record { link = t.0; knows = t.3; grows = t.2; emitting = (t.1.not_fresh, sound) }
+good_says kind e0 e' e t sound = record { link = t.0; knows = t.3; grows = t.2; says = (t.1.not_fresh, sound) }
 
 pub good_ack : (e0 e' e : End) → Talking e0 e' e → Good e0 e' (emitting Ack e)
 good_ack e0 e' e t = good_says Ack e0 e' e t (last_numbered Ack [] e t.1)
@@ -338,7 +338,7 @@ pub good_close : (e0 e' e : End) → Talking e0 e' e → HasCause e.cause → Go
 good_close e0 e' e t why = good_says Close e0 e' e t (last_numbered Close [] e t.1, record { id_is = refl; has_cause = why })
 
 pub good_sync : (e0 e' e : End) → Talking e0 e' e → Good e0 e' (syncs e)
-good_sync e0 e' e t = record { link = t.0; knows = t.3; grows = t.2; emitting = (t.1.not_fresh, (refl, answers e.rstart)) }
+good_sync e0 e' e t = record { link = t.0; knows = t.3; grows = t.2; says = (t.1.not_fresh, (refl, answers e.rstart)) }
 
 pub good_again : (e0 e' e : End) (turn : Turn) → Talking e0 e' e → Good e0 e' turn → Good e0 e' (retransmits e turn)
 good_again e0 e' e turn t other =
@@ -349,7 +349,7 @@ good_again e0 e' e turn t other =
       link = t.0;
       knows = t.3;
       grows = t.2;
-      emitting = (
+      says = (
         t.1.not_fresh,
         (
           record {
