@@ -1,0 +1,23 @@
+//! Searches of a network database, ndb(2): tuples by a pair, values beside a pair, and what is closest to a system.
+#![tactic(auto)]
+
+
+mod beside;
+mod near;
+mod networks;
+mod numbers;
+mod pairs;
+mod places;
+mod prefixes;
+#[cfg(test)]
+mod tests;
+
+mod words;
+
+pub use near::closest;
+pub use networks::{Network, mask_bits, own_networks};
+pub use numbers::{Kind, numbers_found};
+pub use places::{Places, search};
+pub use prefixes::Prefixes;
+pub use beside::value_beside;
+pub use words::{read_address, read_port, split_first};
