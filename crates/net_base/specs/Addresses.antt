@@ -1,5 +1,5 @@
--- Addresses and ports as words, and the words that they are written as.
-use Rattle.std.specs.Prelude.{ℕ, ◌+◌, ◌*◌, ◌/◌, ◌%◌, ◌^◌, ◌&&◌, ◌==◌, nat_lt, nat_le, List, [], ◌∷◌, ◌++◌, length, Option, Some, None, option_and_then, if◌then◌else◌, codes, decimal}
+-- Numbers, addresses and ports as words, and the words that they are written as.
+use Rattle.std.specs.Prelude.{ℕ, ◌+◌, ◌*◌, ◌/◌, ◌%◌, ◌^◌, Bool, false, ◌&&◌, ◌==◌, nat_lt, nat_le, List, [], ◌∷◌, ◌++◌, length, Option, Some, None, option_and_then, if◌then◌else◌, codes, decimal}
 use Rattle.std.specs.List.{slice_split, list_all}
 use Rattle.std.specs.Char.{is_ascii_digit}
 use Rattle.std.specs.Str.Parse.{digits_value}
@@ -43,8 +43,36 @@ parts_at separator word = slice_split (λ byte. byte == separator) word
 abbrev pub read_address : List ℕ → Option ℕ
 read_address word = join_words (parts_at 46 word)
 
+-- four numbers joined by dots, each written so
+abbrev pub dotted_by : (ℕ → List ℕ) → ℕ → List ℕ
+dotted_by write ip =
+    write (ip / 2 ^ 24) ++ codes "." ++ write (ip / 2 ^ 16 % 256) ++ codes "." ++ write (ip / 2 ^ 8 % 256)
+    ++ codes "." ++ write (ip % 256)
+
 -- an address in decimal, without leading zeros
 abbrev pub address_text : ℕ → List ℕ
-address_text ip =
-    decimal (ip / 2 ^ 24) ++ codes "." ++ decimal (ip / 2 ^ 16 % 256)
-    ++ codes "." ++ decimal (ip / 2 ^ 8 % 256) ++ codes "." ++ decimal (ip % 256)
+address_text ip = dotted_by decimal ip
+
+-- Without leading zeros.
+
+-- a number begins with a zero that it doesn't need
+abbrev pub is_padded : List ℕ → Bool
+is_padded (b ∷ c ∷ word) = b == 48
+is_padded _ = false
+
+-- a number from the one bound to the other
+abbrev pub number_in : ℕ → ℕ → List ℕ → Option ℕ
+number_in least greatest word =
+    if is_padded word then None else option_and_then (within least greatest) (read_digits 20 word)
+
+-- a number of an address: 0 to 255
+abbrev pub octet_of : List ℕ → Option ℕ
+octet_of word = if is_padded word then None else read_byte word
+
+abbrev pub octets_joined : List (List ℕ) → Option ℕ
+octets_joined (a ∷ b ∷ c ∷ d ∷ []) = join_bytes (octet_of a) (octet_of b) (octet_of c) (octet_of d)
+octets_joined _ = None
+
+-- an address, as it is written
+abbrev pub address_in : List ℕ → Option ℕ
+address_in word = octets_joined (parts_at 46 word)

@@ -7,16 +7,12 @@ use Rattle.std.specs.Prelude.{◌≡◌, ℕ, ◌+◌, ◌*◌, ◌/◌, ◌%◌
 use Rattle.std.specs.List.{before_first, slice_split, list_any}
 use Rattle.std.specs.Option.{option_and_then, option_map_or}
 use Rattle.std.specs.Str.Parse.{digits_value}
-use Rattle.std.specs.Net.Text.{dotted_text}
 use Rattle.net_base.specs.declared.address.Addr.{Addr}
 use Rattle.net_base.specs.declared.names.Ctl.{Ctl}
 use Rattle.net_base.specs.declared.names.Ctl.TheVariants as ctl
+pub use Rattle.net_base.specs.Addresses.{address_text as dotted}
 
 -- Spellings.
-
--- four numbers joined by dots
-abbrev pub dotted : ℕ → List ℕ
-dotted ip = dotted_text (ip / 2 ^ 24) (ip / 2 ^ 16 % 256) (ip / 2 ^ 8 % 256) (ip % 256)
 
 abbrev pub place : Addr → List ℕ
 place a = dotted a.ip ++ codes "!" ++ decimal a.port

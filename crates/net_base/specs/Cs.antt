@@ -5,7 +5,7 @@ use Rattle.std.specs.Char.{is_ascii_digit, is_ascii_alphabetic}
 use Rattle.std.specs.Option.{option_map_or}
 use Rattle.net_base.specs.declared.ndb.NdbPair.{NdbPair}
 use Rattle.net_base.specs.declared.address.Proto.{Proto}
-use Rattle.net_base.specs.declared.address.Proto.TheVariants.{Il, Udp}
+pub use Rattle.net_base.specs.Paths.{proto_name}
 use Rattle.net_base.specs.Search.{all_beside}
 use Rattle.net_base.specs.Addresses.{parts_at, read_address, read_port, address_text}
 use Rattle.net_base.specs.Networks.{own_networks, is_on, is_filled, closest}
@@ -31,11 +31,6 @@ query_of _ = None
 -- a query is written NET!HOST!SERVICE
 abbrev pub read_query : List ℕ → Option Query
 read_query text = query_of (parts_at 33 text)
-
--- a protocol's name
-abbrev pub proto_name : Proto → List ℕ
-proto_name Il = codes "il"
-proto_name Udp = codes "udp"
 
 -- the nets that a word names: `net` all that the host has, else the one of that name
 abbrev pub nets_of : List Proto → List ℕ → List Proto

@@ -1,6 +1,7 @@
 pub mod Mirror
 pub mod Number
 pub mod Numeral
+pub mod Hexadecimal
 pub mod Timer
 pub mod UdpEnd
 pub mod IlEnd

@@ -18,6 +18,8 @@ use Rattle.net_base.specs.declared.packet.BodyHeader.TheVariants as body
 use Rattle.net_base.specs.declared.packet.Header.{Header}
 use Rattle.net_base.specs.declared.reply.Reply.{Reply}
 use Rattle.net_base.specs.declared.reply.Reply.TheVariants as reply
+use Rattle.net_base.specs.Addresses.{dotted_by}
+pub use Rattle.net_base.specs.Hexadecimal.{hex_digit, hex_digits, hex_word}
 use Rattle.net_base.specs.Numeral.{numeral}
 use Rattle.net_base.specs.Paths.{proto_name, file_name}
 use Rattle.net_base.specs.StateWords.{state_word}
@@ -31,20 +33,6 @@ dash = codes "-"
 -- a word for anything
 abbrev pub star : List ℕ
 star = codes "*"
-
--- a digit of hexadecimal, in lower case
-abbrev pub hex_digit : ℕ → ℕ
-hex_digit n = if nat_lt n 10 then 48 + n else 87 + n
-
--- two digits for each byte
-abbrev pub hex_digits : List ℕ → List ℕ
-hex_digits [] = []
-hex_digits (byte ∷ bytes) = hex_digit (byte / 16) ∷ hex_digit (byte % 16) ∷ hex_digits bytes
-
--- bytes in hexadecimal
-abbrev pub hex_word : List ℕ → List ℕ
-hex_word [] = dash
-hex_word (byte ∷ bytes) = hex_digits (byte ∷ bytes)
 
 -- texts with a newline after each
 abbrev pub lines_of : List (List ℕ) → List ℕ
@@ -60,9 +48,7 @@ number_or_star (Some n) = numeral n
 
 -- an address: four numbers joined by dots
 abbrev pub ip_word : ℕ → List ℕ
-ip_word ip =
-    numeral (ip / 2 ^ 24) ++ codes "." ++ numeral (ip / 2 ^ 16 % 256)
-    ++ codes "." ++ numeral (ip / 2 ^ 8 % 256) ++ codes "." ++ numeral (ip % 256)
+ip_word ip = dotted_by numeral ip
 
 abbrev pub ip_or_star : Option ℕ → List ℕ
 ip_or_star None = star

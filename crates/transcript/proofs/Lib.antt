@@ -4,7 +4,6 @@ mod Events
 mod Latest
 mod LineDigits
 mod Numbers
-mod Numerals
 mod Readers
 mod Replies
 mod Spacing

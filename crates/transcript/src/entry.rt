@@ -4,11 +4,12 @@ ghost use Rattle.net_base.specs.Transcript as spec;
 ghost use Rattle.net_base.specs.Transcript.{spaced, line_of, lines_from, history_text, header_words, way_words, body_words, entry_words, who_words, outcome_words, emitted_words, ended_words};
 
 use crate::event::put_event;
-use crate::names::{kind_word, put_actor, put_addr, put_number_or_dash};
+use crate::line::{put_number, put_with_numbers, put_word};
+use crate::names::{put_actor, put_addr, put_number_or_dash};
 use crate::reply::put_reply;
-use crate::words::{put_decimal, put_number, put_with_numbers, put_word};
 use net_base::{BodyHeader, Entry, Header, History, Octets};
 use std::alloc::{AllocError, Global};
+use words::{kind_word, put_decimal};
 
 /// The text of a history, made in one pass.
 pub fn text_of(alloc: Global, history: &History) -> Result<Octets, AllocError>

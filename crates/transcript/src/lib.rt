@@ -4,13 +4,13 @@
 mod entry;
 mod event;
 mod law;
+mod line;
 mod names;
 mod reply;
 mod summary;
 #[cfg(test)]
 mod tests;
 mod totals;
-mod words;
 
 pub use entry::text_of;
 pub use law::{plain_texts_tell, printed_runs_tell, texts_tell_words};

@@ -1,102 +1,18 @@
 //! Addresses, actors and modes as words.
-ghost use Rattle.std.specs.Prelude.{◌≡◌, ◌∷◌, ◌++◌, [], OnOk, codes};
-ghost use Rattle.net_base.specs.Paths as paths;
-ghost use Rattle.net_base.specs.StateWords as states;
-ghost use Rattle.net_base.specs.Transcript as spec;
-ghost use Rattle.net_base.specs.Transcript.{spaced, addr_word, actor_word, number_or_dash, number_or_star, ip_or_star, ip_word};
+ghost use Rattle.std.specs.Prelude.{◌≡◌, ◌∷◌, ◌++◌, [], OnOk};
+ghost use Rattle.net_base.specs.Transcript.{spaced, addr_word, actor_word, number_or_dash, number_or_star, ip_or_star};
 
-use crate::words::{put_decimal, put_number, put_word};
-use net_base::{ActorName, Addr, FileName, IlKind, Mode, Octets, Proto, StateName};
+use crate::line::{put_number, put_word};
+use net_base::{ActorName, Addr, Octets};
 use std::alloc::AllocError;
-
-pub fn proto_name(proto: Proto) -> &'static [u8]
-    ensures { result.now ≡ paths.proto_name proto }
-{
-    match proto {
-        Proto::Il => b"il",
-        Proto::Udp => b"udp",
-    }
-}
-
-pub fn file_name(file: FileName) -> &'static [u8]
-    ensures { result.now ≡ paths.file_name file }
-{
-    match file {
-        FileName::Ctl => b"ctl",
-        FileName::Data => b"data",
-        FileName::Err => b"err",
-        FileName::Listen => b"listen",
-        FileName::Local => b"local",
-        FileName::Remote => b"remote",
-        FileName::Status => b"status",
-    }
-}
-
-pub fn mode_word(mode: Mode) -> &'static [u8]
-    ensures { result.now ≡ spec.mode_word mode }
-{
-    match mode {
-        Mode::Read => b"r",
-        Mode::Write => b"w",
-        Mode::Both => b"rw",
-    }
-}
-
-pub fn kind_word(kind: IlKind) -> &'static [u8]
-    ensures { result.now ≡ spec.kind_word kind }
-{
-    match kind {
-        IlKind::Sync => b"sync",
-        IlKind::Data => b"data",
-        IlKind::DataQuery => b"dataquery",
-        IlKind::Ack => b"ack",
-        IlKind::Query => b"query",
-        IlKind::State => b"state",
-        IlKind::Close => b"close",
-    }
-}
-
-pub fn state_word(state: StateName) -> &'static [u8]
-    ensures { result.now ≡ states.state_word state }
-{
-    match state {
-        StateName::Free => b"Free",
-        StateName::Reserved => b"Reserved",
-        StateName::Announced => b"Announced",
-        StateName::Granted => b"Granted",
-        StateName::Withdrawn => b"Withdrawn",
-        StateName::Closed => b"Closed",
-        StateName::Syncer => b"Syncer",
-        StateName::Syncee => b"Syncee",
-        StateName::Established => b"Established",
-        StateName::Listening => b"Listening",
-        StateName::Closing => b"Closing",
-        StateName::Open => b"Open",
-    }
-}
-
-// An address without its port, and without a blank.
-fn put_address(out: &mut Octets, ip: u32) -> Result<(), AllocError>
-    ensures { OnOk result (out.new ≡ out.old ++ ip_word ip) }
-{
-    put_decimal(out, (ip >> 24) as u64)?;
-    out.append(b".")?;
-    put_decimal(out, (ip >> 16 & 255) as u64)?;
-    out.append(b".")?;
-    put_decimal(out, (ip >> 8 & 255) as u64)?;
-    out.append(b".")?;
-    put_decimal(out, (ip & 255) as u64)
-}
+use words::{proto_name, put_address, put_decimal, put_place};
 
 /// An address with its port.
-#[tactic(auto, unfolding(net_base::specs::Transcript::addr_word))]
 pub fn put_addr(out: &mut Octets, addr: Addr) -> Result<(), AllocError>
     ensures { OnOk result (out.new ≡ out.old ++ spaced (addr_word addr ∷ [])) }
 {
     out.push(b' ')?;
-    put_address(out, addr.ip)?;
-    out.append(b"!")?;
-    put_decimal(out, addr.port as u64)
+    put_place(out, addr)
 }
 
 /// A number, or a dash for none.

@@ -3,12 +3,13 @@ ghost use Rattle.std.specs.Prelude.{◌≡◌, ◌++◌, OnOk};
 ghost use Rattle.net_base.specs.Transcript as spec;
 ghost use Rattle.net_base.specs.Transcript.{spaced, reply_words, call_words, calls_of};
 
-use crate::names::{put_addr, state_word};
-use crate::words::{
+use crate::line::{
     put_number, put_with_hex, put_with_lines, put_with_number, put_with_numbers, put_word,
 };
+use crate::names::put_addr;
 use net_base::{Call, CallList, Cause, Octets, Reply};
 use std::alloc::AllocError;
+use words::state_word;
 
 /// A reply: its word and what goes with it.
 pub fn put_reply(out: &mut Octets, reply: &Reply) -> Result<(), AllocError>

@@ -1,15 +1,14 @@
 //! The summary of a run.
 ghost use Rattle.std.specs.Prelude.{◌≡◌, ◌++◌, OnOk, IfOk, codes};
 ghost use Rattle.net_base.specs.Net as net;
-ghost use Rattle.net_base.specs.Numeral.{numeral};
 ghost use Rattle.net_base.specs.Summary as spec;
 ghost use Rattle.net_base.specs.Summary.{summary, steps_line, both_line, end_line};
 ghost use Rattle.transcript.specs.Standing.{Stands, lines_by, word_of, latest};
 
 use crate::totals::{Totals, totals_of};
-use itoa::Buffer;
 use net_base::{Event, History, Octets, World};
 use std::alloc::{AllocError, Global};
+use words::put_wide_decimal;
 
 /// How a run ends: all is done, the end moment came, a caller has no room, or none of these.
 #[derive(Clone, Copy, Debug, PartialEq, Eq)]
@@ -86,21 +85,13 @@ fn all_steps(world: &World) -> u128
     steps
 }
 
-#[tactic(auto, using(crate::proofs::Numerals::decimal_is_numeral))]
-fn put_number(out: &mut Octets, n: u128) -> Result<(), AllocError>
-    ensures { OnOk result (out.new ≡ out.old ++ numeral n) }
-{
-    let mut buffer = Buffer::new();
-    out.append(buffer.format(n).as_bytes())
-}
-
 fn put_steps(out: &mut Octets, answered: u128, all: u128) -> Result<(), AllocError>
     ensures { OnOk result (out.new ≡ out.old ++ steps_line answered all) }
 {
     out.append(b"steps ")?;
-    put_number(out, answered)?;
+    put_wide_decimal(out, answered)?;
     out.append(b" of ")?;
-    put_number(out, all)?;
+    put_wide_decimal(out, all)?;
     out.append(b"\n")
 }
 
@@ -122,9 +113,9 @@ fn put_both(out: &mut Octets, word: &[u8], written: u128, read: u128) -> Result<
 {
     out.append(word)?;
     out.append(b" ")?;
-    put_number(out, written)?;
+    put_wide_decimal(out, written)?;
     out.append(b" ")?;
-    put_number(out, read)?;
+    put_wide_decimal(out, read)?;
     out.append(b"\n")
 }
 
@@ -134,7 +125,7 @@ fn put_end(out: &mut Octets, end: End, moment: u64) -> Result<(), AllocError>
     out.append(b"end ")?;
     out.append(end_word(end))?;
     out.append(b" ")?;
-    put_number(out, moment as u128)?;
+    put_wide_decimal(out, moment as u128)?;
     out.append(b"\n")
 }
 

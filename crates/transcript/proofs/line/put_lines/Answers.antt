@@ -1,6 +1,6 @@
 use Rattle.std.proofs.Common.{sym, ◌∙◌}
 use Rattle.transcript.proofs.LineDigits.{hex_of_lines, behind_a_blank}
-use Rattle.transcript.proofs.words.put_lines.Goals as goal
+use Rattle.transcript.proofs.line.put_lines.Goals as goal
 
 -- there are lines, so there are digits
 pub returns-in_ok-put_line_digits : goal.returns-in_ok-put_line_digits

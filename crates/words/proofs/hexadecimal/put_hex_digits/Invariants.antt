@@ -1,6 +1,6 @@
 use Rattle.std.proofs.Common.{◌≡◌, ◌++◌, drop}
-use Rattle.net_base.specs.Transcript.{hex_digits}
-use Rattle.transcript.proofs.words.put_hex_digits.Given as goal
+use Rattle.net_base.specs.Hexadecimal.{hex_digits}
+use Rattle.words.proofs.hexadecimal.put_hex_digits.Given as goal
 
 -- what is written, and what is still to write
 abbrev pub invariant-loop-byte : goal.invariant-loop-byte

@@ -1,6 +1,6 @@
 use Rattle.std.proofs.Common.{◌≡◌, ◌++◌, drop}
 use Rattle.transcript.specs.Digits.{line_digits}
-use Rattle.transcript.proofs.words.put_line_digits.Given as goal
+use Rattle.transcript.proofs.line.put_line_digits.Given as goal
 
 -- what is written, and what is still to write
 abbrev pub invariant-loop-line : goal.invariant-loop-line

@@ -1,22 +1,12 @@
 //! Words of a line, each with a blank before it.
-ghost use Rattle.std.specs.Prelude.{◌≡◌, ◌<◌, ◌∷◌, ◌++◌, [], OnOk};
+ghost use Rattle.std.specs.Prelude.{◌≡◌, ◌∷◌, ◌++◌, [], OnOk};
 ghost use Rattle.net_base.specs.Numeral.{numeral};
-ghost use Rattle.net_base.specs.Transcript as spec;
-ghost use Rattle.net_base.specs.Transcript.{spaced, hex_digits, hex_word, lines_of};
+ghost use Rattle.net_base.specs.Transcript.{spaced, hex_word, lines_of};
 ghost use Rattle.transcript.specs.Digits.{line_digits};
 
-use itoa::Buffer;
 use net_base::{Lines, Octets};
 use std::alloc::AllocError;
-
-/// A number's digits, without a blank.
-#[tactic(auto, using(crate::proofs::Numerals::decimal_is_numeral))]
-pub fn put_decimal(out: &mut Octets, n: u64) -> Result<(), AllocError>
-    ensures { OnOk result (out.new ≡ out.old ++ numeral n) }
-{
-    let mut buffer = Buffer::new();
-    out.append(buffer.format(n).as_bytes())
-}
+use words::{put_decimal, put_hex_digits, put_hex_word};
 
 /// A word as it is.
 pub fn put_word(out: &mut Octets, word: &[u8]) -> Result<(), AllocError>
@@ -50,33 +40,12 @@ pub fn put_with_numbers(out: &mut Octets, word: &[u8], n: u64, m: u64) -> Result
     put_number(out, m)
 }
 
-fn hex_digit(n: u8) -> u8
-    requires { n < 16 }
-    ensures { result ≡ spec.hex_digit n }
-{
-    if n < 10 { b'0' + n } else { b'a' + (n - 10) }
-}
-
-/// Two digits for each byte, without a blank.
-fn put_hex_digits(out: &mut Octets, bytes: &[u8]) -> Result<(), AllocError>
-    ensures { OnOk result (out.new ≡ out.old ++ hex_digits bytes.now) }
-{
-    for byte in bytes {
-        out.push(hex_digit(*byte / 16))?;
-        out.push(hex_digit(*byte % 16))?;
-    }
-    Ok(())
-}
-
 /// Bytes in hexadecimal.
 pub fn put_hex(out: &mut Octets, bytes: &[u8]) -> Result<(), AllocError>
     ensures { OnOk result (out.new ≡ out.old ++ spaced (hex_word bytes.now ∷ [])) }
 {
-    if bytes.is_empty() {
-        return put_word(out, b"-");
-    }
     out.push(b' ')?;
-    put_hex_digits(out, bytes)
+    put_hex_word(out, bytes)
 }
 
 /// A word with bytes in hexadecimal behind it.

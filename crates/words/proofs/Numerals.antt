@@ -5,7 +5,9 @@ use Rattle.std.proofs.lemmas.Bool.{cases_lt}
 use Rattle.std.proofs.lemmas.Fmt.{decimal_by_steps_wide}
 use Rattle.std.proofs.lemmas.Int.Digits.{digits_of_step}
 use Rattle.std.proofs.lemmas.List.{map_push}
+use Rattle.net_base.specs.Addresses.{address_text}
 use Rattle.net_base.specs.Numeral.{numeral}
+use Rattle.net_base.specs.Transcript.{ip_word}
 
 abbrev shown : List ℕ → List ℕ
 shown digits = map (λ digit. 48 + digit) digits
@@ -51,3 +53,13 @@ module _ (P : ℕ → List ℕ → Type 0) (one : (n : ℕ) → n < 10 → P n (
 pub decimal_is_numeral : (n : ℕ) → n < 10 ^ 64 → decimal n ≡ numeral n
 decimal_is_numeral n small =
     decimal_by_steps_wide (λ m digits. digits ≡ numeral m) (λ m lt. sym (numeral_one m lt)) (λ m digits ten told. ap (λ ds. ds ++ ((48 + m % 10) ∷ [])) told ∙ sym (numeral_more m ten)) n small
+
+-- an address is written the same by both
+pub addresses_alike : (ip : ℕ) → ip < 2 ^ 32 → ip_word ip ≡ address_text ip
+addresses_alike ip lt =
+    rw (
+      sym (decimal_is_numeral (ip / 2 ^ 24) (omega (arith, lt))),
+      sym (decimal_is_numeral (ip / 2 ^ 16 % 256) (omega arith)),
+      sym (decimal_is_numeral (ip / 2 ^ 8 % 256) (omega arith)),
+      sym (decimal_is_numeral (ip % 256) (omega arith)),
+    ) refl

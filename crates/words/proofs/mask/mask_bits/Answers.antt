@@ -1,0 +1,15 @@
+use Rattle.std.proofs.Common.{sym, arith, ◌==◌}
+use Rattle.std.proofs.lemmas.Bool.Decides.{nat_tests}
+use Rattle.net_base.specs.Networks.{mask_of}
+use Rattle.words.proofs.Ranges.{found_in_range, none_in_range}
+use Rattle.words.proofs.mask.mask_bits.Goals as goal
+
+pub returns-then-mask_of-from : goal.returns-then-mask_of-from
+returns-then-mask_of-from c =
+    sym (found_in_range (λ bits. mask_of bits == c.args.mask) 33 0 c.loop-bits.bits (omega arith) (omega arith)
+    (λ k _ below. c.loop-bits.invariant k below) (grind (arith, nat_tests)))
+
+pub returns : goal.returns
+returns c =
+    sym (none_in_range (λ bits. mask_of bits == c.args.mask) 33 0
+    (λ k _ below. c.loop-bits.invariant k (omega arith)))

@@ -1,0 +1,7 @@
+use Rattle.std.proofs.Common.{◌≡◌, take}
+use Rattle.std.specs.Prelude.{min}
+use Rattle.std.specs.Str.Parse.{digits_value}
+use Rattle.words.proofs.number.number_up_to.Given as goal
+
+abbrev pub invariant-loop-byte : goal.invariant-loop-byte
+invariant-loop-byte l = l.number ≡ min (digits_value 10 (take l.byte-index l.text)) l.cap

@@ -1,0 +1,7 @@
+use Rattle.std.proofs.Common.{ap, arith, length, sym, ◌∙◌}
+use Rattle.words.proofs.Splits.{some_part}
+use Rattle.words.proofs.parts.single.Goals as goal
+
+pub returns-in-Some : goal.returns-in-Some
+returns-in-Some c =
+    λ one. absurd (omega (arith, one, ap length (rw c.in-Some.is at c.split_first.ensures), some_part c.args.separator c.in-Some.field-0.now))

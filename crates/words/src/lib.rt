@@ -1,0 +1,20 @@
+//! Words: numbers, addresses, hexadecimal and names, read and written.
+#![tactic(auto)]
+
+mod address;
+mod hexadecimal;
+mod mask;
+mod names;
+mod number;
+mod parts;
+#[cfg(test)]
+mod tests;
+
+pub use address::{address_in, put_address, put_place, read_address};
+pub use hexadecimal::{put_hex_digits, put_hex_word, read_hex_word};
+pub use mask::{mask_bits, mask_of, read_mask};
+pub use names::{
+    cause_text, file_name, file_named, kind_word, mode_word, proto_name, proto_named, state_word,
+};
+pub use number::{number_in, number_up_to, put_decimal, put_wide_decimal, read_port};
+pub use parts::{four_parts, single, split_first, two_parts};
