@@ -4,6 +4,4 @@ pub mod Filled
 pub mod Found
 pub mod Lists
 pub mod Owned
-pub mod Parts
-pub mod Ranges
 pub mod Values

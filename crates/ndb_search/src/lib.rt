@@ -12,12 +12,10 @@ mod prefixes;
 #[cfg(test)]
 mod tests;
 
-mod words;
 
 pub use near::closest;
-pub use networks::{Network, mask_bits, own_networks};
+pub use networks::{Network, own_networks};
 pub use numbers::{Kind, numbers_found};
 pub use places::{Places, search};
 pub use prefixes::Prefixes;
 pub use beside::value_beside;
-pub use words::{read_address, read_port, split_first};

@@ -1,12 +1,11 @@
 //! The networks that the database describes, and which of them are a system's own.
-ghost use Rattle.std.specs.Prelude.{◌≡◌, ℕ, ◌+◌, ◌-◌, ◌/◌, ◌^◌, ◌≤◌, ◌==◌, ◌++◌, nat_eq, map, filter_map, option_map, IfOk, OnOk};
+ghost use Rattle.std.specs.Prelude.{◌≡◌, ℕ, ◌+◌, ◌-◌, ◌/◌, ◌^◌, ◌==◌, ◌++◌, nat_eq, map, filter_map, option_map, IfOk, OnOk};
 ghost use Rattle.std.specs.List.{list_any};
 ghost use Rattle.net_base.specs.Networks as spec;
 ghost use Rattle.ndb_search.specs.Prefixes.{network_seen, first_bits, own_at};
 
 use crate::numbers::{Kind, add_in, first_in};
 use crate::pairs::{line_with, tuple_names};
-use crate::words::read_address;
 use indexmap::IndexSet;
 use net_base::{Db, Tuple};
 use std::alloc::{AllocError, Global};
@@ -25,33 +24,6 @@ pub fn first_bits(bits: u32, ip: u32) -> u32
 {
     let others = 32u32.saturating_sub(bits);
     (u64::from(ip) >> others) as u32
-}
-
-/// The mask whose ones are its first so many bits.
-pub fn mask_of(bits: u32) -> u64
-    requires { bits ≤ 32 }
-    ensures { result ≡ spec.mask_of bits }
-{
-    (1u64 << 32) - (1u64 << (32 - bits))
-}
-
-/// How many ones a mask has, where they are a prefix.
-pub fn mask_bits(mask: u32) -> Option<u32>
-    ensures { result ≡ spec.mask_bits mask }
-{
-    for bits in 0..33 {
-        if mask_of(bits) == u64::from(mask) {
-            return Some(bits);
-        }
-    }
-    None
-}
-
-/// The ones of a mask that is written as an address.
-pub fn read_mask(word: &[u8]) -> Option<u32>
-    ensures { result ≡ spec.read_mask word.now }
-{
-    mask_bits(read_address(word)?)
 }
 
 /// The ones of the mask that goes with an address by its first byte.

@@ -3,11 +3,10 @@ ghost use Rattle.std.specs.Prelude.{◌≡◌, ◌++◌, IfOk, OnOk};
 ghost use Rattle.net_base.specs.Networks.{first_of};
 ghost use Rattle.ndb_search.specs.Numbers as spec;
 
-use crate::networks::read_mask;
 use crate::pairs::{has_attr, line_names, line_with};
-use crate::words::{read_address, read_port};
 use net_base::{Db, Line, NdbPair, Tuple};
 use std::alloc::{AllocError, Global};
+use words::{read_address, read_mask, read_port};
 
 /// What values spell, and so the attribute that they stand under.
 #[derive(Clone, Copy)]
@@ -39,7 +38,10 @@ impl Kind {
         match self {
             Kind::Address => read_address(word),
             Kind::Mask => read_mask(word),
-            Kind::Port => read_port(word),
+            Kind::Port => match read_port(word) {
+                Some(port) => Some(u32::from(port)),
+                None => None,
+            },
         }
     }
 }

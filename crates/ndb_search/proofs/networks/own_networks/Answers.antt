@@ -7,7 +7,12 @@ use Rattle.ndb_search.proofs.Owned.{range_more}
 use Rattle.ndb_search.proofs.networks.own_networks.Goals as goal
 
 pub loop-ones-preserved : goal.loop-ones-preserved
-loop-ones-preserved c = ?
+loop-ones-preserved c =
+    c.in_ok-add_own.ensures
+    ∙ ap (λ (ips : List ℕ). map network_seen c.loop-ones.own.items ++ own_at (32 - c.loop-ones.ones) ips (map network_seen c.deref.result.now)) c.deref-in-loop-ones.ensures.value
+    ∙ ap (λ (all : _). map network_seen c.loop-ones.own.items ++ own_at (32 - c.loop-ones.ones) c.in_ok-ips.ips.items (map network_seen all)) c.deref.ensures.value
+    ∙ ap (λ front. front ++ own_at (32 - c.loop-ones.ones) c.in_ok-ips.ips.items (map network_seen c.in_ok-networks.networks.items)) c.loop-ones.invariant
+    ∙ sym (range_more (λ ones. own_at (32 - ones) c.in_ok-ips.ips.items (map network_seen c.in_ok-networks.networks.items)) c.loop-ones.ones)
 
 pub returns : goal.returns
 returns c =
