@@ -1,3 +1,3 @@
 pub mod Causes
 pub mod Reading
-pub mod Runs
+pub mod Rests

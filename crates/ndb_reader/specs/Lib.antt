@@ -1,3 +1,4 @@
+pub mod Names
 pub mod Told
 pub mod Written
 pub use Rattle.net_base.specs.NdbText

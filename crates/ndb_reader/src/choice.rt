@@ -4,6 +4,8 @@ ghost use Rattle.net_base.specs.NdbBundle as spec;
 ghost use Rattle.net_base.specs.Networks.{tuple_names};
 ghost use Rattle.net_base.specs.Search.{values_in, values_on};
 ghost use Rattle.ndb_reader.specs.Told.{file_seen};
+ghost use Rattle.ndb_reader.specs.Names.{with_name, with_names};
+ghost use Rattle.std.specs.List.{list_any};
 
 use crate::files::File;
 use net_base::{Db, Line, Lines, Octets, Tuple};
@@ -27,8 +29,7 @@ fn has_database(line: &Line) -> bool
 
 /// Adds the names of files on a line that don't stand among these.
 fn add_names_on(line: &Line, names: &mut Lines) -> Result<(), AllocError>
-    ensures { OnOk result (names.new ≡ spec.each_once (names.old ++ values_on (codes "file") line.now)) }
-    requires { names.old ≡ spec.each_once names.old }
+    ensures { OnOk result (names.new ≡ with_names names.old (values_on (codes "file") line.now)) }
 {
     for pair in line.as_slice() {
         if pair.attr.as_slice() == b"file".as_slice() {

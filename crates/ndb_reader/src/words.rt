@@ -100,7 +100,7 @@ fn word_at(bytes: &[u8]) -> Word<'_>
         return quoted_at(bytes, end);
     }
     Word {
-        attr: &bytes[..end],
+        attr: &run[..end],
         value: behind(run, end),
         rest: &bytes[run.len()..],
         unclosed: false,
