@@ -118,4 +118,4 @@ module _ (db : List (List (List NdbPair))) (me : List ℕ) (nets : List Proto) (
 
 -- `*` is written as it is
 pub any_text : (host : List ℕ) → bytes_eq host (codes "*") ≡ true → codes "*" ≡ host
-any_text host e = sym (grind (bytes_eq-Decides host (codes "*"), e))
+any_text host e = sym (grind (arith, bytes_eq-Decides host (codes "*"), e))

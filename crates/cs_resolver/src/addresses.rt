@@ -92,7 +92,8 @@ fn found_addresses(
     let prefixes = Prefixes::of(alloc, &networks)?;
     let found = all_addresses(alloc, db, words)?;
     let once = once_each(alloc, &found)?;
-    covered_first(alloc, &prefixes, &once)
+    let sorted = covered_first(alloc, &prefixes, &once)?;
+    Ok(sorted)
 }
 
 /// What a host stands for, by the words that name it: any address, or theirs.
