@@ -2,13 +2,14 @@
 use Rattle.std.proofs.Common.{◌≡◌, ℕ, ◌+◌, ◌-◌, ◌<◌, ◌≤◌, Bool, true, false, not, ◌&&◌, ◌||◌, cond, List, [], ◌∷◌, ◌++◌, length, take, drop, get_or, refl, sym, ap, subst, ◌∙◌, arith, Option, Some, None, append_assoc, append-nil, length-take}
 use Rattle.std.specs.List.{list_any, before_first, after_last, suffix_len}
 use Rattle.std.specs.Option.{option_map}
+use Rattle.std.specs.Prelude.{is_none}
 use Rattle.std.proofs.Math.Seq.{drop-append-le, drop-length}
 use Rattle.std.proofs.lemmas.List.{at_drop_more, at_drop_all, take_more}
 use Rattle.std.proofs.lemmas.List.Folds.{list_any-append}
 use Rattle.std.proofs.lemmas.List.Sums.{suffix_len-take_no, suffix_len-take_yes, suffix_len-le-length}
 use Rattle.net_base.specs.declared.ndb.NdbPair.{NdbPair}
-use Rattle.net_base.specs.NdbText.{is_white, begins, is_empty, pairs_of, starts, goes_on, going_on, tuples_of}
-use Rattle.net_base.specs.NdbBundle.{File, local_name, local_file, named_files, file_of, file_name, is_file_line, has_tuple, cause, causes_of, least, told, first_bad}
+use Rattle.net_base.specs.NdbText.{is_white, begins, is_empty, pairs_of, starts, goes_on, going_on, tuples_of, lines_of}
+use Rattle.net_base.specs.NdbBundle.{File, local_name, local_file, named_files, file_of, file_name, is_file_line, has_tuple, cause, causes_of, least, told, first_bad, bad_line, reading, database}
 use Rattle.net_base.proofs.NdbPlain.{one_add}
 use Rattle.net_base.proofs.NdbLists.{some_none}
 use Rattle.net_base.proofs.NdbFiles.{starts-at, goes_on-at}
@@ -256,3 +257,7 @@ moved lines m n closed closed' name name' whole whole' last last' r en ec ea ew 
     (subst (λ (a : List ℕ). Read lines m closed a whole' last') (sym ea)
     (subst (λ (w : List (List (List NdbPair))). Read lines m closed name w last') (sym ew)
     (subst (λ (l : List (List NdbPair)). Read lines m closed name whole l) (sym el) r))))
+
+-- what a text without a bad line reads as
+pub reading-is : (text : List ℕ) → bad_line text ≡ None → reading text ≡ Some (database (lines_of text))
+reading-is text h = ap (λ (o : Option (ℕ × ℕ)). cond (is_none o) (Some (database (lines_of text))) None) h

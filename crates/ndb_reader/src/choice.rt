@@ -1,5 +1,5 @@
 //! The choice of a bundle's files.
-ghost use Rattle.std.specs.Prelude.{◌≡◌, ◌<◌, ◌∷◌, ◌++◌, [], List, length, map, codes, flat_map, find, filter, bytes_eq, get_or, Option, IfOk, OnOk};
+ghost use Rattle.std.specs.Prelude.{◌≡◌, ◌<◌, ◌∷◌, ◌++◌, List, length, map, flat_map, codes, bytes_eq, option_copied, IfOk, OnOk};
 ghost use Rattle.net_base.specs.NdbBundle as spec;
 ghost use Rattle.net_base.specs.Networks.{tuple_names};
 ghost use Rattle.net_base.specs.Search.{values_in, values_on};
@@ -39,11 +39,21 @@ fn add_names_on(line: &Line, names: &mut Lines) -> Result<(), AllocError>
     Ok(())
 }
 
+/// Whether a name stands among these.
+fn has_name(name: &Octets, names: &Lines) -> bool
+    ensures { result ≡ list_any (λ other. bytes_eq other name.now) names.now }
+{
+    names
+        .as_slice()
+        .iter()
+        .any(|other| other.as_slice() == name.as_slice())
+}
+
 /// Adds a name that doesn't stand among these.
 fn add_name(name: &Octets, names: &mut Lines) -> Result<(), AllocError>
     ensures { OnOk result (names.new ≡ with_name names.old name.now) }
 {
-    if names.as_slice().iter().any(|other| other.as_slice() == name.as_slice()) {
+    if has_name(name, names) {
         return Ok(());
     }
     names.push(name.clone()?)?;
@@ -61,14 +71,22 @@ fn names_in(alloc: Global, tuple: &Tuple) -> Result<Lines, AllocError>
     Ok(names)
 }
 
+/// The tuple that chooses: the first with the attribute `database`.
+fn choosing(local: &Db) -> Option<&Tuple>
+    ensures { option_copied result ≡ spec.choosing local.now }
+{
+    local.as_slice().iter().find(|tuple| chooses(tuple))
+}
+
 /// The names of the files that a file chooses.
 fn names_of(alloc: Global, local: &Db) -> Result<Lines, AllocError>
     ensures { IfOk result (λ names. names ≡ spec.names_of (spec.choosing local.now)) }
 {
-    match local.as_slice().iter().find(|tuple| chooses(tuple)) {
-        Some(tuple) => names_in(alloc, tuple),
-        None => Ok(Lines::new(alloc)),
-    }
+    let Some(tuple) = choosing(local) else {
+        return Ok(Lines::new(alloc));
+    };
+    let names = names_in(alloc, tuple)?;
+    Ok(names)
 }
 
 /// Adds copies of tuples.
@@ -93,6 +111,27 @@ fn add_named(files: &[File], name: &Octets, all: &mut Db) -> Result<(), AllocErr
     Ok(())
 }
 
+/// The tuples of all files with these names.
+fn all_named(alloc: Global, files: &[File], names: &[Octets]) -> Result<Db, AllocError>
+    ensures { IfOk result (λ db. db ≡ flat_map (spec.tuples_named (map file_seen files.now)) names.now) }
+{
+    let mut all = Db::new(alloc);
+    for name in names {
+        add_named(files, name, &mut all)?;
+    }
+    Ok(all)
+}
+
+/// The tuples of the first file.
+fn first_of(files: Vec<File>) -> Db
+    requires { 0 < length files.items }
+    ensures { (local : spec.File) (others : List spec.File) → map file_seen files.items ≡ local ∷ others → result ≡ local.tuples }
+{
+    let mut files = files;
+    let File { name: _, tuples } = files.swap_remove(0);
+    tuples
+}
+
 /// The tuples of the files that the first one chooses, or its own.
 pub(crate) fn choose(alloc: Global, files: Vec<File>) -> Result<Db, AllocError>
     requires { 0 < length files.items }
@@ -101,13 +140,7 @@ pub(crate) fn choose(alloc: Global, files: Vec<File>) -> Result<Db, AllocError>
 {
     let names = names_of(alloc, &files[0].tuples)?;
     if names.len() == 0 {
-        let mut files = files;
-        let File { name: _, tuples } = files.swap_remove(0);
-        return Ok(tuples);
+        return Ok(first_of(files));
     }
-    let mut all = Db::new(alloc);
-    for name in names.as_slice() {
-        add_named(&files, name, &mut all)?;
-    }
-    Ok(all)
+    all_named(alloc, &files, names.as_slice())
 }

@@ -1,5 +1,5 @@
 //! The files of a bundle that grow line by line, and the choice among them.
-ghost use Rattle.std.specs.Prelude.{◌≡◌, ◌∷◌, ◌++◌, [], List, map, codes, OnOk, IfOk, flat_map};
+ghost use Rattle.std.specs.Prelude.{◌≡◌, ◌∷◌, ◌++◌, [], map, OnOk, IfOk};
 ghost use Rattle.net_base.specs.NdbBundle as spec;
 ghost use Rattle.net_base.specs.NdbText.{is_empty};
 ghost use Rattle.ndb_reader.specs.Told.{tuple_of, file_seen};

@@ -1,5 +1,5 @@
 //! A line of a text: its pairs, or the least cause for which it is bad.
-ghost use Rattle.std.specs.Prelude.{◌≡◌, ℕ, not, ◌&&◌, MatchOption, map, codes, bytes_eq, true, false, None, IfOk, IfErr};
+ghost use Rattle.std.specs.Prelude.{◌≡◌, ℕ, not, ◌&&◌, MatchOption, true, false, None, IfOk, IfErr};
 ghost use Rattle.std.specs.List.{list_any};
 ghost use Rattle.std.specs.Option.{option_map};
 ghost use Rattle.net_base.specs.NdbText as spec;
@@ -84,11 +84,11 @@ fn least_cause(line: &[u8], words: &Words, has_tuple: bool) -> Option<u32>
     requires { AreWords words.now (spec.words_of line.now) }
     ensures { result ≡ least (causes_of has_tuple line.now) }
 {
-    if goes_on_alone(line, &words.pairs, has_tuple) {
+    if goes_on_alone(line, words, has_tuple) {
         Some(1)
     } else if words.unclosed {
         Some(2)
-    } else if has_nameless(&words.pairs) {
+    } else if has_nameless(words) {
         Some(3)
     } else if words.followed {
         Some(4)
@@ -102,10 +102,10 @@ fn least_cause(line: &[u8], words: &Words, has_tuple: bool) -> Option<u32>
 }
 
 /// Whether a line goes on with a tuple where there is none.
-fn goes_on_alone(line: &[u8], pairs: &[NdbPair], has_tuple: bool) -> bool
-    ensures { result ≡ (not (spec.is_empty pairs.now) && spec.begins spec.is_white line.now && not has_tuple) }
+fn goes_on_alone(line: &[u8], words: &Words, has_tuple: bool) -> bool
+    ensures { result ≡ (not (spec.is_empty words.now.pairs.items) && (spec.begins spec.is_white line.now && not has_tuple)) }
 {
-    !is_blank(pairs) && is_indented(line) && !has_tuple
+    !is_blank(&words.pairs) && is_indented(line) && !has_tuple
 }
 
 /// Whether a line begins with `%` and begins no file.
@@ -122,8 +122,11 @@ fn is_percent(line: &[u8]) -> bool
 }
 
 /// Whether a word begins with `=`.
-fn has_nameless(pairs: &[NdbPair]) -> bool
-    ensures { result ≡ list_any (λ pair. spec.is_empty pair.attr) pairs.now }
+fn has_nameless(words: &Words) -> bool
+    ensures { result ≡ list_any (λ pair. spec.is_empty pair.attr) words.now.pairs.items }
 {
-    pairs.iter().any(|pair| pair.attr.as_slice().is_empty())
+    words
+        .pairs
+        .iter()
+        .any(|pair| pair.attr.as_slice().is_empty())
 }

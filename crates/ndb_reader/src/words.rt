@@ -1,5 +1,5 @@
 //! The words of a line, each an attribute with its value.
-ghost use Rattle.std.specs.Prelude.{◌≡◌, ◌<◌, ◌+◌, ◌||◌, length, map, drop, IfOk, OnOk};
+ghost use Rattle.std.specs.Prelude.{◌≡◌, ◌≤◌, ◌+◌, ◌++◌, ◌∷◌, ◌||◌, [], length, take, drop, IfOk, OnOk};
 ghost use Rattle.std.specs.List.{list_any, position_or_len};
 ghost use Rattle.net_base.specs.NdbText as spec;
 ghost use Rattle.ndb_reader.specs.Told.{AreWords, IsRead};
@@ -55,9 +55,9 @@ impl Words {
     /// Adds a word.
     fn push(&mut self, alloc: Global, word: Word<'_>) -> Result<(), AllocError>
         ensures pairs { OnOk result (self.new.pairs.items
-            ≡ self.old.pairs.items ++ record { attr = word.attr.now; value = word.value.now } ∷ []) }
-        ensures unclosed { OnOk result (self.new.unclosed ≡ (self.old.unclosed || word.unclosed)) }
-        ensures followed { OnOk result (self.new.followed ≡ (self.old.followed || word.followed)) }
+            ≡ self.old.pairs.items ++ record { attr = word.entry.attr.now; value = word.entry.value.now } ∷ []) }
+        ensures unclosed { OnOk result (self.new.unclosed ≡ (self.old.unclosed || word.entry.unclosed)) }
+        ensures followed { OnOk result (self.new.followed ≡ (self.old.followed || word.entry.followed)) }
     {
         self.pairs.push(NdbPair {
             attr: Octets::from_slice(alloc, word.attr)?,
@@ -80,7 +80,7 @@ pub(crate) fn read_words(alloc: Global, line: &[u8]) -> Result<Words, AllocError
             return Ok(words);
         }
         if is_white(rest[0]) {
-            rest = &rest[1..];
+            rest = from(rest, 1);
             continue;
         }
         let word = word_at(rest);
@@ -92,9 +92,10 @@ pub(crate) fn read_words(alloc: Global, line: &[u8]) -> Result<Words, AllocError
 
 /// The word that begins these bytes: it is quoted where its first `=` is followed by a quote.
 fn word_at(bytes: &[u8]) -> Word<'_>
-    ensures read { IsRead result bytes.now (spec.word_of bytes.now) }
+    ensures { IsRead result bytes.now (spec.word_of bytes.now) }
 {
-    let run = &bytes[..word_len(bytes)];
+    let len = word_len(bytes);
+    let run = &bytes[..len];
     let end = attr_len(run);
     if is_quoted(run, end) {
         return quoted_at(bytes, end);
@@ -102,7 +103,7 @@ fn word_at(bytes: &[u8]) -> Word<'_>
     Word {
         attr: &run[..end],
         value: behind(run, end),
-        rest: &bytes[run.len()..],
+        rest: from(bytes, len),
         unclosed: false,
         followed: false,
     }
@@ -124,9 +125,8 @@ fn quoted_at(bytes: &[u8], end: usize) -> Word<'_>
     ensures { IsRead result bytes.now (spec.quoted_word (take end bytes.now) (drop (end + 2) bytes.now)) }
 {
     let attr = &bytes[..end];
-    let quoted = &bytes[end + 2..];
-    let close = quote_len(quoted);
-    if close == quoted.len() {
+    let quoted = from(bytes, end + 2);
+    if !has_quote(quoted) {
         return Word {
             attr,
             value: quoted,
@@ -135,20 +135,36 @@ fn quoted_at(bytes: &[u8], end: usize) -> Word<'_>
             followed: false,
         };
     }
-    let after = &quoted[close + 1..];
+    let close = quote_len(quoted);
+    let after = behind(quoted, close);
     let more = word_len(after);
     Word {
         attr,
         value: &quoted[..close],
-        rest: &after[more..],
+        rest: from(after, more),
         unclosed: false,
-        followed: more != 0,
+        followed: !is_nothing(&after[..more]),
     }
+}
+
+/// Whether there is a quote among bytes.
+fn has_quote(bytes: &[u8]) -> bool
+    ensures { result ≡ list_any spec.is_quote bytes.now }
+{
+    bytes.contains(&b'"')
+}
+
+/// Whether there are no bytes.
+fn is_nothing(bytes: &[u8]) -> bool
+    ensures { result ≡ spec.is_empty bytes.now }
+{
+    bytes.is_empty()
 }
 
 /// How many bytes stand before white space.
 fn word_len(bytes: &[u8]) -> usize
-    ensures { result ≡ position_or_len spec.is_white bytes.now }
+    ensures value { result ≡ position_or_len spec.is_white bytes.now }
+    ensures within { result ≤ length bytes.now }
 {
     bytes
         .iter()
@@ -158,7 +174,8 @@ fn word_len(bytes: &[u8]) -> usize
 
 /// How many bytes stand before the first `=`.
 fn attr_len(word: &[u8]) -> usize
-    ensures { result ≡ position_or_len spec.is_equals word.now }
+    ensures value { result ≡ position_or_len spec.is_equals word.now }
+    ensures within { result ≤ length word.now }
 {
     word.iter()
         .position(|byte| *byte == b'=')
@@ -167,12 +184,21 @@ fn attr_len(word: &[u8]) -> usize
 
 /// How many bytes stand before the first quote.
 fn quote_len(bytes: &[u8]) -> usize
-    ensures { result ≡ position_or_len spec.is_quote bytes.now }
+    ensures value { result ≡ position_or_len spec.is_quote bytes.now }
+    ensures within { result ≤ length bytes.now }
 {
     bytes
         .iter()
         .position(|byte| *byte == b'"')
         .unwrap_or(bytes.len())
+}
+
+/// What stands from a place on.
+fn from(bytes: &[u8], place: usize) -> &[u8]
+    requires { place ≤ length bytes.now }
+    ensures { result.now ≡ drop place bytes.now }
+{
+    &bytes[place..]
 }
 
 /// What stands behind a place.
