@@ -59,7 +59,7 @@ pub fn value_beside(
 
 /// Adds the values of an attribute beside the pair: on its first line, or else in the tuple.
 #[tactic(auto, using(crate::proofs::Copied::near_on, crate::proofs::Copied::near_in, crate::proofs::Copied::near_none))]
-fn add_beside(
+pub fn add_beside(
     attr: &[u8],
     value: &[u8],
     other: &[u8],

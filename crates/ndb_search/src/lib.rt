@@ -16,6 +16,7 @@ mod tests;
 pub use near::closest;
 pub use networks::{Network, own_networks};
 pub use numbers::{Kind, numbers_found};
+pub use pairs::tuple_has;
 pub use places::{Places, search};
 pub use prefixes::Prefixes;
-pub use beside::value_beside;
+pub use beside::{add_beside, value_beside};
