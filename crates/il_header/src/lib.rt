@@ -2,7 +2,6 @@
 #![tactic(auto)]
 
 mod fault;
-mod field;
 mod message;
 
 pub use fault::IlError;

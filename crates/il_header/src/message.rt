@@ -7,9 +7,8 @@ ghost use Rattle.il_header.specs.Faults.{HasHeader, HasLength, HasSum};
 ghost use Rattle.il_header.specs.Views.{message_in};
 
 use crate::fault::IlError;
-use crate::field::{long, word};
 use byteorder::{BigEndian, ByteOrder};
-use ip_wire::sum;
+use ip_wire::{long, sum, word};
 use net_base::{IlKind, IlMsg};
 
 /// The bytes of a header.

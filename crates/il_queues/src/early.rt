@@ -21,7 +21,7 @@ struct Numbered {
 /// The early messages of an end, which lie in the value itself. Clauses see a list of numbers and texts, latest first.
 #[derive(Drop)]
 pub struct Early {
-    slots: ArrayVec<Option<Numbered>, 20>,
+    slots: ArrayVec<Option<Numbered>, MOST_EARLY>,
 }
 
 impl Model for Early {

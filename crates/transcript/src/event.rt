@@ -2,9 +2,7 @@
 ghost use Rattle.std.specs.Prelude.{◌≡◌, ◌++◌, OnOk};
 ghost use Rattle.net_base.specs.Transcript.{spaced, event_words};
 
-use crate::line::{
-    put_hex, put_number, put_with_hex, put_with_number, put_with_numbers, put_word,
-};
+use crate::line::{put_hex, put_number, put_with_hex, put_with_number, put_with_numbers, put_word};
 use crate::names::{put_addr, put_ip_or_star, put_number_or_dash, put_port_or_star};
 use net_base::{Event, Octets};
 use std::alloc::AllocError;

@@ -71,14 +71,14 @@ fn hexadecimal_is_written_and_read(rt: HostRuntime) -> Result<(), Fail> {
     let mut text = Octets::new(rt.alloc());
     put_hex_word(&mut text, b"\x00\x9fz".as_slice())?;
     assert_eq!(rt; text.as_slice(), b"009f7a".as_slice());
-    let read = read_hex_word(rt.alloc(), text.as_slice())?;
-    assert!(rt; matches!(read, Some(bytes) if bytes.as_slice() == b"\x00\x9fz".as_slice()));
+    let read = read_hex_word(rt.alloc(), text.as_slice())?.unwrap_or(Octets::new(rt.alloc()));
+    assert_eq!(rt; read.as_slice(), b"\x00\x9fz".as_slice());
     let rows = [b"9F".as_slice(), b"9f7", b"0g", b"--", b""];
     for word in rows {
         let read = read_hex_word(rt.alloc(), word)?;
         assert!(rt; read.is_none());
     }
-    let read = read_hex_word(rt.alloc(), b"-".as_slice())?;
-    assert!(rt; matches!(read, Some(bytes) if bytes.len() == 0));
+    let read = read_hex_word(rt.alloc(), b"-".as_slice())?.unwrap_or(text);
+    assert!(rt; read.as_slice().is_empty());
     Ok(())
 }

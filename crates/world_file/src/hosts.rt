@@ -10,10 +10,10 @@ ghost use Rattle.world_file.specs.Told.{TellsCause, IsSmall};
 
 use crate::draft::Draft;
 use crate::fault::Fault;
-use cs_resolver::mask_bits;
 use net_base::{HostSpec, Iface, Nets, Octets, Proto, Sequence};
 use std::alloc::{AllocError, Global};
-use world_words::{address_in, is_name, nets_named, number_in, one, three};
+use words::{address_in, mask_bits, number_in};
+use world_words::{is_name, nets_named, one, three};
 
 impl Draft {
     /// `host NAME NETS`

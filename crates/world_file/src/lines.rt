@@ -7,8 +7,8 @@ ghost use Rattle.world_file.specs.Told.{TellsCause, IsSmall, going};
 
 use crate::draft::Draft;
 use crate::fault::Fault;
-use cs_resolver::split_first;
 use std::alloc::Global;
+use words::split_first;
 use world_words::{one, split_words};
 
 impl Draft {

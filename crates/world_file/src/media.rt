@@ -8,7 +8,8 @@ use crate::draft::Draft;
 use crate::fault::Fault;
 use net_base::{MediumSpec, Octets, Sequence};
 use std::alloc::{AllocError, Global};
-use world_words::{four, is_fate, is_frames, is_name, number_in, one, three, two};
+use words::number_in;
+use world_words::{four, is_fate, is_frames, is_name, one, three, two};
 
 impl Draft {
     /// `end M`

@@ -1,36 +1,16 @@
 -- The parts of a word between the occurrences of a byte, and digits.
-use Rattle.std.proofs.Common.{None, ◌≡◌, ℕ, ◌^◌, ◌<◌, ◌≤◌, false, ◌==◌, List, [], ◌∷◌, length, refl, sym, ap, ◌∙◌, arith}
-use Rattle.std.specs.Str.Parse.{digits_value, AllDigits}
+use Rattle.std.proofs.Common.{◌≡◌, ℕ, ◌<◌, false, ◌==◌, List, [], ◌∷◌, length, refl, ap, ◌∙◌, arith}
 use Rattle.std.proofs.lemmas.List.Splits.{length-slice_split}
-use Rattle.std.proofs.lemmas.Int.Digits.{digits_value-lt}
-use Rattle.std.proofs.Math.Nat.{pow-le-pow_right}
 use Rattle.net_base.specs.Addresses.{parts_at}
 use Rattle.std.specs.Prelude.{false}
 use Rattle.net_base.specs.declared.world.Step.TheVariants as step
-use Rattle.net_model.specs.WorldWords.{octets_joined, address_in, joined}
-use Rattle.net_model.specs.WorldLines.{connects_words, connects, is_place, are_frames, is_frames, write_of, cs_of, kept}
+use Rattle.net_model.specs.WorldWords.{joined}
+use Rattle.net_model.specs.WorldLines.{connects_words, connects, write_of, cs_of, kept}
 use Rattle.std.proofs.lemmas.List.Splits.{join_with_byte-slice_split}
-
--- so few digits spell a number that can be multiplied by ten once more
-pub digits_below : (ds : List ℕ) → AllDigits 10 ds → length ds ≤ 19 → digits_value 10 ds < 10000000000000000000
-digits_below ds all few =
-    let below = digits_value-lt 10 ds all in
-    let most : 10 ^ length ds ≤ 10 ^ 19 = pow-le-pow_right (omega arith) few in
-    omega arith
 
 -- there is always a part
 pub some_part : (separator : ℕ) (word : List ℕ) → 0 < length (parts_at separator word)
 some_part separator word = omega (arith, length-slice_split (λ byte. byte == separator) word)
-
--- more than four words are no address
-more_parts : (a b c d : List ℕ) (others : List (List ℕ)) → 0 < length others → octets_joined (a ∷ b ∷ c ∷ d ∷ others) ≡ None
-more_parts a b c d [] more = absurd (omega arith)
-more_parts a b c d (e ∷ others) more = refl
-
--- a word with four dots is no address
-pub five_parts : (word after_a after_b after_c after_d a b c d : List ℕ) → parts_at 46 word ≡ a ∷ parts_at 46 after_a → parts_at 46 after_a ≡ b ∷ parts_at 46 after_b → parts_at 46 after_b ≡ c ∷ parts_at 46 after_c → parts_at 46 after_c ≡ d ∷ parts_at 46 after_d → None ≡ address_in word
-five_parts word after_a after_b after_c after_d a b c d first second third fourth =
-    rw (first, second, third, fourth) (sym (more_parts a b c d (parts_at 46 after_d) (some_part 46 after_d)))
 
 more_connects : (a b c : List ℕ) (others : List (List ℕ)) → 0 < length others → connects_words (a ∷ b ∷ c ∷ others) ≡ false
 more_connects a b c [] more = absurd (omega arith)
@@ -40,22 +20,6 @@ more_connects a b c (d ∷ others) more = refl
 pub more_words : (text after_a after_b after_c a b c : List ℕ) → parts_at 32 text ≡ a ∷ parts_at 32 after_a → parts_at 32 after_a ≡ b ∷ parts_at 32 after_b → parts_at 32 after_b ≡ c ∷ parts_at 32 after_c → connects text ≡ false
 more_words text after_a after_b after_c a b c first second third =
     rw (first, second, third) (more_connects a b c (parts_at 32 after_c) (some_part 32 after_c))
-
-more_in_place : (a b : List ℕ) (others : List (List ℕ)) → 0 < length others → is_place (a ∷ b ∷ others) ≡ false
-more_in_place a b [] more = absurd (omega arith)
-more_in_place a b (c ∷ others) more = refl
-
--- a word with two exclamation marks is no place
-pub more_places : (word after_a after_b a b : List ℕ) → parts_at 33 word ≡ a ∷ parts_at 33 after_a → parts_at 33 after_a ≡ b ∷ parts_at 33 after_b → is_place (parts_at 33 word) ≡ false
-more_places word after_a after_b a b first second = rw (first, second) (more_in_place a b (parts_at 33 after_b) (some_part 33 after_b))
-
-more_in_frames : (a b : List ℕ) (others : List (List ℕ)) → 0 < length others → are_frames (a ∷ b ∷ others) ≡ false
-more_in_frames a b [] more = absurd (omega arith)
-more_in_frames a b (c ∷ others) more = refl
-
--- a word with two hyphens is no range of frames
-pub more_frames : (word after_a after_b a b : List ℕ) → parts_at 45 word ≡ a ∷ parts_at 45 after_a → parts_at 45 after_a ≡ b ∷ parts_at 45 after_b → is_frames word ≡ false
-more_frames word after_a after_b a b first second = rw (first, second) (more_in_frames a b (parts_at 45 after_b) (some_part 45 after_b))
 
 write_by : (name text : List ℕ) (words : List (List ℕ)) → 0 < length words → joined words ≡ text → write_of (name ∷ words) ≡ kept (step.Write name text)
 write_by name text [] more e = absurd (omega arith)

@@ -3,8 +3,7 @@ ghost use Rattle.std.specs.Prelude.{◌≡◌};
 ghost use Rattle.net_base.specs.Addresses.{parts_at};
 ghost use Rattle.net_model.specs.WorldLines as spec;
 
-use crate::numbers::{address_in, number_in};
-use cs_resolver::split_first;
+use words::{address_in, number_in, split_first, two_parts};
 
 /// Whether a text is `connect A!PORT LPORT`.
 pub fn connects(text: &[u8]) -> bool
@@ -14,30 +13,20 @@ pub fn connects(text: &[u8]) -> bool
     let Some(rest) = rest else {
         return false;
     };
-    let (place, rest) = split_first(rest, b' ');
-    let Some(rest) = rest else {
-        return false;
-    };
-    let (port, rest) = split_first(rest, b' ');
-    if let Some(_) = rest {
-        return false;
+    match two_parts(rest, b' ') {
+        Some((place, port)) => { word == b"connect".as_slice() && is_place(place) && is_port(port) }
+        None => false,
     }
-    word == b"connect".as_slice() && is_place(place) && is_port(port)
 }
 
 /// Whether a word is `A!PORT`.
 fn is_place(word: &[u8]) -> bool
     ensures { result ≡ spec.is_place (parts_at 33 word.now) }
 {
-    let (address, rest) = split_first(word, b'!');
-    let Some(rest) = rest else {
-        return false;
-    };
-    let (port, rest) = split_first(rest, b'!');
-    if let Some(_) = rest {
-        return false;
+    match two_parts(word, b'!') {
+        Some((address, port)) => address_in(address).is_some() && is_port(port),
+        None => false,
     }
-    address_in(address).is_some() && is_port(port)
 }
 
 fn is_port(word: &[u8]) -> bool

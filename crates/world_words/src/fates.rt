@@ -2,21 +2,18 @@
 ghost use Rattle.std.specs.Prelude.{◌≡◌};
 ghost use Rattle.net_model.specs.WorldLines as spec;
 
-use crate::numbers::number_in;
-use cs_resolver::split_first;
+use words::{number_in, single, two_parts};
 
 /// K, or K-L where L isn't below K.
 pub fn is_frames(word: &[u8]) -> bool
     ensures { result ≡ spec.is_frames word.now }
 {
-    let (first, rest) = split_first(word, b'-');
-    let Some(rest) = rest else {
-        return frame_in(first).is_some();
-    };
-    let (last, rest) = split_first(rest, b'-');
-    if let Some(_) = rest {
-        return false;
+    if let Some(only) = single(word, b'-') {
+        return frame_in(only).is_some();
     }
+    let Some((first, last)) = two_parts(word, b'-') else {
+        return false;
+    };
     match (frame_in(first), frame_in(last)) {
         (Some(first), Some(last)) => first <= last,
         _ => false,

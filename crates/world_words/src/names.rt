@@ -1,12 +1,12 @@
 //! Names, paths and texts, and the words that name something.
 ghost use Rattle.std.specs.Prelude.{◌≡◌, ◌==◌, not, ◌&&◌, ◌||◌, true, map, IfOk};
 ghost use Rattle.std.specs.List.{list_all};
-ghost use Rattle.net_base.specs.Paths.{proto_named};
 ghost use Rattle.net_base.specs.World as world;
 ghost use Rattle.net_model.specs.WorldWords as spec;
 
-use net_base::{Mode, Nets, Proto, Sequence};
+use net_base::{Mode, Nets, Sequence};
 use std::alloc::{AllocError, Global};
+use words::proto_named;
 
 /// How a file is opened.
 pub(crate) fn mode_named(word: &[u8]) -> Option<Mode>
@@ -18,18 +18,6 @@ pub(crate) fn mode_named(word: &[u8]) -> Option<Mode>
         Some(Mode::Write)
     } else if word == b"rw".as_slice() {
         Some(Mode::Both)
-    } else {
-        None
-    }
-}
-
-fn proto_named(word: &[u8]) -> Option<Proto>
-    ensures { result ≡ proto_named word.now }
-{
-    if word == b"il".as_slice() {
-        Some(Proto::Il)
-    } else if word == b"udp".as_slice() {
-        Some(Proto::Udp)
     } else {
         None
     }

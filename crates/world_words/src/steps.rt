@@ -5,13 +5,11 @@ ghost use Rattle.net_base.specs.Addresses.{parts_at};
 ghost use Rattle.net_base.specs.World as world;
 ghost use Rattle.net_model.specs.WorldLines as spec;
 
-use crate::hex::hex_text;
+use crate::arguments::{one, two};
 use crate::names::{are_bytes, is_name, is_text, is_word, mode_named};
-use crate::numbers::number_in;
-use crate::words::{one, two};
-use cs_resolver::split_first;
 use net_base::{Octets, Step};
 use std::alloc::{AllocError, Global};
+use words::{number_in, read_hex_word, split_first};
 
 /// The step of a word and its arguments, which are wrong where there is none. `rest` is what stands behind the word.
 pub fn read_step(
@@ -173,7 +171,7 @@ fn read_writex(alloc: Global, args: &[&[u8]]) -> Result<Option<Step>, AllocError
     let Some((name, hex)) = two(args) else {
         return Ok(None);
     };
-    match hex_text(alloc, hex)? {
+    match read_hex_word(alloc, hex)? {
         Some(text) => Ok(kept(Step::Writex {
             name: Octets::from_slice(alloc, name)?,
             text,

@@ -1,54 +1,9 @@
 //! Worked words, and those that are refused.
-use crate::{
-    address_in, connects, is_fate, is_frames, is_name, nets_named, number_in, read_step,
-    split_words,
-};
-use cs_resolver::split_first;
+use crate::{connects, is_fate, is_frames, is_name, nets_named, read_step, split_words};
 use net_base::{Proto, Step};
 use std::alloc::Global;
 use std::test::Fail;
-
-#[test]
-fn numbers_are_read(rt: HostRuntime) {
-    let rows = [
-        (b"0".as_slice(), Some(0)),
-        (b"7", Some(7)),
-        (b"00", None),
-        (b"07", None),
-        (b"", None),
-        (b"-1", None),
-        (b"1a", None),
-        (b"18446744073709551615", Some(18446744073709551615)),
-        (b"18446744073709551616", None),
-        (b"100000000000000000000", None),
-    ];
-    for (word, want) in rows {
-        assert_eq!(rt; number_in(0, u64::MAX, word), want);
-    }
-    assert_eq!(rt; number_in(576, 16384, b"576".as_slice()), Some(576));
-    assert_eq!(rt; number_in(576, 16384, b"16384".as_slice()), Some(16384));
-    assert_eq!(rt; number_in(576, 16384, b"575".as_slice()), None);
-    assert_eq!(rt; number_in(576, 16384, b"16385".as_slice()), None);
-}
-
-#[test]
-fn addresses_are_read(rt: HostRuntime) {
-    let rows = [
-        (b"135.104.9.31".as_slice(), Some(0x8768_091f)),
-        (b"0.0.0.0", Some(0)),
-        (b"255.255.255.255", Some(4294967295)),
-        (b"1.2.3", None),
-        (b"1.2.3.4.", None),
-        (b"1.2.3.4.5", None),
-        (b"1..3.4", None),
-        (b"1.2.3.256", None),
-        (b"01.2.3.4", None),
-        (b"", None),
-    ];
-    for (word, want) in rows {
-        assert_eq!(rt; address_in(word), want);
-    }
-}
+use words::split_first;
 
 #[test]
 fn names_are_told(rt: HostRuntime) {

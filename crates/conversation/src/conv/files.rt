@@ -66,9 +66,9 @@ impl Conv {
             FileName::Ctl => texts::number(self.alloc, self.slot),
             FileName::Local => texts::address_line(self.alloc, self.pair.local),
             FileName::Remote => texts::address_line(self.alloc, self.pair.remote),
-            FileName::Status => texts::line(self.alloc, texts::state_word(self.core.state_name())),
+            FileName::Status => texts::line(self.alloc, words::state_word(self.core.state_name())),
             FileName::Err => match self.cause() {
-                Some(cause) => texts::line(self.alloc, texts::cause_text(cause)),
+                Some(cause) => texts::line(self.alloc, words::cause_text(cause)),
                 None => Ok(Octets::new(self.alloc)),
             },
             FileName::Data | FileName::Listen => Ok(Octets::new(self.alloc)),

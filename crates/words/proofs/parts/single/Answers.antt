@@ -1,4 +1,4 @@
-use Rattle.std.proofs.Common.{ap, arith, length, sym, ◌∙◌}
+use Rattle.std.proofs.Common.{ap, arith, length}
 use Rattle.words.proofs.Splits.{some_part}
 use Rattle.words.proofs.parts.single.Goals as goal
 

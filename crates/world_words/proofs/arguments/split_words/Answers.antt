@@ -3,7 +3,7 @@ use Rattle.std.proofs.lemmas.Iterator.Splits.{YieldsList-from_slice_split}
 use Rattle.std.proofs.lemmas.Iterator.Consumers.{map_from_collect}
 use Rattle.std.proofs.Common.{◌==◌}
 use borrow.Author.Tests.{tests}
-use Rattle.world_words.proofs.words.split_words.Goals as goal
+use Rattle.world_words.proofs.arguments.split_words.Goals as goal
 
 pub returns : goal.returns
 returns c =
