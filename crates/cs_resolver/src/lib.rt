@@ -9,7 +9,6 @@ mod resolve;
 
 pub use error::CsError;
 pub use resolve::answer;
-pub use words::{mask_bits, split_first};
 
 #[cfg(test)]
 mod tests;
