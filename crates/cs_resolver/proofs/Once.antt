@@ -1,12 +1,12 @@
 -- Each number once, an element at a time.
-use Rattle.std.proofs.Common.{◌≡◌, ℕ, ◌+◌, ◌<◌, Bool, true, false, not, cond, ◌||◌, ◌==◌, List, [], ◌∷◌, ◌++◌, length, get_or, take, refl, sym, ap, ◌∙◌, arith, append-nil}
+use Rattle.std.proofs.Common.{◌≡◌, ℕ, ◌+◌, ◌<◌, nat_eq, Bool, true, false, not, cond, ◌||◌, ◌==◌, List, [], ◌∷◌, ◌++◌, length, get_or, take, refl, sym, ap, ◌∙◌, arith, append-nil}
 use Rattle.std.specs.Prelude.{filter}
 use Rattle.std.specs.List.{list_any}
 use Rattle.std.proofs.lemmas.List.{take_more}
 use Rattle.std.proofs.lemmas.List.Elements.{filter-append}
 use Rattle.std.proofs.lemmas.Bool.Decides.{nat_tests}
 use Rattle.net_base.specs.Cs.{once_each}
-use Rattle.cs_resolver.proofs.Ranges.{cond_true, cond_false}
+use Rattle.cs_resolver.proofs.Answering.{cond_true, cond_false}
 
 -- the numbers that are not this one
 others : ℕ → List ℕ → List ℕ
@@ -57,13 +57,16 @@ once_push (x ∷ ns) n = ap (λ rest. x ∷ others x rest) (once_push ns n) ∙ 
         ap (λ rest. x ∷ rest) (others_push_apart x n (once_each ns) (turned x n false e))
         ∙ sym (cond_false (among n (others x (once_each ns))) _ _ (among_others x n (once_each ns) (turned x n false e) ∙ h))
 
--- one more number that stood before, and one that didn't
-pub once_had : (ns : List ℕ) (i : ℕ) → i < length ns → list_any (λ m. m == get_or ns i 0) (once_each (take i ns)) ≡ true → once_each (take (i + 1) ns) ≡ once_each (take i ns)
-unfolding among
-once_had ns i within had =
-    ap once_each (take_more ns i 0 within) ∙ once_push (take i ns) (get_or ns i 0) ∙ cond_true (among (get_or ns i 0) (once_each (take i ns))) _ _ had
+same_any : (p q : ℕ → Bool) (ns : List ℕ) → ((n : ℕ) → p n ≡ q n) → list_any p ns ≡ list_any q ns
+same_any p q [] agree = refl
+same_any p q (n ∷ ns) agree = ap (λ b. b || list_any p ns) (agree n) ∙ ap (λ b. q n || b) (same_any p q ns agree)
 
-pub once_new : (ns : List ℕ) (i : ℕ) → i < length ns → list_any (λ m. m == get_or ns i 0) (once_each (take i ns)) ≡ false → once_each (take (i + 1) ns) ≡ once_each (take i ns) ++ get_or ns i 0 ∷ []
+-- one more number, put among those that are kept
+pub once_more : (ns keys after : List ℕ) (i : ℕ) → i < length ns → keys ≡ once_each (take i ns) → after ≡ cond (list_any (nat_eq (get_or ns i 0)) keys) keys (keys ++ get_or ns i 0 ∷ []) → after ≡ once_each (take (i + 1) ns)
 unfolding among
-once_new ns i within had =
-    ap once_each (take_more ns i 0 within) ∙ once_push (take i ns) (get_or ns i 0) ∙ cond_false (among (get_or ns i 0) (once_each (take i ns))) _ _ had
+once_more ns keys after i within kept put =
+    let n = get_or ns i 0 in
+    put
+    ∙ ap (λ had. cond had keys (keys ++ n ∷ [])) (same_any (nat_eq n) (λ m. m == n) keys (λ m. turned m n (m == n) refl))
+    ∙ ap (λ (those : List ℕ). cond (among n those) those (those ++ n ∷ [])) kept
+    ∙ sym (ap once_each (take_more ns i 0 within) ∙ once_push (take i ns) n)

@@ -2,7 +2,5 @@ pub use Rattle.net_base.specs.Addresses
 pub use Rattle.net_base.specs.Cs
 pub use Rattle.net_base.specs.Networks
 pub use Rattle.net_base.specs.Search
-pub mod Built
-pub mod Numbers
-pub mod Prefixes
-pub mod Resolve
+pub mod Errors
+pub mod Targets

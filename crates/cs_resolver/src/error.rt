@@ -1,6 +1,6 @@
 //! What a query is refused for.
 ghost use Rattle.std.specs.Prelude.{◌≡◌, Some};
-ghost use Rattle.cs_resolver.specs.Built.{number_of, text_of};
+ghost use Rattle.cs_resolver.specs.Errors.{number_of, text_of};
 ghost use Rattle.cs_resolver.specs.declared.error.CsError.TheVariants.{Memory};
 
 use std::alloc::{AllocError, AllocFailed};
@@ -22,8 +22,6 @@ pub enum CsError {
     NoService,
     /// Nothing is known of the attribute.
     NoValue,
-    /// The query has a form that is not answered yet.
-    NotBuilt,
 }
 
 impl CsError {
@@ -38,7 +36,6 @@ impl CsError {
             CsError::NoHost => 3,
             CsError::NoService => 4,
             CsError::NoValue => 5,
-            CsError::NotBuilt => 6,
         }
     }
 }
@@ -54,7 +51,6 @@ impl fmt::Display for CsError {
             CsError::NoHost => write!(f, "no host"),
             CsError::NoService => write!(f, "no service"),
             CsError::NoValue => write!(f, "no value"),
-            CsError::NotBuilt => write!(f, "not built"),
         }
     }
 }

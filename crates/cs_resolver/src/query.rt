@@ -1,11 +1,12 @@
 //! The query, and which queries are answered.
-ghost use Rattle.std.specs.Prelude.{◌≡◌, ◌==◌, ◌&&◌, MatchOption, None, Some, bytes_eq, codes};
+ghost use Rattle.std.specs.Prelude.{◌≡◌, ◌==◌, ◌||◌, IfOk, MatchOption, None, Some, bytes_eq, codes};
 ghost use Rattle.std.specs.List.{list_any};
 ghost use Rattle.std.specs.Char.{is_ascii_alphabetic};
 ghost use Rattle.net_base.specs.Cs as spec;
-ghost use Rattle.cs_resolver.specs.Built.{is_system};
 
-use crate::words::split_first;
+use net_base::Proto;
+use std::alloc::{AllocError, Global};
+use words::{proto_name, split_first};
 
 /// The three parts of NET!HOST!SERVICE.
 #[derive(Clone, Copy)]
@@ -31,6 +32,13 @@ pub fn read_query(text: &[u8]) -> Option<Query<'_>>
         return None;
     }
     Some(Query { net, host, service })
+}
+
+/// Whether the host is any address of the asker's, `*`.
+pub fn is_any(host: &[u8]) -> bool
+    ensures { result ≡ spec.is_any host.now }
+{
+    host == b"*".as_slice()
 }
 
 /// Whether the word has digits and dots alone.
@@ -72,16 +80,29 @@ pub fn is_attribute(word: &[u8]) -> bool
     }
 }
 
-/// Whether the host is the name of a system.
-fn is_system(host: &[u8]) -> bool
-    ensures { result ≡ is_system host.now }
+/// The attribute by which a word that is no address is searched.
+pub fn name_attr(word: &[u8]) -> &'static [u8]
+    ensures { result.now ≡ spec.name_attr word.now }
 {
-    !(host == b"*".as_slice() || is_attribute(host) || is_numeric(host) || is_domain(host))
+    if is_domain(word) { b"dom" } else { b"sys" }
 }
 
-/// Whether the query is `net!HOST!SERVICE` with the name of a system.
-pub fn is_built(query: &Query<'_>) -> bool
-    ensures { result ≡ (bytes_eq query.now.net.now (codes "net") && is_system query.now.host.now) }
+/// The nets that a word names, in the host's order.
+pub fn nets_of(alloc: Global, nets: &[Proto], word: &[u8]) -> Result<Vec<Proto>, AllocError>
+    ensures { IfOk result (λ named. named.items ≡ spec.nets_of nets.now word.now) }
 {
-    query.net == b"net".as_slice() && is_system(query.host)
+    let mut named = Vec::new(alloc);
+    for net in nets {
+        if is_named(word, *net) {
+            named.push(*net)?;
+        }
+    }
+    Ok(named)
+}
+
+/// Whether a word names the net.
+fn is_named(word: &[u8], net: Proto) -> bool
+    ensures { result ≡ (bytes_eq word.now (codes "net") || bytes_eq word.now (spec.proto_name net)) }
+{
+    word == b"net".as_slice() || word == proto_name(net)
 }

@@ -109,6 +109,23 @@ fn the_worked_queries(rt: HostRuntime) -> Result<(), Fail> {
         ),
         ("net!nobody!9fs", "! 3 no host\n"),
         ("net!nobody!nosuch", "! 3 no host\n"),
+        (
+            "net!$auth!9fs",
+            "/net/il/clone 135.104.9.31!17008\n/net/il/clone 10.0.0.31!17008\n",
+        ),
+        ("net!$fs!nosuch", "! 5 no value\n"),
+        ("net!$!9fs", "! 5 no value\n"),
+        ("tcp!$fs!9fs", "! 2 no net\n"),
+        (
+            "udp!helix.example.com!echo",
+            "/net/udp/clone 135.104.9.31!7\n/net/udp/clone 10.0.0.31!7\n",
+        ),
+        ("il!*!9fs", "/net/il/clone *!17008\n"),
+        ("net!...!9fs", "! 3 no host\n"),
+        (
+            "net!135.104.050.9!564",
+            "/net/il/clone 135.104.50.9!564\n/net/udp/clone 135.104.50.9!564\n",
+        ),
     ];
     for (query, wanted) in cases {
         assert_eq!(rt; told(alloc, WORKED, query)?.as_str(), wanted, "{query}");
@@ -126,7 +143,7 @@ fn an_empty_database_has_no_host(rt: HostRuntime) -> Result<(), Fail> {
 }
 
 #[test]
-fn what_is_no_query_and_what_is_not_built(rt: HostRuntime) -> Result<(), Fail> {
+fn what_is_no_query(rt: HostRuntime) -> Result<(), Fail> {
     let alloc = rt.alloc();
     for query in [
         "",
@@ -141,24 +158,6 @@ fn what_is_no_query_and_what_is_not_built(rt: HostRuntime) -> Result<(), Fail> {
         assert_eq!(rt;
             told(alloc, WORKED, query)?.as_str(),
             "! 1 bad query\n",
-            "{query}"
-        );
-    }
-    let others = [
-        "il!helix!9fs",
-        "tcp!helix!9fs",
-        "net!*!9fs",
-        "net!$auth!9fs",
-        "net!$!9fs",
-        "net!1.2.3.4!9fs",
-        "net!...!9fs",
-        "net!12!9fs",
-        "net!helix.example.com!9fs",
-    ];
-    for query in others {
-        assert_eq!(rt;
-            told(alloc, WORKED, query)?.as_str(),
-            "! 6 not built\n",
             "{query}"
         );
     }
@@ -228,7 +227,6 @@ fn each_error_has_its_number_and_text(rt: HostRuntime) -> Result<(), Fail> {
         (CsError::NoHost, "3 no host"),
         (CsError::NoService, "4 no service"),
         (CsError::NoValue, "5 no value"),
-        (CsError::NotBuilt, "6 not built"),
     ];
     for (error, wanted) in cases {
         let number = error.number();

@@ -1,3 +1,4 @@
 pub mod Causes
+pub mod Once
 pub mod Reading
-pub mod Runs
+pub mod Rests

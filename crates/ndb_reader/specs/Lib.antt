@@ -1,5 +1,6 @@
+pub mod Names
 pub mod Told
+pub mod Written
 pub use Rattle.net_base.specs.NdbText
 pub use Rattle.net_base.specs.NdbBundle
-pub use Rattle.net_base.specs.NdbForm
 pub use Rattle.net_base.specs.NdbSpelling

@@ -1,14 +1,18 @@
-//! Reads the text of a network database, ndb(6), in one pass, or tells its first bad line.
+//! Reads the text of a network database, ndb(6), in one pass, or tells its first bad line; and writes it.
 #![tactic(auto)]
 
+mod choice;
 mod fault;
+mod files;
 mod line;
 mod reader;
 #[cfg(test)]
 mod tests;
 mod tuples;
 mod words;
+mod writer;
 
 pub use fault::NdbError;
 pub use net_base::{Db, NdbPair};
 pub use reader::read_ndb;
+pub use writer::{put_pairs, write_ndb};

@@ -1,6 +1,7 @@
 //! Worked texts, and calls that run out of memory.
 use crate::fault::NdbError;
 use crate::reader::read_ndb;
+use crate::writer::write_ndb;
 use std::alloc::Global;
 use std::test::Fail;
 
@@ -64,11 +65,24 @@ fn words_are_split(rt: HostRuntime) -> Result<(), Fail> {
         (b"a=b=c\td #e=f\n", b"<[a=b=c;d=;]>"),
         (b"a=#b  c=\r\n\r d#e", b"<[a=#b;c=;][d#e=;]>"),
         (b"a=b\n\n# c\n\td=e\n", b"<[a=b;][d=e;]>"),
+        (b"a=\"b c=d\"\te=b\"c\n", b"<[a=b c=d;e=b\"c;]>"),
+        (b"database=\n\tfile=y\n\tfile=x file=y\na=1\n%file x\nb=2\n%file y\nc=3\ndatabase= file=z\n%file z\nd=4\n%file y\ne=5", b"<[c=3;]><[database=;file=z;]><[e=5;]><[b=2;]>"),
+        (b"%file x\na=b\n", b""),
+        (b"database file=\n", b""),
     ];
     for (text, want) in rows {
         let shown = shown(rt.alloc(), text)?;
         assert_eq!(rt; shown.as_slice(), want);
     }
+    Ok(())
+}
+
+#[test]
+fn values_with_white_space_are_quoted(rt: HostRuntime) -> Result<(), Fail> {
+    let alloc = rt.alloc();
+    let db = read_ndb(alloc, b"a=\"b c\"  d\n e=\"f\" #\n g=\"#\"\nh=")?;
+    let text = write_ndb(alloc, &db)?;
+    assert_eq!(rt; text.as_slice(), b"a=\"b c\" d=\n\te=f\n\tg=#\nh=\n".as_slice());
     Ok(())
 }
 
@@ -81,11 +95,13 @@ fn the_first_bad_line_is_told(rt: HostRuntime) {
         (b"# a\0\"\n", 1, 5),
         (b"a\n%file\tb\n%", 2, 6),
         (b"%x \"=\n", 1, 6),
-        (b"a=b\n%file  c d\n", 2, 31),
+        (b"a=b\n%file  c d\n", 2, 6),
         (b"%file c\0\n", 1, 5),
-        (b"a=b\n# \"\n =c", 2, 31),
-        (b"a=b database=c\n", 1, 31),
-        (b"\tdatabase\n", 1, 1),
+        (b"a=b\n%file c\n\td=e\n", 3, 1),
+        (b"=\"a", 1, 2),
+        (b"a=\"b\"c =d", 1, 3),
+        (b"a=\"b\"c x=\"d\ne=\"", 1, 2),
+        (b"a=\"b\"#c", 1, 4),
     ];
     for (text, line, cause) in rows {
         match read_ndb(rt.alloc(), text) {

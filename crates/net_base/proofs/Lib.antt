@@ -5,7 +5,7 @@ pub mod Laid
 pub mod WireNumbers
 pub mod WireSums
 pub mod UdpLaws
-pub mod NdbForms
+pub mod NdbLists
 pub mod NdbPlain
 pub mod NdbComplete
 pub mod NdbSound

@@ -8,10 +8,9 @@ use Rattle.std.proofs.lemmas.List.Folds.{list_any-append}
 use Rattle.net_base.specs.declared.ndb.NdbPair.{NdbPair}
 use Rattle.net_base.specs.NdbText.{is_white, is_percent, begins, begins_with, is_empty, lines_of, Word, words_behind, words_of, pair_of, pairs_of, starts, goes_on, going_on, tuples_of}
 use Rattle.net_base.specs.NdbBundle.{is_file_line, is_nameless, has_tuple, cause, causes_of, least, told, first_bad, bad_line}
-use Rattle.net_base.specs.NdbForm.{is_unbuilt, bad_line_so_far}
 use Rattle.net_base.specs.NdbSpelling.{ReadsWords, ReadsLine, ReadsTuples, ReadsFile}
 use Rattle.net_base.proofs.NdbPlain.{or_false, or_false_first, or_false_rest}
-use Rattle.net_base.proofs.NdbForms.{after_last-none, no_cause, none-weaker, not_file, some_none}
+use Rattle.net_base.proofs.NdbLists.{after_last-none, some_none}
 use Rattle.net_base.proofs.NdbSound.{Faultless, or_true, sound, line_reads}
 use Rattle.net_base.proofs.NdbComplete.{complete, cons_none, false_true}
 
@@ -223,11 +222,6 @@ pub file_is_spelled : (text : List ℕ) → list_any is_file_line (lines_of text
 file_is_spelled text files h =
     subst (λ (more : List (List NdbPair)). ReadsTuples (lines_of text) more (tuples_of (lines_of text))) (none_goes_on [] (lines_of text) refl refl files h)
     (tuples_spelled (lines_of text) (each_spelled [] (lines_of text) files h))
-
-pub so_far_is_spelled : (text : List ℕ) → bad_line_so_far text ≡ None → ReadsFile (lines_of text) (tuples_of (lines_of text))
-so_far_is_spelled text h =
-    let none = no_cause [] (lines_of text) h in
-    file_is_spelled text (none-weaker is_unbuilt is_file_line (lines_of text) not_file none.0) none.1
 
 -- what reads as a line of pairs begins no file
 percent_of_file : (line : List ℕ) → begins is_percent line ≡ false → begins_with (codes "%file ") line ≡ false

@@ -31,7 +31,6 @@ pub mod Medium
 pub mod Directory
 pub mod Desk
 pub mod NdbBundle
-pub mod NdbForm
 pub mod NdbText
 pub mod Actors
 pub mod Callers

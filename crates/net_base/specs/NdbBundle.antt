@@ -1,8 +1,10 @@
 -- Bundles of files in one text of a database, their bad lines, and the choice of files.
-use Rattle.std.specs.Prelude.{ℕ, ◌+◌, Bool, not, ◌&&◌, List, [], ◌∷◌, ◌++◌, map, length, drop, codes, Option, Some, None, is_none, if◌then◌else◌}
+use Rattle.std.specs.Prelude.{ℕ, ◌+◌, Bool, not, ◌&&◌, List, [], ◌∷◌, ◌++◌, length, drop, bytes_eq, codes, Option, Some, None, is_none, if◌then◌else◌}
 use Rattle.std.specs.List.{list_any, filter, flat_map, find, before_first, after_last}
 use Rattle.net_base.specs.declared.ndb.NdbPair.{NdbPair}
-use Rattle.net_base.specs.NdbText.{is_white, is_percent, is_zero, begins, begins_with, is_same, is_empty, lines_of, Word, words_of, starts, goes_on, tuples_of}
+use Rattle.net_base.specs.Networks.{tuple_names}
+use Rattle.net_base.specs.Search.{values_in}
+use Rattle.net_base.specs.NdbText.{is_white, is_percent, is_zero, begins, begins_with, is_empty, lines_of, Word, words_of, starts, goes_on, tuples_of}
 
 -- Files.
 
@@ -14,22 +16,28 @@ file_name line = drop 6 line
 abbrev pub is_file_line : List ℕ → Bool
 is_file_line line = begins_with (codes "%file ") line && (not (is_empty (file_name line)) && not (list_any is_white (file_name line)))
 
--- a file of a bundle
+-- a file of a bundle, with its tuples
 pub record File : Type 0 where
   pub name : List ℕ
-  pub lines : List (List ℕ)
+  pub tuples : List (List (List NdbPair))
+
+-- the name of the file that stands before the first `%file NAME` line
+abbrev pub local_name : List ℕ
+local_name = codes "/lib/ndb/local"
+
+-- the file with this name that begins these lines: it goes on to the next `%file NAME` line
+abbrev pub file_of : List ℕ → List (List ℕ) → File
+file_of name lines = record { name = name; tuples = tuples_of (before_first is_file_line lines) }
 
 -- the file that stands before the first `%file NAME` line
 abbrev pub local_file : List (List ℕ) → File
-local_file lines = record { name = codes "/lib/ndb/local"; lines = before_first is_file_line lines }
+local_file lines = file_of local_name lines
 
 -- the files that `%file NAME` lines begin
 abbrev pub named_files : List (List ℕ) → List File
 named_files [] = []
 named_files (line ∷ lines) =
-    if is_file_line line
-    then record { name = file_name line; lines = before_first is_file_line lines } ∷ named_files lines
-    else named_files lines
+    if is_file_line line then file_of (file_name line) lines ∷ named_files lines else named_files lines
 
 -- Bad lines.
 
@@ -79,40 +87,36 @@ bad_line text = first_bad causes_of [] (lines_of text)
 
 -- The choice of files.
 
--- whether a pair of the tuple has the attribute
-abbrev pub has_attr : List ℕ → List (List NdbPair) → Bool
-has_attr attr tuple = list_any (λ line. list_any (λ pair. is_same pair.attr attr) line) tuple
-
--- the values that a tuple has for the attribute, in order
-abbrev pub values_of : List ℕ → List (List NdbPair) → List (List ℕ)
-values_of attr tuple = map (λ pair. pair.value) (filter (λ pair. is_same pair.attr attr) (flat_map (λ line. line) tuple))
-
 -- each text once, where it stands first
 abbrev pub each_once : List (List ℕ) → List (List ℕ)
 each_once [] = []
-each_once (text ∷ texts) = text ∷ filter (λ other. not (is_same other text)) (each_once texts)
+each_once (text ∷ texts) = text ∷ filter (λ other. not (bytes_eq other text)) (each_once texts)
 
 -- the tuples of all files with this name, in order
 abbrev pub tuples_named : List File → List ℕ → List (List (List NdbPair))
-tuples_named files name = flat_map (λ file. tuples_of file.lines) (filter (λ file. is_same file.name name) files)
+tuples_named files name = flat_map (λ file. file.tuples) (filter (λ file. bytes_eq file.name name) files)
 
 -- the tuples of the files with these names, or of the first file alone where no name is given
 abbrev pub tuples_chosen : File → List File → List (List ℕ) → List (List (List NdbPair))
-tuples_chosen local files [] = tuples_of local.lines
+tuples_chosen local files [] = local.tuples
 tuples_chosen local files (name ∷ names) = flat_map (tuples_named (local ∷ files)) (name ∷ names)
 
 -- the names that a tuple gives by its `file` values, each once; no tuple gives none
 abbrev pub names_of : Option (List (List NdbPair)) → List (List ℕ)
 names_of None = []
-names_of (Some tuple) = each_once (values_of (codes "file") tuple)
+names_of (Some tuple) = each_once (values_in (codes "file") tuple)
 
 -- the tuple that chooses: the first with the attribute `database`
 abbrev pub choosing : List (List (List NdbPair)) → Option (List (List NdbPair))
-choosing tuples = find (has_attr (codes "database")) tuples
+choosing tuples = find (tuple_names (codes "database")) tuples
+
+-- the tuples that the first file chooses
+abbrev pub chosen : File → List File → List (List (List NdbPair))
+chosen local files = tuples_chosen local files (names_of (choosing local.tuples))
 
 -- the tuples of the database that a bundle's lines are
 abbrev pub database : List (List ℕ) → List (List (List NdbPair))
-database lines = tuples_chosen (local_file lines) (named_files lines) (names_of (choosing (tuples_of (local_file lines).lines)))
+database lines = chosen (local_file lines) (named_files lines)
 
 -- what a text reads as: the tuples of its database, where no line is bad
 abbrev pub reading : List ℕ → Option (List (List (List NdbPair)))

@@ -1,8 +1,9 @@
 -- How the lines of a database's text spell their pairs, as a relation of bytes to pairs.
-use Rattle.std.specs.Prelude.{◌≡◌, ◌<◌, ◌⊎◌, ℕ, Bool, true, false, List, [], ◌∷◌, ◌++◌, length}
+use Rattle.std.specs.Prelude.{◌≡◌, ◌<◌, ◌⊎◌, ℕ, Bool, true, false, List, [], ◌∷◌, ◌++◌, length, codes}
 use Rattle.std.specs.List.{list_any}
 use Rattle.net_base.specs.declared.ndb.NdbPair.{NdbPair}
 use Rattle.net_base.specs.NdbText.{is_white, is_hash, is_percent, is_equals, is_quote, is_zero, begins}
+use Rattle.net_base.specs.NdbBundle.{File, local_name, chosen}
 
 -- no byte passes the test
 abbrev pub None_of : (ℕ → Bool) → List ℕ → Type 0
@@ -85,3 +86,24 @@ ReadsTuples (line ∷ lines) more tuples =
 -- the lines of a file read as these tuples: no line goes on where there is no tuple
 abbrev pub ReadsFile : List (List ℕ) → List (List (List NdbPair)) → Type 0
 ReadsFile lines tuples = ReadsTuples lines [] tuples
+
+-- a file's name is some bytes without white space and a zero byte
+pub record IsFileName (name : List ℕ) : Type 0 where
+  pub some : 0 < length name
+  pub white : None_of is_white name
+  pub zero : None_of is_zero name
+
+-- lines that begin in this file and then have these ones, each behind a line `%file NAME`
+abbrev pub ReadsFiles : List (List ℕ) → File → List File → Type 0
+ReadsFiles lines file [] = ReadsFile lines file.tuples
+ReadsFiles lines file (next ∷ files) =
+    (front rest : List (List ℕ)) × (lines ≡ front ++ (codes "%file " ++ next.name) ∷ rest) × IsFileName next.name
+    × ReadsFile front file.tuples × ReadsFiles rest next files
+
+-- the lines of a bundle read as the tuples that its first file chooses
+pub record ReadsBundle (lines : List (List ℕ)) (tuples : List (List (List NdbPair))) : Type 0 where
+  pub local : File
+  pub files : List File
+  pub named : local.name ≡ local_name
+  pub read : ReadsFiles lines local files
+  pub are_chosen : tuples ≡ chosen local files

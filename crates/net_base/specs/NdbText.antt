@@ -1,7 +1,6 @@
 -- The text of a database, ndb(6): lines of words, which make tuples of lines of pairs.
-use Rattle.std.specs.Prelude.{ℕ, zero, suc, ◌+◌, ◌-◌, ◌==◌, Bool, true, false, not, ◌&&◌, ◌||◌, List, [], ◌∷◌, map, length, take, drop, nat_eq, if◌then◌else◌}
+use Rattle.std.specs.Prelude.{ℕ, zero, suc, ◌+◌, ◌-◌, ◌==◌, Bool, true, false, not, ◌&&◌, ◌||◌, List, [], ◌∷◌, map, length, take, drop, bytes_eq, if◌then◌else◌}
 use Rattle.std.specs.List.{list_any, filter, slice_split, before_first, after_first, take_while}
-use Rattle.std.specs.Cmp.Lexicographic.{pointwise}
 use Rattle.net_base.specs.declared.ndb.NdbPair.{NdbPair}
 
 -- Bytes.
@@ -33,13 +32,9 @@ abbrev pub begins : (ℕ → Bool) → List ℕ → Bool
 begins test [] = false
 begins test (b ∷ bytes) = test b
 
--- whether two texts have the same bytes
-abbrev pub is_same : List ℕ → List ℕ → Bool
-is_same a b = pointwise nat_eq a b
-
 -- whether bytes begin with these
 abbrev pub begins_with : List ℕ → List ℕ → Bool
-begins_with text bytes = is_same text (take (length text) bytes)
+begins_with text bytes = bytes_eq text (take (length text) bytes)
 
 abbrev pub is_empty : {X : Type 0} → List X → Bool
 is_empty [] = true

@@ -3,9 +3,8 @@ use Rattle.std.proofs.Common.{◌≡◌, ℕ, zero, suc, ◌+◌, ◌<◌, Bool,
 use Rattle.std.proofs.lemmas.List.{length_push}
 use Rattle.net_base.specs.NdbText.{lines_of}
 use Rattle.net_base.specs.NdbBundle.{has_tuple, causes_of, least, told, first_bad, bad_line}
-use Rattle.net_base.specs.NdbForm.{causes_so_far, bad_line_so_far}
 use Rattle.net_model.specs.NdbFirst.{IsFirstBad}
-use Rattle.net_base.proofs.NdbForms.{some_none}
+use Rattle.net_base.proofs.NdbLists.{some_none}
 
 -- the least cause of the line at place k, after those before it
 abbrev least_after : (Bool → List ℕ → List ℕ) → List (List ℕ) → List (List ℕ) → ℕ → Option ℕ
@@ -68,6 +67,3 @@ first-is causes lines n c h =
 
 pub bad_is_first : (text : List ℕ) (line c : ℕ) → bad_line text ≡ Some (line, c) → IsFirstBad causes_of (lines_of text) line c
 bad_is_first text line c h = first-is causes_of (lines_of text) line c h
-
-pub so_far_is_first : (text : List ℕ) (line c : ℕ) → bad_line_so_far text ≡ Some (line, c) → IsFirstBad causes_so_far (lines_of text) line c
-so_far_is_first text line c h = first-is causes_so_far (lines_of text) line c h

@@ -33,8 +33,12 @@ refusal_text number =
     if number == 2 then codes "no net" else (
     if number == 3 then codes "no host" else (
     if number == 4 then codes "no service" else (
-    if number == 5 then codes "no value" else
-    codes "not built"))))
+    codes "no value")))
+
+-- the lines that were found, or that there are none
+abbrev pub lines_answer : List (List ℕ) → Answer
+lines_answer [] = record { status = 5; text = ended (codes "! no answer") }
+lines_answer (line ∷ lines) = record { status = 0; text = flat_map ended (line ∷ lines) }
 
 -- an answer of cs: its lines, or its refusal
 abbrev pub cs_answer : CsAnswer → Answer

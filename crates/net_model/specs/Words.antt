@@ -5,6 +5,8 @@ use Rattle.std.specs.Prelude.{ℕ, Bool, true, false, ◌&&◌, List, [], ◌∷
 pub data Command : Type 0 where
   -- what a host is answered to a query, by its name
   Cs : List ℕ → List ℕ → Command
+  -- the tuples with a pair of attribute and value, or the values of another attribute beside the pair
+  Query : List ℕ → List ℕ → Option (List ℕ) → Command
   -- the run of a world on so many workers
   Run : ℕ → Command
 
@@ -13,16 +15,21 @@ abbrev pub is_word : List ℕ → Bool
 is_word [] = false
 is_word (byte ∷ bytes) = true
 
--- the command that words give, where they are in a row: `cs SYS QUERY`, or `run 1`
+-- the command that words give, where they are in a row: `cs SYS QUERY`, `query ATTR VALUE`, `query ATTR VALUE RATTR`, or `run 1`
 abbrev pub command_of : List (List ℕ) → Option Command
 command_of (name ∷ workers ∷ []) = if bytes_eq name (codes "run") && bytes_eq workers (codes "1") then Some (Run 1) else None
 command_of (name ∷ sys ∷ query ∷ []) =
-    if bytes_eq name (codes "cs") && is_word sys && is_word query then Some (Cs sys query) else None
+    if is_word sys && is_word query
+    then (if bytes_eq name (codes "cs") then Some (Cs sys query) else (if bytes_eq name (codes "query") then Some (Query sys query None) else None))
+    else None
+command_of (name ∷ attr ∷ value ∷ other ∷ []) =
+    if bytes_eq name (codes "query") && is_word attr && is_word value && is_word other then Some (Query attr value (Some other)) else None
 command_of _ = None
 
 -- whether a command may wait for threads
 abbrev pub may_wait : Command → Bool
 may_wait (Cs sys query) = false
+may_wait (Query attr value other) = false
 may_wait (Run workers) = true
 
 -- whether words give a command that may wait

@@ -4,7 +4,6 @@ ghost use Rattle.std.specs.List.{list_any};
 ghost use Rattle.net_base.specs.declared.ndb.NdbPair.{NdbPair};
 ghost use Rattle.net_base.specs.NdbText.{is_quote, words_of, plain_words_of, pairs_of, lines_of, tuples_of};
 ghost use Rattle.net_base.specs.NdbBundle.{is_file_line, causes_of, bad_line, reading};
-ghost use Rattle.net_base.specs.NdbForm.{is_unbuilt, causes_so_far, bad_line_so_far};
 ghost use Rattle.net_model.specs.NdbFirst.{IsFirstBad};
 ghost use Rattle.net_model.specs.NdbExample.{pair, tuple};
 ghost use Rattle.net_base.specs.NdbSpelling.{ReadsLine, ReadsFile};
@@ -43,20 +42,9 @@ pub fn words_without_quotes()
     ensures { (line : List ℕ) → list_any is_quote line ≡ false → words_of line ≡ plain_words_of line }
 {}
 
-/// Where a line has no form that isn't read yet, its causes are those of the grammar.
-pub fn causes_of_what_is_read()
-    ensures { (has : Bool) (line : List ℕ) → is_unbuilt line ≡ false → causes_so_far has line ≡ causes_of has line }
-{}
-
-/// A text in the form that is read so far, without a bad line, reads as the tuples of its lines.
-pub fn text_in_one_file()
-    ensures { (text : List ℕ) → bad_line_so_far text ≡ None → reading text ≡ Some (tuples_of (lines_of text)) }
-{}
-
 /// The line that is told is the first with a cause, and the cause is its least.
 pub fn bad_lines_are_first()
-    ensures whole { (text : List ℕ) (line cause : ℕ) → bad_line text ≡ Some (line, cause) → IsFirstBad causes_of (lines_of text) line cause }
-    ensures so_far { (text : List ℕ) (line cause : ℕ) → bad_line_so_far text ≡ Some (line, cause) → IsFirstBad causes_so_far (lines_of text) line cause }
+    ensures { (text : List ℕ) (line cause : ℕ) → bad_line text ≡ Some (line, cause) → IsFirstBad causes_of (lines_of text) line cause }
 {}
 
 /// Bad lines, worked by hand.
@@ -67,7 +55,6 @@ pub fn worked_bad_lines()
     ensures followed { bad_line (codes "a=\"b\"#c") ≡ Some (1, 4) }
     ensures two_names { bad_line (codes "a=b\n%file c d\n") ≡ Some (2, 6) }
     ensures file_without_tuple { bad_line (codes "a=b\n%file c\n\td=e\n") ≡ Some (3, 1) }
-    ensures not_read_yet { bad_line_so_far (codes "a=b\n%file c d\n") ≡ Some (2, 31) }
 {}
 
 /// Readings, worked by hand.

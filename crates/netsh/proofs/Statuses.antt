@@ -1,15 +1,14 @@
 -- What the statuses say, from how a call ends.
-use Rattle.std.proofs.Common.{◌≡◌, ◌≢◌, ℕ, ◌<◌, ◌⊎◌, Bool, true, List, length, Option, Some, None, Ok, unwrap_or, IsSome, IfSome, refl, sym, ◌∙◌, ap, subst, inl, inr, rules, arith}
+use Rattle.std.proofs.Common.{◌≡◌, ◌≢◌, ℕ, ◌<◌, ◌⊎◌, Bool, true, List, [], ◌∷◌, length, Option, Some, None, Ok, unwrap_or, IsSome, IfSome, refl, sym, ◌∙◌, ap, subst, inl, inr, rules, arith}
 use Rattle.std.specs.Io.KnownBytes.{IsAtEnd}
 use Rattle.outside.specs.Streams.{Rose}
 use Rattle.net_base.specs.declared.world.World.{World}
-use Rattle.net_model.specs.Answers.{Answer, bad_input, cs_answer, usage, read_fault, input_limit}
+use Rattle.net_model.specs.Answers.{Answer, bad_input, lines_answer, cs_answer, usage, read_fault, input_limit}
 use Rattle.net_base.specs.Calm as calm
 use Rattle.net_base.specs.Cs.{CsAnswer, Lines, Refused}
 use Rattle.net_base.specs.Net.{Net, after}
-use Rattle.net_model.specs.Words.{Command, Cs, Run}
+use Rattle.net_model.specs.Words.{Command, Cs, Query, Run}
 use Rattle.world_text.specs.WorldText.{world_reading}
-use Rattle.cs_resolver.specs.Built.{built_answer}
 use Rattle.netsh.specs.Built.{first_bad, IsStatus, IsRun, IsFound, IsGiven, IsAnswer}
 use Rattle.netsh.specs.Ends.{Intake, Output, Told, IsUnwritten, IsInput, IsRead, Answers, IsStatusOf, IsBad, HasRun, Ends, no_row, answered, unread, no_memory, Causes}
 use Rattle.netsh.proofs.Endings.{too_long_is_bad}
@@ -20,16 +19,27 @@ some_none asked h = cc
 -- what a status says of the command and its input, and the status that it is
 pub data Of (asked : Command) (input : List ℕ) (answer : Answer) : Type 0 where
   of_bad : (bad : ℕ × ℕ) → first_bad asked input ≡ Some bad → answer.status ≡ 2 → Of asked input answer
-  of_lines : first_bad asked input ≡ None → answer.status ≡ 0 → (sys query : List ℕ) → asked ≡ Cs sys query → Of asked input answer
-  of_refusal : first_bad asked input ≡ None → answer.status ≡ 5 → (sys query : List ℕ) → asked ≡ Cs sys query → Of asked input answer
+  of_lines : first_bad asked input ≡ None → answer.status ≡ 0 → ((workers : ℕ) → asked ≡ Run workers → ⊥) → Of asked input answer
+  of_refusal : first_bad asked input ≡ None → answer.status ≡ 5 → ((workers : ℕ) → asked ≡ Run workers → ⊥) → Of asked input answer
   of_run : first_bad asked input ≡ None → (workers : ℕ) → asked ≡ Run workers → (w : World) → world_reading input ≡ Ok w → IsRun w answer → Of asked input answer
 
+cs_or_run : (sys query : List ℕ) (workers : ℕ) → Cs sys query ≡ Run workers → ⊥
+cs_or_run sys query workers same = cc
+
+query_or_run : (attr value : List ℕ) (other : Option (List ℕ)) (workers : ℕ) → Query attr value other ≡ Run workers → ⊥
+query_or_run attr value other workers same = cc
+
 of_cs : (sys query input : List ℕ) (answer : Answer) (found : CsAnswer) → first_bad (Cs sys query) input ≡ None → answer ≡ cs_answer found → Of (Cs sys query) input answer
-of_cs sys query input answer (Lines lines) good is = of_lines good (ap (λ (a : Answer). a.status) is) sys query refl
-of_cs sys query input answer (Refused number) good is = of_refusal good (ap (λ (a : Answer). a.status) is) sys query refl
+of_cs sys query input answer (Lines lines) good is = of_lines good (ap (λ (a : Answer). a.status) is) (cs_or_run sys query)
+of_cs sys query input answer (Refused number) good is = of_refusal good (ap (λ (a : Answer). a.status) is) (cs_or_run sys query)
+
+of_query : (attr value : List ℕ) (other : Option (List ℕ)) (input : List ℕ) (answer : Answer) (lines : List (List ℕ)) → first_bad (Query attr value other) input ≡ None → answer ≡ lines_answer lines → Of (Query attr value other) input answer
+of_query attr value other input answer [] good is = of_refusal good (ap (λ (a : Answer). a.status) is) (query_or_run attr value other)
+of_query attr value other input answer (line ∷ lines) good is = of_lines good (ap (λ (a : Answer). a.status) is) (query_or_run attr value other)
 
 of_found : (asked : Command) (input : List ℕ) (answer : Answer) → first_bad asked input ≡ None → IsFound asked input answer → Of asked input answer
 of_found (Cs sys query) input answer good found = of_cs sys query input answer _ good found
+of_found (Query attr value other) input answer good found = of_query attr value other input answer _ good found
 of_found (Run workers) input answer good found = of_run good workers refl found.0 found.1 found.2
 
 of_given : (asked : Command) (input : List ℕ) (answer : Answer) (bad : Option (ℕ × ℕ)) → first_bad asked input ≡ bad → IsGiven bad asked input answer → Of asked input answer
@@ -53,8 +63,8 @@ no_run_status w net status n is same apart = elim is.ended [
 
 no_answer : (asked : Command) (input : List ℕ) (answer : Answer) (n : ℕ) → Of asked input answer → answer.status ≡ n → Apart n → ⊥
 no_answer asked input answer n (of_bad bad is two) same apart = apart.1 (sym same ∙ two)
-no_answer asked input answer n (of_lines good zero sys query is) same apart = apart.0 (sym same ∙ zero)
-no_answer asked input answer n (of_refusal good five sys query is) same apart = apart.4 (sym same ∙ five)
+no_answer asked input answer n (of_lines good zero no_run) same apart = apart.0 (sym same ∙ zero)
+no_answer asked input answer n (of_refusal good five no_run) same apart = apart.4 (sym same ∙ five)
 no_answer asked input answer n (of_run good workers is w reads run) same apart = no_run_status w (after w run.history) answer.status n run.status same apart
 
 apart_1 : Apart 1
@@ -171,8 +181,8 @@ module _ (command : Option Command) (status : ℕ) (intake : Intake) (output : O
 
   bad_two : (of : IsStatusOf command status intake) (bad : ℕ × ℕ) → first_bad of.asked of.answers.input ≡ Some bad → Of of.asked of.answers.input of.answer → status ≡ 2
   bad_two of bad is (of_bad found same two) = of.right ∙ two
-  bad_two of bad is (of_lines good zero sys query same) = absurd (none_some bad (sym good ∙ is))
-  bad_two of bad is (of_refusal good five sys query same) = absurd (none_some bad (sym good ∙ is))
+  bad_two of bad is (of_lines good zero no_run) = absurd (none_some bad (sym good ∙ is))
+  bad_two of bad is (of_refusal good five no_run) = absurd (none_some bad (sym good ∙ is))
   bad_two of bad is (of_run good workers same w reads run) = absurd (none_some bad (sym good ∙ is))
 
   tells_bad : Ends command status intake output → ¬ Rose intake.before intake.after → ¬ Rose output.before output.after → (asked : Command) (input : List ℕ) (bad : ℕ × ℕ) → command ≡ Some asked → intake.left ≡ Some input → first_bad asked input ≡ Some bad → (status ≡ 2) ⊎ (status ≡ 8)
@@ -189,13 +199,10 @@ module _ (command : Option Command) (status : ℕ) (intake : Intake) (output : O
     | inr (inr four) ↦ inr (inr (inl (same ∙ four)))
   ]
 
-  cs_or_run : (sys query : List ℕ) (workers : ℕ) → Cs sys query ≡ Run workers → ⊥
-  cs_or_run sys query workers same = cc
-
   good_runs : (of : IsStatusOf command status intake) (workers : ℕ) → of.asked ≡ Run workers → first_bad of.asked of.answers.input ≡ None → Of of.asked of.answers.input of.answer → (status ≡ 0) ⊎ (status ≡ 3) ⊎ (status ≡ 4) ⊎ (status ≡ 8)
   good_runs of workers ran good (of_bad bad same two) = absurd (none_some bad (sym good ∙ same))
-  good_runs of workers ran good (of_lines same zero sys query is) = absurd (cs_or_run sys query workers (sym is ∙ ran))
-  good_runs of workers ran good (of_refusal same five sys query is) = absurd (cs_or_run sys query workers (sym is ∙ ran))
+  good_runs of workers ran good (of_lines same zero no_run) = absurd (no_run workers ran)
+  good_runs of workers ran good (of_refusal same five no_run) = absurd (no_run workers ran)
   good_runs of workers ran good (of_run same n is w reads run) = run_ends w (after w run.history) of.answer.status of.right run.status
 
   runs : Ends command status intake output → ¬ Rose intake.before intake.after → ¬ Rose output.before output.after → (workers : ℕ) (input : List ℕ) → command ≡ Some (Run workers) → intake.left ≡ Some input → first_bad (Run workers) input ≡ None → (status ≡ 0) ⊎ (status ≡ 3) ⊎ (status ≡ 4) ⊎ (status ≡ 8)
@@ -210,8 +217,8 @@ module _ (command : Option Command) (status : ℕ) (intake : Intake) (output : O
 module _ (command : Option Command) (intake : Intake) where
   bad_of : (of : IsStatusOf command 2 intake) → Of of.asked of.answers.input of.answer → IsBad command intake
   bad_of of (of_bad bad is two) = record { asked = of.asked; input = of.answers.input; bad = bad; is_asked = of.is_asked; read = of.answers.read; is_bad = is }
-  bad_of of (of_lines good zero sys query is) = absurd (omega (arith, of.right, zero))
-  bad_of of (of_refusal good five sys query is) = absurd (omega (arith, of.right, five))
+  bad_of of (of_lines good zero no_run) = absurd (omega (arith, of.right, zero))
+  bad_of of (of_refusal good five no_run) = absurd (omega (arith, of.right, five))
   bad_of of (of_run good workers is w reads run) = elim run.status.ended [
     | inl zero ↦ absurd (omega (arith, of.right, zero))
     | inr (inl three) ↦ absurd (omega (arith, of.right, three))
@@ -221,8 +228,8 @@ module _ (command : Option Command) (intake : Intake) where
   -- another status than 2 is of a whole input
   end_of : (n : ℕ) → (n ≡ 2 → ⊥) → (of : IsStatusOf command n intake) → Of of.asked of.answers.input of.answer → IsAtEnd intake.rest
   end_of n no_two of (of_bad bad is two) = absurd (no_two (of.right ∙ two))
-  end_of n no_two of (of_lines good zero sys query is) = read_whole of.asked of.answers.input intake of.answers.read good
-  end_of n no_two of (of_refusal good five sys query is) = read_whole of.asked of.answers.input intake of.answers.read good
+  end_of n no_two of (of_lines good zero no_run) = read_whole of.asked of.answers.input intake of.answers.read good
+  end_of n no_two of (of_refusal good five no_run) = read_whole of.asked of.answers.input intake of.answers.read good
   end_of n no_two of (of_run good workers is w reads run) = read_whole of.asked of.answers.input intake of.answers.read good
 
   ran_of : (so : World → Net → Bool) (n : ℕ) (of : IsStatusOf command n intake) (workers : ℕ) → of.asked ≡ Run workers → (w : World) → world_reading of.answers.input ≡ Ok w → (run : IsRun w of.answer) → first_bad of.asked of.answers.input ≡ None → so w (after w run.history) ≡ true → HasRun command so intake
@@ -242,23 +249,20 @@ module _ (command : Option Command) (intake : Intake) where
 
   stopped_of : (of : IsStatusOf command 3 intake) → Of of.asked of.answers.input of.answer → HasRun command calm.stopped intake
   stopped_of of (of_bad bad is two) = absurd (omega (arith, of.right, two))
-  stopped_of of (of_lines good zero sys query is) = absurd (omega (arith, of.right, zero))
-  stopped_of of (of_refusal good five sys query is) = absurd (omega (arith, of.right, five))
+  stopped_of of (of_lines good zero no_run) = absurd (omega (arith, of.right, zero))
+  stopped_of of (of_refusal good five no_run) = absurd (omega (arith, of.right, five))
   stopped_of of (of_run good workers is w reads run) = ran_of calm.stopped 3 of workers is w reads run good (run.status.stopped.0 (sym of.right))
 
   limited_of : (of : IsStatusOf command 4 intake) → Of of.asked of.answers.input of.answer → HasRun command calm.limited intake
   limited_of of (of_bad bad is two) = absurd (omega (arith, of.right, two))
-  limited_of of (of_lines good zero sys query is) = absurd (omega (arith, of.right, zero))
-  limited_of of (of_refusal good five sys query is) = absurd (omega (arith, of.right, five))
+  limited_of of (of_lines good zero no_run) = absurd (omega (arith, of.right, zero))
+  limited_of of (of_refusal good five no_run) = absurd (omega (arith, of.right, five))
   limited_of of (of_run good workers is w reads run) = ran_of calm.limited 4 of workers is w reads run good (run.status.limited.0 (sym of.right))
 
   done_of : (workers : ℕ) → command ≡ Some (Run workers) → (of : IsStatusOf command 0 intake) → Of of.asked of.answers.input of.answer → HasRun command calm.done intake
   done_of workers ran of (of_bad bad is two) = absurd (omega (arith, of.right, two))
-  done_of workers ran of (of_lines good zero sys query is) = absurd (apart (sym ran ∙ (of.is_asked ∙ ap (λ (c : Command). Some c) is)))
-    where
-      apart : Some (Run workers) ≡ Some (Cs sys query) → ⊥
-      apart same = cc
-  done_of workers ran of (of_refusal good five sys query is) = absurd (omega (arith, of.right, five))
+  done_of workers ran of (of_lines good zero no_run) = absurd (no_run workers (ap (λ (o : Option Command). unwrap_or o of.asked) (sym of.is_asked ∙ ran)))
+  done_of workers ran of (of_refusal good five no_run) = absurd (omega (arith, of.right, five))
   done_of workers ran of (of_run good n is w reads run) = ran_of calm.done 0 of n is w reads run good (run.status.done.0 (sym of.right))
 
   of_it : (n : ℕ) (of : IsStatusOf command n intake) → Of of.asked of.answers.input of.answer

@@ -2,24 +2,26 @@
 --     first_bad     the first bad line of an input, for a command
 --     IsRun         what a run over a world prints, and its status
 --     IsAnswer      an answer to a command and its input
-use Rattle.std.specs.Prelude.{◌≡◌, ◌↔◌, ◌⊎◌, ℕ, true, List, [], ◌∷◌, ◌++◌, length, nat_lt, Option, Some, None, Result, Ok, Err, if◌then◌else◌}
+use Rattle.std.specs.Prelude.{◌≡◌, ◌↔◌, ◌⊎◌, ℕ, true, List, [], ◌∷◌, ◌++◌, length, map, flat_map, nat_lt, Option, Some, None, Result, Ok, Err, if◌then◌else◌}
 use Rattle.net_base.specs.declared.address.Proto.TheVariants.{Il, Udp}
 use Rattle.net_base.specs.declared.history.Entry.{Entry}
 use Rattle.net_base.specs.declared.world.World.{World}
 use Rattle.net_base.specs.Calm as calm
 use Rattle.net_base.specs.Legal.{IsLegal, IsTimed}
 use Rattle.net_base.specs.NdbText.{lines_of}
-use Rattle.net_base.specs.NdbBundle.{database}
-use Rattle.net_base.specs.NdbForm.{bad_line_so_far}
+use Rattle.net_base.specs.NdbBundle as bundle
+use Rattle.net_base.specs.declared.ndb.NdbPair.{NdbPair}
+use Rattle.net_base.specs.Search.{tuples_with, all_beside}
+use Rattle.ndb_reader.specs.Written.{line_text}
+use Rattle.net_base.specs.Cs.{cs_list}
 use Rattle.net_base.specs.Net.{Net, after}
 use Rattle.net_base.specs.Plain.{IsPlain}
 use Rattle.net_base.specs.Summary.{summary}
 use Rattle.net_base.specs.Transcript.{history_text}
 use Rattle.net_model.specs.Headline.{Headline}
 use Rattle.world_text.specs.WorldText.{world_reading}
-use Rattle.net_model.specs.Answers.{Answer, bad_input, cs_answer, input_limit}
-use Rattle.net_model.specs.Words.{Command, Cs, Run}
-use Rattle.cs_resolver.specs.Built.{built_answer}
+use Rattle.net_model.specs.Answers.{Answer, bad_input, lines_answer, cs_answer, input_limit}
+use Rattle.net_model.specs.Words.{Command, Cs, Query, Run}
 
 -- Bad lines.
 
@@ -30,7 +32,8 @@ bad_world (Err bad) = Some bad
 
 -- the first bad line of an input within the limit, and its least cause
 abbrev pub bad_line : Command → List ℕ → Option (ℕ × ℕ)
-bad_line (Cs sys query) input = bad_line_so_far input
+bad_line (Cs sys query) input = bundle.bad_line input
+bad_line (Query attr value other) input = bundle.bad_line input
 bad_line (Run workers) input = bad_world (world_reading input)
 
 -- the same of any input: one over the limit has cause 9 at line 0
@@ -46,11 +49,26 @@ unless_bad (Some bad) answer = bad_input bad.0 bad.1
 
 -- what a host is answered to a query over the database that an input without a bad line is
 abbrev pub cs_found : List ℕ → List ℕ → List ℕ → Answer
-cs_found sys query input = cs_answer (built_answer (database (lines_of input)) sys (Il ∷ Udp ∷ []) query)
+cs_found sys query input = cs_answer (cs_list (bundle.database (lines_of input)) sys (Il ∷ Udp ∷ []) query)
 
 -- the same over any input within the limit
 abbrev pub cs_over : List ℕ → List ℕ → List ℕ → Answer
-cs_over sys query input = unless_bad (bad_line_so_far input) (cs_found sys query input)
+cs_over sys query input = unless_bad (bundle.bad_line input) (cs_found sys query input)
+
+-- Answers of query.
+
+-- the lines of a query: the tuples with the pair, each with its pairs in order, or the values beside the pair in all of them
+abbrev pub query_lines : List ℕ → List ℕ → Option (List ℕ) → List (List (List NdbPair)) → List (List ℕ)
+query_lines attr value None db = map (λ tuple. line_text (flat_map (λ line. line) tuple)) (tuples_with attr value db)
+query_lines attr value (Some other) db = all_beside attr value other db
+
+-- what is found in the database that an input without a bad line is
+abbrev pub query_found : List ℕ → List ℕ → Option (List ℕ) → List ℕ → Answer
+query_found attr value other input = lines_answer (query_lines attr value other (bundle.database (lines_of input)))
+
+-- the same over any input within the limit
+abbrev pub query_over : List ℕ → List ℕ → Option (List ℕ) → List ℕ → Answer
+query_over attr value other input = unless_bad (bundle.bad_line input) (query_found attr value other input)
 
 -- Answers of run.
 
@@ -78,6 +96,7 @@ pub record IsRun (w : World) (answer : Answer) : Type 0 where
 -- an answer to an input without a bad line
 abbrev pub IsFound : Command → List ℕ → Answer → Type 0
 IsFound (Cs sys query) input answer = answer ≡ cs_found sys query input
+IsFound (Query attr value other) input answer = answer ≡ query_found attr value other input
 IsFound (Run workers) input answer = (w : World) × (world_reading input ≡ Ok w) × IsRun w answer
 
 -- an answer to an input with this first bad line, if any

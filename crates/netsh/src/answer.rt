@@ -1,8 +1,8 @@
 //! The answers: a status, and the text that is written, made whole.
-ghost use Rattle.std.specs.Prelude.{◌≡◌, ◌≢◌, IfOk, OnOk};
+ghost use Rattle.std.specs.Prelude.{◌≡◌, ◌≢◌, flat_map, IfOk, OnOk};
 ghost use Rattle.net_model.specs.Answers as spec;
 ghost use Rattle.net_base.specs.Cs.{Lines as ListOf, Refused};
-ghost use Rattle.cs_resolver.specs.Built.{number_of};
+ghost use Rattle.cs_resolver.specs.Errors.{number_of};
 ghost use Rattle.net_base.specs.Legal.{IsLegal, IsTimed};
 ghost use Rattle.net_base.specs.Net.{after};
 ghost use Rattle.net_base.specs.Summary.{answered_steps};
@@ -56,11 +56,19 @@ impl Answer {
     pub fn lines(alloc: Global, lines: &Lines) -> Result<Answer, AllocError>
         ensures { IfOk result (λ answer. answer ≡ spec.cs_answer (ListOf lines.now)) }
     {
-        let mut text = Octets::new(alloc);
-        for line in lines.as_slice() {
-            text.append(line.as_slice())?;
-            text.push(b'\n')?;
+        let text = text_of_lines(alloc, lines)?;
+        Ok(Answer { status: 0, text })
+    }
+
+    /// The lines that were found, or that there are none.
+    pub fn found(alloc: Global, lines: &Lines) -> Result<Answer, AllocError>
+        ensures { IfOk result (λ answer. answer ≡ spec.lines_answer lines.now) }
+    {
+        if lines.len() == 0 {
+            let text = Octets::from_slice(alloc, b"! no answer\n")?;
+            return Ok(Answer { status: 5, text });
         }
+        let text = text_of_lines(alloc, lines)?;
         Ok(Answer { status: 0, text })
     }
 
@@ -117,6 +125,18 @@ impl Answer {
     }
 }
 
+/// Lines with a newline behind each.
+fn text_of_lines(alloc: Global, lines: &Lines) -> Result<Octets, AllocError>
+    ensures { IfOk result (λ text. text ≡ flat_map spec.ended lines.now) }
+{
+    let mut text = Octets::new(alloc);
+    for line in lines.as_slice() {
+        text.append(line.as_slice())?;
+        text.push(b'\n')?;
+    }
+    Ok(text)
+}
+
 /// How many steps are answered, and how the run stands.
 fn standing_of(ran: &Ran) -> Standing
     ensures answered { result.answered ≡ ran.now.answered }
@@ -155,6 +175,5 @@ fn refusal_text(error: CsError) -> &'static str
         CsError::NoHost => "no host",
         CsError::NoService => "no service",
         CsError::NoValue => "no value",
-        CsError::NotBuilt => "not built",
     }
 }

@@ -102,10 +102,26 @@ fn the_worked_runs(rt: HostRuntime) -> Result<(), Fail> {
     expect(
         &rt,
         alloc,
-        &["cs", "anna", "il!helix!9fs"],
+        &["query", "sys", "helix"],
+        LOCAL,
+        0,
+        "sys=helix dom=helix.example.com ip=10.0.0.31 ip=135.104.9.31\n",
+    )?;
+    expect(
+        &rt,
+        alloc,
+        &["query", "sys", "helix", "ip"],
+        LOCAL,
+        0,
+        "10.0.0.31\n135.104.9.31\n",
+    )?;
+    expect(
+        &rt,
+        alloc,
+        &["query", "sys", "nobody"],
         LOCAL,
         5,
-        "! 6 not built\n",
+        "! no answer\n",
     )
 }
 

@@ -9,6 +9,7 @@ ghost use Rattle.outside.specs.Streams.{Rose};
 
 use crate::answer::{Answer, READ_FAULT, USAGE};
 use crate::cs::cs;
+use crate::query::{query_beside, query_tuples};
 use crate::run::run_over;
 use crate::words::{Command, read_words};
 use outside::{
@@ -39,6 +40,8 @@ fn answer_over(alloc: Global, command: Command<'_>, input: &[u8]) -> Result<Answ
 {
     match command {
         Command::Cs(sys, query) => cs(alloc, sys, query, input),
+        Command::Tuples(attr, value) => query_tuples(alloc, attr, value, input),
+        Command::Beside(attr, value, other) => query_beside(alloc, attr, value, other, input),
         Command::Run(_) => run_over(alloc, input),
     }
 }

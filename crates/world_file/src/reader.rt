@@ -2,7 +2,7 @@
 ghost use Rattle.std.specs.Prelude.{◌≡◌, ◌+◌, ◌^◌, ◌<◌, ◌∷◌, length, drop, Ok, IfOk, IfErr};
 ghost use Rattle.std.specs.List.{position_or_len};
 ghost use Rattle.net_base.specs.NdbText.{is_newline};
-ghost use Rattle.net_base.specs.NdbForm.{bad_line_so_far};
+ghost use Rattle.net_base.specs.NdbBundle.{bad_line};
 ghost use Rattle.net_base.specs.World.{IsWorld};
 ghost use Rattle.net_base.specs.WorldForm.{IsFirstForm};
 ghost use Rattle.world_text.specs.WorldLines.{world_of};
@@ -58,8 +58,8 @@ fn read_lines(alloc: Global, bytes: &[u8]) -> Result<World, WorldError>
 /// The world of a draft with the database that stands behind the line with this number.
 fn read_database(alloc: Global, draft: Draft, number: u64, text: &[u8]) -> Result<World, WorldError>
     requires { number + length text.now < 2 ^ 63 }
-    ensures ok { IfOk result (λ w. with_database number (world_of draft) text.now (bad_line_so_far text.now) ≡ Ok w) }
-    ensures bad { IfErr result (λ e. Tells e (with_database number (world_of draft) text.now (bad_line_so_far text.now))) }
+    ensures ok { IfOk result (λ w. with_database number (world_of draft) text.now (bad_line text.now) ≡ Ok w) }
+    ensures bad { IfErr result (λ e. Tells e (with_database number (world_of draft) text.now (bad_line text.now))) }
 {
     let mut world = draft.finish(alloc)?;
     match read_ndb(alloc, text) {

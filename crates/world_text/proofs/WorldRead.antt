@@ -23,8 +23,7 @@ use Rattle.net_base.specs.declared.world.Step.TheVariants as step
 use Rattle.net_base.specs.declared.world.World.{World}
 use Rattle.net_base.specs.Networks.{mask_of}
 use Rattle.net_base.specs.NdbText.{is_empty, lines_of}
-use Rattle.net_base.specs.NdbBundle.{database}
-use Rattle.net_base.specs.NdbForm.{bad_line_so_far}
+use Rattle.net_base.specs.NdbBundle.{database, bad_line}
 use Rattle.net_base.specs.Routes.{has_ip}
 use Rattle.net_base.specs.World.{addresses, all_apart, are_media, is_within, is_name, is_nets, is_address, is_host, is_iface, is_mask, is_medium, is_script, is_step, is_text, is_word, is_byte, IsWorld}
 use Rattle.net_base.specs.WorldForm.{AreTransfers, IsUdpScript, IsPlainMedium, IsPlainHost, IsFirstForm, clone_path, data_path, opening_steps, same_host}
@@ -493,7 +492,7 @@ ndb-begins d late whole =
     lt-no m n h = grind (arith, nat_tests)
 
 -- what is read behind the lines of a world
-reading-bundle : (d : Draft) (w : World) (n : ℕ) (bundle : List ℕ) (cuts : List Cut) → HasParts d w.end w.seed w.media w.hosts w.scripts → bad_line_so_far bundle ≡ None → w.db ≡ database (lines_of bundle)
+reading-bundle : (d : Draft) (w : World) (n : ℕ) (bundle : List ℕ) (cuts : List Cut) → HasParts d w.end w.seed w.media w.hosts w.scripts → bad_line bundle ≡ None → w.db ≡ database (lines_of bundle)
     → reading_from d n (record { line = codes "ndb"; behind = bundle } ∷ cuts) ≡ Ok w
 reading-bundle d w n bundle cuts r good e =
     ap (λ v. judged n bundle v (λ (next : Draft). reading_from next (n + 1) cuts)) (ndb-begins d r.late r.whole)

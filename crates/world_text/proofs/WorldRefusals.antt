@@ -6,8 +6,7 @@ use Rattle.std.proofs.lemmas.Bool.{and_parts, false≢true}
 use Rattle.std.proofs.lemmas.List.Folds.{list_all-append}
 use Rattle.std.proofs.lemmas.Slice.Eq.{bytes_eq-Decides}
 use Rattle.net_base.specs.declared.world.World.{World}
-use Rattle.net_base.specs.NdbBundle.{database}
-use Rattle.net_base.specs.NdbForm.{bad_line_so_far}
+use Rattle.net_base.specs.NdbBundle.{database, bad_line}
 use Rattle.net_base.specs.NdbText.{is_empty, is_newline, lines_of}
 use Rattle.world_text.specs.WorldLines.{Draft, opening_draft, Verdict, Goes, Begins, Bad, line_verdict}
 use Rattle.world_text.specs.WorldRefusal.{Leads, EndsLine, IsBadLine, IsBadBundle, IsUnended, IsRefused}
@@ -110,10 +109,10 @@ some-line text [] c cs cut is = absurd (let n = ap (λ (xs : List Cut). length x
 some-line text (b ∷ line) c cs cut is = refl
 
 bundle-here : (d : Draft) (first : ℕ) (text : List ℕ) (c : Cut) (cs : List Cut) (v : World) (n cause : ℕ) → Shape text c cs → Ends d c.line v → line_verdict d c.line ≡ Begins v
-    → with_database first v c.behind (bad_line_so_far c.behind) ≡ Err (n, cause) → IsBadBundle d first text n cause
-bundle-here d first text c cs v n cause s ends begins e = by (bad_line_so_far c.behind) refl e
+    → with_database first v c.behind (bad_line c.behind) ≡ Err (n, cause) → IsBadBundle d first text n cause
+bundle-here d first text c cs v n cause s ends begins e = by (bad_line c.behind) refl e
   where
-    by : (o : Option (ℕ × ℕ)) → bad_line_so_far c.behind ≡ o → with_database first v c.behind o ≡ Err (n, cause) → IsBadBundle d first text n cause
+    by : (o : Option (ℕ × ℕ)) → bad_line c.behind ≡ o → with_database first v c.behind o ≡ Err (n, cause) → IsBadBundle d first text n cause
     by None is f = absurd (ok-err (record v { db = database (lines_of c.behind) }) (n, cause) f)
     by (Some bad) is f =
         let same = same-err (first + bad.0, bad.1) (n, cause) (Err (first + bad.0, bad.1)) refl f in
@@ -294,7 +293,7 @@ any-number d m n (c ∷ cs) w e = by (line_verdict d c.line) e (λ next f. any-n
     by : (v : Verdict) → judged m c.behind v (λ (next : Draft). reading_from next (m + 1) cs) ≡ Ok w → ((next : Draft) → reading_from next (m + 1) cs ≡ Ok w → reading_from next (n + 1) cs ≡ Ok w)
         → judged n c.behind v (λ (next : Draft). reading_from next (n + 1) cs) ≡ Ok w
     by (Goes next) f go = go next f
-    by (Begins v) f go = bundle v (bad_line_so_far c.behind) f
+    by (Begins v) f go = bundle v (bad_line c.behind) f
     by (Bad cause) f go = absurd (err-ok (m, cause) w f)
 
 -- lines before `ndb` of a text that says a world

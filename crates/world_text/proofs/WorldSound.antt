@@ -6,8 +6,7 @@ use Rattle.std.proofs.lemmas.Bool.{and_parts, eqb-true}
 use Rattle.std.proofs.lemmas.List.Elements.{filter-append}
 use Rattle.std.proofs.lemmas.List.Folds.{list_all-append}
 use Rattle.net_base.specs.declared.world.World.{World}
-use Rattle.net_base.specs.NdbBundle.{database}
-use Rattle.net_base.specs.NdbForm.{bad_line_so_far}
+use Rattle.net_base.specs.NdbBundle.{database, bad_line}
 use Rattle.net_base.specs.NdbText.{is_newline, lines_of}
 use Rattle.net_base.specs.World.{IsWorld, is_byte}
 use Rattle.net_base.specs.WorldForm.{IsFirstForm}
@@ -81,7 +80,7 @@ record Found (d : Draft) (text : List ℕ) (w : World) : Type 0 where
   pub parts : IsHeaded text head bundle
   pub whole : list_all is_line head ≡ true
   pub spelled : lines_so_far d ++ filter speaks head ≡ lines_of_world w
-  pub good : bad_line_so_far bundle ≡ None
+  pub good : bad_line bundle ≡ None
   pub read : w.db ≡ database (lines_of bundle)
   pub world : IsWorld w
   pub form : IsFirstForm w
@@ -114,10 +113,10 @@ last-parts text c cs s is = by s.parts
     by (inr (same, none, nil)) = inr (same ∙ is, none)
 
 found-last : (d : Draft) (n : ℕ) (text : List ℕ) (c : Cut) (cs : List Cut) (v w : World) → Shape text c cs → list_all is_byte text ≡ true → Ends d c.line v
-    → with_database n v c.behind (bad_line_so_far c.behind) ≡ Ok w → Found d text w
-found-last d n text c cs v w s all ends e = by (bad_line_so_far c.behind) refl e
+    → with_database n v c.behind (bad_line c.behind) ≡ Ok w → Found d text w
+found-last d n text c cs v w s all ends e = by (bad_line c.behind) refl e
   where
-    by : (o : Option (ℕ × ℕ)) → bad_line_so_far c.behind ≡ o → with_database n v c.behind o ≡ Ok w → Found d text w
+    by : (o : Option (ℕ × ℕ)) → bad_line c.behind ≡ o → with_database n v c.behind o ≡ Ok w → Found d text w
     by None good f =
         let is : record v { db = database (lines_of c.behind) } ≡ w = same-ok (record v { db = database (lines_of c.behind) }) w (Ok (record v { db = database (lines_of c.behind) })) refl f in
         let said = ends.said_so (database (lines_of c.behind)) (c.behind, bytes-behind text c cs s all, database-read c.behind good) in

@@ -10,10 +10,8 @@ use Rattle.net_base.specs.declared.world.MediumSpec.{MediumSpec}
 use Rattle.net_base.specs.declared.world.World.{World}
 use Rattle.net_base.specs.NdbText.{lines_of, tuples_of}
 use Rattle.net_base.specs.NdbBundle.{reading, database, bad_line}
-use Rattle.net_base.specs.NdbForm.{bad_line_so_far}
 use Rattle.net_base.specs.World.{all_apart, is_within, is_name, is_mask, is_medium, are_media}
 use Rattle.net_base.specs.WorldForm.{IsPlainMedium}
-use Rattle.net_base.proofs.NdbForms.{read_so_far}
 use Rattle.world_text.specs.WorldWords.{words_of, Four, four, joined, Three, three, one, number_in, address_in}
 use Rattle.world_text.specs.WorldLines.{is_passed, line_verdict, words_line, going_line, host_word_line, again_line, rate_in, rates_line, fate_line, route_line, start_line, ndb_line, is_frames, is_fate, has_network, reaches, step_of, step_line, script_line, if_line, host_line, first_line, end_line, seed_line, medium_line, Draft, hosts_of, scripts_of, is_medium_named, is_bare, is_short, is_lacking, Verdict, Goes, Begins, Bad, refuse, wrong, given, world_of}
 use Rattle.world_text.specs.WorldSpelling.{speaks}
@@ -221,9 +219,5 @@ keeps-line d line k =
     (λ begun. keeps-words d line (words_of line) (sym (join_with_byte-slice_split 32 line)) k begun)))
 
 -- a database that is read
-pub database-read : (text : List ℕ) → bad_line_so_far text ≡ None → reading text ≡ Some (database (lines_of text))
-database-read text good = by (is_none (bad_line text)) refl (read_so_far text good)
-  where
-    by : (b : Bool) → is_none (bad_line text) ≡ b → (if b then Some (database (lines_of text)) else None) ≡ Some (tuples_of (lines_of text)) → reading text ≡ Some (database (lines_of text))
-    by true e h = ap (λ v. if v then Some (database (lines_of text)) else None) e
-    by false e h = absurd (none-some (tuples_of (lines_of text)) h)
+pub database-read : (text : List ℕ) → bad_line text ≡ None → reading text ≡ Some (database (lines_of text))
+database-read text good = ap (λ (bad : Option (ℕ × ℕ)). cond (is_none bad) (Some (database (lines_of text))) None) good

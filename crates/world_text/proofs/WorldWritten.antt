@@ -14,8 +14,7 @@ use Rattle.net_base.specs.declared.world.Step.{Step}
 use Rattle.net_base.specs.declared.world.Step.TheVariants as step
 use Rattle.net_base.specs.declared.world.World.{World}
 use Rattle.net_base.specs.ControlWords.{dotted}
-use Rattle.net_base.specs.NdbBundle.{database}
-use Rattle.net_base.specs.NdbForm.{bad_line_so_far}
+use Rattle.net_base.specs.NdbBundle.{database, bad_line}
 use Rattle.net_base.specs.NdbText.{is_newline, lines_of}
 use Rattle.net_base.specs.Paths.{proto_name}
 use Rattle.net_base.specs.World.{is_byte, is_host, is_moment, is_name, is_script, is_step, is_text, is_within, is_word, IsWorld}
@@ -200,7 +199,7 @@ good-parts w called mtu is f p =
     lines_with w ms = codes "networld 1" ∷ line_of_end w.end ∷ line_of_seed w.seed
         ∷ (flat_map lines_of_medium ms ++ (flat_map (lines_of_host (medium_names ms)) w.hosts ++ flat_map (lines_of_script (host_names w.hosts)) w.scripts))
 
-pub written : (w : World) (bundle : List ℕ) → IsWorld w → IsFirstForm w → bad_line_so_far bundle ≡ None → w.db ≡ database (lines_of bundle) → IsWorldText (laid (lines_of_world w) ++ (codes "ndb\n" ++ bundle)) w
+pub written : (w : World) (bundle : List ℕ) → IsWorld w → IsFirstForm w → bad_line bundle ≡ None → w.db ≡ database (lines_of bundle) → IsWorldText (laid (lines_of_world w) ++ (codes "ndb\n" ++ bundle)) w
 written w bundle is f good_bundle read =
     let lines = good-parts w f.medium.name f.medium.mtu is f (parts-of w is f) in
     record {

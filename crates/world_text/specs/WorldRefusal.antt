@@ -2,7 +2,7 @@
 use Rattle.std.specs.Prelude.{◌≡◌, ℕ, ◌+◌, ◌⊎◌, true, false, List, [], ◌∷◌, ◌++◌, length, codes, Some}
 use Rattle.std.specs.List.{list_all}
 use Rattle.net_base.specs.declared.world.World.{World}
-use Rattle.net_base.specs.NdbForm.{bad_line_so_far}
+use Rattle.net_base.specs.NdbBundle.{bad_line}
 use Rattle.net_base.specs.NdbText.{is_empty}
 use Rattle.world_text.specs.WorldLines.{Draft, Goes, Begins, Bad, line_verdict}
 use Rattle.world_text.specs.WorldSpelling.{laid, is_line, IsHeaded}
@@ -41,7 +41,7 @@ pub record IsBadBundle (d : Draft) (first : ℕ) (text : List ℕ) (n c : ℕ) :
   pub whole : list_all is_line good ≡ true
   pub leads : Leads d good so_far
   pub begins : line_verdict so_far (codes "ndb") ≡ Begins world
-  pub bad : bad_line_so_far bundle ≡ Some (line, c)
+  pub bad : bad_line bundle ≡ Some (line, c)
   pub place : n ≡ first + length good + line
 
 -- all lines are good, and none is `ndb`: the number is one past the last line

@@ -13,8 +13,7 @@ use Rattle.net_base.specs.declared.world.Step.{Step}
 use Rattle.net_base.specs.declared.world.Step.TheVariants as step
 use Rattle.net_base.specs.declared.world.World.{World}
 use Rattle.net_base.specs.ControlWords.{dotted}
-use Rattle.net_base.specs.NdbBundle.{database}
-use Rattle.net_base.specs.NdbForm.{bad_line_so_far}
+use Rattle.net_base.specs.NdbBundle.{database, bad_line}
 use Rattle.net_base.specs.NdbText.{is_newline, is_hash, lines_of}
 use Rattle.net_base.specs.Paths.{proto_name}
 use Rattle.net_base.specs.Transcript.{hex_word, mode_word}
@@ -156,7 +155,7 @@ pub record IsWorldText (text : List ℕ) (w : World) : Type 0 where
   pub parts : IsHeaded text head bundle
   pub whole : list_all is_line head ≡ true
   pub spelled : filter speaks head ≡ lines_of_world w
-  pub good : bad_line_so_far bundle ≡ None
+  pub good : bad_line bundle ≡ None
   pub read : w.db ≡ database (lines_of bundle)
   -- it is a world that a file can say, of the form that is run so far
   pub world : IsWorld w

@@ -2,8 +2,7 @@
 use Rattle.std.specs.Prelude.{ℕ, ◌+◌, ◌==◌, List, [], ◌∷◌, Option, Some, None, Result, Ok, Err, if◌then◌else◌}
 use Rattle.net_base.specs.declared.world.World.{World}
 use Rattle.net_base.specs.NdbText.{is_newline, lines_of}
-use Rattle.net_base.specs.NdbBundle.{database}
-use Rattle.net_base.specs.NdbForm.{bad_line_so_far}
+use Rattle.net_base.specs.NdbBundle.{database, bad_line}
 use Rattle.world_text.specs.WorldLines.{Draft, opening_draft, Verdict, Goes, Begins, Bad, line_verdict}
 
 -- a line with what stands behind its newline
@@ -32,7 +31,7 @@ with_database n w text (Some bad) = Err (n + bad.0, bad.1)
 -- what comes of the n-th line and of those behind it
 abbrev pub judged : ℕ → List ℕ → Verdict → (Draft → Result World (ℕ × ℕ)) → Result World (ℕ × ℕ)
 judged n behind (Goes d) next = next d
-judged n behind (Begins w) next = with_database n w behind (bad_line_so_far behind)
+judged n behind (Begins w) next = with_database n w behind (bad_line behind)
 judged n behind (Bad cause) next = Err (n, cause)
 
 -- what comes of lines that begin with the n-th, behind the lines that made this world so far

@@ -7,8 +7,7 @@ ghost use Rattle.net_base.specs.declared.names.Ctl.TheVariants as ctl;
 ghost use Rattle.net_base.specs.declared.world.World.{World};
 ghost use Rattle.net_base.specs.World.{IsWorld, is_byte, is_text};
 ghost use Rattle.net_base.specs.WorldForm.{IsFirstForm};
-ghost use Rattle.net_base.specs.NdbBundle.{database};
-ghost use Rattle.net_base.specs.NdbForm.{bad_line_so_far};
+ghost use Rattle.net_base.specs.NdbBundle.{database, bad_line};
 ghost use Rattle.net_base.specs.NdbText.{lines_of};
 ghost use Rattle.worked_worlds.specs.WorkedUdp.{datagram_world};
 ghost use Rattle.world_text.specs.WorldExample.{datagram_head, datagram_text, every_line};
@@ -37,7 +36,7 @@ pub fn texts_say_one_world()
 /// Each world of the form that runs so far has a text: its lines, `ndb`, a text of its database.
 pub fn worlds_have_texts()
     ensures { (w : World) (bundle : List ℕ) → IsWorld w → IsFirstForm w
-        → bad_line_so_far bundle ≡ None → w.db ≡ database (lines_of bundle)
+        → bad_line bundle ≡ None → w.db ≡ database (lines_of bundle)
         → IsWorldText (laid (lines_of_world w) ++ (codes "ndb\n" ++ bundle)) w }
 {}
 

@@ -12,9 +12,12 @@ at_or_length_if : (i n : ℕ) (b : Bool) → ltb i n ≡ b → i ≤ n → unwra
 at_or_length_if i n true e h = refl
 at_or_length_if i n false e h = grind (arith, nat_tests)
 
-pub returns : goal.returns
-returns c =
+pub returns-clause-value : goal.returns-clause-value
+returns-clause-value c =
     let e = position_from_yields_List spec.is_equals _ _ _ c.position.ensures.ran (YieldsList-from_slice c.args.word.now cc) (λ x r q k. search (rules, tests)) in
     let le = prefix_len-le-length (λ b. not (spec.is_equals b)) c.args.word.now in
     c.unwrap_or.ensures
     ∙ (ap (λ r. unwrap_or r (length c.args.word.now)) e ∙ at_or_length_if (position_or_len spec.is_equals c.args.word.now) (length c.args.word.now) _ refl le)
+
+pub returns-clause-within : goal.returns-clause-within
+returns-clause-within c = omega (arith, returns-clause-value c, prefix_len-le-length (λ b. not (spec.is_equals b)) c.args.word.now)

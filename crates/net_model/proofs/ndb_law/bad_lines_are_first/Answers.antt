@@ -1,5 +1,5 @@
-use Rattle.net_model.proofs.NdbFirsts.{bad_is_first, so_far_is_first}
+use Rattle.net_model.proofs.NdbFirsts.{bad_is_first}
 use Rattle.net_model.proofs.ndb_law.bad_lines_are_first.Goals as goal
 
 pub returns : goal.returns
-returns c = record { whole = bad_is_first; so_far = so_far_is_first }
+returns c = bad_is_first

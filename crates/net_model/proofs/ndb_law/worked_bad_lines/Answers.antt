@@ -9,5 +9,4 @@ returns c = record {
   followed = refl;
   two_names = refl;
   file_without_tuple = refl;
-  not_read_yet = refl;
 }

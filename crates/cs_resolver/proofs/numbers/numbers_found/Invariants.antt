@@ -1,6 +1,0 @@
-use Rattle.std.proofs.Common.{◌≡◌, take}
-use Rattle.cs_resolver.specs.Numbers.{numbers_found}
-use Rattle.cs_resolver.proofs.numbers.numbers_found.Given as goal
-
-abbrev pub invariant-loop-tuple : goal.invariant-loop-tuple
-invariant-loop-tuple l = l.numbers.items ≡ numbers_found l.attr l.value l.kind (take l.tuple-index l.tuple-items)

@@ -1,0 +1,8 @@
+use Rattle.std.proofs.Common.{◌≡◌, take, map}
+use Rattle.std.specs.Prelude.{filter_map}
+use Rattle.net_base.specs.Networks.{network_of}
+use Rattle.ndb_search.specs.Prefixes.{network_seen}
+use Rattle.ndb_search.proofs.networks.all_networks.Given as goal
+
+abbrev pub invariant-loop-tuple : goal.invariant-loop-tuple
+invariant-loop-tuple l = map network_seen l.networks.items ≡ filter_map network_of (take l.tuple-index l.tuple-items)

@@ -1,0 +1,6 @@
+use Rattle.std.proofs.Common.{◌≡◌, ◌++◌, take, drop, Some, None}
+
+use Rattle.netsh.proofs.query.add_pairs.Given as goal
+
+abbrev pub invariant-loop-pair : goal.invariant-loop-pair
+invariant-loop-pair l = l.all.items ≡ l.initial.all.items ++ take l.pair-index l.pairs
