@@ -161,9 +161,7 @@ impl Conv {
             Event::Write { generation, text } => {
                 self.is_answered(*generation, self.may_write(text))
             }
-            Event::Ctl { generation, text } => {
-                self.is_answered(*generation, is_refused(text))
-            }
+            Event::Ctl { generation, text } => { self.is_answered(*generation, is_refused(text)) }
             Event::ArriveAt { generation } => self.may_arrive(*generation, &work.with),
             Event::Claim { generation }
             | Event::File { generation, .. }

@@ -27,7 +27,6 @@ first_slot_at p n (s ∷ ss) f is = go (p s) refl is (first_slot_at p (n + 1) ss
 pub slot_found : (p : Slot → Bool) (ss : List Slot) (f : ℕ × Slot) → first_slot p 0 ss ≡ Some f → (slice_get ss f.0 ≡ Some f.1) × (p f.1 ≡ true)
 slot_found p ss f is = let r = first_slot_at p 0 ss f is in (subst (λ (j : ℕ). slice_get ss j ≡ Some f.1) (omega (arith, r.1)) r.2, r.3)
 
-
 -- the slot that matches announces
 keyed_at : (key : Key) (slots : List Slot) (found : ℕ × Slot) → first_slot (is_keyed key) 0 slots ≡ Some found → (slice_get slots found.0 ≡ Some found.1) × (is_announced found.1.kind ≡ true)
 keyed_at key slots found is =
@@ -92,6 +91,7 @@ taker_found pair packet d t is = go (first_slot is_free 0 d.slots) (match_of pac
           unlisted = none_is _ unlisted.0;
           apart = not_is _ apart.0;
         })
+
     go : (x y : Option (ℕ × Slot)) → first_slot is_free 0 d.slots ≡ x → match_of packet.dst d.slots ≡ y → taken pair packet d x y ≡ Some t → TakerFound pair packet d t
     go None y one two same = absurd (none-some t same)
     go (Some free) None one two same = absurd (none-some t same)

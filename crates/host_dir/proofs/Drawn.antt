@@ -27,6 +27,7 @@ both_runs first middle next used before after p low high = by (cases p)
   where
     cases : (p : ℕ) → (p < middle) ⊎ (middle ≤ p)
     cases p = grind arith
+
     by : (p < middle) ⊎ (middle ≤ p) → list_any (nat_eq p) used ≡ true
     by (inl under) = before p low under
     by (inr over) = after p over high

@@ -26,7 +26,8 @@ use crate::starts::Starts;
 use ip_route::{Way, Ways};
 use listen_queue::MOST_CALLS;
 use net_base::{
-    Addr, Body, Event, IlKind, IlMsg, Octets, Outcome, Packet, Pair, Proto, Reply, StateName, With, Work, World, mirror,
+    Addr, Body, Event, IlKind, IlMsg, Octets, Outcome, Packet, Pair, Proto, Reply, StateName, With,
+    Work, World, mirror,
 };
 use std::alloc::{AllocError, Global};
 use std::marker::Model;
@@ -192,7 +193,8 @@ impl Dir {
         Ok(Answer::Slot {
             slot: n,
             generation,
-        }.outcome())
+        }
+        .outcome())
     }
 
     /// Grants a pair to a slot.
@@ -222,7 +224,12 @@ impl Dir {
     }
 
     /// Grants a pair to a reserved slot.
-    fn grant_reserved(&mut self, n: u32, remote: Addr, lport: Option<u16>) -> Result<Outcome, AllocError>
+    fn grant_reserved(
+        &mut self,
+        n: u32,
+        remote: Addr,
+        lport: Option<u16>,
+    ) -> Result<Outcome, AllocError>
         requires { n < length self.old.dir.slots }
         ensures ok { IfOk result (λ o. Gives self.old self.new o (λ at. Some (spec.grants_by
             (way at.world at.host remote.ip) (chosen lport (slot_at self.old.dir.slots n).bound self.old.dir.ports)
@@ -374,7 +381,8 @@ impl Dir {
                 Answer::Call {
                     slot: call.slot,
                     generation: call.generation,
-                }.outcome()
+                }
+                .outcome()
             }
             StateName::Free => Answer::NoFile.outcome(),
             kind => Answer::WrongState(kind).outcome(),
@@ -421,7 +429,11 @@ impl Dir {
         let calls = self.slots.at(n).calls();
         let told = calls.list(self.alloc)?;
         let copy = calls.list(self.alloc)?;
-        Ok(outcome(Reply::Calls { calls: told }, Reply::Calls { calls: copy }, None))
+        Ok(outcome(
+            Reply::Calls { calls: told },
+            Reply::Calls { calls: copy },
+            None,
+        ))
     }
 
     /// Tells the names in the directory.
@@ -430,7 +442,11 @@ impl Dir {
     {
         let told = names_of(self.alloc, self.slots.all())?;
         let copy = names_of(self.alloc, self.slots.all())?;
-        Ok(outcome(Reply::Names { names: told }, Reply::Names { names: copy }, None))
+        Ok(outcome(
+            Reply::Names { names: told },
+            Reply::Names { names: copy },
+            None,
+        ))
     }
 
     /// Where a packet of the protocol goes: to the live slot that has its pair, or to its taker; an IL sync with neither is
@@ -454,7 +470,8 @@ impl Dir {
             return Ok(Answer::To {
                 slot: n,
                 generation,
-            }.outcome());
+            }
+            .outcome());
         }
         match self.taker(pair, packet) {
             Some(taker) => self.bear(pair, taker),
@@ -514,7 +531,8 @@ impl Dir {
             generation,
             start,
             limit,
-        }.outcome())
+        }
+        .outcome())
     }
 
     /// The longest message to an address, in bytes; 8,192 without a way.
@@ -572,7 +590,9 @@ fn refused_or_dropped(alloc: Global, packet: &Packet) -> Outcome
     ensures { (d : AnyDir) → spec.refused_or_dropped packet.now.body packet.now d ≡ record { state = d; outcome = result } }
 {
     match &packet.body {
-        Body::Il(message) if message.kind == IlKind::Sync => Answer::Refused.emitting(refusal(alloc, message, packet)),
+        Body::Il(message) if message.kind == IlKind::Sync => Answer::Refused.emitting(refusal(
+            alloc, message, packet,
+        )),
         _ => Answer::Dropped.outcome(),
     }
 }

@@ -299,8 +299,10 @@ impl Slots {
     /// The slot is Reserved, in this generation.
     pub fn reserve(&mut self, n: u32, generation: u64)
         requires { n < length self.old.slots }
-        ensures { self.new ≡ record self.old { slots =
-            slice_set self.old.slots n (record free_slot { kind = state_name.Reserved; generation = generation }) } }
+        ensures { self.new ≡ record self.old {
+          slots =
+              slice_set self.old.slots n (record free_slot { kind = state_name.Reserved; generation = generation });
+        } }
     {
         let slot = &mut self.slots[n as usize];
         slot.reserve(generation);
@@ -309,8 +311,10 @@ impl Slots {
     /// The slot is Free.
     pub fn release(&mut self, n: u32)
         requires { n < length self.old.slots }
-        ensures { self.new ≡ record self.old { slots =
-            slice_set self.old.slots n (record free_slot { generation = (slot_at self.old.slots n).generation }) } }
+        ensures { self.new ≡ record self.old {
+          slots =
+              slice_set self.old.slots n (record free_slot { generation = (slot_at self.old.slots n).generation });
+        } }
     {
         let slot = &mut self.slots[n as usize];
         slot.release();
@@ -319,8 +323,10 @@ impl Slots {
     /// The slot is Announced.
     pub fn announce(&mut self, n: u32, key: Key)
         requires { n < length self.old.slots }
-        ensures { self.new ≡ record self.old { slots =
-            slice_set self.old.slots n (record (slot_at self.old.slots n) { kind = state_name.Announced; key = Some key }) } }
+        ensures { self.new ≡ record self.old {
+          slots =
+              slice_set self.old.slots n (record (slot_at self.old.slots n) { kind = state_name.Announced; key = Some key });
+        } }
     {
         let slot = &mut self.slots[n as usize];
         slot.announce(key);
@@ -339,8 +345,10 @@ impl Slots {
     pub fn take_call(&mut self, n: u32) -> Option<Call>
         requires { n < length self.old.slots }
         ensures value { result ≡ slice_get (slot_at self.old.slots n).calls 0 }
-        ensures rest { self.new ≡ record self.old { slots =
-            slice_set self.old.slots n (record (slot_at self.old.slots n) { calls = drop 1 (slot_at self.old.slots n).calls }) } }
+        ensures rest { self.new ≡ record self.old {
+          slots =
+              slice_set self.old.slots n (record (slot_at self.old.slots n) { calls = drop 1 (slot_at self.old.slots n).calls });
+        } }
     {
         let slot = &mut self.slots[n as usize];
         slot.take_call()
@@ -349,8 +357,10 @@ impl Slots {
     /// The slot is Withdrawn.
     pub fn withdraw(&mut self, n: u32)
         requires { n < length self.old.slots }
-        ensures { self.new ≡ record self.old { slots =
-            slice_set self.old.slots n (record (slot_at self.old.slots n) { kind = state_name.Withdrawn; calls = [] }) } }
+        ensures { self.new ≡ record self.old {
+          slots =
+              slice_set self.old.slots n (record (slot_at self.old.slots n) { kind = state_name.Withdrawn; calls = [] });
+        } }
     {
         let slot = &mut self.slots[n as usize];
         slot.withdraw();
@@ -361,8 +371,9 @@ impl Slots {
         requires within { n < length self.old.slots }
         requires new { pair_place pair 1 self.old.pairs ≡ None }
         ensures ok { OnOk result (self.new ≡ record {
-            slots = slice_set self.old.slots n (record (slot_at self.old.slots n) { kind = state_name.Granted; pair = Some pair });
-            pairs = self.old.pairs ++ pair ∷ [] }) }
+          slots = slice_set self.old.slots n (record (slot_at self.old.slots n) { kind = state_name.Granted; pair = Some pair });
+          pairs = self.old.pairs ++ pair ∷ [];
+        }) }
         ensures err { OnErr result (self.new ≡ self.old) }
     {
         self.given.insert(ends_of(pair), n)?;
@@ -378,12 +389,14 @@ impl Slots {
         requires room { length (slot_at self.old.slots at.listener).calls < 10 }
         requires new { pair_place pair 1 self.old.pairs ≡ None }
         ensures ok { OnOk result (self.new ≡ record {
-            slots = slice_set
-                (slice_set self.old.slots at.free (record free_slot { kind = state_name.Granted; generation = generation; pair = Some pair }))
-                at.listener
-                (record (slot_at self.old.slots at.listener) {
-                  calls = (slot_at self.old.slots at.listener).calls ++ record { slot = at.free; generation = generation } ∷ [] });
-            pairs = self.old.pairs ++ pair ∷ [] }) }
+          slots = slice_set
+              (slice_set self.old.slots at.free (record free_slot { kind = state_name.Granted; generation = generation; pair = Some pair }))
+              at.listener
+              (record (slot_at self.old.slots at.listener) {
+                calls = (slot_at self.old.slots at.listener).calls ++ record { slot = at.free; generation = generation } ∷ [];
+              });
+          pairs = self.old.pairs ++ pair ∷ [];
+        }) }
         ensures err { OnErr result (self.new ≡ self.old) }
     {
         self.given.insert(ends_of(pair), at.free)?;

@@ -47,7 +47,12 @@ impl Starts {
         let lines = self.lines.as_slice();
         match lines.get(given) {
             Some(line) => *line,
-            None => word_after(self.seed, u64::from(self.host), (given - lines.len()) as u64).max(1),
+            None => word_after(
+                self.seed,
+                u64::from(self.host),
+                (given - lines.len()) as u64,
+            )
+            .max(1),
         }
     }
 }

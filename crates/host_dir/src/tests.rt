@@ -83,16 +83,20 @@ fn host(alloc: Global) -> Result<HostSpec, AllocError> {
     Ok(HostSpec {
         name: Octets::from_slice(alloc, b"anna")?,
         nets: Sequence::new(alloc),
-        ifaces: Sequence::from_vec(vec![in alloc; Iface {
-            medium: 0,
-            ip: ANNA,
-            mask: MASK_24,
-        }]?),
-        routes: Sequence::from_vec(vec![in alloc; RouteLine {
-            net: 0x0a00_0000,
-            mask: 0xff00_0000,
-            gateway: HELIX,
-        }]?),
+        ifaces: Sequence::from_vec(vec![in alloc;
+            Iface {
+                medium: 0,
+                ip: ANNA,
+                mask: MASK_24,
+            },
+        ]?),
+        routes: Sequence::from_vec(vec![in alloc;
+            RouteLine {
+                net: 0x0a00_0000,
+                mask: 0xff00_0000,
+                gateway: HELIX,
+            },
+        ]?),
         starts: Sequence::from_vec(vec![in alloc; 100u32, 200u32]?),
     })
 }
@@ -315,7 +319,11 @@ fn a_datagram_is_born(rt: HostRuntime) -> Result<(), Fail> {
         Ok(Told::Dropped),
         "a pair is born once"
     );
-    assert_eq!(rt; listen(&mut dir, 0), Ok(Told::Call(1, 1)), "the call still waits");
+    assert_eq!(rt;
+        listen(&mut dir, 0),
+        Ok(Told::Call(1, 1)),
+        "the call still waits"
+    );
     assert_eq!(rt; listen(&mut dir, 0), Ok(Told::NotReady), "and is taken");
     Ok(())
 }
@@ -330,14 +338,27 @@ fn a_sync_is_born_or_refused(rt: HostRuntime) -> Result<(), Fail> {
         Ok(Told::Born(1, 1, 100, 1462)),
         "the first start line"
     );
-    assert_eq!(rt; arrive(&mut dir, addr(HELIX, 1), files, sync(alloc)), Ok(Told::To(1, 1)));
     assert_eq!(rt;
-        arrive(&mut dir, addr(HELIX, 2), files, message(alloc, IlKind::Sync, 5)),
+        arrive(&mut dir, addr(HELIX, 1), files, sync(alloc)),
+        Ok(Told::To(1, 1))
+    );
+    assert_eq!(rt;
+        arrive(
+            &mut dir,
+            addr(HELIX, 2),
+            files,
+            message(alloc, IlKind::Sync, 5)
+        ),
         Ok(Told::Refused),
         "it answers another sync"
     );
     assert_eq!(rt;
-        arrive(&mut dir, addr(HELIX, 2), files, message(alloc, IlKind::Data, 0)),
+        arrive(
+            &mut dir,
+            addr(HELIX, 2),
+            files,
+            message(alloc, IlKind::Data, 0)
+        ),
         Ok(Told::Dropped)
     );
     assert_eq!(rt;
@@ -362,12 +383,18 @@ fn ten_calls_wait_and_the_eleventh_is_refused(rt: HostRuntime) -> Result<(), Fai
         let told = arrive(&mut dir, addr(HELIX, n), files, sync(alloc))?;
         assert!(rt; told != Told::Refused);
     }
-    assert_eq!(rt; arrive(&mut dir, addr(HELIX, 11), files, sync(alloc)), Ok(Told::Refused));
+    assert_eq!(rt;
+        arrive(&mut dir, addr(HELIX, 11), files, sync(alloc)),
+        Ok(Told::Refused)
+    );
     assert_eq!(rt; listen(&mut dir, 0), Ok(Told::Call(1, 1)), "the oldest");
     let told = arrive(&mut dir, addr(HELIX, 11), files, sync(alloc))?;
     assert!(rt; told != Told::Refused, "there is room again");
     assert_eq!(rt; withdraw(&mut dir, 0, 1), Ok(Told::Calls(10)));
-    assert_eq!(rt; arrive(&mut dir, addr(HELIX, 12), files, sync(alloc)), Ok(Told::Refused));
+    assert_eq!(rt;
+        arrive(&mut dir, addr(HELIX, 12), files, sync(alloc)),
+        Ok(Told::Refused)
+    );
     assert_eq!(rt; listen(&mut dir, 0), Ok(Told::Wrong(StateName::Withdrawn)));
     Ok(())
 }
@@ -383,7 +410,11 @@ fn a_match_of_more_comes_first(rt: HostRuntime) -> Result<(), Fail> {
     assert_eq!(rt; announce(&mut dir, 1, None, Some(7)), Ok(Told::Ok));
     assert_eq!(rt; announce(&mut dir, 2, Some(ANNA), Some(7)), Ok(Told::Ok));
     let _ = arrive(&mut dir, addr(HELIX, 1), addr(ANNA, 7), datagram(alloc))?;
-    assert_eq!(rt; listen(&mut dir, 2), Ok(Told::Call(3, 1)), "by address and port");
+    assert_eq!(rt;
+        listen(&mut dir, 2),
+        Ok(Told::Call(3, 1)),
+        "by address and port"
+    );
     let _ = arrive(&mut dir, addr(HELIX, 1), addr(ANNA + 1, 7), datagram(alloc))?;
     assert_eq!(rt; listen(&mut dir, 1), Ok(Told::Call(4, 1)), "by the port");
     let _ = arrive(&mut dir, addr(HELIX, 1), addr(ANNA, 8), datagram(alloc))?;
@@ -400,10 +431,20 @@ fn there_are_32_slots(rt: HostRuntime) -> Result<(), Fail> {
         assert_eq!(rt; reserve(&mut dir), Ok(Told::Slot(n, 1)));
     }
     assert_eq!(rt; reserve(&mut dir), Ok(Told::NoSlot));
-    assert_eq!(rt; step(&mut dir, Event::Ls, With::Nothing), Ok(Told::Names(33)));
+    assert_eq!(rt;
+        step(&mut dir, Event::Ls, With::Nothing),
+        Ok(Told::Names(33))
+    );
     assert_eq!(rt; release(&mut dir, 9, 1), Ok(Told::Calls(0)));
-    assert_eq!(rt; reserve(&mut dir), Ok(Told::Slot(9, 2)), "the lowest that is free");
-    assert_eq!(rt; grant(&mut dir, 32, 1, addr(HELIX, 7), None), Ok(Told::NotReady));
+    assert_eq!(rt;
+        reserve(&mut dir),
+        Ok(Told::Slot(9, 2)),
+        "the lowest that is free"
+    );
+    assert_eq!(rt;
+        grant(&mut dir, 32, 1, addr(HELIX, 7), None),
+        Ok(Told::NotReady)
+    );
     Ok(())
 }
 
@@ -414,13 +455,26 @@ fn an_announcement_is_taken(rt: HostRuntime) -> Result<(), Fail> {
         let _ = reserve(&mut dir)?;
     }
     assert_eq!(rt; announce(&mut dir, 3, None, Some(17008)), Ok(Told::Ok));
-    assert_eq!(rt; announce(&mut dir, 4, None, Some(17008)), Ok(Told::Taken(3)));
-    assert_eq!(rt; announce(&mut dir, 4, Some(ANNA), Some(17008)), Ok(Told::Ok));
-    assert_eq!(rt; announce(&mut dir, 4, None, None), Ok(Told::Wrong(StateName::Announced)));
+    assert_eq!(rt;
+        announce(&mut dir, 4, None, Some(17008)),
+        Ok(Told::Taken(3))
+    );
+    assert_eq!(rt;
+        announce(&mut dir, 4, Some(ANNA), Some(17008)),
+        Ok(Told::Ok)
+    );
+    assert_eq!(rt;
+        announce(&mut dir, 4, None, None),
+        Ok(Told::Wrong(StateName::Announced))
+    );
     assert_eq!(rt; bind(&mut dir, 0, 5000), Ok(Told::Ok));
     assert_eq!(rt; bind(&mut dir, 0, 5000), Ok(Told::Taken(0)), "by itself");
     assert_eq!(rt; bind(&mut dir, 1, 5000), Ok(Told::Taken(0)));
-    assert_eq!(rt; bind(&mut dir, 5, 5001), Ok(Told::Stale), "before it is wrong");
+    assert_eq!(rt;
+        bind(&mut dir, 5, 5001),
+        Ok(Told::Stale),
+        "before it is wrong"
+    );
     assert_eq!(rt; listen(&mut dir, 5), Ok(Told::NoFile));
     assert_eq!(rt; listen(&mut dir, 0), Ok(Told::Wrong(StateName::Reserved)));
     Ok(())
@@ -437,7 +491,10 @@ fn a_pair_is_granted_once(rt: HostRuntime) -> Result<(), Fail> {
     );
     assert_eq!(rt; release(&mut dir, 0, 1), Ok(Told::Calls(0)));
     assert_eq!(rt; reserve(&mut dir), Ok(Told::Slot(0, 2)));
-    assert_eq!(rt; grant(&mut dir, 0, 2, files, Some(5000)), Ok(Told::PairUsed(1)));
+    assert_eq!(rt;
+        grant(&mut dir, 0, 2, files, Some(5000)),
+        Ok(Told::PairUsed(1))
+    );
     assert_eq!(rt;
         grant(&mut dir, 0, 2, addr(ANNA, 5000), Some(5000)),
         Ok(Told::SelfPair),
@@ -452,7 +509,10 @@ fn a_pair_is_granted_once(rt: HostRuntime) -> Result<(), Fail> {
         Ok(Told::Granted(from_port(5001, addr(FAR, 7)), 200, 1462)),
         "5000 was named"
     );
-    assert_eq!(rt; grant(&mut dir, 0, 2, files, None), Ok(Told::Wrong(StateName::Granted)));
+    assert_eq!(rt;
+        grant(&mut dir, 0, 2, files, None),
+        Ok(Told::Wrong(StateName::Granted))
+    );
     Ok(())
 }
 

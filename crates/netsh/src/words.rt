@@ -27,22 +27,14 @@ pub fn read_words(words: &[String]) -> Option<Command<'_>>
         [name, sys, query] if name.as_str() == "cs" && !sys.is_empty() && !query.is_empty() => {
             Some(Command::Cs(sys.as_bytes(), query.as_bytes()))
         }
-        [name, attr, value]
-            if name.as_str() == "query" && !attr.is_empty() && !value.is_empty() =>
-        {
-            Some(Command::Tuples(attr.as_bytes(), value.as_bytes()))
-        }
+        [name, attr, value] if name.as_str() == "query" && !attr.is_empty() && !value.is_empty() =>
+            { Some(Command::Tuples(attr.as_bytes(), value.as_bytes())) }
         [name, attr, value, other]
             if name.as_str() == "query"
                 && !attr.is_empty()
                 && !value.is_empty()
-                && !other.is_empty() =>
-        {
-            Some(Command::Beside(
-                attr.as_bytes(),
-                value.as_bytes(),
-                other.as_bytes(),
-            ))
+                && !other.is_empty() => {
+            Some(Command::Beside(attr.as_bytes(), value.as_bytes(), other.as_bytes()))
         }
         _ => None,
     }

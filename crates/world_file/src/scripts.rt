@@ -13,8 +13,8 @@ use crate::fault::Fault;
 use crate::hosts::{is_called, is_host_named};
 use ctl_words::read_ctl;
 use net_base::{Ctl, HostSpec, Script, Sequence, Step};
-use world_text::connect_texts_agree;
 use std::alloc::{AllocError, Global};
+use world_text::connect_texts_agree;
 use world_words::{is_name, one, read_step};
 
 impl Draft {

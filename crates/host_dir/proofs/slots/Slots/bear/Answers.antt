@@ -26,13 +26,14 @@ invariant_of-self-2 c =
     c.in_ok-insert.ensures.entries
     ∙ insert_entry-new derived.eq-value.it c.self.inside.given ends c.args.at.free (lookup_is (derived.eq-value.it ends) (pair_of ends) entries (λ e. search rules) ∙ absent (pair_of ends) 1 entries fresh) in
     let born = slice_set slots free c.bear.new.self in
-    let old : c.index_mut-listener.result.now ≡ slot_at born at = at_place born at c.index_mut-listener.result.now (search rules) c.index_mut-listener.ensures.value in
-    (length-set born at c.queue.new.self ∙ length-set slots free c.bear.new.self ∙ before.0,
-    kept born c.insert.new.self.entries at c.queue.new.self
-    (subst (λ es. IsIndexed born es) (sym added)
-    (given_to slots entries ends free c.bear.new.self before.1 fresh (ap (λ (s : Slot). s.pair) c.bear.ensures ∙ ap Some (sym c.ends_of.ensures))))
-    (search rules)
-    (ap (λ (s : Slot). s.pair) c.queue.ensures ∙ ap (λ (s : Slot). s.pair) old))
+    let old : c.index_mut-listener.result.now ≡ slot_at born at = at_place born at c.index_mut-listener.result.now (search rules) c.index_mut-listener.ensures.value in (
+      length-set born at c.queue.new.self ∙ length-set slots free c.bear.new.self ∙ before.0,
+      kept born c.insert.new.self.entries at c.queue.new.self
+          (subst (λ es. IsIndexed born es) (sym added)
+          (given_to slots entries ends free c.bear.new.self before.1 fresh (ap (λ (s : Slot). s.pair) c.bear.ensures ∙ ap Some (sym c.ends_of.ensures))))
+          (search rules)
+          (ap (λ (s : Slot). s.pair) c.queue.ensures ∙ ap (λ (s : Slot). s.pair) old),
+    )
 
 pub returns-clause-ok : goal.returns-clause-ok
 returns-clause-ok c =

@@ -21,10 +21,11 @@ invariant_of-self-2 c =
     let fresh : pair_place (pair_of ends) 1 (pairs_of entries) ≡ None = rw (← c.self.view_is, ← c.ends_of.ensures) at c.requires.new in
     let added : c.insert.new.self.entries ≡ entries ++ (ends, c.args.n) ∷ [] =
     c.in_ok-insert.ensures.entries
-    ∙ insert_entry-new derived.eq-value.it c.self.inside.given ends c.args.n (lookup_is (derived.eq-value.it ends) (pair_of ends) entries (λ e. search rules) ∙ absent (pair_of ends) 1 entries fresh) in
-    (length-set slots c.args.n c.grant.new.self ∙ before.0,
-    subst (λ es. IsIndexed (slice_set slots c.args.n c.grant.new.self) es) (sym added)
-    (given_to slots entries ends c.args.n c.grant.new.self before.1 fresh (ap (λ (s : Slot). s.pair) c.grant.ensures ∙ ap Some (sym c.ends_of.ensures))))
+    ∙ insert_entry-new derived.eq-value.it c.self.inside.given ends c.args.n (lookup_is (derived.eq-value.it ends) (pair_of ends) entries (λ e. search rules) ∙ absent (pair_of ends) 1 entries fresh) in (
+      length-set slots c.args.n c.grant.new.self ∙ before.0,
+      subst (λ es. IsIndexed (slice_set slots c.args.n c.grant.new.self) es) (sym added)
+          (given_to slots entries ends c.args.n c.grant.new.self before.1 fresh (ap (λ (s : Slot). s.pair) c.grant.ensures ∙ ap Some (sym c.ends_of.ensures))),
+    )
 
 pub returns-clause-ok : goal.returns-clause-ok
 returns-clause-ok c =
