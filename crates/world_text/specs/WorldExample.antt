@@ -8,7 +8,7 @@ use Rattle.net_base.specs.declared.world.MediumSpec.{MediumSpec}
 use Rattle.net_base.specs.declared.world.Step.{Step}
 use Rattle.net_base.specs.declared.world.Step.TheVariants as step
 use Rattle.net_base.specs.declared.world.World.{World}
-use Rattle.worked_worlds.specs.Worked.{ip, script}
+use Rattle.worked_worlds.specs.Worked.{ip, script, small_bundle}
 
 -- The worked world of UDP.
 
