@@ -17,7 +17,7 @@ use Rattle.net_base.specs.declared.reply.Reply.TheVariants as reply
 use Rattle.net_base.specs.declared.world.World.{World}
 use Rattle.net_base.specs.ActorStep.{Step, replies, when}
 use Rattle.net_base.specs.Conversation.{Conv, Core, Udp, Stage, Unused, Listening, Connected, conv_step, leaves, answers, begun, is_over, is_closed_name, core_name, read_at, udp_read, write_at, joined, hungup_or_ok, core_cause, packet_of, udp_written, full_or_took}
-use Rattle.net_base.specs.Directory.{Dir, dir_step, grants_by, grants_pair, pair_place, pair_of}
+use Rattle.net_base.specs.Directory.{Dir, dir_step, grants_by, grants_pair, home_at, pair_place, pair_of}
 use Rattle.net_base.specs.Routes.{Way, way}
 use Rattle.net_base.specs.Same.{same_addr, same_pair}
 use Rattle.net_base.specs.Steps.{is_accepted}
@@ -37,25 +37,25 @@ pub data GrantGives (d : Dir) : Step Dir → Type 0 where
   Refuses : (r : Reply) → is_accepted r ≡ false → GrantGives d (record { state = d; outcome = replies r None })
 
 grant_gives_by : (o : Option Way) (w : World) (h : ℕ) (remote : Addr) (port : ℕ) (d : Dir) → d.slots ≡ reserved_slot ∷ free_slots
-    → GrantGives d (grants_by o (Some port) w h proto.Udp 0 reserved_slot remote d)
+    → GrantGives d (grants_by o (Some port) (home_at w h proto.Udp) 0 reserved_slot remote d)
 grant_gives_by None w h remote port d is = Refuses reply.NoRoute refl
 grant_gives_by (Some out) w h remote port d is = by_same (same_addr (record { ip = out.source; port = port }) remote) refl
   where
     pair : Pair
     pair = record { local = record { ip = out.source; port = port }; remote = remote }
 
-    by_place : (o : Option ℕ) → GrantGives d (grants_pair o w h proto.Udp 0 reserved_slot pair out.mtu d)
+    by_place : (o : Option ℕ) → GrantGives d (grants_pair o (home_at w h proto.Udp) 0 reserved_slot pair out.mtu d)
     by_place (Some k) = Refuses (reply.PairUsed k) refl
     by_place None = Grants pair 0 (min 8192 (out.mtu - 28)) _ (omega arith) (rw is refl)
 
-    by_same : (b : Bool) → same_addr (record { ip = out.source; port = port }) remote ≡ b → GrantGives d (grants_by (Some out) (Some port) w h proto.Udp 0 reserved_slot remote d)
+    by_same : (b : Bool) → same_addr (record { ip = out.source; port = port }) remote ≡ b → GrantGives d (grants_by (Some out) (Some port) (home_at w h proto.Udp) 0 reserved_slot remote d)
     by_same true same = rw same (Refuses reply.SelfPair refl)
     by_same false same = rw same (by_place (pair_place pair 1 d.pairs))
 
 pub grant_gives : (w : World) (h : ℕ) (remote : Addr) (port : ℕ) (g : With) (d : Dir) → d.slots ≡ reserved_slot ∷ free_slots
     → (s : Step Dir) × (dir_step w h proto.Udp (event.Grant 0 1 remote (Some port)) g d ≡ Some s) × GrantGives d s
 grant_gives w h remote port g d is =
-    (grants_by (way w h remote.ip) (Some port) w h proto.Udp 0 reserved_slot remote d, rw is refl, grant_gives_by (way w h remote.ip) w h remote port d is)
+    (grants_by (way w h remote.ip) (Some port) (home_at w h proto.Udp) 0 reserved_slot remote d, rw is refl, grant_gives_by (way w h remote.ip) w h remote port d is)
 
 -- a datagram arrives: the directory stays, and only a granted slot takes it
 pub data ArriveGives (p : Phase) (d : Dir) : Step Dir → Type 0 where
