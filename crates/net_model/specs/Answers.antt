@@ -32,8 +32,7 @@ refusal_text number =
     if number == 1 then codes "bad query" else (
     if number == 2 then codes "no net" else (
     if number == 3 then codes "no host" else (
-    if number == 4 then codes "no service" else (
-    codes "no value")))
+    if number == 4 then codes "no service" else codes "no value")))
 
 -- the lines that were found, or that there are none
 abbrev pub lines_answer : List (List ℕ) → Answer
