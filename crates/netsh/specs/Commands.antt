@@ -1,8 +1,8 @@
 -- The commands as the program reads them.
 use Rattle.std.specs.Prelude.{Some, None}
 use Rattle.net_model.specs.Words as words
-use Rattle.netsh.specs.declared.words.Command.{Command}
-use Rattle.netsh.specs.declared.words.Command.TheVariants.{Cs, Tuples, Beside, Run}
+use Rattle.netsh.specs.declared.command.Command.{Command}
+use Rattle.netsh.specs.declared.command.Command.TheVariants.{Cs, Tuples, Beside, Run}
 
 -- the command that was read
 abbrev pub command_read : Command → words.Command

@@ -11,7 +11,7 @@ use crate::answer::{Answer, READ_FAULT, USAGE};
 use crate::cs::cs;
 use crate::query::{query_beside, query_tuples};
 use crate::run::run_over;
-use crate::words::{Command, read_words};
+use crate::command::{Command, read_words};
 use outside::{
     Failed, Gate, Sink, Source, SureSink, SureSource, TakeError, read_to_end, write_all,
 };
