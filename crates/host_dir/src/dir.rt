@@ -89,7 +89,8 @@ impl Dir {
     #[tactic(auto, using(crate::proofs::Ready::ready_is))]
     pub fn ready(&self, work: &Work) -> bool
         ensures value { result ≡ is_ready self.now.proto work.now.event work.now.with self.now.dir }
-        ensures step { (w : AnyWorld) (h : ℕ) → result ≡ is_some (dir_step w h self.now.proto work.now.event work.now.with self.now.dir) }
+        ensures step { (w : AnyWorld) (h : ℕ) → result ≡ is_some (dir_step w h self.now.proto work.now.event
+            work.now.with self.now.dir) }
     {
         self.answers(&work.event, &work.with)
     }
@@ -131,7 +132,8 @@ impl Dir {
         ensures ok { IfOk result (Steps self.old self.new work.now) }
         ensures stays { Stays self.old self.new }
         ensures err { OnErr result (self.new ≡ self.old) }
-        ensures memory { OnErr result (Wants self.old (λ at. dir_step at.world at.host at.proto work.now.event work.now.with self.old.dir)) }
+        ensures memory { OnErr result (Wants self.old (λ at. dir_step at.world at.host at.proto work.now.event
+            work.now.with self.old.dir)) }
     {
         self.row(&work.event, &work.with)
     }
@@ -139,10 +141,12 @@ impl Dir {
     /// The answer of the event's row.
     fn row(&mut self, event: &Event, with: &With) -> Result<Outcome, AllocError>
         requires { IsTrue (is_ready self.old.proto event.now with.now self.old.dir) }
-        ensures ok { IfOk result (λ o. Gives self.old self.new o (λ at. dir_step at.world at.host at.proto event.now with.now self.old.dir)) }
+        ensures ok { IfOk result (λ o. Gives self.old self.new o (λ at. dir_step at.world at.host at.proto
+            event.now with.now self.old.dir)) }
         ensures stays { Stays self.old self.new }
         ensures err { OnErr result (self.new ≡ self.old) }
-        ensures memory { OnErr result (Wants self.old (λ at. dir_step at.world at.host at.proto event.now with.now self.old.dir)) }
+        ensures memory { OnErr result (Wants self.old (λ at. dir_step at.world at.host at.proto event.now with.now
+            self.old.dir)) }
     {
         match event {
             Event::Reserve => self.reserve(),
@@ -178,10 +182,12 @@ impl Dir {
     /// Reserves the lowest free slot. A slot that was taken as often as a generation can count isn't taken again, and counts as
     /// want of memory.
     fn reserve(&mut self) -> Result<Outcome, AllocError>
-        ensures ok { IfOk result (λ o. Leaves self.new o (Some (spec.reserves (spec.first_slot spec.is_free 0 self.old.dir.slots) self.old.dir))) }
+        ensures ok { IfOk result (λ o. Leaves self.new o (Some (spec.reserves (spec.first_slot spec.is_free 0
+            self.old.dir.slots) self.old.dir))) }
         ensures stays { Stays self.old self.new }
         ensures err { OnErr result (self.new ≡ self.old) }
-        ensures memory { OnErr result (StepMayWant (Some (spec.reserves (spec.first_slot spec.is_free 0 self.old.dir.slots) self.old.dir))) }
+        ensures memory { OnErr result (StepMayWant (Some (spec.reserves (spec.first_slot spec.is_free 0
+            self.old.dir.slots) self.old.dir))) }
     {
         let Some(n) = self.slots.first_free() else {
             return Ok(Answer::NoSlot.outcome());
@@ -300,7 +306,8 @@ impl Dir {
 
     /// The start that is given out next; 0 for UDP.
     fn next_start(&self) -> u32
-        ensures { (w : AnyWorld) (h : ℕ) → IsDirOf w h self.now.proto self.now → spec.start_of (home_at w h self.now.proto) self.now.dir ≡ result }
+        ensures { (w : AnyWorld) (h : ℕ) → IsDirOf w h self.now.proto self.now →
+            spec.start_of (home_at w h self.now.proto) self.now.dir ≡ result }
     {
         match self.proto {
             Proto::Il => self.starts.after(self.slots.pairs()),
@@ -317,10 +324,12 @@ impl Dir {
         port: Option<u16>,
     ) -> Result<Outcome, AllocError>
         requires { n < length self.old.dir.slots }
-        ensures ok { IfOk result (λ o. Leaves self.new o (spec.in_slot n generation self.old.dir (spec.announces n ip port self.old.dir))) }
+        ensures ok { IfOk result (λ o. Leaves self.new o (spec.in_slot n generation self.old.dir (
+            spec.announces n ip port self.old.dir))) }
         ensures stays { Stays self.old self.new }
         ensures err { OnErr result (self.new ≡ self.old) }
-        ensures memory { OnErr result (StepMayWant (spec.in_slot n generation self.old.dir (spec.announces n ip port self.old.dir))) }
+        ensures memory { OnErr result (StepMayWant (spec.in_slot n generation self.old.dir (spec.announces n ip port
+            self.old.dir))) }
     {
         let slot = self.slots.at(n);
         if slot.generation() != generation {
@@ -346,10 +355,12 @@ impl Dir {
     /// A slot is bound to a port.
     fn bind(&mut self, n: u32, generation: u64, port: u16) -> Result<Outcome, AllocError>
         requires { n < length self.old.dir.slots }
-        ensures ok { IfOk result (λ o. Leaves self.new o (spec.in_slot n generation self.old.dir (spec.binds n port self.old.dir))) }
+        ensures ok { IfOk result (λ o. Leaves self.new o (spec.in_slot n generation self.old.dir (spec.binds n port
+            self.old.dir))) }
         ensures stays { Stays self.old self.new }
         ensures err { OnErr result (self.new ≡ self.old) }
-        ensures memory { OnErr result (StepMayWant (spec.in_slot n generation self.old.dir (spec.binds n port self.old.dir))) }
+        ensures memory { OnErr result (StepMayWant (spec.in_slot n generation self.old.dir (spec.binds n port
+            self.old.dir))) }
     {
         let slot = self.slots.at(n);
         if slot.generation() != generation {
@@ -392,10 +403,12 @@ impl Dir {
     /// A slot announces no more, and its calls are sent away.
     fn withdraw(&mut self, n: u32, generation: u64) -> Result<Outcome, AllocError>
         requires { n < length self.old.dir.slots }
-        ensures ok { IfOk result (λ o. Leaves self.new o (spec.in_slot n generation self.old.dir (spec.withdraws n self.old.dir))) }
+        ensures ok { IfOk result (λ o. Leaves self.new o (spec.in_slot n generation self.old.dir (spec.withdraws n
+            self.old.dir))) }
         ensures stays { Stays self.old self.new }
         ensures err { OnErr result (self.new ≡ self.old) }
-        ensures memory { OnErr result (StepMayWant (spec.in_slot n generation self.old.dir (spec.withdraws n self.old.dir))) }
+        ensures memory { OnErr result (StepMayWant (spec.in_slot n generation self.old.dir (spec.withdraws n
+            self.old.dir))) }
     {
         if self.slots.at(n).generation() != generation {
             return Ok(Answer::Stale.outcome());
@@ -408,10 +421,12 @@ impl Dir {
     /// Frees a slot, and its calls are sent away.
     fn release(&mut self, n: u32, generation: u64) -> Result<Outcome, AllocError>
         requires { n < length self.old.dir.slots }
-        ensures ok { IfOk result (λ o. Leaves self.new o (spec.in_slot n generation self.old.dir (spec.frees n self.old.dir))) }
+        ensures ok { IfOk result (λ o. Leaves self.new o (spec.in_slot n generation self.old.dir (spec.frees n
+            self.old.dir))) }
         ensures stays { Stays self.old self.new }
         ensures err { OnErr result (self.new ≡ self.old) }
-        ensures memory { OnErr result (StepMayWant (spec.in_slot n generation self.old.dir (spec.frees n self.old.dir))) }
+        ensures memory { OnErr result (StepMayWant (spec.in_slot n generation self.old.dir (spec.frees n
+            self.old.dir))) }
     {
         if self.slots.at(n).generation() != generation {
             return Ok(Answer::Stale.outcome());
@@ -438,7 +453,8 @@ impl Dir {
 
     /// Tells the names in the directory.
     fn ls(&self) -> Result<Outcome, AllocError>
-        ensures { IfOk result (λ o. o ≡ replies (reply.Names (names (node.Proto self.now.proto) (spec.taken_from 0 self.now.dir.slots))) None) }
+        ensures { IfOk result (λ o. o ≡ replies (reply.Names (names (node.Proto self.now.proto) (
+            spec.taken_from 0 self.now.dir.slots))) None) }
     {
         let told = names_of(self.alloc, self.slots.all())?;
         let copy = names_of(self.alloc, self.slots.all())?;
@@ -537,7 +553,8 @@ impl Dir {
 
     /// The longest message to an address, in bytes; 8,192 without a way.
     fn limit_to(&self, ip: u32) -> u32
-        ensures { (w : AnyWorld) (h : ℕ) → IsDirOf w h self.now.proto self.now → spec.limit_to (way w h ip) self.now.proto ≡ result }
+        ensures { (w : AnyWorld) (h : ℕ) → IsDirOf w h self.now.proto self.now → spec.limit_to
+            (way w h ip) self.now.proto ≡ result }
     {
         match self.way_to(ip) {
             Some(way) => limit_of(self.proto, way.mtu),
@@ -590,9 +607,9 @@ fn refused_or_dropped(alloc: Global, packet: &Packet) -> Outcome
     ensures { (d : AnyDir) → spec.refused_or_dropped packet.now.body packet.now d ≡ record { state = d; outcome = result } }
 {
     match &packet.body {
-        Body::Il(message) if message.kind == IlKind::Sync => Answer::Refused.emitting(refusal(
-            alloc, message, packet,
-        )),
+        Body::Il(message) if message.kind == IlKind::Sync => {
+            Answer::Refused.emitting(refusal(alloc, message, packet))
+        }
         _ => Answer::Dropped.outcome(),
     }
 }

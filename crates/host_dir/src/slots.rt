@@ -335,7 +335,10 @@ impl Slots {
     /// The slot is bound to the port.
     pub fn bind(&mut self, n: u32, port: u16)
         requires { n < length self.old.slots }
-        ensures { self.new ≡ record self.old { slots = slice_set self.old.slots n (record (slot_at self.old.slots n) { bound = Some port }) } }
+        ensures { self.new ≡ record self.old {
+          slots = slice_set self.old.slots n (record
+              (slot_at self.old.slots n) { bound = Some port });
+        } }
     {
         let slot = &mut self.slots[n as usize];
         slot.bind(port);

@@ -99,7 +99,8 @@ fn is_network(net: u32, mask: u32) -> bool
 /// Where the first route to this network stands.
 fn place_of(routes: &[Route], net: u32, mask: u32) -> Option<usize>
     ensures within { IfSome result (λ n. n < length routes.now) }
-    ensures value { result ≡ position_from (same_network (route_by net mask (record { iface = 0; next = None }))) 0 routes.now }
+    ensures value { result ≡ position_from (same_network (route_by net mask
+        (record { iface = 0; next = None }))) 0 routes.now }
 {
     routes.iter().position(|route| route.is_to(net, mask))
 }
