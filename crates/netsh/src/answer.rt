@@ -17,7 +17,7 @@ use net_model::{legal_histories_are_plain, legal_histories_keep_it};
 use plain_runner::{Ran, RunEnd};
 use std::alloc::{AllocError, Global};
 use std::marker::Model;
-use transcript::{End, Standing, printed_runs_tell, summary_by, text_of};
+use transcript::{End, RunStatus, printed_runs_tell, summary_by, text_of};
 
 /// The words give no command.
 pub const USAGE: &str = "! usage\n";
@@ -101,8 +101,8 @@ impl Answer {
         legal_histories_are_plain();
         printed_runs_tell();
         let mut text = text_of(alloc, &ran.history)?;
-        let standing = standing_of(ran);
-        let summary = summary_by(alloc, world, &ran.history, standing)?;
+        let status = run_status(ran);
+        let summary = summary_by(alloc, world, &ran.history, status)?;
         text.append(summary.as_slice())?;
         Ok(Answer {
             status: run_status(ran.end),
@@ -138,11 +138,11 @@ fn text_of_lines(alloc: Global, lines: &Lines) -> Result<Octets, AllocError>
 }
 
 /// How many steps are answered, and how the run stands.
-fn standing_of(ran: &Ran) -> Standing
+fn run_status(ran: &Ran) -> RunStatus
     ensures answered { result.answered ≡ ran.now.answered }
     ensures end { result.end ≡ end_of ran.now.end }
 {
-    Standing {
+    RunStatus {
         answered: ran.answered,
         end: match ran.end {
             RunEnd::Done => End::Done,

@@ -7,7 +7,7 @@ ghost use Rattle.net_base.specs.Net.{after};
 ghost use Rattle.net_base.specs.Summary.{end_word, summary};
 ghost use Rattle.net_base.specs.World.{IsWorld};
 ghost use Rattle.net_base.specs.WorldForm.{IsFirstForm};
-ghost use Rattle.transcript.specs.Standing.{word_of};
+ghost use Rattle.transcript.specs.RunStatus.{word_of};
 ghost use Rattle.plain_runner.specs.Idle.{IsIdle};
 ghost use Rattle.plain_runner.specs.Rounds.{MayGo};
 ghost use Rattle.plain_runner.specs.Stands.{Tracks};
@@ -16,7 +16,7 @@ use crate::replay::replayed;
 use crate::runner::{MOST_ENTRIES, Runner};
 use net_base::{History, Octets, World};
 use std::alloc::{AllocError, Global};
-use transcript::{End, Standing, summary_by};
+use transcript::{End, RunStatus, summary_by};
 
 /// The summary of a legal and timed history of a world, whether its run has ended or not.
 pub fn summary_of(alloc: Global, world: &World, history: &History) -> Result<Octets, AllocError>
@@ -29,7 +29,7 @@ pub fn summary_of(alloc: Global, world: &World, history: &History) -> Result<Oct
     let runner = replayed(alloc, world, history)?;
     let answered = runner.answered(world);
     let end = runner.end(world)?;
-    summary_by(alloc, world, history, Standing { answered, end })
+    summary_by(alloc, world, history, RunStatus { answered, end })
 }
 
 impl Runner {

@@ -7,7 +7,7 @@ use Rattle.net_base.specs.Actors.{Actor}
 use Rattle.net_base.specs.ActorStep.{Step}
 use Rattle.net_base.specs.Legal.{IsLegal}
 use Rattle.net_base.specs.Net.{Net, after, net_after, net_of, next_net, opening_net, outcome_in, step_of, moment_after}
-use Rattle.transcript.specs.Standing.{latest}
+use Rattle.transcript.specs.RunStatus.{latest}
 
 -- each entry is ready, where those before it have been taken
 abbrev AreReady : World → Net → List Entry → Type 0

@@ -4,8 +4,8 @@ use Rattle.net_base.specs.declared.history.Entry.{Entry}
 use Rattle.net_base.specs.declared.world.World.{World}
 use Rattle.net_base.specs.Net.{after}
 use Rattle.net_base.specs.Summary.{totals, totals_lines, steps_line, end_line, end_word, answered_steps, all_steps, summary}
-use Rattle.transcript.specs.declared.summary.Standing.{Standing}
-use Rattle.transcript.specs.Standing.{Stands, lines_by, word_of, latest}
+use Rattle.transcript.specs.declared.summary.RunStatus.{RunStatus}
+use Rattle.transcript.specs.RunStatus.{IsStatusOf, lines_by, word_of, latest}
 use Rattle.transcript.proofs.Latest.{moment_of_legal}
 
 -- the lines, of numbers and a word that are those of the net
@@ -16,5 +16,5 @@ summed : (w : World) (h : List Entry) (word : List ℕ) (answered moment : ℕ)
     → steps_line answered (all_steps w) ++ totals_lines (totals h) ++ end_line word moment ≡ summary w h
 summed w h word answered moment each how when = rw (each, how, when) refl
 
-pub stands_so : (w : World) (h : List Entry) (s : Standing) → Stands w h s → lines_by w h s ≡ summary w h
-stands_so w h s stands = summed w h (word_of s.end) s.answered (latest 0 h) stands.answered stands.end (moment_of_legal w h stands.legal)
+pub status_tells : (w : World) (h : List Entry) (s : RunStatus) → IsStatusOf w h s → lines_by w h s ≡ summary w h
+status_tells w h s stands = summed w h (word_of s.end) s.answered (latest 0 h) stands.answered stands.end (moment_of_legal w h stands.legal)

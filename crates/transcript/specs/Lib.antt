@@ -1,5 +1,5 @@
 pub mod Digits
-pub mod Standing
+pub mod RunStatus
 pub mod Telling
 pub use Rattle.net_base.specs.Plain
 pub use Rattle.net_base.specs.Summary

@@ -14,5 +14,5 @@ mod totals;
 
 pub use entry::text_of;
 pub use law::{plain_texts_tell, printed_runs_tell, texts_tell_words};
-pub use summary::{End, Standing, summary_by};
+pub use summary::{End, RunStatus, summary_by};
 pub use totals::{Totals, totals_of};

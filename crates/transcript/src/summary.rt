@@ -3,7 +3,7 @@ ghost use Rattle.std.specs.Prelude.{◌≡◌, ◌++◌, OnOk, IfOk, codes};
 ghost use Rattle.net_base.specs.Net as net;
 ghost use Rattle.net_base.specs.Summary as spec;
 ghost use Rattle.net_base.specs.Summary.{summary, steps_line, both_line, end_line};
-ghost use Rattle.transcript.specs.Standing.{Stands, lines_by, word_of, latest};
+ghost use Rattle.transcript.specs.RunStatus.{IsStatusOf, lines_by, word_of, latest};
 
 use crate::totals::{Totals, totals_of};
 use net_base::{Event, History, Octets, World};
@@ -21,24 +21,25 @@ pub enum End {
 
 /// What the net behind a history tells: how many steps are answered, and how the run stands.
 #[derive(Clone, Copy, Debug, PartialEq, Eq)]
-pub struct Standing {
+pub struct RunStatus {
     pub answered: u128,
     pub end: End,
 }
 
-/// The summary of a history, for a caller that knows how its net stands. The standing is printed as it is told.
-#[tactic(auto, using(crate::proofs::Summing::stands_so))]
+/// The summary of a history, for a caller that knows how its net stands. The status is printed as it is told.
+#[tactic(auto, using(crate::proofs::Summing::status_tells))]
 pub fn summary_by(
     alloc: Global,
     world: &World,
     history: &History,
-    standing: Standing,
+    status: RunStatus,
 ) -> Result<Octets, AllocError>
-    ensures lines { IfOk result (λ text. text ≡ lines_by world.now history.now standing) }
-    ensures summary { Stands world.now history.now standing → IfOk result (λ text. text ≡ summary world.now history.now) }
+    ensures lines { IfOk result (λ text. text ≡ lines_by world.now history.now status) }
+    ensures summary { IsStatusOf world.now history.now status
+        → IfOk result (λ text. text ≡ summary world.now history.now) }
 {
     let mut out = Octets::new(alloc);
-    put_summary(&mut out, world, history, standing)?;
+    put_summary(&mut out, world, history, status)?;
     Ok(out)
 }
 
@@ -46,13 +47,13 @@ fn put_summary(
     out: &mut Octets,
     world: &World,
     history: &History,
-    standing: Standing,
+    status: RunStatus,
 ) -> Result<(), AllocError>
-    ensures { OnOk result (out.new ≡ out.old ++ lines_by world.now history.now standing) }
+    ensures { OnOk result (out.new ≡ out.old ++ lines_by world.now history.now status) }
 {
-    put_steps(out, standing.answered, all_steps(world))?;
+    put_steps(out, status.answered, all_steps(world))?;
     put_totals(out, totals_of(history))?;
-    put_end(out, standing.end, moment_of(history))
+    put_end(out, status.end, moment_of(history))
 }
 
 // The moment of the last move, or 0.

@@ -1,5 +1,5 @@
 //! A worked history with its summary, and a line for each word.
-use crate::{End, Standing, summary_by, text_of};
+use crate::{End, RunStatus, summary_by, text_of};
 use net_base::{
     ActorName, Addr, BodyHeader, Call, CallList, Cause, Db, Entry, Event, FileName, Header,
     History, Hosts, IlKind, Lines, Media, Mode, Octets, Pair, Proto, Reply, Script, Scripts,
@@ -432,11 +432,11 @@ fn scripts(alloc: Global) -> Result<World, AllocError> {
 #[test]
 fn a_datagram_is_summed(rt: HostRuntime) -> Result<(), Fail> {
     let alloc = rt.alloc();
-    let standing = Standing {
+    let status = RunStatus {
         answered: 8,
         end: End::Done,
     };
-    let summary = summary_by(alloc, &scripts(alloc)?, &datagram(alloc)?, standing)?;
+    let summary = summary_by(alloc, &scripts(alloc)?, &datagram(alloc)?, status)?;
     let lines = b"steps 8 of 8
 messages 1 1
 bytes 2 2
@@ -485,11 +485,11 @@ fn refusals_are_no_messages(rt: HostRuntime) -> Result<(), Fail> {
         let event = Event::Move { moment };
         history.push(entry(ActorName::Clock, 3, None, event, Reply::Ok))?;
     }
-    let standing = Standing {
+    let status = RunStatus {
         answered: 3,
         end: End::Stopped,
     };
-    let summary = summary_by(alloc, &scripts(alloc)?, &history, standing)?;
+    let summary = summary_by(alloc, &scripts(alloc)?, &history, status)?;
     let lines = b"steps 3 of 8
 messages 0 0
 bytes 0 0

@@ -1,5 +1,5 @@
 use Rattle.std.proofs.Common.{◌≡◌, drop}
-use Rattle.transcript.specs.Standing.{latest}
+use Rattle.transcript.specs.RunStatus.{latest}
 use Rattle.transcript.proofs.summary.moment_of.Given as goal
 
 -- what is left tells the same moment

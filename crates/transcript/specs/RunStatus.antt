@@ -7,7 +7,7 @@ use Rattle.net_base.specs.Net.{after, moment_after}
 use Rattle.net_base.specs.Summary.{steps_line, totals_lines, totals, end_line, end_word, answered_steps, all_steps}
 use Rattle.transcript.specs.declared.summary.End.{End}
 use Rattle.transcript.specs.declared.summary.End.TheVariants as ends
-use Rattle.transcript.specs.declared.summary.Standing.{Standing}
+use Rattle.transcript.specs.declared.summary.RunStatus.{RunStatus}
 
 -- the word that an end prints as
 abbrev pub word_of : End → List ℕ
@@ -22,11 +22,11 @@ latest now [] = now
 latest now (x ∷ xs) = latest (moment_after now x.event) xs
 
 -- the four lines, where a run stands so
-abbrev pub lines_by : World → List Entry → Standing → List ℕ
+abbrev pub lines_by : World → List Entry → RunStatus → List ℕ
 lines_by w h s = steps_line s.answered (all_steps w) ++ totals_lines (totals h) ++ end_line (word_of s.end) (latest 0 h)
 
 -- the history is legal for the world, and the net behind it stands so
-pub record Stands (w : World) (h : List Entry) (s : Standing) : Type 0 where
+pub record IsStatusOf (w : World) (h : List Entry) (s : RunStatus) : Type 0 where
   pub legal : IsLegal w h
   pub answered : s.answered ≡ answered_steps w h
   pub end : word_of s.end ≡ end_word w (after w h)
