@@ -137,19 +137,21 @@ fn line_route(networks: &[Route], line: &RouteLine) -> Option<Route>
     })
 }
 
-/// The routes of a host, in order. Clauses see the list.
+/// The routes of a host, in order. More than numbers of them count as want of memory. Clauses see the list.
 #[derive(Drop)]
 pub struct Routes {
     routes: Vec<Route>,
 }
 
 impl Model for Routes {
-    ghost use Rattle.std.specs.Prelude.{List};
+    ghost use Rattle.std.specs.Prelude.{◌<◌, ◌^◌, List, length};
     ghost use Rattle.net_base.specs.Routes.{Route as AnyRoute};
 
     ghost Value = { List AnyRoute };
 
     ghost view = { λ r. r.routes.items };
+
+    ghost invariant = { λ r. length r.routes.items < 2 ^ 32 };
 }
 
 impl Routes {
@@ -173,13 +175,15 @@ impl Routes {
                 routes.push(route)?;
             }
         }
+        if u32::try_from(routes.len()).is_err() {
+            return Err(AllocError);
+        }
         Ok(Routes { routes })
     }
 
     /// Adds a route to a network, unless the network is none or has a route already.
     #[tactic(auto, using(crate::proofs::Refusals::twice, crate::proofs::Refusals::none))]
     pub fn add(&mut self, net: u32, mask: u32, hop: Hop) -> Result<(), RouteError>
-        requires few { length self.old < 2 ^ 32 }
         ensures refused { Answers (refusal (route_by net mask hop) self.old) result }
         ensures ok { OnOk result (self.new ≡ self.old ++ route_by net mask hop ∷ []) }
         ensures err { OnErr result (self.new ≡ self.old) }
@@ -207,6 +211,9 @@ impl Routes {
         ensures ok { OnOk result (self.new ≡ self.old ++ route ∷ []) }
         ensures err { OnErr result (self.new ≡ self.old) }
     {
+        if self.routes.len() + 1 > u32::MAX as usize {
+            return Err(AllocError);
+        }
         self.routes.push(route)?;
         Ok(())
     }
