@@ -69,7 +69,8 @@ impl Answer {
             return Ok(Answer { status: 5, text });
         }
         let text = text_of_lines(alloc, lines)?;
-        Ok(Answer { status: 0, text })
+        let status = 0;
+        Ok(Answer { status, text })
     }
 
     /// The refusal of cs, unless it had no memory.

@@ -530,9 +530,9 @@ fn the_bundle_counts_on(rt: HostRuntime) -> Result<(), Fail> {
         (HOSTS, b"ndb\na=b\0\n", 10, 5),
         (HOSTS, b"ndb\n%x\n", 10, 6),
         (HOSTS, b"#a\n\nndb\n#b\n%x\n", 13, 6),
-        (HOSTS, b"ndb\na=\"b\"\n", 10, 31),
-        (HOSTS, b"ndb\n%file x\n", 10, 31),
-        (HOSTS, b"ndb\na=b\ndatabase=c\n", 11, 31),
+        (HOSTS, b"ndb\na=\"b\n", 10, 2),
+        (HOSTS, b"ndb\na=\"b\"c\n", 10, 4),
+        (HOSTS, b"ndb\na=b\n%file x\n\tc=d\n", 12, 1),
     ];
     for (front, lines, line, cause) in rows {
         assert!(rt;
