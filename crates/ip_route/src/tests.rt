@@ -18,8 +18,7 @@ const HELIX: u32 = 0x8768_091f;
 /// 10.0.0.1
 const FAR: u32 = 0x0a00_0001;
 
-fn hop(iface: u32, next: Option<u32>) -> Hop
-{
+fn hop(iface: u32, next: Option<u32>) -> Hop {
     Hop { iface, next }
 }
 
@@ -37,8 +36,16 @@ fn by_gate(alloc: Global) -> Result<Routes, AllocError> {
 #[test]
 fn the_longest_mask_is_taken(rt: HostRuntime) -> Result<(), Fail> {
     let routes = by_gate(rt.alloc())?;
-    assert_eq!(rt; routes.lookup(HELIX), Some(hop(0, Some(HELIX))), "its own network");
-    assert_eq!(rt; routes.lookup(FAR), Some(hop(0, Some(GATE))), "by the gateway");
+    assert_eq!(rt;
+        routes.lookup(HELIX),
+        Some(hop(0, Some(HELIX))),
+        "its own network"
+    );
+    assert_eq!(rt;
+        routes.lookup(FAR),
+        Some(hop(0, Some(GATE))),
+        "by the gateway"
+    );
     let none = Routes::new(rt.alloc());
     assert_eq!(rt; none.lookup(HELIX), None);
     Ok(())
@@ -70,7 +77,14 @@ fn routes_are_refused(rt: HostRuntime) -> Result<(), Fail> {
         Err(RouteError::BadMask),
         "bits outside the mask"
     );
-    assert_eq!(rt; routes.add(0, 0xff00_ff00, hop(0, None)), Err(RouteError::BadMask));
-    assert_eq!(rt; routes.lookup(HELIX), Some(hop(0, Some(HELIX))), "nothing was added");
+    assert_eq!(rt;
+        routes.add(0, 0xff00_ff00, hop(0, None)),
+        Err(RouteError::BadMask)
+    );
+    assert_eq!(rt;
+        routes.lookup(HELIX),
+        Some(hop(0, Some(HELIX))),
+        "nothing was added"
+    );
     Ok(())
 }

@@ -103,7 +103,10 @@ fn ifaces_of(alloc: Global, world: &World) -> Result<Vec<Ifaces>, AllocError>
 fn stands_on(ifaces: &Ifaces, medium: u32, ip: u32) -> bool
     ensures { result ≡ stands_on medium ip ifaces.now }
 {
-    ifaces.as_slice().iter().any(|iface| iface.medium == medium && iface.ip == ip)
+    ifaces
+        .as_slice()
+        .iter()
+        .any(|iface| iface.medium == medium && iface.ip == ip)
 }
 
 /// The interface with this address.
@@ -123,7 +126,9 @@ fn place_of(hosts: &[Ifaces], medium: u32, ip: u32) -> Option<usize>
     ensures value { result ≡ station_among hosts.now medium ip }
     ensures within { IfSome result (λ host. host < length hosts.now) }
 {
-    hosts.iter().position(|ifaces| stands_on(ifaces, medium, ip))
+    hosts
+        .iter()
+        .position(|ifaces| stands_on(ifaces, medium, ip))
 }
 
 /// The number of that host.
