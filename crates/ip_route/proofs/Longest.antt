@@ -1,5 +1,5 @@
 -- The longest match, route by route.
-use Rattle.std.proofs.Common.{◌≡◌, ℕ, ◌+◌, ◌<◌, Bool, true, false, List, [], ◌∷◌, Option, Some, None, nat_lt, get_or, drop, refl, ap, sym, ◌∙◌, arith, if◌then◌else◌, length}
+use Rattle.std.proofs.Common.{◌≡◌, ℕ, ◌+◌, ◌<◌, Bool, true, false, List, ◌∷◌, Option, Some, None, nat_lt, get_or, drop, refl, ap, sym, ◌∙◌, arith, if◌then◌else◌, length}
 use Rattle.std.proofs.lemmas.List.{drop_more}
 use Rattle.std.proofs.lemmas.Bool.Decides.{nat_tests}
 use Rattle.net_base.specs.Routes.{Route, longer, longest_match, matches}

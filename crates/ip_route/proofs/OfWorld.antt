@@ -1,13 +1,12 @@
 -- What is kept of a world gives its ways.
-use Rattle.std.proofs.Common.{◌≡◌, ℕ, zero, suc, ◌+◌, ◌==◌, ◌&&◌, ◌≤◌, ◌<◌, Bool, true, false, List, [], ◌∷◌, Option, Some, None, map, find, position, slice_get, unwrap_or, refl, ap, sym, ◌∙◌, length, if◌then◌else◌}
+use Rattle.std.proofs.Common.{◌≡◌, ℕ, zero, suc, ◌+◌, ◌==◌, Bool, true, false, List, [], ◌∷◌, Option, Some, None, map, find, slice_get, unwrap_or, refl, ap, sym, ◌∙◌}
 use Rattle.std.specs.List.{list_any, position_from}
-use Rattle.std.specs.Option.{option_map, option_and_then, option_map_or}
+use Rattle.std.specs.Option.{option_map, option_and_then}
 use Rattle.std.proofs.lemmas.Iterator.Adapters.{position_from-zero}
 use Rattle.net_base.specs.declared.world.HostSpec.{HostSpec}
 use Rattle.net_base.specs.declared.world.Iface.{Iface}
 use Rattle.net_base.specs.declared.world.World.{World}
-use Rattle.net_base.specs.Routes.{Route, Way, longest_match, way, way_from, way_by, way_of_route, way_to_itself, host_routes, has_address, has_ip, stands_at, station_of}
-use Rattle.ip_route.specs.declared.ways.Out.{Out}
+use Rattle.net_base.specs.Routes.{Route, longest_match, way, way_from, way_by, way_of_route, host_routes, has_address, stands_at, station_of}
 use Rattle.ip_route.specs.Kept.{AreWaysOf, HostWays, has_out, is_own, out_of, own_out, stands_on, station_among, way_kept, way_out, way_to}
 
 abbrev ifaces : HostSpec → List Iface

@@ -1,5 +1,5 @@
 -- Routes that are added: which are refused.
-use Rattle.std.specs.Prelude.{◌≡◌, ℕ, ◌==◌, not, ◌&&◌, Bool, List, Option, Some, None, Result, Ok, Err, ⊤, bit_and, position, if◌then◌else◌}
+use Rattle.std.specs.Prelude.{◌≡◌, ℕ, ◌==◌, ◌&&◌, Bool, List, Option, Some, None, Result, Ok, Err, ⊤, bit_and, position, if◌then◌else◌}
 use Rattle.std.specs.Option.{option_map}
 use Rattle.net_base.specs.Routes.{Route, longer}
 use Rattle.net_base.specs.World.{is_mask, same_network}
