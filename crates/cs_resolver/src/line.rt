@@ -27,12 +27,7 @@ fn put_target(out: &mut Octets, target: Target) -> Result<(), AllocError>
 }
 
 /// The line of a clone file and what to connect there.
-pub fn line_of(
-    alloc: Global,
-    net: Proto,
-    target: Target,
-    port: u32,
-) -> Result<Octets, AllocError>
+pub fn line_of(alloc: Global, net: Proto, target: Target, port: u32) -> Result<Octets, AllocError>
     ensures { IfOk result (λ line. line ≡ spec.cs_line net (target_text target) port) }
 {
     let mut line = Octets::new(alloc);

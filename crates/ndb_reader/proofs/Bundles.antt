@@ -151,11 +151,12 @@ spelled before (line ∷ lines) good = by (is_file_line line) refl (spelled (bef
     by : (f : Bool) → is_file_line line ≡ f → Spelled lines → Spelled (line ∷ lines)
     by true e rest = (
       subst EachSpelled (sym (before-stop line lines e)) tt,
-      subst (Tail (line ∷ lines)) (sym (named-stop line lines e))
-      (lines,
-      ap (λ (l : List ℕ). l ∷ lines) (file-spelled line e) ∙ ap (λ (ls : List (List ℕ)). ls ++ (codes "%file " ++ file_name line) ∷ lines) (sym (before-stop line lines e)),
-      file-named (has_tuple before) line e (first-good before line lines good).0,
-      reads-from lines (file_name line) rest.0 (none-on (before ++ line ∷ []) lines (push-file before line e) (first-good before line lines good).1) rest.1),
+      subst (Tail (line ∷ lines)) (sym (named-stop line lines e)) (
+        lines,
+        ap (λ (l : List ℕ). l ∷ lines) (file-spelled line e) ∙ ap (λ (ls : List (List ℕ)). ls ++ (codes "%file " ++ file_name line) ∷ lines) (sym (before-stop line lines e)),
+        file-named (has_tuple before) line e (first-good before line lines good).0,
+        reads-from lines (file_name line) rest.0 (none-on (before ++ line ∷ []) lines (push-file before line e) (first-good before line lines good).1) rest.1,
+      ),
     )
     by false e rest = (
       subst EachSpelled (sym (before-more line lines e)) (line_is_spelled (has_tuple before) line e (first-good before line lines good).0, rest.0),

@@ -33,6 +33,7 @@ among_others x n (m ∷ ns) apart = at (bytes_eq m x) refl (bytes_eq m n) refl (
   where
     clash : bytes_eq m x ≡ true → bytes_eq m n ≡ true → ⊥
     clash g h = false_true (sym apart ∙ (ap (λ k. bytes_eq k x) (sym (is_one m n h)) ∙ g))
+
     at : (same : Bool) → bytes_eq m x ≡ same → (here : Bool) → bytes_eq m n ≡ here → among n (others x ns) ≡ among n ns → list_any (λ k. bytes_eq k n) (cond (not same) (m ∷ others x ns) (others x ns)) ≡ (here || among n ns)
     at true e true h rest = absurd (clash e h)
     at true e false h rest = rest

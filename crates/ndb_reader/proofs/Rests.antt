@@ -135,9 +135,11 @@ quoted-open read bytes end quoted room is none attr value rest unclosed followed
     ap (quoted_word (take end bytes)) (sym is)
     ∙ ap (λ b. cond b (record { attr = take end bytes; value = before_first is_quote quoted; takes = length (take end bytes) + 2 + length (before_first is_quote quoted) + 1 + length (before_first is_white (after_first is_quote quoted)); unclosed = false; followed = not (is_empty (before_first is_white (after_first is_quote quoted))) }) (record { attr = take end bytes; value = quoted; takes = length (take end bytes) + 2 + length quoted; unclosed = true; followed = false })) none in
     rw word (record {
-      attr = attr; value = value;
+      attr = attr;
+      value = value;
       rest = rest ∙ sym (drop_of_length-le bytes (omega (arith, length-take end bytes, ap length is, length-drop (end + 2) bytes, room)));
-      unclosed = unclosed; followed = followed;
+      unclosed = unclosed;
+      followed = followed;
     })
 
 -- a quote that is closed
@@ -157,10 +159,12 @@ quoted-closed read bytes end close more quoted after room is some at_close at_af
     let count : length (take end bytes) + 2 + length (take close quoted) + 1 + length (take more after) ≡ end + 2 + (close + 1) + more =
     omega (arith, length-take end bytes, length-take close quoted, length-take more after, below, short, room) in
     rw word (record {
-      attr = attr; value = value;
+      attr = attr;
+      value = value;
       rest = rest ∙ ap (drop more) (at_after ∙ ap (drop (close + 1)) is ∙ drop-drop (close + 1) (end + 2) bytes)
           ∙ drop-drop more (end + 2 + (close + 1)) bytes ∙ ap (λ n. drop n bytes) (sym count);
-      unclosed = unclosed; followed = followed;
+      unclosed = unclosed;
+      followed = followed;
     })
 
 begins-some : (p : ℕ → Bool) (bytes : List ℕ) → begins p bytes ≡ true → 0 < length bytes
@@ -199,7 +203,8 @@ word-plain read bytes len end at_len at_end within quote attr value rest unclose
       attr = attr ∙ ap (λ n. take n (take len bytes)) at_end;
       value = value ∙ ap (λ n. drop (n + 1) (take len bytes)) at_end;
       rest = rest ∙ ap (λ n. drop n bytes) (sym count);
-      unclosed = unclosed; followed = followed;
+      unclosed = unclosed;
+      followed = followed;
     })
 
 -- behind a word there are fewer bytes

@@ -71,8 +71,8 @@ impl Files {
     pub(crate) fn begin(&mut self, alloc: Global, name: &[u8]) -> Result<(), AllocError>
         ensures closed { OnOk result (map file_seen self.new.closed.items
             ≡ map file_seen self.old.closed.items ++ (record {
-                name = self.old.name;
-                tuples = self.old.tuples.whole.items ++ tuple_of self.old.tuples.last.items;
+              name = self.old.name;
+              tuples = self.old.tuples.whole.items ++ tuple_of self.old.tuples.last.items;
             }) ∷ []) }
         ensures name { OnOk result (self.new.name ≡ name.now) }
         ensures whole { OnOk result (self.new.tuples.whole.items ≡ []) }
@@ -89,11 +89,15 @@ impl Files {
     pub(crate) fn finish(self) -> Result<Vec<File>, AllocError>
         ensures { IfOk result (λ files. map file_seen files.items
             ≡ map file_seen self.closed.items ++ (record {
-                name = self.name;
-                tuples = self.tuples.whole.items ++ tuple_of self.tuples.last.items;
+              name = self.name;
+              tuples = self.tuples.whole.items ++ tuple_of self.tuples.last.items;
             }) ∷ []) }
     {
-        let Files { mut closed, name, tuples } = self;
+        let Files {
+            mut closed,
+            name,
+            tuples,
+        } = self;
         let tuples = tuples.finish()?;
         closed.push(File { name, tuples })?;
         Ok(closed)

@@ -66,7 +66,10 @@ fn words_are_split(rt: HostRuntime) -> Result<(), Fail> {
         (b"a=#b  c=\r\n\r d#e", b"<[a=#b;c=;][d#e=;]>"),
         (b"a=b\n\n# c\n\td=e\n", b"<[a=b;][d=e;]>"),
         (b"a=\"b c=d\"\te=b\"c\n", b"<[a=b c=d;e=b\"c;]>"),
-        (b"database=\n\tfile=y\n\tfile=x file=y\na=1\n%file x\nb=2\n%file y\nc=3\ndatabase= file=z\n%file z\nd=4\n%file y\ne=5", b"<[c=3;]><[database=;file=z;]><[e=5;]><[b=2;]>"),
+        (
+            b"database=\n\tfile=y\n\tfile=x file=y\na=1\n%file x\nb=2\n%file y\nc=3\ndatabase= file=z\n%file z\nd=4\n%file y\ne=5",
+            b"<[c=3;]><[database=;file=z;]><[e=5;]><[b=2;]>",
+        ),
         (b"%file x\na=b\n", b""),
         (b"database file=\n", b""),
     ];
@@ -82,7 +85,10 @@ fn values_with_white_space_are_quoted(rt: HostRuntime) -> Result<(), Fail> {
     let alloc = rt.alloc();
     let db = read_ndb(alloc, b"a=\"b c\"  d\n e=\"f\" #\n g=\"#\"\nh=")?;
     let text = write_ndb(alloc, &db)?;
-    assert_eq!(rt; text.as_slice(), b"a=\"b c\" d=\n\te=f\n\tg=#\nh=\n".as_slice());
+    assert_eq!(rt;
+        text.as_slice(),
+        b"a=\"b c\" d=\n\te=f\n\tg=#\nh=\n".as_slice()
+    );
     Ok(())
 }
 

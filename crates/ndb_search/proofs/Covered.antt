@@ -45,6 +45,7 @@ covers_is lengths firsts networks by_length by_first ip = same_truth _ _ found k
         let here : contains_address shared.1 ip ≡ true =
         ap (λ n. first_bits shared.1.bits shared.1.ip == n) (ap (λ bits. first_bits bits ip) (sym same) ∙ first) ∙ itself (first_bits shared.1.bits shared.1.ip) in
         list_any_at (λ network. contains_address network ip) networks shared.0 shared.1 shared.2 (ap (λ network. contains_address network ip) shared.3 ∙ here)
+
     kept : is_on networks ip ≡ true → list_any (λ bits. list_any (is_first bits ip) firsts) lengths ≡ true
     kept e =
         let on = Any-from_list_any (λ network. contains_address network ip) networks e in
@@ -71,6 +72,7 @@ seen_more p networks i network v within here is =
     at true false = refl
     at false true = refl
     at false false = refl
+
     or_nothing : (a : Bool) → (a || false) ≡ a
     or_nothing true = refl
     or_nothing false = refl

@@ -140,6 +140,7 @@ none_at bits ips (network ∷ networks) e =
     neither : (a b : Bool) → (a || b) ≡ false → (a ≡ false) × (b ≡ false)
     neither true b f = absurd cc
     neither false b f = (refl, f)
+
     never : (b : Bool) → (b && false) ≡ false
     never true = refl
     never false = refl

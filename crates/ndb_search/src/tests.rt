@@ -1,7 +1,7 @@
 //! Worked searches.
+use crate::beside::value_beside;
 use crate::near::closest;
 use crate::places::search;
-use crate::beside::value_beside;
 use net_base::{Db, Line, Lines, NdbPair, Octets, Tuple};
 use std::alloc::{AllocError, Global};
 use std::test::Fail;
@@ -12,11 +12,19 @@ type Text<'a> = &'a [&'a [(&'a str, &'a str)]];
 /// Two networks, a system of one of them, and a system with two addresses.
 const WORKED: &[Text<'static>] = &[
     &[
-        &[("ipnet", "astro"), ("ip", "135.104.0.0"), ("ipmask", "255.255.0.0")],
+        &[
+            ("ipnet", "astro"),
+            ("ip", "135.104.0.0"),
+            ("ipmask", "255.255.0.0"),
+        ],
         &[("auth", "bootes")],
     ],
     &[
-        &[("ipnet", "astro9"), ("ip", "135.104.9.0"), ("ipmask", "255.255.255.0")],
+        &[
+            ("ipnet", "astro9"),
+            ("ip", "135.104.9.0"),
+            ("ipmask", "255.255.255.0"),
+        ],
         &[("auth", ""), ("auth", "helix"), ("auth", "helix")],
     ],
     &[
@@ -74,9 +82,15 @@ fn addresses_stand_beside_a_system(rt: HostRuntime) -> Result<(), Fail> {
     let places = search(alloc, &db, b"sys", b"helix")?;
     assert_eq!(rt; places.as_slice(), [3u64].as_slice());
     let values = value_beside(alloc, &db, 3, b"sys", b"helix", b"ip")?;
-    assert_eq!(rt; joined(alloc, &values)?.as_slice(), b"10.0.0.31 135.104.9.31 ".as_slice());
+    assert_eq!(rt;
+        joined(alloc, &values)?.as_slice(),
+        b"10.0.0.31 135.104.9.31 ".as_slice()
+    );
     let values = value_beside(alloc, &db, 3, b"ip", b"10.0.0.31", b"ip")?;
-    assert_eq!(rt; joined(alloc, &values)?.as_slice(), b"10.0.0.31 ".as_slice());
+    assert_eq!(rt;
+        joined(alloc, &values)?.as_slice(),
+        b"10.0.0.31 ".as_slice()
+    );
     Ok(())
 }
 
@@ -85,10 +99,19 @@ fn the_longest_mask_is_closest(rt: HostRuntime) -> Result<(), Fail> {
     let alloc = rt.alloc();
     let db = db_of(alloc)?;
     let values = closest(alloc, &db, b"anna", b"auth")?;
-    assert_eq!(rt; joined(alloc, &values)?.as_slice(), b"helix helix ".as_slice());
+    assert_eq!(rt;
+        joined(alloc, &values)?.as_slice(),
+        b"helix helix ".as_slice()
+    );
     let values = closest(alloc, &db, b"anna", b"dom")?;
-    assert_eq!(rt; joined(alloc, &values)?.as_slice(), b"anna.example.com ".as_slice());
+    assert_eq!(rt;
+        joined(alloc, &values)?.as_slice(),
+        b"anna.example.com ".as_slice()
+    );
     let values = closest(alloc, &db, b"helix", b"ipmask")?;
-    assert_eq!(rt; joined(alloc, &values)?.as_slice(), b"255.255.255.0 ".as_slice());
+    assert_eq!(rt;
+        joined(alloc, &values)?.as_slice(),
+        b"255.255.255.0 ".as_slice()
+    );
     Ok(())
 }
