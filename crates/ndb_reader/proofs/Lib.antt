@@ -1,3 +1,4 @@
+pub mod Bundles
 pub mod Causes
 pub mod Once
 pub mod Reading

@@ -85,7 +85,7 @@ here lines n line b next e =
     ap (λ k. is_file_line (get_or lines k line)) same ∙ ap is_file_line (sym next.is) ∙ e
 
 -- a line that begins a file has no tuple before it
-has-file : (lines : List (List ℕ)) (n : ℕ) (line : List ℕ) → Next lines n line → is_file_line line ≡ true → has_tuple (take (n + 1) lines) ≡ false
+pub has-file : (lines : List (List ℕ)) (n : ℕ) (line : List ℕ) → Next lines n line → is_file_line line ≡ true → has_tuple (take (n + 1) lines) ≡ false
 has-file lines n line next file =
     let none : suffix_len (λ x. not (is_file_line x)) (take (n + 1) lines) ≡ 0 =
     suffix_len-take_no (λ x. not (is_file_line x)) lines (n + 1) line (omega arith) (omega (arith, next.within)) (ap not (here lines n line true next file)) in
@@ -93,7 +93,7 @@ has-file lines n line next file =
     ap (λ k. list_any starts (drop k (take (n + 1) lines))) all ∙ ap (list_any starts) (drop-length (take (n + 1) lines))
 
 -- another line may start a tuple
-has-line : (lines : List (List ℕ)) (n : ℕ) (line : List ℕ) → Next lines n line → is_file_line line ≡ false → has_tuple (take (n + 1) lines) ≡ (has_tuple (take n lines) || (starts line || false))
+pub has-line : (lines : List (List ℕ)) (n : ℕ) (line : List ℕ) → Next lines n line → is_file_line line ≡ false → has_tuple (take (n + 1) lines) ≡ (has_tuple (take n lines) || (starts line || false))
 has-line lines n line next file =
     let before : List (List ℕ) = take n lines in
     let more : suffix_len (λ x. not (is_file_line x)) (take (n + 1) lines) ≡ 1 + suffix_len (λ x. not (is_file_line x)) (take (n + 1 - 1) lines) =
@@ -135,16 +135,16 @@ resumed-cons (p ∷ ps) line rest = refl
 
 -- The files.
 
-before-more : (line : List ℕ) (lines : List (List ℕ)) → is_file_line line ≡ false → before_first is_file_line (line ∷ lines) ≡ line ∷ before_first is_file_line lines
+pub before-more : (line : List ℕ) (lines : List (List ℕ)) → is_file_line line ≡ false → before_first is_file_line (line ∷ lines) ≡ line ∷ before_first is_file_line lines
 before-more line lines e = rw (e, one_add) refl
 
-before-stop : (line : List ℕ) (lines : List (List ℕ)) → is_file_line line ≡ true → before_first is_file_line (line ∷ lines) ≡ []
+pub before-stop : (line : List ℕ) (lines : List (List ℕ)) → is_file_line line ≡ true → before_first is_file_line (line ∷ lines) ≡ []
 before-stop line lines e = rw e refl
 
-named-more : (line : List ℕ) (lines : List (List ℕ)) → is_file_line line ≡ false → named_files (line ∷ lines) ≡ named_files lines
+pub named-more : (line : List ℕ) (lines : List (List ℕ)) → is_file_line line ≡ false → named_files (line ∷ lines) ≡ named_files lines
 named-more line lines e = ap (λ b. cond b (file_of (file_name line) lines ∷ named_files lines) (named_files lines)) e
 
-named-stop : (line : List ℕ) (lines : List (List ℕ)) → is_file_line line ≡ true → named_files (line ∷ lines) ≡ file_of (file_name line) lines ∷ named_files lines
+pub named-stop : (line : List ℕ) (lines : List (List ℕ)) → is_file_line line ≡ true → named_files (line ∷ lines) ≡ file_of (file_name line) lines ∷ named_files lines
 named-stop line lines e = ap (λ b. cond b (file_of (file_name line) lines ∷ named_files lines) (named_files lines)) e
 
 files-next : (lines : List (List ℕ)) (n : ℕ) (closed : List File) (name : List ℕ) (whole : List (List (List NdbPair))) (last : List (List NdbPair)) (line : List ℕ) (s g : Bool) → Read lines n closed name whole last → Next lines n line → is_file_line line ≡ false → starts line ≡ s → goes_on line ≡ g

@@ -15,6 +15,7 @@ use std::alloc::Global;
 /// The tuples of a text, or its first bad line. It goes once through the bytes, and copies each at most twice.
 pub fn read_ndb(alloc: Global, bytes: &[u8]) -> Result<Db, NdbError>
     ensures ok { IfOk result (λ db. reading bytes.now ≡ Some db) }
+    ensures spelled { IfOk result (λ db. ReadsBundle (lines_of bytes.now) db) }
     ensures good { OnOk result (bad_line bytes.now ≡ None) }
     ensures bad { IfErr result (λ e. Tells e (bad_line bytes.now)) }
 {

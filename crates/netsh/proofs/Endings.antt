@@ -9,7 +9,7 @@ use Rattle.outside.specs.Streams.{ConsumedToEnd, Rose}
 use Rattle.outside.specs.declared.fault.TakeError.{TakeError}
 use Rattle.outside.specs.declared.fault.TakeError.TheVariants as error
 use Rattle.net_model.specs.Answers.{Answer, bad_input, read_fault, input_limit}
-use Rattle.net_model.specs.Words.{Command, Cs, Run, is_word, command_of, words_wait}
+use Rattle.net_model.specs.Words.{Command, Cs, Query, Run, is_word, command_of, words_wait}
 use Rattle.netsh.specs.Built.{bad_line, first_bad, IsGiven, IsAnswer}
 use Rattle.netsh.specs.Ends.{Intake, Output, Told, IsInput, Answers, Ends, answered, unread, no_memory}
 
@@ -75,9 +75,16 @@ waits_run (name ∷ workers ∷ []) waits = by (bytes_eq name (codes "run") && b
     by : (b : Bool) → words_wait (if b then Some (Run 1) else None) ≡ true → (if b then Some (Run 1) else None) ≡ Some (Run 1)
     by true waits = refl
     by false waits = absurd (false≢true waits)
-waits_run (name ∷ sys ∷ query ∷ []) waits = absurd (by (bytes_eq name (codes "cs") && is_word sys && is_word query) waits)
+waits_run (name ∷ sys ∷ query ∷ []) waits = absurd (by (is_word sys && is_word query) (bytes_eq name (codes "cs")) (bytes_eq name (codes "query")) waits)
   where
-    by : (b : Bool) → words_wait (if b then Some (Cs sys query) else None) ≡ true → ⊥
+    by : (b c d : Bool) → words_wait (if b then (if c then Some (Cs sys query) else (if d then Some (Query sys query None) else None)) else None) ≡ true → ⊥
+    by true true d waits = false≢true waits
+    by true false true waits = false≢true waits
+    by true false false waits = false≢true waits
+    by false c d waits = false≢true waits
+waits_run (name ∷ attr ∷ value ∷ other ∷ []) waits = absurd (by (bytes_eq name (codes "query") && is_word attr && is_word value && is_word other) waits)
+  where
+    by : (b : Bool) → words_wait (if b then Some (Query attr value (Some other)) else None) ≡ true → ⊥
     by true waits = false≢true waits
     by false waits = false≢true waits
-waits_run (name ∷ sys ∷ query ∷ more ∷ words) waits = absurd (false≢true waits)
+waits_run (name ∷ attr ∷ value ∷ other ∷ more ∷ words) waits = absurd (false≢true waits)

@@ -8,10 +8,10 @@ ghost use Rattle.netsh.specs.Commands.{command_read};
 ghost use Rattle.outside.specs.Streams.{Rose};
 
 use crate::answer::{Answer, READ_FAULT, USAGE};
+use crate::command::{Command, read_words};
 use crate::cs::cs;
 use crate::query::{query_beside, query_tuples};
 use crate::run::run_over;
-use crate::command::{Command, read_words};
 use outside::{
     Failed, Gate, Sink, Source, SureSink, SureSource, TakeError, read_to_end, write_all,
 };

@@ -12,6 +12,8 @@ use Rattle.net_base.specs.NdbText.{is_newline, is_empty, lines_of, pairs_of}
 use Rattle.net_base.specs.NdbBundle.{least, causes_of, bad_line, reading, is_file_line, local_file, named_files}
 use Rattle.ndb_reader.specs.Told.{file_seen}
 use Rattle.ndb_reader.proofs.Reading.{Next, read-none, read-bad, read-blank, read-on, read-start, read-file, read-all, reading-is, tells-of, moved}
+use Rattle.net_base.specs.NdbSpelling.{ReadsBundle}
+use Rattle.ndb_reader.proofs.Bundles.{bundle-is-spelled}
 use Rattle.ndb_reader.proofs.reader.read_ndb.Goals as goal
 
 pub loop-line-init : goal.loop-line-init
@@ -101,3 +103,10 @@ returns-clause-ok c =
     let t = YieldsList-end (YieldsList-from_slice_split {s = c.into_iter-line-iterator.result} _ is_newline c.args.bytes.now (cc) (cc) (cc) (λ x r q k. search (rules, tests))) c.loop-line.yielded _ c.loop-line.yielded_by _ _ c.in-None.is c.next.ensures.steps in
     let all = read-all (lines_of c.args.bytes.now) (length c.loop-line.yielded) (map file_seen c.loop-line.files.closed.items) c.loop-line.files.name c.loop-line.files.tuples.whole.items c.loop-line.files.tuples.last.items c.loop-line.invariant.read t.1 in
     reading-is c.args.bytes.now all.0 ∙ ap (λ (db : _). Some db) (sym (c.in_ok-choose.ensures (local_file (lines_of c.args.bytes.now)) (named_files (lines_of c.args.bytes.now)) (c.in_ok-finish.ensures ∙ sym all.1)))
+
+pub returns-clause-spelled : goal.returns-clause-spelled
+returns-clause-spelled c =
+    let t = YieldsList-end (YieldsList-from_slice_split {s = c.into_iter-line-iterator.result} _ is_newline c.args.bytes.now (cc) (cc) (cc) (λ x r q k. search (rules, tests))) c.loop-line.yielded _ c.loop-line.yielded_by _ _ c.in-None.is c.next.ensures.steps in
+    let all = read-all (lines_of c.args.bytes.now) (length c.loop-line.yielded) (map file_seen c.loop-line.files.closed.items) c.loop-line.files.name c.loop-line.files.tuples.whole.items c.loop-line.files.tuples.last.items c.loop-line.invariant.read t.1 in
+    subst (λ (db : List (List (List NdbPair))). ReadsBundle (lines_of c.args.bytes.now) db) (sym (c.in_ok-choose.ensures (local_file (lines_of c.args.bytes.now)) (named_files (lines_of c.args.bytes.now)) (c.in_ok-finish.ensures ∙ sym all.1)))
+    (bundle-is-spelled c.args.bytes.now all.0)

@@ -1,0 +1,177 @@
+-- A bundle without a bad line is spelled by the tuples of its database.
+use Rattle.std.proofs.Common.{◌≡◌, ℕ, ◌+◌, ◌<◌, Bool, true, false, not, ◌&&◌, ◌||◌, cond, List, [], ◌∷◌, ◌++◌, length, take, drop, get_or, refl, sym, ap, subst, ◌∙◌, arith, Option, Some, None, bytes_eq, length-append, append-nil}
+use Rattle.std.specs.Prelude.{codes}
+use Rattle.std.specs.List.{list_any, before_first}
+use Rattle.std.proofs.Math.Seq.{take-append_seam}
+use Rattle.std.proofs.Math.ListN.{take-append-drop}
+use Rattle.std.proofs.lemmas.List.{take_all}
+use Rattle.std.proofs.lemmas.Slice.Eq.{bytes_eq-Decides}
+use Rattle.net_base.specs.declared.ndb.NdbPair.{NdbPair}
+use Rattle.net_base.specs.NdbText.{is_white, is_zero, is_empty, pairs_of, starts, goes_on, going_on, tuples_of, lines_of, begins_with}
+use Rattle.net_base.specs.NdbBundle.{File, local_name, local_file, named_files, file_of, file_name, is_file_line, has_tuple, cause, causes_of, least, told, first_bad, bad_line, chosen, database}
+use Rattle.net_base.specs.NdbSpelling.{ReadsLine, ReadsTuples, ReadsFile, ReadsFiles, ReadsBundle, IsFileName}
+use Rattle.net_base.proofs.NdbLists.{some_none}
+use Rattle.net_base.proofs.NdbPlain.{none-drop}
+use Rattle.net_base.proofs.NdbFiles.{EachSpelled, line_is_spelled, tuples_spelled}
+use Rattle.ndb_reader.proofs.Reading.{Next, has-file, has-line, before-more, before-stop, named-more, named-stop}
+
+cause-none : (n : ℕ) (b : Bool) (rest : List ℕ) → cause n b ++ rest ≡ [] → (b ≡ false) × (rest ≡ [])
+cause-none n true rest e = absurd cc
+cause-none n false rest e = (refl, e)
+
+least-none : (causes : List ℕ) → least causes ≡ None → causes ≡ []
+least-none [] e = refl
+least-none (c ∷ causes) e = absurd (some_none e)
+
+told-none : (n : ℕ) (o : Option ℕ) (behind : Option (ℕ × ℕ)) → told n o behind ≡ None → (o ≡ None) × (behind ≡ None)
+told-none n None behind h = (refl, h)
+told-none n (Some c) behind h = absurd (some_none h)
+
+first-good : (before : List (List ℕ)) (line : List ℕ) (lines : List (List ℕ)) → first_bad causes_of before (line ∷ lines) ≡ None → (causes_of (has_tuple before) line ≡ []) × (first_bad causes_of (before ++ line ∷ []) lines ≡ None)
+first-good before line lines h =
+    let parts = told-none (length before + 1) (least (causes_of (has_tuple before) line)) (first_bad causes_of (before ++ line ∷ []) lines) h in
+    (least-none _ parts.0, parts.1)
+
+not-alone : (has : Bool) (line : List ℕ) → causes_of has line ≡ [] → (goes_on line && not has) ≡ false
+not-alone has line e = (cause-none 1 _ _ e).0
+
+no-zero : (has : Bool) (line : List ℕ) → causes_of has line ≡ [] → list_any is_zero line ≡ false
+no-zero has line e =
+    let two = (cause-none 1 _ _ e).1 in
+    let three = (cause-none 2 _ _ two).1 in
+    let four = (cause-none 3 _ _ three).1 in
+    let five = (cause-none 4 _ _ four).1 in
+    (cause-none 5 _ _ five).0
+
+-- The line that begins a file.
+
+both : (a b : Bool) → (a && b) ≡ true → (a ≡ true) × (b ≡ true)
+both true b e = (refl, e)
+both false b e = absurd cc
+
+not-true : (b : Bool) → not b ≡ true → b ≡ false
+not-true true e = absurd cc
+not-true false e = refl
+
+filled : (bytes : List ℕ) → is_empty bytes ≡ false → 0 < length bytes
+filled [] e = absurd cc
+filled (b ∷ bytes) e = omega arith
+
+file-spelled : (line : List ℕ) → is_file_line line ≡ true → line ≡ codes "%file " ++ file_name line
+file-spelled line file =
+    let front = (both (begins_with (codes "%file ") line) _ file).0 in
+    let same : codes "%file " ≡ take 6 line = grind (arith, bytes_eq-Decides (codes "%file ") (take 6 line), front) in
+    sym (take-append-drop 6 line) ∙ ap (λ f. f ++ drop 6 line) (sym same)
+
+file-named : (has : Bool) (line : List ℕ) → is_file_line line ≡ true → causes_of has line ≡ [] → IsFileName (file_name line)
+file-named has line file good =
+    let rest = (both (begins_with (codes "%file ") line) _ file).1 in
+    let parts = both (not (is_empty (file_name line))) (not (list_any is_white (file_name line))) rest in
+    record {
+      some = filled (file_name line) (not-true _ parts.0);
+      white = not-true _ parts.1;
+      zero = none-drop is_zero 6 line (no-zero has line good);
+    }
+
+-- What stands before.
+
+at-end : (before : List (List ℕ)) (line : List ℕ) → Next (before ++ line ∷ []) (length before) line
+at-end before line = record { within = omega (arith, length-append before (line ∷ [])); is = sym (here before) }
+  where
+    here : (ls : List (List ℕ)) → get_or (ls ++ line ∷ []) (length ls) line ≡ line
+    here [] = refl
+    here (l ∷ ls) = here ls
+
+whole : (before : List (List ℕ)) (line : List ℕ) → take (length before + 1) (before ++ line ∷ []) ≡ before ++ line ∷ []
+whole before line = take_all (length before + 1) (before ++ line ∷ []) (omega (arith, length-append before (line ∷ [])))
+
+push-file : (before : List (List ℕ)) (line : List ℕ) → is_file_line line ≡ true → has_tuple (before ++ line ∷ []) ≡ false
+push-file before line file = ap has_tuple (sym (whole before line)) ∙ has-file (before ++ line ∷ []) (length before) line (at-end before line) file
+
+push-line : (before : List (List ℕ)) (line : List ℕ) → is_file_line line ≡ false → has_tuple (before ++ line ∷ []) ≡ (has_tuple before || (starts line || false))
+push-line before line file =
+    ap has_tuple (sym (whole before line))
+    ∙ has-line (before ++ line ∷ []) (length before) line (at-end before line) file
+    ∙ ap (λ (ls : List (List ℕ)). has_tuple ls || (starts line || false)) (take-append_seam before (line ∷ []))
+
+going-at : (line : List ℕ) (lines : List (List ℕ)) (s g : Bool) → starts line ≡ s → goes_on line ≡ g → going_on (line ∷ lines) ≡ cond s [] (cond g (pairs_of line ∷ going_on lines) (going_on lines))
+going-at line lines s g es eg =
+    ap (λ (b : Bool). cond b [] (cond (goes_on line) (pairs_of line ∷ going_on lines) (going_on lines))) es
+    ∙ ap (λ (b : Bool). cond s [] (cond b (pairs_of line ∷ going_on lines) (going_on lines))) eg
+
+alone-not : (g h : Bool) → h ≡ false → (g && not h) ≡ false → g ≡ false
+alone-not true true e f = absurd cc
+alone-not true false e f = absurd cc
+alone-not false h e f = refl
+
+-- no line goes on before one starts a tuple
+none-on : (before lines : List (List ℕ)) → has_tuple before ≡ false → first_bad causes_of before lines ≡ None → going_on (before_first is_file_line lines) ≡ []
+none-on before [] none good = refl
+none-on before (line ∷ lines) none good = by (is_file_line line) refl (starts line) refl (λ file start. none-on (before ++ line ∷ []) lines (push-line before line file ∙ ap (λ b. b || (starts line || false)) none ∙ ap (λ b. b || false) start) (first-good before line lines good).1)
+  where
+    by : (f : Bool) → is_file_line line ≡ f → (s : Bool) → starts line ≡ s → (is_file_line line ≡ false → starts line ≡ false → going_on (before_first is_file_line lines) ≡ []) → going_on (before_first is_file_line (line ∷ lines)) ≡ []
+    by true e s t rest = ap going_on (before-stop line lines e)
+    by false e true t rest = ap going_on (before-more line lines e) ∙ going-at line (before_first is_file_line lines) true _ t refl
+    by false e false t rest =
+        let off : goes_on line ≡ false = alone-not (goes_on line) (has_tuple before) none (not-alone (has_tuple before) line (first-good before line lines good).0) in
+        ap going_on (before-more line lines e) ∙ going-at line (before_first is_file_line lines) false false t off ∙ rest e t
+
+-- Files.
+
+-- what stands behind the first file's lines
+Tail : List (List ℕ) → List File → Type 0
+Tail lines [] = before_first is_file_line lines ≡ lines
+Tail lines (next ∷ files) = (rest : List (List ℕ)) × (lines ≡ before_first is_file_line lines ++ (codes "%file " ++ next.name) ∷ rest) × IsFileName next.name × ReadsFiles rest next files
+
+reads-if : (lines : List (List ℕ)) (name : List ℕ) (tuples : List (List (List NdbPair))) (files : List File) → Tail lines files → ReadsFile (before_first is_file_line lines) tuples → ReadsFiles lines (record { name = name; tuples = tuples }) files
+unfolding Tail
+reads-if lines name tuples [] tail reads = subst (λ (ls : List (List ℕ)). ReadsFile ls tuples) tail reads
+reads-if lines name tuples (next ∷ files) tail reads = (before_first is_file_line lines, tail.0, tail.1, tail.2, reads, tail.3)
+
+-- lines whose first file has no tuple before it
+reads-from : (lines : List (List ℕ)) (name : List ℕ) → EachSpelled (before_first is_file_line lines) → going_on (before_first is_file_line lines) ≡ [] → Tail lines (named_files lines) → ReadsFiles lines (file_of name lines) (named_files lines)
+reads-from lines name spelled none tail =
+    reads-if lines name (tuples_of (before_first is_file_line lines)) (named_files lines) tail
+    (subst (λ (more : List (List NdbPair)). ReadsTuples (before_first is_file_line lines) more (tuples_of (before_first is_file_line lines))) none (tuples_spelled (before_first is_file_line lines) spelled))
+
+tail-more : (line : List ℕ) (lines : List (List ℕ)) (files : List File) → is_file_line line ≡ false → Tail lines files → Tail (line ∷ lines) files
+unfolding Tail
+tail-more line lines [] file tail = before-more line lines file ∙ ap (λ (ls : List (List ℕ)). line ∷ ls) tail
+tail-more line lines (next ∷ files) file tail =
+    (tail.0, ap (λ (ls : List (List ℕ)). line ∷ ls) tail.1 ∙ ap (λ (ls : List (List ℕ)). ls ++ (codes "%file " ++ next.name) ∷ tail.0) (sym (before-more line lines file)), tail.2, tail.3)
+
+abbrev Spelled : List (List ℕ) → Type 0
+Spelled lines = EachSpelled (before_first is_file_line lines) × Tail lines (named_files lines)
+
+spelled : (before lines : List (List ℕ)) → first_bad causes_of before lines ≡ None → Spelled lines
+unfolding Tail
+spelled before [] good = (tt, refl)
+spelled before (line ∷ lines) good = by (is_file_line line) refl (spelled (before ++ line ∷ []) lines (first-good before line lines good).1)
+  where
+    by : (f : Bool) → is_file_line line ≡ f → Spelled lines → Spelled (line ∷ lines)
+    by true e rest = (
+      subst EachSpelled (sym (before-stop line lines e)) tt,
+      subst (Tail (line ∷ lines)) (sym (named-stop line lines e)) (
+        lines,
+        ap (λ (l : List ℕ). l ∷ lines) (file-spelled line e) ∙ ap (λ (ls : List (List ℕ)). ls ++ (codes "%file " ++ file_name line) ∷ lines) (sym (before-stop line lines e)),
+        file-named (has_tuple before) line e (first-good before line lines good).0,
+        reads-from lines (file_name line) rest.0 (none-on (before ++ line ∷ []) lines (push-file before line e) (first-good before line lines good).1) rest.1,
+      ),
+    )
+    by false e rest = (
+      subst EachSpelled (sym (before-more line lines e)) (line_is_spelled (has_tuple before) line e (first-good before line lines good).0, rest.0),
+      subst (Tail (line ∷ lines)) (sym (named-more line lines e)) (tail-more line lines (named_files lines) e rest.1),
+    )
+
+-- a text without a bad line reads as the tuples of its database
+pub bundle-is-spelled : (text : List ℕ) → bad_line text ≡ None → ReadsBundle (lines_of text) (database (lines_of text))
+bundle-is-spelled text good =
+    let lines : List (List ℕ) = lines_of text in
+    let all = spelled [] lines good in
+    record {
+      local = local_file lines;
+      files = named_files lines;
+      named = refl;
+      read = reads-from lines local_name all.0 (none-on [] lines refl good) all.1;
+      are_chosen = refl;
+    }
