@@ -102,7 +102,7 @@ impl Answer {
         legal_histories_are_plain();
         printed_runs_tell();
         let mut text = text_of(alloc, &ran.history)?;
-        let status = run_status(ran);
+        let status = status_in_summary(ran);
         let summary = summary_by(alloc, world, &ran.history, status)?;
         text.append(summary.as_slice())?;
         Ok(Answer {
@@ -139,7 +139,7 @@ fn text_of_lines(alloc: Global, lines: &Lines) -> Result<Octets, AllocError>
 }
 
 /// How many steps are answered, and how the run stands.
-fn run_status(ran: &Ran) -> RunStatus
+fn status_in_summary(ran: &Ran) -> RunStatus
     ensures answered { result.answered ≡ ran.now.answered }
     ensures end { result.end ≡ end_of ran.now.end }
 {
