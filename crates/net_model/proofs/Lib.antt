@@ -1,6 +1,10 @@
 pub mod CsTexts
 pub mod CsLaws
 pub mod NdbFirsts
+pub mod NdbBundles
+pub mod NdbWritable
+pub mod NdbWritten
+pub mod NdbBack
 pub mod PlainTexts
 pub mod PlainReplies
 pub mod PlainEvents
