@@ -5,6 +5,7 @@ pub mod NdbBundles
 pub mod NdbWritable
 pub mod NdbWritten
 pub mod NdbBack
+pub mod NdbOwn
 pub mod PlainTexts
 pub mod PlainReplies
 pub mod PlainEvents

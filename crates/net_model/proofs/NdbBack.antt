@@ -7,7 +7,7 @@ use Rattle.net_base.specs.NdbText.{is_empty}
 use Rattle.net_base.specs.NdbBundle.{File, local_name, each_once, tuples_named, tuples_chosen, names_of, choosing, chosen, reading}
 use Rattle.net_base.proofs.NdbComplete.{false_true}
 use Rattle.ndb_reader.specs.Written.{db_text}
-use Rattle.net_model.specs.NdbWhole.{files_in, is_whole}
+use Rattle.net_model.specs.NdbWhole.{files_in, is_local, is_whole}
 use Rattle.net_model.proofs.NdbBundles.{bundle_reads, bundle_spelled}
 use Rattle.net_model.proofs.NdbWritable.{WritableTuples, bundle_is_writable}
 use Rattle.net_model.proofs.NdbWritten.{written_reads}
@@ -64,27 +64,27 @@ others-all db name (other ∷ names) none = by (bytes_eq other name) refl (other
         ∙ (rest ∙ sym (none-in (of_name db other) _ (ap (of_name db) (eq-same other name e) ∙ none)))
     by false e rest = filter-by db name other names false e ∙ ap (λ (ts : List (List (List NdbPair))). of_name db other ++ ts) rest
 
-once-names : (db : List (List (List NdbPair))) (names : List (List ℕ)) → flat_map (of_name db) (each_once names) ≡ cond (list_any (λ name. bytes_eq name local_name) names) db []
+once-names : (db : List (List (List NdbPair))) (names : List (List ℕ)) → flat_map (of_name db) (each_once names) ≡ cond (list_any is_local names) db []
 once-names db [] = refl
 once-names db (name ∷ names) = by (bytes_eq name local_name) refl (once-names db names)
   where
-    by : (v : Bool) → bytes_eq name local_name ≡ v → flat_map (of_name db) (each_once names) ≡ cond (list_any (λ name. bytes_eq name local_name) names) db [] → flat_map (of_name db) (each_once (name ∷ names)) ≡ cond (list_any (λ name. bytes_eq name local_name) (name ∷ names)) db []
+    by : (v : Bool) → bytes_eq name local_name ≡ v → flat_map (of_name db) (each_once names) ≡ cond (list_any is_local names) db [] → flat_map (of_name db) (each_once (name ∷ names)) ≡ cond (list_any is_local (name ∷ names)) db []
     by true e rest =
         ap (λ (ts : List (List (List NdbPair))). of_name db name ++ ts) (ap (λ (n : List ℕ). flat_map (of_name db) (others n (each_once names))) (eq-same name local_name e) ∙ others-none db (each_once names))
         ∙ (append-nil (of_name db name)
         ∙ (of-name db name true (eq-turned name local_name true e)
-        ∙ sym (ap (λ (v : Bool). cond (v || list_any (λ name. bytes_eq name local_name) names) db []) e)))
+        ∙ sym (ap (λ (v : Bool). cond (v || list_any is_local names) db []) e)))
     by false e rest =
         let none = of-name db name false (eq-turned name local_name false e) in
         none-in (of_name db name) _ none
         ∙ (others-all db name (each_once names) none
-        ∙ (rest ∙ sym (ap (λ (v : Bool). cond (v || list_any (λ name. bytes_eq name local_name) names) db []) e)))
+        ∙ (rest ∙ sym (ap (λ (v : Bool). cond (v || list_any is_local names) db []) e)))
 
-names-are : (o : Option (List (List NdbPair))) → names_of o ≡ each_once (files_in o)
+pub names-are : (o : Option (List (List NdbPair))) → names_of o ≡ each_once (files_in o)
 names-are None = refl
 names-are (Some tuple) = refl
 
-chosen-by : (db : List (List (List NdbPair))) (names : List (List ℕ)) → tuples_chosen (local_of db) [] (each_once names) ≡ cond (is_empty names || list_any (λ name. bytes_eq name local_name) names) db []
+chosen-by : (db : List (List (List NdbPair))) (names : List (List ℕ)) → tuples_chosen (local_of db) [] (each_once names) ≡ cond (is_empty names || list_any is_local names) db []
 chosen-by db [] = refl
 chosen-by db (name ∷ names) = once-names db (name ∷ names)
 

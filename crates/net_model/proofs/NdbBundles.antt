@@ -176,7 +176,7 @@ bundle_reads text tuples r =
     ∙ (ap (λ (f : File). chosen f (named_files lines)) first
     ∙ (ap (chosen r.local) held.1 ∙ sym r.are_chosen)))
 
-good-if : (text : List ℕ) (tuples : List (List (List NdbPair))) (bad : Option (ℕ × ℕ)) → bad_line text ≡ bad → reading text ≡ Some tuples → bad_line text ≡ None
+pub good-if : (text : List ℕ) (tuples : List (List (List NdbPair))) (bad : Option (ℕ × ℕ)) → bad_line text ≡ bad → reading text ≡ Some tuples → bad_line text ≡ None
 good-if text tuples None e h = e
 good-if text tuples (Some told) e h = absurd (some_none (sym h ∙ rw e refl))
 

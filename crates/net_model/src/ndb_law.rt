@@ -3,10 +3,10 @@ ghost use Rattle.std.specs.Prelude.{◌≡◌, ◌≢◌, ◌∷◌, ℕ, List, 
 ghost use Rattle.std.specs.List.{list_any};
 ghost use Rattle.net_base.specs.declared.ndb.NdbPair.{NdbPair};
 ghost use Rattle.net_base.specs.NdbText.{is_quote, words_of, plain_words_of, pairs_of, lines_of, tuples_of};
-ghost use Rattle.net_base.specs.NdbBundle.{is_file_line, causes_of, bad_line, reading};
+ghost use Rattle.net_base.specs.NdbBundle.{local_file, is_file_line, causes_of, bad_line, reading};
 ghost use Rattle.net_model.specs.NdbFirst.{IsFirstBad};
 ghost use Rattle.net_model.specs.NdbExample.{pair, tuple};
-ghost use Rattle.net_model.specs.NdbWhole.{is_whole};
+ghost use Rattle.net_model.specs.NdbWhole.{is_whole, is_first};
 ghost use Rattle.net_base.specs.NdbSpelling.{ReadsLine, ReadsFile, ReadsBundle};
 ghost use Rattle.ndb_reader.specs.Written.{db_text};
 
@@ -46,6 +46,8 @@ pub fn written_databases_read_back()
         → reading (db_text db) ≡ Some db }
     ensures not_whole { (text : List ℕ) (db : List (List (List NdbPair))) → reading text ≡ Some db → is_whole db ≡ false
         → (db ≢ []) × (reading (db_text db) ≡ Some []) }
+    ensures first { (text : List ℕ) (db : List (List (List NdbPair))) → reading text ≡ Some db
+        → is_first (local_file (lines_of text)).tuples ≡ true → is_whole db ≡ true }
 {}
 
 /// A text reads as one database at most.
