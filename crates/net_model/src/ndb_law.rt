@@ -36,8 +36,10 @@ pub fn files_are_spelled()
 
 /// A text reads as a database exactly where its lines spell it, as a bundle of files and the choice among them.
 pub fn bundles_are_spelled()
-    ensures reads { (text : List ℕ) (db : List (List (List NdbPair))) → ReadsBundle (lines_of text) db → reading text ≡ Some db }
-    ensures spelled { (text : List ℕ) (db : List (List (List NdbPair))) → reading text ≡ Some db → ReadsBundle (lines_of text) db }
+    ensures reads { (text : List ℕ) (db : List (List (List NdbPair))) → ReadsBundle (lines_of text) db
+        → reading text ≡ Some db }
+    ensures spelled { (text : List ℕ) (db : List (List (List NdbPair))) → reading text ≡ Some db
+        → ReadsBundle (lines_of text) db }
 {}
 
 /// What a text reads as is written as a text that reads as the same, exactly where it is whole.
@@ -88,9 +90,11 @@ pub fn worked_readings()
 
 /// Databases that are written, worked by hand.
 pub fn worked_written_databases()
-    ensures lines { db_text (((pair (codes "a") (codes "b c") ∷ pair (codes "d") [] ∷ []) ∷ (pair (codes "e") (codes "f\"g") ∷ []) ∷ []) ∷ [])
+    ensures lines { db_text (((pair (codes "a") (codes "b c") ∷ pair (codes "d") [] ∷ [])
+        ∷ (pair (codes "e") (codes "f\"g") ∷ []) ∷ []) ∷ [])
         ≡ codes "a=\"b c\" d=\n\te=f\"g\n" }
     ensures not_whole { reading (codes "database file=x\n%file x\ndatabase file=x\n")
         ≡ Some (((pair (codes "database") [] ∷ pair (codes "file") (codes "x") ∷ []) ∷ []) ∷ []) }
-    ensures read_as_none { reading (db_text (((pair (codes "database") [] ∷ pair (codes "file") (codes "x") ∷ []) ∷ []) ∷ [])) ≡ Some [] }
+    ensures read_as_none { reading (db_text (((pair (codes "database") [] ∷ pair (codes "file") (codes "x") ∷ []) ∷ []) ∷ []))
+        ≡ Some [] }
 {}
