@@ -1,6 +1,11 @@
 pub mod CsTexts
 pub mod CsLaws
 pub mod NdbFirsts
+pub mod NdbBundles
+pub mod NdbWritable
+pub mod NdbWritten
+pub mod NdbBack
+pub mod NdbOwn
 pub mod PlainTexts
 pub mod PlainReplies
 pub mod PlainEvents

@@ -1,6 +1,7 @@
 pub mod CsExample
 pub mod CsOrder
 pub mod NdbFirst
+pub mod NdbWhole
 pub mod NdbExample
 pub mod Answers
 pub mod Words

@@ -1,12 +1,14 @@
 //! Laws of the text of a database.
-ghost use Rattle.std.specs.Prelude.{◌≡◌, ◌∷◌, ℕ, List, Bool, false, true, [], Option, None, Some, codes};
+ghost use Rattle.std.specs.Prelude.{◌≡◌, ◌≢◌, ◌∷◌, ℕ, List, Bool, false, true, [], Option, None, Some, codes};
 ghost use Rattle.std.specs.List.{list_any};
 ghost use Rattle.net_base.specs.declared.ndb.NdbPair.{NdbPair};
 ghost use Rattle.net_base.specs.NdbText.{is_quote, words_of, plain_words_of, pairs_of, lines_of, tuples_of};
-ghost use Rattle.net_base.specs.NdbBundle.{is_file_line, causes_of, bad_line, reading};
+ghost use Rattle.net_base.specs.NdbBundle.{local_file, is_file_line, causes_of, bad_line, reading};
 ghost use Rattle.net_model.specs.NdbFirst.{IsFirstBad};
 ghost use Rattle.net_model.specs.NdbExample.{pair, tuple};
-ghost use Rattle.net_base.specs.NdbSpelling.{ReadsLine, ReadsFile};
+ghost use Rattle.net_model.specs.NdbWhole.{is_whole, is_first};
+ghost use Rattle.net_base.specs.NdbSpelling.{ReadsLine, ReadsFile, ReadsBundle};
+ghost use Rattle.ndb_reader.specs.Written.{db_text};
 
 /// A line spells one list of pairs at most.
 pub fn lines_read_once()
@@ -30,6 +32,24 @@ pub fn files_are_spelled()
         → (bad_line text ≡ None) × (tuples_of (lines_of text) ≡ tuples) }
     ensures spelled { (text : List ℕ) → list_any is_file_line (lines_of text) ≡ false → bad_line text ≡ None
         → ReadsFile (lines_of text) (tuples_of (lines_of text)) }
+{}
+
+/// A text reads as a database exactly where its lines spell it, as a bundle of files and the choice among them.
+pub fn bundles_are_spelled()
+    ensures reads { (text : List ℕ) (db : List (List (List NdbPair))) → ReadsBundle (lines_of text) db
+        → reading text ≡ Some db }
+    ensures spelled { (text : List ℕ) (db : List (List (List NdbPair))) → reading text ≡ Some db
+        → ReadsBundle (lines_of text) db }
+{}
+
+/// What a text reads as is written as a text that reads as the same, exactly where it is whole.
+pub fn written_databases_read_back()
+    ensures whole { (text : List ℕ) (db : List (List (List NdbPair))) → reading text ≡ Some db → is_whole db ≡ true
+        → reading (db_text db) ≡ Some db }
+    ensures not_whole { (text : List ℕ) (db : List (List (List NdbPair))) → reading text ≡ Some db → is_whole db ≡ false
+        → (db ≢ []) × (reading (db_text db) ≡ Some []) }
+    ensures first { (text : List ℕ) (db : List (List (List NdbPair))) → reading text ≡ Some db
+        → is_first (local_file (lines_of text)).tuples ≡ true → is_whole db ≡ true }
 {}
 
 /// A text reads as one database at most.
@@ -66,4 +86,15 @@ pub fn worked_readings()
     ensures no_local { reading (codes "%file x\na=b\n") ≡ Some [] }
     ensures no_names { reading (codes "database=\n%file x\na=b\n") ≡ Some (tuple (codes "database") [] ∷ []) }
     ensures no_such_file { reading (codes "database= file=\n%file x\na=b\n") ≡ Some [] }
+{}
+
+/// Databases that are written, worked by hand.
+pub fn worked_written_databases()
+    ensures lines { db_text (((pair (codes "a") (codes "b c") ∷ pair (codes "d") [] ∷ [])
+        ∷ (pair (codes "e") (codes "f\"g") ∷ []) ∷ []) ∷ [])
+        ≡ codes "a=\"b c\" d=\n\te=f\"g\n" }
+    ensures not_whole { reading (codes "database file=x\n%file x\ndatabase file=x\n")
+        ≡ Some (((pair (codes "database") [] ∷ pair (codes "file") (codes "x") ∷ []) ∷ []) ∷ []) }
+    ensures read_as_none { reading (db_text (((pair (codes "database") [] ∷ pair (codes "file") (codes "x") ∷ []) ∷ []) ∷ []))
+        ≡ Some [] }
 {}

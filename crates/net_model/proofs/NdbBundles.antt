@@ -1,0 +1,187 @@
+-- A bundle that is spelled by tuples has no bad line and reads as them.
+use Rattle.std.proofs.Common.{◌≡◌, ℕ, ◌+◌, ◌⊎◌, inl, inr, Bool, true, false, not, ◌&&◌, ◌||◌, List, [], ◌∷◌, ◌++◌, length, take, get_or, refl, sym, ap, subst, ◌∙◌, arith, Option, Some, None, length-append, append-nil}
+use Rattle.std.specs.Prelude.{codes, nat_eq}
+use Rattle.std.specs.List.{list_any, before_first}
+use Rattle.std.proofs.Math.Seq.{take-append_seam}
+use Rattle.std.proofs.lemmas.Bool.Decides.{nat_tests}
+use Rattle.std.proofs.lemmas.List.{take_all}
+use Rattle.net_base.specs.declared.ndb.NdbPair.{NdbPair}
+use Rattle.net_base.specs.NdbText.{is_percent, begins, begins_with, is_empty, lines_of, pairs_of, starts, goes_on, tuples_of}
+use Rattle.net_base.specs.NdbBundle.{File, file_of, is_file_line, named_files, has_tuple, cause, causes_of, least, told, first_bad, bad_line, chosen, reading, database}
+use Rattle.net_base.specs.NdbSpelling.{ReadsLine, ReadsTuples, ReadsFiles, ReadsBundle, IsFileName}
+use Rattle.net_base.proofs.NdbPlain.{or_false}
+use Rattle.net_base.proofs.NdbLists.{some_none, before_first-none}
+use Rattle.net_base.proofs.NdbSound.{line_reads, or_true}
+use Rattle.net_base.proofs.NdbComplete.{cons_none}
+use Rattle.net_base.proofs.NdbFiles.{and_false, some_once, starts-at, goes_on-at, line_has_no_cause, tuples_read}
+use Rattle.ndb_reader.proofs.Reading.{Next, has-line, before-more, before-stop, named-more, named-stop, reading-is}
+use Rattle.ndb_reader.proofs.Bundles.{bundle-is-spelled}
+
+-- Lines that begin a file.
+
+file-begins : (name : List ℕ) → IsFileName name → is_file_line (codes "%file " ++ name) ≡ true
+file-begins [] n = absurd (omega (arith, n.some))
+file-begins (b ∷ bytes) n = ap not n.white
+
+two-causes : (zero file : Bool) → zero ≡ false → file ≡ true → cause 5 zero ++ cause 6 (not file) ≡ []
+two-causes zero file ez ef = rw (ez, ef) refl
+
+file-good : (has : Bool) (name : List ℕ) → IsFileName name → causes_of has (codes "%file " ++ name) ≡ []
+file-good has name n = two-causes _ (is_file_line (codes "%file " ++ name)) n.zero (file-begins name n)
+
+-- what doesn't begin with `%` begins no file
+no-file-begins : (line : List ℕ) → begins is_percent line ≡ false → begins_with (codes "%file ") line ≡ false
+no-file-begins [] h = refl
+no-file-begins (b ∷ bytes) h =
+    let e : nat_eq 37 b ≡ false = grind (arith, nat_tests) in
+    rw e refl
+
+no-file : (line : List ℕ) (pairs : List NdbPair) → ReadsLine line pairs → is_file_line line ≡ false
+no-file line pairs r = rw (no-file-begins line r.percent) refl
+
+-- Whether a file has a tuple before the next line.
+
+at-end : (before : List (List ℕ)) (line : List ℕ) → Next (before ++ line ∷ []) (length before) line
+at-end before line = record { within = omega (arith, length-append before (line ∷ [])); is = sym (here before) }
+  where
+    here : (ls : List (List ℕ)) → get_or (ls ++ line ∷ []) (length ls) line ≡ line
+    here [] = refl
+    here (l ∷ ls) = here ls
+
+all-taken : (before : List (List ℕ)) (line : List ℕ) → take (length before + 1) (before ++ line ∷ []) ≡ before ++ line ∷ []
+all-taken before line = take_all (length before + 1) (before ++ line ∷ []) (omega (arith, length-append before (line ∷ [])))
+
+has-more : (before : List (List ℕ)) (line : List ℕ) → is_file_line line ≡ false → has_tuple (before ++ line ∷ []) ≡ (has_tuple before || (starts line || false))
+has-more before line file =
+    ap has_tuple (sym (all-taken before line))
+    ∙ has-line (before ++ line ∷ []) (length before) line (at-end before line) file
+    ∙ ap (λ (ls : List (List ℕ)). has_tuple ls || (starts line || false)) (take-append_seam before (line ∷ []))
+
+or-left : (a b : Bool) → a ≡ true → (a || b) ≡ true
+or-left true b e = refl
+or-left false b e = cc
+
+and-not : (a b : Bool) → b ≡ true → (a && not b) ≡ false
+and-not a true e = and_false a
+and-not a false e = cc
+
+-- a tuple stands before in this file, or no line goes on with one
+abbrev Begun : List (List ℕ) → List (List NdbPair) → Type 0
+Begun before more = (has_tuple before ≡ true) ⊎ (more ≡ [])
+
+-- No line is bad.
+
+good-line : (before : List (List ℕ)) (line : List ℕ) (lines : List (List ℕ)) → causes_of (has_tuple before) line ≡ [] → first_bad causes_of (before ++ line ∷ []) lines ≡ None → first_bad causes_of before (line ∷ lines) ≡ None
+good-line before line lines good rest =
+    ap (λ (cs : List ℕ). told (length before + 1) (least cs) (first_bad causes_of (before ++ line ∷ []) lines)) good ∙ rest
+
+-- lines that read as tuples, before others that are good whatever stands before them
+good-lines : (before front tail : List (List ℕ)) (more : List (List NdbPair)) (tuples : List (List (List NdbPair))) → Begun before more → ReadsTuples front more tuples → ((passed : List (List ℕ)) → first_bad causes_of passed tail ≡ None) → first_bad causes_of before (front ++ tail) ≡ None
+good-lines before [] tail more tuples begun r rest = rest before
+good-lines before (line ∷ front) tail more tuples begun (inl (r, others)) rest =
+    let g : goes_on line ≡ false = goes_on-at line true _ (ap is_empty (line_reads line [] r)) refl in
+    good-line before line (front ++ tail) (line_has_no_cause (has_tuple before) line [] (ap (λ (b : Bool). b && not (has_tuple before)) g) r)
+    (good-lines (before ++ line ∷ []) front tail more tuples (on begun) others rest)
+  where
+    on : Begun before more → Begun (before ++ line ∷ []) more
+    on (inl some) = inl (has-more before line (no-file line [] r) ∙ or-left _ _ some)
+    on (inr none) = inr none
+good-lines before (line ∷ front) tail more tuples (inr none) (inr (inl (pair, pairs, left, m, white, r, others))) rest =
+    absurd (cons_none (sym m ∙ none))
+good-lines before (line ∷ front) tail more tuples (inl some) (inr (inl (pair, pairs, left, m, white, r, others))) rest =
+    good-line before line (front ++ tail) (line_has_no_cause (has_tuple before) line (pair ∷ pairs) (and-not (goes_on line) (has_tuple before) some) r)
+    (good-lines (before ++ line ∷ []) front tail left tuples (inl (has-more before line (no-file line (pair ∷ pairs) r) ∙ or-left _ _ some)) others rest)
+good-lines before (line ∷ front) tail more tuples begun (inr (inr (pair, pairs, left, behind, m, t, white, r, others))) rest =
+    let words : is_empty (pairs_of line) ≡ false = ap is_empty (line_reads line (pair ∷ pairs) r) in
+    let g : goes_on line ≡ false = goes_on-at line false false words white in
+    let s : starts line ≡ true = starts-at line false false words white in
+    good-line before line (front ++ tail) (line_has_no_cause (has_tuple before) line (pair ∷ pairs) (ap (λ (b : Bool). b && not (has_tuple before)) g) r)
+    (good-lines (before ++ line ∷ []) front tail left behind
+    (inl (has-more before line (no-file line (pair ∷ pairs) r) ∙ or_true (has_tuple before) _ (or-left (starts line) false s))) others rest)
+
+good-files : (lines : List (List ℕ)) (file : File) (files : List File) (before : List (List ℕ)) → ReadsFiles lines file files → first_bad causes_of before lines ≡ None
+good-files lines file [] before r =
+    ap (first_bad causes_of before) (sym (append-nil lines)) ∙ good-lines before lines [] [] file.tuples (inr refl) r (λ passed. refl)
+good-files lines file (next ∷ files) before (front, rest, is, named, r, others) =
+    ap (first_bad causes_of before) is
+    ∙ good-lines before front ((codes "%file " ++ next.name) ∷ rest) [] file.tuples (inr refl) r
+    (λ passed. good-line passed (codes "%file " ++ next.name) rest (file-good (has_tuple passed) next.name named)
+    (good-files rest next files (passed ++ (codes "%file " ++ next.name) ∷ []) others))
+
+-- The files.
+
+none-begins : (lines : List (List ℕ)) (more : List (List NdbPair)) (tuples : List (List (List NdbPair))) → ReadsTuples lines more tuples → list_any is_file_line lines ≡ false
+none-begins [] more tuples r = refl
+none-begins (line ∷ lines) more tuples (inl (r, others)) = or_false _ _ (no-file line [] r) (none-begins lines more tuples others)
+none-begins (line ∷ lines) more tuples (inr (inl (pair, pairs, left, m, white, r, others))) =
+    or_false _ _ (no-file line (pair ∷ pairs) r) (none-begins lines left tuples others)
+none-begins (line ∷ lines) more tuples (inr (inr (pair, pairs, left, behind, m, t, white, r, others))) =
+    or_false _ _ (no-file line (pair ∷ pairs) r) (none-begins lines left behind others)
+
+or-first : (a b : Bool) → (a || b) ≡ false → (a ≡ false) × (b ≡ false)
+or-first true b e = cc
+or-first false b e = (refl, e)
+
+before-file : (front rest : List (List ℕ)) (line : List ℕ) → list_any is_file_line front ≡ false → is_file_line line ≡ true → before_first is_file_line (front ++ line ∷ rest) ≡ front
+before-file [] rest line none file = before-stop line rest file
+before-file (l ∷ front) rest line none file =
+    let parts = or-first (is_file_line l) (list_any is_file_line front) none in
+    before-more l (front ++ line ∷ rest) parts.0 ∙ ap (λ (ls : List (List ℕ)). l ∷ ls) (before-file front rest line parts.1 file)
+
+named-behind : (front rest : List (List ℕ)) → list_any is_file_line front ≡ false → named_files (front ++ rest) ≡ named_files rest
+named-behind [] rest none = refl
+named-behind (l ∷ front) rest none =
+    let parts = or-first (is_file_line l) (list_any is_file_line front) none in
+    named-more l (front ++ rest) parts.0 ∙ named-behind front rest parts.1
+
+file-is : (name : List ℕ) (tuples : List (List (List NdbPair))) (file : File) → file.name ≡ name → tuples ≡ file.tuples → record { name = name; tuples = tuples } ≡ file
+file-is name tuples file en et =
+    let F : List ℕ → List (List (List NdbPair)) → File = λ n ts. record { name = n; tuples = ts } in
+    ap (λ (n : List ℕ). F n tuples) (sym en) ∙ ap (F file.name) et
+
+-- the tuples of the first file, and the files behind it
+abbrev Holds : List (List ℕ) → File → List File → Type 0
+Holds lines file files = (tuples_of (before_first is_file_line lines) ≡ file.tuples) × (named_files lines ≡ files)
+
+files-read : (lines : List (List ℕ)) (file : File) (files : List File) → ReadsFiles lines file files → Holds lines file files
+files-read lines file [] r =
+    let none = none-begins lines [] file.tuples r in (
+      ap tuples_of (before_first-none is_file_line lines none) ∙ (tuples_read lines [] file.tuples r).1,
+      ap named_files (sym (append-nil lines)) ∙ named-behind lines [] none,
+    )
+files-read lines file (next ∷ files) (front, rest, is, named, r, others) =
+    let line : List ℕ = codes "%file " ++ next.name in
+    let begin : is_file_line line ≡ true = file-begins next.name named in
+    let none = none-begins front [] file.tuples r in
+    let more = files-read rest next files others in (
+      ap (λ (ls : List (List ℕ)). tuples_of (before_first is_file_line ls)) is
+          ∙ (ap tuples_of (before-file front rest line none begin) ∙ (tuples_read front [] file.tuples r).1),
+      ap named_files is
+          ∙ (named-behind front (line ∷ rest) none
+          ∙ (named-stop line rest begin
+          ∙ (ap (λ (f : File). f ∷ named_files rest) (file-is next.name (tuples_of (before_first is_file_line rest)) next refl more.0)
+          ∙ ap (λ (fs : List File). next ∷ fs) more.1))),
+    )
+
+-- Texts.
+
+pub bundle_reads : (text : List ℕ) (tuples : List (List (List NdbPair))) → ReadsBundle (lines_of text) tuples → reading text ≡ Some tuples
+bundle_reads text tuples r =
+    let lines : List (List ℕ) = lines_of text in
+    let held = files-read lines r.local r.files r.read in
+    let first : file_of r.local.name lines ≡ r.local = file-is r.local.name (tuples_of (before_first is_file_line lines)) r.local refl held.0 in
+    reading-is text (good-files lines r.local r.files [] r.read)
+    ∙ ap (λ (ts : List (List (List NdbPair))). Some ts)
+    (ap (λ (name : List ℕ). chosen (file_of name lines) (named_files lines)) (sym r.named)
+    ∙ (ap (λ (f : File). chosen f (named_files lines)) first
+    ∙ (ap (chosen r.local) held.1 ∙ sym r.are_chosen)))
+
+pub good-if : (text : List ℕ) (tuples : List (List (List NdbPair))) (bad : Option (ℕ × ℕ)) → bad_line text ≡ bad → reading text ≡ Some tuples → bad_line text ≡ None
+good-if text tuples None e h = e
+good-if text tuples (Some told) e h = absurd (some_none (sym h ∙ rw e refl))
+
+pub bundle_spelled : (text : List ℕ) (tuples : List (List (List NdbPair))) → reading text ≡ Some tuples → ReadsBundle (lines_of text) tuples
+bundle_spelled text tuples h =
+    let good = good-if text tuples (bad_line text) refl h in
+    let same : database (lines_of text) ≡ tuples = some_once (reading text) (database (lines_of text)) tuples (reading-is text good) h in
+    subst (λ (ts : List (List (List NdbPair))). ReadsBundle (lines_of text) ts) same (bundle-is-spelled text good)

@@ -1,0 +1,29 @@
+-- Databases that stand in one file as a whole.
+use Rattle.std.specs.Prelude.{ℕ, Bool, true, ◌||◌, List, [], ◌∷◌, bytes_eq, codes, Option, Some, None}
+use Rattle.std.specs.List.{list_any}
+use Rattle.net_base.specs.declared.ndb.NdbPair.{NdbPair}
+use Rattle.net_base.specs.NdbText.{is_empty}
+use Rattle.net_base.specs.NdbBundle.{local_name, choosing}
+use Rattle.net_base.specs.Search.{values_in}
+
+-- the `file` values of the tuple that chooses; no tuple has none
+abbrev pub files_in : Option (List (List NdbPair)) → List (List ℕ)
+files_in None = []
+files_in (Some tuple) = values_in (codes "file") tuple
+
+-- a name is the first file's
+abbrev pub is_local : List ℕ → Bool
+is_local name = bytes_eq name local_name
+
+-- the tuple that chooses, if there is one, gives no file, or the first file among others
+abbrev pub is_whole : List (List (List NdbPair)) → Bool
+is_whole db = is_empty (files_in (choosing db)) || list_any is_local (files_in (choosing db))
+
+-- no name is given, or the first file's before others
+abbrev pub begins_local : List (List ℕ) → Bool
+begins_local [] = true
+begins_local (name ∷ names) = is_local name
+
+-- the tuple that chooses, if there is one, gives no file, or the first file before others
+abbrev pub is_first : List (List (List NdbPair)) → Bool
+is_first tuples = begins_local (files_in (choosing tuples))
