@@ -1,5 +1,6 @@
 pub mod Bundles
 pub mod Causes
+pub mod Groups
 pub mod Once
 pub mod Reading
 pub mod Rests

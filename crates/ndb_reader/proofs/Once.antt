@@ -16,13 +16,13 @@ others n ns = filter (λ m. not (bytes_eq m n)) ns
 among : List ℕ → List (List ℕ) → Bool
 among n ns = list_any (λ m. bytes_eq m n) ns
 
-is_one : (a b : List ℕ) → bytes_eq a b ≡ true → a ≡ b
+pub is_one : (a b : List ℕ) → bytes_eq a b ≡ true → a ≡ b
 is_one a b e = grind (arith, bytes_eq-Decides a b, e)
 
 itself : (a : List ℕ) → bytes_eq a a ≡ true
 itself a = grind (arith, bytes_eq-Decides a a)
 
-turned : (x n : List ℕ) → bytes_eq x n ≡ bytes_eq n x
+pub turned : (x n : List ℕ) → bytes_eq x n ≡ bytes_eq n x
 turned x n = grind (arith, bytes_eq-Decides x n, bytes_eq-Decides n x)
 
 -- another name stays

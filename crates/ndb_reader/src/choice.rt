@@ -1,15 +1,19 @@
 //! The choice of a bundle's files.
-ghost use Rattle.std.specs.Prelude.{◌≡◌, ◌<◌, ◌∷◌, ◌++◌, List, length, map, flat_map, codes, bytes_eq, option_copied, IfOk, OnOk};
+ghost use Rattle.std.specs.Prelude.{◌≡◌, ◌<◌, ◌∷◌, ◌++◌, [], List, length, map, flat_map, codes, bytes_eq, unwrap_or, option_copied, IfOk, OnOk};
 ghost use Rattle.net_base.specs.NdbBundle as spec;
 ghost use Rattle.net_base.specs.Networks.{tuple_names};
 ghost use Rattle.net_base.specs.Search.{values_in, values_on};
 ghost use Rattle.ndb_reader.specs.Told.{file_seen};
-ghost use Rattle.ndb_reader.specs.Names.{with_name, with_names};
+ghost use Rattle.ndb_reader.specs.Names.{with_name, with_names, names_seen, AreGrouped};
 ghost use Rattle.std.specs.List.{list_any};
 
 use crate::files::File;
-use net_base::{Db, Line, Lines, Octets, Tuple};
+use indexmap::{IndexMap, IndexSet};
+use net_base::{Db, Line, Tuple};
 use std::alloc::{AllocError, Global};
+
+/// Tuples by the names of their files.
+type Groups = IndexMap<Vec<u8>, Db>;
 
 /// Whether a tuple has the attribute `database`.
 fn chooses(tuple: &Tuple) -> bool
@@ -27,46 +31,35 @@ fn has_database(line: &Line) -> bool
         .any(|pair| pair.attr.as_slice() == b"database".as_slice())
 }
 
-/// Adds the names of files on a line that don't stand among these.
-fn add_names_on(line: &Line, names: &mut Lines) -> Result<(), AllocError>
-    ensures { OnOk result (names.new ≡ with_names names.old (values_on (codes "file") line.now)) }
+/// Adds the names of files on a line to those so far, each once.
+fn add_names_on(alloc: Global, line: &Line, names: &mut IndexSet<Vec<u8>>) -> Result<(), AllocError>
+    ensures { OnOk result (names_seen names.new.keys
+        ≡ with_names (names_seen names.old.keys) (values_on (codes "file") line.now)) }
 {
     for pair in line.as_slice() {
         if pair.attr.as_slice() == b"file".as_slice() {
-            add_name(&pair.value, names)?;
+            add_name(alloc, pair.value.as_slice(), names)?;
         }
     }
     Ok(())
 }
 
-/// Whether a name stands among these.
-fn has_name(name: &Octets, names: &Lines) -> bool
-    ensures { result ≡ list_any (λ other. bytes_eq other name.now) names.now }
-{
-    names
-        .as_slice()
-        .iter()
-        .any(|other| other.as_slice() == name.as_slice())
-}
-
 /// Adds a name that doesn't stand among these.
-fn add_name(name: &Octets, names: &mut Lines) -> Result<(), AllocError>
-    ensures { OnOk result (names.new ≡ with_name names.old name.now) }
+fn add_name(alloc: Global, name: &[u8], names: &mut IndexSet<Vec<u8>>) -> Result<(), AllocError>
+    ensures { OnOk result (names_seen names.new.keys ≡ with_name (names_seen names.old.keys) name.now) }
 {
-    if has_name(name, names) {
-        return Ok(());
-    }
-    names.push(name.clone()?)?;
+    let name = Vec::from_slice(alloc, name)?;
+    names.insert(name)?;
     Ok(())
 }
 
 /// The names that a tuple gives by its `file` values, each once.
-fn names_in(alloc: Global, tuple: &Tuple) -> Result<Lines, AllocError>
-    ensures { IfOk result (λ names. names ≡ spec.each_once (values_in (codes "file") tuple.now)) }
+fn names_in(alloc: Global, tuple: &Tuple) -> Result<IndexSet<Vec<u8>>, AllocError>
+    ensures { IfOk result (λ names. names_seen names.keys ≡ spec.each_once (values_in (codes "file") tuple.now)) }
 {
-    let mut names = Lines::new(alloc);
+    let mut names = IndexSet::new(alloc);
     for line in tuple.as_slice() {
-        add_names_on(line, &mut names)?;
+        add_names_on(alloc, line, &mut names)?;
     }
     Ok(names)
 }
@@ -79,45 +72,80 @@ fn choosing(local: &Db) -> Option<&Tuple>
 }
 
 /// The names of the files that a file chooses.
-fn names_of(alloc: Global, local: &Db) -> Result<Lines, AllocError>
-    ensures { IfOk result (λ names. names ≡ spec.names_of (spec.choosing local.now)) }
+fn names_of(alloc: Global, local: &Db) -> Result<IndexSet<Vec<u8>>, AllocError>
+    ensures { IfOk result (λ names. names_seen names.keys ≡ spec.names_of (spec.choosing local.now)) }
 {
     let Some(tuple) = choosing(local) else {
-        return Ok(Lines::new(alloc));
+        return Ok(IndexSet::new(alloc));
     };
     let names = names_in(alloc, tuple)?;
     Ok(names)
 }
 
-/// Adds copies of tuples.
-fn add_tuples(tuples: &Db, all: &mut Db) -> Result<(), AllocError>
-    ensures { OnOk result (all.new ≡ all.old ++ tuples.now) }
+/// Moves tuples behind others.
+fn add_tuples(tuples: Db, all: &mut Db) -> Result<(), AllocError>
+    ensures { OnOk result (all.new ≡ all.old ++ tuples) }
 {
-    for tuple in tuples.as_slice() {
-        all.push(tuple.clone()?)?;
+    let tuples = tuples.into_vec();
+    for tuple in tuples {
+        all.push(tuple)?;
     }
     Ok(())
 }
 
-/// Adds the tuples of all files with this name.
-fn add_named(files: &[File], name: &Octets, all: &mut Db) -> Result<(), AllocError>
-    ensures { OnOk result (all.new ≡ all.old ++ spec.tuples_named (map file_seen files.now) name.now) }
+/// Moves the tuples that stand by a name, if any, behind others.
+fn add_group(group: Option<Db>, all: &mut Db) -> Result<(), AllocError>
+    ensures { OnOk result (all.new ≡ all.old ++ unwrap_or group []) }
 {
-    for file in files {
-        if file.name.as_slice() == name.as_slice() {
-            add_tuples(&file.tuples, all)?;
-        }
+    match group {
+        Some(group) => add_tuples(group, all),
+        None => Ok(()),
     }
+}
+
+/// The tuples that stand by a name, if any, and these behind them.
+fn with_more(group: Option<Db>, tuples: Db) -> Result<Db, AllocError>
+    ensures { IfOk result (λ db. db ≡ unwrap_or group [] ++ tuples) }
+{
+    let Some(mut group) = group else {
+        return Ok(tuples);
+    };
+    add_tuples(tuples, &mut group)?;
+    Ok(group)
+}
+
+/// Adds the tuples of a file to those by its name.
+fn add_file(file: File, groups: &mut Groups) -> Result<(), AllocError>
+    ensures { OnOk result ((files : List spec.File) → AreGrouped files groups.old.entries
+        → AreGrouped (files ++ file_seen file ∷ []) groups.new.entries) }
+{
+    let File { name, tuples } = file;
+    let name = name.into_vec();
+    let group = with_more(groups.swap_remove(&name), tuples)?;
+    groups.insert(name, group)?;
     Ok(())
+}
+
+/// The tuples of all files by their names.
+fn by_name(alloc: Global, files: Vec<File>) -> Result<Groups, AllocError>
+    ensures { IfOk result (λ groups. AreGrouped (map file_seen files.items) groups.entries) }
+{
+    let mut groups = IndexMap::new(alloc);
+    for file in files {
+        add_file(file, &mut groups)?;
+    }
+    Ok(groups)
 }
 
 /// The tuples of all files with these names.
-fn all_named(alloc: Global, files: &[File], names: &[Octets]) -> Result<Db, AllocError>
-    ensures { IfOk result (λ db. db ≡ flat_map (spec.tuples_named (map file_seen files.now)) names.now) }
+fn all_named(alloc: Global, files: Vec<File>, names: &IndexSet<Vec<u8>>) -> Result<Db, AllocError>
+    ensures { IfOk result (λ db. db
+        ≡ flat_map (spec.tuples_named (map file_seen files.items)) (names_seen names.now.keys)) }
 {
+    let mut groups = by_name(alloc, files)?;
     let mut all = Db::new(alloc);
-    for name in names {
-        add_named(files, name, &mut all)?;
+    for name in names.as_slice() {
+        add_group(groups.swap_remove(name), &mut all)?;
     }
     Ok(all)
 }
@@ -142,5 +170,5 @@ pub(crate) fn choose(alloc: Global, files: Vec<File>) -> Result<Db, AllocError>
     if names.len() == 0 {
         return Ok(first_of(files));
     }
-    all_named(alloc, &files, names.as_slice())
+    all_named(alloc, files, &names)
 }

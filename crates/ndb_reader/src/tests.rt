@@ -2,7 +2,7 @@
 use crate::fault::NdbError;
 use crate::reader::read_ndb;
 use crate::writer::write_ndb;
-use std::alloc::Global;
+use std::alloc::{AllocError, Global};
 use std::test::Fail;
 
 const LOCAL: &[u8] = b"# local network\n\
@@ -77,6 +77,33 @@ fn words_are_split(rt: HostRuntime) -> Result<(), Fail> {
         let shown = shown(rt.alloc(), text)?;
         assert_eq!(rt; shown.as_slice(), want);
     }
+    Ok(())
+}
+
+/// Adds a number of two digits between these texts.
+fn add_numbered(out: &mut Vec<u8>, before: &[u8], n: u8, after: &[u8]) -> Result<(), AllocError> {
+    out.extend_from_slice(before)?;
+    out.push(b'0' + n / 10)?;
+    out.push(b'0' + n % 10)?;
+    out.extend_from_slice(after)
+}
+
+#[test]
+fn seventy_files_are_chosen(rt: HostRuntime) -> Result<(), Fail> {
+    let alloc = rt.alloc();
+    let mut text = Vec::from_slice(alloc, b"database=\n".as_slice())?;
+    let mut want = Vec::new(alloc);
+    for range in [35..70_u8, 0..35_u8] {
+        for n in range {
+            add_numbered(&mut text, b"\tfile=f", n, b"\n")?;
+            add_numbered(&mut want, b"<[n=", n, b";]>")?;
+        }
+    }
+    for n in 0..70_u8 {
+        add_numbered(&mut text, b"%file f", n, b"\n")?;
+        add_numbered(&mut text, b"n=", n, b"\n")?;
+    }
+    assert_eq!(rt; shown(alloc, text.as_slice())?.as_slice(), want.as_slice());
     Ok(())
 }
 

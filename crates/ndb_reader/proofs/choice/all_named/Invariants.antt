@@ -1,8 +1,7 @@
-use Rattle.std.proofs.Common.{◌≡◌, ◌++◌, take, drop, map}
-use Rattle.std.specs.Prelude.{flat_map}
-use Rattle.net_base.specs.NdbBundle.{tuples_named}
+use Rattle.std.proofs.Common.{drop, map}
 use Rattle.ndb_reader.specs.Told.{file_seen}
+use Rattle.ndb_reader.proofs.Groups.{Gathers}
 use Rattle.ndb_reader.proofs.choice.all_named.Given as goal
 
 abbrev pub invariant-loop-name : goal.invariant-loop-name
-invariant-loop-name l = flat_map (tuples_named (map file_seen l.files)) l.names ≡ l.all ++ flat_map (tuples_named (map file_seen l.files)) (drop l.name-index l.names)
+invariant-loop-name l = Gathers (map file_seen l.fn.files.items) l.name-items (drop l.name-index l.name-items) l.all l.groups.entries
