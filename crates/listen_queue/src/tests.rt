@@ -30,7 +30,7 @@ fn calls_are_listed_and_sent_away(rt: HostRuntime) -> Result<(), Fail> {
     assert_eq!(rt; queue.queue(call(3)), Ok(()));
     assert_eq!(rt; queue.queue(call(1)), Ok(()));
     let list = queue.list(rt.alloc())?;
-    assert_eq!(rt; list.as_slice(), [call(3), call(1)]);
+    assert_eq!(rt; list.as_slice(), [call(3), call(1)].as_slice());
     queue.clear();
     assert_eq!(rt; queue.first(), None);
     Ok(())
