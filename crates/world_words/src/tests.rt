@@ -74,6 +74,34 @@ fn frames_and_fates_are_told(rt: HostRuntime) {
     assert!(rt; !is_fate(b"never".as_slice()));
 }
 
+/// What a line of a script is read as.
+fn read(alloc: Global, line: &[u8]) -> Result<Option<Option<Step>>, Fail> {
+    let (word, rest) = split_first(line, b' ');
+    match rest {
+        Some(rest) => {
+            let words = split_words(alloc, rest)?;
+            Ok(read_step(alloc, word, words.as_slice(), Some(rest))?)
+        }
+        None => Ok(read_step(alloc, word, &[], None)?),
+    }
+}
+
+/// Whether a line is the words of a step.
+fn is_read(alloc: Global, line: &[u8]) -> Result<bool, Fail> {
+    match read(alloc, line)? {
+        Some(Some(_)) => Ok(true),
+        _ => Ok(false),
+    }
+}
+
+/// Whether a line begins with the word of a step, and its arguments are wrong.
+fn is_wrong(alloc: Global, line: &[u8]) -> Result<bool, Fail> {
+    match read(alloc, line)? {
+        Some(None) => Ok(true),
+        _ => Ok(false),
+    }
+}
+
 #[test]
 fn steps_are_read(rt: HostRuntime) -> Result<(), Fail> {
     let rows = [
