@@ -79,6 +79,7 @@ fn joined(alloc: Global, texts: &Lines) -> Result<Vec<u8>, AllocError> {
 fn addresses_stand_beside_a_system(rt: HostRuntime) -> Result<(), Fail> {
     let alloc = rt.alloc();
     let db = db_of(alloc)?;
+    assert_eq!(rt; db.len(), 4);
     let places = search(alloc, &db, b"sys", b"helix")?;
     assert_eq!(rt; places.as_slice(), [3u64].as_slice());
     let values = value_beside(alloc, &db, 3, b"sys", b"helix", b"ip")?;
