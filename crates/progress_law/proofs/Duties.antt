@@ -2,10 +2,12 @@
 use Rattle.std.specs.Prelude.{◌≡◌, ℕ, ◌+◌, ◌<◌, ◌≤◌, ◌⊎◌, Bool, true, false, ◌&&◌, List, [], ◌∷◌, length, Option, Some, None, slice_get, nat_lt, nat_le}
 use Rattle.net_base.specs.declared.actor.ActorName.{ActorName}
 use Rattle.net_base.specs.declared.actor.ActorName.TheVariants as name
+use Rattle.net_base.specs.declared.actor.Call.{Call}
 use Rattle.net_base.specs.declared.address.Proto.{Proto}
 use Rattle.net_base.specs.declared.address.Proto.TheVariants as proto
 use Rattle.net_base.specs.declared.event.Event.{Event}
 use Rattle.net_base.specs.declared.event.Event.TheVariants as event
+use Rattle.net_base.specs.declared.history.Taken.{Taken}
 use Rattle.net_base.specs.declared.history.With.{With}
 use Rattle.net_base.specs.declared.history.With.TheVariants as given
 use Rattle.net_base.specs.declared.packet.Body.{Body}
@@ -83,23 +85,39 @@ same_core proto.Il (Il e) = Unit {0}
 same_core proto.Udp (Udp e) = Unit {0}
 same_core _ _ = ⊥
 
--- each actor keeps what its name says, and a conversation an end of its protocol
-abbrev pub IsActorOf : ActorName → Actor → Type 0
-IsActorOf (name.Dir h p) (IsDir d) = length d.slots ≡ slot_count
-IsActorOf (name.Conv h p n) (IsConv c) = same_core p c.core
-IsActorOf (name.Medium m) (IsMedium s) = Unit {0}
-IsActorOf (name.Dir h p) _ = ⊥
-IsActorOf (name.Conv h p n) _ = ⊥
-IsActorOf (name.Medium m) _ = ⊥
-IsActorOf _ _ = Unit {0}
-
--- the generation of a slot, and of a conversation
+-- the generation of a slot
 abbrev pub slot_generation : Option Slot → ℕ
 slot_generation None = 0
 slot_generation (Some s) = s.generation
 
+abbrev pub generation_in : List Slot → ℕ → ℕ
+generation_in slots n = slot_generation (slice_get slots n)
+
+-- a call names a slot, and no generation that the slot didn't have
+abbrev pub IsCallIn : List Slot → Call → Type 0
+IsCallIn slots c = (c.slot < slot_count) × (c.generation ≤ generation_in slots c.slot)
+
+-- the slots of a directory
+pub record AreSlots (slots : List Slot) : Type 0 where
+  pub count : length slots ≡ slot_count
+  pub calls : (k : ℕ) (s : Slot) → slice_get slots k ≡ Some s → Each (IsCallIn slots) s.calls
+
+-- copies for hosts of the world
+abbrev pub AreCopies : World → List Taken → Type 0
+AreCopies w ts = Each (λ (t : Taken). t.to < length w.hosts) ts
+
+-- each actor keeps what its name says, and a conversation an end of its protocol
+abbrev pub IsActorOf : World → ActorName → Actor → Type 0
+IsActorOf w (name.Dir h p) (IsDir d) = AreSlots d.slots
+IsActorOf w (name.Conv h p n) (IsConv c) = same_core p c.core
+IsActorOf w (name.Medium m) (IsMedium s) = AreCopies w s.queue × AreCopies w s.held
+IsActorOf w (name.Dir h p) _ = ⊥
+IsActorOf w (name.Conv h p n) _ = ⊥
+IsActorOf w (name.Medium m) _ = ⊥
+IsActorOf w _ _ = Unit {0}
+
 abbrev pub generation_at : Actor → ℕ → ℕ
-generation_at (IsDir d) n = slot_generation (slice_get d.slots n)
+generation_at (IsDir d) n = generation_in d.slots n
 generation_at _ n = 0
 
 abbrev pub conv_generation : Actor → ℕ
@@ -135,7 +153,7 @@ Apart d e = bears d.event ≡ true → bears e.event ≡ true → d.actor ≡ e.
 
 -- what holds of the net after a legal history
 pub record Steady (w : World) (net : Net) : Type 0 where
-  pub actors : (a : ActorName) → IsActorOf a (net.actors a)
+  pub actors : (a : ActorName) → IsActorOf w a (net.actors a)
   pub known : (c : ℕ) → caller_count w ≤ c → net.owed c ≡ []
   pub kinds : (c : ℕ) → Each (OfKind w) (net.owed c)
   -- the stamps that are cited in a queue don't fall, and are those of entries

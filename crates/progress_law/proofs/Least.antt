@@ -28,7 +28,7 @@ use Rattle.history_laws.proofs.Ordered.{Each, Later}
 use Rattle.net_base.specs.declared.packet.Body.{Body}
 use Rattle.net_base.specs.declared.packet.Body.TheVariants as body
 use Rattle.net_base.specs.declared.packet.Packet.{Packet}
-use Rattle.progress_law.proofs.Duties.{Steady, OfKind, IsKind, IsConvKind, IsDirKind, IsMediumKind, IsActorOf, IsBirth, IsOwedBirth, bears, named, reached, given_last, same_core, conv_generation, Apart}
+use Rattle.progress_law.proofs.Duties.{Steady, OfKind, IsKind, IsConvKind, IsDirKind, IsMediumKind, IsActorOf, AreSlots, IsBirth, IsOwedBirth, bears, named, reached, given_last, same_core, conv_generation, Apart}
 
 -- The caller whose first duty cites least.
 
@@ -243,12 +243,12 @@ medium_there [] n lt = absurd (omega (arith, lt))
 medium_there (s ∷ ss) zero lt = (s, refl)
 medium_there (s ∷ ss) (suc n) lt = medium_there ss n (omega (arith, lt))
 
-pub actor_ready : (w : World) (a : ActorName) (s : Actor) (now : ℕ) (e : Event) (with : With) → IsActorOf a s → IsKind w a e with
+pub actor_ready : (w : World) (a : ActorName) (s : Actor) (now : ℕ) (e : Event) (with : With) → IsActorOf w a s → IsKind w a e with
     → IsSome (actor_step w a s now (record { event = e; with = with })) ⊎ IsLate a s e
 actor_ready w (name.Conv h p n) (IsConv c) now e with of kind =
     some_or _ _ (conv_step n e with now c) (rw (lt-ltb h (length w.hosts) kind.0, lt-ltb n slot_count kind.1) refl) (conv_ready n e with now p c of kind.2)
 actor_ready w (name.Dir h p) (IsDir d) now e with of kind =
-    some_or _ _ (dir_step w h p e with d) (lt-ltb h (length w.hosts) kind.0) (inl (dir_ready w h p e with d of kind.1))
+    some_or _ _ (dir_step w h p e with d) (lt-ltb h (length w.hosts) kind.0) (inl (dir_ready w h p e with d of.count kind.1))
 actor_ready w (name.Medium m) (IsMedium s) now e with of kind =
     let spec = medium_there w.media m kind.0 in
     rw (lt-ltb m (length w.media) kind.0, spec.1) (some_or _ true (medium_step spec.0 w.seed e with s) refl (inl (medium_ready w spec.0 w.seed e with s kind.1)))

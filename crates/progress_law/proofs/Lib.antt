@@ -1,2 +1,4 @@
 pub mod Duties
+pub mod Slots
+pub mod DirRows
 pub mod Least
