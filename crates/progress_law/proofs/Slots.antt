@@ -1,11 +1,10 @@
 -- The slots of a directory after one of them changed.
 use Rattle.std.proofs.Common.{◌≡◌, ℕ, zero, suc, ◌+◌, ◌<◌, ◌≤◌, ◌==◌, ◌⊎◌, Bool, true, false, List, [], ◌∷◌, ◌++◌, length, Option, Some, None, slice_get, slice_set, inl, inr, refl, sym, ap, subst, ◌∙◌, arith, length-set}
-use Rattle.std.specs.Prelude.{if◌then◌else◌}
 use Rattle.std.proofs.lemmas.Bool.Decides.{eqb_tells}
 use Rattle.std.proofs.lemmas.Option.{none-some, same_Some, slice_get_within}
 use Rattle.net_base.specs.declared.actor.Call.{Call}
 use Rattle.net_base.specs.Actors.{slot_count}
-use Rattle.net_base.specs.Directory.{Slot, first_slot}
+use Rattle.net_base.specs.Directory.{Slot}
 use Rattle.history_laws.proofs.Ordered.{Each, each_weaker, each_append}
 use Rattle.progress_law.proofs.Duties.{AreSlots, IsCallIn, slot_generation, generation_in}
 
@@ -58,24 +57,3 @@ set_generation slots n s new is = rw (get_set slots n new (slice_get_within slot
 
 pub other_generation : (slots : List Slot) (n k : ℕ) (new : Slot) → (n ≡ k → ⊥) → generation_in (slice_set slots n new) k ≡ generation_in slots k
 other_generation slots n k new apart = rw (get_set_other slots n k new apart) refl
-
--- a slot that is found stands in its place
-abbrev IsThere : ℕ → List Slot → ℕ → Slot → Type 0
-IsThere k slots n s = (i : ℕ) × (n ≡ k + i) × (slice_get slots i ≡ Some s)
-
-found_there : (test : Slot → Bool) (k : ℕ) (slots : List Slot) (n : ℕ) (s : Slot) → first_slot test k slots ≡ Some (n, s) → IsThere k slots n s
-found_there test k [] n s is = absurd (none-some (n, s) is)
-found_there test k (x ∷ xs) n s is = by (test x) is (found_there test (k + 1) xs n s)
-  where
-    by : (b : Bool) → (if b then Some (k, x) else first_slot test (k + 1) xs) ≡ Some (n, s) → (first_slot test (k + 1) xs ≡ Some (n, s) → IsThere (k + 1) xs n s) → IsThere k (x ∷ xs) n s
-    by true here later =
-        let pair : (k, x) ≡ (n, s) = same_Some (k, x) (n, s) here in
-        (zero, omega (arith, ap (λ (p : ℕ × Slot). p.0) pair), ap (λ (p : ℕ × Slot). Some p.1) pair)
-    by false there later =
-        let rest = later there in
-        (suc rest.0, omega (arith, rest.1), rest.2)
-
-pub found_at : (test : Slot → Bool) (slots : List Slot) (f : ℕ × Slot) → first_slot test 0 slots ≡ Some f → slice_get slots f.0 ≡ Some f.1
-found_at test slots f is =
-    let there = found_there test 0 slots f.0 f.1 is in
-    subst (λ (n : ℕ). slice_get slots n ≡ Some f.1) (omega (arith, there.1)) there.2
