@@ -1,4 +1,5 @@
 pub mod Duties
 pub mod Slots
 pub mod DirRows
+pub mod ConvRows
 pub mod Least
