@@ -118,7 +118,7 @@ least_of net (suc n) = by (net.owed n) refl (least_of net n)
 
 -- What stands in a queue cites no less than its first.
 
-each_in : (P : Duty → Type 0) (ds : List Duty) (d : Duty) → Each P ds → In d ds → P d
+pub each_in : (P : Duty → Type 0) (ds : List Duty) (d : Duty) → Each P ds → In d ds → P d
 each_in P [] d all there = absurd there
 each_in P (e ∷ es) d all (inl same) = subst P (sym same) all.0
 each_in P (e ∷ es) d all (inr later) = each_in P es d all.1 later

@@ -3,3 +3,4 @@ pub mod Slots
 pub mod DirRows
 pub mod ConvRows
 pub mod Least
+pub mod Keeping
