@@ -2,7 +2,7 @@
 use Rattle.std.proofs.Common.{◌≡◌, ℕ, zero, suc, ◌+◌, ◌<◌, ◌==◌, ◌⊎◌, nat_lt, Bool, true, false, List, [], ◌∷◌, length, Option, Some, None, inl, inr, refl, sym, ap, subst, ◌∙◌, arith}
 use Rattle.std.specs.Prelude.{if◌then◌else◌}
 use Rattle.std.specs.Option.{option_map}
-use Rattle.std.proofs.lemmas.Bool.{eqb-true}
+use Rattle.std.proofs.lemmas.Bool.{eqb-true, ltb-true, true≢false}
 use Rattle.std.proofs.lemmas.Option.{none-some, same_Some}
 use Rattle.net_base.specs.declared.address.Pair.{Pair}
 use Rattle.net_base.specs.declared.address.Proto.{Proto}
@@ -223,3 +223,28 @@ conv_kept slot (event.ArriveAt g) (given.Packet q) now p c core = same_if p (eve
 conv_kept slot (event.Tick g) with now p c core = same_if p (event.Tick g) c _ (generation_same p g c _ core (ticked_same p c.core now c core core))
 conv_kept slot event.Ls with now p c core = same_if p event.Ls c (Some (conv.listed c.opens c)) (listed_same p c.opens c core)
 conv_kept slot _ _ now p c core = tt
+
+-- A birth that comes isn't stale.
+
+raise_done : (g : ℕ) (c : Conv) (o : Option (Step Conv)) (u : Step Conv) → c.generation < g → raises g c o ≡ Some u → o ≡ Some u
+raise_done g c o u lt is = by (g == c.generation + 1) (nat_lt g c.generation) refl is
+  where
+    by : (b d : Bool) → nat_lt g c.generation ≡ d → (if b then o else (if d then Some (answers c reply.Stale) else None)) ≡ Some u → o ≡ Some u
+    by true d less is = is
+    by false true less is = absurd (omega (arith, lt, ltb-true g c.generation less))
+    by false false less is = absurd (none-some u is)
+
+when_some : (b : Bool) (o : Option (Step Conv)) (u : Step Conv) → when b o ≡ Some u → o ≡ Some u
+when_some true o u is = is
+when_some false o u is = absurd (none-some u is)
+
+pub birth_done : (slot : ℕ) (e : Event) (with : With) (now : ℕ) (p : Proto) (c : Conv) (u : Step Conv) → same_core p c.core → bears e ≡ true → c.generation < named e → conv_step slot e with now c ≡ Some u → u.state.generation ≡ named e
+birth_done slot (event.Begin g) with now p c u core is lt step =
+    ap (λ (v : Step Conv). v.state.generation) (sym (same_Some (leaves c reply.Ok (conv.begun g c) None) u (raise_done g c _ u lt step)))
+birth_done slot (event.Born g) (given.Birth q start limit) now p c u core is lt step =
+    (born_same p c.core now g start limit q q.body c core u (raise_done g c _ u lt (when_some _ _ u step))).1
+birth_done slot (event.Born g) given.Nothing now p c u core is lt step = absurd (none-some u step)
+birth_done slot (event.Born g) (given.Packet q) now p c u core is lt step = absurd (none-some u step)
+birth_done slot (event.Born g) (given.Grant pair start limit) now p c u core is lt step = absurd (none-some u step)
+birth_done slot (event.Born g) (given.Key ip port) now p c u core is lt step = absurd (none-some u step)
+birth_done slot _ with now p c u core is lt step = absurd (true≢false (sym is))

@@ -135,11 +135,11 @@ new_owed w net after c new ch d there = elim (eqb_tells c c) [
 -- The net stays as it should be.
 
 -- births stand at conversations alone
-abbrev NotConv : ActorName → Type 0
+abbrev pub NotConv : ActorName → Type 0
 NotConv (name.Conv h p n) = ⊥
 NotConv _ = Unit {0}
 
-no_birth : (w : World) (a : ActorName) (e : Event) (with : With) → NotConv a → IsKind w a e with → bears e ≡ true → ⊥
+pub no_birth : (w : World) (a : ActorName) (e : Event) (with : With) → NotConv a → IsKind w a e with → bears e ≡ true → ⊥
 no_birth w (name.Conv h p n) e with not kind is = not
 no_birth w (name.Desk h) e with not kind is = kind
 no_birth w name.Clock e with not kind is = kind

@@ -5,3 +5,6 @@ pub mod ConvRows
 pub mod Worlds
 pub mod Least
 pub mod Keeping
+pub mod New
+pub mod Entries
+pub mod Always
