@@ -1,0 +1,50 @@
+-- What a step owes, by its work and its outcome.
+use Rattle.std.specs.Prelude.{◌≡◌, ℕ, ◌+◌, ◌++◌, Bool, true, false, List, [], length, option_to_list, Option, Some, None, if◌then◌else◌}
+use Rattle.ip_route.specs.Kept.{HostWays}
+use Rattle.net_base.specs.declared.actor.ActorName.{ActorName}
+use Rattle.net_base.specs.declared.actor.ActorName.TheVariants as name
+use Rattle.net_base.specs.declared.event.Event.{Event}
+use Rattle.net_base.specs.declared.event.Event.TheVariants as event
+use Rattle.net_base.specs.declared.history.Outcome.{Outcome}
+use Rattle.net_base.specs.declared.history.Taken.{Taken}
+use Rattle.net_base.specs.declared.history.With.TheVariants as given
+use Rattle.net_base.specs.declared.history.Work.{Work}
+use Rattle.net_base.specs.declared.packet.Packet.{Packet}
+use Rattle.net_base.specs.declared.reply.Reply.{Reply}
+use Rattle.net_base.specs.declared.reply.Reply.TheVariants as reply
+use Rattle.net_base.specs.declared.world.World.{World}
+use Rattle.net_base.specs.ActorStep.{Step}
+use Rattle.net_base.specs.Actors.{Actor, actor_step}
+use Rattle.net_base.specs.Duties.{Duty, duties}
+use Rattle.net_base.specs.Legal.{IsMove}
+use Rattle.duties.specs.WaysOf.{AreWaysOfWorld}
+
+-- the outcome, its copy aside
+abbrev pub without_copy : Outcome → Outcome
+without_copy o = record o { copy = None }
+
+-- the step is one that the actor's table gives to the work, and its outcome, the copy aside, is this one
+pub record Gives (w : World) (a : ActorName) (work : Work) (o : Outcome) (step : Step Actor) : Type 0 where
+  pub before : Actor
+  pub now : ℕ
+  pub gives : actor_step w a before now work ≡ Some step
+  pub outcome : without_copy step.outcome ≡ without_copy o
+
+-- what the entry of this stamp owes stands behind the rest, by each step with this outcome but a move of the clock
+abbrev pub Owes : World → ActorName → ℕ → Work → Outcome → List Duty → List Duty → Type 0
+Owes w a stamp work o old new =
+    (actors : ActorName → Actor) (step : Step Actor) → Gives w a work o step → (IsMove a work.event → ⊥) → new ≡ old ++ duties w actors a stamp work step
+
+-- How much is owed at most.
+
+abbrev pub if_any : {A : Type 0} → Option A → ℕ
+if_any x = length (option_to_list x)
+
+-- a follow-up, or a close for each call
+abbrev pub most_following : Reply → ℕ
+most_following (reply.Calls calls) = length calls
+most_following _ = 1
+
+-- how much an outcome owes at most, ticks aside
+abbrev pub most_owed : Outcome → ℕ
+most_owed o = if_any o.emit + most_following o.reply + if_any o.taken + (if o.ended then 1 else 0)

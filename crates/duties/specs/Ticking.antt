@@ -1,0 +1,32 @@
+-- The ticks of a move.
+use Rattle.std.specs.Prelude.{◌≡◌, ℕ, List, [], ◌∷◌, flat_map, filter_map, Option, Some, None, nat_le, if◌then◌else◌}
+use Rattle.std.specs.Option.{option_map}
+use Rattle.duties.specs.declared.due.Due.{Due}
+use Rattle.net_base.specs.declared.actor.ActorName.{ActorName}
+use Rattle.net_base.specs.declared.actor.ActorName.TheVariants as name
+use Rattle.net_base.specs.declared.event.Event.TheVariants as event
+use Rattle.net_base.specs.declared.history.With.TheVariants as given
+use Rattle.net_base.specs.declared.world.World.{World}
+use Rattle.net_base.specs.Actors.{Actor}
+use Rattle.net_base.specs.Duties.{Duty, owes, conversations, due_of, generation_of}
+
+-- the tick of a conversation whose due moment has come
+abbrev pub tick_of : ℕ → ℕ → Due → List Duty
+tick_of s now d =
+    if nat_le d.due now then owes s (name.Conv d.host d.proto d.slot) (event.Tick d.generation) given.Nothing else []
+
+-- the ticks of those of them whose due moment has come, in order
+abbrev pub ticks_of : ℕ → ℕ → List Due → List Duty
+ticks_of s now dues = flat_map (tick_of s now) dues
+
+-- when a conversation is due, if it is
+abbrev pub due_at : (ActorName → Actor) → ActorName → Option Due
+due_at actors (name.Conv h p n) =
+    option_map
+    (λ (moment : ℕ). record { host = h; proto = p; slot = n; generation = generation_of (actors (name.Conv h p n)); due = moment })
+    (due_of (actors (name.Conv h p n)))
+due_at actors _ = None
+
+-- when the conversations of a world are due, in the order of its conversations
+abbrev pub dues_of : World → (ActorName → Actor) → List Due
+dues_of w actors = filter_map (due_at actors) (conversations w)

@@ -1,0 +1,18 @@
+//! What an entry owes, the queue of what a caller owes, and the ways of a world's hosts.
+#![tactic(auto)]
+
+mod due;
+mod duty;
+mod follow_up;
+mod owing;
+mod queue;
+mod release;
+mod shown;
+mod world_ways;
+
+pub use due::Due;
+pub use duty::Duty;
+pub use owing::most_owed;
+pub use queue::Duties;
+pub use shown::{Shown, entry_of};
+pub use world_ways::WorldWays;
