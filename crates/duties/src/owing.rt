@@ -1,12 +1,11 @@
 //! What the entry of a step owes.
-ghost use Rattle.std.specs.Prelude.{◌≡◌, ◌+◌, ◌<◌, ◌≤◌, ◌++◌, if◌then◌else◌};
+ghost use Rattle.std.specs.Prelude.{◌≡◌, ◌+◌, ◌<◌, ◌≤◌, ◌^◌, ◌++◌};
 ghost use Rattle.std.specs.Option.{option_map};
 ghost use Rattle.net_base.specs.declared.world.World.{World as AnyWorld};
 ghost use Rattle.net_base.specs.Duties.{courier_duty, emitted_put, follow_up, forwarded, put_by, proto_of as spec_proto_of};
 ghost use Rattle.net_base.specs.Headers.{header};
 ghost use Rattle.net_base.specs.Routes.{way};
 ghost use Rattle.duties.specs.Owing.{Owes, if_any, most_following, most_owed as most_owed_of};
-ghost use Rattle.duties.specs.Releasing.{generation_in, released};
 ghost use Rattle.duties.specs.Showing.{shows};
 ghost use Rattle.duties.specs.WaysOf.{AreWaysOfWorld};
 
@@ -23,13 +22,30 @@ use net_base::{
 pub fn most_owed(outcome: &Outcome) -> usize
     ensures { result ≡ most_owed_of outcome.now }
 {
-    let following = match &outcome.reply {
-        Reply::Calls { calls } => calls.len(),
+    let following = most_following(&outcome.reply);
+    let ended = if outcome.ended { 1 } else { 0 };
+    if_any(&outcome.emit) + following + if_any(&outcome.taken) + ended
+}
+
+// A close for each call that waited, or one duty.
+fn most_following(reply: &Reply) -> usize
+    ensures value { result ≡ most_following reply.now }
+    ensures few { result < 2 ^ 63 }
+{
+    match reply {
+        Reply::Calls { calls } => calls.as_slice().len(),
         _ => 1,
-    };
-    let emitted = usize::from(outcome.emit.is_some());
-    let taken = usize::from(outcome.taken.is_some());
-    emitted + following + taken + usize::from(outcome.ended)
+    }
+}
+
+// One where there is a value.
+fn if_any<T>(value: &Option<T>) -> usize
+    ensures { result ≡ if_any value.now }
+{
+    match value {
+        Some(_) => 1,
+        None => 0,
+    }
 }
 
 // What an entry shows of a packet.
