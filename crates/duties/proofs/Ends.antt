@@ -2,6 +2,7 @@
 use Rattle.std.proofs.Common.{◌≡◌, ℕ, zero, suc, ◌+◌, ◌==◌, Bool, true, false, ◌&&◌, List, [], ◌∷◌, length, Option, Some, None, nat_lt, if◌then◌else◌, refl, sym, ap, subst, ◌∙◌, arith}
 use Rattle.std.specs.Option.{option_map}
 use Rattle.std.proofs.lemmas.Bool.{true≢false, eqb-true}
+use Rattle.std.proofs.lemmas.Bool.Decides.{nat_tests}
 use Rattle.std.proofs.lemmas.Option.{none-some, same_Some}
 use Rattle.net_base.specs.declared.actor.ActorName.{ActorName}
 use Rattle.net_base.specs.declared.actor.ActorName.TheVariants as name
@@ -18,10 +19,12 @@ use Rattle.net_base.specs.declared.packet.Body.{Body}
 use Rattle.net_base.specs.declared.packet.Body.TheVariants as body
 use Rattle.net_base.specs.declared.packet.Packet.{Packet}
 use Rattle.net_base.specs.declared.reply.Reply.{Reply}
+use Rattle.net_base.specs.declared.reply.Reply.TheVariants as reply
 use Rattle.net_base.specs.declared.world.World.{World}
+use Rattle.net_base.specs.ControlWords as control
 use Rattle.net_base.specs.ActorStep.{Step, when}
 use Rattle.net_base.specs.Actors.{Actor, IsDir, IsConv, IsMedium, IsPlain, actor_step, has_actor, table_step}
-use Rattle.net_base.specs.Conversation.{Conv, Core, Il, Udp, Stage, Unused, Listening, Connected, conv_step, in_generation, raises, awaited, bad_control, binds, brought_forth, closed, core_written, hung_up, il_read, il_written, is_closed_name, is_over, joined, listed, listens, opened, read_at, taken_in, ticked, udp_read, udp_written, write_at}
+use Rattle.net_base.specs.Conversation.{Conv, Core, Il, Udp, Stage, Unused, Listening, Connected, answers, conv_step, in_generation, raises, refused_control, awaited, bad_control, binds, brought_forth, closed, core_name, core_written, hung_up, il_read, il_written, is_closed_name, is_over, joined, listed, listens, opened, read_at, taken_in, ticked, udp_read, udp_written, write_at}
 use Rattle.net_base.specs.Duties.{Duty, release}
 use Rattle.net_base.specs.IlEnd.{End}
 use Rattle.net_base.specs.IlTable.{has_unread, is_closed, may_go_on, may_write}
@@ -123,10 +126,105 @@ never false ended = absurd (true≢false (sym ended))
 in_own : (g : ℕ) (c : Conv) (o : Option (Step Conv)) → Stays c.generation o → EndsIn (Some g) (in_generation g c o)
 in_own g c o stays = by (g == c.generation) refl
   where
-    stale : (b : Bool) → EndsIn (Some g) (if b then Some (Rattle.net_base.specs.Conversation.answers c Rattle.net_base.specs.declared.reply.Reply.TheVariants.Stale) else None)
+    stale : (b : Bool) → EndsIn (Some g) (if b then Some (answers c reply.Stale) else None)
     stale true = λ ended. absurd (never (is_over c) ended)
     stale false = tt
 
     by : (b : Bool) → (g == c.generation) ≡ b → EndsIn (Some g) (in_generation g c o)
     by true own = rw own (stays_so g o (subst (λ (n : ℕ). Stays n o) (sym (eqb-true g c.generation own)) stays))
     by false other = rw other (stale (nat_lt g c.generation))
+
+raised : (g : ℕ) (c : Conv) (o : Option (Step Conv)) → EndsIn (Some g) o → EndsIn (Some g) (raises g c o)
+raised g c o ends = by (g == c.generation + 1)
+  where
+    stale : (b : Bool) → EndsIn (Some g) (if b then Some (answers c reply.Stale) else None)
+    stale true = λ ended. absurd (never (is_over c) ended)
+    stale false = tt
+
+    by : (b : Bool) → EndsIn (Some g) (if b then o else (if nat_lt g c.generation then Some (answers c reply.Stale) else None))
+    by true = ends
+    by false = stale (nat_lt g c.generation)
+
+of_kind : (g : Option ℕ) (b : Bool) (o : Option (Step Conv)) → EndsIn g o → EndsIn g (when b o)
+of_kind g true o ends = ends
+of_kind g false o ends = tt
+
+born_ends : (core : Core) (now g start limit : ℕ) (p : Packet) (b : Body) (c : Conv) → EndsIn (Some g) (brought_forth core now g start limit p b c)
+born_ends (Il e) now g start limit p (body.Il m) c = λ ended. refl
+born_ends (Udp e) now g start limit p (body.Udp text) c = λ ended. refl
+born_ends _ now g start limit p _ c = tt
+
+-- with an open file it doesn't end
+still_open : (b x : Bool) (n : ℕ) → (if b then false else (x && (suc n + 1 == 0))) ≡ true → ⊥
+still_open true x n ended = absurd (true≢false (sym ended))
+still_open false x n ended =
+    let open_files : (suc n + 1 == 0) ≡ false = grind (arith, nat_tests) in
+    absurd (true≢false (sym ended ∙ (ap (λ (y : Bool). x && y) open_files ∙ and_false x)))
+  where
+    and_false : (x : Bool) → (x && false) ≡ false
+    and_false true = refl
+    and_false false = refl
+
+opened_ends : (g : Option ℕ) (opens : ℕ) (c : Conv) → EndsIn g (Some (opened opens c))
+opened_ends g zero c = λ ended. absurd (never (is_over c) ended)
+opened_ends g (suc n) c = λ ended. absurd (still_open (is_over c) (is_closed_name (core_name c.core)) n ended)
+
+listed_ends : (g : Option ℕ) (opens : ℕ) (c : Conv) → EndsIn g (Some (listed opens c))
+listed_ends g zero c = λ ended. absurd (never (is_over c) ended)
+listed_ends g (suc n) c = λ ended. absurd (never (is_over c) ended)
+
+bad_ends : (fault : Option ℕ) (g : ℕ) (c : Conv) → EndsIn (Some g) (bad_control fault g c)
+bad_ends None g c = in_own g c None tt
+bad_ends (Some n) g c = in_own g c (Some (answers c (reply.BadCtl n))) refl
+
+-- by the rows of the table
+ends : (slot : ℕ) (e : Event) (with : With) (now : ℕ) (c : Conv) → EndsIn (generation_in e) (conv_step slot e with now c)
+ends slot (event.Begin g) with now c = raised g c _ (λ ended. refl)
+ends slot (event.Born g) (given.Birth p start limit) now c = of_kind (Some g) _ _ (raised g c _ (born_ends c.core now g start limit p p.body c))
+ends slot (event.Claim g) with now c = in_own g c _ refl
+ends slot (event.Connect g) (given.Grant pair start limit) now c =
+    of_kind (Some g) _ _ (in_own g c _ (joined_stays c.stage c.core now pair start limit c))
+ends slot (event.Announced g) (given.Key ip port) now c = in_own g c _ (listens_stays c.stage ip port c)
+ends slot (event.Bound g) (given.Key ip port) now c = in_own g c _ (binds_stays c.stage port c)
+ends slot (event.Await g) with now c = in_own g c _ (awaited_stays c.core c)
+ends slot (event.Open file mode) with now c = opened_ends None c.opens c
+ends slot (event.File g file count) with now c = in_own g c _ refl
+ends slot (event.Read g count) with now c = of_kind (Some g) _ _ (in_own g c _ (read_stays c.stage c.core count c))
+ends slot (event.Write g text) with now c = in_own g c _ (write_stays c.stage c.core now text c)
+ends slot (event.Hangup g) with now c = in_own g c _ (hung_up_stays c.core now _ c c)
+ends slot (event.Ttl g n) with now c = in_own g c _ refl
+ends slot (event.Tos g n) with now c = in_own g c _ refl
+ends slot (event.Ctl g text) with now c = bad_ends (refused_control (control.read text)) g c
+ends slot (event.Close g) with now c = in_own g c _ (closed_stays c.opens now c)
+ends slot (event.ArriveAt g) (given.Packet p) now c = of_kind (Some g) _ _ (in_own g c _ (taken_stays c.core p.body now c))
+ends slot (event.Tick g) with now c = in_own g c _ (ticked_stays c.core now c)
+ends slot event.Ls with now c = listed_ends None c.opens c
+ends slot _ _ now c = tt
+
+-- What it owes then.
+
+-- what is given where the work is of the kind that is asked for
+pub given_when : {A : Type 0} (b : Bool) (o : Option A) (x : A) → when b o ≡ Some x → o ≡ Some x
+given_when true o x is = is
+given_when false o x is = absurd (none-some x is)
+
+release_by : (h : ℕ) (p : Proto) (n s : ℕ) (e : Event) (c : Conv) (ended : Bool) → (ended ≡ true → generation_in e ≡ Some c.generation)
+    → release (name.Conv h p n) s (IsConv c) ended ≡ released (name.Conv h p n) s e ended
+release_by h p n s e c true own = sym (ap (λ (g : Option ℕ). release_of h p n s g) (own refl))
+release_by h p n s e c false own = refl
+
+release_after : (h : ℕ) (p : Proto) (n s : ℕ) (e : Event) (o : Option (Step Conv)) (step : Step Actor) → EndsIn (generation_in e) o
+    → option_map (λ (t : Step Conv). record { state = IsConv t.state; outcome = t.outcome }) o ≡ Some step
+    → release (name.Conv h p n) s step.state step.outcome.ended ≡ released (name.Conv h p n) s e step.outcome.ended
+release_after h p n s e None step ends is = absurd (none-some step is)
+release_after h p n s e (Some t) step ends is =
+    subst (λ (u : Step Actor). release (name.Conv h p n) s u.state u.outcome.ended ≡ released (name.Conv h p n) s e u.outcome.ended)
+    (same_Some _ step is) (release_by h p n s e t.state t.outcome.ended ends)
+
+-- an actor's step owes the release of the generation that its event names
+pub release_is : (w : World) (a : ActorName) (s : ℕ) (before : Actor) (now : ℕ) (work : Work) (step : Step Actor) → table_step w a before now work ≡ Some step
+    → release a s step.state step.outcome.ended ≡ released a s work.event step.outcome.ended
+release_is w (name.Conv h p n) s (IsConv c) now work step is =
+    release_after h p n s work.event (conv_step n work.event work.with now c) step (ends n work.event work.with now c) is
+release_is w (name.Conv h p n) s _ now work step is = absurd (none-some step is)
+release_is w _ s _ now work step is = refl

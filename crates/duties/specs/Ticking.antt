@@ -5,10 +5,12 @@ use Rattle.duties.specs.declared.due.Due.{Due}
 use Rattle.net_base.specs.declared.actor.ActorName.{ActorName}
 use Rattle.net_base.specs.declared.actor.ActorName.TheVariants as name
 use Rattle.net_base.specs.declared.event.Event.TheVariants as event
+use Rattle.net_base.specs.declared.history.With.{With}
 use Rattle.net_base.specs.declared.history.With.TheVariants as given
 use Rattle.net_base.specs.declared.world.World.{World}
-use Rattle.net_base.specs.Actors.{Actor}
-use Rattle.net_base.specs.Duties.{Duty, owes, conversations, due_of, generation_of}
+use Rattle.net_base.specs.ActorStep.{Step}
+use Rattle.net_base.specs.Actors.{Actor, actor_step}
+use Rattle.net_base.specs.Duties.{Duty, duties, owes, conversations, due_of, generation_of}
 
 -- the tick of a conversation whose due moment has come
 abbrev pub tick_of : ℕ → ℕ → Due → List Duty
@@ -30,3 +32,10 @@ due_at actors _ = None
 -- when the conversations of a world are due, in the order of its conversations
 abbrev pub dues_of : World → (ActorName → Actor) → List Due
 dues_of w actors = filter_map (due_at actors) (conversations w)
+
+-- each step of the clock for a move to this moment owes the ticks of those that are due, and nothing else
+abbrev pub MoveOwes : World → (ActorName → Actor) → ℕ → ℕ → Type 0
+MoveOwes w actors stamp now =
+    (with : With) (before : Actor) (moment : ℕ) (step : Step Actor)
+    → actor_step w name.Clock before moment (record { event = event.Move now; with = with }) ≡ Some step
+    → duties w actors name.Clock stamp (record { event = event.Move now; with = with }) step ≡ ticks_of stamp now (dues_of w actors)

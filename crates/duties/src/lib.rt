@@ -4,6 +4,7 @@
 mod due;
 mod duty;
 mod follow_up;
+mod law;
 mod owing;
 mod queue;
 mod release;
@@ -12,6 +13,7 @@ mod world_ways;
 
 pub use due::Due;
 pub use duty::Duty;
+pub use law::a_move_owes_its_ticks;
 pub use owing::most_owed;
 pub use queue::Duties;
 pub use shown::{Shown, entry_of};

@@ -1,5 +1,5 @@
 //! The ways of all hosts of a world.
-ghost use Rattle.std.specs.Prelude.{◌≡◌, IfOk};
+ghost use Rattle.std.specs.Prelude.{◌≡◌, option_copied, slice_get, IfOk};
 ghost use Rattle.net_base.specs.declared.world.World.{World as AnyWorld};
 ghost use Rattle.net_base.specs.Routes as routes;
 ghost use Rattle.duties.specs.WaysOf.{AreWaysOfWorld};
@@ -43,16 +43,23 @@ impl WorldWays {
     pub fn way(&self, host: u32, ip: u32) -> Option<Way>
         ensures { (w : AnyWorld) → AreWaysOfWorld w self.now → result ≡ routes.way w host ip }
     {
-        self.hosts.get(host as usize)?.to(ip)
+        self.ways_of(host)?.to(ip)
     }
 
     /// Whether the host has the address.
     pub fn has_address(&self, host: u32, ip: u32) -> bool
         ensures { (w : AnyWorld) → AreWaysOfWorld w self.now → result ≡ routes.has_address w host ip }
     {
-        match self.hosts.get(host as usize) {
+        match self.ways_of(host) {
             Some(ways) => ways.has(ip),
             None => false,
         }
+    }
+
+    // The ways from a host.
+    fn ways_of(&self, host: u32) -> Option<&Ways>
+        ensures { option_copied result ≡ slice_get self.now host }
+    {
+        self.hosts.get(host as usize)
     }
 }
