@@ -25,16 +25,19 @@ abbrev pub parts : World → ActorName → ℕ → Work → Outcome → List Dut
 parts w a s work o =
     emitted_put w a s o.emit ++ follow_up a s work.event work.with o.reply ++ courier_duty w a s o.taken ++ released a s work.event o.ended
 
+-- all but the release
+abbrev before_release : World → ActorName → ℕ → Work → Outcome → List Duty
+before_release w a s work o = emitted_put w a s o.emit ++ follow_up a s work.event work.with o.reply ++ courier_duty w a s o.taken
+
 -- they are all that the step owes
 pub parts_are : (w : World) (actors : ActorName → Actor) (a : ActorName) (s : ℕ) (work : Work) (o : Outcome) (step : Step Actor)
     → Gives w a work o step → (IsMove a work.event → ⊥) → parts w a s work o ≡ duties w actors a s work step
 parts_are w actors a s work o step gives none =
     ap (λ (p : Outcome). parts w a s work p) (sym gives.outcome)
-    ∙ (ap (λ (ds : List Duty). first ++ ds) (sym (release_is w a s gives.before gives.now work step (given_when (has_actor w a) _ step gives.gives)))
-    ∙ ap (λ (ds : List Duty). ds ++ release a s step.state step.outcome.ended) (sym (append-nil first) ∙ ap (λ (ds : List Duty). first ++ ds) (sym (no_ticks w actors a s work.event none))))
-  where
-    abbrev first : List Duty
-    first = emitted_put w a s step.outcome.emit ++ follow_up a s work.event work.with step.outcome.reply ++ courier_duty w a s step.outcome.taken
+    ∙ (ap (λ (ds : List Duty). before_release w a s work step.outcome ++ ds) (sym (release_is w a s gives.before gives.now work step (given_when (has_actor w a) _ step gives.gives)))
+    ∙ ap (λ (ds : List Duty). ds ++ release a s step.state step.outcome.ended)
+    (sym (append-nil (before_release w a s work step.outcome))
+    ∙ ap (λ (ds : List Duty). before_release w a s work step.outcome ++ ds) (sym (no_ticks w actors a s work.event none))))
 
 -- behind what was owed before, in turn
 pub in_turn : (w : World) (actors : ActorName → Actor) (a : ActorName) (s : ℕ) (work : Work) (o : Outcome) (step : Step Actor) (old put followed copied new : List Duty)
