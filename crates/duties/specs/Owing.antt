@@ -17,6 +17,7 @@ use Rattle.net_base.specs.ActorStep.{Step}
 use Rattle.net_base.specs.Actors.{Actor, actor_step}
 use Rattle.net_base.specs.Duties.{Duty, duties}
 use Rattle.net_base.specs.Legal.{IsMove}
+use Rattle.duties.specs.Queue.{Queue, Adds}
 use Rattle.duties.specs.WaysOf.{AreWaysOfWorld}
 
 -- the outcome, its copy aside
@@ -30,10 +31,16 @@ pub record Gives (w : World) (a : ActorName) (work : Work) (o : Outcome) (step :
   pub gives : actor_step w a before now work ≡ Some step
   pub outcome : without_copy step.outcome ≡ without_copy o
 
--- what the entry of this stamp owes stands behind the rest, by each step with this outcome but a move of the clock
-abbrev pub Owes : World → ActorName → ℕ → Work → Outcome → List Duty → List Duty → Type 0
-Owes w a stamp work o old new =
-    (actors : ActorName → Actor) (step : Step Actor) → Gives w a work o step → (IsMove a work.event → ⊥) → new ≡ old ++ duties w actors a stamp work step
+-- the entry of this stamp owes what the definitions say, after what was owed before: in each world of which the ways are, for
+-- each step that gives this outcome, and wherever the other actors stand; but a move of the clock owes ticks
+abbrev pub Owes : List HostWays → ActorName → ℕ → Work → Outcome → Queue → Queue → Type 0
+Owes ks a stamp work o old new =
+    (w : World) → AreWaysOfWorld w ks → (actors : ActorName → Actor) (step : Step Actor)
+    → Gives w a work o step → (IsMove a work.event → ⊥) → Adds old new (duties w actors a stamp work step)
+
+-- the same of a part of what is owed
+abbrev pub AddsIn : List HostWays → Queue → Queue → (World → List Duty) → Type 0
+AddsIn ks old new added = (w : World) → AreWaysOfWorld w ks → Adds old new (added w)
 
 -- How much is owed at most.
 

@@ -1,5 +1,5 @@
 -- What a caller owes.
-use Rattle.std.specs.Prelude.{ℕ, List}
+use Rattle.std.specs.Prelude.{◌≡◌, ℕ, ◌++◌, List}
 use Rattle.net_base.specs.declared.history.Work.{Work}
 use Rattle.net_base.specs.Duties.{Duty}
 
@@ -11,3 +11,7 @@ pub record Queue : Type 0 where
 -- the event of a duty, with what is given to it
 abbrev pub work_of_duty : Duty → Work
 work_of_duty d = record { event = d.event; with = d.with }
+
+-- these duties are owed after those that were owed before
+abbrev pub Adds : Queue → Queue → List Duty → Type 0
+Adds old new added = new.list ≡ old.list ++ added

@@ -10,7 +10,8 @@ use Rattle.net_base.specs.declared.history.With.TheVariants as given
 use Rattle.net_base.specs.declared.world.World.{World}
 use Rattle.net_base.specs.ActorStep.{Step}
 use Rattle.net_base.specs.Actors.{Actor, actor_step}
-use Rattle.net_base.specs.Duties.{Duty, duties, owes, conversations, due_of, generation_of}
+use Rattle.net_base.specs.Duties.{Duty, duties, owes, conversations, due_of, generation_of, ticks}
+use Rattle.duties.specs.Queue.{Queue, Adds}
 
 -- the tick of a conversation whose due moment has come
 abbrev pub tick_of : ℕ → ℕ → Due → List Duty
@@ -39,3 +40,8 @@ MoveOwes w actors stamp now =
     (with : With) (before : Actor) (moment : ℕ) (step : Step Actor)
     → actor_step w name.Clock before moment (record { event = event.Move now; with = with }) ≡ Some step
     → duties w actors name.Clock stamp (record { event = event.Move now; with = with }) step ≡ ticks_of stamp now (dues_of w actors)
+
+-- where these are the due moments of a world's conversations, the ticks of a move are owed after what was owed before
+abbrev pub AddsTicks : ℕ → ℕ → List Due → Queue → Queue → Type 0
+AddsTicks stamp now dues old new =
+    (w : World) (actors : ActorName → Actor) → dues ≡ dues_of w actors → Adds old new (ticks w actors name.Clock stamp (event.Move now))

@@ -1,12 +1,7 @@
 //! When conversations are due, and the ticks of a move.
-ghost use Rattle.std.specs.Prelude.{◌≡◌, ◌+◌, ◌≤◌, ◌++◌, length, List};
-ghost use Rattle.net_base.specs.declared.actor.ActorName.{ActorName as AnyActor};
-ghost use Rattle.net_base.specs.declared.actor.ActorName.TheVariants as name;
-ghost use Rattle.net_base.specs.declared.event.Event.TheVariants as event;
-ghost use Rattle.net_base.specs.declared.world.World.{World as AnyWorld};
-ghost use Rattle.net_base.specs.Actors.{Actor};
-ghost use Rattle.net_base.specs.Duties.{ticks};
-ghost use Rattle.duties.specs.Ticking.{dues_of, tick_of, ticks_of};
+ghost use Rattle.std.specs.Prelude.{◌+◌, ◌≤◌, length};
+ghost use Rattle.duties.specs.Queue.{Adds};
+ghost use Rattle.duties.specs.Ticking.{AddsTicks, tick_of, ticks_of};
 
 use crate::queue::Duties;
 use net_base::{ActorName, Event, Proto, With};
@@ -25,8 +20,8 @@ impl Duties {
     /// The move of this stamp, to this moment in ms, owes a tick to each conversation whose due moment has come.
     pub fn owe_ticks(&mut self, stamp: u64, now: u64, dues: &[Due])
         requires { length dues.now ≤ self.old.room }
-        ensures list { self.new.list ≡ self.old.list ++ ticks_of stamp now dues.now }
-        ensures ticks { (w : AnyWorld) (actors : AnyActor → Actor) → dues.now ≡ dues_of w actors → self.new.list ≡ self.old.list ++ ticks w actors name.Clock stamp (event.Move now) }
+        ensures list { Adds self.old self.new (ticks_of stamp now dues.now) }
+        ensures ticks { AddsTicks stamp now dues.now self.old self.new }
         ensures room { self.old.room ≤ self.new.room + length dues.now }
     {
         for due in dues {
@@ -37,7 +32,7 @@ impl Duties {
     // The same of one conversation.
     fn owe_tick(&mut self, stamp: u64, now: u64, due: Due)
         requires { 1 ≤ self.old.room }
-        ensures list { self.new.list ≡ self.old.list ++ tick_of stamp now due }
+        ensures list { Adds self.old self.new (tick_of stamp now due) }
         ensures room { self.old.room ≤ self.new.room + 1 }
     {
         if due.due <= now {

@@ -1,11 +1,12 @@
 //! The follow-up of a reply.
-ghost use Rattle.std.specs.Prelude.{◌≡◌, ℕ, ◌+◌, ◌≤◌, ◌++◌, length, Option};
-ghost use Rattle.net_base.specs.declared.actor.ActorName.TheVariants as name;
-ghost use Rattle.net_base.specs.declared.event.Event.TheVariants as event;
+ghost use Rattle.std.specs.Prelude.{ℕ, ◌+◌, ◌≤◌, length, Option};
 ghost use Rattle.net_base.specs.declared.address.Addr.{Addr as AnyAddr};
+ghost use Rattle.net_base.specs.declared.event.Event.TheVariants as event;
 ghost use Rattle.net_base.specs.declared.history.With.{With as AnyWith};
-ghost use Rattle.net_base.specs.Duties.{close_calls, follow_up, owes};
+ghost use Rattle.net_base.specs.Duties.{close_calls, follow_up};
+ghost use Rattle.duties.specs.Following.{asks, leaves, owes_at};
 ghost use Rattle.duties.specs.Owing.{most_following};
+ghost use Rattle.duties.specs.Queue.{Adds};
 
 use crate::queue::Duties;
 use net_base::{ActorName, Call, Event, Proto, Reply, With};
@@ -20,7 +21,7 @@ pub fn owe_follow_up(
     owed: &mut Duties,
 )
     requires { most_following reply.now ≤ owed.old.room }
-    ensures list { owed.new.list ≡ owed.old.list ++ follow_up actor stamp event.now with reply.now }
+    ensures list { Adds owed.old owed.new (follow_up actor stamp event.now with reply.now) }
     ensures room { owed.old.room ≤ owed.new.room + most_following reply.now }
 {
     match actor {
@@ -48,7 +49,7 @@ impl Home {
     // An event at a conversation is owed.
     fn at_conversation(self, slot: u32, event: Event, with: With, owed: &mut Duties)
         requires { 1 ≤ owed.old.room }
-        ensures list { owed.new.list ≡ owed.old.list ++ owes self.stamp (name.Conv self.host self.proto slot) event with }
+        ensures list { Adds owed.old owed.new (owes_at self slot event with) }
         ensures room { owed.old.room ≤ owed.new.room + 1 }
     {
         let conversation = ActorName::Conv(self.host, self.proto, slot);
@@ -58,7 +59,7 @@ impl Home {
     // A listener that was left withdraws.
     fn withdraws(self, slot: u32, event: &Event, reply: &Reply, owed: &mut Duties)
         requires { most_following reply.now ≤ owed.old.room }
-        ensures list { (with : AnyWith) → owed.new.list ≡ owed.old.list ++ follow_up (name.Conv self.host self.proto slot) self.stamp event.now with reply.now }
+        ensures list { (with : AnyWith) → Adds owed.old owed.new (leaves self slot event.now with reply.now) }
         ensures room { owed.old.room ≤ owed.new.room + most_following reply.now }
     {
         let Event::Hangup { generation } = event else {
@@ -78,7 +79,7 @@ impl Home {
     // What the reply of the directory asks of its conversations.
     fn follows(self, event: &Event, with: With, reply: &Reply, owed: &mut Duties)
         requires { most_following reply.now ≤ owed.old.room }
-        ensures list { owed.new.list ≡ owed.old.list ++ follow_up (name.Dir self.host self.proto) self.stamp event.now with reply.now }
+        ensures list { Adds owed.old owed.new (asks self event.now with reply.now) }
         ensures room { owed.old.room ≤ owed.new.room + most_following reply.now }
     {
         match event {
@@ -110,7 +111,7 @@ impl Home {
     // A slot that was reserved begins.
     fn begins(self, reply: &Reply, owed: &mut Duties)
         requires { most_following reply.now ≤ owed.old.room }
-        ensures list { (with : AnyWith) → owed.new.list ≡ owed.old.list ++ follow_up (name.Dir self.host self.proto) self.stamp event.Reserve with reply.now }
+        ensures list { (with : AnyWith) → Adds owed.old owed.new (asks self event.Reserve with reply.now) }
         ensures room { owed.old.room ≤ owed.new.room + most_following reply.now }
     {
         if let Reply::Slot { slot, generation } = reply {
@@ -124,7 +125,7 @@ impl Home {
     // A conversation connects with the pair that was granted.
     fn connects(self, slot: u32, generation: u64, reply: &Reply, owed: &mut Duties)
         requires { most_following reply.now ≤ owed.old.room }
-        ensures list { (remote : AnyAddr) (port : Option ℕ) (with : AnyWith) → owed.new.list ≡ owed.old.list ++ follow_up (name.Dir self.host self.proto) self.stamp (event.Grant slot generation remote port) with reply.now }
+        ensures list { (remote : AnyAddr) (port : Option ℕ) (with : AnyWith) → Adds owed.old owed.new (asks self (event.Grant slot generation remote port) with reply.now) }
         ensures room { owed.old.room ≤ owed.new.room + most_following reply.now }
     {
         if let Reply::Granted { pair, start, limit } = reply {
@@ -148,7 +149,7 @@ impl Home {
         owed: &mut Duties,
     )
         requires { most_following reply.now ≤ owed.old.room }
-        ensures list { (with : AnyWith) → owed.new.list ≡ owed.old.list ++ follow_up (name.Dir self.host self.proto) self.stamp (event.Announce slot generation ip port) with reply.now }
+        ensures list { (with : AnyWith) → Adds owed.old owed.new (asks self (event.Announce slot generation ip port) with reply.now) }
         ensures room { owed.old.room ≤ owed.new.room + most_following reply.now }
     {
         if let Reply::Ok = reply {
@@ -163,7 +164,7 @@ impl Home {
     // A conversation is bound to the port.
     fn binds(self, slot: u32, generation: u64, port: u16, reply: &Reply, owed: &mut Duties)
         requires { most_following reply.now ≤ owed.old.room }
-        ensures list { (with : AnyWith) → owed.new.list ≡ owed.old.list ++ follow_up (name.Dir self.host self.proto) self.stamp (event.Bind slot generation port) with reply.now }
+        ensures list { (with : AnyWith) → Adds owed.old owed.new (asks self (event.Bind slot generation port) with reply.now) }
         ensures room { owed.old.room ≤ owed.new.room + most_following reply.now }
     {
         if let Reply::Ok = reply {
@@ -175,7 +176,7 @@ impl Home {
     // The call that was listened for is claimed.
     fn claims(self, reply: &Reply, owed: &mut Duties)
         requires { most_following reply.now ≤ owed.old.room }
-        ensures list { (slot : ℕ) (with : AnyWith) → owed.new.list ≡ owed.old.list ++ follow_up (name.Dir self.host self.proto) self.stamp (event.Listen slot) with reply.now }
+        ensures list { (slot : ℕ) (with : AnyWith) → Adds owed.old owed.new (asks self (event.Listen slot) with reply.now) }
         ensures room { owed.old.room ≤ owed.new.room + most_following reply.now }
     {
         if let Reply::Call { slot, generation } = reply {
@@ -189,7 +190,7 @@ impl Home {
     // A packet arrives at its conversation, or bears one.
     fn arrives(self, with: With, reply: &Reply, owed: &mut Duties)
         requires { most_following reply.now ≤ owed.old.room }
-        ensures list { owed.new.list ≡ owed.old.list ++ follow_up (name.Dir self.host self.proto) self.stamp event.Arrive with reply.now }
+        ensures list { Adds owed.old owed.new (asks self event.Arrive with reply.now) }
         ensures room { owed.old.room ≤ owed.new.room + most_following reply.now }
     {
         let With::Packet(packet) = with else {
@@ -225,8 +226,8 @@ impl Home {
     // The calls that waited are closed.
     fn closes(self, reply: &Reply, owed: &mut Duties)
         requires { most_following reply.now ≤ owed.old.room }
-        ensures withdraw { (slot generation : ℕ) (with : AnyWith) → owed.new.list ≡ owed.old.list ++ follow_up (name.Dir self.host self.proto) self.stamp (event.Withdraw slot generation) with reply.now }
-        ensures release { (slot generation : ℕ) (with : AnyWith) → owed.new.list ≡ owed.old.list ++ follow_up (name.Dir self.host self.proto) self.stamp (event.Release slot generation) with reply.now }
+        ensures withdraw { (slot generation : ℕ) (with : AnyWith) → Adds owed.old owed.new (asks self (event.Withdraw slot generation) with reply.now) }
+        ensures release { (slot generation : ℕ) (with : AnyWith) → Adds owed.old owed.new (asks self (event.Release slot generation) with reply.now) }
         ensures room { owed.old.room ≤ owed.new.room + most_following reply.now }
     {
         if let Reply::Calls { calls } = reply {
@@ -237,7 +238,7 @@ impl Home {
     // Each call is closed.
     fn close_calls(self, calls: &[Call], owed: &mut Duties)
         requires { length calls.now ≤ owed.old.room }
-        ensures list { owed.new.list ≡ owed.old.list ++ close_calls self.host self.proto self.stamp calls.now }
+        ensures list { Adds owed.old owed.new (close_calls self.host self.proto self.stamp calls.now) }
         ensures room { owed.old.room ≤ owed.new.room + length calls.now }
     {
         for call in calls {

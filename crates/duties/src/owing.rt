@@ -1,13 +1,11 @@
 //! What the entry of a step owes.
-ghost use Rattle.std.specs.Prelude.{◌≡◌, ◌+◌, ◌<◌, ◌≤◌, ◌^◌, ◌++◌};
+ghost use Rattle.std.specs.Prelude.{◌≡◌, ◌+◌, ◌<◌, ◌≤◌, ◌^◌};
 ghost use Rattle.std.specs.Option.{option_map};
-ghost use Rattle.net_base.specs.declared.world.World.{World as AnyWorld};
-ghost use Rattle.net_base.specs.Duties.{courier_duty, emitted_put, follow_up, forwarded, put_by, proto_of as spec_proto_of};
+ghost use Rattle.net_base.specs.Duties.{courier_duty, emitted_put, forwarded, put_by, proto_of as spec_proto_of};
 ghost use Rattle.net_base.specs.Headers.{header};
 ghost use Rattle.net_base.specs.Routes.{way};
-ghost use Rattle.duties.specs.Owing.{Owes, if_any, most_following, most_owed as most_owed_of};
+ghost use Rattle.duties.specs.Owing.{AddsIn, Owes, if_any, most_following, most_owed as most_owed_of};
 ghost use Rattle.duties.specs.Showing.{shows};
-ghost use Rattle.duties.specs.WaysOf.{AreWaysOfWorld};
 
 use crate::follow_up::owe_follow_up;
 use crate::queue::Duties;
@@ -82,7 +80,7 @@ impl WorldWays {
     ) -> Shown
         requires { most_owed_of outcome ≤ owed.old.room }
         ensures shown { result ≡ shows work.event outcome }
-        ensures owes { (w : AnyWorld) → AreWaysOfWorld w self.now → Owes w actor stamp work outcome owed.old.list owed.new.list }
+        ensures owes { Owes self.now actor stamp work outcome owed.old owed.new }
         ensures room { owed.old.room ≤ owed.new.room + most_owed_of outcome }
     {
         let Work { event, with } = work;
@@ -109,7 +107,7 @@ impl WorldWays {
     // The put of the packet that the actor of a host emits.
     fn owe_put(&self, actor: ActorName, stamp: u64, emit: Option<Packet>, owed: &mut Duties)
         requires { if_any emit ≤ owed.old.room }
-        ensures list { (w : AnyWorld) → AreWaysOfWorld w self.now → owed.new.list ≡ owed.old.list ++ emitted_put w actor stamp emit }
+        ensures list { AddsIn self.now owed.old owed.new (λ w. emitted_put w actor stamp emit) }
         ensures room { owed.old.room ≤ owed.new.room + if_any emit }
     {
         let Some(packet) = emit else {
@@ -125,7 +123,7 @@ impl WorldWays {
     // A packet of a host is put by its way, and dropped where there is none.
     fn put(&self, host: u32, stamp: u64, packet: Packet, owed: &mut Duties)
         requires { 1 ≤ owed.old.room }
-        ensures list { (w : AnyWorld) → AreWaysOfWorld w self.now → owed.new.list ≡ owed.old.list ++ put_by (way w host packet.dst.ip) stamp packet }
+        ensures list { AddsIn self.now owed.old owed.new (λ w. put_by (way w host packet.dst.ip) stamp packet) }
         ensures room { owed.old.room ≤ owed.new.room + 1 }
     {
         let Some(way) = self.way(host, packet.dst.ip) else {
@@ -143,7 +141,7 @@ impl WorldWays {
     // A copy that a courier took arrives where its destination is, or is forwarded.
     fn owe_copy(&self, actor: ActorName, stamp: u64, taken: Option<Taken>, owed: &mut Duties)
         requires { if_any taken ≤ owed.old.room }
-        ensures list { (w : AnyWorld) → AreWaysOfWorld w self.now → owed.new.list ≡ owed.old.list ++ courier_duty w actor stamp taken }
+        ensures list { AddsIn self.now owed.old owed.new (λ w. courier_duty w actor stamp taken) }
         ensures room { owed.old.room ≤ owed.new.room + if_any taken }
     {
         let Some(Taken {
@@ -168,7 +166,7 @@ impl WorldWays {
     // A packet goes on with a lower ttl. At ttl 1 or less it is dropped.
     fn forward(&self, host: u32, stamp: u64, packet: Packet, owed: &mut Duties)
         requires { 1 ≤ owed.old.room }
-        ensures list { (w : AnyWorld) → AreWaysOfWorld w self.now → owed.new.list ≡ owed.old.list ++ forwarded w host stamp packet }
+        ensures list { AddsIn self.now owed.old owed.new (λ w. forwarded w host stamp packet) }
         ensures room { owed.old.room ≤ owed.new.room + 1 }
     {
         if packet.ttl <= 1 {

@@ -1,6 +1,7 @@
 //! What a caller owes, in order.
-ghost use Rattle.std.specs.Prelude.{◌≡◌, ◌+◌, ◌<◌, ◌≤◌, ◌==◌, ◌++◌, [], ◌∷◌, drop, length, option_copied, slice_get, OnOk};
+ghost use Rattle.std.specs.Prelude.{◌≡◌, ◌+◌, ◌<◌, ◌≤◌, ◌==◌, [], ◌∷◌, drop, length, option_copied, slice_get, OnErr, OnOk};
 ghost use Rattle.net_base.specs.Duties.{owes};
+ghost use Rattle.duties.specs.Queue.{Adds};
 
 use crate::duty::Duty;
 use net_base::{ActorName, Event, With, Work};
@@ -69,6 +70,7 @@ impl Duties {
         ensures list { self.new.list ≡ self.old.list }
         ensures kept { self.old.room ≤ self.new.room }
         ensures ok { OnOk result (count ≤ self.new.room) }
+        ensures err { OnErr result (self.old.room < count) }
     {
         self.queue.reserve(count)
     }
@@ -76,7 +78,7 @@ impl Duties {
     /// A duty is owed after the others. It takes no memory.
     pub fn push(&mut self, duty: Duty)
         requires { 0 < self.old.room }
-        ensures list { self.new.list ≡ self.old.list ++ duty ∷ [] }
+        ensures list { Adds self.old self.new (duty ∷ []) }
         ensures room { self.new.room + 1 ≡ self.old.room }
     {
         self.queue.push_back_reserved(duty);
@@ -84,7 +86,7 @@ impl Duties {
     /// An event is owed at an actor after the others. It takes no memory.
     pub fn owe(&mut self, cites: u64, actor: ActorName, event: Event, with: With)
         requires { 0 < self.old.room }
-        ensures list { self.new.list ≡ self.old.list ++ owes cites actor event with }
+        ensures list { Adds self.old self.new (owes cites actor event with) }
         ensures room { self.new.room + 1 ≡ self.old.room }
     {
         self.push(Duty {

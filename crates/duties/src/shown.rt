@@ -1,6 +1,8 @@
 //! What an entry shows of its step.
 ghost use Rattle.std.specs.Prelude.{◌≡◌};
-ghost use Rattle.duties.specs.Showing.{shown_entry};
+ghost use Rattle.net_base.specs.declared.history.Outcome.{Outcome as AnyOutcome};
+ghost use Rattle.net_base.specs.Legal.{shown_by, shown_of};
+ghost use Rattle.duties.specs.Showing.{shown_entry, shows};
 
 use net_base::{ActorName, Entry, Event, Header, Reply};
 
@@ -22,7 +24,8 @@ pub fn entry_of(
     cites: Option<u64>,
     shown: Shown,
 ) -> Entry
-    ensures { result ≡ shown_entry actor caller moment cites shown }
+    ensures entry { result ≡ shown_entry actor caller moment cites shown }
+    ensures shows { (o : AnyOutcome) → shown ≡ shows shown.event o → shown_by result ≡ shown_of o }
 {
     let Shown {
         event,
