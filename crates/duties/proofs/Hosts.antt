@@ -45,9 +45,10 @@ past_end (x ∷ xs) (suc n) le = past_end xs n (omega (arith, le))
 at_host : (w : World) (ks : List HostWays) (h ip : ℕ) (o : Option HostWays) → slice_get ks h ≡ o → length ks ≡ length w.hosts → AreSoFar w ks
     → (way_at ks h ip ≡ way w h ip) × (has_at ks h ip ≡ has_address w h ip)
 unfolding AreWaysOf
-at_host w ks h ip (Some k) is count all =
-    (ap (λ (o : Option HostWays). option_and_then (λ (k : HostWays). way_to k ip) o) is ∙ (all h k is ip).0,
-    ap (λ (o : Option HostWays). option_map_or (λ (k : HostWays). is_own k ip) o false) is ∙ (all h k is ip).1)
+at_host w ks h ip (Some k) is count all = (
+  ap (λ (o : Option HostWays). option_and_then (λ (k : HostWays). way_to k ip) o) is ∙ (all h k is ip).0,
+  ap (λ (o : Option HostWays). option_map_or (λ (k : HostWays). is_own k ip) o false) is ∙ (all h k is ip).1,
+)
 at_host w ks h ip None is count all =
     let none : slice_get w.hosts h ≡ None = past_end w.hosts h (beyond ks h is (length w.hosts) count) in
     (rw (is, none) refl, rw (is, none) refl)

@@ -31,8 +31,8 @@ pub record Gives (w : World) (a : ActorName) (work : Work) (o : Outcome) (step :
   pub gives : actor_step w a before now work ≡ Some step
   pub outcome : without_copy step.outcome ≡ without_copy o
 
--- the entry of this stamp owes what the definitions say, after what was owed before: in each world of which the ways are, for
--- each step that gives this outcome, and wherever the other actors stand; but a move of the clock owes ticks
+-- the entry of this stamp owes what the definitions say, after what was owed before: in each world of which the ways
+-- are, for each step that gives this outcome, and wherever the other actors stand; but not the ticks of a move
 abbrev pub Owes : List HostWays → ActorName → ℕ → Work → Outcome → Queue → Queue → Type 0
 Owes ks a stamp work o old new =
     (w : World) → AreWaysOfWorld w ks → (actors : ActorName → Actor) (step : Step Actor)

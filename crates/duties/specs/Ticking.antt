@@ -26,7 +26,7 @@ ticks_of s now dues = flat_map (tick_of s now) dues
 abbrev pub due_at : (ActorName → Actor) → ActorName → Option Due
 due_at actors (name.Conv h p n) =
     option_map
-    (λ (moment : ℕ). record { host = h; proto = p; slot = n; generation = generation_of (actors (name.Conv h p n)); due = moment })
+    (λ (due : ℕ). record { host = h; proto = p; slot = n; generation = generation_of (actors (name.Conv h p n)); due = due })
     (due_of (actors (name.Conv h p n)))
 due_at actors _ = None
 
@@ -44,4 +44,5 @@ MoveOwes w actors stamp now =
 -- where these are the due moments of a world's conversations, the ticks of a move are owed after what was owed before
 abbrev pub AddsTicks : ℕ → ℕ → List Due → Queue → Queue → Type 0
 AddsTicks stamp now dues old new =
-    (w : World) (actors : ActorName → Actor) → dues ≡ dues_of w actors → Adds old new (ticks w actors name.Clock stamp (event.Move now))
+    (w : World) (actors : ActorName → Actor) → dues ≡ dues_of w actors
+    → Adds old new (ticks w actors name.Clock stamp (event.Move now))

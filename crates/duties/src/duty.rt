@@ -16,12 +16,13 @@ pub struct Duty {
 
 impl Model for Duty {
     ghost use Rattle.net_base.specs.Duties.{Duty as AnyDuty};
+    ghost use Rattle.duties.specs.Queue.{work_of_duty};
 
     ghost Value = { AnyDuty };
 
     ghost view = { λ d. record { actor = d.actor; event = d.work.event; with = d.work.with; cites = d.cites } };
 
-    ghost inverse = { λ d. record { actor = d.actor; work = record { event = d.event; with = d.with }; cites = d.cites } };
+    ghost inverse = { λ d. record { actor = d.actor; work = work_of_duty d; cites = d.cites } };
 }
 
 impl Duty {

@@ -4,7 +4,7 @@ ghost use Rattle.net_base.specs.declared.address.Addr.{Addr as AnyAddr};
 ghost use Rattle.net_base.specs.declared.event.Event.TheVariants as event;
 ghost use Rattle.net_base.specs.declared.history.With.{With as AnyWith};
 ghost use Rattle.net_base.specs.Duties.{close_calls, follow_up};
-ghost use Rattle.duties.specs.Following.{asks, leaves, owes_at};
+ghost use Rattle.duties.specs.Following.{AddsAsked, asks, leaves, owes_at};
 ghost use Rattle.duties.specs.Owing.{most_following};
 ghost use Rattle.duties.specs.Queue.{Adds};
 
@@ -111,7 +111,7 @@ impl Home {
     // A slot that was reserved begins.
     fn begins(self, reply: &Reply, owed: &mut Duties)
         requires { most_following reply.now ≤ owed.old.room }
-        ensures list { (with : AnyWith) → Adds owed.old owed.new (asks self event.Reserve with reply.now) }
+        ensures list { AddsAsked self event.Reserve reply.now owed.old owed.new }
         ensures room { owed.old.room ≤ owed.new.room + most_following reply.now }
     {
         if let Reply::Slot { slot, generation } = reply {
@@ -125,7 +125,7 @@ impl Home {
     // A conversation connects with the pair that was granted.
     fn connects(self, slot: u32, generation: u64, reply: &Reply, owed: &mut Duties)
         requires { most_following reply.now ≤ owed.old.room }
-        ensures list { (remote : AnyAddr) (port : Option ℕ) (with : AnyWith) → Adds owed.old owed.new (asks self (event.Grant slot generation remote port) with reply.now) }
+        ensures list { (r : AnyAddr) (p : Option ℕ) → AddsAsked self (event.Grant slot generation r p) reply.now owed.old owed.new }
         ensures room { owed.old.room ≤ owed.new.room + most_following reply.now }
     {
         if let Reply::Granted { pair, start, limit } = reply {
@@ -149,7 +149,7 @@ impl Home {
         owed: &mut Duties,
     )
         requires { most_following reply.now ≤ owed.old.room }
-        ensures list { (with : AnyWith) → Adds owed.old owed.new (asks self (event.Announce slot generation ip port) with reply.now) }
+        ensures list { AddsAsked self (event.Announce slot generation ip port) reply.now owed.old owed.new }
         ensures room { owed.old.room ≤ owed.new.room + most_following reply.now }
     {
         if let Reply::Ok = reply {
@@ -164,7 +164,7 @@ impl Home {
     // A conversation is bound to the port.
     fn binds(self, slot: u32, generation: u64, port: u16, reply: &Reply, owed: &mut Duties)
         requires { most_following reply.now ≤ owed.old.room }
-        ensures list { (with : AnyWith) → Adds owed.old owed.new (asks self (event.Bind slot generation port) with reply.now) }
+        ensures list { AddsAsked self (event.Bind slot generation port) reply.now owed.old owed.new }
         ensures room { owed.old.room ≤ owed.new.room + most_following reply.now }
     {
         if let Reply::Ok = reply {
@@ -176,7 +176,7 @@ impl Home {
     // The call that was listened for is claimed.
     fn claims(self, reply: &Reply, owed: &mut Duties)
         requires { most_following reply.now ≤ owed.old.room }
-        ensures list { (slot : ℕ) (with : AnyWith) → Adds owed.old owed.new (asks self (event.Listen slot) with reply.now) }
+        ensures list { (slot : ℕ) → AddsAsked self (event.Listen slot) reply.now owed.old owed.new }
         ensures room { owed.old.room ≤ owed.new.room + most_following reply.now }
     {
         if let Reply::Call { slot, generation } = reply {
@@ -226,8 +226,8 @@ impl Home {
     // The calls that waited are closed.
     fn closes(self, reply: &Reply, owed: &mut Duties)
         requires { most_following reply.now ≤ owed.old.room }
-        ensures withdraw { (slot generation : ℕ) (with : AnyWith) → Adds owed.old owed.new (asks self (event.Withdraw slot generation) with reply.now) }
-        ensures release { (slot generation : ℕ) (with : AnyWith) → Adds owed.old owed.new (asks self (event.Release slot generation) with reply.now) }
+        ensures withdraw { (n g : ℕ) → AddsAsked self (event.Withdraw n g) reply.now owed.old owed.new }
+        ensures release { (n g : ℕ) → AddsAsked self (event.Release n g) reply.now owed.old owed.new }
         ensures room { owed.old.room ≤ owed.new.room + most_following reply.now }
     {
         if let Reply::Calls { calls } = reply {

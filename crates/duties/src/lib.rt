@@ -9,6 +9,8 @@ mod owing;
 mod queue;
 mod release;
 mod shown;
+#[cfg(test)]
+mod tests;
 mod world_ways;
 
 pub use due::Due;

@@ -12,9 +12,7 @@ use crate::queue::Duties;
 use crate::release::owe_release;
 use crate::shown::Shown;
 use crate::world_ways::WorldWays;
-use net_base::{
-    ActorName, Body, Event, Header, Outcome, Packet, Proto, Reply, Taken, With, Work,
-};
+use net_base::{ActorName, Body, Event, Header, Outcome, Packet, Proto, Reply, Taken, With, Work};
 
 /// How many duties an outcome owes at most, the ticks of a move aside.
 pub fn most_owed(outcome: &Outcome) -> usize
@@ -67,9 +65,9 @@ fn proto_of(body: &Body) -> Proto
 }
 
 impl WorldWays {
-    /// What the entry of this stamp owes is owed after the others: the put of the packet that was emitted, the follow-up of
-    /// the reply or the copy that was taken, and the release of a conversation that ended. A move's ticks are owed apart.
-    /// The answer is what the entry shows.
+    /// What the entry of this stamp owes is owed after the others: the put of the packet that was emitted, the
+    /// follow-up of the reply or the copy that was taken, and the release of a conversation that ended. The ticks of
+    /// a move are owed apart. The answer is what the entry shows.
     pub fn owe(
         &self,
         actor: ActorName,
@@ -144,11 +142,13 @@ impl WorldWays {
         ensures list { AddsIn self.now owed.old owed.new (λ w. courier_duty w actor stamp taken) }
         ensures room { owed.old.room ≤ owed.new.room + if_any taken }
     {
-        let Some(Taken {
-            frame: _,
-            to,
-            packet,
-        }) = taken
+        let Some(
+            Taken {
+                frame: _,
+                to,
+                packet,
+            },
+        ) = taken
         else {
             return;
         };
