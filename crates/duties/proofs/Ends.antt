@@ -23,9 +23,9 @@ use Rattle.net_base.specs.declared.reply.Reply.TheVariants as reply
 use Rattle.net_base.specs.declared.world.World.{World}
 use Rattle.net_base.specs.ControlWords as control
 use Rattle.net_base.specs.ActorStep.{Step, when}
-use Rattle.net_base.specs.Actors.{Actor, IsDir, IsConv, IsMedium, IsPlain, actor_step, has_actor, table_step}
-use Rattle.net_base.specs.Conversation.{Conv, Core, Il, Udp, Stage, Unused, Listening, Connected, answers, conv_step, in_generation, raises, refused_control, awaited, bad_control, binds, brought_forth, closed, core_name, core_written, hung_up, il_read, il_written, is_closed_name, is_over, joined, listed, listens, opened, read_at, taken_in, ticked, udp_read, udp_written, write_at}
-use Rattle.net_base.specs.Duties.{Duty, release}
+use Rattle.net_base.specs.Actors.{Actor, IsConv, table_step}
+use Rattle.net_base.specs.Conversation.{Conv, Core, Il, Udp, Stage, Unused, Connected, answers, conv_step, in_generation, raises, refused_control, awaited, bad_control, binds, brought_forth, closed, core_name, core_written, hung_up, il_read, il_written, is_closed_name, is_over, joined, listed, listens, opened, read_at, taken_in, ticked, udp_read, udp_written, write_at}
+use Rattle.net_base.specs.Duties.{release}
 use Rattle.net_base.specs.IlEnd.{End}
 use Rattle.net_base.specs.IlTable.{has_unread, is_closed, may_go_on, may_write}
 use Rattle.net_base.specs.UdpEnd.{UdpEnd, is_hung_up, udp_state_name}

@@ -1,11 +1,10 @@
 -- The ways that are kept of each host are those of the world.
-use Rattle.std.proofs.Common.{◌≡◌, ℕ, zero, suc, ◌<◌, ◌≤◌, Bool, false, List, [], ◌∷◌, ◌++◌, length, Option, Some, None, slice_get, inl, inr, refl, sym, ap, subst, ◌∙◌, arith, ◌⊎◌}
+use Rattle.std.proofs.Common.{◌≡◌, ℕ, zero, suc, ◌≤◌, false, List, [], ◌∷◌, ◌++◌, length, Option, Some, None, slice_get, inl, inr, refl, sym, ap, subst, ◌∙◌, arith, ◌⊎◌}
 use Rattle.std.specs.Option.{option_map_or, option_and_then}
-use Rattle.std.proofs.lemmas.Option.{none-some, same_Some, slice_get_within}
+use Rattle.std.proofs.lemmas.Option.{none-some, same_Some}
 use Rattle.ip_route.specs.Kept.{AreWaysOf, HostWays, is_own, way_to}
-use Rattle.net_base.specs.declared.world.HostSpec.{HostSpec}
 use Rattle.net_base.specs.declared.world.World.{World}
-use Rattle.net_base.specs.Routes.{Way, way, has_address}
+use Rattle.net_base.specs.Routes.{way, has_address}
 use Rattle.duties.specs.WaysOf.{AreWaysOfWorld, way_at, has_at}
 
 pub way_kept : (w : World) (ks : List HostWays) (h ip : ℕ) → AreWaysOfWorld w ks → way_at ks h ip ≡ way w h ip

@@ -1,5 +1,5 @@
 -- Loops that owe one after the other.
-use Rattle.std.proofs.Common.{◌≡◌, ℕ, ◌+◌, ◌≤◌, List, [], ◌∷◌, ◌++◌, length}
+use Rattle.std.proofs.Common.{◌≡◌, ℕ, ◌+◌, ◌≤◌, List, ◌++◌}
 use Rattle.duties.specs.Queue.{Queue}
 use Rattle.net_base.specs.Duties.{Duty}
 

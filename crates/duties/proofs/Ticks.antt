@@ -1,5 +1,5 @@
 -- The ticks by due moments are those of the definitions.
-use Rattle.std.proofs.Common.{◌≡◌, ℕ, List, [], ◌∷◌, ◌++◌, length, map, flat_map, filter_map, Option, Some, None, nat_le, if◌then◌else◌, append-nil, refl, sym, ap, subst, ◌∙◌}
+use Rattle.std.proofs.Common.{◌≡◌, ℕ, List, [], ◌∷◌, ◌++◌, length, map, flat_map, filter_map, Option, Some, None, append-nil, refl, sym, ap, subst, ◌∙◌}
 use Rattle.std.specs.List.{range_with_len}
 use Rattle.std.proofs.lemmas.Grind.{flat_map-append}
 use Rattle.std.proofs.lemmas.List.Elements.{filter_map-append}
@@ -12,9 +12,8 @@ use Rattle.net_base.specs.declared.event.Event.TheVariants as event
 use Rattle.net_base.specs.declared.history.With.{With}
 use Rattle.net_base.specs.declared.world.World.{World}
 use Rattle.net_base.specs.ActorStep.{Step}
-use Rattle.net_base.specs.Actors.{Actor, IsDir, IsConv, IsMedium, IsPlain, actor_step, has_actor, slot_count, table_step}
-use Rattle.net_base.specs.Duties.{Duty, conversations, due_of, duties, generation_of, slots_of, tick_at, ticks}
-use Rattle.duties.specs.declared.due.Due.{Due}
+use Rattle.net_base.specs.Actors.{Actor, IsPlain, actor_step, has_actor, slot_count, table_step}
+use Rattle.net_base.specs.Duties.{Duty, due_of, duties, generation_of, slots_of, tick_at, ticks}
 use Rattle.duties.proofs.Ends.{given_when}
 use Rattle.duties.specs.Ticking.{due_at, dues_of, tick_of, ticks_of}
 

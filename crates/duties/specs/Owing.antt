@@ -1,15 +1,9 @@
 -- What a step owes, by its work and its outcome.
-use Rattle.std.specs.Prelude.{◌≡◌, ℕ, ◌+◌, ◌++◌, Bool, true, false, List, [], length, option_to_list, Option, Some, None, if◌then◌else◌}
+use Rattle.std.specs.Prelude.{◌≡◌, ℕ, ◌+◌, List, length, option_to_list, Option, Some, None, if◌then◌else◌}
 use Rattle.ip_route.specs.Kept.{HostWays}
 use Rattle.net_base.specs.declared.actor.ActorName.{ActorName}
-use Rattle.net_base.specs.declared.actor.ActorName.TheVariants as name
-use Rattle.net_base.specs.declared.event.Event.{Event}
-use Rattle.net_base.specs.declared.event.Event.TheVariants as event
 use Rattle.net_base.specs.declared.history.Outcome.{Outcome}
-use Rattle.net_base.specs.declared.history.Taken.{Taken}
-use Rattle.net_base.specs.declared.history.With.TheVariants as given
 use Rattle.net_base.specs.declared.history.Work.{Work}
-use Rattle.net_base.specs.declared.packet.Packet.{Packet}
 use Rattle.net_base.specs.declared.reply.Reply.{Reply}
 use Rattle.net_base.specs.declared.reply.Reply.TheVariants as reply
 use Rattle.net_base.specs.declared.world.World.{World}

@@ -1,5 +1,5 @@
 -- What an entry shows.
-use Rattle.std.specs.Prelude.{◌≡◌, ℕ, Option}
+use Rattle.std.specs.Prelude.{ℕ, Option}
 use Rattle.std.specs.Option.{option_map}
 use Rattle.duties.specs.declared.shown.Shown.{Shown}
 use Rattle.net_base.specs.declared.actor.ActorName.{ActorName}

@@ -1,5 +1,5 @@
 -- The ticks of a move.
-use Rattle.std.specs.Prelude.{◌≡◌, ℕ, List, [], ◌∷◌, flat_map, filter_map, Option, Some, None, nat_le, if◌then◌else◌}
+use Rattle.std.specs.Prelude.{◌≡◌, ℕ, List, [], flat_map, filter_map, Option, Some, None, nat_le, if◌then◌else◌}
 use Rattle.std.specs.Option.{option_map}
 use Rattle.duties.specs.declared.due.Due.{Due}
 use Rattle.net_base.specs.declared.actor.ActorName.{ActorName}

@@ -1,4 +1,4 @@
-use Rattle.std.proofs.Common.{◌≡◌, ◌++◌, ◌∙◌, List, [], drop, length, ap, append-nil, arith, sym}
+use Rattle.std.proofs.Common.{◌≡◌, ◌++◌, ◌∙◌, List, [], drop, ap, append-nil, arith, sym}
 use Rattle.std.proofs.lemmas.List.{drop_all}
 use Rattle.net_base.specs.Duties.{Duty}
 use Rattle.duties.specs.declared.due.Due.{Due}

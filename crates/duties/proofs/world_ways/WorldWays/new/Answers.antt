@@ -1,4 +1,4 @@
-use Rattle.std.proofs.Common.{arith, length}
+use Rattle.std.proofs.Common.{arith}
 use Rattle.duties.proofs.Hosts.{all_kept}
 use Rattle.duties.proofs.world_ways.WorldWays.new.Goals as goal
 
