@@ -5,17 +5,16 @@ use Rattle.std.proofs.lemmas.List.Elements.{filter-append}
 use mathlib.Core.List.{IsPrefix}
 use Rattle.net_base.specs.declared.history.Entry.{Entry}
 use Rattle.net_base.specs.declared.noted.Number.TheVariants as number
-use Rattle.net_base.specs.declared.world.Script.{Script}
 use Rattle.net_base.specs.declared.world.World.{World}
 use Rattle.net_base.specs.ActorStep.{Step}
 use Rattle.net_base.specs.Actors.{Actor}
 use Rattle.net_base.specs.Callers.{Caller, IsScript, IsCourier, IsClock, IsNobody, caller_of}
 use Rattle.net_base.specs.Duties.{Duty, duties}
 use Rattle.net_base.specs.Net.{Net, opening_net, net_after, next_net, net_of, after, owed, step_of, with_of}
-use Rattle.net_base.specs.Next.{by, next, next_of}
+use Rattle.net_base.specs.Next.{by, next_of}
 use Rattle.net_base.specs.Stamped.{entries_from, of_caller}
 use Rattle.net_base.specs.Steps.{position}
-use Rattle.history_laws.specs.Apart.{StandsStill, OwnStep, step_in, own_steps_from, own_steps, owed_then, owed_by}
+use Rattle.history_laws.specs.Apart.{StandsStill, step_in, own_steps_from, own_steps, owed_then, owed_by}
 use Rattle.history_laws.proofs.Histories.{net_of-append}
 
 no_cons : {A : Type 0} (x : A) (xs : List A) → x ∷ xs ≡ [] → ⊥
