@@ -80,6 +80,6 @@ pub fn full_callers_limit()
 pub fn callers_are_apart()
     ensures fold { (w : World) (h : List Entry) (c : ℕ) → owed w h c ≡ owed_by w [] (own_steps w h c) }
     ensures others { (w : World) (h more : List Entry) (c : ℕ) → by more c ≡ [] → StandsStill w c h (h ++ more) }
-    ensures later { (w : World) (h later : List Entry) (c : ℕ) → IsPrefix h later → by later c ≡ by h c → StandsStill w c h later }
+    ensures later { (w : World) (h l : List Entry) (c : ℕ) → IsPrefix h l → by l c ≡ by h c → StandsStill w c h l }
     ensures stamped { (h : List Entry) (c : ℕ) → by h c ≡ map (λ (y : ℕ × Entry). y.1) (of_caller c h) }
 {}
