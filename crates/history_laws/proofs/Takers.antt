@@ -1,5 +1,5 @@
 -- Which slots are found, and what holds of who takes a packet.
-use Rattle.std.proofs.Common.{◌≡◌, ℕ, zero, suc, ◌+◌, not, Bool, true, false, cond, List, [], ◌∷◌, Option, Some, None, is_none, length, nat_lt, refl, sym, ap, ◌∙◌, subst, if◌then◌else◌, ◌&&◌, slice_get, arith}
+use Rattle.std.proofs.Common.{◌≡◌, ℕ, suc, ◌+◌, not, Bool, true, false, cond, List, [], ◌∷◌, Option, Some, None, is_none, length, nat_lt, refl, ap, ◌∙◌, subst, if◌then◌else◌, ◌&&◌, slice_get, arith}
 use Rattle.std.specs.Option.{option_and_then}
 use Rattle.std.proofs.lemmas.Option.{none-some, same_Some}
 use Rattle.std.proofs.lemmas.Bool.{and_parts, false≢true}
