@@ -1,0 +1,5 @@
+pub mod Requests
+pub mod Fitting
+pub mod Task
+pub use Rattle.net_base.specs.Steps
+pub use Rattle.net_tree.specs.Bindings
