@@ -1,0 +1,3 @@
+pub mod ConvReplies
+pub mod DirReplies
+pub mod Replies
