@@ -172,3 +172,44 @@ actor_goes w a s now work fine = by (has_actor w a)
     by true = table_goes w a s now work fine
     by false = tt
 
+-- Histories.
+
+stays_fine : (s : Actor) (e : Event) (o : Option (Step Actor)) → IsFine s → Goes e o → IsFine (stepped_to s o)
+stays_fine s e None fine goes = fine
+stays_fine s e (Some t) fine goes = goes.0
+
+played_fine : (w : World) (a : ActorName) (s : Actor) (ps : List Play) → IsFine s → IsFine (played w a s ps)
+played_fine w a s [] fine = fine
+played_fine w a s (p ∷ ps) fine = played_fine w a (stepped_to s (actor_step w a s p.moment p.work)) ps (stays_fine s p.work.event (actor_step w a s p.moment p.work) fine (actor_goes w a s p.moment p.work fine))
+
+opening_is_fine : (a : ActorName) → IsFine (opening_actor a)
+opening_is_fine (name.Desk h) = tt
+opening_is_fine (name.Dir h p) = opening_fine
+opening_is_fine (name.Conv h p n) = tt
+opening_is_fine (name.Medium m) = tt
+opening_is_fine name.Clock = tt
+
+fine_after : (w : World) (h : List Entry) (a : ActorName) → IsFine ((after w h).actors a)
+fine_after w h a = subst IsFine (sym (state_is_fold w h a)) (played_fine w a (opening_actor a) (works w h a) (opening_is_fine a))
+
+goes_fits : (e : Event) (o : Option (Step Actor)) (t : Step Actor) → o ≡ Some t → Goes e o → fits e t.outcome.reply ≡ true
+goes_fits e None t is goes = absurd (none-some t is)
+goes_fits e (Some s) t is goes = subst (λ (x : Step Actor). fits e x.outcome.reply ≡ true) (same_Some s t is) goes.1
+
+-- a step of an actor as it is after a history
+pub step_fits : (w : World) (h : List Entry) (a : ActorName) (now : ℕ) (work : Work) (t : Step Actor) → actor_step w a ((after w h).actors a) now work ≡ Some t → fits work.event t.outcome.reply ≡ true
+step_fits w h a now work t is = goes_fits work.event (actor_step w a ((after w h).actors a) now work) t is (actor_goes w a ((after w h).actors a) now work (fine_after w h a))
+
+shown_fits : (x : Entry) (e : Event) (o : Option (Step Actor)) → Goes e o → IsSome (option_map (λ (s : Step Actor). s.outcome) o) → Shows (option_map (λ (s : Step Actor). s.outcome) o) x → fits e x.reply ≡ true
+shown_fits x e None goes ready shows = absurd (false≢true ready)
+shown_fits x e (Some s) goes ready shows = subst (λ (y : Shown). fits e y.reply ≡ true) (sym shows) goes.1
+
+-- an entry that may follow
+follows_fits : (w : World) (net : Net) (x : Entry) → IsFine (net.actors x.actor) → IsSome (outcome_in w net x) → Shows (outcome_in w net x) x → fits x.event x.reply ≡ true
+follows_fits w net x fine ready shows = shown_fits x x.event (step_of w net x) (actor_goes w x.actor (net.actors x.actor) net.moment (work_of net x) fine) ready shows
+
+-- an entry of a legal history
+pub entry_fits : (w : World) (h : List Entry) (k : ℕ) (x : Entry) → IsLegal w h → slice_get h k ≡ Some x → fits x.event x.reply ≡ true
+entry_fits w h k x legal is =
+    let may : MayFollow w (take k h) x = legal k x is in
+    follows_fits w (after w (take k h)) x (fine_after w (take k h) x.actor) may.is_ready may.answers
