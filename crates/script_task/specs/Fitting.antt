@@ -48,5 +48,6 @@ fits (event.Listen n) r = fits_listen r
 fits (event.Open f m) r = fits_open r
 fits (event.OpenPath path m) r = not (is_opening r)
 fits (event.Grant n g remote port) r = fits_grant r
-fits (event.Use called) r = not (has_lines r)
+fits (event.Use called) r = not (is_accepted r)
+fits (event.Misuse called) r = not (is_accepted r)
 fits _ r = not (is_granted r)

@@ -2,7 +2,7 @@
 use net_base::{Mode, Octets};
 
 /// A file operation, which names its file as its caller has bound it. Counts are in bytes, moments in ms.
-#[derive(Debug, Drop)]
+#[derive(Clone, Debug, Drop)]
 pub enum Request {
     /// Opens the file of the path, and binds the name to it.
     Open {
