@@ -69,7 +69,6 @@ pub struct Announce {
 
 impl Announce {
     /// Announces the address, and binds `name` to its ctl file.
-    #[tactic(auto, using(crate::specs::AnnounceLaws::fresh))]
     pub fn new(alloc: Global, name: &[u8], address: &[u8]) -> Result<Announce, AllocError>
         ensures value { IfOk result (λ t. t ≡ record { name = name.now; address = address.now; phase = phase.Fresh; lines = [] }) }
         ensures stands { IfOk result (λ t. (h : ℕ) (names : List Bound) → spec.StandsFor h names t (steps.play_of h names (step.Announce name.now address.now))) }

@@ -109,7 +109,6 @@ impl Model for Dial {
 
 impl Dial {
     /// Dials the address, and binds `name` to the data file of what was dialled.
-    #[tactic(auto, using(crate::specs::DialTasks::fresh))]
     pub fn new(alloc: Global, name: &[u8], address: &[u8]) -> Result<Dial, AllocError>
         ensures value { IfOk result (λ d. d ≡ record { called = name.now; address = address.now; phase = phase.Fresh; lines = [] }) }
         ensures stands { IfOk result (λ d. (h : ℕ) (names : List Bound) → spec.StandsFor h names d (steps.play_of h names (step.Dial name.now address.now))) }
