@@ -1,10 +1,10 @@
 -- An announce asks and moves as its play does.
-use Rattle.std.proofs.Common.{◌≡◌, ℕ, ◌<◌, Bool, true, false, List, [], ◌∷◌, ◌++◌, Option, Some, None, codes, if◌then◌else◌, refl, sym, ap, subst, rules}
+use Rattle.std.proofs.Common.{◌≡◌, ℕ, Bool, true, false, List, [], ◌∷◌, ◌++◌, Option, Some, codes, if◌then◌else◌, refl, sym, ap, subst, rules}
 use Rattle.net_base.specs.declared.names.Mode.TheVariants as mode
 use Rattle.net_base.specs.declared.reply.Reply.{Reply}
 use Rattle.net_base.specs.declared.world.Step.TheVariants as step
 use Rattle.net_base.specs.Paths.{walk, writes}
-use Rattle.net_base.specs.Steps.{Ask, Bound, Fid, Play, Ends, fid_of, is_bound, bind, unbind, uses, on_fid, puts, closes, asks_cs, netmkaddr, opened_fid, openable, announces, clone_path, line_address, lines_in, is_accepted, if_accepted, play_of}
+use Rattle.net_base.specs.Steps.{Bound, Fid, Play, Ends, fid_of, is_bound, bind, unbind, uses, on_fid, puts, closes, asks_cs, netmkaddr, opened_fid, openable, announces, clone_path, line_address, lines_in, is_accepted, if_accepted, play_of}
 use Rattle.dial_lib.specs.declared.announce.Announce.{Announce}
 use Rattle.dial_lib.specs.declared.announce.AnnouncePhase.{AnnouncePhase}
 use Rattle.dial_lib.specs.declared.announce.AnnouncePhase.TheVariants as phase
@@ -17,7 +17,7 @@ use Rattle.dial_lib.specs.Puts.{puts_head, put_other, announces_other}
 use Rattle.script_task.specs.declared.request.Request.{Request}
 use Rattle.script_task.specs.declared.request.Request.TheVariants as request
 use Rattle.script_task.specs.Fitting.{is_opening}
-use Rattle.script_task.specs.Requests.{head, planned, settled, settles, bound_after}
+use Rattle.script_task.specs.Requests.{settled, settles, bound_after}
 use Rattle.script_task.specs.Task.{Heads, AsksSo, MovesSo, follow, fits_play}
 
 -- Its requests.

@@ -1,5 +1,5 @@
 -- The steps that open another file of a conversation ask and move as their plays do.
-use Rattle.std.proofs.Common.{◌≡◌, ℕ, ◌<◌, Bool, true, false, List, Option, Some, None, if◌then◌else◌, refl, sym, ap, subst, rules}
+use Rattle.std.proofs.Common.{◌≡◌, ℕ, ◌<◌, Bool, true, false, List, Option, Some, None, if◌then◌else◌, refl, sym, subst, rules}
 use Rattle.net_base.specs.declared.names.FileName.{FileName}
 use Rattle.net_base.specs.declared.names.FileName.TheVariants as file
 use Rattle.net_base.specs.declared.names.Mode.TheVariants as mode
@@ -7,7 +7,7 @@ use Rattle.net_base.specs.declared.names.Node.TheVariants as node
 use Rattle.net_base.specs.declared.reply.Reply.{Reply}
 use Rattle.net_base.specs.declared.world.Step.TheVariants as step
 use Rattle.net_base.specs.Paths.{walk, path_of, is_read_alone}
-use Rattle.net_base.specs.Steps.{Ask, Bound, Fid, Play, Ends, fid_of, is_bound, bind, uses, on_fid, opens_beside, opened_fid, openable, play_of}
+use Rattle.net_base.specs.Steps.{Bound, Fid, Play, Ends, fid_of, is_bound, bind, uses, on_fid, opens_beside, opened_fid, openable, play_of}
 use Rattle.dial_lib.specs.declared.beside.Listen.{Listen}
 use Rattle.dial_lib.specs.declared.beside.Accept.{Accept}
 use Rattle.dial_lib.specs.Beside as spec
@@ -19,7 +19,7 @@ use Rattle.dial_lib.specs.Moves.{MovesBy, moves_from}
 use Rattle.dial_lib.specs.Names.{slot_of}
 use Rattle.dial_lib.specs.Slots.{HaveSlots}
 use Rattle.script_task.specs.declared.request.Request.TheVariants as request
-use Rattle.script_task.specs.Requests.{head, planned, settled, settles, bound_after}
+use Rattle.script_task.specs.Requests.{settled, settles, bound_after}
 use Rattle.script_task.specs.Task.{Heads, AsksSo, MovesSo, follow}
 
 -- The file's path names the file.

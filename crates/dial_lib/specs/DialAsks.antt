@@ -1,15 +1,13 @@
 -- A dial asks for what its play records.
-use Rattle.std.proofs.Common.{◌≡◌, ℕ, Bool, true, false, List, [], ◌∷◌, ◌++◌, Option, Some, None, codes, if◌then◌else◌, refl}
+use Rattle.std.proofs.Common.{◌≡◌, ℕ, Bool, true, false, List, [], ◌∷◌, ◌++◌, Some, codes, if◌then◌else◌, refl}
 use Rattle.net_base.specs.declared.names.FileName.TheVariants as file
-use Rattle.net_base.specs.Steps.{Bound, Fid, Play, Ends, fid_of, is_bound, bind, uses, asks_cs, closes_last, connected, dials, netmkaddr, dotted_name, line_address}
+use Rattle.net_base.specs.Steps.{Bound, Fid, Play, fid_of, is_bound, bind, uses, asks_cs, closes_last, connected, dials, netmkaddr, dotted_name, line_address}
 use Rattle.dial_lib.specs.declared.dial.Phase.{Phase}
 use Rattle.dial_lib.specs.AnnounceLaws.{found, writing_heads}
 use Rattle.dial_lib.specs.BesideLaws.{opens_head}
-use Rattle.dial_lib.specs.Dials as spec
-use Rattle.dial_lib.specs.Dials.{Stands, IsFresh, IsOpen, IsOver, IsWrite, IsWait, IsRetry, IsData, IsClose, IsThrough, Holds, asks_by, begins, retrying}
+use Rattle.dial_lib.specs.Dials.{Stands, IsFresh, IsOpen, IsOver, IsWrite, IsWait, IsRetry, IsData, IsClose, IsThrough, Holds, asks_by, retrying}
 use Rattle.dial_lib.specs.Names.{apart}
 use Rattle.script_task.specs.declared.request.Request.TheVariants as request
-use Rattle.script_task.specs.Requests.{head, planned}
 use Rattle.script_task.specs.Task.{Heads}
 
 fresh : (h : ℕ) (names : List Bound) (called dotted address : List ℕ) (next : List (List ℕ) → Play) (b c : Bool)

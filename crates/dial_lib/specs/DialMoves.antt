@@ -1,5 +1,5 @@
 -- A dial goes on by each reply as its play does.
-use Rattle.std.proofs.Common.{◌≡◌, ℕ, Bool, true, false, List, [], ◌∷◌, ◌++◌, Option, Some, None, codes, if◌then◌else◌, refl, sym, subst, ap, rules}
+use Rattle.std.proofs.Common.{◌≡◌, ℕ, Bool, true, false, List, [], ◌∷◌, ◌++◌, Option, Some, None, codes, if◌then◌else◌, refl, ap, rules}
 use Rattle.net_base.specs.declared.names.FileName.TheVariants as file
 use Rattle.net_base.specs.declared.names.Mode.TheVariants as mode
 use Rattle.net_base.specs.declared.names.Node.TheVariants as node
@@ -11,7 +11,7 @@ use Rattle.dial_lib.specs.declared.dial.Phase.TheVariants as phase
 use Rattle.dial_lib.specs.AnnounceLaws.{front_left, open_settle}
 use Rattle.dial_lib.specs.BesideLaws.{opens_settle}
 use Rattle.dial_lib.specs.DialAsks.{made_found, still_free}
-use Rattle.dial_lib.specs.Dials.{Stands, IsFresh, IsOpen, IsOver, IsWrite, IsWait, IsRetry, IsData, IsClose, IsThrough, Free, Holds, asks_by, begins, opens_data, connecting, retrying, waiting, phase_after, lines_after}
+use Rattle.dial_lib.specs.Dials.{Stands, IsFresh, IsOpen, IsOver, IsWrite, IsWait, IsRetry, IsData, IsClose, IsThrough, Free, Holds, asks_by, begins, opens_data, connecting, retrying, phase_after, lines_after}
 use Rattle.dial_lib.specs.Moves.{by_test, no_lines}
 use Rattle.dial_lib.specs.Names.{apart_too}
 use Rattle.dial_lib.specs.Openings.{flip, Gave, Opens, Refuses, gave, path_range}

@@ -23,6 +23,7 @@ pub mod DialAsks
 pub mod DialMoves
 pub mod DialTasks
 pub mod StepTasks
+pub mod StepLaws
 pub use Rattle.net_base.specs.Steps
 pub use Rattle.script_task.specs.Task
 pub use Rattle.script_task.specs.Requests

@@ -1,6 +1,6 @@
 -- Names that are bound: a name and its dotted one, and the slots of their files.
-use Rattle.std.proofs.Common.{◌≡◌, ℕ, ◌<◌, suc, ap, Bool, true, false, ◌&&◌, not, List, [], ◌∷◌, ◌++◌, length, subst, filter, nat_lt, Option, Some, None, bytes_eq, if◌then◌else◌, refl, rules, tests, arith}
-use Rattle.std.specs.List.{list_all, list_any}
+use Rattle.std.proofs.Common.{◌≡◌, ℕ, ◌<◌, ap, Bool, true, false, ◌&&◌, not, List, [], ◌∷◌, length, subst, nat_lt, Some, bytes_eq, if◌then◌else◌, refl, rules, tests, arith}
+use Rattle.std.specs.List.{list_all}
 use Rattle.std.proofs.lemmas.Option.{none-some, same_Some}
 use Rattle.net_base.specs.Steps.{Bound, Fid, fid_of, is_bound, bind, unbind, dotted_name}
 use Rattle.dial_lib.specs.Slots.{HaveSlots, in_slots}

@@ -1,5 +1,5 @@
 -- A step of one request asks for its play's event and ends after the reply.
-use Rattle.std.proofs.Common.{◌≡◌, ℕ, Bool, true, false, List, Option, Some, None, refl, sym, subst}
+use Rattle.std.proofs.Common.{◌≡◌, ℕ, Bool, true, List, Some, refl, sym, subst}
 use Rattle.net_base.specs.declared.reply.Reply.{Reply}
 use Rattle.net_base.specs.Steps.{Bound, Play}
 use Rattle.dial_lib.specs.declared.one_request.OneRequest.{OneRequest}
@@ -7,7 +7,7 @@ use Rattle.dial_lib.specs.Moves.{MovesBy, moves_from}
 use Rattle.dial_lib.specs.OneRequest as spec
 use Rattle.dial_lib.specs.OneRequest.{Stands, IsFresh, IsThrough}
 use Rattle.script_task.specs.declared.request.Request.{Request}
-use Rattle.script_task.specs.Requests.{request_play, settled, settles}
+use Rattle.script_task.specs.Requests.{settled, settles}
 use Rattle.script_task.specs.Task.{Heads, AsksSo, MovesSo, follow}
 
 heads : (h : ℕ) (names : List Bound) (q : Request) (b : Bool) (p : Play) → Stands h names q b p → Heads h names (spec.asks_by q b) p

@@ -1,9 +1,9 @@
 -- A reject asks and moves as its play does.
-use Rattle.std.proofs.Common.{◌≡◌, ℕ, Bool, true, false, List, Option, Some, None, codes, if◌then◌else◌, refl, sym, subst, ap}
+use Rattle.std.proofs.Common.{◌≡◌, ℕ, Bool, true, false, List, Option, Some, None, codes, if◌then◌else◌, refl, sym, subst}
 use Rattle.net_base.specs.declared.reply.Reply.{Reply}
 use Rattle.net_base.specs.declared.world.Step.TheVariants as step
 use Rattle.net_base.specs.Paths.{writes}
-use Rattle.net_base.specs.Steps.{Ask, Bound, Fid, Play, Ends, fid_of, on_fid, puts, uses, misuses, is_accepted, if_accepted, play_of}
+use Rattle.net_base.specs.Steps.{Ask, Bound, Fid, Play, Ends, fid_of, on_fid, puts, uses, misuses, is_accepted, play_of}
 use Rattle.dial_lib.specs.declared.reject.Reject.{Reject}
 use Rattle.dial_lib.specs.declared.reject.RejectPhase.{RejectPhase}
 use Rattle.dial_lib.specs.declared.reject.RejectPhase.TheVariants as phase
@@ -12,9 +12,7 @@ use Rattle.dial_lib.specs.Openings.{flip}
 use Rattle.dial_lib.specs.Puts.{puts_head, put_other, hangs}
 use Rattle.dial_lib.specs.Reject as spec
 use Rattle.dial_lib.specs.Reject.{Stands, IsWrite, IsClose, IsThrough, closing}
-use Rattle.script_task.specs.declared.request.Request.{Request}
-use Rattle.script_task.specs.declared.request.Request.TheVariants as request
-use Rattle.script_task.specs.Requests.{head, planned, settles}
+use Rattle.script_task.specs.Requests.{head, settles}
 use Rattle.script_task.specs.Task.{Heads, AsksSo, MovesSo, follow, fits_play}
 
 -- Its requests.

@@ -1,8 +1,8 @@
 -- A step that writes a text asks and moves as its play does.
-use Rattle.std.proofs.Common.{◌≡◌, ℕ, Bool, true, false, List, Option, Some, None, if◌then◌else◌, refl, sym, ap}
+use Rattle.std.proofs.Common.{◌≡◌, ℕ, Bool, true, false, List, Option, Some, None, if◌then◌else◌, refl}
 use Rattle.net_base.specs.declared.reply.Reply.{Reply}
 use Rattle.net_base.specs.Paths.{writes}
-use Rattle.net_base.specs.Steps.{Ask, Bound, Fid, Play, Asks, Ends, fid_of, on_fid, puts, uses, misuses, is_accepted, if_accepted, conversation_of}
+use Rattle.net_base.specs.Steps.{Ask, Bound, Fid, Play, Ends, fid_of, on_fid, puts, uses, misuses, is_accepted}
 use Rattle.dial_lib.specs.declared.write_text.WritePhase.{WritePhase}
 use Rattle.dial_lib.specs.declared.write_text.WritePhase.TheVariants as phase
 use Rattle.dial_lib.specs.declared.write_text.WriteText.{WriteText}
@@ -11,9 +11,8 @@ use Rattle.dial_lib.specs.Openings.{flip}
 use Rattle.dial_lib.specs.Puts.{Put, Waits, Goes, put, puts_head, granted_no}
 use Rattle.dial_lib.specs.WriteText as spec
 use Rattle.dial_lib.specs.WriteText.{Stands, IsWrite, IsWait, IsThrough}
-use Rattle.script_task.specs.declared.request.Request.{Request}
 use Rattle.script_task.specs.declared.request.Request.TheVariants as request
-use Rattle.script_task.specs.Requests.{head, planned, request_play, settles}
+use Rattle.script_task.specs.Requests.{head, request_play, settles}
 use Rattle.script_task.specs.Task.{Heads, AsksSo, MovesSo, follow, fits_play}
 
 -- what is written through a name: it isn't bound, it isn't writable, or the text goes to its file

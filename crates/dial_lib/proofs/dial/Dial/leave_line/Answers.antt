@@ -1,4 +1,4 @@
-use Rattle.std.proofs.Common.{◌≡◌, ℕ, List, ap}
+use Rattle.std.proofs.Common.{ℕ, List, ap}
 use Rattle.dial_lib.proofs.Tried.{drop_more}
 use Rattle.dial_lib.proofs.dial.Dial.leave_line.Goals as goal
 
