@@ -1,0 +1,4 @@
+pub mod ConvReplies
+pub mod DirReplies
+pub mod Replies
+pub mod Events

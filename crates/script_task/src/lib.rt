@@ -1,12 +1,17 @@
 //! The steps of scripts as tasks: the requests that a step makes, one at a time, and the names that they bind.
 #![tactic(auto)]
 
+mod effect;
+mod law;
 mod names;
+mod paths;
 mod planned;
 mod request;
 mod task;
 
+pub use effect::Effect;
+pub use law::replies_fit;
 pub use names::settle;
-pub use planned::{Planned, event_of};
+pub use planned::{Planned, event_of, plan};
 pub use request::Request;
 pub use task::Task;
