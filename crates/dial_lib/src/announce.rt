@@ -37,20 +37,10 @@ impl AnnouncePhase {
     {
         match self {
             AnnouncePhase::Fresh => AnnouncePhase::Open,
-            AnnouncePhase::Open => {
-                if is_opening(reply) {
-                    AnnouncePhase::Write
-                } else {
-                    AnnouncePhase::Through
-                }
-            }
-            AnnouncePhase::Write => {
-                if is_accepted(reply) {
-                    AnnouncePhase::Through
-                } else {
-                    AnnouncePhase::Close
-                }
-            }
+            AnnouncePhase::Open if is_opening(reply) => AnnouncePhase::Write,
+            AnnouncePhase::Open => AnnouncePhase::Through,
+            AnnouncePhase::Write if is_accepted(reply) => AnnouncePhase::Through,
+            AnnouncePhase::Write => AnnouncePhase::Close,
             AnnouncePhase::Close => AnnouncePhase::Through,
             AnnouncePhase::Through => AnnouncePhase::Through,
         }

@@ -45,43 +45,19 @@ impl Phase {
     {
         match self {
             Phase::Fresh => Phase::Open,
-            Phase::Open => {
-                if is_opening(reply) {
-                    Phase::Write
-                } else {
-                    Phase::Open
-                }
-            }
-            Phase::Write => {
-                if is_granted(reply) {
-                    Phase::Wait
-                } else {
-                    connected(reply)
-                }
-            }
-            Phase::Wait => connected(reply),
-            Phase::Retry => {
-                if is_accepted(reply) {
-                    Phase::Open
-                } else {
-                    Phase::Through
-                }
-            }
+            Phase::Open if is_opening(reply) => Phase::Write,
+            Phase::Open => Phase::Open,
+            Phase::Write if is_granted(reply) => Phase::Wait,
+            Phase::Write if is_accepted(reply) => Phase::Data,
+            Phase::Write => Phase::Retry,
+            Phase::Wait if is_accepted(reply) => Phase::Data,
+            Phase::Wait => Phase::Retry,
+            Phase::Retry if is_accepted(reply) => Phase::Open,
+            Phase::Retry => Phase::Through,
             Phase::Data => Phase::Close,
             Phase::Close => Phase::Through,
             Phase::Through => Phase::Through,
         }
-    }
-}
-
-// The phase after the reply that connects or doesn't.
-fn connected(reply: &Reply) -> Phase
-    ensures { result ≡ spec.phase_after phase.Wait reply.now }
-{
-    if is_accepted(reply) {
-        Phase::Data
-    } else {
-        Phase::Retry
     }
 }
 

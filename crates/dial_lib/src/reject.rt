@@ -29,13 +29,8 @@ impl RejectPhase {
         ensures { result ≡ spec.phase_after self reply.now }
     {
         match self {
-            RejectPhase::Write => {
-                if is_accepted(reply) {
-                    RejectPhase::Close
-                } else {
-                    RejectPhase::Through
-                }
-            }
+            RejectPhase::Write if is_accepted(reply) => RejectPhase::Close,
+            RejectPhase::Write => RejectPhase::Through,
             RejectPhase::Close => RejectPhase::Through,
             RejectPhase::Through => RejectPhase::Through,
         }

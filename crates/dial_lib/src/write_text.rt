@@ -26,13 +26,8 @@ impl WritePhase {
         ensures { result ≡ spec.phase_after self reply.now }
     {
         match self {
-            WritePhase::Write => {
-                if is_granted(reply) {
-                    WritePhase::Wait
-                } else {
-                    WritePhase::Through
-                }
-            }
+            WritePhase::Write if is_granted(reply) => WritePhase::Wait,
+            WritePhase::Write => WritePhase::Through,
             WritePhase::Wait => WritePhase::Through,
             WritePhase::Through => WritePhase::Through,
         }
