@@ -2,5 +2,7 @@
 #![tactic(auto)]
 
 mod player;
+#[cfg(test)]
+mod tests;
 
 pub use player::Player;
