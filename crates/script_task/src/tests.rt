@@ -1,6 +1,6 @@
 //! The events of requests, and the names after their replies.
-use crate::{Effect, Planned, Request, event_of, settle};
-use net_base::{ActorName, Event, FileName, Mode, Octets, Proto, Reply};
+use crate::{Effect, Planned, Request, event_of, plan, settle};
+use net_base::{ActorName, Event, FileName, Mode, Node, Octets, Proto, Reply};
 use net_tree::{Fid, Fids};
 use std::alloc::{AllocError, Global};
 use std::test::*;
@@ -65,16 +65,41 @@ fn word(event: &Event) -> &'static [u8] {
 }
 
 // Whether the request records this event there.
-fn records(
-    fids: &Fids,
-    request: &Request,
-    actor: ActorName,
-    text: &[u8],
-) -> Result<bool, AllocError> {
+fn records(fids: &Fids, request: Request, actor: ActorName, text: &[u8]) -> bool {
     let Planned {
         actor: at, event, ..
-    } = event_of(2, fids, request)?;
-    Ok(at == actor && word(&event) == text)
+    } = plan(2, fids, request);
+    at == actor && word(&event) == text
+}
+
+fn write(alloc: Global, name: &[u8], text: &[u8]) -> Result<Request, AllocError> {
+    Ok(Request::Write {
+        name: Octets::from_slice(alloc, name)?,
+        text: Octets::from_slice(alloc, text)?,
+    })
+}
+
+fn open(alloc: Global, name: &[u8], path: &[u8], mode: Mode) -> Result<Request, AllocError> {
+    Ok(Request::Open {
+        name: Octets::from_slice(alloc, name)?,
+        path: Octets::from_slice(alloc, path)?,
+        mode,
+    })
+}
+
+// A request of a name alone, by its letter.
+fn request(alloc: Global, letter: u8, name: &[u8]) -> Result<Request, AllocError> {
+    let name = Octets::from_slice(alloc, name)?;
+    Ok(match letter {
+        b'r' => Request::Read { name, count: 8192 },
+        b'c' => Request::Close { name },
+        b'w' => Request::Wait { name },
+        b'u' => Request::Unbound { name },
+        b'm' => Request::Misuse { name },
+        b'l' => Request::Ls { path: name },
+        b'q' => Request::Cs { query: name },
+        _ => Request::Until { moment: 10 },
+    })
 }
 
 #[test]
@@ -95,11 +120,7 @@ fn writes_have_events(rt: HostRuntime) -> Result<(), Fail> {
         (b"e", b"hello", DESK, b"use"),
     ];
     for (name, text, actor, event) in rows {
-        let request = Request::Write {
-            name: Octets::from_slice(alloc, name)?,
-            text: Octets::from_slice(alloc, text)?,
-        };
-        assert!(rt; records(&fids, &request, actor, event)?);
+        assert!(rt; records(&fids, write(alloc, name, text)?, actor, event));
     }
     Ok(())
 }
@@ -124,77 +145,47 @@ fn opens_have_events(rt: HostRuntime) -> Result<(), Fail> {
         (b"c", b"/net/il/clone", Mode::Both, DESK, b"use"),
     ];
     for (name, path, mode, actor, event) in rows {
-        let request = Request::Open {
-            name: Octets::from_slice(alloc, name)?,
-            path: Octets::from_slice(alloc, path)?,
-            mode,
-        };
-        assert!(rt; records(&fids, &request, actor, event)?);
+        assert!(rt; records(&fids, open(alloc, name, path, mode)?, actor, event));
     }
     Ok(())
 }
 
 #[test]
-fn reads_and_closes_have_events(rt: HostRuntime) -> Result<(), Fail> {
+fn other_requests_have_events(rt: HostRuntime) -> Result<(), Fail> {
     let alloc = rt.alloc();
     let fids = some_names(alloc)?;
-    let rows: [(&[u8], ActorName, &[u8], &[u8], &[u8]); 4] = [
-        (b"d", CONVERSATION, b"read", b"close", b"await"),
-        (b"c", CONVERSATION, b"file", b"close", b"await"),
-        (b"s", CONVERSATION, b"file", b"close", b"await"),
-        (b"e", DESK, b"use", b"use", b"use"),
+    let rows: [(u8, &[u8], ActorName, &[u8]); 17] = [
+        (b'r', b"d", CONVERSATION, b"read"),
+        (b'r', b"c", CONVERSATION, b"file"),
+        (b'r', b"s", CONVERSATION, b"file"),
+        (b'r', b"w", DESK, b"misuse"),
+        (b'r', b"e", DESK, b"use"),
+        (b'c', b"c", CONVERSATION, b"close"),
+        (b'c', b"e", DESK, b"use"),
+        (b'w', b"c", CONVERSATION, b"await"),
+        (b'w', b"e", DESK, b"use"),
+        (b'u', b"c", DESK, b"use"),
+        (b'm', b"c", DESK, b"misuse"),
+        (b'l', b"/net/il", DIRECTORY, b"ls"),
+        (b'l', b"/net/il/3", CONVERSATION, b"ls"),
+        (b'l', b"/net", DESK, b"ls of a path"),
+        (b'l', b"/net/tcp", DESK, b"ls of a path"),
+        (b'q', b"net!helix!9fs", DESK, b"cs"),
+        (b't', b"", DESK, b"until"),
     ];
-    for (name, actor, read, close, wait) in rows {
-        let name = Octets::from_slice(alloc, name)?;
-        let request = Request::Read {
-            name: name.clone()?,
-            count: 8192,
-        };
-        assert!(rt; records(&fids, &request, actor, read)?);
-        let request = Request::Close {
-            name: name.clone()?,
-        };
-        assert!(rt; records(&fids, &request, actor, close)?);
-        assert!(rt; records(&fids, &Request::Wait { name }, actor, wait)?);
-    }
-    let request = Request::Read {
-        name: Octets::from_slice(alloc, b"w")?,
-        count: 1,
-    };
-    assert!(rt; records(&fids, &request, DESK, b"misuse")?);
-    Ok(())
-}
-
-#[test]
-fn directories_are_listed_where_they_are(rt: HostRuntime) -> Result<(), Fail> {
-    let alloc = rt.alloc();
-    let fids = Fids::new(alloc);
-    let rows: [(&[u8], ActorName, &[u8]); 4] = [
-        (b"/net/il", DIRECTORY, b"ls"),
-        (b"/net/il/3", CONVERSATION, b"ls"),
-        (b"/net", DESK, b"ls of a path"),
-        (b"/net/tcp", DESK, b"ls of a path"),
-    ];
-    for (path, actor, event) in rows {
-        let request = Request::Ls {
-            path: Octets::from_slice(alloc, path)?,
-        };
-        assert!(rt; records(&fids, &request, actor, event)?);
+    for (letter, name, actor, event) in rows {
+        assert!(rt; records(&fids, request(alloc, letter, name)?, actor, event));
     }
     Ok(())
 }
 
 #[test]
-fn the_desk_has_events(rt: HostRuntime) -> Result<(), Fail> {
+fn a_request_may_be_kept(rt: HostRuntime) -> Result<(), Fail> {
     let alloc = rt.alloc();
     let fids = Fids::new(alloc);
-    let query = Octets::from_slice(alloc, b"net!helix!9fs")?;
-    assert!(rt; records(&fids, &Request::Cs { query }, DESK, b"cs")?);
-    assert!(rt; records(&fids, &Request::Until { moment: 10 }, DESK, b"until")?);
-    let name = Octets::from_slice(alloc, b"c")?;
-    assert!(rt; records(&fids, &Request::Unbound { name }, DESK, b"use")?);
-    let name = Octets::from_slice(alloc, b"c")?;
-    assert!(rt; records(&fids, &Request::Misuse { name }, DESK, b"misuse")?);
+    let request = request(alloc, b'q', b"net!helix!9fs")?;
+    let planned = event_of(2, &fids, &request)?;
+    assert_eq!(rt; planned.actor, DESK);
     Ok(())
 }
 
@@ -205,12 +196,8 @@ fn opened(
     mode: Mode,
     reply: &Reply,
 ) -> Result<Option<Fid>, AllocError> {
-    let mut fids = some_names(alloc)?;
-    let request = Request::Open {
-        name: Octets::from_slice(alloc, b"n")?,
-        path: Octets::from_slice(alloc, path)?,
-        mode,
-    };
+    let mut fids = Fids::new(alloc);
+    let request = open(alloc, b"n", path, mode)?;
     settle(&mut fids, &request, reply)?;
     Ok(fids.get(b"n"))
 }
@@ -247,11 +234,11 @@ fn opens_bind_what_is_opened(rt: HostRuntime) -> Result<(), Fail> {
 // What the names `c` and `d` are bound to after a reply to a request.
 fn after(
     alloc: Global,
-    request: &Request,
+    request: Request,
     reply: &Reply,
 ) -> Result<(Option<Fid>, Option<Fid>), AllocError> {
     let mut fids = some_names(alloc)?;
-    settle(&mut fids, request, reply)?;
+    settle(&mut fids, &request, reply)?;
     Ok((fids.get(b"c"), fids.get(b"d")))
 }
 
@@ -260,17 +247,12 @@ fn closes_unbind_whatever_the_reply(rt: HostRuntime) -> Result<(), Fail> {
     let alloc = rt.alloc();
     let ctl = Some(fid(3, 7, FileName::Ctl, Mode::Both));
     let data = Some(fid(3, 7, FileName::Data, Mode::Both));
-    let close = Request::Close {
-        name: Octets::from_slice(alloc, b"c")?,
-    };
-    assert_eq!(rt; after(alloc, &close, &Reply::Ok)?, (None, data));
-    assert_eq!(rt; after(alloc, &close, &Reply::Stale)?, (None, data));
-    let open = Request::Open {
-        name: Octets::from_slice(alloc, b"c")?,
-        path: Octets::from_slice(alloc, b"/net/il/clone")?,
-        mode: Mode::Both,
-    };
-    assert_eq!(rt; after(alloc, &open, &Reply::BadFid)?, (ctl, data));
+    let left = after(alloc, request(alloc, b'c', b"c")?, &Reply::Ok)?;
+    assert_eq!(rt; left, (None, data));
+    let left = after(alloc, request(alloc, b'c', b"c")?, &Reply::Stale)?;
+    assert_eq!(rt; left, (None, data));
+    let again = open(alloc, b"c", b"/net/il/clone", Mode::Both)?;
+    assert_eq!(rt; after(alloc, again, &Reply::BadFid)?, (ctl, data));
     Ok(())
 }
 
@@ -281,7 +263,7 @@ fn an_open_of_a_reserved_name_wants_no_memory(rt: HostRuntime) -> Result<(), Fai
     let mut fids = Fids::new(alloc);
     let effect = Effect::Opens {
         name: Octets::from_slice(alloc, b"n")?,
-        node: net_base::Node::Clone(Proto::Il),
+        node: Node::Clone(Proto::Il),
         mode: Mode::Both,
     };
     if fids.reserve(b"n").is_ok() {
