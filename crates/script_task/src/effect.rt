@@ -58,7 +58,8 @@ impl Effect {
 pub(crate) fn bind_free(fids: &mut Fids, name: &[u8], fid: Fid) -> Result<(), AllocError>
     ensures ok { OnOk result (fids.new ≡ spec.binds name.now (file_of fid) fids.old) }
     ensures err { OnErr result (fids.new ≡ fids.old) }
-    ensures room { (fids.old.reserved ≡ Some name.now) ⊎ (steps.is_bound fids.old.names name.now ≡ true) → IsOk result }
+    ensures room { (fids.old.reserved ≡ Some name.now) ⊎ (steps.is_bound fids.old.names name.now ≡ true)
+        → IsOk result }
 {
     if fids.is_bound(name) {
         return Ok(());

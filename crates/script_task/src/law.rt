@@ -15,14 +15,17 @@ ghost use Rattle.script_task.specs.Effects.{effect_of, opened, settles};
 ghost use Rattle.script_task.specs.Fitting.{fits};
 ghost use Rattle.script_task.specs.Requests.{settled};
 
-/// Each entry of a legal history has a reply that fits its event, and so has each step of an actor as it is after a history.
+/// Each entry of a legal history has a reply that fits its event, and so has each step of an actor as it is after any
+/// history.
 pub fn replies_fit()
-    ensures entries { (w : World) (h : List Entry) (k : ℕ) (x : Entry) → IsLegal w h → slice_get h k ≡ Some x → fits x.event x.reply ≡ true }
+    ensures entries { (w : World) (h : List Entry) (k : ℕ) (x : Entry)
+        → IsLegal w h → slice_get h k ≡ Some x → fits x.event x.reply ≡ true }
     ensures steps { (w : World) (h : List Entry) (a : ActorName) (now : ℕ) (work : Work) (t : Step Actor)
         → actor_step w a ((after w h).actors a) now work ≡ Some t → fits work.event t.outcome.reply ≡ true }
 {}
 
 /// The effect of a request settles the names as the request itself does.
 pub fn effects_settle()
-    ensures { (b : Bindings) (q : Request) (r : Reply) → (settles (effect_of b.names q) (opened (effect_of b.names q) r) b).names ≡ settled b.names q r }
+    ensures { (b : Bindings) (q : Request) (r : Reply)
+        → (settles (effect_of b.names q) (opened (effect_of b.names q) r) b).names ≡ settled b.names q r }
 {}

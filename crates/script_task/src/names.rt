@@ -9,8 +9,9 @@ use net_base::{Mode, Octets, Reply};
 use net_tree::Fids;
 use std::alloc::AllocError;
 
-/// The names after the reply to the event of a request. Without memory they are as before. It takes none where there is room
-/// for the request's name, or where nothing is bound.
+/// The names after the reply to the event of a request. Without memory they are as before.
+///
+/// It takes none where there is room for the request's name, or where nothing is bound.
 pub fn settle(fids: &mut Fids, request: &Request, reply: &Reply) -> Result<(), AllocError>
     ensures ok { OnOk result (fids.new ≡ spec.settles_to fids.old request.now reply.now) }
     ensures err { OnErr result (fids.new ≡ fids.old) }
@@ -36,7 +37,8 @@ fn settle_open(
 ) -> Result<(), AllocError>
     ensures ok { OnOk result (fids.new ≡ spec.opens_to fids.old name.now path.now mode reply.now) }
     ensures err { OnErr result (fids.new ≡ fids.old) }
-    ensures room { spec.HasRoom fids.old (spec.newly_opened fids.old.names name.now path.now mode reply.now) → IsOk result }
+    ensures room { spec.HasRoom fids.old (spec.newly_opened fids.old.names name.now path.now mode reply.now)
+        → IsOk result }
 {
     let Some(node) = openable(path.as_slice(), mode) else {
         return Ok(());
