@@ -229,7 +229,7 @@ moved s rs p t step e ask r knows is fit =
     let same : heading.0 ≡ ask = same_Some heading.0 ask (sym (ap (λ (at : Position). at.next) (at_event s rs step.play step.step step.rest heading.0 heading.1 step.plays)) ∙ is) in
     let fits_it : fits_play step.play r ≡ true = play_fits step.play heading.0 r heading.1 (subst (λ (x : Ask). fits x.event r ≡ true) (sym same) fit) in
     let names_are : settled p.bindings.names q r ≡ (settles e (opened e r) p.bindings).names =
-        sym (ap (λ (x : Effect). (settles x (opened x r) p.bindings).names) knows.2 ∙ settles_so p.bindings q r) in
+    sym (ap (λ (x : Effect). (settles x (opened x r) p.bindings).names) knows.2 ∙ settles_so p.bindings q r) in
     record {
       stands_for = subst (λ (ns : List Bound). StandsFor s.host ns (after t r) (follow step.play r)) names_are (moves_so s.host p.bindings.names t step.play q r step.stands_for knows.1 fits_it);
       plays = plays_on s rs step.play step.step step.rest heading.0 r heading.1 step.plays;
@@ -260,16 +260,16 @@ goes_on s rs p t step r b moves false is =
 goes_on s rs p t step r b moves true is =
     let more = behind_more p.finished s.steps step.step step.rest step.behind in
     let ends : follow step.play r ≡ Ends b.names =
-        subst (λ (o : Option Request). Heads s.host b.names o (follow step.play r)) (none_is (asks (after t r) b.names) is) (asks_so s.host b.names (after t r) (follow step.play r) moves.stands_for) in
+    subst (λ (o : Option Request). Heads s.host b.names o (follow step.play r)) (none_is (asks (after t r) b.names) is) (asks_so s.host b.names (after t r) (follow step.play r) moves.stands_for) in
     let next : Between s (rs ++ r ∷ []) (record p { bindings = b; effect = None; finished = p.finished + 1; task = None }) =
-        record {
-          slots = moves.stands_for.0;
-          leaves = λ later. moves.plays later
-              ∙ ap (λ (x : Play). position_by (stands x later) (step.step ∷ step.rest) (λ (names : List Bound) (rest : List Reply). position s.host step.rest names rest)) ends
-              ∙ ap (λ (ss : List Step). position s.host ss b.names later) (sym more.1);
-          within = omega (arith, more.0);
-          unknown = refl;
-        } in
+    record {
+      slots = moves.stands_for.0;
+      leaves = λ later. moves.plays later
+          ∙ ap (λ (x : Play). position_by (stands x later) (step.step ∷ step.rest) (λ (names : List Bound) (rest : List Reply). position s.host step.rest names rest)) ends
+          ∙ ap (λ (ss : List Step). position s.host ss b.names later) (sym more.1);
+      within = omega (arith, more.0);
+      unknown = refl;
+    } in
     chosen (nat_lt p.finished (length s.steps)) (lt_test p.finished (length s.steps) more.0) next
   where
     chosen : (c : Bool) → c ≡ true → Between s (rs ++ r ∷ []) (record p { bindings = b; effect = None; finished = p.finished + 1; task = None })
@@ -302,7 +302,7 @@ step_left s rs p t step =
     let found = some_request (asks t p.bindings.names) step.goes_on in
     let heading = heads s rs p t found.0 step found.1 in
     let left_are : (position_after s rs).left ≡ drop p.finished s.steps =
-        ap (λ (at : Position). at.left) (at_event s rs step.play step.step step.rest heading.0 heading.1 step.plays) ∙ sym step.behind in
+    ap (λ (at : Position). at.left) (at_event s rs step.play step.step step.rest heading.0 heading.1 step.plays) ∙ sym step.behind in
     ap (λ (ss : List Step). length ss + p.finished) left_are ∙ length_drop p.finished s.steps (omega (arith, (behind_more p.finished s.steps step.step step.rest step.behind).0))
 
 left_is : (s : Script) (rs : List Reply) (p : Playing) (t : Option StepTask) (o : Option Step) → slice_get s.steps p.finished ≡ o → IsAtBy s rs p t → length (position_after s rs).left + p.finished ≡ length s.steps

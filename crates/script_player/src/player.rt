@@ -63,11 +63,7 @@ impl Player {
     }
 
     /// The next event of the script at its actor, or none where each step is finished.
-    #[tactic(auto, using(
-        crate::proofs::Played::next_right,
-        crate::proofs::Played::begun_at,
-        crate::proofs::Played::prepared_at
-    ))]
+    #[tactic(auto, using(crate::proofs::Played::next_right, crate::proofs::Played::begun_at, crate::proofs::Played::prepared_at))]
     pub fn next(&mut self, script: &Script) -> Result<Option<(ActorName, Event)>, AllocError>
         ensures event { (rs : List Reply) → spec.IsAt script.now rs self.old
             → IfOk result (λ o. option_map spec.asked o ≡ spec.next_after script.now rs) }
@@ -78,11 +74,7 @@ impl Player {
     }
 
     /// Takes the reply to the next event. Without memory it is where it was.
-    #[tactic(auto, using(
-        crate::proofs::Played::told_right,
-        crate::proofs::Played::begun_at,
-        crate::proofs::Played::expected_at
-    ))]
+    #[tactic(auto, using(crate::proofs::Played::told_right, crate::proofs::Played::begun_at, crate::proofs::Played::expected_at))]
     pub fn told(&mut self, script: &Script, reply: Reply) -> Result<(), AllocError>
         ensures ok { (rs : List Reply) (ask : Ask)
             → spec.IsAt script.now rs self.old → spec.next_after script.now rs ≡ Some ask → fits ask.event reply ≡ true

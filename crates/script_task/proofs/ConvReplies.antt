@@ -329,4 +329,3 @@ conv_answers slot (event.ArriveAt g) (given.Packet p) now c = arrived g p now c
 conv_answers slot (event.Tick g) with now c = has_ticked g now c
 conv_answers slot event.Ls with now c = was_listed now c
 conv_answers slot _ _ now c = tt
-

@@ -18,7 +18,9 @@ pub enum Effect {
         mode: Mode,
     },
     /// The name is unbound, whatever the reply.
-    Closes { name: Octets },
+    Closes {
+        name: Octets,
+    },
     /// No name changes.
     Keeps,
 }

@@ -6,7 +6,9 @@ use std::alloc::{AllocError, Global};
 use std::test::*;
 
 const DESK: ActorName = ActorName::Desk(2);
+
 const DIRECTORY: ActorName = ActorName::Dir(2, Proto::Il);
+
 const CONVERSATION: ActorName = ActorName::Conv(2, Proto::Il, 3);
 
 fn fid(slot: u32, generation: u64, file: FileName, mode: Mode) -> Fid {
@@ -67,7 +69,9 @@ fn word(event: &Event) -> &'static [u8] {
 // Whether the request records this event there.
 fn records(fids: &Fids, request: Request, actor: ActorName, text: &[u8]) -> bool {
     let Planned {
-        actor: at, event, ..
+        actor: at,
+        event,
+        ..
     } = plan(2, fids, request);
     at == actor && word(&event) == text
 }
@@ -140,7 +144,13 @@ fn opens_have_events(rt: HostRuntime) -> Result<(), Fail> {
             DESK,
             b"open of a path",
         ),
-        (b"n", b"/net/il/32/data", Mode::Both, DESK, b"open of a path"),
+        (
+            b"n",
+            b"/net/il/32/data",
+            Mode::Both,
+            DESK,
+            b"open of a path",
+        ),
         (b"n", b"/net/cs", Mode::Read, DESK, b"open of a path"),
         (b"c", b"/net/il/clone", Mode::Both, DESK, b"use"),
     ];
