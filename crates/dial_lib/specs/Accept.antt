@@ -1,0 +1,20 @@
+-- An accept: it opens the data file of a conversation with a new name.
+use Rattle.std.specs.Prelude.{ℕ, List, Option, true}
+use Rattle.net_base.specs.declared.names.FileName.TheVariants as file
+use Rattle.net_base.specs.declared.reply.Reply.{Reply}
+use Rattle.net_base.specs.Steps.{Bound, Play}
+use Rattle.dial_lib.specs.declared.beside.Accept.{Accept}
+use Rattle.dial_lib.specs.Beside as beside
+use Rattle.script_task.specs.declared.request.Request.{Request}
+
+-- the next request under these names
+abbrev pub asks : Accept → List Bound → Option Request
+asks t names = beside.asks_by file.Data t.name t.from t.is_through names
+
+-- the accept after a reply
+abbrev pub after : Accept → Reply → Accept
+after t r = record t { is_through = true }
+
+-- the play that it stands for
+abbrev pub StandsFor : ℕ → List Bound → Accept → Play → Type 0
+StandsFor h names t p = beside.Stands file.Data h names t.name t.from t.is_through p
