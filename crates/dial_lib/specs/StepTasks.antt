@@ -6,7 +6,7 @@ use Rattle.net_base.specs.declared.world.Step.TheVariants as step
 use Rattle.net_base.specs.Paths.{walk}
 use Rattle.net_base.specs.Steps.{Bound, Play, default_mode}
 use Rattle.dial_lib.specs.declared.announce.AnnouncePhase.TheVariants as announce_phase
-use Rattle.dial_lib.specs.declared.dial.Phase.TheVariants as phase
+use Rattle.dial_lib.specs.declared.dial.DialPhase.TheVariants as phase
 use Rattle.dial_lib.specs.declared.reject.RejectPhase.TheVariants as reject_phase
 use Rattle.dial_lib.specs.declared.step.StepTask.{StepTask}
 use Rattle.dial_lib.specs.declared.step.StepTask.TheVariants as task
