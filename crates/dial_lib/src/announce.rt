@@ -173,6 +173,14 @@ impl Task for Announce {
         }
     }
 
+    fn is_through(&self) -> bool {
+        match self.phase {
+            AnnouncePhase::Open => self.lines.as_slice().is_empty(),
+            AnnouncePhase::Through => true,
+            _ => false,
+        }
+    }
+
     fn told(&mut self, alloc: Global, reply: Reply) -> Result<(), AllocError> {
         self.take(alloc, reply);
         Ok(())

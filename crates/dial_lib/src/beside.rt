@@ -60,6 +60,10 @@ impl Task for Listen {
         Ok(Some(request_of(alloc, fids, &self.name, &self.from, FileName::Listen)?))
     }
 
+    fn is_through(&self) -> bool {
+        self.is_through
+    }
+
     fn told(&mut self, _alloc: Global, _reply: Reply) -> Result<(), AllocError> {
         self.is_through = true;
         Ok(())
@@ -107,6 +111,10 @@ impl Task for Accept {
             return Ok(None);
         }
         Ok(Some(request_of(alloc, fids, &self.name, &self.from, FileName::Data)?))
+    }
+
+    fn is_through(&self) -> bool {
+        self.is_through
     }
 
     fn told(&mut self, _alloc: Global, _reply: Reply) -> Result<(), AllocError> {

@@ -237,6 +237,14 @@ impl Task for Dial {
         }
     }
 
+    fn is_through(&self) -> bool {
+        match self.phase {
+            Phase::Open => self.lines.as_slice().get(self.tried).is_none(),
+            Phase::Through => true,
+            _ => false,
+        }
+    }
+
     fn told(&mut self, alloc: Global, reply: Reply) -> Result<(), AllocError> {
         self.take(alloc, reply);
         Ok(())

@@ -46,6 +46,10 @@ impl Task for OneRequest {
         Ok(Some(self.request.clone()?))
     }
 
+    fn is_through(&self) -> bool {
+        self.is_through
+    }
+
     fn told(&mut self, _alloc: Global, _reply: Reply) -> Result<(), AllocError> {
         self.is_through = true;
         Ok(())

@@ -85,6 +85,10 @@ impl Task for Reject {
         }
     }
 
+    fn is_through(&self) -> bool {
+        self.phase == RejectPhase::Through
+    }
+
     fn told(&mut self, _alloc: Global, reply: Reply) -> Result<(), AllocError> {
         self.phase = self.phase.after(&reply);
         Ok(())

@@ -69,6 +69,18 @@ impl Task for StepTask {
         }
     }
 
+    fn is_through(&self) -> bool {
+        match self {
+            StepTask::OneRequest(task) => task.is_through(),
+            StepTask::WriteText(task) => task.is_through(),
+            StepTask::Dial(task) => task.is_through(),
+            StepTask::Announce(task) => task.is_through(),
+            StepTask::Listen(task) => task.is_through(),
+            StepTask::Accept(task) => task.is_through(),
+            StepTask::Reject(task) => task.is_through(),
+        }
+    }
+
     fn told(&mut self, alloc: Global, reply: Reply) -> Result<(), AllocError> {
         match self {
             StepTask::OneRequest(task) => task.told(alloc, reply),

@@ -82,6 +82,10 @@ impl Task for WriteText {
         }
     }
 
+    fn is_through(&self) -> bool {
+        self.phase == WritePhase::Through
+    }
+
     fn told(&mut self, _alloc: Global, reply: Reply) -> Result<(), AllocError> {
         self.phase = self.phase.after(&reply);
         Ok(())

@@ -2,3 +2,4 @@ pub mod ConvReplies
 pub mod DirReplies
 pub mod Replies
 pub mod Events
+pub mod Settling

@@ -8,9 +8,11 @@ mod paths;
 mod planned;
 mod request;
 mod task;
+#[cfg(test)]
+mod tests;
 
 pub use effect::Effect;
-pub use law::replies_fit;
+pub use law::{effects_settle, replies_fit};
 pub use names::settle;
 pub use planned::{Planned, event_of, plan};
 pub use request::Request;

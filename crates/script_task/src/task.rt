@@ -1,5 +1,5 @@
 //! Tasks.
-ghost use Rattle.std.specs.Prelude.{◌≡◌, ℕ, List, Option, IfOk, OnOk, OnErr};
+ghost use Rattle.std.specs.Prelude.{◌≡◌, ℕ, List, Option, IfOk, OnOk, OnErr, is_none};
 ghost use Rattle.net_base.specs.Steps.{Bound, Play};
 ghost use Rattle.net_base.specs.declared.reply.Reply.{Reply};
 ghost use Rattle.script_task.specs.declared.request.Request.{Request};
@@ -24,6 +24,10 @@ pub trait Task {
     /// The next request under these names, or none where the task is through.
     fn next(&self, alloc: Global, fids: &Fids) -> Result<Option<Request>, AllocError>
         ensures { IfOk result (λ asked. asked ≡ asks self.now fids.now.names) };
+
+    /// Whether it is through: it has no request, whatever the names. It takes no memory.
+    fn is_through(&self) -> bool
+        ensures { (names : List Bound) → result ≡ is_none (asks self.now names) };
 
     /// Takes the reply to the event of its request. Without memory it is as before.
     fn told(&mut self, alloc: Global, reply: Reply) -> Result<(), AllocError>
