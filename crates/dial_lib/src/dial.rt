@@ -239,8 +239,8 @@ impl Task for Dial {
 
     fn is_through(&self) -> bool {
         match self.phase {
-            Phase::Open => self.lines.as_slice().get(self.tried).is_none(),
-            Phase::Through => true,
+            DialPhase::Open => self.lines.as_slice().get(self.tried).is_none(),
+            DialPhase::Through => true,
             _ => false,
         }
     }
