@@ -4,6 +4,7 @@ use Rattle.net_base.specs.declared.event.Event.TheVariants as event
 use Rattle.net_base.specs.declared.names.FileName.TheVariants as file
 use Rattle.net_base.specs.declared.names.Mode.TheVariants as mode
 use Rattle.net_base.specs.declared.reply.Reply.{Reply}
+use Rattle.net_base.specs.declared.world.Step.{Step}
 use Rattle.net_base.specs.declared.world.Step.TheVariants as step
 use Rattle.net_base.specs.Steps.{Bound, Fid, Play, Asks, Ends, fid_of, is_bound, bind, unbind, is_accepted, if_accepted, conversation_of, puts, closes, closes_last, connected, dials, netmkaddr, lines_in, clone_path, line_address, dotted_name, play_of}
 use Rattle.dial_lib.specs.Beside.{opens_file}
@@ -121,3 +122,13 @@ pub data Stands (h : ℕ) (called address : List ℕ) (names : List Bound) : Dia
 
 abbrev pub StandsFor : ℕ → List Bound → Dialling → Play → Type 0
 StandsFor h names d p = Stands h d.called d.address names d.phase d.lines p
+
+-- The beginning.
+
+-- a dial that has recorded nothing yet
+abbrev pub begun : List ℕ → List ℕ → Dialling
+begun called address = record { called = called; address = address; phase = phase.Fresh; lines = [] }
+
+-- on every host and under all names it stands for the step's play
+abbrev pub Begins : Dialling → Step → Type 0
+Begins d s = (h : ℕ) (names : List Bound) → StandsFor h names d (play_of h names s)

@@ -1,11 +1,10 @@
 //! Dialling an address.
-ghost use Rattle.std.specs.Prelude.{◌≡◌, ℕ, List, [], IfOk, Some, option_map};
+ghost use Rattle.std.specs.Prelude.{◌≡◌, IfOk};
 ghost use Rattle.net_base.specs.Steps as steps;
-ghost use Rattle.net_base.specs.Steps.{Bound};
+ghost use Rattle.net_base.specs.Steps.{fid_of};
 ghost use Rattle.net_base.specs.declared.world.Step.TheVariants as step;
 ghost use Rattle.dial_lib.specs.Dials as spec;
 ghost use Rattle.dial_lib.specs.Lines as lines;
-ghost use Rattle.dial_lib.specs.declared.dial.DialPhase.TheVariants as phase;
 
 use crate::address::query_of;
 use crate::beside::open_beside;
@@ -86,8 +85,8 @@ impl Model for Dial {
 impl Dial {
     /// Dials the address, and binds `name` to the data file of what was dialled.
     pub fn new(alloc: Global, name: &[u8], address: &[u8]) -> Result<Dial, AllocError>
-        ensures value { IfOk result (λ d. d ≡ record { called = name.now; address = address.now; phase = phase.Fresh; lines = [] }) }
-        ensures stands { IfOk result (λ d. (h : ℕ) (names : List Bound) → spec.StandsFor h names d (steps.play_of h names (step.Dial name.now address.now))) }
+        ensures value { IfOk result (λ d. d ≡ spec.begun name.now address.now) }
+        ensures stands { IfOk result (λ d. spec.Begins d (step.Dial name.now address.now)) }
     {
         Ok(Dial {
             name: Octets::from_slice(alloc, name)?,
@@ -201,7 +200,7 @@ impl Dial {
 
     // Opens the data file of what was dialled.
     fn open_data(&self, alloc: Global, fids: &Fids, dotted: Octets) -> Result<Request, AllocError>
-        ensures { IfOk result (λ q. q ≡ spec.opens_data self.now.called dotted (steps.fid_of dotted fids.now.names)) }
+        ensures { IfOk result (λ q. q ≡ spec.opens_data self.now.called dotted (fid_of dotted fids.now.names)) }
     {
         match fids.get(dotted.as_slice()) {
             Some(made) => open_beside(alloc, &self.name, made, FileName::Data),
