@@ -2,6 +2,7 @@
 use Rattle.std.specs.Prelude.{◌≡◌, ℕ, List, [], ◌∷◌, ◌++◌, Option, Some, None, codes, false, if◌then◌else◌}
 use Rattle.net_base.specs.declared.names.Mode.TheVariants as mode
 use Rattle.net_base.specs.declared.reply.Reply.{Reply}
+use Rattle.net_base.specs.declared.world.Step.{Step}
 use Rattle.net_base.specs.declared.world.Step.TheVariants as step
 use Rattle.net_base.specs.Steps.{Bound, Fid, Play, Ends, fid_of, is_bound, bind, unbind, puts, closes, netmkaddr, lines_in, clone_path, line_address, is_accepted, announces, play_of}
 use Rattle.dial_lib.specs.Lines.{first, first_line}
@@ -19,10 +20,13 @@ abbrev pub opens_line : List ℕ → Option (List ℕ) → Option Request
 opens_line called None = None
 opens_line called (Some line) = Some (request.Open called (clone_path line) mode.Both)
 
+abbrev pub writes_line : List ℕ → List (List ℕ) → Request
+writes_line called lines = request.Write called (codes "announce " ++ line_address (first_line lines))
+
 abbrev pub asks_by : AnnouncePhase → List ℕ → List ℕ → List (List ℕ) → List Bound → Option Request
 asks_by phase.Fresh called address lines names = Some (begins names called address)
 asks_by phase.Open called address lines names = opens_line called (first lines)
-asks_by phase.Write called address lines names = Some (request.Write called (codes "announce " ++ line_address (first_line lines)))
+asks_by phase.Write called address lines names = Some (writes_line called lines)
 asks_by phase.Close called address lines names = Some (request.Close called)
 asks_by phase.Through called address lines names = None
 
@@ -64,3 +68,13 @@ pub data Stands (h : ℕ) (called address : List ℕ) (names : List Bound) : Ann
 
 abbrev pub StandsFor : ℕ → List Bound → Announce → Play → Type 0
 StandsFor h names t p = Stands h t.name t.address names t.phase t.lines p
+
+-- The beginning.
+
+-- an announce that has recorded nothing yet
+abbrev pub begun : List ℕ → List ℕ → Announce
+begun called address = record { name = called; address = address; phase = phase.Fresh; lines = [] }
+
+-- on every host and under all names it stands for the step's play
+abbrev pub Begins : Announce → Step → Type 0
+Begins t s = (h : ℕ) (names : List Bound) → StandsFor h names t (play_of h names s)

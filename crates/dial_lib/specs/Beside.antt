@@ -18,8 +18,11 @@ abbrev pub asks_file : FileName → List ℕ → List ℕ → List Bound → Opt
 asks_file to called from names None = request.Unbound from
 asks_file to called from names (Some f) = if is_bound names called then request.Unbound called else opens_file called f to
 
+abbrev pub asks_beside : FileName → List ℕ → List ℕ → List Bound → Request
+asks_beside to called from names = asks_file to called from names (fid_of from names)
+
 abbrev pub asks_by : FileName → List ℕ → List ℕ → Bool → List Bound → Option Request
-asks_by to called from is_through names = if is_through then None else Some (asks_file to called from names (fid_of from names))
+asks_by to called from is_through names = if is_through then None else Some (asks_beside to called from names)
 
 -- the file's conversation has another file, which is opened with a new name
 abbrev pub beside_play : FileName → ℕ → List ℕ → List ℕ → List Bound → Play

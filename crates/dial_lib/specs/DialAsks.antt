@@ -2,7 +2,7 @@
 use Rattle.std.proofs.Common.{◌≡◌, ℕ, Bool, true, false, List, [], ◌∷◌, ◌++◌, Some, codes, if◌then◌else◌, refl}
 use Rattle.net_base.specs.declared.names.FileName.TheVariants as file
 use Rattle.net_base.specs.Steps.{Bound, Fid, Play, fid_of, is_bound, bind, uses, asks_cs, closes_last, connected, dials, netmkaddr, dotted_name, line_address}
-use Rattle.dial_lib.specs.declared.dial.Phase.{Phase}
+use Rattle.dial_lib.specs.declared.dial.DialPhase.{DialPhase}
 use Rattle.dial_lib.specs.AnnounceLaws.{found, writing_heads}
 use Rattle.dial_lib.specs.BesideLaws.{opens_head}
 use Rattle.dial_lib.specs.Dials.{Stands, IsFresh, IsOpen, IsOver, IsWrite, IsWait, IsRetry, IsData, IsClose, IsThrough, Holds, asks_by, retrying}
@@ -24,7 +24,7 @@ made_found called base names made holds = found (dotted_name called) base names 
 pub still_free : (called : List ℕ) (base names : List Bound) (made : Fid) → Holds called base names made → is_bound names called ≡ false
 still_free called base names made holds = rw (holds.names_are, apart called) holds.free.name
 
-pub dial_asks : (h : ℕ) (called address : List ℕ) (names : List Bound) (ph : Phase) (lines : List (List ℕ)) (p : Play)
+pub dial_asks : (h : ℕ) (called address : List ℕ) (names : List Bound) (ph : DialPhase) (lines : List (List ℕ)) (p : Play)
     → Stands h called address names ph lines p → Heads h names (asks_by ph called address lines names) p
 dial_asks h called address names _ _ _ (IsFresh lines) = fresh h names called (dotted_name called) address (dials h called names) (is_bound names called) (is_bound names (dotted_name called))
 dial_asks h called address names _ _ _ (IsOpen [] free) = refl

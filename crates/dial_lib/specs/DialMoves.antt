@@ -6,8 +6,8 @@ use Rattle.net_base.specs.declared.names.Node.TheVariants as node
 use Rattle.net_base.specs.declared.reply.Reply.{Reply}
 use Rattle.net_base.specs.Paths.{walk}
 use Rattle.net_base.specs.Steps.{Bound, Fid, Play, Ends, fid_of, is_bound, bind, unbind, uses, asks_cs, closes_last, connected, dials, dotted_name, clone_path, line_address, opened_fid, openable, on_fid, is_accepted, lines_in}
-use Rattle.dial_lib.specs.declared.dial.Phase.{Phase}
-use Rattle.dial_lib.specs.declared.dial.Phase.TheVariants as phase
+use Rattle.dial_lib.specs.declared.dial.DialPhase.{DialPhase}
+use Rattle.dial_lib.specs.declared.dial.DialPhase.TheVariants as phase
 use Rattle.dial_lib.specs.AnnounceLaws.{front_left, open_settle}
 use Rattle.dial_lib.specs.BesideLaws.{opens_settle}
 use Rattle.dial_lib.specs.DialAsks.{made_found, still_free}
@@ -64,7 +64,7 @@ settle_data : (names : List Bound) (called dotted : List ℕ) (made : Fid) (r : 
     → settled names (opens_data called dotted (fid_of dotted names)) r ≡ settled names (opens_data called dotted (Some made)) r
 settle_data names called dotted made r is = ap (λ o. settled names (opens_data called dotted o) r) is
 
-pub dial_moves : (h : ℕ) (called address : List ℕ) (names : List Bound) (ph : Phase) (lines : List (List ℕ)) (p : Play) (q : Request) (r : Reply)
+pub dial_moves : (h : ℕ) (called address : List ℕ) (names : List Bound) (ph : DialPhase) (lines : List (List ℕ)) (p : Play) (q : Request) (r : Reply)
     → Stands h called address names ph lines p → asks_by ph called address lines names ≡ Some q → fits_play p r ≡ true
     → Stands h called address (settles names (asks_by ph called address lines names) r) (phase_after ph r) (lines_after ph r lines) (follow p r)
 dial_moves h called address names _ _ _ q r (IsFresh lines) asked fit =

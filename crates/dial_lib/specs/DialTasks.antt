@@ -2,7 +2,7 @@
 use Rattle.std.proofs.Common.{◌≡◌, ℕ, List, sym, subst}
 use Rattle.net_base.specs.declared.world.Step.TheVariants as step
 use Rattle.net_base.specs.Steps.{Bound, play_of}
-use Rattle.dial_lib.specs.declared.dial.Phase.TheVariants as phase
+use Rattle.dial_lib.specs.declared.dial.DialPhase.TheVariants as phase
 use Rattle.dial_lib.specs.DialAsks.{dial_asks}
 use Rattle.dial_lib.specs.DialMoves.{dial_moves}
 use Rattle.dial_lib.specs.Dials as spec

@@ -4,12 +4,13 @@ use Rattle.net_base.specs.declared.event.Event.TheVariants as event
 use Rattle.net_base.specs.declared.names.FileName.TheVariants as file
 use Rattle.net_base.specs.declared.names.Mode.TheVariants as mode
 use Rattle.net_base.specs.declared.reply.Reply.{Reply}
+use Rattle.net_base.specs.declared.world.Step.{Step}
 use Rattle.net_base.specs.declared.world.Step.TheVariants as step
 use Rattle.net_base.specs.Steps.{Bound, Fid, Play, Asks, Ends, fid_of, is_bound, bind, unbind, is_accepted, if_accepted, conversation_of, puts, closes, closes_last, connected, dials, netmkaddr, lines_in, clone_path, line_address, dotted_name, play_of}
 use Rattle.dial_lib.specs.Beside.{opens_file}
 use Rattle.dial_lib.specs.Lines.{first, first_line, other_lines}
-use Rattle.dial_lib.specs.declared.dial.Phase.{Phase}
-use Rattle.dial_lib.specs.declared.dial.Phase.TheVariants as phase
+use Rattle.dial_lib.specs.declared.dial.DialPhase.{DialPhase}
+use Rattle.dial_lib.specs.declared.dial.DialPhase.TheVariants as phase
 use Rattle.script_task.specs.declared.request.Request.{Request}
 use Rattle.script_task.specs.declared.request.Request.TheVariants as request
 use Rattle.script_task.specs.Fitting.{is_opening, is_granted}
@@ -19,7 +20,7 @@ use Rattle.script_task.specs.Fitting.{is_opening, is_granted}
 pub record Dialling : Type 0 where
   pub called : List ℕ
   pub address : List ℕ
-  pub phase : Phase
+  pub phase : DialPhase
   -- the first of them is tried now
   pub lines : List (List ℕ)
 
@@ -40,7 +41,7 @@ opens_data called dotted (Some f) = opens_file called f file.Data
 abbrev pub connects : List ℕ → List (List ℕ) → Request
 connects dotted lines = request.Write dotted (codes "connect " ++ line_address (first_line lines))
 
-abbrev pub asks_by : Phase → List ℕ → List ℕ → List (List ℕ) → List Bound → Option Request
+abbrev pub asks_by : DialPhase → List ℕ → List ℕ → List (List ℕ) → List Bound → Option Request
 asks_by phase.Fresh called address lines names = Some (begins names called (dotted_name called) address)
 asks_by phase.Open called address lines names = opens_line (dotted_name called) (first lines)
 asks_by phase.Write called address lines names = Some (connects (dotted_name called) lines)
@@ -55,7 +56,7 @@ abbrev pub asks : Dialling → List Bound → Option Request
 asks d names = asks_by d.phase d.called d.address d.lines names
 
 -- a line that isn't opened, or isn't connected, is left for the next
-abbrev pub phase_after : Phase → Reply → Phase
+abbrev pub phase_after : DialPhase → Reply → DialPhase
 phase_after phase.Fresh r = phase.Open
 phase_after phase.Open r = if is_opening r then phase.Write else phase.Open
 phase_after phase.Write r = if is_granted r then phase.Wait else (if is_accepted r then phase.Data else phase.Retry)
@@ -65,7 +66,7 @@ phase_after phase.Data r = phase.Close
 phase_after phase.Close r = phase.Through
 phase_after phase.Through r = phase.Through
 
-abbrev pub lines_after : Phase → Reply → List (List ℕ) → List (List ℕ)
+abbrev pub lines_after : DialPhase → Reply → List (List ℕ) → List (List ℕ)
 lines_after phase.Fresh r lines = lines_in r
 lines_after phase.Open r lines = if is_opening r then lines else other_lines lines
 lines_after phase.Retry r lines = other_lines lines
@@ -102,7 +103,7 @@ abbrev pub waiting : ℕ → List ℕ → List Bound → Fid → List (List ℕ)
 waiting h called base made lines =
     Asks (conversation_of h made) (event.Await made.generation) (λ (r : Reply). if_accepted r (connected h called base made) (retrying h called base made lines))
 
-pub data Stands (h : ℕ) (called address : List ℕ) (names : List Bound) : Phase → List (List ℕ) → Play → Type 0 where
+pub data Stands (h : ℕ) (called address : List ℕ) (names : List Bound) : DialPhase → List (List ℕ) → Play → Type 0 where
   IsFresh : (lines : List (List ℕ)) → Stands h called address names phase.Fresh lines (play_of h names (step.Dial called address))
   IsOpen : (lines : List (List ℕ)) → Free called names → Stands h called address names phase.Open lines (dials h called names lines)
   -- one of the names was bound already
@@ -121,3 +122,13 @@ pub data Stands (h : ℕ) (called address : List ℕ) (names : List Bound) : Pha
 
 abbrev pub StandsFor : ℕ → List Bound → Dialling → Play → Type 0
 StandsFor h names d p = Stands h d.called d.address names d.phase d.lines p
+
+-- The beginning.
+
+-- a dial that has recorded nothing yet
+abbrev pub begun : List ℕ → List ℕ → Dialling
+begun called address = record { called = called; address = address; phase = phase.Fresh; lines = [] }
+
+-- on every host and under all names it stands for the step's play
+abbrev pub Begins : Dialling → Step → Type 0
+Begins d s = (h : ℕ) (names : List Bound) → StandsFor h names d (play_of h names s)

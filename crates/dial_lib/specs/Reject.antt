@@ -2,6 +2,7 @@
 use Rattle.std.specs.Prelude.{◌≡◌, ℕ, List, Option, Some, None, codes, if◌then◌else◌}
 use Rattle.net_base.specs.declared.event.Event.TheVariants as event
 use Rattle.net_base.specs.declared.reply.Reply.{Reply}
+use Rattle.net_base.specs.declared.world.Step.{Step}
 use Rattle.net_base.specs.declared.world.Step.TheVariants as step
 use Rattle.net_base.specs.Steps.{Bound, Fid, Play, Ends, fid_of, conversation_of, ends_with, unbind, is_accepted, play_of}
 use Rattle.dial_lib.specs.declared.reject.Reject.{Reject}
@@ -41,3 +42,13 @@ pub data Stands (h : ℕ) (names : List Bound) (called : List ℕ) : RejectPhase
 -- the play that it stands for
 abbrev pub StandsFor : ℕ → List Bound → Reject → Play → Type 0
 StandsFor h names t p = Stands h names t.name t.phase p
+
+-- The beginning.
+
+-- a reject that has recorded nothing yet
+abbrev pub begun : List ℕ → Reject
+begun called = record { name = called; phase = phase.Write }
+
+-- on every host and under all names it stands for the step's play
+abbrev pub Begins : Reject → Step → Type 0
+Begins t s = (h : ℕ) (names : List Bound) → StandsFor h names t (play_of h names s)

@@ -1,13 +1,10 @@
 -- The task of a step: what it begins with, its requests, what a reply makes of it, and the plays that it stands for.
-use Rattle.std.specs.Prelude.{ℕ, List, [], Option, false, codes, unwrap_or}
+use Rattle.std.specs.Prelude.{ℕ, List, Option, false, codes, unwrap_or}
 use Rattle.net_base.specs.declared.reply.Reply.{Reply}
 use Rattle.net_base.specs.declared.world.Step.{Step}
 use Rattle.net_base.specs.declared.world.Step.TheVariants as step
 use Rattle.net_base.specs.Paths.{walk}
-use Rattle.net_base.specs.Steps.{Bound, Play, default_mode}
-use Rattle.dial_lib.specs.declared.announce.AnnouncePhase.TheVariants as announce_phase
-use Rattle.dial_lib.specs.declared.dial.Phase.TheVariants as phase
-use Rattle.dial_lib.specs.declared.reject.RejectPhase.TheVariants as reject_phase
+use Rattle.net_base.specs.Steps.{Bound, Play, default_mode, play_of}
 use Rattle.dial_lib.specs.declared.step.StepTask.{StepTask}
 use Rattle.dial_lib.specs.declared.step.StepTask.TheVariants as task
 use Rattle.dial_lib.specs.declared.write_text.WritePhase.TheVariants as write_phase
@@ -40,11 +37,11 @@ begun (step.Close called) = asks_once (request.Close called)
 begun (step.Ls path) = asks_once (request.Ls path)
 begun (step.Cs query) = asks_once (request.Cs query)
 begun (step.Until moment) = asks_once (request.Until moment)
-begun (step.Dial called address) = task.Dial (record { called = called; address = address; phase = phase.Fresh; lines = [] })
-begun (step.Announce called address) = task.Announce (record { name = called; address = address; phase = announce_phase.Fresh; lines = [] })
-begun (step.Listen called from) = task.Listen (record { name = called; from = from; is_through = false })
-begun (step.Accept called from) = task.Accept (record { name = called; from = from; is_through = false })
-begun (step.Reject called) = task.Reject (record { name = called; phase = reject_phase.Write })
+begun (step.Dial called address) = task.Dial (dial.begun called address)
+begun (step.Announce called address) = task.Announce (announce.begun called address)
+begun (step.Listen called from) = task.Listen (listen.begun called from)
+begun (step.Accept called from) = task.Accept (accept.begun called from)
+begun (step.Reject called) = task.Reject (reject.begun called)
 begun (step.Hangup called) = writes_text called (codes "hangup")
 
 -- Requests and replies.
@@ -83,3 +80,7 @@ stands_by h names (task.Reject t) p = reject.StandsFor h names t p
 -- under names that are bound to files of slots that there are
 abbrev pub StandsFor : ℕ → List Bound → StepTask → Play → Type 0
 StandsFor h names t p = HaveSlots names × stands_by h names t p
+
+-- on every host it stands for the step's play, where each name is bound to a file of a slot that there is
+abbrev pub Begins : StepTask → Step → Type 0
+Begins t s = (h : ℕ) (names : List Bound) → HaveSlots names → StandsFor h names t (play_of h names s)

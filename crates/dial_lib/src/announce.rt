@@ -1,11 +1,8 @@
 //! Announcing an address.
-ghost use Rattle.std.specs.Prelude.{◌≡◌, ℕ, List, [], IfOk, Some, option_map};
-ghost use Rattle.net_base.specs.Steps as steps;
-ghost use Rattle.net_base.specs.Steps.{Bound};
+ghost use Rattle.std.specs.Prelude.{◌≡◌, IfOk};
 ghost use Rattle.net_base.specs.declared.world.Step.TheVariants as step;
 ghost use Rattle.dial_lib.specs.Announce as spec;
 ghost use Rattle.dial_lib.specs.Lines as lines;
-ghost use Rattle.dial_lib.specs.declared.announce.AnnouncePhase.TheVariants as phase;
 
 use crate::address::query_of;
 use crate::lines::{clone_path, text_to};
@@ -60,8 +57,8 @@ pub struct Announce {
 impl Announce {
     /// Announces the address, and binds `name` to its ctl file.
     pub fn new(alloc: Global, name: &[u8], address: &[u8]) -> Result<Announce, AllocError>
-        ensures value { IfOk result (λ t. t ≡ record { name = name.now; address = address.now; phase = phase.Fresh; lines = [] }) }
-        ensures stands { IfOk result (λ t. (h : ℕ) (names : List Bound) → spec.StandsFor h names t (steps.play_of h names (step.Announce name.now address.now))) }
+        ensures value { IfOk result (λ t. t ≡ spec.begun name.now address.now) }
+        ensures stands { IfOk result (λ t. spec.Begins t (step.Announce name.now address.now)) }
     {
         Ok(Announce {
             name: Octets::from_slice(alloc, name)?,
@@ -139,7 +136,7 @@ impl Announce {
 
     // Writes the address of the line.
     fn announce(&self, alloc: Global) -> Result<Request, AllocError>
-        ensures { IfOk result (λ q. Some q ≡ spec.asks_by phase.Write self.now.name self.now.address self.now.lines []) }
+        ensures { IfOk result (λ q. q ≡ spec.writes_line self.now.name self.now.lines) }
     {
         Ok(Request::Write {
             name: self.name.clone()?,

@@ -1,15 +1,12 @@
 //! Opening another file of a conversation: listening and accepting.
-ghost use Rattle.std.specs.Prelude.{◌≡◌, ℕ, List, IfOk, false};
+ghost use Rattle.std.specs.Prelude.{◌≡◌, IfOk};
 ghost use Rattle.net_base.specs.Paths as paths;
-ghost use Rattle.net_base.specs.Steps as steps;
-ghost use Rattle.net_base.specs.Steps.{Bound};
 ghost use Rattle.net_base.specs.declared.names.Node.TheVariants as node;
 ghost use Rattle.net_base.specs.declared.world.Step.TheVariants as step;
 ghost use Rattle.net_tree.specs.Bindings.{file_of};
 ghost use Rattle.dial_lib.specs.Accept as accept;
 ghost use Rattle.dial_lib.specs.Beside as spec;
 ghost use Rattle.dial_lib.specs.Listen as listen;
-ghost use Rattle.dial_lib.specs.Slots.{HaveSlots};
 
 use net_base::{FileName, Mode, Octets, Proto, Reply};
 use net_tree::{Fid, Fids};
@@ -29,8 +26,8 @@ impl Listen {
     /// Binds `name` to a call at the conversation of `from`.
     #[tactic(auto, using(crate::specs::BesideLaws::listen_fresh))]
     pub fn new(alloc: Global, name: &[u8], from: &[u8]) -> Result<Listen, AllocError>
-        ensures value { IfOk result (λ t. t ≡ record { name = name.now; from = from.now; is_through = false }) }
-        ensures stands { IfOk result (λ t. (h : ℕ) (names : List Bound) → HaveSlots names → listen.StandsFor h names t (steps.play_of h names (step.Listen name.now from.now))) }
+        ensures value { IfOk result (λ t. t ≡ listen.begun name.now from.now) }
+        ensures stands { IfOk result (λ t. listen.Begins t (step.Listen name.now from.now)) }
     {
         Ok(Listen {
             name: Octets::from_slice(alloc, name)?,
@@ -82,8 +79,8 @@ impl Accept {
     /// Binds `name` to the data file of the conversation of `from`.
     #[tactic(auto, using(crate::specs::BesideLaws::accept_fresh))]
     pub fn new(alloc: Global, name: &[u8], from: &[u8]) -> Result<Accept, AllocError>
-        ensures value { IfOk result (λ t. t ≡ record { name = name.now; from = from.now; is_through = false }) }
-        ensures stands { IfOk result (λ t. (h : ℕ) (names : List Bound) → HaveSlots names → accept.StandsFor h names t (steps.play_of h names (step.Accept name.now from.now))) }
+        ensures value { IfOk result (λ t. t ≡ accept.begun name.now from.now) }
+        ensures stands { IfOk result (λ t. accept.Begins t (step.Accept name.now from.now)) }
     {
         Ok(Accept {
             name: Octets::from_slice(alloc, name)?,
@@ -131,7 +128,7 @@ fn request_of(
     from: &Octets,
     file: FileName,
 ) -> Result<Request, AllocError>
-    ensures { IfOk result (λ q. q ≡ spec.asks_file file name.now from.now fids.now.names (steps.fid_of from.now fids.now.names)) }
+    ensures { IfOk result (λ q. q ≡ spec.asks_beside file name.now from.now fids.now.names) }
 {
     match fids.get(from.as_slice()) {
         None => Ok(Request::Unbound {

@@ -1,11 +1,10 @@
 //! Dialling an address.
-ghost use Rattle.std.specs.Prelude.{◌≡◌, ℕ, List, [], IfOk, Some, option_map};
+ghost use Rattle.std.specs.Prelude.{◌≡◌, IfOk};
 ghost use Rattle.net_base.specs.Steps as steps;
-ghost use Rattle.net_base.specs.Steps.{Bound};
+ghost use Rattle.net_base.specs.Steps.{fid_of};
 ghost use Rattle.net_base.specs.declared.world.Step.TheVariants as step;
 ghost use Rattle.dial_lib.specs.Dials as spec;
 ghost use Rattle.dial_lib.specs.Lines as lines;
-ghost use Rattle.dial_lib.specs.declared.dial.Phase.TheVariants as phase;
 
 use crate::address::query_of;
 use crate::beside::open_beside;
@@ -19,7 +18,7 @@ use std::marker::Model;
 
 /// What a dial does next.
 #[derive(Clone, Copy, Debug, PartialEq, Eq)]
-pub enum Phase {
+pub enum DialPhase {
     /// It asks for the lines of the address.
     Fresh,
     /// It opens the clone file of the first line left.
@@ -38,25 +37,25 @@ pub enum Phase {
     Through,
 }
 
-impl Phase {
+impl DialPhase {
     // The phase after a reply.
-    fn after(self, reply: &Reply) -> Phase
+    fn after(self, reply: &Reply) -> DialPhase
         ensures { result ≡ spec.phase_after self reply.now }
     {
         match self {
-            Phase::Fresh => Phase::Open,
-            Phase::Open if is_opening(reply) => Phase::Write,
-            Phase::Open => Phase::Open,
-            Phase::Write if is_granted(reply) => Phase::Wait,
-            Phase::Write if is_accepted(reply) => Phase::Data,
-            Phase::Write => Phase::Retry,
-            Phase::Wait if is_accepted(reply) => Phase::Data,
-            Phase::Wait => Phase::Retry,
-            Phase::Retry if is_accepted(reply) => Phase::Open,
-            Phase::Retry => Phase::Through,
-            Phase::Data => Phase::Close,
-            Phase::Close => Phase::Through,
-            Phase::Through => Phase::Through,
+            DialPhase::Fresh => DialPhase::Open,
+            DialPhase::Open if is_opening(reply) => DialPhase::Write,
+            DialPhase::Open => DialPhase::Open,
+            DialPhase::Write if is_granted(reply) => DialPhase::Wait,
+            DialPhase::Write if is_accepted(reply) => DialPhase::Data,
+            DialPhase::Write => DialPhase::Retry,
+            DialPhase::Wait if is_accepted(reply) => DialPhase::Data,
+            DialPhase::Wait => DialPhase::Retry,
+            DialPhase::Retry if is_accepted(reply) => DialPhase::Open,
+            DialPhase::Retry => DialPhase::Through,
+            DialPhase::Data => DialPhase::Close,
+            DialPhase::Close => DialPhase::Through,
+            DialPhase::Through => DialPhase::Through,
         }
     }
 }
@@ -68,7 +67,7 @@ impl Phase {
 pub struct Dial {
     name: Octets,
     address: Octets,
-    phase: Phase,
+    phase: DialPhase,
     lines: Lines,
     // how many lines have failed
     tried: usize,
@@ -86,13 +85,13 @@ impl Model for Dial {
 impl Dial {
     /// Dials the address, and binds `name` to the data file of what was dialled.
     pub fn new(alloc: Global, name: &[u8], address: &[u8]) -> Result<Dial, AllocError>
-        ensures value { IfOk result (λ d. d ≡ record { called = name.now; address = address.now; phase = phase.Fresh; lines = [] }) }
-        ensures stands { IfOk result (λ d. (h : ℕ) (names : List Bound) → spec.StandsFor h names d (steps.play_of h names (step.Dial name.now address.now))) }
+        ensures value { IfOk result (λ d. d ≡ spec.begun name.now address.now) }
+        ensures stands { IfOk result (λ d. spec.Begins d (step.Dial name.now address.now)) }
     {
         Ok(Dial {
             name: Octets::from_slice(alloc, name)?,
             address: Octets::from_slice(alloc, address)?,
-            phase: Phase::Fresh,
+            phase: DialPhase::Fresh,
             lines: Lines::new(alloc),
             tried: 0,
         })
@@ -104,11 +103,11 @@ impl Dial {
     {
         let phase = self.phase.after(&reply);
         match self.phase {
-            Phase::Fresh => {
+            DialPhase::Fresh => {
                 self.take_lines(lines_in(alloc, reply));
                 self.set_phase(phase)
             }
-            Phase::Open => {
+            DialPhase::Open => {
                 if !is_opening(&reply) {
                     self.leave_line();
                     self.set_phase(phase)
@@ -116,7 +115,7 @@ impl Dial {
                     self.set_phase(phase)
                 }
             }
-            Phase::Retry => {
+            DialPhase::Retry => {
                 self.leave_line();
                 self.set_phase(phase)
             }
@@ -142,7 +141,7 @@ impl Dial {
     }
 
     // It is in this phase.
-    fn set_phase(&mut self, phase: Phase)
+    fn set_phase(&mut self, phase: DialPhase)
         ensures { self.new ≡ record self.old { phase = phase } }
     {
         self.phase = phase;
@@ -201,7 +200,7 @@ impl Dial {
 
     // Opens the data file of what was dialled.
     fn open_data(&self, alloc: Global, fids: &Fids, dotted: Octets) -> Result<Request, AllocError>
-        ensures { IfOk result (λ q. q ≡ spec.opens_data self.now.called dotted (steps.fid_of dotted fids.now.names)) }
+        ensures { IfOk result (λ q. q ≡ spec.opens_data self.now.called dotted (fid_of dotted fids.now.names)) }
     {
         match fids.get(dotted.as_slice()) {
             Some(made) => open_beside(alloc, &self.name, made, FileName::Data),
@@ -226,21 +225,21 @@ impl Task for Dial {
     fn next(&self, alloc: Global, fids: &Fids) -> Result<Option<Request>, AllocError> {
         let dotted = dotted_name(alloc, self.name.as_slice())?;
         match self.phase {
-            Phase::Fresh => Ok(Some(self.begin(alloc, fids, dotted)?)),
-            Phase::Open => self.open_line(alloc, dotted),
-            Phase::Write => Ok(Some(self.connect(alloc, dotted)?)),
-            Phase::Wait => Ok(Some(Request::Wait { name: dotted })),
-            Phase::Retry => Ok(Some(Request::Close { name: dotted })),
-            Phase::Data => Ok(Some(self.open_data(alloc, fids, dotted)?)),
-            Phase::Close => Ok(Some(Request::Close { name: dotted })),
-            Phase::Through => Ok(None),
+            DialPhase::Fresh => Ok(Some(self.begin(alloc, fids, dotted)?)),
+            DialPhase::Open => self.open_line(alloc, dotted),
+            DialPhase::Write => Ok(Some(self.connect(alloc, dotted)?)),
+            DialPhase::Wait => Ok(Some(Request::Wait { name: dotted })),
+            DialPhase::Retry => Ok(Some(Request::Close { name: dotted })),
+            DialPhase::Data => Ok(Some(self.open_data(alloc, fids, dotted)?)),
+            DialPhase::Close => Ok(Some(Request::Close { name: dotted })),
+            DialPhase::Through => Ok(None),
         }
     }
 
     fn is_through(&self) -> bool {
         match self.phase {
-            Phase::Open => self.lines.as_slice().get(self.tried).is_none(),
-            Phase::Through => true,
+            DialPhase::Open => self.lines.as_slice().get(self.tried).is_none(),
+            DialPhase::Through => true,
             _ => false,
         }
     }

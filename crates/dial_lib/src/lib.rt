@@ -17,7 +17,7 @@ mod write_text;
 pub use address::netmkaddr;
 pub use announce::{Announce, AnnouncePhase};
 pub use beside::{Accept, Listen};
-pub use dial::{Dial, Phase};
+pub use dial::{Dial, DialPhase};
 pub use one_request::OneRequest;
 pub use reject::{Reject, RejectPhase};
 pub use step::StepTask;

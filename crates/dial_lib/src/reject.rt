@@ -1,10 +1,7 @@
 //! Rejecting a call.
-ghost use Rattle.std.specs.Prelude.{◌≡◌, ℕ, List, IfOk};
-ghost use Rattle.net_base.specs.Steps as steps;
-ghost use Rattle.net_base.specs.Steps.{Bound};
+ghost use Rattle.std.specs.Prelude.{◌≡◌, IfOk};
 ghost use Rattle.net_base.specs.declared.world.Step.TheVariants as step;
 ghost use Rattle.dial_lib.specs.Reject as spec;
-ghost use Rattle.dial_lib.specs.declared.reject.RejectPhase.TheVariants as phase;
 
 use crate::reply::is_accepted;
 use net_base::{Octets, Reply};
@@ -48,8 +45,8 @@ impl Reject {
     /// Rejects the call that the name is bound to.
     #[tactic(auto, using(crate::specs::RejectLaws::fresh))]
     pub fn new(alloc: Global, name: &[u8]) -> Result<Reject, AllocError>
-        ensures value { IfOk result (λ t. t ≡ record { name = name.now; phase = phase.Write }) }
-        ensures stands { IfOk result (λ t. (h : ℕ) (names : List Bound) → spec.StandsFor h names t (steps.play_of h names (step.Reject name.now))) }
+        ensures value { IfOk result (λ t. t ≡ spec.begun name.now) }
+        ensures stands { IfOk result (λ t. spec.Begins t (step.Reject name.now)) }
     {
         Ok(Reject {
             name: Octets::from_slice(alloc, name)?,

@@ -38,7 +38,7 @@ impl StepTask {
     #[tactic(auto, using(crate::specs::StepLaws::begun_stands))]
     pub fn new(alloc: Global, step: &Step) -> Result<StepTask, AllocError>
         ensures value { IfOk result (λ t. t ≡ spec.begun step.now) }
-        ensures stands { IfOk result (λ t. (h : ℕ) (names : List Bound) → HaveSlots names → spec.StandsFor h names t (steps.play_of h names step.now)) }
+        ensures stands { IfOk result (λ t. spec.Begins t step.now) }
     {
         begin(alloc, step)
     }
