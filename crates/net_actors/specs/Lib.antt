@@ -1,0 +1,11 @@
+pub mod AtDesk
+pub mod Dues
+pub mod Kept
+pub mod Numbers
+pub mod Small
+pub mod Stepping
+pub mod Together
+pub use Rattle.net_base.specs.Actors
+pub use Rattle.net_base.specs.Desk
+pub use Rattle.net_base.specs.Duties
+pub use Rattle.net_base.specs.Net

@@ -1,0 +1,138 @@
+//! What an actor keeps, by its kind.
+ghost use Rattle.std.specs.Prelude.{◌≡◌, ◌^◌, ◌<◌, IfOk, IsTrue, OnErr, true, is_some, Some};
+ghost use Rattle.std.specs.Arc.{arc_value};
+ghost use Rattle.net_base.specs.Actors.{has_actor, opening_actor};
+ghost use Rattle.net_base.specs.Desk.{clock_reply};
+ghost use Rattle.net_base.specs.Duties as duties;
+ghost use Rattle.net_base.specs.World.{IsWorld};
+ghost use Rattle.conversation.specs.Stands.{IsShort, step_at};
+ghost use Rattle.net_actors.specs.AtDesk.{Replies};
+ghost use Rattle.net_actors.specs.Kept.{Keeps, seen};
+ghost use Rattle.net_actors.specs.Small.{IsSmall};
+ghost use Rattle.net_actors.specs.Stepping.{ConvSteps, KindSteps, kind_ready};
+
+use crate::desk::Desk;
+use crate::media;
+use crate::outcome::answered;
+use conversation::Conv;
+use host_dir::Dir;
+use medium::Medium;
+use net_base::{ActorName, Db, Event, Outcome, Reply, Work, World};
+use std::alloc::{AllocError, Global};
+use std::sync::Arc;
+
+/// An actor without its name.
+#[derive(Drop)]
+pub enum Kind {
+    Desk(Desk),
+    Dir(Dir),
+    Conv(Conv),
+    Medium(Medium),
+    Clock,
+}
+
+impl Kind {
+    /// What the actor of this name keeps before anything happened.
+    pub fn new(
+        alloc: Global,
+        world: &World,
+        db: &Arc<Db, Global>,
+        name: ActorName,
+    ) -> Result<Kind, AllocError>
+        requires world { IsWorld world.now }
+        requires has { has_actor world.now name ≡ true }
+        requires db { arc_value db.now ≡ world.now.db }
+        ensures keeps { IfOk result (Keeps world.now name) }
+        ensures opening { IfOk result (λ k. seen k ≡ opening_actor name) }
+    {
+        match name {
+            ActorName::Desk(host) => {
+                let host = &world.hosts.as_slice()[host as usize];
+                Ok(Kind::Desk(Desk::new(alloc, db, host)?))
+            }
+            ActorName::Dir(host, proto) => Ok(Kind::Dir(Dir::new(alloc, world, host, proto)?)),
+            ActorName::Conv(host, proto, slot) => {
+                Ok(Kind::Conv(Conv::new(alloc, host, proto, slot)?))
+            }
+            ActorName::Medium(medium) => {
+                let spec = &world.media.as_slice()[medium as usize];
+                Ok(Kind::Medium(Medium::new(alloc, spec, world.seed)?))
+            }
+            ActorName::Clock => Ok(Kind::Clock),
+        }
+    }
+
+    /// Whether there is an answer to the work.
+    pub fn ready(&self, now: u64, work: &Work) -> bool
+        ensures { result ≡ kind_ready self.now now work.now }
+    {
+        match self {
+            Kind::Desk(desk) => desk.ready(now, &work.event),
+            Kind::Dir(dir) => dir.ready(work),
+            Kind::Conv(conv) => is_answered(conv, now, work),
+            Kind::Medium(medium) => media::is_ready(medium, work),
+            Kind::Clock => is_move(&work.event),
+        }
+    }
+
+    /// The answer to a work that has one.
+    pub fn step(&mut self, now: u64, work: &Work) -> Result<Outcome, AllocError>
+        requires now { now < 2 ^ 63 }
+        requires small { IsSmall (seen self.old) }
+        requires ready { IsTrue (kind_ready self.old now work.now) }
+        ensures ok { IfOk result (KindSteps self.old self.new now work.now) }
+        ensures err { OnErr result (self.new ≡ self.old) }
+    {
+        match self {
+            Kind::Desk(desk) => desk.answer(now, &work.event),
+            Kind::Dir(dir) => dir.step(work),
+            Kind::Conv(conv) => talk(conv, now, work),
+            Kind::Medium(medium) => media::step(medium, work),
+            Kind::Clock => Ok(answered(Reply::Ok, Reply::Ok)),
+        }
+    }
+
+    /// The moment at which something is due.
+    pub fn due(&self) -> Option<u64>
+        ensures { result ≡ duties.due_of (seen self.now) }
+    {
+        match self {
+            Kind::Conv(conv) => conv.due(),
+            _ => None,
+        }
+    }
+
+    /// The generation of a conversation, else 0.
+    pub fn generation(&self) -> u64
+        ensures { result ≡ duties.generation_of (seen self.now) }
+    {
+        match self {
+            Kind::Conv(conv) => conv.generation(),
+            _ => 0,
+        }
+    }
+}
+
+fn is_move(event: &Event) -> bool
+    ensures { result ≡ is_some (clock_reply event.now) }
+{
+    matches!(event, Event::Move { .. })
+}
+
+/// Whether the conversation has an answer.
+fn is_answered(conv: &Conv, now: u64, work: &Work) -> bool
+    ensures { result ≡ is_some (step_at conv.now now work.now conv.now.conv) }
+{
+    conv.ready(work)
+}
+
+/// The answer of a conversation.
+fn talk(conv: &mut Conv, now: u64, work: &Work) -> Result<Outcome, AllocError>
+    requires now { now < 2 ^ 63 }
+    requires short { IsShort conv.old.conv }
+    requires ready { IsTrue (is_some (step_at conv.old now work.now conv.old.conv)) }
+    ensures ok { IfOk result (ConvSteps conv.old conv.new now work.now) }
+    ensures err { OnErr result (conv.new ≡ conv.old) }
+{
+    conv.step(now, work)
+}
