@@ -72,7 +72,7 @@ early_more (Some k) text e =
     either (λ (x : End). end_size x ≤ end_size e + 1) (is_some (end.early_at k e.early) || nat_le 64 (end.backlog e)) e _ (omega arith) (omega arith)
 
 one_less : (k : ℕ) (xs : List Early) (text : List ℕ) → end.early_at k xs ≡ Some text → length (end.without k xs) + 1 ≡ length xs
-one_less k [] text is = absurd (none-some is)
+one_less k [] text is = absurd (none-some text is)
 one_less k (x ∷ xs) text is = at_head (one_less k xs text) (x.number == k) is
   where
     at_head : (end.early_at k xs ≡ Some text → length (end.without k xs) + 1 ≡ length xs) → (b : Bool)

@@ -1,1 +1,4 @@
+pub mod Copied
 pub mod FewWorks
+pub mod Kinds
+pub mod Numbering

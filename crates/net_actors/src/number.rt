@@ -75,6 +75,7 @@ pub fn actor_at(hosts: u32, media: u32, number: usize) -> ActorName
 }
 
 /// The numbers of a world's actors are below their count, and different actors have different ones.
+#[tactic(auto, using(crate::proofs::Numbering::below_in, crate::proofs::Numbering::same_in))]
 pub fn numbers_are_apart()
     ensures below { (w : World) (a : Name) → has_actor w a ≡ true → spec.number_in w a < spec.count_in w }
     ensures apart { (w : World) (a b : Name) → has_actor w a ≡ true → has_actor w b ≡ true
