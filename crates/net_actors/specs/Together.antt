@@ -1,10 +1,11 @@
 -- All actors of a world, each at its number.
 use Rattle.std.specs.Prelude.{◌≡◌, ℕ, Bool, true, List, length, Option, Some, None, slice_get, is_some}
+use Rattle.std.specs.Option.{option_map_or}
 use Rattle.net_base.specs.declared.actor.ActorName.{ActorName}
 use Rattle.net_base.specs.declared.history.Outcome.{Outcome}
 use Rattle.net_base.specs.declared.history.Work.{Work}
 use Rattle.net_base.specs.declared.world.World.{World}
-use Rattle.net_base.specs.Actors.{Actor, IsPlain, actor_step, has_actor}
+use Rattle.net_base.specs.Actors.{Actor, IsPlain, actor_step, has_actor, opening_actor}
 use Rattle.net_base.specs.Net.{actors_after}
 use Rattle.net_actors.specs.declared.actor.Actor.{Actor as Kept}
 use Rattle.net_actors.specs.Kept.{IsActorOf, state_of}
@@ -31,6 +32,15 @@ pub record AreActors (w : World) (v : Numbered) (states : ActorName → Actor) :
   pub hosts_are : v.hosts ≡ length w.hosts
   pub media_are : v.media ≡ length w.media
   pub each : (a : ActorName) → has_actor w a ≡ true → IsAt w a (states a) (slice_get v.actors (number_in w a))
+
+-- the state of the actor of this name, or that of one that keeps nothing
+abbrev pub state_in : Numbered → ActorName → Actor
+state_in v a = option_map_or state_of (slice_get v.actors (number_of v.hosts v.media a)) IsPlain
+
+-- these are the first n actors of the world, to which nothing has happened
+pub record AreFirst (w : World) (n : ℕ) (actors : List Kept) : Type 0 where
+  pub count : length actors ≡ n
+  pub place : (k : ℕ) (x : Kept) → slice_get actors k ≡ Some x → IsActorOf w x × (has_actor w x.name ≡ true) × (number_in w x.name ≡ k) × (state_of x ≡ opening_actor x.name)
 
 -- they are the actors of some world, and the table of this one there answers the work
 pub record CanStep (v : Numbered) (a : ActorName) (now : ℕ) (work : Work) : Type 0 where

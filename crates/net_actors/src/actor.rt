@@ -24,6 +24,7 @@ pub struct Actor {
 }
 
 impl Actor {
+    #[tactic(auto, using(crate::proofs::ByKind::of_world))]
     /// The actor of this name, to which nothing has happened. The database is the world's; all desks may share it.
     pub fn new(
         alloc: Global,
@@ -50,6 +51,7 @@ impl Actor {
     }
 
     /// Whether its table answers the work now, with whatever is given.
+    #[tactic(auto, using(crate::proofs::ByKind::told_in))]
     pub fn ready(&self, now: u64, work: &Work) -> bool
         ensures { (w : AnyWorld) → IsActorOf w self.now
             → result ≡ is_some (actor_step w self.now.name (state_of self.now) now work.now) }
@@ -58,6 +60,7 @@ impl Actor {
     }
 
     /// Answers a work that is ready. Where memory ran out nothing has changed.
+    #[tactic(auto, using(crate::proofs::ByKind::ready_of))]
     pub fn step(&mut self, now: u64, work: &Work) -> Result<Outcome, AllocError>
         requires now { now < 2 ^ 63 }
         requires small { IsSmall (state_of self.old) }

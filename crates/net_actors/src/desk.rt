@@ -40,6 +40,7 @@ impl Model for Desk {
 
 impl Desk {
     /// The desk of a host.
+    #[tactic(auto, using(crate::proofs::Said::are_nets))]
     pub fn new(alloc: Global, db: &Arc<Db, Global>, host: &HostSpec) -> Result<Desk, AllocError>
         requires { is_nets host.now.nets ≡ true }
         ensures { IfOk result (λ d. d ≡ record { db = arc_value db.now; name = host.now.name; nets = host.now.nets }) }

@@ -1,13 +1,16 @@
 //! What an actor keeps, by its kind.
 ghost use Rattle.std.specs.Prelude.{◌≡◌, ◌^◌, ◌<◌, IfOk, IsTrue, OnErr, true, is_some, Some};
 ghost use Rattle.std.specs.Arc.{arc_value};
-ghost use Rattle.net_base.specs.Actors.{has_actor, opening_actor};
+ghost use Rattle.net_base.specs.declared.actor.ActorName.TheVariants as name;
+ghost use Rattle.net_base.specs.Actors.{has_actor, opening_actor, opening_conv};
 ghost use Rattle.net_base.specs.Desk.{clock_reply};
 ghost use Rattle.net_base.specs.Duties as duties;
+ghost use Rattle.net_base.specs.Medium.{quiet_medium};
 ghost use Rattle.net_base.specs.World.{IsWorld};
-ghost use Rattle.conversation.specs.Stands.{IsShort, step_at};
-ghost use Rattle.net_actors.specs.AtDesk.{Replies};
-ghost use Rattle.net_actors.specs.Kept.{Keeps, seen};
+ghost use Rattle.conversation.specs.Stands.{IsShort, slot_of, step_at};
+ghost use Rattle.medium.specs.OnMedium.{medium_of as seen_medium};
+ghost use Rattle.net_actors.specs.AtDesk.{IsDeskOf, Replies};
+ghost use Rattle.net_actors.specs.Kept.{IsMediumOf, Keeps, seen};
 ghost use Rattle.net_actors.specs.Small.{IsSmall};
 ghost use Rattle.net_actors.specs.Stepping.{ConvSteps, KindSteps, kind_ready};
 
@@ -17,7 +20,7 @@ use crate::outcome::answered;
 use conversation::Conv;
 use host_dir::Dir;
 use medium::Medium;
-use net_base::{ActorName, Db, Event, Outcome, Reply, Work, World};
+use net_base::{ActorName, Db, Event, Outcome, Proto, Reply, Work, World};
 use std::alloc::{AllocError, Global};
 use std::sync::Arc;
 
@@ -46,18 +49,12 @@ impl Kind {
         ensures opening { IfOk result (λ k. seen k ≡ opening_actor name) }
     {
         match name {
-            ActorName::Desk(host) => {
-                let host = &world.hosts.as_slice()[host as usize];
-                Ok(Kind::Desk(Desk::new(alloc, db, host)?))
-            }
+            ActorName::Desk(host) => Ok(Kind::Desk(desk_of(alloc, world, db, host)?)),
             ActorName::Dir(host, proto) => Ok(Kind::Dir(Dir::new(alloc, world, host, proto)?)),
             ActorName::Conv(host, proto, slot) => {
-                Ok(Kind::Conv(Conv::new(alloc, host, proto, slot)?))
+                Ok(Kind::Conv(fresh_conv(alloc, host, proto, slot)?))
             }
-            ActorName::Medium(medium) => {
-                let spec = &world.media.as_slice()[medium as usize];
-                Ok(Kind::Medium(Medium::new(alloc, spec, world.seed)?))
-            }
+            ActorName::Medium(medium) => Ok(Kind::Medium(medium_of(alloc, world, medium)?)),
             ActorName::Clock => Ok(Kind::Clock),
         }
     }
@@ -113,6 +110,42 @@ impl Kind {
     }
 }
 
+/// The desk of a host of the world.
+#[tactic(auto, using(crate::proofs::Said::host_nets, crate::proofs::Said::desk_is))]
+fn desk_of(
+    alloc: Global,
+    world: &World,
+    db: &Arc<Db, Global>,
+    host: u32,
+) -> Result<Desk, AllocError>
+    requires world { IsWorld world.now }
+    requires has { has_actor world.now (name.Desk host) ≡ true }
+    requires db { arc_value db.now ≡ world.now.db }
+    ensures { IfOk result (IsDeskOf world.now host) }
+{
+    Desk::new(alloc, db, &world.hosts.as_slice()[host as usize])
+}
+
+/// The conversation of a slot.
+#[tactic(auto, using(crate::proofs::ByKind::kept_is))]
+fn fresh_conv(alloc: Global, host: u32, proto: Proto, slot: u32) -> Result<Conv, AllocError>
+    ensures slot { IfOk result (λ c. slot_of c ≡ slot) }
+    ensures opening { IfOk result (λ c. c.conv ≡ opening_conv proto) }
+{
+    Conv::new(alloc, host, proto, slot)
+}
+
+/// A medium of the world.
+#[tactic(auto, using(crate::proofs::Said::medium_spec, crate::proofs::Said::medium_at))]
+fn medium_of(alloc: Global, world: &World, number: u32) -> Result<Medium, AllocError>
+    requires world { IsWorld world.now }
+    requires has { has_actor world.now (name.Medium number) ≡ true }
+    ensures of { IfOk result (IsMediumOf world.now number) }
+    ensures opening { IfOk result (λ m. seen_medium m ≡ quiet_medium) }
+{
+    Medium::new(alloc, &world.media.as_slice()[number as usize], world.seed)
+}
+
 fn is_move(event: &Event) -> bool
     ensures { result ≡ is_some (clock_reply event.now) }
 {
@@ -120,6 +153,7 @@ fn is_move(event: &Event) -> bool
 }
 
 /// Whether the conversation has an answer.
+#[tactic(auto, using(crate::proofs::ByKind::says_itself))]
 fn is_answered(conv: &Conv, now: u64, work: &Work) -> bool
     ensures { result ≡ is_some (step_at conv.now now work.now conv.now.conv) }
 {

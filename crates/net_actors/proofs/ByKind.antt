@@ -67,17 +67,18 @@ pub itself : (c : Seat) → StandsFor c c.conv
 unfolding StandsFor
 itself c = refl
 
-stood : (c : Seat) (s : Conv) → StandsFor c s → c.conv ≡ s
-unfolding StandsFor
-stood c s is = is
-
 -- what it says, it says of what it keeps
-pub said : {A : Type 0} (c : Seat) (told : A) (answer : Conv → A) → Says c told answer → told ≡ answer c.conv
-said c told answer says = says c.conv (itself c)
+pub says_itself : {A : Type 0} (c : Seat) (told : A) (answer : Conv → A) → Says c told answer → told ≡ answer c.conv
+says_itself c told answer says = says c.conv (itself c)
+
+-- it keeps what it stands for
+pub kept_is : (c : Seat) (s : Conv) → StandsFor c s → c.conv ≡ s
+unfolding StandsFor
+kept_is c s is = is
 
 talk_gives : (new : Seat) (o : Outcome) (t : Option (Step Conv)) → Gives new o t → t ≡ Some (record { state = new.conv; outcome = o })
 talk_gives new o None g = absurd g
-talk_gives new o (Some t) g = let is = stood new t.state g.0 in cc (is, g.1)
+talk_gives new o (Some t) g = let is = kept_is new t.state g.0 in cc (is, g.1)
 
 -- Media.
 
@@ -109,13 +110,17 @@ table_ready w (name.Medium n) (kind.Medium m) now work keeps =
 table_ready w name.Clock kind.Clock now work keeps = some_map plain_step (clock_reply work.event)
 table_ready w _ _ now work keeps = absurd keeps
 
-pub told_in : (a : Kept) (now : ℕ) (work : Work) (w : World) → IsActorOf w a → kind_ready a.kind now work ≡ is_some (actor_step w a.name (state_of a) now work)
+told_of : (a : Kept) (now : ℕ) (work : Work) (w : World) → IsActorOf w a → kind_ready a.kind now work ≡ is_some (actor_step w a.name (state_of a) now work)
 unfolding IsActorOf
-told_in a now work w of =
+told_of a now work w of =
     table_ready w a.name a.kind now work of.1 ∙ ap (λ (t : Option (Step Actor)). is_some t) (sym (in_world w a.name (seen a.kind) now work of.0))
 
+pub told_in : (a : Kept) (now : ℕ) (work : Work) (told : Bool) → told ≡ kind_ready a.kind now work
+    → (w : World) → IsActorOf w a → told ≡ is_some (actor_step w a.name (state_of a) now work)
+told_in a now work told is w of = is ∙ told_of a now work w of
+
 pub ready_of : (a : Kept) (now : ℕ) (work : Work) → IsReady a now work → kind_ready a.kind now work ≡ true
-ready_of a now work r = told_in a now work r.0 r.1 ∙ r.2
+ready_of a now work r = told_of a now work r.0 r.1 ∙ r.2
 
 -- what is kept steps as the table does, and is still kept of the world
 table_steps : (w : World) (a : ActorName) (k l : Kind) (now : ℕ) (work : Work) (o : Outcome) → Keeps w a k → KindSteps k l now work o
@@ -167,3 +172,7 @@ kind_copies w _ _ _ now work o keeps s = absurd keeps
 pub copy_of : (a : Kept) (l : Kind) (now : ℕ) (work : Work) (o : Outcome) → IsReady a now work → KindSteps a.kind l now work o → o.copy ≡ Some o.reply
 unfolding IsActorOf
 copy_of a l now work o r s = kind_copies r.0 a.name a.kind l now work o r.1.1 s
+
+pub of_world : (w : World) (a : ActorName) (k : Kind) → has_actor w a ≡ true → Keeps w a k → IsActorOf w (record { name = a; kind = k })
+unfolding IsActorOf
+of_world w a k has keeps = (has, keeps)
