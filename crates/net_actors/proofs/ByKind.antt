@@ -1,5 +1,5 @@
 -- What an actor keeps answers as the actor of the definitions.
-use Rattle.std.proofs.Common.{◌≡◌, ℕ, Bool, true, List, Option, Some, None, slice_get, is_some, refl, ap, sym, subst, ◌∙◌}
+use Rattle.std.proofs.Common.{◌≡◌, ℕ, Bool, true, List, Option, Some, None, Result, Ok, Err, IfOk, slice_get, is_some, refl, ap, sym, subst, ◌∙◌}
 use Rattle.std.specs.Option.{option_map, option_and_then}
 use Rattle.std.proofs.lemmas.Option.{none-some, same_Some}
 use Rattle.net_base.specs.declared.actor.ActorName.{ActorName}
@@ -20,9 +20,10 @@ use Rattle.net_base.specs.Conversation.{Conv, conv_step}
 use Rattle.net_base.specs.Cs.{cs_list}
 use Rattle.net_base.specs.Desk.{clock_reply, cs_reply, desk_reply}
 use Rattle.net_base.specs.Directory.{dir_step}
+use Rattle.net_base.specs.Duties.{due_of_core}
 use Rattle.net_base.specs.Medium.{medium_step}
 use Rattle.conversation.specs.Kept.{Seat}
-use Rattle.conversation.specs.Stands.{StandsFor, Gives, Says, slot_of, step_at}
+use Rattle.conversation.specs.Stands.{StandsFor, StandsForSome, Gives, IsShort, IsReady as IsTalkReady, Says, slot_of, step_at}
 use Rattle.host_dir.specs.Kept.{HostDir, IsDirOf}
 use Rattle.host_dir.specs.Ready.{is_ready}
 use Rattle.host_dir.proofs.Ready.{ready_is}
@@ -63,13 +64,25 @@ plain_copies (Some r) o is = subst (λ (x : Outcome). x.copy ≡ Some x.reply) (
 -- Conversations.
 
 -- it stands for what it keeps
-pub itself : (c : Seat) → StandsFor c c.conv
+itself : (c : Seat) → StandsFor c c.conv
 unfolding StandsFor
 itself c = refl
 
 -- what it says, it says of what it keeps
-pub says_itself : {A : Type 0} (c : Seat) (told : A) (answer : Conv → A) → Says c told answer → told ≡ answer c.conv
-says_itself c told answer says = says c.conv (itself c)
+pub told_ready : (c : Seat) (now : ℕ) (work : Work) (told : Bool) → ((t : ℕ) → Says c told (λ (k : Conv). is_some (step_at c t work k))) → told ≡ is_some (step_at c now work c.conv)
+told_ready c now work told says = says now c.conv (itself c)
+
+pub told_due : (c : Seat) (told : Option ℕ) → Says c told (λ (k : Conv). due_of_core k.core) → told ≡ due_of_core c.conv.core
+told_due c told says = says c.conv (itself c)
+
+pub told_generation : (c : Seat) (told : ℕ) → Says c told (λ (k : Conv). k.generation) → told ≡ c.conv.generation
+told_generation c told says = says c.conv (itself c)
+
+pub is_short : (c : Seat) → IsShort c.conv → StandsForSome c IsShort
+is_short c short = (c.conv, (itself c, short))
+
+pub talk_ready : (c : Seat) (now : ℕ) (work : Work) → is_some (step_at c now work c.conv) ≡ true → IsTalkReady c now work
+talk_ready c now work ready = (c.conv, (itself c, ready))
 
 -- it keeps what it stands for
 pub kept_is : (c : Seat) (s : Conv) → StandsFor c s → c.conv ≡ s
@@ -78,7 +91,9 @@ kept_is c s is = is
 
 talk_gives : (new : Seat) (o : Outcome) (t : Option (Step Conv)) → Gives new o t → t ≡ Some (record { state = new.conv; outcome = o })
 talk_gives new o None g = absurd g
-talk_gives new o (Some t) g = let is = kept_is new t.state g.0 in cc (is, g.1)
+talk_gives new o (Some t) g =
+    ap (λ (s : Conv). Some (record { state = s; outcome = t.outcome })) (sym (kept_is new t.state g.0))
+    ∙ ap (λ (x : Outcome). Some (record { state = new.conv; outcome = x })) (sym g.1)
 
 -- Media.
 
@@ -147,7 +162,7 @@ table_steps w (name.Medium n) (kind.Medium m) _ now work o keeps s = absurd s
 table_steps w name.Clock kind.Clock _ now work o keeps s = absurd s
 table_steps w _ _ _ now work o keeps s = absurd keeps
 
-pub steps_in : (a : Kept) (l : Kind) (now : ℕ) (work : Work) (o : Outcome) → KindSteps a.kind l now work o → Steps a (record { name = a.name; kind = l }) now work o
+steps_in : (a : Kept) (l : Kind) (now : ℕ) (work : Work) (o : Outcome) → KindSteps a.kind l now work o → Steps a (record { name = a.name; kind = l }) now work o
 unfolding IsActorOf
 steps_in a l now work o s w of =
     let t = table_steps w a.name a.kind l now work o of.1 s in
@@ -169,9 +184,17 @@ kind_copies w (name.Medium n) (kind.Medium m) _ now work o keeps s = absurd s
 kind_copies w name.Clock kind.Clock _ now work o keeps s = absurd s
 kind_copies w _ _ _ now work o keeps s = absurd keeps
 
-pub copy_of : (a : Kept) (l : Kind) (now : ℕ) (work : Work) (o : Outcome) → IsReady a now work → KindSteps a.kind l now work o → o.copy ≡ Some o.reply
+copy_of : (a : Kept) (l : Kind) (now : ℕ) (work : Work) (o : Outcome) → IsReady a now work → KindSteps a.kind l now work o → o.copy ≡ Some o.reply
 unfolding IsActorOf
 copy_of a l now work o r s = kind_copies r.0 a.name a.kind l now work o r.1.1 s
+
+pub steps_if : {E : Type 0} (r : Result Outcome E) (a : Kept) (l : Kind) (now : ℕ) (work : Work) → IfOk r (KindSteps a.kind l now work) → IfOk r (Steps a (record { name = a.name; kind = l }) now work)
+steps_if (Ok o) a l now work is = steps_in a l now work o is
+steps_if (Err e) a l now work is = tt
+
+pub copy_if : {E : Type 0} (r : Result Outcome E) (a : Kept) (l : Kind) (now : ℕ) (work : Work) → IsReady a now work → IfOk r (KindSteps a.kind l now work) → IfOk r (λ (o : Outcome). o.copy ≡ Some o.reply)
+copy_if (Ok o) a l now work ready is = copy_of a l now work o ready is
+copy_if (Err e) a l now work ready is = tt
 
 pub of_world : (w : World) (a : ActorName) (k : Kind) → has_actor w a ≡ true → Keeps w a k → IsActorOf w (record { name = a; kind = k })
 unfolding IsActorOf

@@ -24,8 +24,8 @@ pub struct Actor {
 }
 
 impl Actor {
-    #[tactic(auto, using(crate::proofs::ByKind::of_world))]
     /// The actor of this name, to which nothing has happened. The database is the world's; all desks may share it.
+    #[tactic(auto, using(crate::proofs::ByKind::of_world))]
     pub fn new(
         alloc: Global,
         world: &World,
@@ -60,7 +60,7 @@ impl Actor {
     }
 
     /// Answers a work that is ready. Where memory ran out nothing has changed.
-    #[tactic(auto, using(crate::proofs::ByKind::ready_of))]
+    #[tactic(auto, using(crate::proofs::ByKind::ready_of, crate::proofs::ByKind::steps_if, crate::proofs::ByKind::copy_if))]
     pub fn step(&mut self, now: u64, work: &Work) -> Result<Outcome, AllocError>
         requires now { now < 2 ^ 63 }
         requires small { IsSmall (state_of self.old) }

@@ -94,7 +94,7 @@ impl Kind {
         ensures { result ≡ duties.due_of (seen self.now) }
     {
         match self {
-            Kind::Conv(conv) => conv.due(),
+            Kind::Conv(conv) => due_of(conv),
             _ => None,
         }
     }
@@ -104,7 +104,7 @@ impl Kind {
         ensures { result ≡ duties.generation_of (seen self.now) }
     {
         match self {
-            Kind::Conv(conv) => conv.generation(),
+            Kind::Conv(conv) => generation_of(conv),
             _ => 0,
         }
     }
@@ -153,7 +153,7 @@ fn is_move(event: &Event) -> bool
 }
 
 /// Whether the conversation has an answer.
-#[tactic(auto, using(crate::proofs::ByKind::says_itself))]
+#[tactic(auto, using(crate::proofs::ByKind::told_ready))]
 fn is_answered(conv: &Conv, now: u64, work: &Work) -> bool
     ensures { result ≡ is_some (step_at conv.now now work.now conv.now.conv) }
 {
@@ -161,6 +161,7 @@ fn is_answered(conv: &Conv, now: u64, work: &Work) -> bool
 }
 
 /// The answer of a conversation.
+#[tactic(auto, using(crate::proofs::ByKind::is_short, crate::proofs::ByKind::talk_ready))]
 fn talk(conv: &mut Conv, now: u64, work: &Work) -> Result<Outcome, AllocError>
     requires now { now < 2 ^ 63 }
     requires short { IsShort conv.old.conv }
@@ -169,4 +170,20 @@ fn talk(conv: &mut Conv, now: u64, work: &Work) -> Result<Outcome, AllocError>
     ensures err { OnErr result (conv.new ≡ conv.old) }
 {
     conv.step(now, work)
+}
+
+/// When the conversation is due.
+#[tactic(auto, using(crate::proofs::ByKind::told_due))]
+fn due_of(conv: &Conv) -> Option<u64>
+    ensures { result ≡ duties.due_of_core conv.now.conv.core }
+{
+    conv.due()
+}
+
+/// Its generation.
+#[tactic(auto, using(crate::proofs::ByKind::told_generation))]
+fn generation_of(conv: &Conv) -> u64
+    ensures { result ≡ conv.now.conv.generation }
+{
+    conv.generation()
 }
