@@ -148,7 +148,7 @@ table_steps w (name.Dir h p) (kind.Dir d) (kind.Dir e) now work o keeps s = let 
 table_steps w (name.Conv h p n) (kind.Conv c) (kind.Conv d) now work o keeps s = (
   s.slot ∙ keeps,
   ap (λ (m : ℕ). step_as IsConv (conv_step m work.event work.with now c.conv)) (sym keeps)
-  ∙ ap (step_as IsConv) (talk_gives d o (step_at c now work c.conv) (s.step c.conv (itself c))),
+      ∙ ap (step_as IsConv) (talk_gives d o (step_at c now work c.conv) (s.step c.conv (itself c))),
 )
 table_steps w (name.Medium n) (kind.Medium m) (kind.Medium l) now work o keeps s = (
   record { spec_is = keeps.spec_is ∙ ap (λ (x : MediumSpec). Some x) (sym s.spec); seed_is = s.seed ∙ keeps.seed_is },

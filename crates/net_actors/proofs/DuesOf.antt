@@ -13,13 +13,22 @@ use Rattle.net_base.specs.declared.address.Proto.TheVariants as proto
 use Rattle.net_base.specs.declared.world.World.{World}
 use Rattle.net_base.specs.Actors.{Actor, has_actor}
 use Rattle.net_base.specs.Duties.{due_of, generation_of, slots_of}
-use Rattle.net_actors.specs.declared.due.Due.{Due}
-use Rattle.net_actors.specs.Dues.{due_in, due_in_slot, dues_of, dues_below}
+use Rattle.duties.specs.declared.due.Due.{Due}
+use Rattle.duties.specs.Ticking.{due_at, dues_of}
 use Rattle.net_actors.specs.Together.{AreActors, Numbered, state_in}
 use Rattle.net_actors.specs.declared.actor.Actor.{Actor as Kept}
 use Rattle.net_actors.specs.Kept.{state_of}
 use Rattle.net_actors.specs.Numbers.{number_of}
 use Rattle.net_actors.proofs.Placed.{stands_in, states_are}
+
+-- those of the conversations of the first so many hosts
+abbrev pub dues_below : (ActorName → Actor) → ℕ → List Due
+dues_below actors hosts =
+    filter_map (due_at actors) (flat_map (λ (h : ℕ). slots_of h proto.Il ++ slots_of h proto.Udp) (range_with_len 0 hosts))
+
+-- that of the conversation in this slot, in this state
+abbrev due_in_slot : ℕ → Proto → ℕ → Actor → Option Due
+due_in_slot h p n s = option_map (λ (at : ℕ). record { host = h; proto = p; slot = n; generation = generation_of s; due = at }) (due_of s)
 
 range_more : (a n : ℕ) → range_with_len a (suc n) ≡ range_with_len a n ++ (a + n) ∷ []
 range_more a zero = ap (λ (k : ℕ). k ∷ []) (omega arith)
@@ -37,22 +46,22 @@ as_list (Some d) = refl
 
 -- a slot more
 pub slot_more : (actors : ActorName → Actor) (h : ℕ) (p : Proto) (n : ℕ)
-    → filter_map (due_in actors) (map (λ (k : ℕ). name.Conv h p k) (range_with_len 0 (n + 1)))
-    ≡ filter_map (due_in actors) (map (λ (k : ℕ). name.Conv h p k) (range_with_len 0 n)) ++ option_to_list (due_in actors (name.Conv h p n))
+    → filter_map (due_at actors) (map (λ (k : ℕ). name.Conv h p k) (range_with_len 0 (n + 1)))
+    ≡ filter_map (due_at actors) (map (λ (k : ℕ). name.Conv h p k) (range_with_len 0 n)) ++ option_to_list (due_at actors (name.Conv h p n))
 slot_more actors h p n =
-    ap (λ (ks : List ℕ). filter_map (due_in actors) (map (λ (k : ℕ). name.Conv h p k) ks)) (from_zero n)
-    ∙ (ap (filter_map (due_in actors)) (map-append (λ (k : ℕ). name.Conv h p k) (range_with_len 0 n) (n ∷ []))
-    ∙ (filter_map-append (due_in actors) (map (λ (k : ℕ). name.Conv h p k) (range_with_len 0 n)) (name.Conv h p n ∷ [])
-    ∙ ap (λ (ds : List Due). filter_map (due_in actors) (map (λ (k : ℕ). name.Conv h p k) (range_with_len 0 n)) ++ ds) (as_list (due_in actors (name.Conv h p n)))))
+    ap (λ (ks : List ℕ). filter_map (due_at actors) (map (λ (k : ℕ). name.Conv h p k) ks)) (from_zero n)
+    ∙ (ap (filter_map (due_at actors)) (map-append (λ (k : ℕ). name.Conv h p k) (range_with_len 0 n) (n ∷ []))
+    ∙ (filter_map-append (due_at actors) (map (λ (k : ℕ). name.Conv h p k) (range_with_len 0 n)) (name.Conv h p n ∷ [])
+    ∙ ap (λ (ds : List Due). filter_map (due_at actors) (map (λ (k : ℕ). name.Conv h p k) (range_with_len 0 n)) ++ ds) (as_list (due_at actors (name.Conv h p n)))))
 
 -- what was added so far, and a slot more
 pub one_slot : (actors : ActorName → Actor) (h : ℕ) (p : Proto) (n : ℕ) (first old new : List Due)
-    → old ≡ first ++ filter_map (due_in actors) (map (λ (k : ℕ). name.Conv h p k) (range_with_len 0 n)) → new ≡ old ++ option_to_list (due_in actors (name.Conv h p n))
-    → new ≡ first ++ filter_map (due_in actors) (map (λ (k : ℕ). name.Conv h p k) (range_with_len 0 (n + 1)))
+    → old ≡ first ++ filter_map (due_at actors) (map (λ (k : ℕ). name.Conv h p k) (range_with_len 0 n)) → new ≡ old ++ option_to_list (due_at actors (name.Conv h p n))
+    → new ≡ first ++ filter_map (due_at actors) (map (λ (k : ℕ). name.Conv h p k) (range_with_len 0 (n + 1)))
 one_slot actors h p n first old new was is =
     is
-    ∙ (ap (λ (ds : List Due). ds ++ option_to_list (due_in actors (name.Conv h p n))) was
-    ∙ (append_assoc first (filter_map (due_in actors) (map (λ (k : ℕ). name.Conv h p k) (range_with_len 0 n))) (option_to_list (due_in actors (name.Conv h p n)))
+    ∙ (ap (λ (ds : List Due). ds ++ option_to_list (due_at actors (name.Conv h p n))) was
+    ∙ (append_assoc first (filter_map (due_at actors) (map (λ (k : ℕ). name.Conv h p k) (range_with_len 0 n))) (option_to_list (due_at actors (name.Conv h p n)))
     ∙ ap (λ (ds : List Due). first ++ ds) (sym (slot_more actors h p n))))
 
 pub no_slot : (ds : List Due) → ds ≡ ds ++ []
@@ -60,20 +69,20 @@ no_slot ds = sym (append-nil ds)
 
 -- a host more
 pub host_more : (actors : ActorName → Actor) (n : ℕ)
-    → dues_below actors (n + 1) ≡ dues_below actors n ++ filter_map (due_in actors) (slots_of n proto.Il) ++ filter_map (due_in actors) (slots_of n proto.Udp)
+    → dues_below actors (n + 1) ≡ dues_below actors n ++ filter_map (due_at actors) (slots_of n proto.Il) ++ filter_map (due_at actors) (slots_of n proto.Udp)
 host_more actors n =
-    ap (λ (ks : List ℕ). filter_map (due_in actors) (flat_map (λ (h : ℕ). slots_of h proto.Il ++ slots_of h proto.Udp) ks)) (from_zero n)
-    ∙ (ap (filter_map (due_in actors)) (flat_map-append (λ (h : ℕ). slots_of h proto.Il ++ slots_of h proto.Udp) (range_with_len 0 n) (n ∷ []))
-    ∙ (filter_map-append (due_in actors) (flat_map (λ (h : ℕ). slots_of h proto.Il ++ slots_of h proto.Udp) (range_with_len 0 n)) ((slots_of n proto.Il ++ slots_of n proto.Udp) ++ [])
-    ∙ (ap (λ (names : List ActorName). dues_below actors n ++ filter_map (due_in actors) names) (append-nil (slots_of n proto.Il ++ slots_of n proto.Udp))
-    ∙ (ap (λ (ds : List Due). dues_below actors n ++ ds) (filter_map-append (due_in actors) (slots_of n proto.Il) (slots_of n proto.Udp))
-    ∙ sym (append_assoc (dues_below actors n) (filter_map (due_in actors) (slots_of n proto.Il)) (filter_map (due_in actors) (slots_of n proto.Udp)))))))
+    ap (λ (ks : List ℕ). filter_map (due_at actors) (flat_map (λ (h : ℕ). slots_of h proto.Il ++ slots_of h proto.Udp) ks)) (from_zero n)
+    ∙ (ap (filter_map (due_at actors)) (flat_map-append (λ (h : ℕ). slots_of h proto.Il ++ slots_of h proto.Udp) (range_with_len 0 n) (n ∷ []))
+    ∙ (filter_map-append (due_at actors) (flat_map (λ (h : ℕ). slots_of h proto.Il ++ slots_of h proto.Udp) (range_with_len 0 n)) ((slots_of n proto.Il ++ slots_of n proto.Udp) ++ [])
+    ∙ (ap (λ (names : List ActorName). dues_below actors n ++ filter_map (due_at actors) names) (append-nil (slots_of n proto.Il ++ slots_of n proto.Udp))
+    ∙ (ap (λ (ds : List Due). dues_below actors n ++ ds) (filter_map-append (due_at actors) (slots_of n proto.Il) (slots_of n proto.Udp))
+    ∙ sym (append_assoc (dues_below actors n) (filter_map (due_at actors) (slots_of n proto.Il)) (filter_map (due_at actors) (slots_of n proto.Udp)))))))
 
-pub one_host : (actors : ActorName → Actor) (n : ℕ) (old mid new : List Due) → old ≡ dues_below actors n → mid ≡ old ++ filter_map (due_in actors) (slots_of n proto.Il)
-    → new ≡ mid ++ filter_map (due_in actors) (slots_of n proto.Udp) → new ≡ dues_below actors (n + 1)
+pub one_host : (actors : ActorName → Actor) (n : ℕ) (old mid new : List Due) → old ≡ dues_below actors n → mid ≡ old ++ filter_map (due_at actors) (slots_of n proto.Il)
+    → new ≡ mid ++ filter_map (due_at actors) (slots_of n proto.Udp) → new ≡ dues_below actors (n + 1)
 one_host actors n old mid new was one two =
     two
-    ∙ (ap (λ (ds : List Due). ds ++ filter_map (due_in actors) (slots_of n proto.Udp)) (one ∙ ap (λ (ds : List Due). ds ++ filter_map (due_in actors) (slots_of n proto.Il)) was)
+    ∙ (ap (λ (ds : List Due). ds ++ filter_map (due_at actors) (slots_of n proto.Udp)) (one ∙ ap (λ (ds : List Due). ds ++ filter_map (due_at actors) (slots_of n proto.Il)) was)
     ∙ sym (host_more actors n))
 
 -- One conversation.
@@ -88,7 +97,7 @@ some_due : (h : ℕ) (p : Proto) (n at : ℕ) (s : Actor) → due_of s ≡ Some 
 some_due h p n at s is = ap (λ (o : Option ℕ). option_to_list (option_map (at_moment h p n s) o)) (sym is)
 
 pub due_none : (v : Numbered) (h : ℕ) (p : Proto) (n : ℕ) (x : Kept) (ds : List Due) → slice_get v.actors (number_of v.hosts v.media (name.Conv h p n)) ≡ Some x → None ≡ due_of (state_of x)
-    → ds ≡ ds ++ option_to_list (due_in (state_in v) (name.Conv h p n))
+    → ds ≡ ds ++ option_to_list (due_at (state_in v) (name.Conv h p n))
 due_none v h p n x ds is none =
     no_slot ds ∙ ap (λ (more : List Due). ds ++ more) (none_due h p n (state_in v (name.Conv h p n)) (ap due_of (stands_in v (name.Conv h p n) x is) ∙ sym none))
 
@@ -97,7 +106,7 @@ with_generation h p n g at = record { host = h; proto = p; slot = n; generation 
 
 pub due_some : (v : Numbered) (h : ℕ) (p : Proto) (n : ℕ) (x : Kept) (at g : ℕ) (old new : List Due) → slice_get v.actors (number_of v.hosts v.media (name.Conv h p n)) ≡ Some x → Some at ≡ due_of (state_of x)
     → g ≡ generation_of (state_of x) → new ≡ old ++ with_generation h p n g at ∷ []
-    → new ≡ old ++ option_to_list (due_in (state_in v) (name.Conv h p n))
+    → new ≡ old ++ option_to_list (due_at (state_in v) (name.Conv h p n))
 due_some v h p n x at g old new is some gen added =
     let same = stands_in v (name.Conv h p n) x is in
     added
@@ -122,7 +131,7 @@ flat_same f g c a (suc n) same =
     ∙ (ap (λ (ds : List Due). filter_map g (c a) ++ ds) (flat_same f g c (a + 1) n (λ k lt. same k (omega (arith, lt))))
     ∙ sym (filter_map-append g (c a) (flat_map c (range_with_len (a + 1) n)))))
 
-due_same : (f g : ActorName → Actor) (h : ℕ) (p : Proto) (n : ℕ) → f (name.Conv h p n) ≡ g (name.Conv h p n) → due_in f (name.Conv h p n) ≡ due_in g (name.Conv h p n)
+due_same : (f g : ActorName → Actor) (h : ℕ) (p : Proto) (n : ℕ) → f (name.Conv h p n) ≡ g (name.Conv h p n) → due_at f (name.Conv h p n) ≡ due_at g (name.Conv h p n)
 due_same f g h p n same = ap (due_in_slot h p n) same
 
 both_true : (a b : Bool) → a ≡ true → b ≡ true → (a && b) ≡ true
@@ -132,19 +141,21 @@ pub dues_are : (v : Numbered) (ds : List Due) → ds ≡ dues_below (state_in v)
 dues_are v ds is w states are =
     is
     ∙ (ap (dues_below (state_in v)) are.hosts_are
-    ∙ flat_same (due_in (state_in v)) (due_in states) (λ (h : ℕ). slots_of h proto.Il ++ slots_of h proto.Udp) 0 (length w.hosts) at_host)
+    ∙ flat_same (due_at (state_in v)) (due_at states) (λ (h : ℕ). slots_of h proto.Il ++ slots_of h proto.Udp) 0 (length w.hosts) at_host)
   where
-    at_slot : (h : ℕ) (p : Proto) (n : ℕ) → h < length w.hosts → n < 32 → due_in (state_in v) (name.Conv h p n) ≡ due_in states (name.Conv h p n)
+    at_slot : (h : ℕ) (p : Proto) (n : ℕ) → h < length w.hosts → n < 32 → due_at (state_in v) (name.Conv h p n) ≡ due_at states (name.Conv h p n)
     at_slot h p n host slot =
         due_same (state_in v) states h p n
         (states_are w v states (name.Conv h p n) are (both_true (nat_lt h (length w.hosts)) (nat_lt n 32) (lt-ltb h (length w.hosts) host) (lt-ltb n 32 slot)))
-    at_proto : (h : ℕ) (p : Proto) → h < length w.hosts → filter_map (due_in (state_in v)) (slots_of h p) ≡ filter_map (due_in states) (slots_of h p)
-    at_proto h p host = map_same (due_in (state_in v)) (due_in states) (λ (n : ℕ). name.Conv h p n) 0 32 (λ n slot. at_slot h p n host (omega (arith, slot)))
+
+    at_proto : (h : ℕ) (p : Proto) → h < length w.hosts → filter_map (due_at (state_in v)) (slots_of h p) ≡ filter_map (due_at states) (slots_of h p)
+    at_proto h p host = map_same (due_at (state_in v)) (due_at states) (λ (n : ℕ). name.Conv h p n) 0 32 (λ n slot. at_slot h p n host (omega (arith, slot)))
+
     at_host : (h : ℕ) → h < 0 + length w.hosts
-        → filter_map (due_in (state_in v)) (slots_of h proto.Il ++ slots_of h proto.Udp) ≡ filter_map (due_in states) (slots_of h proto.Il ++ slots_of h proto.Udp)
+        → filter_map (due_at (state_in v)) (slots_of h proto.Il ++ slots_of h proto.Udp) ≡ filter_map (due_at states) (slots_of h proto.Il ++ slots_of h proto.Udp)
     at_host h lt =
         let host : h < length w.hosts = omega (arith, lt) in
-        filter_map-append (due_in (state_in v)) (slots_of h proto.Il) (slots_of h proto.Udp)
-        ∙ (ap (λ (ds : List Due). ds ++ filter_map (due_in (state_in v)) (slots_of h proto.Udp)) (at_proto h proto.Il host)
-        ∙ (ap (λ (ds : List Due). filter_map (due_in states) (slots_of h proto.Il) ++ ds) (at_proto h proto.Udp host)
-        ∙ sym (filter_map-append (due_in states) (slots_of h proto.Il) (slots_of h proto.Udp))))
+        filter_map-append (due_at (state_in v)) (slots_of h proto.Il) (slots_of h proto.Udp)
+        ∙ (ap (λ (ds : List Due). ds ++ filter_map (due_at (state_in v)) (slots_of h proto.Udp)) (at_proto h proto.Il host)
+        ∙ (ap (λ (ds : List Due). filter_map (due_at states) (slots_of h proto.Il) ++ ds) (at_proto h proto.Udp host)
+        ∙ sym (filter_map-append (due_at states) (slots_of h proto.Il) (slots_of h proto.Udp))))

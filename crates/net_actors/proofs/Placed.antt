@@ -168,7 +168,7 @@ ready_at v a x now work can is =
       can.world,
       f.of_world,
       ap (λ (b : ActorName). is_some (actor_step can.world b (state_of x) now work)) f.called
-      ∙ (ap (λ (s : Actor). is_some (actor_step can.world a s now work)) f.in_state ∙ can.ready),
+          ∙ (ap (λ (s : Actor). is_some (actor_step can.world a s now work)) f.in_state ∙ can.ready),
     )
 
 -- At first.
@@ -182,7 +182,7 @@ get_push : {A : Type 0} (xs : List A) (y x : A) (k : ℕ) → slice_get (xs ++ y
 get_push [] y x zero is = inr (refl, same_Some y x is)
 get_push [] y x (suc k) is = absurd (none-some x is)
 get_push (z ∷ xs) y x zero is = inl is
-get_push (z ∷ xs) y x (suc k) is = elim (get_push xs y x k is) [ | inl there ↦ inl there | inr here ↦ inr (ap suc here.0, here.1) ]
+get_push (z ∷ xs) y x (suc k) is = elim (get_push xs y x k is) [ inl there ↦ inl there | inr here ↦ inr (ap suc here.0, here.1) ]
 
 pub none_first : (w : World) → AreFirst w 0 []
 none_first w = record { count = refl; place = λ k x is. absurd (none-some x is) }

@@ -1,5 +1,4 @@
 pub mod AtDesk
-pub mod Dues
 pub mod Kept
 pub mod Numbers
 pub mod Small
@@ -10,3 +9,4 @@ pub use Rattle.net_base.specs.Actors
 pub use Rattle.net_base.specs.Desk
 pub use Rattle.net_base.specs.Duties
 pub use Rattle.net_base.specs.Net
+pub use Rattle.duties.specs.Ticking

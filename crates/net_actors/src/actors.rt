@@ -4,17 +4,17 @@ ghost use Rattle.net_base.specs.declared.actor.ActorName.{ActorName as Name};
 ghost use Rattle.net_base.specs.declared.actor.ActorName.TheVariants as name;
 ghost use Rattle.net_base.specs.declared.world.World.{World as AnyWorld};
 ghost use Rattle.net_base.specs.Actors.{Actor as State, actor_step, has_actor, opening_actor};
-ghost use Rattle.net_base.specs.Duties as duties;
+ghost use Rattle.net_base.specs.Duties.{due_of, generation_of, slots_of};
 ghost use Rattle.net_base.specs.World.{IsWorld};
 ghost use Rattle.std.specs.Arc.{arc_value};
-ghost use Rattle.net_actors.specs.Dues.{due_in, dues_of};
+ghost use Rattle.duties.specs.Ticking.{due_at, dues_of};
 ghost use Rattle.net_actors.specs.Numbers as spec;
 ghost use Rattle.net_actors.specs.Numbers.{count_in};
 ghost use Rattle.net_actors.specs.Together.{AreActors, AreFirst, CanStep, Steps, has_name, state_in};
 
 use crate::actor::Actor;
-use crate::due::{Due, Dues};
 use crate::number::{actor_at, actor_count, number_of};
+use duties::Due;
 use net_base::{ActorName, Db, Outcome, Proto, Work, World};
 use std::alloc::{AllocError, Global};
 use std::marker::Model;
@@ -80,12 +80,7 @@ impl Actors {
     }
 
     /// Answers a work that is ready. Where memory ran out nothing has changed.
-    pub fn step(
-        &mut self,
-        name: ActorName,
-        now: u64,
-        work: &Work,
-    ) -> Result<Outcome, AllocError>
+    pub fn step(&mut self, name: ActorName, now: u64, work: &Work) -> Result<Outcome, AllocError>
         requires now { now < 2 ^ 63 }
         requires ready { CanStep self.old name now work.now }
         ensures ok { IfOk result (Steps self.old self.new name now work.now) }
@@ -101,7 +96,7 @@ impl Actors {
     pub fn due(&self, name: ActorName) -> Option<u64>
         requires { has_name self.now name ≡ true }
         ensures { (w : AnyWorld) (states : Name → State) → AreActors w self.now states
-            → result ≡ duties.due_of (states name) }
+            → result ≡ due_of (states name) }
     {
         self.at(name).due()
     }
@@ -111,17 +106,17 @@ impl Actors {
     pub fn generation(&self, name: ActorName) -> u64
         requires { has_name self.now name ≡ true }
         ensures { (w : AnyWorld) (states : Name → State) → AreActors w self.now states
-            → result ≡ duties.generation_of (states name) }
+            → result ≡ generation_of (states name) }
     {
         self.at(name).generation()
     }
 
     /// The due moments of all conversations, in the order of host, protocol and slot.
-    pub fn dues(&self, alloc: Global) -> Result<Dues, AllocError>
+    pub fn dues(&self, alloc: Global) -> Result<Vec<Due>, AllocError>
         ensures { IfOk result (λ dues. (w : AnyWorld) (states : Name → State) → AreActors w self.now states
-            → dues ≡ dues_of w states) }
+            → dues.items ≡ dues_of w states) }
     {
-        let mut dues = Dues::new(alloc);
+        let mut dues = Vec::new(alloc);
         for host in 0..self.hosts {
             self.add_dues(host, Proto::Il, &mut dues)?;
             self.add_dues(host, Proto::Udp, &mut dues)?;
@@ -131,9 +126,9 @@ impl Actors {
 
     /// Adds the due moments of the conversations of a host and protocol.
     #[tactic(auto, using(crate::proofs::DuesOf::no_slot))]
-    fn add_dues(&self, host: u32, proto: Proto, dues: &mut Dues) -> Result<(), AllocError>
+    fn add_dues(&self, host: u32, proto: Proto, dues: &mut Vec<Due>) -> Result<(), AllocError>
         requires { host < self.now.hosts }
-        ensures { OnOk result (dues.new ≡ dues.old ++ filter_map (due_in (state_in self.now)) (duties.slots_of host proto)) }
+        ensures { OnOk result (dues.new.items ≡ dues.old.items ++ filter_map (due_at (state_in self.now)) (slots_of host proto)) }
     {
         for slot in 0..32_u32 {
             self.add_due(host, proto, slot, dues)?;
@@ -148,11 +143,11 @@ impl Actors {
         host: u32,
         proto: Proto,
         slot: u32,
-        dues: &mut Dues,
+        dues: &mut Vec<Due>,
     ) -> Result<(), AllocError>
         requires host { host < self.now.hosts }
         requires slot { slot < 32 }
-        ensures { OnOk result (dues.new ≡ dues.old ++ option_to_list (due_in (state_in self.now) (name.Conv host proto slot))) }
+        ensures { OnOk result (dues.new.items ≡ dues.old.items ++ option_to_list (due_at (state_in self.now) (name.Conv host proto slot))) }
     {
         let actor = self.at(ActorName::Conv(host, proto, slot));
         let Some(due) = actor.due() else {
@@ -164,7 +159,8 @@ impl Actors {
             slot,
             generation: actor.generation(),
             due,
-        })
+        })?;
+        Ok(())
     }
 }
 

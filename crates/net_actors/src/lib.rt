@@ -4,7 +4,6 @@
 mod actor;
 mod actors;
 mod desk;
-mod due;
 mod kind;
 mod law;
 mod media;
@@ -15,6 +14,6 @@ mod tests;
 
 pub use actor::Actor;
 pub use actors::Actors;
-pub use due::{Due, Dues};
+pub use duties::Due;
 pub use law::few_works_are_small;
 pub use number::{actor_at, actor_count, number_of, numbers_are_apart};

@@ -67,9 +67,19 @@ fn a_desk_refuses_and_waits(rt: HostRuntime) -> Result<(), Fail> {
     assert!(rt; root == Told::BadMode);
     let allowed = trial.ask(DESK, open(alloc, b"/net/il/clone", Mode::Both)?)?;
     assert!(rt; allowed == Told::NotReady);
-    let used = trial.ask(DESK, Event::Use { name: text(alloc, b"d")? })?;
+    let used = trial.ask(
+        DESK,
+        Event::Use {
+            name: text(alloc, b"d")?,
+        },
+    )?;
     assert!(rt; used == Told::BadFid);
-    let misused = trial.ask(DESK, Event::Misuse { name: text(alloc, b"d")? })?;
+    let misused = trial.ask(
+        DESK,
+        Event::Misuse {
+            name: text(alloc, b"d")?,
+        },
+    )?;
     assert!(rt; misused == Told::BadMode);
     let early = trial.ask(DESK, Event::Until { moment: 10 })?;
     assert!(rt; early == Told::NotReady);
@@ -214,9 +224,21 @@ fn a_conversation_talks(rt: HostRuntime) -> Result<(), Fail> {
     assert!(rt; written == Told::Count(2));
     let took = trial.give(UDP, Event::ArriveAt { generation: 1 }, with_packet(alloc)?)?;
     assert!(rt; took == Told::Took);
-    let read = trial.ask(UDP, Event::Read { generation: 1, count: 1 })?;
+    let read = trial.ask(
+        UDP,
+        Event::Read {
+            generation: 1,
+            count: 1,
+        },
+    )?;
     assert!(rt; read == Told::Bytes(1));
-    let early = trial.ask(UDP, Event::Read { generation: 1, count: 1 })?;
+    let early = trial.ask(
+        UDP,
+        Event::Read {
+            generation: 1,
+            count: 1,
+        },
+    )?;
     assert!(rt; early == Told::NotReady);
     assert!(rt; trial.generation(UDP) == 1);
     Ok(())
@@ -299,7 +321,13 @@ fn a_birth_is_answered(rt: HostRuntime) -> Result<(), Fail> {
     };
     let born = trial.give(IL, Event::Born { generation: 1 }, with)?;
     assert!(rt; born == Told::Ok);
-    let waits = trial.ask(IL, Event::Read { generation: 1, count: 1 })?;
+    let waits = trial.ask(
+        IL,
+        Event::Read {
+            generation: 1,
+            count: 1,
+        },
+    )?;
     assert!(rt; waits == Told::NotReady);
     Ok(())
 }

@@ -11,6 +11,7 @@ pub use cs_law::own_networks_come_first;
 pub use cs_law::worked_queries;
 pub use history_laws::a_fault_is_not_legal;
 pub use history_laws::a_pair_is_given_once;
+pub use history_laws::callers_are_apart;
 pub use history_laws::callers_have_room;
 pub use history_laws::duties_cite_their_own;
 pub use history_laws::full_callers_limit;

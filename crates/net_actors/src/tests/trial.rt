@@ -4,7 +4,7 @@ ghost use Rattle.net_base.specs.World.{IsWorld};
 ghost use Rattle.net_actors.specs.Numbers.{is_among};
 ghost use Rattle.net_actors.specs.Tried.{tried_host, tried_world};
 
-use crate::{Actors, Dues};
+use crate::{Actors, Due};
 use net_base::{
     ActorName, Db, Event, Fates, HostSpec, Hosts, Iface, Ifaces, Media, MediumSpec, Nets, Octets,
     Proto, Reply, RouteLines, Scripts, Starts, With, Work, World,
@@ -59,7 +59,9 @@ fn read_reply(reply: &Reply) -> Told {
         Reply::Calls { calls } => Told::Calls(calls.len()),
         Reply::To { slot, generation } => Told::To(*slot, *generation),
         Reply::Born {
-            slot, generation, ..
+            slot,
+            generation,
+            ..
         } => Told::Born(*slot, *generation),
         Reply::Opened { generation } => Told::Opened(*generation),
         Reply::Bytes { bytes } => Told::Bytes(bytes.len()),
@@ -201,7 +203,7 @@ impl Trial {
     }
 
     /// The due moments of all conversations.
-    pub fn dues(&self, alloc: Global) -> Result<Dues, AllocError> {
+    pub fn dues(&self, alloc: Global) -> Result<Vec<Due>, AllocError> {
         self.actors.dues(alloc)
     }
 }

@@ -15,8 +15,8 @@ returns-clause-ok c =
     let at = c.index_mut.ensures.value ∙ ap (λ (k : ℕ). get_or xs k c.index_mut.result.now) c.number_of-number.ensures in
     let there = slice_get_read xs (length xs) n c.index_mut.result.now refl (within here c.args.name c.args.now c.args.work.now can c.self.invariant) at in
     map_ok c.step.result _ _ _
-      (λ (o : Outcome) done.
-      subst (λ (v : Numbered). Steps v (record { hosts = c.self.inside.hosts; media = c.self.inside.media; actors = slice_set xs c.number_of-number.result c.step.new.self }) c.args.name c.args.now c.args.work.now o) c.self.view_is
-      (subst (λ (k : ℕ). Steps here (record { hosts = c.self.inside.hosts; media = c.self.inside.media; actors = slice_set xs k c.step.new.self }) c.args.name c.args.now c.args.work.now o) (sym c.number_of-number.ensures)
-      (steps_at here c.args.name c.index_mut.result.now c.step.new.self c.args.now c.args.work.now o there done c.step.ensures.name)))
-      c.step.ensures.ok
+    (λ (o : Outcome) done.
+    subst (λ (v : Numbered). Steps v (record { hosts = c.self.inside.hosts; media = c.self.inside.media; actors = slice_set xs c.number_of-number.result c.step.new.self }) c.args.name c.args.now c.args.work.now o) c.self.view_is
+    (subst (λ (k : ℕ). Steps here (record { hosts = c.self.inside.hosts; media = c.self.inside.media; actors = slice_set xs k c.step.new.self }) c.args.name c.args.now c.args.work.now o) (sym c.number_of-number.ensures)
+    (steps_at here c.args.name c.index_mut.result.now c.step.new.self c.args.now c.args.work.now o there done c.step.ensures.name)))
+    c.step.ensures.ok
