@@ -153,7 +153,6 @@ fn is_move(event: &Event) -> bool
 }
 
 /// Whether the conversation has an answer.
-#[tactic(auto, using(crate::proofs::ByKind::told_ready))]
 fn is_answered(conv: &Conv, now: u64, work: &Work) -> bool
     ensures { result ≡ is_some (step_at conv.now now work.now conv.now.conv) }
 {
@@ -173,7 +172,6 @@ fn talk(conv: &mut Conv, now: u64, work: &Work) -> Result<Outcome, AllocError>
 }
 
 /// When the conversation is due.
-#[tactic(auto, using(crate::proofs::ByKind::told_due))]
 fn due_of(conv: &Conv) -> Option<u64>
     ensures { result ≡ duties.due_of_core conv.now.conv.core }
 {
