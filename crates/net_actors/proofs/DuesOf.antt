@@ -27,8 +27,8 @@ dues_below actors hosts =
     filter_map (due_at actors) (flat_map (λ (h : ℕ). slots_of h proto.Il ++ slots_of h proto.Udp) (range_with_len 0 hosts))
 
 -- that of the conversation in this slot, in this state
-abbrev due_in_slot : ℕ → Proto → ℕ → Actor → Option Due
-due_in_slot h p n s = option_map (λ (at : ℕ). record { host = h; proto = p; slot = n; generation = generation_of s; due = at }) (due_of s)
+abbrev due_in_state : ℕ → Proto → ℕ → Actor → Option Due
+due_in_state h p n s = option_map (λ (at : ℕ). record { host = h; proto = p; slot = n; generation = generation_of s; due = at }) (due_of s)
 
 range_more : (a n : ℕ) → range_with_len a (suc n) ≡ range_with_len a n ++ (a + n) ∷ []
 range_more a zero = ap (λ (k : ℕ). k ∷ []) (omega arith)
@@ -90,10 +90,10 @@ one_host actors n old mid new was one two =
 abbrev at_moment : ℕ → Proto → ℕ → Actor → ℕ → Due
 at_moment h p n s at = record { host = h; proto = p; slot = n; generation = generation_of s; due = at }
 
-none_due : (h : ℕ) (p : Proto) (n : ℕ) (s : Actor) → due_of s ≡ None → [] ≡ option_to_list (due_in_slot h p n s)
+none_due : (h : ℕ) (p : Proto) (n : ℕ) (s : Actor) → due_of s ≡ None → [] ≡ option_to_list (due_in_state h p n s)
 none_due h p n s is = ap (λ (o : Option ℕ). option_to_list (option_map (at_moment h p n s) o)) (sym is)
 
-some_due : (h : ℕ) (p : Proto) (n at : ℕ) (s : Actor) → due_of s ≡ Some at → at_moment h p n s at ∷ [] ≡ option_to_list (due_in_slot h p n s)
+some_due : (h : ℕ) (p : Proto) (n at : ℕ) (s : Actor) → due_of s ≡ Some at → at_moment h p n s at ∷ [] ≡ option_to_list (due_in_state h p n s)
 some_due h p n at s is = ap (λ (o : Option ℕ). option_to_list (option_map (at_moment h p n s) o)) (sym is)
 
 pub due_none : (v : Numbered) (h : ℕ) (p : Proto) (n : ℕ) (x : Kept) (ds : List Due) → slice_get v.actors (number_of v.hosts v.media (name.Conv h p n)) ≡ Some x → None ≡ due_of (state_of x)
@@ -132,7 +132,7 @@ flat_same f g c a (suc n) same =
     ∙ sym (filter_map-append g (c a) (flat_map c (range_with_len (a + 1) n)))))
 
 due_same : (f g : ActorName → Actor) (h : ℕ) (p : Proto) (n : ℕ) → f (name.Conv h p n) ≡ g (name.Conv h p n) → due_at f (name.Conv h p n) ≡ due_at g (name.Conv h p n)
-due_same f g h p n same = ap (due_in_slot h p n) same
+due_same f g h p n same = ap (due_in_state h p n) same
 
 both_true : (a b : Bool) → a ≡ true → b ≡ true → (a && b) ≡ true
 both_true a b h k = ap (λ (x : Bool). x && b) h ∙ k

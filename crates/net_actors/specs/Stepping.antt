@@ -34,12 +34,16 @@ Steps old new now work o = (w : World) → IsActorOf w old → StepsIn w old new
 
 -- The same of what is kept, in no world.
 
+-- the table of a medium answers the work
+abbrev pub medium_ready : OnMedium → Work → Bool
+medium_ready m work = is_some (medium_step m.spec m.seed work.event work.with (medium_of m))
+
 -- its table answers the work
 abbrev pub kind_ready : Kind → ℕ → Work → Bool
 kind_ready (kind.Desk d) now work = is_some (desk_reply d.db (host_of d) work.event now)
 kind_ready (kind.Dir d) now work = is_ready d.proto work.event work.with d.dir
 kind_ready (kind.Conv c) now work = is_some (step_at c now work c.conv)
-kind_ready (kind.Medium m) now work = is_some (medium_step m.spec m.seed work.event work.with (medium_of m))
+kind_ready (kind.Medium m) now work = medium_ready m work
 kind_ready kind.Clock now work = is_some (clock_reply work.event)
 
 -- the desk stays as it is

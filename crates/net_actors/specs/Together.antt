@@ -1,12 +1,17 @@
 -- All actors of a world, each at its number.
-use Rattle.std.specs.Prelude.{◌≡◌, ℕ, Bool, true, List, length, Option, Some, None, slice_get, is_some}
+use Rattle.std.specs.Prelude.{◌≡◌, ℕ, Bool, true, List, length, Option, Some, None, filter_map, option_to_list, slice_get, is_some}
 use Rattle.std.specs.Option.{option_map_or}
 use Rattle.net_base.specs.declared.actor.ActorName.{ActorName}
+use Rattle.net_base.specs.declared.actor.ActorName.TheVariants as name
+use Rattle.net_base.specs.declared.address.Proto.{Proto}
 use Rattle.net_base.specs.declared.history.Outcome.{Outcome}
 use Rattle.net_base.specs.declared.history.Work.{Work}
 use Rattle.net_base.specs.declared.world.World.{World}
 use Rattle.net_base.specs.Actors.{Actor, IsPlain, actor_step, has_actor, opening_actor}
+use Rattle.net_base.specs.Duties.{slots_of}
 use Rattle.net_base.specs.Net.{actors_after}
+use Rattle.duties.specs.declared.due.Due.{Due}
+use Rattle.duties.specs.Ticking.{due_at}
 use Rattle.net_actors.specs.declared.actor.Actor.{Actor as Kept}
 use Rattle.net_actors.specs.Kept.{IsActorOf, state_of}
 use Rattle.net_actors.specs.Numbers.{is_among, number_in, number_of}
@@ -36,6 +41,14 @@ pub record AreActors (w : World) (v : Numbered) (states : ActorName → Actor) :
 -- the state of the actor of this name, or that of one that keeps nothing
 abbrev pub state_in : Numbered → ActorName → Actor
 state_in v a = option_map_or state_of (slice_get v.actors (number_of v.hosts v.media a)) IsPlain
+
+-- the due moments of these actors' conversations of a host and protocol
+abbrev pub dues_at : Numbered → ℕ → Proto → List Due
+dues_at v h p = filter_map (due_at (state_in v)) (slots_of h p)
+
+-- the due moment of the one in a slot, if it has one
+abbrev pub due_in_slot : Numbered → ℕ → Proto → ℕ → List Due
+due_in_slot v h p n = option_to_list (due_at (state_in v) (name.Conv h p n))
 
 -- these are the first n actors of the world, to which nothing has happened
 pub record AreFirst (w : World) (n : ℕ) (actors : List Kept) : Type 0 where

@@ -3,6 +3,7 @@ use Rattle.std.specs.Prelude.{◌≡◌, ℕ, ◌≤◌, List, [], ◌∷◌, le
 use Rattle.net_base.specs.declared.actor.ActorName.{ActorName}
 use Rattle.net_base.specs.declared.address.Proto.TheVariants as proto
 use Rattle.net_base.specs.declared.world.HostSpec.{HostSpec}
+use Rattle.net_base.specs.declared.world.MediumSpec.{MediumSpec}
 use Rattle.net_base.specs.declared.world.World.{World}
 use Rattle.net_base.specs.Actors.{Actor, opening_actor}
 use Rattle.net_base.specs.Net.{Play, played}
@@ -18,12 +19,15 @@ tried_host called address =
       starts = [];
     }
 
+abbrev pub tried_medium : MediumSpec
+tried_medium = record { number = 0; name = codes "ether0"; mtu = 1500; loss = 0; twice = 0; later = 0; fates = [] }
+
 abbrev pub tried_world : World
 tried_world =
     record {
       end = 60000;
       seed = 7;
-      media = record { number = 0; name = codes "ether0"; mtu = 1500; loss = 0; twice = 0; later = 0; fates = [] } ∷ [];
+      media = tried_medium ∷ [];
       hosts = tried_host (codes "anna") 2271742214 ∷ tried_host (codes "helix") 2271742239 ∷ [];
       scripts = [];
       db = [];

@@ -16,7 +16,8 @@ use std::sync::Arc;
 
 /// An actor of a world: a desk, a directory, a conversation, a medium or the clock. Moments are in ms.
 ///
-/// Clauses see its name and, by `state_of`, its state in the definitions; `IsActorOf` says of which worlds it is an actor.
+/// Clauses see its name and, by `state_of`, its state in the definitions; `IsActorOf` says of which worlds it is an
+/// actor.
 #[derive(Drop)]
 pub struct Actor {
     name: ActorName,
@@ -60,7 +61,8 @@ impl Actor {
     }
 
     /// Answers a work that is ready. Where memory ran out nothing has changed.
-    #[tactic(auto, using(crate::proofs::ByKind::ready_of, crate::proofs::ByKind::steps_if, crate::proofs::ByKind::copy_if))]
+    #[tactic(auto, using(crate::proofs::ByKind::ready_of, crate::proofs::ByKind::steps_if,
+        crate::proofs::ByKind::copy_if))]
     pub fn step(&mut self, now: u64, work: &Work) -> Result<Outcome, AllocError>
         requires now { now < 2 ^ 63 }
         requires small { IsSmall (state_of self.old) }

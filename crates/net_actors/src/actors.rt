@@ -1,16 +1,15 @@
 //! All actors of a world.
-ghost use Rattle.std.specs.Prelude.{◌≡◌, ◌^◌, ◌<◌, ◌++◌, length, filter_map, option_to_list, IfOk, OnErr, OnOk, true, is_some, slice_get, Some};
+ghost use Rattle.std.specs.Prelude.{◌≡◌, ◌^◌, ◌<◌, ◌++◌, length, IfOk, OnErr, OnOk, true, is_some, slice_get, Some};
 ghost use Rattle.net_base.specs.declared.actor.ActorName.{ActorName as Name};
-ghost use Rattle.net_base.specs.declared.actor.ActorName.TheVariants as name;
 ghost use Rattle.net_base.specs.declared.world.World.{World as AnyWorld};
 ghost use Rattle.net_base.specs.Actors.{Actor as State, actor_step, has_actor, opening_actor};
-ghost use Rattle.net_base.specs.Duties.{due_of, generation_of, slots_of};
+ghost use Rattle.net_base.specs.Duties.{due_of, generation_of};
 ghost use Rattle.net_base.specs.World.{IsWorld};
 ghost use Rattle.std.specs.Arc.{arc_value};
-ghost use Rattle.duties.specs.Ticking.{due_at, dues_of};
+ghost use Rattle.duties.specs.Ticking.{dues_of};
 ghost use Rattle.net_actors.specs.Numbers as spec;
 ghost use Rattle.net_actors.specs.Numbers.{count_in};
-ghost use Rattle.net_actors.specs.Together.{AreActors, AreFirst, CanStep, Steps, has_name, state_in};
+ghost use Rattle.net_actors.specs.Together.{AreActors, AreFirst, CanStep, Steps, due_in_slot, dues_at, has_name};
 
 use crate::actor::Actor;
 use crate::number::{actor_at, actor_count, number_of};
@@ -22,8 +21,8 @@ use std::sync::Arc;
 
 /// All actors of a world, found by their numbers. Moments are in ms.
 ///
-/// Clauses see how many hosts and media there are, and the actors in the order of their numbers; `AreActors` says of which worlds
-/// they are the actors, and in which states.
+/// Clauses see how many hosts and media there are, and the actors in the order of their numbers; `AreActors` says of
+/// which worlds they are the actors, and in which states.
 #[derive(Drop)]
 pub struct Actors {
     hosts: u32,
@@ -128,7 +127,7 @@ impl Actors {
     #[tactic(auto, using(crate::proofs::DuesOf::no_slot))]
     fn add_dues(&self, host: u32, proto: Proto, dues: &mut Vec<Due>) -> Result<(), AllocError>
         requires { host < self.now.hosts }
-        ensures { OnOk result (dues.new.items ≡ dues.old.items ++ filter_map (due_at (state_in self.now)) (slots_of host proto)) }
+        ensures { OnOk result (dues.new.items ≡ dues.old.items ++ dues_at self.now host proto) }
     {
         for slot in 0..32_u32 {
             self.add_due(host, proto, slot, dues)?;
@@ -147,7 +146,7 @@ impl Actors {
     ) -> Result<(), AllocError>
         requires host { host < self.now.hosts }
         requires slot { slot < 32 }
-        ensures { OnOk result (dues.new.items ≡ dues.old.items ++ option_to_list (due_at (state_in self.now) (name.Conv host proto slot))) }
+        ensures { OnOk result (dues.new.items ≡ dues.old.items ++ due_in_slot self.now host proto slot) }
     {
         let actor = self.at(ActorName::Conv(host, proto, slot));
         let Some(due) = actor.due() else {

@@ -86,7 +86,8 @@ impl Desk {
 
     /// The lines of cs, or the number of what it refuses.
     fn resolve(&self, query: &[u8]) -> Result<Outcome, AllocError>
-        ensures { IfOk result (Replies (Some (spec.cs_reply (cs_list self.now.db self.now.name self.now.nets query.now)))) }
+        ensures { IfOk result (Replies (Some (spec.cs_reply
+            (cs_list self.now.db self.now.name self.now.nets query.now)))) }
     {
         let nets = self.nets.as_slice();
         match answer(self.alloc, &self.db, self.name.as_slice(), nets, query) {

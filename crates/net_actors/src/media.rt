@@ -4,7 +4,7 @@ ghost use Rattle.net_base.specs.ActorStep.{replies};
 ghost use Rattle.net_base.specs.Medium.{medium_step};
 ghost use Rattle.medium.specs.OnMedium.{IsPending, medium_of};
 ghost use Rattle.medium.specs.Replies.{reply_of};
-ghost use Rattle.net_actors.specs.Stepping.{MediumSteps, MediumTakes};
+ghost use Rattle.net_actors.specs.Stepping.{MediumSteps, MediumTakes, medium_ready};
 
 use crate::outcome::answered;
 use medium::{Laid, Medium};
@@ -13,7 +13,7 @@ use std::alloc::AllocError;
 
 /// Whether the medium has an answer.
 pub fn is_ready(medium: &Medium, work: &Work) -> bool
-    ensures { result ≡ is_some (medium_step medium.now.spec medium.now.seed work.now.event work.now.with (medium_of medium.now)) }
+    ensures { result ≡ medium_ready medium.now work.now }
 {
     match (&work.event, &work.with) {
         (Event::Put { .. }, With::Packet(_)) => true,
@@ -25,7 +25,7 @@ pub fn is_ready(medium: &Medium, work: &Work) -> bool
 /// The answer to a put or a take.
 pub fn step(medium: &mut Medium, work: &Work) -> Result<Outcome, AllocError>
     requires laid { medium.old.laid + 1 < 2 ^ 64 }
-    requires ready { IsTrue (is_some (medium_step medium.old.spec medium.old.seed work.now.event work.now.with (medium_of medium.old))) }
+    requires ready { IsTrue (medium_ready medium.old work.now) }
     ensures ok { IfOk result (MediumSteps medium.old medium.new work.now) }
     ensures err { OnErr result (medium.new ≡ medium.old) }
 {

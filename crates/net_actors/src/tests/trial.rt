@@ -2,7 +2,7 @@
 ghost use Rattle.std.specs.Prelude.{◌≡◌, ◌∷◌, ◌^◌, ◌<◌, [], IfOk, codes, true};
 ghost use Rattle.net_base.specs.World.{IsWorld};
 ghost use Rattle.net_actors.specs.Numbers.{is_among};
-ghost use Rattle.net_actors.specs.Tried.{tried_host, tried_world};
+ghost use Rattle.net_actors.specs.Tried.{tried_host, tried_medium, tried_world};
 
 use crate::{Actors, Due};
 use net_base::{
@@ -76,7 +76,7 @@ fn read_reply(reply: &Reply) -> Told {
 }
 
 fn media(alloc: Global) -> Result<Media, AllocError>
-    ensures { IfOk result (λ ms. ms ≡ record { number = 0; name = codes "ether0"; mtu = 1500; loss = 0; twice = 0; later = 0; fates = [] } ∷ []) }
+    ensures { IfOk result (λ ms. ms ≡ tried_medium ∷ []) }
 {
     let mut media = Media::new(alloc);
     media.push(MediumSpec {
@@ -113,7 +113,8 @@ fn host(alloc: Global, name: &[u8], ip: u32) -> Result<HostSpec, AllocError>
 }
 
 fn hosts(alloc: Global) -> Result<Hosts, AllocError>
-    ensures { IfOk result (λ hs. hs ≡ tried_host (codes "anna") 2271742214 ∷ tried_host (codes "helix") 2271742239 ∷ []) }
+    ensures { IfOk result (λ hs. hs
+        ≡ tried_host (codes "anna") 2271742214 ∷ tried_host (codes "helix") 2271742239 ∷ []) }
 {
     let mut hosts = Hosts::new(alloc);
     hosts.push(host(alloc, b"anna", ANNA)?)?;
@@ -165,7 +166,10 @@ impl Trial {
         requires among { is_among 2 1 name ≡ true }
         requires now { now < 2 ^ 63 }
     {
-        if self.works >= 1000 || !self.actors.ready(name, now, work) {
+        if self.works >= 1000 {
+            return Ok(Told::NotReady);
+        }
+        if !self.actors.ready(name, now, work) {
             return Ok(Told::NotReady);
         }
         let outcome = self.actors.step(name, now, work)?;
