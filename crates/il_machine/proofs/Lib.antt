@@ -1,4 +1,6 @@
-mod Places
+mod Near
 mod InTurn
+mod Unread
+mod Acking
 mod Accepting
 mod Questions

@@ -2,9 +2,9 @@
 #![tactic(auto)]
 
 mod ask;
-mod early;
 mod end;
 mod fault;
+mod in_turn;
 
 pub use ask::Ask;
 pub use end::IlEnd;
