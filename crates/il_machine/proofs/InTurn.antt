@@ -1,12 +1,8 @@
 -- What is early moves in turn.
 use Rattle.std.proofs.Common.{◌≡◌, ℕ, zero, suc, ◌+◌, ◌≤◌, List, [], ◌∷◌, ◌++◌, length, Option, Some, None, refl, arith, ap, sym, ◌∙◌, subst, append_assoc, append-nil, length-append}
 use Rattle.net_base.specs.IlEnd.{End, Early, early_at, without, comes_in_turn, come_in_turn}
-use Rattle.il_machine.specs.InTurn.{Turned, in_turn, next_of}
+use Rattle.il_machine.specs.InTurn.{Turned, in_turn, next_of, with_turned}
 use Rattle.il_machine.proofs.Near.{one_less}
-
--- the end with these messages got, and the early ones that are left
-abbrev pub with_turned : End → Turned → End
-with_turned e t = record e { got = e.got ++ t.texts; early = t.early }
 
 -- nothing is next in sequence
 pub none_next : (n got : ℕ) (early : List Early) → early_at (got + 1) early ≡ None → in_turn n got early ≡ record { texts = []; early = early }

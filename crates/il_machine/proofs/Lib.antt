@@ -1,6 +1,6 @@
 mod Near
 mod InTurn
 mod Unread
-mod Acking
 mod Accepting
 mod Questions
+mod Witness

@@ -1,12 +1,13 @@
 //! An IL end.
-ghost use Rattle.std.specs.Prelude.{◌≡◌, ◌↔◌, ℕ, ◌+◌, ◌<◌, ◌≤◌, ◌^◌, length, take, Some, None, IfOk, IfErr, IsOk, OnOk, OnErr, IsTrue, is_some, true};
+ghost use Rattle.std.specs.Prelude.{◌≡◌, ◌↔◌, ℕ, suc, ◌+◌, ◌<◌, ◌≤◌, ◌^◌, ◌∷◌, length, take, ◌||◌, Some, None, IfOk, IfErr, IsOk, OnOk, OnErr, IsTrue, is_some, true};
 ghost use Rattle.net_base.specs.Number as number_spec;
 ghost use Rattle.net_base.specs.Timer as timer;
 ghost use Rattle.net_base.specs.declared.il.IlState.TheVariants as state;
 ghost use Rattle.il_machine.specs.declared.ask.Ask.TheVariants as ask;
 ghost use Rattle.net_base.specs.IlEnd as spec;
-ghost use Rattle.net_base.specs.IlEnd.{End, silent, retransmits};
+ghost use Rattle.net_base.specs.IlEnd.{End, early_at, silent, retransmits};
 ghost use Rattle.net_base.specs.IlTable as table;
+ghost use Rattle.il_machine.specs.InTurn.{in_turn, with_turned};
 ghost use Rattle.il_machine.specs.Windows as windows;
 ghost use Rattle.il_machine.specs.Windows.{rstart_kept};
 ghost use Rattle.il_machine.specs.Stands.{IsFew, StandsFor, StandsForSome, Decides, IsShort, Turns, Becomes, Says, TellsRefusal, after_read, arrival_takes, is_kept, is_ready, read_refusal, takes_no_memory, write_refusal, write_takes};
@@ -15,7 +16,7 @@ mod rows;
 
 use crate::ask::Ask;
 use crate::fault::HungupError;
-use crate::in_turn::come_in_turn;
+use crate::in_turn::{add_early, come_in_turn};
 use il_queues::{Early, MOST_UNACKED, MOST_UNREAD, Timer, Unacked, Unread};
 use net_base::{Cause, IlKind, IlMsg, IlState, Octets, Tick, number};
 use std::alloc::{AllocError, Global};
@@ -164,30 +165,43 @@ impl IlEnd {
     fn hear_ack(&mut self, now: u64, message: &IlMsg)
         requires in_time { now < 2 ^ 63 }
         requires short { self.old.sent < 2 ^ 31 }
-        ensures { Becomes self.old self.new (λ e. spec.hears_ack now message.now e) }
+        ensures end { Becomes self.old self.new (λ e. spec.hears_ack now message.now e) }
+        ensures got { self.new.got ≡ self.old.got }
     {
-        self.timer.heard(now);
+        self.hear(now);
         if let Some(k) = number(self.start, message.ack, self.acked()) {
             if k <= self.sent {
-                self.drop_acked(k);
-                let waits = !self.unacked.is_empty() || self.state == IlState::Closing;
-                self.timer.moved(now, waits);
+                self.drop_acked(now, k);
             }
         }
     }
 
     /// Drops the messages up to this one, which are acknowledged.
-    fn drop_acked(&mut self, k: u64)
-        requires { (self.old.acked ≤ k) × (k ≤ self.old.sent) }
-        ensures { Becomes self.old self.new (λ e. record e { acked = k }) }
+    fn drop_acked(&mut self, now: u64, k: u64)
+        requires in_time { now < 2 ^ 63 }
+        requires more { self.old.acked ≤ k }
+        requires sent { k ≤ self.old.sent }
+        ensures end { Becomes self.old self.new (λ e. spec.moves now (record e { acked = k })) }
+        ensures got { self.new.got ≡ self.old.got }
     {
         let more = k - self.acked();
         self.unacked.drop_first(more as usize);
+        let waits = self.waits();
+        self.timer.moved(now, waits);
+    }
+
+    /// Whether it waits for an answer: for an ack, or for the other end's close.
+    fn waits(&self) -> bool
+        ensures { Says self.now result (λ e. spec.has_unacked e || spec.is_closing e.state) }
+    {
+        !self.unacked.is_empty() || self.state == IlState::Closing
     }
 
     /// How many messages are unread or early.
+    #[tactic(auto, using(crate::proofs::Unread::length_cut), unfolding(crate::specs::Stands::StandsFor))]
     fn backlog(&self) -> usize
-        ensures { Says self.now result spec.backlog }
+        ensures said { Says self.now result spec.backlog }
+        ensures kept { result ≡ length self.now.unread + length self.now.early }
     {
         self.unread.len() + self.early.len()
     }
@@ -204,14 +218,30 @@ impl IlEnd {
         let Some(k) = number(self.rstart.unwrap_or(0), message.id, self.got) else {
             return Ok(());
         };
-        if self.early.contains(k) || MOST_UNREAD <= self.backlog() {
+        if self.early.contains(k) {
+            return Ok(());
+        }
+        if MOST_UNREAD <= self.backlog() {
             return Ok(());
         }
         let text = message.text.clone()?;
-        // no message has its number
-        let _ = self.early.put(k, text);
-        self.got = come_in_turn(&mut self.unread, &mut self.early, self.got);
+        self.add(k, text);
         Ok(())
+    }
+
+    /// Adds an early message, which isn't there and for which there is room; what is next in sequence is got.
+    fn add(&mut self, k: u64, text: Octets)
+        requires few { self.old.got < 2 ^ 31 }
+        requires number { (self.old.got < k) × (k ≤ self.old.got + 20) }
+        requires new { early_at k self.old.early ≡ None }
+        requires room { length self.old.unread + length self.old.early < 64 }
+        ensures end { Becomes self.old self.new (λ e. with_turned e
+            (in_turn (suc (length e.early)) (length e.got) (record { number = k; text = text } ∷ e.early))) }
+        ensures within { self.new.got ≤ self.old.got + 64 }
+        ensures same { self.new.sent ≡ self.old.sent }
+    {
+        add_early(&mut self.early, k, text);
+        self.got = come_in_turn(&mut self.unread, &mut self.early, self.got);
     }
 
     /// Takes the ack of a message and accepts it.
@@ -400,10 +430,11 @@ impl IlEnd {
         ensures err { IfErr result (λ error.
             TellsRefusal self.old error read_refusal table.has_unread × (self.new ≡ self.old)) }
     {
-        match self.unread.read(count)? {
-            Some(bytes) => Ok(bytes),
-            None if self.closed_by_peer => Ok(Octets::new(self.alloc)),
-            None => Err(HungupError::Hungup(self.cause.unwrap_or(Cause::Hungup))),
+        match self.unread.read(count) {
+            Ok(Some(bytes)) => Ok(bytes),
+            Ok(None) if self.closed_by_peer => Ok(Octets::new(self.alloc)),
+            Ok(None) => Err(HungupError::Hungup(self.cause.unwrap_or(Cause::Hungup))),
+            Err(_) => Err(HungupError::Memory),
         }
     }
 

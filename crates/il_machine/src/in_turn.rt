@@ -1,5 +1,6 @@
 //! The early messages whose turn has come.
-ghost use Rattle.std.specs.Prelude.{◌≡◌, ◌+◌, ◌<◌, ◌≤◌, ◌^◌, [], ◌∷◌, ◌++◌, length};
+ghost use Rattle.std.specs.Prelude.{◌≡◌, ◌+◌, ◌<◌, ◌≤◌, ◌^◌, [], ◌∷◌, ◌++◌, length, None};
+ghost use Rattle.net_base.specs.IlEnd.{early_at};
 ghost use Rattle.il_machine.specs.InTurn.{in_turn};
 ghost use Rattle.il_machine.specs.Windows.{AreWithin};
 
@@ -23,6 +24,15 @@ pub fn come_in_turn(unread: &mut Unread, early: &mut Early, got: u64) -> u64
         last += 1;
     }
     last
+}
+
+/// Adds an early message, for which there is room. No early message has its number.
+pub fn add_early(early: &mut Early, k: u64, text: Octets)
+    requires room { length early.old < 20 }
+    requires new { early_at k early.old ≡ None }
+    ensures { early.new ≡ record { number = k; text = text } ∷ early.old }
+{
+    let _ = early.put(k, text);
 }
 
 /// Appends a message, for which there is room.
