@@ -20,6 +20,19 @@ pub record Holds (w : Waiting) (accepted : ℕ) (e : End) : Type 0 where
   pub within : length w.texts ≤ accepted
   pub cut : IsCut w.offset w.texts
 
+-- so it is where the windows say so
+pub holds : (w : Waiting) (accepted : ℕ) (kept : Windows) (e : End) → kept ≡ windows_of e → kept.unread ≡ reading.unread_of w → kept.read_offset ≡ w.offset → kept.got ≡ accepted
+    → kept.read_count ≡ accepted - length w.texts → length w.texts ≤ accepted → IsCut w.offset w.texts → Holds w accepted e
+holds w accepted kept e is unread offset got count within cut =
+    record {
+      unread = sym unread ∙ ap (λ (x : Windows). x.unread) is;
+      offset = sym offset ∙ ap (λ (x : Windows). x.read_offset) is;
+      got = sym got ∙ ap (λ (x : Windows). x.got) is;
+      count = sym count ∙ ap (λ (x : Windows). x.read_count) is;
+      within = within;
+      cut = cut;
+    }
+
 pub length_cut : (cut : ℕ) (xs : List (List ℕ)) → length (cut_first cut xs) ≡ length xs
 length_cut cut [] = refl
 length_cut cut (x ∷ xs) = refl
@@ -47,7 +60,7 @@ still_cut cut [] ts is = subst (λ k. IsCut k ts) (sym is) (cut_all ts)
 still_cut cut (x ∷ xs) ts is = is
 
 -- as many texts wait as messages are unread
-same_length : (w : Waiting) (got : ℕ) (e : End) → Holds w got e → length w.texts ≡ length e.got - e.read_count
+pub same_length : (w : Waiting) (got : ℕ) (e : End) → Holds w got e → length w.texts ≡ length e.got - e.read_count
 same_length w got e h = omega (arith, h.got, h.count, h.within)
 
 unread_more : (w : Waiting) (got : ℕ) (e : End) (ts : List (List ℕ)) → Holds w got e

@@ -1,9 +1,11 @@
 //! An IL end.
-ghost use Rattle.std.specs.Prelude.{◌≡◌, ◌↔◌, ℕ, suc, ◌+◌, ◌<◌, ◌≤◌, ◌^◌, ◌∷◌, length, take, ◌||◌, Some, None, IfOk, IfErr, IsOk, OnOk, OnErr, IsTrue, is_some, true};
+ghost use Rattle.std.specs.Prelude.{◌≡◌, ◌↔◌, ℕ, suc, ◌+◌, ◌<◌, ◌≤◌, ◌^◌, [], ◌∷◌, length, take, ◌||◌, Some, None, unwrap_or, false, IfOk, IfErr, IsOk, OnOk, OnErr, IsTrue, is_some, true};
 ghost use Rattle.net_base.specs.Number as number_spec;
 ghost use Rattle.net_base.specs.Timer as timer;
 ghost use Rattle.net_base.specs.declared.il.IlState.TheVariants as state;
+ghost use Rattle.net_base.specs.declared.il.Cause.TheVariants as cause;
 ghost use Rattle.il_machine.specs.declared.ask.Ask.TheVariants as ask;
+ghost use Rattle.il_machine.specs.declared.fault.HungupError.TheVariants as fault;
 ghost use Rattle.net_base.specs.IlEnd as spec;
 ghost use Rattle.net_base.specs.IlEnd.{End, early_at, silent, retransmits};
 ghost use Rattle.net_base.specs.IlTable as table;
@@ -430,12 +432,25 @@ impl IlEnd {
         ensures err { IfErr result (λ error.
             TellsRefusal self.old error read_refusal table.has_unread × (self.new ≡ self.old)) }
     {
-        match self.unread.read(count) {
-            Ok(Some(bytes)) => Ok(bytes),
-            Ok(None) if self.closed_by_peer => Ok(Octets::new(self.alloc)),
-            Ok(None) => Err(HungupError::Hungup(self.cause.unwrap_or(Cause::Hungup))),
-            Err(_) => Err(HungupError::Memory),
+        let Ok(read) = self.unread.read(count) else {
+            return Err(HungupError::Memory);
+        };
+        let Some(bytes) = read else {
+            return self.nothing_unread();
+        };
+        Ok(bytes)
+    }
+
+    /// What a read answers where nothing is unread.
+    fn nothing_unread(&self) -> Result<Octets, HungupError>
+        ensures ok { IfOk result (λ bytes. (bytes ≡ []) × (self.now.closed_by_peer ≡ true)) }
+        ensures err { IfErr result (λ error.
+            (error ≡ fault.Hungup (unwrap_or self.now.cause cause.Hungup)) × (self.now.closed_by_peer ≡ false)) }
+    {
+        if self.closed_by_peer {
+            return Ok(Octets::new(self.alloc));
         }
+        Err(HungupError::Hungup(self.cause.unwrap_or(Cause::Hungup)))
     }
 
     /// The first bytes, at most `count`, of the first unread message.

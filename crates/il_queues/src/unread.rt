@@ -69,6 +69,7 @@ impl Unread {
         ensures value { IfOk result (λ text. text ≡ bytes_read count (unread_of self.old)) }
         ensures rest { OnOk result (self.new ≡ after_read count self.old) }
         ensures err { OnErr result (self.new ≡ self.old) }
+        ensures memory { OnErr result (0 < length self.old.texts) }
     {
         let Some(first) = self.texts.front() else {
             return Ok(None);
