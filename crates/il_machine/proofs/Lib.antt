@@ -1,6 +1,7 @@
 mod Near
 mod InTurn
 mod Unread
+mod Unacked
 mod Accepting
 mod Questions
 mod Witness

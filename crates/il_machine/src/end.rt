@@ -1,5 +1,5 @@
 //! An IL end.
-ghost use Rattle.std.specs.Prelude.{◌≡◌, ◌↔◌, ℕ, suc, ◌+◌, ◌<◌, ◌≤◌, ◌^◌, [], ◌∷◌, length, take, ◌||◌, Some, None, unwrap_or, false, IfOk, IfErr, IsOk, OnOk, OnErr, IsTrue, is_some, true};
+ghost use Rattle.std.specs.Prelude.{◌≡◌, ◌↔◌, ℕ, suc, ◌+◌, ◌<◌, ◌≤◌, ◌^◌, [], ◌∷◌, length, take, ◌||◌, Some, None, unwrap_or, slice_index_or, false, IfSome, IsSome, IfOk, IfErr, IsOk, OnOk, OnErr, IsTrue, is_some, true};
 ghost use Rattle.net_base.specs.Number as number_spec;
 ghost use Rattle.net_base.specs.Timer as timer;
 ghost use Rattle.net_base.specs.declared.il.IlState.TheVariants as state;
@@ -173,21 +173,29 @@ impl IlEnd {
         self.hear(now);
         if let Some(k) = number(self.start, message.ack, self.acked()) {
             if k <= self.sent {
-                self.drop_acked(now, k);
+                self.drop_acked(k);
+                self.restart_timer(now);
             }
         }
     }
 
     /// Drops the messages up to this one, which are acknowledged.
-    fn drop_acked(&mut self, now: u64, k: u64)
-        requires in_time { now < 2 ^ 63 }
+    fn drop_acked(&mut self, k: u64)
         requires more { self.old.acked ≤ k }
         requires sent { k ≤ self.old.sent }
-        ensures end { Becomes self.old self.new (λ e. spec.moves now (record e { acked = k })) }
+        ensures end { Becomes self.old self.new (λ e. record e { acked = k }) }
         ensures got { self.new.got ≡ self.old.got }
     {
         let more = k - self.acked();
         self.unacked.drop_first(more as usize);
+    }
+
+    /// Waits anew, where something still waits to be acknowledged.
+    fn restart_timer(&mut self, now: u64)
+        requires { now < 2 ^ 63 }
+        ensures end { Becomes self.old self.new (λ e. spec.moves now e) }
+        ensures got { self.new.got ≡ self.old.got }
+    {
         let waits = self.waits();
         self.timer.moved(now, waits);
     }
@@ -263,13 +271,13 @@ impl IlEnd {
 
     /// The first message that isn't acknowledged once so many are, to be sent again.
     fn retransmission(&self, acked: u64) -> Result<Option<IlMsg>, AllocError>
-        requires { self.now.acked ≤ acked }
+        requires short { self.now.sent < 2 ^ 31 }
+        requires more { self.now.acked ≤ acked }
         ensures ok { IfOk result (λ emits. Says self.now emits
             (λ e. (retransmits (record e { acked = acked }) (silent e)).emits)) }
         ensures memory { OnErr result (Says self.now true (λ e. spec.has_unacked (record e { acked = acked }))) }
     {
-        let place = acked - self.acked();
-        let Some(text) = self.unacked.get(place as usize) else {
+        let Some(text) = self.first_unacked(acked) else {
             return Ok(None);
         };
         Ok(Some(IlMsg {
@@ -279,6 +287,17 @@ impl IlEnd {
             ack: self.recvd(),
             text: Octets::from_slice(self.alloc, text)?,
         }))
+    }
+
+    /// The text of the first message that isn't acknowledged once so many are.
+    #[tactic(auto, using(crate::proofs::Unacked::text_at), unfolding(crate::specs::Stands::StandsFor))]
+    fn first_unacked(&self, acked: u64) -> Option<&[u8]>
+        requires { self.now.acked ≤ acked }
+        ensures found { IsSome result ↔ (acked < self.now.sent) }
+        ensures value { IfSome result (λ text. Says self.now text.now (λ e. slice_index_or e.sent acked [])) }
+    {
+        let place = acked - self.acked();
+        self.unacked.get(place as usize)
     }
 
     /// How many messages are acknowledged once this message's ack is taken.
