@@ -100,7 +100,7 @@ few_after n low high es None none h rest =
     omega (arith, others)
 few_after n low high es (Some text) there h rest =
     let others : length (without (low + 1) es) ≤ n =
-        rest (without (low + 1) es) (begins_after low high (without (low + 1) es) (gone (low + 1) low high es h) (without_within (low + 1) low high es h)) in
+    rest (without (low + 1) es) (begins_after low high (without (low + 1) es) (gone (low + 1) low high es h) (without_within (low + 1) low high es h)) in
     let less = one_less (low + 1) text es there in
     omega (arith, others, less)
 

@@ -133,7 +133,7 @@ read_part : (count : ℕ) (w : Waiting) (got : ℕ) (e : End) (text : List ℕ) 
     → kept_with (record { texts = text ∷ texts; offset = w.offset + count }) got e ≡ windows_of (record e { read_offset = e.read_offset + count })
 read_part count w got e text texts is h some =
     same_kept e (got - length (text ∷ texts)) (w.offset + count) e.read_count (e.read_offset + count) (drop (w.offset + count) text ∷ texts) (cut_first (e.read_offset + count) (drop e.read_count e.got))
-        (ap (λ (xs : List (List ℕ)). got - length xs) (sym is) ∙ h.count) (ap (λ n. n + count) h.offset) unread
+    (ap (λ (xs : List (List ℕ)). got - length xs) (sym is) ∙ h.count) (ap (λ n. n + count) h.offset) unread
   where
     first : List ℕ
     first = slice_index_or e.got e.read_count []
@@ -153,7 +153,7 @@ read_whole : (w : Waiting) (got : ℕ) (e : End) (text : List ℕ) (texts : List
     → kept_with (record { texts = texts; offset = 0 }) got e ≡ windows_of (record e { read_count = e.read_count + 1; read_offset = 0 })
 read_whole w got e text texts is h some =
     same_kept e (got - length texts) 0 (e.read_count + 1) 0 (cut_first 0 texts) (cut_first 0 (drop (e.read_count + 1) e.got))
-        (omega (arith, h.count, h.within, ap (λ (xs : List (List ℕ)). length xs) is)) refl (ap (λ (xs : List (List ℕ)). cut_first 0 xs) (both_first w got e text texts is h some).1)
+    (omega (arith, h.count, h.within, ap (λ (xs : List (List ℕ)). length xs) is)) refl (ap (λ (xs : List (List ℕ)). cut_first 0 xs) (both_first w got e text texts is h some).1)
 
 read_some : (count : ℕ) (w : Waiting) (got : ℕ) (e : End) (text : List ℕ) (texts : List (List ℕ)) (b : Bool) → w.texts ≡ text ∷ texts → Holds w got e → e.read_count < length e.got
     → kept_with (if b then record { texts = text ∷ texts; offset = w.offset + count } else record { texts = texts; offset = 0 }) got e

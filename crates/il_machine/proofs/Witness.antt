@@ -51,13 +51,13 @@ pub stands_for : (w : Windows) → w.acked + length w.unacked ≡ w.sent → w.r
 stands_for w all_sent all_got =
     let unacked : w.unacked ≡ drop w.acked (replicate w.acked [] ++ w.unacked) = sym (drop_at (replicate w.acked []) w.unacked w.acked (length-replicate w.acked [])) in
     let sent : w.sent ≡ length (replicate w.acked [] ++ w.unacked)
-        = omega (arith, all_sent, length-append (replicate w.acked []) w.unacked, length-replicate w.acked no_text) in
+    = omega (arith, all_sent, length-append (replicate w.acked []) w.unacked, length-replicate w.acked no_text) in
     let behind : drop w.read_count (replicate w.read_count [] ++ uncut w.read_offset w.unread) ≡ uncut w.read_offset w.unread
-        = drop_at (replicate w.read_count []) (uncut w.read_offset w.unread) w.read_count (length-replicate w.read_count []) in
+    = drop_at (replicate w.read_count []) (uncut w.read_offset w.unread) w.read_count (length-replicate w.read_count []) in
     let unread : w.unread ≡ cut_first w.read_offset (drop w.read_count (replicate w.read_count [] ++ uncut w.read_offset w.unread))
-        = sym (ap (λ (xs : List (List ℕ)). cut_first w.read_offset xs) behind ∙ cut_uncut w.read_offset w.unread) in
+    = sym (ap (λ (xs : List (List ℕ)). cut_first w.read_offset xs) behind ∙ cut_uncut w.read_offset w.unread) in
     let got : w.got ≡ length (replicate w.read_count [] ++ uncut w.read_offset w.unread)
-        = omega (arith, all_got, length-append (replicate w.read_count []) (uncut w.read_offset w.unread), length_uncut w.read_offset w.unread, length-replicate w.read_count no_text) in
+    = omega (arith, all_got, length-append (replicate w.read_count []) (uncut w.read_offset w.unread), length_uncut w.read_offset w.unread, length-replicate w.read_count no_text) in
     same_windows w _ _ _ _ _ _ _ _ sent unacked got unread
 
 -- few messages are kept: some end with few messages is stood for

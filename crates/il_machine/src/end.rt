@@ -564,6 +564,3 @@ impl IlEnd {
         self.cause
     }
 }
-
-#[cfg(test)]
-mod tests;

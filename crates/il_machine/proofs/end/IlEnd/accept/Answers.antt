@@ -45,10 +45,10 @@ returns-clause-ok c e stands =
     let is : the_view c.self.inside ≡ windows_of e = c.self.view_is ∙ stands in
     let says = c.backlog.ensures.said e stands in
     let told : number (rstart_of e) c.args.message.now.id (length e.got) ≡ Some c.in-Some.k
-        = subst (λ (w : Windows). number (rstart_kept w) c.args.message.now.id w.got ≡ Some c.in-Some.k) is
-            (ap (λ b. number b c.args.message.now.id c.self.inside.got) (sym c.unwrap_or.ensures) ∙ sym c.number.ensures.value ∙ c.in-Some.is) in
+    = subst (λ (w : Windows). number (rstart_kept w) c.args.message.now.id w.got ≡ Some c.in-Some.k) is
+    (ap (λ b. number b c.args.message.now.id c.self.inside.got) (sym c.unwrap_or.ensures) ∙ sym c.number.ensures.value ∙ c.in-Some.is) in
     let new : is_some (early_at c.in-Some.k e.early) ≡ false
-        = subst (λ (w : Windows). is_some (early_at c.in-Some.k w.early) ≡ false) is (sym c.contains.ensures ∙ c.if-contains.false) in
+    = subst (λ (w : Windows). is_some (early_at c.in-Some.k w.early) ≡ false) is (sym c.contains.ensures ∙ c.if-contains.false) in
     let room : nat_le 64 (backlog e) ≡ false = grind (arith, nat_tests, says, c.if-backlog-ge-MOST_UNREAD.false) in
     c.add.ensures.end e stands
     ∙ ap (λ (text : List ℕ). windows_of (with_turned e (in_turn (suc (length e.early)) (length e.got) (record { number = c.in-Some.k; text = text } ∷ e.early)))) c.in_ok-text.ensures.cases

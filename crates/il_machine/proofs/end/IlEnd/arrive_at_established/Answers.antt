@@ -8,7 +8,7 @@ pub returns-then-misses-clause-ok : goal.returns-then-misses-clause-ok
 unfolding StandsFor
 returns-then-misses-clause-ok c e stands =
     let answered = question_answered c.args.now c.args.message.now e c.take_in-in-DataQuery.new.self c.args.message.now.kind true c.in-DataQuery.is
-        (c.in_ok-take_in-in-DataQuery.ensures.ok e stands) (sym c.if-misses.true ∙ c.misses.ensures) in
+    (c.in_ok-take_in-in-DataQuery.ensures.ok e stands) (sym c.if-misses.true ∙ c.misses.ensures) in
     (answered.0, ap Some c.own_message-then-misses.ensures ∙ answered.1)
 
 -- it was got
@@ -16,5 +16,5 @@ pub returns-else-misses-clause-ok : goal.returns-else-misses-clause-ok
 unfolding StandsFor
 returns-else-misses-clause-ok c e stands =
     let answered = question_answered c.args.now c.args.message.now e c.take_in-in-DataQuery.new.self c.args.message.now.kind false c.in-DataQuery.is
-        (c.in_ok-take_in-in-DataQuery.ensures.ok e stands) (sym c.if-misses.false ∙ c.misses.ensures) in
+    (c.in_ok-take_in-in-DataQuery.ensures.ok e stands) (sym c.if-misses.false ∙ c.misses.ensures) in
     (answered.0, ap Some c.own_message-else-misses.ensures ∙ answered.1)

@@ -21,9 +21,10 @@ returns-clause-end c e stands =
 
 pub returns-in_default-clause-err : goal.returns-in_default-clause-err
 unfolding StandsFor
-returns-in_default-clause-err c =
-    (λ e stands.
+returns-in_default-clause-err c = (
+  λ e stands.
       let is : the_view c.self.inside ≡ windows_of e = c.self.view_is ∙ stands in
       let h = holds c.self.inside.unread c.self.inside.got (the_view c.self.inside) e is refl refl refl refl c.self.invariant.unread_were_got c.self.invariant.first_is_cut in
       grind (arith, nat_tests, same_length c.self.inside.unread c.self.inside.got e h, c.in_default.ensures.memory),
-      ap (λ (w : Waiting). the_view (record c.self.inside { unread = w })) c.in_default.ensures.err ∙ c.self.view_is)
+  ap (λ (w : Waiting). the_view (record c.self.inside { unread = w })) c.in_default.ensures.err ∙ c.self.view_is,
+)
