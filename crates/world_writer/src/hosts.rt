@@ -1,11 +1,11 @@
 //! The lines of hosts.
 ghost use Rattle.std.specs.Prelude.{◌≡◌, ◌∷◌, ◌++◌, [], map, flat_map, OnOk};
-ghost use Rattle.net_base.specs.Transcript.{spaced};
 ghost use Rattle.net_base.specs.Paths.{proto_name};
 ghost use Rattle.world_text.specs.WorldSpelling as spec;
-ghost use Rattle.world_text.specs.WorldSpelling.{laid, medium_names};
+ghost use Rattle.world_text.specs.WorldSpelling.{laid, medium_names, spaced};
+ghost use Rattle.world_writer.specs.Written.{behind, lines_under};
 
-use crate::line::{put_ip, put_ips, put_number, put_two, put_word};
+use crate::line::{put_ips, put_number, put_three_ips, put_two, put_word};
 use crate::media::medium_name;
 use net_base::{HostSpec, Iface, MediumSpec, Octets, Proto, RouteLine};
 use std::alloc::AllocError;
@@ -13,7 +13,7 @@ use words::proto_name;
 
 /// Adds the names of protocols behind words.
 fn put_nets(out: &mut Octets, nets: &[Proto]) -> Result<(), AllocError>
-    ensures { OnOk result (out.new ≡ out.old ++ spaced (map proto_name nets.now)) }
+    ensures { OnOk result (out.new ≡ out.old ++ behind (map proto_name nets.now)) }
 {
     for proto in nets {
         put_word(out, proto_name(*proto))?;
@@ -21,13 +21,20 @@ fn put_nets(out: &mut Octets, nets: &[Proto]) -> Result<(), AllocError>
     Ok(())
 }
 
+/// Adds a name and, behind it, the names of protocols.
+fn put_named(out: &mut Octets, name: &[u8], nets: &[Proto]) -> Result<(), AllocError>
+    ensures { OnOk result (out.new ≡ out.old ++ spaced (name.now ∷ map proto_name nets.now)) }
+{
+    out.append(name)?;
+    put_nets(out, nets)
+}
+
 /// Adds the `host` line of a host.
-#[tactic(auto, using(crate::proofs::Laid::spaced_first))]
 fn put_host_line(out: &mut Octets, host: &HostSpec) -> Result<(), AllocError>
     ensures { OnOk result (out.new ≡ out.old ++ laid (spec.line_of_host host.now ∷ [])) }
 {
-    put_two(out, b"host", host.name.as_slice())?;
-    put_nets(out, host.nets.as_slice())?;
+    out.append(b"host ")?;
+    put_named(out, host.name.as_slice(), host.nets.as_slice())?;
     out.push(b'\n')
 }
 
@@ -55,8 +62,7 @@ fn put_route(out: &mut Octets, route: &RouteLine) -> Result<(), AllocError>
     ensures { OnOk result (out.new ≡ out.old ++ laid (spec.line_of_route route.now ∷ [])) }
 {
     out.append(b"route")?;
-    put_ips(out, route.net, route.mask)?;
-    put_ip(out, route.gateway)?;
+    put_three_ips(out, route.net, route.mask, route.gateway)?;
     out.push(b'\n')
 }
 
@@ -89,19 +95,32 @@ fn put_starts(out: &mut Octets, starts: &[u32]) -> Result<(), AllocError>
     Ok(())
 }
 
+/// Adds the lines under a host, where these media are.
+fn put_under(
+    out: &mut Octets,
+    media: &[MediumSpec],
+    ifaces: &[Iface],
+    routes: &[RouteLine],
+    starts: &[u32],
+) -> Result<(), AllocError>
+    ensures { OnOk result (out.new ≡ out.old ++ laid (lines_under (medium_names media.now) ifaces.now routes.now starts.now)) }
+{
+    put_ifaces(out, media, ifaces)?;
+    put_routes(out, routes)?;
+    put_starts(out, starts)
+}
+
 /// Adds the lines of a host, where these media are.
-#[tactic(auto, using(crate::proofs::Laid::laid_append))]
 fn put_host(out: &mut Octets, media: &[MediumSpec], host: &HostSpec) -> Result<(), AllocError>
     ensures { OnOk result (out.new ≡ out.old ++ laid (spec.lines_of_host (medium_names media.now) host.now)) }
 {
     put_host_line(out, host)?;
-    put_ifaces(out, media, host.ifaces.as_slice())?;
-    put_routes(out, host.routes.as_slice())?;
-    put_starts(out, host.starts.as_slice())
+    let ifaces = host.ifaces.as_slice();
+    let routes = host.routes.as_slice();
+    put_under(out, media, ifaces, routes, host.starts.as_slice())
 }
 
 /// Adds the lines of hosts, where these media are.
-#[tactic(auto, using(crate::proofs::Laid::laid_append))]
 pub fn put_hosts(
     out: &mut Octets,
     media: &[MediumSpec],

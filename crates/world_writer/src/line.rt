@@ -61,6 +61,19 @@ pub fn put_ips(out: &mut Octets, first: u32, second: u32) -> Result<(), AllocErr
     put_ip(out, second)
 }
 
+/// Adds three addresses behind words.
+pub fn put_three_ips(
+    out: &mut Octets,
+    first: u32,
+    second: u32,
+    third: u32,
+) -> Result<(), AllocError>
+    ensures { OnOk result (out.new ≡ out.old ++ 32 ∷ spaced (dotted first ∷ dotted second ∷ dotted third ∷ [])) }
+{
+    put_ip(out, first)?;
+    put_ips(out, second, third)
+}
+
 /// Adds bytes in hexadecimal behind words.
 pub fn put_hex(out: &mut Octets, bytes: &[u8]) -> Result<(), AllocError>
     ensures { OnOk result (out.new ≡ out.old ++ 32 ∷ hex_word bytes.now) }

@@ -79,7 +79,6 @@ fn put_medium(out: &mut Octets, medium: &MediumSpec) -> Result<(), AllocError>
 }
 
 /// Adds the lines of media.
-#[tactic(auto, using(crate::proofs::Laid::laid_append))]
 pub fn put_media(out: &mut Octets, media: &[MediumSpec]) -> Result<(), AllocError>
     ensures { OnOk result (out.new ≡ out.old ++ laid (flat_map spec.lines_of_medium media.now)) }
 {

@@ -77,7 +77,6 @@ fn put_script(out: &mut Octets, hosts: &[HostSpec], script: &Script) -> Result<(
 }
 
 /// Adds the lines of scripts, where these hosts are.
-#[tactic(auto, using(crate::proofs::Laid::laid_append))]
 pub fn put_scripts(
     out: &mut Octets,
     hosts: &[HostSpec],
