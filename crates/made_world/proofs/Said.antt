@@ -1,5 +1,5 @@
 -- Each made world is one that a file can say.
-use Rattle.std.proofs.Common.{◌≡◌, ℕ, zero, suc, ◌+◌, ◌<◌, ◌^◌, ◌%◌, true, List, [], ◌∷◌, ◌++◌, refl, ◌∙◌, arith}
+use Rattle.std.proofs.Common.{◌≡◌, ℕ, zero, suc, ◌+◌, ◌<◌, ◌^◌, ◌%◌, true, List, [], ◌∷◌, ◌++◌, Some, refl, ◌∙◌, arith}
 use Rattle.std.specs.Prelude.{codes, decimal, flat_map, nat_lt}
 use Rattle.std.specs.List.{list_all, range_with_len}
 use Rattle.std.proofs.lemmas.Bool.{and_from}
@@ -7,9 +7,15 @@ use Rattle.std.proofs.lemmas.Bool.Decides.{nat_tests}
 use Rattle.std.proofs.lemmas.Fmt.{decimal_by_steps}
 use Rattle.std.proofs.lemmas.List.Folds.{list_all-append}
 use Rattle.net_base.specs.declared.world.Step.{Step}
+use Rattle.net_base.specs.NdbBundle.{reading}
 use Rattle.net_base.specs.World.{is_byte, is_step, is_text, IsWorld}
-use Rattle.worked_worlds.specs.Worked.{small_bundle}
+use Rattle.worked_worlds.specs.Worked.{small_bundle, tuples}
 use Rattle.made_world.specs.Made.{message, asking, answering, anna_steps, helix_steps, made_world}
+
+-- The database.
+
+pub local_reads : reading small_bundle ≡ Some tuples
+local_reads = refl
 
 -- Messages.
 
@@ -68,5 +74,5 @@ module _ (n : ℕ) (small : n < 2 ^ 64) where
     hosts_addressed = refl;
     few_scripts = refl;
     scripts = and_from _ _ anna_said (and_from _ _ helix_said refl);
-    database = (small_bundle, refl, refl);
+    database = (small_bundle, refl, local_reads);
   }

@@ -28,17 +28,12 @@ anna_steps n =
 abbrev pub answering : ℕ → List Step
 answering k = step.Read (codes "e") 8192 ∷ step.Write (codes "e") (message k) ∷ []
 
--- helix waits for a call, and takes it
-abbrev pub helix_opening : List Step
-helix_opening =
-    step.Announce (codes "a") (codes "net!*!9fs")
-    ∷ step.Listen (codes "c") (codes "a")
-    ∷ step.Accept (codes "e") (codes "c") ∷ []
-
 abbrev pub helix_steps : ℕ → List Step
 helix_steps n =
-    helix_opening
-    ++ (flat_map answering (range_with_len 1 n)
+    step.Announce (codes "a") (codes "net!*!9fs")
+    ∷ step.Listen (codes "c") (codes "a")
+    ∷ step.Accept (codes "e") (codes "c")
+    ∷ (flat_map answering (range_with_len 1 n)
     ++ step.Read (codes "e") 8192 ∷ step.Close (codes "e") ∷ step.Close (codes "c") ∷ [])
 
 -- a medium that delivers each frame

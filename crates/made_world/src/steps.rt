@@ -1,5 +1,5 @@
 //! The steps of both scripts.
-ghost use Rattle.std.specs.Prelude.{◌≡◌, ◌≤◌, ◌∷◌, ◌++◌, [], flat_map, IfOk, OnOk};
+ghost use Rattle.std.specs.Prelude.{◌≡◌, ◌++◌, flat_map, codes, IfOk, OnOk};
 ghost use Rattle.std.specs.List.{range_with_len};
 ghost use Rattle.net_base.specs.declared.world.Step.TheVariants as step;
 ghost use Rattle.made_world.specs.Made as spec;
@@ -78,34 +78,53 @@ fn answer_all(alloc: Global, steps: &mut StepList, n: u32) -> Result<(), AllocEr
     Ok(())
 }
 
+/// Anna's call of helix.
+fn dial(alloc: Global) -> Result<Step, AllocError>
+    ensures { IfOk result (λ s. s ≡ step.Dial (codes "d") (codes "net!helix!9fs")) }
+{
+    Ok(Step::Dial {
+        name: Octets::from_slice(alloc, b"d")?,
+        address: Octets::from_slice(alloc, b"net!helix!9fs")?,
+    })
+}
+
 /// Anna's steps.
 pub fn anna_steps(alloc: Global, n: u32) -> Result<StepList, AllocError>
     ensures { IfOk result (λ steps. steps ≡ spec.anna_steps n) }
 {
     let mut steps = StepList::new(alloc);
     steps.push(Step::Until { moment: 10 })?;
-    steps.push(Step::Dial {
-        name: Octets::from_slice(alloc, b"d")?,
-        address: Octets::from_slice(alloc, b"net!helix!9fs")?,
-    })?;
+    steps.push(dial(alloc)?)?;
     ask_all(alloc, &mut steps, n)?;
     steps.push(close(alloc, b"d")?)?;
     Ok(steps)
 }
 
-/// Helix waits for a call, and takes it.
-fn open_helix(alloc: Global, steps: &mut StepList) -> Result<(), AllocError>
-    ensures { OnOk result (steps.new ≡ steps.old ++ spec.helix_opening) }
+/// Helix's announcement.
+fn announce(alloc: Global) -> Result<Step, AllocError>
+    ensures { IfOk result (λ s. s ≡ step.Announce (codes "a") (codes "net!*!9fs")) }
 {
-    steps.push(Step::Announce {
+    Ok(Step::Announce {
         name: Octets::from_slice(alloc, b"a")?,
         address: Octets::from_slice(alloc, b"net!*!9fs")?,
-    })?;
-    steps.push(Step::Listen {
+    })
+}
+
+/// Helix's wait for a call.
+fn listen(alloc: Global) -> Result<Step, AllocError>
+    ensures { IfOk result (λ s. s ≡ step.Listen (codes "c") (codes "a")) }
+{
+    Ok(Step::Listen {
         name: Octets::from_slice(alloc, b"c")?,
         from: Octets::from_slice(alloc, b"a")?,
-    })?;
-    steps.push(Step::Accept {
+    })
+}
+
+/// Helix takes the call.
+fn accept(alloc: Global) -> Result<Step, AllocError>
+    ensures { IfOk result (λ s. s ≡ step.Accept (codes "e") (codes "c")) }
+{
+    Ok(Step::Accept {
         name: Octets::from_slice(alloc, b"e")?,
         from: Octets::from_slice(alloc, b"c")?,
     })
@@ -116,7 +135,9 @@ pub fn helix_steps(alloc: Global, n: u32) -> Result<StepList, AllocError>
     ensures { IfOk result (λ steps. steps ≡ spec.helix_steps n) }
 {
     let mut steps = StepList::new(alloc);
-    open_helix(alloc, &mut steps)?;
+    steps.push(announce(alloc)?)?;
+    steps.push(listen(alloc)?)?;
+    steps.push(accept(alloc)?)?;
     answer_all(alloc, &mut steps, n)?;
     steps.push(read(alloc, b"e")?)?;
     steps.push(close(alloc, b"e")?)?;
