@@ -4,8 +4,8 @@
 mod cs_law;
 mod law;
 mod ndb_law;
-mod world_law;
 mod wire_law;
+mod world_law;
 
 pub use cs_law::no_line_stands_twice;
 pub use cs_law::own_networks_come_first;
@@ -100,7 +100,6 @@ pub use prefix_law::a_pair_has_one_holder;
 pub use prefix_law::moments_rise;
 pub use prefix_law::prefix_law;
 pub use wire_law::packets_are_read;
-pub use world_law::written_worlds_read_back;
 pub use worked_cases::a_call_has_two_ends;
 pub use worked_cases::a_call_is_refused;
 pub use worked_cases::a_datagram_goes;
@@ -118,3 +117,4 @@ pub use world_text::worked_world_lines;
 pub use world_text::worlds_are_spelled;
 pub use world_text::worlds_have_texts;
 pub use world_text::worlds_so_far_are_small;
+pub use world_law::written_worlds_read_back;
