@@ -20,7 +20,7 @@ is_word [] = false
 is_word (byte ∷ bytes) = true
 
 -- the number of messages that a word says: 1 to 9000, without leading zeros
-abbrev pub messages_in : List ℕ → Option ℕ
+unfoldable pub messages_in : List ℕ → Option ℕ
 messages_in word = number_in 1 9000 word
 
 -- the command that words give, where they are in a row: `cs SYS QUERY`, `query ATTR VALUE`, `query ATTR VALUE RATTR`, `run 1`,

@@ -12,7 +12,10 @@ use Rattle.outside.specs.declared.fault.TakeError.TheVariants as error
 use Rattle.net_model.specs.Answers.{Answer, bad_input, read_fault, input_limit}
 use Rattle.net_base.specs.Addresses.{number_in}
 use Rattle.net_model.specs.Words.{Command, Cs, Query, Run, Make, is_word, messages_in, command_of, words_wait, reads}
-use Rattle.netsh.specs.Built.{bad_line, first_bad, IsGiven, IsAnswer}
+use Rattle.net_base.specs.declared.world.World.{World}
+use Rattle.made_world.specs.Made.{made_world}
+use Rattle.world_writer.specs.Written.{file_text}
+use Rattle.netsh.specs.Built.{bad_line, first_bad, made, IsGiven, IsAnswer}
 use Rattle.netsh.specs.Ends.{Intake, Output, Told, Took, TookSome, IsInput, IsRead, IsUnread, Answers, Ends, answered, unread, no_memory}
 
 -- an input over the limit is bad
@@ -70,6 +73,11 @@ memory_is_no_fault A fault is same = apart (ap (failing A) (sym is) ∙ same)
   where
     apart : failing A error.Memory ≡ failing A error.Failed → ⊥
     apart both = cc
+
+-- the text of a made world
+pub made_answer : (messages : ℕ) (w : World) (text : List ℕ) (answer : Answer) → w ≡ made_world messages → text ≡ file_text w → answer ≡ record { status = 0; text = text } → answer ≡ made messages
+unfolding made
+made_answer messages w text answer is_made is_text is = is ∙ ap (λ (t : List ℕ). record { status = 0; text = t }) (is_text ∙ ap file_text is_made)
 
 -- an answer that was told
 pub ends_answered : (asked : Command) (answer : Answer) (status : ℕ) (text : List ℕ) (result : ℕ) (intake : Intake) (output : Output) → Answers asked answer intake → status ≡ answer.status → text ≡ answer.text → Told (record { status = status; text = text }) result output → Ends (Some asked) result intake output

@@ -64,6 +64,7 @@ fn read_two<'a>(name: &[u8], number: &'a [u8]) -> Option<Command<'a>>
 }
 
 /// The number of messages that a word says, 1 to 9000.
+#[tactic(auto, unfolding(net_model::specs::Words::messages_in))]
 fn read_messages(word: &[u8]) -> Option<u32>
     ensures { result ≡ messages_in word.now }
 {

@@ -12,5 +12,6 @@ pub fn make(alloc: Global, messages: u32) -> Result<Answer, AllocError>
     ensures { IfOk result (λ answer. answer ≡ made messages) }
 {
     let world = make_world(alloc, messages)?;
-    Ok(Answer::whole(write_world(alloc, &world)?))
+    let text = write_world(alloc, &world)?;
+    Ok(Answer::whole(text))
 }
