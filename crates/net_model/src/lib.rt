@@ -5,6 +5,7 @@ mod cs_law;
 mod law;
 mod ndb_law;
 mod wire_law;
+mod world_law;
 
 pub use cs_law::no_line_stands_twice;
 pub use cs_law::own_networks_come_first;
@@ -107,6 +108,7 @@ pub use worked_cases::a_lost_frame_is_sent_again;
 pub use worked_cases::changes_are_faults;
 pub use worked_cases::runs_are_as_worked;
 pub use worked_cases::small_limits_end_runs;
+pub use world_law::written_worlds_read_back;
 pub use world_text::connect_texts_agree;
 pub use world_text::controls_are_read;
 pub use world_text::first_bad_lines_are_told;
