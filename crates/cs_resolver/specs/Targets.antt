@@ -1,8 +1,8 @@
 -- Where a line connects to, as the resolver keeps it.
 use Rattle.std.specs.Prelude.{ℕ, not, List, ◌++◌, filter, map, codes}
 use Rattle.net_base.specs.Addresses.{address_text}
-use Rattle.ndb_search.specs.declared.prefixes.Prefixes.{Prefixes}
-use Rattle.ndb_search.specs.Prefixes.{covers}
+use Rattle.ndb_tuple.specs.declared.prefixes.Prefixes.{Prefixes}
+use Rattle.ndb_tuple.specs.Prefixes.{covers}
 use Rattle.cs_resolver.specs.declared.line.Target.{Target}
 use Rattle.cs_resolver.specs.declared.line.Target.TheVariants.{Any, Ip}
 

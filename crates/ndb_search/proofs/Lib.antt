@@ -1,7 +1,4 @@
-pub mod Copied
-pub mod Covered
-pub mod Filled
 pub mod Found
-pub mod Lists
+pub mod Nearest
+pub mod Numbers
 pub mod Owned
-pub mod Values

@@ -3,7 +3,7 @@ ghost use Rattle.std.specs.Prelude.{◌≡◌, filter_map, slice_get, IfOk};
 ghost use Rattle.net_base.specs.Search as spec;
 ghost use Rattle.ndb_search.specs.Places.{places_with};
 
-use crate::pairs::tuple_has;
+use ndb_tuple::tuple_has;
 use net_base::{Db, Sequence};
 use std::alloc::{AllocError, Global};
 

@@ -1,7 +1,7 @@
 use Rattle.std.proofs.Common.{nat_eq, ◌==◌, true, cond, ap, ◌∙◌, arith, sym}
 use Rattle.std.specs.List.{list_any}
 use Rattle.std.proofs.lemmas.List.{take_all}
-use Rattle.ndb_search.specs.Prefixes.{first_bits}
+use Rattle.ndb_tuple.specs.Prefixes.{first_bits}
 use Rattle.ndb_search.proofs.Owned.{any_more}
 use Rattle.ndb_search.proofs.networks.firsts_of.Goals as goal
 

@@ -1,6 +1,6 @@
 use Rattle.std.proofs.Common.{◌≡◌, ℕ, take, nat_eq, ◌==◌}
 use Rattle.std.specs.List.{list_any}
-use Rattle.ndb_search.specs.Prefixes.{first_bits}
+use Rattle.ndb_tuple.specs.Prefixes.{first_bits}
 use Rattle.ndb_search.proofs.networks.firsts_of.Given as goal
 
 abbrev pub invariant-loop-ip : goal.invariant-loop-ip

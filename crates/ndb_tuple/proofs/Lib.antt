@@ -1,0 +1,5 @@
+pub mod Copied
+pub mod Covered
+pub mod NonEmpty
+pub mod Lists
+pub mod Pieces

@@ -1,0 +1,18 @@
+//! What a tuple of a network database says: its pairs, the values beside a pair, the numbers that they spell, and the network.
+#![tactic(auto)]
+
+mod filled;
+mod network;
+mod numbers;
+mod pairs;
+mod prefixes;
+mod values;
+
+pub use filled::filled_in;
+pub use network::{Network, first_bits, network_of};
+pub use numbers::{
+    Kind, add_in as add_numbers_in, add_beside as add_numbers_beside,
+};
+pub use pairs::{line_names, line_with, tuple_has};
+pub use prefixes::{Prefix, Prefixes};
+pub use values::add_beside;
