@@ -1,4 +1,3 @@
-pub mod Found
 pub mod Nearest
-pub mod Numbers
+pub mod FoundNumbers
 pub mod Owned

@@ -13,4 +13,5 @@ pub use beside::value_beside;
 pub use near::closest;
 pub use networks::own_networks;
 pub use numbers::numbers_found;
-pub use places::{Places, search};
+pub use ndb_tuple::Places;
+pub use places::search;

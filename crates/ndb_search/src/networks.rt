@@ -5,8 +5,7 @@ ghost use Rattle.net_base.specs.Networks as spec;
 ghost use Rattle.ndb_tuple.specs.Prefixes.{network_seen, first_bits};
 ghost use Rattle.ndb_search.specs.Own.{own_at};
 
-use indexmap::IndexSet;
-use ndb_tuple::{Kind, Network, add_numbers_in, first_bits, line_with, network_of};
+use ndb_tuple::{Kind, Network, add_numbers_in, first_bits, firsts_of, line_with, network_of};
 use net_base::Db;
 use std::alloc::{AllocError, Global};
 
@@ -36,18 +35,6 @@ pub fn addresses_of(alloc: Global, me: &[u8], db: &Db) -> Result<Vec<u32>, Alloc
         }
     }
     Ok(ips)
-}
-
-/// The first so many bits of these addresses, each once.
-fn firsts_of(alloc: Global, bits: u32, ips: &[u32]) -> Result<IndexSet<u32>, AllocError>
-    ensures { IfOk result (λ firsts. (first : ℕ) → list_any (nat_eq first) firsts.keys
-        ≡ list_any (λ ip. first_bits bits ip == first) ips.now) }
-{
-    let mut firsts = IndexSet::new(alloc);
-    for ip in ips {
-        firsts.insert(first_bits(bits, *ip))?;
-    }
-    Ok(firsts)
 }
 
 /// Whether one of the networks shares so many bits.

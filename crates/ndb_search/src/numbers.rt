@@ -7,7 +7,7 @@ use net_base::Db;
 use std::alloc::{AllocError, Global};
 
 /// The numbers of a kind beside the pair, in all tuples that contain it.
-#[tactic(auto, using(crate::proofs::Numbers::found_more, crate::proofs::Numbers::found_less))]
+#[tactic(auto, using(crate::proofs::FoundNumbers::found_more, crate::proofs::FoundNumbers::found_less))]
 pub fn numbers_found(
     alloc: Global,
     attr: &[u8],

@@ -5,10 +5,9 @@ use Rattle.std.proofs.lemmas.List.Folds.{list_any-append, Any-from_list_any, lis
 use Rattle.std.proofs.lemmas.List.{map-append, take_more}
 use Rattle.std.proofs.lemmas.Bool.Decides.{nat_tests}
 use Rattle.net_base.specs.Networks.{Network, contains_address, is_on}
-use Rattle.ndb_tuple.specs.contracts.prefixes.PrefixPartialEq.TheImpl as derived
 use Rattle.ndb_tuple.specs.declared.network.Network.{Network as Kept}
 use Rattle.ndb_tuple.specs.declared.prefixes.Prefix.{Prefix}
-use Rattle.ndb_tuple.specs.Prefixes.{network_seen, first_bits, prefix_of, is_prefix, is_on_prefix, covers, HasLengths}
+use Rattle.ndb_tuple.specs.Prefixes.{network_seen, first_bits, prefix_of, same_prefix, is_prefix, is_on_prefix, covers, HasLengths}
 
 pub same_truth : (a b : Bool) → (a ≡ true → b ≡ true) → (b ≡ true → a ≡ true) → a ≡ b
 same_truth true b f g = sym (f refl)
@@ -31,10 +30,6 @@ itself a = grind (arith, nat_tests)
 pub same_any : {X : Type 0} (p q : X → Bool) (xs : List X) → ((x : X) → p x ≡ q x) → list_any p xs ≡ list_any q xs
 same_any p q [] agree = refl
 same_any p q (x ∷ xs) agree = ap (λ b. b || list_any p xs) (agree x) ∙ ap (λ b. q x || b) (same_any p q xs agree)
-
--- the comparison of prefixes as it is written out
-pub is_key : (bits ip : ℕ) (k : Prefix) → is_prefix bits ip k ≡ derived.eq-value.it (prefix_of bits ip) k
-is_key bits ip k = search rules
 
 or_nothing : (a : Bool) → (a || false) ≡ a
 or_nothing true = refl
@@ -77,8 +72,8 @@ any_inserted {X} eq p keys x same = at (list_any (eq x) keys) refl
     at false e = list_any-append p keys (x ∷ []) ∙ ap (λ b. list_any p keys || b) (or_nothing (p x))
 
 -- equal prefixes are the same
-pub same_prefix : (a b : Prefix) → derived.eq-value.it a b ≡ true → a ≡ b
-same_prefix a b e = search rules
+pub one_prefix : (a b : Prefix) → same_prefix a b ≡ true → a ≡ b
+one_prefix a b e = search rules
 
 -- a prefix of an address is found by its length
 pub covers_is : (lengths : List ℕ) (prefixes : List Prefix) → HasLengths lengths prefixes → (ip : ℕ) → list_any (λ bits. list_any (is_prefix bits ip) prefixes) lengths ≡ covers prefixes ip
@@ -113,20 +108,20 @@ lengths_more lengths after prefixes length has more bits e = more bits ∙ at (l
     at true f = refl
     at false f = f
 
-pub prefixes_more : (lengths after : List ℕ) (prefixes keys : List Prefix) (prefix : Prefix) → HasLengths lengths prefixes → ((bits : ℕ) → list_any (nat_eq bits) after ≡ cond (prefix.bits == bits) true (list_any (nat_eq bits) lengths)) → keys ≡ cond (list_any (derived.eq-value.it prefix) prefixes) prefixes (prefixes ++ prefix ∷ []) → HasLengths after keys
+pub prefixes_more : (lengths after : List ℕ) (prefixes keys : List Prefix) (prefix : Prefix) → HasLengths lengths prefixes → ((bits : ℕ) → list_any (nat_eq bits) after ≡ cond (prefix.bits == bits) true (list_any (nat_eq bits) lengths)) → keys ≡ cond (list_any (same_prefix prefix) prefixes) prefixes (prefixes ++ prefix ∷ []) → HasLengths after keys
 prefixes_more lengths after prefixes keys prefix has more put bits e =
     more bits ∙ at (prefix.bits == bits)
-    (sym (any_inserted derived.eq-value.it (λ p. p.bits == bits) prefixes prefix (same_prefix prefix)) ∙ (ap (list_any (λ (p : Prefix). p.bits == bits)) (sym put) ∙ e))
+    (sym (any_inserted same_prefix (λ p. p.bits == bits) prefixes prefix (one_prefix prefix)) ∙ (ap (list_any (λ (p : Prefix). p.bits == bits)) (sym put) ∙ e))
   where
     at : (b : Bool) → (list_any (λ p. p.bits == bits) prefixes || b) ≡ true → cond b true (list_any (nat_eq bits) lengths) ≡ true
     at true f = refl
     at false f = has bits (sym (or_nothing (list_any (λ p. p.bits == bits) prefixes)) ∙ f)
 
 -- one more prefix for an address
-pub covers_more : (prefixes keys : List Prefix) (prefix : Prefix) (ip : ℕ) → keys ≡ cond (list_any (derived.eq-value.it prefix) prefixes) prefixes (prefixes ++ prefix ∷ []) → covers keys ip ≡ (covers prefixes ip || is_on_prefix ip prefix)
+pub covers_more : (prefixes keys : List Prefix) (prefix : Prefix) (ip : ℕ) → keys ≡ cond (list_any (same_prefix prefix) prefixes) prefixes (prefixes ++ prefix ∷ []) → covers keys ip ≡ (covers prefixes ip || is_on_prefix ip prefix)
 unfolding covers
 covers_more prefixes keys prefix ip put =
-    ap (list_any (is_on_prefix ip)) put ∙ any_inserted derived.eq-value.it (is_on_prefix ip) prefixes prefix (same_prefix prefix)
+    ap (list_any (is_on_prefix ip)) put ∙ any_inserted same_prefix (is_on_prefix ip) prefixes prefix (one_prefix prefix)
 
 pub covers_none : (prefixes : List Prefix) (ip : ℕ) → prefixes ≡ [] → covers prefixes ip ≡ false
 unfolding covers

@@ -17,6 +17,10 @@ first_bits bits ip = ip / 2 ^ (32 - bits)
 abbrev pub prefix_of : ℕ → ℕ → Prefix
 prefix_of bits ip = record { bits = bits; first = first_bits bits ip }
 
+-- both are the same
+abbrev pub same_prefix : Prefix → Prefix → Bool
+same_prefix prefix other = prefix.bits == other.bits && prefix.first == other.first
+
 -- the prefix is the one of so many bits that the address has
 abbrev pub is_prefix : ℕ → ℕ → Prefix → Bool
 is_prefix bits ip prefix = bits == prefix.bits && first_bits bits ip == prefix.first

@@ -5,14 +5,16 @@ mod filled;
 mod network;
 mod numbers;
 mod pairs;
+mod places;
 mod prefixes;
 mod values;
 
 pub use filled::filled_in;
-pub use network::{Network, first_bits, network_of};
+pub use network::{Network, first_bits, firsts_of, network_of};
 pub use numbers::{
     Kind, add_in as add_numbers_in, add_beside as add_numbers_beside,
 };
 pub use pairs::{line_names, line_with, tuple_has};
+pub use places::Places;
 pub use prefixes::{Prefix, Prefixes};
 pub use values::add_beside;

@@ -1,11 +1,14 @@
 //! The network that a tuple describes.
-ghost use Rattle.std.specs.Prelude.{◌≡◌, ◌-◌, ◌/◌, ◌^◌, option_map};
+ghost use Rattle.std.specs.Prelude.{◌≡◌, ℕ, ◌-◌, ◌/◌, ◌^◌, ◌==◌, nat_eq, option_map, IfOk};
+ghost use Rattle.std.specs.List.{list_any};
 ghost use Rattle.net_base.specs.Networks as spec;
-ghost use Rattle.ndb_tuple.specs.Prefixes.{network_seen};
+ghost use Rattle.ndb_tuple.specs.Prefixes.{network_seen, first_bits};
 
 use crate::numbers::{Kind, first_in};
 use crate::pairs::tuple_names;
+use indexmap::IndexSet;
 use net_base::Tuple;
+use std::alloc::{AllocError, Global};
 
 /// A network: an address, how many of its first bits the network shares, and the tuple that says so.
 #[derive(Clone, Copy)]
@@ -44,4 +47,16 @@ pub fn network_of(tuple: &Tuple) -> Option<Network<'_>>
     let ip = first_in(Kind::Address, tuple)?;
     let bits = first_in(Kind::Mask, tuple).unwrap_or(class_bits(ip));
     Some(Network { ip, bits, tuple })
+}
+
+/// The first so many bits of these addresses, each once.
+pub fn firsts_of(alloc: Global, bits: u32, ips: &[u32]) -> Result<IndexSet<u32>, AllocError>
+    ensures { IfOk result (λ firsts. (first : ℕ) → list_any (nat_eq first) firsts.keys
+        ≡ list_any (λ ip. first_bits bits ip == first) ips.now) }
+{
+    let mut firsts = IndexSet::new(alloc);
+    for ip in ips {
+        firsts.insert(first_bits(bits, *ip))?;
+    }
+    Ok(firsts)
 }

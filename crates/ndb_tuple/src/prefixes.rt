@@ -1,16 +1,20 @@
 //! The first bits of networks, for addresses to be looked up.
-ghost use Rattle.std.specs.Prelude.{◌≡◌, ℕ, ◌||◌, [], map, IfOk, OnOk};
+ghost use Rattle.std.specs.Prelude.{◌≡◌, ℕ, ◌||◌, ◌++◌, [], map, IfOk, OnOk};
+ghost use Rattle.std.specs.Cmp.Rules.{comparing, hashing};
+ghost use Rattle.std.specs.Hash as fed;
+ghost use Rattle.std.proofs.Common.{rules};
 ghost use Rattle.net_base.specs.Networks as spec;
 ghost use Rattle.std.specs.List.{list_any};
-ghost use Rattle.ndb_tuple.specs.Prefixes.{network_seen, prefix_of, is_prefix, is_on_prefix, covers};
+ghost use Rattle.ndb_tuple.specs.Prefixes.{network_seen, prefix_of, same_prefix, is_prefix, is_on_prefix, covers};
 
 use crate::network::{Network, first_bits};
 use indexmap::IndexSet;
 use std::alloc::{AllocError, Global};
+use std::hash::{Hash, Hasher};
 use std::marker::Model;
 
 /// The first so many bits of addresses.
-#[derive(Clone, Copy, Debug, PartialEq, Eq, Hash)]
+#[derive(Clone, Copy, Debug)]
 pub struct Prefix {
     /// How many bits, 0 to 32.
     pub bits: u32,
@@ -27,6 +31,31 @@ impl Prefix {
             bits,
             first: first_bits(bits, ip),
         }
+    }
+}
+
+impl PartialEq for Prefix {
+    ghost eq = { same_prefix };
+
+    ghost laws = { Prim.search (comparing, rules) };
+
+    fn eq(&self, other: &Prefix) -> bool {
+        self.bits == other.bits && self.first == other.first
+    }
+}
+
+impl Eq for Prefix {
+    ghost laws = { Prim.search (comparing, rules) };
+}
+
+impl Hash for Prefix {
+    ghost hash_input = { λ p. fed.u32 p.bits ++ fed.u32 p.first };
+
+    ghost respects_eq = { Prim.search (hashing, rules) };
+
+    fn hash<H: Hasher>(&self, state: &mut H) {
+        state.write_u32(self.bits);
+        state.write_u32(self.first);
     }
 }
 

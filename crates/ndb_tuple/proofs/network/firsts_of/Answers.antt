@@ -2,8 +2,8 @@ use Rattle.std.proofs.Common.{nat_eq, ◌==◌, true, cond, ap, ◌∙◌, arith
 use Rattle.std.specs.List.{list_any}
 use Rattle.std.proofs.lemmas.List.{take_all}
 use Rattle.ndb_tuple.specs.Prefixes.{first_bits}
-use Rattle.ndb_search.proofs.Owned.{any_more}
-use Rattle.ndb_search.proofs.networks.firsts_of.Goals as goal
+use Rattle.ndb_tuple.proofs.Firsts.{any_more}
+use Rattle.ndb_tuple.proofs.network.firsts_of.Goals as goal
 
 pub loop-ip-init : goal.loop-ip-init
 loop-ip-init c = λ first. ap (list_any (nat_eq first)) c.new-firsts.ensures.empty
