@@ -3,11 +3,15 @@
 
 mod addresses;
 mod error;
+mod indexed;
 mod line;
+mod named;
+mod numbers;
 mod query;
 mod resolve;
 
 pub use error::CsError;
+pub use indexed::{answer_counted, answer_indexed};
 pub use resolve::answer;
 
 #[cfg(test)]

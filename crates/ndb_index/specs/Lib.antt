@@ -7,3 +7,4 @@ pub mod Keys
 pub mod Kept
 pub mod Near
 pub mod Nets
+pub mod Spots

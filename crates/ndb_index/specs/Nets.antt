@@ -3,8 +3,6 @@ use Rattle.std.specs.Prelude.{◌≡◌, ℕ, ◌-◌, Bool, true, false, ◌&&�
 use Rattle.std.specs.Option.{option_map_or}
 use Rattle.std.specs.List.{list_any, range_with_len}
 use Rattle.std.specs.Map.{lookup}
-use Rattle.std.specs.Ordering.{nat_cmp}
-use Rattle.std.specs.BTreeSet.{BTreeSet, contains}
 use Rattle.net_base.specs.declared.ndb.NdbPair.{NdbPair}
 use Rattle.net_base.specs.Networks.{Network, network_of, contains_address, is_filled}
 use Rattle.ndb_tuple.specs.declared.prefixes.Prefix.{Prefix}
@@ -55,10 +53,6 @@ is_covered networks bits ips ip =
 -- the place is one of these
 abbrev pub is_among : ℕ → List ℕ → Bool
 is_among place places = list_any (nat_eq place) places
-
--- the place is in the set
-abbrev pub has_place : BTreeSet ℕ → ℕ → Bool
-has_place set place = contains nat_cmp set place
 
 -- the tuple describes a network with so many bits that contains one of the addresses
 abbrev pub is_own : ℕ → List ℕ → List (List NdbPair) → Bool

@@ -1,5 +1,5 @@
 //! Pairs as keys of a map, and the pairs that are looked up there.
-ghost use Rattle.std.specs.Prelude.{◌∷◌, []};
+ghost use Rattle.std.specs.Prelude.{◌≡◌, ◌∷◌, [], IfOk};
 ghost use Rattle.std.specs.Cmp.Rules.{comparing};
 ghost use Rattle.std.proofs.Common.{rules};
 ghost use Rattle.ndb_index.specs.Keys.{same_pair, fed_alike, found_alike};
@@ -18,7 +18,10 @@ pub struct Key {
 
 impl Key {
     /// A copy of a pair.
-    pub fn of(pair: &NdbPair) -> Result<Key, AllocError> {
+    pub fn of(pair: &NdbPair) -> Result<Key, AllocError>
+        ensures attr { IfOk result (λ key. key.attr ≡ pair.now.attr) }
+        ensures value { IfOk result (λ key. key.value ≡ pair.now.value) }
+    {
         Ok(Key {
             attr: pair.attr.clone()?,
             value: pair.value.clone()?,

@@ -4,7 +4,7 @@ ghost use Rattle.std.specs.List.{list_any};
 ghost use Rattle.net_base.specs.declared.ndb.NdbPair.{NdbPair};
 ghost use Rattle.ndb_tuple.specs.declared.prefixes.Prefix.{Prefix as Seen};
 ghost use Rattle.ndb_tuple.specs.Prefixes.{covers, same_prefix};
-ghost use Rattle.ndb_index.specs.Nets.{places_kept, places_found, place_noted, has_prefix, has_length, is_covered, has_place, is_among, prefix, HasPlaces, HasAllLengths, own_places, longest_places};
+ghost use Rattle.ndb_index.specs.Nets.{places_kept, places_found, place_noted, has_prefix, has_length, is_covered, is_among, prefix, HasPlaces, HasAllLengths, own_places, longest_places};
 
 use indexmap::{IndexMap, IndexSet};
 use ndb_tuple::{Places, Prefix, Prefixes, firsts_of, network_of};
@@ -33,7 +33,7 @@ fn add_place(
     place: u64,
 ) -> Result<(), AllocError>
     ensures { OnOk result ((asked : Seen) → places_kept asked networks.new.entries
-        ≡ place_noted (same_prefix asked prefix) place (places_kept asked networks.old.entries)) }
+        ≡ place_noted (same_prefix prefix asked) place (places_kept asked networks.old.entries)) }
 {
     match networks.get_mut(&prefix) {
         Some(places) => places.push(place),
@@ -50,7 +50,7 @@ fn add_first(
 ) -> Result<(), AllocError>
     requires { places_found prefix networks.old.entries ≡ None }
     ensures { OnOk result ((asked : Seen) → places_kept asked networks.new.entries
-        ≡ place_noted (same_prefix asked prefix) place (places_kept asked networks.old.entries)) }
+        ≡ place_noted (same_prefix prefix asked) place (places_kept asked networks.old.entries)) }
 {
     let mut places = Places::new(alloc);
     places.push(place)?;
@@ -116,8 +116,8 @@ pub fn prefixes_of(
 
 /// Adds places to a set of them.
 fn add_places(places: &[u64], set: &mut BTreeSet<u64>) -> Result<(), AllocError>
-    ensures { OnOk result ((place : ℕ) → has_place set.new place
-        ≡ (has_place set.old place || is_among place places.now)) }
+    ensures { OnOk result ((place : ℕ) → is_among place set.new.keys
+        ≡ (is_among place set.old.keys || is_among place places.now)) }
 {
     for place in places {
         set.insert(*place)?;
@@ -132,14 +132,29 @@ fn places_with(
     bits: u32,
     firsts: &[u32],
 ) -> Result<BTreeSet<u64>, AllocError>
-    ensures { IfOk result (λ set. (place : ℕ) → has_place set place
+    ensures { IfOk result (λ set. (place : ℕ) → is_among place set.keys
         ≡ list_any (λ first. is_among place (places_kept (prefix bits first) networks.now.entries)) firsts.now) }
 {
     let mut set = BTreeSet::new(alloc);
     for first in firsts {
-        add_places(places_of(networks, Prefix { bits, first: *first }), &mut set)?;
+        let prefix = Prefix {
+            bits,
+            first: *first,
+        };
+        add_places(places_of(networks, prefix), &mut set)?;
     }
     Ok(set)
+}
+
+/// Moves a set's places behind others, in order.
+fn append_places(set: BTreeSet<u64>, own: &mut Vec<u64>) -> Result<(), AllocError>
+    ensures { OnOk result (own.new.items ≡ own.old.items ++ set.keys) }
+{
+    let mut set = set;
+    while let Some(place) = set.pop_first() {
+        own.push(place)?;
+    }
+    Ok(())
 }
 
 /// Adds the places of the networks with so many bits that contain one of these addresses, in order.
@@ -155,10 +170,8 @@ fn add_own(
 {
     let firsts = firsts_of(alloc, bits, ips)?;
     let set = places_with(alloc, networks, bits, firsts.as_slice())?;
-    for place in &set {
-        own.push(*place)?;
-    }
-    Ok(())
+    own.reserve(set.len())?;
+    append_places(set, own)
 }
 
 /// The places of the networks that contain one of these addresses: longest mask first, and else in order.

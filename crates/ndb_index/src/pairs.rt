@@ -1,5 +1,5 @@
 //! Where each pair of a database stands.
-ghost use Rattle.std.specs.Prelude.{◌≡◌, ℕ, List, option_copied, IfOk, OnOk};
+ghost use Rattle.std.specs.Prelude.{◌≡◌, ℕ, List, None, OnOk};
 ghost use Rattle.net_base.specs.Search.{is_pair, line_has};
 ghost use Rattle.ndb_index.specs.Kept as spec;
 
@@ -52,7 +52,7 @@ fn add_first(
     pair: &NdbPair,
     spot: Spot,
 ) -> Result<(), AllocError>
-    requires { spec.spots_found pair.now.attr pair.now.value pairs.old.entries ≡ spec.None }
+    requires { spec.spots_found pair.now.attr pair.now.value pairs.old.entries ≡ None }
     ensures { OnOk result ((attr value : List ℕ) → spec.spots_kept attr value pairs.new.entries
         ≡ spec.noted (is_pair attr value pair.now) spot (spec.spots_kept attr value pairs.old.entries)) }
 {

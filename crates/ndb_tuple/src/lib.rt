@@ -12,7 +12,7 @@ mod values;
 pub use filled::filled_in;
 pub use network::{Network, first_bits, firsts_of, network_of};
 pub use numbers::{
-    Kind, add_in as add_numbers_in, add_beside as add_numbers_beside,
+    Kind, add_beside as add_numbers_beside, add_in as add_numbers_in, add_on as add_numbers_on,
 };
 pub use pairs::{line_names, line_with, tuple_has};
 pub use places::Places;
