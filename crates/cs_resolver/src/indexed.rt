@@ -59,6 +59,23 @@ fn word_addresses<L: Ledger>(
     Ok(ips)
 }
 
+/// The addresses of the words, some of which may stand again.
+fn some_addresses<L: Ledger>(
+    alloc: Global,
+    index: &Index,
+    words: &[Octets],
+    steps: &mut Steps<L>,
+) -> Result<Vec<u32>, AllocError>
+    ensures ips { IfOk result (λ ips. spec.once_each ips.items
+        ≡ spec.once_each (flat_map (spec.word_addresses index.now) words.now)) }
+    ensures cost { steps.new ≤ steps.old + sum_by (word_found index.now) words.now }
+{
+    if words.len() == 1 {
+        return word_addresses(alloc, index, words[0].as_slice(), steps);
+    }
+    words_addresses(alloc, index, words, steps)
+}
+
 /// The addresses of the words, each once.
 fn all_addresses<L: Ledger>(
     alloc: Global,
@@ -70,10 +87,7 @@ fn all_addresses<L: Ledger>(
         ≡ spec.once_each (flat_map (spec.word_addresses index.now) words.now)) }
     ensures cost { steps.new ≤ steps.old + sum_by (word_found index.now) words.now }
 {
-    let found = match words {
-        [word] => word_addresses(alloc, index, word.as_slice(), steps)?,
-        _ => words_addresses(alloc, index, words, steps)?,
-    };
+    let found = some_addresses(alloc, index, words, steps)?;
     once_each(alloc, &found)
 }
 

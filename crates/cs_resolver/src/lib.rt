@@ -2,6 +2,8 @@
 #![tactic(auto)]
 
 mod addresses;
+#[cfg(test)]
+mod compared;
 mod error;
 mod indexed;
 mod line;

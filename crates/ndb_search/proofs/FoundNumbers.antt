@@ -11,11 +11,11 @@ use Rattle.ndb_tuple.proofs.Lists.{Joins, joins_more}
 use Rattle.ndb_tuple.proofs.Pieces.{any_find}
 
 -- the numbers of a tuple beside the pair whose first line this is
-found_at : Kind → List (List NdbPair) → Option (List NdbPair) → List ℕ
+abbrev pub found_at : Kind → List (List NdbPair) → Option (List NdbPair) → List ℕ
 found_at kind tuple None = []
 found_at kind tuple (Some line) = numbers_near kind line tuple
 
-found_joins : (attr value : List ℕ) (kind : Kind) → Joins (numbers_found attr value kind)
+pub found_joins : (attr value : List ℕ) (kind : Kind) → Joins (numbers_found attr value kind)
 found_joins attr value kind = record {
   none = refl;
   both = λ xs ys. ap (λ found. filter_map (read_of kind) (flat_map (beside attr value (attr_of kind)) found)) (filter-append (tuple_has attr value) xs ys)
@@ -23,8 +23,7 @@ found_joins attr value kind = record {
       ∙ filter_map-append (read_of kind) (flat_map (beside attr value (attr_of kind)) (filter (tuple_has attr value) xs)) (flat_map (beside attr value (attr_of kind)) (filter (tuple_has attr value) ys));
 }
 
-found_one : (attr value : List ℕ) (kind : Kind) (tuple : List (List NdbPair)) → numbers_found attr value kind (tuple ∷ []) ≡ found_at kind tuple (find (line_has attr value) tuple)
-unfolding found_at
+pub found_one : (attr value : List ℕ) (kind : Kind) (tuple : List (List NdbPair)) → numbers_found attr value kind (tuple ∷ []) ≡ found_at kind tuple (find (line_has attr value) tuple)
 found_one attr value kind tuple =
     ap (λ holds. filter_map (read_of kind) (flat_map (beside attr value (attr_of kind)) (cond holds (tuple ∷ []) []))) (any_find (line_has attr value) tuple)
     ∙ at (find (line_has attr value) tuple) refl
@@ -35,13 +34,11 @@ found_one attr value kind tuple =
 
 -- one more tuple, with the pair and without it
 pub found_more : (attr value : List ℕ) (kind : Kind) (db : List (List (List NdbPair))) (i : ℕ) (tuple : List (List NdbPair)) (line : List NdbPair) → i < length db → tuple ≡ get_or db i tuple → find (line_has attr value) tuple ≡ Some line → numbers_found attr value kind (take (i + 1) db) ≡ numbers_found attr value kind (take i db) ++ numbers_near kind line tuple
-unfolding found_at
 found_more attr value kind db i tuple line within here with_pair =
     joins_more (numbers_found attr value kind) (found_joins attr value kind) db i tuple within here
     ∙ ap (λ found. numbers_found attr value kind (take i db) ++ found) (found_one attr value kind tuple ∙ ap (found_at kind tuple) with_pair)
 
 pub found_less : (attr value : List ℕ) (kind : Kind) (db : List (List (List NdbPair))) (i : ℕ) (tuple : List (List NdbPair)) → i < length db → tuple ≡ get_or db i tuple → find (line_has attr value) tuple ≡ None → numbers_found attr value kind (take (i + 1) db) ≡ numbers_found attr value kind (take i db)
-unfolding found_at
 found_less attr value kind db i tuple within here without_pair =
     joins_more (numbers_found attr value kind) (found_joins attr value kind) db i tuple within here
     ∙ ap (λ found. numbers_found attr value kind (take i db) ++ found) (found_one attr value kind tuple ∙ ap (found_at kind tuple) without_pair)
