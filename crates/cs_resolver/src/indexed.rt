@@ -71,7 +71,8 @@ fn some_addresses<L: Ledger>(
     ensures cost { steps.new ≤ steps.old + sum_by (word_found index.now) words.now }
 {
     if words.len() == 1 {
-        return word_addresses(alloc, index, words[0].as_slice(), steps);
+        let ips = word_addresses(alloc, index, words[0].as_slice(), steps)?;
+        return Ok(ips);
     }
     words_addresses(alloc, index, words, steps)
 }
@@ -88,7 +89,8 @@ fn all_addresses<L: Ledger>(
     ensures cost { steps.new ≤ steps.old + sum_by (word_found index.now) words.now }
 {
     let found = some_addresses(alloc, index, words, steps)?;
-    once_each(alloc, &found)
+    let once = once_each(alloc, &found)?;
+    Ok(once)
 }
 
 /// The addresses of the words, each once, those on the asker's own networks first.
@@ -108,7 +110,8 @@ fn found_addresses<L: Ledger>(
         return Ok(ips);
     }
     let prefixes = index.own_prefixes_counted(alloc, me, steps)?;
-    covered_first(alloc, &prefixes, &ips)
+    let sorted = covered_first(alloc, &prefixes, &ips)?;
+    Ok(sorted)
 }
 
 /// What a host stands for, by the words that name it: any address, or theirs.
@@ -165,7 +168,8 @@ fn add_lines<L: Ledger>(
     ensures cost { steps.new ≤ steps.old + service_found index.now service.now net }
 {
     let ports = ports_of(alloc, index, service, net, steps)?;
-    add_lines_of(alloc, net, targets, &ports, lines)
+    add_lines_of(alloc, net, targets, &ports, lines)?;
+    Ok(())
 }
 
 /// The lines of all nets.

@@ -53,10 +53,11 @@ fn read_spot<L: Ledger>(
     let tuple = index.at(spot.place, steps);
     let line = &tuple.as_slice()[spot.line as usize];
     if line_names(Kind::Address.attr(), line) {
-        return add_numbers_on(Kind::Address, line, ips);
+        add_numbers_on(Kind::Address, line, ips)?;
+        return Ok(());
     }
     if tuples.insert(spot.place)? {
-        return add_numbers_in(Kind::Address, tuple, ips);
+        add_numbers_in(Kind::Address, tuple, ips)?;
     }
     Ok(())
 }
@@ -80,7 +81,8 @@ fn add_spot<L: Ledger>(
     if !read.spots.insert(spot)? {
         return Ok(());
     }
-    read_spot(index, spot, &mut read.tuples, ips, steps)
+    read_spot(index, spot, &mut read.tuples, ips, steps)?;
+    Ok(())
 }
 
 /// Adds the addresses of a word, for at most a step for each tuple that is found.
@@ -99,7 +101,8 @@ fn add_word<L: Ledger>(
     ensures cost { steps.new ≤ steps.old + word_found index.now word.now }
 {
     if !is_numeric(word) {
-        return add_spots(index, index.spots(name_attr(word), word), read, ips, steps);
+        add_spots(index, index.spots(name_attr(word), word), read, ips, steps)?;
+        return Ok(());
     }
     if let Some(ip) = read_address(word) {
         ips.push(ip)?;

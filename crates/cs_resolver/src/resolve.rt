@@ -55,7 +55,8 @@ fn add_lines(
         ++ spec.lines_of db.now service.now (target_texts targets.now) net) }
 {
     let ports = ports_of(alloc, db, service, net)?;
-    add_lines_of(alloc, net, targets, &ports, lines)
+    add_lines_of(alloc, net, targets, &ports, lines)?;
+    Ok(())
 }
 
 /// Adds the lines of a net, by its ports.

@@ -10,16 +10,18 @@ use Rattle.std.proofs.lemmas.List.{map-append, take_more}
 use Rattle.net_base.specs.declared.ndb.NdbPair.{NdbPair}
 use Rattle.net_base.specs.Addresses.{read_address}
 use Rattle.net_base.specs.Search.{line_has, tuple_has, tuples_with, values_in}
-use Rattle.net_base.specs.Networks.{Network, network_of, bits_of, first_of, tuple_names, contains_address, own_networks, addresses_of, longest_first}
+use Rattle.net_base.specs.Networks.{Network, network_of, bits_of, first_of, tuple_names, contains_address, own_networks, addresses_of, longest_first, is_filled, closest}
 use Rattle.ndb_tuple.specs.declared.numbers.Kind.TheVariants.{Address}
 use Rattle.ndb_tuple.specs.Numbers.{numbers_in}
 use Rattle.ndb_tuple.specs.Places.{places_of, places_with}
+use Rattle.ndb_tuple.specs.Closest.{first_filled}
 use Rattle.ndb_tuple.proofs.Lists.{Joins}
+use Rattle.ndb_tuple.proofs.NonEmpty.{first_here, first_past, one_filled, none_filled, near_is}
 use Rattle.ndb_tuple.proofs.Covered.{equal}
 use Rattle.ndb_index.specs.declared.spot.Spot.{Spot}
 use Rattle.ndb_index.specs.Kept.{spot_at, spot_in, spots_from, spots_with}
 use Rattle.ndb_index.specs.Nets.{is_own, own_places, longest_places}
-use Rattle.ndb_index.specs.Near.{AreWithin, tuples_at, spot_tuples, numbers_of}
+use Rattle.ndb_index.specs.Near.{AreWithin, SpotsWithin, tuples_at, spot_tuples, numbers_of}
 
 abbrev pub Db : Type 0
 Db = List (List (List NdbPair))
@@ -124,8 +126,20 @@ places_within test db = at_place (length db) (places_of test 0 db) (below_places
 pub longest_within : (ips : List ℕ) (db : Db) → AreWithin db (longest_places ips db)
 longest_within ips db = at_place (length db) (longest_places ips db) (below_longest ips db (range_with_len 0 33))
 
-pub spots_within : (attr value : List ℕ) (db : Db) → AreWithin db (places (spots_with attr value db))
-spots_within attr value db = subst (AreWithin db) (sym (spots_are_places attr value db)) (places_within (tuple_has attr value) db)
+spot_at_place : (n : ℕ) (spots : List Spot) → AllBelow n (places spots) → (i : ℕ) (d : Spot) → i < length spots → (get_or spots i d).place < n
+unfolding AllBelow
+spot_at_place n [] below i d within = absurd (omega (arith, within))
+spot_at_place n (spot ∷ spots) below zero d within = below.0
+spot_at_place n (spot ∷ spots) below (suc i) d within = spot_at_place n spots below.1 i d (omega (arith, within))
+
+pub spots_within : (attr value : List ℕ) (db : Db) → SpotsWithin db (spots_with attr value db)
+spots_within attr value db =
+    spot_at_place (length db) (spots_with attr value db)
+    (subst (AllBelow (length db)) (sym (spots_are_places attr value db)) (below_places (tuple_has attr value) 0 db (length db) (omega arith)))
+
+-- a spot that is met in a loop
+pub spot_within : (db : Db) (spots : List Spot) (i : ℕ) (spot : Spot) → SpotsWithin db spots → i < length spots → spot ≡ get_or spots i spot → spot.place < length db
+spot_within db spots i spot within below is = subst (λ (s : Spot). s.place < length db) (sym is) (within i spot below)
 
 -- Networks and their tuples.
 
@@ -247,9 +261,6 @@ places_count me db =
 
 -- The addresses of a system.
 
-pub numbers_append : (xs ys : Db) → numbers_of (xs ++ ys) ≡ numbers_of xs ++ numbers_of ys
-numbers_append xs ys = flat_map-append (numbers_in Address) xs ys
-
 -- the addresses in tuples, one by one and all at once
 pub numbers_are : (tuples : Db) → numbers_of tuples ≡ filter_map read_address (flat_map (values_in (codes "ip")) tuples)
 numbers_are [] = refl
@@ -268,15 +279,52 @@ spots_join db = record { none = refl; both = map-append (λ spot. get_or db spot
 pub places_join : (db : Db) → Joins (tuples_at db)
 places_join db = record { none = refl; both = map-append (λ place. get_or db place []) }
 
+-- one more spot's piece of what its tuple gives
+pub pieces_more : {Y : Type 0} (f : List (List NdbPair) → List Y) (db : Db) (spots : List Spot) (i : ℕ) (spot : Spot) (tuple : List (List NdbPair)) (initial now after : List Y) → i < length spots → spot ≡ get_or spots i spot → tuple ≡ get_or db spot.place [] → now ≡ initial ++ flat_map f (spot_tuples db (take i spots)) → after ≡ now ++ f tuple → after ≡ initial ++ flat_map f (spot_tuples db (take (i + 1) spots))
+pieces_more {Y} f db spots i spot tuple initial now after within here is so_far put =
+    put
+    ∙ ap (λ (front : List Y). front ++ f tuple) so_far
+    ∙ append_assoc initial (flat_map f (spot_tuples db (take i spots))) (f tuple)
+    ∙ ap (λ (back : List Y). initial ++ back)
+    (ap (λ t. flat_map f (spot_tuples db (take i spots)) ++ f t) (is ∙ ap (λ (s : Spot). get_or db s.place []) here)
+    ∙ ap (λ (back : List Y). flat_map f (spot_tuples db (take i spots)) ++ back) (sym (append-nil (f (get_or db (get_or spots i spot).place []))))
+    ∙ sym (ap (λ (ss : List Spot). flat_map f (spot_tuples db ss)) (take_more spots i spot within)
+    ∙ ap (flat_map f) (map-append (λ s. get_or db s.place []) (take i spots) (get_or spots i spot ∷ []))
+    ∙ flat_map-append f (spot_tuples db (take i spots)) (get_or db (get_or spots i spot).place [] ∷ [])))
+
 -- one more spot's addresses
 pub numbers_more : (db : Db) (spots : List Spot) (i : ℕ) (spot : Spot) (tuple : List (List NdbPair)) (initial now after : List ℕ) → i < length spots → spot ≡ get_or spots i spot → tuple ≡ get_or db spot.place [] → now ≡ initial ++ numbers_of (spot_tuples db (take i spots)) → after ≡ now ++ numbers_in Address tuple → after ≡ initial ++ numbers_of (spot_tuples db (take (i + 1) spots))
-numbers_more db spots i spot tuple initial now after within here is so_far put =
-    put
-    ∙ ap (λ front. front ++ numbers_in Address tuple) so_far
-    ∙ append_assoc initial (numbers_of (spot_tuples db (take i spots))) (numbers_in Address tuple)
-    ∙ ap (λ back. initial ++ back)
-    (ap (λ t. numbers_of (spot_tuples db (take i spots)) ++ numbers_in Address t) (is ∙ ap (λ (s : Spot). get_or db s.place []) here)
-    ∙ ap (λ back. numbers_of (spot_tuples db (take i spots)) ++ back) (sym (append-nil (numbers_in Address (get_or db (get_or spots i spot).place []))))
-    ∙ sym (ap (λ (ss : List Spot). numbers_of (spot_tuples db ss)) (take_more spots i spot within)
-    ∙ ap numbers_of (map-append (λ s. get_or db s.place []) (take i spots) (get_or spots i spot ∷ []))
-    ∙ numbers_append (spot_tuples db (take i spots)) (get_or db (get_or spots i spot).place [] ∷ [])))
+numbers_more = pieces_more (numbers_in Address)
+
+-- The first that has values.
+
+pub same_default : {X : Type 0} (xs : List X) (i : ℕ) (d e : X) → i < length xs → get_or xs i d ≡ get_or xs i e
+same_default [] i d e within = absurd (omega (arith, within))
+same_default (x ∷ xs) zero d e within = refl
+same_default (x ∷ xs) (suc i) d e within = same_default xs i d e (omega (arith, within))
+
+pub here_first : {X : Type 0} (attr : List ℕ) (F : List X → Db) → Joins F → (xs : List X) (i : ℕ) (x : X) (tuple : List (List NdbPair)) (values : List (List ℕ)) → i < length xs → x ≡ get_or xs i x → F (x ∷ []) ≡ tuple ∷ [] → values ≡ filter is_filled (values_in attr tuple) → 0 < length values → first_filled attr (F (take i xs)) ≡ None → Some values ≡ first_filled attr (F xs)
+here_first attr F joins xs i x tuple values within here one is some none =
+    sym (first_here attr F joins xs i x values within here none
+    (ap (first_filled attr) one ∙ one_filled attr tuple (subst (λ (vs : List (List ℕ)). 0 < length vs) is some) ∙ ap Some (sym is)))
+
+pub here_none : {X : Type 0} (attr : List ℕ) (F : List X → Db) → Joins F → (xs : List X) (i : ℕ) (x : X) (tuple : List (List NdbPair)) (values : List (List ℕ)) → i < length xs → x ≡ get_or xs i x → F (x ∷ []) ≡ tuple ∷ [] → values ≡ filter is_filled (values_in attr tuple) → length values ≡ 0 → first_filled attr (F (take i xs)) ≡ None → first_filled attr (F (take (i + 1) xs)) ≡ None
+here_none attr F joins xs i x tuple values within here one is empty none =
+    first_past attr F joins xs i x within here none
+    (ap (first_filled attr) one ∙ none_filled attr tuple (ap (λ (vs : List (List ℕ)). length vs) (sym is) ∙ empty))
+
+-- what is closest, where the system's tuples have values, where its networks have, and where none has
+pub closest_first : (attr me : List ℕ) (db : Db) (values : List (List ℕ)) → Some values ≡ first_filled attr (spot_tuples db (spots_with (codes "sys") me db)) → values ≡ closest attr me db
+closest_first attr me db values found =
+    sym (near_is attr me db
+    ∙ ap (λ o. unwrap_or (option_or o (first_filled attr (map (λ network. network.tuple) (longest_first (own_networks me db))))) [])
+    (ap (first_filled attr) (sym (spots_found (codes "sys") me db)) ∙ sym found))
+
+pub closest_second : (attr me : List ℕ) (db : Db) (ips own : List ℕ) (found : Option (List (List ℕ))) → None ≡ first_filled attr (spot_tuples db (spots_with (codes "sys") me db)) → ips ≡ addresses_of me db → own ≡ longest_places ips db → found ≡ first_filled attr (tuples_at db own) → unwrap_or found [] ≡ closest attr me db
+closest_second attr me db ips own found none ips_are own_are is =
+    sym (near_is attr me db
+    ∙ ap (λ o. unwrap_or (option_or o (first_filled attr (map (λ network. network.tuple) (longest_first (own_networks me db))))) [])
+    (ap (first_filled attr) (sym (spots_found (codes "sys") me db)) ∙ sym none)
+    ∙ ap (λ ts. unwrap_or (first_filled attr ts) []) (sym (longest_tuples me db))
+    ∙ ap (λ ps. unwrap_or (first_filled attr (tuples_at db ps)) []) (ap (λ ns. longest_places ns db) (sym ips_are) ∙ sym own_are)
+    ∙ ap (λ o. unwrap_or o []) (sym is))

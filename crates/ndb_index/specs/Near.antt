@@ -9,6 +9,9 @@ use Rattle.ndb_index.specs.declared.spot.Spot.{Spot}
 abbrev pub AreWithin : List (List (List NdbPair)) → List ℕ → Type 0
 AreWithin db places = (i : ℕ) → i < length places → get_or places i 0 < length db
 
+abbrev pub SpotsWithin : List (List (List NdbPair)) → List Spot → Type 0
+SpotsWithin db spots = (i : ℕ) (d : Spot) → i < length spots → (get_or spots i d).place < length db
+
 -- the tuples at places
 abbrev pub tuples_at : List (List (List NdbPair)) → List ℕ → List (List (List NdbPair))
 tuples_at db places = map (λ place. get_or db place []) places

@@ -1,10 +1,10 @@
 //! What is closest to a system, and its own networks.
-ghost use Rattle.std.specs.Prelude.{◌≡◌, ℕ, ◌+◌, ◌<◌, ◌≤◌, ◌++◌, [], codes, length, map, get_or, None, IfOk};
+ghost use Rattle.std.specs.Prelude.{◌≡◌, ℕ, ◌+◌, ◌<◌, ◌≤◌, ◌++◌, length, None, IfOk, OnOk};
 ghost use Rattle.net_base.specs.Networks as spec;
 ghost use Rattle.ndb_tuple.specs.Closest.{first_filled};
 ghost use Rattle.ndb_tuple.specs.Prefixes.{covers};
 ghost use Rattle.ndb_index.specs.Index.{tuples_of, near_count};
-ghost use Rattle.ndb_index.specs.Near.{AreWithin, tuples_at, spot_tuples, numbers_of};
+ghost use Rattle.ndb_index.specs.Near.{AreWithin, SpotsWithin, tuples_at, spot_tuples, numbers_of};
 ghost use Rattle.ndb_index.specs.Nets.{longest_places};
 
 use crate::index::Index;
@@ -27,7 +27,7 @@ impl Index {
         ips: &mut Vec<u32>,
         steps: &mut Steps<L>,
     ) -> Result<Option<Lines>, AllocError>
-        requires { AreWithin self.now (map (λ spot. spot.place) mine.now) }
+        requires { SpotsWithin self.now mine.now }
         ensures values { IfOk result (λ values. values ≡ first_filled attr.now (spot_tuples self.now mine.now)) }
         ensures ips { IfOk result (λ values. values ≡ None
             → ips.new.items ≡ ips.old.items ++ numbers_of (spot_tuples self.now mine.now)) }
@@ -96,6 +96,24 @@ impl Index {
         }
     }
 
+    /// Adds the addresses in the tuples at spots, for a step each.
+    fn add_addresses<L: Ledger>(
+        &self,
+        mine: &[Spot],
+        ips: &mut Vec<u32>,
+        steps: &mut Steps<L>,
+    ) -> Result<(), AllocError>
+        requires { SpotsWithin self.now mine.now }
+        ensures ips { OnOk result (ips.new.items ≡ ips.old.items ++ numbers_of (spot_tuples self.now mine.now)) }
+        ensures cost { steps.new ≤ steps.old + length mine.now }
+    {
+        for spot in mine {
+            let tuple = self.at(spot.place, steps);
+            add_numbers_in(Kind::Address, tuple, ips)?;
+        }
+        Ok(())
+    }
+
     /// The addresses of a system, for a step for each of its tuples.
     fn addresses_of<L: Ledger>(
         &self,
@@ -107,10 +125,7 @@ impl Index {
         ensures cost { steps.new ≤ steps.old + tuples_of me.now self.now }
     {
         let mut ips = Vec::new(alloc);
-        for spot in self.spots(b"sys", me) {
-            let tuple = self.at(spot.place, steps);
-            add_numbers_in(Kind::Address, tuple, &mut ips)?;
-        }
+        self.add_addresses(self.spots(b"sys", me), &mut ips, steps)?;
         Ok(ips)
     }
 

@@ -35,10 +35,11 @@ fn add_place(
     ensures { OnOk result ((asked : Seen) → places_kept asked networks.new.entries
         ≡ place_noted (same_prefix prefix asked) place (places_kept asked networks.old.entries)) }
 {
-    match networks.get_mut(&prefix) {
-        Some(places) => places.push(place),
-        None => add_first(alloc, networks, prefix, place),
-    }
+    let Some(places) = networks.get_mut(&prefix) else {
+        return add_first(alloc, networks, prefix, place);
+    };
+    places.push(place)?;
+    Ok(())
 }
 
 /// Notes the first network with this prefix.
@@ -171,7 +172,8 @@ fn add_own(
     let firsts = firsts_of(alloc, bits, ips)?;
     let set = places_with(alloc, networks, bits, firsts.as_slice())?;
     own.reserve(set.len())?;
-    append_places(set, own)
+    append_places(set, own)?;
+    Ok(())
 }
 
 /// The places of the networks that contain one of these addresses: longest mask first, and else in order.

@@ -72,10 +72,11 @@ fn add_pair(
     ensures { OnOk result ((attr value : List ℕ) → spec.spots_kept attr value pairs.new.entries
         ≡ spec.noted (is_pair attr value pair.now) spot (spec.spots_kept attr value pairs.old.entries)) }
 {
-    match pairs.get_mut(Asked::of(pair)) {
-        Some(spots) => add_spot(spots, spot),
-        None => add_first(alloc, pairs, pair, spot),
-    }
+    let Some(spots) = pairs.get_mut(Asked::of(pair)) else {
+        return add_first(alloc, pairs, pair, spot);
+    };
+    add_spot(spots, spot)?;
+    Ok(())
 }
 
 /// Notes the pairs of a line.

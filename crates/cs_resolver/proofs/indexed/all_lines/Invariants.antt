@@ -7,6 +7,6 @@ use Rattle.cs_resolver.specs.Targets.{target_texts}
 use Rattle.cs_resolver.proofs.indexed.all_lines.Given as goal
 
 abbrev pub invariant-loop-net : goal.invariant-loop-net
-invariant-loop-net l =
+invariant-loop-net g l =
     (l.lines ≡ flat_map (lines_of l.index l.service (target_texts l.targets)) (take l.net-index l.nets))
     × (l.steps ≤ l.initial.steps + sum_by (service_found l.index l.service) (take l.net-index l.nets))

@@ -6,7 +6,7 @@ use Rattle.cs_resolver.specs.Probes.{numbers_at}
 use Rattle.cs_resolver.proofs.named.add_spots.Given as goal
 
 abbrev pub invariant-loop-spot : goal.invariant-loop-spot
-invariant-loop-spot l = record {
+invariant-loop-spot g l = record {
   ips : Gathers (flat_map (numbers_at l.index Address) (take l.spot-index l.spots)) l.initial.ips.items l.ips.items;
   tuples : TuplesRead l.index l.read.tuples.keys l.ips.items;
   spots : SpotsRead l.index l.read.spots.keys l.ips.items;

@@ -7,7 +7,7 @@ use Rattle.cs_resolver.specs.Probes.{word_found}
 use Rattle.cs_resolver.proofs.named.words_addresses.Given as goal
 
 abbrev pub invariant-loop-word : goal.invariant-loop-word
-invariant-loop-word l = record {
+invariant-loop-word g l = record {
   ips : once_each l.ips.items ≡ once_each (flat_map (word_addresses l.index) (words_seen (take l.word-index l.word-items)));
   tuples : TuplesRead l.index l.read.tuples.keys l.ips.items;
   spots : SpotsRead l.index l.read.spots.keys l.ips.items;

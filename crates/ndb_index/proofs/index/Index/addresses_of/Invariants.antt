@@ -1,7 +1,0 @@
-use Rattle.std.proofs.Common.{◌≡◌, ◌+◌, ◌≤◌, take}
-use Rattle.ndb_index.specs.Near.{spot_tuples, numbers_of}
-use Rattle.ndb_index.proofs.index.Index.addresses_of.Given as goal
-
-abbrev pub invariant-loop-spot : goal.invariant-loop-spot
-invariant-loop-spot l =
-    (l.ips.items ≡ numbers_of (spot_tuples l.self (take l.spot-index l.spot-items))) × (l.steps ≤ l.initial.steps + l.spot-index)

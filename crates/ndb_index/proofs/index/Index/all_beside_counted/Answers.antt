@@ -1,0 +1,21 @@
+use Rattle.std.proofs.Common.{List, sym, ap, ◌∙◌, arith, subst, length}
+use Rattle.std.specs.Prelude.{flat_map}
+use Rattle.net_base.specs.Search.{beside}
+use Rattle.ndb_index.specs.declared.spot.Spot.{Spot}
+use Rattle.ndb_index.specs.Near.{spot_tuples, SpotsWithin}
+use Rattle.ndb_index.proofs.Nearby.{Db, spots_within, spots_found, spots_count}
+use Rattle.ndb_index.proofs.index.Index.all_beside_counted.Goals as goal
+
+pub add_all_beside-requires : goal.add_all_beside-requires
+add_all_beside-requires g c = subst (SpotsWithin c.args.self.now) (sym c.spots.ensures) (spots_within c.args.attr.now c.args.value.now c.args.self.now)
+
+pub returns-clause-values : goal.returns-clause-values
+returns-clause-values g c =
+    let values = beside c.args.attr.now c.args.value.now c.args.other.now in
+    c.in_ok-add_all_beside.ensures.values
+    ∙ ap (λ (spots : List Spot). flat_map values (spot_tuples c.args.self.now spots)) c.spots.ensures
+    ∙ ap (λ (tuples : Db). flat_map values tuples) (spots_found c.args.attr.now c.args.value.now c.args.self.now)
+
+pub returns-clause-cost : goal.returns-clause-cost
+returns-clause-cost g c =
+    omega (arith, c.in_ok-add_all_beside.ensures.cost, ap (λ (spots : List Spot). length spots) c.spots.ensures, spots_count c.args.attr.now c.args.value.now c.args.self.now)
