@@ -1,6 +1,6 @@
 -- Addresses that are gathered: what stands again may be left out.
 use Rattle.std.proofs.Common.{◌≡◌, ℕ, ◌+◌, ◌<◌, ◌≤◌, ◌==◌, ◌||◌, nat_eq, Bool, true, false, cond, List, [], ◌∷◌, ◌++◌, length, get_or, take, map, refl, sym, ap, ◌∙◌, subst, arith, append-nil, append_assoc, bytes_eq, rules}
-use Rattle.std.specs.Prelude.{flat_map}
+use Rattle.std.specs.Prelude.{codes, flat_map}
 use Rattle.std.specs.Borrow.{Bor}
 use Rattle.std.specs.List.{list_any, sum_by}
 use Rattle.std.specs.Cmp.Lexicographic.{bytes_decides}
@@ -10,8 +10,10 @@ use Rattle.std.proofs.lemmas.List.Concat.{flat_map-append}
 use Rattle.std.proofs.lemmas.List.{map-append, take_more}
 use Rattle.net_base.specs.declared.ndb.NdbPair.{NdbPair}
 use Rattle.net_base.specs.Cs.{once_each}
+use Rattle.net_base.specs.Search.{has_attr}
 use Rattle.ndb_tuple.specs.declared.numbers.Kind.TheVariants.{Address}
-use Rattle.ndb_tuple.specs.Numbers.{numbers_in}
+use Rattle.ndb_tuple.specs.Numbers.{numbers_on, numbers_in, numbers_near}
+use Rattle.ndb_tuple.proofs.Pieces.{near_on, near_in}
 use Rattle.ndb_tuple.proofs.Covered.{both, equal, itself}
 use Rattle.ndb_index.specs.declared.spot.Spot.{Spot}
 use Rattle.ndb_index.specs.Spots.{same_spot}
@@ -176,3 +178,22 @@ count_more g words i word keys after within here put so_far =
     at : (b : Bool) → sum_by g (words_seen (cond b keys (keys ++ word ∷ []))) ≤ sum_by g (words_seen keys) + g word.now
     at true = omega arith
     at false = omega (arith, ap (sum_by g) (map-append (λ (w : Bor (List ℕ)). w.now) keys (word ∷ [])), sum_push g (words_seen keys) word.now)
+
+-- A spot whose line has addresses, one whose line has none, and one whose tuple was read.
+
+at_is : (db : Db) (spot : Spot) (tuple : List (List NdbPair)) (line : List NdbPair) → tuple ≡ get_or db spot.place [] → line ≡ get_or tuple spot.line [] → numbers_at db Address spot ≡ numbers_near Address line tuple
+at_is db spot tuple line tuple_is line_is =
+    ap (λ (t : List (List NdbPair)). numbers_near Address (get_or t spot.line []) t) (sym tuple_is) ∙ ap (λ (l : List NdbPair). numbers_near Address l tuple) (sym line_is)
+
+pub gather_line : (db : Db) (spot : Spot) (tuple : List (List NdbPair)) (line : List NdbPair) (old new : List ℕ) → tuple ≡ get_or db spot.place [] → line ≡ get_or tuple spot.line [] → list_any (has_attr (codes "ip")) line ≡ true → new ≡ old ++ numbers_on Address line → Gathers (numbers_at db Address spot) old new
+gather_line db spot tuple line old new tuple_is line_is named put =
+    ap once_each (put ∙ ap (λ more. old ++ more) (sym (at_is db spot tuple line tuple_is line_is ∙ near_on Address line tuple named)))
+
+pub gather_tuple : (db : Db) (spot : Spot) (tuple : List (List NdbPair)) (line : List NdbPair) (old new : List ℕ) → tuple ≡ get_or db spot.place [] → line ≡ get_or tuple spot.line [] → list_any (has_attr (codes "ip")) line ≡ false → new ≡ old ++ numbers_in Address tuple → Gathers (numbers_at db Address spot) old new
+gather_tuple db spot tuple line old new tuple_is line_is named put =
+    ap once_each (put ∙ ap (λ more. old ++ more) (sym (at_is db spot tuple line tuple_is line_is ∙ near_in Address line tuple named)))
+
+pub gather_again : (db : Db) (spot : Spot) (tuple : List (List NdbPair)) (line : List NdbPair) (old : List ℕ) → tuple ≡ get_or db spot.place [] → line ≡ get_or tuple spot.line [] → list_any (has_attr (codes "ip")) line ≡ false → AreAmong (numbers_in Address (get_or db spot.place [])) old → Gathers (numbers_at db Address spot) old old
+gather_again db spot tuple line old tuple_is line_is named known =
+    gathers_known (numbers_at db Address spot) old
+    (subst (λ (more : List ℕ). AreAmong more old) (ap (numbers_in Address) (sym tuple_is) ∙ sym (at_is db spot tuple line tuple_is line_is ∙ near_in Address line tuple named)) known)

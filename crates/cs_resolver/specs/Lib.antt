@@ -7,3 +7,4 @@ pub mod Errors
 pub mod Gathering
 pub mod Probes
 pub mod Targets
+pub mod Worked

@@ -6,6 +6,7 @@ mod addresses;
 mod compared;
 mod error;
 mod indexed;
+mod law;
 mod line;
 mod named;
 mod numbers;
@@ -14,6 +15,7 @@ mod resolve;
 
 pub use error::CsError;
 pub use indexed::{answer_counted, answer_indexed};
+pub use law::worked_bounds;
 pub use resolve::answer;
 
 #[cfg(test)]

@@ -21,6 +21,7 @@ use Rattle.ndb_tuple.proofs.Covered.{equal}
 use Rattle.ndb_index.specs.declared.spot.Spot.{Spot}
 use Rattle.ndb_index.specs.Kept.{spot_at, spot_in, spots_from, spots_with}
 use Rattle.ndb_index.specs.Nets.{is_own, own_places, longest_places}
+use Rattle.ndb_index.specs.Index.{near_count}
 use Rattle.ndb_index.specs.Near.{AreWithin, SpotsWithin, tuples_at, spot_tuples, numbers_of}
 
 abbrev pub Db : Type 0
@@ -137,10 +138,6 @@ spots_within attr value db =
     spot_at_place (length db) (spots_with attr value db)
     (subst (AllBelow (length db)) (sym (spots_are_places attr value db)) (below_places (tuple_has attr value) 0 db (length db) (omega arith)))
 
--- a spot that is met in a loop
-pub spot_within : (db : Db) (spots : List Spot) (i : ℕ) (spot : Spot) → SpotsWithin db spots → i < length spots → spot ≡ get_or spots i spot → spot.place < length db
-spot_within db spots i spot within below is = subst (λ (s : Spot). s.place < length db) (sym is) (within i spot below)
-
 -- Networks and their tuples.
 
 network_tuple : (tuple : List (List NdbPair)) (network : Network) → network_of tuple ≡ Some network → network.tuple ≡ tuple
@@ -245,7 +242,7 @@ longest_count (network ∷ networks) =
 
 length-map : {X Y : Type 0} (f : X → Y) (xs : List X) → length (map f xs) ≡ length xs
 length-map f [] = refl
-length-map f (x ∷ xs) = ap (λ n. 1 + n) (length-map f xs)
+length-map f (x ∷ xs) = ap (λ n. suc n) (length-map f xs)
 
 -- a system has as many spots as tuples, and its networks' places are no more than they
 pub spots_count : (attr value : List ℕ) (db : Db) → length (spots_with attr value db) ≡ length (tuples_with attr value db)
@@ -279,29 +276,29 @@ spots_join db = record { none = refl; both = map-append (λ spot. get_or db spot
 pub places_join : (db : Db) → Joins (tuples_at db)
 places_join db = record { none = refl; both = map-append (λ place. get_or db place []) }
 
--- one more spot's piece of what its tuple gives
-pub pieces_more : {Y : Type 0} (f : List (List NdbPair) → List Y) (db : Db) (spots : List Spot) (i : ℕ) (spot : Spot) (tuple : List (List NdbPair)) (initial now after : List Y) → i < length spots → spot ≡ get_or spots i spot → tuple ≡ get_or db spot.place [] → now ≡ initial ++ flat_map f (spot_tuples db (take i spots)) → after ≡ now ++ f tuple → after ≡ initial ++ flat_map f (spot_tuples db (take (i + 1) spots))
-pieces_more {Y} f db spots i spot tuple initial now after within here is so_far put =
-    put
-    ∙ ap (λ (front : List Y). front ++ f tuple) so_far
-    ∙ append_assoc initial (flat_map f (spot_tuples db (take i spots))) (f tuple)
-    ∙ ap (λ (back : List Y). initial ++ back)
-    (ap (λ t. flat_map f (spot_tuples db (take i spots)) ++ f t) (is ∙ ap (λ (s : Spot). get_or db s.place []) here)
-    ∙ ap (λ (back : List Y). flat_map f (spot_tuples db (take i spots)) ++ back) (sym (append-nil (f (get_or db (get_or spots i spot).place []))))
-    ∙ sym (ap (λ (ss : List Spot). flat_map f (spot_tuples db ss)) (take_more spots i spot within)
-    ∙ ap (flat_map f) (map-append (λ s. get_or db s.place []) (take i spots) (get_or spots i spot ∷ []))
-    ∙ flat_map-append f (spot_tuples db (take i spots)) (get_or db (get_or spots i spot).place [] ∷ [])))
-
--- one more spot's addresses
-pub numbers_more : (db : Db) (spots : List Spot) (i : ℕ) (spot : Spot) (tuple : List (List NdbPair)) (initial now after : List ℕ) → i < length spots → spot ≡ get_or spots i spot → tuple ≡ get_or db spot.place [] → now ≡ initial ++ numbers_of (spot_tuples db (take i spots)) → after ≡ now ++ numbers_in Address tuple → after ≡ initial ++ numbers_of (spot_tuples db (take (i + 1) spots))
-numbers_more = pieces_more (numbers_in Address)
-
--- The first that has values.
-
 pub same_default : {X : Type 0} (xs : List X) (i : ℕ) (d e : X) → i < length xs → get_or xs i d ≡ get_or xs i e
 same_default [] i d e within = absurd (omega (arith, within))
 same_default (x ∷ xs) zero d e within = refl
 same_default (x ∷ xs) (suc i) d e within = same_default xs i d e (omega (arith, within))
+
+-- one more spot's piece of what its tuple gives
+pub pieces_more : {Y : Type 0} (f : List (List NdbPair) → List Y) (db : Db) (spots : List Spot) (i : ℕ) (d : Spot) (tuple : List (List NdbPair)) (initial now after : List Y) → i < length spots → tuple ≡ get_or db (get_or spots i d).place [] → now ≡ initial ++ flat_map f (spot_tuples db (take i spots)) → after ≡ now ++ f tuple → after ≡ initial ++ flat_map f (spot_tuples db (take (i + 1) spots))
+pieces_more {Y} f db spots i d tuple initial now after within is so_far put =
+    put
+    ∙ ap (λ (front : List Y). front ++ f tuple) so_far
+    ∙ append_assoc initial (flat_map f (spot_tuples db (take i spots))) (f tuple)
+    ∙ ap (λ (back : List Y). initial ++ back)
+    (ap (λ t. flat_map f (spot_tuples db (take i spots)) ++ f t) is
+    ∙ ap (λ (back : List Y). flat_map f (spot_tuples db (take i spots)) ++ back) (sym (append-nil (f (get_or db (get_or spots i d).place []))))
+    ∙ sym (ap (λ (ss : List Spot). flat_map f (spot_tuples db ss)) (take_more spots i d within)
+    ∙ ap (flat_map f) (map-append (λ s. get_or db s.place []) (take i spots) (get_or spots i d ∷ []))
+    ∙ flat_map-append f (spot_tuples db (take i spots)) (get_or db (get_or spots i d).place [] ∷ [])))
+
+-- one more spot's addresses
+pub numbers_more : (db : Db) (spots : List Spot) (i : ℕ) (d : Spot) (tuple : List (List NdbPair)) (initial now after : List ℕ) → i < length spots → tuple ≡ get_or db (get_or spots i d).place [] → now ≡ initial ++ numbers_of (spot_tuples db (take i spots)) → after ≡ now ++ numbers_in Address tuple → after ≡ initial ++ numbers_of (spot_tuples db (take (i + 1) spots))
+numbers_more = pieces_more (numbers_in Address)
+
+-- The first that has values.
 
 pub here_first : {X : Type 0} (attr : List ℕ) (F : List X → Db) → Joins F → (xs : List X) (i : ℕ) (x : X) (tuple : List (List NdbPair)) (values : List (List ℕ)) → i < length xs → x ≡ get_or xs i x → F (x ∷ []) ≡ tuple ∷ [] → values ≡ filter is_filled (values_in attr tuple) → 0 < length values → first_filled attr (F (take i xs)) ≡ None → Some values ≡ first_filled attr (F xs)
 here_first attr F joins xs i x tuple values within here one is some none =
@@ -312,6 +309,16 @@ pub here_none : {X : Type 0} (attr : List ℕ) (F : List X → Db) → Joins F �
 here_none attr F joins xs i x tuple values within here one is empty none =
     first_past attr F joins xs i x within here none
     (ap (first_filled attr) one ∙ none_filled attr tuple (ap (λ (vs : List (List ℕ)). length vs) (sym is) ∙ empty))
+
+pub spot_first : (attr : List ℕ) (db : Db) (spots : List Spot) (i : ℕ) (d : Spot) (tuple : List (List NdbPair)) (values : List (List ℕ)) → i < length spots → tuple ≡ get_or db (get_or spots i d).place [] → values ≡ filter is_filled (values_in attr tuple) → 0 < length values → first_filled attr (spot_tuples db (take i spots)) ≡ None → Some values ≡ first_filled attr (spot_tuples db spots)
+spot_first attr db spots i d tuple values within tuple_is =
+    here_first attr (spot_tuples db) (spots_join db) spots i (get_or spots i d) tuple values within
+    (same_default spots i d (get_or spots i d) within) (ap (λ (t : List (List NdbPair)). t ∷ []) (sym tuple_is))
+
+pub spot_none : (attr : List ℕ) (db : Db) (spots : List Spot) (i : ℕ) (d : Spot) (tuple : List (List NdbPair)) (values : List (List ℕ)) → i < length spots → tuple ≡ get_or db (get_or spots i d).place [] → values ≡ filter is_filled (values_in attr tuple) → length values ≡ 0 → first_filled attr (spot_tuples db (take i spots)) ≡ None → first_filled attr (spot_tuples db (take (i + 1) spots)) ≡ None
+spot_none attr db spots i d tuple values within tuple_is =
+    here_none attr (spot_tuples db) (spots_join db) spots i (get_or spots i d) tuple values within
+    (same_default spots i d (get_or spots i d) within) (ap (λ (t : List (List NdbPair)). t ∷ []) (sym tuple_is))
 
 -- what is closest, where the system's tuples have values, where its networks have, and where none has
 pub closest_first : (attr me : List ℕ) (db : Db) (values : List (List ℕ)) → Some values ≡ first_filled attr (spot_tuples db (spots_with (codes "sys") me db)) → values ≡ closest attr me db
@@ -328,3 +335,17 @@ closest_second attr me db ips own found none ips_are own_are is =
     ∙ ap (λ ts. unwrap_or (first_filled attr ts) []) (sym (longest_tuples me db))
     ∙ ap (λ ps. unwrap_or (first_filled attr (tuples_at db ps)) []) (ap (λ ns. longest_places ns db) (sym ips_are) ∙ sym own_are)
     ∙ ap (λ o. unwrap_or o []) (sym is))
+
+-- What a search of what is closest costs, and the addresses that it meets.
+
+pub mine_cost : (me : List ℕ) (db : Db) (mine : List Spot) → mine ≡ spots_with (codes "sys") me db → length mine ≤ near_count me db
+mine_cost me db mine are = omega (arith, ap (λ (spots : List Spot). length spots) are, spots_count (codes "sys") me db)
+
+pub near_cost : (me : List ℕ) (db : Db) (mine : List Spot) (own : List ℕ) → mine ≡ spots_with (codes "sys") me db → own ≡ longest_places (addresses_of me db) db → length mine + length own ≤ near_count me db
+near_cost me db mine own mine_are own_are =
+    omega (arith, ap (λ (spots : List Spot). length spots) mine_are, spots_count (codes "sys") me db, ap (λ (ps : List ℕ). length ps) own_are, places_count me db)
+
+pub met_are : (me : List ℕ) (db : Db) (mine : List Spot) (first ips : List ℕ) → mine ≡ spots_with (codes "sys") me db → first ≡ [] → ips ≡ first ++ numbers_of (spot_tuples db mine) → ips ≡ addresses_of me db
+met_are me db mine first ips mine_are empty met =
+    met ∙ ap (λ (front : List ℕ). front ++ numbers_of (spot_tuples db mine)) empty
+    ∙ ap (λ (spots : List Spot). numbers_of (spot_tuples db spots)) mine_are ∙ addresses_are me db

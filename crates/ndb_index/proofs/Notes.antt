@@ -8,7 +8,7 @@ use Rattle.std.specs.Cmp.{first_so, second_so}
 use Rattle.std.specs.Cmp.Lexicographic.{bytes_decides}
 use Rattle.std.proofs.lemmas.Bool.Decides.{nat_tests}
 use Rattle.std.proofs.lemmas.List.Folds.{list_any_more}
-use Rattle.std.proofs.lemmas.List.{take_more}
+use Rattle.std.proofs.lemmas.List.{take_more, at_drop_more}
 use Rattle.net_base.specs.declared.ndb.NdbPair.{NdbPair}
 use Rattle.net_base.specs.Search.{is_pair, line_has}
 use Rattle.ndb_index.specs.declared.spot.Spot.{Spot}
@@ -168,3 +168,15 @@ tuple_more attr value db place tuple now after within here whole so_far put =
     (below_apart place (spots_from 0 attr value (take place db)) _ (spots_below 0 attr value (take place db) place (omega (arith, whole))))
     ∙ ap (λ t. spots_from 0 attr value (take place db) ++ option_to_list (spot_in place attr value t)) here
     ∙ sym (ap (spots_from 0 attr value) (take_more db place tuple within) ∙ spots_push 0 attr value (take place db) (get_or db place tuple) place (omega (arith, whole)))
+
+-- one more line of a tuple
+pub lines_more : (place number : ℕ) (attr value : List ℕ) (tuple : List (List NdbPair)) (line : List NdbPair) (now after target : List Spot) → number < length tuple → line ≡ get_or tuple number line → after ≡ noted (line_has attr value line) (spot_at place number) now → lines_noted place number attr value (drop number tuple) now ≡ target → lines_noted place (number + 1) attr value (drop (number + 1) tuple) after ≡ target
+lines_more place number attr value tuple line now after target within here put so_far =
+    ap (lines_noted place (number + 1) attr value (drop (number + 1) tuple)) (put ∙ ap (λ l. noted (line_has attr value l) (spot_at place number) now) here)
+    ∙ sym (at_drop_more (λ lines. lines_noted place number attr value lines now) tuple number line within)
+    ∙ so_far
+
+pub taken : {X : Type 0} (n : ℕ) (xs : List X) → n ≤ length xs → length (take n xs) ≡ n
+taken zero xs within = refl
+taken (suc n) [] within = absurd (omega (arith, within))
+taken (suc n) (x ∷ xs) within = ap (λ m. suc m) (taken n xs (omega (arith, within)))

@@ -70,7 +70,8 @@ impl Index {
     fn own_places(&self, alloc: Global, ips: &[u32]) -> Result<Vec<u64>, AllocError>
         ensures { IfOk result (λ own. own.items ≡ longest_places ips.now self.now) }
     {
-        own_places(alloc, &self.networks, &self.lengths, ips)
+        let own = own_places(alloc, &self.networks, &self.lengths, ips)?;
+        Ok(own)
     }
 
     /// The values of an attribute that are closest to a system, without empty ones, for at most a step for each tuple near it.
@@ -141,7 +142,8 @@ impl Index {
         ensures cost { steps.new ≤ steps.old + tuples_of me.now self.now }
     {
         let ips = self.addresses_of(alloc, me, steps)?;
-        prefixes_of(alloc, &self.networks, &self.lengths, &ips)
+        let prefixes = prefixes_of(alloc, &self.networks, &self.lengths, &ips)?;
+        Ok(prefixes)
     }
 
     /// The values of an attribute that are closest to a system, without empty ones.

@@ -189,9 +189,10 @@ pub fn own_places(
     let mut own = Vec::new(alloc);
     for ones in 0..33 {
         let bits = 32 - ones;
-        if lengths.contains(&bits) {
-            add_own(alloc, networks, bits, ips, &mut own)?;
+        if !lengths.contains(&bits) {
+            continue;
         }
+        add_own(alloc, networks, bits, ips, &mut own)?;
     }
     Ok(own)
 }
