@@ -1,8 +1,9 @@
 -- The numbers beside a pair, by the spots where it stands.
-use Rattle.std.proofs.Common.{◌≡◌, ℕ, zero, suc, ◌+◌, ◌<◌, ◌≤◌, Bool, true, false, cond, List, [], ◌∷◌, ◌++◌, length, get_or, map, refl, sym, ap, ◌∙◌, subst, Option, Some, None, arith, append-nil, append_assoc, length-append}
+use Rattle.std.proofs.Common.{◌≡◌, ℕ, zero, suc, ◌+◌, ◌<◌, ◌≤◌, Bool, true, false, cond, List, [], ◌∷◌, ◌++◌, length, get_or, take, map, refl, sym, ap, ◌∙◌, subst, Option, Some, None, arith, append-nil, append_assoc, length-append}
 use Rattle.std.specs.Prelude.{option_map, option_to_list, flat_map, find, filter, not}
 use Rattle.std.specs.Option.{option_map_or}
 use Rattle.std.specs.List.{position_from}
+use Rattle.std.proofs.lemmas.List.{take_more}
 use Rattle.std.proofs.lemmas.List.Concat.{flat_map-append}
 use Rattle.net_base.specs.declared.ndb.NdbPair.{NdbPair}
 use Rattle.net_base.specs.Search.{line_has}
@@ -128,3 +129,23 @@ few_first me db (ip ∷ []) few = at (is_on (own_networks me db) ip)
     at true = refl
     at false = refl
 few_first me db (ip ∷ other ∷ ips) few = absurd (omega (arith, few))
+
+-- the numbers at a spot are those beside its line in its tuple
+pub at_spot_is : (kind : Kind) (db : Db) (spot : Spot) (tuple : Lines) (line : List NdbPair) → tuple ≡ get_or db spot.place [] → line ≡ get_or tuple spot.line [] → numbers_at db kind spot ≡ numbers_near kind line tuple
+at_spot_is kind db spot tuple line tuple_is line_is =
+    ap (λ (t : Lines). numbers_near kind (get_or t spot.line []) t) (sym tuple_is) ∙ ap (λ (l : List NdbPair). numbers_near kind l tuple) (sym line_is)
+
+-- the pieces of one spot more
+pub pieces_push : (kind : Kind) (db : Db) (spots : List Spot) (i : ℕ) (d : Spot) → i < length spots → flat_map (numbers_at db kind) (take (i + 1) spots) ≡ flat_map (numbers_at db kind) (take i spots) ++ numbers_at db kind (get_or spots i d)
+pieces_push kind db spots i d within =
+    ap (flat_map (numbers_at db kind)) (take_more spots i d within)
+    ∙ flat_map-append (numbers_at db kind) (take i spots) (get_or spots i d ∷ [])
+    ∙ ap (λ (back : List ℕ). flat_map (numbers_at db kind) (take i spots) ++ back) (append-nil (numbers_at db kind (get_or spots i d)))
+
+-- one more spot's numbers
+pub spot_more : (kind : Kind) (db : Db) (spots : List Spot) (i : ℕ) (d : Spot) (initial now after : List ℕ) → i < length spots → now ≡ initial ++ flat_map (numbers_at db kind) (take i spots) → after ≡ now ++ numbers_at db kind (get_or spots i d) → after ≡ initial ++ flat_map (numbers_at db kind) (take (i + 1) spots)
+spot_more kind db spots i d initial now after within so_far put =
+    put
+    ∙ ap (λ (front : List ℕ). front ++ numbers_at db kind (get_or spots i d)) so_far
+    ∙ append_assoc initial (flat_map (numbers_at db kind) (take i spots)) (numbers_at db kind (get_or spots i d))
+    ∙ ap (λ (back : List ℕ). initial ++ back) (sym (pieces_push kind db spots i d within))

@@ -1,5 +1,5 @@
 -- Addresses that are gathered: what stands again may be left out.
-use Rattle.std.proofs.Common.{◌≡◌, ℕ, ◌+◌, ◌<◌, ◌≤◌, ◌==◌, ◌||◌, nat_eq, Bool, true, false, cond, List, [], ◌∷◌, ◌++◌, length, get_or, take, map, refl, sym, ap, ◌∙◌, subst, arith, append-nil, append_assoc, bytes_eq, rules}
+use Rattle.std.proofs.Common.{◌≡◌, ℕ, ◌+◌, ◌<◌, ◌≤◌, ◌==◌, ◌||◌, nat_eq, Bool, true, false, not, cond, List, [], ◌∷◌, ◌++◌, length, get_or, take, map, refl, sym, ap, ◌∙◌, subst, arith, append-nil, append_assoc, bytes_eq, rules}
 use Rattle.std.specs.Prelude.{codes, flat_map}
 use Rattle.std.specs.Borrow.{Bor}
 use Rattle.std.specs.List.{list_any, sum_by}
@@ -19,6 +19,7 @@ use Rattle.ndb_index.specs.declared.spot.Spot.{Spot}
 use Rattle.ndb_index.specs.Spots.{same_spot}
 use Rattle.cs_resolver.specs.Gathering.{Gathers, AreAmong, TuplesRead, SpotsRead, words_seen}
 use Rattle.cs_resolver.specs.Probes.{numbers_at}
+use Rattle.cs_resolver.proofs.AtSpots.{at_spot_is}
 use Rattle.cs_resolver.proofs.Once.{among, others, among_others, once_push, turned}
 
 abbrev pub Db : Type 0
@@ -182,8 +183,7 @@ count_more g words i word keys after within here put so_far =
 -- A spot whose line has addresses, one whose line has none, and one whose tuple was read.
 
 at_is : (db : Db) (spot : Spot) (tuple : List (List NdbPair)) (line : List NdbPair) → tuple ≡ get_or db spot.place [] → line ≡ get_or tuple spot.line [] → numbers_at db Address spot ≡ numbers_near Address line tuple
-at_is db spot tuple line tuple_is line_is =
-    ap (λ (t : List (List NdbPair)). numbers_near Address (get_or t spot.line []) t) (sym tuple_is) ∙ ap (λ (l : List NdbPair). numbers_near Address l tuple) (sym line_is)
+at_is = at_spot_is Address
 
 pub gather_line : (db : Db) (spot : Spot) (tuple : List (List NdbPair)) (line : List NdbPair) (old new : List ℕ) → tuple ≡ get_or db spot.place [] → line ≡ get_or tuple spot.line [] → list_any (has_attr (codes "ip")) line ≡ true → new ≡ old ++ numbers_on Address line → Gathers (numbers_at db Address spot) old new
 gather_line db spot tuple line old new tuple_is line_is named put =
@@ -197,3 +197,33 @@ pub gather_again : (db : Db) (spot : Spot) (tuple : List (List NdbPair)) (line :
 gather_again db spot tuple line old tuple_is line_is named known =
     gathers_known (numbers_at db Address spot) old
     (subst (λ (more : List ℕ). AreAmong more old) (ap (numbers_in Address) (sym tuple_is) ∙ sym (at_is db spot tuple line tuple_is line_is ∙ near_in Address line tuple named)) known)
+
+-- a key that was put in was there, or it wasn't
+pub was_there : (b : Bool) (added : Bool) → added ≡ not b → not added ≡ true → b ≡ true
+was_there true added e f = refl
+was_there false true e f = absurd cc
+was_there false false e f = absurd cc
+
+-- the tuples with one more that was among them
+pub tuples_again : (db : Db) (tuples after : List ℕ) (at : ℕ) (ips : List ℕ) → ((place : ℕ) → list_any (nat_eq place) after ≡ cond (nat_eq at place) true (list_any (nat_eq place) tuples)) → list_any (nat_eq at) tuples ≡ true → TuplesRead db tuples ips → TuplesRead db after ips
+tuples_again db tuples after at ips put there read =
+    tuples_more db tuples after at ips ips put (gathers_known (numbers_in Address (get_or db at [])) ips (read at there)) read
+
+pub spots_again : (db : Db) (spots after : List Spot) (at : Spot) (ips : List ℕ) → ((spot : Spot) → list_any (same_spot spot) after ≡ cond (same_spot at spot) true (list_any (same_spot spot) spots)) → list_any (same_spot at) spots ≡ true → SpotsRead db spots ips → SpotsRead db after ips
+spots_again db spots after at ips put there read =
+    spots_more db spots after at ips ips put (gathers_known (numbers_at db Address at) ips (read at there)) read
+
+-- the numbers of a tuple behind the others
+pub gather_behind : (more old new : List ℕ) → new ≡ old ++ more → Gathers more old new
+gather_behind more old new put = ap once_each put
+
+pub gathers_none : (ips : List ℕ) → Gathers [] ips ips
+gathers_none ips = ap once_each (sym (append-nil ips))
+
+-- one more piece of a list of pieces
+pub gathers_more : {X : Type 0} (f : X → List ℕ) (xs : List X) (i : ℕ) (d : X) (initial now after : List ℕ) → i < length xs → Gathers (flat_map f (take i xs)) initial now → Gathers (f (get_or xs i d)) now after → Gathers (flat_map f (take (i + 1) xs)) initial after
+gathers_more f xs i d initial now after within so_far one =
+    gathers_both (flat_map f (take i xs)) (f (get_or xs i d)) initial now after so_far one
+    ∙ ap (λ more. once_each (initial ++ more))
+    (ap (λ back. flat_map f (take i xs) ++ back) (sym (append-nil (f (get_or xs i d))))
+    ∙ sym (ap (flat_map f) (take_more xs i d within) ∙ flat_map-append f (take i xs) (get_or xs i d ∷ [])))

@@ -6,6 +6,7 @@ ghost use Rattle.ndb_tuple.specs.declared.numbers.Kind.TheVariants.{Address};
 ghost use Rattle.cs_resolver.specs.Gathering.{Gathers, TuplesRead, SpotsRead, words_seen};
 ghost use Rattle.cs_resolver.specs.Probes.{IsSpot, AreSpots, numbers_at, word_found};
 
+use crate::numbers::line_at;
 use crate::query::{is_numeric, name_attr};
 use indexmap::IndexSet;
 use ndb_index::{Index, Spot, Steps};
@@ -51,14 +52,15 @@ fn read_spot<L: Ledger>(
     ensures cost { steps.new ≤ steps.old + 1 }
 {
     let tuple = index.at(spot.place, steps);
-    let line = &tuple.as_slice()[spot.line as usize];
+    let line = line_at(tuple, spot.line);
     if line_names(Kind::Address.attr(), line) {
         add_numbers_on(Kind::Address, line, ips)?;
         return Ok(());
     }
-    if tuples.insert(spot.place)? {
-        add_numbers_in(Kind::Address, tuple, ips)?;
+    if !tuples.insert(spot.place)? {
+        return Ok(());
     }
+    add_numbers_in(Kind::Address, tuple, ips)?;
     Ok(())
 }
 

@@ -1,13 +1,22 @@
 //! Numbers beside pairs of an index.
-ghost use Rattle.std.specs.Prelude.{◌≡◌, ◌+◌, ◌≤◌, ◌++◌, flat_map, length, IfOk, OnOk};
+ghost use Rattle.std.specs.Prelude.{◌≡◌, ◌+◌, ◌<◌, ◌≤◌, ◌++◌, [], flat_map, get_or, length, IfOk, OnOk};
 ghost use Rattle.ndb_tuple.specs.Numbers.{numbers_found};
 ghost use Rattle.ndb_index.specs.Index.{found};
 ghost use Rattle.cs_resolver.specs.Probes.{IsSpot, AreSpots, numbers_at};
 
 use ndb_index::{Index, Spot, Steps};
 use ndb_tuple::{Kind, add_numbers_beside};
+use net_base::{Line, Tuple};
 use std::alloc::{AllocError, Global};
 use std::sync::ledger::Ledger;
+
+/// The line of a tuple at a place that a spot gives.
+pub fn line_at(tuple: &Tuple, line: u64) -> &Line
+    requires { line < length tuple.now }
+    ensures { result.now ≡ get_or tuple.now line [] }
+{
+    &tuple.as_slice()[line as usize]
+}
 
 /// Adds the numbers of a kind beside the pair that stands at a spot, for one step.
 fn add_at<L: Ledger>(
@@ -22,8 +31,9 @@ fn add_at<L: Ledger>(
     ensures cost { steps.new ≤ steps.old + 1 }
 {
     let tuple = index.at(spot.place, steps);
-    let line = &tuple.as_slice()[spot.line as usize];
-    add_numbers_beside(kind, line, tuple, numbers)
+    let line = line_at(tuple, spot.line);
+    add_numbers_beside(kind, line, tuple, numbers)?;
+    Ok(())
 }
 
 /// Adds the numbers of a kind at spots, for a step each.
