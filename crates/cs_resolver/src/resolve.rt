@@ -8,7 +8,8 @@ use crate::addresses::{host_words, once_each, targets};
 use crate::error::CsError;
 use crate::line::{Target, line_of};
 use crate::query::{nets_of, read_query};
-use ndb_search::{Kind, numbers_found};
+use ndb_search::numbers_found;
+use ndb_tuple::Kind;
 use net_base::{Db, Lines, Proto};
 use std::alloc::{AllocError, Global};
 use words::{proto_name, read_port};
@@ -54,8 +55,23 @@ fn add_lines(
         ++ spec.lines_of db.now service.now (target_texts targets.now) net) }
 {
     let ports = ports_of(alloc, db, service, net)?;
+    add_lines_of(alloc, net, targets, &ports, lines)?;
+    Ok(())
+}
+
+/// Adds the lines of a net, by its ports.
+pub fn add_lines_of(
+    alloc: Global,
+    net: Proto,
+    targets: &[Target],
+    ports: &[u32],
+    lines: &mut Lines,
+) -> Result<(), AllocError>
+    ensures { OnOk result (lines.new
+        ≡ lines.old ++ flat_map (λ target. map (spec.cs_line net (target_text target)) ports.now) targets.now) }
+{
     for target in targets {
-        add_lines_at(alloc, net, *target, &ports, lines)?;
+        add_lines_at(alloc, net, *target, ports, lines)?;
     }
     Ok(())
 }

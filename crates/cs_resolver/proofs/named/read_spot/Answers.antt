@@ -1,0 +1,36 @@
+use Rattle.std.proofs.Common.{List, ℕ, ◌++◌, sym, ap, ◌∙◌, arith, length, get_or, []}
+use Rattle.std.specs.List.{list_any}
+use Rattle.net_base.specs.Search.{has_attr}
+use Rattle.ndb_tuple.specs.declared.numbers.Kind.TheVariants.{Address}
+use Rattle.ndb_tuple.specs.Numbers.{numbers_in}
+use Rattle.cs_resolver.specs.Probes.{numbers_at}
+use Rattle.cs_resolver.proofs.AtSpots.{Lines}
+use Rattle.cs_resolver.proofs.Gathered.{gather_line, gather_tuple, gather_again, gather_behind, tuples_stay, tuples_more, tuples_again, was_there}
+use Rattle.cs_resolver.proofs.named.read_spot.Goals as goal
+
+pub at-tuple-requires : goal.at-tuple-requires
+at-tuple-requires g c = c.requires.spot.0
+
+pub line_at-line-requires : goal.line_at-line-requires
+line_at-line-requires g c = omega (arith, c.requires.spot.1, ap (λ (lines : Lines). length lines) c.at-tuple.ensures.tuple)
+
+pub returns-then-line_names-clause-ips : goal.returns-then-line_names-clause-ips
+returns-then-line_names-clause-ips g c =
+    gather_line c.args.index.now c.args.spot c.at-tuple.result.now c.line_at-line.result.now c.args.ips.now.items c.add_on.new.numbers.items c.at-tuple.ensures.tuple c.line_at-line.ensures
+    (ap (λ (attr : List ℕ). list_any (has_attr attr) c.line_at-line.result.now) (sym c.attr.ensures) ∙ sym c.line_names.ensures ∙ c.if-line_names.true) c.in_ok-add_on.ensures
+
+pub returns-then-line_names-clause-read : goal.returns-then-line_names-clause-read
+returns-then-line_names-clause-read g c =
+    tuples_stay c.args.index.now c.args.tuples.now.keys (numbers_at c.args.index.now Address c.args.spot) c.args.ips.now.items c.add_on.new.numbers.items
+    (gather_line c.args.index.now c.args.spot c.at-tuple.result.now c.line_at-line.result.now c.args.ips.now.items c.add_on.new.numbers.items c.at-tuple.ensures.tuple c.line_at-line.ensures
+    (ap (λ (attr : List ℕ). list_any (has_attr attr) c.line_at-line.result.now) (sym c.attr.ensures) ∙ sym c.line_names.ensures ∙ c.if-line_names.true) c.in_ok-add_on.ensures)
+    c.requires.read
+
+pub returns-then-not-insert-clause-ips : goal.returns-then-not-insert-clause-ips
+returns-then-not-insert-clause-ips g c =
+    ?
+
+pub returns-clause-ips : goal.returns-clause-ips
+returns-clause-ips g c =
+    gather_tuple c.args.index.now c.args.spot c.at-tuple.result.now c.line_at-line.result.now c.args.ips.now.items c.add_in.new.numbers.items c.at-tuple.ensures.tuple c.line_at-line.ensures
+    (ap (λ (attr : List ℕ). list_any (has_attr attr) c.line_at-line.result.now) (sym c.attr.ensures) ∙ sym c.line_names.ensures ∙ c.if-line_names.false) c.in_ok-add_in.ensures

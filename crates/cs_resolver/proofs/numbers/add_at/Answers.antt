@@ -1,0 +1,16 @@
+use Rattle.std.proofs.Common.{List, ℕ, ◌++◌, sym, ap, ◌∙◌, arith, subst, length}
+use Rattle.ndb_index.proofs.Own.{Db}
+use Rattle.cs_resolver.proofs.AtSpots.{Lines, at_spot_is}
+use Rattle.cs_resolver.proofs.numbers.add_at.Goals as goal
+
+pub at-tuple-requires : goal.at-tuple-requires
+at-tuple-requires g c = c.requires.0
+
+pub line_at-line-requires : goal.line_at-line-requires
+line_at-line-requires g c = omega (arith, c.requires.1, ap (λ (lines : Lines). length lines) c.at-tuple.ensures.tuple)
+
+pub returns-clause-numbers : goal.returns-clause-numbers
+returns-clause-numbers g c =
+    c.in_ok-add_beside.ensures
+    ∙ ap (λ (more : List ℕ). c.args.numbers.now.items ++ more)
+    (sym (at_spot_is c.args.kind c.args.index.now c.args.spot c.at-tuple.result.now c.line_at-line.result.now c.at-tuple.ensures.tuple c.line_at-line.ensures))
