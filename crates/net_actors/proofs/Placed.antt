@@ -53,6 +53,10 @@ found : (w : World) (v : Numbered) (states : ActorName → Actor) (a : ActorName
 found w v states a x are has is =
     found_at w states a x (slice_get v.actors (number_in w a)) (ap (slice_get v.actors) (sym (same_place w v states a are)) ∙ is) (are.each a (sym (has_both w v states a are) ∙ has))
 
+-- an actor that isn't among them answers nothing
+pub absent_at : (v : Numbered) (a : ActorName) (now : ℕ) (work : Work) → has_name v a ≡ false → (w : World) (states : ActorName → Actor) → AreActors w v states → false ≡ is_some (actor_step w a (states a) now work)
+absent_at v a now work not w states are = rw (sym (has_both w v states a are) ∙ not) refl
+
 pub told_at : (v : Numbered) (a : ActorName) (x : Kept) (now : ℕ) (work : Work) (told : Bool) → has_name v a ≡ true → slice_get v.actors (number_of v.hosts v.media a) ≡ Some x
     → ((w : World) → IsActorOf w x → told ≡ is_some (actor_step w x.name (state_of x) now work))
     → (w : World) (states : ActorName → Actor) → AreActors w v states → told ≡ is_some (actor_step w a (states a) now work)

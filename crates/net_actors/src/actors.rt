@@ -12,7 +12,7 @@ ghost use Rattle.net_actors.specs.Numbers.{count_in};
 ghost use Rattle.net_actors.specs.Together.{AreActors, AreFirst, CanStep, Steps, due_in_slot, dues_at, has_name};
 
 use crate::actor::Actor;
-use crate::number::{actor_at, actor_count, number_of};
+use crate::number::{actor_at, actor_count, is_among, number_of};
 use duties::Due;
 use net_base::{ActorName, Db, Outcome, Proto, Work, World};
 use std::alloc::{AllocError, Global};
@@ -68,13 +68,15 @@ impl Actors {
         &self.actors[number_of(self.hosts, self.media, name)]
     }
 
-    /// Whether the table of the actor answers the work now, with whatever is given.
-    #[tactic(auto, using(crate::proofs::Placed::told_at))]
+    /// Whether the table of the actor answers the work now, with whatever is given. One that isn't there answers nothing.
+    #[tactic(auto, using(crate::proofs::Placed::told_at, crate::proofs::Placed::absent_at))]
     pub fn ready(&self, name: ActorName, now: u64, work: &Work) -> bool
-        requires { has_name self.now name ≡ true }
         ensures { (w : AnyWorld) (states : Name → State) → AreActors w self.now states
             → result ≡ is_some (actor_step w name (states name) now work.now) }
     {
+        if !is_among(self.hosts, self.media, name) {
+            return false;
+        }
         self.at(name).ready(now, work)
     }
 

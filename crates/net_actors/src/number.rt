@@ -42,6 +42,18 @@ pub fn number_of(hosts: u32, media: u32, name: ActorName) -> usize
     }
 }
 
+/// Whether a world with so many hosts and media has the actor.
+pub fn is_among(hosts: u32, media: u32, name: ActorName) -> bool
+    ensures { result ≡ spec.is_among hosts media name }
+{
+    match name {
+        ActorName::Desk(host) | ActorName::Dir(host, _) => host < hosts,
+        ActorName::Conv(host, _, slot) => host < hosts && slot < 32,
+        ActorName::Medium(medium) => medium < media,
+        ActorName::Clock => true,
+    }
+}
+
 fn proto_of(number: usize) -> Proto
     requires { number < 2 }
     ensures { spec.proto_number result ≡ number }
