@@ -61,8 +61,7 @@ impl Actor {
     }
 
     /// Answers a work that is ready. Where memory ran out nothing has changed.
-    #[tactic(auto, using(crate::proofs::ByKind::ready_of, crate::proofs::ByKind::steps_if,
-        crate::proofs::ByKind::copy_if))]
+    #[tactic(auto, using(crate::proofs::ByKind::ready_of, crate::proofs::ByKind::steps_if, crate::proofs::ByKind::copy_if))]
     pub fn step(&mut self, now: u64, work: &Work) -> Result<Outcome, AllocError>
         requires now { now < 2 ^ 63 }
         requires small { IsSmall (state_of self.old) }

@@ -131,12 +131,19 @@ generation_is slots n s is = rw is refl
 -- one follow-up that names the generation of a slot which kept it
 follows_one : (h : ℕ) (p : Proto) (slots news : List Slot) (n s : ℕ) (e : Event) (with : With) → AreSlots slots → Rise slots news → n < slot_count → named e ≤ generation_in slots n → IsConvKind p e with → bears e ≡ false
     → Each (FollowsAt h p slots news) (record { actor = name.Conv h p n; event = e; with = with; cites = s } ∷ [])
-follows_one h p slots news n s e with are rise within le kind plain = ((n, refl, record {
-  within = within;
-  kind = kind;
-  below = omega (arith, le, rise n);
-  unborn = λ is. absurd (true≢false (sym is ∙ plain));
-}), tt)
+follows_one h p slots news n s e with are rise within le kind plain = (
+  (
+    n,
+    refl,
+    record {
+      within = within;
+      kind = kind;
+      below = omega (arith, le, rise n);
+      unborn = λ is. absurd (true≢false (sym is ∙ plain));
+    },
+  ),
+  tt,
+)
 
 free_is : (d : Dir) (f : ℕ × Slot) → first_slot is_free 0 d.slots ≡ Some f → slice_get d.slots f.0 ≡ Some f.1
 free_is d f is = (slot_found is_free d.slots f is).0
@@ -161,12 +168,19 @@ reserve_moves h p with d (Some f) are is =
             (inr (gen ∙ ap (λ (i : ℕ). i + 1) (sym was), λ s. (record { actor = name.Conv h p f.0; event = event.Begin (f.1.generation + 1); with = given.Nothing; cites = s }, refl, refl, (refl, sym gen))))
         | inr apart ↦ inl (other_generation d.slots f.0 k (reserved f.1) apart.1)
       ];
-      fine = λ s. ((f.0, refl, record {
-        within = within_slots d.slots f.0 f.1 are at;
-        kind = tt;
-        below = omega (arith, gen);
-        unborn = λ is. omega (arith, was);
-      }), tt);
+      fine = λ s. (
+        (
+          f.0,
+          refl,
+          record {
+            within = within_slots d.slots f.0 f.1 are at;
+            kind = tt;
+            below = omega (arith, gen);
+            unborn = λ is. omega (arith, was);
+          },
+        ),
+        tt,
+      );
     }
 
 -- Grant.
@@ -304,8 +318,8 @@ bear_moves w h p packet d t may are of found =
     let one : List Slot = slice_set d.slots t.free.0 (borne pair t.free.1) in
     let two : List Slot = slice_set one t.listener.0 (heard t) in
     let apart : t.free.0 ≡ t.listener.0 → ⊥ = λ same.
-        let is : t.free.1 ≡ t.listener.1 = same_Some t.free.1 t.listener.1 (sym found.at_free ∙ subst (λ (k : ℕ). slice_get d.slots k ≡ Some t.listener.1) (sym same) found.at_listener) in
-        not_announced t.listener.1 (subst (λ (s : Slot). is_free s ≡ true) is found.free) found.announces in
+    let is : t.free.1 ≡ t.listener.1 = same_Some t.free.1 t.listener.1 (sym found.at_free ∙ subst (λ (k : ℕ). slice_get d.slots k ≡ Some t.listener.1) (sym same) found.at_listener) in
+    not_announced t.listener.1 (subst (λ (s : Slot). is_free s ≡ true) is found.free) found.announces in
     let le : t.free.1.generation ≤ t.free.1.generation + 1 = omega arith in
     let same : t.listener.1.generation ≤ t.listener.1.generation = omega arith in
     let first : Rise d.slots one = rises d.slots t.free.0 t.free.1 (borne pair t.free.1) found.at_free le in
@@ -316,9 +330,9 @@ bear_moves w h p packet d t may are of found =
     let gen_one : generation_in one t.free.0 ≡ t.free.1.generation + 1 = set_generation d.slots t.free.0 t.free.1 (borne pair t.free.1) found.at_free in
     let gen : generation_in two t.free.0 ≡ t.free.1.generation + 1 = other_generation one t.listener.0 t.free.0 (heard t) (λ e. apart (sym e)) ∙ gen_one in
     let calls : Each (IsCallIn two) (heard t).calls =
-        each_append (IsCallIn two) t.listener.1.calls _
-        (calls_stay one two second t.listener.1.calls (calls_stay d.slots one first t.listener.1.calls (are.calls t.listener.0 t.listener.1 found.at_listener)))
-        ((within_slots d.slots t.free.0 t.free.1 are found.at_free, omega (arith, gen)), tt) in
+    each_append (IsCallIn two) t.listener.1.calls _
+    (calls_stay one two second t.listener.1.calls (calls_stay d.slots one first t.listener.1.calls (are.calls t.listener.0 t.listener.1 found.at_listener)))
+    ((within_slots d.slots t.free.0 t.free.1 are found.at_free, omega (arith, gen)), tt) in
     record {
       are = sets one t.listener.0 t.listener.1 (heard t) at same calls are_one;
       rise = λ k. omega (arith, first k, second k);
@@ -330,12 +344,19 @@ bear_moves w h p packet d t may are of found =
           | inr away ↦ other_generation one t.listener.0 k (heard t) away.1 ∙ other_generation d.slots t.free.0 k (borne pair t.free.1) other.1
         ])
       ];
-      fine = λ s. ((t.free.0, refl, record {
-        within = within_slots d.slots t.free.0 t.free.1 are found.at_free;
-        kind = (same_bears p packet.body of found.bears, may (limit_to (way w h pair.remote.ip) p) (limit_to_within (way w h pair.remote.ip) p));
-        below = omega (arith, gen);
-        unborn = λ is. omega (arith, was);
-      }), tt);
+      fine = λ s. (
+        (
+          t.free.0,
+          refl,
+          record {
+            within = within_slots d.slots t.free.0 t.free.1 are found.at_free;
+            kind = (same_bears p packet.body of found.bears, may (limit_to (way w h pair.remote.ip) p) (limit_to_within (way w h pair.remote.ip) p));
+            below = omega (arith, gen);
+            unborn = λ is. omega (arith, was);
+          },
+        ),
+        tt,
+      );
     }
 
 refused_moves : (h : ℕ) (p : Proto) (packet : Packet) (b : Body) (d : Dir) → AreSlots d.slots → Moves h p event.Arrive (given.Packet packet) d (refused_or_dropped b packet d)

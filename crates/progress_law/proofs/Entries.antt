@@ -204,7 +204,7 @@ medium_changes w net after c m e with t (IsMedium s) r is =
     let u = medium_step_of w m s e with net.moment _ (slice_get w.media m) t of.0 of.1 kind (subst (λ (x : Actor). actor_step w (name.Medium m) x net.moment (record { event = e; with = with }) ≡ Some t) is r.step) in
     let plain = courier_each w m (length net.past) t.outcome.taken r.world (subst (λ (x : Step Actor). AreCopies w (option_to_list x.outcome.taken)) (sym u.1) u.2.taken) in
     let all : Each (IsPlainDuty w (length net.past)) (duties w net.actors (name.Medium m) (length net.past) (record { event = e; with = with }) t) =
-        each_append (IsPlainDuty w (length net.past)) _ [] (each_append (IsPlainDuty w (length net.past)) _ [] plain tt) tt in
+    each_append (IsPlainDuty w (length net.past)) _ [] (each_append (IsPlainDuty w (length net.past)) _ [] plain tt) tt in
     quiet w net after c (name.Medium m) e with t r tt (subst (λ (x : Step Actor). IsActorOf w (name.Medium m) x.state) (sym u.1) (u.2.queue, u.2.held))
     (λ h p n. ap (λ (a : Actor). generation_at a n) (r.actors (name.Dir h p))) (λ h p n. ap conv_generation (r.actors (name.Conv h p n)))
     (each_weaker (IsPlainDuty w (length net.past)) (IsNew w net after) (plain_new w net after) _ all)

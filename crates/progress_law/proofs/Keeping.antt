@@ -217,19 +217,19 @@ module _ (w : World) (net after : Net) (c : ℕ) (new : List Duty) (s : Steady w
   still_birth : (h : ℕ) (p : Proto) (n g : ℕ) → reached after h p n < g → IsOwedBirth net h p n g → g ≤ given_last net h p n → IsOwedBirth after h p n g
   still_birth h p n g lt b within = elim (still_owed w net after c new ch b.caller b.duty b.there) [
     | inl still ↦ record {
-        caller = b.caller;
-        duty = b.duty;
-        there = still;
-        actor = b.actor;
-        birth = b.birth;
-        first = λ k d there at le. elim (owed_or w net after c new ch k d there) [
-          | inl was ↦ b.first k d was at le
-          | inr young ↦
-              let cites : d.cites ≡ length net.past = (new_of d young.1).cites in
-              let before : b.duty.cites < length net.past = each_in (λ (x : Duty). x.cites < length net.past) (net.owed b.caller) b.duty (s.cited b.caller) b.there in
-              (omega (arith, cites, before), λ same. absurd (omega (arith, cites, before, same)))
-        ];
-      }
+      caller = b.caller;
+      duty = b.duty;
+      there = still;
+      actor = b.actor;
+      birth = b.birth;
+      first = λ k d there at le. elim (owed_or w net after c new ch k d there) [
+        | inl was ↦ b.first k d was at le
+        | inr young ↦
+            let cites : d.cites ≡ length net.past = (new_of d young.1).cites in
+            let before : b.duty.cites < length net.past = each_in (λ (x : Duty). x.cites < length net.past) (net.owed b.caller) b.duty (s.cited b.caller) b.there in
+            (omega (arith, cites, before), λ same. absurd (omega (arith, cites, before, same)))
+      ];
+    }
     | inr gone ↦
         let came : reached after h p n ≡ named b.duty.event = ch.done b.duty gone.1.0 h p n (subst (λ (k : ℕ). net.owed k ≡ b.duty ∷ gone.1.0) (sym gone.0) gone.1.1) b.birth.0 b.actor in
         absurd (omega (arith, came, b.birth.1, lt))

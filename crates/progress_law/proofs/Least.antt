@@ -102,18 +102,18 @@ least_of net (suc n) = by (net.owed n) refl (least_of net n)
     by (d ∷ ds) is (inr l) = elim (cases_lt d.cites l.first.cites) [
       | inl less ↦ inr (here d ds is (λ c e es below at. omega (arith, less, l.least c e es below at)))
       | inr more ↦ inr record {
-          caller = l.caller;
-          below = omega (arith, l.below);
-          first = l.first;
-          rest = l.rest;
-          owed = l.owed;
-          least = λ c e es lt at. elim (last_or c n lt) [
-            | inl below ↦ l.least c e es below at
-            | inr same ↦
-                let eq : d ≡ e = same_first d e ds es (sym is ∙ subst (λ (k : ℕ). net.owed k ≡ e ∷ es) same at) in
-                omega (arith, more, ap (λ (x : Duty). x.cites) eq)
-          ];
-        }
+        caller = l.caller;
+        below = omega (arith, l.below);
+        first = l.first;
+        rest = l.rest;
+        owed = l.owed;
+        least = λ c e es lt at. elim (last_or c n lt) [
+          | inl below ↦ l.least c e es below at
+          | inr same ↦
+              let eq : d ≡ e = same_first d e ds es (sym is ∙ subst (λ (k : ℕ). net.owed k ≡ e ∷ es) same at) in
+              omega (arith, more, ap (λ (x : Duty). x.cites) eq)
+        ];
+      }
     ]
 
 -- What stands in a queue cites no less than its first.

@@ -116,13 +116,18 @@ IsGivenAt after g _ = Unit {0}
 -- a tick names no generation that the directory didn't give
 tick_new : (w : World) (net after : Net) (now : ℕ) (a : ActorName) → ((h : ℕ) (p : Proto) (n : ℕ) → reached net h p n ≤ given_last after h p n) → IsConvOf w a → Each (λ (d : Duty). IsNew w net after d × (bears d.event ≡ false)) (tick_at net.actors (length net.past) now a)
 tick_new w net after now (name.Conv h p n) behind of =
-    either_each (λ (d : Duty). IsNew w net after d × (bears d.event ≡ false)) (has_come now (due_of (net.actors (name.Conv h p n)))) _ []
-    ((record {
-      kind = (of.0, of.1, tt);
-      cites = refl;
-      below = λ i q m at. subst (IsGivenAt after (generation_of (net.actors (name.Conv h p n)))) at (omega (arith, generation_is (net.actors (name.Conv h p n)), behind h p n));
-      unborn = λ i q m at is. absurd (true≢false (sym is));
-    }, refl), tt) tt
+    either_each (λ (d : Duty). IsNew w net after d × (bears d.event ≡ false)) (has_come now (due_of (net.actors (name.Conv h p n)))) _ [] (
+      (
+        record {
+          kind = (of.0, of.1, tt);
+          cites = refl;
+          below = λ i q m at. subst (IsGivenAt after (generation_of (net.actors (name.Conv h p n)))) at (omega (arith, generation_is (net.actors (name.Conv h p n)), behind h p n));
+          unborn = λ i q m at is. absurd (true≢false (sym is));
+        },
+        refl,
+      ),
+      tt,
+    ) tt
 tick_new w net after now (name.Dir h p) behind of = absurd of
 tick_new w net after now (name.Desk h) behind of = absurd of
 tick_new w net after now (name.Medium m) behind of = absurd of
