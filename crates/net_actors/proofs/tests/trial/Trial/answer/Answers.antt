@@ -5,7 +5,7 @@ use Rattle.net_actors.proofs.tests.trial.Trial.answer.Goals as goal
 
 pub step-requires-clause-ready : goal.step-requires-clause-ready
 step-requires-clause-ready c =
-    let ready : c.ready.result ≡ true = ? in
+    let ready : c.ready.result ≡ true = c.if-not-ready.false in
     can_step tried_world c.self.inside.actors c.self.inside.works c.args.name c.args.now c.args.work.now c.ready.result c.self.invariant
     (omega (arith, c.if-self-ge1000.false)) (tried_has c.args.name c.requires.among) ready (λ u states. c.ready.ensures u states)
 
