@@ -9,15 +9,16 @@ use Rattle.net_base.specs.Cs.{once_each}
 use Rattle.cs_resolver.proofs.Answering.{cond_true, cond_false}
 
 -- the numbers that are not this one
-abbrev pub others : ℕ → List ℕ → List ℕ
+others : ℕ → List ℕ → List ℕ
 others n ns = filter (λ m. not (m == n)) ns
 
 -- the number is one of these
-abbrev pub among : ℕ → List ℕ → Bool
+among : ℕ → List ℕ → Bool
 among n ns = list_any (λ m. m == n) ns
 
 -- another number stays
-pub among_others : (x n : ℕ) (ns : List ℕ) → (n == x) ≡ false → among n (others x ns) ≡ among n ns
+among_others : (x n : ℕ) (ns : List ℕ) → (n == x) ≡ false → among n (others x ns) ≡ among n ns
+unfolding among others
 among_others x n [] apart = refl
 among_others x n (m ∷ ns) apart = at (m == x) refl (m == n) refl (among_others x n ns apart)
   where
@@ -27,21 +28,24 @@ among_others x n (m ∷ ns) apart = at (m == x) refl (m == n) refl (among_others
     at false e here h rest = ap (λ b. b || among n (others x ns)) h ∙ ap (λ b. here || b) rest
 
 others_push_same : (x n : ℕ) (ns : List ℕ) → (n == x) ≡ true → others x (ns ++ n ∷ []) ≡ others x ns
+unfolding others
 others_push_same x n ns same =
     filter-append (λ m. not (m == x)) ns (n ∷ [])
     ∙ ap (λ holds. others x ns ++ cond (not holds) (n ∷ []) []) same ∙ append-nil (others x ns)
 
 others_push_apart : (x n : ℕ) (ns : List ℕ) → (n == x) ≡ false → others x (ns ++ n ∷ []) ≡ others x ns ++ n ∷ []
+unfolding others
 others_push_apart x n ns apart =
     filter-append (λ m. not (m == x)) ns (n ∷ [])
     ∙ ap (λ holds. others x ns ++ cond (not holds) (n ∷ []) []) apart
 
-pub turned : (x n : ℕ) (b : Bool) → (x == n) ≡ b → (n == x) ≡ b
+turned : (x n : ℕ) (b : Bool) → (x == n) ≡ b → (n == x) ≡ b
 turned x n true e = grind (arith, nat_tests)
 turned x n false e = grind (arith, nat_tests)
 
 -- one more number
-pub once_push : (ns : List ℕ) (n : ℕ) → once_each (ns ++ n ∷ []) ≡ cond (among n (once_each ns)) (once_each ns) (once_each ns ++ n ∷ [])
+once_push : (ns : List ℕ) (n : ℕ) → once_each (ns ++ n ∷ []) ≡ cond (among n (once_each ns)) (once_each ns) (once_each ns ++ n ∷ [])
+unfolding among others
 once_push [] n = refl
 once_push (x ∷ ns) n = ap (λ rest. x ∷ others x rest) (once_push ns n) ∙ at (x == n) refl (among n (once_each ns)) refl
   where
@@ -53,12 +57,13 @@ once_push (x ∷ ns) n = ap (λ rest. x ∷ others x rest) (once_push ns n) ∙ 
         ap (λ rest. x ∷ rest) (others_push_apart x n (once_each ns) (turned x n false e))
         ∙ sym (cond_false (among n (others x (once_each ns))) _ _ (among_others x n (once_each ns) (turned x n false e) ∙ h))
 
-pub same_any : (p q : ℕ → Bool) (ns : List ℕ) → ((n : ℕ) → p n ≡ q n) → list_any p ns ≡ list_any q ns
+same_any : (p q : ℕ → Bool) (ns : List ℕ) → ((n : ℕ) → p n ≡ q n) → list_any p ns ≡ list_any q ns
 same_any p q [] agree = refl
 same_any p q (n ∷ ns) agree = ap (λ b. b || list_any p ns) (agree n) ∙ ap (λ b. q n || b) (same_any p q ns agree)
 
 -- one more number, put among those that are kept
 pub once_more : (ns keys after : List ℕ) (i : ℕ) → i < length ns → keys ≡ once_each (take i ns) → after ≡ cond (list_any (nat_eq (get_or ns i 0)) keys) keys (keys ++ get_or ns i 0 ∷ []) → after ≡ once_each (take (i + 1) ns)
+unfolding among
 once_more ns keys after i within kept put =
     let n = get_or ns i 0 in
     put

@@ -2,9 +2,5 @@ pub use Rattle.net_base.specs.Addresses
 pub use Rattle.net_base.specs.Cs
 pub use Rattle.net_base.specs.Networks
 pub use Rattle.net_base.specs.Search
-pub use Rattle.ndb_index.specs.Index
 pub mod Errors
-pub mod Gathering
-pub mod Probes
 pub mod Targets
-pub mod Worked

@@ -1,6 +1,5 @@
 //! The addresses of a query's host.
-ghost use Rattle.std.specs.Prelude.{◌≡◌, ◌∷◌, [], flat_map, map, IfOk};
-ghost use Rattle.net_base.specs.Addresses.{address_text};
+ghost use Rattle.std.specs.Prelude.{◌≡◌, flat_map, IfOk};
 ghost use Rattle.net_base.specs.Cs as spec;
 ghost use Rattle.cs_resolver.specs.Targets.{target_texts, covered_first};
 
@@ -20,15 +19,8 @@ pub fn host_words(alloc: Global, db: &Db, me: &[u8], host: &[u8]) -> Result<Line
     if is_attribute(host) {
         return closest(alloc, db, me, &host[1..]);
     }
-    one_word(alloc, host)
-}
-
-/// One word alone.
-pub fn one_word(alloc: Global, word: &[u8]) -> Result<Lines, AllocError>
-    ensures { IfOk result (λ words. words ≡ word.now ∷ []) }
-{
     let mut words = Lines::new(alloc);
-    words.push(Octets::from_slice(alloc, word)?)?;
+    words.push(Octets::from_slice(alloc, host)?)?;
     Ok(words)
 }
 
@@ -44,11 +36,7 @@ pub fn once_each(alloc: Global, numbers: &[u32]) -> Result<Vec<u32>, AllocError>
 }
 
 /// Addresses that the prefixes cover, and then the others, each in order.
-pub fn covered_first(
-    alloc: Global,
-    prefixes: &Prefixes,
-    ips: &[u32],
-) -> Result<Vec<u32>, AllocError>
+fn covered_first(alloc: Global, prefixes: &Prefixes, ips: &[u32]) -> Result<Vec<u32>, AllocError>
     ensures { IfOk result (λ sorted. sorted.items ≡ covered_first prefixes.now ips.now) }
 {
     let mut sorted = Vec::new(alloc);
@@ -120,19 +108,13 @@ pub fn targets(
     requires { words.now ≡ spec.host_words db.now me.now host.now }
     ensures { IfOk result (λ targets. target_texts targets.items ≡ spec.address_texts db.now me.now host.now) }
 {
+    let mut targets = Vec::new(alloc);
     if is_any(host) {
-        return Ok(vec![in alloc; Target::Any]?);
+        targets.push(Target::Any)?;
+        return Ok(targets);
     }
     let ips = found_addresses(alloc, db, me, words)?;
-    ip_targets(alloc, &ips)
-}
-
-/// Addresses to connect to.
-pub fn ip_targets(alloc: Global, ips: &[u32]) -> Result<Vec<Target>, AllocError>
-    ensures { IfOk result (λ targets. target_texts targets.items ≡ map address_text ips.now) }
-{
-    let mut targets = Vec::new(alloc);
-    for ip in ips {
+    for ip in &ips {
         targets.push(Target::Ip(*ip))?;
     }
     Ok(targets)

@@ -2,20 +2,12 @@
 #![tactic(auto)]
 
 mod addresses;
-#[cfg(test)]
-mod compared;
 mod error;
-mod indexed;
-mod law;
 mod line;
-mod named;
-mod numbers;
 mod query;
 mod resolve;
 
 pub use error::CsError;
-pub use indexed::{answer_counted, answer_indexed};
-pub use law::worked_bounds;
 pub use resolve::answer;
 
 #[cfg(test)]

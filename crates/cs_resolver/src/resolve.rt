@@ -55,23 +55,8 @@ fn add_lines(
         ++ spec.lines_of db.now service.now (target_texts targets.now) net) }
 {
     let ports = ports_of(alloc, db, service, net)?;
-    add_lines_of(alloc, net, targets, &ports, lines)?;
-    Ok(())
-}
-
-/// Adds the lines of a net, by its ports.
-pub fn add_lines_of(
-    alloc: Global,
-    net: Proto,
-    targets: &[Target],
-    ports: &[u32],
-    lines: &mut Lines,
-) -> Result<(), AllocError>
-    ensures { OnOk result (lines.new
-        ≡ lines.old ++ flat_map (λ target. map (spec.cs_line net (target_text target)) ports.now) targets.now) }
-{
     for target in targets {
-        add_lines_at(alloc, net, *target, ports, lines)?;
+        add_lines_at(alloc, net, *target, &ports, lines)?;
     }
     Ok(())
 }

@@ -60,13 +60,9 @@ cs_over sys query input = unless_bad (bundle.bad_line input) (cs_found sys query
 
 -- Answers of query.
 
--- the pairs of a tuple in order, as one line
-abbrev pub tuple_text : List (List NdbPair) → List ℕ
-tuple_text tuple = line_text (flat_map (λ line. line) tuple)
-
 -- the lines of a query: the tuples with the pair, each with its pairs in order, or the values beside the pair in all of them
 abbrev pub query_lines : List ℕ → List ℕ → Option (List ℕ) → List (List (List NdbPair)) → List (List ℕ)
-query_lines attr value None db = map tuple_text (tuples_with attr value db)
+query_lines attr value None db = map (λ tuple. line_text (flat_map (λ line. line) tuple)) (tuples_with attr value db)
 query_lines attr value (Some other) db = all_beside attr value other db
 
 -- what is found in the database that an input without a bad line is

@@ -1,17 +1,17 @@
 //! The command `query`.
-ghost use Rattle.std.specs.Prelude.{◌≡◌, ◌++◌, map, None, Some, IfOk, OnOk};
-ghost use Rattle.ndb_index.specs.Near.{SpotsWithin, spot_tuples};
-ghost use Rattle.netsh.specs.Built.{query_lines, query_over, tuple_text};
+ghost use Rattle.std.specs.Prelude.{◌≡◌, ◌++◌, flat_map, None, Some, IfOk, OnOk};
+ghost use Rattle.ndb_reader.specs.Written.{line_text};
+ghost use Rattle.netsh.specs.Built.{query_lines, query_over};
 
 use crate::answer::Answer;
-use ndb_index::{Index, Spot};
 use ndb_reader::{NdbError, put_pairs, read_ndb};
+use ndb_tuple::{add_beside, tuple_has};
 use net_base::{Db, Lines, NdbPair, Octets, Tuple};
 use std::alloc::{AllocError, Global};
 
 /// The pairs of a tuple in order, as the text of a database spells them, with a blank between them.
 fn tuple_line(alloc: Global, tuple: &Tuple) -> Result<Octets, AllocError>
-    ensures { IfOk result (λ text. text ≡ tuple_text tuple.now) }
+    ensures { IfOk result (λ text. text ≡ line_text (flat_map (λ line. line) tuple.now)) }
 {
     let mut pairs: Vec<NdbPair> = Vec::new(alloc);
     for line in tuple.as_slice() {
@@ -32,39 +32,36 @@ fn add_pairs(pairs: &[NdbPair], all: &mut Vec<NdbPair>) -> Result<(), AllocError
     Ok(())
 }
 
-/// The tuples at spots, a line each.
-fn spot_lines(alloc: Global, index: &Index, spots: &[Spot]) -> Result<Lines, AllocError>
-    requires { SpotsWithin index.now spots.now }
-    ensures { IfOk result (λ lines. lines ≡ map tuple_text (spot_tuples index.now spots.now)) }
+/// The tuples with the pair, a line each.
+fn tuple_lines(alloc: Global, db: &Db, attr: &[u8], value: &[u8]) -> Result<Lines, AllocError>
+    ensures { IfOk result (λ lines. lines ≡ query_lines attr.now value.now None db.now) }
 {
     let mut lines = Lines::new(alloc);
-    for spot in spots {
-        lines.push(tuple_line(alloc, index.tuple(spot.place))?)?;
+    for tuple in db.as_slice() {
+        if tuple_has(attr, value, tuple) {
+            lines.push(tuple_line(alloc, tuple)?)?;
+        }
     }
     Ok(lines)
 }
 
-/// The tuples with the pair, a line each, by an index.
-fn tuple_lines(alloc: Global, db: Db, attr: &[u8], value: &[u8]) -> Result<Lines, AllocError>
-    ensures { IfOk result (λ lines. lines ≡ query_lines attr.now value.now None db) }
-{
-    let index = Index::new(alloc, db)?;
-    let lines = spot_lines(alloc, &index, index.spots(attr, value))?;
-    Ok(lines)
-}
-
-/// The values beside the pair in all tuples, by an index.
+/// The values beside the pair in all tuples.
 fn beside_lines(
     alloc: Global,
-    db: Db,
+    db: &Db,
     attr: &[u8],
     value: &[u8],
     other: &[u8],
 ) -> Result<Lines, AllocError>
-    ensures { IfOk result (λ lines. lines ≡ query_lines attr.now value.now (Some other.now) db) }
+    ensures { IfOk result (λ lines. lines ≡ query_lines attr.now value.now (Some other.now) db.now) }
 {
-    let index = Index::new(alloc, db)?;
-    index.all_beside(alloc, attr, value, other)
+    let mut lines = Lines::new(alloc);
+    for tuple in db.as_slice() {
+        if tuple_has(attr, value, tuple) {
+            add_beside(attr, value, other, tuple, &mut lines)?;
+        }
+    }
+    Ok(lines)
 }
 
 /// The tuples with a pair in the database that an input is.
@@ -81,7 +78,7 @@ pub fn query_tuples(
         Err(NdbError::Bad { line, cause }) => return Answer::bad_input(alloc, line, cause),
         Err(NdbError::Memory) => return Err(AllocError),
     };
-    let lines = tuple_lines(alloc, db, attr, value)?;
+    let lines = tuple_lines(alloc, &db, attr, value)?;
     Answer::found(alloc, &lines)
 }
 
@@ -100,6 +97,6 @@ pub fn query_beside(
         Err(NdbError::Bad { line, cause }) => return Answer::bad_input(alloc, line, cause),
         Err(NdbError::Memory) => return Err(AllocError),
     };
-    let lines = beside_lines(alloc, db, attr, value, other)?;
+    let lines = beside_lines(alloc, &db, attr, value, other)?;
     Answer::found(alloc, &lines)
 }
