@@ -65,9 +65,7 @@ fn finds_beside(alloc: Global, index: &Index) -> Result<bool, AllocError>
 fn pairs_are_found(rt: HostRuntime) -> Result<(), Fail> {
     let alloc = rt.alloc();
     let index = index_of(alloc)?;
-    if index.len() != 5 {
-        return Ok(());
-    }
+    assert_eq!(rt; index.len(), 5);
     let all = finds_all(alloc, &index)?;
     let beside = finds_beside(alloc, &index)?;
     assert!(rt; all && beside);
