@@ -150,7 +150,7 @@ impl Ends {
 fn is_ready(end: &IlEnd, ask: Ask) -> bool
     ensures { IsTrue result → StandsForSome end.now (λ e. IsTrue (is_ready ask e)) }
 {
-    end.ready(ask)
+    end.is_short() && end.ready(ask)
 }
 
 fn message(alloc: Global, said: Said) -> Result<IlMsg, AllocError> {
