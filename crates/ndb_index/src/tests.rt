@@ -1,12 +1,10 @@
 //! Worked searches.
-ghost use Rattle.std.specs.Prelude.{◌≡◌, ◌<◌, length};
+ghost use Rattle.std.specs.Prelude.{◌<◌, length};
 
 use crate::index::Index;
-use ndb_reader::{Steps, read_ndb};
+use ndb_reader::read_ndb;
 use net_base::Lines;
 use std::alloc::{AllocError, Global};
-use std::marker::Brand;
-use std::sync::ledger::{Blank, Ledger};
 use std::test::Fail;
 
 /// A network, a system on it, and a system that has a pair twice and stands in two tuples.
@@ -39,24 +37,11 @@ fn finds_all(alloc: Global, index: &Index) -> Result<bool, AllocError> {
     Ok(places.as_slice() == [2, 3].as_slice())
 }
 
-/// The values beside a system, by one counter for all.
-fn counted<L: Ledger>(alloc: Global, index: &Index, blank: Blank) -> Result<Lines, AllocError>
-    requires name { blank.name ≡ L.name }
-    requires parts { blank.parts ≡ L.parts }
-    requires some { 0 < blank.parts }
-    requires four { 3 < length index.now }
-{
-    let mut steps = Steps::<L>::new(blank);
-    index.search_counted(alloc, b"sys", b"helix", &mut steps)?;
-    index.closest_counted(alloc, b"anna", b"auth", &mut steps)?;
-    index.value_beside_counted(alloc, 2, b"sys", b"helix", b"ip", &mut steps)
-}
-
 /// Whether the values beside a pair are those of its line.
 fn finds_beside(alloc: Global, index: &Index) -> Result<bool, AllocError>
     requires { 3 < length index.now }
 {
-    let values = counted::<Brand>(alloc, index, Blank::new(1))?;
+    let values = index.value_beside(alloc, 2, b"sys", b"helix", b"ip")?;
     let texts = joined(alloc, &values)?;
     Ok(texts.as_slice() == b"10.0.0.31 135.104.9.31 ".as_slice())
 }
