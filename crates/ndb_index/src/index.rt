@@ -240,7 +240,14 @@ impl Index {
         ensures cost { steps.new ≤ steps.old + found attr.now value.now self.now }
     {
         let mut values = Lines::new(alloc);
-        self.add_all_beside(self.spots(attr, value), attr, value, other, &mut values, steps)?;
+        self.add_all_beside(
+            self.spots(attr, value),
+            attr,
+            value,
+            other,
+            &mut values,
+            steps,
+        )?;
         Ok(values)
     }
 

@@ -46,12 +46,7 @@ fn add_spot(spots: &mut Spots, spot: Spot) -> Result<(), AllocError>
 }
 
 /// Adds the first spot of a pair.
-fn add_first(
-    alloc: Global,
-    pairs: &mut Pairs,
-    pair: &NdbPair,
-    spot: Spot,
-) -> Result<(), AllocError>
+fn add_first(alloc: Global, pairs: &mut Pairs, pair: &NdbPair, spot: Spot) -> Result<(), AllocError>
     requires { spec.spots_found pair.now.attr pair.now.value pairs.old.entries ≡ None }
     ensures { OnOk result ((attr value : List ℕ) → spec.spots_kept attr value pairs.new.entries
         ≡ spec.noted (is_pair attr value pair.now) spot (spec.spots_kept attr value pairs.old.entries)) }
@@ -63,12 +58,7 @@ fn add_first(
 }
 
 /// Notes that a pair stands at a spot.
-fn add_pair(
-    alloc: Global,
-    pairs: &mut Pairs,
-    pair: &NdbPair,
-    spot: Spot,
-) -> Result<(), AllocError>
+fn add_pair(alloc: Global, pairs: &mut Pairs, pair: &NdbPair, spot: Spot) -> Result<(), AllocError>
     ensures { OnOk result ((attr value : List ℕ) → spec.spots_kept attr value pairs.new.entries
         ≡ spec.noted (is_pair attr value pair.now) spot (spec.spots_kept attr value pairs.old.entries)) }
 {
@@ -80,12 +70,7 @@ fn add_pair(
 }
 
 /// Notes the pairs of a line.
-fn add_line(
-    alloc: Global,
-    pairs: &mut Pairs,
-    line: &Line,
-    spot: Spot,
-) -> Result<(), AllocError>
+fn add_line(alloc: Global, pairs: &mut Pairs, line: &Line, spot: Spot) -> Result<(), AllocError>
     ensures { OnOk result ((attr value : List ℕ) → spec.spots_kept attr value pairs.new.entries
         ≡ spec.noted (line_has attr value line.now) spot (spec.spots_kept attr value pairs.old.entries)) }
 {

@@ -10,8 +10,8 @@ mod places;
 mod tests;
 
 pub use beside::value_beside;
+pub use ndb_tuple::Places;
 pub use near::closest;
 pub use networks::own_networks;
 pub use numbers::numbers_found;
-pub use ndb_tuple::Places;
 pub use places::search;

@@ -14,7 +14,7 @@ at-tuple-requires g c = c.requires c.loop-spot.spot-index _ (omega arith)
 pub loop-spot-preserved : goal.loop-spot-preserved
 loop-spot-preserved g c = (
   numbers_more c.args.self.now c.args.mine.now c.loop-spot.spot-index _ c.at-tuple.result.now c.args.ips.now.items c.loop-spot.ips.items _
-  (omega arith) c.at-tuple.ensures.tuple c.loop-spot.invariant.0 c.in_ok-add_in.ensures,
+      (omega arith) c.at-tuple.ensures.tuple c.loop-spot.invariant.0 c.in_ok-add_in.ensures,
   omega (arith, c.loop-spot.invariant.1, c.at-tuple.ensures.cost),
 )
 

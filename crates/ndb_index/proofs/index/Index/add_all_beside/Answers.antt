@@ -16,7 +16,7 @@ at-requires g c = c.requires c.loop-spot.spot-index _ (omega arith)
 pub loop-spot-preserved : goal.loop-spot-preserved
 loop-spot-preserved g c = (
   pieces_more (beside c.args.attr.now c.args.value.now c.args.other.now) c.args.self.now c.args.spots.now c.loop-spot.spot-index _ c.at.result.now c.args.values.now c.loop-spot.values _
-  (omega arith) c.at.ensures.tuple c.loop-spot.invariant.0 c.in_ok-add_beside.ensures,
+      (omega arith) c.at.ensures.tuple c.loop-spot.invariant.0 c.in_ok-add_beside.ensures,
   omega (arith, c.loop-spot.invariant.1, c.at.ensures.cost),
 )
 

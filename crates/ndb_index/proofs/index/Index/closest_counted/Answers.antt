@@ -29,10 +29,14 @@ closest_among-requires g c = subst (AreWithin c.args.self.now) (sym (c.deref-2.e
 
 pub returns-in_err-values-2-clause-cost : goal.returns-in_err-values-2-clause-cost
 returns-in_err-values-2-clause-cost g c =
-    omega (arith, c.closest_of.ensures.cost, c.closest_among.ensures.cost,
+    omega (
+      arith,
+      c.closest_of.ensures.cost,
+      c.closest_among.ensures.cost,
       near_cost c.args.me.now c.args.self.now c.spots-mine.result.now c.deref-2.result.now c.spots-mine.ensures
-      (c.deref-2.ensures.value ∙ c.in_ok-places.ensures ∙ ap (λ (ips : List ℕ). longest_places ips c.args.self.now)
-      (c.deref.ensures.value ∙ met_are c.args.me.now c.args.self.now c.spots-mine.result.now c.new-ips.result.items c.closest_of.new.ips.items c.spots-mine.ensures c.new-ips.ensures.items (c.in_ok-values.ensures.ips c.in_default.is))))
+          (c.deref-2.ensures.value ∙ c.in_ok-places.ensures ∙ ap (λ (ips : List ℕ). longest_places ips c.args.self.now)
+          (c.deref.ensures.value ∙ met_are c.args.me.now c.args.self.now c.spots-mine.result.now c.new-ips.result.items c.closest_of.new.ips.items c.spots-mine.ensures c.new-ips.ensures.items (c.in_ok-values.ensures.ips c.in_default.is))),
+    )
 
 pub returns-in-Some-2-clause-values : goal.returns-in-Some-2-clause-values
 returns-in-Some-2-clause-values g c =
@@ -44,10 +48,14 @@ returns-in-Some-2-clause-values g c =
 
 pub returns-in-Some-2-clause-cost : goal.returns-in-Some-2-clause-cost
 returns-in-Some-2-clause-cost g c =
-    omega (arith, c.closest_of.ensures.cost, c.closest_among.ensures.cost,
+    omega (
+      arith,
+      c.closest_of.ensures.cost,
+      c.closest_among.ensures.cost,
       near_cost c.args.me.now c.args.self.now c.spots-mine.result.now c.deref-2.result.now c.spots-mine.ensures
-      (c.deref-2.ensures.value ∙ c.in_ok-places.ensures ∙ ap (λ (ips : List ℕ). longest_places ips c.args.self.now)
-      (c.deref.ensures.value ∙ met_are c.args.me.now c.args.self.now c.spots-mine.result.now c.new-ips.result.items c.closest_of.new.ips.items c.spots-mine.ensures c.new-ips.ensures.items (c.in_ok-values.ensures.ips c.in_default.is))))
+          (c.deref-2.ensures.value ∙ c.in_ok-places.ensures ∙ ap (λ (ips : List ℕ). longest_places ips c.args.self.now)
+          (c.deref.ensures.value ∙ met_are c.args.me.now c.args.self.now c.spots-mine.result.now c.new-ips.result.items c.closest_of.new.ips.items c.spots-mine.ensures c.new-ips.ensures.items (c.in_ok-values.ensures.ips c.in_default.is))),
+    )
 
 pub returns-clause-values : goal.returns-clause-values
 returns-clause-values g c =
@@ -60,7 +68,11 @@ returns-clause-values g c =
 
 pub returns-clause-cost : goal.returns-clause-cost
 returns-clause-cost g c =
-    omega (arith, c.closest_of.ensures.cost, c.closest_among.ensures.cost,
+    omega (
+      arith,
+      c.closest_of.ensures.cost,
+      c.closest_among.ensures.cost,
       near_cost c.args.me.now c.args.self.now c.spots-mine.result.now c.deref-2.result.now c.spots-mine.ensures
-      (c.deref-2.ensures.value ∙ c.in_ok-places.ensures ∙ ap (λ (ips : List ℕ). longest_places ips c.args.self.now)
-      (c.deref.ensures.value ∙ met_are c.args.me.now c.args.self.now c.spots-mine.result.now c.new-ips.result.items c.closest_of.new.ips.items c.spots-mine.ensures c.new-ips.ensures.items (c.in_ok-values.ensures.ips c.in_default.is))))
+          (c.deref-2.ensures.value ∙ c.in_ok-places.ensures ∙ ap (λ (ips : List ℕ). longest_places ips c.args.self.now)
+          (c.deref.ensures.value ∙ met_are c.args.me.now c.args.self.now c.spots-mine.result.now c.new-ips.result.items c.closest_of.new.ips.items c.spots-mine.ensures c.new-ips.ensures.items (c.in_ok-values.ensures.ips c.in_default.is))),
+    )

@@ -21,9 +21,9 @@ returns-then-len-ne0-clause-values g c =
 pub loop-spot-preserved : goal.loop-spot-preserved
 loop-spot-preserved g c = (
   spot_none c.args.attr.now c.args.self.now c.args.mine.now c.loop-spot.spot-index _ c.at-tuple.result.now c.in_ok-values.values
-  (omega arith) c.at-tuple.ensures.tuple c.in_ok-values.ensures (grind (arith, nat_tests)) c.loop-spot.invariant.0,
+      (omega arith) c.at-tuple.ensures.tuple c.in_ok-values.ensures (grind (arith, nat_tests)) c.loop-spot.invariant.0,
   numbers_more c.args.self.now c.args.mine.now c.loop-spot.spot-index _ c.at-tuple.result.now c.args.ips.now.items c.loop-spot.ips.items _
-  (omega arith) c.at-tuple.ensures.tuple c.loop-spot.invariant.1 c.in_ok-add_in.ensures,
+      (omega arith) c.at-tuple.ensures.tuple c.loop-spot.invariant.1 c.in_ok-add_in.ensures,
   omega (arith, c.loop-spot.invariant.2, c.at-tuple.ensures.cost),
 )
 
