@@ -1,6 +1,6 @@
 -- Addresses that are gathered: what stands again may be left out.
-use Rattle.std.proofs.Common.{◌≡◌, ℕ, ◌+◌, ◌<◌, ◌≤◌, ◌==◌, ◌||◌, nat_eq, Bool, true, false, not, cond, List, [], ◌∷◌, ◌++◌, length, get_or, take, map, refl, sym, ap, ◌∙◌, subst, arith, append-nil, append_assoc, bytes_eq, rules}
-use Rattle.std.specs.Prelude.{codes, flat_map}
+use Rattle.std.proofs.Common.{◌≡◌, ℕ, ◌+◌, ◌<◌, ◌≤◌, ◌==◌, ◌||◌, nat_eq, Bool, true, false, not, cond, List, [], ◌∷◌, ◌++◌, length, get_or, take, map, refl, sym, ap, ◌∙◌, subst, arith, append-nil, append_assoc, bytes_eq, rules, Option, ⊥}
+use Rattle.std.specs.Prelude.{codes, flat_map, option_to_list}
 use Rattle.std.specs.Borrow.{Bor}
 use Rattle.std.specs.List.{list_any, sum_by}
 use Rattle.std.specs.Cmp.Lexicographic.{bytes_decides}
@@ -9,17 +9,20 @@ use Rattle.std.proofs.lemmas.List.Folds.{list_any-append}
 use Rattle.std.proofs.lemmas.List.Concat.{flat_map-append}
 use Rattle.std.proofs.lemmas.List.{map-append, take_more}
 use Rattle.net_base.specs.declared.ndb.NdbPair.{NdbPair}
-use Rattle.net_base.specs.Cs.{once_each}
+use Rattle.net_base.specs.Addresses.{read_address}
+use Rattle.net_base.specs.Cs.{once_each, is_numeric, name_attr, word_addresses}
 use Rattle.net_base.specs.Search.{has_attr}
 use Rattle.ndb_tuple.specs.declared.numbers.Kind.TheVariants.{Address}
-use Rattle.ndb_tuple.specs.Numbers.{numbers_on, numbers_in, numbers_near}
+use Rattle.ndb_tuple.specs.Numbers.{numbers_on, numbers_in, numbers_near, numbers_found}
 use Rattle.ndb_tuple.proofs.Pieces.{near_on, near_in}
 use Rattle.ndb_tuple.proofs.Covered.{both, equal, itself}
 use Rattle.ndb_index.specs.declared.spot.Spot.{Spot}
 use Rattle.ndb_index.specs.Spots.{same_spot}
+use Rattle.ndb_index.specs.Kept.{spots_with}
+use Rattle.ndb_index.specs.Index.{found}
 use Rattle.cs_resolver.specs.Gathering.{Gathers, AreAmong, TuplesRead, SpotsRead, words_seen}
-use Rattle.cs_resolver.specs.Probes.{numbers_at}
-use Rattle.cs_resolver.proofs.AtSpots.{at_spot_is}
+use Rattle.cs_resolver.specs.Probes.{numbers_at, word_found}
+use Rattle.cs_resolver.proofs.AtSpots.{at_spot_is, spots_numbers}
 use Rattle.cs_resolver.proofs.Once.{among, others, among_others, once_push, turned}
 
 abbrev pub Db : Type 0
@@ -227,3 +230,48 @@ gathers_more f xs i d initial now after within so_far one =
     ∙ ap (λ more. once_each (initial ++ more))
     (ap (λ back. flat_map f (take i xs) ++ back) (sym (append-nil (f (get_or xs i d))))
     ∙ sym (ap (flat_map f) (take_more xs i d within) ∙ flat_map-append f (take i xs) (get_or xs i d ∷ [])))
+
+-- A word's addresses, by the way in which it is read.
+
+pub word_spots : (db : Db) (word : List ℕ) → is_numeric word ≡ false → flat_map (numbers_at db Address) (spots_with (name_attr word) word db) ≡ word_addresses db word
+word_spots db word e =
+    spots_numbers (name_attr word) word Address db
+    ∙ sym (ap (λ b. cond b (option_to_list (read_address word)) (numbers_found (name_attr word) word Address db)) e)
+
+pub word_spelled : (db : Db) (word : List ℕ) (o : Option ℕ) → is_numeric word ≡ true → read_address word ≡ o → word_addresses db word ≡ option_to_list o
+word_spelled db word o e read =
+    ap (λ b. cond b (option_to_list (read_address word)) (numbers_found (name_attr word) word Address db)) e ∙ ap option_to_list read
+
+pub word_cost : (db : Db) (word : List ℕ) → is_numeric word ≡ false → word_found db word ≡ found (name_attr word) word db
+word_cost db word e = ap (λ b. cond b 0 (found (name_attr word) word db)) e
+
+-- one more word of those that stand once
+pub seen_more : (f : List ℕ → List ℕ) (words : List (Bor (List ℕ))) (i : ℕ) (d : Bor (List ℕ)) (now after : List ℕ) → i < length words → once_each now ≡ once_each (flat_map f (words_seen (take i words))) → Gathers (f (get_or words i d).now) now after → once_each after ≡ once_each (flat_map f (words_seen (take (i + 1) words)))
+seen_more f words i d now after within so_far one =
+    let word = get_or words i d in
+    one
+    ∙ once_behind now (flat_map f (words_seen (take i words))) (f word.now) so_far
+    ∙ sym (ap once_each
+    (ap (λ (ws : List (Bor (List ℕ))). flat_map f (words_seen ws)) (take_more words i d within)
+    ∙ ap (flat_map f) (map-append (λ (w : Bor (List ℕ)). w.now) (take i words) (word ∷ []))
+    ∙ flat_map-append f (words_seen (take i words)) (word.now ∷ [])
+    ∙ ap (λ back. flat_map f (words_seen (take i words)) ++ back) (append-nil (f word.now))))
+
+pub seen_count : (g : List ℕ → ℕ) (words : List (Bor (List ℕ))) (i : ℕ) (d : Bor (List ℕ)) → i < length words → sum_by g (words_seen (take (i + 1) words)) ≡ sum_by g (words_seen (take i words)) + g (get_or words i d).now
+seen_count g words i d within =
+    ap (λ (ws : List (Bor (List ℕ))). sum_by g (words_seen ws)) (take_more words i d within)
+    ∙ ap (sum_by g) (map-append (λ (w : Bor (List ℕ)). w.now) (take i words) (get_or words i d ∷ []))
+    ∙ sum_push g (words_seen (take i words)) (get_or words i d).now
+
+-- nothing was read yet
+pub no_tuples : (db : Db) (tuples ips : List ℕ) → tuples ≡ [] → TuplesRead db tuples ips
+no_tuples db tuples ips none place e = absurd (never (ap (list_any (nat_eq place)) none) e)
+  where
+    never : list_any (nat_eq place) tuples ≡ false → list_any (nat_eq place) tuples ≡ true → ⊥
+    never f t = cc
+
+pub no_spots : (db : Db) (spots : List Spot) (ips : List ℕ) → spots ≡ [] → SpotsRead db spots ips
+no_spots db spots ips none spot e = absurd (never (ap (list_any (same_spot spot)) none) e)
+  where
+    never : list_any (same_spot spot) spots ≡ false → list_any (same_spot spot) spots ≡ true → ⊥
+    never f t = cc
