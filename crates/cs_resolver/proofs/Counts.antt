@@ -2,6 +2,7 @@
 use Rattle.std.proofs.Common.{◌≡◌, ℕ, ◌+◌, ◌*◌, ◌<◌, ◌≤◌, List, [], ◌∷◌, ◌++◌, length, get_or, take, sym, ap, ◌∙◌, Some, arith, append-nil}
 use Rattle.std.specs.Prelude.{flat_map}
 use Rattle.std.proofs.lemmas.List.{take_more}
+use Rattle.std.proofs.lemmas.List.Sums.{sum_by_push}
 use Rattle.std.specs.List.{sum_by}
 use Rattle.std.specs.Option.{option_map_or}
 use Rattle.net_base.specs.declared.ndb.NdbPair.{NdbPair}
@@ -27,8 +28,4 @@ one_count g (word ∷ other ∷ words) one = absurd (omega (arith, one))
 
 -- one more word, or net, for a sum
 pub sum_more : {X : Type 0} (g : X → ℕ) (xs : List X) (i : ℕ) (d : X) → i < length xs → sum_by g (take (i + 1) xs) ≡ sum_by g (take i xs) + g (get_or xs i d)
-sum_more {X} g xs i d within = ap (sum_by g) (take_more xs i d within) ∙ push (take i xs) (get_or xs i d)
-  where
-    push : (ys : List X) (y : X) → sum_by g (ys ++ y ∷ []) ≡ sum_by g ys + g y
-    push [] y = omega arith
-    push (z ∷ ys) y = omega (arith, push ys y)
+sum_more g xs i d within = ap (sum_by g) (take_more xs i d within) ∙ sum_by_push g (take i xs) (get_or xs i d)

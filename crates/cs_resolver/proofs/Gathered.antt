@@ -1,13 +1,14 @@
 -- Addresses that are gathered: what stands again may be left out.
-use Rattle.std.proofs.Common.{◌≡◌, ℕ, ◌+◌, ◌<◌, ◌≤◌, ◌==◌, ◌||◌, nat_eq, Bool, true, false, not, cond, List, [], ◌∷◌, ◌++◌, length, get_or, take, map, refl, sym, ap, ◌∙◌, subst, arith, append-nil, append_assoc, bytes_eq, rules, Option, ⊥}
+use Rattle.std.proofs.Common.{◌≡◌, ℕ, ◌+◌, ◌<◌, ◌≤◌, ◌==◌, ◌||◌, nat_eq, Bool, true, false, not, cond, List, [], ◌∷◌, ◌++◌, length, get_or, take, map, refl, sym, ap, ◌∙◌, subst, arith, append-nil, append_assoc, bytes_eq, rules, Option}
 use Rattle.std.specs.Prelude.{codes, flat_map, option_to_list}
 use Rattle.std.specs.Borrow.{Bor}
 use Rattle.std.specs.List.{list_any, sum_by}
 use Rattle.std.specs.Cmp.Lexicographic.{bytes_decides}
 use Rattle.std.proofs.lemmas.Bool.Decides.{nat_tests}
 use Rattle.std.proofs.lemmas.List.Folds.{list_any-append}
+use Rattle.std.proofs.lemmas.List.Sums.{sum_by_push, sum_by-take-le}
 use Rattle.std.proofs.lemmas.List.Concat.{flat_map-append}
-use Rattle.std.proofs.lemmas.List.{map-append, take_more}
+use Rattle.std.proofs.lemmas.List.{map-append, take_more, take-map}
 use Rattle.net_base.specs.declared.ndb.NdbPair.{NdbPair}
 use Rattle.net_base.specs.Addresses.{read_address}
 use Rattle.net_base.specs.Cs.{once_each, is_numeric, name_attr, word_addresses}
@@ -20,6 +21,7 @@ use Rattle.ndb_index.specs.declared.spot.Spot.{Spot}
 use Rattle.ndb_index.specs.Spots.{same_spot}
 use Rattle.ndb_index.specs.Kept.{spots_with}
 use Rattle.ndb_index.specs.Index.{found}
+use Rattle.ndb_index.proofs.Nearby.{spots_count}
 use Rattle.cs_resolver.specs.Gathering.{Gathers, AreAmong, TuplesRead, SpotsRead, words_seen}
 use Rattle.cs_resolver.specs.Probes.{numbers_at, word_found}
 use Rattle.cs_resolver.proofs.AtSpots.{at_spot_is, spots_numbers}
@@ -51,7 +53,7 @@ once_behind xs ys more same = once_onto xs more ∙ ap (λ (keys : List ℕ). on
 among_is : (n : ℕ) (ns : List ℕ) → has n ns ≡ among n ns
 unfolding has
 among_is n [] = refl
-among_is n (m ∷ ns) = ap (λ b. b || list_any (nat_eq n) ns) (turned n m (nat_eq n m) refl ∙ refl) ∙ ap (λ b. (m == n) || b) (among_is n ns)
+among_is n (m ∷ ns) = ap (λ b. b || list_any (nat_eq n) ns) (sym (turned n m (nat_eq n m) refl)) ∙ ap (λ b. (m == n) || b) (among_is n ns)
 
 among_once : (n : ℕ) (ns : List ℕ) → among n (once_each ns) ≡ among n ns
 among_once n [] = refl
@@ -169,19 +171,15 @@ words_more f words i word keys after within here put so_far =
         ap (λ ws. once_each (flat_map f ws)) (map-append (λ (w : Bor (List ℕ)). w.now) keys (word ∷ []))
         ∙ ap once_each (flat_map-append f (words_seen keys) (word.now ∷ []) ∙ ap (λ back. flat_map f (words_seen keys) ++ back) (append-nil (f word.now)))
 
-sum_push : (g : List ℕ → ℕ) (xs : List (List ℕ)) (x : List ℕ) → sum_by g (xs ++ x ∷ []) ≡ sum_by g xs + g x
-sum_push g [] x = omega arith
-sum_push g (y ∷ ys) x = omega (arith, sum_push g ys x)
-
 pub count_more : (g : List ℕ → ℕ) (words : List (List ℕ)) (i : ℕ) (word : Bor (List ℕ)) (keys after : List (Bor (List ℕ))) → i < length words → word.now ≡ get_or words i [] → after ≡ cond (has_word word.now keys) keys (keys ++ word ∷ []) → sum_by g (words_seen keys) ≤ sum_by g (take i words) → sum_by g (words_seen after) ≤ sum_by g (take (i + 1) words)
 count_more g words i word keys after within here put so_far =
     let all : sum_by g (take (i + 1) words) ≡ sum_by g (take i words) + g word.now =
-    ap (sum_by g) (take_more words i [] within) ∙ sum_push g (take i words) (get_or words i []) ∙ ap (λ w. sum_by g (take i words) + g w) (sym here) in
+    ap (sum_by g) (take_more words i [] within) ∙ sum_by_push g (take i words) (get_or words i []) ∙ ap (λ w. sum_by g (take i words) + g w) (sym here) in
     omega (arith, all, so_far, at (has_word word.now keys), ap (λ (ks : List (Bor (List ℕ))). sum_by g (words_seen ks)) put)
   where
     at : (b : Bool) → sum_by g (words_seen (cond b keys (keys ++ word ∷ []))) ≤ sum_by g (words_seen keys) + g word.now
     at true = omega arith
-    at false = omega (arith, ap (sum_by g) (map-append (λ (w : Bor (List ℕ)). w.now) keys (word ∷ [])), sum_push g (words_seen keys) word.now)
+    at false = omega (arith, ap (sum_by g) (map-append (λ (w : Bor (List ℕ)). w.now) keys (word ∷ [])), sum_by_push g (words_seen keys) word.now)
 
 -- A spot whose line has addresses, one whose line has none, and one whose tuple was read.
 
@@ -233,7 +231,7 @@ gathers_more f xs i d initial now after within so_far one =
 
 -- A word's addresses, by the way in which it is read.
 
-pub word_spots : (db : Db) (word : List ℕ) → is_numeric word ≡ false → flat_map (numbers_at db Address) (spots_with (name_attr word) word db) ≡ word_addresses db word
+word_spots : (db : Db) (word : List ℕ) → is_numeric word ≡ false → flat_map (numbers_at db Address) (spots_with (name_attr word) word db) ≡ word_addresses db word
 word_spots db word e =
     spots_numbers (name_attr word) word Address db
     ∙ sym (ap (λ b. cond b (option_to_list (read_address word)) (numbers_found (name_attr word) word Address db)) e)
@@ -242,8 +240,26 @@ pub word_spelled : (db : Db) (word : List ℕ) (o : Option ℕ) → is_numeric w
 word_spelled db word o e read =
     ap (λ b. cond b (option_to_list (read_address word)) (numbers_found (name_attr word) word Address db)) e ∙ ap option_to_list read
 
-pub word_cost : (db : Db) (word : List ℕ) → is_numeric word ≡ false → word_found db word ≡ found (name_attr word) word db
+word_cost : (db : Db) (word : List ℕ) → is_numeric word ≡ false → word_found db word ≡ found (name_attr word) word db
 word_cost db word e = ap (λ b. cond b 0 (found (name_attr word) word db)) e
+
+pub not_numeric : (b c : Bool) → b ≡ c → not b ≡ true → c ≡ false
+not_numeric true c e f = absurd cc
+not_numeric false c e f = sym e
+
+-- the spots by which a word's addresses are gathered, and how many they are
+pub word_gathered : (db : Db) (word attr : List ℕ) (spots : List Spot) → is_numeric word ≡ false → attr ≡ name_attr word → spots ≡ spots_with attr word db → flat_map (numbers_at db Address) spots ≡ word_addresses db word
+word_gathered db word attr spots e attr_is spots_are =
+    ap (λ (those : List Spot). flat_map (numbers_at db Address) those) spots_are
+    ∙ ap (λ (a : List ℕ). flat_map (numbers_at db Address) (spots_with a word db)) attr_is
+    ∙ word_spots db word e
+
+pub word_count : (db : Db) (word attr : List ℕ) (spots : List Spot) → is_numeric word ≡ false → attr ≡ name_attr word → spots ≡ spots_with attr word db → length spots ≡ word_found db word
+word_count db word attr spots e attr_is spots_are =
+    ap (λ (those : List Spot). length those) spots_are
+    ∙ spots_count attr word db
+    ∙ ap (λ (a : List ℕ). found a word db) attr_is
+    ∙ sym (word_cost db word e)
 
 -- one more word of those that stand once
 pub seen_more : (f : List ℕ → List ℕ) (words : List (Bor (List ℕ))) (i : ℕ) (d : Bor (List ℕ)) (now after : List ℕ) → i < length words → once_each now ≡ once_each (flat_map f (words_seen (take i words))) → Gathers (f (get_or words i d).now) now after → once_each after ≡ once_each (flat_map f (words_seen (take (i + 1) words)))
@@ -261,7 +277,11 @@ pub seen_count : (g : List ℕ → ℕ) (words : List (Bor (List ℕ))) (i : ℕ
 seen_count g words i d within =
     ap (λ (ws : List (Bor (List ℕ))). sum_by g (words_seen ws)) (take_more words i d within)
     ∙ ap (sum_by g) (map-append (λ (w : Bor (List ℕ)). w.now) (take i words) (get_or words i d ∷ []))
-    ∙ sum_push g (words_seen (take i words)) (get_or words i d).now
+    ∙ sum_by_push g (words_seen (take i words)) (get_or words i d).now
+
+pub seen_least : (g : List ℕ → ℕ) (words : List (Bor (List ℕ))) (i : ℕ) (d : Bor (List ℕ)) → i < length words → sum_by g (words_seen (take i words)) + g (get_or words i d).now ≤ sum_by g (words_seen words)
+seen_least g words i d within =
+    omega (arith, seen_count g words i d within, sum_by-take-le g (words_seen words) (i + 1), ap (sum_by g) (take-map (λ (w : Bor (List ℕ)). w.now) (i + 1) words))
 
 -- nothing was read yet
 pub no_tuples : (db : Db) (tuples ips : List ℕ) → tuples ≡ [] → TuplesRead db tuples ips

@@ -76,7 +76,7 @@ near_is_three names all =
     ∙ ap (near_of (tuples_with (codes "sys") (codes "anna") worked_db)) (own_more names all)
 
 looks_of : ℕ → Db → Db → Db → ℕ
-looks_of near helix il udp = 2 * near + ((length helix + 0) + (length il + (length udp + 0)))
+looks_of near helix il udp = 2 * near + ((0 + length helix) + ((0 + length il) + length udp))
 
 pub query_is_eight : (names : List (List ℕ)) → AreOthers names → most_probes (worked_db ++ systems names) (codes "anna") (Il ∷ Udp ∷ []) (codes "net!helix!9fs") ≡ 8
 unfolding looks_of digits

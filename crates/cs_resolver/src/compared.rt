@@ -1,4 +1,5 @@
 //! The plain program and the index over many databases.
+use crate::tests::{self, WORKED};
 use crate::{CsError, answer, answer_indexed};
 use ndb_index::Index;
 use ndb_search::{closest, search};
@@ -116,5 +117,29 @@ fn both_answer_alike(rt: HostRuntime) -> Result<(), Fail> {
             assert!(rt; finds_alike(alloc, &db, &index, attr)?, "{seed} {attr}");
         }
     }
+    Ok(())
+}
+
+/// Adds ten thousand systems.
+fn add_systems(alloc: Global, db: &mut Db) -> Result<(), AllocError> {
+    for number in 1..10_001_u32 {
+        let name = format!(in alloc; "h{number}")?;
+        db.push(tests::tuple_of(alloc, &[&[("sys", name.as_str()), ("ip", "10.1.0.1")]])?)?;
+    }
+    Ok(())
+}
+
+#[test]
+fn the_worked_query_beside_ten_thousand_systems(rt: HostRuntime) -> Result<(), Fail> {
+    let alloc = rt.alloc();
+    let mut db = tests::db_of(alloc, WORKED)?;
+    add_systems(alloc, &mut db)?;
+    let index = Index::new(alloc, db)?;
+    let mut text = told(alloc, answer_indexed(alloc, &index, b"anna", &[Proto::Il, Proto::Udp], b"net!helix!9fs"))?;
+    add_lines(&index.closest(alloc, b"anna", b"auth")?, &mut text)?;
+    assert_eq!(rt;
+        text.as_slice(),
+        b"/net/il/clone 135.104.9.31!17008\n/net/il/clone 10.0.0.31!17008\nhelix\n".as_slice()
+    );
     Ok(())
 }

@@ -3,9 +3,9 @@ use net_base::{Db, Line, NdbPair, Octets, Proto, Tuple};
 use std::alloc::{AllocError, Global};
 use std::test::Fail;
 
-type Lists<'a> = &'a [&'a [&'a [(&'a str, &'a str)]]];
+pub(crate) type Lists<'a> = &'a [&'a [&'a [(&'a str, &'a str)]]];
 
-const WORKED: Lists<'static> = &[
+pub(crate) const WORKED: Lists<'static> = &[
     &[
         &[
             ("ipnet", "astro"),
@@ -47,7 +47,7 @@ fn line_of(alloc: Global, pairs: &[(&str, &str)]) -> Result<Line, AllocError> {
     Ok(line)
 }
 
-fn tuple_of(alloc: Global, lines: &[&[(&str, &str)]]) -> Result<Tuple, AllocError> {
+pub(crate) fn tuple_of(alloc: Global, lines: &[&[(&str, &str)]]) -> Result<Tuple, AllocError> {
     let mut tuple = Tuple::new(alloc);
     for line in lines {
         tuple.push(line_of(alloc, line)?)?;
@@ -55,7 +55,7 @@ fn tuple_of(alloc: Global, lines: &[&[(&str, &str)]]) -> Result<Tuple, AllocErro
     Ok(tuple)
 }
 
-fn db_of(alloc: Global, tuples: Lists<'_>) -> Result<Db, AllocError> {
+pub(crate) fn db_of(alloc: Global, tuples: Lists<'_>) -> Result<Db, AllocError> {
     let mut db = Db::new(alloc);
     for tuple in tuples {
         db.push(tuple_of(alloc, tuple)?)?;

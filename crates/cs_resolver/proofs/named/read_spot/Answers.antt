@@ -26,16 +26,16 @@ returns-then-line_names-clause-read g c =
     (ap (λ (attr : List ℕ). list_any (has_attr attr) c.line_at-line.result.now) (sym c.attr.ensures) ∙ sym c.line_names.ensures ∙ c.if-line_names.true) c.in_ok-add_on.ensures)
     c.requires.read
 
-pub returns-then-not-insert-clause-ips : goal.returns-then-not-insert-clause-ips
-returns-then-not-insert-clause-ips g c =
+pub returns-then-not-branch-clause-ips : goal.returns-then-not-branch-clause-ips
+returns-then-not-branch-clause-ips g c =
     gather_again c.args.index.now c.args.spot c.at-tuple.result.now c.line_at-line.result.now c.args.ips.now.items c.at-tuple.ensures.tuple c.line_at-line.ensures
     (ap (λ (attr : List ℕ). list_any (has_attr attr) c.line_at-line.result.now) (sym c.attr.ensures) ∙ sym c.line_names.ensures ∙ c.if-line_names.false)
-    (c.requires.read c.args.spot.place (was_there _ _ c.in_ok-insert.ensures.added c.if-not-insert.true))
+    (c.requires.read c.args.spot.place (was_there _ _ c.in_ok-insert.ensures.added c.if-not-branch.true))
 
-pub returns-then-not-insert-clause-read : goal.returns-then-not-insert-clause-read
-returns-then-not-insert-clause-read g c =
+pub returns-then-not-branch-clause-read : goal.returns-then-not-branch-clause-read
+returns-then-not-branch-clause-read g c =
     tuples_again c.args.index.now c.args.tuples.now.keys c.insert.new.self.keys c.args.spot.place c.args.ips.now.items c.in_ok-insert.ensures.updates.0
-    (was_there _ _ c.in_ok-insert.ensures.added c.if-not-insert.true) c.requires.read
+    (was_there _ _ c.in_ok-insert.ensures.added c.if-not-branch.true) c.requires.read
 
 pub returns-clause-ips : goal.returns-clause-ips
 returns-clause-ips g c =

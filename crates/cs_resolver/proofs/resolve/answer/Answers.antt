@@ -2,12 +2,8 @@ use Rattle.std.proofs.Common.{◌≡◌, ℕ, ◌<◌, List, [], ◌∷◌, leng
 use Rattle.std.proofs.lemmas.Bool.Decides.{nat_tests}
 use Rattle.cs_resolver.specs.declared.line.Target.{Target}
 use Rattle.cs_resolver.specs.Targets.{target_texts}
-use Rattle.cs_resolver.proofs.Answering.{no_service, with_lines}
+use Rattle.cs_resolver.proofs.Answering.{no_service, with_lines, some_texts}
 use Rattle.cs_resolver.proofs.resolve.answer.Goals as goal
-
-some_texts : (targets : List Target) → 0 < length targets → 0 < length (target_texts targets)
-some_texts [] some = absurd (omega arith)
-some_texts (target ∷ targets) some = omega arith
 
 pub returns-then-len-eq0-2-clause-err : goal.returns-then-len-eq0-2-clause-err
 returns-then-len-eq0-2-clause-err c =

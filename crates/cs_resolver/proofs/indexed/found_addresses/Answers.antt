@@ -1,0 +1,18 @@
+use Rattle.std.proofs.Common.{List, ℕ, sym, ap, ◌∙◌, ◌<◌, arith, length}
+use Rattle.std.specs.Prelude.{flat_map}
+use Rattle.std.proofs.lemmas.Bool.Decides.{nat_tests}
+use Rattle.net_base.specs.Cs.{own_first, once_each, word_addresses}
+use Rattle.cs_resolver.proofs.AtSpots.{few_first}
+use Rattle.cs_resolver.proofs.Answering.{covered_first_is}
+use Rattle.cs_resolver.proofs.indexed.found_addresses.Goals as goal
+
+pub returns-then-len-lt2-clause-ips : goal.returns-then-len-lt2-clause-ips
+returns-then-len-lt2-clause-ips g c =
+    sym (few_first c.args.me.now c.args.index.now c.in_ok-ips.ips.items (grind (arith, nat_tests, c.in_ok-ips.ips.ok.0)))
+    ∙ ap (own_first c.args.me.now c.args.index.now) c.in_ok-ips.ensures.ips
+
+pub returns-clause-ips : goal.returns-clause-ips
+returns-clause-ips g c =
+    c.in_ok-sorted.ensures
+    ∙ covered_first_is c.in_ok-prefixes.prefixes c.args.me.now c.args.index.now c.deref.result.now c.in_ok-prefixes.ensures.prefixes
+    ∙ ap (own_first c.args.me.now c.args.index.now) (c.deref.ensures.value ∙ c.in_ok-ips.ensures.ips)
