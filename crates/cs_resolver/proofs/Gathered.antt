@@ -200,10 +200,12 @@ gather_again db spot tuple line old tuple_is line_is named known =
     (subst (λ (more : List ℕ). AreAmong more old) (ap (numbers_in Address) (sym tuple_is) ∙ sym (at_is db spot tuple line tuple_is line_is ∙ near_in Address line tuple named)) known)
 
 -- a key that was put in was there, or it wasn't
-pub was_there : (b : Bool) (added : Bool) → added ≡ not b → not added ≡ true → b ≡ true
+pub was_there : (b : Bool) (added : Bool) → added ≡ not b → added ≡ false → b ≡ true
 was_there true added e f = refl
-was_there false true e f = absurd cc
-was_there false false e f = absurd cc
+was_there false added e f = absurd (apart (sym e ∙ f))
+  where
+    apart : true ≡ false → ⊥
+    apart g = cc
 
 -- the tuples with one more that was among them
 pub tuples_again : (db : Db) (tuples after : List ℕ) (at : ℕ) (ips : List ℕ) → ((place : ℕ) → list_any (nat_eq place) after ≡ cond (nat_eq at place) true (list_any (nat_eq place) tuples)) → list_any (nat_eq at) tuples ≡ true → TuplesRead db tuples ips → TuplesRead db after ips
@@ -243,10 +245,6 @@ word_spelled db word o e read =
 word_cost : (db : Db) (word : List ℕ) → is_numeric word ≡ false → word_found db word ≡ found (name_attr word) word db
 word_cost db word e = ap (λ b. cond b 0 (found (name_attr word) word db)) e
 
-pub not_numeric : (b c : Bool) → b ≡ c → not b ≡ true → c ≡ false
-not_numeric true c e f = absurd cc
-not_numeric false c e f = sym e
-
 -- the spots by which a word's addresses are gathered, and how many they are
 pub word_gathered : (db : Db) (word attr : List ℕ) (spots : List Spot) → is_numeric word ≡ false → attr ≡ name_attr word → spots ≡ spots_with attr word db → flat_map (numbers_at db Address) spots ≡ word_addresses db word
 word_gathered db word attr spots e attr_is spots_are =
@@ -273,15 +271,20 @@ seen_more f words i d now after within so_far one =
     ∙ flat_map-append f (words_seen (take i words)) (word.now ∷ [])
     ∙ ap (λ back. flat_map f (words_seen (take i words)) ++ back) (append-nil (f word.now))))
 
-pub seen_count : (g : List ℕ → ℕ) (words : List (Bor (List ℕ))) (i : ℕ) (d : Bor (List ℕ)) → i < length words → sum_by g (words_seen (take (i + 1) words)) ≡ sum_by g (words_seen (take i words)) + g (get_or words i d).now
+seen_count : (g : List ℕ → ℕ) (words : List (Bor (List ℕ))) (i : ℕ) (d : Bor (List ℕ)) → i < length words → sum_by g (words_seen (take (i + 1) words)) ≡ sum_by g (words_seen (take i words)) + g (get_or words i d).now
 seen_count g words i d within =
     ap (λ (ws : List (Bor (List ℕ))). sum_by g (words_seen ws)) (take_more words i d within)
     ∙ ap (sum_by g) (map-append (λ (w : Bor (List ℕ)). w.now) (take i words) (get_or words i d ∷ []))
     ∙ sum_by_push g (words_seen (take i words)) (get_or words i d).now
 
-pub seen_least : (g : List ℕ → ℕ) (words : List (Bor (List ℕ))) (i : ℕ) (d : Bor (List ℕ)) → i < length words → sum_by g (words_seen (take i words)) + g (get_or words i d).now ≤ sum_by g (words_seen words)
-seen_least g words i d within =
-    omega (arith, seen_count g words i d within, sum_by-take-le g (words_seen words) (i + 1), ap (sum_by g) (take-map (λ (w : Bor (List ℕ)). w.now) (i + 1) words))
+-- the cost with one more word
+pub seen_cost : (g : List ℕ → ℕ) (words : List (Bor (List ℕ))) (i : ℕ) (d : Bor (List ℕ)) (initial now after : ℕ) → i < length words → now ≤ initial + sum_by g (words_seen (take i words)) → after ≤ now + g (get_or words i d).now → after ≤ initial + sum_by g (words_seen (take (i + 1) words))
+seen_cost g words i d initial now after within so_far one = omega (arith, so_far, one, seen_count g words i d within)
+
+-- and within the cost of all
+pub seen_within : (g : List ℕ → ℕ) (words : List (Bor (List ℕ))) (i : ℕ) (d : Bor (List ℕ)) (initial now after : ℕ) → i < length words → now ≤ initial + sum_by g (words_seen (take i words)) → after ≤ now + g (get_or words i d).now → after ≤ initial + sum_by g (words_seen words)
+seen_within g words i d initial now after within so_far one =
+    omega (arith, seen_cost g words i d initial now after within so_far one, sum_by-take-le g (words_seen words) (i + 1), ap (sum_by g) (take-map (λ (w : Bor (List ℕ)). w.now) (i + 1) words))
 
 -- nothing was read yet
 pub no_tuples : (db : Db) (tuples ips : List ℕ) → tuples ≡ [] → TuplesRead db tuples ips

@@ -1,8 +1,8 @@
-use Rattle.std.proofs.Common.{List, ℕ, sym, arith, subst}
+use Rattle.std.proofs.Common.{List, ℕ, sym, ◌∙◌, arith, subst}
 use Rattle.cs_resolver.specs.Gathering.{Gathers}
 use Rattle.cs_resolver.specs.Probes.{AreSpots}
 use Rattle.cs_resolver.proofs.AtSpots.{spots_are_spots}
-use Rattle.cs_resolver.proofs.Gathered.{not_numeric, word_gathered, word_count}
+use Rattle.cs_resolver.proofs.Gathered.{word_gathered, word_count}
 use Rattle.cs_resolver.proofs.named.add_word.Goals as goal
 
 pub add_spots-requires-clause-each : goal.add_spots-requires-clause-each
@@ -10,14 +10,14 @@ add_spots-requires-clause-each g c = subst (AreSpots c.args.index.now) (sym c.sp
 
 pub returns-in_err-add_spots-clause-cost : goal.returns-in_err-add_spots-clause-cost
 returns-in_err-add_spots-clause-cost g c =
-    omega (arith, c.add_spots.ensures.cost, word_count c.args.index.now c.args.word.now c.name_attr.result.now c.spots.result.now (not_numeric _ _ c.is_numeric.ensures c.if-not-is_numeric.true) c.name_attr.ensures c.spots.ensures)
+    omega (arith, c.add_spots.ensures.cost, word_count c.args.index.now c.args.word.now c.name_attr.result.now c.spots.result.now (sym c.is_numeric.ensures ∙ c.if-not-is_numeric.true) c.name_attr.ensures c.spots.ensures)
 
 pub returns-then-not-is_numeric-clause-ips : goal.returns-then-not-is_numeric-clause-ips
 returns-then-not-is_numeric-clause-ips g c =
     subst (λ (more : List ℕ). Gathers more c.args.ips.now.items c.add_spots.new.ips.items)
-    (word_gathered c.args.index.now c.args.word.now c.name_attr.result.now c.spots.result.now (not_numeric _ _ c.is_numeric.ensures c.if-not-is_numeric.true) c.name_attr.ensures c.spots.ensures)
+    (word_gathered c.args.index.now c.args.word.now c.name_attr.result.now c.spots.result.now (sym c.is_numeric.ensures ∙ c.if-not-is_numeric.true) c.name_attr.ensures c.spots.ensures)
     c.in_ok-add_spots.ensures.ips
 
 pub returns-then-not-is_numeric-clause-cost : goal.returns-then-not-is_numeric-clause-cost
 returns-then-not-is_numeric-clause-cost g c =
-    omega (arith, c.add_spots.ensures.cost, word_count c.args.index.now c.args.word.now c.name_attr.result.now c.spots.result.now (not_numeric _ _ c.is_numeric.ensures c.if-not-is_numeric.true) c.name_attr.ensures c.spots.ensures)
+    omega (arith, c.add_spots.ensures.cost, word_count c.args.index.now c.args.word.now c.name_attr.result.now c.spots.result.now (sym c.is_numeric.ensures ∙ c.if-not-is_numeric.true) c.name_attr.ensures c.spots.ensures)

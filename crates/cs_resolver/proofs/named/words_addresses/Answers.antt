@@ -6,14 +6,14 @@ use Rattle.std.proofs.lemmas.List.{take_all}
 use Rattle.net_base.specs.Cs.{once_each, word_addresses}
 use Rattle.cs_resolver.specs.Gathering.{words_seen}
 use Rattle.cs_resolver.specs.Probes.{word_found}
-use Rattle.cs_resolver.proofs.Gathered.{seen_more, seen_count, seen_least}
+use Rattle.cs_resolver.proofs.Gathered.{seen_more, seen_cost, seen_within}
 use Rattle.cs_resolver.proofs.named.words_addresses.Goals as goal
 
 pub returns-in_err-add_word-clause-cost : goal.returns-in_err-add_word-clause-cost
 returns-in_err-add_word-clause-cost g c =
     let words = c.as_slice-word-items.result.now in
-    omega (arith, c.loop-word.invariant.cost, c.add_word.ensures.cost,
-      seen_least (word_found c.args.index.now) words c.loop-word.word-index _ (omega arith),
+    omega (arith,
+      seen_within (word_found c.args.index.now) words c.loop-word.word-index _ c.args.steps.now c.loop-word.steps c.add_word.new.steps (omega arith) c.loop-word.invariant.cost c.add_word.ensures.cost,
       ap (λ (keys : List (Bor (List ℕ))). sum_by (word_found c.args.index.now) (words_seen keys)) c.as_slice-word-items.ensures.keys,
       c.in_ok-once.ensures.count (word_found c.args.index.now))
 
@@ -23,7 +23,7 @@ loop-word-preserved g c =
       ips = seen_more (word_addresses c.args.index.now) words c.loop-word.word-index _ c.loop-word.ips.items c.add_word.new.ips.items (omega arith) c.loop-word.invariant.ips c.in_ok-add_word.ensures.ips;
       tuples = c.in_ok-add_word.ensures.tuples;
       spots = c.in_ok-add_word.ensures.spots;
-      cost = omega (arith, c.loop-word.invariant.cost, c.in_ok-add_word.ensures.cost, seen_count (word_found c.args.index.now) words c.loop-word.word-index _ (omega arith));
+      cost = seen_cost (word_found c.args.index.now) words c.loop-word.word-index _ c.args.steps.now c.loop-word.steps c.add_word.new.steps (omega arith) c.loop-word.invariant.cost c.in_ok-add_word.ensures.cost;
     }
 
 pub returns-clause-ips : goal.returns-clause-ips
