@@ -1,12 +1,12 @@
 -- The answer to a query, by the steps of the resolver.
-use Rattle.std.proofs.Common.{◌≡◌, ℕ, ◌<◌, Bool, true, false, cond, not, ◌||◌, List, [], ◌∷◌, ◌++◌, length, map, refl, sym, ap, ◌∙◌, Some, arith, append-nil, bytes_eq}
-use Rattle.std.specs.Prelude.{filter, filter_map, flat_map, codes}
+use Rattle.std.proofs.Common.{◌≡◌, ℕ, ◌<◌, Bool, true, false, cond, not, List, [], ◌∷◌, ◌++◌, length, map, refl, sym, ap, ◌∙◌, Some, arith, bytes_eq}
+use Rattle.std.specs.Prelude.{filter, flat_map, codes}
 use Rattle.std.proofs.lemmas.List.Elements.{filter_agree}
 use Rattle.std.proofs.lemmas.Slice.Eq.{bytes_eq-Decides}
 use Rattle.net_base.specs.declared.ndb.NdbPair.{NdbPair}
 use Rattle.net_base.specs.declared.address.Proto.{Proto}
-use Rattle.net_base.specs.Networks.{own_networks, is_on, longest_first}
-use Rattle.net_base.specs.Cs.{CsAnswer, Lines, Refused, Query, read_query, answer_read, answer_query, cs_list, refused_where_empty, nets_of, host_words, address_texts, own_first, ports_of, cs_line, lines_of}
+use Rattle.net_base.specs.Networks.{own_networks, is_on}
+use Rattle.net_base.specs.Cs.{CsAnswer, Lines, Refused, Query, read_query, answer_read, cs_list, refused_where_empty, nets_of, host_words, address_texts, own_first, ports_of, cs_line, lines_of}
 use Rattle.ndb_tuple.specs.declared.prefixes.Prefix.{Prefix}
 use Rattle.ndb_tuple.specs.Prefixes.{covers}
 use Rattle.cs_resolver.specs.declared.line.Target.{Target}

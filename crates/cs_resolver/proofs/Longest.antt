@@ -1,5 +1,5 @@
 -- The networks with the longest mask first are the same networks.
-use Rattle.std.proofs.Common.{◌≡◌, ◌≢◌, ℕ, zero, suc, ◌+◌, ◌-◌, ◌<◌, ◌≤◌, ◌==◌, ◌||◌, ◌&&◌, Bool, true, false, cond, List, [], ◌∷◌, ◌++◌, refl, sym, ap, ◌∙◌, Option, Some, None, arith, unwrap_or}
+use Rattle.std.proofs.Common.{◌≡◌, ◌≢◌, ℕ, zero, suc, ◌+◌, ◌-◌, ◌<◌, ◌≤◌, ◌==◌, ◌||◌, ◌&&◌, Bool, true, false, cond, List, [], ◌∷◌, refl, sym, ap, ◌∙◌, Option, Some, None, arith, unwrap_or}
 use Rattle.std.specs.Prelude.{filter, filter_map, flat_map, find, option_and_then, option_map, codes}
 use Rattle.std.specs.List.{list_any, cons_option, range_with_len}
 use Rattle.std.proofs.lemmas.List.Folds.{list_any-append}

@@ -1,5 +1,5 @@
 -- Addresses that are gathered, where some may be left out that stand again.
-use Rattle.std.specs.Prelude.{◌≡◌, ℕ, Bool, true, List, ◌++◌, map, nat_eq, get_or, []}
+use Rattle.std.specs.Prelude.{◌≡◌, ℕ, true, List, ◌++◌, map, nat_eq, get_or, []}
 use Rattle.std.specs.Borrow.{Bor}
 use Rattle.std.specs.List.{list_any}
 use Rattle.net_base.specs.declared.ndb.NdbPair.{NdbPair}

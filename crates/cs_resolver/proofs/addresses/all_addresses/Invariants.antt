@@ -1,5 +1,5 @@
-use Rattle.std.proofs.Common.{◌≡◌, ◌++◌, not, take, map}
-use Rattle.std.specs.Prelude.{filter, flat_map}
+use Rattle.std.proofs.Common.{◌≡◌, take}
+use Rattle.std.specs.Prelude.{flat_map}
 use Rattle.net_base.specs.Cs.{word_addresses}
 use Rattle.cs_resolver.proofs.addresses.all_addresses.Given as goal
 

@@ -1,5 +1,5 @@
-use Rattle.std.proofs.Common.{◌≡◌, ◌++◌, not, take, map}
-use Rattle.std.specs.Prelude.{filter, flat_map}
+use Rattle.std.proofs.Common.{◌≡◌, ◌++◌, not, take}
+use Rattle.std.specs.Prelude.{filter}
 use Rattle.ndb_tuple.specs.Prefixes.{covers}
 use Rattle.cs_resolver.proofs.addresses.covered_first.Given as goal
 

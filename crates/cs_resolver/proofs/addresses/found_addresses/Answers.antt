@@ -1,8 +1,6 @@
 use Rattle.std.proofs.Common.{ap, ◌∙◌, map, List, ℕ}
-use Rattle.std.specs.Prelude.{flat_map}
-use Rattle.net_base.specs.declared.ndb.NdbPair.{NdbPair}
 use Rattle.net_base.specs.Networks.{Network, is_on}
-use Rattle.net_base.specs.Cs.{own_first, once_each, word_addresses}
+use Rattle.net_base.specs.Cs.{own_first, once_each}
 use Rattle.ndb_tuple.specs.Prefixes.{network_seen}
 use Rattle.cs_resolver.proofs.Answering.{covered_first_is}
 use Rattle.cs_resolver.proofs.Longest.{own_on}

@@ -1,5 +1,4 @@
-use Rattle.std.proofs.Common.{◌≡◌, ◌++◌, not, take, map}
-use Rattle.std.specs.Prelude.{filter, flat_map}
+use Rattle.std.proofs.Common.{◌≡◌, take, map}
 use Rattle.net_base.specs.Addresses.{address_text}
 use Rattle.cs_resolver.specs.Targets.{target_texts}
 use Rattle.cs_resolver.proofs.addresses.ip_targets.Given as goal

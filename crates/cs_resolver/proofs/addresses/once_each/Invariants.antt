@@ -1,5 +1,4 @@
-use Rattle.std.proofs.Common.{◌≡◌, ◌++◌, not, take, map}
-use Rattle.std.specs.Prelude.{filter, flat_map}
+use Rattle.std.proofs.Common.{◌≡◌, take}
 use Rattle.net_base.specs.Cs.{once_each}
 use Rattle.cs_resolver.proofs.addresses.once_each.Given as goal
 

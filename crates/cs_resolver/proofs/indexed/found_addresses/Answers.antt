@@ -1,7 +1,6 @@
-use Rattle.std.proofs.Common.{List, ℕ, sym, ap, ◌∙◌, ◌<◌, arith, length}
-use Rattle.std.specs.Prelude.{flat_map}
+use Rattle.std.proofs.Common.{sym, ap, ◌∙◌, arith}
 use Rattle.std.proofs.lemmas.Bool.Decides.{nat_tests}
-use Rattle.net_base.specs.Cs.{own_first, once_each, word_addresses}
+use Rattle.net_base.specs.Cs.{own_first}
 use Rattle.cs_resolver.proofs.AtSpots.{few_first}
 use Rattle.cs_resolver.proofs.Answering.{covered_first_is}
 use Rattle.cs_resolver.proofs.indexed.found_addresses.Goals as goal

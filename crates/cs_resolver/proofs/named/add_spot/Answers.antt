@@ -1,4 +1,3 @@
-use Rattle.std.proofs.Common.{sym, ap, ◌∙◌, arith}
 use Rattle.ndb_tuple.specs.declared.numbers.Kind.TheVariants.{Address}
 use Rattle.cs_resolver.specs.Probes.{numbers_at}
 use Rattle.cs_resolver.proofs.Gathered.{gathers_known, spots_more, spots_again, was_there}

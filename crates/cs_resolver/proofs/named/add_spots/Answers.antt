@@ -1,4 +1,4 @@
-use Rattle.std.proofs.Common.{List, sym, ap, ◌∙◌, arith, subst}
+use Rattle.std.proofs.Common.{List, arith, subst}
 use Rattle.std.specs.Prelude.{flat_map}
 use Rattle.std.proofs.lemmas.List.{take_all}
 use Rattle.ndb_index.specs.declared.spot.Spot.{Spot}

@@ -1,4 +1,4 @@
-use Rattle.std.proofs.Common.{◌≡◌, ◌+◌, ◌≤◌, take}
+use Rattle.std.proofs.Common.{◌+◌, ◌≤◌, take}
 use Rattle.std.specs.Prelude.{flat_map}
 use Rattle.ndb_tuple.specs.declared.numbers.Kind.TheVariants.{Address}
 use Rattle.cs_resolver.specs.Gathering.{Gathers, TuplesRead, SpotsRead}

@@ -1,8 +1,7 @@
-use Rattle.std.proofs.Common.{List, ℕ, [], ap, sym, ◌∙◌, arith}
+use Rattle.std.proofs.Common.{List, ℕ, [], ap, ◌∙◌, arith}
 use Rattle.std.specs.Prelude.{flat_map}
 use Rattle.std.specs.Borrow.{Bor}
 use Rattle.std.specs.List.{sum_by}
-use Rattle.std.proofs.lemmas.List.{take_all}
 use Rattle.net_base.specs.Cs.{once_each}
 use Rattle.ndb_index.proofs.Nearby.{same_default}
 use Rattle.cs_resolver.specs.Gathering.{words_seen}

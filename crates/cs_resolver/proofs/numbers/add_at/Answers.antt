@@ -1,5 +1,4 @@
-use Rattle.std.proofs.Common.{List, ℕ, ◌++◌, sym, ap, ◌∙◌, arith, subst, length}
-use Rattle.ndb_index.proofs.Own.{Db}
+use Rattle.std.proofs.Common.{List, ℕ, ◌++◌, sym, ap, ◌∙◌, arith, length}
 use Rattle.cs_resolver.proofs.AtSpots.{Lines, at_spot_is}
 use Rattle.cs_resolver.proofs.numbers.add_at.Goals as goal
 

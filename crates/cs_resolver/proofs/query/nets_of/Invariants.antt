@@ -1,5 +1,4 @@
-use Rattle.std.proofs.Common.{◌≡◌, ◌++◌, not, take, map}
-use Rattle.std.specs.Prelude.{filter, flat_map}
+use Rattle.std.proofs.Common.{◌≡◌, take}
 use Rattle.net_base.specs.Cs.{nets_of}
 use Rattle.cs_resolver.proofs.query.nets_of.Given as goal
 

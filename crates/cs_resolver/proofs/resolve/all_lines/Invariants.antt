@@ -1,5 +1,5 @@
-use Rattle.std.proofs.Common.{◌≡◌, ◌++◌, not, take, map}
-use Rattle.std.specs.Prelude.{filter, flat_map}
+use Rattle.std.proofs.Common.{◌≡◌, take}
+use Rattle.std.specs.Prelude.{flat_map}
 use Rattle.net_base.specs.Cs.{lines_of}
 use Rattle.cs_resolver.specs.Targets.{target_texts}
 use Rattle.cs_resolver.proofs.resolve.all_lines.Given as goal
