@@ -44,7 +44,11 @@ pub fn once_each(alloc: Global, numbers: &[u32]) -> Result<Vec<u32>, AllocError>
 }
 
 /// Addresses that the prefixes cover, and then the others, each in order.
-pub fn covered_first(alloc: Global, prefixes: &Prefixes, ips: &[u32]) -> Result<Vec<u32>, AllocError>
+pub fn covered_first(
+    alloc: Global,
+    prefixes: &Prefixes,
+    ips: &[u32],
+) -> Result<Vec<u32>, AllocError>
     ensures { IfOk result (λ sorted. sorted.items ≡ covered_first prefixes.now ips.now) }
 {
     let mut sorted = Vec::new(alloc);

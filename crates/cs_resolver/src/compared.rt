@@ -12,13 +12,33 @@ const ATTRS: &[&str] = &[
 ];
 
 const VALUES: &[&str] = &[
-    "a", "b", "c.d", "", "10.1.0.1", "10.1.0.2", "10.1.2.0", "10.9.0.0", "255.255.0.0",
-    "255.255.255.0", "7", "*",
+    "a",
+    "b",
+    "c.d",
+    "",
+    "10.1.0.1",
+    "10.1.0.2",
+    "10.1.2.0",
+    "10.9.0.0",
+    "255.255.0.0",
+    "255.255.255.0",
+    "7",
+    "*",
 ];
 
 const QUERIES: &[&str] = &[
-    "net!a!a", "net!$auth!a", "net!$auth!7", "il!b!b", "udp!c.d!a", "net!*!a", "net!$ip!b",
-    "net!10.1.0.1!7", "tcp!a!a", "net!$nosuch!7", "net!a", "net!$sys!a",
+    "net!a!a",
+    "net!$auth!a",
+    "net!$auth!7",
+    "il!b!b",
+    "udp!c.d!a",
+    "net!*!a",
+    "net!$ip!b",
+    "net!10.1.0.1!7",
+    "tcp!a!a",
+    "net!$nosuch!7",
+    "net!a",
+    "net!$sys!a",
 ];
 
 /// The next of a row of numbers without a pattern.
@@ -88,7 +108,10 @@ fn add_lines(lines: &Lines, text: &mut Vec<u8>) -> Result<(), AllocError> {
 fn is_alike(alloc: Global, db: &Db, index: &Index, query: &str) -> Result<bool, AllocError> {
     let nets = [Proto::Il, Proto::Udp];
     let plain = told(alloc, answer(alloc, db, b"a", &nets, query.as_bytes()))?;
-    let indexed = told(alloc, answer_indexed(alloc, index, b"a", &nets, query.as_bytes()))?;
+    let indexed = told(
+        alloc,
+        answer_indexed(alloc, index, b"a", &nets, query.as_bytes()),
+    )?;
     Ok(plain == indexed)
 }
 
@@ -135,7 +158,16 @@ fn the_worked_query_beside_ten_thousand_systems(rt: HostRuntime) -> Result<(), F
     let mut db = tests::db_of(alloc, WORKED)?;
     add_systems(alloc, &mut db)?;
     let index = Index::new(alloc, db)?;
-    let mut text = told(alloc, answer_indexed(alloc, &index, b"anna", &[Proto::Il, Proto::Udp], b"net!helix!9fs"))?;
+    let mut text = told(
+        alloc,
+        answer_indexed(
+            alloc,
+            &index,
+            b"anna",
+            &[Proto::Il, Proto::Udp],
+            b"net!helix!9fs",
+        ),
+    )?;
     add_lines(&index.closest(alloc, b"anna", b"auth")?, &mut text)?;
     assert_eq!(rt;
         text.as_slice(),

@@ -11,5 +11,4 @@ pub fn worked_bounds()
         → near_count (codes "anna") (worked_db ++ systems names) ≡ 3 }
     ensures query { (names : List (List ℕ)) → AreOthers names
         → most_probes (worked_db ++ systems names) (codes "anna") (Il ∷ Udp ∷ []) (codes "net!helix!9fs") ≡ 8 }
-{
-}
+{}

@@ -12,10 +12,12 @@ use Rattle.cs_resolver.proofs.named.words_addresses.Goals as goal
 pub returns-in_err-add_word-clause-cost : goal.returns-in_err-add_word-clause-cost
 returns-in_err-add_word-clause-cost g c =
     let words = c.as_slice-word-items.result.now in
-    omega (arith,
+    omega (
+      arith,
       seen_within (word_found c.args.index.now) words c.loop-word.word-index _ c.args.steps.now c.loop-word.steps c.add_word.new.steps (omega arith) c.loop-word.invariant.cost c.add_word.ensures.cost,
       ap (λ (keys : List (Bor (List ℕ))). sum_by (word_found c.args.index.now) (words_seen keys)) c.as_slice-word-items.ensures.keys,
-      c.in_ok-once.ensures.count (word_found c.args.index.now))
+      c.in_ok-once.ensures.count (word_found c.args.index.now),
+    )
 
 pub loop-word-preserved : goal.loop-word-preserved
 loop-word-preserved g c =
@@ -35,7 +37,10 @@ returns-clause-ips g c =
 
 pub returns-clause-cost : goal.returns-clause-cost
 returns-clause-cost g c =
-    omega (arith, c.loop-word.invariant.cost,
+    omega (
+      arith,
+      c.loop-word.invariant.cost,
       ap (λ (keys : List (Bor (List ℕ))). sum_by (word_found c.args.index.now) (words_seen keys))
           (take_all c.loop-word.word-index c.as_slice-word-items.result.now (omega arith) ∙ c.as_slice-word-items.ensures.keys),
-      c.in_ok-once.ensures.count (word_found c.args.index.now))
+      c.in_ok-once.ensures.count (word_found c.args.index.now),
+    )
