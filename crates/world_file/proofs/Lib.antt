@@ -1,4 +1,5 @@
-pub mod Places
-pub mod Connects
 pub mod Cuts
+pub mod Placed
+pub mod Overlaps
+pub mod Networks
 pub mod Spelled

@@ -1,0 +1,48 @@
+-- The networks of a host with one more interface or route.
+use Rattle.std.proofs.Common.{◌≡◌, ℕ, ◌==◌, Bool, true, false, ◌&&◌, ◌||◌, List, [], ◌∷◌, ◌++◌, refl, sym, ap, ◌∙◌}
+use Rattle.std.specs.Prelude.{bit_and}
+use Rattle.std.specs.List.{list_any}
+use Rattle.std.proofs.lemmas.List.Folds.{list_any-append}
+use Rattle.net_base.specs.declared.world.HostSpec.{HostSpec}
+use Rattle.net_base.specs.declared.world.Iface.{Iface}
+use Rattle.net_base.specs.declared.world.RouteLine.{RouteLine}
+use Rattle.world_text.specs.WorldLines.{is_network, knows_network, leads_to, with_iface, with_route, with_start}
+use Rattle.world_file.specs.Indexed.{AreNetworks, is_key}
+
+or_swap : (a b c : Bool) → ((a || b) || c) ≡ ((a || c) || b)
+or_swap true b c = refl
+or_swap false true true = refl
+or_swap false true false = refl
+or_swap false false true = refl
+or_swap false false false = refl
+
+or_end : (a b : Bool) → (a || (b || false)) ≡ (a || b)
+or_end true b = refl
+or_end false true = refl
+or_end false false = refl
+
+or_assoc : (a b c : Bool) → (a || (b || c)) ≡ ((a || b) || c)
+or_assoc true b c = refl
+or_assoc false b c = refl
+
+pushed : (net mask : ℕ) (keys : List (ℕ × ℕ)) (key : ℕ × ℕ) → list_any (is_key net mask) (keys ++ key ∷ []) ≡ (list_any (is_key net mask) keys || is_key net mask key)
+pushed net mask keys key = list_any-append (is_key net mask) keys (key ∷ []) ∙ or_end (list_any (is_key net mask) keys) (is_key net mask key)
+
+pub with_iface_too : (keys : List (ℕ × ℕ)) (h : HostSpec) (i : Iface) → AreNetworks keys h → AreNetworks (keys ++ (bit_and i.ip i.mask, i.mask) ∷ []) (with_iface i h)
+with_iface_too keys h i are net mask =
+    pushed net mask keys (bit_and i.ip i.mask, i.mask)
+    ∙ (ap (λ b. b || is_network net mask i) (are net mask)
+    ∙ (or_swap (list_any (is_network net mask) h.ifaces) (list_any (leads_to net mask) h.routes) (is_network net mask i)
+    ∙ ap (λ b. b || list_any (leads_to net mask) h.routes)
+    (sym (list_any-append (is_network net mask) h.ifaces (i ∷ []) ∙ or_end (list_any (is_network net mask) h.ifaces) (is_network net mask i)))))
+
+pub with_route_too : (keys : List (ℕ × ℕ)) (h : HostSpec) (l : RouteLine) → AreNetworks keys h → AreNetworks (keys ++ (l.net, l.mask) ∷ []) (with_route l h)
+with_route_too keys h l are net mask =
+    pushed net mask keys (l.net, l.mask)
+    ∙ (ap (λ b. b || leads_to net mask l) (are net mask)
+    ∙ (sym (or_assoc (list_any (is_network net mask) h.ifaces) (list_any (leads_to net mask) h.routes) (leads_to net mask l))
+    ∙ ap (λ b. list_any (is_network net mask) h.ifaces || b)
+    (sym (list_any-append (leads_to net mask) h.routes (l ∷ []) ∙ or_end (list_any (leads_to net mask) h.routes) (leads_to net mask l)))))
+
+pub with_start_too : (keys : List (ℕ × ℕ)) (h : HostSpec) (n : ℕ) → AreNetworks keys h → AreNetworks keys (with_start n h)
+with_start_too keys h n are net mask = are net mask
