@@ -7,8 +7,8 @@ use Rattle.net_base.specs.declared.ndb.NdbPair.{NdbPair}
 use Rattle.net_base.specs.declared.address.Proto.{Proto}
 use Rattle.net_base.specs.Networks.{own_networks, is_on, longest_first}
 use Rattle.net_base.specs.Cs.{CsAnswer, Lines, Refused, Query, read_query, answer_read, answer_query, cs_list, refused_where_empty, nets_of, host_words, address_texts, own_first, ports_of, cs_line, lines_of}
-use Rattle.ndb_search.specs.declared.prefixes.Prefixes.{Prefixes}
-use Rattle.ndb_search.specs.Prefixes.{covers}
+use Rattle.ndb_tuple.specs.declared.prefixes.Prefix.{Prefix}
+use Rattle.ndb_tuple.specs.Prefixes.{covers}
 use Rattle.cs_resolver.specs.declared.line.Target.{Target}
 use Rattle.cs_resolver.specs.Targets.{target_text, target_texts, covered_first}
 
@@ -19,7 +19,7 @@ pub cond_false : {X : Type 0} (b : Bool) (x y : X) → b ≡ false → cond b x 
 cond_false b x y e = ap (λ v. cond v x y) e
 
 -- the prefixes of a system's own networks sort as the networks do
-pub covered_first_is : (prefixes : Prefixes) (me : List ℕ) (db : List (List (List NdbPair))) (ips : List ℕ) → ((ip : ℕ) → covers prefixes ip ≡ is_on (own_networks me db) ip) → covered_first prefixes ips ≡ own_first me db ips
+pub covered_first_is : (prefixes : List Prefix) (me : List ℕ) (db : List (List (List NdbPair))) (ips : List ℕ) → ((ip : ℕ) → covers prefixes ip ≡ is_on (own_networks me db) ip) → covered_first prefixes ips ≡ own_first me db ips
 covered_first_is prefixes me db ips same =
     ap (λ front. front ++ filter (λ ip. not (covers prefixes ip)) ips) (filter_agree (covers prefixes) (is_on (own_networks me db)) same ips)
     ∙ ap (λ back. filter (is_on (own_networks me db)) ips ++ back)

@@ -7,3 +7,4 @@ pub mod DirPairs
 pub mod PairsOnce
 pub mod StepEvents
 pub mod Limits
+pub mod Callers

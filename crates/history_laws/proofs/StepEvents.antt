@@ -31,6 +31,31 @@ IsOther (event.Misuse called) = ⊥
 IsOther (event.Until moment) = ⊥
 IsOther _ = Unit {0}
 
+-- such an event that a step may record: no duty, and none of a courier or the clock
+abbrev pub IsOwn : Event → Type 0
+IsOwn (event.Begin g) = ⊥
+IsOwn (event.Born g) = ⊥
+IsOwn (event.Claim g) = ⊥
+IsOwn (event.Connect g) = ⊥
+IsOwn (event.Announced g) = ⊥
+IsOwn (event.Bound g) = ⊥
+IsOwn (event.Withdraw n g) = ⊥
+IsOwn (event.Release n g) = ⊥
+IsOwn event.Arrive = ⊥
+IsOwn (event.ArriveAt g) = ⊥
+IsOwn (event.Tick g) = ⊥
+IsOwn (event.Put to) = ⊥
+IsOwn event.Take = ⊥
+IsOwn (event.Move m) = ⊥
+IsOwn e = IsOther e
+
+pub own_other : (e : Event) → IsOwn e → IsOther e
+own_other (event.OpenPath path mode) own = own
+own_other (event.Use called) own = own
+own_other (event.Misuse called) own = own
+own_other (event.Until moment) own = own
+own_other _ own = tt
+
 -- P holds of each event that the play records, where R holds of its replies
 abbrev pub Records : (ActorName → Event → Type 0) → (Reply → Type 0) → Play → Type 0
 Records P R (Asks a e next) = P a e × ((r : Reply) → R r → Records P R (next r))
@@ -44,7 +69,7 @@ IsNamed h P called = P (name.Desk h) (event.Use called) × P (name.Desk h) (even
 
 -- P holds of the events for which it doesn't matter what the step says, and of opening what a reply gives to dial
 pub record Fits (P : ActorName → Event → Type 0) (R : Reply → Type 0) : Type 0 where
-  pub other : (a : ActorName) (e : Event) → IsOther e → P a e
+  pub other : (a : ActorName) (e : Event) → IsOwn e → P a e
   pub dialled : (r : Reply) → R r → Each (λ (line : List ℕ). IsOpened P (clone_path line)) (lines_in r)
 
 -- P holds of the events that repeat what a step says
@@ -128,7 +153,7 @@ module _ (h : ℕ) (P : ActorName → Event → Type 0) (R : Reply → Type 0) (
   accepted r next refused f g = either (is_accepted r) next refused f g
 
   -- an event that is refused or not
-  tried : (a : ActorName) (e : Event) (refused next : Play) → IsOther e → Good refused → Good next → Good (Asks a e (λ (r : Reply). if_accepted r next refused))
+  tried : (a : ActorName) (e : Event) (refused next : Play) → IsOwn e → Good refused → Good next → Good (Asks a e (λ (r : Reply). if_accepted r next refused))
   tried a e refused next other f g = (fits.other a e other, λ r fine. accepted r next refused g f)
 
   controlled : (x : Fid) (text : List ℕ) (read : Result Ctl ℕ) (refused next : Play) → Good refused → Good next → Good (controls h x text read refused next)

@@ -1,5 +1,5 @@
 -- Which slots are found, and what holds of who takes a packet.
-use Rattle.std.proofs.Common.{◌≡◌, ℕ, zero, suc, ◌+◌, not, Bool, true, false, cond, List, [], ◌∷◌, Option, Some, None, is_none, length, nat_lt, refl, sym, ap, ◌∙◌, subst, if◌then◌else◌, ◌&&◌, slice_get, arith}
+use Rattle.std.proofs.Common.{◌≡◌, ℕ, suc, ◌+◌, not, Bool, true, false, cond, List, [], ◌∷◌, Option, Some, None, is_none, length, nat_lt, refl, ap, ◌∙◌, subst, if◌then◌else◌, ◌&&◌, slice_get, arith}
 use Rattle.std.specs.Option.{option_and_then}
 use Rattle.std.proofs.lemmas.Option.{none-some, same_Some}
 use Rattle.std.proofs.lemmas.Bool.{and_parts, false≢true}
@@ -50,6 +50,7 @@ pub record TakerFound (pair : Pair) (packet : Packet) (d : Dir) (t : Taker) : Ty
   pub announces : is_announced t.listener.1.kind ≡ true
   pub unlisted : pair_place pair 1 d.pairs ≡ None
   pub apart : same_pair pair (mirror pair) ≡ false
+  pub bears : may_bear packet.body ≡ true
 
 none_is : {A : Type 0} (o : Option A) → is_none o ≡ true → o ≡ None
 none_is None is = refl
@@ -90,6 +91,7 @@ taker_found pair packet d t is = go (first_slot is_free 0 d.slots) (match_of pac
           announces = hears.1;
           unlisted = none_is _ unlisted.0;
           apart = not_is _ apart.0;
+          bears = (and_parts (may_bear packet.body) _ apart.1).0;
         })
 
     go : (x y : Option (ℕ × Slot)) → first_slot is_free 0 d.slots ≡ x → match_of packet.dst d.slots ≡ y → taken pair packet d x y ≡ Some t → TakerFound pair packet d t

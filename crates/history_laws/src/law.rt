@@ -1,5 +1,6 @@
 //! Laws of legal histories that look into no conversation.
-ghost use Rattle.std.specs.Prelude.{◌≡◌, ◌<◌, ◌≤◌, ◌∷◌, ◌++◌, List, [], ℕ, Some, true, length, take, slice_get};
+ghost use Rattle.std.specs.Prelude.{◌≡◌, ◌<◌, ◌≤◌, ◌∷◌, ◌++◌, List, [], ℕ, Some, true, length, map, take, slice_get};
+ghost use mathlib.Core.List.{IsPrefix};
 ghost use Rattle.net_base.specs.declared.actor.ActorName.{ActorName};
 ghost use Rattle.net_base.specs.declared.event.Event.TheVariants as event;
 ghost use Rattle.net_base.specs.declared.history.Entry.{Entry};
@@ -11,8 +12,9 @@ ghost use Rattle.net_base.specs.Legal.{Asked, HasRoom, IsFault, IsInTime, IsLega
 ghost use Rattle.net_base.specs.Net.{Net, after, next_net, owed, state, played, works};
 ghost use Rattle.net_base.specs.Next.{by};
 ghost use Rattle.net_base.specs.Duties.{Duty};
-ghost use Rattle.net_base.specs.Stamped.{In, same_actor};
+ghost use Rattle.net_base.specs.Stamped.{In, of_caller, same_actor};
 ghost use Rattle.net_base.specs.Written.{Given, given_in};
+ghost use Rattle.history_laws.specs.Apart.{StandsStill, own_steps, owed_by};
 
 /// A beginning of a legal history is legal, and of a timed one timed.
 pub fn prefix_is_legal()
@@ -72,4 +74,12 @@ pub fn full_callers_limit()
     ensures owes { (w : World) (net : Net) (c : ℕ) (d : Duty) → c < caller_count w → length (by net.past c) ≡ most_entries → In d (net.owed c) → limited w net ≡ true }
     ensures could { (w : World) (net : Net) (c : ℕ) → c < caller_count w → length (by net.past c) ≡ most_entries → could_record w net (caller_of w c) c ≡ true → limited w net ≡ true }
     ensures only { (w : World) (net : Net) → limited w net ≡ true → (c : ℕ) × (length (by net.past c) ≡ most_entries) × (could_record w net (caller_of w c) c ≡ true) }
+{}
+
+/// A caller stands by itself: what it owes is the fold of its own steps, and entries of others leave it as it is.
+pub fn callers_are_apart()
+    ensures fold { (w : World) (h : List Entry) (c : ℕ) → owed w h c ≡ owed_by w [] (own_steps w h c) }
+    ensures others { (w : World) (h more : List Entry) (c : ℕ) → by more c ≡ [] → StandsStill w c h (h ++ more) }
+    ensures later { (w : World) (h l : List Entry) (c : ℕ) → IsPrefix h l → by l c ≡ by h c → StandsStill w c h l }
+    ensures stamped { (h : List Entry) (c : ℕ) → by h c ≡ map (λ (y : ℕ × Entry). y.1) (of_caller c h) }
 {}

@@ -1,10 +1,14 @@
 -- What accepting a message changes, and what it doesn't.
-use Rattle.std.proofs.Common.{◌≡◌, ℕ, zero, suc, ◌+◌, Bool, true, false, List, [], ◌∷◌, ◌++◌, length, Option, Some, None, refl, ap, sym, ◌∙◌, nat_le, if◌then◌else◌, ◌||◌, is_some}
+use Rattle.std.proofs.Common.{arith, subst, ◌≡◌, ℕ, zero, suc, ◌+◌, Bool, true, false, List, [], ◌∷◌, ◌++◌, length, Option, Some, None, refl, ap, sym, ◌∙◌, nat_le, if◌then◌else◌, ◌||◌, is_some}
 use Rattle.net_base.specs.declared.il.IlMsg.{IlMsg}
 use Rattle.net_base.specs.Number.{number}
 use Rattle.net_base.specs.Timer.{Timer}
 use Rattle.net_base.specs.IlEnd.{End, rstart_of, backlog, early_at, without, becomes_early, comes_in_turn, come_in_turn, accepts, acked_to, hears, hears_ack, moves}
-use Rattle.il_machine.proofs.InTurn.{none_moves}
+use Rattle.il_machine.specs.InTurn.{in_turn, with_turned}
+use Rattle.il_machine.specs.Windows.{AreWithin, Windows, rstart_kept, windows_of}
+use Rattle.il_machine.specs.Stands.{is_kept}
+use Rattle.il_machine.proofs.InTurn.{moves_in_turn, none_moves}
+use Rattle.il_machine.proofs.Near.{none_below}
 
 -- only got and early change
 abbrev pub ChangesBoth : End → End → Type 0
@@ -129,3 +133,37 @@ no_room m e k next some full = full_if (is_some (early_at k e.early)) refl
     full_if : (b : Bool) → is_some (early_at k e.early) ≡ b → e ≡ accepts m e
     full_if true early = early_already m e k next some early
     full_if false early = rw (some, early, full) (sym (none_moves (length e.early) e next))
+
+-- it becomes early, and what is next in sequence is got
+pub accepts_in_turn : (m : IlMsg) (e : End) (k : ℕ) → number (rstart_of e) m.id (length e.got) ≡ Some k → is_some (early_at k e.early) ≡ false → nat_le 64 (backlog e) ≡ false
+    → with_turned e (in_turn (suc (length e.early)) (length e.got) (record { number = k; text = m.text } ∷ e.early)) ≡ accepts m e
+accepts_in_turn m e k some new room =
+    sym (rw (some, new, room) (moves_in_turn (suc (length e.early)) (record e { early = record { number = k; text = m.text } ∷ e.early })))
+
+-- What is kept of an end that accepts nothing.
+
+next_is_not_early : (e : End) → AreWithin (length e.got + 1) (length e.got + 20) e.early → early_at (length e.got + 1) e.early ≡ None
+next_is_not_early e near = none_below (length e.got + 1) (length e.got + 1) (length e.got + 20) e.early (omega arith) near
+
+-- the numbers of a message and of what is early, as they are kept
+pub record Hears (w : Windows) (m : IlMsg) (told : Option ℕ) : Type 0 where
+  pub near : AreWithin (w.got + 1) (w.got + 20) w.early
+  pub number : number (rstart_kept w) m.id w.got ≡ told
+
+pub kept_no_number : (w : Windows) (m : IlMsg) (e : End) → w ≡ windows_of e → Hears w m None → w ≡ windows_of (accepts m e)
+kept_no_number w m e is h = is ∙ ap windows_of (no_number m e (next_is_not_early e at.near) at.number)
+  where
+    at : Hears (windows_of e) m None
+    at = subst (λ (x : Windows). Hears x m None) is h
+
+pub kept_early_already : (w : Windows) (m : IlMsg) (e : End) (k : ℕ) → w ≡ windows_of e → Hears w m (Some k) → is_some (early_at k w.early) ≡ true → w ≡ windows_of (accepts m e)
+kept_early_already w m e k is h early = is ∙ ap windows_of (early_already m e k (next_is_not_early e at.near) at.number (subst (λ (x : Windows). is_some (early_at k x.early) ≡ true) is early))
+  where
+    at : Hears (windows_of e) m (Some k)
+    at = subst (λ (x : Windows). Hears x m (Some k)) is h
+
+pub kept_no_room : (w : Windows) (m : IlMsg) (e : End) (k : ℕ) → w ≡ windows_of e → Hears w m (Some k) → nat_le 64 (backlog e) ≡ true → w ≡ windows_of (accepts m e)
+kept_no_room w m e k is h full = is ∙ ap windows_of (no_room m e k (next_is_not_early e at.near) at.number full)
+  where
+    at : Hears (windows_of e) m (Some k)
+    at = subst (λ (x : Windows). Hears x m (Some k)) is h

@@ -1,4 +1,7 @@
-mod Places
+mod Near
 mod InTurn
+mod Unread
+mod Unacked
 mod Accepting
 mod Questions
+mod Witness

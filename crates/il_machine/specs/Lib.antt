@@ -1,4 +1,6 @@
+pub mod Windows
+pub mod InTurn
 pub mod Stands
-pub mod Parts
 pub use Rattle.net_base.specs.IlEnd
 pub use Rattle.net_base.specs.IlTable
+pub use Rattle.il_queues.specs.Reading

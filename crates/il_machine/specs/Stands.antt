@@ -9,17 +9,18 @@ use Rattle.net_base.specs.declared.il.IlState.TheVariants.{Established, Syncee, 
 use Rattle.net_base.specs.Number.{number}
 use Rattle.net_base.specs.IlEnd.{End, Turn, backlog, cause_of, early_at, establishes, has_unacked, hears, hears_ack, rstart_of}
 use Rattle.net_base.specs.IlTable.{at_established, has_unread, reads, may_write, may_read, may_go_on}
+use Rattle.il_machine.specs.Windows.{Windows, windows_of}
 use Rattle.il_machine.specs.declared.ask.Ask.{Ask}
 use Rattle.il_machine.specs.declared.ask.Ask.TheVariants as ask
 use Rattle.il_machine.specs.declared.fault.HungupError.{HungupError}
 use Rattle.il_machine.specs.declared.fault.HungupError.TheVariants.{Hungup, Memory}
 
--- what an IL end keeps stands for the end of the definitions: it keeps all of it
-unfoldable pub StandsFor : End → End → Type 0
-StandsFor kept e = kept ≡ e
+-- what an IL end keeps stands for an end of the definitions: its numbers and windows are that end's
+unfoldable pub StandsFor : Windows → End → Type 0
+StandsFor kept e = kept ≡ windows_of e
 
 -- it stands for an end of which this is so
-abbrev pub StandsForSome : End → (End → Type 0) → Type 0
+abbrev pub StandsForSome : Windows → (End → Type 0) → Type 0
 StandsForSome kept P = (e : End) × (StandsFor kept e × P e)
 
 -- so few messages that their numbers tell their ids apart
@@ -27,20 +28,25 @@ pub record IsShort (e : End) : Type 0 where
   pub few_sent : length e.sent < 2 ^ 31
   pub few_got : length e.got < 2 ^ 31
 
+-- what is kept says so
+pub record IsFew (kept : Windows) : Type 0 where
+  pub few_sent : kept.sent < 2 ^ 31
+  pub few_got : kept.got < 2 ^ 31
+
 -- the end becomes what this turn of it leaves, and what it emits is emitted
-abbrev pub Turns : End → End → Option IlMsg → (End → Turn) → Type 0
+abbrev pub Turns : Windows → Windows → Option IlMsg → (End → Turn) → Type 0
 Turns old new emits turn = (e : End) → StandsFor old e → StandsFor new (turn e).end × (emits ≡ (turn e).emits)
 
 -- the end becomes this
-abbrev pub Becomes : End → End → (End → End) → Type 0
+abbrev pub Becomes : Windows → Windows → (End → End) → Type 0
 Becomes old new after = (e : End) → StandsFor old e → StandsFor new (after e)
 
 -- the test tells of each end that it stands for whether this is so
-abbrev pub Decides : End → Bool → (End → Type 0) → Type 0
+abbrev pub Decides : Windows → Bool → (End → Type 0) → Type 0
 Decides kept told P = (e : End) → StandsFor kept e → IsTrue told ↔ P e
 
 -- this is what the end says
-abbrev pub Says : {A : Type 0} → End → A → (End → A) → Type 0
+abbrev pub Says : {A : Type 0} → Windows → A → (End → A) → Type 0
 Says kept told said = (e : End) → StandsFor kept e → told ≡ said e
 
 -- what is asked for has an answer
@@ -74,7 +80,7 @@ abbrev pub after_read : ℕ → End → End
 after_read count e = if has_unread e then reads count e else e
 
 -- an error tells the end's refusal, or that there was no memory for what this says memory is taken for
-abbrev pub TellsRefusal : End → HungupError → (End → Option Cause) → (End → Bool) → Type 0
+abbrev pub TellsRefusal : Windows → HungupError → (End → Option Cause) → (End → Bool) → Type 0
 TellsRefusal old (Hungup why) refusal takes = Says old (Some why) refusal
 TellsRefusal old Memory refusal takes = Says old true takes
 
@@ -115,6 +121,13 @@ takes_in Established now m e = established_takes m.kind now m e
 takes_in Syncee now m e = if m.ack == e.start then established_takes m.kind now m e else false
 takes_in Closing now m e = closing_takes m.kind now m e
 takes_in _ now m e = false
+
+-- messages of these kinds are answered without memory
+abbrev pub takes_no_memory : IlKind → Bool
+takes_no_memory Data = false
+takes_no_memory DataQuery = false
+takes_no_memory State = false
+takes_no_memory _ = true
 
 -- memory is taken for a message that comes
 abbrev pub arrival_takes : ℕ → IlMsg → End → Bool

@@ -1,30 +1,31 @@
 //! An IL end.
-ghost use Rattle.std.specs.Prelude.{◌≡◌, ◌↔◌, ℕ, ◌+◌, ◌<◌, ◌≤◌, ◌^◌, [], length, take, Some, None, IfOk, IfErr, OnOk, OnErr, IsTrue, is_some, true};
+ghost use Rattle.std.specs.Prelude.{◌≡◌, ◌↔◌, ℕ, suc, ◌+◌, ◌<◌, ◌≤◌, ◌^◌, [], ◌∷◌, length, take, ◌||◌, Some, None, unwrap_or, slice_index_or, false, IfSome, IsSome, IfOk, IfErr, IsOk, OnOk, OnErr, IsTrue, is_some, true};
 ghost use Rattle.net_base.specs.Number as number_spec;
+ghost use Rattle.net_base.specs.Timer as timer;
+ghost use Rattle.net_base.specs.declared.il.IlState.TheVariants as state;
+ghost use Rattle.net_base.specs.declared.il.Cause.TheVariants as cause;
 ghost use Rattle.il_machine.specs.declared.ask.Ask.TheVariants as ask;
+ghost use Rattle.il_machine.specs.declared.fault.HungupError.TheVariants as fault;
 ghost use Rattle.net_base.specs.IlEnd as spec;
-ghost use Rattle.net_base.specs.IlEnd.{End, message, silent, retransmits};
+ghost use Rattle.net_base.specs.IlEnd.{End, early_at, silent, retransmits};
 ghost use Rattle.net_base.specs.IlTable as table;
-ghost use Rattle.il_machine.specs.Stands.{StandsFor, StandsForSome, Decides, IsShort, Turns, Becomes, Says, TellsRefusal, after_read, arrival_takes, is_kept, is_ready, read_refusal, write_refusal, write_takes};
+ghost use Rattle.il_machine.specs.InTurn.{in_turn, with_turned};
+ghost use Rattle.il_machine.specs.Windows as windows;
+ghost use Rattle.il_machine.specs.Windows.{rstart_kept};
+ghost use Rattle.il_machine.specs.Stands.{IsFew, StandsFor, StandsForSome, Decides, IsShort, Turns, Becomes, Says, TellsRefusal, after_read, arrival_takes, is_kept, is_ready, read_refusal, takes_no_memory, write_refusal, write_takes};
 
 mod rows;
 
 use crate::ask::Ask;
-use crate::early::{Numbered, come_in_turn, is_early};
 use crate::fault::HungupError;
-use il_queues::Timer;
+use crate::in_turn::{add_early, come_in_turn};
+use il_queues::{Early, MOST_UNACKED, MOST_UNREAD, Timer, Unacked, Unread};
 use net_base::{Cause, IlKind, IlMsg, IlState, Octets, Tick, number};
 use std::alloc::{AllocError, Global};
 use std::marker::Model;
 
-/// How many messages may be unacknowledged.
-const WINDOW: usize = 20;
-
-/// How many messages may be unread or early.
-const MOST_BACKLOG: usize = 64;
-
 /// How many messages may not be sent or got, so that their numbers tell their ids apart.
-const MOST_MESSAGES: usize = 1 << 31;
+const MOST_MESSAGES: u64 = 1 << 31;
 
 /// The longest message, in bytes.
 const LONGEST_MESSAGE: usize = 8192;
@@ -32,7 +33,7 @@ const LONGEST_MESSAGE: usize = 8192;
 /// How many ids there are.
 const IDS: u64 = 1 << 32;
 
-/// An IL end. Its clauses speak of the end of the definitions that it stands for. Moments are in ms.
+/// An IL end, which keeps windows of its messages. Its clauses speak of the ends of the definitions that it stands for. Moments are in ms.
 #[derive(Drop)]
 pub struct IlEnd {
     alloc: Global,
@@ -40,40 +41,42 @@ pub struct IlEnd {
     fresh: bool,
     start: u32,
     rstart: Option<u32>,
-    sent: Vec<Octets>,
-    acked: u64,
-    got: Vec<Octets>,
-    early: Vec<Numbered>,
-    read_count: usize,
-    read_offset: usize,
+    sent: u64,
+    unacked: Unacked,
+    got: u64,
+    early: Early,
+    unread: Unread,
     closed_by_peer: bool,
     cause: Option<Cause>,
     timer: Timer,
 }
 
 impl Model for IlEnd {
-    ghost use Rattle.net_base.specs.IlEnd.{End};
-    ghost use Rattle.il_machine.specs.Parts.{seen, IsKept};
+    ghost use Rattle.std.specs.Prelude.{◌-◌, length};
+    ghost use Rattle.il_queues.specs.Reading.{unread_of};
+    ghost use Rattle.il_machine.specs.Windows.{Windows, IsKept};
 
-    ghost Value = { End };
+    ghost Value = { Windows };
 
     ghost view = { λ e. record {
       state = e.state;
       fresh = e.fresh;
       start = e.start;
       rstart = e.rstart;
-      sent = e.sent.items;
-      acked = e.acked;
-      got = e.got.items;
-      early = seen e.early.items;
-      read_count = e.read_count;
-      read_offset = e.read_offset;
+      sent = e.sent;
+      acked = e.sent - length e.unacked;
+      unacked = e.unacked;
+      got = e.got;
+      early = e.early;
+      read_count = e.got - length e.unread.texts;
+      read_offset = e.unread.offset;
+      unread = unread_of e.unread;
       closed_by_peer = e.closed_by_peer;
       cause = e.cause;
       timer = e.timer;
     } };
 
-    ghost invariant = { λ e. IsKept e.sent.items e.acked e.got.items e.early.items };
+    ghost invariant = { λ e. IsKept e.sent e.unacked e.got e.unread e.early };
 }
 
 /// The id of message k.
@@ -93,29 +96,30 @@ fn is_sized(kind: IlKind, length: usize) -> bool
     }
 }
 
+#[tactic(auto, unfolding(crate::specs::Stands::StandsFor))]
 impl IlEnd {
-    /// The id of the last message sent, or start.
-    fn next(&self) -> u32
-        ensures { result ≡ spec.next self.now }
+    /// How many messages are acknowledged.
+    fn acked(&self) -> u64
+        ensures { result ≡ self.now.acked }
     {
-        id_of(self.start, self.sent.len() as u64)
+        self.sent - self.unacked.len() as u64
     }
 
     /// The id of the last message accepted in sequence, or the other end's start.
     fn recvd(&self) -> u32
-        ensures { result ≡ spec.recvd self.now }
+        ensures { result ≡ number_spec.id_of (rstart_kept self.now) self.now.got }
     {
-        id_of(self.rstart.unwrap_or(0), self.got.len() as u64)
+        id_of(self.rstart.unwrap_or(0), self.got)
     }
 
     /// A message of this kind without a text, with the end's own numbers.
     fn own_message(&self, kind: IlKind) -> IlMsg
-        ensures { result ≡ message kind (spec.next self.now) (spec.recvd self.now) [] }
+        ensures { result ≡ windows.own_message kind self.now }
     {
         IlMsg {
             kind,
             spec: 0,
-            id: self.next(),
+            id: id_of(self.start, self.sent),
             ack: self.recvd(),
             text: Octets::new(self.alloc),
         }
@@ -123,7 +127,7 @@ impl IlEnd {
 
     /// Its sync.
     fn sync(&self) -> IlMsg
-        ensures { Some result ≡ (spec.syncs self.now).emits }
+        ensures { result ≡ windows.own_sync self.now }
     {
         IlMsg {
             kind: IlKind::Sync,
@@ -134,16 +138,9 @@ impl IlEnd {
         }
     }
 
-    /// Whether a message isn't acknowledged.
-    fn has_unacked(&self) -> bool
-        ensures { result ≡ spec.has_unacked self.now }
-    {
-        self.acked < self.sent.len() as u64
-    }
-
     /// Becomes Established.
     fn establish(&mut self)
-        ensures { self.new ≡ spec.establishes self.old }
+        ensures { self.new ≡ record self.old { state = state.Established; timer = timer.stops self.old.timer } }
     {
         self.state = IlState::Established;
         self.timer.stop();
@@ -151,7 +148,7 @@ impl IlEnd {
 
     /// Becomes Closed.
     fn close(&mut self, cause: Option<Cause>)
-        ensures { self.new ≡ spec.closes cause self.old }
+        ensures { self.new ≡ record self.old { state = state.Closed; cause = cause; timer = timer.stops self.old.timer } }
     {
         self.state = IlState::Closed;
         self.cause = cause;
@@ -161,7 +158,7 @@ impl IlEnd {
     /// Hears a message.
     fn hear(&mut self, now: u64)
         requires { now < 2 ^ 63 }
-        ensures { self.new ≡ spec.hears now self.old }
+        ensures { self.new ≡ record self.old { timer = timer.hears now self.old.timer } }
     {
         self.timer.heard(now);
     }
@@ -169,58 +166,103 @@ impl IlEnd {
     /// Hears a message and takes its ack.
     fn hear_ack(&mut self, now: u64, message: &IlMsg)
         requires in_time { now < 2 ^ 63 }
-        requires short { length self.old.sent < 2 ^ 31 }
-        ensures { self.new ≡ spec.hears_ack now message.now self.old }
+        requires short { self.old.sent < 2 ^ 31 }
+        ensures end { Becomes self.old self.new (λ e. spec.hears_ack now message.now e) }
+        ensures got { self.new.got ≡ self.old.got }
     {
-        self.timer.heard(now);
-        if let Some(k) = number(self.start, message.ack, self.acked) {
-            if k <= self.sent.len() as u64 {
-                self.acked = k;
-                let waits = self.acked < self.sent.len() as u64 || self.state == IlState::Closing;
-                self.timer.moved(now, waits);
+        self.hear(now);
+        if let Some(k) = number(self.start, message.ack, self.acked()) {
+            if k <= self.sent {
+                self.drop_acked(k);
+                self.restart_timer(now);
             }
         }
     }
 
-    /// How many messages are unread or early.
-    fn backlog(&self) -> usize
-        requires { length self.now.got < 2 ^ 31 }
-        ensures { result ≡ spec.backlog self.now }
+    /// Drops the messages up to this one, which are acknowledged.
+    fn drop_acked(&mut self, k: u64)
+        requires more { self.old.acked ≤ k }
+        requires sent { k ≤ self.old.sent }
+        ensures end { Becomes self.old self.new (λ e. record e { acked = k }) }
+        ensures got { self.new.got ≡ self.old.got }
     {
-        self.got.len().saturating_sub(self.read_count) + self.early.len()
+        let more = k - self.acked();
+        self.unacked.drop_first(more as usize);
+    }
+
+    /// Waits anew, where something still waits to be acknowledged.
+    fn restart_timer(&mut self, now: u64)
+        requires { now < 2 ^ 63 }
+        ensures end { Becomes self.old self.new (λ e. spec.moves now e) }
+        ensures got { self.new.got ≡ self.old.got }
+    {
+        let waits = self.waits();
+        self.timer.moved(now, waits);
+    }
+
+    /// Whether it waits for an answer: for an ack, or for the other end's close.
+    fn waits(&self) -> bool
+        ensures { Says self.now result (λ e. spec.has_unacked e || spec.is_closing e.state) }
+    {
+        !self.unacked.is_empty() || self.state == IlState::Closing
+    }
+
+    /// How many messages are unread or early.
+    #[tactic(auto, using(crate::proofs::Unread::length_cut), unfolding(crate::specs::Stands::StandsFor))]
+    fn backlog(&self) -> usize
+        ensures said { Says self.now result spec.backlog }
+        ensures kept { result ≡ length self.now.unread + length self.now.early }
+    {
+        self.unread.len() + self.early.len()
     }
 
     /// Accepts a message: it becomes early, and what is next in sequence is got.
-    #[tactic(auto, using(crate::proofs::Accepting::no_number, crate::proofs::Accepting::early_already, crate::proofs::Accepting::no_room))]
     fn accept(&mut self, message: &IlMsg) -> Result<(), AllocError>
-        requires { length self.old.got < 2 ^ 31 }
-        ensures ok { OnOk result (self.new ≡ spec.accepts message.now self.old) }
-        ensures within { length self.new.got ≤ length self.old.got + 64 }
+        requires { self.old.got < 2 ^ 31 }
+        ensures ok { OnOk result (Becomes self.old self.new (λ e. spec.accepts message.now e)) }
+        ensures within { self.new.got ≤ self.old.got + 64 }
+        ensures same { self.new.sent ≡ self.old.sent }
         ensures err { OnErr result (self.new ≡ self.old) }
-        ensures memory { OnErr result (is_kept message.now self.old ≡ true) }
+        ensures memory { OnErr result (Says self.old true (is_kept message.now)) }
     {
-        let Some(k) = number(self.rstart.unwrap_or(0), message.id, self.got.len() as u64) else {
+        let Some(k) = number(self.rstart.unwrap_or(0), message.id, self.got) else {
             return Ok(());
         };
-        if is_early(&self.early, k) || MOST_BACKLOG <= self.backlog() {
+        if self.early.contains(k) {
+            return Ok(());
+        }
+        if MOST_UNREAD <= self.backlog() {
             return Ok(());
         }
         let text = message.text.clone()?;
-        self.got.reserve(self.early.len() + 1)?;
-        self.early.insert(0, Numbered { number: k, text })?;
-        come_in_turn(&mut self.got, &mut self.early);
+        self.add(k, text);
         Ok(())
     }
 
+    /// Adds an early message, which isn't there and for which there is room; what is next in sequence is got.
+    fn add(&mut self, k: u64, text: Octets)
+        requires few { self.old.got < 2 ^ 31 }
+        requires number { (self.old.got < k) × (k ≤ self.old.got + 20) }
+        requires new { early_at k self.old.early ≡ None }
+        requires room { length self.old.unread + length self.old.early < 64 }
+        ensures end { Becomes self.old self.new (λ e. with_turned e
+            (in_turn (suc (length e.early)) (length e.got) (record { number = k; text = text } ∷ e.early))) }
+        ensures within { self.new.got ≤ self.old.got + 64 }
+        ensures same { self.new.sent ≡ self.old.sent }
+    {
+        add_early(&mut self.early, k, text);
+        self.got = come_in_turn(&mut self.unread, &mut self.early, self.got);
+    }
+
     /// Takes the ack of a message and accepts it.
-    #[tactic(auto, using(crate::proofs::Accepting::accepts_both, crate::proofs::Accepting::accepts_hears_ack, crate::proofs::Accepting::hears_ack_got))]
     fn take_in(&mut self, now: u64, message: &IlMsg) -> Result<(), AllocError>
         requires in_time { now < 2 ^ 63 }
-        requires short { IsShort self.old }
-        ensures ok { OnOk result (self.new ≡ spec.accepts message.now (spec.hears_ack now message.now self.old)) }
-        ensures within { length self.new.got ≤ length self.old.got + 64 }
+        requires short { IsFew self.old }
+        ensures ok { OnOk result (Becomes self.old self.new
+            (λ e. spec.accepts message.now (spec.hears_ack now message.now e))) }
+        ensures within { self.new.got ≤ self.old.got + 64 }
         ensures err { OnErr result (self.new ≡ self.old) }
-        ensures memory { OnErr result (is_kept message.now self.old ≡ true) }
+        ensures memory { OnErr result (Says self.old true (is_kept message.now)) }
     {
         self.accept(message)?;
         self.hear_ack(now, message);
@@ -229,40 +271,53 @@ impl IlEnd {
 
     /// The first message that isn't acknowledged once so many are, to be sent again.
     fn retransmission(&self, acked: u64) -> Result<Option<IlMsg>, AllocError>
-        ensures ok { IfOk result (λ emits.
-            emits ≡ (retransmits (record self.now { acked = acked }) (silent self.now)).emits) }
-        ensures memory { OnErr result (spec.has_unacked (record self.now { acked = acked }) ≡ true) }
+        requires short { self.now.sent < 2 ^ 31 }
+        requires more { self.now.acked ≤ acked }
+        ensures ok { IfOk result (λ emits. Says self.now emits
+            (λ e. (retransmits (record e { acked = acked }) (silent e)).emits)) }
+        ensures memory { OnErr result (Says self.now true (λ e. spec.has_unacked (record e { acked = acked }))) }
     {
-        if acked < self.sent.len() as u64 {
-            return Ok(Some(IlMsg {
-                kind: IlKind::DataQuery,
-                spec: 0,
-                id: id_of(self.start, acked + 1),
-                ack: self.recvd(),
-                text: self.sent[acked as usize].clone()?,
-            }));
-        }
-        Ok(None)
+        let Some(text) = self.first_unacked(acked) else {
+            return Ok(None);
+        };
+        Ok(Some(IlMsg {
+            kind: IlKind::DataQuery,
+            spec: 0,
+            id: id_of(self.start, acked + 1),
+            ack: self.recvd(),
+            text: Octets::from_slice(self.alloc, text)?,
+        }))
+    }
+
+    /// The text of the first message that isn't acknowledged once so many are.
+    #[tactic(auto, using(crate::proofs::Unacked::text_at), unfolding(crate::specs::Stands::StandsFor))]
+    fn first_unacked(&self, acked: u64) -> Option<&[u8]>
+        requires { self.now.acked ≤ acked }
+        ensures found { IsSome result ↔ (acked < self.now.sent) }
+        ensures value { IfSome result (λ text. Says self.now text.now (λ e. slice_index_or e.sent acked [])) }
+    {
+        let place = acked - self.acked();
+        self.unacked.get(place as usize)
     }
 
     /// How many messages are acknowledged once this message's ack is taken.
     fn acked_after(&self, message: &IlMsg) -> u64
-        requires { length self.now.sent < 2 ^ 31 }
-        ensures { (now : ℕ) → result ≡ (spec.hears_ack now message.now self.now).acked }
+        requires { self.now.sent < 2 ^ 31 }
+        ensures acked { (now : ℕ) → Says self.now result (λ e. (spec.hears_ack now message.now e).acked) }
+        ensures more { self.now.acked ≤ result }
     {
-        match number(self.start, message.ack, self.acked) {
-            Some(k) if k <= self.sent.len() as u64 => k,
-            _ => self.acked,
+        match number(self.start, message.ack, self.acked()) {
+            Some(k) if k <= self.sent => k,
+            _ => self.acked(),
         }
     }
 
     /// Whether a message is still to be got.
     fn misses(&self, message: &IlMsg) -> bool
-        requires { length self.now.got < 2 ^ 32 }
-        ensures { result
-            ≡ is_some (number_spec.number (spec.rstart_of self.now) message.now.id (length self.now.got)) }
+        requires { self.now.got < 2 ^ 32 }
+        ensures { result ≡ is_some (number_spec.number (rstart_kept self.now) message.now.id self.now.got) }
     {
-        match number(self.rstart.unwrap_or(0), message.id, self.got.len() as u64) {
+        match number(self.rstart.unwrap_or(0), message.id, self.got) {
             Some(_) => true,
             None => false,
         }
@@ -281,12 +336,11 @@ impl IlEnd {
             fresh: true,
             start: 0,
             rstart: None,
-            sent: Vec::new(alloc),
-            acked: 0,
-            got: Vec::new(alloc),
-            early: Vec::new(alloc),
-            read_count: 0,
-            read_offset: 0,
+            sent: 0,
+            unacked: Unacked::new(alloc)?,
+            got: 0,
+            early: Early::new(),
+            unread: Unread::new(alloc)?,
             closed_by_peer: false,
             cause: None,
             timer: Timer::idle(),
@@ -331,7 +385,7 @@ impl IlEnd {
         ensures some { IsTrue result ↔ StandsForSome self.now IsShort }
         ensures each { Decides self.now result IsShort }
     {
-        self.sent.len() < MOST_MESSAGES && self.got.len() < MOST_MESSAGES
+        self.sent < MOST_MESSAGES && self.got < MOST_MESSAGES
     }
 
     /// Takes a message that comes, and gives what the end emits.
@@ -341,6 +395,7 @@ impl IlEnd {
         ensures ok { IfOk result (λ emits. Turns self.old self.new emits (λ e. table.arrives now message.now e)) }
         ensures err { OnErr result (self.new ≡ self.old) }
         ensures memory { OnErr result (Says self.old true (arrival_takes now message.now)) }
+        ensures sure { IsTrue (takes_no_memory message.now.kind) → IsOk result }
     {
         if !is_sized(message.kind, message.text.len()) {
             return Ok(None);
@@ -369,20 +424,19 @@ impl IlEnd {
             return Err(HungupError::Hungup(self.cause.unwrap_or(Cause::Hungup)));
         }
         let kept = Octets::from_slice(self.alloc, text)?;
-        let sent = Octets::from_slice(self.alloc, text)?;
-        self.sent.reserve(1)?;
-        let was_quiet = !self.has_unacked();
-        // there is room for it
-        let _ = self.sent.push(kept);
-        if was_quiet {
+        let text = Octets::from_slice(self.alloc, text)?;
+        if self.unacked.is_empty() {
             self.timer.start(now);
         }
+        // there is room for it
+        let _ = self.unacked.push(kept);
+        self.sent += 1;
         Ok(IlMsg {
             kind: IlKind::Data,
             spec: 0,
-            id: self.next(),
+            id: id_of(self.start, self.sent),
             ack: self.recvd(),
-            text: sent,
+            text,
         })
     }
 
@@ -397,36 +451,32 @@ impl IlEnd {
         ensures err { IfErr result (λ error.
             TellsRefusal self.old error read_refusal table.has_unread × (self.new ≡ self.old)) }
     {
-        if self.read_count >= self.got.len() {
-            if self.closed_by_peer {
-                return Ok(Octets::new(self.alloc));
-            }
-            return Err(HungupError::Hungup(self.cause.unwrap_or(Cause::Hungup)));
-        }
-        let bytes = Octets::from_slice(self.alloc, self.peek(count))?;
-        if count
-            < self.got[self.read_count]
-                .len()
-                .saturating_sub(self.read_offset)
-        {
-            self.read_offset += count;
-        } else {
-            self.read_count += 1;
-            self.read_offset = 0;
-        }
+        let Ok(read) = self.unread.read(count) else {
+            return Err(HungupError::Memory);
+        };
+        let Some(bytes) = read else {
+            return self.nothing_unread();
+        };
         Ok(bytes)
+    }
+
+    /// What a read answers where nothing is unread.
+    fn nothing_unread(&self) -> Result<Octets, HungupError>
+        ensures ok { IfOk result (λ bytes. (bytes ≡ []) × (self.now.closed_by_peer ≡ true)) }
+        ensures err { IfErr result (λ error.
+            (error ≡ fault.Hungup (unwrap_or self.now.cause cause.Hungup)) × (self.now.closed_by_peer ≡ false)) }
+    {
+        if self.closed_by_peer {
+            return Ok(Octets::new(self.alloc));
+        }
+        Err(HungupError::Hungup(self.cause.unwrap_or(Cause::Hungup)))
     }
 
     /// The first bytes, at most `count`, of the first unread message.
     pub fn peek(&self, count: usize) -> &[u8]
         ensures { Says self.now result.now (λ e. take count (table.first_unread e)) }
     {
-        if self.read_count >= self.got.len() {
-            return &[];
-        }
-        let message = &self.got[self.read_count];
-        let rest = &message.as_slice()[self.read_offset.min(message.len())..];
-        &rest[..count.min(rest.len())]
+        self.unread.peek(count)
     }
 
     /// Hangs the end up, and gives what it emits.
@@ -466,7 +516,7 @@ impl IlEnd {
 
     /// What the end emits when it asks once more.
     fn ask_again(&self) -> Option<IlMsg>
-        ensures { result ≡ (table.asks_again self.now.state self.now).emits }
+        ensures { Says self.now result (λ e. (table.asks_again e.state e).emits) }
     {
         match self.state {
             IlState::Syncer | IlState::Syncee => Some(self.sync()),
@@ -483,12 +533,12 @@ impl IlEnd {
         match ask {
             Ask::Write => match self.state {
                 IlState::Syncer | IlState::Syncee => false,
-                IlState::Established => self.sent.len() as u64 - self.acked < WINDOW as u64,
+                IlState::Established => self.unacked.len() < MOST_UNACKED,
                 IlState::Closed | IlState::Listening | IlState::Closing => true,
             },
-            Ask::Read => self.read_count < self.got.len()
-                || self.closed_by_peer
-                || self.state == IlState::Closed,
+            Ask::Read => {
+                !self.unread.is_empty() || self.closed_by_peer || self.state == IlState::Closed
+            }
             Ask::Wait => self.state != IlState::Syncer,
         }
     }
@@ -514,6 +564,3 @@ impl IlEnd {
         self.cause
     }
 }
-
-#[cfg(test)]
-mod tests;

@@ -2,9 +2,11 @@
 #![tactic(auto)]
 
 mod ask;
-mod early;
 mod end;
 mod fault;
+mod in_turn;
+#[cfg(test)]
+mod tests;
 
 pub use ask::Ask;
 pub use end::IlEnd;

@@ -85,4 +85,15 @@ impl Unacked {
             None => None,
         }
     }
+
+    /// The message with this place, from 0 for the oldest.
+    pub fn get(&self, place: usize) -> Option<&[u8]>
+        ensures found { IsSome result ↔ (place < length self.now) }
+        ensures value { IfSome result (λ text. slice_get self.now place ≡ Some text.now) }
+    {
+        match self.texts.get(place) {
+            Some(text) => Some(text.as_slice()),
+            None => None,
+        }
+    }
 }

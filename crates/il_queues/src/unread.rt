@@ -1,6 +1,6 @@
 //! The messages that wait to be read.
 ghost use Rattle.std.specs.Prelude.{◌≡◌, ◌==◌, ◌<◌, ◌≤◌, ◌↔◌, [], ◌∷◌, ◌++◌, length, IsOk, OnOk, OnErr, IfOk, IfErr};
-ghost use Rattle.il_queues.specs.Reading.{bytes_read, after_read, first_bytes};
+ghost use Rattle.il_queues.specs.Reading.{bytes_read, after_read, first_bytes, unread_of};
 
 use circular_buffer::HeapCircularBuffer;
 use net_base::Octets;
@@ -10,7 +10,7 @@ use std::marker::Model;
 /// How many messages an end may have unread.
 pub const MOST_UNREAD: usize = 64;
 
-/// The unread messages of an end. Clauses see the list of their texts, oldest first, the first without what was read of it.
+/// The unread messages of an end. Clauses see their texts, oldest first, and how many bytes of the first were read.
 #[derive(Drop)]
 pub struct Unread {
     texts: HeapCircularBuffer<Octets>,
@@ -18,12 +18,12 @@ pub struct Unread {
 }
 
 impl Model for Unread {
-    ghost use Rattle.std.specs.Prelude.{◌≡◌, ℕ, List};
-    ghost use Rattle.il_queues.specs.Reading.{cut_first, IsCut};
+    ghost use Rattle.std.specs.Prelude.{◌≡◌};
+    ghost use Rattle.il_queues.specs.Reading.{Waiting, IsCut};
 
-    ghost Value = { List (List ℕ) };
+    ghost Value = { Waiting };
 
-    ghost view = { λ u. cut_first u.cut u.texts.items };
+    ghost view = { λ u. record { texts = u.texts.items; offset = u.cut } };
 
     ghost invariant = { λ u. (u.texts.capacity ≡ 64) × IsCut u.cut u.texts.items };
 }
@@ -31,7 +31,7 @@ impl Model for Unread {
 impl Unread {
     /// No messages, with room for as many as there may be.
     pub fn new(alloc: Global) -> Result<Unread, AllocError>
-        ensures { IfOk result (λ u. u ≡ []) }
+        ensures { IfOk result (λ u. u ≡ record { texts = []; offset = 0 }) }
     {
         Ok(Unread {
             texts: HeapCircularBuffer::with_capacity(alloc, MOST_UNREAD)?,
@@ -41,7 +41,7 @@ impl Unread {
 
     /// How many messages there are, one that was read in part included.
     pub fn len(&self) -> usize
-        ensures len { result ≡ length self.now }
+        ensures len { result ≡ length self.now.texts }
         ensures within { result ≤ 64 }
     {
         self.texts.len()
@@ -49,15 +49,15 @@ impl Unread {
 
     /// Whether no message waits.
     pub fn is_empty(&self) -> bool
-        ensures { result ≡ (length self.now == 0) }
+        ensures { result ≡ (length self.now.texts == 0) }
     {
         self.texts.is_empty()
     }
 
     /// Appends a message, or hands it back where 64 stand.
     pub fn push(&mut self, text: Octets) -> Result<(), Octets>
-        ensures room { IsOk result ↔ (length self.old < 64) }
-        ensures ok { OnOk result (self.new ≡ self.old ++ text ∷ []) }
+        ensures room { IsOk result ↔ (length self.old.texts < 64) }
+        ensures ok { OnOk result (self.new ≡ record self.old { texts = self.old.texts ++ text ∷ [] }) }
         ensures full { IfErr result (λ back. (back ≡ text) × (self.new ≡ self.old)) }
     {
         self.texts.try_push_back(text)
@@ -66,9 +66,10 @@ impl Unread {
     /// Reads the first bytes of the first message and keeps the rest of it.
     pub fn read(&mut self, count: usize) -> Result<Option<Octets>, AllocError>
         requires { 0 < count }
-        ensures value { IfOk result (λ text. text ≡ bytes_read count self.old) }
+        ensures value { IfOk result (λ text. text ≡ bytes_read count (unread_of self.old)) }
         ensures rest { OnOk result (self.new ≡ after_read count self.old) }
         ensures err { OnErr result (self.new ≡ self.old) }
+        ensures memory { OnErr result (0 < length self.old.texts) }
     {
         let Some(first) = self.texts.front() else {
             return Ok(None);
@@ -87,7 +88,7 @@ impl Unread {
 
     /// The bytes that such a read would give.
     pub fn peek(&self, count: usize) -> &[u8]
-        ensures { result.now ≡ first_bytes count self.now }
+        ensures { result.now ≡ first_bytes count (unread_of self.now) }
     {
         match self.texts.front() {
             Some(first) => {

@@ -4,7 +4,7 @@ ghost use Rattle.net_base.specs.NdbBundle as spec;
 ghost use Rattle.net_base.specs.NdbText.{is_empty};
 ghost use Rattle.ndb_reader.specs.Told.{tuple_of, file_seen};
 
-use crate::tuples::Tuples;
+use crate::growing::Growing;
 use net_base::{Db, NdbPair, Octets};
 use std::alloc::{AllocError, Global};
 use std::mem;
@@ -21,7 +21,7 @@ pub(crate) struct File {
 pub(crate) struct Files {
     closed: Vec<File>,
     name: Octets,
-    tuples: Tuples,
+    tuples: Growing,
 }
 
 impl Files {
@@ -35,7 +35,7 @@ impl Files {
         Ok(Files {
             closed: Vec::new(alloc),
             name: Octets::from_slice(alloc, b"/lib/ndb/local")?,
-            tuples: Tuples::new(alloc),
+            tuples: Growing::new(alloc),
         })
     }
 
@@ -79,7 +79,7 @@ impl Files {
         ensures last { OnOk result (self.new.tuples.last.items ≡ []) }
     {
         let next = Octets::from_slice(alloc, name)?;
-        let tuples = mem::replace(&mut self.tuples, Tuples::new(alloc)).finish()?;
+        let tuples = mem::replace(&mut self.tuples, Growing::new(alloc)).finish()?;
         let name = mem::replace(&mut self.name, next);
         self.closed.push(File { name, tuples })?;
         Ok(())

@@ -1,11 +1,14 @@
-//! Reads the text of a network database, ndb(6), in one pass, or tells its first bad line; and writes it.
+//! Reads the text of a network database, ndb(6), in one pass, or tells its first bad line; writes it; and
+//! counts looks at its tuples.
 #![tactic(auto)]
 
 mod choice;
 mod fault;
 mod files;
+mod growing;
 mod line;
 mod reader;
+mod steps;
 #[cfg(test)]
 mod tests;
 mod tuples;
@@ -15,4 +18,6 @@ mod writer;
 pub use fault::NdbError;
 pub use net_base::{Db, NdbPair};
 pub use reader::read_ndb;
+pub use steps::Steps;
+pub use tuples::Tuples;
 pub use writer::{put_pairs, write_ndb};

@@ -1,68 +1,48 @@
-//! Tuples that grow line by line.
-ghost use Rattle.std.specs.Prelude.{◌≡◌, ◌∷◌, ◌++◌, [], OnOk, IfOk};
-ghost use Rattle.net_base.specs.NdbText.{is_empty};
-ghost use Rattle.ndb_reader.specs.Told.{tuple_of};
+//! Tuples that are counted where they are looked at.
+ghost use Rattle.std.specs.Prelude.{◌≡◌, ◌+◌, ◌<◌, [], length, get_or};
 
-use net_base::{Db, Line, NdbPair, Sequence, Tuple};
-use std::alloc::{AllocError, Global};
-use std::mem;
+use crate::steps::Steps;
+use net_base::{Db, Tuple};
+use std::marker::Model;
+use std::sync::ledger::Ledger;
 
-/// The tuples so far; the last one stands apart, without lines where there is none.
+/// The tuples of a database, which contracts see as a list. The only way to one costs a step.
 #[derive(Drop)]
-pub(crate) struct Tuples {
-    whole: Vec<Tuple>,
-    last: Vec<Line>,
+pub struct Tuples {
+    tuples: Db,
+}
+
+impl Model for Tuples {
+    ghost use Rattle.std.specs.Prelude.{List};
+    ghost use Rattle.net_base.specs.declared.ndb.NdbPair.{NdbPair};
+
+    ghost Value = { List (List (List NdbPair)) };
+
+    ghost view = { λ t. t.tuples };
 }
 
 impl Tuples {
-    /// No tuples, which take no memory yet.
-    pub(crate) fn new(alloc: Global) -> Tuples
-        ensures whole { result.whole.items ≡ [] }
-        ensures last { result.last.items ≡ [] }
+    /// The tuples of a database. It takes no memory.
+    pub fn new(db: Db) -> Tuples
+        ensures { result ≡ db }
     {
-        Tuples {
-            whole: Vec::new(alloc),
-            last: Vec::new(alloc),
-        }
+        Tuples { tuples: db }
     }
 
-    /// Whether there is no tuple.
-    pub(crate) fn is_empty(&self) -> bool
-        ensures { result ≡ is_empty self.now.last.items }
+    /// How many tuples there are.
+    pub fn len(&self) -> usize
+        ensures { result ≡ length self.now }
     {
-        self.last.is_empty()
+        self.tuples.len()
     }
 
-    /// Starts a tuple.
-    pub(crate) fn start(&mut self, alloc: Global, pairs: Vec<NdbPair>) -> Result<(), AllocError>
-        ensures whole { OnOk result (self.new.whole.items ≡ self.old.whole.items ++ tuple_of self.old.last.items) }
-        ensures last { OnOk result (self.new.last.items ≡ pairs.items ∷ []) }
+    /// The tuple at a place, for one step.
+    pub fn at<L: Ledger>(&self, place: u64, steps: &mut Steps<L>) -> &Tuple
+        requires { place < length self.now }
+        ensures tuple { result.now ≡ get_or self.now place [] }
+        ensures cost { steps.new ≡ steps.old + 1 }
     {
-        if !self.last.is_empty() {
-            let tuple = mem::replace(&mut self.last, Vec::new(alloc));
-            self.whole.push(Sequence::from_vec(tuple))?;
-        }
-        self.last.push(Sequence::from_vec(pairs))?;
-        Ok(())
-    }
-
-    /// Goes on with the last tuple.
-    pub(crate) fn go_on(&mut self, pairs: Vec<NdbPair>) -> Result<(), AllocError>
-        ensures whole { self.new.whole.items ≡ self.old.whole.items }
-        ensures last { OnOk result (self.new.last.items ≡ self.old.last.items ++ pairs.items ∷ []) }
-    {
-        self.last.push(Sequence::from_vec(pairs))?;
-        Ok(())
-    }
-
-    /// The tuples.
-    pub(crate) fn finish(self) -> Result<Db, AllocError>
-        ensures { IfOk result (λ db. db ≡ self.whole.items ++ tuple_of self.last.items) }
-    {
-        let Tuples { mut whole, last } = self;
-        if !last.is_empty() {
-            whole.push(Sequence::from_vec(last))?;
-        }
-        Ok(Sequence::from_vec(whole))
+        steps.tick();
+        &self.tuples.as_slice()[place as usize]
     }
 }

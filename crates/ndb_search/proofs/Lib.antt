@@ -1,7 +1,3 @@
-pub mod Copied
-pub mod Covered
-pub mod Filled
-pub mod Found
-pub mod Lists
+pub mod Nearest
+pub mod FoundNumbers
 pub mod Owned
-pub mod Values

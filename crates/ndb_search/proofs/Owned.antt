@@ -11,12 +11,14 @@ use Rattle.net_base.specs.declared.ndb.NdbPair.{NdbPair}
 use Rattle.net_base.specs.Networks.{Network, network_of, addresses_of, contains_address}
 use Rattle.net_base.specs.Addresses.{read_address}
 use Rattle.net_base.specs.Search.{line_has, tuple_has, values_in}
-use Rattle.ndb_search.specs.declared.networks.Network.{Network as Kept}
-use Rattle.ndb_search.specs.declared.numbers.Kind.TheVariants.{Address}
-use Rattle.ndb_search.specs.Numbers.{numbers_in}
-use Rattle.ndb_search.specs.Prefixes.{network_seen, first_bits, own_at}
-use Rattle.ndb_search.proofs.Lists.{Joins, joins_more}
-use Rattle.ndb_search.proofs.Values.{any_find}
+use Rattle.ndb_tuple.specs.declared.network.Network.{Network as Kept}
+use Rattle.ndb_tuple.specs.declared.numbers.Kind.TheVariants.{Address}
+use Rattle.ndb_tuple.specs.Numbers.{numbers_in}
+use Rattle.ndb_tuple.specs.Prefixes.{network_seen, first_bits}
+use Rattle.ndb_search.specs.Own.{own_at}
+use Rattle.ndb_tuple.proofs.Lists.{Joins, joins_more}
+use Rattle.ndb_tuple.proofs.Pieces.{any_find}
+use Rattle.ndb_tuple.proofs.Firsts.{contained}
 
 addresses_joins : (me : List ℕ) → Joins (addresses_of me)
 addresses_joins me = record {
@@ -90,21 +92,6 @@ own_next bits ips networks i network own same within here e f =
     joins_more (λ (all : List Kept). own_at bits ips (map network_seen all)) (seen_joins bits ips) networks i network within here
     ∙ ap (λ piece. own_at bits ips (map network_seen (take i networks)) ++ piece) (one_at bits ips (network_seen network) own same e f)
 
-turned : (x n : ℕ) (b : Bool) → (x == n) ≡ b → (n == x) ≡ b
-turned x n true e = grind (arith, nat_tests)
-turned x n false e = grind (arith, nat_tests)
-
-pub same_any : {X : Type 0} (p q : X → Bool) (xs : List X) → ((x : X) → p x ≡ q x) → list_any p xs ≡ list_any q xs
-same_any p q [] agree = refl
-same_any p q (x ∷ xs) agree = ap (λ b. b || list_any p xs) (agree x) ∙ ap (λ b. q x || b) (same_any p q xs agree)
-
--- a network of so many bits contains one of the addresses whose first bits are kept
-contained : (bits : ℕ) (ips firsts : List ℕ) (network : Kept) (b : Bool) → ((first : ℕ) → list_any (nat_eq first) firsts ≡ list_any (λ ip. first_bits bits ip == first) ips) → network.bits ≡ bits → list_any (nat_eq (first_bits bits network.ip)) firsts ≡ b → list_any (contains_address (network_seen network)) ips ≡ b
-contained bits ips firsts network b kept same found =
-    same_any (contains_address (network_seen network)) (λ ip. first_bits bits ip == first_bits bits network.ip) ips
-    (λ ip. ap (λ n. first_bits n network.ip == first_bits n ip) same ∙ sym (turned (first_bits bits network.ip) (first_bits bits ip) (first_bits bits network.ip == first_bits bits ip) refl))
-    ∙ (sym (kept (first_bits bits network.ip)) ∙ found)
-
 -- one more network: of another length, of the system's own, and of others
 pub own_other : (bits : ℕ) (ips : List ℕ) (networks : List Kept) (i : ℕ) (network : Kept) → i < length networks → network ≡ get_or networks i network → network.bits ≢ bits → own_at bits ips (map network_seen (take (i + 1) networks)) ≡ own_at bits ips (map network_seen (take i networks))
 own_other bits ips networks i network within here apart =
@@ -144,27 +131,3 @@ none_at bits ips (network ∷ networks) e =
     never : (b : Bool) → (b && false) ≡ false
     never true = refl
     never false = refl
-
--- one more element for a test
-pub any_more : {X : Type 0} (p : X → Bool) (xs : List X) (i : ℕ) (d : X) (v : Bool) → i < length xs → v ≡ p (get_or xs i d) → cond v true (list_any p (take i xs)) ≡ list_any p (take (i + 1) xs)
-any_more p xs i d v within is =
-    at v (list_any p (take i xs)) ∙ ap (λ b. list_any p (take i xs) || b) is ∙ sym (list_any_more p xs i d within)
-  where
-    at : (a b : Bool) → cond a true b ≡ (b || a)
-    at true true = refl
-    at true false = refl
-    at false true = refl
-    at false false = refl
-
-one_longer : (a n j : ℕ) → a + n ≡ j → range_with_len a (suc n) ≡ range_with_len a n ++ j ∷ []
-one_longer a zero j e = let same : a ≡ j = omega (arith, e) in ap (λ k. k ∷ []) same
-one_longer a (suc n) j e = ap (λ rest. a ∷ rest) (one_longer (a + 1) n j (omega (arith, e)))
-
--- one more number of a range
-pub range_more : {Y : Type 0} (f : ℕ → List Y) (n : ℕ) → flat_map f (range_with_len 0 (n + 1)) ≡ flat_map f (range_with_len 0 n) ++ f n
-range_more f n =
-    let next : n + 1 ≡ suc n = omega arith in
-    ap (λ k. flat_map f (range_with_len 0 k)) next
-    ∙ ap (flat_map f) (one_longer 0 n n (omega arith))
-    ∙ flat_map-append f (range_with_len 0 n) (n ∷ [])
-    ∙ ap (λ back. flat_map f (range_with_len 0 n) ++ back) (append-nil (f n))

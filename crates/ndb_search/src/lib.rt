@@ -5,16 +5,13 @@ mod beside;
 mod near;
 mod networks;
 mod numbers;
-mod pairs;
 mod places;
-mod prefixes;
 #[cfg(test)]
 mod tests;
 
-pub use beside::{add_beside, value_beside};
+pub use beside::value_beside;
+pub use ndb_tuple::Places;
 pub use near::closest;
-pub use networks::{Network, own_networks};
-pub use numbers::{Kind, numbers_found};
-pub use pairs::tuple_has;
-pub use places::{Places, search};
-pub use prefixes::Prefixes;
+pub use networks::own_networks;
+pub use numbers::numbers_found;
+pub use places::search;

@@ -2,52 +2,12 @@
 ghost use Rattle.std.specs.Prelude.{◌≡◌, ℕ, ◌+◌, ◌-◌, ◌/◌, ◌^◌, ◌==◌, ◌++◌, nat_eq, map, filter_map, option_map, IfOk, OnOk};
 ghost use Rattle.std.specs.List.{list_any};
 ghost use Rattle.net_base.specs.Networks as spec;
-ghost use Rattle.ndb_search.specs.Prefixes.{network_seen, first_bits, own_at};
+ghost use Rattle.ndb_tuple.specs.Prefixes.{network_seen, first_bits};
+ghost use Rattle.ndb_search.specs.Own.{own_at};
 
-use crate::numbers::{Kind, add_in, first_in};
-use crate::pairs::{line_with, tuple_names};
-use indexmap::IndexSet;
-use net_base::{Db, Tuple};
+use ndb_tuple::{Kind, Network, add_numbers_in, first_bits, firsts_of, line_with, network_of};
+use net_base::Db;
 use std::alloc::{AllocError, Global};
-
-/// A network: an address, how many of its first bits the network shares, and the tuple that says so.
-#[derive(Clone, Copy)]
-pub struct Network<'a> {
-    pub ip: u32,
-    pub bits: u32,
-    pub tuple: &'a Tuple,
-}
-
-/// The first so many bits of an address.
-pub fn first_bits(bits: u32, ip: u32) -> u32
-    ensures { result ≡ ip / 2 ^ (32 - bits) }
-{
-    let others = 32u32.saturating_sub(bits);
-    (u64::from(ip) >> others) as u32
-}
-
-/// The ones of the mask that goes with an address by its first byte.
-pub fn class_bits(ip: u32) -> u32
-    ensures { result ≡ spec.class_bits ip }
-{
-    match ip >> 24 {
-        0..128 => 8,
-        128..192 => 16,
-        _ => 24,
-    }
-}
-
-/// The network of a tuple with `ipnet` and an address as `ip`.
-pub fn network_of(tuple: &Tuple) -> Option<Network<'_>>
-    ensures { option_map network_seen result ≡ spec.network_of tuple.now }
-{
-    if !tuple_names(b"ipnet", tuple) {
-        return None;
-    }
-    let ip = first_in(Kind::Address, tuple)?;
-    let bits = first_in(Kind::Mask, tuple).unwrap_or(class_bits(ip));
-    Some(Network { ip, bits, tuple })
-}
 
 /// The networks that the database describes, in order.
 pub fn all_networks(alloc: Global, db: &Db) -> Result<Vec<Network<'_>>, AllocError>
@@ -71,22 +31,10 @@ pub fn addresses_of(alloc: Global, me: &[u8], db: &Db) -> Result<Vec<u32>, Alloc
     let mut ips = Vec::new(alloc);
     for tuple in db.as_slice() {
         if let Some(_) = line_with(b"sys", me, tuple) {
-            add_in(Kind::Address, tuple, &mut ips)?;
+            add_numbers_in(Kind::Address, tuple, &mut ips)?;
         }
     }
     Ok(ips)
-}
-
-/// The first so many bits of these addresses, each once.
-fn firsts_of(alloc: Global, bits: u32, ips: &[u32]) -> Result<IndexSet<u32>, AllocError>
-    ensures { IfOk result (λ firsts. (first : ℕ) → list_any (nat_eq first) firsts.keys
-        ≡ list_any (λ ip. first_bits bits ip == first) ips.now) }
-{
-    let mut firsts = IndexSet::new(alloc);
-    for ip in ips {
-        firsts.insert(first_bits(bits, *ip))?;
-    }
-    Ok(firsts)
 }
 
 /// Whether one of the networks shares so many bits.

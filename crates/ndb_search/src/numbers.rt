@@ -1,133 +1,13 @@
-//! The numbers that values of the database spell; what spells none is passed over.
-ghost use Rattle.std.specs.Prelude.{◌≡◌, ◌++◌, IfOk, OnOk};
-ghost use Rattle.net_base.specs.Networks.{first_of};
-ghost use Rattle.ndb_search.specs.Numbers as spec;
+//! The numbers that values beside a pair spell, in all tuples.
+ghost use Rattle.std.specs.Prelude.{◌≡◌, IfOk};
+ghost use Rattle.ndb_tuple.specs.Numbers as spec;
 
-use crate::pairs::{has_attr, line_names, line_with};
-use net_base::{Db, Line, NdbPair, Tuple};
+use ndb_tuple::{Kind, add_numbers_beside, line_with};
+use net_base::Db;
 use std::alloc::{AllocError, Global};
-use words::{read_address, read_mask, read_port};
-
-/// What values spell, and so the attribute that they stand under.
-#[derive(Clone, Copy)]
-pub enum Kind {
-    /// `ip`
-    Address,
-    /// `ipmask`, read as its number of ones.
-    Mask,
-    /// `port`
-    Port,
-}
-
-impl Kind {
-    /// The attribute of such values.
-    pub fn attr(self) -> &'static [u8]
-        ensures { result.now ≡ spec.attr_of self }
-    {
-        match self {
-            Kind::Address => b"ip",
-            Kind::Mask => b"ipmask",
-            Kind::Port => b"port",
-        }
-    }
-
-    /// The number that such a value spells.
-    pub fn read(self, word: &[u8]) -> Option<u32>
-        ensures { result ≡ spec.read_of self word.now }
-    {
-        match self {
-            Kind::Address => read_address(word),
-            Kind::Mask => read_mask(word),
-            Kind::Port => match read_port(word) {
-                Some(port) => Some(u32::from(port)),
-                None => None,
-            },
-        }
-    }
-}
-
-/// The number of a kind that a pair holds.
-#[tactic(auto, unfolding(crate::specs::Numbers::pair_number))]
-fn number_of(kind: Kind, pair: &NdbPair) -> Option<u32>
-    ensures { result ≡ spec.pair_number kind pair.now }
-{
-    if has_attr(kind.attr(), pair) {
-        kind.read(pair.value.as_slice())
-    } else {
-        None
-    }
-}
-
-/// The first number of a kind on a line.
-#[tactic(auto, using(crate::proofs::Values::on_less, crate::proofs::Values::on_first))]
-pub fn first_on(kind: Kind, line: &Line) -> Option<u32>
-    ensures { result ≡ first_of (spec.numbers_on kind line.now) }
-{
-    for pair in line.as_slice() {
-        if let Some(number) = number_of(kind, pair) {
-            return Some(number);
-        }
-    }
-    None
-}
-
-/// The first number of a kind in a tuple.
-#[tactic(auto, using(crate::proofs::Values::in_none, crate::proofs::Values::in_first))]
-pub fn first_in(kind: Kind, tuple: &Tuple) -> Option<u32>
-    ensures { result ≡ first_of (spec.numbers_in kind tuple.now) }
-{
-    for line in tuple.as_slice() {
-        if let Some(number) = first_on(kind, line) {
-            return Some(number);
-        }
-    }
-    None
-}
-
-/// Adds the numbers of a kind on a line.
-#[tactic(auto, using(crate::proofs::Values::on_more, crate::proofs::Values::on_less, std::proofs::Common::append_assoc))]
-pub fn add_on(kind: Kind, line: &Line, numbers: &mut Vec<u32>) -> Result<(), AllocError>
-    ensures { OnOk result (numbers.new.items ≡ numbers.old.items ++ spec.numbers_on kind line.now) }
-{
-    for pair in line.as_slice() {
-        if let Some(number) = number_of(kind, pair) {
-            numbers.push(number)?;
-        }
-    }
-    Ok(())
-}
-
-/// Adds the numbers of a kind in a tuple.
-#[tactic(auto, using(crate::proofs::Values::in_more, std::proofs::Common::append_assoc))]
-pub fn add_in(kind: Kind, tuple: &Tuple, numbers: &mut Vec<u32>) -> Result<(), AllocError>
-    ensures { OnOk result (numbers.new.items ≡ numbers.old.items ++ spec.numbers_in kind tuple.now) }
-{
-    for line in tuple.as_slice() {
-        add_on(kind, line, numbers)?;
-    }
-    Ok(())
-}
-
-/// Adds the numbers of a kind beside the pair that stands on this line of the tuple first.
-#[tactic(auto, using(crate::proofs::Values::near_on, crate::proofs::Values::near_in))]
-pub fn add_beside(
-    kind: Kind,
-    line: &Line,
-    tuple: &Tuple,
-    numbers: &mut Vec<u32>,
-) -> Result<(), AllocError>
-    ensures { OnOk result (numbers.new.items
-        ≡ numbers.old.items ++ spec.numbers_near kind line.now tuple.now) }
-{
-    if line_names(kind.attr(), line) {
-        add_on(kind, line, numbers)
-    } else {
-        add_in(kind, tuple, numbers)
-    }
-}
 
 /// The numbers of a kind beside the pair, in all tuples that contain it.
-#[tactic(auto, using(crate::proofs::Values::found_more, crate::proofs::Values::found_less))]
+#[tactic(auto, using(crate::proofs::FoundNumbers::found_more, crate::proofs::FoundNumbers::found_less))]
 pub fn numbers_found(
     alloc: Global,
     attr: &[u8],
@@ -141,7 +21,7 @@ pub fn numbers_found(
     let mut numbers = Vec::new(alloc);
     for tuple in db.as_slice() {
         if let Some(line) = line_with(attr, value, tuple) {
-            add_beside(kind, line, tuple, &mut numbers)?;
+            add_numbers_beside(kind, line, tuple, &mut numbers)?;
         }
     }
     Ok(numbers)

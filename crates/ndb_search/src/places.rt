@@ -1,14 +1,11 @@
 //! The tuples that contain a pair.
 ghost use Rattle.std.specs.Prelude.{◌≡◌, filter_map, slice_get, IfOk};
 ghost use Rattle.net_base.specs.Search as spec;
-ghost use Rattle.ndb_search.specs.Places.{places_with};
+ghost use Rattle.ndb_tuple.specs.Places.{places_with};
 
-use crate::pairs::tuple_has;
-use net_base::{Db, Sequence};
+use ndb_tuple::{Places, tuple_has};
+use net_base::Db;
 use std::alloc::{AllocError, Global};
-
-/// Places of tuples in a database, which contracts see as a list.
-pub type Places = Sequence<u64>;
 
 /// The places of the tuples that contain the pair, in order.
 pub fn search(alloc: Global, db: &Db, attr: &[u8], value: &[u8]) -> Result<Places, AllocError>

@@ -15,3 +15,4 @@ pub mod LastOwn
 pub mod OwnEntries
 pub mod CsAnswers
 pub mod StepsAsk
+pub mod WorldBack

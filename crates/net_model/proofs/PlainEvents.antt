@@ -16,7 +16,7 @@ use Rattle.net_base.specs.Steps.{is_blank, clone_path, lines_in, dotted_name}
 use Rattle.net_base.specs.World.{is_within, is_letter, is_name_byte, is_name, is_byte, is_text, is_word, is_step}
 use Rattle.history_laws.proofs.Ordered.{Each}
 use Rattle.net_model.proofs.PlainTexts.{IsText, ListsTexts}
-use Rattle.history_laws.proofs.StepEvents.{IsOther, IsOpened, IsNamed, Fits, Says}
+use Rattle.history_laws.proofs.StepEvents.{IsOther, own_other, IsOpened, IsNamed, Fits, Says}
 
 -- The words of a file.
 
@@ -128,7 +128,7 @@ reply_opened (reply.Lines lines) all = lines_opened lines all
 reply_opened _ all = tt
 
 pub fits_plain : Fits PlainAt ListsTexts
-fits_plain = record { other = λ a e other. plain_other e other; dialled = reply_opened }
+fits_plain = record { other = λ a e own. plain_other e (own_other e own); dialled = reply_opened }
 
 named : (h : ℕ) (called : List ℕ) → is_name called ≡ true → IsNamed h PlainAt called
 named h called is = (name_word called is, name_word called is)

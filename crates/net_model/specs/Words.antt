@@ -1,5 +1,7 @@
 -- The words of a command line and the commands that they give.
 use Rattle.std.specs.Prelude.{ℕ, Bool, true, false, ◌&&◌, List, [], ◌∷◌, Option, Some, None, if◌then◌else◌, bytes_eq, codes}
+use Rattle.std.specs.Option.{option_map}
+use Rattle.net_base.specs.Addresses.{number_in}
 
 -- a command
 pub data Command : Type 0 where
@@ -9,15 +11,25 @@ pub data Command : Type 0 where
   Query : List ℕ → List ℕ → Option (List ℕ) → Command
   -- the run of a world on so many workers
   Run : ℕ → Command
+  -- the text of the made world of so many messages
+  Make : ℕ → Command
 
 -- a word that has bytes
 abbrev pub is_word : List ℕ → Bool
 is_word [] = false
 is_word (byte ∷ bytes) = true
 
--- the command that words give, where they are in a row: `cs SYS QUERY`, `query ATTR VALUE`, `query ATTR VALUE RATTR`, or `run 1`
+-- the number of messages that a word says: 1 to 9000, without leading zeros
+unfoldable pub messages_in : List ℕ → Option ℕ
+messages_in word = number_in 1 9000 word
+
+-- the command that words give, where they are in a row: `cs SYS QUERY`, `query ATTR VALUE`, `query ATTR VALUE RATTR`, `run 1`,
+-- or `make N`
 abbrev pub command_of : List (List ℕ) → Option Command
-command_of (name ∷ workers ∷ []) = if bytes_eq name (codes "run") && bytes_eq workers (codes "1") then Some (Run 1) else None
+command_of (name ∷ number ∷ []) =
+    if bytes_eq name (codes "run") && bytes_eq number (codes "1")
+    then Some (Run 1)
+    else (if bytes_eq name (codes "make") then option_map Make (messages_in number) else None)
 command_of (name ∷ sys ∷ query ∷ []) =
     if is_word sys && is_word query
     then (if bytes_eq name (codes "cs") then Some (Cs sys query) else (if bytes_eq name (codes "query") then Some (Query sys query None) else None))
@@ -31,8 +43,21 @@ abbrev pub may_wait : Command → Bool
 may_wait (Cs sys query) = false
 may_wait (Query attr value other) = false
 may_wait (Run workers) = true
+may_wait (Make messages) = false
 
 -- whether words give a command that may wait
 abbrev pub words_wait : Option Command → Bool
 words_wait None = false
 words_wait (Some command) = may_wait command
+
+-- whether a command has an input
+abbrev pub reads : Command → Bool
+reads (Cs sys query) = true
+reads (Query attr value other) = true
+reads (Run workers) = true
+reads (Make messages) = false
+
+-- whether words give a command that has an input
+abbrev pub words_read : Option Command → Bool
+words_read None = false
+words_read (Some command) = reads command

@@ -1,6 +1,7 @@
 -- How the parts of a call make its end.
 use Rattle.std.proofs.Common.{◌≡◌, ◌≢◌, ◌&&◌, [], ◌∷◌, ℕ, ◌+◌, ◌<◌, ◌≤◌, ◌⊎◌, Bool, true, false, nat_lt, List, ◌++◌, length, Option, Some, None, Result, Err, Ok, if◌then◌else◌, refl, sym, ◌∙◌, ap, subst, inr, rules, arith}
 use Rattle.std.specs.Prelude.{bytes_eq, codes}
+use Rattle.std.specs.Option.{option_map}
 use Rattle.std.proofs.lemmas.Bool.{false≢true}
 use Rattle.std.proofs.lemmas.Bool.Decides.{nat_tests}
 use Rattle.std.proofs.lemmas.List.{length-append}
@@ -9,17 +10,37 @@ use Rattle.outside.specs.Streams.{ConsumedToEnd, Rose}
 use Rattle.outside.specs.declared.fault.TakeError.{TakeError}
 use Rattle.outside.specs.declared.fault.TakeError.TheVariants as error
 use Rattle.net_model.specs.Answers.{Answer, bad_input, read_fault, input_limit}
-use Rattle.net_model.specs.Words.{Command, Cs, Query, Run, is_word, command_of, words_wait}
-use Rattle.netsh.specs.Built.{bad_line, first_bad, IsGiven, IsAnswer}
-use Rattle.netsh.specs.Ends.{Intake, Output, Told, IsInput, Answers, Ends, answered, unread, no_memory}
+use Rattle.net_base.specs.Addresses.{number_in}
+use Rattle.net_model.specs.Words.{Command, Cs, Query, Run, Make, is_word, messages_in, command_of, words_wait, reads}
+use Rattle.net_base.specs.declared.world.World.{World}
+use Rattle.made_world.specs.Made.{made_world}
+use Rattle.world_writer.specs.Written.{file_text}
+use Rattle.netsh.specs.Built.{bad_line, first_bad, made, IsGiven, IsAnswer}
+use Rattle.netsh.specs.Ends.{Intake, Output, Told, Took, TookSome, IsInput, IsRead, IsUnread, Answers, Ends, answered, unread, no_memory}
 
 -- an input over the limit is bad
-pub too_long_is_bad : (asked : Command) (input : List ℕ) → input_limit < length input → first_bad asked input ≡ Some (0, 9)
-too_long_is_bad asked input long = let over : nat_lt input_limit (length input) ≡ true = grind (arith, nat_tests) in rw over refl
+pub too_long_is_bad : (asked : Command) (input : List ℕ) → reads asked ≡ true → input_limit < length input → first_bad asked input ≡ Some (0, 9)
+too_long_is_bad asked input has long = let over : nat_lt input_limit (length input) ≡ true = grind (arith, nat_tests) in rw (has, over) refl
 
 -- an input within the limit is judged by its lines
 pub within_limit : (asked : Command) (input : List ℕ) → length input ≤ input_limit → first_bad asked input ≡ bad_line asked input
-within_limit asked input fits = let over : nat_lt input_limit (length input) ≡ false = grind (arith, nat_tests) in rw over refl
+within_limit asked input fits = by (reads asked) (nat_lt input_limit (length input)) (grind (arith, nat_tests))
+  where
+    by : (has over : Bool) → over ≡ false → (if has && over then Some (0, 9) else bad_line asked input) ≡ bad_line asked input
+    by true over none = rw none refl
+    by false over none = refl
+
+-- what a command with an input took
+pub took_input : (asked : Command) (intake : Intake) (input : List ℕ) → reads asked ≡ true → IsRead intake input → Took (reads asked) intake input
+took_input asked intake input has read = rw has read
+
+-- want of memory of a command with an input
+pub took_some : (asked : Command) (intake : Intake) → (reads asked ≡ false → IsUnread intake) → intake.after ≡ intake.before → TookSome (reads asked) intake
+took_some asked intake unread_source same = by (reads asked) unread_source
+  where
+    by : (has : Bool) → (has ≡ false → IsUnread intake) → TookSome has intake
+    by true none = same
+    by false none = none refl
 
 -- what was taken past the limit begins an input that is over it
 pub input_too_long : (left rest : Option (List ℕ)) (bytes : List ℕ) → Consumes left rest bytes → length bytes ≡ input_limit + 1 → (input : List ℕ) × IsInput left input × (input_limit < length input)
@@ -30,17 +51,17 @@ input_too_long (Some left) (Some rest) bytes taken long =
 
 -- the answer to an input of which more was taken than the limit
 pub answers_too_long :
-    (asked : Command) (answer : Answer) (intake : Intake) (fault : TakeError) →
+    (asked : Command) (answer : Answer) (intake : Intake) (fault : TakeError) → reads asked ≡ true →
     ConsumedToEnd intake.left intake.rest input_limit (Err fault) → fault ≡ error.TooLarge →
     intake.after ≡ intake.before → answer ≡ bad_input 0 9 →
     Answers asked answer intake
-answers_too_long asked answer intake fault taken same kept right =
+answers_too_long asked answer intake fault has taken same kept right =
     let input = input_too_long intake.left intake.rest taken.bytes taken.consumed (taken.too_large.0 (ap Err same))
     in record {
       input = input.0;
-      read = (input.1, inr input.2);
+      read = took_input asked intake input.0 has (input.1, inr input.2);
       same = kept;
-      right = subst (λ (bad : Option (ℕ × ℕ)). IsGiven bad asked input.0 answer) (sym (too_long_is_bad asked input.0 input.2)) right;
+      right = subst (λ (bad : Option (ℕ × ℕ)). IsGiven bad asked input.0 answer) (sym (too_long_is_bad asked input.0 has input.2)) right;
     }
 
 -- want of memory is told as no other error
@@ -53,6 +74,11 @@ memory_is_no_fault A fault is same = apart (ap (failing A) (sym is) ∙ same)
     apart : failing A error.Memory ≡ failing A error.Failed → ⊥
     apart both = cc
 
+-- the text of a made world
+pub made_answer : (messages : ℕ) (w : World) (text : List ℕ) (answer : Answer) → w ≡ made_world messages → text ≡ file_text w → answer ≡ record { status = 0; text = text } → answer ≡ made messages
+unfolding made
+made_answer messages w text answer is_made is_text is = is ∙ ap (λ (t : List ℕ). record { status = 0; text = t }) (is_text ∙ ap file_text is_made)
+
 -- an answer that was told
 pub ends_answered : (asked : Command) (answer : Answer) (status : ℕ) (text : List ℕ) (result : ℕ) (intake : Intake) (output : Output) → Answers asked answer intake → status ≡ answer.status → text ≡ answer.text → Told (record { status = status; text = text }) result output → Ends (Some asked) result intake output
 ends_answered asked answer status text result intake output answers same_status same_text told =
@@ -61,20 +87,22 @@ ends_answered asked answer status text result intake output answers same_status 
     in answered asked answer refl answers (subst by_text same_text (subst by_status same_status told))
 
 -- a fault of the source that was told
-pub ends_unread : (asked : Command) (text : List ℕ) (result : ℕ) (intake : Intake) (output : Output) → Rose intake.before intake.after → text ≡ read_fault.text → Told (record { status = 6; text = text }) result output → Ends (Some asked) result intake output
-ends_unread asked text result intake output rose same_text told =
+pub ends_unread : (asked : Command) (text : List ℕ) (result : ℕ) (intake : Intake) (output : Output) → reads asked ≡ true → Rose intake.before intake.after → text ≡ read_fault.text → Told (record { status = 6; text = text }) result output → Ends (Some asked) result intake output
+ends_unread asked text result intake output has rose same_text told =
     let by_text : List ℕ → Type 0 = λ t. Told (record { status = 6; text = t }) result output
-    in unread asked refl rose (subst by_text same_text told)
+    in unread asked refl has rose (subst by_text same_text told)
 
 -- the words that wait are those of a run on one worker
 pub waits_run : (words : List (List ℕ)) → words_wait (command_of words) ≡ true → command_of words ≡ Some (Run 1)
 waits_run [] waits = absurd (false≢true waits)
 waits_run (name ∷ []) waits = absurd (false≢true waits)
-waits_run (name ∷ workers ∷ []) waits = by (bytes_eq name (codes "run") && bytes_eq workers (codes "1")) waits
+waits_run (name ∷ number ∷ []) waits = by (bytes_eq name (codes "run") && bytes_eq number (codes "1")) (bytes_eq name (codes "make")) (messages_in number) waits
   where
-    by : (b : Bool) → words_wait (if b then Some (Run 1) else None) ≡ true → (if b then Some (Run 1) else None) ≡ Some (Run 1)
-    by true waits = refl
-    by false waits = absurd (false≢true waits)
+    by : (b c : Bool) (n : Option ℕ) → words_wait (if b then Some (Run 1) else (if c then option_map Make n else None)) ≡ true → (if b then Some (Run 1) else (if c then option_map Make n else None)) ≡ Some (Run 1)
+    by true c n waits = refl
+    by false true (Some n) waits = absurd (false≢true waits)
+    by false true None waits = absurd (false≢true waits)
+    by false false n waits = absurd (false≢true waits)
 waits_run (name ∷ sys ∷ query ∷ []) waits = absurd (by (is_word sys && is_word query) (bytes_eq name (codes "cs")) (bytes_eq name (codes "query")) waits)
   where
     by : (b c d : Bool) → words_wait (if b then (if c then Some (Cs sys query) else (if d then Some (Query sys query None) else None)) else None) ≡ true → ⊥

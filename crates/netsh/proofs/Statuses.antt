@@ -1,5 +1,5 @@
 -- What the statuses say, from how a call ends.
-use Rattle.std.proofs.Common.{◌≡◌, ◌≢◌, ℕ, ◌<◌, ◌⊎◌, Bool, true, List, [], ◌∷◌, length, Option, Some, None, Ok, unwrap_or, IsSome, IfSome, refl, sym, ◌∙◌, ap, subst, inl, inr, rules, arith}
+use Rattle.std.proofs.Common.{◌≡◌, ◌≢◌, ℕ, ◌<◌, ◌⊎◌, Bool, true, false, List, [], ◌∷◌, length, Option, Some, None, Ok, unwrap_or, IsSome, IfSome, refl, sym, ◌∙◌, ap, subst, inl, inr, rules, arith}
 use Rattle.std.specs.Io.KnownBytes.{IsAtEnd}
 use Rattle.outside.specs.Streams.{Rose}
 use Rattle.net_base.specs.declared.world.World.{World}
@@ -7,14 +7,36 @@ use Rattle.net_model.specs.Answers.{Answer, bad_input, lines_answer, cs_answer, 
 use Rattle.net_base.specs.Calm as calm
 use Rattle.net_base.specs.Cs.{CsAnswer, Lines, Refused}
 use Rattle.net_base.specs.Net.{Net, after}
-use Rattle.net_model.specs.Words.{Command, Cs, Query, Run}
+use Rattle.net_model.specs.Words.{Command, Cs, Query, Run, Make, reads, words_read}
 use Rattle.world_text.specs.WorldText.{world_reading}
-use Rattle.netsh.specs.Built.{first_bad, IsStatus, IsRun, IsFound, IsGiven, IsAnswer}
-use Rattle.netsh.specs.Ends.{Intake, Output, Told, IsUnwritten, IsInput, IsRead, Answers, IsStatusOf, IsBad, HasRun, Ends, no_row, answered, unread, no_memory, Causes}
+use Rattle.netsh.specs.Built.{first_bad, made, IsStatus, IsRun, IsFound, IsGiven, IsAnswer}
+use Rattle.netsh.specs.Ends.{Intake, Output, Told, Took, TookSome, IsUnwritten, IsInput, IsRead, IsUnread, Answers, IsStatusOf, IsBad, HasRun, Ends, no_row, answered, unread, no_memory, Causes}
+use Rattle.std.proofs.lemmas.Bool.{false≢true}
 use Rattle.netsh.proofs.Endings.{too_long_is_bad}
 
 some_none : (asked : Command) → Some asked ≡ None → ⊥
 some_none asked h = cc
+
+none_some : (bad : ℕ × ℕ) → None ≡ Some bad → ⊥
+none_some bad h = cc
+
+-- a command with a bad line has an input
+bad_reads : (asked : Command) (input : List ℕ) (bad : ℕ × ℕ) → first_bad asked input ≡ Some bad → reads asked ≡ true
+bad_reads (Cs sys query) input bad is = refl
+bad_reads (Query attr value other) input bad is = refl
+bad_reads (Run workers) input bad is = refl
+bad_reads (Make messages) input bad is = absurd (none_some bad is)
+
+-- what a command took, by whether it has an input
+read_input : (asked : Command) (intake : Intake) (input : List ℕ) → reads asked ≡ true → Took (reads asked) intake input → IsRead intake input
+read_input asked intake input has took = subst (λ (b : Bool). Took b intake input) has took
+
+read_nothing : (asked : Command) (intake : Intake) (input : List ℕ) → reads asked ≡ false → Took (reads asked) intake input → IsUnread intake
+read_nothing asked intake input none took = subst (λ (b : Bool). Took b intake input) none took
+
+-- whether the command that words gave has an input
+asked_reads : (command : Option Command) (asked : Command) (b : Bool) → command ≡ Some asked → words_read command ≡ b → reads asked ≡ b
+asked_reads command asked b is has = ap words_read (sym is) ∙ has
 
 -- what a status says of the command and its input, and the status that it is
 pub data Of (asked : Command) (input : List ℕ) (answer : Answer) : Type 0 where
@@ -29,6 +51,9 @@ cs_or_run sys query workers same = cc
 query_or_run : (attr value : List ℕ) (other : Option (List ℕ)) (workers : ℕ) → Query attr value other ≡ Run workers → ⊥
 query_or_run attr value other workers same = cc
 
+make_or_run : (messages workers : ℕ) → Make messages ≡ Run workers → ⊥
+make_or_run messages workers same = cc
+
 of_cs : (sys query input : List ℕ) (answer : Answer) (found : CsAnswer) → first_bad (Cs sys query) input ≡ None → answer ≡ cs_answer found → Of (Cs sys query) input answer
 of_cs sys query input answer (Lines lines) good is = of_lines good (ap (λ (a : Answer). a.status) is) (cs_or_run sys query)
 of_cs sys query input answer (Refused number) good is = of_refusal good (ap (λ (a : Answer). a.status) is) (cs_or_run sys query)
@@ -37,10 +62,15 @@ of_query : (attr value : List ℕ) (other : Option (List ℕ)) (input : List ℕ
 of_query attr value other input answer [] good is = of_refusal good (ap (λ (a : Answer). a.status) is) (query_or_run attr value other)
 of_query attr value other input answer (line ∷ lines) good is = of_lines good (ap (λ (a : Answer). a.status) is) (query_or_run attr value other)
 
+made_status : (messages : ℕ) (answer : Answer) → answer ≡ made messages → answer.status ≡ 0
+unfolding made
+made_status messages answer is = ap (λ (a : Answer). a.status) is
+
 of_found : (asked : Command) (input : List ℕ) (answer : Answer) → first_bad asked input ≡ None → IsFound asked input answer → Of asked input answer
 of_found (Cs sys query) input answer good found = of_cs sys query input answer _ good found
 of_found (Query attr value other) input answer good found = of_query attr value other input answer _ good found
 of_found (Run workers) input answer good found = of_run good workers refl found.0 found.1 found.2
+of_found (Make messages) input answer good found = of_lines good (made_status messages answer found) (make_or_run messages)
 
 of_given : (asked : Command) (input : List ℕ) (answer : Answer) (bad : Option (ℕ × ℕ)) → first_bad asked input ≡ bad → IsGiven bad asked input answer → Of asked input answer
 of_given asked input answer None is given = of_found asked input answer is given
@@ -65,7 +95,7 @@ no_answer : (asked : Command) (input : List ℕ) (answer : Answer) (n : ℕ) →
 no_answer asked input answer n (of_bad bad is two) same apart = apart.1 (sym same ∙ two)
 no_answer asked input answer n (of_lines good zero no_run) same apart = apart.0 (sym same ∙ zero)
 no_answer asked input answer n (of_refusal good five no_run) same apart = apart.4 (sym same ∙ five)
-no_answer asked input answer n (of_run good workers is w reads run) same apart = no_run_status w (after w run.history) answer.status n run.status same apart
+no_answer asked input answer n (of_run good workers is w says run) same apart = no_run_status w (after w run.history) answer.status n run.status same apart
 
 apart_1 : Apart 1
 apart_1 = (λ e. omega (arith, e), λ e. omega (arith, e), λ e. omega (arith, e), λ e. omega (arith, e), λ e. omega (arith, e))
@@ -83,29 +113,29 @@ apart_8 = (λ e. omega (arith, e), λ e. omega (arith, e), λ e. omega (arith, e
 not_of : (asked : Command) (answer : Answer) (intake : Intake) (status n : ℕ) → Answers asked answer intake → status ≡ answer.status → status ≡ n → Apart n → ⊥
 not_of asked answer intake status n answers same is apart = no_answer asked answers.input answer n (of_answer asked answers.input answer answers.right) (sym same ∙ is) apart
 
-none_some : (bad : ℕ × ℕ) → None ≡ Some bad → ⊥
-none_some bad h = cc
-
 -- a good input was read to its end
-read_whole : (asked : Command) (input : List ℕ) (intake : Intake) → IsRead intake input → first_bad asked input ≡ None → IsAtEnd intake.rest
-read_whole asked input intake (is, inl end) good = end
-read_whole asked input intake (is, inr long) good = absurd (none_some (0, 9) (sym good ∙ too_long_is_bad asked input long))
+read_whole : (asked : Command) (input : List ℕ) (intake : Intake) → reads asked ≡ true → Took (reads asked) intake input → first_bad asked input ≡ None → IsAtEnd intake.rest
+read_whole asked input intake has took good = by (read_input asked intake input has took)
+  where
+    by : IsRead intake input → IsAtEnd intake.rest
+    by (is, inl end) = end
+    by (is, inr long) = absurd (none_some (0, 9) (sym good ∙ too_long_is_bad asked input has long))
 
 module _ (command : Option Command) (status : ℕ) (intake : Intake) (output : Output) where
   usage_only : Ends command status intake output → status ≡ 1 → command ≡ None
   usage_only (no_row none unread_source told) one = none
   usage_only (answered asked answer is answers (inl t)) one = absurd (not_of asked answer intake status 1 answers t.0 one apart_1)
   usage_only (answered asked answer is answers (inr t)) one = absurd (omega (arith, t.0, one))
-  usage_only (unread asked is rose (inl t)) one = absurd (omega (arith, t.0, one))
-  usage_only (unread asked is rose (inr t)) one = absurd (omega (arith, t.0, one))
-  usage_only (no_memory asked is eight unfaulted kept) one = absurd (omega (arith, eight, one))
+  usage_only (unread asked is has rose (inl t)) one = absurd (omega (arith, t.0, one))
+  usage_only (unread asked is has rose (inr t)) one = absurd (omega (arith, t.0, one))
+  usage_only (no_memory asked is eight took kept) one = absurd (omega (arith, eight, one))
 
   only_usage : Ends command status intake output → command ≡ None → (status ≡ 1) ⊎ (status ≡ 7)
   only_usage (no_row none unread_source (inl t)) is_none = inl t.0
   only_usage (no_row none unread_source (inr t)) is_none = inr t.0
   only_usage (answered asked answer is answers told) is_none = absurd (some_none asked (sym is ∙ is_none))
-  only_usage (unread asked is rose told) is_none = absurd (some_none asked (sym is ∙ is_none))
-  only_usage (no_memory asked is eight unfaulted kept) is_none = absurd (some_none asked (sym is ∙ is_none))
+  only_usage (unread asked is has rose told) is_none = absurd (some_none asked (sym is ∙ is_none))
+  only_usage (no_memory asked is eight took kept) is_none = absurd (some_none asked (sym is ∙ is_none))
 
   -- a status that only answers have
   status_of : (n : ℕ) → Ends command status intake output → status ≡ n → (n ≡ 1 → ⊥) → (n ≡ 6 → ⊥) → (n ≡ 7 → ⊥) → (n ≡ 8 → ⊥) → IsStatusOf command n intake
@@ -114,43 +144,50 @@ module _ (command : Option Command) (status : ℕ) (intake : Intake) (output : O
   status_of n (answered asked answer is answers (inl t)) is_n no_one no_six no_seven no_eight =
       record { asked = asked; answer = answer; is_asked = is; answers = answers; right = sym is_n ∙ t.0 }
   status_of n (answered asked answer is answers (inr t)) is_n no_one no_six no_seven no_eight = absurd (no_seven (sym is_n ∙ t.0))
-  status_of n (unread asked is rose (inl t)) is_n no_one no_six no_seven no_eight = absurd (no_six (sym is_n ∙ t.0))
-  status_of n (unread asked is rose (inr t)) is_n no_one no_six no_seven no_eight = absurd (no_seven (sym is_n ∙ t.0))
-  status_of n (no_memory asked is eight unfaulted kept) is_n no_one no_six no_seven no_eight = absurd (no_eight (sym is_n ∙ eight))
+  status_of n (unread asked is has rose (inl t)) is_n no_one no_six no_seven no_eight = absurd (no_six (sym is_n ∙ t.0))
+  status_of n (unread asked is has rose (inr t)) is_n no_one no_six no_seven no_eight = absurd (no_seven (sym is_n ∙ t.0))
+  status_of n (no_memory asked is eight took kept) is_n no_one no_six no_seven no_eight = absurd (no_eight (sym is_n ∙ eight))
 
-  only_read_fault : Ends command status intake output → status ≡ 6 → Rose intake.before intake.after
+  only_read_fault : Ends command status intake output → status ≡ 6 → (words_read command ≡ true) × Rose intake.before intake.after
   only_read_fault (no_row none unread_source (inl t)) six = absurd (omega (arith, t.0, six))
   only_read_fault (no_row none unread_source (inr t)) six = absurd (omega (arith, t.0, six))
   only_read_fault (answered asked answer is answers (inl t)) six = absurd (not_of asked answer intake status 6 answers t.0 six apart_6)
   only_read_fault (answered asked answer is answers (inr t)) six = absurd (omega (arith, t.0, six))
-  only_read_fault (unread asked is rose told) six = rose
-  only_read_fault (no_memory asked is eight unfaulted kept) six = absurd (omega (arith, eight, six))
+  only_read_fault (unread asked is has rose told) six = (ap words_read is ∙ has, rose)
+  only_read_fault (no_memory asked is eight took kept) six = absurd (omega (arith, eight, six))
 
   only_write_fault : Ends command status intake output → status ≡ 7 → Rose output.before output.after
   only_write_fault (no_row none unread_source (inl t)) seven = absurd (omega (arith, t.0, seven))
   only_write_fault (no_row none unread_source (inr t)) seven = t.1
   only_write_fault (answered asked answer is answers (inl t)) seven = absurd (not_of asked answer intake status 7 answers t.0 seven apart_7)
   only_write_fault (answered asked answer is answers (inr t)) seven = t.1
-  only_write_fault (unread asked is rose (inl t)) seven = absurd (omega (arith, t.0, seven))
-  only_write_fault (unread asked is rose (inr t)) seven = t.1
-  only_write_fault (no_memory asked is eight unfaulted kept) seven = absurd (omega (arith, eight, seven))
+  only_write_fault (unread asked is has rose (inl t)) seven = absurd (omega (arith, t.0, seven))
+  only_write_fault (unread asked is has rose (inr t)) seven = t.1
+  only_write_fault (no_memory asked is eight took kept) seven = absurd (omega (arith, eight, seven))
+
+  no_fault : (asked : Command) → TookSome (reads asked) intake → intake.after ≡ intake.before
+  no_fault asked took = by (reads asked) took
+    where
+      by : (has : Bool) → TookSome has intake → intake.after ≡ intake.before
+      by true same = same
+      by false none = none.1
 
   only_memory : Ends command status intake output → status ≡ 8 → (intake.after ≡ intake.before) × IsUnwritten output
   only_memory (no_row none unread_source (inl t)) is_eight = absurd (omega (arith, t.0, is_eight))
   only_memory (no_row none unread_source (inr t)) is_eight = absurd (omega (arith, t.0, is_eight))
   only_memory (answered asked answer is answers (inl t)) is_eight = absurd (not_of asked answer intake status 8 answers t.0 is_eight apart_8)
   only_memory (answered asked answer is answers (inr t)) is_eight = absurd (omega (arith, t.0, is_eight))
-  only_memory (unread asked is rose (inl t)) is_eight = absurd (omega (arith, t.0, is_eight))
-  only_memory (unread asked is rose (inr t)) is_eight = absurd (omega (arith, t.0, is_eight))
-  only_memory (no_memory asked is eight unfaulted kept) is_eight = (unfaulted, kept)
+  only_memory (unread asked is has rose (inl t)) is_eight = absurd (omega (arith, t.0, is_eight))
+  only_memory (unread asked is has rose (inr t)) is_eight = absurd (omega (arith, t.0, is_eight))
+  only_memory (no_memory asked is eight took kept) is_eight = (no_fault asked took, kept)
 
   -- a count that rose was told
   told_read_fault : Ends command status intake output → intake.after ≢ intake.before → (status ≡ 6) ⊎ (status ≡ 7)
   told_read_fault (no_row none unread_source told) rose = absurd (rose unread_source.1)
   told_read_fault (answered asked answer is answers told) rose = absurd (rose answers.same)
-  told_read_fault (unread asked is rising (inl t)) rose = inl t.0
-  told_read_fault (unread asked is rising (inr t)) rose = inr t.0
-  told_read_fault (no_memory asked is eight unfaulted kept) rose = absurd (rose unfaulted)
+  told_read_fault (unread asked is has rising (inl t)) rose = inl t.0
+  told_read_fault (unread asked is has rising (inr t)) rose = inr t.0
+  told_read_fault (no_memory asked is eight took kept) rose = absurd (rose (no_fault asked took))
 
   told_in : (answer : Answer) → Told answer status output → output.after ≢ output.before → status ≡ 7
   told_in answer (inl t) rose = absurd (rose t.2)
@@ -159,37 +196,58 @@ module _ (command : Option Command) (status : ℕ) (intake : Intake) (output : O
   told_write_fault : Ends command status intake output → output.after ≢ output.before → status ≡ 7
   told_write_fault (no_row none unread_source told) rose = told_in usage told rose
   told_write_fault (answered asked answer is answers told) rose = told_in answer told rose
-  told_write_fault (unread asked is rising told) rose = told_in read_fault told rose
-  told_write_fault (no_memory asked is eight unfaulted kept) rose = absurd (rose kept.1)
+  told_write_fault (unread asked is has rising told) rose = told_in read_fault told rose
+  told_write_fault (no_memory asked is eight took kept) rose = absurd (rose kept.1)
 
   complete_without_faults : Ends command status intake output → ¬ Rose intake.before intake.after → ¬ Rose output.before output.after → command ≢ None → (status ≡ 8) ⊎ IsStatusOf command status intake
-  complete_without_faults (no_row none unread_source told) reads writes some = absurd (some none)
-  complete_without_faults (answered asked answer is answers (inl t)) reads writes some =
+  complete_without_faults (no_row none unread_source told) no_read no_write some = absurd (some none)
+  complete_without_faults (answered asked answer is answers (inl t)) no_read no_write some =
       inr (record { asked = asked; answer = answer; is_asked = is; answers = answers; right = t.0 })
-  complete_without_faults (answered asked answer is answers (inr t)) reads writes some = absurd (writes t.1)
-  complete_without_faults (unread asked is rose told) reads writes some = absurd (reads rose)
-  complete_without_faults (no_memory asked is eight unfaulted kept) reads writes some = inl eight
+  complete_without_faults (answered asked answer is answers (inr t)) no_read no_write some = absurd (no_write t.1)
+  complete_without_faults (unread asked is has rose told) no_read no_write some = absurd (no_read rose)
+  complete_without_faults (no_memory asked is eight took kept) no_read no_write some = inl eight
 
-  -- an answer that a call without a fault gave is to what the source had left
+  -- what was read by a call without an input
+  reads_nothing : Ends command status intake output → words_read command ≡ false → IsUnread intake
+  reads_nothing (no_row none unread_source told) not = unread_source
+  reads_nothing (answered asked answer is answers told) not = read_nothing asked intake answers.input (asked_reads command asked false is not) answers.read
+  reads_nothing (unread asked is has rose told) not = absurd (false≢true (sym not ∙ ap words_read is ∙ has))
+  reads_nothing (no_memory asked is eight took kept) not = subst (λ (b : Bool). TookSome b intake) (asked_reads command asked false is not) took
+
+  -- words give one command
   same_command : (asked other : Command) → command ≡ Some asked → command ≡ Some other → other ≡ asked
   same_command asked other one two = ap (λ (o : Option Command). unwrap_or o other) (sym two ∙ one)
 
-  same_bad : (of : IsStatusOf command status intake) (asked : Command) (input : List ℕ) → command ≡ Some asked → intake.left ≡ Some input → first_bad of.asked of.answers.input ≡ first_bad asked input
-  same_bad of asked input is left =
-      let same_input : of.answers.input ≡ input = subst (λ (o : Option (List ℕ)). IsInput o of.answers.input) left of.answers.read.0 in
+  -- how a call of `make` ends
+  made_by : (messages : ℕ) (asked : Command) (answer : Answer) → Make messages ≡ asked → Answers asked answer intake → answer.status ≡ 0
+  made_by messages asked answer is answers = made_status messages answer (subst (λ (c : Command). IsAnswer c answers.input answer) (sym is) answers.right)
+
+  makes : Ends command status intake output → (messages : ℕ) → command ≡ Some (Make messages) → (status ≡ 0) ⊎ (status ≡ 7) ⊎ (status ≡ 8)
+  makes (no_row none unread_source told) messages is_make = absurd (some_none (Make messages) (sym is_make ∙ none))
+  makes (answered asked answer is answers (inl t)) messages is_make = inl (t.0 ∙ made_by messages asked answer (same_command asked (Make messages) is is_make) answers)
+  makes (answered asked answer is answers (inr t)) messages is_make = inr (inl t.0)
+  makes (unread asked is has rose told) messages is_make = absurd (false≢true (ap words_read (sym is_make ∙ is) ∙ has))
+  makes (no_memory asked is eight took kept) messages is_make = inr (inr eight)
+
+  -- an answer that a call without a fault gave is to what the source had left
+  same_bad : (of : IsStatusOf command status intake) (asked : Command) (input : List ℕ) → command ≡ Some asked → reads asked ≡ true → intake.left ≡ Some input → first_bad of.asked of.answers.input ≡ first_bad asked input
+  same_bad of asked input is has left =
+      let has_too : reads of.asked ≡ true = ap reads (same_command asked of.asked is of.is_asked) ∙ has in
+      let read = read_input of.asked intake of.answers.input has_too of.answers.read in
+      let same_input : of.answers.input ≡ input = subst (λ (o : Option (List ℕ)). IsInput o of.answers.input) left read.0 in
       ap (λ (c : Command). first_bad c of.answers.input) (same_command asked of.asked is of.is_asked) ∙ ap (first_bad asked) same_input
 
   bad_two : (of : IsStatusOf command status intake) (bad : ℕ × ℕ) → first_bad of.asked of.answers.input ≡ Some bad → Of of.asked of.answers.input of.answer → status ≡ 2
   bad_two of bad is (of_bad found same two) = of.right ∙ two
   bad_two of bad is (of_lines good zero no_run) = absurd (none_some bad (sym good ∙ is))
   bad_two of bad is (of_refusal good five no_run) = absurd (none_some bad (sym good ∙ is))
-  bad_two of bad is (of_run good workers same w reads run) = absurd (none_some bad (sym good ∙ is))
+  bad_two of bad is (of_run good workers same w says run) = absurd (none_some bad (sym good ∙ is))
 
   tells_bad : Ends command status intake output → ¬ Rose intake.before intake.after → ¬ Rose output.before output.after → (asked : Command) (input : List ℕ) (bad : ℕ × ℕ) → command ≡ Some asked → intake.left ≡ Some input → first_bad asked input ≡ Some bad → (status ≡ 2) ⊎ (status ≡ 8)
-  tells_bad ends reads writes asked input bad is left is_bad =
-      elim (complete_without_faults ends reads writes (λ none. some_none asked (sym is ∙ none))) [
+  tells_bad ends no_read no_write asked input bad is left is_bad =
+      elim (complete_without_faults ends no_read no_write (λ none. some_none asked (sym is ∙ none))) [
         | inl eight ↦ inr eight
-        | inr of ↦ inl (bad_two of bad (same_bad of asked input is left ∙ is_bad) (of_answer of.asked of.answers.input of.answer of.answers.right))
+        | inr of ↦ inl (bad_two of bad (same_bad of asked input is (bad_reads asked input bad is_bad) left ∙ is_bad) (of_answer of.asked of.answers.input of.answer of.answers.right))
       ]
 
   run_ends : (w : World) (net : Net) (n : ℕ) → status ≡ n → IsStatus w net n → (status ≡ 0) ⊎ (status ≡ 3) ⊎ (status ≡ 4) ⊎ (status ≡ 8)
@@ -203,45 +261,45 @@ module _ (command : Option Command) (status : ℕ) (intake : Intake) (output : O
   good_runs of workers ran good (of_bad bad same two) = absurd (none_some bad (sym good ∙ same))
   good_runs of workers ran good (of_lines same zero no_run) = absurd (no_run workers ran)
   good_runs of workers ran good (of_refusal same five no_run) = absurd (no_run workers ran)
-  good_runs of workers ran good (of_run same n is w reads run) = run_ends w (after w run.history) of.answer.status of.right run.status
+  good_runs of workers ran good (of_run same n is w says run) = run_ends w (after w run.history) of.answer.status of.right run.status
 
   runs : Ends command status intake output → ¬ Rose intake.before intake.after → ¬ Rose output.before output.after → (workers : ℕ) (input : List ℕ) → command ≡ Some (Run workers) → intake.left ≡ Some input → first_bad (Run workers) input ≡ None → (status ≡ 0) ⊎ (status ≡ 3) ⊎ (status ≡ 4) ⊎ (status ≡ 8)
-  runs ends reads writes workers input is left good =
-      elim (complete_without_faults ends reads writes (λ none. some_none (Run workers) (sym is ∙ none))) [
+  runs ends no_read no_write workers input is left good =
+      elim (complete_without_faults ends no_read no_write (λ none. some_none (Run workers) (sym is ∙ none))) [
         | inl eight ↦ inr (inr (inr eight))
-        | inr of ↦ good_runs of workers (same_command (Run workers) of.asked is of.is_asked) (same_bad of (Run workers) input is left ∙ good) (of_answer of.asked of.answers.input of.answer of.answers.right)
+        | inr of ↦ good_runs of workers (same_command (Run workers) of.asked is of.is_asked) (same_bad of (Run workers) input is refl left ∙ good) (of_answer of.asked of.answers.input of.answer of.answers.right)
       ]
 
 -- What the status of an answer says.
 
 module _ (command : Option Command) (intake : Intake) where
   bad_of : (of : IsStatusOf command 2 intake) → Of of.asked of.answers.input of.answer → IsBad command intake
-  bad_of of (of_bad bad is two) = record { asked = of.asked; input = of.answers.input; bad = bad; is_asked = of.is_asked; read = of.answers.read; is_bad = is }
+  bad_of of (of_bad bad is two) = record { asked = of.asked; input = of.answers.input; bad = bad; is_asked = of.is_asked; read = read_input of.asked intake of.answers.input (bad_reads of.asked of.answers.input bad is) of.answers.read; is_bad = is }
   bad_of of (of_lines good zero no_run) = absurd (omega (arith, of.right, zero))
   bad_of of (of_refusal good five no_run) = absurd (omega (arith, of.right, five))
-  bad_of of (of_run good workers is w reads run) = elim run.status.ended [
+  bad_of of (of_run good workers is w says run) = elim run.status.ended [
     | inl zero ↦ absurd (omega (arith, of.right, zero))
     | inr (inl three) ↦ absurd (omega (arith, of.right, three))
     | inr (inr four) ↦ absurd (omega (arith, of.right, four))
   ]
 
-  -- another status than 2 is of a whole input
-  end_of : (n : ℕ) → (n ≡ 2 → ⊥) → (of : IsStatusOf command n intake) → Of of.asked of.answers.input of.answer → IsAtEnd intake.rest
-  end_of n no_two of (of_bad bad is two) = absurd (no_two (of.right ∙ two))
-  end_of n no_two of (of_lines good zero no_run) = read_whole of.asked of.answers.input intake of.answers.read good
-  end_of n no_two of (of_refusal good five no_run) = read_whole of.asked of.answers.input intake of.answers.read good
-  end_of n no_two of (of_run good workers is w reads run) = read_whole of.asked of.answers.input intake of.answers.read good
+  -- another status than 2 is of a whole input, where the command has one
+  end_of : (n : ℕ) → (n ≡ 2 → ⊥) → words_read command ≡ true → (of : IsStatusOf command n intake) → Of of.asked of.answers.input of.answer → IsAtEnd intake.rest
+  end_of n no_two has of (of_bad bad is two) = absurd (no_two (of.right ∙ two))
+  end_of n no_two has of (of_lines good zero no_run) = read_whole of.asked of.answers.input intake (asked_reads command of.asked true of.is_asked has) of.answers.read good
+  end_of n no_two has of (of_refusal good five no_run) = read_whole of.asked of.answers.input intake (asked_reads command of.asked true of.is_asked has) of.answers.read good
+  end_of n no_two has of (of_run good workers is w says run) = read_whole of.asked of.answers.input intake (asked_reads command of.asked true of.is_asked has) of.answers.read good
 
   ran_of : (so : World → Net → Bool) (n : ℕ) (of : IsStatusOf command n intake) (workers : ℕ) → of.asked ≡ Run workers → (w : World) → world_reading of.answers.input ≡ Ok w → (run : IsRun w of.answer) → first_bad of.asked of.answers.input ≡ None → so w (after w run.history) ≡ true → HasRun command so intake
-  ran_of so n of workers is w reads run good right = record {
+  ran_of so n of workers is w says run good right = record {
     workers = workers;
     input = of.answers.input;
     world = w;
     history = run.history;
     is_asked = of.is_asked ∙ ap (λ (c : Command). Some c) is;
-    is_input = of.answers.read.0;
-    to_end = read_whole of.asked of.answers.input intake of.answers.read good;
-    reads = reads;
+    is_input = (read_input of.asked intake of.answers.input (ap reads is) of.answers.read).0;
+    to_end = read_whole of.asked of.answers.input intake (ap reads is) of.answers.read good;
+    reads = says;
     legal = run.legal;
     timed = run.timed;
     right = right;
@@ -251,19 +309,19 @@ module _ (command : Option Command) (intake : Intake) where
   stopped_of of (of_bad bad is two) = absurd (omega (arith, of.right, two))
   stopped_of of (of_lines good zero no_run) = absurd (omega (arith, of.right, zero))
   stopped_of of (of_refusal good five no_run) = absurd (omega (arith, of.right, five))
-  stopped_of of (of_run good workers is w reads run) = ran_of calm.stopped 3 of workers is w reads run good (run.status.stopped.0 (sym of.right))
+  stopped_of of (of_run good workers is w says run) = ran_of calm.stopped 3 of workers is w says run good (run.status.stopped.0 (sym of.right))
 
   limited_of : (of : IsStatusOf command 4 intake) → Of of.asked of.answers.input of.answer → HasRun command calm.limited intake
   limited_of of (of_bad bad is two) = absurd (omega (arith, of.right, two))
   limited_of of (of_lines good zero no_run) = absurd (omega (arith, of.right, zero))
   limited_of of (of_refusal good five no_run) = absurd (omega (arith, of.right, five))
-  limited_of of (of_run good workers is w reads run) = ran_of calm.limited 4 of workers is w reads run good (run.status.limited.0 (sym of.right))
+  limited_of of (of_run good workers is w says run) = ran_of calm.limited 4 of workers is w says run good (run.status.limited.0 (sym of.right))
 
   done_of : (workers : ℕ) → command ≡ Some (Run workers) → (of : IsStatusOf command 0 intake) → Of of.asked of.answers.input of.answer → HasRun command calm.done intake
   done_of workers ran of (of_bad bad is two) = absurd (omega (arith, of.right, two))
   done_of workers ran of (of_lines good zero no_run) = absurd (no_run workers (ap (λ (o : Option Command). unwrap_or o of.asked) (sym of.is_asked ∙ ran)))
   done_of workers ran of (of_refusal good five no_run) = absurd (omega (arith, of.right, five))
-  done_of workers ran of (of_run good n is w reads run) = ran_of calm.done 0 of n is w reads run good (run.status.done.0 (sym of.right))
+  done_of workers ran of (of_run good n is w says run) = ran_of calm.done 0 of n is w says run good (run.status.done.0 (sym of.right))
 
   of_it : (n : ℕ) (of : IsStatusOf command n intake) → Of of.asked of.answers.input of.answer
   of_it n of = of_answer of.asked of.answers.input of.answer of.answers.right
@@ -284,14 +342,14 @@ module _ (command : Option Command) (status : ℕ) (intake : Intake) (output : O
   as_5 : status ≡ 5 → IsStatusOf command 5 intake
   as_5 is = status_of command status intake output 5 ends is (λ e. omega (arith, e)) (λ e. omega (arith, e)) (λ e. omega (arith, e)) (λ e. omega (arith, e))
 
-  whole : (n : ℕ) → (n ≡ 2 → ⊥) → IsStatusOf command n intake → IsAtEnd intake.rest
-  whole n no_two of = end_of command intake n no_two of (of_it command intake n of)
+  whole : (n : ℕ) → (n ≡ 2 → ⊥) → words_read command ≡ true → IsStatusOf command n intake → IsAtEnd intake.rest
+  whole n no_two has of = end_of command intake n no_two has of (of_it command intake n of)
 
-  whole_at_end : (status ≡ 0) ⊎ (status ≡ 3) ⊎ (status ≡ 4) ⊎ (status ≡ 5) → IsAtEnd intake.rest
-  whole_at_end (inl is) = whole 0 (λ e. omega (arith, e)) (as_0 is)
-  whole_at_end (inr (inl is)) = whole 3 (λ e. omega (arith, e)) (as_3 is)
-  whole_at_end (inr (inr (inl is))) = whole 4 (λ e. omega (arith, e)) (as_4 is)
-  whole_at_end (inr (inr (inr is))) = whole 5 (λ e. omega (arith, e)) (as_5 is)
+  whole_at_end : words_read command ≡ true → (status ≡ 0) ⊎ (status ≡ 3) ⊎ (status ≡ 4) ⊎ (status ≡ 5) → IsAtEnd intake.rest
+  whole_at_end has (inl is) = whole 0 (λ e. omega (arith, e)) has (as_0 is)
+  whole_at_end has (inr (inl is)) = whole 3 (λ e. omega (arith, e)) has (as_3 is)
+  whole_at_end has (inr (inr (inl is))) = whole 4 (λ e. omega (arith, e)) has (as_4 is)
+  whole_at_end has (inr (inr (inr is))) = whole 5 (λ e. omega (arith, e)) has (as_5 is)
 
   -- what the statuses say
   pub causes_of : Causes command status intake output
@@ -304,6 +362,8 @@ module _ (command : Option Command) (status : ℕ) (intake : Intake) (output : O
     run_done = λ workers ran is. done_of command intake workers ran (as_0 is) (of_it command intake 0 (as_0 is));
     stopped = λ is. stopped_of command intake (as_3 is) (of_it command intake 3 (as_3 is));
     limited = λ is. limited_of command intake (as_4 is) (of_it command intake 4 (as_4 is));
+    reads_nothing = reads_nothing command status intake output ends;
+    makes = makes command status intake output ends;
     read_fault = only_read_fault command status intake output ends;
     write_fault = only_write_fault command status intake output ends;
     memory = only_memory command status intake output ends;

@@ -2,7 +2,7 @@
 --     first_bad     the first bad line of an input, for a command
 --     IsRun         what a run over a world prints, and its status
 --     IsAnswer      an answer to a command and its input
-use Rattle.std.specs.Prelude.{◌≡◌, ◌↔◌, ◌⊎◌, ℕ, true, List, [], ◌∷◌, ◌++◌, length, map, flat_map, nat_lt, Option, Some, None, Result, Ok, Err, if◌then◌else◌}
+use Rattle.std.specs.Prelude.{◌≡◌, ◌↔◌, ◌⊎◌, ◌&&◌, ℕ, true, List, [], ◌∷◌, ◌++◌, length, map, flat_map, nat_lt, Option, Some, None, Result, Ok, Err, if◌then◌else◌}
 use Rattle.net_base.specs.declared.address.Proto.TheVariants.{Il, Udp}
 use Rattle.net_base.specs.declared.history.Entry.{Entry}
 use Rattle.net_base.specs.declared.world.World.{World}
@@ -19,9 +19,11 @@ use Rattle.net_base.specs.Plain.{IsPlain}
 use Rattle.net_base.specs.Summary.{summary}
 use Rattle.net_base.specs.Transcript.{history_text}
 use Rattle.net_model.specs.Headline.{Headline}
+use Rattle.made_world.specs.Made.{made_world}
 use Rattle.world_text.specs.WorldText.{world_reading}
+use Rattle.world_writer.specs.Written.{file_text}
 use Rattle.net_model.specs.Answers.{Answer, bad_input, lines_answer, cs_answer, input_limit}
-use Rattle.net_model.specs.Words.{Command, Cs, Query, Run}
+use Rattle.net_model.specs.Words.{Command, Cs, Query, Run, Make, reads}
 
 -- Bad lines.
 
@@ -35,10 +37,11 @@ abbrev pub bad_line : Command → List ℕ → Option (ℕ × ℕ)
 bad_line (Cs sys query) input = bundle.bad_line input
 bad_line (Query attr value other) input = bundle.bad_line input
 bad_line (Run workers) input = bad_world (world_reading input)
+bad_line (Make messages) input = None
 
--- the same of any input: one over the limit has cause 9 at line 0
+-- the same of any input: one over the limit has cause 9 at line 0, where the command has an input
 abbrev pub first_bad : Command → List ℕ → Option (ℕ × ℕ)
-first_bad asked input = if nat_lt input_limit (length input) then Some (0, 9) else bad_line asked input
+first_bad asked input = if reads asked && nat_lt input_limit (length input) then Some (0, 9) else bad_line asked input
 
 -- an answer to an input without a bad line, or the first bad line and its least cause
 abbrev pub unless_bad : Option (ℕ × ℕ) → Answer → Answer
@@ -91,6 +94,12 @@ pub record IsRun (w : World) (answer : Answer) : Type 0 where
   pub one : (v : World) (k : List Entry) → IsPlain k → answer.text ≡ history_text k ++ summary v k → k ≡ history
   pub status : IsStatus w (after w history) answer.status
 
+-- Answers of make.
+
+-- the text of the made world
+unfoldable pub made : ℕ → Answer
+made messages = record { status = 0; text = file_text (made_world messages) }
+
 -- Answers.
 
 -- an answer to an input without a bad line
@@ -98,6 +107,7 @@ abbrev pub IsFound : Command → List ℕ → Answer → Type 0
 IsFound (Cs sys query) input answer = answer ≡ cs_found sys query input
 IsFound (Query attr value other) input answer = answer ≡ query_found attr value other input
 IsFound (Run workers) input answer = (w : World) × (world_reading input ≡ Ok w) × IsRun w answer
+IsFound (Make messages) input answer = answer ≡ made messages
 
 -- an answer to an input with this first bad line, if any
 abbrev pub IsGiven : Option (ℕ × ℕ) → Command → List ℕ → Answer → Type 0

@@ -1,5 +1,5 @@
 -- How a call of the program ends: its status, what it took from the source and what the sink gained.
-use Rattle.std.specs.Prelude.{◌≡◌, ◌≢◌, ℕ, ◌<◌, ◌⊎◌, Bool, true, List, length, Option, Some, None, Ok, ⊤}
+use Rattle.std.specs.Prelude.{◌≡◌, ◌≢◌, ℕ, ◌<◌, ◌⊎◌, Bool, true, false, List, length, Option, Some, None, Ok, ⊤}
 use Rattle.std.specs.Io.KnownBytes.{Appends, IsAtEnd}
 use Rattle.net_base.specs.declared.history.Entry.{Entry}
 use Rattle.net_base.specs.declared.world.World.{World}
@@ -7,7 +7,7 @@ use Rattle.net_model.specs.Answers.{Answer, usage, read_fault, input_limit}
 use Rattle.net_base.specs.Calm as calm
 use Rattle.net_base.specs.Legal.{IsLegal, IsTimed}
 use Rattle.net_base.specs.Net.{Net, after}
-use Rattle.net_model.specs.Words.{Command, Run}
+use Rattle.net_model.specs.Words.{Command, Run, Make, reads, words_read}
 use Rattle.world_text.specs.WorldText.{world_reading}
 use Rattle.outside.specs.Streams.{Rose, AppendsPart}
 use Rattle.netsh.specs.Built.{first_bad, IsAnswer}
@@ -49,20 +49,30 @@ IsRead intake input = IsInput intake.left input × (IsAtEnd intake.rest ⊎ (inp
 abbrev pub IsUnread : Intake → Type 0
 IsUnread intake = (intake.rest ≡ intake.left) × (intake.after ≡ intake.before)
 
--- the answer is one to an input which was read without a fault
+-- what a command took: its input where it has one, or else nothing
+abbrev pub Took : Bool → Intake → List ℕ → Type 0
+Took true intake input = IsRead intake input
+Took false intake input = IsUnread intake
+
+-- there was no fault of the source, and a command without an input took nothing
+abbrev pub TookSome : Bool → Intake → Type 0
+TookSome true intake = intake.after ≡ intake.before
+TookSome false intake = IsUnread intake
+
+-- the answer is one to an input, where the command has one, which was read without a fault
 pub record Answers (asked : Command) (answer : Answer) (intake : Intake) : Type 0 where
   pub input : List ℕ
-  pub read : IsRead intake input
+  pub read : Took (reads asked) intake input
   pub same : intake.after ≡ intake.before
   pub right : IsAnswer asked input answer
 
 -- how a call with a command, or with words in no row, may end: with the usage, and nothing was read; with an answer to the
--- input; with a fault of the source; or without memory, and then there was no fault and nothing was written
+-- input, if there is one; with a fault of the source; or without memory, and then there was no fault and nothing was written
 pub data Ends (command : Option Command) (status : ℕ) (intake : Intake) (output : Output) : Type 0 where
   no_row : command ≡ None → IsUnread intake → Told usage status output → Ends command status intake output
   answered : (asked : Command) (answer : Answer) → command ≡ Some asked → Answers asked answer intake → Told answer status output → Ends command status intake output
-  unread : (asked : Command) → command ≡ Some asked → Rose intake.before intake.after → Told read_fault status output → Ends command status intake output
-  no_memory : (asked : Command) → command ≡ Some asked → status ≡ 8 → intake.after ≡ intake.before → IsUnwritten output → Ends command status intake output
+  unread : (asked : Command) → command ≡ Some asked → reads asked ≡ true → Rose intake.before intake.after → Told read_fault status output → Ends command status intake output
+  no_memory : (asked : Command) → command ≡ Some asked → status ≡ 8 → TookSome (reads asked) intake → IsUnwritten output → Ends command status intake output
 
 -- the status is that of an answer to an input which was read
 pub record IsStatusOf (command : Option Command) (status : ℕ) (intake : Intake) : Type 0 where
@@ -108,15 +118,18 @@ pub record Causes (command : Option Command) (status : ℕ) (intake : Intake) (o
   pub run_done : (workers : ℕ) → command ≡ Some (Run workers) → status ≡ 0 → HasRun command calm.done intake
   pub stopped : status ≡ 3 → HasRun command calm.stopped intake
   pub limited : status ≡ 4 → HasRun command calm.limited intake
+  -- nothing is read for words in no row, nor for a command without an input, and `make` always has its text
+  pub reads_nothing : words_read command ≡ false → IsUnread intake
+  pub makes : (messages : ℕ) → command ≡ Some (Make messages) → (status ≡ 0) ⊎ (status ≡ 7) ⊎ (status ≡ 8)
   -- the faults and the memory
-  pub read_fault : status ≡ 6 → Rose intake.before intake.after
+  pub read_fault : status ≡ 6 → (words_read command ≡ true) × Rose intake.before intake.after
   pub write_fault : status ≡ 7 → Rose output.before output.after
   pub memory : status ≡ 8 → (intake.after ≡ intake.before) × IsUnwritten output
   -- and no fault is told as anything else: one of the source is 6, or 7 where that can't be written
   pub read_faults : intake.after ≢ intake.before → (status ≡ 6) ⊎ (status ≡ 7)
   pub write_faults : output.after ≢ output.before → status ≡ 7
-  -- the answer was made from the whole input
-  pub end : (status ≡ 0) ⊎ (status ≡ 3) ⊎ (status ≡ 4) ⊎ (status ≡ 5) → IsAtEnd intake.rest
+  -- the answer was made from the whole input, where the command has one
+  pub end : words_read command ≡ true → (status ≡ 0) ⊎ (status ≡ 3) ⊎ (status ≡ 4) ⊎ (status ≡ 5) → IsAtEnd intake.rest
   -- without a fault, words in a row have an answer's status, or memory ran out
   pub complete : ¬ Rose intake.before intake.after → ¬ Rose output.before output.after → command ≢ None → (status ≡ 8) ⊎ IsStatusOf command status intake
   -- and where the source told what it had left, a bad input is told of, and a good world runs until it ends

@@ -89,6 +89,13 @@ impl Answer {
         })
     }
 
+    /// A text that is the defined answer.
+    pub fn whole(text: Octets) -> Answer
+        ensures { result ≡ record { status = 0; text = text } }
+    {
+        Answer { status: 0, text }
+    }
+
     /// The text of a run's history with its summary.
     pub fn run(alloc: Global, world: &World, ran: &Ran) -> Result<Answer, AllocError>
         requires world { IsWorld world.now }

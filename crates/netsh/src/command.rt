@@ -1,7 +1,9 @@
 //! The words of the command line.
 ghost use Rattle.std.specs.Prelude.{◌≡◌, ◌∷◌, [], map, option_map, string_bytes};
-ghost use Rattle.net_model.specs.Words.{command_of, is_word};
+ghost use Rattle.net_model.specs.Words.{command_of, is_word, messages_in, reads};
 ghost use Rattle.netsh.specs.Commands.{command_read};
+
+use words::number_in;
 
 /// A command with the words that it needs.
 #[derive(Clone, Copy)]
@@ -14,6 +16,21 @@ pub enum Command<'a> {
     Beside(&'a [u8], &'a [u8], &'a [u8]),
     /// `run WORKERS`
     Run(u32),
+    /// `make N`
+    Make(u32),
+}
+
+/// Whether a command has an input.
+pub fn has_input(command: Command<'_>) -> bool
+    ensures { result ≡ reads (command_read command.entry) }
+{
+    match command {
+        Command::Cs(_, _) => true,
+        Command::Tuples(_, _) => true,
+        Command::Beside(_, _, _) => true,
+        Command::Run(_) => true,
+        Command::Make(_) => false,
+    }
 }
 
 /// The command that words give, if they are in a row.
@@ -21,7 +38,7 @@ pub fn read_words(words: &[String]) -> Option<Command<'_>>
     ensures { option_map command_read result ≡ command_of (map string_bytes words.now) }
 {
     match words {
-        [name, workers] => read_two(name.as_bytes(), workers.as_bytes()),
+        [name, number] => read_two(name.as_bytes(), number.as_bytes()),
         [name, first, second] => read_three(name.as_bytes(), first.as_bytes(), second.as_bytes()),
         [name, attr, value, other] => read_four(
             name.as_bytes(),
@@ -34,14 +51,25 @@ pub fn read_words(words: &[String]) -> Option<Command<'_>>
 }
 
 /// The command of two words.
-fn read_two<'a>(name: &[u8], workers: &'a [u8]) -> Option<Command<'a>>
-    ensures { option_map command_read result ≡ command_of (name.now ∷ workers.now ∷ []) }
+fn read_two<'a>(name: &[u8], number: &'a [u8]) -> Option<Command<'a>>
+    ensures { option_map command_read result ≡ command_of (name.now ∷ number.now ∷ []) }
 {
-    if name == b"run".as_slice() && workers == b"1".as_slice() {
-        Some(Command::Run(1))
-    } else {
-        None
+    if name == b"run".as_slice() && number == b"1".as_slice() {
+        return Some(Command::Run(1));
     }
+    if name == b"make".as_slice() {
+        return Some(Command::Make(read_messages(number)?));
+    }
+    None
+}
+
+/// The number of messages that a word says, 1 to 9000.
+#[tactic(auto, unfolding(net_model::specs::Words::messages_in))]
+fn read_messages(word: &[u8]) -> Option<u32>
+    ensures { result ≡ messages_in word.now }
+{
+    let messages = number_in(1, 9000, word)?;
+    Some(messages as u32)
 }
 
 /// The command of three words.

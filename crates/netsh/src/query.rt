@@ -5,7 +5,7 @@ ghost use Rattle.netsh.specs.Built.{query_lines, query_over};
 
 use crate::answer::Answer;
 use ndb_reader::{NdbError, put_pairs, read_ndb};
-use ndb_search::{add_beside, tuple_has};
+use ndb_tuple::{add_beside, tuple_has};
 use net_base::{Db, Lines, NdbPair, Octets, Tuple};
 use std::alloc::{AllocError, Global};
 

@@ -23,7 +23,7 @@ pub(crate) fn words_of(alloc: Global, words: &[&str]) -> Result<Vec<String>, All
 }
 
 /// What a call answers and writes, where these calls of the source and the sink fail.
-fn run(
+pub(crate) fn run(
     alloc: Global,
     words: &[&str],
     input: &[u8],

@@ -1,6 +1,6 @@
 //! The top call: words and an input in, a status and a text out.
-ghost use Rattle.std.specs.Prelude.{◌≡◌, ◌≢◌, ◌≤◌, ◌↔◌, map, string_bytes, length, IsNone, IfNone, IfSome, IfOk, IsErrOf, IsTrue, Some, None, Err};
-ghost use Rattle.net_model.specs.Words.{command_of, words_wait};
+ghost use Rattle.std.specs.Prelude.{◌≡◌, ◌≢◌, ◌≤◌, ◌↔◌, map, string_bytes, length, IsNone, IfNone, IfSome, IfOk, IsErrOf, IsTrue, Some, None, Err, true, false};
+ghost use Rattle.net_model.specs.Words.{command_of, reads, words_wait};
 ghost use Rattle.netsh.specs.Ends.{Ends, Causes, Told, Answers};
 ghost use Rattle.net_model.specs.Answers.{input_limit};
 ghost use Rattle.netsh.specs.Built.{IsAnswer};
@@ -8,8 +8,9 @@ ghost use Rattle.netsh.specs.Commands.{command_read};
 ghost use Rattle.outside.specs.Streams.{Rose};
 
 use crate::answer::{Answer, READ_FAULT, USAGE};
-use crate::command::{Command, read_words};
+use crate::command::{Command, has_input, read_words};
 use crate::cs::cs;
+use crate::make::make;
 use crate::query::{query_beside, query_tuples};
 use crate::run::run_over;
 use outside::{
@@ -33,7 +34,7 @@ fn tell<K: Sink>(sink: &mut K, status: u8, text: &[u8]) -> u8
     }
 }
 
-/// The answer to a command and its input, which is within the limit.
+/// The answer to a command and its input, if it has one, which is within the limit.
 fn answer_over(alloc: Global, command: Command<'_>, input: &[u8]) -> Result<Answer, AllocError>
     requires { length input.now ≤ input_limit }
     ensures { IfOk result (λ answer. IsAnswer (command_read command.entry) input.now answer) }
@@ -43,10 +44,11 @@ fn answer_over(alloc: Global, command: Command<'_>, input: &[u8]) -> Result<Answ
         Command::Tuples(attr, value) => query_tuples(alloc, attr, value, input),
         Command::Beside(attr, value, other) => query_beside(alloc, attr, value, other, input),
         Command::Run(_) => run_over(alloc, input),
+        Command::Make(messages) => make(alloc, messages),
     }
 }
 
-/// Reads the input of a command, and makes the answer.
+/// Reads the input of a command, where it has one, and makes the answer.
 fn read_and_answer<S: Source>(
     alloc: Global,
     command: Command<'_>,
@@ -54,10 +56,14 @@ fn read_and_answer<S: Source>(
 ) -> Result<Answer, TakeError>
     ensures ok { IfOk result (λ answer. Answers (command_read command.entry) answer
         (record { left = S.left source.old; rest = S.left source.new; before = S.faults source.old; after = S.faults source.new })) }
-    ensures failed { IsErrOf result TakeError.Failed → Rose (S.faults source.old) (S.faults source.new) }
+    ensures failed { IsErrOf result TakeError.Failed → (reads (command_read command.entry) ≡ true) × Rose (S.faults source.old) (S.faults source.new) }
     ensures same { result ≢ Err TakeError.Failed → S.faults source.new ≡ S.faults source.old }
     ensures within { IsErrOf result TakeError.TooLarge → ⊥ }
+    ensures untouched { reads (command_read command.entry) ≡ false → source.new ≡ source.old }
 {
+    if !has_input(command) {
+        return Ok(answer_over(alloc, command, b"")?);
+    }
     match read_to_end(alloc, source, INPUT_LIMIT) {
         Ok(input) => Ok(answer_over(alloc, command, input.as_slice())?),
         Err(TakeError::TooLarge) => Ok(Answer::bad_input(alloc, 0, 9)?),
@@ -65,7 +71,7 @@ fn read_and_answer<S: Source>(
     }
 }
 
-/// Reads the input of a command, and makes the answer before a byte of it is written.
+/// Reads the input of a command, where it has one, and makes the answer before a byte of it is written.
 fn ask_reading<S: Source, K: Sink>(
     alloc: Global,
     command: Command<'_>,

@@ -9,7 +9,7 @@ use Rattle.net_base.specs.declared.world.Step.{Step}
 use Rattle.net_base.specs.declared.world.Step.TheVariants as step
 use Rattle.net_base.specs.Steps.{Bound, clone_path, lines_in, Ask, position}
 use Rattle.history_laws.proofs.Ordered.{each_any}
-use Rattle.history_laws.proofs.StepEvents.{IsOther, IsOpened, Fits, Says, IsNextEvent, next_event}
+use Rattle.history_laws.proofs.StepEvents.{IsOther, own_other, IsOpened, Fits, Says, IsNextEvent, next_event}
 
 -- a wait for a moment is recorded at the host's desk
 abbrev pub UntilAt : ℕ → ActorName → Event → Type 0
@@ -25,7 +25,7 @@ other_until h a _ other = tt
 
 fits_until : (h : ℕ) → Fits (UntilAt h) (λ (r : Reply). Unit {0})
 fits_until h = record {
-  other = other_until h;
+  other = λ a e own. other_until h a e (own_other e own);
   dialled = λ r fine. each_any (λ (line : List ℕ). IsOpened (UntilAt h) (clone_path line)) (λ line a m. tt) (lines_in r);
 }
 

@@ -1,22 +1,22 @@
 //! The rows of the table for what comes, a function for each state.
-ghost use Rattle.std.specs.Prelude.{◌≡◌, ℕ, ◌<◌, ◌^◌, IfOk, OnOk, OnErr, true};
+ghost use Rattle.std.specs.Prelude.{◌≡◌, ◌<◌, ◌^◌, IfOk, OnErr, true};
 ghost use Rattle.net_base.specs.declared.il.IlKind.TheVariants as kind;
 ghost use Rattle.net_base.specs.declared.il.IlState.TheVariants as state;
-ghost use Rattle.net_base.specs.IlEnd as spec;
+ghost use Rattle.net_base.specs.IlEnd.{End};
 ghost use Rattle.net_base.specs.IlTable as table;
-ghost use Rattle.il_machine.specs.Stands.{IsShort, closing_takes, established_takes, handshake_completed, takes_in};
+ghost use Rattle.il_machine.specs.Stands.{IsFew, Says, StandsFor, Turns, closing_takes, established_takes, handshake_completed, takes_in};
 
 use crate::end::IlEnd;
 use il_queues::Timer;
 use net_base::{Cause, IlKind, IlMsg, IlState};
 use std::alloc::AllocError;
 
+#[tactic(auto, unfolding(crate::specs::Stands::StandsFor))]
 impl IlEnd {
     /// Syncer: its sync is answered or refused.
     pub(super) fn arrive_at_syncer(&mut self, now: u64, message: &IlMsg) -> Option<IlMsg>
         requires { now < 2 ^ 63 }
-        ensures end { self.new ≡ (table.at_syncer message.now.kind now message.now self.old).end }
-        ensures emits { result ≡ (table.at_syncer message.now.kind now message.now self.old).emits }
+        ensures { Turns self.old self.new result (λ e. table.at_syncer message.now.kind now message.now e) }
     {
         match message.kind {
             IlKind::Sync if message.ack == self.start => {
@@ -41,13 +41,11 @@ impl IlEnd {
         message: &IlMsg,
     ) -> Result<Option<IlMsg>, AllocError>
         requires in_time { now < 2 ^ 63 }
-        requires short { IsShort self.old }
+        requires short { IsFew self.old }
         requires syncee { self.old.state ≡ state.Syncee }
-        ensures end { OnOk result (self.new ≡ (table.at_syncee message.now.kind now message.now self.old).end) }
-        ensures emits { IfOk result (λ emits.
-            emits ≡ (table.at_syncee message.now.kind now message.now self.old).emits) }
+        ensures ok { IfOk result (λ emits. Turns self.old self.new emits (λ e. table.at_syncee message.now.kind now message.now e)) }
         ensures err { OnErr result (self.new ≡ self.old) }
-        ensures memory { OnErr result (takes_in state.Syncee now message.now self.old ≡ true) }
+        ensures memory { OnErr result (Says self.old true (takes_in state.Syncee now message.now)) }
     {
         match message.kind {
             IlKind::Sync if message.id == self.rstart.unwrap_or(0) => {
@@ -64,12 +62,11 @@ impl IlEnd {
     /// Becomes Established, and handles the message as Established.
     fn complete_handshake(&mut self, now: u64, message: &IlMsg) -> Result<Option<IlMsg>, AllocError>
         requires in_time { now < 2 ^ 63 }
-        requires short { IsShort self.old }
+        requires short { IsFew self.old }
         requires syncee { self.old.state ≡ state.Syncee }
-        ensures end { OnOk result (self.new ≡ (handshake_completed now message.now self.old).end) }
-        ensures emits { IfOk result (λ emits. emits ≡ (handshake_completed now message.now self.old).emits) }
+        ensures ok { IfOk result (λ emits. Turns self.old self.new emits (λ e. handshake_completed now message.now e)) }
         ensures err { OnErr result (self.new ≡ self.old) }
-        ensures memory { OnErr result (established_takes message.now.kind now message.now self.old ≡ true) }
+        ensures memory { OnErr result (Says self.old true (established_takes message.now.kind now message.now)) }
     {
         let timer = Timer {
             due: self.timer.due,
@@ -93,12 +90,10 @@ impl IlEnd {
         message: &IlMsg,
     ) -> Result<Option<IlMsg>, AllocError>
         requires in_time { now < 2 ^ 63 }
-        requires short { IsShort self.old }
-        ensures end { OnOk result (self.new ≡ (table.at_established message.now.kind now message.now self.old).end) }
-        ensures emits { IfOk result (λ emits.
-            emits ≡ (table.at_established message.now.kind now message.now self.old).emits) }
+        requires short { IsFew self.old }
+        ensures ok { IfOk result (λ emits. Turns self.old self.new emits (λ e. table.at_established message.now.kind now message.now e)) }
         ensures err { OnErr result (self.new ≡ self.old) }
-        ensures memory { OnErr result (established_takes message.now.kind now message.now self.old ≡ true) }
+        ensures memory { OnErr result (Says self.old true (established_takes message.now.kind now message.now)) }
     {
         match message.kind {
             IlKind::Sync if message.id == self.rstart.unwrap_or(0) => {
@@ -138,9 +133,8 @@ impl IlEnd {
     /// Established: a close comes, after the last message or too soon.
     fn close_comes(&mut self, now: u64, message: &IlMsg) -> Option<IlMsg>
         requires in_time { now < 2 ^ 63 }
-        requires short { IsShort self.old }
-        ensures end { self.new ≡ (table.at_established kind.Close now message.now self.old).end }
-        ensures emits { result ≡ (table.at_established kind.Close now message.now self.old).emits }
+        requires short { IsFew self.old }
+        ensures { Turns self.old self.new result (λ e. table.at_established kind.Close now message.now e) }
     {
         if message.spec != 0 {
             return None;
@@ -162,12 +156,10 @@ impl IlEnd {
         message: &IlMsg,
     ) -> Result<Option<IlMsg>, AllocError>
         requires in_time { now < 2 ^ 63 }
-        requires short { IsShort self.old }
-        ensures end { OnOk result (self.new ≡ (table.at_closing message.now.kind now message.now self.old).end) }
-        ensures emits { IfOk result (λ emits.
-            emits ≡ (table.at_closing message.now.kind now message.now self.old).emits) }
+        requires short { IsFew self.old }
+        ensures ok { IfOk result (λ emits. Turns self.old self.new emits (λ e. table.at_closing message.now.kind now message.now e)) }
         ensures err { OnErr result (self.new ≡ self.old) }
-        ensures memory { OnErr result (closing_takes message.now.kind now message.now self.old ≡ true) }
+        ensures memory { OnErr result (Says self.old true (closing_takes message.now.kind now message.now)) }
     {
         match message.kind {
             IlKind::Sync => {
@@ -202,8 +194,7 @@ impl IlEnd {
     /// Closed: an end that its peer closed answers a close that comes again.
     pub(super) fn arrive_at_closed(&mut self, now: u64, message: &IlMsg) -> Option<IlMsg>
         requires { now < 2 ^ 63 }
-        ensures end { self.new ≡ (table.at_closed message.now.kind now message.now self.old).end }
-        ensures emits { result ≡ (table.at_closed message.now.kind now message.now self.old).emits }
+        ensures { Turns self.old self.new result (λ e. table.at_closed message.now.kind now message.now e) }
     {
         match message.kind {
             IlKind::Close if self.closed_by_peer && message.spec == 0 => {

@@ -3,7 +3,7 @@ use Rattle.std.specs.Prelude.{flat_map}
 use Rattle.net_base.specs.declared.ndb.NdbPair.{NdbPair}
 use Rattle.net_base.specs.Networks.{Network, is_on}
 use Rattle.net_base.specs.Cs.{own_first, once_each, word_addresses}
-use Rattle.ndb_search.specs.Prefixes.{network_seen}
+use Rattle.ndb_tuple.specs.Prefixes.{network_seen}
 use Rattle.cs_resolver.proofs.Answering.{covered_first_is}
 use Rattle.cs_resolver.proofs.Longest.{own_on}
 use Rattle.cs_resolver.proofs.addresses.found_addresses.Goals as goal

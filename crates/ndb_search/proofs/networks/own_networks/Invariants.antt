@@ -1,7 +1,8 @@
 use Rattle.std.proofs.Common.{◌≡◌, ◌-◌, ◌==◌, map}
 use Rattle.std.specs.Prelude.{filter, filter_map, flat_map}
 use Rattle.std.specs.List.{range_with_len}
-use Rattle.ndb_search.specs.Prefixes.{network_seen, own_at}
+use Rattle.ndb_tuple.specs.Prefixes.{network_seen}
+use Rattle.ndb_search.specs.Own.{own_at}
 use Rattle.ndb_search.proofs.networks.own_networks.Given as goal
 
 abbrev pub invariant-loop-ones : goal.invariant-loop-ones

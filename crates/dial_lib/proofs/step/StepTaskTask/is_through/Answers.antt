@@ -1,0 +1,10 @@
+use Rattle.dial_lib.proofs.step.StepTaskTask.is_through.Goals as goal
+
+pub returns-in-OneRequest : goal.returns-in-OneRequest
+returns-in-OneRequest c = λ names. rw (c.in-OneRequest.is) (c.is_through.ensures names)
+
+pub returns-in-WriteText : goal.returns-in-WriteText
+returns-in-WriteText c = λ names. rw (c.in-WriteText.is) (c.is_through-in-WriteText.ensures names)
+
+pub returns-in-Reject : goal.returns-in-Reject
+returns-in-Reject c = λ names. rw (c.in-Reject.is) (c.is_through-in-Reject.ensures names)

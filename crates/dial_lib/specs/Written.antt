@@ -1,0 +1,12 @@
+-- Texts that are written one behind the other.
+use Rattle.std.specs.Prelude.{◌≡◌, ℕ, List, [], ◌∷◌, ◌++◌, drop, length}
+use Rattle.std.specs.Borrow.{Bor}
+
+-- all texts in a row
+abbrev pub written : List (Bor (List ℕ)) → List ℕ
+written [] = []
+written (text ∷ texts) = text.now ++ written texts
+
+-- the text was written over the front of what stood there, and what stands behind it stays
+abbrev pub Lays : List ℕ → List ℕ → List ℕ → ℕ → Type 0
+Lays text old new len = (len ≡ length text) × (new ≡ text ++ drop len old)

@@ -1,0 +1,22 @@
+//! What an entry owes, the queue of what a caller owes, and the ways of a world's hosts.
+#![tactic(auto)]
+
+mod due;
+mod duty;
+mod follow_up;
+mod law;
+mod owing;
+mod queue;
+mod release;
+mod shown;
+#[cfg(test)]
+mod tests;
+mod world_ways;
+
+pub use due::Due;
+pub use duty::Duty;
+pub use law::a_move_owes_its_ticks;
+pub use owing::most_owed;
+pub use queue::Duties;
+pub use shown::{Shown, entry_of};
+pub use world_ways::WorldWays;

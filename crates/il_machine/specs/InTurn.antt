@@ -1,0 +1,22 @@
+-- The early messages whose turn has come.
+use Rattle.std.specs.Prelude.{ℕ, zero, suc, ◌+◌, List, [], ◌∷◌, ◌++◌, Option, Some, None}
+use Rattle.net_base.specs.IlEnd.{End, Early, early_at, without}
+
+-- messages in sequence, and the early ones that are left
+pub record Turned : Type 0 where
+  pub texts : List (List ℕ)
+  pub early : List Early
+
+-- the next message, if it is early, and those that follow it
+abbrev pub next_of : Option (List ℕ) → List Early → Turned → Turned
+next_of None early others = record { texts = []; early = early }
+next_of (Some text) early others = record others { texts = text ∷ others.texts }
+
+-- the early messages behind message `got`, as far as they follow in sequence; at most n of them
+abbrev pub in_turn : ℕ → ℕ → List Early → Turned
+in_turn zero got early = record { texts = []; early = early }
+in_turn (suc n) got early = next_of (early_at (got + 1) early) early (in_turn n (got + 1) (without (got + 1) early))
+
+-- the end with these messages got, and the early ones that are left
+abbrev pub with_turned : End → Turned → End
+with_turned e t = record e { got = e.got ++ t.texts; early = t.early }

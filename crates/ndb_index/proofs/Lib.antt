@@ -1,0 +1,4 @@
+pub mod Covering
+pub mod Nearby
+pub mod Notes
+pub mod Own

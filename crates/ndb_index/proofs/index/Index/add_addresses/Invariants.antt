@@ -1,0 +1,8 @@
+use Rattle.std.proofs.Common.{◌≡◌, ◌+◌, ◌≤◌, ◌++◌, take}
+use Rattle.ndb_index.specs.Near.{spot_tuples, numbers_of}
+use Rattle.ndb_index.proofs.index.Index.add_addresses.Given as goal
+
+abbrev pub invariant-loop-spot : goal.invariant-loop-spot
+invariant-loop-spot g l =
+    (l.ips.items ≡ l.initial.ips.items ++ numbers_of (spot_tuples l.self (take l.spot-index l.mine)))
+    × (l.steps ≤ l.initial.steps + l.spot-index)

@@ -1,0 +1,61 @@
+-- Where each pair stands, and what an index keeps of it.
+use Rattle.std.specs.Prelude.{ℕ, ◌+◌, ◌-◌, Bool, false, ◌==◌, List, [], ◌∷◌, ◌++◌, length, slice_get, Option, option_map, option_to_list, unwrap_or, if◌then◌else◌}
+use Rattle.std.specs.Option.{option_map_or}
+use Rattle.std.specs.List.{position_from}
+use Rattle.std.specs.Map.{lookup}
+use Rattle.net_base.specs.declared.ndb.NdbPair.{NdbPair}
+use Rattle.net_base.specs.Search.{line_has}
+use Rattle.ndb_index.specs.declared.spot.Spot.{Spot}
+use Rattle.ndb_index.specs.declared.key.Key.{Key}
+use Rattle.ndb_index.specs.Keys.{same_pair}
+
+-- A pair's spots.
+
+abbrev pub spot_at : ℕ → ℕ → Spot
+spot_at place line = record { place = place; line = line }
+
+-- where the pair stands in the tuple at this place, if it does: on the first line that has it
+abbrev pub spot_in : ℕ → List ℕ → List ℕ → List (List NdbPair) → Option Spot
+spot_in place attr value tuple = option_map (spot_at place) (position_from (line_has attr value) 0 tuple)
+
+-- where the pair stands in each tuple that contains it, in order, where the first tuple has this place
+abbrev pub spots_from : ℕ → List ℕ → List ℕ → List (List (List NdbPair)) → List Spot
+spots_from place attr value [] = []
+spots_from place attr value (tuple ∷ tuples) =
+    option_to_list (spot_in place attr value tuple) ++ spots_from (place + 1) attr value tuples
+
+-- the same in a database, whose first tuple has the place 0
+abbrev pub spots_with : List ℕ → List ℕ → List (List (List NdbPair)) → List Spot
+spots_with attr value db = spots_from 0 attr value db
+
+-- What is kept.
+
+-- the key is this pair
+abbrev pub is_key : List ℕ → List ℕ → Key → Bool
+is_key attr value key = same_pair attr value key.attr key.value
+
+-- the spots by a pair, if any were kept
+abbrev pub spots_found : List ℕ → List ℕ → List (Key × List Spot) → Option (List Spot)
+spots_found attr value pairs = lookup (is_key attr value) pairs
+
+-- the spots by a pair
+abbrev pub spots_kept : List ℕ → List ℕ → List (Key × List Spot) → List Spot
+spots_kept attr value pairs = unwrap_or (spots_found attr value pairs) []
+
+-- the last spot is in the tuple at this place
+abbrev pub ends_at : ℕ → List Spot → Bool
+ends_at place spots = option_map_or (λ spot. spot.place == place) (slice_get spots (length spots - 1)) false
+
+-- the spots with one more, where the last one isn't in the same tuple
+abbrev pub with_spot : Spot → List Spot → List Spot
+with_spot spot spots = if ends_at spot.place spots then spots else spots ++ spot ∷ []
+
+-- the spots of a pair after one that stands there, or of another
+abbrev pub noted : Bool → Spot → List Spot → List Spot
+noted stands spot spots = if stands then with_spot spot spots else spots
+
+-- the spots after the lines of the tuple at a place, of which the first has this number
+abbrev pub lines_noted : ℕ → ℕ → List ℕ → List ℕ → List (List NdbPair) → List Spot → List Spot
+lines_noted place number attr value [] spots = spots
+lines_noted place number attr value (line ∷ lines) spots =
+    lines_noted place (number + 1) attr value lines (noted (line_has attr value line) (spot_at place number) spots)

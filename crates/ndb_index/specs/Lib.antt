@@ -1,0 +1,10 @@
+pub use Rattle.net_base.specs.Networks
+pub use Rattle.net_base.specs.Search
+pub use Rattle.ndb_tuple.specs.Places
+pub use Rattle.ndb_tuple.specs.Prefixes
+pub mod Index
+pub mod Keys
+pub mod Kept
+pub mod Near
+pub mod Nets
+pub mod Spots

@@ -1,0 +1,25 @@
+-- Tuples near a system, by their places.
+use Rattle.std.specs.Prelude.{ℕ, ◌<◌, List, [], length, map, flat_map, get_or}
+use Rattle.net_base.specs.declared.ndb.NdbPair.{NdbPair}
+use Rattle.ndb_tuple.specs.declared.numbers.Kind.TheVariants.{Address}
+use Rattle.ndb_tuple.specs.Numbers.{numbers_in}
+use Rattle.ndb_index.specs.declared.spot.Spot.{Spot}
+
+-- the places are in the database
+abbrev pub AreWithin : List (List (List NdbPair)) → List ℕ → Type 0
+AreWithin db places = (i : ℕ) → i < length places → get_or places i 0 < length db
+
+abbrev pub SpotsWithin : List (List (List NdbPair)) → List Spot → Type 0
+SpotsWithin db spots = (i : ℕ) (d : Spot) → i < length spots → (get_or spots i d).place < length db
+
+-- the tuples at places
+abbrev pub tuples_at : List (List (List NdbPair)) → List ℕ → List (List (List NdbPair))
+tuples_at db places = map (λ place. get_or db place []) places
+
+-- the tuples at spots
+abbrev pub spot_tuples : List (List (List NdbPair)) → List Spot → List (List (List NdbPair))
+spot_tuples db spots = map (λ spot. get_or db spot.place []) spots
+
+-- the addresses in tuples
+abbrev pub numbers_of : List (List (List NdbPair)) → List ℕ
+numbers_of tuples = flat_map (numbers_in Address) tuples

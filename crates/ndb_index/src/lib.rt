@@ -1,0 +1,16 @@
+//! An index of a network database: searches that look at few of its tuples, with a bound on how many.
+#![tactic(auto)]
+
+mod index;
+mod key;
+mod near;
+mod networks;
+mod pairs;
+mod spot;
+#[cfg(test)]
+mod tests;
+
+pub use index::Index;
+pub use ndb_reader::{Steps, Tuples};
+pub use ndb_tuple::{Places, Prefixes};
+pub use spot::Spot;

@@ -1,6 +1,0 @@
-use Rattle.std.proofs.Common.{◌≡◌, ◌++◌, take}
-use Rattle.ndb_search.specs.Numbers.{numbers_in}
-use Rattle.ndb_search.proofs.numbers.add_in.Given as goal
-
-abbrev pub invariant-loop-line : goal.invariant-loop-line
-invariant-loop-line l = l.numbers.items ≡ l.initial.numbers.items ++ numbers_in l.kind (take l.line-index l.line-items)

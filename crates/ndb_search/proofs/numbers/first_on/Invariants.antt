@@ -1,6 +1,0 @@
-use Rattle.std.proofs.Common.{◌≡◌, [], take}
-use Rattle.ndb_search.specs.Numbers.{numbers_on}
-use Rattle.ndb_search.proofs.numbers.first_on.Given as goal
-
-abbrev pub invariant-loop-pair : goal.invariant-loop-pair
-invariant-loop-pair l = numbers_on l.kind (take l.pair-index l.pair-items) ≡ []

@@ -1,0 +1,8 @@
+pub mod ByKind
+pub mod Copied
+pub mod DuesOf
+pub mod FewWorks
+pub mod Numbering
+pub mod Placed
+pub mod Said
+pub mod Trying

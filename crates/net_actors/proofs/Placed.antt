@@ -1,0 +1,230 @@
+-- All actors of a world, each at its number.
+use Rattle.std.proofs.Common.{◌≡◌, ℕ, zero, suc, ◌+◌, ◌<◌, ◌⊎◌, inl, inr, ◌==◌, Result, Ok, Err, IfOk, MatchResult, Bool, true, false, List, [], ◌∷◌, ◌++◌, length, Option, Some, None, get_or, slice_get, slice_set, is_some, if◌then◌else◌, refl, ap, sym, subst, ◌∙◌, arith, length-append}
+use Rattle.std.specs.Option.{option_map_or}
+use Rattle.std.proofs.lemmas.Bool.Decides.{eqb_tells}
+use Rattle.std.proofs.lemmas.Option.{none-some, same_Some, slice_get_within, slice_get_past, slice_get-get_or}
+use Rattle.std.proofs.lemmas.List.{length-set}
+use Rattle.net_base.specs.declared.actor.ActorName.{ActorName}
+use Rattle.net_base.specs.declared.history.Outcome.{Outcome}
+use Rattle.net_base.specs.declared.history.Work.{Work}
+use Rattle.net_base.specs.declared.world.World.{World}
+use Rattle.net_base.specs.ActorStep.{Step}
+use Rattle.net_base.specs.Actors.{Actor, IsPlain, actor_step, has_actor, opening_actor}
+use Rattle.net_base.specs.Net.{actors_after}
+use Rattle.net_base.specs.Stamped.{same_actor}
+use Rattle.net_actors.specs.Kept.{IsActorOf, state_of}
+use Rattle.net_actors.specs.Numbers.{actor_count, count_in, is_among, number_in, number_of}
+use Rattle.net_actors.specs.Small.{IsSmall}
+use Rattle.net_actors.specs.Stepping.{IsReady, Steps as StepsOne}
+use Rattle.net_actors.specs.Together.{AreActors, AreFirst, CanStep, IsAt, Numbered, Steps, StepsIn, has_name, state_in}
+use Rattle.net_actors.specs.declared.actor.Actor.{Actor as Kept}
+use Rattle.history_laws.proofs.Histories.{same_actor_is}
+use Rattle.history_laws.proofs.PairsOnce.{same_itself}
+use Rattle.net_actors.proofs.Numbering.{among_is, below, below_in, same_in}
+
+-- what stands at a name's number is the actor of that name
+record Found (w : World) (states : ActorName → Actor) (a : ActorName) (x : Kept) : Type 0 where
+  of_world : IsActorOf w x
+  called : x.name ≡ a
+  in_state : state_of x ≡ states a
+
+same_place : (w : World) (v : Numbered) (states : ActorName → Actor) (a : ActorName) → AreActors w v states → number_of v.hosts v.media a ≡ number_in w a
+same_place w v states a are = ap (λ (h : ℕ). number_of h v.media a) are.hosts_are ∙ ap (λ (m : ℕ). number_of (length w.hosts) m a) are.media_are
+
+has_both : (w : World) (v : Numbered) (states : ActorName → Actor) (a : ActorName) → AreActors w v states → has_name v a ≡ has_actor w a
+has_both w v states a are =
+    ap (λ (h : ℕ). is_among h v.media a) are.hosts_are ∙ (ap (λ (m : ℕ). is_among (length w.hosts) m a) are.media_are ∙ sym (among_is w a))
+
+-- an actor of a world is one of all its actors
+pub named : (w : World) (v : Numbered) (states : ActorName → Actor) (a : ActorName) → AreActors w v states → has_actor w a ≡ true → has_name v a ≡ true
+named w v states a are has = has_both w v states a are ∙ has
+
+found_at : (w : World) (states : ActorName → Actor) (a : ActorName) (x : Kept) (o : Option Kept) → o ≡ Some x → IsAt w a (states a) o → Found w states a x
+found_at w states a x None is at = absurd at
+found_at w states a x (Some y) is at =
+    let same = same_Some y x is in
+    record {
+      of_world = subst (λ (z : Kept). IsActorOf w z) same at.0;
+      called = subst (λ (z : Kept). z.name ≡ a) same at.1;
+      in_state = subst (λ (z : Kept). state_of z ≡ states a) same at.2;
+    }
+
+found : (w : World) (v : Numbered) (states : ActorName → Actor) (a : ActorName) (x : Kept) → AreActors w v states → has_name v a ≡ true → slice_get v.actors (number_of v.hosts v.media a) ≡ Some x → Found w states a x
+found w v states a x are has is =
+    found_at w states a x (slice_get v.actors (number_in w a)) (ap (slice_get v.actors) (sym (same_place w v states a are)) ∙ is) (are.each a (sym (has_both w v states a are) ∙ has))
+
+-- an actor that isn't among them answers nothing
+pub absent_at : (v : Numbered) (a : ActorName) (now : ℕ) (work : Work) → has_name v a ≡ false → (w : World) (states : ActorName → Actor) → AreActors w v states → false ≡ is_some (actor_step w a (states a) now work)
+absent_at v a now work not w states are = rw (sym (has_both w v states a are) ∙ not) refl
+
+pub told_at : (v : Numbered) (a : ActorName) (x : Kept) (now : ℕ) (work : Work) (told : Bool) → has_name v a ≡ true → slice_get v.actors (number_of v.hosts v.media a) ≡ Some x
+    → ((w : World) → IsActorOf w x → told ≡ is_some (actor_step w x.name (state_of x) now work))
+    → (w : World) (states : ActorName → Actor) → AreActors w v states → told ≡ is_some (actor_step w a (states a) now work)
+told_at v a x now work told has is tells w states are =
+    let f = found w v states a x are has is in
+    tells w f.of_world
+    ∙ (ap (λ (b : ActorName). is_some (actor_step w b (state_of x) now work)) f.called ∙ ap (λ (s : Actor). is_some (actor_step w a s now work)) f.in_state)
+
+-- the state of what stands at a name's number
+pub state_at : {A : Type 0} (ask : Actor → A) (v : Numbered) (a : ActorName) (x : Kept) (told : A) → has_name v a ≡ true → slice_get v.actors (number_of v.hosts v.media a) ≡ Some x
+    → told ≡ ask (state_of x) → (w : World) (states : ActorName → Actor) → AreActors w v states → told ≡ ask (states a)
+state_at ask v a x told has is tells w states are = tells ∙ ap ask (found w v states a x are has is).in_state
+
+state_in_is : (o : Option Kept) (x : Kept) → o ≡ Some x → option_map_or state_of o IsPlain ≡ state_of x
+state_in_is None x is = absurd (none-some x is)
+state_in_is (Some y) x is = ap state_of (same_Some y x is)
+
+-- so the states are those of the actors
+pub stands_in : (v : Numbered) (a : ActorName) (x : Kept) → slice_get v.actors (number_of v.hosts v.media a) ≡ Some x → state_in v a ≡ state_of x
+stands_in v a x is = state_in_is (slice_get v.actors (number_of v.hosts v.media a)) x is
+
+some_at : (w : World) (s : Actor) (a : ActorName) (o : Option Kept) → IsAt w a s o → (x : Kept) × (o ≡ Some x)
+some_at w s a None at = absurd at
+some_at w s a (Some x) at = (x, refl)
+
+pub states_are : (w : World) (v : Numbered) (states : ActorName → Actor) (a : ActorName) → AreActors w v states → has_actor w a ≡ true → state_in v a ≡ states a
+states_are w v states a are has =
+    let some = some_at w (states a) a (slice_get v.actors (number_in w a)) (are.each a has) in
+    let there = ap (slice_get v.actors) (same_place w v states a are) ∙ some.1 in
+    stands_in v a some.0 there ∙ (found w v states a some.0 are (named w v states a are has) there).in_state
+
+-- Steps.
+
+get_set : {A : Type 0} (xs : List A) (i : ℕ) (y : A) → i < length xs → slice_get (slice_set xs i y) i ≡ Some y
+get_set [] i y lt = absurd (omega (arith, lt))
+get_set (x ∷ xs) zero y lt = refl
+get_set (x ∷ xs) (suc i) y lt = get_set xs i y (omega (arith, lt))
+
+get_set_other : {A : Type 0} (xs : List A) (i j : ℕ) (y : A) → (i ≡ j → ⊥) → slice_get (slice_set xs i y) j ≡ slice_get xs j
+get_set_other [] i j y apart = refl
+get_set_other (x ∷ xs) zero zero y apart = absurd (apart refl)
+get_set_other (x ∷ xs) zero (suc j) y apart = refl
+get_set_other (x ∷ xs) (suc i) zero y apart = refl
+get_set_other (x ∷ xs) (suc i) (suc j) y apart = get_set_other xs i j y (λ e. apart (ap suc e))
+
+apart_is : (a b : ActorName) (n : ℕ) (at : ActorName → ℕ) → at a ≡ n → (n ≡ at b → ⊥) → same_actor a b ≡ false
+apart_is a b n at is apart = by_test (same_actor a b) refl
+  where
+    by_test : (t : Bool) → same_actor a b ≡ t → same_actor a b ≡ false
+    by_test true same = absurd (apart (sym is ∙ ap at (same_actor_is a b same)))
+    by_test false other = other
+
+after_itself : (w : World) (states : ActorName → Actor) (a : ActorName) (y : Kept) → IsActorOf w y → y.name ≡ a → IsAt w a (actors_after states a (state_of y) a) (Some y)
+after_itself w states a y of is = (of, is, ap (λ (t : Bool). if t then state_of y else states a) (sym (same_itself a)))
+
+after_other : (w : World) (states : ActorName → Actor) (a b : ActorName) (s : Actor) (o : Option Kept) → same_actor a b ≡ false → IsAt w b (states b) o → IsAt w b (actors_after states a s b) o
+after_other w states a b s o apart at = subst (λ (t : Bool). IsAt w b (if t then s else states b) o) (sym apart) at
+
+-- after the step of one actor, each stands at its number
+each_after : (w : World) (v : Numbered) (states : ActorName → Actor) (a : ActorName) (y : Kept) → AreActors w v states → has_actor w a ≡ true → number_in w a < length v.actors → IsActorOf w y → y.name ≡ a
+    → (b : ActorName) → has_actor w b ≡ true → IsAt w b (actors_after states a (state_of y) b) (slice_get (slice_set v.actors (number_in w a) y) (number_in w b))
+each_after w v states a y are has within of called b has_b = elim (eqb_tells (number_in w a) (number_in w b)) [
+  | inl same ↦
+      let one = same_in w a b has has_b same.1 in
+      subst (λ (c : ActorName). IsAt w c (actors_after states a (state_of y) c) (slice_get (slice_set v.actors (number_in w a) y) (number_in w c))) one
+      (subst (IsAt w a (actors_after states a (state_of y) a)) (sym (get_set v.actors (number_in w a) y within)) (after_itself w states a y of called))
+  | inr other ↦
+      after_other w states a b (state_of y) _ (apart_is a b (number_in w a) (number_in w) refl other.1)
+      (subst (IsAt w b (states b)) (sym (get_set_other v.actors (number_in w a) (number_in w b) y other.1)) (are.each b has_b))
+]
+
+steps_at_number : (w : World) (v : Numbered) (states : ActorName → Actor) (a : ActorName) (x y : Kept) (now : ℕ) (work : Work) (o : Outcome) → AreActors w v states → has_actor w a ≡ true
+    → slice_get v.actors (number_in w a) ≡ Some x → StepsOne x y now work o → y.name ≡ x.name
+    → StepsIn w states (record { hosts = v.hosts; media = v.media; actors = slice_set v.actors (number_in w a) y }) a now work o
+steps_at_number w v states a x y now work o are has is steps called =
+    let f = found_at w states a x (slice_get v.actors (number_in w a)) is (are.each a has) in
+    let s = steps w f.of_world in
+    record {
+      state = state_of y;
+      step =
+          ap (λ (b : ActorName). actor_step w b (states a) now work) (sym f.called)
+          ∙ (ap (λ (t : Actor). actor_step w x.name t now work) (sym f.in_state) ∙ s.step);
+      are = record {
+        hosts_are = are.hosts_are;
+        media_are = are.media_are;
+        each = each_after w v states a y are has (slice_get_within v.actors (number_in w a) x is) s.of_world (called ∙ f.called);
+      };
+    }
+
+-- the step of what stands at a name's number
+pub steps_at : (v : Numbered) (a : ActorName) (x y : Kept) (now : ℕ) (work : Work) (o : Outcome) → slice_get v.actors (number_of v.hosts v.media a) ≡ Some x → StepsOne x y now work o → y.name ≡ x.name
+    → Steps v (record { hosts = v.hosts; media = v.media; actors = slice_set v.actors (number_of v.hosts v.media a) y }) a now work o
+steps_at v a x y now work o is steps called w states are has =
+    let same = same_place w v states a are in
+    subst (λ (n : ℕ). StepsIn w states (record { hosts = v.hosts; media = v.media; actors = slice_set v.actors n y }) a now work o) (sym same)
+    (steps_at_number w v states a x y now work o are has (ap (slice_get v.actors) (sym same) ∙ is) steps called)
+
+-- What the step of one needs.
+
+pub within : (v : Numbered) (a : ActorName) (now : ℕ) (work : Work) → CanStep v a now work → length v.actors ≡ actor_count v.hosts v.media → number_of v.hosts v.media a < length v.actors
+within v a now work can count =
+    let lt = below v.hosts v.media a (named can.world v can.states a can.are can.has) in omega (arith, lt, count)
+
+found_can : (v : Numbered) (a : ActorName) (x : Kept) (now : ℕ) (work : Work) (can : CanStep v a now work) → slice_get v.actors (number_of v.hosts v.media a) ≡ Some x → Found can.world can.states a x
+found_can v a x now work can is = found can.world v can.states a x can.are (named can.world v can.states a can.are can.has) is
+
+pub small_at : (v : Numbered) (a : ActorName) (x : Kept) (now : ℕ) (work : Work) → CanStep v a now work → slice_get v.actors (number_of v.hosts v.media a) ≡ Some x → IsSmall (state_of x)
+small_at v a x now work can is = subst IsSmall (sym (found_can v a x now work can is).in_state) can.small
+
+pub ready_at : (v : Numbered) (a : ActorName) (x : Kept) (now : ℕ) (work : Work) → CanStep v a now work → slice_get v.actors (number_of v.hosts v.media a) ≡ Some x → IsReady x now work
+ready_at v a x now work can is =
+    let f = found_can v a x now work can is in (
+      can.world,
+      f.of_world,
+      ap (λ (b : ActorName). is_some (actor_step can.world b (state_of x) now work)) f.called
+          ∙ (ap (λ (s : Actor). is_some (actor_step can.world a s now work)) f.in_state ∙ can.ready),
+    )
+
+-- At first.
+
+some_within : {A : Type 0} (xs : List A) (i : ℕ) → i < length xs → (x : A) × (slice_get xs i ≡ Some x)
+some_within [] i lt = absurd (omega (arith, lt))
+some_within (x ∷ xs) zero lt = (x, refl)
+some_within (x ∷ xs) (suc i) lt = some_within xs i (omega (arith, lt))
+
+get_push : {A : Type 0} (xs : List A) (y x : A) (k : ℕ) → slice_get (xs ++ y ∷ []) k ≡ Some x → (slice_get xs k ≡ Some x) ⊎ ((k ≡ length xs) × (y ≡ x))
+get_push [] y x zero is = inr (refl, same_Some y x is)
+get_push [] y x (suc k) is = absurd (none-some x is)
+get_push (z ∷ xs) y x zero is = inl is
+get_push (z ∷ xs) y x (suc k) is = elim (get_push xs y x k is) [ inl there ↦ inl there | inr here ↦ inr (ap suc here.0, here.1) ]
+
+pub none_first : (w : World) → AreFirst w 0 []
+none_first w = record { count = refl; place = λ k x is. absurd (none-some x is) }
+
+pub one_more : (w : World) (n : ℕ) (xs : List Kept) (y : Kept) → AreFirst w n xs → IsActorOf w y → has_actor w y.name ≡ true → number_in w y.name ≡ n → state_of y ≡ opening_actor y.name
+    → AreFirst w (n + 1) (xs ++ y ∷ [])
+one_more w n xs y all of has number opening = record {
+  count = let more = length-append xs (y ∷ []) in let so_far = all.count in omega (arith, more, so_far);
+  place = λ k x is. elim (get_push xs y x k is) [
+    | inl there ↦ all.place k x there
+    | inr here ↦ subst (λ (z : Kept). IsActorOf w z × (has_actor w z.name ≡ true) × (number_in w z.name ≡ k) × (state_of z ≡ opening_actor z.name)) here.1
+        (of, has, number ∙ (sym all.count ∙ sym here.0), opening)
+  ];
+}
+
+-- the actor of a number is one of the world
+pub at_number : (w : World) (hosts media : ℕ) (a : ActorName) → hosts ≡ length w.hosts → media ≡ length w.media → is_among hosts media a ≡ true → has_actor w a ≡ true
+at_number w hosts media a hosts_are media_are is =
+    among_is w a ∙ (ap (λ (h : ℕ). is_among h (length w.media) a) (sym hosts_are) ∙ (ap (λ (m : ℕ). is_among hosts m a) (sym media_are) ∙ is))
+
+pub number_at : (w : World) (hosts media : ℕ) (a : ActorName) (n : ℕ) → hosts ≡ length w.hosts → media ≡ length w.media → number_of hosts media a ≡ n → number_in w a ≡ n
+number_at w hosts media a n hosts_are media_are is =
+    ap (λ (h : ℕ). number_of h (length w.media) a) (sym hosts_are) ∙ (ap (λ (m : ℕ). number_of hosts m a) (sym media_are) ∙ is)
+
+pub all_first : (w : World) (hosts media : ℕ) (xs : List Kept) → hosts ≡ length w.hosts → media ≡ length w.media → AreFirst w (count_in w) xs
+    → AreActors w (record { hosts = hosts; media = media; actors = xs }) opening_actor
+all_first w hosts media xs hosts_are media_are all = record { hosts_are = hosts_are; media_are = media_are; each = each }
+  where
+    each : (a : ActorName) → has_actor w a ≡ true → IsAt w a (opening_actor a) (slice_get xs (number_in w a))
+    each a has =
+        let lt = below_in w a has in
+        let count = all.count in
+        let some = some_within xs (number_in w a) (omega (arith, lt, count)) in
+        let x = some.0 in
+        let at = all.place (number_in w a) x some.1 in
+        let same = same_in w x.name a at.1 has at.2 in
+        subst (IsAt w a (opening_actor a)) (sym some.1) (at.0, same, at.3 ∙ ap opening_actor same)
+
+pub map_ok : {T E : Type 0} (r : Result T E) (P Q : T → Type 0) (R : E → Type 0) → ((x : T) → P x → Q x) → MatchResult r P R → IfOk r Q
+map_ok (Ok x) P Q R give is = give x is
+map_ok (Err e) P Q R give is = tt

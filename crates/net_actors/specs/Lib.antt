@@ -1,0 +1,12 @@
+pub mod AtDesk
+pub mod Kept
+pub mod Numbers
+pub mod Small
+pub mod Stepping
+pub mod Together
+pub mod Tried
+pub use Rattle.net_base.specs.Actors
+pub use Rattle.net_base.specs.Desk
+pub use Rattle.net_base.specs.Duties
+pub use Rattle.net_base.specs.Net
+pub use Rattle.duties.specs.Ticking

@@ -1,0 +1,10 @@
+-- States in which the next step can count and number all that it has to.
+use Rattle.std.specs.Prelude.{ℕ, ◌+◌, ◌<◌, ◌^◌}
+use Rattle.net_base.specs.Actors.{Actor, IsConv, IsMedium}
+use Rattle.conversation.specs.Stands.{IsShort}
+
+-- a conversation has sent and got few messages, and the next frame of a medium has a number
+abbrev pub IsSmall : Actor → Type 0
+IsSmall (IsConv c) = IsShort c
+IsSmall (IsMedium m) = m.frames + 1 < 2 ^ 64
+IsSmall _ = Unit {0}

@@ -1,0 +1,78 @@
+-- What the step of an actor needs, and what it leaves.
+use Rattle.std.specs.Prelude.{◌≡◌, ℕ, Bool, true, Option, Some, None, is_some}
+use Rattle.net_base.specs.declared.history.Outcome.{Outcome}
+use Rattle.net_base.specs.declared.history.Work.{Work}
+use Rattle.net_base.specs.declared.reply.Reply.TheVariants as reply
+use Rattle.net_base.specs.declared.world.World.{World}
+use Rattle.net_base.specs.ActorStep.{replies}
+use Rattle.net_base.specs.Actors.{actor_step}
+use Rattle.net_base.specs.Desk.{clock_reply, desk_reply}
+use Rattle.net_base.specs.Medium.{medium_step, takes}
+use Rattle.conversation.specs.Kept.{Seat}
+use Rattle.conversation.specs.Stands.{Steps as TalkSteps, slot_of, step_at}
+use Rattle.host_dir.specs.Kept.{Steps as DirSteps}
+use Rattle.host_dir.specs.Ready.{is_ready}
+use Rattle.medium.specs.OnMedium.{OnMedium, medium_of}
+use Rattle.net_actors.specs.AtDesk.{AtDesk, Replies, host_of}
+use Rattle.net_actors.specs.Kept.{IsActorOf, state_of}
+use Rattle.net_actors.specs.declared.actor.Actor.{Actor as Kept}
+use Rattle.net_actors.specs.declared.kind.Kind.{Kind}
+use Rattle.net_actors.specs.declared.kind.Kind.TheVariants as kind
+
+-- in some world of which it is an actor, its table answers the work
+abbrev pub IsReady : Kept → ℕ → Work → Type 0
+IsReady a now work = (w : World) × IsActorOf w a × (is_some (actor_step w a.name (state_of a) now work) ≡ true)
+
+-- its table answers with this outcome and leaves this state, and it stays an actor of the world
+pub record StepsIn (w : World) (old new : Kept) (now : ℕ) (work : Work) (o : Outcome) : Type 0 where
+  pub of_world : IsActorOf w new
+  pub step : actor_step w old.name (state_of old) now work ≡ Some (record { state = state_of new; outcome = o })
+
+-- so in each world of which it is an actor
+abbrev pub Steps : Kept → Kept → ℕ → Work → Outcome → Type 0
+Steps old new now work o = (w : World) → IsActorOf w old → StepsIn w old new now work o
+
+-- The same of what is kept, in no world.
+
+-- the table of a medium answers the work
+abbrev pub medium_ready : OnMedium → Work → Bool
+medium_ready m work = is_some (medium_step m.spec m.seed work.event work.with (medium_of m))
+
+-- its table answers the work
+abbrev pub kind_ready : Kind → ℕ → Work → Bool
+kind_ready (kind.Desk d) now work = is_some (desk_reply d.db (host_of d) work.event now)
+kind_ready (kind.Dir d) now work = is_ready d.proto work.event work.with d.dir
+kind_ready (kind.Conv c) now work = is_some (step_at c now work c.conv)
+kind_ready (kind.Medium m) now work = medium_ready m work
+kind_ready kind.Clock now work = is_some (clock_reply work.event)
+
+-- the desk stays as it is
+pub record DeskSteps (old new : AtDesk) (now : ℕ) (work : Work) (o : Outcome) : Type 0 where
+  pub same : new ≡ old
+  pub answers : Replies (desk_reply old.db (host_of old) work.event now) o
+
+-- a conversation steps in its slot
+pub record ConvSteps (old new : Seat) (now : ℕ) (work : Work) (o : Outcome) : Type 0 where
+  pub step : TalkSteps old new now work o
+  pub slot : slot_of new ≡ slot_of old
+  pub copy : o.copy ≡ Some o.reply
+
+-- what the world says of the medium stays
+pub record MediumSteps (old new : OnMedium) (work : Work) (o : Outcome) : Type 0 where
+  pub spec : new.spec ≡ old.spec
+  pub seed : new.seed ≡ old.seed
+  pub step : medium_step old.spec old.seed work.event work.with (medium_of old) ≡ Some (record { state = medium_of new; outcome = o })
+
+-- a copy is taken
+pub record MediumTakes (old new : OnMedium) (o : Outcome) : Type 0 where
+  pub spec : new.spec ≡ old.spec
+  pub seed : new.seed ≡ old.seed
+  pub step : takes (medium_of old).queue (medium_of old).held (medium_of old) ≡ Some (record { state = medium_of new; outcome = o })
+
+abbrev pub KindSteps : Kind → Kind → ℕ → Work → Outcome → Type 0
+KindSteps (kind.Desk d) (kind.Desk e) now work o = DeskSteps d e now work o
+KindSteps (kind.Dir d) (kind.Dir e) now work o = DirSteps d e work o
+KindSteps (kind.Conv c) (kind.Conv d) now work o = ConvSteps c d now work o
+KindSteps (kind.Medium m) (kind.Medium n) now work o = MediumSteps m n work o
+KindSteps kind.Clock kind.Clock now work o = Replies (clock_reply work.event) o
+KindSteps _ _ now work o = ⊥

@@ -1,0 +1,10 @@
+pub mod Duties
+pub mod Slots
+pub mod DirRows
+pub mod ConvRows
+pub mod Worlds
+pub mod Least
+pub mod Keeping
+pub mod New
+pub mod Entries
+pub mod Always

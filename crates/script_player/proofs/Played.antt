@@ -1,0 +1,331 @@
+-- A player goes from reply to reply and from step to step.
+use Rattle.std.proofs.Common.{◌≡◌, ℕ, zero, suc, ◌+◌, ◌-◌, ◌<◌, ◌≤◌, ◌∙◌, ◌&&◌, nat_lt, Bool, true, false, List, [], ◌∷◌, ◌++◌, drop, length, Option, Some, None, slice_get, is_none, refl, sym, ap, subst, rules, tests, arith, if◌then◌else◌}
+use Rattle.std.proofs.lemmas.Bool.{true≢false, false≢true}
+use Rattle.std.proofs.lemmas.Bool.Decides.{nat_tests}
+use Rattle.std.proofs.lemmas.Option.{none-some, same_Some}
+use Rattle.net_base.specs.declared.reply.Reply.{Reply}
+use Rattle.net_base.specs.declared.world.Script.{Script}
+use Rattle.net_base.specs.declared.world.Step.{Step}
+use Rattle.net_base.specs.declared.world.Step.TheVariants as step
+use Rattle.net_base.specs.Next.{finished_by}
+use Rattle.net_base.specs.Steps.{Ask, Bound, Play, Asks, Ends, Position, position, position_by, play_of, stands}
+use Rattle.net_tree.specs.Bindings.{Bindings, bindings}
+use Rattle.script_task.specs.declared.effect.Effect.{Effect}
+use Rattle.script_task.specs.declared.effect.Effect.TheVariants.{Opens, Closes, Keeps}
+use Rattle.script_task.specs.declared.request.Request.{Request}
+use Rattle.script_task.specs.Effects.{effect_of, opened, settles}
+use Rattle.script_task.specs.Fitting.{fits}
+use Rattle.script_task.specs.Requests.{head, planned, settled}
+use Rattle.script_task.specs.Task.{Heads, follow, fits_play}
+use Rattle.script_task.proofs.Settling.{settles_so}
+use Rattle.dial_lib.specs.declared.step.StepTask.{StepTask}
+use Rattle.dial_lib.specs.Slots.{HaveSlots}
+use Rattle.dial_lib.specs.StepTasks.{StandsFor, asks, after, begun}
+use Rattle.dial_lib.specs.StepLaws.{begun_stands, asks_so, moves_so}
+use Rattle.script_player.specs.Players.{Playing, asked, position_after, next_after, Plays, Leaves, Knows, InStep, Between, IsAtBy, IsAt, begun_by, begun_in, request_by, request_of, asked_by, asked_at, with_room, prepared_by, prepared, expected_by, expected_in, heard_by, heard, left_by, left}
+
+-- Lists.
+
+append_nothing : (xs : List Reply) → xs ++ [] ≡ xs
+append_nothing [] = refl
+append_nothing (x ∷ xs) = ap (λ ys. x ∷ ys) (append_nothing xs)
+
+append_one : (xs : List Reply) (r : Reply) (more : List Reply) → (xs ++ r ∷ []) ++ more ≡ xs ++ r ∷ more
+append_one [] r more = refl
+append_one (x ∷ xs) r more = ap (λ ys. x ∷ ys) (append_one xs r more)
+
+drop_at : (k : ℕ) (ss : List Step) (s : Step) → slice_get ss k ≡ Some s → drop k ss ≡ s ∷ drop (suc k) ss
+drop_at k [] s is = absurd (none-some s is)
+drop_at zero (x ∷ ss) s is = ap (λ (y : Step). y ∷ ss) (same_Some x s is)
+drop_at (suc k) (x ∷ ss) s is = drop_at k ss s is
+
+drop_none : (k : ℕ) (ss : List Step) → slice_get ss k ≡ None → drop k ss ≡ []
+drop_none zero [] is = refl
+drop_none (suc k) [] is = refl
+drop_none zero (x ∷ ss) is = absurd (none-some x (sym is))
+drop_none (suc k) (x ∷ ss) is = drop_none k ss is
+
+behind_suc : (k : ℕ) (ss : List Step) (s : Step) (rest : List Step) → drop k ss ≡ s ∷ rest → (k < length ss) × (drop (suc k) ss ≡ rest)
+behind_suc zero [] s rest is = absurd (omega (arith, ap length is))
+behind_suc (suc k) [] s rest is = absurd (omega (arith, ap length is))
+behind_suc zero (x ∷ ss) s rest is = (omega arith, ap (drop 1) is)
+behind_suc (suc k) (x ∷ ss) s rest is = let more = behind_suc k ss s rest is in (omega (arith, more.0), more.1)
+
+-- the steps behind, where one stands there
+behind_more : (k : ℕ) (ss : List Step) (s : Step) (rest : List Step) → drop k ss ≡ s ∷ rest → (k < length ss) × (drop (k + 1) ss ≡ rest)
+behind_more k ss s rest is =
+    let more = behind_suc k ss s rest is in
+    let next : k + 1 ≡ suc k = omega arith in
+    (more.0, ap (λ (n : ℕ). drop n ss) next ∙ more.1)
+
+length_drop : (k : ℕ) (ss : List Step) → k ≤ length ss → length (drop k ss) + k ≡ length ss
+length_drop zero ss le = omega arith
+length_drop (suc k) [] le = absurd (omega (arith, le))
+length_drop (suc k) (x ∷ ss) le = omega (arith, length_drop k ss (omega (arith, le)))
+
+-- A step begins.
+
+-- a step that has begun isn't through
+begun_asks : (names : List Bound) (s : Step) → is_none (asks (begun s) names) ≡ false
+begun_asks names (step.Open called path m) = refl
+begun_asks names (step.Read called count) = refl
+begun_asks names (step.Write called text) = refl
+begun_asks names (step.Writex called text) = refl
+begun_asks names (step.Close called) = refl
+begun_asks names (step.Ls path) = refl
+begun_asks names (step.Cs query) = refl
+begun_asks names (step.Until moment) = refl
+begun_asks names (step.Dial called address) = refl
+begun_asks names (step.Announce called address) = refl
+begun_asks names (step.Listen called from) = refl
+begun_asks names (step.Accept called from) = refl
+begun_asks names (step.Reject called) = refl
+begun_asks names (step.Hangup called) = refl
+
+begins : (s : Script) (rs : List Reply) (p : Playing) (at : Step) → slice_get s.steps p.finished ≡ Some at → Between s rs p
+    → InStep s rs (record p { task = Some (begun at); effect = None }) (begun at)
+begins s rs p at is between =
+    let behind : drop p.finished s.steps ≡ at ∷ drop (suc p.finished) s.steps = drop_at p.finished s.steps at is in
+    record {
+      play = play_of s.host p.bindings.names at;
+      step = at;
+      rest = drop (suc p.finished) s.steps;
+      behind = behind;
+      plays = λ more. subst (λ (ss : List Step). position_after s (rs ++ more) ≡ position s.host ss p.bindings.names more) behind (between.leaves more);
+      stands_for = begun_stands (begun at) at refl s.host p.bindings.names between.slots;
+      goes_on = begun_asks p.bindings.names at;
+      knows = tt;
+    }
+
+-- as `IsAt`
+abbrev AtIts : Script → List Reply → Playing → Type 0
+AtIts s rs p = IsAtBy s rs p p.task
+
+begun_is : (s : Script) (rs : List Reply) (p : Playing) (t : Option StepTask) (o : Option Step) → p.task ≡ t → slice_get s.steps p.finished ≡ o → IsAtBy s rs p t → AtIts s rs (begun_by p t o)
+begun_is s rs p (Some t) o task is at = subst (λ (u : Option StepTask). IsAtBy s rs p u) (sym task) at
+begun_is s rs p None None task is at = subst (λ (u : Option StepTask). IsAtBy s rs p u) (sym task) at
+begun_is s rs p None (Some step) task is at = begins s rs p step is at
+
+pub begun_at : (s : Script) (rs : List Reply) (p : Playing) → IsAt s rs p → IsAt s rs (begun_in s p)
+unfolding IsAt
+begun_at s rs p at = begun_is s rs p p.task (slice_get s.steps p.finished) refl refl at
+
+-- The next event.
+
+heads : (s : Script) (rs : List Reply) (p : Playing) (t : StepTask) (q : Request) (step : InStep s rs p t) → asks t p.bindings.names ≡ Some q → Heads s.host p.bindings.names (Some q) step.play
+heads s rs p t q step is = subst (λ (o : Option Request). Heads s.host p.bindings.names o step.play) is (asks_so s.host p.bindings.names t step.play step.stands_for)
+
+-- a play that asks stands at its event, and its step is left
+at_event : (s : Script) (rs : List Reply) (play : Play) (at : Step) (rest : List Step) (ask : Ask) → head play ≡ Some ask → Plays s rs play at rest
+    → position_after s rs ≡ record { next = Some ask; left = at ∷ rest }
+at_event s rs (Asks a e next) at rest ask is plays =
+    ap (λ (xs : List Reply). position_after s xs) (sym (append_nothing rs)) ∙ plays [] ∙ ap (λ (o : Option Ask). record { next = o; left = at ∷ rest }) is
+at_event s rs (Ends names) at rest ask is plays = absurd (none-some ask is)
+
+-- there is a request where it isn't through
+some_request : (o : Option Request) → is_none o ≡ false → (q : Request) × (o ≡ Some q)
+some_request None is = absurd (true≢false is)
+some_request (Some q) is = (q, refl)
+
+step_next : (s : Script) (rs : List Reply) (p : Playing) (t : StepTask) → InStep s rs p t → asked_by s.host p.bindings.names (asks t p.bindings.names) ≡ next_after s rs
+step_next s rs p t step =
+    let found = some_request (asks t p.bindings.names) step.goes_on in
+    let heading = heads s rs p t found.0 step found.1 in
+    ap (λ (o : Option Request). asked_by s.host p.bindings.names o) found.1 ∙ heading.2 ∙ sym (ap (λ (at : Position). at.next) (at_event s rs step.play step.step step.rest heading.0 heading.1 step.plays))
+
+-- no step is left
+none_left : (s : Script) (rs : List Reply) (p : Playing) → Between s rs p → slice_get s.steps p.finished ≡ None → position_after s rs ≡ record { next = None; left = [] }
+none_left s rs p between is =
+    ap (λ (xs : List Reply). position_after s xs) (sym (append_nothing rs)) ∙ between.leaves [] ∙ ap (λ (ss : List Step). position s.host ss p.bindings.names []) (drop_none p.finished s.steps is)
+
+next_is : (s : Script) (rs : List Reply) (p : Playing) (t : Option StepTask) (o : Option Step) → p.task ≡ t → slice_get s.steps p.finished ≡ o → IsAtBy s rs p t → asked_at s.host (begun_by p t o) ≡ next_after s rs
+next_is s rs p (Some t) o task is at = ap (λ (u : Option StepTask). asked_by s.host p.bindings.names (request_by p.bindings.names u)) task ∙ step_next s rs p t at
+next_is s rs p None None task is at =
+    ap (λ (u : Option StepTask). asked_by s.host p.bindings.names (request_by p.bindings.names u)) task ∙ sym (ap (λ (at : Position). at.next) (none_left s rs p at is))
+next_is s rs p None (Some step) task is at = step_next s rs (record p { task = Some (begun step); effect = None }) (begun step) (begins s rs p step is at)
+
+pub next_right : (s : Script) (rs : List Reply) (p : Playing) → IsAt s rs p → asked_at s.host (begun_in s p) ≡ next_after s rs
+unfolding IsAt
+next_right s rs p at = next_is s rs p p.task (slice_get s.steps p.finished) refl refl at
+
+-- It is ready for a reply.
+
+same_names : (e : Effect) (b : Bindings) → (with_room e b).names ≡ b.names
+same_names (Opens called n m) b = refl
+same_names (Closes called) b = refl
+same_names Keeps b = refl
+
+step_prepared : (s : Script) (rs : List Reply) (p : Playing) (t : StepTask) (q : Request) → InStep s rs p t → asks t p.bindings.names ≡ Some q → (names : List Bound) (b : Bindings) → p.bindings.names ≡ names → b.names ≡ names
+    → InStep s rs (record p { bindings = b; effect = Some (effect_of p.bindings.names q) }) t
+step_prepared s rs p t q step is names b old new =
+    let back : p.bindings.names ≡ b.names = old ∙ sym new in
+    record {
+      play = step.play;
+      step = step.step;
+      rest = step.rest;
+      behind = step.behind;
+      plays = step.plays;
+      stands_for = subst (λ (ns : List Bound). StandsFor s.host ns t step.play) back step.stands_for;
+      goes_on = subst (λ (ns : List Bound). is_none (asks t ns) ≡ false) back step.goes_on;
+      knows = (q, subst (λ (ns : List Bound). asks t ns ≡ Some q) back is, ap (λ (ns : List Bound). effect_of ns q) back);
+    }
+
+prepared_is : (s : Script) (rs : List Reply) (p : Playing) (t : Option StepTask) (o : Option Request) → p.task ≡ t → request_by p.bindings.names t ≡ o → IsAtBy s rs p t → AtIts s rs (prepared_by p o)
+prepared_is s rs p t None task is at = subst (λ (u : Option StepTask). IsAtBy s rs p u) (sym task) at
+prepared_is s rs p None (Some q) task is at = absurd (none-some q is)
+prepared_is s rs p (Some t) (Some q) task is at =
+    subst (λ (u : Option StepTask). IsAtBy s rs (prepared_by p (Some q)) u) (sym task) (step_prepared s rs p t q at is p.bindings.names (with_room (effect_of p.bindings.names q) p.bindings) refl (same_names (effect_of p.bindings.names q) p.bindings))
+
+pub prepared_at : (s : Script) (rs : List Reply) (p : Playing) → IsAt s rs p → IsAt s rs (prepared p)
+unfolding IsAt
+prepared_at s rs p at = prepared_is s rs p p.task (request_by p.bindings.names p.task) refl refl at
+
+-- where the effect isn't known it is got ready
+pub expected_none : (s : Script) (p : Playing) → p.effect ≡ None → expected_in s p ≡ prepared (begun_in s p)
+expected_none s p is = ap (λ (o : Option Effect). expected_by s p o) is
+
+pub expected_some : (s : Script) (p : Playing) (e : Effect) → p.effect ≡ Some e → expected_in s p ≡ p
+expected_some s p e is = ap (λ (o : Option Effect). expected_by s p o) is
+
+pub expected_at : (s : Script) (rs : List Reply) (p : Playing) → IsAt s rs p → IsAt s rs (expected_in s p)
+expected_at s rs p at = by p.effect
+  where
+    by : (o : Option Effect) → IsAt s rs (expected_by s p o)
+    by None = prepared_at s rs (begun_in s p) (begun_at s rs p at)
+    by (Some e) = at
+
+-- where there is an event its effect is known
+prepared_knows : (h : ℕ) (p : Playing) (o : Option Request) (ask : Ask) → asked_by h p.bindings.names o ≡ Some ask → (e : Effect) × ((prepared_by p o).effect ≡ Some e)
+prepared_knows h p None ask is = absurd (none-some ask is)
+prepared_knows h p (Some q) ask is = (effect_of p.bindings.names q, refl)
+
+expected_knows : (s : Script) (rs : List Reply) (p : Playing) (ask : Ask) → IsAt s rs p → next_after s rs ≡ Some ask → (e : Effect) × ((expected_in s p).effect ≡ Some e)
+expected_knows s rs p ask at is = by p.effect refl
+  where
+    by : (o : Option Effect) → p.effect ≡ o → (e : Effect) × ((expected_by s p o).effect ≡ Some e)
+    by None none = prepared_knows s.host (begun_in s p) (request_of (begun_in s p)) ask (next_right s rs p at ∙ is)
+    by (Some e) some = (e, some)
+
+-- A reply.
+
+plays_on : (s : Script) (rs : List Reply) (play : Play) (at : Step) (rest : List Step) (ask : Ask) (r : Reply) → head play ≡ Some ask → Plays s rs play at rest → Plays s (rs ++ r ∷ []) (follow play r) at rest
+plays_on s rs (Asks a e next) at rest ask r is plays = λ more. ap (λ (xs : List Reply). position_after s xs) (append_one rs r more) ∙ plays (r ∷ more)
+plays_on s rs (Ends names) at rest ask r is plays = absurd (none-some ask is)
+
+play_fits : (play : Play) (ask : Ask) (r : Reply) → head play ≡ Some ask → fits ask.event r ≡ true → fits_play play r ≡ true
+play_fits (Asks a e next) ask r is fit = subst (λ (x : Ask). fits x.event r ≡ true) (sym (same_Some (record { actor = a; event = e }) ask is)) fit
+play_fits (Ends names) ask r is fit = refl
+
+-- what holds of the task and the play after a reply
+record Moved (s : Script) (rs : List Reply) (p : Playing) (t : StepTask) (step : InStep s rs p t) (r : Reply) (names : List Bound) : Type 0 where
+  stands_for : StandsFor s.host names (after t r) (follow step.play r)
+  plays : Plays s (rs ++ r ∷ []) (follow step.play r) step.step step.rest
+
+moved : (s : Script) (rs : List Reply) (p : Playing) (t : StepTask) (step : InStep s rs p t) (e : Effect) (ask : Ask) (r : Reply) → Knows p.bindings.names t (Some e) → next_after s rs ≡ Some ask → fits ask.event r ≡ true
+    → Moved s rs p t step r (settles e (opened e r) p.bindings).names
+moved s rs p t step e ask r knows is fit =
+    let q : Request = knows.0 in
+    let heading = heads s rs p t q step knows.1 in
+    let same : heading.0 ≡ ask = same_Some heading.0 ask (sym (ap (λ (at : Position). at.next) (at_event s rs step.play step.step step.rest heading.0 heading.1 step.plays)) ∙ is) in
+    let fits_it : fits_play step.play r ≡ true = play_fits step.play heading.0 r heading.1 (subst (λ (x : Ask). fits x.event r ≡ true) (sym same) fit) in
+    let names_are : settled p.bindings.names q r ≡ (settles e (opened e r) p.bindings).names =
+    sym (ap (λ (x : Effect). (settles x (opened x r) p.bindings).names) knows.2 ∙ settles_so p.bindings q r) in
+    record {
+      stands_for = subst (λ (ns : List Bound). StandsFor s.host ns (after t r) (follow step.play r)) names_are (moves_so s.host p.bindings.names t step.play q r step.stands_for knows.1 fits_it);
+      plays = plays_on s rs step.play step.step step.rest heading.0 r heading.1 step.plays;
+    }
+
+none_is : (o : Option Request) → is_none o ≡ true → o ≡ None
+none_is None is = refl
+none_is (Some q) is = absurd (false≢true is)
+
+lt_test : (k n : ℕ) → k < n → nat_lt k n ≡ true
+lt_test k n lt = search (rules, tests, lt)
+
+-- the step goes on, or the next one comes
+goes_on : (s : Script) (rs : List Reply) (p : Playing) (t : StepTask) (step : InStep s rs p t) (r : Reply) (b : Bindings) → Moved s rs p t step r b.names
+    → (through : Bool) → is_none (asks (after t r) b.names) ≡ through
+    → AtIts s (rs ++ r ∷ []) (if through && nat_lt p.finished (length s.steps) then record p { bindings = b; effect = None; finished = p.finished + 1; task = None } else record p { bindings = b; task = Some (after t r); effect = None })
+goes_on s rs p t step r b moves false is =
+    record {
+      play = follow step.play r;
+      step = step.step;
+      rest = step.rest;
+      behind = step.behind;
+      plays = moves.plays;
+      stands_for = moves.stands_for;
+      goes_on = is;
+      knows = tt;
+    }
+goes_on s rs p t step r b moves true is =
+    let more = behind_more p.finished s.steps step.step step.rest step.behind in
+    let ends : follow step.play r ≡ Ends b.names =
+    subst (λ (o : Option Request). Heads s.host b.names o (follow step.play r)) (none_is (asks (after t r) b.names) is) (asks_so s.host b.names (after t r) (follow step.play r) moves.stands_for) in
+    let next : Between s (rs ++ r ∷ []) (record p { bindings = b; effect = None; finished = p.finished + 1; task = None }) =
+    record {
+      slots = moves.stands_for.0;
+      leaves = λ later. moves.plays later
+          ∙ ap (λ (x : Play). position_by (stands x later) (step.step ∷ step.rest) (λ (names : List Bound) (rest : List Reply). position s.host step.rest names rest)) ends
+          ∙ ap (λ (ss : List Step). position s.host ss b.names later) (sym more.1);
+      within = omega (arith, more.0);
+      unknown = refl;
+    } in
+    chosen (nat_lt p.finished (length s.steps)) (lt_test p.finished (length s.steps) more.0) next
+  where
+    chosen : (c : Bool) → c ≡ true → Between s (rs ++ r ∷ []) (record p { bindings = b; effect = None; finished = p.finished + 1; task = None })
+        → AtIts s (rs ++ r ∷ []) (if c then record p { bindings = b; effect = None; finished = p.finished + 1; task = None } else record p { bindings = b; task = Some (after t r); effect = None })
+    chosen true is next = next
+    chosen false is next = absurd (false≢true is)
+
+told_is : (s : Script) (rs : List Reply) (p : Playing) (t : Option StepTask) (e : Effect) (ask : Ask) (r : Reply) → p.effect ≡ Some e → IsAtBy s rs p t → next_after s rs ≡ Some ask → fits ask.event r ≡ true
+    → AtIts s (rs ++ r ∷ []) (left_by (length s.steps) (heard_by p t (Some e) r) (heard_by p t (Some e) r).task)
+told_is s rs p None e ask r known at is fit = absurd (none-some e (sym at.unknown ∙ known))
+told_is s rs p (Some t) e ask r known step is fit =
+    let b : Bindings = settles e (opened e r) p.bindings in
+    goes_on s rs p t step r b (moved s rs p t step e ask r (subst (λ (o : Option Effect). Knows p.bindings.names t o) known step.knows) is fit) (is_none (asks (after t r) b.names)) refl
+
+told_at : (s : Script) (rs : List Reply) (p : Playing) (e : Effect) (ask : Ask) (r : Reply) → p.effect ≡ Some e → AtIts s rs p → next_after s rs ≡ Some ask → fits ask.event r ≡ true → AtIts s (rs ++ r ∷ []) (left (length s.steps) (heard p r))
+told_at s rs p e ask r known at is fit =
+    subst (λ (o : Option Effect). AtIts s (rs ++ r ∷ []) (left_by (length s.steps) (heard_by p p.task o r) (heard_by p p.task o r).task)) (sym known) (told_is s rs p p.task e ask r known at is fit)
+
+-- where it is after a reply
+pub told_right : (s : Script) (rs : List Reply) (p : Playing) (ask : Ask) (r : Reply) → IsAt s rs p → next_after s rs ≡ Some ask → fits ask.event r ≡ true → IsAt s (rs ++ r ∷ []) (left (length s.steps) (heard (expected_in s p) r))
+unfolding IsAt
+told_right s rs p ask r at is fit =
+    let knows = expected_knows s rs p ask at is in
+    told_at s rs (expected_in s p) knows.0 ask r knows.1 (expected_at s rs p at) is fit
+
+-- Steps that are finished.
+
+step_left : (s : Script) (rs : List Reply) (p : Playing) (t : StepTask) → InStep s rs p t → length (position_after s rs).left + p.finished ≡ length s.steps
+step_left s rs p t step =
+    let found = some_request (asks t p.bindings.names) step.goes_on in
+    let heading = heads s rs p t found.0 step found.1 in
+    let left_are : (position_after s rs).left ≡ drop p.finished s.steps =
+    ap (λ (at : Position). at.left) (at_event s rs step.play step.step step.rest heading.0 heading.1 step.plays) ∙ sym step.behind in
+    ap (λ (ss : List Step). length ss + p.finished) left_are ∙ length_drop p.finished s.steps (omega (arith, (behind_more p.finished s.steps step.step step.rest step.behind).0))
+
+left_is : (s : Script) (rs : List Reply) (p : Playing) (t : Option StepTask) (o : Option Step) → slice_get s.steps p.finished ≡ o → IsAtBy s rs p t → length (position_after s rs).left + p.finished ≡ length s.steps
+left_is s rs p (Some t) o is step = step_left s rs p t step
+left_is s rs p None (Some at) is between = step_left s rs (record p { task = Some (begun at); effect = None }) (begun at) (begins s rs p at is between)
+left_is s rs p None None is between =
+    ap (λ (ss : List Step). length ss + p.finished) (ap (λ (at : Position). at.left) (none_left s rs p between is) ∙ sym (drop_none p.finished s.steps is)) ∙ length_drop p.finished s.steps between.within
+
+sum_at : (s : Script) (rs : List Reply) (p : Playing) → IsAt s rs p → length (position_after s rs).left + p.finished ≡ length s.steps
+unfolding IsAt
+sum_at s rs p at = left_is s rs p p.task (slice_get s.steps p.finished) refl at
+
+pub finished_right : (s : Script) (rs : List Reply) (p : Playing) → IsAt s rs p → p.finished ≡ finished_by rs s
+finished_right s rs p at = omega (arith, sum_at s rs p at)
+
+unfinished : (a b n : ℕ) → a + b ≡ n → nat_lt b n ≡ nat_lt 0 a
+unfinished zero b n is = grind (arith, nat_tests)
+unfinished (suc a) b n is = grind (arith, nat_tests)
+
+pub unfinished_right : (s : Script) (rs : List Reply) (p : Playing) → IsAt s rs p → nat_lt p.finished (length s.steps) ≡ nat_lt 0 (length (position_after s rs).left)
+unfinished_right s rs p at = unfinished (length (position_after s rs).left) p.finished (length s.steps) (sum_at s rs p at)
+
+-- nothing is recorded
+pub starts : (s : Script) → IsAt s [] (record { bindings = bindings [] None; finished = 0; task = None; effect = None })
+unfolding IsAt
+starts s = record { slots = refl; leaves = λ more. refl; within = omega arith; unknown = refl }

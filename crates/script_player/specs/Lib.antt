@@ -1,0 +1,2 @@
+pub mod Players
+pub use Rattle.net_base.specs.Next

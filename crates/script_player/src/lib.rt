@@ -1,0 +1,8 @@
+//! Plays scripts: the step that a script is at, its next event, and the names that are bound.
+#![tactic(auto)]
+
+mod player;
+#[cfg(test)]
+mod tests;
+
+pub use player::Player;

@@ -1,0 +1,213 @@
+//! The player of a script.
+ghost use Rattle.std.specs.Prelude.{◌≡◌, ◌⊎◌, ◌++◌, ◌∷◌, ℕ, List, [], Some, true, IfOk, OnOk, OnErr, length, nat_lt, option_map};
+ghost use Rattle.net_base.specs.declared.reply.Reply.{Reply};
+ghost use Rattle.net_base.specs.declared.world.Script.{Script};
+ghost use Rattle.net_base.specs.Next.{finished_by};
+ghost use Rattle.net_base.specs.Steps.{Ask};
+ghost use Rattle.script_task.specs.Fitting.{fits};
+ghost use Rattle.script_player.specs.Players as spec;
+
+use dial_lib::StepTask;
+use net_base::{ActorName, Event, Reply, Script};
+use net_tree::Fids;
+use script_task::{Effect, Planned, Task, plan};
+use std::alloc::{AllocError, Global};
+use std::marker::Model;
+
+/// A script that is being played: how many steps are finished, what it is at, and the names that are bound.
+///
+/// The script is lent to each call, and is always the same one.
+#[derive(Drop)]
+pub struct Player {
+    fids: Fids,
+    finished: usize,
+    // the task of the step behind those, where it has begun
+    task: Option<StepTask>,
+    // what the reply to its next event does to the names, where it was asked for
+    effect: Option<Effect>,
+    alloc: Global,
+}
+
+impl Model for Player {
+    ghost use Rattle.std.specs.Prelude.{IfSome};
+    ghost use Rattle.script_task.specs.Effects.{HasRoom};
+    ghost use Rattle.script_player.specs.Players.{Playing};
+
+    ghost Value = { Playing };
+
+    ghost view = { λ p. record { bindings = p.fids; finished = p.finished; task = p.task; effect = p.effect } };
+
+    ghost invariant = { λ p. IfSome p.effect (λ e. HasRoom e p.fids) };
+}
+
+impl Player {
+    /// The player of a script of which nothing is recorded. It takes no memory.
+    #[tactic(auto, using(crate::proofs::Played::starts))]
+    pub fn new(alloc: Global) -> Player
+        ensures { (s : Script) → spec.IsAt s [] result }
+    {
+        Player {
+            fids: Fids::new(alloc),
+            finished: 0,
+            task: None,
+            effect: None,
+            alloc,
+        }
+    }
+
+    /// The names that are bound.
+    pub fn fids(&self) -> &Fids
+        ensures { result.now ≡ self.now.bindings }
+    {
+        &self.fids
+    }
+
+    /// The next event of the script at its actor, or none where each step is finished.
+    #[tactic(auto, using(crate::proofs::Played::next_right, crate::proofs::Played::begun_at, crate::proofs::Played::prepared_at))]
+    pub fn next(&mut self, script: &Script) -> Result<Option<(ActorName, Event)>, AllocError>
+        ensures event { (rs : List Reply) → spec.IsAt script.now rs self.old
+            → IfOk result (λ o. option_map spec.asked o ≡ spec.next_after script.now rs) }
+        ensures same { (rs : List Reply) → spec.IsAt script.now rs self.old → spec.IsAt script.now rs self.new }
+    {
+        self.begin(script)?;
+        self.ask(script.host)
+    }
+
+    /// Takes the reply to the next event. Without memory it is where it was.
+    #[tactic(auto, using(crate::proofs::Played::told_right, crate::proofs::Played::begun_at, crate::proofs::Played::expected_at))]
+    pub fn told(&mut self, script: &Script, reply: Reply) -> Result<(), AllocError>
+        ensures ok { (rs : List Reply) (ask : Ask)
+            → spec.IsAt script.now rs self.old → spec.next_after script.now rs ≡ Some ask → fits ask.event reply ≡ true
+            → OnOk result (spec.IsAt script.now (rs ++ reply ∷ []) self.new) }
+        ensures err { (rs : List Reply) → spec.IsAt script.now rs self.old
+            → OnErr result (spec.IsAt script.now rs self.new) }
+    {
+        self.expect(script)?;
+        self.hear(reply)?;
+        self.leave_step(script.steps.len());
+        Ok(())
+    }
+
+    /// How many steps are finished.
+    #[tactic(auto, using(crate::proofs::Played::finished_right))]
+    pub fn finished(&self) -> usize
+        ensures { (s : Script) (rs : List Reply) → spec.IsAt s rs self.now → result ≡ finished_by rs s }
+    {
+        self.finished
+    }
+
+    /// Whether some step of the script isn't finished.
+    #[tactic(auto, using(crate::proofs::Played::unfinished_right))]
+    pub fn is_unfinished(&self, script: &Script) -> bool
+        ensures { (rs : List Reply) → spec.IsAt script.now rs self.now
+            → result ≡ nat_lt 0 (length (spec.position_after script.now rs).left) }
+    {
+        self.finished < script.steps.len()
+    }
+
+    // Begins the next step, where none has begun and one is left.
+    fn begin(&mut self, script: &Script) -> Result<(), AllocError>
+        ensures ok { OnOk result (self.new ≡ spec.begun_in script.now self.old) }
+        ensures err { OnErr result (self.new ≡ self.old) }
+    {
+        if self.task.is_some() {
+            return Ok(());
+        }
+        let Some(step) = script.steps.as_slice().get(self.finished) else {
+            return Ok(());
+        };
+        let task = StepTask::new(self.alloc, step)?;
+        self.task = Some(task);
+        self.effect = None;
+        Ok(())
+    }
+
+    // The event of the step that it is at. It is then ready for the reply.
+    fn ask(&mut self, host: u32) -> Result<Option<(ActorName, Event)>, AllocError>
+        ensures event { IfOk result (λ o. option_map spec.asked o ≡ spec.asked_at host self.old) }
+        ensures ok { OnOk result (self.new ≡ spec.prepared self.old) }
+        ensures err { OnErr result (self.new ≡ self.old) }
+    {
+        let Some(task) = &self.task else {
+            return Ok(None);
+        };
+        let Some(request) = task.next(self.alloc, &self.fids)? else {
+            return Ok(None);
+        };
+        let Planned {
+            actor,
+            event,
+            effect,
+        } = plan(host, &self.fids, request);
+        make_room(&mut self.fids, &effect)?;
+        self.effect = Some(effect);
+        Ok(Some((actor, event)))
+    }
+
+    // It is ready for the reply to the next event.
+    #[tactic(auto, using(crate::proofs::Played::expected_none, crate::proofs::Played::expected_some))]
+    fn expect(&mut self, script: &Script) -> Result<(), AllocError>
+        ensures ok { OnOk result (self.new ≡ spec.expected_in script.now self.old) }
+        ensures err { OnErr result ((self.new ≡ self.old) ⊎ (self.new ≡ spec.begun_in script.now self.old)) }
+    {
+        match self.effect {
+            Some(_) => Ok(()),
+            None => self.prepare(script),
+        }
+    }
+
+    // The same, where the next event wasn't asked for.
+    fn prepare(&mut self, script: &Script) -> Result<(), AllocError>
+        ensures ok { OnOk result (self.new ≡ spec.prepared (spec.begun_in script.now self.old)) }
+        ensures err { OnErr result ((self.new ≡ self.old) ⊎ (self.new ≡ spec.begun_in script.now self.old)) }
+    {
+        self.begin(script)?;
+        match self.ask(script.host) {
+            Ok(_) => Ok(()),
+            Err(_) => Err(AllocError),
+        }
+    }
+
+    // Its task and its names after a reply.
+    fn hear(&mut self, reply: Reply) -> Result<(), AllocError>
+        ensures ok { OnOk result (self.new ≡ spec.heard self.old reply) }
+        ensures err { OnErr result (self.new ≡ self.old) }
+    {
+        let Some(effect) = &self.effect else {
+            return Ok(());
+        };
+        let Some(task) = &mut self.task else {
+            return Ok(());
+        };
+        let opened = effect.opened(&reply);
+        task.told(self.alloc, reply)?;
+        // there is room for the name
+        let _ = effect.settle(&mut self.fids, opened);
+        self.effect = None;
+        Ok(())
+    }
+
+    // The step is finished, where its task is through.
+    fn leave_step(&mut self, count: usize)
+        ensures { self.new ≡ spec.left count self.old }
+    {
+        let Some(task) = &self.task else {
+            return;
+        };
+        if task.is_through() && self.finished < count {
+            self.finished += 1;
+            self.task = None;
+        }
+    }
+}
+
+// Makes room for the name that is opened.
+fn make_room(fids: &mut Fids, effect: &Effect) -> Result<(), AllocError>
+    ensures ok { OnOk result (fids.new ≡ spec.with_room effect.now fids.old) }
+    ensures err { OnErr result (fids.new ≡ fids.old) }
+{
+    match effect {
+        Effect::Opens { name, .. } => fids.reserve(name.as_slice()),
+        _ => Ok(()),
+    }
+}

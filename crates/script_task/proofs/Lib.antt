@@ -1,0 +1,5 @@
+pub mod ConvReplies
+pub mod DirReplies
+pub mod Replies
+pub mod Events
+pub mod Settling

@@ -1,0 +1,7 @@
+pub mod Effects
+pub mod Fitting
+pub mod Planning
+pub mod Requests
+pub mod Task
+pub use Rattle.net_base.specs.Steps
+pub use Rattle.net_tree.specs.Bindings

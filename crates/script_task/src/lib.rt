@@ -1,0 +1,19 @@
+//! The steps of scripts as tasks: the requests that a step makes, one at a time, and the names that they bind.
+#![tactic(auto)]
+
+mod effect;
+mod law;
+mod names;
+mod paths;
+mod planned;
+mod request;
+mod task;
+#[cfg(test)]
+mod tests;
+
+pub use effect::Effect;
+pub use law::{effects_settle, replies_fit};
+pub use names::settle;
+pub use planned::{Planned, event_of, plan};
+pub use request::Request;
+pub use task::Task;

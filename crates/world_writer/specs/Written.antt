@@ -1,0 +1,35 @@
+-- The file of a world, as it is written.
+use Rattle.std.specs.Prelude.{ℕ, List, [], ◌∷◌, ◌++◌, map, flat_map, codes}
+use Rattle.net_base.specs.declared.world.HostSpec.{HostSpec}
+use Rattle.net_base.specs.declared.world.Iface.{Iface}
+use Rattle.net_base.specs.declared.world.MediumSpec.{MediumSpec}
+use Rattle.net_base.specs.declared.world.RouteLine.{RouteLine}
+use Rattle.net_base.specs.declared.world.Script.{Script}
+use Rattle.net_base.specs.declared.world.World.{World}
+use Rattle.ndb_reader.specs.Written.{db_text}
+use Rattle.world_text.specs.WorldSpelling.{laid, line_of_iface, line_of_route, line_of_start, lines_of_host, lines_of_medium, lines_of_script, lines_of_world, host_names, medium_names}
+
+-- words with a blank before each
+abbrev pub behind : List (List ℕ) → List ℕ
+behind [] = []
+behind (word ∷ words) = 32 ∷ (word ++ behind words)
+
+-- the lines under the line of a host
+abbrev pub lines_under : List (List ℕ) → List Iface → List RouteLine → List ℕ → List (List ℕ)
+lines_under media ifaces routes starts = map (line_of_iface media) ifaces ++ (map line_of_route routes ++ map line_of_start starts)
+
+-- the lines of each part laid, part by part
+abbrev pub parts_laid : {X : Type 0} → (X → List (List ℕ)) → List X → List ℕ
+parts_laid lines [] = []
+parts_laid lines (part ∷ parts) = laid (lines part) ++ parts_laid lines parts
+
+-- the lines of media, hosts and scripts
+abbrev pub lines_of_parts : List MediumSpec → List HostSpec → List Script → List (List ℕ)
+lines_of_parts media hosts scripts =
+    flat_map lines_of_medium media
+    ++ (flat_map (lines_of_host (medium_names media)) hosts
+    ++ flat_map (lines_of_script (host_names hosts)) scripts)
+
+-- its lines, `ndb`, and the text of its database
+abbrev pub file_text : World → List ℕ
+file_text w = laid (lines_of_world w) ++ (codes "ndb\n" ++ db_text w.db)

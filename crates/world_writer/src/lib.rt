@@ -1,0 +1,12 @@
+//! Writes the file of a world, each part in its one spelling.
+#![tactic(auto)]
+
+mod hosts;
+mod line;
+mod media;
+mod scripts;
+#[cfg(test)]
+mod tests;
+mod writer;
+
+pub use writer::write_world;

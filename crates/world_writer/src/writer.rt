@@ -1,0 +1,59 @@
+//! The file of a world.
+ghost use Rattle.std.specs.Prelude.{◌≡◌, ◌∷◌, ◌++◌, [], codes, IfOk, OnOk};
+ghost use Rattle.world_text.specs.WorldSpelling.{laid, line_of_end, line_of_seed, lines_of_world};
+ghost use Rattle.world_writer.specs.Written.{file_text, lines_of_parts};
+
+use crate::hosts::put_hosts;
+use crate::line::put_number;
+use crate::media::put_media;
+use crate::scripts::put_scripts;
+use ndb_reader::write_ndb;
+use net_base::{HostSpec, MediumSpec, Octets, Script, World};
+use std::alloc::{AllocError, Global};
+
+/// Adds the lines that stand before the media.
+fn put_head(out: &mut Octets, world: &World) -> Result<(), AllocError>
+    ensures { OnOk result (out.new ≡ out.old ++ laid (codes "networld 1" ∷ line_of_end world.now.end ∷ line_of_seed world.now.seed ∷ [])) }
+{
+    out.append(b"networld 1\nend")?;
+    put_number(out, world.end)?;
+    out.append(b"\nseed")?;
+    put_number(out, world.seed)?;
+    out.push(b'\n')
+}
+
+/// Adds the lines of media, hosts and scripts.
+fn put_parts(
+    out: &mut Octets,
+    media: &[MediumSpec],
+    hosts: &[HostSpec],
+    scripts: &[Script],
+) -> Result<(), AllocError>
+    ensures { OnOk result (out.new ≡ out.old ++ laid (lines_of_parts media.now hosts.now scripts.now)) }
+{
+    put_media(out, media)?;
+    put_hosts(out, media, hosts)?;
+    put_scripts(out, hosts, scripts)
+}
+
+/// Adds the lines before `ndb`.
+fn put_lines(out: &mut Octets, world: &World) -> Result<(), AllocError>
+    ensures { OnOk result (out.new ≡ out.old ++ laid (lines_of_world world.now)) }
+{
+    put_head(out, world)?;
+    let media = world.media.as_slice();
+    let hosts = world.hosts.as_slice();
+    put_parts(out, media, hosts, world.scripts.as_slice())
+}
+
+/// The text of a world's file: its lines, `ndb`, and the text of its database.
+pub fn write_world(alloc: Global, world: &World) -> Result<Octets, AllocError>
+    ensures { IfOk result (λ text. text ≡ file_text world.now) }
+{
+    let mut out = Octets::new(alloc);
+    put_lines(&mut out, world)?;
+    out.append(b"ndb\n")?;
+    let db = write_ndb(alloc, &world.db)?;
+    out.append(db.as_slice())?;
+    Ok(out)
+}
