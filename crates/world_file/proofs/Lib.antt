@@ -1,4 +1,6 @@
 pub mod Cuts
+pub mod Drained
+pub mod Drafts
 pub mod Placed
 pub mod Overlaps
 pub mod Networks

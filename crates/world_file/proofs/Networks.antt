@@ -1,8 +1,9 @@
 -- The networks of a host with one more interface or route.
-use Rattle.std.proofs.Common.{◌≡◌, ℕ, ◌==◌, Bool, true, false, ◌&&◌, ◌||◌, List, [], ◌∷◌, ◌++◌, refl, sym, ap, ◌∙◌}
-use Rattle.std.specs.Prelude.{bit_and}
+use Rattle.std.proofs.Common.{◌≡◌, ℕ, ◌==◌, Bool, true, false, ◌&&◌, ◌||◌, List, [], ◌∷◌, ◌++◌, refl, sym, ap, subst, ◌∙◌}
+use Rattle.std.specs.Prelude.{bit_and, if◌then◌else◌}
 use Rattle.std.specs.List.{list_any}
 use Rattle.std.proofs.lemmas.List.Folds.{list_any-append}
+use Rattle.indexmap.specs.IndexSet.{insert_key}
 use Rattle.net_base.specs.declared.world.HostSpec.{HostSpec}
 use Rattle.net_base.specs.declared.world.Iface.{Iface}
 use Rattle.net_base.specs.declared.world.RouteLine.{RouteLine}
@@ -46,3 +47,30 @@ with_route_too keys h l are net mask =
 
 pub with_start_too : (keys : List (ℕ × ℕ)) (h : HostSpec) (n : ℕ) → AreNetworks keys h → AreNetworks keys (with_start n h)
 with_start_too keys h n are net mask = are net mask
+
+-- The set of networks.
+
+-- a network that isn't there goes last
+pub put_last : (eq : ℕ × ℕ → ℕ × ℕ → Bool) (keys now : List (ℕ × ℕ)) (key : ℕ × ℕ) → ((other : ℕ × ℕ) → eq key other ≡ is_key key.0 key.1 other) → now ≡ insert_key eq keys key
+    → list_any (is_key key.0 key.1) keys ≡ false → now ≡ keys ++ key ∷ []
+put_last eq keys now key same is none = is ∙ ap (λ b. if b then keys else keys ++ key ∷ []) (alike keys ∙ none)
+  where
+    alike : (xs : List (ℕ × ℕ)) → list_any (eq key) xs ≡ list_any (is_key key.0 key.1) xs
+    alike [] = refl
+    alike (x ∷ xs) = ap (λ b. b || list_any (eq key) xs) (same x) ∙ ap (λ b. is_key key.0 key.1 x || b) (alike xs)
+
+pub iface_put : (eq : ℕ × ℕ → ℕ × ℕ → Bool) (keys now : List (ℕ × ℕ)) (h : HostSpec) (i : Iface) (ifaces : List Iface)
+    → ((a other : ℕ × ℕ) → eq a other ≡ is_key a.0 a.1 other) → AreNetworks keys h → knows_network (bit_and i.ip i.mask) i.mask h ≡ false
+    → now ≡ insert_key eq keys (bit_and i.ip i.mask, i.mask) → ifaces ≡ h.ifaces ++ i ∷ [] → AreNetworks now (record h { ifaces = ifaces })
+iface_put eq keys now h i ifaces same are none is list =
+    let put = put_last eq keys now (bit_and i.ip i.mask, i.mask) (same (bit_and i.ip i.mask, i.mask)) is (are (bit_and i.ip i.mask) i.mask ∙ none) in
+    subst (λ (xs : List (ℕ × ℕ)). AreNetworks xs (record h { ifaces = ifaces })) (sym put)
+    (subst (λ (xs : List Iface). AreNetworks (keys ++ (bit_and i.ip i.mask, i.mask) ∷ []) (record h { ifaces = xs })) (sym list) (with_iface_too keys h i are))
+
+pub route_put : (eq : ℕ × ℕ → ℕ × ℕ → Bool) (keys now : List (ℕ × ℕ)) (h : HostSpec) (l : RouteLine) (routes : List RouteLine)
+    → ((a other : ℕ × ℕ) → eq a other ≡ is_key a.0 a.1 other) → AreNetworks keys h → knows_network l.net l.mask h ≡ false
+    → now ≡ insert_key eq keys (l.net, l.mask) → routes ≡ h.routes ++ l ∷ [] → AreNetworks now (record h { routes = routes })
+route_put eq keys now h l routes same are none is list =
+    let put = put_last eq keys now (l.net, l.mask) (same (l.net, l.mask)) is (are l.net l.mask ∙ none) in
+    subst (λ (xs : List (ℕ × ℕ)). AreNetworks xs (record h { routes = routes })) (sym put)
+    (subst (λ (xs : List RouteLine). AreNetworks (keys ++ (l.net, l.mask) ∷ []) (record h { routes = xs })) (sym list) (with_route_too keys h l are))

@@ -1,6 +1,13 @@
 -- Fates that are found by their last frames.
 use Rattle.std.proofs.Common.{◌≡◌, ℕ, ◌<◌, ◌≤◌, ◌==◌, ◌⊎◌, inl, inr, Bool, true, false, ◌&&◌, ◌||◌, List, [], ◌∷◌, ◌++◌, refl, sym, ap, subst, ◌∙◌, arith, Option, Some, None}
-use Rattle.std.specs.Prelude.{◌≢◌, IsSome, nat_eq, nat_le, ⊤}
+use Rattle.std.specs.Prelude.{◌≢◌, IsSome, nat_eq, nat_le, nat_lt, cond, ⊤}
+use Rattle.std.specs.BTreeMap.{BTreeMap, is_at}
+use Rattle.std.specs.BTreeMap.Range.{IsRangeOf}
+use Rattle.std.specs.declared.ops.Bound.TheVariants.{Included, Unbounded}
+use Rattle.std.specs.declared.cmp.Ordering.TheVariants.{Less, Equal, Greater}
+use Rattle.std.specs.Map.{lookup}
+use Rattle.std.specs.Ordering.{is_eq, is_gt, nat_cmp}
+use Rattle.std.proofs.lemmas.Map.Keys.{le_from_not_gt}
 use Rattle.std.specs.List.{list_any}
 use Rattle.std.proofs.lemmas.Bool.{and_parts, eqb-true, false≢true}
 use Rattle.std.proofs.lemmas.Bool.Decides.{nat_tests}
@@ -49,7 +56,7 @@ below-or a b = by (nat_le b a) refl
     by false e = inl (grind (arith, nat_tests))
 
 some-is : {A : Type 0} (o : Option A) (x : A) → o ≡ Some x → IsSome o
-some-is o x e = subst IsSome (sym e) tt
+some-is o x e = subst IsSome (sym e) refl
 
 -- What a look-up tells.
 
@@ -193,3 +200,66 @@ module _ (find next : ℕ → Option ℕ) (new : FateRange) (fates : List FateRa
     forward = λ last first e. forward-more last first e (same-or last new.last);
     apart = λ last first other start e f lt. apart-more last first other start e f lt (same-or last new.last) (same-or other new.last);
   }
+
+-- What the map of last frames tells.
+
+-- the first frame of the fate with this last frame
+abbrev pub found_in : List (ℕ × ℕ) → ℕ → Option ℕ
+found_in entries last = lookup (is_at (nat_cmp last)) entries
+
+pub indexed_same : (es now : List (ℕ × ℕ)) (fates new : List FateRange) → AreIndexed (found_in es) fates → now ≡ es → new ≡ fates → AreIndexed (found_in now) new
+indexed_same es now fates new k same list = subst (λ (xs : List (ℕ × ℕ)). AreIndexed (found_in xs) new) (sym same) (subst (AreIndexed (found_in es)) (sym list) k)
+
+not-at : (a b : ℕ) → b ≢ a → is_at (nat_cmp a) b ≡ false
+not-at a b other = by (nat_lt a b) (a == b) refl
+  where
+    by : (v w : Bool) → (a == b) ≡ w → is_eq (cond v Less (cond w Equal Greater)) ≡ false
+    by true w e = refl
+    by false true e = absurd (other (sym (eqb-true a b e)))
+    by false false e = refl
+
+not-past : (a b : ℕ) → a ≤ b → is_gt (nat_cmp a b) ≡ false
+not-past a b le = by (nat_lt a b) refl (a == b) refl
+  where
+    apart : nat_lt a b ≡ false → (a == b) ≡ false → ⊥
+    apart e f = let high : b ≤ a = grind (arith, nat_tests) in differ (omega (arith, le, high)) f
+      where
+        differ : a ≡ b → (a == b) ≡ false → ⊥
+        differ is no = let yes : (a == b) ≡ true = grind (arith, nat_tests) in false≢true (sym no ∙ yes)
+
+    by : (v : Bool) → nat_lt a b ≡ v → (w : Bool) → (a == b) ≡ w → is_gt (cond v Less (cond w Equal Greater)) ≡ false
+    by true e w f = refl
+    by false e true f = refl
+    by false e false f = absurd (apart e f)
+
+-- one fate more in the map
+pub indexed_pushed : (es now : List (ℕ × ℕ)) (new : FateRange) (fates whole : List FateRange) → AreIndexed (found_in es) fates → list_any (overlap new) fates ≡ false → new.first ≤ new.last
+    → found_in now new.last ≡ Some new.first → ((q : ℕ) → is_at (nat_cmp new.last) q ≡ false → found_in now q ≡ found_in es q) → whole ≡ fates ++ new ∷ [] → AreIndexed (found_in now) whole
+indexed_pushed es now new fates whole k none order here others is =
+    subst (AreIndexed (found_in now)) (sym is) (indexed_more (found_in es) (found_in now) new fates k none order here (λ q other. others q (not-at new.last q other)))
+
+-- the entry that is found first decides
+pub first_tells : (m : BTreeMap ℕ ℕ) (r rest : List (ℕ × ℕ)) (last first : ℕ) (new : FateRange) (fates : List FateRange) → IsRangeOf nat_cmp (Included new.first) Unbounded m r → r ≡ (last, first) ∷ rest
+    → AreIndexed (found_in m.entries) fates → nat_le first new.last ≡ list_any (overlap new) fates
+first_tells m r rest last first new fates range is k = by (nat_le first new.last) refl
+  where
+    found : IsRangeOf nat_cmp (Included new.first) Unbounded m ((last, first) ∷ rest)
+    found = subst (IsRangeOf nat_cmp (Included new.first) Unbounded m) is range
+
+    low : new.first ≤ last
+    low = le_from_not_gt new.first last found.1.0.0
+
+    at : found_in m.entries last ≡ Some first
+    at = found.1.1
+
+    least : (q : ℕ) → new.first ≤ q → IsSome (found_in m.entries q) → last ≤ q
+    least q le some = le_from_not_gt last q (found.2.0 q (not-past new.first q le, tt) some)
+
+    by : (b : Bool) → nat_le first new.last ≡ b → b ≡ list_any (overlap new) fates
+    by true e = sym (some_there (found_in m.entries) new fates last first k at low (grind (arith, nat_tests)))
+    by false e = sym (none_before (found_in m.entries) new fates last first k at least (grind (arith, nat_tests)))
+
+-- where none is found, none overlaps
+pub none_tells : (m : BTreeMap ℕ ℕ) (r : List (ℕ × ℕ)) (new : FateRange) (fates : List FateRange) → IsRangeOf nat_cmp (Included new.first) Unbounded m r → r ≡ [] → AreIndexed (found_in m.entries) fates
+    → false ≡ list_any (overlap new) fates
+none_tells m r new fates range is k = sym (none_from (found_in m.entries) new fates k.listed (λ q le. range.2.2.2.2 is q (not-past new.first q le, tt)))

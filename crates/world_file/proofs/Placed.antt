@@ -114,4 +114,6 @@ unfated_at called new (s ∷ ms) d lt none =
     by false e h f later = next (place called ms) h later
       where
         next : (n : ℕ) → 1 + n < suc (length ms) → (n < length ms → list_any (overlap new) (get_or ms n d).fates ≡ false) → list_any (overlap new) (get_or (s ∷ ms) (1 + n) d).fates ≡ false
-        next n h2 later2 = ap (λ m. list_any (overlap new) (get_or (s ∷ ms) m d).fates) (omega arith) ∙ later2 (omega (arith, h2))
+        next n h2 later2 =
+            let one : 1 + n ≡ suc n = omega arith in
+            ap (λ m. list_any (overlap new) (get_or (s ∷ ms) m d).fates) one ∙ later2 (omega (arith, h2))

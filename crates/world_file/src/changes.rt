@@ -60,7 +60,9 @@ impl Draft {
                 twice,
                 later,
             } => self.take_rates(name, loss, twice, later),
-            MediumLine::Fate { name, frames, fate } => self.take_fate(name, range_of(frames, fate)),
+            MediumLine::Fate { name, frames, fate } => {
+                self.take_fate(name.as_slice(), range_of(frames, fate))
+            }
         }
     }
 
@@ -103,16 +105,17 @@ impl Draft {
     }
 
     /// Adds a fate to the medium with this name.
-    fn take_fate(&mut self, name: Octets, fate: FateRange) -> Result<(), AllocError>
+    fn take_fate(&mut self, name: &[u8], fate: FateRange) -> Result<(), AllocError>
         requires small { IsSmall self.old }
         requires forward { fate.first ≤ fate.last }
-        requires apart { spec.has_fate name fate self.old ≡ false }
-        ensures { OnOk result (self.new ≡ record self.old { media = spec.on_medium name (spec.with_fate fate) self.old.media }) }
+        requires apart { spec.has_fate name.now fate self.old ≡ false }
+        ensures { OnOk result (self.new ≡ record self.old { media = spec.on_medium name.now (spec.with_fate fate) self.old.media }) }
     {
-        let place = medium_place(self.media.as_slice(), name.as_slice());
+        let place = medium_place(self.media.as_slice(), name);
         if place < self.media.len() {
             let medium = &mut self.media[place];
             medium.add_fate(fate)?;
+            return Ok(());
         }
         Ok(())
     }

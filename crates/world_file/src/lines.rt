@@ -36,11 +36,9 @@ impl Draft {
         if let Some(cause) = self.line_cause(&line) {
             return Err(LineFault::Cause(cause));
         }
-        if matches!(&line, WorldLine::Ndb) {
-            return Ok(true);
-        }
+        let begins = is_ndb(&line);
         self.take_line(alloc, line)?;
-        Ok(false)
+        Ok(begins)
     }
 
     /// `networld 1`, which is the first line.
@@ -54,6 +52,16 @@ impl Draft {
         } else {
             Err(LineFault::Cause(LineCause::FirstLine))
         }
+    }
+}
+
+/// Whether a line begins the bundle.
+fn is_ndb(line: &WorldLine) -> bool
+    ensures { (d : spec.Draft) → spec.good_line d line.now ≡ going result (spec.after d line.now) }
+{
+    match line {
+        WorldLine::Ndb => true,
+        _ => false,
     }
 }
 
