@@ -67,8 +67,8 @@ not_last holds d e len h same many lt is under none =
         (ap (λ (x : Draft). is_under holds x) same ∙ none)
   where
     by : (b : Bool) (o : Option HostSpec) → o ≡ Some h → is_none (if b then o else None) ≡ false → option_map_or holds (if b then o else None) false ≡ false → holds h ≡ false
-    by true o found some no = ap (λ (x : Option HostSpec). option_map_or holds x false) (sym found) ∙ no
-    by false o found some no = absurd (true≢false some)
+    by true o found some free = ap (λ (x : Option HostSpec). option_map_or holds x false) (sym found) ∙ free
+    by false o found some free = absurd (true≢false some)
 
 -- a line of an interface that isn't bad has a network of its own
 pub new_iface : (d : Draft) (called : List ℕ) (ip mask : ℕ) → if_cause d called ip mask ≡ None → is_under (knows_network (bit_and ip mask) mask) d ≡ false

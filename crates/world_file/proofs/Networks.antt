@@ -1,7 +1,9 @@
 -- The networks of a host with one more interface or route.
-use Rattle.std.proofs.Common.{◌≡◌, ℕ, ◌==◌, Bool, true, false, ◌&&◌, ◌||◌, List, [], ◌∷◌, ◌++◌, refl, sym, ap, subst, ◌∙◌}
+use Rattle.std.proofs.Common.{◌≡◌, ℕ, ◌==◌, Bool, true, false, ◌&&◌, ◌||◌, List, [], ◌∷◌, ◌++◌, refl, sym, ap, subst, ◌∙◌, arith}
 use Rattle.std.specs.Prelude.{bit_and, if◌then◌else◌}
 use Rattle.std.specs.List.{list_any}
+use Rattle.std.proofs.lemmas.Bool.{eqb-true, false≢true}
+use Rattle.std.proofs.lemmas.Bool.Decides.{nat_tests}
 use Rattle.std.proofs.lemmas.List.Folds.{list_any-append}
 use Rattle.indexmap.specs.IndexSet.{insert_key}
 use Rattle.net_base.specs.declared.world.HostSpec.{HostSpec}
@@ -49,6 +51,25 @@ pub with_start_too : (keys : List (ℕ × ℕ)) (h : HostSpec) (n : ℕ) → Are
 with_start_too keys h n are net mask = are net mask
 
 -- The set of networks.
+
+swap : (m n : ℕ) → (m == n) ≡ (n == m)
+swap m n = by (m == n) refl (n == m) refl
+  where
+    alike : (a b : ℕ) → a ≡ b → (a == b) ≡ true
+    alike a b h = grind (arith, nat_tests)
+
+    by : (v : Bool) → (m == n) ≡ v → (w : Bool) → (n == m) ≡ w → v ≡ w
+    by true e true f = refl
+    by false e false f = refl
+    by true e false f = absurd (false≢true (sym f ∙ alike n m (sym (eqb-true m n e))))
+    by false e true f = absurd (false≢true (sym e ∙ alike m n (sym (eqb-true n m f))))
+
+-- the set's own test of two networks
+abbrev pub same_pair : ℕ × ℕ → ℕ × ℕ → Bool
+same_pair a b = (a.0 == b.0) && (a.1 == b.1)
+
+pub same_key : (a other : ℕ × ℕ) → same_pair a other ≡ is_key a.0 a.1 other
+same_key a other = ap (λ b. b && (a.1 == other.1)) (swap a.0 other.0) ∙ ap (λ b. (other.0 == a.0) && b) (swap a.1 other.1)
 
 -- a network that isn't there goes last
 pub put_last : (eq : ℕ × ℕ → ℕ × ℕ → Bool) (keys now : List (ℕ × ℕ)) (key : ℕ × ℕ) → ((other : ℕ × ℕ) → eq key other ≡ is_key key.0 key.1 other) → now ≡ insert_key eq keys key

@@ -225,7 +225,7 @@ not-past a b le = by (nat_lt a b) refl (a == b) refl
     apart e f = let high : b ≤ a = grind (arith, nat_tests) in differ (omega (arith, le, high)) f
       where
         differ : a ≡ b → (a == b) ≡ false → ⊥
-        differ is no = let yes : (a == b) ≡ true = grind (arith, nat_tests) in false≢true (sym no ∙ yes)
+        differ is unlike = let alike : (a == b) ≡ true = grind (arith, nat_tests) in false≢true (sym unlike ∙ alike)
 
     by : (v : Bool) → nat_lt a b ≡ v → (w : Bool) → (a == b) ≡ w → is_gt (cond v Less (cond w Equal Greater)) ≡ false
     by true e w f = refl
@@ -253,7 +253,7 @@ first_tells m r rest last first new fates range is k = by (nat_le first new.last
     at = found.1.1
 
     least : (q : ℕ) → new.first ≤ q → IsSome (found_in m.entries q) → last ≤ q
-    least q le some = le_from_not_gt last q (found.2.0 q (not-past new.first q le, tt) some)
+    least q le some = le_from_not_gt last q (found.2 q (not-past new.first q le, tt) some)
 
     by : (b : Bool) → nat_le first new.last ≡ b → b ≡ list_any (overlap new) fates
     by true e = sym (some_there (found_in m.entries) new fates last first k at low (grind (arith, nat_tests)))
@@ -262,4 +262,4 @@ first_tells m r rest last first new fates range is k = by (nat_le first new.last
 -- where none is found, none overlaps
 pub none_tells : (m : BTreeMap ℕ ℕ) (r : List (ℕ × ℕ)) (new : FateRange) (fates : List FateRange) → IsRangeOf nat_cmp (Included new.first) Unbounded m r → r ≡ [] → AreIndexed (found_in m.entries) fates
     → false ≡ list_any (overlap new) fates
-none_tells m r new fates range is k = sym (none_from (found_in m.entries) new fates k.listed (λ q le. range.2.2.2.2 is q (not-past new.first q le, tt)))
+none_tells m r new fates range is k = sym (none_from (found_in m.entries) new fates k.listed (λ q le. range.5 is q (not-past new.first q le, tt)))

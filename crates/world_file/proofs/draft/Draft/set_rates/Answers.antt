@@ -1,4 +1,4 @@
-use Rattle.std.proofs.Common.{◌≡◌, ◌<◌, ⊥, ℕ, List, length, sym, ap, ◌∙◌, true, arith}
+use Rattle.std.proofs.Common.{sym, ap, ◌∙◌, arith}
 use Rattle.std.specs.Prelude.{bytes_eq, map}
 use Rattle.std.specs.List.{position_or_len}
 use Rattle.net_base.specs.declared.world.MediumSpec.{MediumSpec}

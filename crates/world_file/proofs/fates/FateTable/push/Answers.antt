@@ -16,5 +16,5 @@ pub invariant_of-self-2 : goal.invariant_of-self-2
 invariant_of-self-2 c =
     indexed_pushed c.self.inside.firsts.entries c.insert.new.self.entries c.args.fate c.self.inside.fates.items c.push.new.self.items
     c.self.invariant (ap (list_any (overlap c.args.fate)) c.self.view_is ∙ c.requires.apart) c.requires.forward
-    c.in_ok-insert.ensures.updates.1 c.in_ok-insert.ensures.updates.2.0
+    c.in_ok-insert.ensures.updates.1 c.in_ok-insert.ensures.updates.2
     (c.in_ok-push.ensures.items ∙ ap (λ (fs : List FateRange). fs ++ c.args.fate ∷ []) c.reserve.ensures.items)
