@@ -1,5 +1,5 @@
 -- What lines change of a world so far.
-use Rattle.std.proofs.Common.{◌≡◌, ℕ, ◌+◌, ◌-◌, ◌<◌, ◌≤◌, ◌==◌, Bool, true, false, not, List, length, get_or, refl, sym, ap, subst, ◌∙◌, arith, Option, Some, None}
+use Rattle.std.proofs.Common.{◌≡◌, ℕ, ◌-◌, ◌<◌, ◌≤◌, ◌==◌, Bool, true, false, not, List, length, get_or, sym, ap, subst, ◌∙◌, arith, Option, Some, None}
 use Rattle.std.specs.Prelude.{bit_and, bytes_eq, is_none, slice_set, if◌then◌else◌, map}
 use Rattle.std.specs.List.{last_or, list_any, position_or_len}
 use Rattle.std.specs.Option.{option_map_or}
@@ -63,8 +63,8 @@ pub not_last : (holds : HostSpec → Bool) (d e : Draft) (len : ℕ) (h : HostSp
     → is_none (host_under e) ≡ false → is_under holds e ≡ false → holds h ≡ false
 not_last holds d e len h same many lt is under none =
     by (d.group == 5) (last_or None d.hosts) (last_is None d.hosts (len - 1) h (omega (arith, many, lt)) ∙ ap (λ (x : HostSpec). Some x) (sym is))
-        (ap (λ (x : Draft). is_none (host_under x)) same ∙ under)
-        (ap (λ (x : Draft). is_under holds x) same ∙ none)
+    (ap (λ (x : Draft). is_none (host_under x)) same ∙ under)
+    (ap (λ (x : Draft). is_under holds x) same ∙ none)
   where
     by : (b : Bool) (o : Option HostSpec) → o ≡ Some h → is_none (if b then o else None) ≡ false → option_map_or holds (if b then o else None) false ≡ false → holds h ≡ false
     by true o found some free = ap (λ (x : Option HostSpec). option_map_or holds x false) (sym found) ∙ free

@@ -1,9 +1,8 @@
 -- What the reader tells of a bad line.
-use Rattle.std.specs.Prelude.{◌≡◌, ◌≤◌, ℕ, length, map, bytes_eq, true, Bool, Option, Some, Result, Err, ⊤, if◌then◌else◌}
+use Rattle.std.specs.Prelude.{◌≡◌, ◌≤◌, ℕ, length, map, bytes_eq, true, Bool, Result, Err, ⊤, if◌then◌else◌}
 use Rattle.net_base.specs.declared.world.MediumSpec.{MediumSpec}
 use Rattle.net_base.specs.declared.world.World.{World}
 use Rattle.net_base.specs.World.{all_apart}
-use Rattle.world_text.specs.declared.line.LineCause.{LineCause}
 use Rattle.world_text.specs.LineCauses.{number_of}
 use Rattle.world_text.specs.WorldLines.{Draft, Verdict, Goes, Begins, Bad, world_of}
 use Rattle.world_words.specs.declared.fault.LineFault.{LineFault}

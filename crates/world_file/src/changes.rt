@@ -71,8 +71,7 @@ impl Draft {
         ensures { OnOk result (self.new ≡ spec.after_medium_line self.old (medium.Medium name mtu)) }
     {
         let number = self.media.len() as u32;
-        self.media
-            .push(MediumDraft::new(alloc, number, name, mtu))?;
+        self.media.push(MediumDraft::new(alloc, number, name, mtu))?;
         self.group = 4;
         Ok(())
     }

@@ -175,7 +175,10 @@ fn first_lines_are_judged(rt: HostRuntime) -> Result<(), Fail> {
         (START, b"", 2, 19),
     ];
     for (front, lines, line, cause) in rows {
-        assert!(rt; is_bad(rt.alloc(), front, lines, line, cause)?, "{line} is bad for {cause}");
+        assert!(rt;
+            is_bad(rt.alloc(), front, lines, line, cause)?,
+            "{line} is bad for {cause}"
+        );
     }
     Ok(())
 }
@@ -184,7 +187,12 @@ fn first_lines_are_judged(rt: HostRuntime) -> Result<(), Fail> {
 fn media_are_judged(rt: HostRuntime) -> Result<(), Fail> {
     let rows = [
         (MEDIA, b"medium a 576".as_slice(), 5, 14),
-        (MEDIA, b"medium b 576\nmedium c 576\nmedium d 576\nmedium e 576", 8, 17),
+        (
+            MEDIA,
+            b"medium b 576\nmedium c 576\nmedium d 576\nmedium e 576",
+            8,
+            17,
+        ),
         (HOSTS, b"medium b 576", 9, 18),
         (START, b"end 1\nmedium a 576", 3, 19),
         (MEDIA, b"rates a 4294967296 0 0", 5, 13),
@@ -196,11 +204,24 @@ fn media_are_judged(rt: HostRuntime) -> Result<(), Fail> {
         (START, b"fate a 1 lose", 2, 15),
         (HOSTS, b"fate a 1 lose", 9, 18),
         (MEDIA, b"fate a 5-9 lose\nfate a 9-12 lose", 6, 23),
-        (MEDIA, b"fate a 5-9 lose\nfate a 20 lose\nfate a 1-5 lose", 7, 23),
-        (MEDIA, b"fate a 5-9 lose\nfate a 1-18446744073709551615 lose", 6, 23),
+        (
+            MEDIA,
+            b"fate a 5-9 lose\nfate a 20 lose\nfate a 1-5 lose",
+            7,
+            23,
+        ),
+        (
+            MEDIA,
+            b"fate a 5-9 lose\nfate a 1-18446744073709551615 lose",
+            6,
+            23,
+        ),
     ];
     for (front, lines, line, cause) in rows {
-        assert!(rt; is_bad(rt.alloc(), front, lines, line, cause)?, "{line} is bad for {cause}");
+        assert!(rt;
+            is_bad(rt.alloc(), front, lines, line, cause)?,
+            "{line} is bad for {cause}"
+        );
     }
     Ok(())
 }
@@ -222,7 +243,10 @@ fn hosts_are_judged(rt: HostRuntime) -> Result<(), Fail> {
         (SCRIPT, b"start 1", 9, 18),
     ];
     for (front, lines, line, cause) in rows {
-        assert!(rt; is_bad(rt.alloc(), front, lines, line, cause)?, "{line} is bad for {cause}");
+        assert!(rt;
+            is_bad(rt.alloc(), front, lines, line, cause)?,
+            "{line} is bad for {cause}"
+        );
     }
     Ok(())
 }
@@ -230,18 +254,37 @@ fn hosts_are_judged(rt: HostRuntime) -> Result<(), Fail> {
 #[test]
 fn routes_are_judged(rt: HostRuntime) -> Result<(), Fail> {
     let rows = [
-        (SCRIPT, b"route 1.0.0.1 255.0.0.0 11.0.0.9".as_slice(), 9, 18),
+        (
+            SCRIPT,
+            b"route 1.0.0.1 255.0.0.0 11.0.0.9".as_slice(),
+            9,
+            18,
+        ),
         (HOSTS, b"route 1.0.0.0 255.0.1.0 10.0.0.9", 9, 20),
         (HOSTS, b"route 1.0.0.1 255.0.0.0 10.0.0.9", 9, 20),
         (HOSTS, b"route 10.0.0.0 255.0.0.0 11.0.0.9", 9, 21),
-        (HOSTS, b"route 1.0.0.0 255.0.0.0 10.0.0.9\nroute 1.0.0.0 255.0.0.0 10.0.0.8", 10, 21),
+        (
+            HOSTS,
+            b"route 1.0.0.0 255.0.0.0 10.0.0.9\nroute 1.0.0.0 255.0.0.0 10.0.0.8",
+            10,
+            21,
+        ),
         (HOSTS, b"route 1.0.0.0 255.0.0.0 11.0.0.9", 9, 22),
-        (HOST, b"route 1.0.0.0 255.0.0.0 10.0.0.9\nif a 10.0.0.1 255.0.0.0", 6, 22),
+        (
+            HOST,
+            b"route 1.0.0.0 255.0.0.0 10.0.0.9\nif a 10.0.0.1 255.0.0.0",
+            6,
+            22,
+        ),
     ];
     for (front, lines, line, cause) in rows {
-        assert!(rt; is_bad(rt.alloc(), front, lines, line, cause)?, "{line} is bad for {cause}");
+        assert!(rt;
+            is_bad(rt.alloc(), front, lines, line, cause)?,
+            "{line} is bad for {cause}"
+        );
     }
-    let twice = b"medium b 576\nhost h il\nif a 10.0.0.1 255.0.0.0\nroute 11.0.0.0 255.0.0.0 10.0.0.9\nif b 11.0.0.1 255.0.0.0";
+    let twice =
+        b"medium b 576\nhost h il\nif a 10.0.0.1 255.0.0.0\nroute 11.0.0.0 255.0.0.0 10.0.0.9\nif b 11.0.0.1 255.0.0.0";
     assert!(rt; is_bad(rt.alloc(), MEDIA, twice.as_slice(), 9, 21)?);
     Ok(())
 }
@@ -263,7 +306,10 @@ fn scripts_are_judged(rt: HostRuntime) -> Result<(), Fail> {
         (HOSTS, b"ndb\na=b\n%file x\n\tc=d\n", 12, 1),
     ];
     for (front, lines, line, cause) in rows {
-        assert!(rt; is_bad(rt.alloc(), front, lines, line, cause)?, "{line} is bad for {cause}");
+        assert!(rt;
+            is_bad(rt.alloc(), front, lines, line, cause)?,
+            "{line} is bad for {cause}"
+        );
     }
     Ok(())
 }

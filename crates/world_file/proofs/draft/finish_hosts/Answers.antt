@@ -9,7 +9,7 @@ loop-host-preserved c =
     let steps = c.in-Some.ensures.steps in (
       moves_more _ at.yielded _ _ _ _ c.in-Some.host steps.0 steps.1 at.invariant.0,
       c.in_ok-push.ensures.items
-      ∙ (ap (λ (xs : List HostSpec). xs ++ c.finish.result ∷ []) at.invariant.1 ∙ ap (λ (x : HostSpec). at.yielded ++ x ∷ []) c.finish.ensures),
+          ∙ (ap (λ (xs : List HostSpec). xs ++ c.finish.result ∷ []) at.invariant.1 ∙ ap (λ (x : HostSpec). at.yielded ++ x ∷ []) c.finish.ensures),
     )
 
 pub returns : goal.returns

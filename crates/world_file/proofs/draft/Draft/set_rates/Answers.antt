@@ -5,7 +5,6 @@ use Rattle.net_base.specs.declared.world.MediumSpec.{MediumSpec}
 use Rattle.net_base.specs.World.{all_apart}
 use Rattle.world_text.specs.WorldLines as spec
 use Rattle.world_file.proofs.Drafts.{past_name, same_media, set_medium, with_media}
-use Rattle.world_file.proofs.Placed.{medium_none}
 use Rattle.world_file.proofs.draft.Draft.set_rates.Goals as goal
 
 pub returns-then-place-len : goal.returns-then-place-len

@@ -1,5 +1,4 @@
 use Rattle.std.proofs.Common.{◌∙◌, ap, List}
-use Rattle.net_base.specs.declared.world.Script.{Script}
 use Rattle.net_base.specs.declared.world.Step.{Step}
 use Rattle.world_text.specs.WorldLines as spec
 use Rattle.world_file.proofs.Drafts.{set_last, with_scripts}
