@@ -6,7 +6,6 @@ use Rattle.net_base.specs.declared.world.World.{World}
 use Rattle.net_base.specs.NdbBundle.{bad_line, database, reading}
 use Rattle.net_base.specs.NdbText.{lines_of}
 use Rattle.net_base.specs.World.{IsWorld}
-use Rattle.net_base.specs.WorldForm.{IsFirstForm}
 use Rattle.net_model.specs.NdbWhole.{is_whole}
 use Rattle.ndb_reader.specs.Written.{db_text}
 use Rattle.world_text.specs.WorldSpelling.{IsWorldText, laid, lines_of_world}
@@ -26,10 +25,10 @@ read_parts (Some bad) found db is = absurd (none_some db is)
 -- what the laws of databases and of worlds say
 module _
     (back : (text : List ℕ) (db : Tuples) → reading text ≡ Some db → is_whole db ≡ true → reading (db_text db) ≡ Some db)
-    (says : (w : World) (bundle : List ℕ) → IsWorld w → IsFirstForm w → bad_line bundle ≡ None → w.db ≡ database (lines_of bundle) → IsWorldText (laid (lines_of_world w) ++ (codes "ndb\n" ++ bundle)) w)
+    (says : (w : World) (bundle : List ℕ) → IsWorld w → bad_line bundle ≡ None → w.db ≡ database (lines_of bundle) → IsWorldText (laid (lines_of_world w) ++ (codes "ndb\n" ++ bundle)) w)
   where
-    pub spelled : (w : World) → IsWorld w → IsFirstForm w → is_whole w.db ≡ true → IsWorldText (file_text w) w
-    spelled w world form whole =
+    pub spelled : (w : World) → IsWorld w → is_whole w.db ≡ true → IsWorldText (file_text w) w
+    spelled w world whole =
         let read = back world.database.0 w.db world.database.2 whole in
         let parts = read_parts (bad_line (db_text w.db)) (database (lines_of (db_text w.db))) w.db read in
-        says w (db_text w.db) world form parts.0 parts.1
+        says w (db_text w.db) world parts.0 parts.1

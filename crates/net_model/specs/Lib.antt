@@ -14,6 +14,9 @@ pub use Rattle.worked_worlds.specs.WorkedFaults
 pub use Rattle.worked_worlds.specs.WorkedRuns
 pub use Rattle.prefix_law.specs.PrefixLaw
 pub use Rattle.world_text.specs.WorldWords
+pub use Rattle.world_text.specs.LineCauses
+pub use Rattle.world_text.specs.LineFit
+pub use Rattle.world_text.specs.LineReading
 pub use Rattle.world_text.specs.WorldLines
 pub use Rattle.world_text.specs.WorldText
 pub use Rattle.world_text.specs.WorldSpelling

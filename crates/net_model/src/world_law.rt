@@ -1,22 +1,31 @@
-//! The law of the file of a world.
-ghost use Rattle.std.specs.Prelude.{◌≡◌, Ok, true};
+//! Laws of the file of a world.
+ghost use Rattle.std.specs.Prelude.{◌≡◌, ℕ, ◌<◌, ◌^◌, Ok, true};
+ghost use Rattle.made_world.specs.Made.{made_world};
 ghost use Rattle.net_base.specs.declared.world.World.{World};
 ghost use Rattle.net_base.specs.World.{IsWorld};
-ghost use Rattle.net_base.specs.WorldForm.{IsFirstForm};
 ghost use Rattle.net_model.specs.NdbWhole.{is_whole};
 ghost use Rattle.world_text.specs.WorldSpelling.{IsWorldText};
 ghost use Rattle.world_text.specs.WorldText.{world_reading};
 ghost use Rattle.world_writer.specs.Written.{file_text};
 
 use crate::ndb_law::written_databases_read_back;
+use made_world::made_worlds_are_worlds;
 use world_text::{worlds_are_spelled, worlds_have_texts};
 
 /// What is written of a world, with a whole database, says this world, and is read back as it.
 pub fn written_worlds_read_back()
-    ensures spelled { (w : World) → IsWorld w → IsFirstForm w → is_whole w.db ≡ true → IsWorldText (file_text w) w }
-    ensures read { (w : World) → IsWorld w → IsFirstForm w → is_whole w.db ≡ true → world_reading (file_text w) ≡ Ok w }
+    ensures spelled { (w : World) → IsWorld w → is_whole w.db ≡ true → IsWorldText (file_text w) w }
+    ensures read { (w : World) → IsWorld w → is_whole w.db ≡ true → world_reading (file_text w) ≡ Ok w }
 {
     written_databases_read_back();
     worlds_have_texts();
     worlds_are_spelled();
+}
+
+/// What is written of a made world is read back as it.
+pub fn made_worlds_read_back()
+    ensures { (n : ℕ) → n < 2 ^ 64 → world_reading (file_text (made_world n)) ≡ Ok (made_world n) }
+{
+    made_worlds_are_worlds();
+    written_worlds_read_back();
 }

@@ -97,8 +97,8 @@ fn bad_worlds(rt: HostRuntime) -> Result<(), Fail> {
         ("networld 2\n", "! line 1 cause 11\n"),
         ("networld 1\nend 60000\nseed 7\n", "! line 4 cause 19\n"),
         (
-            "networld 1\nend 60000\nseed 7\nmedium ether0 1500\nmedium b 576\n",
-            "! line 5 cause 31\n",
+            "networld 1\nend 60000\nseed 7\nmedium ether0 1500\nmedium b 576\nhost a il\nndb",
+            "! line 0 cause 31\n",
         ),
     ];
     for (input, text) in rows {

@@ -1,4 +1,7 @@
-pub mod Places
-pub mod Connects
 pub mod Cuts
+pub mod Drained
+pub mod Drafts
+pub mod Placed
+pub mod Overlaps
+pub mod Networks
 pub mod Spelled

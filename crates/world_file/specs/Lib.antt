@@ -1,11 +1,8 @@
-pub mod Connecting
+pub mod Indexed
 pub mod Told
 pub use Rattle.net_base.specs.World
-pub use Rattle.net_base.specs.WorldForm
+pub use Rattle.world_text.specs.LineCauses
+pub use Rattle.world_text.specs.LineFit
 pub use Rattle.world_text.specs.WorldLines
 pub use Rattle.world_text.specs.WorldSpelling
 pub use Rattle.world_text.specs.WorldText
-pub use Rattle.world_text.specs.WorldLines
-pub use Rattle.world_text.specs.WorldSpelling
-pub use Rattle.world_text.specs.WorldText
-pub use Rattle.net_base.specs.ControlWords

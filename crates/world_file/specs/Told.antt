@@ -1,14 +1,17 @@
 -- What the reader tells of a bad line.
-use Rattle.std.specs.Prelude.{◌≡◌, ◌≤◌, ℕ, length, Bool, Result, Err, ⊤, if◌then◌else◌}
+use Rattle.std.specs.Prelude.{◌≡◌, ◌≤◌, ℕ, length, map, bytes_eq, true, Bool, Result, Err, ⊤, if◌then◌else◌}
+use Rattle.net_base.specs.declared.world.MediumSpec.{MediumSpec}
 use Rattle.net_base.specs.declared.world.World.{World}
-use Rattle.world_text.specs.WorldLines.{Draft, Verdict, Goes, Begins, Bad, hosts_of, world_of}
-use Rattle.world_file.specs.declared.fault.Fault.{Fault}
-use Rattle.world_file.specs.declared.fault.Fault.TheVariants as fault
+use Rattle.net_base.specs.World.{all_apart}
+use Rattle.world_text.specs.LineCauses.{number_of}
+use Rattle.world_text.specs.WorldLines.{Draft, Verdict, Goes, Begins, Bad, world_of}
+use Rattle.world_words.specs.declared.fault.LineFault.{LineFault}
+use Rattle.world_words.specs.declared.fault.LineFault.TheVariants as fault
 use Rattle.world_file.specs.declared.fault.WorldError.{WorldError}
 use Rattle.world_file.specs.declared.fault.WorldError.TheVariants as error
 
 -- a fault tells a line's cause, or nothing where memory ran out
-abbrev pub TellsCause : Fault → Verdict → Type 0
+abbrev pub TellsCause : LineFault → Verdict → Type 0
 TellsCause fault.Memory verdict = ⊤
 TellsCause (fault.Cause cause) verdict = verdict ≡ Bad cause
 
@@ -22,11 +25,12 @@ abbrev pub going : Bool → Draft → Verdict
 going begins d = if begins then Begins (world_of d) else Goes d
 
 -- the same at the line with this number
-abbrev pub TellsAt : Fault → ℕ → WorldError → Type 0
+abbrev pub TellsAt : LineFault → ℕ → WorldError → Type 0
 TellsAt fault.Memory number e = e ≡ error.Memory
-TellsAt (fault.Cause cause) number e = e ≡ error.Bad number cause
+TellsAt (fault.Cause cause) number e = e ≡ error.Bad number (number_of cause)
 
--- so few media and hosts that their numbers fit
+-- so few media and hosts that their numbers fit, and media with names of their own
 pub record IsSmall (d : Draft) : Type 0 where
   pub media : length d.media ≤ 4
-  pub hosts : length (hosts_of d) ≤ 8
+  pub hosts : length d.hosts ≤ 8
+  pub named : all_apart bytes_eq (map (λ (s : MediumSpec). s.name) d.media) ≡ true

@@ -20,23 +20,3 @@ impl From<AllocError> for WorldError {
         WorldError::Memory
     }
 }
-
-/// Why a line was not read.
-#[derive(Clone, Copy, Debug, PartialEq, Eq, Drop)]
-pub(crate) enum Fault {
-    /// Memory ran out.
-    Memory,
-    /// The line's least cause.
-    Cause(u32),
-}
-
-impl From<AllocError> for Fault {
-    ghost use Rattle.std.specs.Prelude.{◌≡◌};
-    ghost use Rattle.world_file.specs.declared.fault.Fault.TheVariants as fault;
-
-    ghost from_gives = { λ _ e. e ≡ fault.Memory };
-
-    fn from(_error: AllocError) -> Fault {
-        Fault::Memory
-    }
-}

@@ -1,13 +1,15 @@
 //! Reads a world, line by line in one pass, or tells its first bad line.
 #![tactic(auto)]
 
+mod causes;
+mod changes;
 mod draft;
+mod fates;
 mod fault;
-mod hosts;
+mod host;
 mod lines;
-mod media;
+mod medium;
 mod reader;
-mod scripts;
 #[cfg(test)]
 mod tests;
 

@@ -4,19 +4,18 @@ ghost use Rattle.std.specs.List.{position_or_len};
 ghost use Rattle.net_base.specs.NdbText.{is_newline};
 ghost use Rattle.net_base.specs.NdbBundle.{bad_line};
 ghost use Rattle.net_base.specs.World.{IsWorld};
-ghost use Rattle.net_base.specs.WorldForm.{IsFirstForm};
-ghost use Rattle.world_text.specs.WorldLines.{world_of};
+ghost use Rattle.world_text.specs.WorldLines as spec;
 ghost use Rattle.world_text.specs.WorldSpelling.{IsWorldText};
 ghost use Rattle.world_text.specs.WorldText.{cuts_of, missing, with_database, world_reading};
 ghost use Rattle.world_file.specs.Told.{Tells, TellsAt};
 
 use crate::draft::Draft;
-use crate::fault::{Fault, WorldError};
+use crate::fault::WorldError;
 use ndb_reader::{NdbError, read_ndb};
 use net_base::World;
 use std::alloc::Global;
 use world_text::{worlds_are_spelled, worlds_so_far_are_small};
-use world_words::are_bytes;
+use world_words::{LineFault, are_bytes};
 
 /// The world that a text says, or its first bad line. It goes once through the bytes, and copies each at most once.
 pub fn read_world(alloc: Global, bytes: &[u8]) -> Result<World, WorldError>
@@ -24,7 +23,6 @@ pub fn read_world(alloc: Global, bytes: &[u8]) -> Result<World, WorldError>
     ensures bad { IfErr result (λ e. Tells e (world_reading bytes.now)) }
     ensures spelled { IfOk result (λ w. IsWorldText bytes.now w) }
     ensures world { IfOk result (λ w. IsWorld w) }
-    ensures form { IfOk result (λ w. IsFirstForm w) }
 {
     worlds_are_spelled();
     are_bytes(bytes);
@@ -41,7 +39,7 @@ fn read_lines(alloc: Global, bytes: &[u8]) -> Result<World, WorldError>
     let mut rest = bytes;
     while !rest.is_empty() {
         let (line, behind) = cut_line(rest);
-        match draft.read_line(alloc, line) {
+        match draft.take_text(alloc, line) {
             Ok(false) => {}
             Ok(true) => return read_database(alloc, draft, number, behind),
             Err(fault) => return Err(at_line(fault, number)),
@@ -51,15 +49,15 @@ fn read_lines(alloc: Global, bytes: &[u8]) -> Result<World, WorldError>
     }
     Err(WorldError::Bad {
         line: number,
-        cause: draft.missing(),
+        cause: draft.missing().number(),
     })
 }
 
 /// The world of a draft with the database that stands behind the line with this number.
 fn read_database(alloc: Global, draft: Draft, number: u64, text: &[u8]) -> Result<World, WorldError>
     requires { number + length text.now < 2 ^ 63 }
-    ensures ok { IfOk result (λ w. with_database number (world_of draft) text.now (bad_line text.now) ≡ Ok w) }
-    ensures bad { IfErr result (λ e. Tells e (with_database number (world_of draft) text.now (bad_line text.now))) }
+    ensures ok { IfOk result (λ w. with_database number (spec.world_of draft) text.now (bad_line text.now) ≡ Ok w) }
+    ensures bad { IfErr result (λ e. Tells e (with_database number (spec.world_of draft) text.now (bad_line text.now))) }
 {
     let mut world = draft.finish(alloc)?;
     match read_ndb(alloc, text) {
@@ -76,14 +74,14 @@ fn read_database(alloc: Global, draft: Draft, number: u64, text: &[u8]) -> Resul
 }
 
 /// The fault of the line with this number.
-fn at_line(fault: Fault, number: u64) -> WorldError
+fn at_line(fault: LineFault, number: u64) -> WorldError
     ensures { TellsAt fault number result }
 {
     match fault {
-        Fault::Memory => WorldError::Memory,
-        Fault::Cause(cause) => WorldError::Bad {
+        LineFault::Memory => WorldError::Memory,
+        LineFault::Cause(cause) => WorldError::Bad {
             line: number,
-            cause,
+            cause: cause.number(),
         },
     }
 }

@@ -1,17 +1,14 @@
--- Lists whose elements are apart, places by name, and words without a byte.
-use Rattle.std.proofs.Common.{◌≡◌, ℕ, ◌+◌, ◌<◌, ◌==◌, zero, suc, Bool, true, false, not, ◌&&◌, ◌||◌, cond, List, [], ◌∷◌, ◌++◌, length, map, refl, sym, ap, ◌∙◌, arith, Some}
-use Rattle.std.specs.Prelude.{bytes_eq, flat_map, get_or, nat_eq, nat_lt, option_map, position}
-use Rattle.std.specs.List.{All, list_any, list_all, position_from}
+-- Lists whose elements are apart, elements behind one another, and words without a byte.
+use Rattle.std.proofs.Common.{◌≡◌, ℕ, ◌+◌, ◌<◌, ◌≤◌, ◌==◌, ◌⊎◌, inl, inr, zero, suc, Bool, true, false, not, ◌&&◌, ◌||◌, cond, List, [], ◌∷◌, ◌++◌, length, map, refl, sym, ap, subst, ◌∙◌, arith, Option, Some, None, append_assoc, append-nil}
+use Rattle.std.specs.Prelude.{bytes_eq, filter_map, get_or, nat_eq, nat_lt}
+use Rattle.std.specs.List.{All, filter, list_any, list_all, cons_option, last_or, position_or_len}
 use Rattle.std.proofs.lemmas.Bool.{and_parts, eqb-true, false≢true}
 use Rattle.std.proofs.lemmas.Bool.Decides.{nat_tests}
-use Rattle.std.proofs.lemmas.Iterator.Adapters.{position_from-zero}
-use Rattle.std.proofs.lemmas.List.Folds.{list_any-append}
+use Rattle.std.proofs.lemmas.List.Folds.{list_any-append, list_all-append}
 use Rattle.std.proofs.lemmas.Slice.Eq.{bytes_eq-Decides}
-use Rattle.net_base.specs.declared.world.HostSpec.{HostSpec}
-use Rattle.net_base.specs.declared.world.Iface.{Iface}
-use Rattle.net_base.specs.Routes.{has_ip}
-use Rattle.net_base.specs.World.{addresses, all_apart, is_letter, is_name, is_name_byte, is_within}
-use Rattle.world_text.specs.WorldLines.{is_host_named}
+use Rattle.net_base.specs.World.{all_apart, is_letter, is_name, is_name_byte, is_within}
+use Rattle.world_text.specs.WorldLines.{at_last}
+use Rattle.world_text.specs.WorldSpelling.{EachBehind}
 use Rattle.net_base.proofs.Texts.{IsWithout, without_one}
 
 -- Tests.
@@ -43,96 +40,184 @@ own-bytes xs = (bytes_eq-Decides xs xs).1 refl
 pub same-numbers : (m n : ℕ) → nat_eq m n ≡ nat_eq n m
 same-numbers m n = grind (arith, nat_tests)
 
--- Lists.
+-- Elements that are apart.
 
-pub any-map : {X Y : Type 0} (q : Y → Bool) (f : X → Y) (xs : List X) → list_any q (map f xs) ≡ list_any (λ x. q (f x)) xs
-any-map q f [] = refl
-any-map q f (x ∷ xs) = ap (λ b. q (f x) || b) (any-map q f xs)
+pub any-map : {A B : Type 0} (p : B → Bool) (f : A → B) (xs : List A) → list_any p (map f xs) ≡ list_any (λ x. p (f x)) xs
+any-map p f [] = refl
+any-map p f (x ∷ xs) = ap (λ b. p (f x) || b) (any-map p f xs)
 
 pub any-cong : {X : Type 0} (p q : X → Bool) → ((x : X) → p x ≡ q x) → (xs : List X) → list_any p xs ≡ list_any q xs
 any-cong p q same [] = refl
 any-cong p q same (x ∷ xs) = ap (λ b. b || list_any p xs) (same x) ∙ ap (λ b. q x || b) (any-cong p q same xs)
 
-pub All-one : {X : Type 0} (P : X → Type 0) (x : X) → P x → All P (x ∷ [])
-All-one P x p zero d lt = p
-All-one P x p (suc k) d lt = absurd (omega (arith, lt))
+swap_tests : (a b c e : Bool) → (not (b || a) && (not c && e)) ≡ (not (b || c) && (not a && e))
+swap_tests a true c e = refl
+swap_tests true false true e = refl
+swap_tests true false false e = refl
+swap_tests false false true e = refl
+swap_tests false false false e = refl
 
-pub All-first : {X : Type 0} (P : X → Type 0) (x : X) (xs : List X) → All P (x ∷ xs) → P x
-All-first P x xs all = all zero x (omega arith)
+or_swap : (a b c : Bool) → (a || (b || c)) ≡ (b || (a || c))
+or_swap true true c = refl
+or_swap true false c = refl
+or_swap false b c = refl
 
-pub All-later : {X : Type 0} (P : X → Type 0) (x : X) (xs : List X) → All P (x ∷ xs) → All P xs
-All-later P x xs all k d lt = all (suc k) d (omega (arith, lt))
+pub any-insert : {A : Type 0} (p : A → Bool) (xs : List A) (z : A) (ys : List A) → list_any p (xs ++ z ∷ ys) ≡ (p z || list_any p (xs ++ ys))
+any-insert p [] z ys = refl
+any-insert p (x ∷ xs) z ys = ap (λ b. p x || b) (any-insert p xs z ys) ∙ or_swap (p x) (p z) (list_any p (xs ++ ys))
 
--- one more that is like none of the others
-pub apart-more : {A : Type 0} (alike : A → A → Bool) → ((x y : A) → alike x y ≡ alike y x) → (xs : List A) (z : A) → all_apart alike xs ≡ true → list_any (alike z) xs ≡ false → all_apart alike (xs ++ z ∷ []) ≡ true
-apart-more alike same [] z h none = refl
-apart-more alike same (x ∷ xs) z h none =
-    let both = and_parts (not (list_any (alike x) xs)) (all_apart alike xs) h in
-    let parts = or-parts (alike z x) (list_any (alike z) xs) none in
-    let apart : list_any (alike x) (xs ++ z ∷ []) ≡ false =
-    list_any-append (alike x) xs (z ∷ []) ∙ (ap (λ b. b || (alike x z || false)) (false-of-not _ both.0) ∙ ap (λ b. b || false) (same x z ∙ parts.0)) in
-    ap (λ b. not b && all_apart alike (xs ++ z ∷ [])) apart ∙ apart-more alike same xs z both.1 parts.1
+-- one more anywhere is like none of the others
+pub apart-insert : {A : Type 0} (alike : A → A → Bool) → ((x y : A) → alike x y ≡ alike y x) → (xs : List A) (z : A) (ys : List A)
+    → all_apart alike (xs ++ z ∷ ys) ≡ (not (list_any (alike z) (xs ++ ys)) && all_apart alike (xs ++ ys))
+apart-insert alike same [] z ys = refl
+apart-insert alike same (x ∷ xs) z ys =
+    ap (λ b. not b && all_apart alike (xs ++ z ∷ ys)) (any-insert (alike x) xs z ys)
+    ∙ (ap (λ b. not (alike x z || list_any (alike x) (xs ++ ys)) && b) (apart-insert alike same xs z ys)
+    ∙ (swap_tests (list_any (alike x) (xs ++ ys)) (alike x z) (list_any (alike z) (xs ++ ys)) (all_apart alike (xs ++ ys))
+    ∙ ap (λ b. not (b || list_any (alike z) (xs ++ ys)) && (not (list_any (alike x) (xs ++ ys)) && all_apart alike (xs ++ ys))) (same x z)))
 
--- one in the middle is like none before it
-pub apart-middle : {A : Type 0} (alike : A → A → Bool) → ((x y : A) → alike x y ≡ alike y x) → (xs : List A) (z : A) (ys : List A) → all_apart alike (xs ++ z ∷ ys) ≡ true → list_any (alike z) xs ≡ false
-apart-middle alike same [] z ys h = refl
-apart-middle alike same (x ∷ xs) z ys h =
-    let both = and_parts (not (list_any (alike x) (xs ++ z ∷ ys))) (all_apart alike (xs ++ z ∷ ys)) h in
-    let none = sym (list_any-append (alike x) xs (z ∷ ys)) ∙ false-of-not (list_any (alike x) (xs ++ z ∷ ys)) both.0 in
-    let parts = or-parts (list_any (alike x) xs) (alike x z || list_any (alike x) ys) none in
-    let here = or-parts (alike x z) (list_any (alike x) ys) parts.1 in
-    ap (λ b. b || list_any (alike z) xs) (same z x ∙ here.0) ∙ apart-middle alike same xs z ys both.1
+-- the same at the end
+pub apart-push : {A : Type 0} (alike : A → A → Bool) → ((x y : A) → alike x y ≡ alike y x) → (xs : List A) (z : A)
+    → all_apart alike (xs ++ z ∷ []) ≡ (not (list_any (alike z) xs) && all_apart alike xs)
+apart-push alike same xs z =
+    apart-insert alike same xs z [] ∙ ap (λ ys. not (list_any (alike z) ys) && all_apart alike ys) (append-nil xs)
 
--- the hosts with an address are those in whose addresses it stands
-pub has-address : (ip : ℕ) (hs : List HostSpec) → list_any (has_ip ip) hs ≡ list_any (nat_eq ip) (flat_map addresses hs)
-has-address ip [] = refl
-has-address ip (h ∷ hs) =
-    let here : list_any (nat_eq ip) (addresses h) ≡ has_ip ip h =
-    any-map (nat_eq ip) (λ (i : Iface). i.ip) h.ifaces ∙ any-cong (λ (i : Iface). nat_eq ip i.ip) (λ (i : Iface). i.ip == ip) (λ i. same-numbers ip i.ip) h.ifaces in
-    ap (λ b. b || list_any (has_ip ip) hs) (sym here)
-    ∙ (ap (λ b. list_any (nat_eq ip) (addresses h) || b) (has-address ip hs) ∙ sym (list_any-append (nat_eq ip) (addresses h) (flat_map addresses hs)))
+pub apart-map : {A B : Type 0} (alike : B → B → Bool) (f : A → B) (xs : List A) → all_apart alike (map f xs) ≡ all_apart (λ x y. alike (f x) (f y)) xs
+apart-map alike f [] = refl
+apart-map alike f (x ∷ xs) = ap (λ b. not b && all_apart alike (map f xs)) (any-map (alike (f x)) f xs) ∙ ap (λ b. not (list_any (λ y. alike (f x) (f y)) xs) && b) (apart-map alike f xs)
+
+pub and-false : (b : Bool) → (b && false) ≡ false
+and-false true = refl
+and-false false = refl
+
+-- the first ones are apart where all are
+pub apart-front : {A : Type 0} (alike : A → A → Bool) (xs ys : List A) → all_apart alike (xs ++ ys) ≡ true → all_apart alike xs ≡ true
+apart-front alike [] ys e = refl
+apart-front alike (x ∷ xs) ys e =
+    let both = and_parts (not (list_any (alike x) (xs ++ ys))) (all_apart alike (xs ++ ys)) e in
+    let none = or-parts (list_any (alike x) xs) (list_any (alike x) ys) (sym (list_any-append (alike x) xs ys) ∙ false-of-not (list_any (alike x) (xs ++ ys)) both.0) in
+    ap (λ b. not b && all_apart alike xs) none.0 ∙ apart-front alike xs ys both.1
+
+pub all-push : {A : Type 0} (p : A → Bool) (xs : List A) (z : A) → list_all p xs ≡ true → p z ≡ true → list_all p (xs ++ z ∷ []) ≡ true
+all-push p xs z all here = list_all-append p xs (z ∷ []) ∙ (ap (λ b. b && (p z && true)) all ∙ ap (λ b. b && true) here)
+
+-- what holds of all and one more
+pub all-parts : {A : Type 0} (p : A → Bool) (xs : List A) (z : A) → list_all p (xs ++ z ∷ []) ≡ true → (list_all p xs ≡ true) × (p z ≡ true)
+all-parts p xs z all =
+    let both = and_parts (list_all p xs) (p z && true) (sym (list_all-append p xs (z ∷ [])) ∙ all) in
+    (both.0, (and_parts (p z) true both.1).0)
+
+-- Elements behind one another.
+
+abbrev first_of : {A : Type 0} → A → List A → A
+first_of d [] = d
+first_of d (x ∷ xs) = x
+
+abbrev others_of : {A : Type 0} → List A → List A
+others_of [] = []
+others_of (x ∷ xs) = xs
+
+pub no-cons : {A : Type 0} (x : A) (xs : List A) → [] ≡ x ∷ xs → ⊥
+no-cons x xs e = let n = ap (λ ys. length ys) e in absurd (omega (arith, n))
+
+pub no-middle : {A : Type 0} (xs : List A) (x : A) (ys : List A) → [] ≡ xs ++ x ∷ ys → ⊥
+no-middle [] x ys e = no-cons x ys e
+no-middle (z ∷ xs) x ys e = no-cons z (xs ++ x ∷ ys) e
+
+-- an element of a list and one more is the last one, or one of the list
+pub data Split {A : Type 0} (xs : List A) (z : A) (before : List A) (x : A) (rest : List A) : Type 0 where
+  AtEnd : before ≡ xs → x ≡ z → Split xs z before x rest
+  Within : (others : List A) → xs ≡ before ++ x ∷ others → Split xs z before x rest
+
+pub split : {A : Type 0} (xs : List A) (z : A) (before : List A) (x : A) (rest : List A) → xs ++ z ∷ [] ≡ before ++ x ∷ rest → Split xs z before x rest
+split [] z [] x rest e = AtEnd refl (sym (ap (first_of z) e))
+split [] z (b ∷ before) x rest e = absurd (no-middle before x rest (ap others_of e))
+split (w ∷ xs) z [] x rest e = Within xs (ap (λ y. y ∷ xs) (ap (first_of w) e))
+split (w ∷ xs) z (b ∷ before) x rest e = by (split xs z before x rest (ap others_of e))
+  where
+    by : Split xs z before x rest → Split (w ∷ xs) z (b ∷ before) x rest
+    by (AtEnd is last) = AtEnd (ap (λ ys. b ∷ ys) is ∙ ap (λ y. y ∷ xs) (sym (ap (first_of w) e))) last
+    by (Within others is) = Within others (ap (λ y. y ∷ xs) (ap (first_of w) e) ∙ ap (λ ys. b ∷ ys) is)
+
+pub each-none : {A : Type 0} (F : List A → A → Type 0) → EachBehind F []
+each-none F before x rest e = absurd (no-middle before x rest e)
+
+pub each-push : {A : Type 0} (F : List A → A → Type 0) (xs : List A) (z : A) → EachBehind F xs → F xs z → EachBehind F (xs ++ z ∷ [])
+each-push {A = A} F xs z each here before x rest e = by (split xs z before x rest e)
+  where
+    by : Split xs z before x rest → F before x
+    by (AtEnd is last) = subst (λ (ys : List A). F ys x) (sym is) (subst (F xs) (sym last) here)
+    by (Within others is) = each before x others is
+
+pub each-front : {A : Type 0} (F : List A → A → Type 0) (xs ys : List A) → EachBehind F (xs ++ ys) → EachBehind F xs
+each-front F xs ys each before x rest e = each before x (rest ++ ys) (ap (λ zs. zs ++ ys) e ∙ append_assoc before (x ∷ rest) ys)
+
+pub each-last : {A : Type 0} (F : List A → A → Type 0) (xs : List A) (z : A) → EachBehind F (xs ++ z ∷ []) → F xs z
+each-last F xs z each = each xs z [] refl
+
+-- what holds of each element, wherever it stands
+pub all-if : {A : Type 0} (p : A → Bool) (xs : List A) → ((before : List A) (x : A) (rest : List A) → xs ≡ before ++ x ∷ rest → p x ≡ true) → list_all p xs ≡ true
+all-if p [] f = refl
+all-if p (x ∷ xs) f = ap (λ b. b && list_all p xs) (f [] x xs refl) ∙ all-if p xs (λ before y rest e. f (x ∷ before) y rest (ap (λ ys. x ∷ ys) e))
+
+pub all-at : {A : Type 0} (p : A → Bool) (xs before : List A) (x : A) (rest : List A) → xs ≡ before ++ x ∷ rest → list_all p xs ≡ true → p x ≡ true
+all-at p xs before x rest e all =
+    let both = and_parts (list_all p before) (p x && list_all p rest) (sym (list_all-append p before (x ∷ rest)) ∙ (ap (list_all p) (sym e) ∙ all)) in
+    (and_parts (p x) (list_all p rest) both.1).0
+
+pub none-if : {A B : Type 0} (f : A → Option B) (xs : List A) → ((before : List A) (x : A) (rest : List A) → xs ≡ before ++ x ∷ rest → f x ≡ None) → filter_map f xs ≡ []
+none-if f [] h = refl
+none-if f (x ∷ xs) h =
+    ap (λ o. cons_option o (filter_map f xs)) (h [] x xs refl) ∙ none-if f xs (λ before y rest e. h (x ∷ before) y rest (ap (λ ys. x ∷ ys) e))
+
+-- a test of an element that stands in the list
+pub any-at : {A : Type 0} (p : A → Bool) (xs before : List A) (x : A) (rest : List A) → xs ≡ before ++ x ∷ rest → p x ≡ true → list_any p xs ≡ true
+any-at p xs before x rest e here = ap (list_any p) e ∙ (any-insert p before x rest ∙ ap (λ b. b || list_any p (before ++ rest)) here)
+
+-- The last element.
+
+pub last-push : {A : Type 0} (o : Option A) (xs : List A) (x : A) → last_or o (xs ++ x ∷ []) ≡ Some x
+last-push o [] x = refl
+last-push o (y ∷ xs) x = last-push (Some y) xs x
+
+pub at_last-push : {A : Type 0} (f : A → A) (xs : List A) (x : A) → at_last f (xs ++ x ∷ []) ≡ xs ++ f x ∷ []
+at_last-push f [] x = refl
+at_last-push f (y ∷ []) x = refl
+at_last-push f (y ∷ z ∷ xs) x = ap (λ ys. y ∷ ys) (at_last-push f (z ∷ xs) x)
+
+-- a list is empty, or has a last element
+pub data Ending {A : Type 0} (xs : List A) : Type 0 where
+  Empty : xs ≡ [] → Ending xs
+  Pushed : (front : List A) (last : A) → xs ≡ front ++ last ∷ [] → Ending xs
+
+pub ending : {A : Type 0} (xs : List A) → Ending xs
+ending [] = Empty refl
+ending (x ∷ xs) = by (ending xs)
+  where
+    by : Ending xs → Ending (x ∷ xs)
+    by (Empty is) = Pushed [] x (ap (λ ys. x ∷ ys) is)
+    by (Pushed front last is) = Pushed (x ∷ front) last (ap (λ ys. x ∷ ys) is)
 
 -- Places.
 
-later : {X : Type 0} (p : X → Bool) (i : ℕ) (xs : List X) → position_from p (i + 1) xs ≡ option_map (λ k. suc k) (position_from p i xs)
-later p i [] = refl
-later p i (x ∷ xs) = by (p x) (later p (i + 1) xs)
+pub place-map : {A B : Type 0} (p : B → Bool) (f : A → B) (xs : List A) → position_or_len p (map f xs) ≡ position_or_len (λ x. p (f x)) xs
+place-map p f [] = refl
+place-map p f (x ∷ xs) = ap (λ n. cond (not (p (f x))) (1 + n) 0) (place-map p f xs)
+
+-- there is a place exactly where an element passes
+pub place-there : {A : Type 0} (p : A → Bool) (xs : List A) → nat_lt (position_or_len p xs) (length xs) ≡ list_any p xs
+place-there p [] = refl
+place-there p (x ∷ xs) = by (p x) (place-there p xs)
   where
-    by : (b : Bool) → position_from p (i + 1 + 1) xs ≡ option_map (λ k. suc k) (position_from p (i + 1) xs)
-        → cond b (Some (i + 1)) (position_from p (i + 1 + 1) xs) ≡ option_map (λ k. suc k) (cond b (Some i) (position_from p (i + 1) xs))
-    by true h = ap (λ k. Some k) (omega arith)
-    by false h = h
+    some : (n : ℕ) → nat_lt 0 (suc n) ≡ true
+    some n = grind (arith, nat_tests)
 
-pub position-yes : {X : Type 0} (p : X → Bool) (x : X) (xs : List X) → p x ≡ true → position p (x ∷ xs) ≡ Some 0
-position-yes p x xs e = position_from-zero p (x ∷ xs) ∙ ap (λ v. cond v (Some 0) (position_from p 1 xs)) e
+    more : (m n : ℕ) → nat_lt (1 + m) (suc n) ≡ nat_lt m n
+    more m n = grind (arith, nat_tests)
 
-pub position-no : {X : Type 0} (p : X → Bool) (x : X) (xs : List X) → p x ≡ false → position p (x ∷ xs) ≡ option_map (λ k. suc k) (position p xs)
-position-no p x xs e =
-    position_from-zero p (x ∷ xs)
-    ∙ (ap (λ v. cond v (Some 0) (position_from p 1 xs)) e ∙ (later p 0 xs ∙ ap (option_map (λ k. suc k)) (sym (position_from-zero p xs))))
-
-abbrev pub names : List HostSpec → List (List ℕ)
-names hs = map (λ (h : HostSpec). h.name) hs
-
-none-at : (p : List ℕ → Bool) (xs : List (List ℕ)) (n : ℕ) → list_any p xs ≡ false → n < length xs → p (get_or xs n []) ≡ false
-none-at p [] n none lt = absurd (omega (arith, lt))
-none-at p (x ∷ xs) zero none lt = (or-parts (p x) (list_any p xs) none).0
-none-at p (x ∷ xs) (suc n) none lt = none-at p xs n ((or-parts (p x) (list_any p xs) none).1) (omega (arith, lt))
-
-pub names-length : (hs : List HostSpec) → length (names hs) ≡ length hs
-names-length [] = refl
-names-length (h ∷ hs) = ap (λ (n : ℕ). suc n) (names-length hs)
-
--- a host stands in the first place of its name, where names are apart
-pub position-named : (hs : List HostSpec) (n : ℕ) → n < length hs → all_apart bytes_eq (names hs) ≡ true → position (is_host_named (get_or (names hs) n [])) hs ≡ Some n
-position-named [] n lt apart = absurd (omega (arith, lt))
-position-named (h ∷ hs) zero lt apart = position-yes (is_host_named h.name) h hs (own-bytes h.name)
-position-named (h ∷ hs) (suc n) lt apart =
-    let both = and_parts (not (list_any (bytes_eq h.name) (names hs))) (all_apart bytes_eq (names hs)) apart in
-    let len = names-length hs in
-    let other = none-at (bytes_eq h.name) (names hs) n (false-of-not (list_any (bytes_eq h.name) (names hs)) both.0) (omega (arith, len, lt)) in
-    position-no (is_host_named (get_or (names hs) n [])) h hs (same-bytes (get_or (names hs) n []) h.name ∙ other)
-    ∙ ap (option_map (λ k. suc k)) (position-named hs n (omega (arith, lt)) both.1)
+    by : (b : Bool) → nat_lt (position_or_len p xs) (length xs) ≡ list_any p xs → nat_lt (cond (not b) (1 + position_or_len p xs) 0) (suc (length xs)) ≡ (b || list_any p xs)
+    by true h = some (length xs)
+    by false h = more (position_or_len p xs) (length xs) ∙ h
 
 -- Words.
 

@@ -8,16 +8,18 @@ use Rattle.std.proofs.lemmas.Slice.Eq.{bytes_eq-Decides}
 use Rattle.net_base.specs.declared.world.World.{World}
 use Rattle.net_base.specs.NdbBundle.{database, bad_line}
 use Rattle.net_base.specs.NdbText.{is_empty, is_newline, lines_of}
+use Rattle.world_text.specs.declared.line.LineCause.{LineCause}
+use Rattle.world_text.specs.declared.line.WorldLine.TheVariants as line
+use Rattle.world_text.specs.LineCauses.{number_of}
 use Rattle.world_text.specs.WorldLines.{Draft, opening_draft, Verdict, Goes, Begins, Bad, line_verdict}
 use Rattle.world_text.specs.WorldRefusal.{Leads, EndsLine, IsBadLine, IsBadBundle, IsUnended, IsRefused}
 use Rattle.world_text.specs.WorldSpelling.{laid, is_line, speaks, IsHeaded, IsWorldText}
 use Rattle.world_text.specs.WorldText.{Cut, with_first, cuts_of, with_database, judged, missing, reading_from, world_reading}
-use Rattle.world_text.proofs.WorldBack.{cuts-line, judged-goes, leads-all, passed-goes, reading-lines}
-use Rattle.world_text.proofs.WorldDrafts.{Kept, kept-opening, Keeps}
-use Rattle.world_text.proofs.WorldTaken.{Takes, Ends, keeps-line, err-ok, same-ok}
 use Rattle.world_text.proofs.WorldLists.{false-of-not, or-parts}
 use Rattle.world_text.proofs.WorldRead.{spelled-read}
-use Rattle.world_text.proofs.WorldSound.{Shape, shape, no-cuts, last-parts, headed}
+use Rattle.world_text.proofs.LineSpelled.{spelled}
+use Rattle.world_text.proofs.WorldSound.{err-ok, same-ok}
+use Rattle.world_text.proofs.WorldTexts.{Ends, Shape, cuts-line, ends, headed, judged-goes, last-parts, leads-all, no-cuts, passed-goes, reading-lines, shape}
 
 -- A text says one world at most.
 
@@ -59,7 +61,9 @@ refused-more d next first text line behind n c whole is goes (inl b) =
       whole = (let both = and_parts (is_line b.line) (list_all is_line b.good) b.whole in
           ap (λ v. v && (is_line line && list_all is_line b.good)) both.0 ∙ (ap (λ v. v && list_all is_line b.good) whole ∙ both.1));
       leads = (next, goes, b.leads);
+      cause = b.cause;
       bad = b.bad;
+      number = b.number;
       place = let p = b.place in omega (arith, p);
     })
 refused-more d next first text line behind n c whole is goes (inr (inl b)) =
@@ -94,24 +98,31 @@ refused-more d next first text line behind n c whole is goes (inr (inr b)) =
         inr (line ∷ before, last, ap (λ (ls : List (List ℕ)). line ∷ ls) all, is ∙ (ap (λ (xs : List ℕ). line ++ (10 ∷ xs)) same ∙ sym (append_assoc line (10 ∷ laid before) last)), some)
 
 -- a text of one bad line, and perhaps others
-bad-here : (d : Draft) (first : ℕ) (text : List ℕ) (c : Cut) (cs : List Cut) (cause : ℕ) → Shape text c cs → line_verdict d c.line ≡ Bad cause → IsBadLine d first text first cause
+bad-here : (d : Draft) (first : ℕ) (text : List ℕ) (c : Cut) (cs : List Cut) (cause : LineCause) → Shape text c cs → line_verdict d c.line ≡ Bad cause → IsBadLine d first text first (number_of cause)
 bad-here d first text c cs cause s bad = by s.parts
   where
     lines : list_all is_line (c.line ∷ []) ≡ true
     lines = ap (λ v. v && true) s.whole
 
-    by : ((text ≡ c.line ++ (10 ∷ c.behind)) × (cs ≡ cuts_of c.behind)) ⊎ ((text ≡ c.line) × (c.behind ≡ []) × (cs ≡ [])) → IsBadLine d first text first cause
-    by (inl (is, later)) = record { good = []; line = c.line; rest = 10 ∷ c.behind; so_far = d; parts = is; ended = inr (c.behind, refl); whole = lines; leads = refl; bad = bad; place = omega arith }
-    by (inr (is, none, nil)) = record { good = []; line = c.line; rest = []; so_far = d; parts = is ∙ sym (append-nil c.line); ended = inl refl; whole = lines; leads = refl; bad = bad; place = omega arith }
+    by : ((text ≡ c.line ++ (10 ∷ c.behind)) × (cs ≡ cuts_of c.behind)) ⊎ ((text ≡ c.line) × (c.behind ≡ []) × (cs ≡ [])) → IsBadLine d first text first (number_of cause)
+    by (inl (is, later)) = record { good = []; line = c.line; rest = 10 ∷ c.behind; so_far = d; parts = is; ended = inr (c.behind, refl); whole = lines; leads = refl; cause = cause; bad = bad; number = refl; place = omega arith }
+    by (inr (is, none, nil)) = record { good = []; line = c.line; rest = []; so_far = d; parts = is ∙ sym (append-nil c.line); ended = inl refl; whole = lines; leads = refl; cause = cause; bad = bad; number = refl; place = omega arith }
 
 some-line : (text line : List ℕ) (c : Cut) (cs : List Cut) → cuts_of text ≡ c ∷ cs → text ≡ line → is_empty line ≡ false
 some-line text [] c cs cut is = absurd (let n = ap (λ (xs : List Cut). length xs) (sym (ap cuts_of is) ∙ cut) in omega (arith, n))
 some-line text (b ∷ line) c cs cut is = refl
 
-bundle-here : (d : Draft) (first : ℕ) (text : List ℕ) (c : Cut) (cs : List Cut) (v : World) (n cause : ℕ) → Shape text c cs → Ends d c.line v → line_verdict d c.line ≡ Begins v
+-- the line that begins a bundle
+ndb-line : (d : Draft) (text : List ℕ) (v : World) → line_verdict d text ≡ Begins v → text ≡ codes "ndb"
+ndb-line d text v is = (spelled text line.Ndb ((ends d text v is).is_read)).0
+
+bundle-here : (d : Draft) (first : ℕ) (text : List ℕ) (c : Cut) (cs : List Cut) (v : World) (n cause : ℕ) → Shape text c cs → line_verdict d c.line ≡ Begins v
     → with_database first v c.behind (bad_line c.behind) ≡ Err (n, cause) → IsBadBundle d first text n cause
-bundle-here d first text c cs v n cause s ends begins e = by (bad_line c.behind) refl e
+bundle-here d first text c cs v n cause s begins e = by (bad_line c.behind) refl e
   where
+    is_ndb : c.line ≡ codes "ndb"
+    is_ndb = ndb-line d c.line v begins
+
     by : (o : Option (ℕ × ℕ)) → bad_line c.behind ≡ o → with_database first v c.behind o ≡ Err (n, cause) → IsBadBundle d first text n cause
     by None is f = absurd (ok-err (record v { db = database (lines_of c.behind) }) (n, cause) f)
     by (Some bad) is f =
@@ -123,28 +134,28 @@ bundle-here d first text c cs v n cause s ends begins e = by (bad_line c.behind)
           so_far = d;
           world = v;
           line = bad.0;
-          parts = last-parts text c cs s ends.is;
+          parts = last-parts text c cs s is_ndb;
           whole = refl;
           leads = refl;
-          begins = ap (line_verdict d) (sym ends.is) ∙ begins;
+          begins = ap (line_verdict d) (sym is_ndb) ∙ begins;
           bad = is ∙ ap (λ (k : ℕ). Some (bad.0, k)) (second-same (first + bad.0) n bad.1 cause same);
           place = omega (arith, place);
         }
 
-refused : (d : Draft) (first : ℕ) (cuts : List Cut) (text : List ℕ) (n c : ℕ) → cuts_of text ≡ cuts → Kept d → reading_from d first cuts ≡ Err (n, c) → IsRefused d first text n c
-refused d first [] text n c cut k e =
-    let same = same-err (first, missing d) (n, c) (Err (first, missing d)) refl e in
-    let place = first-same first n (missing d) c same in
-    inr (inr (record { good = []; so_far = d; parts = inl (no-cuts text cut); whole = refl; leads = refl; place = omega (arith, place); cause = sym (second-same first n (missing d) c same) }))
-refused d first (x ∷ xs) text n c cut k e = by (line_verdict d x.line) refl (keeps-line d x.line k) e (shape text x xs cut) (λ next same h f. refused next (first + 1) xs x.behind n c same h f)
+refused : (d : Draft) (first : ℕ) (cuts : List Cut) (text : List ℕ) (n c : ℕ) → cuts_of text ≡ cuts → reading_from d first cuts ≡ Err (n, c) → IsRefused d first text n c
+refused d first [] text n c cut e =
+    let same = same-err (first, number_of (missing d)) (n, c) (Err (first, number_of (missing d))) refl e in
+    let place = first-same first n (number_of (missing d)) c same in
+    inr (inr (record { good = []; so_far = d; parts = inl (no-cuts text cut); whole = refl; leads = refl; place = omega (arith, place); cause = sym (second-same first n (number_of (missing d)) c same) }))
+refused d first (x ∷ xs) text n c cut e = by (line_verdict d x.line) refl e (shape text x xs cut) (λ next same f. refused next (first + 1) xs x.behind n c same f)
   where
-    goes : (next : Draft) → line_verdict d x.line ≡ Goes next → Takes d x.line next → reading_from next (first + 1) xs ≡ Err (n, c) → (s : Shape text x xs)
+    goes : (next : Draft) → line_verdict d x.line ≡ Goes next → reading_from next (first + 1) xs ≡ Err (n, c) → (s : Shape text x xs)
         → ((text ≡ x.line ++ (10 ∷ x.behind)) × (xs ≡ cuts_of x.behind)) ⊎ ((text ≡ x.line) × (x.behind ≡ []) × (xs ≡ []))
-        → (cuts_of x.behind ≡ xs → Kept next → reading_from next (first + 1) xs ≡ Err (n, c) → IsRefused next (first + 1) x.behind n c) → IsRefused d first text n c
-    goes next is h f s (inl (same, later)) go = refused-more d next first text x.line x.behind n c s.whole same is (go (sym later) h.0 f)
-    goes next is h f s (inr (same, none, nil)) go =
-        let told = same-err (first + 1, missing next) (n, c) (Err (first + 1, missing next)) refl (sym (ap (reading_from next (first + 1)) nil) ∙ f) in
-        let place = first-same (first + 1) n (missing next) c told in
+        → (cuts_of x.behind ≡ xs → reading_from next (first + 1) xs ≡ Err (n, c) → IsRefused next (first + 1) x.behind n c) → IsRefused d first text n c
+    goes next is f s (inl (same, later)) go = refused-more d next first text x.line x.behind n c s.whole same is (go (sym later) f)
+    goes next is f s (inr (same, none, nil)) go =
+        let told = same-err (first + 1, number_of (missing next)) (n, c) (Err (first + 1, number_of (missing next))) refl (sym (ap (reading_from next (first + 1)) nil) ∙ f) in
+        let place = first-same (first + 1) n (number_of (missing next)) c told in
         inr (inr (record {
           good = x.line ∷ [];
           so_far = next;
@@ -152,17 +163,17 @@ refused d first (x ∷ xs) text n c cut k e = by (line_verdict d x.line) refl (k
           whole = ap (λ v. v && true) s.whole;
           leads = (next, is, refl);
           place = omega (arith, place);
-          cause = sym (second-same (first + 1) n (missing next) c told);
+          cause = sym (second-same (first + 1) n (number_of (missing next)) c told);
         }))
 
-    by : (v : Verdict) → line_verdict d x.line ≡ v → Keeps (Takes d x.line) (Ends d x.line) v → judged first x.behind v (λ (next : Draft). reading_from next (first + 1) xs) ≡ Err (n, c) → Shape text x xs
-        → ((next : Draft) → cuts_of x.behind ≡ xs → Kept next → reading_from next (first + 1) xs ≡ Err (n, c) → IsRefused next (first + 1) x.behind n c) → IsRefused d first text n c
-    by (Goes next) is h f s go = goes next is h f s s.parts (go next)
-    by (Begins v) is h f s go = inr (inl (bundle-here d first text x xs v n c s h is f))
-    by (Bad cause) is h f s go =
-        let same = same-err (first, cause) (n, c) (Err (first, cause)) refl f in
-        inl (subst (λ (m : ℕ). IsBadLine d first text m c) (first-same first n cause c same)
-        (subst (λ (k : ℕ). IsBadLine d first text first k) (second-same first n cause c same) (bad-here d first text x xs cause s is)))
+    by : (v : Verdict) → line_verdict d x.line ≡ v → judged first x.behind v (λ (next : Draft). reading_from next (first + 1) xs) ≡ Err (n, c) → Shape text x xs
+        → ((next : Draft) → cuts_of x.behind ≡ xs → reading_from next (first + 1) xs ≡ Err (n, c) → IsRefused next (first + 1) x.behind n c) → IsRefused d first text n c
+    by (Goes next) is f s go = goes next is f s s.parts (go next)
+    by (Begins v) is f s go = inr (inl (bundle-here d first text x xs v n c s is f))
+    by (Bad cause) is f s go =
+        let same = same-err (first, number_of cause) (n, c) (Err (first, number_of cause)) refl f in
+        inl (subst (λ (m : ℕ). IsBadLine d first text m c) (first-same first n (number_of cause) c same)
+        (subst (λ (k : ℕ). IsBadLine d first text first k) (second-same first n (number_of cause) c same) (bad-here d first text x xs cause s is)))
 
 -- From the lines to a refusal.
 
@@ -182,22 +193,22 @@ cuts-first : (line rest : List ℕ) → is_empty line ≡ false → is_line line
 cuts-first line rest some whole (inl none) = ([], [], ap (λ (xs : List ℕ). cuts_of (line ++ xs)) none ∙ (ap cuts_of (append-nil line) ∙ cuts-last line some whole))
 cuts-first line rest some whole (inr (more, is)) = (more, cuts_of more, ap (λ (xs : List ℕ). cuts_of (line ++ xs)) is ∙ cuts-line line more whole)
 
-goes-bad : (d : Draft) (c : ℕ) → Goes d ≡ Bad c → ⊥
+goes-bad : (d : Draft) (c : LineCause) → Goes d ≡ Bad c → ⊥
 goes-bad d c e = cc
 
-bad-some : (d : Draft) (line : List ℕ) (c : ℕ) → line_verdict d line ≡ Bad c → is_empty line ≡ false
+bad-some : (d : Draft) (line : List ℕ) (c : LineCause) → line_verdict d line ≡ Bad c → is_empty line ≡ false
 bad-some d [] c bad = absurd (goes-bad d c bad)
 bad-some d (b ∷ line) c bad = refl
 
 read-bad : (d : Draft) (first : ℕ) (text : List ℕ) (n c : ℕ) → IsBadLine d first text n c → reading_from d first (cuts_of text) ≡ Err (n, c)
 read-bad d first text n c b =
     let both = and_parts (is_line b.line) (list_all is_line b.good) b.whole in
-    let cut = cuts-first b.line b.rest (bad-some b.so_far b.line c b.bad) both.0 b.ended in
+    let cut = cuts-first b.line b.rest (bad-some b.so_far b.line b.cause b.bad) both.0 b.ended in
     ap (λ t. reading_from d first (cuts_of t)) b.parts
     ∙ (reading-lines d b.so_far first b.good (b.line ++ b.rest) both.1 b.leads
     ∙ (ap (reading_from b.so_far (first + length b.good)) cut.2
     ∙ (ap (λ v. judged (first + length b.good) cut.0 v (λ (next : Draft). reading_from next (first + length b.good + 1) cut.1)) b.bad
-    ∙ ap (λ (m : ℕ). refusal m c) (sym b.place))))
+    ∙ (ap (refusal (first + length b.good)) (sym b.number) ∙ ap (λ (m : ℕ). refusal m c) (sym b.place)))))
 
 read-bundle : (d : Draft) (first : ℕ) (text : List ℕ) (n c : ℕ) → IsBadBundle d first text n c → reading_from d first (cuts_of text) ≡ Err (n, c)
 read-bundle d first text n c b = by b.parts
@@ -222,8 +233,8 @@ leads-front d e (line ∷ before) last h = let r = leads-front h.0 e before last
 read-unended : (d : Draft) (first : ℕ) (text : List ℕ) (n c : ℕ) → IsUnended d first text n c → reading_from d first (cuts_of text) ≡ Err (n, c)
 read-unended d first text n c b = by b.parts
   where
-    told : refusal (first + length b.good) (missing b.so_far) ≡ refusal n c
-    told = ap (λ (m : ℕ). refusal m (missing b.so_far)) (sym b.place) ∙ ap (λ (k : ℕ). refusal n k) (sym b.cause)
+    told : refusal (first + length b.good) (number_of (missing b.so_far)) ≡ refusal n c
+    told = ap (λ (m : ℕ). refusal m (number_of (missing b.so_far))) (sym b.place) ∙ ap (λ (k : ℕ). refusal n k) (sym b.cause)
 
     by : (text ≡ laid b.good) ⊎ ((before : List (List ℕ)) × (last : List ℕ) × (b.good ≡ before ++ last ∷ []) × (text ≡ laid before ++ last) × (is_empty last ≡ false)) → reading_from d first (cuts_of text) ≡ Err (n, c)
     by (inl is) = ap (λ t. reading_from d first (cuts_of t)) (is ∙ sym (append-nil (laid b.good))) ∙ (reading-lines d b.so_far first b.good [] b.whole b.leads ∙ told)
@@ -235,10 +246,10 @@ read-unended d first text n c b = by b.parts
         ∙ (reading-lines d r.0 first before last whole.0 r.1
         ∙ (ap (reading_from r.0 (first + length before)) (cuts-last last some ((and_parts (is_line last) true whole.1).0))
         ∙ (judged-goes (first + length before) [] (line_verdict r.0 last) b.so_far (λ (next : Draft). reading_from next (first + length before + 1) []) r.2
-        ∙ (ap (λ (m : ℕ). refusal m (missing b.so_far)) (omega (arith, len)) ∙ told))))
+        ∙ (ap (λ (m : ℕ). refusal m (number_of (missing b.so_far))) (omega (arith, len)) ∙ told))))
 
 pub refused-exactly : (text : List ℕ) (n c : ℕ) → (world_reading text ≡ Err (n, c)) ↔ IsRefused opening_draft 1 text n c
-refused-exactly text n c = (refused opening_draft 1 (cuts_of text) text n c refl kept-opening, back)
+refused-exactly text n c = (refused opening_draft 1 (cuts_of text) text n c refl, back)
   where
     back : IsRefused opening_draft 1 text n c → world_reading text ≡ Err (n, c)
     back (inl b) = read-bad opening_draft 1 text n c b
@@ -257,7 +268,9 @@ bad-stays text more n c b =
       ended = by b.ended;
       whole = b.whole;
       leads = b.leads;
+      cause = b.cause;
       bad = b.bad;
+      number = b.number;
       place = b.place;
     })
   where
@@ -283,7 +296,7 @@ leads-loud d e (line ∷ lines) h = by (speaks line) refl (leads-loud h.0 e line
 
 -- a world is said whatever the number of the first line
 any-number : (d : Draft) (m n : ℕ) (cuts : List Cut) (w : World) → reading_from d m cuts ≡ Ok w → reading_from d n cuts ≡ Ok w
-any-number d m n [] w e = absurd (err-ok (m, missing d) w e)
+any-number d m n [] w e = absurd (err-ok (m, number_of (missing d)) w e)
 any-number d m n (c ∷ cs) w e = by (line_verdict d c.line) e (λ next f. any-number next (m + 1) (n + 1) cs w f)
   where
     bundle : (v : World) (o : Option (ℕ × ℕ)) → with_database m v c.behind o ≡ Ok w → with_database n v c.behind o ≡ Ok w
@@ -294,7 +307,7 @@ any-number d m n (c ∷ cs) w e = by (line_verdict d c.line) e (λ next f. any-n
         → judged n c.behind v (λ (next : Draft). reading_from next (n + 1) cs) ≡ Ok w
     by (Goes next) f go = go next f
     by (Begins v) f go = bundle v (bad_line c.behind) f
-    by (Bad cause) f go = absurd (err-ok (m, cause) w f)
+    by (Bad cause) f go = absurd (err-ok (m, number_of cause) w f)
 
 -- lines before `ndb` of a text that says a world
 record Led (d : Draft) (lines : List (List ℕ)) (tail : List ℕ) (w : World) : Type 0 where
@@ -303,26 +316,26 @@ record Led (d : Draft) (lines : List (List ℕ)) (tail : List ℕ) (w : World) :
   pub leads : Leads d lines so_far
   pub reads : reading_from so_far number (cuts_of tail) ≡ Ok w
 
-led : (d : Draft) (n : ℕ) (lines : List (List ℕ)) (tail : List ℕ) (w : World) → Kept d → list_all is_line lines ≡ true → list_any (bytes_eq (codes "ndb")) lines ≡ false
+led : (d : Draft) (n : ℕ) (lines : List (List ℕ)) (tail : List ℕ) (w : World) → list_all is_line lines ≡ true → list_any (bytes_eq (codes "ndb")) lines ≡ false
     → reading_from d n (cuts_of (laid lines ++ tail)) ≡ Ok w → Led d lines tail w
-led d n [] tail w k all none e = record { so_far = d; number = n; leads = refl; reads = e }
-led d n (line ∷ lines) tail w k all none e =
+led d n [] tail w all none e = record { so_far = d; number = n; leads = refl; reads = e }
+led d n (line ∷ lines) tail w all none e =
     let both = and_parts (is_line line) (list_all is_line lines) all in
     let parts = or-parts (bytes_eq (codes "ndb") line) (list_any (bytes_eq (codes "ndb")) lines) none in
     let cut = ap cuts_of (append_assoc line (10 ∷ laid lines) tail) ∙ cuts-line line (laid lines ++ tail) both.0 in
-    by (line_verdict d line) refl (keeps-line d line k) parts.0 (sym (ap (reading_from d n) cut) ∙ e) (λ next h f. led next (n + 1) lines tail w h both.1 parts.1 f)
+    by (line_verdict d line) refl parts.0 (sym (ap (reading_from d n) cut) ∙ e) (λ next f. led next (n + 1) lines tail w both.1 parts.1 f)
   where
-    by : (v : Verdict) → line_verdict d line ≡ v → Keeps (Takes d line) (Ends d line) v → bytes_eq (codes "ndb") line ≡ false
+    by : (v : Verdict) → line_verdict d line ≡ v → bytes_eq (codes "ndb") line ≡ false
         → judged n (laid lines ++ tail) v (λ (next : Draft). reading_from next (n + 1) (cuts_of (laid lines ++ tail))) ≡ Ok w
-        → ((next : Draft) → Kept next → reading_from next (n + 1) (cuts_of (laid lines ++ tail)) ≡ Ok w → Led next lines tail w) → Led d (line ∷ lines) tail w
-    by (Goes next) is h other f go = let r = go next h.0 f in record { so_far = r.so_far; number = r.number; leads = (next, is, r.leads); reads = r.reads }
-    by (Begins v) is h other f go = absurd (false≢true (sym other ∙ (bytes_eq-Decides (codes "ndb") line).1 (sym h.is)))
-    by (Bad cause) is h other f go = absurd (err-ok (n, cause) w f)
+        → ((next : Draft) → reading_from next (n + 1) (cuts_of (laid lines ++ tail)) ≡ Ok w → Led next lines tail w) → Led d (line ∷ lines) tail w
+    by (Goes next) is other f go = let r = go next f in record { so_far = r.so_far; number = r.number; leads = (next, is, r.leads); reads = r.reads }
+    by (Begins v) is other f go = absurd (false≢true (sym other ∙ (bytes_eq-Decides (codes "ndb") line).1 (sym (ndb-line d line v is))))
+    by (Bad cause) is other f go = absurd (err-ok (n, number_of cause) w f)
 
 -- texts that differ only in lines before `ndb` that say nothing say the same world
 pub same-said : (lines others : List (List ℕ)) (tail : List ℕ) (w : World) → list_all is_line lines ≡ true → list_all is_line others ≡ true → list_any (bytes_eq (codes "ndb")) lines ≡ false
     → filter speaks lines ≡ filter speaks others → world_reading (laid lines ++ tail) ≡ Ok w → world_reading (laid others ++ tail) ≡ Ok w
 same-said lines others tail w all all_others none same e =
-    let r = led opening_draft 1 lines tail w kept-opening all none e in
+    let r = led opening_draft 1 lines tail w all none e in
     let leads = leads-all opening_draft r.so_far others (subst (λ (ls : List (List ℕ)). Leads opening_draft ls r.so_far) same (leads-loud opening_draft r.so_far lines r.leads)) in
     reading-lines opening_draft r.so_far 1 others tail all_others leads ∙ any-number r.so_far r.number (1 + length others) (cuts_of tail) w r.reads

@@ -1,29 +1,74 @@
 -- A world so far is small.
-use Rattle.std.proofs.Common.{◌≡◌, ℕ, ◌≤◌, List, [], ◌∷◌, ◌++◌, length, arith, refl, subst}
+use Rattle.std.proofs.Common.{◌≡◌, ℕ, ◌≤◌, ◌==◌, Bool, true, false, List, [], ◌∷◌, ◌++◌, length, suc, map, arith, refl, sym, ap, subst, ◌∙◌}
+use Rattle.std.specs.Prelude.{bytes_eq, filter_map}
+use Rattle.net_base.specs.declared.world.HostSpec.{HostSpec}
 use Rattle.net_base.specs.declared.world.MediumSpec.{MediumSpec}
-use Rattle.world_text.specs.WorldLines.{Draft, opening_draft, hosts_of, Goes, line_verdict}
+use Rattle.net_base.specs.declared.world.Script.{Script}
+use Rattle.net_base.specs.World.{all_apart}
+use Rattle.world_text.specs.declared.line.MediumLine.{MediumLine}
+use Rattle.world_text.specs.declared.line.WorldLine.{WorldLine}
+use Rattle.world_text.specs.WorldLines.{Draft, Goes, line_verdict, opening_draft}
 use Rattle.world_text.specs.WorldRefusal.{Leads}
-use Rattle.world_text.proofs.WorldBack.{leads-more}
-use Rattle.world_text.proofs.WorldDrafts.{Kept, MediaKept, Keeps, kept-opening}
-use Rattle.world_text.proofs.WorldTaken.{Takes, Ends, keeps-line}
+use Rattle.world_text.specs.WorldSpelling.{HostText, ScriptText, host_names, media_said, medium_names}
+use Rattle.world_text.proofs.WorldMedia.{count-named, names-media}
+use Rattle.world_text.proofs.WorldHosts.{count-said, saids}
+use Rattle.world_text.proofs.WorldScripts.{FineScripts, scripts_said}
+use Rattle.world_text.proofs.WorldSound.{Behind, Opening, Stage, read-all}
+use Rattle.world_text.proofs.WorldStands.{AtEnd, AtFirst, AtRest, So, Stands, hosts-are, hosts_of, stands_draft}
+use Rattle.world_text.proofs.WorldTexts.{leads-more}
 
-kept-next : (d next : Draft) (line : List ℕ) → Kept d → line_verdict d line ≡ Goes next → Kept next
-kept-next d next line k goes = (subst (Keeps (Takes d line) (Ends d line)) goes (keeps-line d line k)).0
+-- so few of each
+pub record Small (d : Draft) : Type 0 where
+  pub media : length d.media ≤ 4
+  pub named : all_apart bytes_eq (map (λ (s : MediumSpec). s.name) d.media) ≡ true
+  pub hosts : length d.hosts ≤ 8
+  pub scripts : length d.scripts ≤ 32
 
-kept-led : (lines : List (List ℕ)) (d e : Draft) → Kept d → Leads d lines e → Kept e
-kept-led [] d e k is = subst Kept is k
-kept-led (line ∷ lines) d e k led = kept-led lines led.0 e (kept-next d led.0 line k led.1) led.2
+media-are : (e s : ℕ) (media : List MediumLine) (hosts : List HostText) (scripts : List ScriptText) → (stands_draft e s media hosts scripts).media ≡ media_said media
+media-are e s media [] [] = refl
+media-are e s media (h ∷ hosts) [] = refl
+media-are e s media hosts (t ∷ scripts) = refl
 
-few-media : (g : ℕ) (media : List MediumSpec) → MediaKept g media → length media ≤ 4
-few-media g [] k = omega arith
-few-media g (s ∷ []) k = omega arith
-few-media g (s ∷ t ∷ ss) k = absurd k
+scripts-are : (e s : ℕ) (media : List MediumLine) (hosts : List HostText) (scripts : List ScriptText) → (stands_draft e s media hosts scripts).scripts ≡ scripts_said (host_names (hosts_of media hosts)) scripts
+scripts-are e s media [] [] = refl
+scripts-are e s media (h ∷ hosts) [] = refl
+scripts-are e s media hosts (t ∷ scripts) = refl
 
-pub media-led : (lines : List (List ℕ)) (d : Draft) → Leads opening_draft lines d → length d.media ≤ 4
-media-led lines d led = few-media d.group d.media (kept-led lines opening_draft d kept-opening led).media
+count-scripts : (ns : List (List ℕ)) (texts : List ScriptText) → length (scripts_said ns texts) ≡ length texts
+count-scripts ns [] = refl
+count-scripts ns (t ∷ texts) = ap (λ n. suc n) (count-scripts ns texts)
 
-pub hosts-led : (lines : List (List ℕ)) (d : Draft) → Leads opening_draft lines d → length (hosts_of d) ≤ 8
-hosts-led lines d led = (kept-led lines opening_draft d kept-opening led).few_hosts
+stands-small : (ls : List WorldLine) (d : Draft) → Stands ls d → Small d
+stands-small ls d k = record {
+  media = let few = k.media_fine.few in
+      let count = count-named k.media 0 k.media in
+      let same = ap (λ (xs : List MediumSpec). length xs) (ap (λ (f : Draft). f.media) k.draft ∙ media-are k.end_at k.seed_at k.media k.hosts k.scripts) in omega (arith, few, count, same);
+  named = ap (λ (xs : List MediumSpec). all_apart bytes_eq (map (λ (s : MediumSpec). s.name) xs)) (ap (λ (f : Draft). f.media) k.draft ∙ media-are k.end_at k.seed_at k.media k.hosts k.scripts)
+      ∙ (ap (all_apart bytes_eq) (names-media k.media 0 k.media) ∙ k.media_fine.apart);
+  hosts = let few = k.hosts_fine.few in
+      let count = count-said (medium_names (media_said k.media)) k.hosts in
+      let same = ap (λ (xs : List HostSpec). length xs) (ap (λ (f : Draft). f.hosts) k.draft ∙ hosts-are k.end_at k.seed_at k.media k.hosts k.scripts) in omega (arith, few, count, same);
+  scripts = let few = k.scripts_fine.few in
+      let count = count-scripts (host_names (hosts_of k.media k.hosts)) k.scripts in
+      let same = ap (λ (xs : List Script). length xs) (ap (λ (f : Draft). f.scripts) k.draft ∙ scripts-are k.end_at k.seed_at k.media k.hosts k.scripts) in omega (arith, few, count, same);
+}
+
+none-small : (d : Draft) → d.media ≡ [] → d.hosts ≡ [] → d.scripts ≡ [] → Small d
+none-small d a b c = record {
+  media = let e = ap (λ (xs : List MediumSpec). length xs) a in omega (arith, e);
+  named = ap (λ (xs : List MediumSpec). all_apart bytes_eq (map (λ (s : MediumSpec). s.name) xs)) a;
+  hosts = let e = ap (λ (xs : List HostSpec). length xs) b in omega (arith, e);
+  scripts = let e = ap (λ (xs : List Script). length xs) c in omega (arith, e);
+}
+
+pub small-led : (lines : List (List ℕ)) (d : Draft) → Leads opening_draft lines d → Small d
+small-led lines d led = by (read-all lines d led).lines (read-all lines d led).stage
+  where
+    by : (ls : List WorldLine) → Stage ls d → Small d
+    by ls (Opening are draft) = none-small d (ap (λ (f : Draft). f.media) draft) (ap (λ (f : Draft). f.hosts) draft) (ap (λ (f : Draft). f.scripts) draft)
+    by ls (Behind (AtFirst are draft)) = none-small d (ap (λ (f : Draft). f.media) draft) (ap (λ (f : Draft). f.hosts) draft) (ap (λ (f : Draft). f.scripts) draft)
+    by ls (Behind (AtEnd m moment are draft)) = none-small d (ap (λ (f : Draft). f.media) draft) (ap (λ (f : Draft). f.hosts) draft) (ap (λ (f : Draft). f.scripts) draft)
+    by ls (Behind (AtRest k)) = stands-small ls d k
 
 pub led-next : (lines : List (List ℕ)) (line : List ℕ) (d e : Draft) → Leads opening_draft lines d → line_verdict d line ≡ Goes e → Leads opening_draft (lines ++ line ∷ []) e
 led-next lines line d e led goes = leads-more opening_draft d e lines (line ∷ []) led (e, goes, refl)

@@ -1,160 +1,257 @@
 -- What is read spells the world.
-use Rattle.std.proofs.Common.{◌≡◌, ℕ, ◌+◌, ◌⊎◌, inl, inr, Bool, true, false, not, ◌&&◌, ◌||◌, cond, List, [], ◌∷◌, ◌++◌, length, refl, sym, ap, subst, ◌∙◌, arith, Option, Some, None, Ok, append-nil, append_assoc}
-use Rattle.std.specs.Prelude.{codes, get_or}
-use Rattle.std.specs.List.{filter, list_all, list_any}
-use Rattle.std.proofs.lemmas.Bool.{and_parts, eqb-true}
+use Rattle.std.proofs.Common.{◌≡◌, ℕ, ◌+◌, ◌≤◌, ◌<◌, ◌==◌, ◌⊎◌, inl, inr, suc, zero, Bool, true, false, ◌&&◌, cond, List, [], ◌∷◌, ◌++◌, length, map, get_or, refl, sym, ap, subst, ◌∙◌, arith, Option, Some, None, Ok, Err, Result, append-nil, append_assoc}
+use Rattle.std.specs.Prelude.{codes, is_none}
+use Rattle.std.specs.List.{All, filter, list_all}
+use Rattle.std.proofs.lemmas.Bool.{and_parts, false≢true}
+use Rattle.std.proofs.lemmas.List.{map-append}
 use Rattle.std.proofs.lemmas.List.Elements.{filter-append}
-use Rattle.std.proofs.lemmas.List.Folds.{list_all-append}
 use Rattle.net_base.specs.declared.world.World.{World}
-use Rattle.net_base.specs.NdbBundle.{database, bad_line}
-use Rattle.net_base.specs.NdbText.{is_newline, lines_of}
-use Rattle.net_base.specs.World.{IsWorld, is_byte}
-use Rattle.net_base.specs.WorldForm.{IsFirstForm}
-use Rattle.world_text.specs.WorldLines.{Draft, opening_draft, hosts_of, scripts_of, Verdict, Goes, Begins, Bad, line_verdict}
-use Rattle.world_text.specs.WorldText.{Cut, with_first, cuts_of, with_database, judged, missing, reading_from, world_reading}
-use Rattle.world_text.specs.WorldSpelling.{laid, is_line, speaks, lines_of_world, IsHeaded, IsWorldText}
-use Rattle.world_text.proofs.WorldDrafts.{Kept, kept-opening, Keeps, lines_so_far, lines-late}
-use Rattle.world_text.proofs.WorldTaken.{Takes, Ends, keeps-line, err-ok, same-ok, database-read}
+use Rattle.net_base.specs.NdbBundle.{bad_line, database, reading}
+use Rattle.net_base.specs.NdbText.{lines_of}
+use Rattle.net_base.specs.World.{IsDatabase, IsWorld, is_byte}
+use Rattle.world_text.specs.declared.line.LineCause.{LineCause}
+use Rattle.world_text.specs.declared.line.MediumLine.{MediumLine}
+use Rattle.world_text.specs.declared.line.WorldLine.{WorldLine}
+use Rattle.world_text.specs.declared.line.WorldLine.TheVariants as line
+use Rattle.world_text.specs.LineCauses.{number_of}
+use Rattle.world_text.specs.LineReading.{read_line}
+use Rattle.world_text.specs.WorldLines.{Bad, Begins, Draft, Goes, Verdict, after, good_line, line_cause, line_verdict, ndb_cause, opening_draft, world_of}
+use Rattle.world_text.specs.WorldRefusal.{Leads}
+use Rattle.world_text.specs.WorldSpelling.{EachBehind, HostText, IsHeaded, IsReached, IsWorldText, ScriptText, host_names, host_said, is_line, laid, lines_said, media_said, medium_names, script_said, speaks, spelling}
+use Rattle.world_text.specs.WorldText.{Cut, cuts_of, judged, missing, reading_from, with_database, world_reading}
+use Rattle.world_text.proofs.LineBack.{loud}
+use Rattle.world_text.proofs.LineSpelled.{spelled}
+use Rattle.world_text.proofs.WorldMedia.{media_group}
+use Rattle.world_text.proofs.WorldHosts.{EachFine, FineHost, FineHosts}
+use Rattle.world_text.proofs.WorldLed.{begun}
+use Rattle.world_text.proofs.WorldScripts.{script_draft}
+use Rattle.world_text.proofs.WorldStands.{AtEnd, AtFirst, AtRest, Complete, IsReady, So, Stands, complete, some-scripts, so-more, stands_draft}
+use Rattle.world_text.proofs.WorldTexts.{Ends, First, Good, Passed, Refused, Shape, View, bad-goes, begins-goes, bytes-behind, ends, headed, last-parts, leads-more, same-goes, shape, view}
+use Rattle.net_base.specs.declared.world.MediumSpec.{MediumSpec}
+use Rattle.net_base.specs.declared.world.HostSpec.{HostSpec}
+use Rattle.net_base.specs.declared.ndb.NdbPair.{NdbPair}
+use Rattle.world_text.specs.WorldSpelling.{rated_name}
+use Rattle.world_text.proofs.WorldHosts.{saids}
+use Rattle.std.specs.Prelude.{filter_map}
 
--- Lines of a text.
+pub err-ok : (bad : ℕ × ℕ) (w : World) → Err bad ≡ Ok w → ⊥
+err-ok bad w e = cc
 
-abbrev rest : List Cut → List Cut
-rest [] = []
-rest (c ∷ cs) = cs
+pub same-ok : (v w : World) (r : Result World (ℕ × ℕ)) → r ≡ Ok v → r ≡ Ok w → v ≡ w
+same-ok v w r e f = cc
 
-nothing : {A : Type 0} (x : A) (xs : List A) → [] ≡ x ∷ xs → ⊥
-nothing x xs e = let n = ap (λ ys. length ys) e in absurd (omega (arith, n))
+-- Lines that were read.
 
-pub no-cuts : (bytes : List ℕ) → cuts_of bytes ≡ [] → bytes ≡ []
-no-cuts [] e = refl
-no-cuts (b ∷ bytes) e = by (is_newline b) (cuts_of bytes) e
+-- nothing was said, or the lines stand behind the first
+pub data Stage (ls : List WorldLine) (d : Draft) : Type 0 where
+  Opening : ls ≡ [] → d ≡ opening_draft → Stage ls d
+  Behind : So ls d → Stage ls d
+
+-- what these lines of a text say
+pub record Read (head : List (List ℕ)) (d : Draft) : Type 0 where
+  pub lines : List WorldLine
+  pub said : filter speaks head ≡ map spelling lines
+  pub stage : Stage lines d
+
+pub read-none : Read [] opening_draft
+read-none = record { lines = []; said = refl; stage = Opening refl refl }
+
+media-behind : (media : List MediumLine) → (media_group media == 0) ≡ false
+media-behind [] = refl
+media-behind (x ∷ media) = refl
+
+group-behind : (e s : ℕ) (media : List MediumLine) (hosts : List HostText) (scripts : List ScriptText) → ((stands_draft e s media hosts scripts).group == 0) ≡ false
+group-behind e s media [] [] = media-behind media
+group-behind e s media (h ∷ hosts) [] = refl
+group-behind e s media hosts (t ∷ scripts) = refl
+
+so-behind : (ls : List WorldLine) (d : Draft) → So ls d → (d.group == 0) ≡ false
+so-behind ls d (AtFirst lines draft) = ap (λ (f : Draft). f.group == 0) draft
+so-behind ls d (AtEnd m moment lines draft) = ap (λ (f : Draft). f.group == 0) draft
+so-behind ls d (AtRest k) = ap (λ (f : Draft). f.group == 0) k.draft ∙ group-behind k.end_at k.seed_at k.media k.hosts k.scripts
+
+loud-pushed : (head : List (List ℕ)) (text : List ℕ) (ls : List WorldLine) (l : WorldLine) → filter speaks head ≡ map spelling ls → text ≡ spelling l → speaks text ≡ true
+    → filter speaks (head ++ text ∷ []) ≡ map spelling (ls ++ l ∷ [])
+loud-pushed head text ls l said is loud =
+    filter-append speaks head (text ∷ [])
+    ∙ (ap (λ v. filter speaks head ++ cond v (text ∷ []) []) loud
+    ∙ (ap (λ xs. xs ++ text ∷ []) said ∙ (ap (λ (t : List ℕ). map spelling ls ++ t ∷ []) is ∙ sym (map-append spelling ls (l ∷ [])))))
+
+quiet-pushed : (head : List (List ℕ)) (text : List ℕ) → speaks text ≡ false → filter speaks (head ++ text ∷ []) ≡ filter speaks head
+quiet-pushed head text quiet = filter-append speaks head (text ∷ []) ∙ (ap (λ v. filter speaks head ++ cond v (text ∷ []) []) quiet ∙ append-nil (filter speaks head))
+
+-- one line more
+pub read-more : (head : List (List ℕ)) (d next : Draft) (text : List ℕ) → Read head d → line_verdict d text ≡ Goes next → Read (head ++ text ∷ []) next
+read-more head d next text r e = by (view d text) r.stage
   where
-    by : (v : Bool) (cs : List Cut) → cond v (record { line = []; behind = bytes } ∷ cs) (with_first b cs) ≡ [] → b ∷ bytes ≡ []
-    by true cs f = absurd (nothing (record { line = []; behind = bytes }) cs (sym f))
-    by false [] f = absurd (nothing (record { line = b ∷ []; behind = [] }) [] (sym f))
-    by false (c ∷ cs) f = absurd (nothing (record { line = b ∷ c.line; behind = c.behind }) cs (sym f))
+    good : (l : WorldLine) → (l ≡ line.Ndb → ⊥) → read_line text ≡ Ok l → line_cause d l ≡ None → So r.lines d → Read (head ++ text ∷ []) (after d l)
+    good l other is none so =
+        let s = spelled text l is in
+        record { lines = r.lines ++ l ∷ []; said = loud-pushed head text r.lines l r.said s.0 (ap speaks s.0 ∙ loud l); stage = Behind (so-more r.lines d l other so s.1 none) }
 
--- the first line of a text, and what stands behind it
-pub record Shape (text : List ℕ) (c : Cut) (cs : List Cut) : Type 0 where
-  pub whole : is_line c.line ≡ true
-  pub parts : ((text ≡ c.line ++ (10 ∷ c.behind)) × (cs ≡ cuts_of c.behind)) ⊎ ((text ≡ c.line) × (c.behind ≡ []) × (cs ≡ []))
+    -- a line that goes on isn't `ndb`
+    other : (l : WorldLine) → good_line d l ≡ Goes next → l ≡ line.Ndb → ⊥
+    other l f is = begins-goes (world_of d) next (sym (ap (good_line d) is) ∙ f)
 
-pub shape : (text : List ℕ) (c : Cut) (cs : List Cut) → cuts_of text ≡ c ∷ cs → Shape text c cs
-shape [] c cs e = absurd (nothing c cs e)
-shape (b ∷ bytes) c cs e = by (is_newline b) (cuts_of bytes) refl refl e (shape bytes)
-  where
-    placed : (d : Cut) (ds : List Cut) → d ∷ ds ≡ c ∷ cs → Shape (b ∷ bytes) d ds → Shape (b ∷ bytes) c cs
-    placed d ds f s = subst (λ (x : Cut). Shape (b ∷ bytes) x cs) (ap (λ (xs : List Cut). get_or xs 0 c) f) (subst (λ (xs : List Cut). Shape (b ∷ bytes) d xs) (ap rest f) s)
+    made : (l : WorldLine) → good_line d l ≡ Goes next → after d l ≡ next
+    made line.Ndb f = absurd (begins-goes (world_of d) next f)
+    made line.Networld f = same-goes (after d line.Networld) next f
+    made (line.End m) f = same-goes (after d (line.End m)) next f
+    made (line.Seed n) f = same-goes (after d (line.Seed n)) next f
+    made (line.OfMedium l) f = same-goes (after d (line.OfMedium l)) next f
+    made (line.Host called nets) f = same-goes (after d (line.Host called nets)) next f
+    made (line.OfHost l) f = same-goes (after d (line.OfHost l)) next f
+    made (line.Script called) f = same-goes (after d (line.Script called)) next f
+    made (line.OfScript x) f = same-goes (after d (line.OfScript x)) next f
 
-    more : (d : Cut) (ds : List Cut) → ((bytes ≡ d.line ++ (10 ∷ d.behind)) × (ds ≡ cuts_of d.behind)) ⊎ ((bytes ≡ d.line) × (d.behind ≡ []) × (ds ≡ []))
-        → ((b ∷ bytes ≡ b ∷ (d.line ++ (10 ∷ d.behind))) × (ds ≡ cuts_of d.behind)) ⊎ ((b ∷ bytes ≡ b ∷ d.line) × (d.behind ≡ []) × (ds ≡ []))
-    more d ds (inl (is, later)) = inl (ap (λ (xs : List ℕ). b ∷ xs) is, later)
-    more d ds (inr (is, none, nil)) = inr (ap (λ (xs : List ℕ). b ∷ xs) is, none, nil)
+    by : View d text (line_verdict d text) → Stage r.lines d → Read (head ++ text ∷ []) next
+    by (Passed quiet is) stage = subst (Read (head ++ text ∷ [])) (same-goes d next (sym is ∙ e)) (record { lines = r.lines; said = quiet-pushed head text quiet ∙ r.said; stage = stage })
+    by (First none named is) (Opening lines draft) =
+        subst (Read (head ++ text ∷ [])) (same-goes (after d line.Networld) next (sym is ∙ e))
+        (record {
+          lines = line.Networld ∷ [];
+          said = loud-pushed head text [] line.Networld (r.said ∙ ap (map spelling) lines) named (ap speaks named);
+          stage = Behind (AtFirst refl (ap (λ (f : Draft). after f line.Networld) draft));
+        })
+    by (First none named is) (Behind so) = absurd (false≢true (sym (so-behind r.lines d so) ∙ none))
+    by (Good l late is none same) (Opening lines draft) = absurd (false≢true (sym late ∙ ap (λ (f : Draft). f.group == 0) draft))
+    by (Good l late is none same) (Behind so) = subst (Read (head ++ text ∷ [])) (made l (sym same ∙ e)) (good l (other l (sym same ∙ e)) is none so)
+    by (Refused c is) stage = absurd (bad-goes c next (sym is ∙ e))
 
-    by : (v : Bool) (ds : List Cut) → is_newline b ≡ v → cuts_of bytes ≡ ds → cond v (record { line = []; behind = bytes } ∷ ds) (with_first b ds) ≡ c ∷ cs
-        → ((d : Cut) (es : List Cut) → cuts_of bytes ≡ d ∷ es → Shape bytes d es) → Shape (b ∷ bytes) c cs
-    by true ds is cut f later =
-        placed (record { line = []; behind = bytes }) ds f (record { whole = refl; parts = inl (ap (λ (x : ℕ). x ∷ bytes) (eqb-true b 10 is), sym cut) })
-    by false [] is cut f later =
-        placed (record { line = b ∷ []; behind = [] }) [] f (record { whole = ap (λ v. not (v || false)) is; parts = inr (ap (λ (xs : List ℕ). b ∷ xs) (no-cuts bytes cut), refl, refl) })
-    by false (d ∷ ds) is cut f later =
-        let s = later d ds cut in
-        placed (record { line = b ∷ d.line; behind = d.behind }) ds f (record { whole = ap (λ v. not (v || list_any is_newline d.line)) is ∙ s.whole; parts = more d ds s.parts })
+pub read-leads : (before : List (List ℕ)) (d e : Draft) (lines : List (List ℕ)) → Read before d → Leads d lines e → Read (before ++ lines) e
+read-leads before d e [] r led = subst (λ (ls : List (List ℕ)). Read ls e) (sym (append-nil before)) (subst (Read before) led r)
+read-leads before d e (text ∷ lines) r led =
+    subst (λ (ls : List (List ℕ)). Read ls e) (append_assoc before (text ∷ []) lines)
+    (read-leads (before ++ text ∷ []) led.0 e lines (read-more before d led.0 text r led.1) led.2)
 
--- what stands behind the first line of a text of bytes is one too
-bytes-behind : (text : List ℕ) (c : Cut) (cs : List Cut) → Shape text c cs → list_all is_byte text ≡ true → list_all is_byte c.behind ≡ true
-bytes-behind text c cs s all = by s.parts
-  where
-    by : ((text ≡ c.line ++ (10 ∷ c.behind)) × (cs ≡ cuts_of c.behind)) ⊎ ((text ≡ c.line) × (c.behind ≡ []) × (cs ≡ [])) → list_all is_byte c.behind ≡ true
-    by (inl (is, later)) =
-        (and_parts (list_all is_byte c.line) (list_all is_byte c.behind)
-        (sym (list_all-append is_byte c.line (10 ∷ c.behind)) ∙ (ap (list_all is_byte) (sym is) ∙ all))).1
-    by (inr (is, none, nil)) = ap (list_all is_byte) none
+pub read-all : (lines : List (List ℕ)) (d : Draft) → Leads opening_draft lines d → Read lines d
+read-all lines d led = read-leads [] opening_draft d lines read-none led
 
--- Worlds.
+-- Texts that are read.
 
--- the text goes on with the spelling of a world whose first lines stand before it
+-- the lines and the bundle of a text that is read
 record Found (d : Draft) (text : List ℕ) (w : World) : Type 0 where
   pub head : List (List ℕ)
   pub bundle : List ℕ
+  pub so_far : Draft
   pub parts : IsHeaded text head bundle
   pub whole : list_all is_line head ≡ true
-  pub spelled : lines_so_far d ++ filter speaks head ≡ lines_of_world w
-  pub good : bad_line bundle ≡ None
-  pub read : w.db ≡ database (lines_of bundle)
-  pub world : IsWorld w
-  pub form : IsFirstForm w
+  pub leads : Leads d head so_far
+  pub begun_so : (so_far.group == 0) ≡ false
+  pub good : ndb_cause so_far ≡ None
+  pub fine : bad_line bundle ≡ None
+  pub is : record (world_of so_far) { db = database (lines_of bundle) } ≡ w
+  pub all : list_all is_byte bundle ≡ true
 
-pub headed : (text line behind : List ℕ) (head : List (List ℕ)) (bundle : List ℕ) → text ≡ line ++ (10 ∷ behind) → IsHeaded behind head bundle → IsHeaded text (line ∷ head) bundle
-headed text line behind head bundle is (inl parts) = inl (is ∙ (ap (λ (xs : List ℕ). line ++ (10 ∷ xs)) parts ∙ sym (append_assoc line (10 ∷ laid head) (codes "ndb\n" ++ bundle))))
-headed text line behind head bundle is (inr (parts, none)) = inr (is ∙ (ap (λ (xs : List ℕ). line ++ (10 ∷ xs)) parts ∙ sym (append_assoc line (10 ∷ laid head) (codes "ndb"))), none)
-
--- one line more
-found-more : (d next : Draft) (text line behind : List ℕ) (w : World) → is_line line ≡ true → text ≡ line ++ (10 ∷ behind) → Takes d line next → Found next behind w → Found d text w
-found-more d next text line behind w whole is takes f = record {
+found-more : (d next : Draft) (text line behind : List ℕ) (w : World) → is_line line ≡ true → text ≡ line ++ (10 ∷ behind) → line_verdict d line ≡ Goes next → Found next behind w → Found d text w
+found-more d next text line behind w whole is goes f = record {
   head = line ∷ f.head;
   bundle = f.bundle;
+  so_far = f.so_far;
   parts = headed text line behind f.head f.bundle is f.parts;
   whole = ap (λ b. b && list_all is_line f.head) whole ∙ f.whole;
-  spelled = ap (λ (ls : List (List ℕ)). lines_so_far d ++ ls) (filter-append speaks (line ∷ []) f.head)
-      ∙ (sym (append_assoc (lines_so_far d) (filter speaks (line ∷ [])) (filter speaks f.head)) ∙ (ap (λ (ls : List (List ℕ)). ls ++ filter speaks f.head) (sym takes.1) ∙ f.spelled));
+  leads = (next, goes, f.leads);
+  begun_so = f.begun_so;
   good = f.good;
-  read = f.read;
-  world = f.world;
-  form = f.form;
+  fine = f.fine;
+  is = f.is;
+  all = f.all;
 }
-
--- the line `ndb`
-pub last-parts : (text : List ℕ) (c : Cut) (cs : List Cut) → Shape text c cs → c.line ≡ codes "ndb" → IsHeaded text [] c.behind
-last-parts text c cs s is = by s.parts
-  where
-    by : ((text ≡ c.line ++ (10 ∷ c.behind)) × (cs ≡ cuts_of c.behind)) ⊎ ((text ≡ c.line) × (c.behind ≡ []) × (cs ≡ [])) → IsHeaded text [] c.behind
-    by (inl (same, later)) = inl (same ∙ ap (λ (l : List ℕ). l ++ (10 ∷ c.behind)) is)
-    by (inr (same, none, nil)) = inr (same ∙ is, none)
 
 found-last : (d : Draft) (n : ℕ) (text : List ℕ) (c : Cut) (cs : List Cut) (v w : World) → Shape text c cs → list_all is_byte text ≡ true → Ends d c.line v
     → with_database n v c.behind (bad_line c.behind) ≡ Ok w → Found d text w
-found-last d n text c cs v w s all ends e = by (bad_line c.behind) refl e
+found-last d n text c cs v w s all end e = by (bad_line c.behind) refl e
   where
     by : (o : Option (ℕ × ℕ)) → bad_line c.behind ≡ o → with_database n v c.behind o ≡ Ok w → Found d text w
-    by None good f =
-        let is : record v { db = database (lines_of c.behind) } ≡ w = same-ok (record v { db = database (lines_of c.behind) }) w (Ok (record v { db = database (lines_of c.behind) })) refl f in
-        let said = ends.said_so (database (lines_of c.behind)) (c.behind, bytes-behind text c cs s all, database-read c.behind good) in
-        let late = ends.late in
+    by None fine f =
         record {
           head = [];
           bundle = c.behind;
-          parts = last-parts text c cs s ends.is;
+          so_far = d;
+          parts = last-parts text c cs s ((spelled c.line line.Ndb end.is_read).0);
           whole = refl;
-          spelled = append-nil (lines_so_far d)
-              ∙ (lines-late d.group d.end d.seed d.media (hosts_of d) (scripts_of d) (omega (arith, late))
-              ∙ (ap lines_of_world (sym ends.world) ∙ ap lines_of_world is));
-          good = good;
-          read = ap (λ (x : World). x.db) (sym is);
-          world = subst IsWorld is said.0;
-          form = subst IsFirstForm is said.1;
+          leads = refl;
+          begun_so = end.begun;
+          good = end.good;
+          fine = fine;
+          is = ap (λ (x : World). record x { db = database (lines_of c.behind) }) (sym end.world)
+              ∙ same-ok (record v { db = database (lines_of c.behind) }) w (Ok (record v { db = database (lines_of c.behind) })) refl f;
+          all = bytes-behind text c cs s all;
         }
     by (Some bad) some f = absurd (err-ok (n + bad.0, bad.1) w f)
 
-found : (d : Draft) (n : ℕ) (cuts : List Cut) (text : List ℕ) (w : World) → cuts_of text ≡ cuts → list_all is_byte text ≡ true → Kept d → reading_from d n cuts ≡ Ok w → Found d text w
-found d n [] text w cut all k e = absurd (err-ok (n, missing d) w e)
-found d n (c ∷ cs) text w cut all k e =
+found : (d : Draft) (n : ℕ) (cuts : List Cut) (text : List ℕ) (w : World) → cuts_of text ≡ cuts → list_all is_byte text ≡ true → reading_from d n cuts ≡ Ok w → Found d text w
+found d n [] text w cut all e = absurd (err-ok (n, number_of (missing d)) w e)
+found d n (c ∷ cs) text w cut all e =
     let s = shape text c cs cut in
-    by (line_verdict d c.line) (keeps-line d c.line k) e s (λ next same h f. found next (n + 1) cs c.behind w same (bytes-behind text c cs s all) h f)
+    by (line_verdict d c.line) refl e s (λ next same f. found next (n + 1) cs c.behind w same (bytes-behind text c cs s all) f)
   where
-    goes : (next : Draft) → Takes d c.line next → reading_from next (n + 1) cs ≡ Ok w → (s : Shape text c cs)
+    goes : (next : Draft) → line_verdict d c.line ≡ Goes next → reading_from next (n + 1) cs ≡ Ok w → (s : Shape text c cs)
         → ((text ≡ c.line ++ (10 ∷ c.behind)) × (cs ≡ cuts_of c.behind)) ⊎ ((text ≡ c.line) × (c.behind ≡ []) × (cs ≡ []))
-        → (cuts_of c.behind ≡ cs → Kept next → reading_from next (n + 1) cs ≡ Ok w → Found next c.behind w) → Found d text w
-    goes next h f s (inl (is, later)) go = found-more d next text c.line c.behind w s.whole is h (go (sym later) h.0 f)
-    goes next h f s (inr (is, none, nil)) go = absurd (err-ok (n + 1, missing next) w (sym (ap (reading_from next (n + 1)) nil) ∙ f))
+        → (cuts_of c.behind ≡ cs → reading_from next (n + 1) cs ≡ Ok w → Found next c.behind w) → Found d text w
+    goes next h f s (inl (is, later)) go = found-more d next text c.line c.behind w s.whole is h (go (sym later) f)
+    goes next h f s (inr (is, none, nil)) go = absurd (err-ok (n + 1, number_of (missing next)) w (sym (ap (reading_from next (n + 1)) nil) ∙ f))
 
-    by : (v : Verdict) → Keeps (Takes d c.line) (Ends d c.line) v → judged n c.behind v (λ (next : Draft). reading_from next (n + 1) cs) ≡ Ok w → Shape text c cs
-        → ((next : Draft) → cuts_of c.behind ≡ cs → Kept next → reading_from next (n + 1) cs ≡ Ok w → Found next c.behind w) → Found d text w
+    by : (v : Verdict) → line_verdict d c.line ≡ v → judged n c.behind v (λ (next : Draft). reading_from next (n + 1) cs) ≡ Ok w → Shape text c cs
+        → ((next : Draft) → cuts_of c.behind ≡ cs → reading_from next (n + 1) cs ≡ Ok w → Found next c.behind w) → Found d text w
     by (Goes next) h f s go = goes next h f s s.parts (go next)
-    by (Begins v) h f s go = found-last d n text c cs v w s all h f
-    by (Bad cause) h f s go = absurd (err-ok (n, cause) w f)
+    by (Begins v) h f s go = found-last d n text c cs v w s all (ends d c.line v h) f
+    by (Bad cause) h f s go = absurd (err-ok (n, number_of cause) w f)
+
+-- a database that is read
+pub database-read : (text : List ℕ) → bad_line text ≡ None → reading text ≡ Some (database (lines_of text))
+database-read text good = ap (λ (bad : Option (ℕ × ℕ)). cond (is_none bad) (Some (database (lines_of text))) None) good
+
+all-routes : (ns : List (List ℕ)) (texts : List HostText) → EachBehind (EachFine ns) texts → All (λ (h : HostText). EachBehind (IsReached ns) h.under) texts
+all-routes ns [] each k d lt = absurd (omega (arith, lt))
+all-routes ns (h ∷ texts) each zero d lt = (each [] h texts refl).reached
+all-routes ns (h ∷ texts) each (suc k) d lt =
+    all-routes ns texts (λ before x rest e. each (h ∷ before) x rest (ap (λ ts. h ∷ ts) e)) k d (omega (arith, lt))
+
+-- the world that these lines say, with this database
+abbrev world_said : ℕ → ℕ → List MediumLine → List HostText → List ScriptText → List (List (List NdbPair)) → World
+world_said e s media hosts scripts db =
+    record (world_of (script_draft e s (media_said media) (filter_map rated_name media) (saids (medium_names (media_said media)) hosts) scripts)) { db = db }
+
+spells-world : (head : List (List ℕ)) (text bundle : List ℕ) (ls : List WorldLine) (d : Draft) (c : Complete ls d) → IsHeaded text head bundle → list_all is_line head ≡ true → filter speaks head ≡ map spelling ls
+    → bad_line bundle ≡ None → list_all is_byte bundle ≡ true → IsWorldText text (record (world_of d) { db = database (lines_of bundle) })
+spells-world head text bundle ls d c parts whole said fine all =
+    let k = c.stands in
+    let db : List (List (List NdbPair)) = database (lines_of bundle) in
+    let is : d ≡ script_draft k.end_at k.seed_at (media_said k.media) (filter_map rated_name k.media) (saids (medium_names (media_said k.media)) k.hosts) k.scripts =
+    k.draft ∙ some-scripts k.end_at k.seed_at k.media k.hosts k.scripts c.hosts_there in
+    let same : record (world_of d) { db = db } ≡ world_said k.end_at k.seed_at k.media k.hosts k.scripts db = ap (λ (f : Draft). record (world_of f) { db = db }) is in
+    let t : IsWorldText text (world_said k.end_at k.seed_at k.media k.hosts k.scripts db) = record {
+      head = head;
+      bundle = bundle;
+      parts = parts;
+      whole = whole;
+      media = k.media;
+      hosts = k.hosts;
+      scripts = k.scripts;
+      spelled = said ∙ ap (map spelling) k.lines;
+      media_are = refl;
+      media_in_order = k.media_fine.behind;
+      hosts_are = refl;
+      routes_in_order = all-routes (medium_names (media_said k.media)) k.hosts k.hosts_fine.each;
+      scripts_are = refl;
+      good = fine;
+      read = refl;
+      world = subst IsWorld same (c.is_ready db (bundle, all, database-read bundle fine));
+    } in
+    subst (IsWorldText text) (sym same) t
+
+read-found : (text : List ℕ) (w : World) → Found opening_draft text w → IsWorldText text w
+read-found text w f = by (read-all f.head f.so_far f.leads)
+  where
+    by : Read f.head f.so_far → IsWorldText text w
+    by r = at r.stage
+      where
+        at : Stage r.lines f.so_far → IsWorldText text w
+        at (Opening lines draft) = absurd (false≢true (sym f.begun_so ∙ ap (λ (g : Draft). g.group == 0) draft))
+        at (Behind so) =
+            subst (IsWorldText text) f.is
+            (spells-world f.head text f.bundle r.lines f.so_far (complete r.lines f.so_far so f.good) f.parts f.whole r.said f.fine f.all)
 
 pub read-spelled : (text : List ℕ) (w : World) → list_all is_byte text ≡ true → world_reading text ≡ Ok w → IsWorldText text w
-read-spelled text w all e =
-    let f = found opening_draft 1 (cuts_of text) text w refl all kept-opening e in
-    record { head = f.head; bundle = f.bundle; parts = f.parts; whole = f.whole; spelled = f.spelled; good = f.good; read = f.read; world = f.world; form = f.form }
+read-spelled text w all e = read-found text w (found opening_draft 1 (cuts_of text) text w refl all e)

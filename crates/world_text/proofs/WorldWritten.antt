@@ -1,215 +1,333 @@
--- The spelled lines of a world stand on one line each and say something.
-use Rattle.std.proofs.Common.{◌≡◌, ℕ, ◌<◌, ◌^◌, ◌==◌, inl, true, false, not, ◌&&◌, ◌||◌, cond, List, [], ◌∷◌, ◌++◌, length, map, refl, sym, ap, subst, ◌∙◌, arith, None}
-use Rattle.std.specs.Prelude.{⊤, codes, decimal, flat_map, get_or, nat_lt}
-use Rattle.std.specs.List.{All, filter, list_all}
+-- Each world has a text: its canonical lines say it.
+use Rattle.std.proofs.Common.{◌≡◌, ℕ, ◌+◌, ◌<◌, ◌≤◌, ◌==◌, inl, suc, zero, Bool, true, false, not, ◌&&◌, ◌||◌, cond, List, [], ◌∷◌, ◌++◌, length, map, get_or, refl, sym, ap, subst, ◌∙◌, arith, Option, Some, None, append-nil, append_assoc}
+use Rattle.std.specs.Prelude.{bit_and, bytes_eq, codes, filter_map, flat_map, nat_le, nat_lt}
+use Rattle.std.specs.List.{All, cons_option, filter, list_all, list_any, position_or_len}
 use Rattle.std.proofs.lemmas.Bool.{and_parts, false≢true, ltb-true}
-use Rattle.std.proofs.lemmas.List.Elements.{All-append, All-nil}
-use Rattle.std.proofs.lemmas.List.Folds.{list_any_none}
-use Rattle.net_base.specs.declared.address.Proto.{Proto}
-use Rattle.net_base.specs.declared.address.Proto.TheVariants.{Il, Udp}
+use Rattle.std.proofs.lemmas.List.{map-append}
+use Rattle.std.proofs.lemmas.List.Elements.{filter_map-append}
 use Rattle.net_base.specs.declared.world.HostSpec.{HostSpec}
+use Rattle.net_base.specs.declared.world.Iface.{Iface}
 use Rattle.net_base.specs.declared.world.MediumSpec.{MediumSpec}
+use Rattle.net_base.specs.declared.world.RouteLine.{RouteLine}
 use Rattle.net_base.specs.declared.world.Script.{Script}
 use Rattle.net_base.specs.declared.world.Step.{Step}
-use Rattle.net_base.specs.declared.world.Step.TheVariants as step
 use Rattle.net_base.specs.declared.world.World.{World}
-use Rattle.net_base.specs.ControlWords.{dotted}
-use Rattle.net_base.specs.NdbBundle.{database, bad_line}
-use Rattle.net_base.specs.NdbText.{is_newline, lines_of}
-use Rattle.net_base.specs.Paths.{proto_name}
-use Rattle.net_base.specs.World.{is_byte, is_host, is_moment, is_name, is_script, is_step, is_text, is_within, is_word, IsWorld}
-use Rattle.net_base.specs.WorldForm.{AreTransfers, IsFirstForm, IsPlainHost, IsUdpScript, clone_path, data_path, opening_steps}
-use Rattle.world_text.specs.WorldLines.{plain_medium}
-use Rattle.world_text.specs.WorldSpelling.{spaced, laid, is_line, speaks, line_of_end, line_of_seed, line_of_medium, lines_of_medium, lines_of_host, line_of_step, lines_of_script, lines_of_world, medium_names, host_names, IsWorldText}
-use Rattle.world_text.proofs.Controls.{dotted_is_without}
-use Rattle.net_base.proofs.Texts.{IsWithout, decimal_without, without_one}
-use Rattle.world_text.proofs.WorldBack.{within-most}
-use Rattle.world_text.proofs.WorldLists.{All-first, All-later, All-one, list-without, name-without, names, without-none}
-use Rattle.world_text.proofs.WorldRead.{with_one, plain-is, host-facts, mask-small, name-there, Parts, parts-of}
+use Rattle.net_base.specs.NdbBundle.{bad_line, database}
+use Rattle.net_base.specs.NdbText.{lines_of}
+use Rattle.net_base.specs.Routes.{iface_routes, matches}
+use Rattle.net_base.specs.World.{IsWorld, all_apart, is_address, is_host, is_iface, is_mask, is_name, is_nets, is_route, is_script, is_step, same_medium}
+use Rattle.world_text.specs.declared.line.HostLine.{HostLine}
+use Rattle.world_text.specs.declared.line.HostLine.TheVariants as host
+use Rattle.world_text.specs.declared.line.MediumLine.{MediumLine}
+use Rattle.world_text.specs.declared.line.WorldLine.{WorldLine}
+use Rattle.world_text.specs.declared.line.WorldLine.TheVariants as line
+use Rattle.world_text.specs.WorldLines.{Draft, after, is_near, line_cause, opening_draft}
+use Rattle.world_text.specs.WorldSpelling.{EachBehind, HostText, IsReached, IsWorldText, ScriptText, host_names, host_said, iface_said, is_line, laid, line_of_iface, line_of_route, line_of_start, line_of_step, lines_of_host, lines_of_medium, lines_of_script, lines_of_steps, lines_of_text, lines_of_world, lines_said, medium_names, name_at, place_of, route_said, script_said, speaks, spelling, start_said}
+use Rattle.world_text.specs.LineFit.{is_fit}
+use Rattle.world_text.proofs.LineBack.{loud, one_line}
+use Rattle.world_text.proofs.WorldLists.{any-at, each-none, each-push, false-of-not, own-bytes, same-bytes, or-parts}
+use Rattle.world_text.proofs.WorldMediums.{both}
+use Rattle.world_text.proofs.WorldHosts.{ifaces, routes, starts}
+use Rattle.world_text.proofs.WorldHostForms.{near-matches}
+use Rattle.world_text.proofs.WorldLed.{Led, begun, of_host, of_media, of_script, whole_draft, world-lead}
+use Rattle.world_text.proofs.WorldRead.{SaidBy, fine-world}
+use Rattle.world_text.proofs.WorldCanon.{canon-media, media_lines}
 
--- Lines.
+-- Places by name.
 
--- each of these lines is one, and says something
-abbrev AreGood : List (List ℕ) → Type 0
-AreGood [] = ⊤
-AreGood (line ∷ lines) = ((is_line line ≡ true) × (speaks line ≡ true)) × AreGood lines
+none-at : (p : List ℕ → Bool) (xs : List (List ℕ)) (n : ℕ) → list_any p xs ≡ false → n < length xs → p (get_or xs n []) ≡ false
+none-at p [] n none lt = absurd (omega (arith, lt))
+none-at p (x ∷ xs) zero none lt = (or-parts (p x) (list_any p xs) none).0
+none-at p (x ∷ xs) (suc n) none lt = none-at p xs n ((or-parts (p x) (list_any p xs) none).1) (omega (arith, lt))
 
-good-more : (xs ys : List (List ℕ)) → AreGood xs → AreGood ys → AreGood (xs ++ ys)
-good-more [] ys g h = h
-good-more (x ∷ xs) ys g h = (g.0, good-more xs ys g.1 h)
-
-all-lines : (lines : List (List ℕ)) → AreGood lines → list_all is_line lines ≡ true
-all-lines [] g = refl
-all-lines (line ∷ lines) g = ap (λ v. v && list_all is_line lines) g.0.0 ∙ all-lines lines g.1
-
-all-speak : (lines : List (List ℕ)) → AreGood lines → filter speaks lines ≡ lines
-all-speak [] g = refl
-all-speak (line ∷ lines) g = ap (λ v. cond v (line ∷ filter speaks lines) (filter speaks lines)) g.0.1 ∙ ap (λ (ls : List (List ℕ)). line ∷ ls) (all-speak lines g.1)
-
--- no word has a newline
-abbrev AreFree : List (List ℕ) → Type 0
-AreFree [] = ⊤
-AreFree (word ∷ words) = IsWithout 10 word × AreFree words
-
-spaced-free : (words : List (List ℕ)) → AreFree words → IsWithout 10 (spaced words)
-spaced-free [] h = All-nil (λ (x : ℕ). (x == 10) ≡ false)
-spaced-free (word ∷ []) h = h.0
-spaced-free (word ∷ next ∷ words) h =
-    All-append (λ (x : ℕ). (x == 10) ≡ false) word (32 ∷ spaced (next ∷ words)) h.0 (without_one 10 32 (spaced (next ∷ words)) refl (spaced-free (next ∷ words) h.1))
-
-good : (words : List (List ℕ)) → speaks (spaced words) ≡ true → AreFree words → (is_line (spaced words) ≡ true) × (speaks (spaced words) ≡ true)
-good words loud free = (ap not (list_any_none is_newline (spaced words) (spaced-free words free)), loud)
-
-decimal-free : (n : ℕ) → n < 2 ^ 64 → IsWithout 10 (decimal n)
-decimal-free n small = decimal_without n 10 small (omega arith)
-
-name-free : (word : List ℕ) → is_name word ≡ true → IsWithout 10 word
-name-free word is = name-without 10 word refl is
-
-path-free : (path : List ℕ) → is_word path ≡ true → IsWithout 10 path
-path-free [] is = absurd (false≢true is)
-path-free (b ∷ path) is = list-without (λ c. is_byte c && not ((c == 32) || (c == 10))) 10 (b ∷ path) refl is
-
-text-free : (text : List ℕ) → is_text text ≡ true → IsWithout 10 text
-text-free text is = list-without (λ b. is_byte b && not (b == 10)) 10 text refl is
-
--- Parts.
-
-good-front : (e s mtu : ℕ) (called : List ℕ) → is_moment e ≡ true → nat_lt s (2 ^ 64) ≡ true → is_name called ≡ true → is_within 576 16384 mtu ≡ true
-    → AreGood (codes "networld 1" ∷ line_of_end e ∷ line_of_seed s ∷ line_of_medium (plain_medium 0 called mtu) ∷ [])
-good-front e s mtu called moment small name fits =
-    let end = within-most 1 1000000000 e moment in
-    let most = within-most 576 16384 mtu fits in (
-      (refl, refl),
-      (
-        good (codes "end" ∷ decimal e ∷ []) refl (without-none 10 (codes "end") refl, (decimal-free e (omega (arith, end)), tt)),
-        (
-          good (codes "seed" ∷ decimal s ∷ []) refl (without-none 10 (codes "seed") refl, (decimal-free s (ltb-true s (2 ^ 64) small), tt)),
-          (good (codes "medium" ∷ called ∷ decimal mtu ∷ []) refl (without-none 10 (codes "medium") refl, (name-free called name, (decimal-free mtu (omega (arith, most)), tt))), tt),
-        ),
-      ),
-    )
-
-nets-free : (nets : List Proto) → AreFree (map proto_name nets)
-nets-free [] = tt
-nets-free (Il ∷ nets) = (without-none 10 (codes "il") refl, nets-free nets)
-nets-free (Udp ∷ nets) = (without-none 10 (codes "udp") refl, nets-free nets)
-
-good-host : (medium called : List ℕ) (nets : List Proto) (ip mask : ℕ) → is_name medium ≡ true → IsPlainHost (with_one called nets ip mask) → is_host 1 (with_one called nets ip mask) ≡ true
-    → AreGood (lines_of_host (medium ∷ []) (with_one called nets ip mask))
-good-host medium called nets ip mask name plain is =
-    let f = host-facts [] called nets ip mask [] (record { plain = All-one IsPlainHost (with_one called nets ip mask) plain; fits = ap (λ v. v && true) is; named = refl; addressed = refl; few = omega arith }) in
-    let low = ltb-true ip (2 ^ 32) f.address in
-    let low_mask = ltb-true mask (2 ^ 32) (mask-small mask f.ones) in (
-      good (codes "host" ∷ called ∷ map proto_name nets) refl (without-none 10 (codes "host") refl, (name-free called f.name, nets-free nets)),
-      (
-        good (codes "if" ∷ medium ∷ dotted ip ∷ dotted mask ∷ []) refl
-            (without-none 10 (codes "if") refl, (name-free medium name, (dotted_is_without 10 ip (omega arith) low, (dotted_is_without 10 mask (omega arith) low_mask, tt)))),
-        tt,
-      ),
-    )
-
-good-hosts : (medium : List ℕ) (hosts : List HostSpec) → is_name medium ≡ true → All IsPlainHost hosts → list_all (is_host 1) hosts ≡ true → AreGood (flat_map (lines_of_host (medium ∷ [])) hosts)
-good-hosts medium [] name plain fits = tt
-good-hosts medium (h ∷ hosts) name plain fits =
-    let both = and_parts (is_host 1 h) (list_all (is_host 1) hosts) fits in
-    let p = All-first IsPlainHost h hosts plain in
-    let is = plain-is h p in
-    good-more (lines_of_host (medium ∷ []) h) (flat_map (lines_of_host (medium ∷ [])) hosts)
-    (subst (λ (x : HostSpec). AreGood (lines_of_host (medium ∷ []) x)) (sym is)
-    (good-host medium h.name h.nets p.iface.ip p.iface.mask name (subst IsPlainHost is p) (subst (λ (x : HostSpec). is_host 1 x ≡ true) is both.0)))
-    (good-hosts medium hosts name (All-later IsPlainHost h hosts plain) both.1)
-
-good-open : (called path : List ℕ) → is_step (step.Open called path None) ≡ true → (is_line (line_of_step (step.Open called path None)) ≡ true) × (speaks (line_of_step (step.Open called path None)) ≡ true)
-good-open called path is =
-    let both = and_parts (is_name called) (is_word path) is in
-    good (codes "open" ∷ called ∷ path ∷ []) refl (without-none 10 (codes "open") refl, (name-free called both.0, (path-free path both.1, tt)))
-
-good-write : (called text : List ℕ) → is_step (step.Write called text) ≡ true → (is_line (line_of_step (step.Write called text)) ≡ true) × (speaks (line_of_step (step.Write called text)) ≡ true)
-good-write called text is =
-    let both = and_parts (is_name called) (is_text text) is in
-    good (codes "write" ∷ called ∷ text ∷ []) refl (without-none 10 (codes "write") refl, (name-free called both.0, (text-free text both.1, tt)))
-
-good-read : (called : List ℕ) (count : ℕ) → is_step (step.Read called count) ≡ true → (is_line (line_of_step (step.Read called count)) ≡ true) × (speaks (line_of_step (step.Read called count)) ≡ true)
-good-read called count is =
-    let both = and_parts (is_name called) (is_within 1 65536 count) is in
-    let high = within-most 1 65536 count both.1 in
-    good (codes "read" ∷ called ∷ decimal count ∷ []) refl (without-none 10 (codes "read") refl, (name-free called both.0, (decimal-free count (omega (arith, high)), tt)))
-
-good-rest : (called : List ℕ) (rest : List Step) → list_all is_step rest ≡ true → AreTransfers called rest → AreGood (map line_of_step rest)
-good-rest called [] all ts = tt
-good-rest called (step.Write name text ∷ rest) all ts =
-    let both = and_parts (is_step (step.Write name text)) (list_all is_step rest) all in (good-write name text both.0, good-rest called rest both.1 ts.1)
-good-rest called (step.Read name count ∷ rest) all ts =
-    let both = and_parts (is_step (step.Read name count)) (list_all is_step rest) all in (good-read name count both.0, good-rest called rest both.1 ts.1)
-good-rest called (step.Open name path mode ∷ rest) all ts = absurd ts.0
-good-rest called (step.Writex name text ∷ rest) all ts = absurd ts.0
-good-rest called (step.Close name ∷ rest) all ts = absurd ts.0
-good-rest called (step.Ls path ∷ rest) all ts = absurd ts.0
-good-rest called (step.Cs query ∷ rest) all ts = absurd ts.0
-good-rest called (step.Until moment ∷ rest) all ts = absurd ts.0
-good-rest called (step.Dial name address ∷ rest) all ts = absurd ts.0
-good-rest called (step.Announce name address ∷ rest) all ts = absurd ts.0
-good-rest called (step.Listen name from ∷ rest) all ts = absurd ts.0
-good-rest called (step.Accept name from ∷ rest) all ts = absurd ts.0
-good-rest called (step.Reject name ∷ rest) all ts = absurd ts.0
-good-rest called (step.Hangup name ∷ rest) all ts = absurd ts.0
-
-good-steps : (steps : List Step) → IsUdpScript steps → list_all is_step steps ≡ true → AreGood (map line_of_step steps)
-good-steps steps u all = subst (λ (xs : List Step). AreGood (map line_of_step xs)) (sym u.opening) (three (ap (list_all is_step) (sym u.opening) ∙ all))
+-- a name stands in the first place of itself, where names are apart
+place-named : (ns : List (List ℕ)) (n : ℕ) → n < length ns → all_apart bytes_eq ns ≡ true → place_of ns (name_at ns n) ≡ n
+place-named [] n lt apart = absurd (omega (arith, lt))
+place-named (x ∷ ns) zero lt apart = ap (λ b. cond (not b) (1 + position_or_len (bytes_eq x) ns) 0) (own-bytes x)
+place-named (x ∷ ns) (suc n) lt apart =
+    let parts = and_parts (not (list_any (bytes_eq x) ns)) (all_apart bytes_eq ns) apart in
+    let other = none-at (bytes_eq x) ns n (false-of-not (list_any (bytes_eq x) ns) parts.0) (omega (arith, lt)) in
+    ap (λ b. cond (not b) (1 + position_or_len (bytes_eq (name_at ns n)) ns) 0) (same-bytes (name_at ns n) x ∙ other)
+    ∙ (ap (λ k. 1 + k) (place-named ns n (omega (arith, lt)) parts.1) ∙ next n)
   where
-    three : list_all is_step (opening_steps u.ctl_name u.text u.data_name u.rest) ≡ true → AreGood (map line_of_step (opening_steps u.ctl_name u.text u.data_name u.rest))
-    three e =
-        let made : Step = step.Open u.ctl_name clone_path None in
-        let wired : Step = step.Write u.ctl_name u.text in
-        let opened : Step = step.Open u.data_name data_path None in
-        let first = and_parts (is_step made) (is_step wired && (is_step opened && list_all is_step u.rest)) e in
-        let second = and_parts (is_step wired) (is_step opened && list_all is_step u.rest) first.1 in
-        let third = and_parts (is_step opened) (list_all is_step u.rest) second.1 in
-        (good-open u.ctl_name clone_path first.0, (good-write u.ctl_name u.text second.0, (good-open u.data_name data_path third.0, good-rest u.data_name u.rest third.1 u.transfers)))
+    next : (k : ℕ) → 1 + k ≡ suc k
+    next k = omega arith
 
-good-scripts : (hosts : List HostSpec) (scripts : List Script) → list_all (is_host 1) hosts ≡ true → All (λ (s : Script). IsUdpScript s.steps) scripts → list_all (is_script (length hosts)) scripts ≡ true
-    → AreGood (flat_map (lines_of_script (names hosts)) scripts)
-good-scripts hosts [] fits udp all = tt
-good-scripts hosts (x ∷ scripts) fits udp all =
-    let both = and_parts (is_script (length hosts) x) (list_all (is_script (length hosts)) scripts) all in
-    let parts = and_parts (nat_lt x.host (length hosts)) (list_all is_step x.steps) both.0 in
-    let name = name-there 1 hosts x.host (ltb-true x.host (length hosts) parts.0) fits in
-    good-more (lines_of_script (names hosts) x) (flat_map (lines_of_script (names hosts)) scripts) (
-      good (codes "script" ∷ get_or (names hosts) x.host [] ∷ []) refl (without-none 10 (codes "script") refl, (name-free (get_or (names hosts) x.host []) name, tt)),
-      good-steps x.steps (All-first (λ (s : Script). IsUdpScript s.steps) x scripts udp) parts.1,
-    )
-    (good-scripts hosts scripts fits (All-later (λ (s : Script). IsUdpScript s.steps) x scripts udp) both.1)
+-- Hosts.
+
+abbrev if_line : List (List ℕ) → Iface → HostLine
+if_line ns i = host.If (name_at ns i.medium) i.ip i.mask
+
+abbrev if_lines : List (List ℕ) → List Iface → List HostLine
+if_lines ns is = map (if_line ns) is
+
+abbrev route_lines : List RouteLine → List HostLine
+route_lines ls = map (λ (l : RouteLine). host.Route l) ls
+
+abbrev start_lines : List ℕ → List HostLine
+start_lines ss = map (λ (n : ℕ). host.Start n) ss
+
+abbrev host_text : List (List ℕ) → HostSpec → HostText
+host_text ns h = record { name = h.name; nets = h.nets; under = if_lines ns h.ifaces ++ (route_lines h.routes ++ start_lines h.starts) }
+
+spelled-under : (xs ys : List HostLine) → map spelling (of_host (xs ++ ys)) ≡ map spelling (of_host xs) ++ map spelling (of_host ys)
+spelled-under xs ys = ap (map spelling) (map-append (λ (l : HostLine). line.OfHost l) xs ys) ∙ map-append spelling (of_host xs) (of_host ys)
+
+spelled-ifs : (ns : List (List ℕ)) (is : List Iface) → map spelling (of_host (if_lines ns is)) ≡ map (line_of_iface ns) is
+spelled-ifs ns [] = refl
+spelled-ifs ns (i ∷ is) = ap (λ ls. line_of_iface ns i ∷ ls) (spelled-ifs ns is)
+
+spelled-routes : (ls : List RouteLine) → map spelling (of_host (route_lines ls)) ≡ map line_of_route ls
+spelled-routes [] = refl
+spelled-routes (l ∷ ls) = ap (λ xs. line_of_route l ∷ xs) (spelled-routes ls)
+
+spelled-starts : (ss : List ℕ) → map spelling (of_host (start_lines ss)) ≡ map line_of_start ss
+spelled-starts [] = refl
+spelled-starts (n ∷ ss) = ap (λ xs. line_of_start n ∷ xs) (spelled-starts ss)
+
+spelled-host : (ns : List (List ℕ)) (h : HostSpec) → map spelling (lines_of_text (host_text ns h)) ≡ lines_of_host ns h
+spelled-host ns h =
+    ap (λ ls. spelling (line.Host h.name h.nets) ∷ ls)
+    (spelled-under (if_lines ns h.ifaces) (route_lines h.routes ++ start_lines h.starts)
+    ∙ (ap (λ ls. ls ++ map spelling (of_host (route_lines h.routes ++ start_lines h.starts))) (spelled-ifs ns h.ifaces)
+    ∙ ap (λ ls. map (line_of_iface ns) h.ifaces ++ ls)
+    (spelled-under (route_lines h.routes) (start_lines h.starts)
+    ∙ (ap (λ ls. ls ++ map spelling (of_host (start_lines h.starts))) (spelled-routes h.routes) ∙ ap (λ ls. map line_of_route h.routes ++ ls) (spelled-starts h.starts)))))
+
+spelled-hosts : (ns : List (List ℕ)) (hs : List HostSpec) → map spelling (flat_map lines_of_text (map (host_text ns) hs)) ≡ flat_map (lines_of_host ns) hs
+spelled-hosts ns [] = refl
+spelled-hosts ns (h ∷ hs) =
+    map-append spelling (lines_of_text (host_text ns h)) (flat_map lines_of_text (map (host_text ns) hs))
+    ∙ (ap (λ ls. ls ++ map spelling (flat_map lines_of_text (map (host_text ns) hs))) (spelled-host ns h) ∙ ap (λ ls. lines_of_host ns h ++ ls) (spelled-hosts ns hs))
+
+-- what they say
+
+ifs-ifaces : (ns : List (List ℕ)) (is : List Iface) → all_apart bytes_eq ns ≡ true → list_all (is_iface (length ns)) is ≡ true → ifaces ns (if_lines ns is) ≡ is
+ifs-ifaces ns [] apart all = refl
+ifs-ifaces ns (i ∷ is) apart all =
+    let parts = and_parts (is_iface (length ns) i) (list_all (is_iface (length ns)) is) all in
+    let within = ltb-true i.medium (length ns) (and_parts (nat_lt i.medium (length ns)) (is_address i.ip && is_mask i.mask) parts.0).0 in
+    ap (λ m. record { medium = m; ip = i.ip; mask = i.mask } ∷ ifaces ns (if_lines ns is)) (place-named ns i.medium within apart)
+    ∙ ap (λ xs. i ∷ xs) (ifs-ifaces ns is apart parts.1)
+
+ifs-routes : (ns : List (List ℕ)) (is : List Iface) → routes (if_lines ns is) ≡ []
+ifs-routes ns [] = refl
+ifs-routes ns (i ∷ is) = ifs-routes ns is
+
+ifs-starts : (ns : List (List ℕ)) (is : List Iface) → starts (if_lines ns is) ≡ []
+ifs-starts ns [] = refl
+ifs-starts ns (i ∷ is) = ifs-starts ns is
+
+routes-ifaces : (ns : List (List ℕ)) (ls : List RouteLine) → ifaces ns (route_lines ls) ≡ []
+routes-ifaces ns [] = refl
+routes-ifaces ns (l ∷ ls) = routes-ifaces ns ls
+
+routes-routes : (ls : List RouteLine) → routes (route_lines ls) ≡ ls
+routes-routes [] = refl
+routes-routes (l ∷ ls) = ap (λ xs. l ∷ xs) (routes-routes ls)
+
+routes-starts : (ls : List RouteLine) → starts (route_lines ls) ≡ []
+routes-starts [] = refl
+routes-starts (l ∷ ls) = routes-starts ls
+
+starts-ifaces : (ns : List (List ℕ)) (ss : List ℕ) → ifaces ns (start_lines ss) ≡ []
+starts-ifaces ns [] = refl
+starts-ifaces ns (n ∷ ss) = starts-ifaces ns ss
+
+starts-routes : (ss : List ℕ) → routes (start_lines ss) ≡ []
+starts-routes [] = refl
+starts-routes (n ∷ ss) = starts-routes ss
+
+starts-starts : (ss : List ℕ) → starts (start_lines ss) ≡ ss
+starts-starts [] = refl
+starts-starts (n ∷ ss) = ap (λ xs. n ∷ xs) (starts-starts ss)
+
+-- three lists of lines of which each says one kind
+three-said : {A : Type 0} (g : HostLine → Option A) (xs ys zs : List HostLine) (a b c : List A) → filter_map g xs ≡ a → filter_map g ys ≡ b → filter_map g zs ≡ c → filter_map g (xs ++ (ys ++ zs)) ≡ a ++ (b ++ c)
+three-said g xs ys zs a b c ea eb ec =
+    filter_map-append g xs (ys ++ zs)
+    ∙ (ap (λ v. v ++ filter_map g (ys ++ zs)) ea ∙ ap (λ v. a ++ v) (filter_map-append g ys zs ∙ (ap (λ v. v ++ filter_map g zs) eb ∙ ap (λ v. b ++ v) ec)))
+
+abbrev host_with : HostSpec → List Iface → List RouteLine → List ℕ → HostSpec
+host_with h is ls ss = record { name = h.name; nets = h.nets; ifaces = is; routes = ls; starts = ss }
+
+host-same : (ns : List (List ℕ)) (h : HostSpec) → all_apart bytes_eq ns ≡ true → list_all (is_iface (length ns)) h.ifaces ≡ true → host_said ns (host_text ns h) ≡ h
+host-same ns h apart all =
+    let a : List HostLine = if_lines ns h.ifaces in
+    let b : List HostLine = route_lines h.routes in
+    let c : List HostLine = start_lines h.starts in
+    ap (λ is. host_with h is (routes (a ++ (b ++ c))) (starts (a ++ (b ++ c))))
+    (three-said (iface_said ns) a b c h.ifaces [] [] (ifs-ifaces ns h.ifaces apart all) (routes-ifaces ns h.routes) (starts-ifaces ns h.starts) ∙ append-nil h.ifaces)
+    ∙ (ap (λ ls. host_with h h.ifaces ls (starts (a ++ (b ++ c))))
+    (three-said route_said a b c [] h.routes [] (ifs-routes ns h.ifaces) (routes-routes h.routes) (starts-routes h.starts) ∙ append-nil h.routes)
+    ∙ ap (host_with h h.ifaces h.routes) (three-said start_said a b c [] [] h.starts (ifs-starts ns h.ifaces) (routes-starts h.routes) (starts-starts h.starts)))
+
+-- the parts of a host that are asked for
+record Parts (ns : List (List ℕ)) (h : HostSpec) : Type 0 where
+  pub on : list_all (is_iface (length ns)) h.ifaces ≡ true
+  pub routed : list_all (is_route (iface_routes 0 h.ifaces)) h.routes ≡ true
+
+host-parts : (ns : List (List ℕ)) (h : HostSpec) → is_host (length ns) h ≡ true → Parts ns h
+host-parts ns h e =
+    let a = and_parts (is_name h.name) _ e in
+    let b = and_parts (is_nets h.nets) _ a.1 in
+    let c = and_parts (nat_le (length h.ifaces) 4) _ b.1 in
+    let d = and_parts (list_all (is_iface (length ns)) h.ifaces) _ c.1 in
+    let f = and_parts (all_apart same_medium h.ifaces) _ d.1 in
+    let g = and_parts (list_all (is_route (iface_routes 0 h.ifaces)) h.routes) _ f.1 in record { on = d.0; routed = g.0 }
+
+hosts-same : (ns : List (List ℕ)) (hs : List HostSpec) → all_apart bytes_eq ns ≡ true → list_all (is_host (length ns)) hs ≡ true → map (host_said ns) (map (host_text ns) hs) ≡ hs
+hosts-same ns [] apart all = refl
+hosts-same ns (h ∷ hs) apart all =
+    let parts = and_parts (is_host (length ns) h) (list_all (is_host (length ns)) hs) all in
+    ap (λ x. x ∷ map (host_said ns) (map (host_text ns) hs)) (host-same ns h apart (host-parts ns h parts.0).on) ∙ ap (λ xs. h ∷ xs) (hosts-same ns hs apart parts.1)
+
+-- in their order
+
+ifs-reached : (ns : List (List ℕ)) (before : List HostLine) (is : List Iface) → EachBehind (IsReached ns) before → EachBehind (IsReached ns) (before ++ if_lines ns is)
+ifs-reached ns before [] each = subst (EachBehind (IsReached ns)) (sym (append-nil before)) each
+ifs-reached ns before (i ∷ is) each =
+    subst (EachBehind (IsReached ns)) (append_assoc before (if_line ns i ∷ []) (if_lines ns is))
+    (ifs-reached ns (before ++ if_line ns i ∷ []) is (each-push (IsReached ns) before (if_line ns i) each tt))
+
+starts-reached : (ns : List (List ℕ)) (before : List HostLine) (ss : List ℕ) → EachBehind (IsReached ns) before → EachBehind (IsReached ns) (before ++ start_lines ss)
+starts-reached ns before [] each = subst (EachBehind (IsReached ns)) (sym (append-nil before)) each
+starts-reached ns before (n ∷ ss) each =
+    subst (EachBehind (IsReached ns)) (append_assoc before (host.Start n ∷ []) (start_lines ss))
+    (starts-reached ns (before ++ host.Start n ∷ []) ss (each-push (IsReached ns) before (host.Start n) each tt))
+
+route-near : (nets : List Iface) (l : RouteLine) → is_route (iface_routes 0 nets) l ≡ true → list_any (is_near l.gateway) nets ≡ true
+route-near nets l e =
+    let a = and_parts (is_mask l.mask) _ e in
+    let b = and_parts (is_address l.net) _ a.1 in
+    let c = and_parts (bit_and l.net l.mask == l.net) _ b.1 in
+    let d = and_parts (is_address l.gateway) (list_any (matches l.gateway) (iface_routes 0 nets)) c.1 in
+    sym (near-matches l.gateway 0 nets) ∙ d.1
+
+routes-reached : (ns : List (List ℕ)) (nets : List Iface) (before : List HostLine) (ls : List RouteLine) → EachBehind (IsReached ns) before → ifaces ns before ≡ nets
+    → list_all (is_route (iface_routes 0 nets)) ls ≡ true → EachBehind (IsReached ns) (before ++ route_lines ls)
+routes-reached ns nets before [] each is all = subst (EachBehind (IsReached ns)) (sym (append-nil before)) each
+routes-reached ns nets before (l ∷ ls) each is all =
+    let parts = and_parts (is_route (iface_routes 0 nets) l) (list_all (is_route (iface_routes 0 nets)) ls) all in
+    subst (EachBehind (IsReached ns)) (append_assoc before (host.Route l ∷ []) (route_lines ls))
+    (routes-reached ns nets (before ++ host.Route l ∷ []) ls (each-push (IsReached ns) before (host.Route l) each (ap (list_any (is_near l.gateway)) is ∙ route-near nets l parts.0))
+    (filter_map-append (iface_said ns) before (host.Route l ∷ []) ∙ (append-nil (ifaces ns before) ∙ is)) parts.1)
+
+host-reached : (ns : List (List ℕ)) (h : HostSpec) → all_apart bytes_eq ns ≡ true → is_host (length ns) h ≡ true → EachBehind (IsReached ns) (host_text ns h).under
+host-reached ns h apart fit =
+    let p = host-parts ns h fit in
+    let first = ifs-reached ns [] h.ifaces (each-none (IsReached ns)) in
+    let second = routes-reached ns h.ifaces (if_lines ns h.ifaces) h.routes first (ifs-ifaces ns h.ifaces apart p.on) p.routed in
+    subst (EachBehind (IsReached ns)) (append_assoc (if_lines ns h.ifaces) (route_lines h.routes) (start_lines h.starts))
+    (starts-reached ns (if_lines ns h.ifaces ++ route_lines h.routes) h.starts second)
+
+hosts-reached : (ns : List (List ℕ)) (hs : List HostSpec) → all_apart bytes_eq ns ≡ true → list_all (is_host (length ns)) hs ≡ true
+    → All (λ (t : HostText). EachBehind (IsReached ns) t.under) (map (host_text ns) hs)
+hosts-reached ns [] apart all k d lt = absurd (omega (arith, lt))
+hosts-reached ns (h ∷ hs) apart all zero d lt = host-reached ns h apart (and_parts (is_host (length ns) h) (list_all (is_host (length ns)) hs) all).0
+hosts-reached ns (h ∷ hs) apart all (suc k) d lt = hosts-reached ns hs apart (and_parts (is_host (length ns) h) (list_all (is_host (length ns)) hs) all).1 k d (omega (arith, lt))
+
+-- Scripts.
+
+abbrev script_text : List (List ℕ) → Script → ScriptText
+script_text ns s = record { host = name_at ns s.host; steps = s.steps }
+
+spelled-steps : (xs : List Step) → map spelling (of_script xs) ≡ map line_of_step xs
+spelled-steps [] = refl
+spelled-steps (x ∷ xs) = ap (λ ls. line_of_step x ∷ ls) (spelled-steps xs)
+
+spelled-scripts : (ns : List (List ℕ)) (ss : List Script) → map spelling (flat_map lines_of_steps (map (script_text ns) ss)) ≡ flat_map (lines_of_script ns) ss
+spelled-scripts ns [] = refl
+spelled-scripts ns (s ∷ ss) =
+    map-append spelling (lines_of_steps (script_text ns s)) (flat_map lines_of_steps (map (script_text ns) ss))
+    ∙ (ap (λ ls. (spelling (line.Script (name_at ns s.host)) ∷ ls) ++ map spelling (flat_map lines_of_steps (map (script_text ns) ss))) (spelled-steps s.steps)
+    ∙ ap (λ ls. lines_of_script ns s ++ ls) (spelled-scripts ns ss))
+
+scripts-same : (ns : List (List ℕ)) (ss : List Script) → all_apart bytes_eq ns ≡ true → list_all (is_script (length ns)) ss ≡ true → map (script_said ns) (map (script_text ns) ss) ≡ ss
+scripts-same ns [] apart all = refl
+scripts-same ns (s ∷ ss) apart all =
+    let parts = and_parts (is_script (length ns) s) (list_all (is_script (length ns)) ss) all in
+    let within = ltb-true s.host (length ns) (and_parts (nat_lt s.host (length ns)) (list_all is_step s.steps) parts.0).0 in
+    ap (λ n. record { host = n; steps = s.steps } ∷ map (script_said ns) (map (script_text ns) ss)) (place-named ns s.host within apart)
+    ∙ ap (λ xs. s ∷ xs) (scripts-same ns ss apart parts.1)
 
 -- Worlds.
 
-good-parts : (w : World) (called : List ℕ) (mtu : ℕ) → IsWorld w → IsFirstForm w → Parts w called mtu → AreGood (lines_of_world w)
-good-parts w called mtu is f p =
-    let one : length w.media ≡ 1 = ap (λ (ms : List MediumSpec). length ms) p.media in
-    let fits : list_all (is_host 1) w.hosts ≡ true = ap (λ (k : ℕ). list_all (is_host k) w.hosts) (sym one) ∙ is.hosts in
-    let hosts = good-hosts called w.hosts p.name f.hosts fits in
-    let scripts = good-scripts w.hosts w.scripts fits f.scripts is.scripts in
-    let front = good-front w.end w.seed mtu called is.end is.seed p.name p.fits in
-    let all = good-more (codes "networld 1" ∷ line_of_end w.end ∷ line_of_seed w.seed ∷ line_of_medium (plain_medium 0 called mtu) ∷ [])
-    (flat_map (lines_of_host (called ∷ [])) w.hosts ++ flat_map (lines_of_script (names w.hosts)) w.scripts) front
-    (good-more (flat_map (lines_of_host (called ∷ [])) w.hosts) (flat_map (lines_of_script (names w.hosts)) w.scripts) hosts scripts) in
-    subst (λ (ms : List MediumSpec). AreGood (lines_with w ms)) (sym p.media) all
-  where
-    lines_with : World → List MediumSpec → List (List ℕ)
-    lines_with w ms = codes "networld 1" ∷ line_of_end w.end ∷ line_of_seed w.seed
-        ∷ (flat_map lines_of_medium ms ++ (flat_map (lines_of_host (medium_names ms)) w.hosts ++ flat_map (lines_of_script (host_names w.hosts)) w.scripts))
+length-map : {A B : Type 0} (f : A → B) (xs : List A) → length (map f xs) ≡ length xs
+length-map f [] = refl
+length-map f (x ∷ xs) = ap (λ n. suc n) (length-map f xs)
 
-pub written : (w : World) (bundle : List ℕ) → IsWorld w → IsFirstForm w → bad_line bundle ≡ None → w.db ≡ database (lines_of bundle) → IsWorldText (laid (lines_of_world w) ++ (codes "ndb\n" ++ bundle)) w
-written w bundle is f good_bundle read =
-    let lines = good-parts w f.medium.name f.medium.mtu is f (parts-of w is f) in
+-- what the canonical lines of a world say is the world
+canon-said : (w : World) → IsWorld w → SaidBy w (media_lines w.media) (map (host_text (medium_names w.media)) w.hosts) (map (script_text (host_names w.hosts)) w.scripts)
+canon-said w is =
+    let ns : List (List ℕ) = medium_names w.media in
+    let hns : List (List ℕ) = host_names w.hosts in
+    let m = canon-media w.media is.media is.media_named in
+    let media_length : length ns ≡ length w.media = length-map (λ (s : MediumSpec). s.name) w.media in
+    let hosts_length : length hns ≡ length w.hosts = length-map (λ (h : HostSpec). h.name) w.hosts in
+    let hosts_fit : list_all (is_host (length ns)) w.hosts ≡ true = ap (λ n. list_all (is_host n) w.hosts) media_length ∙ is.hosts in
+    let scripts_fit : list_all (is_script (length hns)) w.scripts ≡ true = ap (λ n. list_all (is_script n) w.scripts) hosts_length ∙ is.scripts in
+    record {
+      media_are = m.said;
+      media_in_order = m.behind;
+      hosts_are = sym (hosts-same ns w.hosts is.media_named hosts_fit);
+      routes_in_order = hosts-reached ns w.hosts is.media_named hosts_fit;
+      scripts_are = sym (scripts-same hns w.scripts is.hosts_named scripts_fit);
+      world = is;
+    }
+
+-- they are spelled so
+canon-spelled : (w : World) → IsWorld w
+    → map spelling (lines_said w.end w.seed (media_lines w.media) (map (host_text (medium_names w.media)) w.hosts) (map (script_text (host_names w.hosts)) w.scripts)) ≡ lines_of_world w
+canon-spelled w is =
+    let ns : List (List ℕ) = medium_names w.media in
+    let hns : List (List ℕ) = host_names w.hosts in
+    let a : List WorldLine = of_media (media_lines w.media) in
+    let b : List WorldLine = flat_map lines_of_text (map (host_text ns) w.hosts) in
+    let c : List WorldLine = flat_map lines_of_steps (map (script_text hns) w.scripts) in
+    let m = canon-media w.media is.media is.media_named in
+    ap (λ ls. codes "networld 1" ∷ spelling (line.End w.end) ∷ spelling (line.Seed w.seed) ∷ ls)
+    (map-append spelling a (b ++ c)
+    ∙ (ap (λ ls. ls ++ map spelling (b ++ c)) m.spelled
+    ∙ ap (λ ls. flat_map lines_of_medium w.media ++ ls)
+    (map-append spelling b c ∙ (ap (λ ls. ls ++ map spelling c) (spelled-hosts ns w.hosts) ∙ ap (λ ls. flat_map (lines_of_host ns) w.hosts ++ ls) (spelled-scripts hns w.scripts)))))
+
+-- lines that fit stand on one line each and aren't passed over
+whole-lines : (d e : Draft) (ls : List WorldLine) → Led d ls e → list_all is_line (map spelling ls) ≡ true
+whole-lines d e [] led = refl
+whole-lines d e (l ∷ ls) led = both (is_line (spelling l)) (list_all is_line (map spelling ls)) (one_line l led.0) (whole-lines (after d l) e ls led.2)
+
+loud-lines : (ls : List WorldLine) → filter speaks (map spelling ls) ≡ map spelling ls
+loud-lines [] = refl
+loud-lines (l ∷ ls) =
+    ap (λ v. cond v (spelling l ∷ filter speaks (map spelling ls)) (filter speaks (map spelling ls))) (loud l) ∙ ap (λ xs. spelling l ∷ xs) (loud-lines ls)
+
+pub written : (w : World) (bundle : List ℕ) → IsWorld w → bad_line bundle ≡ None → w.db ≡ database (lines_of bundle) → IsWorldText (laid (lines_of_world w) ++ (codes "ndb\n" ++ bundle)) w
+written w bundle is fine read =
+    let media : List MediumLine = media_lines w.media in
+    let hosts : List HostText = map (host_text (medium_names w.media)) w.hosts in
+    let scripts : List ScriptText = map (script_text (host_names w.hosts)) w.scripts in
+    let ls : List WorldLine = lines_said w.end w.seed media hosts scripts in
+    let s = canon-said w is in
+    let led = world-lead w.end w.seed media hosts scripts (fine-world w media hosts scripts s) in
+    let same = canon-spelled w is in
+    let whole : list_all is_line (map spelling ls) ≡ true = whole-lines begun (whole_draft w.end w.seed media hosts scripts)
+    (line.End w.end ∷ line.Seed w.seed ∷ (of_media media ++ (flat_map lines_of_text hosts ++ flat_map lines_of_steps scripts))) led in
     record {
       head = lines_of_world w;
       bundle = bundle;
       parts = inl refl;
-      whole = all-lines (lines_of_world w) lines;
-      spelled = all-speak (lines_of_world w) lines;
-      good = good_bundle;
+      whole = ap (list_all is_line) (sym same) ∙ whole;
+      media = media;
+      hosts = hosts;
+      scripts = scripts;
+      spelled = ap (filter speaks) (sym same) ∙ loud-lines ls;
+      media_are = s.media_are;
+      media_in_order = s.media_in_order;
+      hosts_are = s.hosts_are;
+      routes_in_order = s.routes_in_order;
+      scripts_are = s.scripts_are;
+      good = fine;
       read = read;
       world = is;
-      form = f;
     }

@@ -1,4 +1,7 @@
 pub mod WorldWords
+pub mod LineCauses
+pub mod LineReading
+pub mod LineFit
 pub mod WorldLines
 pub mod WorldText
 pub mod WorldSpelling

@@ -4,6 +4,8 @@ use Rattle.std.specs.List.{list_all}
 use Rattle.net_base.specs.declared.world.World.{World}
 use Rattle.net_base.specs.NdbBundle.{bad_line}
 use Rattle.net_base.specs.NdbText.{is_empty}
+use Rattle.world_text.specs.declared.line.LineCause.{LineCause}
+use Rattle.world_text.specs.LineCauses.{number_of}
 use Rattle.world_text.specs.WorldLines.{Draft, Goes, Begins, Bad, line_verdict}
 use Rattle.world_text.specs.WorldSpelling.{laid, is_line, IsHeaded}
 use Rattle.world_text.specs.WorldText.{missing}
@@ -27,7 +29,9 @@ pub record IsBadLine (d : Draft) (first : ℕ) (text : List ℕ) (n c : ℕ) : T
   pub ended : EndsLine rest
   pub whole : list_all is_line (line ∷ good) ≡ true
   pub leads : Leads d good so_far
-  pub bad : line_verdict so_far line ≡ Bad c
+  pub cause : LineCause
+  pub bad : line_verdict so_far line ≡ Bad cause
+  pub number : c ≡ number_of cause
   pub place : n ≡ first + length good
 
 -- the lines up to `ndb` are good, and a line of the database behind it is bad
@@ -54,7 +58,7 @@ pub record IsUnended (d : Draft) (first : ℕ) (text : List ℕ) (n c : ℕ) : T
   pub whole : list_all is_line good ≡ true
   pub leads : Leads d good so_far
   pub place : n ≡ first + length good
-  pub cause : c ≡ missing so_far
+  pub cause : c ≡ number_of (missing so_far)
 
 -- the text is refused at its n-th line for the cause c
 abbrev pub IsRefused : Draft → ℕ → List ℕ → ℕ → ℕ → Type 0

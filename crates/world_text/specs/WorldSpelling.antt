@@ -1,6 +1,7 @@
 -- The text of a world as it is spelled: which lines a world has, and which texts say it. No text is read here.
-use Rattle.std.specs.Prelude.{◌≡◌, ℕ, ◌==◌, ◌⊎◌, Bool, true, false, not, ◌&&◌, List, [], ◌∷◌, ◌++◌, map, flat_map, get_or, codes, decimal, Some, None, if◌then◌else◌}
-use Rattle.std.specs.List.{list_any, list_all, filter, join_with_byte}
+use Rattle.std.specs.Prelude.{◌≡◌, ℕ, ◌+◌, ◌==◌, ◌⊎◌, ⊤, Bool, true, false, not, ◌&&◌, List, [], ◌∷◌, ◌++◌, map, filter_map, flat_map, get_or, bytes_eq, codes, decimal, Option, Some, None, if◌then◌else◌}
+use Rattle.std.specs.List.{All, list_any, list_all, filter, join_with_byte, position_or_len}
+use Rattle.net_base.specs.declared.address.Proto.{Proto}
 use Rattle.net_base.specs.declared.world.Fate.{Fate}
 use Rattle.net_base.specs.declared.world.Fate.TheVariants as fate
 use Rattle.net_base.specs.declared.world.FateRange.{FateRange}
@@ -18,7 +19,15 @@ use Rattle.net_base.specs.NdbText.{is_newline, is_hash, lines_of}
 use Rattle.net_base.specs.Paths.{proto_name}
 use Rattle.net_base.specs.Transcript.{hex_word, mode_word}
 use Rattle.net_base.specs.World.{IsWorld}
-use Rattle.net_base.specs.WorldForm.{IsFirstForm}
+use Rattle.world_text.specs.declared.line.Frames.{Frames}
+use Rattle.world_text.specs.declared.line.Frames.TheVariants as frames
+use Rattle.world_text.specs.declared.line.HostLine.{HostLine}
+use Rattle.world_text.specs.declared.line.HostLine.TheVariants as host
+use Rattle.world_text.specs.declared.line.MediumLine.{MediumLine}
+use Rattle.world_text.specs.declared.line.MediumLine.TheVariants as medium
+use Rattle.world_text.specs.declared.line.WorldLine.{WorldLine}
+use Rattle.world_text.specs.declared.line.WorldLine.TheVariants as line
+use Rattle.world_text.specs.WorldLines.{is_near, range_of}
 
 -- Words.
 
@@ -147,6 +156,182 @@ speaks (b ∷ line) = not (is_hash b)
 abbrev pub IsHeaded : List ℕ → List (List ℕ) → List ℕ → Type 0
 IsHeaded text lines rest = (text ≡ laid lines ++ (codes "ndb\n" ++ rest)) ⊎ ((text ≡ laid lines ++ codes "ndb") × (rest ≡ []))
 
+-- What lines say.
+
+-- each element has this to those before it
+abbrev pub EachBehind : {A : Type 0} → (List A → A → Type 0) → List A → Type 0
+EachBehind {A = A} Fits xs = (before : List A) (x : A) (rest : List A) → xs ≡ before ++ x ∷ rest → Fits before x
+
+-- Media.
+
+-- the name on a line that says a medium
+abbrev pub name_said : MediumLine → Option (List ℕ)
+name_said (medium.Medium called mtu) = Some called
+name_said (medium.Rates called loss twice later) = None
+name_said (medium.Fate called f x) = None
+
+-- the name on a line of rates
+abbrev pub rated_name : MediumLine → Option (List ℕ)
+rated_name (medium.Medium called mtu) = None
+rated_name (medium.Rates called loss twice later) = Some called
+rated_name (medium.Fate called f x) = None
+
+pub record Rates : Type 0 where
+  pub loss : ℕ
+  pub twice : ℕ
+  pub later : ℕ
+
+abbrev pub no_rates : Rates
+no_rates = record { loss = 0; twice = 0; later = 0 }
+
+-- the rates on a line for the medium with this name
+abbrev pub rates_on : List ℕ → MediumLine → Option Rates
+rates_on called (medium.Medium other mtu) = None
+rates_on called (medium.Rates other loss twice later) = if bytes_eq called other then Some (record { loss = loss; twice = twice; later = later }) else None
+rates_on called (medium.Fate other f x) = None
+
+-- the fate on a line for the medium with this name
+abbrev pub fate_on : List ℕ → MediumLine → Option FateRange
+fate_on called (medium.Medium other mtu) = None
+fate_on called (medium.Rates other loss twice later) = None
+fate_on called (medium.Fate other f x) = if bytes_eq called other then Some (range_of f x) else None
+
+-- the rates that lines set for a medium, where one does
+abbrev pub rates_said : List ℕ → List MediumLine → Rates
+rates_said called lines = get_or (filter_map (rates_on called) lines) 0 no_rates
+
+-- a medium with the rates and the fates that lines say of its name
+abbrev pub medium_said : List MediumLine → ℕ → List ℕ → ℕ → MediumSpec
+medium_said lines n called mtu = record {
+  number = n;
+  name = called;
+  mtu = mtu;
+  loss = (rates_said called lines).loss;
+  twice = (rates_said called lines).twice;
+  later = (rates_said called lines).later;
+  fates = filter_map (fate_on called) lines;
+}
+
+-- the media that the latter lines name, with what all lines say of them, numbered from n
+abbrev pub media_named : List MediumLine → ℕ → List MediumLine → List MediumSpec
+media_named all n [] = []
+media_named all n (medium.Medium called mtu ∷ lines) = medium_said all n called mtu ∷ media_named all (n + 1) lines
+media_named all n (medium.Rates called loss twice later ∷ lines) = media_named all n lines
+media_named all n (medium.Fate called f x ∷ lines) = media_named all n lines
+
+abbrev pub media_said : List MediumLine → List MediumSpec
+media_said lines = media_named lines 0 lines
+
+-- one of the lines says a medium with this name
+abbrev pub SaysMedium : List ℕ → List MediumLine → Type 0
+SaysMedium called lines = list_any (bytes_eq called) (filter_map name_said lines) ≡ true
+
+-- rates and fates stand behind their medium, and rates once for each
+abbrev pub IsBehindMedium : List MediumLine → MediumLine → Type 0
+IsBehindMedium before (medium.Medium called mtu) = ⊤
+IsBehindMedium before (medium.Rates called loss twice later) =
+    SaysMedium called before × (list_any (bytes_eq called) (filter_map rated_name before) ≡ false)
+IsBehindMedium before (medium.Fate called f x) = SaysMedium called before
+
+-- Hosts.
+
+-- a host with the lines under it
+pub record HostText : Type 0 where
+  pub name : List ℕ
+  pub nets : List Proto
+  pub under : List HostLine
+
+-- the place of a name among others, or how many there are
+abbrev pub place_of : List (List ℕ) → List ℕ → ℕ
+place_of names called = position_or_len (bytes_eq called) names
+
+-- the interface on a line, where the media have these names
+abbrev pub iface_said : List (List ℕ) → HostLine → Option Iface
+iface_said names (host.If called ip mask) = Some (record { medium = place_of names called; ip = ip; mask = mask })
+iface_said names (host.Route l) = None
+iface_said names (host.Start start) = None
+
+abbrev pub route_said : HostLine → Option RouteLine
+route_said (host.If called ip mask) = None
+route_said (host.Route l) = Some l
+route_said (host.Start start) = None
+
+abbrev pub start_said : HostLine → Option ℕ
+start_said (host.If called ip mask) = None
+start_said (host.Route l) = None
+start_said (host.Start start) = Some start
+
+abbrev pub host_said : List (List ℕ) → HostText → HostSpec
+host_said names h = record {
+  name = h.name;
+  nets = h.nets;
+  ifaces = filter_map (iface_said names) h.under;
+  routes = filter_map route_said h.under;
+  starts = filter_map start_said h.under;
+}
+
+-- the gateway of a route is on the network of an interface whose line stands before
+abbrev pub IsReached : List (List ℕ) → List HostLine → HostLine → Type 0
+IsReached names before (host.If called ip mask) = ⊤
+IsReached names before (host.Route l) = list_any (is_near l.gateway) (filter_map (iface_said names) before) ≡ true
+IsReached names before (host.Start start) = ⊤
+
+-- Scripts.
+
+-- a script with the name of its host
+pub record ScriptText : Type 0 where
+  pub host : List ℕ
+  pub steps : List Step
+
+-- the script, where the hosts have these names
+abbrev pub script_said : List (List ℕ) → ScriptText → Script
+script_said names s = record { host = place_of names s.host; steps = s.steps }
+
+-- Lines.
+
+abbrev pub lines_of_text : HostText → List WorldLine
+lines_of_text h = line.Host h.name h.nets ∷ map (λ (l : HostLine). line.OfHost l) h.under
+
+abbrev pub lines_of_steps : ScriptText → List WorldLine
+lines_of_steps s = line.Script s.host ∷ map (λ (x : Step). line.OfScript x) s.steps
+
+-- all lines before `ndb`, in their groups
+abbrev pub lines_said : ℕ → ℕ → List MediumLine → List HostText → List ScriptText → List WorldLine
+lines_said moment seed media hosts scripts =
+    line.Networld ∷ line.End moment ∷ line.Seed seed
+    ∷ (map (λ (l : MediumLine). line.OfMedium l) media ++ (flat_map lines_of_text hosts ++ flat_map lines_of_steps scripts))
+
+-- Spellings.
+
+abbrev pub frames_spelled : Frames → List ℕ
+frames_spelled (frames.One n) = decimal n
+frames_spelled (frames.Range first last) = decimal first ++ (codes "-" ++ decimal last)
+
+abbrev pub words_of_medium_line : MediumLine → List (List ℕ)
+words_of_medium_line (medium.Medium called mtu) = codes "medium" ∷ called ∷ decimal mtu ∷ []
+words_of_medium_line (medium.Rates called loss twice later) = codes "rates" ∷ called ∷ decimal loss ∷ decimal twice ∷ decimal later ∷ []
+words_of_medium_line (medium.Fate called f x) = codes "fate" ∷ called ∷ frames_spelled f ∷ fate_word x ∷ []
+
+abbrev pub words_of_host_line : HostLine → List (List ℕ)
+words_of_host_line (host.If called ip mask) = codes "if" ∷ called ∷ dotted ip ∷ dotted mask ∷ []
+words_of_host_line (host.Route l) = codes "route" ∷ dotted l.net ∷ dotted l.mask ∷ dotted l.gateway ∷ []
+words_of_host_line (host.Start start) = codes "start" ∷ decimal start ∷ []
+
+abbrev pub words_of_line : WorldLine → List (List ℕ)
+words_of_line line.Networld = codes "networld" ∷ codes "1" ∷ []
+words_of_line (line.End moment) = codes "end" ∷ decimal moment ∷ []
+words_of_line (line.Seed seed) = codes "seed" ∷ decimal seed ∷ []
+words_of_line (line.OfMedium l) = words_of_medium_line l
+words_of_line (line.Host called nets) = codes "host" ∷ called ∷ map proto_name nets
+words_of_line (line.OfHost l) = words_of_host_line l
+words_of_line (line.Script called) = codes "script" ∷ called ∷ []
+words_of_line (line.OfScript s) = words_of_step s
+words_of_line line.Ndb = codes "ndb" ∷ []
+
+-- the one spelling of a line
+abbrev pub spelling : WorldLine → List ℕ
+spelling l = spaced (words_of_line l)
+
 -- the text says the world
 pub record IsWorldText (text : List ℕ) (w : World) : Type 0 where
   -- the lines before `ndb`, and the text of the database
@@ -154,9 +339,17 @@ pub record IsWorldText (text : List ℕ) (w : World) : Type 0 where
   pub bundle : List ℕ
   pub parts : IsHeaded text head bundle
   pub whole : list_all is_line head ≡ true
-  pub spelled : filter speaks head ≡ lines_of_world w
+  -- what the lines that aren't passed over say
+  pub media : List MediumLine
+  pub hosts : List HostText
+  pub scripts : List ScriptText
+  pub spelled : filter speaks head ≡ map spelling (lines_said w.end w.seed media hosts scripts)
+  pub media_are : w.media ≡ media_said media
+  pub media_in_order : EachBehind IsBehindMedium media
+  pub hosts_are : w.hosts ≡ map (host_said (medium_names w.media)) hosts
+  pub routes_in_order : All (λ (h : HostText). EachBehind (IsReached (medium_names w.media)) h.under) hosts
+  pub scripts_are : w.scripts ≡ map (script_said (host_names w.hosts)) scripts
   pub good : bad_line bundle ≡ None
   pub read : w.db ≡ database (lines_of bundle)
-  -- it is a world that a file can say, of the form that is run so far
+  -- it is a world that a file can say
   pub world : IsWorld w
-  pub form : IsFirstForm w

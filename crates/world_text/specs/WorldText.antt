@@ -3,6 +3,9 @@ use Rattle.std.specs.Prelude.{ℕ, ◌+◌, ◌==◌, List, [], ◌∷◌, Optio
 use Rattle.net_base.specs.declared.world.World.{World}
 use Rattle.net_base.specs.NdbText.{is_newline, lines_of}
 use Rattle.net_base.specs.NdbBundle.{database, bad_line}
+use Rattle.world_text.specs.declared.line.LineCause.{LineCause}
+use Rattle.world_text.specs.declared.line.LineCause.TheVariants as cause
+use Rattle.world_text.specs.LineCauses.{number_of}
 use Rattle.world_text.specs.WorldLines.{Draft, opening_draft, Verdict, Goes, Begins, Bad, line_verdict}
 
 -- a line with what stands behind its newline
@@ -20,8 +23,8 @@ cuts_of [] = []
 cuts_of (b ∷ bytes) = if is_newline b then record { line = []; behind = bytes } ∷ cuts_of bytes else with_first b (cuts_of bytes)
 
 -- the cause for which a text without `ndb` is bad: it has no first line, or a part is missing
-abbrev pub missing : Draft → ℕ
-missing d = if d.group == 0 then 11 else 19
+abbrev pub missing : Draft → LineCause
+missing d = if d.group == 0 then cause.FirstLine else cause.MissingPart
 
 -- a world with the database that stands behind its n-th line
 abbrev pub with_database : ℕ → World → List ℕ → Option (ℕ × ℕ) → Result World (ℕ × ℕ)
@@ -32,11 +35,11 @@ with_database n w text (Some bad) = Err (n + bad.0, bad.1)
 abbrev pub judged : ℕ → List ℕ → Verdict → (Draft → Result World (ℕ × ℕ)) → Result World (ℕ × ℕ)
 judged n behind (Goes d) next = next d
 judged n behind (Begins w) next = with_database n w behind (bad_line behind)
-judged n behind (Bad cause) next = Err (n, cause)
+judged n behind (Bad c) next = Err (n, number_of c)
 
 -- what comes of lines that begin with the n-th, behind the lines that made this world so far
 abbrev pub reading_from : Draft → ℕ → List Cut → Result World (ℕ × ℕ)
-reading_from d n [] = Err (n, missing d)
+reading_from d n [] = Err (n, number_of (missing d))
 reading_from d n (c ∷ cs) = judged n c.behind (line_verdict d c.line) (λ (next : Draft). reading_from next (n + 1) cs)
 
 -- the world that a text says, or its first bad line, counted from 1, and that line's least cause

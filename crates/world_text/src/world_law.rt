@@ -1,25 +1,25 @@
 //! Laws of the text of a world.
-ghost use Rattle.std.specs.Prelude.{◌≡◌, ◌↔◌, ◌≤◌, ◌∷◌, ◌++◌, List, [], ℕ, length, Ok, Err, Some, None, true, false, codes, bytes_eq};
+ghost use Rattle.std.specs.Prelude.{◌≡◌, ◌↔◌, ◌≤◌, ◌∷◌, ◌++◌, List, [], ℕ, length, map, Ok, Err, None, true, false, codes, bytes_eq};
 ghost use Rattle.std.specs.List.{filter, list_all, list_any};
-ghost use Rattle.net_base.specs.ControlWords as control;
-ghost use Rattle.net_base.specs.declared.address.Addr.{Addr};
-ghost use Rattle.net_base.specs.declared.names.Ctl.TheVariants as ctl;
 ghost use Rattle.net_base.specs.declared.world.World.{World};
-ghost use Rattle.net_base.specs.World.{IsWorld, is_byte, is_text};
-ghost use Rattle.net_base.specs.WorldForm.{IsFirstForm};
+ghost use Rattle.net_base.specs.declared.world.MediumSpec.{MediumSpec};
+ghost use Rattle.net_base.specs.World.{IsWorld, all_apart, is_byte};
 ghost use Rattle.net_base.specs.NdbBundle.{database, bad_line};
 ghost use Rattle.net_base.specs.NdbText.{lines_of};
 ghost use Rattle.worked_worlds.specs.WorkedUdp.{datagram_world};
+ghost use Rattle.world_text.specs.declared.line.WorldLine.{WorldLine};
+ghost use Rattle.world_text.specs.LineFit.{is_fit};
+ghost use Rattle.world_text.specs.LineReading.{read_line};
 ghost use Rattle.world_text.specs.WorldExample.{datagram_head, datagram_text, every_line};
-ghost use Rattle.world_text.specs.WorldLines.{connects, hosts_of, line_verdict, opening_draft, Draft, Goes};
+ghost use Rattle.world_text.specs.WorldLines.{line_verdict, opening_draft, Draft, Goes};
 ghost use Rattle.world_text.specs.WorldRefusal.{IsBadLine, IsRefused, Leads};
 ghost use Rattle.world_text.specs.WorldText.{world_reading};
-ghost use Rattle.world_text.specs.WorldSpelling.{IsWorldText, is_line, laid, lines_of_world, speaks};
+ghost use Rattle.world_text.specs.WorldSpelling.{IsWorldText, is_line, laid, lines_of_world, speaks, spelling};
 
-/// A text on one line connects exactly where its control is a connection with a port.
-pub fn connect_texts_agree()
-    ensures { (text : List ℕ) → is_text text ≡ true
-        → (connects text ≡ true) ↔ ((remote : Addr) × (port : ℕ) × (control.read text ≡ Ok (ctl.Connect remote (Some port)))) }
+/// A line whose names, numbers and steps are of their kind is read exactly where it is spelled.
+pub fn lines_are_spelled()
+    ensures sound { (text : List ℕ) (line : WorldLine) → read_line text ≡ Ok line → (text ≡ spelling line) × (is_fit line ≡ true) }
+    ensures complete { (line : WorldLine) → is_fit line ≡ true → read_line (spelling line) ≡ Ok line }
 {}
 
 /// A text of bytes is read as a world exactly where it spells it.
@@ -33,9 +33,9 @@ pub fn texts_say_one_world()
     ensures { (text : List ℕ) (v w : World) → IsWorldText text v → IsWorldText text w → v ≡ w }
 {}
 
-/// Each world of the form that runs so far has a text: its lines, `ndb`, a text of its database.
+/// Each world has a text: its lines, `ndb`, a text of its database.
 pub fn worlds_have_texts()
-    ensures { (w : World) (bundle : List ℕ) → IsWorld w → IsFirstForm w
+    ensures { (w : World) (bundle : List ℕ) → IsWorld w
         → bad_line bundle ≡ None → w.db ≡ database (lines_of bundle)
         → IsWorldText (laid (lines_of_world w) ++ (codes "ndb\n" ++ bundle)) w }
 {}
@@ -56,11 +56,13 @@ pub fn first_bad_lines_are_told()
         → world_reading (text ++ (10 ∷ more)) ≡ Err (n, c) }
 {}
 
-/// What lines lead to has at most 4 media and 8 hosts, and leads on by each line that is good behind it.
+/// What lines lead to has at most 4 media, each with a name of its own, 8 hosts and 32 scripts, and leads on by each line that is good behind it.
 pub fn worlds_so_far_are_small()
     ensures next { (lines : List (List ℕ)) (line : List ℕ) (d e : Draft) → Leads opening_draft lines d → line_verdict d line ≡ Goes e → Leads opening_draft (lines ++ line ∷ []) e }
     ensures media { (lines : List (List ℕ)) (d : Draft) → Leads opening_draft lines d → length d.media ≤ 4 }
-    ensures hosts { (lines : List (List ℕ)) (d : Draft) → Leads opening_draft lines d → length (hosts_of d) ≤ 8 }
+    ensures named { (lines : List (List ℕ)) (d : Draft) → Leads opening_draft lines d → all_apart bytes_eq (map (λ (s : MediumSpec). s.name) d.media) ≡ true }
+    ensures hosts { (lines : List (List ℕ)) (d : Draft) → Leads opening_draft lines d → length d.hosts ≤ 8 }
+    ensures scripts { (lines : List (List ℕ)) (d : Draft) → Leads opening_draft lines d → length d.scripts ≤ 32 }
 {}
 
 /// The lines of two worlds, by computation, and the text of one of them.

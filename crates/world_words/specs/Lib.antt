@@ -1,4 +1,5 @@
+pub mod Told
 pub use Rattle.net_base.specs.Addresses
 pub use Rattle.net_base.specs.World
-pub use Rattle.world_text.specs.WorldLines
+pub use Rattle.world_text.specs.LineReading
 pub use Rattle.world_text.specs.WorldWords

@@ -1,55 +1,98 @@
-//! The words of a line.
-ghost use Rattle.std.specs.Prelude.{◌≡◌, map, Some, None, MatchOption, IfOk};
+//! The words behind the first word of a line.
+ghost use Rattle.std.specs.Prelude.{◌≡◌, ◌↔◌, ◌∷◌, [], IsTrue, Some, None, MatchOption};
+ghost use Rattle.net_base.specs.declared.world.Step.TheVariants as step;
+ghost use Rattle.world_text.specs.LineReading as reading;
 ghost use Rattle.world_text.specs.WorldWords as spec;
 
-use std::alloc::{AllocError, Global};
+use std::marker::Model;
+use words::{four_parts, single, split_first, two_parts};
 
-/// The words of a line.
-pub fn split_words(alloc: Global, line: &[u8]) -> Result<Vec<&[u8]>, AllocError>
-    ensures { IfOk result (λ words. map (λ w. w.now) words.items ≡ spec.words_of line.now) }
-{
-    line.split(|byte| *byte == b' ').collect(alloc)
+/// What stands behind the first word of a line, which contracts see as its words.
+#[derive(Drop)]
+pub(crate) struct Arguments<'a> {
+    /// What stands behind the blank, if there is one.
+    rest: Option<&'a [u8]>,
 }
 
-/// The only word.
-pub fn one<'a>(args: &[&'a [u8]]) -> Option<&'a [u8]>
-    ensures { MatchOption result (spec.one (map (λ w. w.now) args.now) ≡ None) (λ word. spec.one (map (λ w. w.now) args.now) ≡ Some word.now) }
+impl<'a> Model for Arguments<'a> {
+    ghost use Rattle.std.specs.Prelude.{List, ℕ, []};
+    ghost use Rattle.std.specs.Option.{option_map_or};
+    ghost use Rattle.net_base.specs.Addresses.{parts_at};
+
+    ghost Value = { List (List ℕ) };
+
+    ghost view = { λ a. option_map_or (λ rest. parts_at 32 rest.now) a.rest [] };
+}
+
+/// The first word of a line, and those behind it.
+pub(crate) fn split_line(line: &[u8]) -> (&[u8], Arguments<'_>)
+    ensures { spec.words_of line.now ≡ result.0.now ∷ result.1 }
 {
-    match args {
-        [word] => Some(word),
-        _ => None,
+    let (word, rest) = split_first(line, b' ');
+    (word, Arguments { rest })
+}
+
+impl<'a> Arguments<'a> {
+    /// Whether there is no word.
+    #[tactic(auto, using(crate::proofs::Parts::some_word))]
+    pub(crate) fn is_empty(&self) -> bool
+        ensures { IsTrue result ↔ (self.now ≡ []) }
+    {
+        self.rest.is_none()
     }
-}
 
-/// Two words and no others.
-pub fn two<'a>(args: &[&'a [u8]]) -> Option<(&'a [u8], &'a [u8])>
-    ensures { MatchOption result (spec.two (map (λ w. w.now) args.now) ≡ None)
-        (λ w. spec.two (map (λ w. w.now) args.now) ≡ Some record { first = w.0.now; second = w.1.now }) }
-{
-    match args {
-        [first, second] => Some((first, second)),
-        _ => None,
+    /// The only word.
+    #[tactic(auto, using(crate::proofs::Parts::not_one))]
+    pub(crate) fn one(&self) -> Option<&'a [u8]>
+        ensures { MatchOption result (spec.one self.now ≡ None) (λ word. spec.one self.now ≡ Some word.now) }
+    {
+        single(self.rest?, b' ')
     }
-}
 
-/// Three words and no others.
-pub fn three<'a>(args: &[&'a [u8]]) -> Option<(&'a [u8], &'a [u8], &'a [u8])>
-    ensures { MatchOption result (spec.three (map (λ w. w.now) args.now) ≡ None)
-        (λ w. spec.three (map (λ w. w.now) args.now) ≡ Some record { first = w.0.now; second = w.1.now; third = w.2.now }) }
-{
-    match args {
-        [first, second, third] => Some((first, second, third)),
-        _ => None,
+    /// Two words and no others.
+    #[tactic(auto, using(crate::proofs::Parts::not_two))]
+    pub(crate) fn two(&self) -> Option<(&'a [u8], &'a [u8])>
+        ensures { MatchOption result (spec.two self.now ≡ None)
+            (λ w. spec.two self.now ≡ Some record { first = w.0.now; second = w.1.now }) }
+    {
+        two_parts(self.rest?, b' ')
     }
-}
 
-/// Four words and no others.
-pub fn four<'a>(args: &[&'a [u8]]) -> Option<(&'a [u8], &'a [u8], &'a [u8], &'a [u8])>
-    ensures { MatchOption result (spec.four (map (λ w. w.now) args.now) ≡ None)
-        (λ w. spec.four (map (λ w. w.now) args.now) ≡ Some record { first = w.0.now; second = w.1.now; third = w.2.now; fourth = w.3.now }) }
-{
-    match args {
-        [first, second, third, fourth] => Some((first, second, third, fourth)),
-        _ => None,
+    /// Three words and no others.
+    #[tactic(auto, using(crate::proofs::Parts::not_three, crate::proofs::Parts::one_then))]
+    pub(crate) fn three(&self) -> Option<(&'a [u8], &'a [u8], &'a [u8])>
+        ensures { MatchOption result (spec.three self.now ≡ None)
+            (λ w. spec.three self.now ≡ Some record { first = w.0.now; second = w.1.now; third = w.2.now }) }
+    {
+        let (first, rest) = split_first(self.rest?, b' ');
+        let (second, third) = two_parts(rest?, b' ')?;
+        Some((first, second, third))
+    }
+
+    /// Four words and no others.
+    #[tactic(auto, using(crate::proofs::Parts::not_four))]
+    pub(crate) fn four(&self) -> Option<(&'a [u8], &'a [u8], &'a [u8], &'a [u8])>
+        ensures { MatchOption result (spec.four self.now ≡ None)
+            (λ w. spec.four self.now ≡ Some record { first = w.0.now; second = w.1.now; third = w.2.now; fourth = w.3.now }) }
+    {
+        four_parts(self.rest?, b' ')
+    }
+
+    /// The first word, and all that stands behind it and its blank.
+    #[tactic(auto, using(crate::proofs::Parts::write_words, crate::proofs::Parts::write_one))]
+    pub(crate) fn name_and_text(&self) -> Option<(&'a [u8], &'a [u8])>
+        ensures { MatchOption result (reading.write_of self.now ≡ None)
+            (λ w. reading.write_of self.now ≡ reading.kept (step.Write w.0.now w.1.now)) }
+    {
+        let (name, text) = split_first(self.rest?, b' ');
+        Some((name, text?))
+    }
+
+    /// All of them, with the blanks between them.
+    #[tactic(auto, using(crate::proofs::Parts::cs_words))]
+    pub(crate) fn text(&self) -> Option<&'a [u8]>
+        ensures { MatchOption result (reading.cs_of self.now ≡ None) (λ query. reading.cs_of self.now ≡ reading.kept (step.Cs query.now)) }
+    {
+        self.rest
     }
 }

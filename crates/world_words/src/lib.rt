@@ -1,14 +1,16 @@
-//! The words of a world's lines: what needs no world so far.
+//! The lines of a world, each by itself.
 #![tactic(auto)]
 
 mod arguments;
-mod fates;
+mod fault;
+mod hosts;
+mod lines;
+mod media;
 mod names;
 mod steps;
 #[cfg(test)]
 mod tests;
 
-pub use arguments::{four, one, split_words, three, two};
-pub use fates::{is_fate, is_frames};
-pub use names::{are_bytes, is_name, nets_named};
-pub use steps::read_step;
+pub use fault::LineFault;
+pub use lines::read_line;
+pub use names::{are_bytes, is_name};

@@ -4,7 +4,7 @@ ghost use Rattle.std.specs.List.{list_all};
 ghost use Rattle.net_base.specs.World as world;
 ghost use Rattle.world_text.specs.WorldWords as spec;
 
-use net_base::{Mode, Nets, Sequence};
+use net_base::{Mode, Nets, Proto, Sequence};
 use std::alloc::{AllocError, Global};
 use words::proto_named;
 
@@ -24,7 +24,7 @@ pub(crate) fn mode_named(word: &[u8]) -> Option<Mode>
 }
 
 /// The nets of one word or two; none where a word names none.
-pub fn nets_named(alloc: Global, words: &[&[u8]]) -> Result<Nets, AllocError>
+pub(crate) fn nets_named(alloc: Global, words: &[&[u8]]) -> Result<Nets, AllocError>
     ensures { IfOk result (λ nets. nets ≡ spec.nets_named (map (λ w. w.now) words.now)) }
 {
     let mut nets = Sequence::new(alloc);
@@ -88,6 +88,18 @@ fn is_run(bytes: &[u8]) -> bool
     ensures { result ≡ list_all (λ c. world.is_byte c && not ((c == 32) || (c == 10))) bytes.now }
 {
     bytes.iter().all(|byte| !(*byte == b' ' || *byte == b'\n'))
+}
+
+/// `il`, `udp`, `il udp` or `udp il`
+pub(crate) fn is_nets(nets: &[Proto]) -> bool
+    ensures { result ≡ world.is_nets nets.now }
+{
+    match nets {
+        [_] => true,
+        [Proto::Il, Proto::Udp] => true,
+        [Proto::Udp, Proto::Il] => true,
+        _ => false,
+    }
 }
 
 /// Each byte is below 256, by its type.

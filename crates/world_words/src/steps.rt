@@ -1,32 +1,29 @@
 //! The steps of scripts, by their words.
-ghost use Rattle.std.specs.Prelude.{◌≡◌, ◌∷◌, [], map, Option, Some, None, MatchOption, IfOk, is_none};
+ghost use Rattle.std.specs.Prelude.{◌≡◌, IfOk};
 ghost use Rattle.net_base.specs.declared.world.Step.TheVariants as step;
-ghost use Rattle.net_base.specs.Addresses.{parts_at};
 ghost use Rattle.net_base.specs.World as world;
-ghost use Rattle.world_text.specs.WorldLines as spec;
+ghost use Rattle.world_text.specs.LineReading as spec;
 
-use crate::arguments::{one, two};
+use crate::arguments::Arguments;
 use crate::names::{are_bytes, is_name, is_text, is_word, mode_named};
-use net_base::{Octets, Step};
+use net_base::{Mode, Octets, Step};
 use std::alloc::{AllocError, Global};
-use words::{number_in, read_hex_word, split_first};
+use words::{number_in, read_hex_word};
 
-/// The step of a word and its arguments, which are wrong where there is none. `rest` is what stands behind the word.
-pub fn read_step(
+/// The step of a word and its arguments, which are wrong where there is none.
+pub(crate) fn read_step(
     alloc: Global,
     word: &[u8],
-    args: &[&[u8]],
-    rest: Option<&[u8]>,
+    args: &Arguments<'_>,
 ) -> Result<Option<Option<Step>>, AllocError>
-    requires { MatchOption rest (args.now ≡ []) (λ r. map (λ w. w.now) args.now ≡ parts_at 32 r.now) }
-    ensures { IfOk result (λ read. read ≡ spec.step_of word.now (map (λ w. w.now) args.now)) }
+    ensures { IfOk result (λ read. read ≡ spec.step_of word.now args.now) }
 {
     if word == b"open".as_slice() {
         Ok(Some(read_open(alloc, args)?))
     } else if word == b"read".as_slice() {
         Ok(Some(read_read(alloc, args)?))
     } else if word == b"write".as_slice() {
-        Ok(Some(read_write(alloc, args, rest)?))
+        Ok(Some(read_write(alloc, args)?))
     } else if word == b"writex".as_slice() {
         Ok(Some(read_writex(alloc, args)?))
     } else if word == b"close".as_slice() {
@@ -34,7 +31,7 @@ pub fn read_step(
     } else if word == b"ls".as_slice() {
         Ok(Some(read_ls(alloc, args)?))
     } else if word == b"cs".as_slice() {
-        Ok(Some(read_cs(alloc, args, rest)?))
+        Ok(Some(read_cs(alloc, args)?))
     } else {
         read_other(alloc, word, args)
     }
@@ -44,9 +41,9 @@ pub fn read_step(
 fn read_other(
     alloc: Global,
     word: &[u8],
-    args: &[&[u8]],
+    args: &Arguments<'_>,
 ) -> Result<Option<Option<Step>>, AllocError>
-    ensures { IfOk result (λ read. read ≡ spec.other_of word.now (map (λ w. w.now) args.now)) }
+    ensures { IfOk result (λ read. read ≡ spec.other_of word.now args.now) }
 {
     if word == b"until".as_slice() {
         Ok(Some(read_until(args)))
@@ -99,17 +96,30 @@ fn is_step(step: &Step) -> bool
     }
 }
 
-fn read_open(alloc: Global, args: &[&[u8]]) -> Result<Option<Step>, AllocError>
-    ensures { IfOk result (λ read. read ≡ spec.open_of (map (λ w. w.now) args.now)) }
+#[tactic(auto, using(crate::proofs::Parts::open_two, crate::proofs::Parts::open_three, crate::proofs::Parts::no_open))]
+fn read_open(alloc: Global, args: &Arguments<'_>) -> Result<Option<Step>, AllocError>
+    ensures { IfOk result (λ read. read ≡ spec.open_of args.now) }
 {
-    let (name, path, mode) = match args {
-        [name, path] => (name, path, None),
-        [name, path, word] => match mode_named(word) {
-            Some(mode) => (name, path, Some(mode)),
-            None => return Ok(None),
-        },
-        _ => return Ok(None),
+    if let Some((name, path)) = args.two() {
+        return open_of(alloc, name, path, None);
+    }
+    let Some((name, path, word)) = args.three() else {
+        return Ok(None);
     };
+    match mode_named(word) {
+        Some(mode) => open_of(alloc, name, path, Some(mode)),
+        None => Ok(None),
+    }
+}
+
+fn open_of(
+    alloc: Global,
+    name: &[u8],
+    path: &[u8],
+    mode: Option<Mode>,
+) -> Result<Option<Step>, AllocError>
+    ensures { IfOk result (λ read. read ≡ spec.kept (step.Open name.now path.now mode)) }
+{
     Ok(kept(Step::Open {
         name: Octets::from_slice(alloc, name)?,
         path: Octets::from_slice(alloc, path)?,
@@ -117,10 +127,10 @@ fn read_open(alloc: Global, args: &[&[u8]]) -> Result<Option<Step>, AllocError>
     }))
 }
 
-fn read_read(alloc: Global, args: &[&[u8]]) -> Result<Option<Step>, AllocError>
-    ensures { IfOk result (λ read. read ≡ spec.read_of (map (λ w. w.now) args.now)) }
+fn read_read(alloc: Global, args: &Arguments<'_>) -> Result<Option<Step>, AllocError>
+    ensures { IfOk result (λ read. read ≡ spec.read_of args.now) }
 {
-    let Some((name, count)) = two(args) else {
+    let Some((name, count)) = args.two() else {
         return Ok(None);
     };
     match number_in(1, 65536, count) {
@@ -132,32 +142,22 @@ fn read_read(alloc: Global, args: &[&[u8]]) -> Result<Option<Step>, AllocError>
     }
 }
 
-fn read_until(args: &[&[u8]]) -> Option<Step>
-    ensures { result ≡ spec.until_of (map (λ w. w.now) args.now) }
+fn read_until(args: &Arguments<'_>) -> Option<Step>
+    ensures { result ≡ spec.until_of args.now }
 {
-    let word = one(args)?;
+    let word = args.one()?;
     match number_in(1, 1_000_000_000, word) {
         Some(moment) => kept(Step::Until { moment }),
         None => None,
     }
 }
 
-/// A write of what stands behind the name, of which `args` are the words.
-#[tactic(auto, using(crate::proofs::Parts::write_words))]
-fn read_write(
-    alloc: Global,
-    args: &[&[u8]],
-    rest: Option<&[u8]>,
-) -> Result<Option<Step>, AllocError>
-    requires { MatchOption rest (args.now ≡ []) (λ r. map (λ w. w.now) args.now ≡ parts_at 32 r.now) }
-    ensures { IfOk result (λ read. read ≡ spec.write_of (map (λ w. w.now) args.now)) }
+/// A write of what stands behind the name.
+fn read_write(alloc: Global, args: &Arguments<'_>) -> Result<Option<Step>, AllocError>
+    ensures { IfOk result (λ read. read ≡ spec.write_of args.now) }
 {
-    let Some(rest) = rest else {
-        return Ok(None);
-    };
-    let (name, text) = split_first(rest, b' ');
-    match text {
-        Some(text) => Ok(kept(Step::Write {
+    match args.name_and_text() {
+        Some((name, text)) => Ok(kept(Step::Write {
             name: Octets::from_slice(alloc, name)?,
             text: Octets::from_slice(alloc, text)?,
         })),
@@ -165,10 +165,10 @@ fn read_write(
     }
 }
 
-fn read_writex(alloc: Global, args: &[&[u8]]) -> Result<Option<Step>, AllocError>
-    ensures { IfOk result (λ read. read ≡ spec.writex_of (map (λ w. w.now) args.now)) }
+fn read_writex(alloc: Global, args: &Arguments<'_>) -> Result<Option<Step>, AllocError>
+    ensures { IfOk result (λ read. read ≡ spec.writex_of args.now) }
 {
-    let Some((name, hex)) = two(args) else {
+    let Some((name, hex)) = args.two() else {
         return Ok(None);
     };
     match read_hex_word(alloc, hex)? {
@@ -180,13 +180,11 @@ fn read_writex(alloc: Global, args: &[&[u8]]) -> Result<Option<Step>, AllocError
     }
 }
 
-/// A query of all that stands behind the word, of which `args` are the words.
-#[tactic(auto, using(crate::proofs::Parts::cs_words))]
-fn read_cs(alloc: Global, args: &[&[u8]], rest: Option<&[u8]>) -> Result<Option<Step>, AllocError>
-    requires { MatchOption rest (args.now ≡ []) (λ r. map (λ w. w.now) args.now ≡ parts_at 32 r.now) }
-    ensures { IfOk result (λ read. read ≡ spec.cs_of (map (λ w. w.now) args.now)) }
+/// A query of all that stands behind the word.
+fn read_cs(alloc: Global, args: &Arguments<'_>) -> Result<Option<Step>, AllocError>
+    ensures { IfOk result (λ read. read ≡ spec.cs_of args.now) }
 {
-    match rest {
+    match args.text() {
         Some(query) => Ok(kept(Step::Cs {
             query: Octets::from_slice(alloc, query)?,
         })),
@@ -194,94 +192,102 @@ fn read_cs(alloc: Global, args: &[&[u8]], rest: Option<&[u8]>) -> Result<Option<
     }
 }
 
-fn read_close(alloc: Global, args: &[&[u8]]) -> Result<Option<Step>, AllocError>
-    ensures { IfOk result (λ read. read ≡ spec.of_one (λ x. step.Close x) (map (λ w. w.now) args.now)) }
+#[tactic(auto, using(crate::proofs::Parts::of_one_is, crate::proofs::Parts::of_one_none))]
+fn read_close(alloc: Global, args: &Arguments<'_>) -> Result<Option<Step>, AllocError>
+    ensures { IfOk result (λ read. read ≡ spec.of_one (λ x. step.Close x) args.now) }
 {
-    match args {
-        [name] => Ok(kept(Step::Close {
+    match args.one() {
+        Some(name) => Ok(kept(Step::Close {
             name: Octets::from_slice(alloc, name)?,
         })),
-        _ => Ok(None),
+        None => Ok(None),
     }
 }
 
-fn read_ls(alloc: Global, args: &[&[u8]]) -> Result<Option<Step>, AllocError>
-    ensures { IfOk result (λ read. read ≡ spec.of_one (λ x. step.Ls x) (map (λ w. w.now) args.now)) }
+#[tactic(auto, using(crate::proofs::Parts::of_one_is, crate::proofs::Parts::of_one_none))]
+fn read_ls(alloc: Global, args: &Arguments<'_>) -> Result<Option<Step>, AllocError>
+    ensures { IfOk result (λ read. read ≡ spec.of_one (λ x. step.Ls x) args.now) }
 {
-    match args {
-        [path] => Ok(kept(Step::Ls {
+    match args.one() {
+        Some(path) => Ok(kept(Step::Ls {
             path: Octets::from_slice(alloc, path)?,
         })),
-        _ => Ok(None),
+        None => Ok(None),
     }
 }
 
-fn read_reject(alloc: Global, args: &[&[u8]]) -> Result<Option<Step>, AllocError>
-    ensures { IfOk result (λ read. read ≡ spec.of_one (λ x. step.Reject x) (map (λ w. w.now) args.now)) }
+#[tactic(auto, using(crate::proofs::Parts::of_one_is, crate::proofs::Parts::of_one_none))]
+fn read_reject(alloc: Global, args: &Arguments<'_>) -> Result<Option<Step>, AllocError>
+    ensures { IfOk result (λ read. read ≡ spec.of_one (λ x. step.Reject x) args.now) }
 {
-    match args {
-        [name] => Ok(kept(Step::Reject {
+    match args.one() {
+        Some(name) => Ok(kept(Step::Reject {
             name: Octets::from_slice(alloc, name)?,
         })),
-        _ => Ok(None),
+        None => Ok(None),
     }
 }
 
-fn read_hangup(alloc: Global, args: &[&[u8]]) -> Result<Option<Step>, AllocError>
-    ensures { IfOk result (λ read. read ≡ spec.of_one (λ x. step.Hangup x) (map (λ w. w.now) args.now)) }
+#[tactic(auto, using(crate::proofs::Parts::of_one_is, crate::proofs::Parts::of_one_none))]
+fn read_hangup(alloc: Global, args: &Arguments<'_>) -> Result<Option<Step>, AllocError>
+    ensures { IfOk result (λ read. read ≡ spec.of_one (λ x. step.Hangup x) args.now) }
 {
-    match args {
-        [name] => Ok(kept(Step::Hangup {
+    match args.one() {
+        Some(name) => Ok(kept(Step::Hangup {
             name: Octets::from_slice(alloc, name)?,
         })),
-        _ => Ok(None),
+        None => Ok(None),
     }
 }
 
-fn read_dial(alloc: Global, args: &[&[u8]]) -> Result<Option<Step>, AllocError>
-    ensures { IfOk result (λ read. read ≡ spec.of_two (λ x y. step.Dial x y) (map (λ w. w.now) args.now)) }
+#[tactic(auto, using(crate::proofs::Parts::of_two_is, crate::proofs::Parts::of_two_none))]
+fn read_dial(alloc: Global, args: &Arguments<'_>) -> Result<Option<Step>, AllocError>
+    ensures { IfOk result (λ read. read ≡ spec.of_two (λ x y. step.Dial x y) args.now) }
 {
-    match args {
-        [name, address] => Ok(kept(Step::Dial {
-            name: Octets::from_slice(alloc, name)?,
-            address: Octets::from_slice(alloc, address)?,
-        })),
-        _ => Ok(None),
-    }
-}
-
-fn read_announce(alloc: Global, args: &[&[u8]]) -> Result<Option<Step>, AllocError>
-    ensures { IfOk result (λ read. read ≡ spec.of_two (λ x y. step.Announce x y) (map (λ w. w.now) args.now)) }
-{
-    match args {
-        [name, address] => Ok(kept(Step::Announce {
+    match args.two() {
+        Some((name, address)) => Ok(kept(Step::Dial {
             name: Octets::from_slice(alloc, name)?,
             address: Octets::from_slice(alloc, address)?,
         })),
-        _ => Ok(None),
+        None => Ok(None),
     }
 }
 
-fn read_listen(alloc: Global, args: &[&[u8]]) -> Result<Option<Step>, AllocError>
-    ensures { IfOk result (λ read. read ≡ spec.of_two (λ x y. step.Listen x y) (map (λ w. w.now) args.now)) }
+#[tactic(auto, using(crate::proofs::Parts::of_two_is, crate::proofs::Parts::of_two_none))]
+fn read_announce(alloc: Global, args: &Arguments<'_>) -> Result<Option<Step>, AllocError>
+    ensures { IfOk result (λ read. read ≡ spec.of_two (λ x y. step.Announce x y) args.now) }
 {
-    match args {
-        [name, from] => Ok(kept(Step::Listen {
+    match args.two() {
+        Some((name, address)) => Ok(kept(Step::Announce {
             name: Octets::from_slice(alloc, name)?,
-            from: Octets::from_slice(alloc, from)?,
+            address: Octets::from_slice(alloc, address)?,
         })),
-        _ => Ok(None),
+        None => Ok(None),
     }
 }
 
-fn read_accept(alloc: Global, args: &[&[u8]]) -> Result<Option<Step>, AllocError>
-    ensures { IfOk result (λ read. read ≡ spec.of_two (λ x y. step.Accept x y) (map (λ w. w.now) args.now)) }
+#[tactic(auto, using(crate::proofs::Parts::of_two_is, crate::proofs::Parts::of_two_none))]
+fn read_listen(alloc: Global, args: &Arguments<'_>) -> Result<Option<Step>, AllocError>
+    ensures { IfOk result (λ read. read ≡ spec.of_two (λ x y. step.Listen x y) args.now) }
 {
-    match args {
-        [name, from] => Ok(kept(Step::Accept {
+    match args.two() {
+        Some((name, from)) => Ok(kept(Step::Listen {
             name: Octets::from_slice(alloc, name)?,
             from: Octets::from_slice(alloc, from)?,
         })),
-        _ => Ok(None),
+        None => Ok(None),
+    }
+}
+
+#[tactic(auto, using(crate::proofs::Parts::of_two_is, crate::proofs::Parts::of_two_none))]
+fn read_accept(alloc: Global, args: &Arguments<'_>) -> Result<Option<Step>, AllocError>
+    ensures { IfOk result (λ read. read ≡ spec.of_two (λ x y. step.Accept x y) args.now) }
+{
+    match args.two() {
+        Some((name, from)) => Ok(kept(Step::Accept {
+            name: Octets::from_slice(alloc, name)?,
+            from: Octets::from_slice(alloc, from)?,
+        })),
+        None => Ok(None),
     }
 }

@@ -1,9 +1,9 @@
-//! Worked words, and those that are refused.
-use crate::{is_fate, is_frames, is_name, nets_named, read_step, split_words};
-use net_base::{Proto, Step};
+//! Worked lines, and those that are refused.
+use crate::{LineFault, is_name, read_line};
+use net_base::{Fate, Proto, Step};
 use std::alloc::Global;
 use std::test::Fail;
-use words::split_first;
+use world_text::{Frames, HostLine, MediumLine, WorldLine};
 
 #[test]
 fn names_are_told(rt: HostRuntime) {
@@ -24,82 +24,38 @@ fn names_are_told(rt: HostRuntime) {
     }
 }
 
-/// How many nets the words of a text name, 0 where one names none.
-fn count_nets(alloc: Global, text: &[u8]) -> Result<usize, Fail> {
-    let words = split_words(alloc, text)?;
-    let nets = nets_named(alloc, words.as_slice())?;
-    Ok(nets.len())
+/// The cause of a line, 0 where it is read.
+fn cause_of(alloc: Global, line: &[u8]) -> Result<u32, Fail> {
+    match read_line(alloc, line) {
+        Ok(_) => Ok(0),
+        Err(LineFault::Cause(cause)) => Ok(cause.number()),
+        Err(LineFault::Memory) => Ok(1),
+    }
 }
 
 #[test]
-fn nets_are_named(rt: HostRuntime) -> Result<(), Fail> {
+fn lines_are_read(rt: HostRuntime) -> Result<(), Fail> {
     let rows = [
-        (b"il".as_slice(), 1),
-        (b"udp il", 2),
-        (b"tcp", 0),
-        (b"il tcp", 0),
-        (b"udp  il", 0),
-        (b"il udp il", 0),
-        (b"", 0),
+        b"networld 1".as_slice(),
+        b"end 1000000000",
+        b"seed 18446744073709551615",
+        b"medium ether0 16384",
+        b"rates ether0 1001 0 4294967295",
+        b"fate ether0 1 deliver",
+        b"fate ether0 4-4 lose",
+        b"fate ether0 2-18446744073709551615 later",
+        b"host anna il",
+        b"host anna udp il",
+        b"if ether0 10.0.0.255 255.0.255.0",
+        b"route 0.0.0.0 0.0.0.0 10.0.0.1",
+        b"start 4294967295",
+        b"script anna",
+        b"ndb",
     ];
-    for (text, want) in rows {
-        assert_eq!(rt; count_nets(rt.alloc(), text)?, want);
+    for line in rows {
+        assert_eq!(rt; cause_of(rt.alloc(), line)?, 0);
     }
-    let words = [b"udp".as_slice(), b"il"];
-    let nets = nets_named(rt.alloc(), words.as_slice())?;
-    assert!(rt; matches!(nets.as_slice(), [Proto::Udp, Proto::Il]));
     Ok(())
-}
-
-#[test]
-fn frames_and_fates_are_told(rt: HostRuntime) {
-    let rows = [
-        (b"1".as_slice(), true),
-        (b"2-2", true),
-        (b"1-18446744073709551615", true),
-        (b"0", false),
-        (b"2-1", false),
-        (b"1-2-3", false),
-        (b"1-", false),
-        (b"-", false),
-        (b"", false),
-    ];
-    for (word, want) in rows {
-        assert_eq!(rt; is_frames(word), want);
-    }
-    let fates = [b"deliver".as_slice(), b"lose", b"twice", b"later"];
-    for word in fates {
-        assert!(rt; is_fate(word));
-    }
-    assert!(rt; !is_fate(b"never".as_slice()));
-}
-
-/// What a line of a script is read as.
-fn read(alloc: Global, line: &[u8]) -> Result<Option<Option<Step>>, Fail> {
-    let (word, rest) = split_first(line, b' ');
-    match rest {
-        Some(rest) => {
-            let words = split_words(alloc, rest)?;
-            Ok(read_step(alloc, word, words.as_slice(), Some(rest))?)
-        }
-        None => Ok(read_step(alloc, word, &[], None)?),
-    }
-}
-
-/// Whether a line is the words of a step.
-fn is_read(alloc: Global, line: &[u8]) -> Result<bool, Fail> {
-    match read(alloc, line)? {
-        Some(Some(_)) => Ok(true),
-        _ => Ok(false),
-    }
-}
-
-/// Whether a line begins with the word of a step, and its arguments are wrong.
-fn is_wrong(alloc: Global, line: &[u8]) -> Result<bool, Fail> {
-    match read(alloc, line)? {
-        Some(None) => Ok(true),
-        _ => Ok(false),
-    }
 }
 
 #[test]
@@ -109,6 +65,7 @@ fn steps_are_read(rt: HostRuntime) -> Result<(), Fail> {
         b"open c /net/cs rw",
         b"read c 65536",
         b"write c ",
+        b"write c two  words",
         b"writex c -",
         b"writex c 00ff0a",
         b"close c",
@@ -123,13 +80,52 @@ fn steps_are_read(rt: HostRuntime) -> Result<(), Fail> {
         b"hangup c",
     ];
     for line in rows {
-        assert!(rt; is_read(rt.alloc(), line)?);
+        assert_eq!(rt; cause_of(rt.alloc(), line)?, 0);
     }
     Ok(())
 }
 
 #[test]
-fn wrong_arguments_are_told(rt: HostRuntime) -> Result<(), Fail> {
+fn unknown_words_are_told(rt: HostRuntime) -> Result<(), Fail> {
+    let rows = [b" end 1".as_slice(), b"opens c /net", b"ENDS", b"", b"ndbs"];
+    for line in rows {
+        assert_eq!(rt; cause_of(rt.alloc(), line)?, 12);
+    }
+    Ok(())
+}
+
+#[test]
+fn wrong_lines_are_told(rt: HostRuntime) -> Result<(), Fail> {
+    let rows = [
+        b"networld 2".as_slice(),
+        b"end 0",
+        b"end 01",
+        b"seed 18446744073709551616",
+        b"medium ether0 575",
+        b"medium ether0 1500 ",
+        b"rates ether0 1 2",
+        b"rates ether0 1 2 4294967296",
+        b"fate ether0 0 lose",
+        b"fate ether0 2-1 lose",
+        b"fate ether0 1-2-3 lose",
+        b"fate ether0 1 never",
+        b"host anna",
+        b"host anna il il",
+        b"host anna il udp il",
+        b"if ether0 1.2.3 255.0.0.0",
+        b"route 1.2.3.4 255.0.0.0",
+        b"start 0",
+        b"script",
+        b"ndb ",
+    ];
+    for line in rows {
+        assert_eq!(rt; cause_of(rt.alloc(), line)?, 13);
+    }
+    Ok(())
+}
+
+#[test]
+fn wrong_steps_are_told(rt: HostRuntime) -> Result<(), Fail> {
     let rows = [
         b"open c".as_slice(),
         b"open c ",
@@ -137,47 +133,50 @@ fn wrong_arguments_are_told(rt: HostRuntime) -> Result<(), Fail> {
         b"open c /net/cs r w",
         b"read c 0",
         b"read c 65537",
-        b"read c",
         b"write c",
         b"write C hi",
         b"writex c 0",
         b"writex c 0A",
         b"writex c ",
-        b"writex c 00 11",
         b"close",
         b"close c d",
-        b"close 0",
+        b"ls ",
+        b"cs",
+        b"until 0",
+        b"dial c",
+        b"announce a b c",
+        b"listen l A",
+        b"hangup C",
     ];
     for line in rows {
-        assert!(rt; is_wrong(rt.alloc(), line)?);
+        assert_eq!(rt; cause_of(rt.alloc(), line)?, 13);
     }
     Ok(())
 }
 
-#[test]
-fn more_wrong_arguments_are_told(rt: HostRuntime) -> Result<(), Fail> {
-    let rows = [
-        b"ls".as_slice(),
-        b"ls ",
-        b"cs",
-        b"until 0",
-        b"until 1000000001",
-        b"until",
-        b"dial c",
-        b"dial C il!anna!9fs",
-        b"announce a ",
-        b"announce a b c",
-        b"listen l",
-        b"listen l A",
-        b"accept L a",
-        b"reject",
-        b"reject l l",
-        b"hangup C",
-    ];
-    for line in rows {
-        assert!(rt; is_wrong(rt.alloc(), line)?);
+/// Whether a line is the fate of one frame, or the fate of several.
+fn is_fate_of(alloc: Global, line: &[u8], want: Frames) -> bool {
+    match read_line(alloc, line) {
+        Ok(WorldLine::OfMedium(MediumLine::Fate {
+            frames,
+            fate: Fate::Lose,
+            ..
+        })) => frames == want,
+        _ => false,
     }
-    assert!(rt; read(rt.alloc(), b"opens c /net".as_slice())?.is_none());
-    assert!(rt; read(rt.alloc(), b"".as_slice())?.is_none());
+}
+
+#[test]
+fn lines_say_what_they_spell(rt: HostRuntime) -> Result<(), Fail> {
+    assert!(rt; is_fate_of(rt.alloc(), b"fate a 4 lose", Frames::One(4)));
+    assert!(rt; is_fate_of(rt.alloc(), b"fate a 4-4 lose", Frames::Range(4, 4)));
+    let host = read_line(rt.alloc(), b"host anna udp il");
+    assert!(rt; matches!(&host, Ok(WorldLine::Host { nets, .. })
+        if matches!(nets.as_slice(), [Proto::Udp, Proto::Il])));
+    let iface = read_line(rt.alloc(), b"if ether0 10.0.0.1 255.0.0.0");
+    assert!(rt; matches!(&iface, Ok(WorldLine::OfHost(HostLine::If { ip, .. })) if *ip == 167_772_161));
+    let write = read_line(rt.alloc(), b"write c two  words");
+    assert!(rt; matches!(&write, Ok(WorldLine::OfScript(Step::Write { text, .. }))
+        if text.as_slice() == b"two  words".as_slice()));
     Ok(())
 }

@@ -6,6 +6,6 @@ pub returns-clause-spelled : goal.returns-clause-spelled
 returns-clause-spelled c = spelled c.written_databases_read_back.ensures.whole c.worlds_have_texts.ensures
 
 pub returns-clause-read : goal.returns-clause-read
-returns-clause-read c = λ w world form whole.
+returns-clause-read c = λ w world whole.
     c.worlds_are_spelled.ensures.complete (file_text w) w
-    (spelled c.written_databases_read_back.ensures.whole c.worlds_have_texts.ensures w world form whole)
+    (spelled c.written_databases_read_back.ensures.whole c.worlds_have_texts.ensures w world whole)

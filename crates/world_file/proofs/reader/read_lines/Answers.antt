@@ -7,8 +7,8 @@ use Rattle.world_file.proofs.reader.read_lines.Goals as goal
 
 pub loop-rest-preserved : goal.loop-rest-preserved
 loop-rest-preserved c =
-    let goes = c.in-Ok-false.ensures.ok ∙ ap (λ (b : Bool). going b c.read_line.new.self) c.in-Ok-false.field-0-test in
-    let next = c.read_line.new.self in
+    let goes = c.in-Ok-false.ensures.ok ∙ ap (λ (b : Bool). going b c.take_text.new.self) c.in-Ok-false.field-0-test in
+    let next = c.take_text.new.self in
     let line = c.cut_line.result.0.now in
     let before = c.loop-rest.invariant.led in
     let led : (lines : List (List ℕ)) × Leads opening_draft lines next =
@@ -17,8 +17,12 @@ loop-rest-preserved c =
     let less = c.cut_line.ensures.less in
     record {
       led = led;
-      small = record { media = c.worlds_so_far_are_small.ensures.media led.0 next led.1; hosts = c.worlds_so_far_are_small.ensures.hosts led.0 next led.1 };
+      small = record {
+        media = c.worlds_so_far_are_small.ensures.media led.0 next led.1;
+        hosts = c.worlds_so_far_are_small.ensures.hosts led.0 next led.1;
+        named = c.worlds_so_far_are_small.ensures.named led.0 next led.1;
+      };
       room = omega (arith, room, less);
       reading = c.loop-rest.invariant.reading
-          ∙ reading-line c.loop-rest.draft c.loop-rest.number c.loop-rest.rest.now c.cut_line.result.0.now c.cut_line.result.1.now (Goes c.read_line.new.self) c.cut_line.ensures.cut goes;
+          ∙ reading-line c.loop-rest.draft c.loop-rest.number c.loop-rest.rest.now c.cut_line.result.0.now c.cut_line.result.1.now (Goes c.take_text.new.self) c.cut_line.ensures.cut goes;
     }

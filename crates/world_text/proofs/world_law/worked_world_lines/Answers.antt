@@ -1,14 +1,10 @@
 use Rattle.std.proofs.Common.{refl}
 use Rattle.std.specs.Fmt.{digits}
-use Rattle.world_text.proofs.WorldExamples.{datagram-read}
 use Rattle.world_text.proofs.world_law.worked_world_lines.Goals as goal
 
 pub returns-clause-one_datagram : goal.returns-clause-one_datagram
 unfolding digits
 returns-clause-one_datagram c = refl
-
-pub returns-clause-its_text : goal.returns-clause-its_text
-returns-clause-its_text c = datagram-read
 
 pub returns-clause-every_line : goal.returns-clause-every_line
 unfolding digits

@@ -1,0 +1,475 @@
+-- What is read of a line is what it spells.
+use Rattle.std.proofs.Common.{◌≡◌, ℕ, ◌<◌, ◌≤◌, ◌^◌, Bool, true, false, ◌&&◌, List, [], ◌∷◌, ◌++◌, map, refl, sym, ap, subst, ◌∙◌, arith, Option, Some, None, Result, Ok, Err}
+use Rattle.std.specs.Prelude.{⊤, codes, decimal, bytes_eq, nat_le, option_map, if◌then◌else◌}
+use Rattle.std.specs.List.{join_with_byte}
+use Rattle.std.specs.Option.{option_and_then, option_to_list}
+use Rattle.std.proofs.lemmas.Bool.{and_parts, false≢true}
+use Rattle.std.proofs.lemmas.List.Splits.{join_with_byte-slice_split}
+use Rattle.std.proofs.lemmas.Option.{none-some, same_Some}
+use Rattle.net_base.specs.declared.address.Proto.{Proto}
+use Rattle.net_base.specs.declared.address.Proto.TheVariants as proto
+use Rattle.net_base.specs.declared.names.Mode.{Mode}
+use Rattle.net_base.specs.declared.names.Mode.TheVariants as mode
+use Rattle.net_base.specs.declared.world.Fate.{Fate}
+use Rattle.net_base.specs.declared.world.Fate.TheVariants as fate
+use Rattle.net_base.specs.declared.world.Step.{Step}
+use Rattle.net_base.specs.declared.world.Step.TheVariants as step
+use Rattle.net_base.specs.Addresses.{parts_at, read_digits, within}
+use Rattle.net_base.specs.ControlWords.{dotted}
+use Rattle.net_base.specs.Paths.{proto_name, proto_named}
+use Rattle.net_base.specs.Transcript.{mode_word}
+use Rattle.net_base.specs.World.{is_address, is_moment, is_name, is_nets, is_step, is_within}
+use Rattle.world_text.specs.declared.line.Frames.{Frames}
+use Rattle.world_text.specs.declared.line.Frames.TheVariants as frames
+use Rattle.world_text.specs.declared.line.HostLine.{HostLine}
+use Rattle.world_text.specs.declared.line.HostLine.TheVariants as host
+use Rattle.world_text.specs.declared.line.LineCause.{LineCause}
+use Rattle.world_text.specs.declared.line.LineCause.TheVariants as cause
+use Rattle.world_text.specs.declared.line.MediumLine.{MediumLine}
+use Rattle.world_text.specs.declared.line.MediumLine.TheVariants as medium
+use Rattle.world_text.specs.declared.line.WorldLine.{WorldLine}
+use Rattle.world_text.specs.declared.line.WorldLine.TheVariants as line
+use Rattle.world_text.specs.WorldWords.{Four, Three, Two, address_in, both_nets, four, hex_text, is_padded, joined, mode_named, nets_named, number_in, one, three, two, words_of}
+use Rattle.world_text.specs.LineReading.{argued, cs_of, end_of, fate_from, fate_named, fate_of, frame_in, frames_in, frames_of, host_of, if_from, if_of, kept, medium_of, named, ndb_of, networld_of, of_one, of_two, open_of, other_of, range_from, rate_in, rates_from, rates_of, read_line, read_of, route_from, route_of, script_of, seed_of, start_of, step_of, step_read, until_of, words_line, write_of, writex_of}
+use Rattle.world_text.specs.WorldSpelling.{fate_word, frames_spelled, spelling, words_of_line}
+use Rattle.world_text.specs.LineFit.{fit_frames, is_fit, is_frame, is_rate}
+use Rattle.world_text.proofs.Hexes.{hex-spelled}
+use Rattle.world_text.proofs.WorldMedia.{equal}
+use Rattle.world_text.proofs.WorldMediums.{both}
+use Rattle.world_text.proofs.WorldNumbers.{address-dotted, lt-is, number_in-spelled}
+
+-- What words say.
+
+-- the words spell the line
+pub record Spells (words : List (List ℕ)) (l : WorldLine) : Type 0 where
+  pub is : joined words ≡ spelling l
+  pub fit : is_fit l ≡ true
+
+abbrev pub Said : List (List ℕ) → Option WorldLine → Type 0
+Said words None = ⊤
+Said words (Some l) = Spells words l
+
+said-map : {A : Type 0} (words : List (List ℕ)) (f : A → WorldLine) (o : Option A) → ((x : A) → o ≡ Some x → Spells words (f x)) → Said words (option_map f o)
+said-map words f None h = tt
+said-map words f (Some x) h = h x refl
+
+said-then : {A : Type 0} (words : List (List ℕ)) (f : A → Option WorldLine) (o : Option A) → ((x : A) → o ≡ Some x → Said words (f x)) → Said words (option_and_then f o)
+said-then words f None h = tt
+said-then words f (Some x) h = h x refl
+
+said-named : (words : List (List ℕ)) (called : List ℕ) (o : Option WorldLine) → (is_name called ≡ true → Said words o) → Said words (named called o)
+said-named words called o h = by (is_name called) refl
+  where
+    by : (b : Bool) → is_name called ≡ b → Said words (if b then o else None)
+    by true is = h is
+    by false is = tt
+
+-- what is read of words that are these
+spells : (words : List (List ℕ)) (l : WorldLine) → words ≡ words_of_line l → is_fit l ≡ true → Spells words l
+spells words l is fit = record { is = ap joined is; fit = fit }
+
+-- Arguments.
+
+pub one-is : (args : List (List ℕ)) (word : List ℕ) → one args ≡ Some word → args ≡ word ∷ []
+one-is [] word e = absurd (none-some word e)
+one-is (a ∷ []) word e = ap (λ (w : List ℕ). w ∷ []) (same_Some a word e)
+one-is (a ∷ b ∷ args) word e = absurd (none-some word e)
+
+two-is : (args : List (List ℕ)) (w : Two) → two args ≡ Some w → args ≡ w.first ∷ w.second ∷ []
+two-is [] w e = absurd (none-some w e)
+two-is (a ∷ []) w e = absurd (none-some w e)
+two-is (a ∷ b ∷ []) w e = ap (λ (v : Two). v.first ∷ v.second ∷ []) (same_Some (record { first = a; second = b }) w e)
+two-is (a ∷ b ∷ c ∷ args) w e = absurd (none-some w e)
+
+three-is : (args : List (List ℕ)) (w : Three) → three args ≡ Some w → args ≡ w.first ∷ w.second ∷ w.third ∷ []
+three-is [] w e = absurd (none-some w e)
+three-is (a ∷ []) w e = absurd (none-some w e)
+three-is (a ∷ b ∷ []) w e = absurd (none-some w e)
+three-is (a ∷ b ∷ c ∷ []) w e = ap (λ (v : Three). v.first ∷ v.second ∷ v.third ∷ []) (same_Some (record { first = a; second = b; third = c }) w e)
+three-is (a ∷ b ∷ c ∷ d ∷ args) w e = absurd (none-some w e)
+
+four-is : (args : List (List ℕ)) (w : Four) → four args ≡ Some w → args ≡ w.first ∷ w.second ∷ w.third ∷ w.fourth ∷ []
+four-is [] w e = absurd (none-some w e)
+four-is (a ∷ []) w e = absurd (none-some w e)
+four-is (a ∷ b ∷ []) w e = absurd (none-some w e)
+four-is (a ∷ b ∷ c ∷ []) w e = absurd (none-some w e)
+four-is (a ∷ b ∷ c ∷ d ∷ []) w e = ap (λ (v : Four). v.first ∷ v.second ∷ v.third ∷ v.fourth ∷ []) (same_Some (record { first = a; second = b; third = c; fourth = d }) w e)
+four-is (a ∷ b ∷ c ∷ d ∷ f ∷ args) w e = absurd (none-some w e)
+
+then-some : {A B : Type 0} (f : A → Option B) (o : Option A) (y : B) → option_and_then f o ≡ Some y → (x : A) × (o ≡ Some x) × (f x ≡ Some y)
+then-some f None y e = absurd (none-some y e)
+then-some f (Some x) y e = (x, refl, e)
+
+-- Numbers.
+
+within-some : (least greatest : ℕ) (b : Bool) (m n : ℕ) → is_within least greatest m ≡ b → (if b then Some m else None) ≡ Some n → is_within least greatest n ≡ true
+within-some least greatest true m n is e = subst (λ (k : ℕ). is_within least greatest k ≡ true) (same_Some m n e) is
+within-some least greatest false m n is e = absurd (none-some n e)
+
+digits-within : (least greatest : ℕ) (o : Option ℕ) (n : ℕ) → option_and_then (within least greatest) o ≡ Some n → is_within least greatest n ≡ true
+digits-within least greatest None n e = absurd (none-some n e)
+digits-within least greatest (Some m) n e = within-some least greatest (is_within least greatest m) m n refl e
+
+padded-within : (least greatest : ℕ) (b : Bool) (o : Option ℕ) (n : ℕ) → (if b then None else option_and_then (within least greatest) o) ≡ Some n → is_within least greatest n ≡ true
+padded-within least greatest true o n e = absurd (none-some n e)
+padded-within least greatest false o n e = digits-within least greatest o n e
+
+number-within : (least greatest : ℕ) (word : List ℕ) (n : ℕ) → number_in least greatest word ≡ Some n → is_within least greatest n ≡ true
+number-within least greatest word n e = padded-within least greatest (is_padded word) (read_digits 20 word) n e
+
+number-is : (least greatest : ℕ) (word : List ℕ) (n : ℕ) → greatest < 2 ^ 64 → number_in least greatest word ≡ Some n → word ≡ decimal n
+number-is least greatest word n fits e = (number_in-spelled least greatest word n fits e).is
+
+-- the only argument, a number
+said-number : (word : List ℕ) (args : List (List ℕ)) (least greatest : ℕ) (make : ℕ → WorldLine) → greatest < 2 ^ 64
+    → ((n : ℕ) → words_of_line (make n) ≡ word ∷ decimal n ∷ []) → ((n : ℕ) → is_within least greatest n ≡ true → is_fit (make n) ≡ true)
+    → Said (word ∷ args) (option_map make (option_and_then (number_in least greatest) (one args)))
+said-number word args least greatest make bound words fit =
+    said-map (word ∷ args) make (option_and_then (number_in least greatest) (one args)) (λ n e.
+    let t = then-some (number_in least greatest) (one args) n e in
+    spells (word ∷ args) (make n)
+    (ap (λ (vs : List (List ℕ)). word ∷ vs) (one-is args t.0 t.1 ∙ ap (λ (w : List ℕ). w ∷ []) (number-is least greatest t.0 n bound t.2)) ∙ sym (words n))
+    (fit n (number-within least greatest t.0 n t.2)))
+
+-- The first lines.
+
+said-networld : (args : List (List ℕ)) → Said (codes "networld" ∷ args) (networld_of args)
+said-networld args = said-then (codes "networld" ∷ args) (λ version. if bytes_eq version (codes "1") then Some line.Networld else None) (one args) (λ version e. by version e (bytes_eq version (codes "1")) refl)
+  where
+    by : (version : List ℕ) → one args ≡ Some version → (b : Bool) → bytes_eq version (codes "1") ≡ b → Said (codes "networld" ∷ args) (if b then Some line.Networld else None)
+    by version e true is =
+        spells (codes "networld" ∷ args) line.Networld (ap (λ (vs : List (List ℕ)). codes "networld" ∷ vs) (one-is args version e ∙ ap (λ (w : List ℕ). w ∷ []) (equal version (codes "1") is))) refl
+    by version e false is = tt
+
+said-ndb : (args : List (List ℕ)) → Said (codes "ndb" ∷ args) (ndb_of args)
+said-ndb [] = spells (codes "ndb" ∷ []) line.Ndb refl refl
+said-ndb (a ∷ args) = tt
+
+-- Media.
+
+said-medium : (args : List (List ℕ)) → Said (codes "medium" ∷ args) (medium_of args)
+said-medium args = said-then (codes "medium" ∷ args) (λ (w : Two). named w.first (option_map (λ mtu. line.OfMedium (medium.Medium w.first mtu)) (number_in 576 16384 w.second))) (two args) (λ w e.
+    said-named (codes "medium" ∷ args) w.first (option_map (λ mtu. line.OfMedium (medium.Medium w.first mtu)) (number_in 576 16384 w.second)) (λ name.
+    said-map (codes "medium" ∷ args) (λ mtu. line.OfMedium (medium.Medium w.first mtu)) (number_in 576 16384 w.second) (λ mtu f.
+    spells (codes "medium" ∷ args) (line.OfMedium (medium.Medium w.first mtu))
+    (ap (λ (vs : List (List ℕ)). codes "medium" ∷ vs) (two-is args w e ∙ ap (λ (x : List ℕ). w.first ∷ x ∷ []) (number-is 576 16384 w.second mtu (omega arith) f)))
+    (both (is_name w.first) (is_within 576 16384 mtu) name (number-within 576 16384 w.second mtu f)))))
+
+said-rates : (args : List (List ℕ)) → Said (codes "rates" ∷ args) (rates_of args)
+said-rates args = said-then (codes "rates" ∷ args) (λ (w : Four). named w.first (rates_from w.first (rate_in w.second) (rate_in w.third) (rate_in w.fourth))) (four args) (λ w e.
+    said-named (codes "rates" ∷ args) w.first (rates_from w.first (rate_in w.second) (rate_in w.third) (rate_in w.fourth)) (λ name.
+    by w e name (rate_in w.second) refl (rate_in w.third) refl (rate_in w.fourth) refl))
+  where
+    by : (w : Four) → four args ≡ Some w → is_name w.first ≡ true → (o : Option ℕ) → rate_in w.second ≡ o → (p : Option ℕ) → rate_in w.third ≡ p → (q : Option ℕ) → rate_in w.fourth ≡ q
+        → Said (codes "rates" ∷ args) (rates_from w.first o p q)
+    by w e name (Some a) ea (Some b) eb (Some c) ec =
+        spells (codes "rates" ∷ args) (line.OfMedium (medium.Rates w.first a b c))
+        (ap (λ (vs : List (List ℕ)). codes "rates" ∷ vs) (four-is args w e)
+        ∙ (ap (λ (x : List ℕ). codes "rates" ∷ w.first ∷ x ∷ w.third ∷ w.fourth ∷ []) (number-is 0 4294967295 w.second a (omega arith) ea)
+        ∙ (ap (λ (x : List ℕ). codes "rates" ∷ w.first ∷ decimal a ∷ x ∷ w.fourth ∷ []) (number-is 0 4294967295 w.third b (omega arith) eb)
+        ∙ ap (λ (x : List ℕ). codes "rates" ∷ w.first ∷ decimal a ∷ decimal b ∷ x ∷ []) (number-is 0 4294967295 w.fourth c (omega arith) ec))))
+        (both (is_name w.first) (is_rate a && (is_rate b && is_rate c)) name
+        (both (is_rate a) (is_rate b && is_rate c) (number-within 0 4294967295 w.second a ea)
+        (both (is_rate b) (is_rate c) (number-within 0 4294967295 w.third b eb) (number-within 0 4294967295 w.fourth c ec))))
+    by w e name (Some a) ea (Some b) eb None ec = tt
+    by w e name (Some a) ea None eb q ec = tt
+    by w e name None ea p eb q ec = tt
+
+record SpellsFrames (word : List ℕ) (f : Frames) : Type 0 where
+  pub is : word ≡ frames_spelled f
+  pub fit : fit_frames f ≡ true
+
+frames-are : (word : List ℕ) (f : Frames) (words : List (List ℕ)) → parts_at 45 word ≡ words → frames_of words ≡ Some f → SpellsFrames word f
+frames-are word f [] parts e = absurd (none-some f e)
+frames-are word f (k ∷ []) parts e = by (frame_in k) refl e
+  where
+    same : word ≡ k
+    same = sym (join_with_byte-slice_split 45 word) ∙ ap (join_with_byte 45) parts
+
+    by : (o : Option ℕ) → frame_in k ≡ o → option_map (λ n. frames.One n) o ≡ Some f → SpellsFrames word f
+    by None ek g = absurd (none-some f g)
+    by (Some n) ek g =
+        subst (SpellsFrames word) (same_Some (frames.One n) f g)
+        (record { is = same ∙ number-is 1 18446744073709551615 k n (omega arith) ek; fit = number-within 1 18446744073709551615 k n ek })
+frames-are word f (k ∷ l ∷ []) parts e = by (frame_in k) refl (frame_in l) refl e
+  where
+    same : word ≡ k ++ (45 ∷ l)
+    same = sym (join_with_byte-slice_split 45 word) ∙ ap (join_with_byte 45) parts
+
+    last : (m n : ℕ) → frame_in k ≡ Some m → frame_in l ≡ Some n → (b : Bool) → nat_le m n ≡ b → (if b then Some (frames.Range m n) else None) ≡ Some f → SpellsFrames word f
+    last m n ek el true low g =
+        subst (SpellsFrames word) (same_Some (frames.Range m n) f g)
+        (record {
+          is = same ∙ (ap (λ (x : List ℕ). x ++ (45 ∷ l)) (number-is 1 18446744073709551615 k m (omega arith) ek)
+              ∙ ap (λ (x : List ℕ). decimal m ++ (45 ∷ x)) (number-is 1 18446744073709551615 l n (omega arith) el));
+          fit = both (is_frame m) (is_frame n && nat_le m n) (number-within 1 18446744073709551615 k m ek)
+              (both (is_frame n) (nat_le m n) (number-within 1 18446744073709551615 l n el) low);
+        })
+    last m n ek el false low g = absurd (none-some f g)
+
+    by : (o : Option ℕ) → frame_in k ≡ o → (p : Option ℕ) → frame_in l ≡ p → range_from o p ≡ Some f → SpellsFrames word f
+    by (Some m) ek (Some n) el g = last m n ek el (nat_le m n) refl g
+    by (Some m) ek None el g = absurd (none-some f g)
+    by None ek p el g = absurd (none-some f g)
+frames-are word f (k ∷ l ∷ m ∷ words) parts e = absurd (none-some f e)
+
+if-some : {A : Type 0} (b : Bool) (x y : A) → (if b then Some x else None) ≡ Some y → (b ≡ true) × (x ≡ y)
+if-some true x y e = (refl, same_Some x y e)
+if-some false x y e = absurd (none-some y e)
+
+pub fate-is : (word : List ℕ) (x : Fate) → fate_named word ≡ Some x → word ≡ fate_word x
+fate-is word x e = by (bytes_eq word (codes "deliver")) refl (bytes_eq word (codes "lose")) refl (bytes_eq word (codes "twice")) refl (bytes_eq word (codes "later")) refl e
+  where
+    put : (w : List ℕ) (y : Fate) → bytes_eq word w ≡ true → w ≡ fate_word y → y ≡ x → word ≡ fate_word x
+    put w y is named_so same = equal word w is ∙ (named_so ∙ ap fate_word same)
+
+    by : (a : Bool) → bytes_eq word (codes "deliver") ≡ a → (b : Bool) → bytes_eq word (codes "lose") ≡ b → (c : Bool) → bytes_eq word (codes "twice") ≡ c → (d : Bool) → bytes_eq word (codes "later") ≡ d
+        → (if a then Some fate.Deliver else (if b then Some fate.Lose else (if c then Some fate.Twice else (if d then Some fate.Later else None)))) ≡ Some x → word ≡ fate_word x
+    by true ea b eb c ec d ed f = put (codes "deliver") fate.Deliver ea refl (same_Some fate.Deliver x f)
+    by false ea true eb c ec d ed f = put (codes "lose") fate.Lose eb refl (same_Some fate.Lose x f)
+    by false ea false eb true ec d ed f = put (codes "twice") fate.Twice ec refl (same_Some fate.Twice x f)
+    by false ea false eb false ec true ed f = put (codes "later") fate.Later ed refl (same_Some fate.Later x f)
+    by false ea false eb false ec false ed f = absurd (none-some x f)
+
+said-fate : (args : List (List ℕ)) → Said (codes "fate" ∷ args) (fate_of args)
+said-fate args = said-then (codes "fate" ∷ args) (λ (w : Three). named w.first (fate_from w.first (frames_in w.second) (fate_named w.third))) (three args) (λ w e.
+    said-named (codes "fate" ∷ args) w.first (fate_from w.first (frames_in w.second) (fate_named w.third)) (λ name.
+    by w e name (frames_in w.second) refl (fate_named w.third) refl))
+  where
+    by : (w : Three) → three args ≡ Some w → is_name w.first ≡ true → (o : Option Frames) → frames_in w.second ≡ o → (p : Option Fate) → fate_named w.third ≡ p → Said (codes "fate" ∷ args) (fate_from w.first o p)
+    by w e name (Some f) ef (Some x) ex =
+        let s = frames-are w.second f (parts_at 45 w.second) refl ef in
+        spells (codes "fate" ∷ args) (line.OfMedium (medium.Fate w.first f x))
+        (ap (λ (vs : List (List ℕ)). codes "fate" ∷ vs) (three-is args w e)
+        ∙ (ap (λ (y : List ℕ). codes "fate" ∷ w.first ∷ y ∷ w.third ∷ []) s.is ∙ ap (λ (y : List ℕ). codes "fate" ∷ w.first ∷ frames_spelled f ∷ y ∷ []) (fate-is w.third x ex)))
+        (both (is_name w.first) (fit_frames f) name s.fit)
+    by w e name (Some f) ef None ex = tt
+    by w e name None ef p ex = tt
+
+-- Hosts.
+
+pub proto-is : (word : List ℕ) (p : Proto) → proto_named word ≡ Some p → word ≡ proto_name p
+proto-is word p e = by (bytes_eq word (codes "il")) refl (bytes_eq word (codes "udp")) refl e
+  where
+    by : (a : Bool) → bytes_eq word (codes "il") ≡ a → (b : Bool) → bytes_eq word (codes "udp") ≡ b → (if a then Some proto.Il else (if b then Some proto.Udp else None)) ≡ Some p → word ≡ proto_name p
+    by true ea b eb f = equal word (codes "il") ea ∙ ap proto_name (same_Some proto.Il p f)
+    by false ea true eb f = equal word (codes "udp") eb ∙ ap proto_name (same_Some proto.Udp p f)
+    by false ea false eb f = absurd (none-some p f)
+
+nets-are : (nets : List (List ℕ)) → is_nets (nets_named nets) ≡ true → nets ≡ map proto_name (nets_named nets)
+nets-are [] e = absurd (false≢true e)
+nets-are (a ∷ []) e = by (proto_named a) refl e
+  where
+    by : (o : Option Proto) → proto_named a ≡ o → is_nets (option_to_list o) ≡ true → a ∷ [] ≡ map proto_name (option_to_list o)
+    by None ea f = absurd (false≢true f)
+    by (Some p) ea f = ap (λ (w : List ℕ). w ∷ []) (proto-is a p ea)
+nets-are (a ∷ b ∷ []) e = by (proto_named a) refl (proto_named b) refl e
+  where
+    by : (o : Option Proto) → proto_named a ≡ o → (q : Option Proto) → proto_named b ≡ q → is_nets (both_nets o q) ≡ true → a ∷ b ∷ [] ≡ map proto_name (both_nets o q)
+    by (Some p) ea (Some q) eb f = ap (λ (w : List ℕ). w ∷ b ∷ []) (proto-is a p ea) ∙ ap (λ (w : List ℕ). proto_name p ∷ w ∷ []) (proto-is b q eb)
+    by (Some p) ea None eb f = absurd (false≢true f)
+    by None ea q eb f = absurd (false≢true f)
+nets-are (a ∷ b ∷ c ∷ nets) e = absurd (false≢true e)
+
+said-host : (args : List (List ℕ)) → Said (codes "host" ∷ args) (host_of args)
+said-host [] = tt
+said-host (called ∷ nets) = by (is_name called && is_nets (nets_named nets)) refl
+  where
+    by : (b : Bool) → (is_name called && is_nets (nets_named nets)) ≡ b → Said (codes "host" ∷ called ∷ nets) (if b then Some (line.Host called (nets_named nets)) else None)
+    by true is =
+        spells (codes "host" ∷ called ∷ nets) (line.Host called (nets_named nets))
+        (ap (λ (ns : List (List ℕ)). codes "host" ∷ called ∷ ns) (nets-are nets ((and_parts (is_name called) (is_nets (nets_named nets)) is).1))) is
+    by false is = tt
+
+address-fits : (word : List ℕ) (ip : ℕ) → address_in word ≡ Some ip → is_address ip ≡ true
+address-fits word ip e = lt-is ip (2 ^ 32) ((address-dotted word ip e).fits)
+
+said-if : (args : List (List ℕ)) → Said (codes "if" ∷ args) (if_of args)
+said-if args = said-then (codes "if" ∷ args) (λ (w : Three). named w.first (if_from w.first (address_in w.second) (address_in w.third))) (three args) (λ w e.
+    said-named (codes "if" ∷ args) w.first (if_from w.first (address_in w.second) (address_in w.third)) (λ name.
+    by w e name (address_in w.second) refl (address_in w.third) refl))
+  where
+    by : (w : Three) → three args ≡ Some w → is_name w.first ≡ true → (o : Option ℕ) → address_in w.second ≡ o → (p : Option ℕ) → address_in w.third ≡ p → Said (codes "if" ∷ args) (if_from w.first o p)
+    by w e name (Some ip) ei (Some mask) em =
+        spells (codes "if" ∷ args) (line.OfHost (host.If w.first ip mask))
+        (ap (λ (vs : List (List ℕ)). codes "if" ∷ vs) (three-is args w e)
+        ∙ (ap (λ (y : List ℕ). codes "if" ∷ w.first ∷ y ∷ w.third ∷ []) ((address-dotted w.second ip ei).is)
+        ∙ ap (λ (y : List ℕ). codes "if" ∷ w.first ∷ dotted ip ∷ y ∷ []) ((address-dotted w.third mask em).is)))
+        (both (is_name w.first) (is_address ip && is_address mask) name (both (is_address ip) (is_address mask) (address-fits w.second ip ei) (address-fits w.third mask em)))
+    by w e name (Some ip) ei None em = tt
+    by w e name None ei p em = tt
+
+said-route : (args : List (List ℕ)) → Said (codes "route" ∷ args) (route_of args)
+said-route args = said-then (codes "route" ∷ args) (λ (w : Three). route_from (address_in w.first) (address_in w.second) (address_in w.third)) (three args) (λ w e.
+    by w e (address_in w.first) refl (address_in w.second) refl (address_in w.third) refl)
+  where
+    by : (w : Three) → three args ≡ Some w → (o : Option ℕ) → address_in w.first ≡ o → (p : Option ℕ) → address_in w.second ≡ p → (q : Option ℕ) → address_in w.third ≡ q → Said (codes "route" ∷ args) (route_from o p q)
+    by w e (Some net) en (Some mask) em (Some gateway) eg =
+        spells (codes "route" ∷ args) (line.OfHost (host.Route (record { net = net; mask = mask; gateway = gateway })))
+        (ap (λ (vs : List (List ℕ)). codes "route" ∷ vs) (three-is args w e)
+        ∙ (ap (λ (y : List ℕ). codes "route" ∷ y ∷ w.second ∷ w.third ∷ []) ((address-dotted w.first net en).is)
+        ∙ (ap (λ (y : List ℕ). codes "route" ∷ dotted net ∷ y ∷ w.third ∷ []) ((address-dotted w.second mask em).is)
+        ∙ ap (λ (y : List ℕ). codes "route" ∷ dotted net ∷ dotted mask ∷ y ∷ []) ((address-dotted w.third gateway eg).is))))
+        (both (is_address net) (is_address mask && is_address gateway) (address-fits w.first net en)
+        (both (is_address mask) (is_address gateway) (address-fits w.second mask em) (address-fits w.third gateway eg)))
+    by w e (Some net) en (Some mask) em None eg = tt
+    by w e (Some net) en None em q eg = tt
+    by w e None en p em q eg = tt
+
+-- Scripts.
+
+said-script : (args : List (List ℕ)) → Said (codes "script" ∷ args) (script_of args)
+said-script args = said-then (codes "script" ∷ args) (λ called. named called (Some (line.Script called))) (one args) (λ called e.
+    said-named (codes "script" ∷ args) called (Some (line.Script called)) (λ name.
+    spells (codes "script" ∷ args) (line.Script called) (ap (λ (vs : List (List ℕ)). codes "script" ∷ vs) (one-is args called e)) name))
+
+-- Steps.
+
+abbrev SaidStep : List (List ℕ) → Option Step → Type 0
+SaidStep words None = ⊤
+SaidStep words (Some s) = Spells words (line.OfScript s)
+
+said-kept : (words : List (List ℕ)) (s : Step) → joined words ≡ spelling (line.OfScript s) → SaidStep words (kept s)
+said-kept words s is = by (is_step s) refl
+  where
+    by : (b : Bool) → is_step s ≡ b → SaidStep words (if b then Some s else None)
+    by true fit = record { is = is; fit = fit }
+    by false fit = tt
+
+step-then : {A : Type 0} (words : List (List ℕ)) (f : A → Option Step) (o : Option A) → ((x : A) → o ≡ Some x → SaidStep words (f x)) → SaidStep words (option_and_then f o)
+step-then words f None h = tt
+step-then words f (Some x) h = h x refl
+
+pub mode-is : (word : List ℕ) (m : Mode) → mode_named word ≡ Some m → word ≡ mode_word m
+mode-is word m e = by (bytes_eq word (codes "r")) refl (bytes_eq word (codes "w")) refl (bytes_eq word (codes "rw")) refl e
+  where
+    by : (a : Bool) → bytes_eq word (codes "r") ≡ a → (b : Bool) → bytes_eq word (codes "w") ≡ b → (c : Bool) → bytes_eq word (codes "rw") ≡ c
+        → (if a then Some mode.Read else (if b then Some mode.Write else (if c then Some mode.Both else None))) ≡ Some m → word ≡ mode_word m
+    by true ea b eb c ec f = equal word (codes "r") ea ∙ ap mode_word (same_Some mode.Read m f)
+    by false ea true eb c ec f = equal word (codes "w") eb ∙ ap mode_word (same_Some mode.Write m f)
+    by false ea false eb true ec f = equal word (codes "rw") ec ∙ ap mode_word (same_Some mode.Both m f)
+    by false ea false eb false ec f = absurd (none-some m f)
+
+said-open : (args : List (List ℕ)) → SaidStep (codes "open" ∷ args) (open_of args)
+said-open [] = tt
+said-open (a ∷ []) = tt
+said-open (called ∷ path ∷ []) = said-kept (codes "open" ∷ called ∷ path ∷ []) (step.Open called path None) refl
+said-open (called ∷ path ∷ word ∷ []) = step-then (codes "open" ∷ called ∷ path ∷ word ∷ []) (λ (m : Mode). kept (step.Open called path (Some m))) (mode_named word) (λ m e.
+    said-kept (codes "open" ∷ called ∷ path ∷ word ∷ []) (step.Open called path (Some m)) (ap (λ (w : List ℕ). joined (codes "open" ∷ called ∷ path ∷ w ∷ [])) (mode-is word m e)))
+said-open (a ∷ b ∷ c ∷ d ∷ args) = tt
+
+said-read : (args : List (List ℕ)) → SaidStep (codes "read" ∷ args) (read_of args)
+said-read args = step-then (codes "read" ∷ args) (λ (w : Two). option_and_then (λ count. kept (step.Read w.first count)) (number_in 1 65536 w.second)) (two args) (λ w e.
+    step-then (codes "read" ∷ args) (λ count. kept (step.Read w.first count)) (number_in 1 65536 w.second) (λ count f.
+    said-kept (codes "read" ∷ args) (step.Read w.first count)
+    (ap (λ (vs : List (List ℕ)). joined (codes "read" ∷ vs)) (two-is args w e ∙ ap (λ (x : List ℕ). w.first ∷ x ∷ []) (number-is 1 65536 w.second count (omega arith) f)))))
+
+said-until : (args : List (List ℕ)) → SaidStep (codes "until" ∷ args) (until_of args)
+said-until args = step-then (codes "until" ∷ args) (λ word. option_and_then (λ moment. kept (step.Until moment)) (number_in 1 1000000000 word)) (one args) (λ word e.
+    step-then (codes "until" ∷ args) (λ moment. kept (step.Until moment)) (number_in 1 1000000000 word) (λ moment f.
+    said-kept (codes "until" ∷ args) (step.Until moment)
+    (ap (λ (vs : List (List ℕ)). joined (codes "until" ∷ vs)) (one-is args word e ∙ ap (λ (x : List ℕ). x ∷ []) (number-is 1 1000000000 word moment (omega arith) f)))))
+
+said-write : (args : List (List ℕ)) → SaidStep (codes "write" ∷ args) (write_of args)
+said-write [] = tt
+said-write (called ∷ []) = tt
+said-write (called ∷ word ∷ words) = said-kept (codes "write" ∷ called ∷ word ∷ words) (step.Write called (joined (word ∷ words))) refl
+
+said-writex : (args : List (List ℕ)) → SaidStep (codes "writex" ∷ args) (writex_of args)
+said-writex args = step-then (codes "writex" ∷ args) (λ (w : Two). option_and_then (λ bytes. kept (step.Writex w.first bytes)) (hex_text w.second)) (two args) (λ w e.
+    step-then (codes "writex" ∷ args) (λ bytes. kept (step.Writex w.first bytes)) (hex_text w.second) (λ bytes f.
+    said-kept (codes "writex" ∷ args) (step.Writex w.first bytes)
+    (ap (λ (vs : List (List ℕ)). joined (codes "writex" ∷ vs)) (two-is args w e ∙ ap (λ (x : List ℕ). w.first ∷ x ∷ []) (hex-spelled w.second bytes f)))))
+
+said-cs : (args : List (List ℕ)) → SaidStep (codes "cs" ∷ args) (cs_of args)
+said-cs [] = tt
+said-cs (word ∷ words) = said-kept (codes "cs" ∷ word ∷ words) (step.Cs (joined (word ∷ words))) refl
+
+said-one : (word : List ℕ) (make : List ℕ → Step) (args : List (List ℕ)) → ((a : List ℕ) → joined (word ∷ a ∷ []) ≡ spelling (line.OfScript (make a))) → SaidStep (word ∷ args) (of_one make args)
+said-one word make [] f = tt
+said-one word make (a ∷ []) f = said-kept (word ∷ a ∷ []) (make a) (f a)
+said-one word make (a ∷ b ∷ args) f = tt
+
+said-two : (word : List ℕ) (make : List ℕ → List ℕ → Step) (args : List (List ℕ)) → ((a b : List ℕ) → joined (word ∷ a ∷ b ∷ []) ≡ spelling (line.OfScript (make a b))) → SaidStep (word ∷ args) (of_two make args)
+said-two word make [] f = tt
+said-two word make (a ∷ []) f = tt
+said-two word make (a ∷ b ∷ []) f = said-kept (word ∷ a ∷ b ∷ []) (make a b) (f a b)
+said-two word make (a ∷ b ∷ c ∷ args) f = tt
+
+abbrev SaidOwn : List (List ℕ) → Option (Option Step) → Type 0
+SaidOwn words None = ⊤
+SaidOwn words (Some o) = SaidStep words o
+
+own-if : (word : List ℕ) (args : List (List ℕ)) (called : List ℕ) (o : Option Step) (p : Option (Option Step)) → SaidStep (called ∷ args) o → SaidOwn (word ∷ args) p
+    → SaidOwn (word ∷ args) (if bytes_eq word called then Some o else p)
+own-if word args called o p here later = by (bytes_eq word called) refl
+  where
+    by : (b : Bool) → bytes_eq word called ≡ b → SaidOwn (word ∷ args) (if b then Some o else p)
+    by true is = subst (λ (w : List ℕ). SaidStep (w ∷ args) o) (sym (equal word called is)) here
+    by false is = later
+
+said-other : (word : List ℕ) (args : List (List ℕ)) → SaidOwn (word ∷ args) (other_of word args)
+said-other word args =
+    own-if word args (codes "until") (until_of args) _ (said-until args)
+    (own-if word args (codes "dial") (of_two (λ n a. step.Dial n a) args) _ (said-two (codes "dial") (λ n a. step.Dial n a) args (λ a b. refl))
+    (own-if word args (codes "announce") (of_two (λ n a. step.Announce n a) args) _ (said-two (codes "announce") (λ n a. step.Announce n a) args (λ a b. refl))
+    (own-if word args (codes "listen") (of_two (λ n f. step.Listen n f) args) _ (said-two (codes "listen") (λ n f. step.Listen n f) args (λ a b. refl))
+    (own-if word args (codes "accept") (of_two (λ n f. step.Accept n f) args) _ (said-two (codes "accept") (λ n f. step.Accept n f) args (λ a b. refl))
+    (own-if word args (codes "reject") (of_one (λ n. step.Reject n) args) _ (said-one (codes "reject") (λ n. step.Reject n) args (λ a. refl))
+    (own-if word args (codes "hangup") (of_one (λ n. step.Hangup n) args) None (said-one (codes "hangup") (λ n. step.Hangup n) args (λ a. refl)) tt))))))
+
+said-step : (word : List ℕ) (args : List (List ℕ)) → SaidOwn (word ∷ args) (step_of word args)
+said-step word args =
+    own-if word args (codes "open") (open_of args) _ (said-open args)
+    (own-if word args (codes "read") (read_of args) _ (said-read args)
+    (own-if word args (codes "write") (write_of args) _ (said-write args)
+    (own-if word args (codes "writex") (writex_of args) _ (said-writex args)
+    (own-if word args (codes "close") (of_one (λ n. step.Close n) args) _ (said-one (codes "close") (λ n. step.Close n) args (λ a. refl))
+    (own-if word args (codes "ls") (of_one (λ p. step.Ls p) args) _ (said-one (codes "ls") (λ p. step.Ls p) args (λ a. refl))
+    (own-if word args (codes "cs") (cs_of args) (other_of word args) (said-cs args) (said-other word args)))))))
+
+-- Lines.
+
+abbrev SaidLine : List (List ℕ) → Result WorldLine LineCause → Type 0
+SaidLine words (Ok l) = Spells words l
+SaidLine words (Err c) = ⊤
+
+said-argued : (words : List (List ℕ)) (o : Option WorldLine) → Said words o → SaidLine words (argued o)
+said-argued words None h = tt
+said-argued words (Some l) h = h
+
+line-if : (word : List ℕ) (args : List (List ℕ)) (called : List ℕ) (o : Option WorldLine) (r : Result WorldLine LineCause) → Said (called ∷ args) o → SaidLine (word ∷ args) r
+    → SaidLine (word ∷ args) (if bytes_eq word called then argued o else r)
+line-if word args called o r here later = by (bytes_eq word called) refl
+  where
+    by : (b : Bool) → bytes_eq word called ≡ b → SaidLine (word ∷ args) (if b then argued o else r)
+    by true is = subst (λ (w : List ℕ). SaidLine (w ∷ args) (argued o)) (sym (equal word called is)) (said-argued (called ∷ args) o here)
+    by false is = later
+
+said-read_step : (words : List (List ℕ)) (o : Option (Option Step)) → SaidOwn words o → SaidLine words (step_read o)
+said-read_step words None h = tt
+said-read_step words (Some None) h = tt
+said-read_step words (Some (Some s)) h = h
+
+said-words : (words : List (List ℕ)) → SaidLine words (words_line words)
+said-words [] = tt
+said-words (word ∷ args) =
+    line-if word args (codes "ndb") (ndb_of args) _ (said-ndb args)
+    (line-if word args (codes "networld") (networld_of args) _ (said-networld args)
+    (line-if word args (codes "end") (end_of args) _ (said-number (codes "end") args 1 1000000000 (λ m. line.End m) (omega arith) (λ n. refl) (λ n e. e))
+    (line-if word args (codes "seed") (seed_of args) _ (said-number (codes "seed") args 0 18446744073709551615 (λ s. line.Seed s) (omega arith) (λ n. refl) (λ n e. e))
+    (line-if word args (codes "medium") (medium_of args) _ (said-medium args)
+    (line-if word args (codes "rates") (rates_of args) _ (said-rates args)
+    (line-if word args (codes "fate") (fate_of args) _ (said-fate args)
+    (line-if word args (codes "host") (host_of args) _ (said-host args)
+    (line-if word args (codes "if") (if_of args) _ (said-if args)
+    (line-if word args (codes "route") (route_of args) _ (said-route args)
+    (line-if word args (codes "start") (start_of args) _ (said-number (codes "start") args 1 4294967295 (λ n. line.OfHost (host.Start n)) (omega arith) (λ n. refl) (λ n e. e))
+    (line-if word args (codes "script") (script_of args) _ (said-script args)
+    (said-read_step (word ∷ args) (step_of word args) (said-step word args)))))))))))))
+
+-- what is read of a line is what it spells
+pub spelled : (text : List ℕ) (l : WorldLine) → read_line text ≡ Ok l → (text ≡ spelling l) × (is_fit l ≡ true)
+spelled text l e =
+    let s : Spells (words_of text) l = subst (SaidLine (words_of text)) e (said-words (words_of text)) in
+    (sym (join_with_byte-slice_split 32 text) ∙ s.is, s.fit)
