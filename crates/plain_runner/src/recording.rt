@@ -1,0 +1,98 @@
+//! Recording the turn of a caller: its actor steps, and from the outcome come the entry and what the caller owes and does next.
+ghost use Rattle.std.specs.Prelude.{◌≡◌, ◌+◌, ◌<◌, ◌^◌, ℕ, IfOk, OnOk};
+ghost use Rattle.net_base.specs.declared.actor.ActorName.{ActorName as Name};
+ghost use Rattle.net_base.specs.declared.world.World.{World as AnyWorld};
+ghost use Rattle.net_base.specs.Actors.{Actor};
+ghost use Rattle.net_base.specs.Legal.{IsMove};
+ghost use Rattle.duties.specs.Showing.{shows};
+ghost use Rattle.net_actors.specs.Together.{AreActors};
+ghost use Rattle.plain_runner.specs.Recording.{CanRecord, DuesOf, OwesAll, Records};
+
+use crate::caller::Caller;
+use crate::turn::Turn;
+use duties::{Duties, Shown, WorldWays, entry_of, most_owed};
+use net_actors::{Actors, Dues};
+use net_base::{ActorName, Entry, Event, Outcome, Work};
+use std::alloc::{AllocError, Global};
+
+/// Records the turn of a caller, which is ready, with this stamp and at this moment.
+pub fn record(
+    alloc: Global,
+    caller: &mut Caller<'_>,
+    number: u32,
+    turn: Turn,
+    net: &mut Actors,
+    ways: &WorldWays,
+    stamp: u64,
+    now: u64,
+) -> Result<Entry, AllocError>
+    requires { CanRecord number turn caller.old net.old ways.now stamp now }
+    ensures { IfOk result (Records number turn caller.old caller.new net.old net.new ways.now stamp now) }
+{
+    let dues = dues_of_move(alloc, net, &turn)?;
+    let Turn { actor, work, cites } = turn;
+    let mut outcome = net.step(actor, now, &work)?;
+    let reply = outcome.copy.take().unwrap();
+    let shown = owe(ways, actor, stamp, work, outcome, dues, &mut caller.owed)?;
+    caller.recorded(cites, reply)?;
+    Ok(entry_of(actor, number, now, cites, shown))
+}
+
+// When the conversations are due, where the turn is a move of the clock.
+fn dues_of_move(alloc: Global, net: &Actors, turn: &Turn) -> Result<Option<Dues>, AllocError>
+    ensures { IfOk result (λ dues. (w : AnyWorld) (states : Name → Actor) → AreActors w net.now states
+        → DuesOf w states turn.now.actor turn.now.work.event dues) }
+{
+    match (turn.actor, &turn.work.event) {
+        (ActorName::Clock, Event::Move { .. }) => Ok(Some(net.dues(alloc)?)),
+        _ => Ok(None),
+    }
+}
+
+// What the step owes is owed after the rest. The answer is what the entry shows.
+fn owe(
+    ways: &WorldWays,
+    actor: ActorName,
+    stamp: u64,
+    work: Work,
+    outcome: Outcome,
+    dues: Option<Dues>,
+    owed: &mut Duties,
+) -> Result<Shown, AllocError>
+    ensures shown { IfOk result (λ s. s ≡ shows work.event outcome) }
+    ensures owes { OnOk result (OwesAll ways.now actor stamp work outcome dues owed.old owed.new) }
+{
+    match dues {
+        Some(dues) => owe_ticks(stamp, work, outcome, &dues, owed),
+        None => {
+            owed.reserve(most_owed(&outcome))?;
+            Ok(ways.owe(actor, stamp, work, outcome, owed))
+        }
+    }
+}
+
+// A move owes the ticks of the conversations that are due.
+fn owe_ticks(
+    stamp: u64,
+    work: Work,
+    outcome: Outcome,
+    dues: &Dues,
+    owed: &mut Duties,
+) -> Result<Shown, AllocError>
+    ensures shown { IfOk result (λ s. s ≡ shows work.event outcome) }
+{
+    owed.reserve(dues.as_slice().len())?;
+    if let Event::Move { moment } = &work.event {
+        owed.owe_ticks(stamp, *moment, dues.as_slice());
+    }
+    let emits = match &outcome.emit {
+        Some(packet) => Some(packet.header()),
+        None => None,
+    };
+    Ok(Shown {
+        event: work.event,
+        reply: outcome.reply,
+        emits,
+        ended: outcome.ended,
+    })
+}
