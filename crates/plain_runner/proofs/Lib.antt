@@ -1,0 +1,9 @@
+pub mod Unmoved
+pub mod Recorded
+pub mod Rounding
+pub mod Ranges
+pub mod Calming
+pub mod Opening
+pub mod Halting
+pub mod Standing
+pub mod Could

@@ -1,11 +1,12 @@
 -- Turns of callers in rounds, and what comes after a round that recorded nothing.
-use Rattle.std.specs.Prelude.{◌≡◌, ℕ, ◌<◌, ◌⊎◌, ◌==◌, ◌||◌, ◌&&◌, not, Bool, true, false, List, length, Option, Some, None}
+use Rattle.std.specs.Prelude.{◌≡◌, ℕ, ◌<◌, ◌⊎◌, ◌==◌, ◌||◌, ◌&&◌, not, Bool, true, false, List, filter_map, length, map, Option, Some, None}
 use Rattle.net_base.specs.declared.history.Entry.{Entry}
 use Rattle.net_base.specs.declared.world.World.{World}
 use Rattle.net_base.specs.Callers.{caller_count, clock_number}
-use Rattle.net_base.specs.Calm.{can_go_on, done, limited, most_entries, owes, stopped}
+use Rattle.duties.specs.declared.due.Due.{Due}
+use Rattle.net_base.specs.Calm.{awaited_moment, callers, can_go_on, done, limited, most_entries, owes, stopped}
 use Rattle.net_base.specs.Net.{Net, after}
-use Rattle.net_base.specs.Next.{by}
+use Rattle.net_base.specs.Next.{by, next}
 use Rattle.plain_runner.specs.Tracks.{Tracks}
 use Rattle.plain_runner.specs.Turns.{may_turn}
 use Rattle.plain_runner.specs.declared.rounds.RunEnd.{RunEnd}
@@ -44,3 +45,11 @@ GoesOrEnds w old new (Some e) = (new ≡ old) × EndsSo w (after w old.history) 
 -- after a round that recorded nothing
 abbrev pub AreThrough : World → Runner → Type 0
 AreThrough w r = (c : ℕ) → c < caller_count w → IsThrough w r.history c
+
+-- the moments for which callers wait
+abbrev pub awaited_moments : World → List Entry → List ℕ
+awaited_moments w h = filter_map (λ (c : ℕ). awaited_moment (next w h c)) (callers w)
+
+-- the moments at which these are due
+abbrev pub due_moments : List Due → List ℕ
+due_moments dues = map (λ (d : Due). d.due) dues

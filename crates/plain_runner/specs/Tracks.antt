@@ -28,6 +28,10 @@ pub record Tracks (w : World) (r : Runner) : Type 0 where
   pub ways_are : AreWaysOfWorld w r.ways
   pub moment_is : r.moment ≡ moment w r.history
 
+-- a run of some world
+abbrev pub IsRun : Runner → Type 0
+IsRun r = (w : World) × Tracks w r
+
 -- an entry of this turn was recorded
 pub record RecordedSo (w : World) (old new : Runner) (c : ℕ) (t : Turn) : Type 0 where
   pub tracks : Tracks w new
@@ -48,6 +52,10 @@ pub record Grows (w : World) (old new : Runner) (c : ℕ) : Type 0 where
 pub record IsReady (w : World) (r : Runner) (c : ℕ) : Type 0 where
   pub room : length (by r.history c) < most_entries
   pub ready : may_turn w r.history c ≡ true
+
+-- so in some world
+abbrev pub IsReadyRun : Runner → ℕ → Type 0
+IsReadyRun r c = (w : World) × Tracks w r × IsReady w r c
 
 -- a run of this world while the turn of a caller, which is ready, is recorded: it was taken from what is kept of the caller
 pub record IsBefore (w : World) (r : Runner) (c : ℕ) (t : Turn) : Type 0 where

@@ -1,18 +1,21 @@
 //! How a run stands, and where the clock moves.
-ghost use Rattle.std.specs.Prelude.{◌≡◌, ◌<◌, IfOk, ℕ, false, length, Some, slice_get};
+ghost use Rattle.std.specs.Prelude.{◌≡◌, ◌<◌, IfOk, ℕ, false, length, option_to_list, Some, slice_get};
 ghost use Rattle.std.specs.List.{list_any};
 ghost use Rattle.net_base.specs.declared.world.World.{World as AnyWorld};
 ghost use Rattle.net_base.specs.declared.world.Script.{Script as AnyScript};
 ghost use Rattle.net_base.specs.Calm as calm;
 ghost use Rattle.net_base.specs.Net.{after};
-ghost use Rattle.net_base.specs.Next.{is_unfinished};
+ghost use Rattle.net_base.specs.Next.{finished_by, is_unfinished, own_replies};
 ghost use Rattle.net_base.specs.Summary.{answered_by, answered_steps, end_word};
 ghost use Rattle.transcript.specs.RunStatus.{word_of};
-ghost use Rattle.plain_runner.specs.Rounds.{could};
+ghost use Rattle.plain_runner.specs.Rounds.{awaited_moments, could, due_moments};
 ghost use Rattle.plain_runner.specs.Tracks.{Tracks};
+ghost use Rattle.plain_runner.specs.Turns.{asks_of};
 
 use crate::caller::Role;
-use crate::runner::{MOST_ENTRIES, Runner};
+use crate::runner::Runner;
+use crate::turn::Turn;
+use duties::Due;
 use net_base::{Event, World};
 use std::alloc::AllocError;
 use transcript::End;
@@ -77,20 +80,36 @@ impl<'a> Runner<'a> {
         ensures { result ≡ calm.unfinished world.now (after world.now self.now.history) }
     {
         for caller in 0..world.scripts.len() {
-            if self.finished(caller) < world.scripts.as_slice()[caller].steps.len() {
+            if self.has_left(caller) {
                 return true;
             }
         }
         false
     }
 
+    // Whether a step of a script isn't finished.
+    fn has_left(&self, caller: usize) -> bool
+        requires { caller < length self.now.callers.items }
+        ensures { (w : AnyWorld) (s : AnyScript) → Tracks w self.now → slice_get w.scripts caller ≡ Some s
+            → result ≡ is_unfinished self.now.history caller s }
+    {
+        match &self.callers[caller].role {
+            Role::Script(script, player) => player.is_unfinished(script),
+            Role::Courier(_) => false,
+            Role::Clock => false,
+        }
+    }
+
     // How many steps of a script are finished.
     fn finished(&self, caller: usize) -> usize
         requires { caller < length self.now.callers.items }
+        ensures { (w : AnyWorld) (s : AnyScript) → Tracks w self.now → slice_get w.scripts caller ≡ Some s
+            → result ≡ finished_by (own_replies self.now.history caller) s }
     {
         match &self.callers[caller].role {
             Role::Script(_, player) => player.finished(),
-            _ => 0,
+            Role::Courier(_) => 0,
+            Role::Clock => 0,
         }
     }
 
@@ -100,10 +119,11 @@ impl<'a> Runner<'a> {
         ensures { (w : AnyWorld) (s : AnyScript) → Tracks w self.now → slice_get w.scripts caller ≡ Some s
             → result ≡ answered_by w self.now.history (caller, s) }
     {
-        if self.callers[caller].owed.is_empty() {
+        let kept = &self.callers[caller];
+        if kept.owed.is_empty() {
             return self.finished(caller);
         }
-        self.callers[caller].before
+        kept.before
     }
 
     /// How many steps of all scripts are answered.
@@ -131,21 +151,33 @@ impl<'a> Runner<'a> {
 
     // The least of a moment and those for which callers wait.
     fn least_awaited(&self, last: u64) -> u64
+        ensures { (w : AnyWorld) → Tracks w self.now → result ≡ calm.least last (awaited_moments w self.now.history) }
     {
         let mut least = last;
         for caller in &self.callers {
-            if let Some(turn) = &caller.next {
-                if let Event::Until { moment } = turn.work.event {
-                    least = least.min(moment);
-                }
-            }
+            least = earlier(least, &caller.next);
         }
         least
     }
 }
 
+// The earlier of a moment and that for which a turn waits, if it does.
+fn earlier(least: u64, turn: &Option<Turn>) -> u64
+    ensures { result ≡ calm.least least (option_to_list (calm.awaited_moment (asks_of turn.now))) }
+{
+    let Some(turn) = turn else {
+        return least;
+    };
+    match turn.work.event {
+        Event::Until { moment } => least.min(moment),
+        _ => least,
+    }
+}
+
 // The least of a moment and due ones.
-fn least_due(dues: &[duties::Due], last: u64) -> u64 {
+fn least_due(dues: &[Due], last: u64) -> u64
+    ensures { result ≡ calm.least last (due_moments dues.now) }
+{
     let mut least = last;
     for due in dues {
         least = least.min(due.due);

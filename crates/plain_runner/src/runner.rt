@@ -6,7 +6,7 @@ ghost use Rattle.net_base.specs.Net.{moment_after as spec_moment_after};
 ghost use Rattle.net_base.specs.Next.{by};
 ghost use Rattle.net_base.specs.World.{IsWorld};
 ghost use Rattle.plain_runner.specs.Rounds.{Turned, TurnedAll};
-ghost use Rattle.plain_runner.specs.Tracks.{AreCallers, Grows, IsReady, MayRecord, Recording, Tracks};
+ghost use Rattle.plain_runner.specs.Tracks.{AreCallers, Grows, IsReady, IsReadyRun, IsRun, MayRecord, Recording, Tracks};
 ghost use Rattle.plain_runner.specs.Turns.{may_turn};
 
 use crate::caller::Caller;
@@ -54,6 +54,7 @@ impl<'a> Runner<'a> {
 
 // All callers of a world, by number.
 fn callers_of<'a>(alloc: Global, world: &'a World) -> Result<Vec<Caller<'a>>, AllocError>
+    requires { IsWorld world.now }
     ensures { IfOk result (λ callers. AreCallers world.now [] callers.items) }
 {
     let mut callers = Vec::new(alloc);
@@ -91,7 +92,8 @@ impl<'a> Runner<'a> {
 
     /// The turn of a caller, where it is ready and the caller has room. It tells whether an entry was recorded.
     fn turn(&mut self, caller: usize) -> Result<bool, AllocError>
-        requires { caller < length self.old.callers.items }
+        requires caller { caller < length self.old.callers.items }
+        requires run { IsRun self.old }
         ensures { IfOk result (λ recorded. (w : AnyWorld) → Tracks w self.old → Turned w self.old self.new caller recorded) }
     {
         if self.is_full(caller) || !self.may_turn(caller) {
@@ -104,6 +106,7 @@ impl<'a> Runner<'a> {
     /// Records what a caller owes first, or its next event where it owes nothing.
     pub fn record_next(&mut self, caller: usize) -> Result<(), AllocError>
         requires caller { caller < length self.old.callers.items }
+        requires ready { IsReadyRun self.old caller }
         ensures { OnOk result ((w : AnyWorld) → Tracks w self.old → IsReady w self.old caller → Grows w self.old self.new caller) }
     {
         match self.callers[caller].take_turn() {
@@ -130,6 +133,7 @@ impl<'a> Runner<'a> {
 
     /// One turn for each caller. It tells whether an entry was recorded.
     pub fn round(&mut self) -> Result<bool, AllocError>
+        requires { IsRun self.old }
         ensures { IfOk result (λ recorded. (w : AnyWorld) → Tracks w self.old → TurnedAll w self.old self.new (length self.old.callers.items) recorded) }
     {
         let mut recorded = false;
