@@ -7,3 +7,4 @@ pub mod Opening
 pub mod Halting
 pub mod Standing
 pub mod Could
+pub mod Targets

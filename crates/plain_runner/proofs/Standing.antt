@@ -42,15 +42,15 @@ script_role w r c k s st at is = by_role k.role refl (st.callers_are.each c k at
 
 -- Rows of scripts.
 
-drop_one : (xs : List Script) (n : ℕ) (s : Script) → slice_get xs n ≡ Some s → drop n xs ≡ s ∷ drop (suc n) xs
+drop_one : {A : Type 0} (xs : List A) (n : ℕ) (s : A) → slice_get xs n ≡ Some s → drop n xs ≡ s ∷ drop (suc n) xs
 drop_one [] n s is = absurd (none-some s is)
-drop_one (x ∷ xs) zero s is = ap (λ (y : Script). y ∷ xs) (same_Some x s is)
+drop_one (x ∷ xs) zero s is = ap (λ y. y ∷ xs) (same_Some x s is)
 drop_one (x ∷ xs) (suc n) s is = drop_one xs n s is
 
-next_one : (xs : List Script) (n : ℕ) (s : Script) → slice_get xs n ≡ Some s → drop n xs ≡ s ∷ drop (n + 1) xs
+pub next_one : {A : Type 0} (xs : List A) (n : ℕ) (s : A) → slice_get xs n ≡ Some s → drop n xs ≡ s ∷ drop (n + 1) xs
 next_one xs n s is = let e : suc n ≡ n + 1 = omega arith in subst (λ (k : ℕ). drop n xs ≡ s ∷ drop k xs) e (drop_one xs n s is)
 
-past_all : (xs : List Script) (n : ℕ) → length xs ≤ n → drop n xs ≡ []
+pub past_all : {A : Type 0} (xs : List A) (n : ℕ) → length xs ≤ n → drop n xs ≡ []
 past_all [] zero le = refl
 past_all [] (suc n) le = refl
 past_all (x ∷ xs) zero le = absurd (omega (arith, le))

@@ -1,6 +1,11 @@
-use Rattle.std.proofs.Common.{arith}
+use Rattle.std.proofs.Common.{◌≡◌, ◌==◌, ◌&&◌, ℕ, Bool, false, length, refl, sym, ◌∙◌, arith}
+use Rattle.net_base.specs.Calm.{most_entries}
+use Rattle.net_base.specs.Next.{by}
+use Rattle.plain_runner.specs.Rounds.{could}
 use Rattle.plain_runner.proofs.Could.{limit_told, none_told}
+use Rattle.plain_runner.proofs.Ranges.{and_left, and_right, none_more}
 use Rattle.plain_runner.proofs.runner.Runner.busy_end.Goals as goal
+use Rattle.plain_runner.proofs.runner.Runner.busy_end.Goals.{else-is_full-via-then-is_full+else-could, else-is_full-via-else-is_full}
 
 pub returns-then-could : goal.returns-then-could
 returns-then-could c = λ w s busy.
@@ -8,7 +13,15 @@ returns-then-could c = λ w s busy.
     (c.is_full.ensures w s) c.if-is_full.true (c.could.ensures w s) c.if-could.true
 
 pub loop-caller-preserved : goal.loop-caller-preserved
-loop-caller-preserved c = ?
+loop-caller-preserved c = λ w s.
+    let h = c.args.self.now.history in
+    let n = c.loop-caller.caller in
+    let none : ((length (by h n) == most_entries) && could w h n) ≡ false =
+    elim c.else-is_full.branch [
+      | else-is_full-via-then-is_full+else-could v ↦ and_right (length (by h n) == most_entries) (could w h n) (sym (v.could.ensures w s) ∙ v.if-could.false)
+      | else-is_full-via-else-is_full v ↦ and_left (length (by h n) == most_entries) (could w h n) (sym (c.is_full.ensures w s) ∙ v.if-is_full.false)
+    ] in
+    none_more (λ (k : ℕ). (length (by h k) == most_entries) && could w h k) n false (c.loop-caller.invariant w s) (sym none) refl
 
 pub returns : goal.returns
 returns c = λ w s busy.

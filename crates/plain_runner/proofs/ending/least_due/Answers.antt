@@ -1,0 +1,9 @@
+use Rattle.plain_runner.proofs.Recorded.{got}
+use Rattle.plain_runner.proofs.Targets.{due_all, due_next}
+use Rattle.plain_runner.proofs.ending.least_due.Goals as goal
+
+pub loop-due-preserved : goal.loop-due-preserved
+loop-due-preserved c = ?
+
+pub returns : goal.returns
+returns c = due_all c.args.dues.now c.loop-due.due-index c.loop-due.least c.args.last c.loop-due-test.false c.loop-due.invariant
