@@ -105,7 +105,7 @@ could_is w net c other (OfClock at) = absurd (other at)
 clock_could : (w : World) (net : Net) → could_record w net (caller_of w (clock_number w)) (clock_number w) ≡ (owes net (clock_number w) || movable w net)
 clock_could w net = ap (λ (k : Caller). could_record w net k (clock_number w)) (clock_is w)
 
-or_parts : (a b : Bool) → (a || b) ≡ false → (a ≡ false) × (b ≡ false)
+pub or_parts : (a b : Bool) → (a || b) ≡ false → (a ≡ false) × (b ≡ false)
 or_parts true b is = absurd (true≢false is)
 or_parts false b is = (refl, is)
 
@@ -140,7 +140,7 @@ some_limited w net c lt full could = some_range (at_limit w net) (caller_count w
 
 -- The clock at its limit, where it could move.
 
-clock_limited : (w : World) (net : Net) → movable w net ≡ true → (length (by net.past (clock_number w)) == most_entries) ≡ true → limited w net ≡ true
+pub clock_limited : (w : World) (net : Net) → movable w net ≡ true → (length (by net.past (clock_number w)) == most_entries) ≡ true → limited w net ≡ true
 clock_limited w net moves full =
     some_range (at_limit w net) (caller_count w) 0 (clock_number w) (omega arith) (omega arith)
     (and_both _ _ full (clock_could w net ∙ or_right (owes net (clock_number w)) (movable w net) moves))

@@ -8,3 +8,5 @@ pub mod Halting
 pub mod Standing
 pub mod Could
 pub mod Targets
+pub mod Advancing
+pub mod Following

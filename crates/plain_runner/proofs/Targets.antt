@@ -1,15 +1,17 @@
 -- Where the clock moves.
-use Rattle.std.proofs.Common.{◌≡◌, ℕ, zero, suc, ◌+◌, ◌-◌, ◌<◌, ◌≤◌, List, [], ◌∷◌, ◌++◌, length, map, min, drop, filter_map, option_to_list, Option, Some, None, slice_get, refl, sym, ap, subst, ◌∙◌, arith}
+use Rattle.std.proofs.Common.{◌≡◌, ℕ, zero, suc, ◌+◌, ◌-◌, ◌<◌, ◌≤◌, List, [], ◌∷◌, ◌++◌, length, map, min, drop, get_or, filter_map, option_to_list, Option, Some, None, slice_get, refl, sym, ap, subst, ◌∙◌, arith}
 use Rattle.std.specs.List.{flat_map, range_with_len}
 use Rattle.std.proofs.Math.Nat.{min_comm}
-use Rattle.std.proofs.lemmas.List.Elements.{filter_map-append, map-append}
+use Rattle.std.proofs.lemmas.List.{map-append}
+use Rattle.std.proofs.lemmas.Option.{slice_get-get_or}
+use Rattle.std.proofs.lemmas.List.Elements.{filter_map-append}
 use Rattle.net_base.specs.declared.actor.ActorName.{ActorName}
 use Rattle.net_base.specs.declared.actor.ActorName.TheVariants as name
 use Rattle.net_base.specs.declared.address.Proto.{Proto}
 use Rattle.net_base.specs.declared.address.Proto.TheVariants as proto
 use Rattle.net_base.specs.declared.history.Entry.{Entry}
 use Rattle.net_base.specs.declared.world.World.{World}
-use Rattle.net_base.specs.Actors.{Actor}
+use Rattle.net_base.specs.Actors.{Actor, slot_count}
 use Rattle.net_base.specs.Callers.{caller_count, caller_of}
 use Rattle.net_base.specs.Calm.{awaited_moment, callers, least, target}
 use Rattle.net_base.specs.Duties.{conversations, due_of, slots_of}
@@ -48,6 +50,11 @@ due_next dues n now last d at all =
     ap (λ (m : ℕ). least m (due_moments (drop (n + 1) dues))) (min_comm now d.due) ∙ least_min now d.due (due_moments (drop (n + 1) dues))
     ∙ ap (λ (ds : List Due). least now (due_moments ds)) (sym (next_one dues n d at)) ∙ all
 
+pub due_step : (dues : List Due) (n now new last : ℕ) (d : Due) → n < length dues → new ≡ min now (get_or dues n d).due → least now (due_moments (drop n dues)) ≡ least last (due_moments dues)
+    → least new (due_moments (drop (n + 1) dues)) ≡ least last (due_moments dues)
+due_step dues n now new last d lt is all =
+    ap (λ (m : ℕ). least m (due_moments (drop (n + 1) dues))) is ∙ due_next dues n now last (get_or dues n d) (slice_get-get_or dues n d lt) all
+
 pub due_all : (dues : List Due) (n now last : ℕ) → length dues ≤ n → least now (due_moments (drop n dues)) ≡ least last (due_moments dues) → now ≡ least last (due_moments dues)
 due_all dues n now last le all = ap (λ (ds : List Due). least now (due_moments ds)) (sym (past_all dues n le)) ∙ all
 
@@ -72,7 +79,7 @@ agree_hosts : (actors : ActorName → Actor) (hs : List ℕ) → Agree actors (f
 agree_hosts actors [] = refl
 agree_hosts actors (h ∷ hs) =
     agree_append actors (slots_of h proto.Il ++ slots_of h proto.Udp) (flat_map (λ (k : ℕ). slots_of k proto.Il ++ slots_of k proto.Udp) hs)
-    (agree_append actors (slots_of h proto.Il) (slots_of h proto.Udp) (agree_slots actors h proto.Il _) (agree_slots actors h proto.Udp _)) (agree_hosts actors hs)
+    (agree_append actors (slots_of h proto.Il) (slots_of h proto.Udp) (agree_slots actors h proto.Il (range_with_len 0 slot_count)) (agree_slots actors h proto.Udp (range_with_len 0 slot_count))) (agree_hosts actors hs)
 
 dues_agree : (w : World) (actors : ActorName → Actor) → due_moments (dues_of w actors) ≡ filter_map (λ (a : ActorName). due_of (actors a)) (conversations w)
 dues_agree w actors = agree_hosts actors (range_with_len 0 (length w.hosts))

@@ -21,7 +21,7 @@ loop-caller-preserved c = λ w s.
     let l = c.loop-caller in
     let either : c.if-recorded.recorded ≡ (l.recorded || c.in_ok-turned.turned) =
     elim c.if-recorded.branch [
-      | then-recorded v ↦ v.recorded-is ∙ sym (ap (λ (b : Bool). b || c.in_ok-turned.turned) v.if-recorded.true)
+      | then-recorded v ↦ v.recorded-is ∙ v.if-recorded.true ∙ sym (ap (λ (b : Bool). b || c.in_ok-turned.turned) v.if-recorded.true)
       | else-recorded v ↦ v.recorded-is ∙ sym (ap (λ (b : Bool). b || c.in_ok-turned.turned) v.if-recorded.false)
     ] in
     subst (TurnedAll w c.args.self.now c.turn.new.self (l.caller + 1)) (sym either)
