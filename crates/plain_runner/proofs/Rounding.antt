@@ -11,7 +11,8 @@ use Rattle.net_base.specs.Net.{moment}
 use Rattle.net_base.specs.Next.{by}
 use Rattle.history_laws.proofs.Limits.{within}
 use Rattle.plain_runner.specs.Callers.{IsCaller, IsTurning, Takes, TakesIf}
-use Rattle.plain_runner.specs.Rounds.{AreThrough, IsThrough, Turned, TurnedAll}
+use Rattle.plain_runner.specs.declared.rounds.RunEnd.{RunEnd}
+use Rattle.plain_runner.specs.Rounds.{AreThrough, GoesOrEnds, IsThrough, Turned, TurnedAll}
 use Rattle.plain_runner.specs.Tracks.{Grows, IsBefore, IsReady, RecordedSo, Tracks}
 use Rattle.plain_runner.specs.Turns.{IsReadyTurn, IsTurn, may_turn}
 use Rattle.plain_runner.specs.Recording.{IsHistory}
@@ -90,3 +91,7 @@ is_ready w r c full may s counts few tells able = record {
   room = omega (arith, within w r.history c s.history.legal, eqb-false (length (by r.history c)) most_entries (sym counts ∙ few));
   ready = sym tells ∙ able;
 }
+
+-- the run that ended stands as it did
+pub ended : (w : World) (old new : Runner) (o : Option RunEnd) (e : RunEnd) → Tracks w old → GoesOrEnds w old new o → o ≡ Some e → Tracks w new
+ended w old new o e s goes is = let end = subst (GoesOrEnds w old new) is goes in subst (Tracks w) (sym end.0) s

@@ -46,7 +46,7 @@ pub still_in_time : (net : Net) (w : World) (e : Event) → IsStill e → IsInTi
 still_in_time net w (event.Move m) still = absurd still
 still_in_time net w _ still = tt
 
-duty_still : (w : World) (a : ActorName) (e : Event) (with : With) → IsKind w a e with → IsStill e
+pub duty_still : (w : World) (a : ActorName) (e : Event) (with : With) → IsKind w a e with → IsStill e
 duty_still w (name.Conv h p n) (event.Move m) with kind = absurd kind.2
 duty_still w (name.Dir h p) (event.Move m) with kind = absurd kind.1
 duty_still w (name.Medium k) (event.Move m) with kind = absurd kind.1
@@ -80,7 +80,7 @@ position_still h steps rs =
     (each_any (λ (s : Step). Says h IsStillAt s) (says_still h) steps)
     (each_any (λ (r : Reply). Unit {0}) (λ r. tt) rs)
 
-next_still : (k : Caller) (h : List Entry) (c : ℕ) (ask : Ask) → next_of k h c ≡ Some ask → IsStill ask.event
+pub next_still : (k : Caller) (h : List Entry) (c : ℕ) (ask : Ask) → next_of k h c ≡ Some ask → IsStill ask.event
 next_still (IsScript s) h c ask is = subst (IsNextEvent IsStillAt) is (position_still s.host s.steps (own_replies h c))
 next_still (IsCourier m) h c ask is = subst (IsNextEvent IsStillAt) is tt
 next_still IsClock h c ask is = absurd (none-some ask is)
