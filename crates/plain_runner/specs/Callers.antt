@@ -10,8 +10,7 @@ use Rattle.net_base.specs.Callers.{IsCourier, IsClock, caller_of}
 use Rattle.net_base.specs.Net.{owed}
 use Rattle.net_base.specs.Next.{by, finished_by, next, own_replies}
 use Rattle.net_base.specs.Steps.{Ask}
-use Rattle.script_player.specs.Playing.{IsAt}
-use Rattle.script_player.specs.declared.player.Player.{Player}
+use Rattle.script_player.specs.Players.{IsAt, Playing}
 use Rattle.script_task.specs.Fitting.{fits}
 use Rattle.plain_runner.specs.Turns.{AreOwn, IsTurn, OfDuty, asks_of, may_turn}
 use Rattle.plain_runner.specs.declared.caller.Caller.{Caller}
@@ -20,15 +19,14 @@ use Rattle.plain_runner.specs.declared.caller.Role.TheVariants as role
 use Rattle.plain_runner.specs.declared.turn.Turn.{Turn}
 
 -- a script as far as it was played, with how many steps were finished before its last own event
-pub record IsScriptAt (w : World) (h : List Entry) (c : ℕ) (p : Player) (before : ℕ) : Type 0 where
-  pub script : Script
+pub record IsScriptAt (w : World) (h : List Entry) (c : ℕ) (script : Script) (p : Playing) (before : ℕ) : Type 0 where
   pub is : slice_get w.scripts c ≡ Some script
   pub at : IsAt script (own_replies h c) p
   pub before_is : before ≡ finished_by (take (length (own_replies h c) - 1) (own_replies h c)) script
 
 -- who a caller is
 abbrev pub HasRole : World → List Entry → ℕ → Role → ℕ → Type 0
-HasRole w h c (role.Script p) before = IsScriptAt w h c p before
+HasRole w h c (role.Script script p) before = IsScriptAt w h c script.now p before
 HasRole w h c (role.Courier m) before = caller_of w c ≡ IsCourier m
 HasRole w h c role.Clock before = caller_of w c ≡ IsClock
 

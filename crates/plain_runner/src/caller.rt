@@ -7,7 +7,8 @@ ghost use Rattle.net_base.specs.Net.{after, moment};
 ghost use Rattle.net_actors.specs.Together.{AreActors};
 ghost use Rattle.net_base.specs.declared.actor.ActorName.TheVariants as name;
 ghost use Rattle.net_base.specs.declared.event.Event.TheVariants as event;
-ghost use Rattle.script_player.specs.Playing.{asks};
+ghost use Rattle.std.specs.Option.{option_map};
+ghost use Rattle.script_player.specs.Players.{asked as ask};
 ghost use Rattle.plain_runner.specs.Callers.{GoesOn, IsCaller, Takes, TakesIf};
 ghost use Rattle.plain_runner.specs.Turns.{AreOwn, IsOwn, OfDuty, ask_of, asks_of, may_turn};
 
@@ -21,7 +22,8 @@ use std::alloc::{AllocError, Global};
 /// Who a caller is.
 #[derive(Drop)]
 pub enum Role<'a> {
-    Script(Player<'a>),
+    /// A script, and how far it was played.
+    Script(&'a Script, Player),
     /// The courier of the medium of this number.
     Courier(u32),
     Clock,
@@ -43,10 +45,10 @@ impl<'a> Caller<'a> {
     pub fn script(alloc: Global, script: &'a Script) -> Result<Caller<'a>, AllocError>
         ensures { IfOk result (λ k. (w : AnyWorld) (c : ℕ) → slice_get w.scripts c ≡ Some script.now → IsCaller w [] c k) }
     {
-        let player = Player::new(alloc, script)?;
-        let next = asked(player.next()?);
+        let mut player = Player::new(alloc);
+        let next = asked(player.next(script)?);
         Ok(Caller {
-            role: Role::Script(player),
+            role: Role::Script(script, player),
             owed: Duties::new(alloc),
             next,
             entries: 0,
@@ -115,10 +117,10 @@ impl<'a> Caller<'a> {
             return Ok(());
         }
         match &mut self.role {
-            Role::Script(player) => {
+            Role::Script(script, player) => {
                 self.before = player.finished();
-                player.told(reply)?;
-                self.next = asked(player.next()?);
+                player.told(script, reply)?;
+                self.next = asked(player.next(script)?);
             }
             Role::Courier(medium) => self.next = Some(taking(*medium)),
             Role::Clock => self.next = None,
@@ -129,7 +131,7 @@ impl<'a> Caller<'a> {
 
 // What a script asks for, as a turn.
 fn asked(event: Option<(ActorName, Event)>) -> Option<Turn>
-    ensures asks { asks_of result ≡ asks event }
+    ensures asks { asks_of result ≡ option_map ask event }
     ensures own { AreOwn result }
 {
     match event {

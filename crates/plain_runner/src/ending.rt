@@ -89,7 +89,7 @@ impl<'a> Runner<'a> {
         requires { caller < length self.now.callers.items }
     {
         match &self.callers[caller].role {
-            Role::Script(player) => player.finished(),
+            Role::Script(_, player) => player.finished(),
             _ => 0,
         }
     }

@@ -10,8 +10,8 @@ ghost use Rattle.plain_runner.specs.Recording.{CanRecord, DuesOf, OwesAll, Recor
 
 use crate::caller::Caller;
 use crate::turn::Turn;
-use duties::{Duties, Shown, WorldWays, entry_of, most_owed};
-use net_actors::{Actors, Dues};
+use duties::{Due, Duties, Shown, WorldWays, entry_of, most_owed};
+use net_actors::Actors;
 use net_base::{ActorName, Entry, Event, Outcome, Work};
 use std::alloc::{AllocError, Global};
 
@@ -39,7 +39,7 @@ pub fn record(
 }
 
 // When the conversations are due, where the turn is a move of the clock.
-fn dues_of_move(alloc: Global, net: &Actors, turn: &Turn) -> Result<Option<Dues>, AllocError>
+fn dues_of_move(alloc: Global, net: &Actors, turn: &Turn) -> Result<Option<Vec<Due>>, AllocError>
     ensures { IfOk result (λ dues. (w : AnyWorld) (states : Name → Actor) → AreActors w net.now states
         → DuesOf w states turn.now.actor turn.now.work.event dues) }
 {
@@ -56,7 +56,7 @@ fn owe(
     stamp: u64,
     work: Work,
     outcome: Outcome,
-    dues: Option<Dues>,
+    dues: Option<Vec<Due>>,
     owed: &mut Duties,
 ) -> Result<Shown, AllocError>
     ensures shown { IfOk result (λ s. s ≡ shows work.event outcome) }
@@ -76,14 +76,14 @@ fn owe_ticks(
     stamp: u64,
     work: Work,
     outcome: Outcome,
-    dues: &Dues,
+    dues: &[Due],
     owed: &mut Duties,
 ) -> Result<Shown, AllocError>
     ensures shown { IfOk result (λ s. s ≡ shows work.event outcome) }
 {
-    owed.reserve(dues.as_slice().len())?;
+    owed.reserve(dues.len())?;
     if let Event::Move { moment } = &work.event {
-        owed.owe_ticks(stamp, *moment, dues.as_slice());
+        owed.owe_ticks(stamp, *moment, dues);
     }
     let emits = match &outcome.emit {
         Some(packet) => Some(packet.header()),
