@@ -1,0 +1,21 @@
+//! Laws of the histories of a world.
+ghost use Rattle.std.specs.Prelude.{◌<◌, ◌^◌, List, length};
+ghost use Rattle.net_base.specs.declared.actor.ActorName.{ActorName};
+ghost use Rattle.net_base.specs.declared.history.Entry.{Entry};
+ghost use Rattle.net_base.specs.declared.world.World.{World};
+ghost use Rattle.net_base.specs.Legal.{IsLegal, IsTimed};
+ghost use Rattle.net_base.specs.Net.{moment, works};
+ghost use Rattle.net_base.specs.World.{IsWorld};
+
+use history_laws::{callers_have_room, histories_grow, prefix_is_legal};
+
+/// A legal history of a world has few entries, of which each actor has some, and in a timed one it is early.
+pub fn histories_are_short()
+    ensures few { (w : World) (h : List Entry) → IsWorld w → IsLegal w h → length h < 2 ^ 30 }
+    ensures works { (w : World) (h : List Entry) (a : ActorName) → IsWorld w → IsLegal w h → length (works w h a) < 2 ^ 30 }
+    ensures early { (w : World) (h : List Entry) → IsWorld w → IsTimed w h → moment w h < 2 ^ 63 }
+{
+    callers_have_room();
+    histories_grow();
+    prefix_is_legal();
+}
