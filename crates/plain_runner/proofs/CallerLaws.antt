@@ -136,8 +136,8 @@ pub some_next : (w : World) (h : List Entry) (c : ℕ) (k : Caller) → (after w
 some_next w h c k past kept is may = by_next k.next refl
   where
     by_next : (o : Option Turn) → k.next ≡ o → IsSome k.next
-    by_next None next = absurd (false≢true (may_not w h c k past kept is next ∙ may))
-    by_next (Some t) next = subst (λ (o : Option Turn). IsSome o) (sym next) tt
+    by_next None none = absurd (false≢true (may_not w h c k past kept is none ∙ may))
+    by_next (Some t) some = subst (λ (o : Option Turn). IsSome o) (sym some) refl
 
 -- It goes on.
 
@@ -162,8 +162,8 @@ goes_owed old (Some n) reply some =
           let same = duty_replies h x c n is.caller_is is.cites_is in
           record {
             role_is = role_alike w h (h ++ x ∷ []) c old.role old.before same turns.role_is;
-            next_is = turns.next_is tt ∙ sym (next_alike (caller_of w c) h (h ++ x ∷ []) c same);
-            own = turns.own tt;
+            next_is = turns.next_is refl ∙ sym (next_alike (caller_of w c) h (h ++ x ∷ []) c same);
+            own = turns.own refl;
           };
     }
 
@@ -200,3 +200,7 @@ stands_script w h c s p told asked earlier before event reply x finished tells n
       },
       nexts (own_replies (h ++ x ∷ []) c) there ∙ sym (next_of_script w (h ++ x ∷ []) c s at.is),
     )
+
+pub cites_none : (o : Option ℕ) → is_some o ≡ false → o ≡ None
+cites_none None is = refl
+cites_none (Some n) is = absurd (true≢false is)

@@ -62,12 +62,12 @@ Records c t old new net after ways stamp now x =
 -- What a turn owes.
 
 -- a move is told when the conversations of the world are due
-abbrev pub DuesOf : World → (ActorName → Actor) → ActorName → Event → Option (Vec Due) → Type 0
+abbrev pub DuesOf : {Z : Type 0} → World → (ActorName → Actor) → ActorName → Event → Option (Vec Due Z) → Type 0
 DuesOf w actors a e None = IsMove a e → ⊥
 DuesOf w actors a e (Some dues) = IsMove a e × (dues.items ≡ dues_of w actors)
 
 -- where the dues are those of the world's conversations, what the step owes is owed after what was owed before
-abbrev pub OwesAll : List HostWays → ActorName → ℕ → Work → Outcome → Option (Vec Due) → Queue → Queue → Type 0
+abbrev pub OwesAll : {Z : Type 0} → List HostWays → ActorName → ℕ → Work → Outcome → Option (Vec Due Z) → Queue → Queue → Type 0
 OwesAll ways a stamp work o dues old new =
     (w : World) (actors : ActorName → Actor) (step : Step Actor)
     → AreWaysOfWorld w ways → DuesOf w actors a work.event dues → Gives w a work o step → Adds old new (duties w actors a stamp work step)
