@@ -1,5 +1,5 @@
 -- What a turn owes: the ticks of a move, or what its step owes.
-use Rattle.std.proofs.Common.{◌≡◌, ℕ, List, ◌++◌, Option, Some, None, Vec, refl, sym, ap, subst, ◌∙◌}
+use Rattle.std.proofs.Common.{◌≡◌, ℕ, List, ◌++◌, Option, Some, None, Vec, Result, Ok, Err, OnOk, refl, sym, ap, subst, ◌∙◌}
 use Rattle.ip_route.specs.Kept.{HostWays}
 use Rattle.net_base.specs.declared.actor.ActorName.{ActorName}
 use Rattle.net_base.specs.declared.actor.ActorName.TheVariants as name
@@ -14,7 +14,7 @@ use Rattle.net_base.specs.Actors.{Actor, actor_step}
 use Rattle.net_base.specs.Duties.{Duty, duties}
 use Rattle.net_base.specs.Legal.{IsMove}
 use Rattle.duties.specs.declared.due.Due.{Due}
-use Rattle.duties.specs.Owing.{Gives, Owes}
+use Rattle.duties.specs.Owing.{Gives}
 use Rattle.duties.specs.Queue.{Adds, Queue}
 use Rattle.duties.specs.Ticking.{MoveOwes, dues_of, ticks_of}
 use Rattle.duties.specs.WaysOf.{AreWaysOfWorld}
@@ -37,6 +37,9 @@ module _ {Z : Type 0} where
   move_owes law ways a stamp work o dues old new adds = λ w actors step are due gives.
       owes_ticks law w actors a stamp work.event work.with step gives.before gives.now old new dues.items due.0 gives.gives due.1 adds
 
-  pub step_owes : (ways : List HostWays) (a : ActorName) (stamp : ℕ) (work : Work) (o : Outcome) (old middle new : Queue) → middle.list ≡ old.list → Owes ways a stamp work o middle new → OwesAll {Z = Z} ways a stamp work o None old new
-  step_owes ways a stamp work o old middle new same owes = λ w actors step are none gives.
-      owes w are actors step gives none ∙ ap (λ (ds : List Duty). ds ++ duties w actors a stamp work step) same
+pub is_move : (a : ActorName) (e : Event) (m : ℕ) → a ≡ name.Clock → e ≡ event.Move m → IsMove a e
+is_move a e m clock moves = rw (clock, moves) tt
+
+pub on_ok_more : {A E : Type 0} (r : Result A E) (P Q : Type 0) → (P → Q) → OnOk r P → OnOk r Q
+on_ok_more (Ok x) P Q more is = more is
+on_ok_more (Err e) P Q more is = tt

@@ -7,8 +7,9 @@ use Rattle.plain_runner.proofs.caller.Caller.may_record.Goals as goal
 -- it owes a duty
 pub returns-in-Some : goal.returns-in-Some
 returns-in-Some c = λ w h number kept are now_is.
-    let first : slice_get c.args.self.now.owed.list 0 ≡ Some c.in-Some.duty.now = cc in
-    rw ← c.duty.view_is (c.ready.ensures w (after w h).actors are) ∙ may_duty w h number c.args.self.now c.in-Some.duty.now c.args.now kept first now_is
+    let d : Duty = record { actor = c.duty.inside.actor; event = c.duty.inside.work.event; with = c.duty.inside.work.with; cites = c.duty.inside.cites } in
+    let first : slice_get c.args.self.now.owed.list 0 ≡ Some d = cc in
+    c.ready.ensures w (after w h).actors are ∙ may_duty w h number c.args.self.now d c.args.now kept first now_is
 
 -- it owes nothing, and its next event is known
 pub returns-in-Some-next : goal.returns-in-Some-next
