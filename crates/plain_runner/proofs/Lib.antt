@@ -1,0 +1,5 @@
+mod Bounds
+mod CallerLaws
+mod Growing
+mod Replies
+mod Ticks

@@ -14,7 +14,7 @@ use Rattle.plain_runner.proofs.recording.record.Goals as goal
 pub returns : goal.returns
 returns c =
     let o : Outcome = c.in_ok-outcome.outcome in
-    let reply : c.unwrap-reply.result ≡ o.reply = ? in
+    let reply : c.unwrap-reply.result ≡ o.reply = same_Some _ _ (sym c.unwrap-reply.ensures ∙ c.take.ensures.value ∙ c.in_ok-outcome.ensures.copy) in
     records_so c.histories_grow.ensures.net c.histories_grow.ensures.past c.replies_fit.ensures.steps
     c.args.number c.args.turn c.args.caller.now c.recorded.new.self c.args.net.now c.step.new.self c.args.ways.now c.args.stamp c.args.now
     c.in_ok-dues.dues o c.owe.new.owed c.entry_of.result
