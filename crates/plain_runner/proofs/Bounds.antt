@@ -41,7 +41,8 @@ one_more n (x ∷ h) = elim (eqb_tells x.caller n) [
   | inr apart ↦ other_one n x h (nat_lt x.caller n) (one_more n h) refl apart.0 apart.1
 ]
   where
-    other_one : (n : ℕ) (x : Entry) (h : List Entry) (b : Bool) → length (below (suc n) h) ≡ length (below n h) + length (by h n) → nat_lt x.caller n ≡ b → (x.caller == n) ≡ false → (x.caller ≡ n → ⊥)
+    other_one : (n : ℕ) (x : Entry) (h : List Entry) (b : Bool) → length (below (suc n) h) ≡ length (below n h) + length (by h n) → nat_lt x.caller n ≡ b
+        → (x.caller == n) ≡ false → (x.caller ≡ n → ⊥)
         → length (below (suc n) (x ∷ h)) ≡ length (below n (x ∷ h)) + length (by (x ∷ h) n)
     other_one n x h true rest is other apart = rw (next_test x.caller n apart true is, is, other) (omega (arith, rest))
     other_one n x h false rest is other apart = rw (next_test x.caller n apart false is, is, other) rest
@@ -81,7 +82,8 @@ works_within : (w : World) (a : ActorName) (net : Net) (h : List Entry) → leng
 works_within w a net [] = omega arith
 works_within w a net (x ∷ xs) = by_actor (same_actor x.actor a) refl (works_within w a (next_net w net x) xs)
   where
-    by_actor : (b : Bool) → same_actor x.actor a ≡ b → length (works_from w a (next_net w net x) xs) ≤ length xs → length (works_from w a net (x ∷ xs)) ≤ suc (length xs)
+    by_actor : (b : Bool) → same_actor x.actor a ≡ b → length (works_from w a (next_net w net x) xs) ≤ length xs
+        → length (works_from w a net (x ∷ xs)) ≤ suc (length xs)
     by_actor true is rest = rw is (omega (arith, rest))
     by_actor false is rest = rw is (omega (arith, rest))
 
@@ -103,7 +105,8 @@ move_within : (w : World) (net : Net) (e : Event) → IsInTime net w e → net.m
 move_within w net (event.Move m) in_time before = subst (λ (n : ℕ). n ≤ w.end) (sym in_time.1) (least_within w.end _)
 move_within w net _ in_time before = before
 
-step_within : (w : World) (net : Net) (x : Entry) (s : Option (Step Actor)) → IsInTime net w x.event → net.moment ≤ w.end → (net_after w net x s).moment ≤ w.end
+step_within : (w : World) (net : Net) (x : Entry) (s : Option (Step Actor)) → IsInTime net w x.event → net.moment ≤ w.end
+    → (net_after w net x s).moment ≤ w.end
 step_within w net x None in_time before = before
 step_within w net x (Some s) in_time before = move_within w net x.event in_time before
 
@@ -118,8 +121,10 @@ moment_within grows w h timed = subst (λ (k : List Entry). moment w k ≤ w.end
     up_to zero le = omega arith
     up_to (suc k) le =
         let x = one_more_entry h k (omega (arith, le)) in
-        let net : after w (take (suc k) h) ≡ next_net w (after w (take k h)) x.0 = subst (λ (past : List Entry). after w past ≡ next_net w (after w (take k h)) x.0) (sym x.2) (grows w (take k h) x.0) in
-        subst (λ (n : Net). n.moment ≤ w.end) (sym net) (step_within w (after w (take k h)) x.0 (step_of w (after w (take k h)) x.0) (timed k x.0 x.1) (up_to k (omega (arith, le))))
+        let net : after w (take (suc k) h) ≡ next_net w (after w (take k h)) x.0 =
+            subst (λ (past : List Entry). after w past ≡ next_net w (after w (take k h)) x.0) (sym x.2) (grows w (take k h) x.0) in
+        subst (λ (n : Net). n.moment ≤ w.end) (sym net)
+            (step_within w (after w (take k h)) x.0 (step_of w (after w (take k h)) x.0) (timed k x.0 x.1) (up_to k (omega (arith, le))))
 
 pub is_early : Grows → (w : World) (h : List Entry) → IsWorld w → IsTimed w h → moment w h < 2 ^ 63
 is_early grows w h world timed =

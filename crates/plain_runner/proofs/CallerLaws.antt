@@ -57,19 +57,22 @@ none_is : (ds : List Duty) → slice_get ds 0 ≡ None → ds ≡ []
 none_is [] is = refl
 none_is (e ∷ ds) is = absurd (none-some e (sym is))
 
-pub owes_first : (w : World) (h : List Entry) (c : ℕ) (k : Caller) (d : Duty) → IsCaller w h c k → slice_get k.owed.list 0 ≡ Some d → owed w h c ≡ d ∷ drop 1 k.owed.list
+pub owes_first : (w : World) (h : List Entry) (c : ℕ) (k : Caller) (d : Duty) → IsCaller w h c k → slice_get k.owed.list 0 ≡ Some d
+    → owed w h c ≡ d ∷ drop 1 k.owed.list
 owes_first w h c k d kept is = sym kept.owes ∙ first_is k.owed.list d is
 
 pub owes_none : (w : World) (h : List Entry) (c : ℕ) (k : Caller) → IsCaller w h c k → slice_get k.owed.list 0 ≡ None → owed w h c ≡ []
 owes_none w h c k kept is = sym kept.owes ∙ none_is k.owed.list is
 
-pub may_duty : (w : World) (h : List Entry) (c : ℕ) (k : Caller) (d : Duty) (now : ℕ) → IsCaller w h c k → slice_get k.owed.list 0 ≡ Some d → now ≡ (after w h).moment
+pub may_duty : (w : World) (h : List Entry) (c : ℕ) (k : Caller) (d : Duty) (now : ℕ) → IsCaller w h c k → slice_get k.owed.list 0 ≡ Some d
+    → now ≡ (after w h).moment
     → is_some (actor_step w d.actor ((after w h).actors d.actor) now (record { event = d.event; with = d.with })) ≡ may_turn w h c
 may_duty w h c k d now kept is now_is =
     ap (λ (m : ℕ). is_some (actor_step w d.actor ((after w h).actors d.actor) m (record { event = d.event; with = d.with }))) now_is
     ∙ sym (ap (λ (ds : List Duty). may_turn_by w (after w h) c ds) (owes_first w h c k d kept is))
 
-may_next : (w : World) (h : List Entry) (c : ℕ) (k : Caller) → (after w h).past ≡ h → IsCaller w h c k → slice_get k.owed.list 0 ≡ None → may_turn w h c ≡ is_ready w (after w h) (asks_of k.next)
+may_next : (w : World) (h : List Entry) (c : ℕ) (k : Caller) → (after w h).past ≡ h → IsCaller w h c k → slice_get k.owed.list 0 ≡ None
+    → may_turn w h c ≡ is_ready w (after w h) (asks_of k.next)
 may_next w h c k past kept is =
     ap (λ (ds : List Duty). may_turn_by w (after w h) c ds) (owes_none w h c k kept is)
     ∙ ap (λ (l : List Entry). is_ready w (after w h) (next_of (caller_of w c) l c)) past
@@ -78,7 +81,8 @@ may_next w h c k past kept is =
 own_work : (t : Turn) → IsOwn t → t.work ≡ record { event = t.work.event; with = given.Nothing }
 own_work t own = ap (λ (g : _). record { event = t.work.event; with = g }) own.nothing
 
-pub may_own : (w : World) (h : List Entry) (c : ℕ) (k : Caller) (t : Turn) (now : ℕ) → (after w h).past ≡ h → IsCaller w h c k → slice_get k.owed.list 0 ≡ None → k.next ≡ Some t → now ≡ (after w h).moment
+pub may_own : (w : World) (h : List Entry) (c : ℕ) (k : Caller) (t : Turn) (now : ℕ) → (after w h).past ≡ h → IsCaller w h c k
+    → slice_get k.owed.list 0 ≡ None → k.next ≡ Some t → now ≡ (after w h).moment
     → is_some (actor_step w t.actor ((after w h).actors t.actor) now t.work) ≡ may_turn w h c
 may_own w h c k t now past kept is next now_is =
     let own : IsOwn t = subst (λ (o : Option Turn). AreOwn o) next kept.stands.own in
@@ -86,12 +90,14 @@ may_own w h c k t now past kept is next now_is =
     ∙ ap (λ (work : Work). is_some (actor_step w t.actor ((after w h).actors t.actor) (after w h).moment work)) (own_work t own)
     ∙ sym (may_next w h c k past kept is ∙ ap (λ (o : Option Turn). is_ready w (after w h) (asks_of o)) next)
 
-pub may_not : (w : World) (h : List Entry) (c : ℕ) (k : Caller) → (after w h).past ≡ h → IsCaller w h c k → slice_get k.owed.list 0 ≡ None → k.next ≡ None → false ≡ may_turn w h c
+pub may_not : (w : World) (h : List Entry) (c : ℕ) (k : Caller) → (after w h).past ≡ h → IsCaller w h c k → slice_get k.owed.list 0 ≡ None → k.next ≡ None
+    → false ≡ may_turn w h c
 may_not w h c k past kept is next = sym (may_next w h c k past kept is ∙ ap (λ (o : Option Turn). is_ready w (after w h) (asks_of o)) next)
 
 -- Its turn is taken.
 
-asked_duty : (k : Called) (o : Option Ask) (ds rest : List Duty) (d : Duty) (x : Entry) → ds ≡ d ∷ rest → record { actor = d.actor; event = d.event } ≡ asked_by x → IsAsked ds k o x
+asked_duty : (k : Called) (o : Option Ask) (ds rest : List Duty) (d : Duty) (x : Entry) → ds ≡ d ∷ rest
+    → record { actor = d.actor; event = d.event } ≡ asked_by x → IsAsked ds k o x
 asked_duty k o ds rest d x is same = subst (λ (es : List Duty). IsAsked es k o x) (sym is) same
 
 pub turn_of_duty : (w : World) (h : List Entry) (c : ℕ) (ds : List Duty) (d : Duty) (t : Turn) → OfDuty d t → owed w h c ≡ d ∷ ds → IsTurn w h c t
@@ -102,7 +108,8 @@ turn_of_duty w h c ds d t of is =
       given = ap (λ (work : Work). work.with) of.work ∙ sym (ap with_of is);
     }
   where
-    same_ask : (d : Duty) (t : Turn) (x : Entry) → OfDuty d t → x.actor ≡ t.actor → x.event ≡ t.work.event → record { actor = d.actor; event = d.event } ≡ asked_by x
+    same_ask : (d : Duty) (t : Turn) (x : Entry) → OfDuty d t → x.actor ≡ t.actor → x.event ≡ t.work.event
+        → record { actor = d.actor; event = d.event } ≡ asked_by x
     same_ask d t x of actor event =
         let a : d.actor ≡ x.actor = sym (actor ∙ of.actor) in
         let e : d.event ≡ x.event = sym (event ∙ ap (λ (work : Work). work.event) of.work) in
@@ -114,7 +121,8 @@ asked_next (IsCourier m) h c x is = is
 asked_next IsClock h c x is = absurd (none-some _ is)
 asked_next IsNobody h c x is = is
 
-asked_own : (k : Called) (h : List Entry) (c : ℕ) (ds : List Duty) (x : Entry) → ds ≡ [] → next_of k h c ≡ Some (asked_by x) → IsAsked ds k (next_of k h c) x
+asked_own : (k : Called) (h : List Entry) (c : ℕ) (ds : List Duty) (x : Entry) → ds ≡ [] → next_of k h c ≡ Some (asked_by x)
+    → IsAsked ds k (next_of k h c) x
 asked_own k h c ds x none is = subst (λ (es : List Duty). IsAsked es k (next_of k h c) x) (sym none) (asked_next k h c x is)
 
 pub turn_of_next : (w : World) (h : List Entry) (c : ℕ) (t : Turn) → owed w h c ≡ [] → Some (ask_of t) ≡ next w h c → IsOwn t → IsTurn w h c t
@@ -132,7 +140,8 @@ nothing_left : (ds : List Duty) → ds ≡ [] → ds ≡ drop 1 ds
 nothing_left ds is = is ∙ sym (ap (drop 1) is)
 
 -- it may record only where there is a turn
-pub some_next : (w : World) (h : List Entry) (c : ℕ) (k : Caller) → (after w h).past ≡ h → IsCaller w h c k → slice_get k.owed.list 0 ≡ None → may_turn w h c ≡ true → IsSome k.next
+pub some_next : (w : World) (h : List Entry) (c : ℕ) (k : Caller) → (after w h).past ≡ h → IsCaller w h c k → slice_get k.owed.list 0 ≡ None
+    → may_turn w h c ≡ true → IsSome k.next
 some_next w h c k past kept is may = by_next k.next refl
   where
     by_next : (o : Option Turn) → k.next ≡ o → IsSome k.next
@@ -141,7 +150,8 @@ some_next w h c k past kept is may = by_next k.next refl
 
 -- It goes on.
 
-role_alike : (w : World) (h later : List Entry) (c : ℕ) (r : Role) (before : ℕ) → own_replies later c ≡ own_replies h c → HasRole w h c r before → HasRole w later c r before
+role_alike : (w : World) (h later : List Entry) (c : ℕ) (r : Role) (before : ℕ) → own_replies later c ≡ own_replies h c → HasRole w h c r before
+    → HasRole w later c r before
 role_alike w h later c (role.Script s p) before same at =
     record {
       is = at.is;
@@ -152,7 +162,8 @@ role_alike w h later c (role.Courier m) before same at = at
 role_alike w h later c role.Clock before same at = at
 
 -- after a duty
-pub goes_owed : (old : Caller) (cites : Option ℕ) (reply : Reply) → is_some cites ≡ true → GoesOn old (record old { entries = old.entries + 1 }) cites reply
+pub goes_owed : (old : Caller) (cites : Option ℕ) (reply : Reply) → is_some cites ≡ true
+    → GoesOn old (record old { entries = old.entries + 1 }) cites reply
 goes_owed old None reply some = absurd (false≢true some)
 goes_owed old (Some n) reply some =
     record {
@@ -167,20 +178,24 @@ goes_owed old (Some n) reply some =
           };
     }
 
+-- a player takes a reply that fits
+abbrev pub Tells : Script → Playing → Playing → Reply → Type 0
+Tells s p told reply = (rs : List Reply) (ask : Ask) → IsAt s rs p → next_after s rs ≡ Some ask → fits ask.event reply ≡ true
+    → IsAt s (rs ++ reply ∷ []) told
+
 -- the reply of a script's event is told
 script_goes : (w : World) (h : List Entry) (c : ℕ) (s : Script) (p told : Playing) (reply : Reply) (x : Entry) (earlier : ℕ)
-    → ((rs : List Reply) (ask : Ask) → IsAt s rs p → next_after s rs ≡ Some ask → fits ask.event reply ≡ true → IsAt s (rs ++ reply ∷ []) told)
-    → IsScriptAt w h c s p earlier → IsEntryOf w h c None reply x → IsAt s (own_replies (h ++ x ∷ []) c) told
+    → Tells s p told reply → IsScriptAt w h c s p earlier → IsEntryOf w h c None reply x → IsAt s (own_replies (h ++ x ∷ []) c) told
 script_goes w h c s p told reply x earlier tells at is =
     let came : next w h c ≡ Some (asked_by x) = subst (λ (k : Called). IsNext k (next w h c) x) (script_is w c s at.is) (is.came_next refl) in
-    let more : own_replies (h ++ x ∷ []) c ≡ own_replies h c ++ reply ∷ [] = next_replies h x c is.caller_is is.cites_is ∙ ap (λ (r : Reply). own_replies h c ++ r ∷ []) is.reply_is in
-    subst (λ (rs : List Reply). IsAt s rs told) (sym more) (tells (own_replies h c) (asked_by x) at.at (sym (next_of_script w h c s at.is) ∙ came) is.fitting)
-
-abbrev pub Tells : Script → Playing → Playing → Reply → Type 0
-Tells s p told reply = (rs : List Reply) (ask : Ask) → IsAt s rs p → next_after s rs ≡ Some ask → fits ask.event reply ≡ true → IsAt s (rs ++ reply ∷ []) told
+    let more : own_replies (h ++ x ∷ []) c ≡ own_replies h c ++ reply ∷ [] =
+        next_replies h x c is.caller_is is.cites_is ∙ ap (λ (r : Reply). own_replies h c ++ r ∷ []) is.reply_is in
+    subst (λ (rs : List Reply). IsAt s rs told) (sym more)
+        (tells (own_replies h c) (asked_by x) at.at (sym (next_of_script w h c s at.is) ∙ came) is.fitting)
 
 -- what a script goes on as
-pub stands_script : (w : World) (h : List Entry) (c : ℕ) (s : Script) (p told asked : Playing) (earlier before : ℕ) (event : Option Turn) (reply : Reply) (x : Entry)
+pub stands_script : (w : World) (h : List Entry) (c : ℕ) (s : Script) (p told asked : Playing) (earlier before : ℕ)
+    → (event : Option Turn) (reply : Reply) (x : Entry)
     → ((rs : List Reply) → IsAt s rs p → before ≡ finished_by rs s)
     → Tells s p told reply
     → ((rs : List Reply) → IsAt s rs told → asks_of event ≡ next_after s rs)
@@ -189,7 +204,8 @@ pub stands_script : (w : World) (h : List Entry) (c : ℕ) (s : Script) (p told 
     → IsScriptAt w (h ++ x ∷ []) c s asked before × (asks_of event ≡ next w (h ++ x ∷ []) c)
 stands_script w h c s p told asked earlier before event reply x finished tells nexts same at is =
     let there = script_goes w h c s p told reply x earlier tells at is in
-    let more : own_replies (h ++ x ∷ []) c ≡ own_replies h c ++ reply ∷ [] = next_replies h x c is.caller_is is.cites_is ∙ ap (λ (r : Reply). own_replies h c ++ r ∷ []) is.reply_is in
+    let more : own_replies (h ++ x ∷ []) c ≡ own_replies h c ++ reply ∷ [] =
+        next_replies h x c is.caller_is is.cites_is ∙ ap (λ (r : Reply). own_replies h c ++ r ∷ []) is.reply_is in
     let last : take (length (own_replies (h ++ x ∷ []) c) - 1) (own_replies (h ++ x ∷ []) c) ≡ own_replies h c =
         ap (λ (rs : List Reply). take (length rs - 1) rs) more ∙ before_last (own_replies h c) reply in
     (

@@ -49,18 +49,12 @@ has_by false o ready = absurd (false≢true ready)
 ready_has : (w : World) (h : List Entry) (c : ℕ) (t : Turn) → IsReadyTurn w h c t → has_actor w t.actor ≡ true
 ready_has w h c t ready = has_by (has_actor w t.actor) (table_step w t.actor ((after w h).actors t.actor) (moment w h) t.work) ready.ready
 
-abbrev pub Folds : Type 0
-Folds = (w : World) (h : List Entry) (a : ActorName) → state w h a ≡ played w a (opening_actor a) (works w h a)
-
-abbrev pub FewWorks : Type 0
-FewWorks = (w : World) (h : List Entry) (a : ActorName) → IsWorld w → IsLegal w h → length (works w h a) < 2 ^ 30
-
 abbrev pub AreSmall : Type 0
-AreSmall = (w : World) (a : ActorName) (ps : List Play) → length ps < 2 ^ 30 → IsSmall (played w a (opening_actor a) ps)
+AreSmall = (w : World) (h : List Entry) (a : ActorName) → IsWorld w → IsLegal w h → IsSmall (state w h a)
 
-pub can_step : Folds → FewWorks → AreSmall → (c : ℕ) (t : Turn) (k : Caller) (net : Numbered) (ways : List HostWays) (stamp now : ℕ)
+pub can_step : AreSmall → (c : ℕ) (t : Turn) (k : Caller) (net : Numbered) (ways : List HostWays) (stamp now : ℕ)
     → CanRecord c t k net ways stamp now → CanStep net t.actor now t.work
-can_step folds few small c t k net ways stamp now can =
+can_step small c t k net ways stamp now can =
     let w = can.world in
     let h = can.past in
     let comes = can.comes in
@@ -69,7 +63,7 @@ can_step folds few small c t k net ways stamp now can =
       states = (after w h).actors;
       are = comes.are;
       has = ready_has w h c t comes.ready;
-      small = subst (λ (s : Actor). IsSmall s) (sym (folds w h t.actor)) (small w t.actor (works w h t.actor) (few w h t.actor comes.history.world comes.history.legal));
+      small = small w h t.actor comes.history.world comes.history.legal;
       ready = subst (λ (m : ℕ). is_some (actor_step w t.actor ((after w h).actors t.actor) m t.work) ≡ true) (sym comes.now_is) comes.ready.ready;
     }
 
@@ -99,7 +93,8 @@ pub record IsStepped (w : World) (h : List Entry) (c : ℕ) (t : Turn) (o : Outc
   pub step : step_of w (after w h) x ≡ Some (record { state = s; outcome = o })
   pub work : work_of (after w h) x ≡ t.work
 
-stepped : (w : World) (h : List Entry) (c : ℕ) (t : Turn) (k : Caller) (net : Numbered) (ways : List HostWays) (stamp now : ℕ) (o : Outcome) (s : Actor) (x : Entry)
+stepped : (w : World) (h : List Entry) (c : ℕ) (t : Turn) (k : Caller) (net : Numbered) (ways : List HostWays) (stamp now : ℕ) (o : Outcome) (s : Actor)
+    (x : Entry)
     → Comes w h c t k net ways stamp now → x.caller ≡ c → x.actor ≡ t.actor → x.event ≡ t.work.event
     → actor_step w t.actor ((after w h).actors t.actor) now t.work ≡ Some (record { state = s; outcome = o })
     → IsStepped w h c t o s x
@@ -121,10 +116,12 @@ abbrev pub HavePasts : Type 0
 HavePasts = (w : World) (h : List Entry) → (after w h).past ≡ h
 
 abbrev pub RepliesFit : Type 0
-RepliesFit = (w : World) (h : List Entry) (a : ActorName) (now : ℕ) (work : Work) (t : Step Actor) → actor_step w a ((after w h).actors a) now work ≡ Some t → fits work.event t.outcome.reply ≡ true
+RepliesFit = (w : World) (h : List Entry) (a : ActorName) (now : ℕ) (work : Work) (t : Step Actor)
+    → actor_step w a ((after w h).actors a) now work ≡ Some t → fits work.event t.outcome.reply ≡ true
 
 module _ {Z : Type 0} (grows : Grows) (pasts : HavePasts) (replies : RepliesFit)
-    (c : ℕ) (t : Turn) (old new : Caller) (net net_new : Numbered) (ways : List HostWays) (stamp now : ℕ) (d : Option (Vec Due Z)) (o : Outcome) (owed_new : Queue) (x : Entry)
+    (c : ℕ) (t : Turn) (old new : Caller) (net net_new : Numbered) (ways : List HostWays) (stamp now : ℕ) (d : Option (Vec Due Z)) (o : Outcome)
+    (owed_new : Queue) (x : Entry)
     (steps : Steps net net_new t.actor now t.work o)
     (dues : (w : World) (states : ActorName → Actor) → AreActors w net states → DuesOf w states t.actor t.work.event d)
     (owes_all : OwesAll ways t.actor stamp t.work (without_copy o) d old.owed owed_new)
@@ -147,7 +144,8 @@ module _ {Z : Type 0} (grows : Grows) (pasts : HavePasts) (replies : RepliesFit)
   step_so : (w : World) (h : List Entry) (comes : Comes w h c t old net ways stamp now) → IsStepped w h c t o (stepped_in w h comes).state x
   step_so w h comes = stepped w h c t old net ways stamp now o (stepped_in w h comes).state x comes caller_so actor_so event_so (stepped_in w h comes).step
 
-  after_so : (w : World) (h : List Entry) (comes : Comes w h c t old net ways stamp now) → after w (h ++ x ∷ []) ≡ net_after w (after w h) x (Some (record { state = (stepped_in w h comes).state; outcome = o }))
+  after_so : (w : World) (h : List Entry) (comes : Comes w h c t old net ways stamp now)
+      → after w (h ++ x ∷ []) ≡ net_after w (after w h) x (Some (record { state = (stepped_in w h comes).state; outcome = o }))
   after_so w h comes = grows w h x ∙ ap (net_after w (after w h) x) (step_so w h comes).step
 
   outcome_so : (w : World) (h : List Entry) → Comes w h c t old net ways stamp now → outcome_in w (after w h) x ≡ Some o
@@ -175,13 +173,15 @@ module _ {Z : Type 0} (grows : Grows) (pasts : HavePasts) (replies : RepliesFit)
         cites_is = ap (λ (y : Entry). y.cites) entry_is;
         reply_is = ap (λ (y : Entry). y.reply) entry_is;
         fitting = ap (λ (e : Event). fits e o.reply) event_so ∙ replies w h t.actor now t.work _ (stepped_in w h comes).step;
-        came_next = λ none. came_by (caller_of w c) (next w h c) (owed w h c) x (sym comes.ready.turn.cited ∙ none) (comes.ready.turn.asked x actor_so event_so);
+        came_next = λ none. came_by (caller_of w c) (next w h c) (owed w h c) x (sym comes.ready.turn.cited ∙ none)
+            (comes.ready.turn.asked x actor_so event_so);
       }
 
   -- what it owes then
   new_duties : (w : World) (h : List Entry) (comes : Comes w h c t old net ways stamp now)
       → duties w (after w h).actors t.actor stamp t.work (record { state = (stepped_in w h comes).state; outcome = o })
-      ≡ duties w (after w h).actors x.actor (length (after w h).past) (work_of (after w h) x) (record { state = (stepped_in w h comes).state; outcome = o })
+      ≡ duties w (after w h).actors x.actor (length (after w h).past) (work_of (after w h) x)
+          (record { state = (stepped_in w h comes).state; outcome = o })
   new_duties w h comes =
       let s : Step Actor = record { state = (stepped_in w h comes).state; outcome = o } in
       ap (λ (a : ActorName). duties w (after w h).actors a stamp t.work s) (sym actor_so)
@@ -191,8 +191,10 @@ module _ {Z : Type 0} (grows : Grows) (pasts : HavePasts) (replies : RepliesFit)
   owes_so : (w : World) (h : List Entry) → Comes w h c t old net ways stamp now → new.owed.list ≡ owed w (h ++ x ∷ []) c
   owes_so w h comes =
       let s : Step Actor = record { state = (stepped_in w h comes).state; outcome = o } in
-      let gives : Gives w t.actor t.work (without_copy o) s = record { before = (after w h).actors t.actor; now = now; gives = (stepped_in w h comes).step; outcome = refl } in
-      let adds : owed_new.list ≡ old.owed.list ++ duties w (after w h).actors t.actor stamp t.work s = owes_all w (after w h).actors s comes.ways_are (dues w (after w h).actors comes.are) gives in
+      let gives : Gives w t.actor t.work (without_copy o) s =
+          record { before = (after w h).actors t.actor; now = now; gives = (stepped_in w h comes).step; outcome = refl } in
+      let adds : owed_new.list ≡ old.owed.list ++ duties w (after w h).actors t.actor stamp t.work s =
+          owes_all w (after w h).actors s comes.ways_are (dues w (after w h).actors comes.are) gives in
       ap (λ (q : Queue). q.list) goes.owed_stays
       ∙ adds
       ∙ ap (λ (ds : List Duty). ds ++ duties w (after w h).actors t.actor stamp t.work s) comes.turning.owes
@@ -212,7 +214,8 @@ module _ {Z : Type 0} (grows : Grows) (pasts : HavePasts) (replies : RepliesFit)
   are_so : (w : World) (h : List Entry) → Comes w h c t old net ways stamp now → AreActors w net_new (after w (h ++ x ∷ [])).actors
   are_so w h comes =
       subst (λ (n : Net). AreActors w net_new n.actors) (sym (after_so w h comes))
-      (subst (λ (a : ActorName). AreActors w net_new (actors_after (after w h).actors a (stepped_in w h comes).state)) (sym actor_so) (stepped_in w h comes).are)
+      (subst (λ (a : ActorName). AreActors w net_new (actors_after (after w h).actors a (stepped_in w h comes).state)) (sym actor_so)
+          (stepped_in w h comes).are)
 
   pub records_so : Records c t old new net net_new ways stamp now x
   records_so = λ w h comes.

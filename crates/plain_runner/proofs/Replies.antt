@@ -20,7 +20,8 @@ one_entry_more h x c is = ap length (own_entry h x c is) ∙ length-append (by h
 pub duty_replies : (h : List Entry) (x : Entry) (c n : ℕ) → x.caller ≡ c → x.cites ≡ Some n → own_replies (h ++ x ∷ []) c ≡ own_replies h c
 duty_replies h x c n is cites =
     ap own_of (own_entry h x c is)
-    ∙ ap (λ (xs : List Entry). map (λ (y : Entry). y.reply) xs) (filter-append (λ (y : Entry). is_none y.cites) (by h c) (x ∷ []) ∙ rw cites (append-nil (filter (λ (y : Entry). is_none y.cites) (by h c))))
+    ∙ ap (λ (xs : List Entry). map (λ (y : Entry). y.reply) xs)
+        (filter-append (λ (y : Entry). is_none y.cites) (by h c) (x ∷ []) ∙ rw cites (append-nil (filter (λ (y : Entry). is_none y.cites) (by h c))))
 
 -- an own one
 pub next_replies : (h : List Entry) (x : Entry) (c : ℕ) → x.caller ≡ c → x.cites ≡ None → own_replies (h ++ x ∷ []) c ≡ own_replies h c ++ x.reply ∷ []

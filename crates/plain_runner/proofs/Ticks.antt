@@ -24,15 +24,19 @@ use Rattle.plain_runner.specs.Recording.{DuesOf, OwesAll}
 abbrev pub MovesOwe : Type 0
 MovesOwe = (w : World) (actors : ActorName → Actor) (stamp now : ℕ) → MoveOwes w actors stamp now
 
-owes_ticks : MovesOwe → (w : World) (actors : ActorName → Actor) (a : ActorName) (stamp : ℕ) (e : Event) (with : With) (step : Step Actor) (before : Actor) (now : ℕ) (old new : Queue) (dues : List Due) → IsMove a e
-    → actor_step w a before now (record { event = e; with = with }) ≡ Some step → dues ≡ dues_of w actors → ((m : ℕ) → e ≡ event.Move m → Adds old new (ticks_of stamp m dues))
+owes_ticks : MovesOwe
+    → (w : World) (actors : ActorName → Actor) (a : ActorName) (stamp : ℕ) (e : Event) (with : With) (step : Step Actor) (before : Actor) (now : ℕ)
+    → (old new : Queue) (dues : List Due) → IsMove a e
+    → actor_step w a before now (record { event = e; with = with }) ≡ Some step → dues ≡ dues_of w actors
+    → ((m : ℕ) → e ≡ event.Move m → Adds old new (ticks_of stamp m dues))
     → Adds old new (duties w actors a stamp (record { event = e; with = with }) step)
 owes_ticks law w actors name.Clock stamp (event.Move m) with step before now old new dues is gives same adds =
     subst (λ (ds : List Duty). Adds old new ds) (ap (ticks_of stamp m) same ∙ sym (law w actors stamp m with before now step gives)) (adds m refl)
 owes_ticks law w actors _ stamp _ with step before now old new dues is gives same adds = absurd is
 
 module _ {Z : Type 0} where
-  pub move_owes : MovesOwe → (ways : List HostWays) (a : ActorName) (stamp : ℕ) (work : Work) (o : Outcome) (dues : Vec Due Z) (old new : Queue) → ((m : ℕ) → work.event ≡ event.Move m → Adds old new (ticks_of stamp m dues.items))
+  pub move_owes : MovesOwe → (ways : List HostWays) (a : ActorName) (stamp : ℕ) (work : Work) (o : Outcome) (dues : Vec Due Z) (old new : Queue)
+      → ((m : ℕ) → work.event ≡ event.Move m → Adds old new (ticks_of stamp m dues.items))
       → OwesAll ways a stamp work o (Some dues) old new
   move_owes law ways a stamp work o dues old new adds = λ w actors step are due gives.
       owes_ticks law w actors a stamp work.event work.with step gives.before gives.now old new dues.items due.0 gives.gives due.1 adds

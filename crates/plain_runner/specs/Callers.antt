@@ -58,7 +58,8 @@ pub record IsTurning (w : World) (h : List Entry) (c : ℕ) (cites : Option ℕ)
 -- a caller's turn was taken from it
 abbrev pub Takes : Caller → Caller → Option Turn → Type 0
 Takes old new None = Unit {0}
-Takes old new (Some t) = (w : World) (h : List Entry) (c : ℕ) → IsCaller w h c old → IsTurn w h c t × IsTurning w h c t.cites new
+Takes old new (Some t) =
+    (w : World) (h : List Entry) (c : ℕ) → IsCaller w h c old → IsTurn w h c t × IsTurning w h c t.cites new
 
 -- where it may record, there is a turn
 abbrev pub TakesIf : Caller → Option Turn → Type 0
@@ -76,4 +77,6 @@ pub record IsEntryOf (w : World) (h : List Entry) (c : ℕ) (cites : Option ℕ)
 pub record GoesOn (old new : Caller) (cites : Option ℕ) (reply : Reply) : Type 0 where
   pub owed_stays : new.owed ≡ old.owed
   pub entries_is : new.entries ≡ old.entries + 1
-  pub goes : (w : World) (h : List Entry) (c : ℕ) (x : Entry) → Turns w h c cites old → IsEntryOf w h c cites reply x → Stands w (h ++ x ∷ []) c new
+  pub goes :
+    (w : World) (h : List Entry) (c : ℕ) (x : Entry)
+    → Turns w h c cites old → IsEntryOf w h c cites reply x → Stands w (h ++ x ∷ []) c new

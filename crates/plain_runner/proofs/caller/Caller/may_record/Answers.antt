@@ -1,4 +1,4 @@
-use Rattle.std.proofs.Common.{◌≡◌, ℕ, List, Some, None, slice_get, refl, sym, ap, ◌∙◌}
+use Rattle.std.proofs.Common.{◌≡◌, Some, None, slice_get, ◌∙◌}
 use Rattle.net_base.specs.Duties.{Duty}
 use Rattle.net_base.specs.Net.{after}
 use Rattle.plain_runner.proofs.CallerLaws.{may_duty, may_not, may_own}
@@ -15,7 +15,8 @@ returns-in-Some c = λ w h number kept are now_is.
 pub returns-in-Some-next : goal.returns-in-Some-next
 returns-in-Some-next c = λ w h number kept are now_is.
     let none : slice_get c.args.self.now.owed.list 0 ≡ None = cc in
-    c.ready-in-Some-next.ensures w (after w h).actors are ∙ may_own w h number c.args.self.now c.in-Some-next.turn c.args.now (c.histories_grow.ensures.past w h) kept none c.in-Some-next.is now_is
+    c.ready-in-Some-next.ensures w (after w h).actors are
+        ∙ may_own w h number c.args.self.now c.in-Some-next.turn c.args.now (c.histories_grow.ensures.past w h) kept none c.in-Some-next.is now_is
 
 pub returns-in-None : goal.returns-in-None
 returns-in-None c = λ w h number kept are now_is.

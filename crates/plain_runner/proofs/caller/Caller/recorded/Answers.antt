@@ -1,4 +1,4 @@
-use Rattle.std.proofs.Common.{◌≡◌, ℕ, Option, Some, None, refl, sym, ap, subst, ◌∙◌}
+use Rattle.std.proofs.Common.{◌≡◌, ℕ, Option, None, refl, sym, subst, ◌∙◌}
 use Rattle.plain_runner.specs.declared.caller.Role.{Role}
 use Rattle.plain_runner.specs.Callers.{HasRole, IsEntryOf}
 use Rattle.plain_runner.proofs.CallerLaws.{cites_none, stands_script}
@@ -13,7 +13,8 @@ returns-in_ok-next-in-Script c =
       entries_is = refl;
       goes = λ w h number x turns is.
           let both =
-              stands_script w h number c.in-Script.script.now c.in-Script.player c.told.new.self c.next.new.self c.args.self.now.before c.finished-self.result c.asked.result c.args.reply x
+              stands_script w h number c.in-Script.script.now c.in-Script.player c.told.new.self c.next.new.self
+              c.args.self.now.before c.finished-self.result c.asked.result c.args.reply x
               (λ rs at. c.finished-self.ensures c.in-Script.script.now rs at)
               (λ rs ask at comes fit. c.in_ok-told-in-Script.ensures.ok rs ask at comes fit)
               (λ rs at. c.asked.ensures.asks ∙ c.in_ok-next-in-Script.ensures.event rs at)

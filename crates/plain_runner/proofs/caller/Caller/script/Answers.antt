@@ -8,7 +8,8 @@ returns c = λ w number is.
     record {
       stands = record {
         role_is = record { is = is; at = at; before_is = c.finished-before.ensures c.args.script.now [] at };
-        next_is = c.asked-next.ensures.asks ∙ c.in_ok-next.ensures.event [] (c.new-player.ensures c.args.script.now) ∙ sym (next_of_script w [] number c.args.script.now is);
+        next_is = c.asked-next.ensures.asks ∙ c.in_ok-next.ensures.event [] (c.new-player.ensures c.args.script.now)
+            ∙ sym (next_of_script w [] number c.args.script.now is);
         own = c.asked-next.ensures.own;
       };
       owes = c.new.ensures;
