@@ -10,3 +10,8 @@ pub mod Could
 pub mod Targets
 pub mod Advancing
 pub mod Following
+mod Bounds
+mod CallerLaws
+mod Growing
+mod Replies
+mod Ticks

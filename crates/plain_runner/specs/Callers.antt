@@ -7,6 +7,7 @@ use Rattle.net_base.specs.declared.reply.Reply.{Reply}
 use Rattle.net_base.specs.declared.world.Script.{Script}
 use Rattle.net_base.specs.declared.world.World.{World}
 use Rattle.net_base.specs.Callers.{IsCourier, IsClock, caller_of}
+use Rattle.net_base.specs.Legal.{IsNext}
 use Rattle.net_base.specs.Net.{owed}
 use Rattle.net_base.specs.Next.{by, finished_by, next, own_replies}
 use Rattle.net_base.specs.Steps.{Ask}
@@ -57,21 +58,25 @@ pub record IsTurning (w : World) (h : List Entry) (c : ℕ) (cites : Option ℕ)
 -- a caller's turn was taken from it
 abbrev pub Takes : Caller → Caller → Option Turn → Type 0
 Takes old new None = Unit {0}
-Takes old new (Some t) = (w : World) (h : List Entry) (c : ℕ) → IsCaller w h c old → IsTurn w h c t × IsTurning w h c t.cites new
+Takes old new (Some t) =
+    (w : World) (h : List Entry) (c : ℕ) → IsCaller w h c old → IsTurn w h c t × IsTurning w h c t.cites new
 
 -- where it may record, there is a turn
 abbrev pub TakesIf : Caller → Option Turn → Type 0
 TakesIf old t = (w : World) (h : List Entry) (c : ℕ) → IsCaller w h c old → may_turn w h c ≡ true → IsSome t
 
--- the entry is the caller's, cites this and has this reply, which fits the event that came next where nothing is cited
+-- the entry is the caller's, cites this and has this reply, which fits its event; where it cites nothing, it came next
 pub record IsEntryOf (w : World) (h : List Entry) (c : ℕ) (cites : Option ℕ) (reply : Reply) (x : Entry) : Type 0 where
   pub caller_is : x.caller ≡ c
   pub cites_is : x.cites ≡ cites
   pub reply_is : x.reply ≡ reply
-  pub fitting : cites ≡ None → (ask : Ask) → next w h c ≡ Some ask → fits ask.event reply ≡ true
+  pub fitting : fits x.event reply ≡ true
+  pub came_next : cites ≡ None → IsNext (caller_of w c) (next w h c) x
 
 -- the caller went on after an entry of its turn
 pub record GoesOn (old new : Caller) (cites : Option ℕ) (reply : Reply) : Type 0 where
   pub owed_stays : new.owed ≡ old.owed
   pub entries_is : new.entries ≡ old.entries + 1
-  pub goes : (w : World) (h : List Entry) (c : ℕ) (x : Entry) → Turns w h c cites old → IsEntryOf w h c cites reply x → Stands w (h ++ x ∷ []) c new
+  pub goes :
+    (w : World) (h : List Entry) (c : ℕ) (x : Entry)
+    → Turns w h c cites old → IsEntryOf w h c cites reply x → Stands w (h ++ x ∷ []) c new

@@ -31,7 +31,9 @@ pub record IsHistory (w : World) (h : List Entry) : Type 0 where
   pub timed : IsTimed w h
 
 -- the turn of a caller comes after this history, and what is kept is of it
-pub record Comes (w : World) (h : List Entry) (c : ℕ) (t : Turn) (k : Caller) (net : Numbered) (ways : List HostWays) (stamp now : ℕ) : Type 0 where
+pub record Comes
+    (w : World) (h : List Entry) (c : ℕ) (t : Turn) (k : Caller) (net : Numbered) (ways : List HostWays) (stamp now : ℕ)
+    : Type 0 where
   pub history : IsHistory w h
   pub turning : IsTurning w h c t.cites k
   pub ready : IsReadyTurn w h c t
@@ -41,13 +43,15 @@ pub record Comes (w : World) (h : List Entry) (c : ℕ) (t : Turn) (k : Caller) 
   pub now_is : now ≡ moment w h
 
 -- so of some world and history
-pub record CanRecord (c : ℕ) (t : Turn) (k : Caller) (net : Numbered) (ways : List HostWays) (stamp now : ℕ) : Type 0 where
+pub record CanRecord (c : ℕ) (t : Turn) (k : Caller) (net : Numbered) (ways : List HostWays) (stamp now : ℕ)
+    : Type 0 where
   pub world : World
   pub past : List Entry
   pub comes : Comes world past c t k net ways stamp now
 
 -- the entry of the turn, and what is kept after it
-pub record Recorded (w : World) (h : List Entry) (c : ℕ) (t : Turn) (k : Caller) (net : Numbered) (x : Entry) : Type 0 where
+pub record Recorded (w : World) (h : List Entry) (c : ℕ) (t : Turn) (k : Caller) (net : Numbered) (x : Entry)
+    : Type 0 where
   pub follows : MayFollow w h x
   pub caller_is : x.caller ≡ c
   pub actor_is : x.actor ≡ t.actor
@@ -62,12 +66,14 @@ Records c t old new net after ways stamp now x =
 -- What a turn owes.
 
 -- a move is told when the conversations of the world are due
-abbrev pub DuesOf : World → (ActorName → Actor) → ActorName → Event → Option (Vec Due) → Type 0
+abbrev pub DuesOf : {Z : Type 0} → World → (ActorName → Actor) → ActorName → Event → Option (Vec Due Z) → Type 0
 DuesOf w actors a e None = IsMove a e → ⊥
 DuesOf w actors a e (Some dues) = IsMove a e × (dues.items ≡ dues_of w actors)
 
 -- where the dues are those of the world's conversations, what the step owes is owed after what was owed before
-abbrev pub OwesAll : List HostWays → ActorName → ℕ → Work → Outcome → Option (Vec Due) → Queue → Queue → Type 0
+abbrev pub OwesAll : {Z : Type 0} → List HostWays → ActorName → ℕ → Work → Outcome → Option (Vec Due Z) → Queue → Queue
+    → Type 0
 OwesAll ways a stamp work o dues old new =
     (w : World) (actors : ActorName → Actor) (step : Step Actor)
-    → AreWaysOfWorld w ways → DuesOf w actors a work.event dues → Gives w a work o step → Adds old new (duties w actors a stamp work step)
+    → AreWaysOfWorld w ways → DuesOf w actors a work.event dues → Gives w a work o step
+    → Adds old new (duties w actors a stamp work step)

@@ -54,7 +54,8 @@ AreOwn (Some t) = IsOwn t
 
 -- a duty, as it is recorded, is ready
 abbrev pub is_duty_ready : World → Net → Duty → Bool
-is_duty_ready w net d = is_some (actor_step w d.actor (net.actors d.actor) net.moment (record { event = d.event; with = d.with }))
+is_duty_ready w net d =
+    is_some (actor_step w d.actor (net.actors d.actor) net.moment (record { event = d.event; with = d.with }))
 
 -- what the caller owes first is ready, or its next event where it owes nothing
 abbrev pub may_turn_by : World → Net → ℕ → List Duty → Bool

@@ -14,6 +14,7 @@ ghost use Rattle.plain_runner.specs.Turns.{AreOwn, IsOwn, OfDuty, ask_of, asks_o
 
 use crate::turn::Turn;
 use duties::{Duties, Duty};
+use history_laws::histories_grow;
 use net_actors::Actors;
 use net_base::{ActorName, Event, Reply, Script, With, Work};
 use script_player::Player;
@@ -47,12 +48,13 @@ impl<'a> Caller<'a> {
     {
         let mut player = Player::new(alloc);
         let next = asked(player.next(script)?);
+        let before = player.finished();
         Ok(Caller {
             role: Role::Script(script, player),
             owed: Duties::new(alloc),
             next,
             entries: 0,
-            before: 0,
+            before,
         })
     }
 
@@ -87,6 +89,7 @@ impl<'a> Caller<'a> {
         ensures { (w : AnyWorld) (h : List AnyEntry) (c : ℕ) → IsCaller w h c self.now
             → AreActors w net.now (after w h).actors → now ≡ moment w h → result ≡ may_turn w h c }
     {
+        histories_grow();
         if let Some(duty) = self.owed.first() {
             return net.ready(duty.actor, now, &duty.work);
         }
@@ -101,6 +104,7 @@ impl<'a> Caller<'a> {
         ensures takes { Takes self.old self.new result }
         ensures some { TakesIf self.old result }
     {
+        histories_grow();
         match self.owed.pop() {
             Some(duty) => Some(owed_turn(duty)),
             None => self.next.take(),

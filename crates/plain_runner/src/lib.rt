@@ -3,6 +3,7 @@
 
 mod caller;
 mod ending;
+mod law;
 mod recording;
 mod replay;
 mod rounds;

@@ -4,15 +4,21 @@ ghost use Rattle.net_base.specs.declared.actor.ActorName.{ActorName as Name};
 ghost use Rattle.net_base.specs.declared.world.World.{World as AnyWorld};
 ghost use Rattle.net_base.specs.Actors.{Actor};
 ghost use Rattle.net_base.specs.Legal.{IsMove};
+ghost use Rattle.net_base.specs.declared.event.Event.TheVariants as event;
+ghost use Rattle.duties.specs.Queue.{Adds};
 ghost use Rattle.duties.specs.Showing.{shows};
+ghost use Rattle.duties.specs.Ticking.{ticks_of};
 ghost use Rattle.net_actors.specs.Together.{AreActors};
 ghost use Rattle.plain_runner.specs.Recording.{CanRecord, DuesOf, OwesAll, Records};
 
 use crate::caller::Caller;
 use crate::turn::Turn;
-use duties::{Due, Duties, Shown, WorldWays, entry_of, most_owed};
-use net_actors::Actors;
+use crate::law::histories_are_short;
+use duties::{Due, Duties, Shown, WorldWays, a_move_owes_its_ticks, entry_of, most_owed};
+use history_laws::{histories_grow, state_is_fold};
+use net_actors::{Actors, few_works_are_small};
 use net_base::{ActorName, Entry, Event, Outcome, Work};
+use script_task::replies_fit;
 use std::alloc::{AllocError, Global};
 
 /// Records the turn of a caller, which is ready, with this stamp and at this moment.
@@ -29,6 +35,11 @@ pub fn record(
     requires { CanRecord number turn caller.old net.old ways.now stamp now }
     ensures { IfOk result (Records number turn caller.old caller.new net.old net.new ways.now stamp now) }
 {
+    histories_grow();
+    histories_are_short();
+    state_is_fold();
+    few_works_are_small();
+    replies_fit();
     let dues = dues_of_move(alloc, net, &turn)?;
     let Turn { actor, work, cites } = turn;
     let mut outcome = net.step(actor, now, &work)?;
@@ -62,6 +73,7 @@ fn owe(
     ensures shown { IfOk result (λ s. s ≡ shows work.event outcome) }
     ensures owes { OnOk result (OwesAll ways.now actor stamp work outcome dues owed.old owed.new) }
 {
+    a_move_owes_its_ticks();
     match dues {
         Some(dues) => owe_ticks(stamp, work, outcome, &dues, owed),
         None => {
@@ -80,6 +92,7 @@ fn owe_ticks(
     owed: &mut Duties,
 ) -> Result<Shown, AllocError>
     ensures shown { IfOk result (λ s. s ≡ shows work.event outcome) }
+    ensures owes { OnOk result ((moment : ℕ) → work.event ≡ event.Move moment → Adds owed.old owed.new (ticks_of stamp moment dues.now)) }
 {
     owed.reserve(dues.len())?;
     if let Event::Move { moment } = &work.event {
