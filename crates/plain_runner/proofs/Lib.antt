@@ -1,26 +1,17 @@
-pub mod Positions
-pub mod Moves
-pub mod Pushes
-pub mod Scripts
-pub mod Puts
-pub mod Couriers
-pub mod Follows
-pub mod Ends
-pub mod Opening
-pub mod Clock
-pub mod Records
-pub mod Readies
-pub mod Moments
-pub mod Actings
-pub mod Plays
-pub mod Nexts
-pub mod Turning
-pub mod Lengths
-pub mod Counts
+pub mod Unmoved
+pub mod Recorded
 pub mod Rounding
-pub mod Finals
-pub mod Repeats
-pub mod Halts
-pub mod Samples
-pub mod Lasts
-pub mod Forms
+pub mod Ranges
+pub mod Calming
+pub mod Opening
+pub mod Halting
+pub mod Standing
+pub mod Could
+pub mod Targets
+pub mod Advancing
+pub mod Following
+mod Bounds
+mod CallerLaws
+mod Growing
+mod Replies
+mod Ticks

@@ -1,57 +1,64 @@
--- What holds of a world of the first form before anything is recorded.
-use Rattle.std.proofs.Common.{◌≡◌, ℕ, zero, suc, ◌<◌, Bool, true, List, [], ◌∷◌, length, Some, slice_get, refl, ap, subst, arith, nat_lt}
-use Rattle.std.specs.List.{list_all}
-use Rattle.std.proofs.lemmas.Bool.{and_parts, ltb-true}
-use Rattle.std.proofs.lemmas.Option.{none-some, same_Some, slice_get_within, get_or_from_slice_get}
-use Rattle.net_base.specs.declared.world.Script.{Script}
+-- A run before anything is recorded.
+use Rattle.std.proofs.Common.{◌≡◌, ℕ, zero, suc, ◌+◌, ◌<◌, ◌≤◌, ◌==◌, Bool, true, false, List, [], ◌∷◌, ◌++◌, length, Option, Some, None, slice_get, refl, sym, ap, subst, ◌∙◌, arith, length-append}
+use Rattle.std.proofs.lemmas.Bool.{and_parts, eqb-true, eqb-false, leb-true}
+use Rattle.std.proofs.lemmas.Option.{none-some, same_Some, slice_get_within}
+use Rattle.std.specs.Prelude.{nat_le}
+use Rattle.net_base.specs.declared.history.Entry.{Entry}
 use Rattle.net_base.specs.declared.world.World.{World}
-use Rattle.net_base.specs.Actors.{opening_dir, opening_conv}
-use Rattle.net_base.specs.Net.{opening_net}
-use Rattle.net_base.specs.Steps.{Position, position}
-use Rattle.net_base.specs.UdpEnd.{fresh_udp}
-use Rattle.net_base.specs.World.{IsWorld, is_script, is_step}
-use Rattle.net_base.specs.WorldForm.{IsFirstForm, IsUdpScript}
-use Rattle.net_base.specs.declared.address.Proto.TheVariants as proto
-use Rattle.plain_runner.specs.declared.standing.Place.TheVariants as place
-use Rattle.plain_runner.specs.declared.standing.Standing.{Standing}
-use Rattle.plain_runner.specs.Good.{Good, IsAt, Starts, Carries, NoPut}
-use Rattle.plain_runner.specs.Phases.{Fresh, HasPhase}
-use Rattle.plain_runner.proofs.Positions.{comes}
+use Rattle.net_base.specs.Actors.{opening_actor}
+use Rattle.net_base.specs.Callers.{caller_count, clock_number}
+use Rattle.net_base.specs.World.{IsWorld}
+use Rattle.duties.specs.WaysOf.{AreWaysOfWorld}
+use Rattle.net_actors.specs.Together.{AreActors}
+use Rattle.plain_runner.specs.Callers.{IsCaller}
+use Rattle.plain_runner.specs.Recording.{IsHistory}
+use Rattle.plain_runner.specs.Tracks.{AreCallers, Tracks}
+use Rattle.plain_runner.specs.declared.caller.Caller.{Caller}
+use Rattle.plain_runner.specs.declared.runner.Runner.{Runner}
 
--- a script is one of its form, and of a host of the world
-pub script_form : (w : World) → IsFirstForm w → (c : ℕ) (s : Script) → slice_get w.scripts c ≡ Some s → IsUdpScript s.steps
-script_form w form c s is = subst (λ (t : Script). IsUdpScript t.steps) (get_or_from_slice_get w.scripts c s s is) (form.scripts c s (slice_get_within w.scripts c s is))
+-- these are the first n callers
+pub record AreFirst (w : World) (n : ℕ) (ks : List Caller) : Type 0 where
+  pub count : length ks ≡ n
+  pub each : (c : ℕ) (k : Caller) → slice_get ks c ≡ Some k → IsCaller w [] c k
 
-all_get : {A : Type 0} (test : A → Bool) (xs : List A) (k : ℕ) (x : A) → list_all test xs ≡ true → slice_get xs k ≡ Some x → test x ≡ true
-all_get test [] k x all is = absurd (none-some x is)
-all_get test (y ∷ ys) zero x all is = subst (λ z. test z ≡ true) (same_Some y x is) (and_parts (test y) (list_all test ys) all).0
-all_get test (y ∷ ys) (suc k) x all is = all_get test ys k x (and_parts (test y) (list_all test ys) all).1 is
+pub none_yet : (w : World) (ks : List Caller) → ks ≡ [] → AreFirst w 0 ks
+none_yet w ks is = record { count = ap length is; each = λ c k at. absurd (none-some k (sym (ap (λ xs. slice_get xs c) is) ∙ at)) }
 
-pub script_host : (w : World) → IsWorld w → (c : ℕ) (s : Script) → slice_get w.scripts c ≡ Some s → s.host < length w.hosts
-script_host w world c s is = ltb-true s.host (length w.hosts) (and_parts (nat_lt s.host (length w.hosts)) (list_all is_step s.steps) (all_get (is_script (length w.hosts)) w.scripts c s world.scripts is)).0
+last_or_before : {A : Type 0} (xs : List A) (x y : A) (i : ℕ) (same : Bool) → (i == length xs) ≡ same → slice_get (xs ++ x ∷ []) i ≡ Some y
+    → ((i ≡ length xs) × (x ≡ y) → ⊥) → slice_get xs i ≡ Some y
+last_or_before [] x y zero same is at other = absurd (other (refl, same_Some x y at))
+last_or_before [] x y (suc i) same is at other = absurd (none-some y at)
+last_or_before (z ∷ xs) x y zero same is at other = at
+last_or_before (z ∷ xs) x y (suc i) same is at other = last_or_before xs x y i (i == length xs) refl at (λ p. other (ap suc p.0, p.1))
 
-fresh_host : (i : ℕ) → HasPhase opening_net.actors i Fresh
-fresh_host i = record { dir = opening_dir; dir_is = refl; dir_in = refl; conv = opening_conv proto.Udp; conv_is = refl; conv_in = record { generation = refl; end = fresh_udp; core = refl } }
-
-pub at_start : Standing
-at_start = record { place = place.Step 0; before = 0 }
-
-pub opening_good : (w : World) → IsFirstForm w → (stand : ℕ → Standing) → ((c : ℕ) → c < length w.scripts → stand c ≡ record { place = place.Step 0; before = 0 }) → Good w [] opening_net (λ i. Fresh) stand
-opening_good w form stand starts = record {
-  hosts = λ i lt. fresh_host i;
-  medium = (tt, tt);
-  scripts = λ c s is. rw (starts c (slice_get_within w.scripts c s is)) (opening_at c s (script_form w form c s is));
-  courier = Carries (NoPut refl);
-  clock = refl;
+pub one_more : (w : World) (n : ℕ) (ks : List Caller) (k : Caller) → AreFirst w n ks → IsCaller w [] n k → AreFirst w (n + 1) (ks ++ k ∷ [])
+one_more w n ks k first is = record {
+  count = omega (arith, length-append ks (k ∷ []), first.count);
+  each = λ c e at. by_place c e (c == n) refl at;
 }
   where
-    opening_at : (c : ℕ) (s : Script) → IsUdpScript s.steps → IsAt [] opening_net (λ i. Fresh) c s (record { place = place.Step 0; before = 0 })
-    opening_at c s u =
-        let left : (position s.host s.steps [] []).left ≡ s.steps = ap (λ (p : Position). p.left) (comes s.host s.steps u (place.Step 0)) in
-        record {
-          form = u;
-          stands = λ more. refl;
-          within = omega arith;
-          before = rw left (omega arith);
-          owes = Starts refl refl refl;
-        }
+    at_last : {A : Type 0} (xs : List A) (x y : A) → slice_get (xs ++ x ∷ []) (length xs) ≡ Some y → x ≡ y
+    at_last [] x y at = same_Some x y at
+    at_last (z ∷ xs) x y at = at_last xs x y at
+
+    by_place : (c : ℕ) (e : Caller) (same : Bool) → (c == n) ≡ same → slice_get (ks ++ k ∷ []) c ≡ Some e → IsCaller w [] c e
+    by_place c e true same at =
+        let here : c ≡ n = eqb-true c n same in
+        let there : k ≡ e = at_last ks k e (ap (slice_get (ks ++ k ∷ [])) (first.count ∙ sym here) ∙ at) in
+        subst (λ (m : ℕ). IsCaller w [] m e) (sym here) (subst (IsCaller w [] n) there is)
+    by_place c e false same at = first.each c e (last_or_before ks k e c (c == length ks) refl at (λ p. eqb-false c n same (p.0 ∙ first.count)))
+
+pub all_callers : (w : World) (n : ℕ) (ks : List Caller) → n ≡ caller_count w → AreFirst w n ks → AreCallers w [] ks
+all_callers w n ks is first = record { count = first.count ∙ is; each = first.each }
+
+pub few_media : (w : World) → IsWorld w → length w.media ≤ 4
+few_media w world = leb-true (length w.media) 4 (and_parts (nat_le 1 (length w.media)) (nat_le (length w.media) 4) world.some_media).1
+
+pub opening_tracks : (w : World) (r : Runner) → IsWorld w → r.history ≡ [] → r.moment ≡ 0 → AreCallers w [] r.callers.items → AreActors w r.net opening_actor → AreWaysOfWorld w r.ways → Tracks w r
+opening_tracks w r world history moment callers are ways = record {
+  history = rw history record { world = world; legal = λ k x is. absurd (none-some x is); timed = λ k x is. absurd (none-some x is) };
+  callers_are = rw history callers;
+  are = rw history are;
+  ways_are = ways;
+  moment_is = rw (history, moment) refl;
+}

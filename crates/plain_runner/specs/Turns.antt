@@ -1,46 +1,78 @@
--- The turn of a caller.
-use Rattle.std.specs.Prelude.{◌≡◌, ℕ, ◌<◌, Bool, true, false, List, [], length, Option, Some, None, IsSome, slice_get, ◌⊎◌}
+-- The turn of a caller after a history: what it records next.
+use Rattle.std.specs.Prelude.{◌≡◌, ℕ, ◌<◌, Bool, true, false, List, [], ◌∷◌, length, Option, Some, None, is_some}
+use Rattle.std.specs.Option.{option_map}
+use Rattle.net_base.specs.declared.actor.ActorName.TheVariants as name
+use Rattle.net_base.specs.declared.event.Event.TheVariants as event
 use Rattle.net_base.specs.declared.history.Entry.{Entry}
 use Rattle.net_base.specs.declared.history.With.TheVariants as given
 use Rattle.net_base.specs.declared.history.Work.{Work}
 use Rattle.net_base.specs.declared.world.World.{World}
-use Rattle.net_base.specs.ActorStep.{Step}
-use Rattle.net_base.specs.Actors.{Actor, actor_step}
+use Rattle.net_base.specs.Actors.{actor_step}
+use Rattle.net_base.specs.Callers.{caller_of, caller_count}
 use Rattle.net_base.specs.Calm.{can_go_on, most_entries}
-use Rattle.net_base.specs.Net.{after}
+use Rattle.net_base.specs.Duties.{Duty}
+use Rattle.net_base.specs.Legal.{IsAsked, IsInTime, cites_of}
+use Rattle.net_base.specs.Net.{Net, after, owed, moment, with_of}
 use Rattle.net_base.specs.Next.{by, next}
-use Rattle.plain_runner.specs.Acting.{IsMet}
-use Rattle.plain_runner.specs.Met.{name_of}
-use Rattle.plain_runner.specs.Stands.{Stands}
-use Rattle.plain_runner.specs.declared.actors.Met.{Met}
-use Rattle.plain_runner.specs.declared.runner.Caller.{Caller}
-use Rattle.plain_runner.specs.declared.runner.Runner.{Runner}
+use Rattle.net_base.specs.Steps.{Ask}
+use Rattle.plain_runner.specs.declared.turn.Turn.{Turn}
 
--- the caller's next event, which its actor answers
-pub record IsReadyNext (w : World) (r : Runner) (c : ℕ) (a : Met) (work : Work) : Type 0 where
-  pub comes : next w r.history c ≡ Some (record { actor = name_of a; event = work.event })
-  pub nothing : work.with ≡ given.Nothing
-  pub met : IsMet w a work
-  pub some : (s : Step Actor) × (actor_step w (name_of a) ((after w r.history).actors (name_of a)) (after w r.history).moment work ≡ Some s)
+-- the turn is the caller's first duty, or its next event, or a move of the clock
+abbrev pub IsAskedOf : World → List Entry → ℕ → Turn → Type 0
+IsAskedOf w h c t =
+    (x : Entry) → x.actor ≡ t.actor → x.event ≡ t.work.event → IsAsked (owed w h c) (caller_of w c) (next w h c) x
 
--- the next event of a caller, if it is ready
-abbrev pub IsAskOf : World → Runner → ℕ → Option (Met × Work) → Type 0
-IsAskOf w r c None = can_go_on w (after w r.history) c ≡ false
-IsAskOf w r c (Some p) = IsReadyNext w r c p.0 p.1
+-- a caller's turn after a history
+pub record IsTurn (w : World) (h : List Entry) (c : ℕ) (t : Turn) : Type 0 where
+  pub asked : IsAskedOf w h c t
+  pub cited : t.cites ≡ cites_of (owed w h c)
+  pub given : t.work.with ≡ with_of (owed w h c)
 
--- the caller owes a duty
-abbrev pub Owes : List Caller → ℕ → Type 0
-Owes callers c = (k : Caller) × (slice_get callers c ≡ Some k) × IsSome k.owed
+-- which can be recorded
+pub record IsReadyTurn (w : World) (h : List Entry) (c : ℕ) (t : Turn) : Type 0 where
+  pub turn : IsTurn w h c t
+  pub known : c < caller_count w
+  pub room : length (by h c) < most_entries
+  pub ready : is_some (actor_step w t.actor ((after w h).actors t.actor) (moment w h) t.work) ≡ true
+  pub in_time : IsInTime (after w h) w t.work.event
 
--- the caller owes nothing
-abbrev pub OwesNothing : Runner → ℕ → Type 0
-OwesNothing r c = (k : Caller) → slice_get r.callers.items c ≡ Some k → k.owed ≡ None
+-- the event of a turn
+abbrev pub ask_of : Turn → Ask
+ask_of t = record { actor = t.actor; event = t.work.event }
 
--- the caller can't record, or is at its limit
-abbrev pub IsThrough : World → List Entry → ℕ → Type 0
-IsThrough w h c = (length (by h c) ≡ most_entries) ⊎ (((after w h).owed c ≡ []) × (can_go_on w (after w h) c ≡ false))
+abbrev pub asks_of : Option Turn → Option Ask
+asks_of t = option_map ask_of t
 
--- a turn that recorded an entry, and one that didn't
-abbrev pub Turned : World → Runner → Runner → ℕ → Bool → Type 0
-Turned w old new c true = Stands w new × (length old.history < length new.history)
-Turned w old new c false = (new ≡ old) × IsThrough w old.history c
+-- nothing was owed to it
+pub record IsOwn (t : Turn) : Type 0 where
+  pub nothing : t.work.with ≡ given.Nothing
+  pub none : t.cites ≡ None
+
+abbrev pub AreOwn : Option Turn → Type 0
+AreOwn None = Unit {0}
+AreOwn (Some t) = IsOwn t
+
+-- a duty, as it is recorded, is ready
+abbrev pub is_duty_ready : World → Net → Duty → Bool
+is_duty_ready w net d =
+    is_some (actor_step w d.actor (net.actors d.actor) net.moment (record { event = d.event; with = d.with }))
+
+-- what the caller owes first is ready, or its next event where it owes nothing
+abbrev pub may_turn_by : World → Net → ℕ → List Duty → Bool
+may_turn_by w net c [] = can_go_on w net c
+may_turn_by w net c (d ∷ ds) = is_duty_ready w net d
+
+abbrev pub may_turn : World → List Entry → ℕ → Bool
+may_turn w h c = may_turn_by w (after w h) c (owed w h c)
+
+-- it is this duty
+pub record OfDuty (d : Duty) (t : Turn) : Type 0 where
+  pub actor : t.actor ≡ d.actor
+  pub work : t.work ≡ record { event = d.event; with = d.with }
+  pub cites : t.cites ≡ Some d.cites
+
+-- a move of the clock to this moment
+pub record IsMoving (t : Turn) (m : ℕ) : Type 0 where
+  pub actor : t.actor ≡ name.Clock
+  pub event : t.work.event ≡ event.Move m
+  pub own : IsOwn t

@@ -1,15 +1,14 @@
 //! The scripts of a world on one worker, in virtual time, and the summary of a history.
 #![tactic(auto)]
 
-mod actors;
-mod duty;
+mod caller;
+mod ending;
+mod law;
+mod recording;
 mod replay;
+mod rounds;
 mod runner;
-mod seat;
-mod standing;
-mod summary;
-#[cfg(test)]
-mod tests;
+mod turn;
 
-pub use runner::{Ran, RunEnd, run};
-pub use summary::summary_of;
+pub use replay::summary_of;
+pub use rounds::{Ran, RunEnd, run};

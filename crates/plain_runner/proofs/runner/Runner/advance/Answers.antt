@@ -1,12 +1,17 @@
-use Rattle.plain_runner.proofs.Finals.{advanced_so, few_moves_so}
-use Rattle.plain_runner.proofs.Plays.{on_ok}
-use Rattle.plain_runner.specs.Moved.{Moved}
+use Rattle.std.proofs.Common.{arith}
+use Rattle.plain_runner.proofs.Advancing.{advanced, advances}
+use Rattle.plain_runner.proofs.Recorded.{on_ok}
 use Rattle.plain_runner.proofs.runner.Runner.advance.Goals as goal
 
-pub move_to-requires-clause-few : goal.move_to-requires-clause-few
-move_to-requires-clause-few c = few_moves_so c.args.world.now c.args.self.now c.requires.stands.on_time
+pub record-requires-clause-ready : goal.record-requires-clause-ready
+record-requires-clause-ready c =
+    let w = c.args.world.now in
+    (w, advances w c.args.self.now _ c.in_ok-moment.moment c.moving.result c.requires.tracks c.requires.through c.requires.unfinished (omega (arith, c.len.ensures, c.len-2.ensures)) c.moving.ensures c.in_ok-moment.ensures)
 
 pub returns : goal.returns
 returns c =
-    on_ok c.move_to.result (Moved c.args.world.now c.args.self.now c.move_to.new.self c.args.world.now.end) _
-    (advanced_so c.args.world.now c.args.self.now c.move_to.new.self c.requires.form c.requires.stands c.requires.idle c.requires.more c.requires.before) c.move_to.ensures
+    let w = c.args.world.now in
+    on_ok c.record.result (λ recorded.
+    advanced w c.args.self.now c.record.new.self _ c.moving.result
+    (recorded w (advances w c.args.self.now _ c.in_ok-moment.moment c.moving.result c.requires.tracks c.requires.through c.requires.unfinished (omega (arith, c.len.ensures, c.len-2.ensures)) c.moving.ensures c.in_ok-moment.ensures)))
+    c.record.ensures

@@ -1,17 +1,28 @@
-use Rattle.std.proofs.Common.{arith}
-use Rattle.net_base.specs.Net.{after}
-use Rattle.plain_runner.proofs.Halts.{free_more, limit_word, unfinished_word}
+use Rattle.std.proofs.Common.{◌≡◌, ◌==◌, ◌&&◌, ℕ, Bool, false, length, refl, sym, ◌∙◌, arith}
+use Rattle.net_base.specs.Calm.{most_entries}
+use Rattle.net_base.specs.Next.{by}
+use Rattle.plain_runner.specs.Rounds.{could}
+use Rattle.plain_runner.proofs.Could.{limit_told, none_told}
+use Rattle.plain_runner.proofs.Ranges.{and_left, and_right, none_more}
 use Rattle.plain_runner.proofs.runner.Runner.busy_end.Goals as goal
+use Rattle.plain_runner.proofs.runner.Runner.busy_end.Goals.{else-is_full-via-then-is_full+else-could, else-is_full-via-else-is_full}
 
-pub returns-then-limits : goal.returns-then-limits
-returns-then-limits c =
-    limit_word c.args.world.now c.args.self.now c.loop-caller.caller c.in_ok-limits.limits c.requires.form c.requires.tracks c.requires.may
-    (omega (arith, c.loop-caller-test.true, c.len-caller-end.ensures, c.args.self.now.callers.ok.0, c.requires.tracks.caller_count)) c.in_ok-limits.ensures c.if-limits.true
+pub returns-then-could : goal.returns-then-could
+returns-then-could c = λ w s busy.
+    limit_told w c.args.self.now c.loop-caller.caller c.is_full.result c.could.result s busy (omega (arith, c.loop-caller-test.true, c.len-caller-end.ensures, c.args.self.now.callers.ok.0))
+    (c.is_full.ensures w s) c.if-is_full.true (c.could.ensures w s) c.if-could.true
 
 pub loop-caller-preserved : goal.loop-caller-preserved
-loop-caller-preserved c = free_more c.args.world.now (after c.args.world.now c.args.self.now.history) c.loop-caller.caller c.in_ok-limits.limits c.loop-caller.invariant c.in_ok-limits.ensures c.if-limits.false
+loop-caller-preserved c = λ w s.
+    let h = c.args.self.now.history in
+    let n = c.loop-caller.caller in
+    let none : ((length (by h n) == most_entries) && could w h n) ≡ false =
+    elim c.else-is_full.branch [
+      | else-is_full-via-then-is_full+else-could v ↦ and_right (length (by h n) == most_entries) (could w h n) (sym (v.could.ensures w s) ∙ v.if-could.false)
+      | else-is_full-via-else-is_full v ↦ and_left (length (by h n) == most_entries) (could w h n) (sym (c.is_full.ensures w s) ∙ v.if-is_full.false)
+    ] in
+    none_more (λ (k : ℕ). (length (by h k) == most_entries) && could w h k) n false (c.loop-caller.invariant w s) (sym none) refl
 
 pub returns : goal.returns
-returns c =
-    unfinished_word c.args.world.now c.args.self.now c.requires.form c.requires.tracks c.requires.may (λ k lt.
-    c.loop-caller.invariant k (omega (arith, lt, c.loop-caller-test.false, c.len-caller-end.ensures, c.args.self.now.callers.ok.0, c.requires.tracks.caller_count)))
+returns c = λ w s busy.
+    none_told w c.args.self.now c.loop-caller.caller s busy (omega (arith, c.loop-caller-test.false, c.len-caller-end.ensures, c.args.self.now.callers.ok.0, s.callers_are.count)) (c.loop-caller.invariant w s)

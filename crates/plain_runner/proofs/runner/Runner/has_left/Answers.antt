@@ -1,10 +1,19 @@
-use Rattle.std.proofs.Common.{◌≡◌, List, length, get_or, subst, ap, sym, ◌∙◌}
-use Rattle.net_base.specs.declared.world.Script.{Script}
-use Rattle.plain_runner.proofs.Lasts.{has_left_so}
+use Rattle.std.proofs.Common.{refl}
+use Rattle.plain_runner.proofs.Could.{left_so, no_courier}
+use Rattle.plain_runner.proofs.Recorded.{got}
 use Rattle.plain_runner.proofs.runner.Runner.has_left.Goals as goal
 
-pub returns : goal.returns
-returns c = λ s is.
-    has_left_so c.args.world.now c.args.self.now c.args.caller s c.index.result.now c.index-as_slice-caller.result c.finished-finished.result c.len.result c.requires.tracks is c.index.ensures
-    (subst (λ (xs : List Script). c.index-as_slice-caller.result ≡ get_or xs c.args.caller c.index-as_slice-caller.result) c.as_slice.ensures c.index-as_slice-caller.is) c.finished-finished.ensures
-    (c.len.ensures ∙ ap (λ (u : Script). length u.steps) (sym c.index-as_slice-caller.is))
+pub returns-in-Script : goal.returns-in-Script
+returns-in-Script c = λ w s st is.
+    let k = c.index.result.now in
+    left_so w c.args.self.now c.args.caller c.is_unfinished.result k s c.in-Script.script c.in-Script.player st (got c.args.self.now.callers.items c.args.caller k c.requires c.index.ensures) is c.in-Script.is c.is_unfinished.ensures
+
+pub returns-in-Courier : goal.returns-in-Courier
+returns-in-Courier c = λ w s st is.
+    let k = c.index.result.now in
+    absurd (no_courier w c.args.self.now c.args.caller k s _ st (got c.args.self.now.callers.items c.args.caller k c.requires c.index.ensures) is c.in-Courier.is refl)
+
+pub returns-in-Clock : goal.returns-in-Clock
+returns-in-Clock c = λ w s st is.
+    let k = c.index.result.now in
+    absurd (no_courier w c.args.self.now c.args.caller k s _ st (got c.args.self.now.callers.items c.args.caller k c.requires c.index.ensures) is c.in-Clock.is refl)

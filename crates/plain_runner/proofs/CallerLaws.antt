@@ -1,0 +1,222 @@
+-- A caller before, while and after its turn is recorded.
+use Rattle.std.proofs.Common.{◌≡◌, ℕ, ◌+◌, ◌-◌, Bool, true, false, List, [], ◌∷◌, ◌++◌, drop, take, length, Option, Some, None, IsSome, is_some, slice_get, refl, sym, ap, subst, ◌∙◌}
+use Rattle.std.proofs.lemmas.Bool.{true≢false, false≢true}
+use Rattle.std.proofs.lemmas.Option.{none-some, same_Some}
+use Rattle.net_base.specs.declared.history.Entry.{Entry}
+use Rattle.net_base.specs.declared.history.With.TheVariants as given
+use Rattle.net_base.specs.declared.history.Work.{Work}
+use Rattle.net_base.specs.declared.reply.Reply.{Reply}
+use Rattle.net_base.specs.declared.world.Script.{Script}
+use Rattle.net_base.specs.declared.world.World.{World}
+use Rattle.net_base.specs.Actors.{actor_step}
+use Rattle.net_base.specs.Callers.{Caller as Called, IsScript, IsCourier, IsClock, IsNobody, caller_of}
+use Rattle.net_base.specs.Calm.{is_ready}
+use Rattle.net_base.specs.Duties.{Duty}
+use Rattle.net_base.specs.Legal.{IsAsked, IsNext, asked_by, cites_of}
+use Rattle.net_base.specs.Net.{Net, after, owed, with_of}
+use Rattle.net_base.specs.Next.{by, finished_by, next, next_of, own_replies}
+use Rattle.net_base.specs.Steps.{Ask, position}
+use Rattle.script_player.specs.Players.{IsAt, Playing, next_after}
+use Rattle.script_task.specs.Fitting.{fits}
+use Rattle.plain_runner.specs.declared.caller.Caller.{Caller}
+use Rattle.plain_runner.specs.declared.caller.Role.{Role}
+use Rattle.plain_runner.specs.declared.caller.Role.TheVariants as role
+use Rattle.plain_runner.specs.declared.turn.Turn.{Turn}
+use Rattle.plain_runner.specs.Callers.{GoesOn, HasRole, IsCaller, IsEntryOf, IsScriptAt, IsTurning, Stands, Turns}
+use Rattle.plain_runner.specs.Turns.{AreOwn, IsOwn, IsTurn, OfDuty, ask_of, asks_of, is_duty_ready, may_turn, may_turn_by}
+use Rattle.plain_runner.proofs.Replies.{before_last, duty_replies, next_replies, one_entry_more}
+
+-- What comes next.
+
+script_is : (w : World) (c : ℕ) (s : Script) → slice_get w.scripts c ≡ Some s → caller_of w c ≡ IsScript s
+script_is w c s is = rw is refl
+
+pub next_of_script : (w : World) (h : List Entry) (c : ℕ) (s : Script) → slice_get w.scripts c ≡ Some s → next w h c ≡ next_after s (own_replies h c)
+next_of_script w h c s is = ap (λ (k : Called). next_of k h c) (script_is w c s is)
+
+pub next_of_courier : (w : World) (h : List Entry) (c m : ℕ) → caller_of w c ≡ IsCourier m → next w h c ≡ next_of (IsCourier m) h c
+next_of_courier w h c m is = ap (λ (k : Called). next_of k h c) is
+
+pub next_of_clock : (w : World) (h : List Entry) (c : ℕ) → caller_of w c ≡ IsClock → next w h c ≡ None
+next_of_clock w h c is = ap (λ (k : Called). next_of k h c) is
+
+-- it goes by the replies to its own events
+next_alike : (k : Called) (h later : List Entry) (c : ℕ) → own_replies later c ≡ own_replies h c → next_of k later c ≡ next_of k h c
+next_alike (IsScript s) h later c same = ap (λ (rs : List Reply). (position s.host s.steps [] rs).next) same
+next_alike (IsCourier m) h later c same = refl
+next_alike IsClock h later c same = refl
+next_alike IsNobody h later c same = refl
+
+-- Whether it may record.
+
+first_is : (ds : List Duty) (d : Duty) → slice_get ds 0 ≡ Some d → ds ≡ d ∷ drop 1 ds
+first_is [] d is = absurd (none-some d is)
+first_is (e ∷ ds) d is = ap (λ (f : Duty). f ∷ ds) (same_Some e d is)
+
+none_is : (ds : List Duty) → slice_get ds 0 ≡ None → ds ≡ []
+none_is [] is = refl
+none_is (e ∷ ds) is = absurd (none-some e (sym is))
+
+pub owes_first : (w : World) (h : List Entry) (c : ℕ) (k : Caller) (d : Duty) → IsCaller w h c k → slice_get k.owed.list 0 ≡ Some d
+    → owed w h c ≡ d ∷ drop 1 k.owed.list
+owes_first w h c k d kept is = sym kept.owes ∙ first_is k.owed.list d is
+
+pub owes_none : (w : World) (h : List Entry) (c : ℕ) (k : Caller) → IsCaller w h c k → slice_get k.owed.list 0 ≡ None → owed w h c ≡ []
+owes_none w h c k kept is = sym kept.owes ∙ none_is k.owed.list is
+
+pub may_duty : (w : World) (h : List Entry) (c : ℕ) (k : Caller) (d : Duty) (now : ℕ) → IsCaller w h c k → slice_get k.owed.list 0 ≡ Some d
+    → now ≡ (after w h).moment
+    → is_some (actor_step w d.actor ((after w h).actors d.actor) now (record { event = d.event; with = d.with })) ≡ may_turn w h c
+may_duty w h c k d now kept is now_is =
+    ap (λ (m : ℕ). is_some (actor_step w d.actor ((after w h).actors d.actor) m (record { event = d.event; with = d.with }))) now_is
+    ∙ sym (ap (λ (ds : List Duty). may_turn_by w (after w h) c ds) (owes_first w h c k d kept is))
+
+may_next : (w : World) (h : List Entry) (c : ℕ) (k : Caller) → (after w h).past ≡ h → IsCaller w h c k → slice_get k.owed.list 0 ≡ None
+    → may_turn w h c ≡ is_ready w (after w h) (asks_of k.next)
+may_next w h c k past kept is =
+    ap (λ (ds : List Duty). may_turn_by w (after w h) c ds) (owes_none w h c k kept is)
+    ∙ ap (λ (l : List Entry). is_ready w (after w h) (next_of (caller_of w c) l c)) past
+    ∙ ap (λ (o : Option Ask). is_ready w (after w h) o) (sym kept.stands.next_is)
+
+own_work : (t : Turn) → IsOwn t → t.work ≡ record { event = t.work.event; with = given.Nothing }
+own_work t own = ap (λ (g : _). record { event = t.work.event; with = g }) own.nothing
+
+pub may_own : (w : World) (h : List Entry) (c : ℕ) (k : Caller) (t : Turn) (now : ℕ) → (after w h).past ≡ h → IsCaller w h c k
+    → slice_get k.owed.list 0 ≡ None → k.next ≡ Some t → now ≡ (after w h).moment
+    → is_some (actor_step w t.actor ((after w h).actors t.actor) now t.work) ≡ may_turn w h c
+may_own w h c k t now past kept is next now_is =
+    let own : IsOwn t = subst (λ (o : Option Turn). AreOwn o) next kept.stands.own in
+    ap (λ (m : ℕ). is_some (actor_step w t.actor ((after w h).actors t.actor) m t.work)) now_is
+    ∙ ap (λ (work : Work). is_some (actor_step w t.actor ((after w h).actors t.actor) (after w h).moment work)) (own_work t own)
+    ∙ sym (may_next w h c k past kept is ∙ ap (λ (o : Option Turn). is_ready w (after w h) (asks_of o)) next)
+
+pub may_not : (w : World) (h : List Entry) (c : ℕ) (k : Caller) → (after w h).past ≡ h → IsCaller w h c k → slice_get k.owed.list 0 ≡ None → k.next ≡ None
+    → false ≡ may_turn w h c
+may_not w h c k past kept is next = sym (may_next w h c k past kept is ∙ ap (λ (o : Option Turn). is_ready w (after w h) (asks_of o)) next)
+
+-- Its turn is taken.
+
+asked_duty : (k : Called) (o : Option Ask) (ds rest : List Duty) (d : Duty) (x : Entry) → ds ≡ d ∷ rest
+    → record { actor = d.actor; event = d.event } ≡ asked_by x → IsAsked ds k o x
+asked_duty k o ds rest d x is same = subst (λ (es : List Duty). IsAsked es k o x) (sym is) same
+
+pub turn_of_duty : (w : World) (h : List Entry) (c : ℕ) (ds : List Duty) (d : Duty) (t : Turn) → OfDuty d t → owed w h c ≡ d ∷ ds → IsTurn w h c t
+turn_of_duty w h c ds d t of is =
+    record {
+      asked = λ x actor event. asked_duty (caller_of w c) (next w h c) (owed w h c) ds d x is (same_ask d t x of actor event);
+      cited = of.cites ∙ sym (ap cites_of is);
+      given = ap (λ (work : Work). work.with) of.work ∙ sym (ap with_of is);
+    }
+  where
+    same_ask : (d : Duty) (t : Turn) (x : Entry) → OfDuty d t → x.actor ≡ t.actor → x.event ≡ t.work.event
+        → record { actor = d.actor; event = d.event } ≡ asked_by x
+    same_ask d t x of actor event =
+        let a : d.actor ≡ x.actor = sym (actor ∙ of.actor) in
+        let e : d.event ≡ x.event = sym (event ∙ ap (λ (work : Work). work.event) of.work) in
+        rw (a, e) refl
+
+asked_next : (k : Called) (h : List Entry) (c : ℕ) (x : Entry) → next_of k h c ≡ Some (asked_by x) → IsNext k (next_of k h c) x
+asked_next (IsScript s) h c x is = is
+asked_next (IsCourier m) h c x is = is
+asked_next IsClock h c x is = absurd (none-some _ is)
+asked_next IsNobody h c x is = is
+
+asked_own : (k : Called) (h : List Entry) (c : ℕ) (ds : List Duty) (x : Entry) → ds ≡ [] → next_of k h c ≡ Some (asked_by x)
+    → IsAsked ds k (next_of k h c) x
+asked_own k h c ds x none is = subst (λ (es : List Duty). IsAsked es k (next_of k h c) x) (sym none) (asked_next k h c x is)
+
+pub turn_of_next : (w : World) (h : List Entry) (c : ℕ) (t : Turn) → owed w h c ≡ [] → Some (ask_of t) ≡ next w h c → IsOwn t → IsTurn w h c t
+turn_of_next w h c t none is own =
+    record {
+      asked = λ x actor event. asked_own (caller_of w c) h c (owed w h c) x none (sym is ∙ same_ask t x actor event);
+      cited = own.none ∙ sym (ap cites_of none);
+      given = own.nothing ∙ sym (ap with_of none);
+    }
+  where
+    same_ask : (t : Turn) (x : Entry) → x.actor ≡ t.actor → x.event ≡ t.work.event → Some (ask_of t) ≡ Some (asked_by x)
+    same_ask t x actor event = rw (actor, event) refl
+
+nothing_left : (ds : List Duty) → ds ≡ [] → ds ≡ drop 1 ds
+nothing_left ds is = is ∙ sym (ap (drop 1) is)
+
+-- it may record only where there is a turn
+pub some_next : (w : World) (h : List Entry) (c : ℕ) (k : Caller) → (after w h).past ≡ h → IsCaller w h c k → slice_get k.owed.list 0 ≡ None
+    → may_turn w h c ≡ true → IsSome k.next
+some_next w h c k past kept is may = by_next k.next refl
+  where
+    by_next : (o : Option Turn) → k.next ≡ o → IsSome k.next
+    by_next None none = absurd (false≢true (may_not w h c k past kept is none ∙ may))
+    by_next (Some t) some = subst (λ (o : Option Turn). IsSome o) (sym some) refl
+
+-- It goes on.
+
+role_alike : (w : World) (h later : List Entry) (c : ℕ) (r : Role) (before : ℕ) → own_replies later c ≡ own_replies h c → HasRole w h c r before
+    → HasRole w later c r before
+role_alike w h later c (role.Script s p) before same at =
+    record {
+      is = at.is;
+      at = subst (λ (rs : List Reply). IsAt s.now rs p) (sym same) at.at;
+      before_is = at.before_is ∙ ap (λ (rs : List Reply). finished_by (take (length rs - 1) rs) s.now) (sym same);
+    }
+role_alike w h later c (role.Courier m) before same at = at
+role_alike w h later c role.Clock before same at = at
+
+-- after a duty
+pub goes_owed : (old : Caller) (cites : Option ℕ) (reply : Reply) → is_some cites ≡ true
+    → GoesOn old (record old { entries = old.entries + 1 }) cites reply
+goes_owed old None reply some = absurd (false≢true some)
+goes_owed old (Some n) reply some =
+    record {
+      owed_stays = refl;
+      entries_is = refl;
+      goes = λ w h c x turns is.
+          let same = duty_replies h x c n is.caller_is is.cites_is in
+          record {
+            role_is = role_alike w h (h ++ x ∷ []) c old.role old.before same turns.role_is;
+            next_is = turns.next_is refl ∙ sym (next_alike (caller_of w c) h (h ++ x ∷ []) c same);
+            own = turns.own refl;
+          };
+    }
+
+-- a player takes a reply that fits
+abbrev pub Tells : Script → Playing → Playing → Reply → Type 0
+Tells s p told reply = (rs : List Reply) (ask : Ask) → IsAt s rs p → next_after s rs ≡ Some ask → fits ask.event reply ≡ true
+    → IsAt s (rs ++ reply ∷ []) told
+
+-- the reply of a script's event is told
+script_goes : (w : World) (h : List Entry) (c : ℕ) (s : Script) (p told : Playing) (reply : Reply) (x : Entry) (earlier : ℕ)
+    → Tells s p told reply → IsScriptAt w h c s p earlier → IsEntryOf w h c None reply x → IsAt s (own_replies (h ++ x ∷ []) c) told
+script_goes w h c s p told reply x earlier tells at is =
+    let came : next w h c ≡ Some (asked_by x) = subst (λ (k : Called). IsNext k (next w h c) x) (script_is w c s at.is) (is.came_next refl) in
+    let more : own_replies (h ++ x ∷ []) c ≡ own_replies h c ++ reply ∷ [] =
+        next_replies h x c is.caller_is is.cites_is ∙ ap (λ (r : Reply). own_replies h c ++ r ∷ []) is.reply_is in
+    subst (λ (rs : List Reply). IsAt s rs told) (sym more)
+        (tells (own_replies h c) (asked_by x) at.at (sym (next_of_script w h c s at.is) ∙ came) is.fitting)
+
+-- what a script goes on as
+pub stands_script : (w : World) (h : List Entry) (c : ℕ) (s : Script) (p told asked : Playing) (earlier before : ℕ)
+    → (event : Option Turn) (reply : Reply) (x : Entry)
+    → ((rs : List Reply) → IsAt s rs p → before ≡ finished_by rs s)
+    → Tells s p told reply
+    → ((rs : List Reply) → IsAt s rs told → asks_of event ≡ next_after s rs)
+    → ((rs : List Reply) → IsAt s rs told → IsAt s rs asked)
+    → IsScriptAt w h c s p earlier → IsEntryOf w h c None reply x
+    → IsScriptAt w (h ++ x ∷ []) c s asked before × (asks_of event ≡ next w (h ++ x ∷ []) c)
+stands_script w h c s p told asked earlier before event reply x finished tells nexts same at is =
+    let there = script_goes w h c s p told reply x earlier tells at is in
+    let more : own_replies (h ++ x ∷ []) c ≡ own_replies h c ++ reply ∷ [] =
+        next_replies h x c is.caller_is is.cites_is ∙ ap (λ (r : Reply). own_replies h c ++ r ∷ []) is.reply_is in
+    let last : take (length (own_replies (h ++ x ∷ []) c) - 1) (own_replies (h ++ x ∷ []) c) ≡ own_replies h c =
+        ap (λ (rs : List Reply). take (length rs - 1) rs) more ∙ before_last (own_replies h c) reply in
+    (
+      record {
+        is = at.is;
+        at = same (own_replies (h ++ x ∷ []) c) there;
+        before_is = finished (own_replies h c) at.at ∙ sym (ap (λ (rs : List Reply). finished_by rs s) last);
+      },
+      nexts (own_replies (h ++ x ∷ []) c) there ∙ sym (next_of_script w (h ++ x ∷ []) c s at.is),
+    )
+
+pub cites_none : (o : Option ℕ) → is_some o ≡ false → o ≡ None
+cites_none None is = refl
+cites_none (Some n) is = absurd (true≢false is)

@@ -1,0 +1,218 @@
+-- How a run stands after a legal history: done, stopped, limited, or none of these.
+use Rattle.std.proofs.Common.{◌≡◌, ℕ, ◌+◌, ◌<◌, ◌≤◌, ◌==◌, ◌&&◌, ◌||◌, Bool, true, false, not, List, [], ◌∷◌, ◌++◌, length, take, min, filter_map, Option, Some, None, codes, is_some, slice_get, nat_lt, nat_le, ◌⊎◌, inl, inr, refl, sym, ap, subst, ◌∙◌, arith, if◌then◌else◌}
+use Rattle.std.specs.List.{list_any, range_with_len}
+use Rattle.std.proofs.Math.Nat.{min-le_right}
+use Rattle.std.proofs.Math.Seq.{take-append_seam}
+use Rattle.std.proofs.lemmas.Bool.{true≢false, false≢true, eq-eqb, eqb-true, eqb-false, lt-ltb, ltb-true, ne_eqb}
+use Rattle.net_base.specs.declared.actor.ActorName.{ActorName}
+use Rattle.net_base.specs.declared.event.Event.{Event}
+use Rattle.net_base.specs.declared.event.Event.TheVariants as event
+use Rattle.net_base.specs.declared.history.Entry.{Entry}
+use Rattle.net_base.specs.declared.world.World.{World}
+use Rattle.net_base.specs.Callers.{Caller, IsScript, IsCourier, IsClock, IsNobody, caller_of, caller_count, clock_number}
+use Rattle.net_base.specs.Calm.{at_limit, awaited_moment, calm, callers, can_go_on, could_record, done, least, limited, most_entries, movable, owes, stopped, target, unfinished}
+use Rattle.net_base.specs.Legal.{IsInTime, IsLegal, IsTimed, MayFollow}
+use Rattle.net_base.specs.Net.{Net, after, moment, moment_after, step_of}
+use Rattle.net_base.specs.Duties.{conversations, due_of}
+use Rattle.net_base.specs.Next.{by, next_of}
+use Rattle.net_base.specs.Summary.{end_word}
+use Rattle.history_laws.proofs.Histories.{after_push, at_push, by_entries, timed_take}
+use Rattle.plain_runner.proofs.Calming.{Kind, OfScript, OfCourier, OfClock, clock_is, clock_waits, courier_is, is_busy, is_calm, kind_of, script_is}
+use Rattle.plain_runner.proofs.Ranges.{and_both, and_left, and_right, none_range, not_below, not_true, some_range}
+use Rattle.plain_runner.proofs.Recorded.{step_moment}
+
+-- Words.
+
+abbrev word : Bool → Bool → Bool → List ℕ
+word d s l = if d then codes "done" else (if s then codes "stopped" else (if l then codes "limit" else codes "unfinished"))
+
+abbrev letter : List ℕ → ℕ
+letter [] = 0
+letter (x ∷ xs) = x
+
+done_by : (d s l : Bool) → codes "done" ≡ word d s l → d ≡ true
+done_by true s l is = refl
+done_by false true l is = let e : 100 ≡ 115 = ap letter is in absurd (omega (arith, e))
+done_by false false true is = let e : 100 ≡ 108 = ap letter is in absurd (omega (arith, e))
+done_by false false false is = let e : 100 ≡ 117 = ap letter is in absurd (omega (arith, e))
+
+stopped_by : (d s l : Bool) → codes "stopped" ≡ word d s l → s ≡ true
+stopped_by true s l is = let e : 115 ≡ 100 = ap letter is in absurd (omega (arith, e))
+stopped_by false true l is = refl
+stopped_by false false true is = let e : 115 ≡ 108 = ap letter is in absurd (omega (arith, e))
+stopped_by false false false is = let e : 115 ≡ 117 = ap letter is in absurd (omega (arith, e))
+
+limit_by : (d s l : Bool) → codes "limit" ≡ word d s l → l ≡ true
+limit_by true s l is = let e : 108 ≡ 100 = ap letter is in absurd (omega (arith, e))
+limit_by false true l is = let e : 108 ≡ 115 = ap letter is in absurd (omega (arith, e))
+limit_by false false true is = refl
+limit_by false false false is = let e : 108 ≡ 117 = ap letter is in absurd (omega (arith, e))
+
+none_by : (d s l : Bool) → codes "unfinished" ≡ word d s l → (d ≡ false) × (s ≡ false) × (l ≡ false)
+none_by true s l is = let e : 117 ≡ 100 = ap letter is in absurd (omega (arith, e))
+none_by false true l is = let e : 117 ≡ 115 = ap letter is in absurd (omega (arith, e))
+none_by false false true is = let e : 117 ≡ 108 = ap letter is in absurd (omega (arith, e))
+none_by false false false is = (refl, refl, refl)
+
+pub done_so : (w : World) (net : Net) → codes "done" ≡ end_word w net → done w net ≡ true
+done_so w net is = done_by (done w net) (stopped w net) (limited w net) is
+
+pub stopped_so : (w : World) (net : Net) → codes "stopped" ≡ end_word w net → stopped w net ≡ true
+stopped_so w net is = stopped_by (done w net) (stopped w net) (limited w net) is
+
+pub limit_so : (w : World) (net : Net) → codes "limit" ≡ end_word w net → limited w net ≡ true
+limit_so w net is = limit_by (done w net) (stopped w net) (limited w net) is
+
+pub none_so : (w : World) (net : Net) → codes "unfinished" ≡ end_word w net → (done w net ≡ false) × (stopped w net ≡ false) × (limited w net ≡ false)
+none_so w net is = none_by (done w net) (stopped w net) (limited w net) is
+
+-- The moment is never past the end.
+
+least_within : (last : ℕ) (ms : List ℕ) → least last ms ≤ last
+least_within last [] = omega arith
+least_within last (m ∷ ms) = omega (arith, min-le_right m (least last ms), least_within last ms)
+
+abbrev due_and_awaited : World → Net → List ℕ
+due_and_awaited w net =
+    filter_map (λ (a : ActorName). due_of (net.actors a)) (conversations w)
+    ++ filter_map (λ (c : ℕ). awaited_moment (next_of (caller_of w c) net.past c)) (callers w)
+
+event_within : (w : World) (net : Net) (e : Event) → IsInTime net w e → net.moment ≤ w.end → moment_after net.moment e ≤ w.end
+event_within w net (event.Move m) timed before = let e : least w.end (due_and_awaited w net) ≤ w.end = least_within w.end (due_and_awaited w net) in omega (arith, timed.1, e)
+event_within w net _ timed before = before
+
+pub moment_within : (w : World) (h : List Entry) → IsLegal w h → IsTimed w h → moment w h ≤ w.end
+moment_within w h legal timed = by_entries w (λ (k : List Entry). IsTimed w k → moment w k ≤ w.end) (λ none. omega arith) push h legal timed
+  where
+    push : (k : List Entry) (x : Entry) → IsLegal w k → MayFollow w k x → (IsTimed w k → moment w k ≤ w.end) → IsTimed w (k ++ x ∷ []) → moment w (k ++ x ∷ []) ≤ w.end
+    push k x before may f timed =
+        let front : take (length k) (k ++ x ∷ []) ≡ k = take-append_seam k (x ∷ []) in
+        let was : moment w k ≤ w.end = f (subst (IsTimed w) front (timed_take w (k ++ x ∷ []) (length k) timed)) in
+        let comes : IsInTime (after w k) w x.event = subst (λ (p : List Entry). IsInTime (after w p) w x.event) front (timed (length k) x (at_push k x)) in
+        let now : moment w (k ++ x ∷ []) ≡ moment_after (moment w k) x.event = ap (λ (net : Net). net.moment) (after_push w k x) ∙ step_moment w (after w k) x (step_of w (after w k) x) may.is_ready in
+        subst (λ (m : ℕ). m ≤ w.end) (sym now) (event_within w (after w k) x.event comes was)
+
+-- Limits.
+
+pub record NobodyCould (w : World) (net : Net) : Type 0 where
+  pub none : (c : ℕ) → c < caller_count w → (owes net c || can_go_on w net c) ≡ false
+
+could_is : (w : World) (net : Net) (c : ℕ) → (c ≡ clock_number w → ⊥) → Kind w c → could_record w net (caller_of w c) c ≡ (owes net c || can_go_on w net c)
+could_is w net c other (OfScript s at) = ap (λ (k : Caller). could_record w net k c) (script_is w c s at)
+could_is w net c other (OfCourier m lt at) = ap (λ (k : Caller). could_record w net k c) (courier_is w m c at lt)
+could_is w net c other (OfClock at) = absurd (other at)
+
+clock_could : (w : World) (net : Net) → could_record w net (caller_of w (clock_number w)) (clock_number w) ≡ (owes net (clock_number w) || movable w net)
+clock_could w net = ap (λ (k : Caller). could_record w net k (clock_number w)) (clock_is w)
+
+pub or_parts : (a b : Bool) → (a || b) ≡ false → (a ≡ false) × (b ≡ false)
+or_parts true b is = absurd (true≢false is)
+or_parts false b is = (refl, is)
+
+idle_free : (w : World) (net : Net) → NobodyCould w net → (movable w net ≡ false) ⊎ (length (by net.past (clock_number w)) ≡ most_entries → ⊥) → limited w net ≡ false
+idle_free w net idle rests = none_range (at_limit w net) (caller_count w) 0 (λ c lt. by_clock c (c == clock_number w) refl (omega (arith, lt)))
+  where
+    clock_rests : (movable w net ≡ false) ⊎ (length (by net.past (clock_number w)) ≡ most_entries → ⊥) → at_limit w net (clock_number w) ≡ false
+    clock_rests (inl still) =
+        and_right (length (by net.past (clock_number w)) == most_entries) _
+        (clock_could w net ∙ rw (still, (or_parts (owes net (clock_number w)) (can_go_on w net (clock_number w)) (idle.none (clock_number w) (omega arith))).0) refl)
+    clock_rests (inr few) = and_left (length (by net.past (clock_number w)) == most_entries) _ (ne_eqb (length (by net.past (clock_number w))) most_entries few)
+
+    by_clock : (c : ℕ) (b : Bool) → (c == clock_number w) ≡ b → c < caller_count w → at_limit w net c ≡ false
+    by_clock c true is lt = subst (λ (k : ℕ). at_limit w net k ≡ false) (sym (eqb-true c (clock_number w) is)) (clock_rests rests)
+    by_clock c false is lt =
+        and_right (length (by net.past c) == most_entries) _ (could_is w net c (eqb-false c (clock_number w) is) (kind_of w c lt) ∙ idle.none c lt)
+
+-- a full caller that could record limits the run
+pub some_limited : (w : World) (net : Net) (c : ℕ) → c < caller_count w → (length (by net.past c) == most_entries) ≡ true → (owes net c || can_go_on w net c) ≡ true → limited w net ≡ true
+some_limited w net c lt full could = some_range (at_limit w net) (caller_count w) 0 c (omega arith) (omega (arith, lt)) (and_both _ _ full (by_clock (c == clock_number w) refl))
+  where
+    by_clock : (b : Bool) → (c == clock_number w) ≡ b → could_record w net (caller_of w c) c ≡ true
+    by_clock false is = could_is w net c (eqb-false c (clock_number w) is) (kind_of w c lt) ∙ could
+    by_clock true is =
+        let at : c ≡ clock_number w = eqb-true c (clock_number w) is in
+        let owing : (owes net (clock_number w) || can_go_on w net (clock_number w)) ≡ true = subst (λ (k : ℕ). (owes net k || can_go_on w net k) ≡ true) at could in
+        subst (λ (k : ℕ). could_record w net (caller_of w k) k ≡ true) (sym at) (clock_could w net ∙ owes_still (owes net (clock_number w)) (can_go_on w net (clock_number w)) (clock_waits w net) owing)
+      where
+        owes_still : (a b : Bool) → b ≡ false → (a || b) ≡ true → (a || movable w net) ≡ true
+        owes_still true b waits is = refl
+        owes_still false b waits is = absurd (false≢true (sym waits ∙ is))
+
+-- The clock at its limit, where it could move.
+
+pub clock_limited : (w : World) (net : Net) → movable w net ≡ true → (length (by net.past (clock_number w)) == most_entries) ≡ true → limited w net ≡ true
+clock_limited w net moves full =
+    some_range (at_limit w net) (caller_count w) 0 (clock_number w) (omega arith) (omega arith)
+    (and_both _ _ full (clock_could w net ∙ or_right (owes net (clock_number w)) (movable w net) moves))
+  where
+    or_right : (a b : Bool) → b ≡ true → (a || b) ≡ true
+    or_right true b is = refl
+    or_right false b is = is
+
+-- Where a caller could record.
+
+none_limited : (w : World) (net : Net) → calm w net ≡ false → ((c : ℕ) → c < caller_count w → ((length (by net.past c) == most_entries) && (owes net c || can_go_on w net c)) ≡ false) → limited w net ≡ false
+none_limited w net busy none = none_range (at_limit w net) (caller_count w) 0 (λ c lt. by_clock c (c == clock_number w) refl (omega (arith, lt)))
+  where
+    at : (c : ℕ) (b : Bool) → could_record w net (caller_of w c) c ≡ b → (owes net c || can_go_on w net c) ≡ b → ((length (by net.past c) == most_entries) && (owes net c || can_go_on w net c)) ≡ false → at_limit w net c ≡ false
+    at c b could is none = ap (λ (o : Bool). (length (by net.past c) == most_entries) && o) (could ∙ sym is) ∙ none
+
+    clock_at : could_record w net (caller_of w (clock_number w)) (clock_number w) ≡ (owes net (clock_number w) || can_go_on w net (clock_number w))
+    clock_at = clock_could w net ∙ ap (λ (b : Bool). owes net (clock_number w) || b) (and_left (calm w net) _ busy ∙ sym (clock_waits w net))
+
+    by_clock : (c : ℕ) (b : Bool) → (c == clock_number w) ≡ b → c < caller_count w → at_limit w net c ≡ false
+    by_clock c true is lt =
+        let same : c ≡ clock_number w = eqb-true c (clock_number w) is in
+        at c _ (subst (λ (k : ℕ). could_record w net (caller_of w k) k ≡ (owes net k || can_go_on w net k)) (sym same) clock_at) refl (none c lt)
+    by_clock c false is lt = at c _ (could_is w net c (eqb-false c (clock_number w) is) (kind_of w c lt)) refl (none c lt)
+
+busy_word : (w : World) (net : Net) (b : Bool) → calm w net ≡ false → limited w net ≡ b → (if b then codes "limit" else codes "unfinished") ≡ end_word w net
+busy_word w net true is limits = rw (is, limits) refl
+busy_word w net false is limits = rw (is, limits) refl
+
+pub limit_word : (w : World) (net : Net) (c : ℕ) → calm w net ≡ false → c < caller_count w → (length (by net.past c) == most_entries) ≡ true → (owes net c || can_go_on w net c) ≡ true → codes "limit" ≡ end_word w net
+limit_word w net c busy lt full could = busy_word w net true busy (some_limited w net c lt full could)
+
+pub busy_unfinished : (w : World) (net : Net) → calm w net ≡ false → ((c : ℕ) → c < caller_count w → ((length (by net.past c) == most_entries) && (owes net c || can_go_on w net c)) ≡ false) → codes "unfinished" ≡ end_word w net
+busy_unfinished w net busy none = busy_word w net false busy (none_limited w net busy none)
+
+-- Where nobody could.
+
+pub idle_calm : (w : World) (net : Net) → NobodyCould w net → calm w net ≡ true
+idle_calm w net idle = is_calm w net idle.none
+
+pub done_word : (w : World) (net : Net) → NobodyCould w net → unfinished w net ≡ false → codes "done" ≡ end_word w net
+done_word w net idle finished =
+    let calms = idle_calm w net idle in
+    let free : limited w net ≡ false = idle_free w net idle (inl (rw (calms, finished) refl)) in
+    let so : done w net ≡ true = rw (calms, free, finished) refl in
+    rw so refl
+
+done_not : (w : World) (net : Net) → unfinished w net ≡ true → done w net ≡ false
+done_not w net more = and_right (calm w net) _ (and_right (not (limited w net)) _ (ap not more))
+
+pub stopped_word : (w : World) (net : Net) → NobodyCould w net → unfinished w net ≡ true → net.moment ≡ w.end → codes "stopped" ≡ end_word w net
+stopped_word w net idle more ends =
+    let calms = idle_calm w net idle in
+    let over : nat_lt net.moment w.end ≡ false = rw ends (not_below w.end) in
+    let free : limited w net ≡ false = idle_free w net idle (inl (rw (calms, more, over) refl)) in
+    let so : stopped w net ≡ true = rw (calms, free, more, eq-eqb net.moment w.end ends) refl in
+    rw (done_not w net more, so) refl
+
+not_stopped : (w : World) (net : Net) → (net.moment ≡ w.end → ⊥) → stopped w net ≡ false
+not_stopped w net apart = and_right (calm w net) _ (and_right (not (limited w net)) _ (and_right (unfinished w net) _ (ne_eqb net.moment w.end apart)))
+
+pub is_movable : (w : World) (net : Net) → NobodyCould w net → unfinished w net ≡ true → net.moment < w.end → movable w net ≡ true
+is_movable w net idle more before = rw (idle_calm w net idle, more, lt-ltb net.moment w.end before) refl
+
+pub full_word : (w : World) (net : Net) → NobodyCould w net → unfinished w net ≡ true → (net.moment ≡ w.end → ⊥) → net.moment ≤ w.end
+    → (length (by net.past (clock_number w)) == most_entries) ≡ true → codes "limit" ≡ end_word w net
+full_word w net idle more apart within full =
+    let limits = clock_limited w net (is_movable w net idle more (omega (arith, apart, within))) full in
+    rw (done_not w net more, not_stopped w net apart, limits) refl
+
+pub other_word : (w : World) (net : Net) → NobodyCould w net → unfinished w net ≡ true → (net.moment ≡ w.end → ⊥)
+    → (length (by net.past (clock_number w)) == most_entries) ≡ false → codes "unfinished" ≡ end_word w net
+other_word w net idle more apart few =
+    let free = idle_free w net idle (inr (eqb-false (length (by net.past (clock_number w))) most_entries few)) in
+    rw (done_not w net more, not_stopped w net apart, free) refl

@@ -1,0 +1,76 @@
+-- Tests, and whether the numbers of a range pass them.
+use Rattle.std.proofs.Common.{◌≡◌, ℕ, zero, suc, ◌+◌, ◌<◌, ◌≤◌, ◌==◌, ◌&&◌, ◌||◌, Bool, true, false, not, nat_lt, refl, sym, ap, ◌∙◌, arith}
+use Rattle.std.specs.List.{list_all, list_any, range_with_len}
+use Rattle.std.proofs.lemmas.Bool.{true≢false, false≢true, eqb-true, eqb-false, ltb-true}
+use Rattle.std.proofs.lemmas.Bool.Decides.{nat_tests}
+
+pub and_left : (a b : Bool) → a ≡ false → (a && b) ≡ false
+and_left a b is = rw is refl
+
+pub and_right : (a b : Bool) → b ≡ false → (a && b) ≡ false
+and_right true b is = is
+and_right false b is = refl
+
+pub and_both : (a b : Bool) → a ≡ true → b ≡ true → (a && b) ≡ true
+and_both a b left right = rw (left, right) refl
+
+pub or_false : (a b : Bool) → (a || b) ≡ false → (a ≡ false) × (b ≡ false)
+or_false true b is = absurd (true≢false is)
+or_false false b is = (refl, is)
+
+pub not_true : (a : Bool) → (a ≡ true → ⊥) → a ≡ false
+not_true true never = absurd (never refl)
+not_true false never = refl
+
+pub not_below : (n : ℕ) → nat_lt n n ≡ false
+not_below n = grind (arith, nat_tests)
+
+pub all_range : (test : ℕ → Bool) (n a : ℕ) → ((k : ℕ) → k < a + n → test k ≡ true) → list_all test (range_with_len a n) ≡ true
+all_range test zero a all = refl
+all_range test (suc n) a all = rw (all a (omega arith), all_range test n (a + 1) (λ k lt. all k (omega (arith, lt)))) refl
+
+pub none_range : (test : ℕ → Bool) (n a : ℕ) → ((k : ℕ) → k < a + n → test k ≡ false) → list_any test (range_with_len a n) ≡ false
+none_range test zero a all = refl
+none_range test (suc n) a all = rw (all a (omega arith), none_range test n (a + 1) (λ k lt. all k (omega (arith, lt)))) refl
+
+pub some_range : (test : ℕ → Bool) (n a k : ℕ) → a ≤ k → k < a + n → test k ≡ true → list_any test (range_with_len a n) ≡ true
+some_range test zero a k above below is = absurd (omega (arith, above, below))
+some_range test (suc n) a k above below is = by_first (test a) refl (λ apart. some_range test n (a + 1) k (omega (arith, above, apart)) (omega (arith, below)) is)
+  where
+    by_first : (b : Bool) → test a ≡ b → ((a ≡ k → ⊥) → list_any test (range_with_len (a + 1) n) ≡ true) → list_any test (range_with_len a (suc n)) ≡ true
+    by_first true here rest = rw here refl
+    by_first false here rest = rw here (rest (λ e. true≢false (sym is ∙ ap test (sym e) ∙ here)))
+
+-- a range with a number that fails
+pub fails_range : (test : ℕ → Bool) (n a k : ℕ) → a ≤ k → k < a + n → test k ≡ false → list_all test (range_with_len a n) ≡ false
+fails_range test zero a k above below is = absurd (omega (arith, above, below))
+fails_range test (suc n) a k above below is = by_first (a == k) refl (λ apart. fails_range test n (a + 1) k (omega (arith, above, apart)) (omega (arith, below)) is)
+  where
+    by_first : (e : Bool) → (a == k) ≡ e → ((a ≡ k → ⊥) → list_all test (range_with_len (a + 1) n) ≡ false) → (test a && list_all test (range_with_len (a + 1) n)) ≡ false
+    by_first true same rest = and_left (test a) (list_all test (range_with_len (a + 1) n)) (ap test (eqb-true a k same) ∙ is)
+    by_first false apart rest = and_right (test a) (list_all test (range_with_len (a + 1) n)) (rest (eqb-false a k apart))
+
+-- a number that passes, where some does
+pub record IsPassed (test : ℕ → Bool) (end : ℕ) : Type 0 where
+  pub number : ℕ
+  pub below : number < end
+  pub passes : test number ≡ true
+
+pub passed_range : (test : ℕ → Bool) (n a : ℕ) → list_any test (range_with_len a n) ≡ true → IsPassed test (a + n)
+passed_range test zero a is = absurd (false≢true is)
+passed_range test (suc n) a is = by_first (test a) refl is (λ rest. passed_range test n (a + 1) rest)
+  where
+    by_first : (b : Bool) → test a ≡ b → (b || list_any test (range_with_len (a + 1) n)) ≡ true → (list_any test (range_with_len (a + 1) n) ≡ true → IsPassed test (a + 1 + n)) → IsPassed test (a + suc n)
+    by_first true here is rest = record { number = a; below = omega arith; passes = here }
+    by_first false here is rest = let p = rest is in record { number = p.number; below = omega (arith, p.below); passes = p.passes }
+
+-- no number passes, where none does
+pub unpassed : (test : ℕ → Bool) (n k : ℕ) → list_any test (range_with_len 0 n) ≡ false → k < n → test k ≡ false
+unpassed test n k none lt = not_true (test k) (λ is. true≢false (sym (some_range test n 0 k (omega arith) (omega (arith, lt)) is) ∙ none))
+
+pub none_more : (test : ℕ → Bool) (n : ℕ) (b : Bool) → ((c : ℕ) → c < n → test c ≡ false) → b ≡ test n → b ≡ false → (c : ℕ) → c < n + 1 → test c ≡ false
+none_more test n b old is none c lt = by_last (c == n) refl
+  where
+    by_last : (e : Bool) → (c == n) ≡ e → test c ≡ false
+    by_last true same = ap test (eqb-true c n same) ∙ sym is ∙ none
+    by_last false apart = old c (omega (arith, lt, eqb-false c n apart))

@@ -1,0 +1,141 @@
+-- What the entry of a turn leaves of a run.
+use Rattle.std.proofs.Common.{◌≡◌, ℕ, zero, suc, ◌-◌, ◌<◌, ◌==◌, Bool, true, false, List, [], ◌∷◌, ◌++◌, length, map, filter, take, Option, Some, None, is_none, get_or, Result, Ok, Err, OnOk, slice_get, slice_set, refl, sym, ap, subst, ◌∙◌, arith}
+use Rattle.std.specs.Prelude.{IsSome}
+use Rattle.std.specs.Option.{option_map}
+use Rattle.std.proofs.lemmas.Bool.{eqb-true, eqb-false, false≢true, ne_eqb}
+use Rattle.std.proofs.lemmas.List.{length-set}
+use Rattle.std.proofs.lemmas.Option.{same_Some, slice_get_read}
+use Rattle.net_base.specs.declared.event.Event.{Event}
+use Rattle.net_base.specs.declared.history.Entry.{Entry}
+use Rattle.net_base.specs.declared.history.Outcome.{Outcome}
+use Rattle.net_base.specs.declared.reply.Reply.{Reply}
+use Rattle.net_base.specs.declared.world.World.{World}
+use Rattle.net_base.specs.ActorStep.{Step}
+use Rattle.net_base.specs.Actors.{Actor}
+use Rattle.net_base.specs.Callers.{caller_count}
+use Rattle.net_base.specs.Legal.{IsInTime, IsLegal, IsTimed}
+use Rattle.net_base.specs.Net.{Net, after, moment, moment_after, net_after, step_of}
+use Rattle.net_base.specs.Next.{by, finished_by, own_replies}
+use Rattle.duties.specs.WaysOf.{AreWaysOfWorld}
+use Rattle.ip_route.specs.Kept.{HostWays}
+use Rattle.net_actors.specs.Together.{AreActors}
+use Rattle.script_player.specs.Players.{IsAt}
+use Rattle.history_laws.specs.Apart.{StandsStill}
+use Rattle.history_laws.proofs.Callers.{stands_still}
+use Rattle.history_laws.proofs.Histories.{after_push, legal_push, timed_push}
+use Rattle.plain_runner.specs.Callers.{HasRole, IsCaller, IsTurning}
+use Rattle.plain_runner.specs.Recording.{Comes, IsHistory, Recorded}
+use Rattle.plain_runner.specs.Tracks.{AreCallers, IsBefore, RecordedSo, Tracks}
+use Rattle.plain_runner.specs.declared.caller.Caller.{Caller}
+use Rattle.plain_runner.specs.declared.caller.Role.{Role}
+use Rattle.plain_runner.specs.declared.caller.Role.TheVariants as role
+use Rattle.plain_runner.specs.declared.runner.Runner.{Runner}
+use Rattle.plain_runner.specs.declared.turn.Turn.{Turn}
+
+-- Lists.
+
+pub set_here : {A : Type 0} (xs : List A) (i : ℕ) (x : A) → i < length xs → slice_get (slice_set xs i x) i ≡ Some x
+set_here [] i x lt = absurd (omega (arith, lt))
+set_here (y ∷ xs) zero x lt = refl
+set_here (y ∷ xs) (suc i) x lt = set_here xs i x (omega (arith, lt))
+
+pub set_there : {A : Type 0} (xs : List A) (i j : ℕ) (x : A) → (i ≡ j → ⊥) → slice_get (slice_set xs i x) j ≡ slice_get xs j
+set_there [] i j x apart = refl
+set_there (y ∷ xs) zero zero x apart = absurd (apart refl)
+set_there (y ∷ xs) zero (suc j) x apart = refl
+set_there (y ∷ xs) (suc i) zero x apart = refl
+set_there (y ∷ xs) (suc i) (suc j) x apart = set_there xs i j x (λ e. apart (omega (arith, e)))
+
+-- The other callers.
+
+abbrev replies_in : List Entry → List Reply
+replies_in xs = map (λ (x : Entry). x.reply) (filter (λ (x : Entry). is_none x.cites) xs)
+
+role_stays : (w : World) (h l : List Entry) (c : ℕ) (r : Role) (before : ℕ) → by l c ≡ by h c → HasRole w h c r before → HasRole w l c r before
+role_stays w h l c (role.Courier m) before same is = is
+role_stays w h l c role.Clock before same is = is
+role_stays w h l c (role.Script s p) before same is =
+    let replies : own_replies l c ≡ own_replies h c = ap (λ (xs : List Entry). replies_in xs) same in
+    record {
+      is = is.is;
+      at = subst (λ (rs : List Reply). IsAt s.now rs p) (sym replies) is.at;
+      before_is = is.before_is ∙ ap (λ (rs : List Reply). finished_by (take (length rs - 1) rs) s.now) (sym replies);
+    }
+
+pub caller_stays : (w : World) (h : List Entry) (c : ℕ) (k : Caller) (x : Entry) → (x.caller ≡ c → ⊥) → IsCaller w h c k → IsCaller w (h ++ x ∷ []) c k
+caller_stays w h c k x other is = record {
+  stands = record {
+    role_is = role_stays w h (h ++ x ∷ []) c k.role k.before still.recorded is.stands.role_is;
+    next_is = is.stands.next_is ∙ sym still.comes_next;
+    own = is.stands.own;
+  };
+  owes = is.owes ∙ sym still.owes;
+  entries_is = is.entries_is ∙ ap length (sym still.recorded);
+}
+  where
+    still : StandsStill w c h (h ++ x ∷ [])
+    still = stands_still w c h (x ∷ []) (rw (ne_eqb x.caller c other) refl)
+
+-- The moment.
+
+pub step_moment : (w : World) (net : Net) (x : Entry) (o : Option (Step Actor)) → IsSome (option_map (λ (s : Step Actor). s.outcome) o) → (net_after w net x o).moment ≡ moment_after net.moment x.event
+step_moment w net x (Some s) is = refl
+step_moment w net x None is = absurd (false≢true is)
+
+-- The run.
+
+pub come : (w : World) (r : Runner) (c : ℕ) (t : Turn) (k : Caller) (stamp : ℕ) → IsBefore w r c t → slice_get r.callers.items c ≡ Some k → stamp ≡ length r.history
+    → Comes w r.history c t k r.net r.ways stamp r.moment
+come w r c t k stamp b at stamp_is = record {
+  history = b.history;
+  turning = b.turning k at;
+  ready = b.ready;
+  are = b.are;
+  ways_are = b.ways_are;
+  stamp_is = stamp_is;
+  now_is = b.moment_is;
+}
+
+pub recorded_so : (w : World) (old new : Runner) (c : ℕ) (t : Turn) (k : Caller) (x : Entry) → c < length old.callers.items → IsBefore w old c t
+    → Recorded w old.history c t k new.net x → new.history ≡ old.history ++ x ∷ [] → new.callers.items ≡ slice_set old.callers.items c k → new.ways ≡ old.ways
+    → new.moment ≡ moment_after old.moment x.event → RecordedSo w old new c t
+recorded_so w old new c t k x lt b rec history callers ways now = record {
+  tracks = record {
+    history = subst (IsHistory w) (sym history) record {
+      world = b.history.world;
+      legal = legal_push w old.history x b.history.legal rec.follows;
+      timed = timed_push w old.history x b.history.timed (subst (IsInTime (after w old.history) w) (sym rec.event_is) b.ready.in_time);
+    };
+    callers_are = record {
+      count = ap length callers ∙ length-set old.callers.items c k ∙ b.count;
+      each = λ d e at. subst (λ (h : List Entry). IsCaller w h d e) (sym history) (kept d e (c == d) refl (sym (ap (λ ks. slice_get ks d) callers) ∙ at));
+    };
+    are = subst (λ (h : List Entry). AreActors w new.net (after w h).actors) (sym history) rec.are;
+    ways_are = subst (AreWaysOfWorld w) (sym ways) b.ways_are;
+    moment_is = now ∙ ap (λ (m : ℕ). moment_after m x.event) b.moment_is ∙ sym (step_moment w (after w old.history) x (step_of w (after w old.history) x) rec.follows.is_ready)
+        ∙ ap (λ (net : Net). net.moment) (sym (after_push w old.history x)) ∙ ap (λ (h : List Entry). moment w h) (sym history);
+  };
+  entry = x;
+  history_is = history;
+  caller_is = rec.caller_is;
+  actor_is = rec.actor_is;
+  event_is = rec.event_is;
+}
+  where
+    kept : (d : ℕ) (e : Caller) (same : Bool) → (c == d) ≡ same → slice_get (slice_set old.callers.items c k) d ≡ Some e → IsCaller w (old.history ++ x ∷ []) d e
+    kept d e true is at =
+        let here : k ≡ e = same_Some k e (sym (set_here old.callers.items c k lt) ∙ ap (slice_get (slice_set old.callers.items c k)) (eqb-true c d is) ∙ at) in
+        subst (λ (n : ℕ). IsCaller w (old.history ++ x ∷ []) n e) (eqb-true c d is) (subst (IsCaller w (old.history ++ x ∷ []) c) here rec.kept)
+    kept d e false is at =
+        let other : c ≡ d → ⊥ = eqb-false c d is in
+        caller_stays w old.history d e x (λ s. other (sym rec.caller_is ∙ s)) (b.others d e other (sym (set_there old.callers.items c d k other) ∙ at))
+
+-- Results.
+
+pub on_ok : {A E : Type 0} {P Q : Type 0} (r : Result A E) → (P → Q) → OnOk r P → OnOk r Q
+on_ok (Ok x) f is = f is
+on_ok (Err e) f is = tt
+
+-- what stands at a place
+pub got : {A : Type 0} (xs : List A) (i : ℕ) (x : A) → i < length xs → x ≡ get_or xs i x → slice_get xs i ≡ Some x
+got xs i x lt is = slice_get_read xs (length xs) i x refl lt is

@@ -1,0 +1,79 @@
+-- Recording a caller's turn.
+use Rattle.std.specs.Prelude.{◌≡◌, ℕ, ◌++◌, List, [], ◌∷◌, length, Option, Some, None, Vec}
+use Rattle.ip_route.specs.Kept.{HostWays}
+use Rattle.net_base.specs.declared.actor.ActorName.{ActorName}
+use Rattle.net_base.specs.declared.event.Event.{Event}
+use Rattle.net_base.specs.declared.history.Entry.{Entry}
+use Rattle.net_base.specs.declared.history.Outcome.{Outcome}
+use Rattle.net_base.specs.declared.history.Work.{Work}
+use Rattle.net_base.specs.declared.world.World.{World}
+use Rattle.net_base.specs.ActorStep.{Step}
+use Rattle.net_base.specs.Actors.{Actor}
+use Rattle.net_base.specs.Duties.{duties}
+use Rattle.net_base.specs.Legal.{IsLegal, IsMove, IsTimed, MayFollow}
+use Rattle.net_base.specs.Net.{after, moment}
+use Rattle.net_base.specs.World.{IsWorld}
+use Rattle.duties.specs.declared.due.Due.{Due}
+use Rattle.duties.specs.Owing.{Gives}
+use Rattle.duties.specs.Queue.{Adds, Queue}
+use Rattle.duties.specs.Ticking.{dues_of}
+use Rattle.duties.specs.WaysOf.{AreWaysOfWorld}
+use Rattle.net_actors.specs.Together.{AreActors, Numbered}
+use Rattle.plain_runner.specs.Callers.{IsCaller, IsTurning}
+use Rattle.plain_runner.specs.Turns.{IsReadyTurn}
+use Rattle.plain_runner.specs.declared.caller.Caller.{Caller}
+use Rattle.plain_runner.specs.declared.turn.Turn.{Turn}
+
+-- a history of a world, legal and timed
+pub record IsHistory (w : World) (h : List Entry) : Type 0 where
+  pub world : IsWorld w
+  pub legal : IsLegal w h
+  pub timed : IsTimed w h
+
+-- the turn of a caller comes after this history, and what is kept is of it
+pub record Comes
+    (w : World) (h : List Entry) (c : ℕ) (t : Turn) (k : Caller) (net : Numbered) (ways : List HostWays) (stamp now : ℕ)
+    : Type 0 where
+  pub history : IsHistory w h
+  pub turning : IsTurning w h c t.cites k
+  pub ready : IsReadyTurn w h c t
+  pub are : AreActors w net (after w h).actors
+  pub ways_are : AreWaysOfWorld w ways
+  pub stamp_is : stamp ≡ length h
+  pub now_is : now ≡ moment w h
+
+-- so of some world and history
+pub record CanRecord (c : ℕ) (t : Turn) (k : Caller) (net : Numbered) (ways : List HostWays) (stamp now : ℕ)
+    : Type 0 where
+  pub world : World
+  pub past : List Entry
+  pub comes : Comes world past c t k net ways stamp now
+
+-- the entry of the turn, and what is kept after it
+pub record Recorded (w : World) (h : List Entry) (c : ℕ) (t : Turn) (k : Caller) (net : Numbered) (x : Entry)
+    : Type 0 where
+  pub follows : MayFollow w h x
+  pub caller_is : x.caller ≡ c
+  pub actor_is : x.actor ≡ t.actor
+  pub event_is : x.event ≡ t.work.event
+  pub kept : IsCaller w (h ++ x ∷ []) c k
+  pub are : AreActors w net (after w (h ++ x ∷ [])).actors
+
+abbrev pub Records : ℕ → Turn → Caller → Caller → Numbered → Numbered → List HostWays → ℕ → ℕ → Entry → Type 0
+Records c t old new net after ways stamp now x =
+    (w : World) (h : List Entry) → Comes w h c t old net ways stamp now → Recorded w h c t new after x
+
+-- What a turn owes.
+
+-- a move is told when the conversations of the world are due
+abbrev pub DuesOf : {Z : Type 0} → World → (ActorName → Actor) → ActorName → Event → Option (Vec Due Z) → Type 0
+DuesOf w actors a e None = IsMove a e → ⊥
+DuesOf w actors a e (Some dues) = IsMove a e × (dues.items ≡ dues_of w actors)
+
+-- where the dues are those of the world's conversations, what the step owes is owed after what was owed before
+abbrev pub OwesAll : {Z : Type 0} → List HostWays → ActorName → ℕ → Work → Outcome → Option (Vec Due Z) → Queue → Queue
+    → Type 0
+OwesAll ways a stamp work o dues old new =
+    (w : World) (actors : ActorName → Actor) (step : Step Actor)
+    → AreWaysOfWorld w ways → DuesOf w actors a work.event dues → Gives w a work o step
+    → Adds old new (duties w actors a stamp work step)

@@ -1,0 +1,77 @@
+-- What a run stands for as far as it has come.
+use Rattle.std.specs.Prelude.{◌≡◌, ℕ, ◌<◌, ◌≤◌, ◌++◌, List, [], ◌∷◌, length, Bool, true, false, Some, slice_get}
+use Rattle.net_base.specs.declared.history.Entry.{Entry}
+use Rattle.net_base.specs.declared.world.World.{World}
+use Rattle.net_base.specs.Callers.{caller_count}
+use Rattle.net_base.specs.Calm.{most_entries}
+use Rattle.net_base.specs.Net.{after, moment}
+use Rattle.net_base.specs.Next.{by}
+use Rattle.duties.specs.WaysOf.{AreWaysOfWorld}
+use Rattle.net_actors.specs.Together.{AreActors}
+use Rattle.plain_runner.specs.Callers.{IsCaller, IsTurning}
+use Rattle.plain_runner.specs.Recording.{IsHistory}
+use Rattle.plain_runner.specs.Turns.{IsReadyTurn, may_turn}
+use Rattle.plain_runner.specs.declared.turn.Turn.{Turn}
+use Rattle.plain_runner.specs.declared.caller.Caller.{Caller}
+use Rattle.plain_runner.specs.declared.runner.Runner.{Runner}
+
+-- each caller of the world is kept, as it is after the history
+pub record AreCallers (w : World) (h : List Entry) (ks : List Caller) : Type 0 where
+  pub count : length ks ≡ caller_count w
+  pub each : (c : ℕ) (k : Caller) → slice_get ks c ≡ Some k → IsCaller w h c k
+
+-- a run of this world
+pub record Tracks (w : World) (r : Runner) : Type 0 where
+  pub history : IsHistory w r.history
+  pub callers_are : AreCallers w r.history r.callers.items
+  pub are : AreActors w r.net (after w r.history).actors
+  pub ways_are : AreWaysOfWorld w r.ways
+  pub moment_is : r.moment ≡ moment w r.history
+
+-- a run of some world
+abbrev pub IsRun : Runner → Type 0
+IsRun r = (w : World) × Tracks w r
+
+-- an entry of this turn was recorded
+pub record RecordedSo (w : World) (old new : Runner) (c : ℕ) (t : Turn) : Type 0 where
+  pub tracks : Tracks w new
+  pub entry : Entry
+  pub history_is : new.history ≡ old.history ++ entry ∷ []
+  pub caller_is : entry.caller ≡ c
+  pub actor_is : entry.actor ≡ t.actor
+  pub event_is : entry.event ≡ t.work.event
+
+-- an entry of this caller was recorded
+pub record Grows (w : World) (old new : Runner) (c : ℕ) : Type 0 where
+  pub tracks : Tracks w new
+  pub entry : Entry
+  pub history_is : new.history ≡ old.history ++ entry ∷ []
+  pub caller_is : entry.caller ≡ c
+
+-- the caller has room, and what it owes first is ready, or its next event
+pub record IsReady (w : World) (r : Runner) (c : ℕ) : Type 0 where
+  pub room : length (by r.history c) < most_entries
+  pub ready : may_turn w r.history c ≡ true
+
+-- so in some world
+abbrev pub IsReadyRun : Runner → ℕ → Type 0
+IsReadyRun r c = (w : World) × Tracks w r × IsReady w r c
+
+-- a run of this world while the turn of a caller, which is ready, is recorded: it was taken from what is kept of the caller
+pub record IsBefore (w : World) (r : Runner) (c : ℕ) (t : Turn) : Type 0 where
+  pub history : IsHistory w r.history
+  pub count : length r.callers.items ≡ caller_count w
+  pub others : (d : ℕ) (k : Caller) → (c ≡ d → ⊥) → slice_get r.callers.items d ≡ Some k → IsCaller w r.history d k
+  pub turning : (k : Caller) → slice_get r.callers.items c ≡ Some k → IsTurning w r.history c t.cites k
+  pub ready : IsReadyTurn w r.history c t
+  pub are : AreActors w r.net (after w r.history).actors
+  pub ways_are : AreWaysOfWorld w r.ways
+  pub moment_is : r.moment ≡ moment w r.history
+
+-- so of some world
+abbrev pub MayRecord : Runner → ℕ → Turn → Type 0
+MayRecord r c t = (w : World) × IsBefore w r c t
+
+-- the entry of the turn was recorded
+abbrev pub Recording : Runner → Runner → ℕ → Turn → Type 0
+Recording old new c t = (w : World) → IsBefore w old c t → RecordedSo w old new c t
