@@ -3,4 +3,3 @@ pub mod Endings
 pub mod Statuses
 pub mod OneHistory
 pub mod RunEnds
-pub mod FormTests

@@ -24,13 +24,12 @@ use Rattle.world_text.specs.WorldText.{world_reading}
 use Rattle.world_writer.specs.Written.{file_text}
 use Rattle.net_model.specs.Answers.{Answer, bad_input, lines_answer, cs_answer, input_limit}
 use Rattle.net_model.specs.Words.{Command, Cs, Query, Run, Make, reads}
-use Rattle.netsh.specs.Form.{has_form}
 
 -- Bad lines.
 
--- the bad line of a text that isn't a world's; a world of a form that isn't run yet has cause 31 at line 0
+-- the bad line of a text that isn't a world's
 abbrev pub bad_world : Result World (ℕ × ℕ) → Option (ℕ × ℕ)
-bad_world (Ok w) = if has_form w then None else Some (0, 31)
+bad_world (Ok w) = None
 bad_world (Err bad) = Some bad
 
 -- the first bad line of an input within the limit, and its least cause

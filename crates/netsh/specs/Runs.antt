@@ -1,7 +1,7 @@
 -- How a run ends, as its status and as its summary says it.
 use Rattle.std.specs.Prelude.{ℕ}
-use Rattle.plain_runner.specs.declared.runner.RunEnd.{RunEnd}
-use Rattle.plain_runner.specs.declared.runner.RunEnd.TheVariants as ended
+use Rattle.plain_runner.specs.declared.rounds.RunEnd.{RunEnd}
+use Rattle.plain_runner.specs.declared.rounds.RunEnd.TheVariants as ended
 use Rattle.transcript.specs.declared.summary.End.{End}
 use Rattle.transcript.specs.declared.summary.End.TheVariants as told
 

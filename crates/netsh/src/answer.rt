@@ -9,7 +9,7 @@ ghost use Rattle.net_base.specs.Summary.{answered_steps};
 ghost use Rattle.net_base.specs.World.{IsWorld};
 ghost use Rattle.netsh.specs.Built.{IsRun};
 ghost use Rattle.netsh.specs.Runs.{end_of, status_of};
-ghost use Rattle.plain_runner.specs.Ended.{EndsSo};
+ghost use Rattle.plain_runner.specs.Rounds.{EndsSo};
 
 use cs_resolver::CsError;
 use net_base::{Lines, Octets, World};

@@ -5,7 +5,6 @@ ghost use Rattle.net_model.specs.Words.{Run};
 ghost use Rattle.netsh.specs.Built.{IsAnswer};
 
 use crate::answer::Answer;
-use crate::form::has_form;
 use plain_runner::run;
 use std::alloc::{AllocError, Global};
 use world_file::{WorldError, read_world};
@@ -20,9 +19,6 @@ pub fn run_over(alloc: Global, input: &[u8]) -> Result<Answer, AllocError>
         Err(WorldError::Bad { line, cause }) => return Answer::bad_input(alloc, line, cause),
         Err(WorldError::Memory) => return Err(AllocError),
     };
-    if !has_form(&world) {
-        return Answer::bad_input(alloc, 0, 31);
-    }
     let ran = run(alloc, &world)?;
     Answer::run(alloc, &world, &ran)
 }

@@ -22,7 +22,7 @@ const CUT_DATAGRAM: &str =
     "networld 1\nend 60000\nseed 7\nmedium ether0 1500\nhost anna il udp\nif ether0 135.104.9.6 255.255.255.0\nhost helix il udp\nif ether0 135.104.9.31 255.255.255.0\nscript anna\nopen c /net/udp/clone\nwrite c connect 135.104.9.31!7 5000\nopen d /net/udp/0/data\nwrite d hello\nscript helix\nopen c /net/udp/clone\nwrite c connect 135.104.9.6!5000 7\nopen d /net/udp/0/data\nread d 2\nread d 8192\nndb\n# local network\nipnet=astro ip=135.104.0.0 ipmask=255.255.0.0\n\tauth=bootes\nipnet=astro9 ip=135.104.9.0 ipmask=255.255.255.0\n\tauth=helix\nsys=anna ip=135.104.9.6\n\tdom=anna.example.com\nsys=helix dom=helix.example.com\n\tip=10.0.0.31\n\tip=135.104.9.31\nsys=bootes\n\tip=135.104.50.2\nil=9fs port=17008\nudp=echo port=7\n";
 
 /// What a call answers and writes, where these calls of the source and the sink fail.
-fn run<R: Threads + Wait + Sync>(
+pub(crate) fn run<R: Threads + Wait + Sync>(
     rt: &R,
     alloc: Global,
     words: &[&str],
@@ -97,8 +97,8 @@ fn bad_worlds(rt: HostRuntime) -> Result<(), Fail> {
         ("networld 2\n", "! line 1 cause 11\n"),
         ("networld 1\nend 60000\nseed 7\n", "! line 4 cause 19\n"),
         (
-            "networld 1\nend 60000\nseed 7\nmedium ether0 1500\nmedium b 576\nhost a il\nndb",
-            "! line 0 cause 31\n",
+            "networld 1\nend 60000\nseed 7\nmedium ether0 1500\nmedium b 576\n",
+            "! line 6 cause 19\n",
         ),
     ];
     for (input, text) in rows {
