@@ -8,6 +8,8 @@ mod recording;
 mod replay;
 mod rounds;
 mod runner;
+#[cfg(test)]
+mod tests;
 mod turn;
 
 pub use replay::summary_of;
