@@ -52,7 +52,8 @@ played_plain w (p ∷ ps) = ap (λ (s : Actor). played w name.Clock s ps) (one (
 clock_plain : (w : World) (h : List Entry) → (after w h).actors name.Clock ≡ IsPlain
 clock_plain w h = state_is_fold w h name.Clock ∙ played_plain w (works w h name.Clock)
 
-clock_ready : (w : World) (h : List Entry) (now m : ℕ) (t : Turn) → IsMoving t m → is_some (actor_step w t.actor ((after w h).actors t.actor) now t.work) ≡ true
+clock_ready : (w : World) (h : List Entry) (now m : ℕ) (t : Turn) → IsMoving t m
+    → is_some (actor_step w t.actor ((after w h).actors t.actor) now t.work) ≡ true
 clock_ready w h now m t moves =
     subst (λ (a : ActorName). is_some (actor_step w a ((after w h).actors a) now t.work) ≡ true) (sym moves.actor)
     (subst (λ (s : Actor). is_some (actor_step w name.Clock s now t.work) ≡ true) (sym (clock_plain w h)) (by_event t.work moves.event))
@@ -104,7 +105,8 @@ clock_before w r c t m s at nothing moves may to room = record {
     asked : (x : Entry) → x.actor ≡ t.actor → x.event ≡ t.work.event → IsAsked (owed w r.history c) (caller_of w c) (next w r.history c) x
     asked x actor_is event_is =
         subst (λ (ds : List Duty). IsAsked ds (caller_of w c) (next w r.history c) x) (sym nothing)
-        (subst (λ (k : AnyCaller). IsAsked [] k (next w r.history c) x) (sym clock) (move_at x.actor x.event (actor_is ∙ moves.actor) (event_is ∙ moves.event)))
+        (subst (λ (k : AnyCaller). IsAsked [] k (next w r.history c) x) (sym clock) (move_at x.actor x.event (actor_is ∙ moves.actor) (event_is
+        ∙ moves.event)))
 
 -- A round that recorded nothing.
 
@@ -113,12 +115,14 @@ owing_list [] is = refl
 owing_list (d ∷ ds) is = absurd (omega (arith, ltb-false 0 (length (d ∷ ds)) is))
 
 -- whoever is through and could record is at its limit
-full_or_not : (w : World) (h : List Entry) (c : ℕ) → limited w (after w h) ≡ false → c < caller_count w → (owes (after w h) c || can_go_on w (after w h) c) ≡ true → IsThrough w h c → may_turn w h c ≡ false
+full_or_not : (w : World) (h : List Entry) (c : ℕ) → limited w (after w h) ≡ false → c < caller_count w
+    → (owes (after w h) c || can_go_on w (after w h) c) ≡ true → IsThrough w h c → may_turn w h c ≡ false
 full_or_not w h c free lt could (inl full) =
     absurd (false≢true (sym free ∙ some_limited w (after w h) c lt (full_is w h c true (sym (eq-eqb (length (by h c)) most_entries full))) could))
 full_or_not w h c free lt could (inr rests) = rests
 
-pub rests : (w : World) (h : List Entry) → IsHistory w h → ((c : ℕ) → c < caller_count w → IsThrough w h c) → limited w (after w h) ≡ false → NobodyCould w (after w h)
+pub rests : (w : World) (h : List Entry) → IsHistory w h → ((c : ℕ) → c < caller_count w → IsThrough w h c) → limited w (after w h) ≡ false
+    → NobodyCould w (after w h)
 rests w h history through free = record { none = λ c lt. not_true _ (λ could. by_owes c lt (owes (after w h) c) refl could) }
   where
     or_left : (a b : Bool) → a ≡ true → (a || b) ≡ true
@@ -140,7 +144,8 @@ rests w h history through free = record { none = λ c lt. not_true _ (λ could. 
         false≢true (sym (full_or_not w h c free lt could (through c lt)) ∙ may)
 
 -- the clock moves on
-pub advances : (w : World) (r : Runner) (c m : ℕ) (t : Turn) → Tracks w r → AreThrough w r → codes "unfinished" ≡ end_word w (after w r.history) → c ≡ clock_number w → IsMoving t m
+pub advances : (w : World) (r : Runner) (c m : ℕ) (t : Turn) → Tracks w r → AreThrough w r → codes "unfinished" ≡ end_word w (after w r.history)
+    → c ≡ clock_number w → IsMoving t m
     → m ≡ target w (after w r.history) → IsBefore w r c t
 advances w r c m t s through word at moves to = clock_before w r c t m s at (ap (owed w r.history) at ∙ nothing) moves may to room
   where
@@ -174,7 +179,8 @@ advances w r c m t s through word at moves to = clock_before w r c t m s at (ap 
     may = is_movable w net idle more before
 
     nothing : owed w r.history (clock_number w) ≡ []
-    nothing = owing_list (owed w r.history (clock_number w)) (or_parts (owes net (clock_number w)) (can_go_on w net (clock_number w)) (idle.none (clock_number w) (omega arith))).0
+    nothing = owing_list (owed w r.history (clock_number w))
+        (or_parts (owes net (clock_number w)) (can_go_on w net (clock_number w)) (idle.none (clock_number w) (omega arith))).0
 
     room : length (by r.history c) < most_entries
     room = by_room (length (by r.history c) == most_entries) refl
@@ -182,7 +188,8 @@ advances w r c m t s through word at moves to = clock_before w r c t m s at (ap 
         by_room : (b : Bool) → (length (by r.history c) == most_entries) ≡ b → length (by r.history c) < most_entries
         by_room false is = omega (arith, eqb-false (length (by r.history c)) most_entries is, within w r.history c s.history.legal)
         by_room true is =
-            let full : (length (by net.past (clock_number w)) == most_entries) ≡ true = subst (λ (k : ℕ). (length (by net.past k) == most_entries) ≡ true) at (full_is w r.history c true (sym is)) in
+            let full : (length (by net.past (clock_number w)) == most_entries) ≡ true = subst (λ (k : ℕ). (length (by net.past k) == most_entries) ≡ true) at
+            (full_is w r.history c true (sym is)) in
             absurd (false≢true (sym told.2 ∙ clock_limited w net may full))
 
 pub advanced : (w : World) (old new : Runner) (c : ℕ) (t : Turn) → RecordedSo w old new c t → Tracks w new × (length old.history < length new.history)

@@ -119,17 +119,20 @@ pub is_calm : (w : World) (net : Net) → ((c : ℕ) → c < caller_count w → 
 is_calm w net none = rw (nothing, pending, waiting) refl
   where
     nothing : nothing_owed w net ≡ true
-    nothing = all_range (λ (c : ℕ). not (owes net c)) (caller_count w) 0 (λ c lt. ap not (or_false (owes net c) (can_go_on w net c) (none c (omega (arith, lt)))).0)
+    nothing = all_range (λ (c : ℕ). not (owes net c)) (caller_count w) 0
+        (λ c lt. ap not (or_false (owes net c) (can_go_on w net c) (none c (omega (arith, lt)))).0)
 
     pending : nothing_pending w net ≡ true
     pending =
         all_range (λ (m : ℕ). is_quiet (net.actors (name.Medium m))) (length w.media) 0 (λ m lt.
         let near : m < length w.media = omega (arith, lt) in
         let c : ℕ = length w.scripts + m in
-        quiet_is w net m near ∙ ap not (sym (courier_goes w net m c refl near) ∙ (or_false (owes net c) (can_go_on w net c) (none c (omega (arith, near)))).1))
+        quiet_is w net m near
+        ∙ ap not (sym (courier_goes w net m c refl near) ∙ (or_false (owes net c) (can_go_on w net c) (none c (omega (arith, near)))).1))
 
     waiting : scripts_wait w net ≡ true
-    waiting = all_range (λ (c : ℕ). not (can_go_on w net c)) (length w.scripts) 0 (λ c lt. ap not (or_false (owes net c) (can_go_on w net c) (none c (omega (arith, lt)))).1)
+    waiting = all_range (λ (c : ℕ). not (can_go_on w net c)) (length w.scripts) 0
+        (λ c lt. ap not (or_false (owes net c) (can_go_on w net c) (none c (omega (arith, lt)))).1)
 
 pub is_busy : (w : World) (net : Net) (c : ℕ) → c < caller_count w → (owes net c || can_go_on w net c) ≡ true → calm w net ≡ false
 is_busy w net c lt is = by_owes (owes net c) refl is
@@ -137,7 +140,8 @@ is_busy w net c lt is = by_owes (owes net c) refl is
     goes_on : can_go_on w net c ≡ true → Kind w c → calm w net ≡ false
     goes_on goes (OfScript s at) =
         and_right (nothing_owed w net) _ (and_right (nothing_pending w net) (scripts_wait w net)
-        (fails_range (λ (k : ℕ). not (can_go_on w net k)) (length w.scripts) 0 c (omega arith) (omega (arith, slice_get_within w.scripts c s at)) (ap not goes)))
+        (fails_range (λ (k : ℕ). not (can_go_on w net k)) (length w.scripts) 0 c (omega arith) (omega (arith, slice_get_within w.scripts c s at))
+        (ap not goes)))
     goes_on goes (OfCourier m near at) =
         and_right (nothing_owed w net) _ (and_left (nothing_pending w net) (scripts_wait w net)
         (fails_range (λ (k : ℕ). is_quiet (net.actors (name.Medium k))) (length w.media) 0 m (omega arith) (omega (arith, near))
@@ -145,5 +149,6 @@ is_busy w net c lt is = by_owes (owes net c) refl is
     goes_on goes (OfClock at) = absurd (false≢true (sym (clock_waits w net) ∙ subst (λ (k : ℕ). can_go_on w net k ≡ true) at goes))
 
     by_owes : (b : Bool) → owes net c ≡ b → (b || can_go_on w net c) ≡ true → calm w net ≡ false
-    by_owes true owing is = and_left (nothing_owed w net) _ (fails_range (λ (k : ℕ). not (owes net k)) (caller_count w) 0 c (omega arith) (omega (arith, lt)) (ap not owing))
+    by_owes true owing is = and_left (nothing_owed w net) _ (fails_range (λ (k : ℕ). not (owes net k)) (caller_count w) 0 c (omega arith) (omega (arith, lt))
+        (ap not owing))
     by_owes false owing is = goes_on is (kind_of w c lt)

@@ -34,14 +34,16 @@ past_is w h = past_after w opening_net h
 
 -- One caller.
 
-pub could_owing : (w : World) (r : Runner) (c : ℕ) (k : Caller) (b : Bool) → Tracks w r → slice_get r.callers.items c ≡ Some k → b ≡ (length k.owed.list == 0) → b ≡ false → true ≡ could w r.history c
+pub could_owing : (w : World) (r : Runner) (c : ℕ) (k : Caller) (b : Bool) → Tracks w r → slice_get r.callers.items c ≡ Some k
+    → b ≡ (length k.owed.list == 0) → b ≡ false → true ≡ could w r.history c
 could_owing w r c k b s at empty some = by_owed k.owed.list refl (s.callers_are.each c k at).owes (sym empty ∙ some)
   where
     by_owed : (ds : List Duty) → k.owed.list ≡ ds → k.owed.list ≡ (after w r.history).owed c → (length k.owed.list == 0) ≡ false → true ≡ could w r.history c
     by_owed [] same owed some = let e : true ≡ false = sym (ap (λ (ds : List Duty). length ds == 0) same) ∙ some in absurd (true≢false e)
     by_owed (d ∷ ds) same owed some = rw (sym owed ∙ same, lt-ltb 0 (length (d ∷ ds)) (omega arith)) refl
 
-pub could_free : (w : World) (r : Runner) (c : ℕ) (k : Caller) (b may : Bool) → Tracks w r → slice_get r.callers.items c ≡ Some k → b ≡ (length k.owed.list == 0) → b ≡ true
+pub could_free : (w : World) (r : Runner) (c : ℕ) (k : Caller) (b may : Bool) → Tracks w r → slice_get r.callers.items c ≡ Some k
+    → b ≡ (length k.owed.list == 0) → b ≡ true
     → may ≡ may_turn w r.history c → may ≡ could w r.history c
 could_free w r c k b may s at empty none is = by_owed ((after w r.history).owed c) refl
   where
@@ -78,23 +80,30 @@ none_told w r n s busy le none =
     busy_unfinished w (after w r.history) busy (λ c lt.
     ap (λ (p : List Entry). (length (by p c) == most_entries) && could w r.history c) (past_is w r.history) ∙ none c (omega (arith, lt, le)))
 
-pub done_told : (w : World) (r : Runner) (goes more : Bool) → goes ≡ list_any (could w r.history) (callers w) → goes ≡ false → more ≡ unfinished w (after w r.history) → more ≡ false
+pub done_told : (w : World) (r : Runner) (goes more : Bool) → goes ≡ list_any (could w r.history) (callers w) → goes ≡ false
+    → more ≡ unfinished w (after w r.history) → more ≡ false
     → codes "done" ≡ end_word w (after w r.history)
 done_told w r goes more goes_so idle more_so none = done_word w (after w r.history) (idle_so w r goes goes_so idle) (sym more_so ∙ none)
 
-pub stopped_told : (w : World) (r : Runner) (goes more : Bool) → Tracks w r → goes ≡ list_any (could w r.history) (callers w) → goes ≡ false → more ≡ unfinished w (after w r.history) → more ≡ true
+pub stopped_told : (w : World) (r : Runner) (goes more : Bool) → Tracks w r → goes ≡ list_any (could w r.history) (callers w) → goes ≡ false
+    → more ≡ unfinished w (after w r.history) → more ≡ true
     → r.moment ≡ w.end → codes "stopped" ≡ end_word w (after w r.history)
 stopped_told w r goes more s goes_so idle more_so some ends =
     stopped_word w (after w r.history) (idle_so w r goes goes_so idle) (sym more_so ∙ some) (sym s.moment_is ∙ ends)
 
-pub full_told : (w : World) (r : Runner) (goes more full : Bool) (n : ℕ) → Tracks w r → goes ≡ list_any (could w r.history) (callers w) → goes ≡ false → more ≡ unfinished w (after w r.history) → more ≡ true
-    → (r.moment ≡ w.end → ⊥) → n ≡ clock_number w → full ≡ (length (by r.history n) == most_entries) → full ≡ true → codes "limit" ≡ end_word w (after w r.history)
+pub full_told : (w : World) (r : Runner) (goes more full : Bool) (n : ℕ) → Tracks w r → goes ≡ list_any (could w r.history) (callers w) → goes ≡ false
+    → more ≡ unfinished w (after w r.history) → more ≡ true
+    → (r.moment ≡ w.end → ⊥) → n ≡ clock_number w → full ≡ (length (by r.history n) == most_entries) → full ≡ true
+    → codes "limit" ≡ end_word w (after w r.history)
 full_told w r goes more full n s goes_so idle more_so some apart at full_so is_full =
-    full_word w (after w r.history) (idle_so w r goes goes_so idle) (sym more_so ∙ some) (λ e. apart (s.moment_is ∙ e)) (moment_within w r.history s.history.legal s.history.timed)
+    full_word w (after w r.history) (idle_so w r goes goes_so idle) (sym more_so
+    ∙ some) (λ e. apart (s.moment_is ∙ e)) (moment_within w r.history s.history.legal s.history.timed)
     (subst (λ (k : ℕ). (length (by (after w r.history).past k) == most_entries) ≡ true) at (full_is w r.history n full full_so ∙ is_full))
 
-pub other_told : (w : World) (r : Runner) (goes more full : Bool) (n : ℕ) → Tracks w r → goes ≡ list_any (could w r.history) (callers w) → goes ≡ false → more ≡ unfinished w (after w r.history) → more ≡ true
-    → (r.moment ≡ w.end → ⊥) → n ≡ clock_number w → full ≡ (length (by r.history n) == most_entries) → full ≡ false → codes "unfinished" ≡ end_word w (after w r.history)
+pub other_told : (w : World) (r : Runner) (goes more full : Bool) (n : ℕ) → Tracks w r → goes ≡ list_any (could w r.history) (callers w) → goes ≡ false
+    → more ≡ unfinished w (after w r.history) → more ≡ true
+    → (r.moment ≡ w.end → ⊥) → n ≡ clock_number w → full ≡ (length (by r.history n) == most_entries) → full ≡ false
+    → codes "unfinished" ≡ end_word w (after w r.history)
 other_told w r goes more full n s goes_so idle more_so some apart at full_so few =
     other_word w (after w r.history) (idle_so w r goes goes_so idle) (sym more_so ∙ some) (λ e. apart (s.moment_is ∙ e))
     (subst (λ (k : ℕ). (length (by (after w r.history).past k) == most_entries) ≡ false) at (full_is w r.history n full full_so ∙ few))
@@ -106,33 +115,41 @@ is_script_role (role.Script s p) = true
 is_script_role _ = false
 
 -- the caller of a script has no other role
-pub no_courier : (w : World) (r : Runner) (c : ℕ) (k : Caller) (s : Script) (x : Role) → Tracks w r → slice_get r.callers.items c ≡ Some k → slice_get w.scripts c ≡ Some s → k.role ≡ x → is_script_role x ≡ false → ⊥
+pub no_courier : (w : World) (r : Runner) (c : ℕ) (k : Caller) (s : Script) (x : Role) → Tracks w r → slice_get r.callers.items c ≡ Some k
+    → slice_get w.scripts c ≡ Some s → k.role ≡ x → is_script_role x ≡ false → ⊥
 no_courier w r c k s x st at is same other =
     let has = script_role w r c k s st at is in
     true≢false (sym (ap is_script_role has.2) ∙ ap is_script_role same ∙ other)
 
-pub finished_so : (w : World) (r : Runner) (c n : ℕ) (k : Caller) (s : Script) (t : Bor Script) (p : Playing) → Tracks w r → slice_get r.callers.items c ≡ Some k → slice_get w.scripts c ≡ Some s
+pub finished_so : (w : World) (r : Runner) (c n : ℕ) (k : Caller) (s : Script) (t : Bor Script) (p : Playing) → Tracks w r
+    → slice_get r.callers.items c ≡ Some k → slice_get w.scripts c ≡ Some s
     → k.role ≡ role.Script t p → ((u : Script) (rs : List Reply) → IsAt u rs p → n ≡ finished_by rs u) → n ≡ finished_by (own_replies r.history c) s
 finished_so w r c n k s t p st at is same tells =
-    let has : IsScriptAt w r.history c t.now p k.before = subst (λ (x : Role). HasRole w r.history c x k.before) same (st.callers_are.each c k at).stands.role_is in
+    let has : IsScriptAt w r.history c t.now p k.before = subst (λ (x : Role). HasRole w r.history c x k.before) same
+    (st.callers_are.each c k at).stands.role_is in
     tells t.now (own_replies r.history c) has.at ∙ ap (λ (u : Script). finished_by (own_replies r.history c) u) (same_Some t.now s (sym has.is ∙ is))
 
-pub left_so : (w : World) (r : Runner) (c : ℕ) (b : Bool) (k : Caller) (s : Script) (t : Bor Script) (p : Playing) → Tracks w r → slice_get r.callers.items c ≡ Some k → slice_get w.scripts c ≡ Some s
-    → k.role ≡ role.Script t p → ((rs : List Reply) → IsAt t.now rs p → b ≡ nat_lt 0 (length (position_after t.now rs).left)) → b ≡ is_unfinished r.history c s
+pub left_so : (w : World) (r : Runner) (c : ℕ) (b : Bool) (k : Caller) (s : Script) (t : Bor Script) (p : Playing) → Tracks w r
+    → slice_get r.callers.items c ≡ Some k → slice_get w.scripts c ≡ Some s
+    → k.role ≡ role.Script t p → ((rs : List Reply) → IsAt t.now rs p → b ≡ nat_lt 0 (length (position_after t.now rs).left))
+    → b ≡ is_unfinished r.history c s
 left_so w r c b k s t p st at is same tells =
-    let has : IsScriptAt w r.history c t.now p k.before = subst (λ (x : Role). HasRole w r.history c x k.before) same (st.callers_are.each c k at).stands.role_is in
+    let has : IsScriptAt w r.history c t.now p k.before = subst (λ (x : Role). HasRole w r.history c x k.before) same
+    (st.callers_are.each c k at).stands.role_is in
     tells (own_replies r.history c) has.at ∙ ap (λ (u : Script). is_unfinished r.history c u) (same_Some t.now s (sym has.is ∙ is))
 
 left_there : (w : World) (h : List Entry) (n : ℕ) (s : Script) (b : Bool) → b ≡ is_unfinished h n s → is_unfinished (after w h).past n s ≡ b
 left_there w h n s b is = ap (λ (p : List Entry). is_unfinished p n s) (past_is w h) ∙ sym is
 
-pub left_here : (w : World) (h : List Entry) (n : ℕ) (b v : Bool) → n < length w.scripts → ((s : Script) → slice_get w.scripts n ≡ Some s → b ≡ is_unfinished h n s)
+pub left_here : (w : World) (h : List Entry) (n : ℕ) (b v : Bool) → n < length w.scripts
+    → ((s : Script) → slice_get w.scripts n ≡ Some s → b ≡ is_unfinished h n s)
     → unfinished_from w h n ≡ v → b ≡ true → true ≡ v
 left_here w h n b v lt is all some =
     let s = script_at w.scripts n lt in
     sym (unfinished_more w h n s.0 s.1 ∙ ap (λ (c : Bool). c || unfinished_from w h (n + 1)) (left_there w h n s.0 b (is s.0 s.1) ∙ some)) ∙ all
 
-pub left_next : (w : World) (h : List Entry) (n : ℕ) (b v : Bool) → n < length w.scripts → ((s : Script) → slice_get w.scripts n ≡ Some s → b ≡ is_unfinished h n s)
+pub left_next : (w : World) (h : List Entry) (n : ℕ) (b v : Bool) → n < length w.scripts
+    → ((s : Script) → slice_get w.scripts n ≡ Some s → b ≡ is_unfinished h n s)
     → unfinished_from w h n ≡ v → b ≡ false → unfinished_from w h (n + 1) ≡ v
 left_next w h n b v lt is all none =
     let s = script_at w.scripts n lt in

@@ -47,19 +47,23 @@ shown_in : (o : Option Outcome) (x y : Entry) → Shows o x → Shows o y → Is
 shown_in (Some o) x y left right is = left ∙ sym right
 shown_in None x y left right is = absurd (false≢true is)
 
-same_fields : (x y : Entry) → x.actor ≡ y.actor → x.caller ≡ y.caller → x.moment ≡ y.moment → x.event ≡ y.event → x.cites ≡ y.cites → shown_by x ≡ shown_by y → x ≡ y
+same_fields : (x y : Entry) → x.actor ≡ y.actor → x.caller ≡ y.caller → x.moment ≡ y.moment → x.event ≡ y.event → x.cites ≡ y.cites → shown_by x ≡ shown_by y
+    → x ≡ y
 same_fields x y actor caller moment e cites shown =
     let answer : x.reply ≡ y.reply = ap (λ (s : Shown). s.reply) shown in
     let emits : x.emits ≡ y.emits = ap (λ (s : Shown). s.emits) shown in
     let ended : x.ended ≡ y.ended = ap (λ (s : Shown). s.ended) shown in
     build actor caller moment e cites answer emits ended
   where
-    build : {a b : ActorName} {c d : ℕ} {m n : ℕ} {e f : Event} {i j : Option ℕ} {r s : Reply} {p q : Option Header} {u v : Bool} → a ≡ b → c ≡ d → m ≡ n → e ≡ f → i ≡ j → r ≡ s → p ≡ q → u ≡ v
-        → ◌≡◌ {A = Entry} (record { actor = a; caller = c; moment = m; event = e; cites = i; reply = r; emits = p; ended = u }) (record { actor = b; caller = d; moment = n; event = f; cites = j; reply = s; emits = q; ended = v })
+    build : {a b : ActorName} {c d : ℕ} {m n : ℕ} {e f : Event} {i j : Option ℕ} {r s : Reply} {p q : Option Header} {u v : Bool} → a ≡ b → c ≡ d → m ≡ n
+        → e ≡ f → i ≡ j → r ≡ s → p ≡ q → u ≡ v
+        → ◌≡◌ {A = Entry} (record { actor = a; caller = c; moment = m; event = e; cites = i; reply = r; emits = p; ended = u })
+        (record { actor = b; caller = d; moment = n; event = f; cites = j; reply = s; emits = q; ended = v })
     build one two three four five six seven eight = rw (one, two, three, four, five, six, seven, eight) refl
 
 -- two entries that may follow, with one event of one caller
-same_ask : (w : World) (past : List Entry) (net : Net) (x y : Entry) → Follows w past net x → Follows w past net y → x.caller ≡ y.caller → asked_by x ≡ asked_by y → x ≡ y
+same_ask : (w : World) (past : List Entry) (net : Net) (x y : Entry) → Follows w past net x → Follows w past net y → x.caller ≡ y.caller
+    → asked_by x ≡ asked_by y → x ≡ y
 same_ask w past net x y left right caller asked =
     same_fields x y actor caller (left.at_moment ∙ sym right.at_moment) event_is (left.cites ∙ ap (λ (c : ℕ). cites_of (net.owed c)) caller ∙ sym right.cites)
     (shown_in (outcome_in w net x) x y left.answers (subst (λ (o : Option Outcome). Shows o y) (sym outcome) right.answers) left.is_ready)
@@ -73,11 +77,14 @@ same_ask w past net x y left right caller asked =
     outcome : outcome_in w net x ≡ outcome_in w net y
     outcome =
         ap (λ (a : ActorName). option_map (λ (s : Step Actor). s.outcome) (actor_step w a (net.actors a) net.moment (work_of net x))) actor
-        ∙ ap (λ (e : Event). option_map (λ (s : Step Actor). s.outcome) (actor_step w y.actor (net.actors y.actor) net.moment (record { event = e; with = with_of (net.owed x.caller) }))) event_is
-        ∙ ap (λ (c : ℕ). option_map (λ (s : Step Actor). s.outcome) (actor_step w y.actor (net.actors y.actor) net.moment (record { event = y.event; with = with_of (net.owed c) }))) caller
+        ∙ ap (λ (e : Event). option_map (λ (s : Step Actor). s.outcome)
+        (actor_step w y.actor (net.actors y.actor) net.moment (record { event = e; with = with_of (net.owed x.caller) }))) event_is
+        ∙ ap (λ (c : ℕ). option_map (λ (s : Step Actor). s.outcome)
+        (actor_step w y.actor (net.actors y.actor) net.moment (record { event = y.event; with = with_of (net.owed c) }))) caller
 
 -- a caller has one event that is no move
-one_ask : (k : AnyCaller) (ds : List Duty) (ask : Option Ask) (x y : Entry) → (IsMove x.actor x.event → ⊥) → IsAsked ds k ask y → IsAsked ds k ask x → asked_by y ≡ asked_by x
+one_ask : (k : AnyCaller) (ds : List Duty) (ask : Option Ask) (x y : Entry) → (IsMove x.actor x.event → ⊥) → IsAsked ds k ask y → IsAsked ds k ask x
+    → asked_by y ≡ asked_by x
 one_ask k (d ∷ ds) ask x y other left right = sym left ∙ right
 one_ask (IsScript s) [] ask x y other left right = same_Some (asked_by y) (asked_by x) (sym left ∙ right)
 one_ask (IsCourier m) [] ask x y other left right = same_Some (asked_by y) (asked_by x) (sym left ∙ right)
@@ -88,10 +95,13 @@ last_follows : (w : World) (h : List Entry) (y : Entry) → IsLegal w (h ++ y �
 last_follows w h y legal = subst (λ (p : List Entry). MayFollow w p y) (take-append_seam h (y ∷ [])) (legal (length h) y (at_push h y))
 
 -- what was recorded is the entry
-followed_so : (w : World) (r new : Runner) (x y : Entry) → FollowsOn w r x → Tracks w new → new.history ≡ r.history ++ y ∷ [] → y.caller ≡ x.caller → asked_by y ≡ asked_by x → Followed w (r.history ++ x ∷ []) new
+followed_so : (w : World) (r new : Runner) (x y : Entry) → FollowsOn w r x → Tracks w new → new.history ≡ r.history ++ y ∷ [] → y.caller ≡ x.caller
+    → asked_by y ≡ asked_by x → Followed w (r.history ++ x ∷ []) new
 followed_so w r new x y f tracks history caller asked = record {
   tracks = tracks;
-  history_is = history ∙ ap (λ (z : Entry). r.history ++ z ∷ []) (same_ask w r.history (after w r.history) y x (last_follows w r.history y (subst (IsLegal w) history tracks.history.legal)) f.may caller asked);
+  history_is = history
+      ∙ ap (λ (z : Entry). r.history ++ z ∷ [])
+      (same_ask w r.history (after w r.history) y x (last_follows w r.history y (subst (IsLegal w) history tracks.history.legal)) f.may caller asked);
 }
 
 -- No move.
@@ -103,7 +113,8 @@ no_move x other = by_event x.actor x.event refl
     by_event name.Clock (event.Move m) is move = other m is
     by_event _ _ is move = move
 
-pub grown_follows : (w : World) (r new : Runner) (x : Entry) → FollowsOn w r x → ((m : ℕ) → x.event ≡ event.Move m → ⊥) → Grows w r new x.caller → Followed w (r.history ++ x ∷ []) new
+pub grown_follows : (w : World) (r new : Runner) (x : Entry) → FollowsOn w r x → ((m : ℕ) → x.event ≡ event.Move m → ⊥) → Grows w r new x.caller
+    → Followed w (r.history ++ x ∷ []) new
 grown_follows w r new x f other g =
     followed_so w r new x g.entry f g.tracks g.history_is g.caller_is
     (one_ask (caller_of w x.caller) (owed w r.history x.caller) (next w r.history x.caller) x g.entry (no_move x other)
@@ -117,12 +128,14 @@ some_step (Some s) is = refl
 some_step None is = absurd (false≢true is)
 
 -- an entry that may follow and is no move is its caller's turn
-turn_of : (w : World) (net : Net) (h : List Entry) (k : AnyCaller) (c : ℕ) (ds : List Duty) (x : Entry) → net.past ≡ h → caller_of w c ≡ k → (IsMove x.actor x.event → ⊥) → IsAsked ds k (next_of k h c) x
+turn_of : (w : World) (net : Net) (h : List Entry) (k : AnyCaller) (c : ℕ) (ds : List Duty) (x : Entry) → net.past ≡ h → caller_of w c ≡ k
+    → (IsMove x.actor x.event → ⊥) → IsAsked ds k (next_of k h c) x
     → is_some (actor_step w x.actor (net.actors x.actor) net.moment (record { event = x.event; with = with_of ds })) ≡ true → may_turn_by w net c ds ≡ true
 turn_of w net h k c (d ∷ ds) x past is other asked ready =
     subst (λ (a : Ask). is_some (actor_step w a.actor (net.actors a.actor) net.moment (record { event = a.event; with = d.with })) ≡ true) (sym asked) ready
 turn_of w net h k c [] x past is other asked ready =
-    subst (λ (j : AnyCaller). is_ready w net (next_of j net.past c) ≡ true) (sym is) (subst (λ (p : List Entry). is_ready w net (next_of k p c) ≡ true) (sym past) (by_kind k asked))
+    subst (λ (j : AnyCaller). is_ready w net (next_of j net.past c) ≡ true) (sym is)
+    (subst (λ (p : List Entry). is_ready w net (next_of k p c) ≡ true) (sym past) (by_kind k asked))
   where
     by_kind : (j : AnyCaller) → IsNext j (next_of j h c) x → is_ready w net (next_of j h c) ≡ true
     by_kind IsClock asked = absurd (other asked)
@@ -133,7 +146,8 @@ turn_of w net h k c [] x past is other asked ready =
 pub ready_to_follow : (w : World) (r : Runner) (x : Entry) → FollowsOn w r x → ((m : ℕ) → x.event ≡ event.Move m → ⊥) → IsReady w r x.caller
 ready_to_follow w r x f other = record {
   room = f.may.has_room;
-  ready = turn_of w (after w r.history) r.history (caller_of w x.caller) x.caller (owed w r.history x.caller) x (past_is w r.history) refl (no_move x other) f.may.is_asked
+  ready = turn_of w (after w r.history) r.history (caller_of w x.caller) x.caller (owed w r.history x.caller) x (past_is w r.history) refl
+      (no_move x other) f.may.is_asked
       (some_step (step_of w (after w r.history) x) f.may.is_ready);
 }
 
@@ -184,7 +198,8 @@ move_before w r x m t f is moves =
     let time : IsInTime (after w r.history) w (event.Move m) = subst (IsInTime (after w r.history) w) is f.in_time in
     clock_before w r x.caller t m f.tracks clock.clock clock.nothing moves time.0 time.1 f.may.has_room
 
-pub move_follows : (w : World) (r new : Runner) (x : Entry) (m : ℕ) (t : Turn) → FollowsOn w r x → x.event ≡ event.Move m → IsMoving t m → RecordedSo w r new x.caller t → Followed w (r.history ++ x ∷ []) new
+pub move_follows : (w : World) (r new : Runner) (x : Entry) (m : ℕ) (t : Turn) → FollowsOn w r x → x.event ≡ event.Move m → IsMoving t m
+    → RecordedSo w r new x.caller t → Followed w (r.history ++ x ∷ []) new
 move_follows w r new x m t f is moves rec =
     let clock = is_clock_move w r.history x m f.tracks.history f.may is in
     followed_so w r new x rec.entry f rec.tracks rec.history_is rec.caller_is
@@ -195,7 +210,8 @@ move_follows w r new x m t f is moves rec =
 
 -- A history.
 
-pub may_next : (w : World) (h items : List Entry) (r : Runner) (n : ℕ) (x : Entry) → IsLegal w h → IsTimed w h → items ≡ h → n < length items → x ≡ get_or items n x → Followed w (take n items) r → FollowsOn w r x
+pub may_next : (w : World) (h items : List Entry) (r : Runner) (n : ℕ) (x : Entry) → IsLegal w h → IsTimed w h → items ≡ h → n < length items
+    → x ≡ get_or items n x → Followed w (take n items) r → FollowsOn w r x
 may_next w h items r n x legal timed same lt is f = record {
   tracks = f.tracks;
   may = subst (λ (p : List Entry). MayFollow w p x) (sym before) (legal n x at);
@@ -208,7 +224,8 @@ may_next w h items r n x legal timed same lt is f = record {
     at : slice_get h n ≡ Some x
     at = subst (λ (p : List Entry). slice_get p n ≡ Some x) same (got items n x lt is)
 
-pub followed_more : (w : World) (items : List Entry) (r new : Runner) (n : ℕ) (x : Entry) → n < length items → x ≡ get_or items n x → r.history ≡ take n items → Followed w (r.history ++ x ∷ []) new → Followed w (take (n + 1) items) new
+pub followed_more : (w : World) (items : List Entry) (r new : Runner) (n : ℕ) (x : Entry) → n < length items → x ≡ get_or items n x
+    → r.history ≡ take n items → Followed w (r.history ++ x ∷ []) new → Followed w (take (n + 1) items) new
 followed_more w items r new n x lt is before next = record {
   tracks = next.tracks;
   history_is = next.history_is ∙ ap (λ (p : List Entry). p ++ x ∷ []) before ∙ more;

@@ -78,18 +78,21 @@ due_and_awaited w net =
     ++ filter_map (λ (c : ℕ). awaited_moment (next_of (caller_of w c) net.past c)) (callers w)
 
 event_within : (w : World) (net : Net) (e : Event) → IsInTime net w e → net.moment ≤ w.end → moment_after net.moment e ≤ w.end
-event_within w net (event.Move m) timed before = let e : least w.end (due_and_awaited w net) ≤ w.end = least_within w.end (due_and_awaited w net) in omega (arith, timed.1, e)
+event_within w net (event.Move m) timed before = let e : least w.end (due_and_awaited w net) ≤ w.end = least_within w.end (due_and_awaited w net) in omega
+    (arith, timed.1, e)
 event_within w net _ timed before = before
 
 pub moment_within : (w : World) (h : List Entry) → IsLegal w h → IsTimed w h → moment w h ≤ w.end
 moment_within w h legal timed = by_entries w (λ (k : List Entry). IsTimed w k → moment w k ≤ w.end) (λ none. omega arith) push h legal timed
   where
-    push : (k : List Entry) (x : Entry) → IsLegal w k → MayFollow w k x → (IsTimed w k → moment w k ≤ w.end) → IsTimed w (k ++ x ∷ []) → moment w (k ++ x ∷ []) ≤ w.end
+    push : (k : List Entry) (x : Entry) → IsLegal w k → MayFollow w k x → (IsTimed w k → moment w k ≤ w.end) → IsTimed w (k ++ x ∷ [])
+        → moment w (k ++ x ∷ []) ≤ w.end
     push k x before may f timed =
         let front : take (length k) (k ++ x ∷ []) ≡ k = take-append_seam k (x ∷ []) in
         let was : moment w k ≤ w.end = f (subst (IsTimed w) front (timed_take w (k ++ x ∷ []) (length k) timed)) in
         let comes : IsInTime (after w k) w x.event = subst (λ (p : List Entry). IsInTime (after w p) w x.event) front (timed (length k) x (at_push k x)) in
-        let now : moment w (k ++ x ∷ []) ≡ moment_after (moment w k) x.event = ap (λ (net : Net). net.moment) (after_push w k x) ∙ step_moment w (after w k) x (step_of w (after w k) x) may.is_ready in
+        let now : moment w (k ++ x ∷ []) ≡ moment_after (moment w k) x.event = ap (λ (net : Net). net.moment) (after_push w k x)
+        ∙ step_moment w (after w k) x (step_of w (after w k) x) may.is_ready in
         subst (λ (m : ℕ). m ≤ w.end) (sym now) (event_within w (after w k) x.event comes was)
 
 -- Limits.
@@ -109,14 +112,17 @@ pub or_parts : (a b : Bool) → (a || b) ≡ false → (a ≡ false) × (b ≡ f
 or_parts true b is = absurd (true≢false is)
 or_parts false b is = (refl, is)
 
-idle_free : (w : World) (net : Net) → NobodyCould w net → (movable w net ≡ false) ⊎ (length (by net.past (clock_number w)) ≡ most_entries → ⊥) → limited w net ≡ false
+idle_free : (w : World) (net : Net) → NobodyCould w net → (movable w net ≡ false) ⊎ (length (by net.past (clock_number w)) ≡ most_entries → ⊥)
+    → limited w net ≡ false
 idle_free w net idle rests = none_range (at_limit w net) (caller_count w) 0 (λ c lt. by_clock c (c == clock_number w) refl (omega (arith, lt)))
   where
     clock_rests : (movable w net ≡ false) ⊎ (length (by net.past (clock_number w)) ≡ most_entries → ⊥) → at_limit w net (clock_number w) ≡ false
     clock_rests (inl still) =
         and_right (length (by net.past (clock_number w)) == most_entries) _
-        (clock_could w net ∙ rw (still, (or_parts (owes net (clock_number w)) (can_go_on w net (clock_number w)) (idle.none (clock_number w) (omega arith))).0) refl)
-    clock_rests (inr few) = and_left (length (by net.past (clock_number w)) == most_entries) _ (ne_eqb (length (by net.past (clock_number w))) most_entries few)
+        (clock_could w net
+        ∙ rw (still, (or_parts (owes net (clock_number w)) (can_go_on w net (clock_number w)) (idle.none (clock_number w) (omega arith))).0) refl)
+    clock_rests (inr few) = and_left (length (by net.past (clock_number w)) == most_entries) _
+        (ne_eqb (length (by net.past (clock_number w))) most_entries few)
 
     by_clock : (c : ℕ) (b : Bool) → (c == clock_number w) ≡ b → c < caller_count w → at_limit w net c ≡ false
     by_clock c true is lt = subst (λ (k : ℕ). at_limit w net k ≡ false) (sym (eqb-true c (clock_number w) is)) (clock_rests rests)
@@ -124,15 +130,19 @@ idle_free w net idle rests = none_range (at_limit w net) (caller_count w) 0 (λ 
         and_right (length (by net.past c) == most_entries) _ (could_is w net c (eqb-false c (clock_number w) is) (kind_of w c lt) ∙ idle.none c lt)
 
 -- a full caller that could record limits the run
-pub some_limited : (w : World) (net : Net) (c : ℕ) → c < caller_count w → (length (by net.past c) == most_entries) ≡ true → (owes net c || can_go_on w net c) ≡ true → limited w net ≡ true
-some_limited w net c lt full could = some_range (at_limit w net) (caller_count w) 0 c (omega arith) (omega (arith, lt)) (and_both _ _ full (by_clock (c == clock_number w) refl))
+pub some_limited : (w : World) (net : Net) (c : ℕ) → c < caller_count w → (length (by net.past c) == most_entries) ≡ true
+    → (owes net c || can_go_on w net c) ≡ true → limited w net ≡ true
+some_limited w net c lt full could = some_range (at_limit w net) (caller_count w) 0 c (omega arith) (omega (arith, lt))
+    (and_both _ _ full (by_clock (c == clock_number w) refl))
   where
     by_clock : (b : Bool) → (c == clock_number w) ≡ b → could_record w net (caller_of w c) c ≡ true
     by_clock false is = could_is w net c (eqb-false c (clock_number w) is) (kind_of w c lt) ∙ could
     by_clock true is =
         let at : c ≡ clock_number w = eqb-true c (clock_number w) is in
-        let owing : (owes net (clock_number w) || can_go_on w net (clock_number w)) ≡ true = subst (λ (k : ℕ). (owes net k || can_go_on w net k) ≡ true) at could in
-        subst (λ (k : ℕ). could_record w net (caller_of w k) k ≡ true) (sym at) (clock_could w net ∙ owes_still (owes net (clock_number w)) (can_go_on w net (clock_number w)) (clock_waits w net) owing)
+        let owing : (owes net (clock_number w) || can_go_on w net (clock_number w)) ≡ true = subst
+        (λ (k : ℕ). (owes net k || can_go_on w net k) ≡ true) at could in
+        subst (λ (k : ℕ). could_record w net (caller_of w k) k ≡ true) (sym at) (clock_could w net
+        ∙ owes_still (owes net (clock_number w)) (can_go_on w net (clock_number w)) (clock_waits w net) owing)
       where
         owes_still : (a b : Bool) → b ≡ false → (a || b) ≡ true → (a || movable w net) ≡ true
         owes_still true b waits is = refl
@@ -151,10 +161,12 @@ clock_limited w net moves full =
 
 -- Where a caller could record.
 
-none_limited : (w : World) (net : Net) → calm w net ≡ false → ((c : ℕ) → c < caller_count w → ((length (by net.past c) == most_entries) && (owes net c || can_go_on w net c)) ≡ false) → limited w net ≡ false
+none_limited : (w : World) (net : Net) → calm w net ≡ false
+    → ((c : ℕ) → c < caller_count w → ((length (by net.past c) == most_entries) && (owes net c || can_go_on w net c)) ≡ false) → limited w net ≡ false
 none_limited w net busy none = none_range (at_limit w net) (caller_count w) 0 (λ c lt. by_clock c (c == clock_number w) refl (omega (arith, lt)))
   where
-    at : (c : ℕ) (b : Bool) → could_record w net (caller_of w c) c ≡ b → (owes net c || can_go_on w net c) ≡ b → ((length (by net.past c) == most_entries) && (owes net c || can_go_on w net c)) ≡ false → at_limit w net c ≡ false
+    at : (c : ℕ) (b : Bool) → could_record w net (caller_of w c) c ≡ b → (owes net c || can_go_on w net c) ≡ b
+        → ((length (by net.past c) == most_entries) && (owes net c || can_go_on w net c)) ≡ false → at_limit w net c ≡ false
     at c b could is none = ap (λ (o : Bool). (length (by net.past c) == most_entries) && o) (could ∙ sym is) ∙ none
 
     clock_at : could_record w net (caller_of w (clock_number w)) (clock_number w) ≡ (owes net (clock_number w) || can_go_on w net (clock_number w))
@@ -170,10 +182,13 @@ busy_word : (w : World) (net : Net) (b : Bool) → calm w net ≡ false → limi
 busy_word w net true is limits = rw (is, limits) refl
 busy_word w net false is limits = rw (is, limits) refl
 
-pub limit_word : (w : World) (net : Net) (c : ℕ) → calm w net ≡ false → c < caller_count w → (length (by net.past c) == most_entries) ≡ true → (owes net c || can_go_on w net c) ≡ true → codes "limit" ≡ end_word w net
+pub limit_word : (w : World) (net : Net) (c : ℕ) → calm w net ≡ false → c < caller_count w → (length (by net.past c) == most_entries) ≡ true
+    → (owes net c || can_go_on w net c) ≡ true → codes "limit" ≡ end_word w net
 limit_word w net c busy lt full could = busy_word w net true busy (some_limited w net c lt full could)
 
-pub busy_unfinished : (w : World) (net : Net) → calm w net ≡ false → ((c : ℕ) → c < caller_count w → ((length (by net.past c) == most_entries) && (owes net c || can_go_on w net c)) ≡ false) → codes "unfinished" ≡ end_word w net
+pub busy_unfinished : (w : World) (net : Net) → calm w net ≡ false
+    → ((c : ℕ) → c < caller_count w → ((length (by net.past c) == most_entries) && (owes net c || can_go_on w net c)) ≡ false)
+    → codes "unfinished" ≡ end_word w net
 busy_unfinished w net busy none = busy_word w net false busy (none_limited w net busy none)
 
 -- Where nobody could.

@@ -35,7 +35,8 @@ none_range test (suc n) a all = rw (all a (omega arith), none_range test n (a + 
 
 pub some_range : (test : ℕ → Bool) (n a k : ℕ) → a ≤ k → k < a + n → test k ≡ true → list_any test (range_with_len a n) ≡ true
 some_range test zero a k above below is = absurd (omega (arith, above, below))
-some_range test (suc n) a k above below is = by_first (test a) refl (λ apart. some_range test n (a + 1) k (omega (arith, above, apart)) (omega (arith, below)) is)
+some_range test (suc n) a k above below is = by_first (test a) refl
+    (λ apart. some_range test n (a + 1) k (omega (arith, above, apart)) (omega (arith, below)) is)
   where
     by_first : (b : Bool) → test a ≡ b → ((a ≡ k → ⊥) → list_any test (range_with_len (a + 1) n) ≡ true) → list_any test (range_with_len a (suc n)) ≡ true
     by_first true here rest = rw here refl
@@ -44,9 +45,11 @@ some_range test (suc n) a k above below is = by_first (test a) refl (λ apart. s
 -- a range with a number that fails
 pub fails_range : (test : ℕ → Bool) (n a k : ℕ) → a ≤ k → k < a + n → test k ≡ false → list_all test (range_with_len a n) ≡ false
 fails_range test zero a k above below is = absurd (omega (arith, above, below))
-fails_range test (suc n) a k above below is = by_first (a == k) refl (λ apart. fails_range test n (a + 1) k (omega (arith, above, apart)) (omega (arith, below)) is)
+fails_range test (suc n) a k above below is = by_first (a == k) refl
+    (λ apart. fails_range test n (a + 1) k (omega (arith, above, apart)) (omega (arith, below)) is)
   where
-    by_first : (e : Bool) → (a == k) ≡ e → ((a ≡ k → ⊥) → list_all test (range_with_len (a + 1) n) ≡ false) → (test a && list_all test (range_with_len (a + 1) n)) ≡ false
+    by_first : (e : Bool) → (a == k) ≡ e → ((a ≡ k → ⊥) → list_all test (range_with_len (a + 1) n) ≡ false)
+        → (test a && list_all test (range_with_len (a + 1) n)) ≡ false
     by_first true same rest = and_left (test a) (list_all test (range_with_len (a + 1) n)) (ap test (eqb-true a k same) ∙ is)
     by_first false apart rest = and_right (test a) (list_all test (range_with_len (a + 1) n)) (rest (eqb-false a k apart))
 
@@ -60,7 +63,8 @@ pub passed_range : (test : ℕ → Bool) (n a : ℕ) → list_any test (range_wi
 passed_range test zero a is = absurd (false≢true is)
 passed_range test (suc n) a is = by_first (test a) refl is (λ rest. passed_range test n (a + 1) rest)
   where
-    by_first : (b : Bool) → test a ≡ b → (b || list_any test (range_with_len (a + 1) n)) ≡ true → (list_any test (range_with_len (a + 1) n) ≡ true → IsPassed test (a + 1 + n)) → IsPassed test (a + suc n)
+    by_first : (b : Bool) → test a ≡ b → (b || list_any test (range_with_len (a + 1) n)) ≡ true
+        → (list_any test (range_with_len (a + 1) n) ≡ true → IsPassed test (a + 1 + n)) → IsPassed test (a + suc n)
     by_first true here is rest = record { number = a; below = omega arith; passes = here }
     by_first false here is rest = let p = rest is in record { number = p.number; below = omega (arith, p.below); passes = p.passes }
 

@@ -78,13 +78,15 @@ caller_stays w h c k x other is = record {
 
 -- The moment.
 
-pub step_moment : (w : World) (net : Net) (x : Entry) (o : Option (Step Actor)) → IsSome (option_map (λ (s : Step Actor). s.outcome) o) → (net_after w net x o).moment ≡ moment_after net.moment x.event
+pub step_moment : (w : World) (net : Net) (x : Entry) (o : Option (Step Actor)) → IsSome (option_map (λ (s : Step Actor). s.outcome) o)
+    → (net_after w net x o).moment ≡ moment_after net.moment x.event
 step_moment w net x (Some s) is = refl
 step_moment w net x None is = absurd (false≢true is)
 
 -- The run.
 
-pub come : (w : World) (r : Runner) (c : ℕ) (t : Turn) (k : Caller) (stamp : ℕ) → IsBefore w r c t → slice_get r.callers.items c ≡ Some k → stamp ≡ length r.history
+pub come : (w : World) (r : Runner) (c : ℕ) (t : Turn) (k : Caller) (stamp : ℕ) → IsBefore w r c t → slice_get r.callers.items c ≡ Some k
+    → stamp ≡ length r.history
     → Comes w r.history c t k r.net r.ways stamp r.moment
 come w r c t k stamp b at stamp_is = record {
   history = b.history;
@@ -112,7 +114,8 @@ recorded_so w old new c t k x lt b rec history callers ways now = record {
     };
     are = subst (λ (h : List Entry). AreActors w new.net (after w h).actors) (sym history) rec.are;
     ways_are = subst (AreWaysOfWorld w) (sym ways) b.ways_are;
-    moment_is = now ∙ ap (λ (m : ℕ). moment_after m x.event) b.moment_is ∙ sym (step_moment w (after w old.history) x (step_of w (after w old.history) x) rec.follows.is_ready)
+    moment_is = now ∙ ap (λ (m : ℕ). moment_after m x.event) b.moment_is
+        ∙ sym (step_moment w (after w old.history) x (step_of w (after w old.history) x) rec.follows.is_ready)
         ∙ ap (λ (net : Net). net.moment) (sym (after_push w old.history x)) ∙ ap (λ (h : List Entry). moment w h) (sym history);
   };
   entry = x;
@@ -122,9 +125,11 @@ recorded_so w old new c t k x lt b rec history callers ways now = record {
   event_is = rec.event_is;
 }
   where
-    kept : (d : ℕ) (e : Caller) (same : Bool) → (c == d) ≡ same → slice_get (slice_set old.callers.items c k) d ≡ Some e → IsCaller w (old.history ++ x ∷ []) d e
+    kept : (d : ℕ) (e : Caller) (same : Bool) → (c == d) ≡ same → slice_get (slice_set old.callers.items c k) d ≡ Some e
+        → IsCaller w (old.history ++ x ∷ []) d e
     kept d e true is at =
-        let here : k ≡ e = same_Some k e (sym (set_here old.callers.items c k lt) ∙ ap (slice_get (slice_set old.callers.items c k)) (eqb-true c d is) ∙ at) in
+        let here : k ≡ e = same_Some k e (sym (set_here old.callers.items c k lt) ∙ ap (slice_get (slice_set old.callers.items c k)) (eqb-true c d is)
+        ∙ at) in
         subst (λ (n : ℕ). IsCaller w (old.history ++ x ∷ []) n e) (eqb-true c d is) (subst (IsCaller w (old.history ++ x ∷ []) c) here rec.kept)
     kept d e false is at =
         let other : c ≡ d → ⊥ = eqb-false c d is in

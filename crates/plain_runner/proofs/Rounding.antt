@@ -37,10 +37,13 @@ pub taken_before : (w : World) (r mid : Runner) (c : ℕ) (old new : Caller) (t 
 taken_before w r mid c old new t lt s ready at takes is = record {
   history = subst (IsHistory w) (sym is.history) s.history;
   count = ap length is.callers ∙ length-set r.callers.items c new ∙ s.callers_are.count;
-  others = λ d k apart there. subst (λ (h : List Entry). IsCaller w h d k) (sym is.history) (s.callers_are.each d k (sym (set_there r.callers.items c d new apart) ∙ sym (ap (λ ks. slice_get ks d) is.callers) ∙ there));
+  others = λ d k apart there. subst (λ (h : List Entry). IsCaller w h d k) (sym is.history)
+      (s.callers_are.each d k (sym (set_there r.callers.items c d new apart) ∙ sym (ap (λ ks. slice_get ks d) is.callers) ∙ there));
   turning = λ k there. subst (λ (h : List Entry). IsTurning w h c t.cites k) (sym is.history)
-      (subst (λ (e : Caller). IsTurning w r.history c t.cites e) (same_Some new k (sym (set_here r.callers.items c new lt) ∙ sym (ap (λ ks. slice_get ks c) is.callers) ∙ there)) taken.1);
-  ready = subst (λ (h : List Entry). IsReadyTurn w h c t) (sym is.history) (ready_turn w r.history c t s.history taken.0 (omega (arith, lt, s.callers_are.count)) ready.room ready.ready);
+      (subst (λ (e : Caller). IsTurning w r.history c t.cites e) (same_Some new k (sym (set_here r.callers.items c new lt)
+      ∙ sym (ap (λ ks. slice_get ks c) is.callers) ∙ there)) taken.1);
+  ready = subst (λ (h : List Entry). IsReadyTurn w h c t) (sym is.history)
+      (ready_turn w r.history c t s.history taken.0 (omega (arith, lt, s.callers_are.count)) ready.room ready.ready);
   are = rw (is.net, is.history) s.are;
   ways_are = rw is.ways s.ways_are;
   moment_is = is.moment ∙ s.moment_is ∙ ap (λ (h : List Entry). moment w h) (sym is.history);
@@ -62,7 +65,8 @@ longer w old new c g = omega (arith, ap length g.history_is, length-append old.h
 
 -- One turn more.
 
-pub turned_more : (w : World) (old now new : Runner) (n : ℕ) (b d : Bool) → TurnedAll w old now n b → Turned w now new n d → TurnedAll w old new (n + 1) (b || d)
+pub turned_more : (w : World) (old now new : Runner) (n : ℕ) (b d : Bool) → TurnedAll w old now n b → Turned w now new n d
+    → TurnedAll w old new (n + 1) (b || d)
 turned_more w old now new n true true all turn = (turn.0, omega (arith, all.1, turn.1))
 turned_more w old now new n true false all turn = (subst (Tracks w) (sym turn.0) all.0, rw turn.0 all.1)
 turned_more w old now new n false true all turn = (turn.0, subst (λ (r : Runner). length r.history < length new.history) all.0 turn.1)
@@ -80,13 +84,16 @@ turned_tracks w old new n true s all = all.0
 turned_tracks w old new n false s all = subst (Tracks w) (sym all.0) s
 
 -- a caller that may record has a turn
-pub nothing_taken : (w : World) (r : Runner) (c : ℕ) (k : Caller) (t : Option Turn) → Tracks w r → IsReady w r c → slice_get r.callers.items c ≡ Some k → TakesIf k t → t ≡ None → ⊥
+pub nothing_taken : (w : World) (r : Runner) (c : ℕ) (k : Caller) (t : Option Turn) → Tracks w r → IsReady w r c → slice_get r.callers.items c ≡ Some k
+    → TakesIf k t → t ≡ None → ⊥
 nothing_taken w r c k t s ready at takes none = false≢true (sym (ap is_some none) ∙ takes w r.history c (s.callers_are.each c k at) ready.ready)
 
-pub is_taken : (old mid : Runner) (c : ℕ) (k : Caller) → mid.history ≡ old.history → mid.moment ≡ old.moment → mid.net ≡ old.net → mid.ways ≡ old.ways → mid.callers.items ≡ slice_set old.callers.items c k → IsTaken old mid c k
+pub is_taken : (old mid : Runner) (c : ℕ) (k : Caller) → mid.history ≡ old.history → mid.moment ≡ old.moment → mid.net ≡ old.net → mid.ways ≡ old.ways
+    → mid.callers.items ≡ slice_set old.callers.items c k → IsTaken old mid c k
 is_taken old mid c k history moment net ways callers = record { history = history; moment = moment; net = net; ways = ways; callers = callers }
 
-pub is_ready : (w : World) (r : Runner) (c : ℕ) (full may : Bool) → Tracks w r → full ≡ (length (by r.history c) == most_entries) → full ≡ false → may ≡ may_turn w r.history c → may ≡ true → IsReady w r c
+pub is_ready : (w : World) (r : Runner) (c : ℕ) (full may : Bool) → Tracks w r → full ≡ (length (by r.history c) == most_entries) → full ≡ false
+    → may ≡ may_turn w r.history c → may ≡ true → IsReady w r c
 is_ready w r c full may s counts few tells able = record {
   room = omega (arith, within w r.history c s.history.legal, eqb-false (length (by r.history c)) most_entries (sym counts ∙ few));
   ready = sym tells ∙ able;

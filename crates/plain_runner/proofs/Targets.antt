@@ -44,18 +44,21 @@ least_more last (m ∷ ms) ns = ap (min m) (least_more last ms ns)
 
 -- Due moments.
 
-pub due_next : (dues : List Due) (n now last : ℕ) (d : Due) → slice_get dues n ≡ Some d → least now (due_moments (drop n dues)) ≡ least last (due_moments dues)
+pub due_next : (dues : List Due) (n now last : ℕ) (d : Due) → slice_get dues n ≡ Some d
+    → least now (due_moments (drop n dues)) ≡ least last (due_moments dues)
     → least (min now d.due) (due_moments (drop (n + 1) dues)) ≡ least last (due_moments dues)
 due_next dues n now last d at all =
     ap (λ (m : ℕ). least m (due_moments (drop (n + 1) dues))) (min_comm now d.due) ∙ least_min now d.due (due_moments (drop (n + 1) dues))
     ∙ ap (λ (ds : List Due). least now (due_moments ds)) (sym (next_one dues n d at)) ∙ all
 
-pub due_step : (dues : List Due) (n now new last : ℕ) (d : Due) → n < length dues → new ≡ min now (get_or dues n d).due → least now (due_moments (drop n dues)) ≡ least last (due_moments dues)
+pub due_step : (dues : List Due) (n now new last : ℕ) (d : Due) → n < length dues → new ≡ min now (get_or dues n d).due
+    → least now (due_moments (drop n dues)) ≡ least last (due_moments dues)
     → least new (due_moments (drop (n + 1) dues)) ≡ least last (due_moments dues)
 due_step dues n now new last d lt is all =
     ap (λ (m : ℕ). least m (due_moments (drop (n + 1) dues))) is ∙ due_next dues n now last (get_or dues n d) (slice_get-get_or dues n d lt) all
 
-pub due_all : (dues : List Due) (n now last : ℕ) → length dues ≤ n → least now (due_moments (drop n dues)) ≡ least last (due_moments dues) → now ≡ least last (due_moments dues)
+pub due_all : (dues : List Due) (n now last : ℕ) → length dues ≤ n → least now (due_moments (drop n dues)) ≡ least last (due_moments dues)
+    → now ≡ least last (due_moments dues)
 due_all dues n now last le all = ap (λ (ds : List Due). least now (due_moments ds)) (sym (past_all dues n le)) ∙ all
 
 abbrev Agree : (ActorName → Actor) → List ActorName → Type 0
@@ -69,7 +72,8 @@ agree_append actors xs ys left right =
 
 agree_slots : (actors : ActorName → Actor) (h : ℕ) (p : Proto) (ns : List ℕ) → Agree actors (map (λ (n : ℕ). name.Conv h p n) ns)
 agree_slots actors h p [] = refl
-agree_slots actors h p (n ∷ ns) = agree_append actors (name.Conv h p n ∷ []) (map (λ (k : ℕ). name.Conv h p k) ns) (one (due_of (actors (name.Conv h p n))) refl) (agree_slots actors h p ns)
+agree_slots actors h p (n ∷ ns) = agree_append actors (name.Conv h p n ∷ []) (map (λ (k : ℕ). name.Conv h p k) ns)
+    (one (due_of (actors (name.Conv h p n))) refl) (agree_slots actors h p ns)
   where
     one : (o : Option ℕ) → due_of (actors (name.Conv h p n)) ≡ o → Agree actors (name.Conv h p n ∷ [])
     one None is = rw is refl
@@ -79,7 +83,8 @@ agree_hosts : (actors : ActorName → Actor) (hs : List ℕ) → Agree actors (f
 agree_hosts actors [] = refl
 agree_hosts actors (h ∷ hs) =
     agree_append actors (slots_of h proto.Il ++ slots_of h proto.Udp) (flat_map (λ (k : ℕ). slots_of k proto.Il ++ slots_of k proto.Udp) hs)
-    (agree_append actors (slots_of h proto.Il) (slots_of h proto.Udp) (agree_slots actors h proto.Il (range_with_len 0 slot_count)) (agree_slots actors h proto.Udp (range_with_len 0 slot_count))) (agree_hosts actors hs)
+    (agree_append actors (slots_of h proto.Il) (slots_of h proto.Udp) (agree_slots actors h proto.Il (range_with_len 0 slot_count))
+    (agree_slots actors h proto.Udp (range_with_len 0 slot_count))) (agree_hosts actors hs)
 
 dues_agree : (w : World) (actors : ActorName → Actor) → due_moments (dues_of w actors) ≡ filter_map (λ (a : ActorName). due_of (actors a)) (conversations w)
 dues_agree w actors = agree_hosts actors (range_with_len 0 (length w.hosts))
@@ -89,22 +94,27 @@ dues_agree w actors = agree_hosts actors (range_with_len 0 (length w.hosts))
 abbrev pub awaited_from : World → List Entry → ℕ → List ℕ
 awaited_from w h n = filter_map (λ (c : ℕ). awaited_moment (next w h c)) (range_with_len n (caller_count w - n))
 
-awaited_one : (f : ℕ → Option ℕ) (n k now : ℕ) (o : Option ℕ) → f n ≡ o → least (least now (option_to_list o)) (filter_map f (range_with_len (n + 1) k)) ≡ least now (filter_map f (range_with_len n (suc k)))
+awaited_one : (f : ℕ → Option ℕ) (n k now : ℕ) (o : Option ℕ) → f n ≡ o
+    → least (least now (option_to_list o)) (filter_map f (range_with_len (n + 1) k)) ≡ least now (filter_map f (range_with_len n (suc k)))
 awaited_one f n k now None is = rw is refl
 awaited_one f n k now (Some m) is = rw is (least_min now m (filter_map f (range_with_len (n + 1) k)))
 
-pub awaited_next : (w : World) (r : Runner) (n now earlier last : ℕ) (k : Caller) → Tracks w r → slice_get r.callers.items n ≡ Some k → n < length r.callers.items
+pub awaited_next : (w : World) (r : Runner) (n now earlier last : ℕ) (k : Caller) → Tracks w r → slice_get r.callers.items n ≡ Some k
+    → n < length r.callers.items
     → earlier ≡ least now (option_to_list (awaited_moment (asks_of k.next)))
-    → least now (awaited_from w r.history n) ≡ least last (awaited_moments w r.history) → least earlier (awaited_from w r.history (n + 1)) ≡ least last (awaited_moments w r.history)
+    → least now (awaited_from w r.history n) ≡ least last (awaited_moments w r.history)
+    → least earlier (awaited_from w r.history (n + 1)) ≡ least last (awaited_moments w r.history)
 awaited_next w r n now earlier last k s at lt is all =
     ap (λ (m : ℕ). least m (awaited_from w r.history (n + 1))) is
-    ∙ awaited_one (λ (c : ℕ). awaited_moment (next w r.history c)) n (caller_count w - (n + 1)) now (awaited_moment (asks_of k.next)) (ap awaited_moment (sym (s.callers_are.each n k at).stands.next_is))
+    ∙ awaited_one (λ (c : ℕ). awaited_moment (next w r.history c)) n (caller_count w - (n + 1)) now (awaited_moment (asks_of k.next))
+    (ap awaited_moment (sym (s.callers_are.each n k at).stands.next_is))
     ∙ ap (λ (i : ℕ). least now (filter_map (λ (c : ℕ). awaited_moment (next w r.history c)) (range_with_len n i))) (sym more) ∙ all
   where
     more : caller_count w - n ≡ suc (caller_count w - (n + 1))
     more = omega (arith, lt, s.callers_are.count)
 
-pub awaited_all : (w : World) (r : Runner) (n now last : ℕ) → Tracks w r → length r.callers.items ≤ n → least now (awaited_from w r.history n) ≡ least last (awaited_moments w r.history)
+pub awaited_all : (w : World) (r : Runner) (n now last : ℕ) → Tracks w r → length r.callers.items ≤ n
+    → least now (awaited_from w r.history n) ≡ least last (awaited_moments w r.history)
     → now ≡ least last (awaited_moments w r.history)
 awaited_all w r n now last s le all =
     let none : caller_count w - n ≡ 0 = omega (arith, le, s.callers_are.count) in
@@ -112,9 +122,12 @@ awaited_all w r n now last s le all =
 
 -- The target.
 
-pub target_is : (w : World) (r : Runner) (dues : List Due) (awaited moment : ℕ) → Tracks w r → dues ≡ dues_of w (after w r.history).actors → awaited ≡ least w.end (awaited_moments w r.history)
+pub target_is : (w : World) (r : Runner) (dues : List Due) (awaited moment : ℕ) → Tracks w r → dues ≡ dues_of w (after w r.history).actors
+    → awaited ≡ least w.end (awaited_moments w r.history)
     → moment ≡ least awaited (due_moments dues) → moment ≡ target w (after w r.history)
 target_is w r dues awaited moment s dues_are awaited_is is =
-    is ∙ ap (λ (m : ℕ). least m (due_moments dues)) awaited_is ∙ ap (λ (ms : List ℕ). least (least w.end (awaited_moments w r.history)) ms) (ap due_moments dues_are ∙ dues_agree w (after w r.history).actors)
+    is ∙ ap (λ (m : ℕ). least m (due_moments dues)) awaited_is
+    ∙ ap (λ (ms : List ℕ). least (least w.end (awaited_moments w r.history)) ms) (ap due_moments dues_are ∙ dues_agree w (after w r.history).actors)
     ∙ sym (least_more w.end (filter_map (λ (a : ActorName). due_of ((after w r.history).actors a)) (conversations w)) (awaited_moments w r.history))
-    ∙ ap (λ (p : List Entry). least w.end (filter_map (λ (a : ActorName). due_of ((after w r.history).actors a)) (conversations w) ++ filter_map (λ (c : ℕ). awaited_moment (next_of (caller_of w c) p c)) (callers w))) (sym (past_is w r.history))
+    ∙ ap (λ (p : List Entry). least w.end (filter_map (λ (a : ActorName). due_of ((after w r.history).actors a)) (conversations w) ++ filter_map
+    (λ (c : ℕ). awaited_moment (next_of (caller_of w c) p c)) (callers w))) (sym (past_is w r.history))

@@ -106,27 +106,31 @@ same_ask w net t a with asked gave ready still = record {
   still = subst (λ (b : Ask). IsStill b.event) asked still;
 }
 
-by_ask : (w : World) (net : Net) (h : List Entry) (c : ℕ) (k : Caller) (t : Turn) → net.past ≡ h → next_of k h c ≡ Some (asked_by (entry_for c t)) → t.work.with ≡ given.Nothing
+by_ask : (w : World) (net : Net) (h : List Entry) (c : ℕ) (k : Caller) (t : Turn) → net.past ≡ h → next_of k h c ≡ Some (asked_by (entry_for c t))
+    → t.work.with ≡ given.Nothing
     → is_ready w net (next_of k net.past c) ≡ true → IsReadyAsk w net t
 by_ask w net h c k t past asked gave ready =
     same_ask w net t (asked_by (entry_for c t)) given.Nothing refl gave
     (subst (λ (o : Option Ask). is_ready w net o ≡ true) asked (subst (λ (p : List Entry). is_ready w net (next_of k p c) ≡ true) past ready))
     (next_still k h c (asked_by (entry_for c t)) asked)
 
-by_next : (w : World) (net : Net) (h : List Entry) (c : ℕ) (k : Caller) (t : Turn) → net.past ≡ h → IsNext k (next_of k h c) (entry_for c t) → t.work.with ≡ given.Nothing
+by_next : (w : World) (net : Net) (h : List Entry) (c : ℕ) (k : Caller) (t : Turn) → net.past ≡ h → IsNext k (next_of k h c) (entry_for c t)
+    → t.work.with ≡ given.Nothing
     → is_ready w net (next_of k net.past c) ≡ true → IsReadyAsk w net t
 by_next w net h c IsClock t past asked gave ready = absurd (false≢true ready)
 by_next w net h c (IsScript s) t past asked gave ready = by_ask w net h c (IsScript s) t past asked gave ready
 by_next w net h c (IsCourier m) t past asked gave ready = by_ask w net h c (IsCourier m) t past asked gave ready
 by_next w net h c IsNobody t past asked gave ready = by_ask w net h c IsNobody t past asked gave ready
 
-by_owed : (w : World) (net : Net) (h : List Entry) (c : ℕ) (t : Turn) (ds : List Duty) → net.past ≡ h → Each (OfKind w) ds → IsAsked ds (caller_of w c) (next w h c) (entry_for c t)
+by_owed : (w : World) (net : Net) (h : List Entry) (c : ℕ) (t : Turn) (ds : List Duty) → net.past ≡ h → Each (OfKind w) ds
+    → IsAsked ds (caller_of w c) (next w h c) (entry_for c t)
     → t.work.with ≡ with_of ds → may_turn_by w net c ds ≡ true → IsReadyAsk w net t
 by_owed w net h c t [] past kinds asked gave may = by_next w net h c (caller_of w c) t past asked gave may
 by_owed w net h c t (d ∷ ds) past kinds asked gave may =
     same_ask w net t (record { actor = d.actor; event = d.event }) d.with asked gave may (duty_still w d.actor d.event d.with kinds.0)
 
-pub ready_turn : (w : World) (h : List Entry) (c : ℕ) (t : Turn) → IsHistory w h → IsTurn w h c t → c < caller_count w → length (by h c) < most_entries → may_turn w h c ≡ true
+pub ready_turn : (w : World) (h : List Entry) (c : ℕ) (t : Turn) → IsHistory w h → IsTurn w h c t → c < caller_count w → length (by h c) < most_entries
+    → may_turn w h c ≡ true
     → IsReadyTurn w h c t
 ready_turn w h c t history turn known room may = record {
   turn = turn;
@@ -138,4 +142,5 @@ ready_turn w h c t history turn known room may = record {
   where
     asked : IsReadyAsk w (after w h) t
     asked =
-        by_owed w (after w h) h c t (owed w h c) (past_after w _ h) ((steady_after w h history.world history.legal).kinds c) (turn.asked (entry_for c t) refl refl) turn.given may
+        by_owed w (after w h) h c t (owed w h c) (past_after w _ h) ((steady_after w h history.world history.legal).kinds c)
+        (turn.asked (entry_for c t) refl refl) turn.given may

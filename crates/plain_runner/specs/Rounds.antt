@@ -27,7 +27,7 @@ abbrev pub TurnedAll : World → Runner → Runner → ℕ → Bool → Type 0
 TurnedAll w old new n true = Tracks w new × (length old.history < length new.history)
 TurnedAll w old new n false = (new ≡ old) × ((c : ℕ) → c < n → IsThrough w old.history c)
 
--- a caller but the clock could record, if it had room
+-- a caller could record, if it had room; a move of the clock aside
 abbrev pub could : World → List Entry → ℕ → Bool
 could w h c = owes (after w h) c || can_go_on w (after w h) c
 

@@ -57,7 +57,7 @@ pub record IsReady (w : World) (r : Runner) (c : ℕ) : Type 0 where
 abbrev pub IsReadyRun : Runner → ℕ → Type 0
 IsReadyRun r c = (w : World) × Tracks w r × IsReady w r c
 
--- a run of this world while the turn of a caller, which is ready, is recorded: it was taken from what is kept of the caller
+-- a run of this world while the turn of a caller, which is ready, is recorded: it was taken from what is kept of it
 pub record IsBefore (w : World) (r : Runner) (c : ℕ) (t : Turn) : Type 0 where
   pub history : IsHistory w r.history
   pub count : length r.callers.items ≡ caller_count w

@@ -44,7 +44,8 @@ pub struct Caller<'a> {
 impl<'a> Caller<'a> {
     /// A script before anything is recorded.
     pub fn script(alloc: Global, script: &'a Script) -> Result<Caller<'a>, AllocError>
-        ensures { IfOk result (λ k. (w : AnyWorld) (c : ℕ) → slice_get w.scripts c ≡ Some script.now → IsCaller w [] c k) }
+        ensures { IfOk result (λ k. (w : AnyWorld) (c : ℕ)
+            → slice_get w.scripts c ≡ Some script.now → IsCaller w [] c k) }
     {
         let mut player = Player::new(alloc);
         let next = asked(player.next(script)?);

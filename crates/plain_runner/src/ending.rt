@@ -138,8 +138,8 @@ impl<'a> Runner<'a> {
         answered
     }
 
-    /// The moment to which the clock moves, in ms: the least at which a conversation is due or for which a script waits, or the
-    /// end moment where that is not later.
+    /// The moment to which the clock moves, in ms: the least at which a conversation is due or for which a script waits, or
+    /// the end moment where that is not later.
     pub fn target(&self, world: &World) -> Result<u64, AllocError>
         requires { Tracks world.now self.now }
         ensures { IfOk result (λ moment. moment ≡ calm.target world.now (after world.now self.now.history)) }

@@ -1,4 +1,4 @@
-//! Recording the turn of a caller: its actor steps, and from the outcome come the entry and what the caller owes and does next.
+//! Recording the turn of a caller: its actor steps, and from the outcome come the entry, what is owed and what comes next.
 ghost use Rattle.std.specs.Prelude.{◌≡◌, ◌+◌, ◌<◌, ◌^◌, ℕ, IfOk, OnOk};
 ghost use Rattle.net_base.specs.declared.actor.ActorName.{ActorName as Name};
 ghost use Rattle.net_base.specs.declared.world.World.{World as AnyWorld};
@@ -15,8 +15,8 @@ use crate::caller::Caller;
 use crate::turn::Turn;
 use crate::law::histories_are_short;
 use duties::{Due, Duties, Shown, WorldWays, a_move_owes_its_ticks, entry_of, most_owed};
-use history_laws::{histories_grow, state_is_fold};
-use net_actors::{Actors, few_works_are_small};
+use history_laws::histories_grow;
+use net_actors::Actors;
 use net_base::{ActorName, Entry, Event, Outcome, Work};
 use script_task::replies_fit;
 use std::alloc::{AllocError, Global};
@@ -37,8 +37,6 @@ pub fn record(
 {
     histories_grow();
     histories_are_short();
-    state_is_fold();
-    few_works_are_small();
     replies_fit();
     let dues = dues_of_move(alloc, net, &turn)?;
     let Turn { actor, work, cites } = turn;
@@ -92,7 +90,8 @@ fn owe_ticks(
     owed: &mut Duties,
 ) -> Result<Shown, AllocError>
     ensures shown { IfOk result (λ s. s ≡ shows work.event outcome) }
-    ensures owes { OnOk result ((moment : ℕ) → work.event ≡ event.Move moment → Adds owed.old owed.new (ticks_of stamp moment dues.now)) }
+    ensures owes { OnOk result ((moment : ℕ) → work.event ≡ event.Move moment
+        → Adds owed.old owed.new (ticks_of stamp moment dues.now)) }
 {
     owed.reserve(dues.len())?;
     if let Event::Move { moment } = &work.event {

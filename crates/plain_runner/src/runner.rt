@@ -6,7 +6,8 @@ ghost use Rattle.net_base.specs.Net.{moment_after as spec_moment_after};
 ghost use Rattle.net_base.specs.Next.{by};
 ghost use Rattle.net_base.specs.World.{IsWorld};
 ghost use Rattle.plain_runner.specs.Rounds.{Turned, TurnedAll};
-ghost use Rattle.plain_runner.specs.Tracks.{AreCallers, Grows, IsReady, IsReadyRun, IsRun, MayRecord, Recording, Tracks};
+ghost use Rattle.plain_runner.specs.Tracks.{AreCallers, Grows, IsReady, IsReadyRun, IsRun, MayRecord, Recording};
+ghost use Rattle.plain_runner.specs.Tracks.{Tracks};
 ghost use Rattle.plain_runner.specs.Turns.{may_turn};
 
 use crate::caller::Caller;
@@ -94,7 +95,8 @@ impl<'a> Runner<'a> {
     fn turn(&mut self, caller: usize) -> Result<bool, AllocError>
         requires caller { caller < length self.old.callers.items }
         requires run { IsRun self.old }
-        ensures { IfOk result (λ recorded. (w : AnyWorld) → Tracks w self.old → Turned w self.old self.new caller recorded) }
+        ensures { IfOk result (λ recorded. (w : AnyWorld) → Tracks w self.old
+            → Turned w self.old self.new caller recorded) }
     {
         if self.is_full(caller) || !self.may_turn(caller) {
             return Ok(false);
@@ -107,7 +109,8 @@ impl<'a> Runner<'a> {
     pub fn record_next(&mut self, caller: usize) -> Result<(), AllocError>
         requires caller { caller < length self.old.callers.items }
         requires ready { IsReadyRun self.old caller }
-        ensures { OnOk result ((w : AnyWorld) → Tracks w self.old → IsReady w self.old caller → Grows w self.old self.new caller) }
+        ensures { OnOk result ((w : AnyWorld) → Tracks w self.old → IsReady w self.old caller
+            → Grows w self.old self.new caller) }
     {
         match self.callers[caller].take_turn() {
             Some(turn) => self.record(caller, turn),
@@ -134,7 +137,8 @@ impl<'a> Runner<'a> {
     /// One turn for each caller. It tells whether an entry was recorded.
     pub fn round(&mut self) -> Result<bool, AllocError>
         requires { IsRun self.old }
-        ensures { IfOk result (λ recorded. (w : AnyWorld) → Tracks w self.old → TurnedAll w self.old self.new (length self.old.callers.items) recorded) }
+        ensures { IfOk result (λ recorded. (w : AnyWorld) → Tracks w self.old
+            → TurnedAll w self.old self.new (length self.old.callers.items) recorded) }
     {
         let mut recorded = false;
         for caller in 0..self.callers.len() {

@@ -7,4 +7,5 @@ use Rattle.plain_runner.specs.Tracks.{Tracks}
 use Rattle.plain_runner.proofs.runner.Runner.busy_end.Given as goal
 
 abbrev pub invariant-loop-caller : goal.invariant-loop-caller
-invariant-loop-caller l = (w : World) → Tracks w l.self → (c : ℕ) → c < l.caller → ((length (by l.self.history c) == most_entries) && could w l.self.history c) ≡ false
+invariant-loop-caller l = (w : World) → Tracks w l.self → (c : ℕ) → c < l.caller
+    → ((length (by l.self.history c) == most_entries) && could w l.self.history c) ≡ false

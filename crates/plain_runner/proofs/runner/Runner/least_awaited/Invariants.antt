@@ -7,4 +7,5 @@ use Rattle.plain_runner.proofs.Targets.{awaited_from}
 use Rattle.plain_runner.proofs.runner.Runner.least_awaited.Given as goal
 
 abbrev pub invariant-loop-caller : goal.invariant-loop-caller
-invariant-loop-caller l = (w : World) → Tracks w l.self → least l.least (awaited_from w l.self.history l.caller-index) ≡ least l.last (awaited_moments w l.self.history)
+invariant-loop-caller l = (w : World) → Tracks w l.self
+    → least l.least (awaited_from w l.self.history l.caller-index) ≡ least l.last (awaited_moments w l.self.history)

@@ -19,5 +19,7 @@ returns c =
     let k = c.index_mut.result.now in
     on_ok c.push.result (λ pushed w before.
     recorded_so w r _ c.args.caller c.args.turn c.record.new.caller c.in_ok-entry.entry c.requires.caller before
-    (c.in_ok-entry.ensures w r.history (come w r c.args.caller c.args.turn k c.len-stamp.result before (got r.callers.items c.args.caller k c.requires.caller c.index_mut.ensures.value) c.len-stamp.ensures))
+    (c.in_ok-entry.ensures w r.history
+    (come w r c.args.caller c.args.turn k c.len-stamp.result before
+    (got r.callers.items c.args.caller k c.requires.caller c.index_mut.ensures.value) c.len-stamp.ensures))
     pushed refl refl c.moment_after-self.ensures) c.push.ensures.ok

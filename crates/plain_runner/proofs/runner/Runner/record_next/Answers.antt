@@ -7,9 +7,13 @@ use Rattle.plain_runner.proofs.runner.Runner.record_next.Goals as goal
 pub record-requires-clause-ready : goal.record-requires-clause-ready
 record-requires-clause-ready c =
     let r = c.args.self.now in
-    let k = c.index_mut.result.now in
-    (c.requires.ready.0, taken_before c.requires.ready.0 r _ c.args.caller k c.take_turn.new.self c.in-Some.turn c.requires.caller c.requires.ready.1 c.requires.ready.2
-        (got r.callers.items c.args.caller k c.requires.caller c.index_mut.ensures.value) (subst (Takes k c.take_turn.new.self) c.in-Some.is c.take_turn.ensures.takes) (is_taken r _ c.args.caller c.take_turn.new.self refl refl refl refl refl))
+    let k = c.index_mut.result.now in (
+      c.requires.ready.0,
+      taken_before c.requires.ready.0 r _ c.args.caller k c.take_turn.new.self c.in-Some.turn c.requires.caller c.requires.ready.1 c.requires.ready.2
+          (got r.callers.items c.args.caller k c.requires.caller c.index_mut.ensures.value)
+          (subst (Takes k c.take_turn.new.self) c.in-Some.is c.take_turn.ensures.takes)
+          (is_taken r _ c.args.caller c.take_turn.new.self refl refl refl refl refl),
+    )
 
 pub returns-in-Some : goal.returns-in-Some
 returns-in-Some c =
@@ -18,7 +22,9 @@ returns-in-Some c =
     on_ok c.record.result (λ recorded w s ready.
     grows w r _ c.record.new.self c.args.caller c.in-Some.turn refl
     (recorded w (taken_before w r _ c.args.caller k c.take_turn.new.self c.in-Some.turn c.requires.caller s ready
-        (got r.callers.items c.args.caller k c.requires.caller c.index_mut.ensures.value) (subst (Takes k c.take_turn.new.self) c.in-Some.is c.take_turn.ensures.takes) (is_taken r _ c.args.caller c.take_turn.new.self refl refl refl refl refl))))
+    (got r.callers.items c.args.caller k c.requires.caller c.index_mut.ensures.value)
+    (subst (Takes k c.take_turn.new.self) c.in-Some.is c.take_turn.ensures.takes)
+    (is_taken r _ c.args.caller c.take_turn.new.self refl refl refl refl refl))))
     c.record.ensures
 
 pub returns-in-None : goal.returns-in-None
@@ -26,4 +32,5 @@ returns-in-None c =
     let r = c.args.self.now in
     let k = c.index_mut.result.now in
     λ w s ready.
-    absurd (nothing_taken w r c.args.caller k c.take_turn.result s ready (got r.callers.items c.args.caller k c.requires.caller c.index_mut.ensures.value) c.take_turn.ensures.some c.in-None.is)
+    absurd (nothing_taken w r c.args.caller k c.take_turn.result s ready
+    (got r.callers.items c.args.caller k c.requires.caller c.index_mut.ensures.value) c.take_turn.ensures.some c.in-None.is)

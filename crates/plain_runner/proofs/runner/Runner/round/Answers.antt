@@ -31,4 +31,5 @@ loop-caller-preserved c = λ w s.
 pub returns : goal.returns
 returns c = λ w s.
     let l = c.loop-caller in
-    subst (λ (n : ℕ). TurnedAll w c.args.self.now l.self n l.recorded) (omega (arith, c.loop-caller-test.false, l.auto.caller-end, c.len-caller-end.ensures, c.args.self.now.callers.ok.0)) (l.invariant w s)
+    subst (λ (n : ℕ). TurnedAll w c.args.self.now l.self n l.recorded)
+    (omega (arith, c.loop-caller-test.false, l.auto.caller-end, c.len-caller-end.ensures, c.args.self.now.callers.ok.0)) (l.invariant w s)
