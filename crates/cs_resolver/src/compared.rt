@@ -127,18 +127,38 @@ fn finds_alike(alloc: Global, db: &Db, index: &Index, attr: &str) -> Result<bool
     Ok(plain == indexed && places.as_slice() == same.as_slice())
 }
 
+/// Whether both answer all queries alike.
+fn answers_alike(alloc: Global, db: &Db, index: &Index) -> Result<bool, AllocError> {
+    for query in QUERIES {
+        if !is_alike(alloc, db, index, query)? {
+            return Ok(false);
+        }
+    }
+    Ok(true)
+}
+
+/// Whether both find the same of all attributes.
+fn all_found_alike(alloc: Global, db: &Db, index: &Index) -> Result<bool, AllocError> {
+    for attr in ATTRS {
+        if !finds_alike(alloc, db, index, attr)? {
+            return Ok(false);
+        }
+    }
+    Ok(true)
+}
+
+/// Whether both are alike over the database of a seed.
+fn are_alike(alloc: Global, seed: u32) -> Result<bool, AllocError> {
+    let db = db_of(alloc, seed)?;
+    let index = Index::new(alloc, db_of(alloc, seed)?)?;
+    Ok(answers_alike(alloc, &db, &index)? && all_found_alike(alloc, &db, &index)?)
+}
+
 #[test]
 fn both_answer_alike(rt: HostRuntime) -> Result<(), Fail> {
     let alloc = rt.alloc();
     for seed in 0..40_u32 {
-        let db = db_of(alloc, seed)?;
-        let index = Index::new(alloc, db_of(alloc, seed)?)?;
-        for query in QUERIES {
-            assert!(rt; is_alike(alloc, &db, &index, query)?, "{seed} {query}");
-        }
-        for attr in ATTRS {
-            assert!(rt; finds_alike(alloc, &db, &index, attr)?, "{seed} {attr}");
-        }
+        assert!(rt; are_alike(alloc, seed)?, "{seed}");
     }
     Ok(())
 }
@@ -152,23 +172,26 @@ fn add_systems(alloc: Global, db: &mut Db) -> Result<(), AllocError> {
     Ok(())
 }
 
+/// The index of the worked database with ten thousand systems more.
+fn index_of_many(alloc: Global) -> Result<Index, AllocError> {
+    let mut db = tests::db_of(alloc, WORKED)?;
+    add_systems(alloc, &mut db)?;
+    Index::new(alloc, db)
+}
+
+/// The answer to a query of anna, and the `auth` values that are closest to it.
+fn told_anna(alloc: Global, index: &Index, query: &[u8]) -> Result<Vec<u8>, AllocError> {
+    let nets = [Proto::Il, Proto::Udp];
+    let mut text = told(alloc, answer_indexed(alloc, index, b"anna", &nets, query))?;
+    add_lines(&index.closest(alloc, b"anna", b"auth")?, &mut text)?;
+    Ok(text)
+}
+
 #[test]
 fn the_worked_query_beside_ten_thousand_systems(rt: HostRuntime) -> Result<(), Fail> {
     let alloc = rt.alloc();
-    let mut db = tests::db_of(alloc, WORKED)?;
-    add_systems(alloc, &mut db)?;
-    let index = Index::new(alloc, db)?;
-    let mut text = told(
-        alloc,
-        answer_indexed(
-            alloc,
-            &index,
-            b"anna",
-            &[Proto::Il, Proto::Udp],
-            b"net!helix!9fs",
-        ),
-    )?;
-    add_lines(&index.closest(alloc, b"anna", b"auth")?, &mut text)?;
+    let index = index_of_many(alloc)?;
+    let text = told_anna(alloc, &index, b"net!helix!9fs")?;
     assert_eq!(rt;
         text.as_slice(),
         b"/net/il/clone 135.104.9.31!17008\n/net/il/clone 10.0.0.31!17008\nhelix\n".as_slice()
