@@ -1,26 +1,22 @@
 -- What comes after a round that recorded nothing: the run ended, or the clock may move.
-use Rattle.std.proofs.Common.{◌≡◌, ℕ, ◌+◌, ◌<◌, ◌≤◌, ◌==◌, ◌&&◌, ◌||◌, Bool, true, false, not, List, [], ◌∷◌, ◌++◌, length, drop, Option, Some, None, codes, is_some, slice_get, nat_lt, inl, inr, refl, sym, ap, subst, ◌∙◌, arith, length-append}
-use Rattle.std.specs.Prelude.{IsSome}
+use Rattle.std.proofs.Common.{◌≡◌, ℕ, ◌<◌, ◌==◌, ◌||◌, Bool, true, false, List, [], ◌∷◌, length, drop, Option, Some, None, codes, is_some, nat_lt, inl, inr, refl, sym, ap, subst, ◌∙◌, arith, length-append}
 use Rattle.std.specs.Option.{option_map}
-use Rattle.std.proofs.lemmas.Bool.{true≢false, false≢true, eq-eqb, eqb-false, lt-ltb, ltb-false}
+use Rattle.std.proofs.lemmas.Bool.{false≢true, eq-eqb, eqb-false, lt-ltb, ltb-false}
 use Rattle.net_base.specs.declared.actor.ActorName.{ActorName}
 use Rattle.net_base.specs.declared.actor.ActorName.TheVariants as name
 use Rattle.net_base.specs.declared.event.Event.{Event}
 use Rattle.net_base.specs.declared.event.Event.TheVariants as event
 use Rattle.net_base.specs.declared.history.Entry.{Entry}
-use Rattle.net_base.specs.declared.history.With.{With}
-use Rattle.net_base.specs.declared.history.With.TheVariants as given
 use Rattle.net_base.specs.declared.history.Work.{Work}
 use Rattle.net_base.specs.declared.reply.Reply.{Reply}
 use Rattle.net_base.specs.declared.world.World.{World}
-use Rattle.net_base.specs.ActorStep.{Step}
 use Rattle.net_base.specs.Actors.{Actor, IsPlain, actor_step, plain_step}
 use Rattle.net_base.specs.Callers.{Caller as AnyCaller, IsClock, caller_of, caller_count, clock_number}
 use Rattle.net_base.specs.Calm.{calm, can_go_on, done, limited, most_entries, movable, owes, stopped, target, unfinished}
 use Rattle.net_base.specs.Desk.{clock_reply}
 use Rattle.net_base.specs.Duties.{Duty}
 use Rattle.net_base.specs.Legal.{IsAsked, IsInTime, IsMove, cites_of}
-use Rattle.net_base.specs.Net.{Net, Play, after, moment, owed, play, played, stepped_to, with_of, works}
+use Rattle.net_base.specs.Net.{Net, Play, after, moment, owed, played, stepped_to, with_of, works}
 use Rattle.net_base.specs.Next.{by, next}
 use Rattle.net_base.specs.Summary.{end_word}
 use Rattle.history_laws.proofs.Histories.{state_is_fold}
@@ -30,14 +26,14 @@ use Rattle.plain_runner.specs.Callers.{IsCaller, IsTurning}
 use Rattle.plain_runner.specs.Recording.{IsHistory}
 use Rattle.plain_runner.specs.Rounds.{AreThrough, IsThrough}
 use Rattle.plain_runner.specs.Tracks.{IsBefore, RecordedSo, Tracks}
-use Rattle.plain_runner.specs.Turns.{IsAskedOf, IsMoving, IsReadyTurn, IsTurn, is_duty_ready, may_turn, may_turn_by}
+use Rattle.plain_runner.specs.Turns.{IsMoving, may_turn, may_turn_by}
 use Rattle.plain_runner.specs.declared.caller.Caller.{Caller}
 use Rattle.plain_runner.specs.declared.runner.Runner.{Runner}
 use Rattle.plain_runner.specs.declared.turn.Turn.{Turn}
-use Rattle.plain_runner.proofs.Calming.{clock_is, clock_waits}
-use Rattle.plain_runner.proofs.Could.{full_is, past_is}
+use Rattle.plain_runner.proofs.Calming.{clock_is}
+use Rattle.plain_runner.proofs.Could.{full_is}
 use Rattle.plain_runner.proofs.Halting.{NobodyCould, clock_limited, idle_calm, is_movable, moment_within, none_so, or_parts, some_limited}
-use Rattle.plain_runner.proofs.Ranges.{and_both, not_true}
+use Rattle.plain_runner.proofs.Ranges.{not_true}
 
 -- The clock is ready to move at any time.
 

@@ -1,22 +1,19 @@
 -- Where no caller could record the net is calm, and else it isn't.
-use Rattle.std.proofs.Common.{◌≡◌, ℕ, zero, suc, ◌+◌, ◌-◌, ◌<◌, ◌≤◌, ◌==◌, ◌&&◌, ◌||◌, Bool, true, false, not, List, [], ◌∷◌, length, Option, Some, None, is_some, slice_get, nat_lt, ◌⊎◌, inl, inr, refl, sym, ap, subst, ◌∙◌, arith}
-use Rattle.std.specs.List.{list_all, list_any, range_with_len}
-use Rattle.std.specs.Option.{option_map, option_map_or, option_and_then}
-use Rattle.std.proofs.lemmas.Bool.{true≢false, false≢true, eq-eqb, eqb-true, eqb-false, lt-ltb, ltb-true, ltb-false, le-ltb, ne_eqb}
+use Rattle.std.proofs.Common.{◌≡◌, ℕ, zero, suc, ◌+◌, ◌-◌, ◌<◌, ◌≤◌, ◌==◌, ◌&&◌, ◌||◌, Bool, true, false, not, List, [], ◌∷◌, length, Option, Some, None, is_some, slice_get, nat_lt, refl, sym, ap, subst, ◌∙◌, arith}
+use Rattle.std.specs.Option.{option_map_or}
+use Rattle.std.proofs.lemmas.Bool.{false≢true, eq-eqb, eqb-true, eqb-false, lt-ltb, ltb-true, ltb-false, le-ltb, ne_eqb}
 use Rattle.std.proofs.lemmas.Option.{none-some, slice_get_past, slice_get_within}
 use Rattle.net_base.specs.declared.actor.ActorName.TheVariants as name
 use Rattle.net_base.specs.declared.event.Event.TheVariants as event
-use Rattle.net_base.specs.declared.history.Entry.{Entry}
 use Rattle.net_base.specs.declared.history.Taken.{Taken}
 use Rattle.net_base.specs.declared.history.With.TheVariants as given
-use Rattle.net_base.specs.declared.history.Work.{Work}
 use Rattle.net_base.specs.declared.world.MediumSpec.{MediumSpec}
 use Rattle.net_base.specs.declared.world.Script.{Script}
 use Rattle.net_base.specs.declared.world.World.{World}
-use Rattle.net_base.specs.ActorStep.{Step, when}
+use Rattle.net_base.specs.ActorStep.{Step}
 use Rattle.net_base.specs.Actors.{Actor, IsConv, IsDir, IsMedium, IsPlain, actor_step, step_as}
-use Rattle.net_base.specs.Callers.{Caller, IsScript, IsCourier, IsClock, IsNobody, caller_of, other_caller, caller_count, clock_number, first_courier}
-use Rattle.net_base.specs.Calm.{calm, callers, can_go_on, is_quiet, is_ready, nothing_owed, nothing_pending, owes, scripts_wait}
+use Rattle.net_base.specs.Callers.{Caller, IsScript, IsCourier, IsClock, caller_of, other_caller, caller_count, clock_number, first_courier}
+use Rattle.net_base.specs.Calm.{calm, can_go_on, is_quiet, is_ready, nothing_owed, nothing_pending, owes, scripts_wait}
 use Rattle.net_base.specs.Medium.{Medium, takes}
 use Rattle.net_base.specs.Net.{Net}
 use Rattle.net_base.specs.Next.{next_of}

@@ -1,25 +1,24 @@
 -- Whether callers could record, as a run tells it.
-use Rattle.std.proofs.Common.{◌≡◌, ℕ, ◌+◌, ◌<◌, ◌≤◌, ◌==◌, ◌&&◌, ◌||◌, Bool, true, false, List, [], ◌∷◌, length, Option, Some, None, codes, slice_get, Bor, nat_lt, refl, sym, ap, subst, ◌∙◌, arith}
-use Rattle.std.specs.List.{list_any, range_with_len}
-use Rattle.std.proofs.lemmas.Bool.{true≢false, false≢true, eqb-true, eqb-false, lt-ltb}
+use Rattle.std.proofs.Common.{◌≡◌, ℕ, ◌+◌, ◌<◌, ◌≤◌, ◌==◌, ◌&&◌, ◌||◌, Bool, true, false, List, [], ◌∷◌, length, Some, codes, slice_get, Bor, nat_lt, refl, sym, ap, subst, ◌∙◌, arith}
+use Rattle.std.specs.List.{list_any}
+use Rattle.std.proofs.lemmas.Bool.{true≢false, eqb-true, lt-ltb}
 use Rattle.std.proofs.lemmas.Option.{same_Some}
 use Rattle.net_base.specs.declared.history.Entry.{Entry}
 use Rattle.net_base.specs.declared.reply.Reply.{Reply}
 use Rattle.net_base.specs.declared.world.Script.{Script}
 use Rattle.net_base.specs.declared.world.World.{World}
 use Rattle.net_base.specs.Callers.{caller_count, clock_number}
-use Rattle.net_base.specs.Calm.{calm, callers, can_go_on, limited, most_entries, owes, unfinished}
+use Rattle.net_base.specs.Calm.{calm, callers, most_entries, unfinished}
 use Rattle.net_base.specs.Duties.{Duty}
-use Rattle.net_base.specs.Net.{Net, after, opening_net}
+use Rattle.net_base.specs.Net.{after, opening_net}
 use Rattle.net_base.specs.Next.{by, finished_by, is_unfinished, own_replies}
 use Rattle.net_base.specs.Summary.{end_word}
-use Rattle.net_base.specs.Steps.{Position}
 use Rattle.script_player.specs.Players.{IsAt, Playing, position_after}
 use Rattle.history_laws.proofs.Owed.{past_after}
-use Rattle.plain_runner.specs.Callers.{HasRole, IsCaller, IsScriptAt}
+use Rattle.plain_runner.specs.Callers.{HasRole, IsScriptAt}
 use Rattle.plain_runner.specs.Rounds.{could}
 use Rattle.plain_runner.specs.Tracks.{Tracks}
-use Rattle.plain_runner.specs.Turns.{may_turn, may_turn_by}
+use Rattle.plain_runner.specs.Turns.{may_turn}
 use Rattle.plain_runner.specs.declared.caller.Caller.{Caller}
 use Rattle.plain_runner.specs.declared.caller.Role.{Role}
 use Rattle.plain_runner.specs.declared.caller.Role.TheVariants as role

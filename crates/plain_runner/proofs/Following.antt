@@ -1,38 +1,36 @@
 -- A run that follows a history: the entry that it records is the one that may follow.
-use Rattle.std.proofs.Common.{◌≡◌, ℕ, zero, suc, ◌+◌, ◌<◌, ◌≤◌, Bool, true, false, List, [], ◌∷◌, ◌++◌, length, take, take_all, get_or, Option, Some, None, is_some, slice_get, refl, sym, ap, subst, ◌∙◌, arith}
+use Rattle.std.proofs.Common.{◌≡◌, ℕ, suc, ◌+◌, ◌<◌, ◌≤◌, Bool, true, List, [], ◌∷◌, ◌++◌, length, take, take_all, get_or, Option, Some, None, is_some, slice_get, refl, sym, ap, subst, ◌∙◌, arith}
 use Rattle.std.specs.Prelude.{IsSome}
 use Rattle.std.specs.Option.{option_map}
 use Rattle.std.proofs.Math.Seq.{take-append_seam}
-use Rattle.std.proofs.lemmas.Bool.{true≢false, false≢true}
-use Rattle.std.proofs.lemmas.Option.{none-some, same_Some}
+use Rattle.std.proofs.lemmas.Bool.{false≢true}
+use Rattle.std.proofs.lemmas.Option.{same_Some}
 use Rattle.net_base.specs.declared.actor.ActorName.{ActorName}
 use Rattle.net_base.specs.declared.actor.ActorName.TheVariants as name
 use Rattle.net_base.specs.declared.event.Event.{Event}
 use Rattle.net_base.specs.declared.event.Event.TheVariants as event
 use Rattle.net_base.specs.declared.history.Entry.{Entry}
 use Rattle.net_base.specs.declared.history.Outcome.{Outcome}
-use Rattle.net_base.specs.declared.history.With.{With}
-use Rattle.net_base.specs.declared.history.With.TheVariants as given
 use Rattle.net_base.specs.declared.packet.Header.{Header}
 use Rattle.net_base.specs.declared.reply.Reply.{Reply}
 use Rattle.net_base.specs.declared.world.World.{World}
 use Rattle.net_base.specs.ActorStep.{Step}
 use Rattle.net_base.specs.Actors.{Actor, actor_step}
-use Rattle.net_base.specs.Callers.{Caller as AnyCaller, IsScript, IsCourier, IsClock, IsNobody, caller_of, caller_count, clock_number}
-use Rattle.net_base.specs.Calm.{can_go_on, is_ready, most_entries, movable, target}
+use Rattle.net_base.specs.Callers.{Caller as AnyCaller, IsScript, IsCourier, IsClock, IsNobody, caller_of, clock_number}
+use Rattle.net_base.specs.Calm.{is_ready}
 use Rattle.net_base.specs.Duties.{Duty}
 use Rattle.net_base.specs.Legal.{Follows, IsAsked, IsInTime, IsLegal, IsMove, IsNext, IsTimed, MayFollow, Shown, Shows, asked_by, cites_of, shown_by}
 use Rattle.net_base.specs.Net.{Net, after, outcome_in, owed, step_of, with_of, work_of}
-use Rattle.net_base.specs.Next.{by, next, next_of}
+use Rattle.net_base.specs.Next.{next, next_of}
 use Rattle.net_base.specs.Steps.{Ask}
 use Rattle.history_laws.proofs.Histories.{at_push, one_more}
 use Rattle.history_laws.proofs.Ordered.{Each}
 use Rattle.progress_law.proofs.Always.{steady_after}
 use Rattle.progress_law.proofs.Duties.{OfKind}
-use Rattle.plain_runner.specs.Followed.{Followed, FollowedBy, Follows as FollowsOn}
+use Rattle.plain_runner.specs.Followed.{Followed, Follows as FollowsOn}
 use Rattle.plain_runner.specs.Recording.{IsHistory}
 use Rattle.plain_runner.specs.Tracks.{Grows, IsBefore, IsReady, RecordedSo, Tracks}
-use Rattle.plain_runner.specs.Turns.{IsMoving, may_turn, may_turn_by}
+use Rattle.plain_runner.specs.Turns.{IsMoving, may_turn_by}
 use Rattle.plain_runner.specs.declared.runner.Runner.{Runner}
 use Rattle.plain_runner.specs.declared.turn.Turn.{Turn}
 use Rattle.plain_runner.proofs.Advancing.{clock_before}

@@ -1,17 +1,15 @@
 -- A run before anything is recorded.
-use Rattle.std.proofs.Common.{◌≡◌, ℕ, zero, suc, ◌+◌, ◌<◌, ◌≤◌, ◌==◌, Bool, true, false, List, [], ◌∷◌, ◌++◌, length, Option, Some, None, slice_get, refl, sym, ap, subst, ◌∙◌, arith, length-append}
+use Rattle.std.proofs.Common.{◌≡◌, ℕ, zero, suc, ◌+◌, ◌≤◌, ◌==◌, Bool, true, false, List, [], ◌∷◌, ◌++◌, length, Some, slice_get, refl, sym, ap, subst, ◌∙◌, arith, length-append}
 use Rattle.std.proofs.lemmas.Bool.{and_parts, eqb-true, eqb-false, leb-true}
-use Rattle.std.proofs.lemmas.Option.{none-some, same_Some, slice_get_within}
+use Rattle.std.proofs.lemmas.Option.{none-some, same_Some}
 use Rattle.std.specs.Prelude.{nat_le}
-use Rattle.net_base.specs.declared.history.Entry.{Entry}
 use Rattle.net_base.specs.declared.world.World.{World}
 use Rattle.net_base.specs.Actors.{opening_actor}
-use Rattle.net_base.specs.Callers.{caller_count, clock_number}
+use Rattle.net_base.specs.Callers.{caller_count}
 use Rattle.net_base.specs.World.{IsWorld}
 use Rattle.duties.specs.WaysOf.{AreWaysOfWorld}
 use Rattle.net_actors.specs.Together.{AreActors}
 use Rattle.plain_runner.specs.Callers.{IsCaller}
-use Rattle.plain_runner.specs.Recording.{IsHistory}
 use Rattle.plain_runner.specs.Tracks.{AreCallers, Tracks}
 use Rattle.plain_runner.specs.declared.caller.Caller.{Caller}
 use Rattle.plain_runner.specs.declared.runner.Runner.{Runner}

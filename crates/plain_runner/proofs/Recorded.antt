@@ -5,27 +5,23 @@ use Rattle.std.specs.Option.{option_map}
 use Rattle.std.proofs.lemmas.Bool.{eqb-true, eqb-false, false≢true, ne_eqb}
 use Rattle.std.proofs.lemmas.List.{length-set}
 use Rattle.std.proofs.lemmas.Option.{same_Some, slice_get_read}
-use Rattle.net_base.specs.declared.event.Event.{Event}
 use Rattle.net_base.specs.declared.history.Entry.{Entry}
-use Rattle.net_base.specs.declared.history.Outcome.{Outcome}
 use Rattle.net_base.specs.declared.reply.Reply.{Reply}
 use Rattle.net_base.specs.declared.world.World.{World}
 use Rattle.net_base.specs.ActorStep.{Step}
 use Rattle.net_base.specs.Actors.{Actor}
-use Rattle.net_base.specs.Callers.{caller_count}
-use Rattle.net_base.specs.Legal.{IsInTime, IsLegal, IsTimed}
+use Rattle.net_base.specs.Legal.{IsInTime}
 use Rattle.net_base.specs.Net.{Net, after, moment, moment_after, net_after, step_of}
 use Rattle.net_base.specs.Next.{by, finished_by, own_replies}
 use Rattle.duties.specs.WaysOf.{AreWaysOfWorld}
-use Rattle.ip_route.specs.Kept.{HostWays}
 use Rattle.net_actors.specs.Together.{AreActors}
 use Rattle.script_player.specs.Players.{IsAt}
 use Rattle.history_laws.specs.Apart.{StandsStill}
 use Rattle.history_laws.proofs.Callers.{stands_still}
 use Rattle.history_laws.proofs.Histories.{after_push, legal_push, timed_push}
-use Rattle.plain_runner.specs.Callers.{HasRole, IsCaller, IsTurning}
+use Rattle.plain_runner.specs.Callers.{HasRole, IsCaller}
 use Rattle.plain_runner.specs.Recording.{Comes, IsHistory, Recorded}
-use Rattle.plain_runner.specs.Tracks.{AreCallers, IsBefore, RecordedSo, Tracks}
+use Rattle.plain_runner.specs.Tracks.{IsBefore, RecordedSo}
 use Rattle.plain_runner.specs.declared.caller.Caller.{Caller}
 use Rattle.plain_runner.specs.declared.caller.Role.{Role}
 use Rattle.plain_runner.specs.declared.caller.Role.TheVariants as role

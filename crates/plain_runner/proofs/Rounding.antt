@@ -1,18 +1,17 @@
 -- What the turns of a round leave.
-use Rattle.std.proofs.Common.{◌≡◌, ℕ, ◌+◌, ◌<◌, ◌==◌, ◌||◌, Bool, true, false, List, [], ◌∷◌, ◌++◌, length, Option, Some, None, is_some, slice_get, slice_set, inl, inr, refl, sym, ap, subst, ◌∙◌, arith, length-append}
+use Rattle.std.proofs.Common.{◌≡◌, ℕ, ◌+◌, ◌<◌, ◌==◌, ◌||◌, Bool, true, false, List, [], ◌∷◌, ◌++◌, length, Option, Some, None, is_some, slice_get, slice_set, refl, sym, ap, subst, ◌∙◌, arith, length-append}
 use Rattle.std.proofs.lemmas.Bool.{eqb-true, eqb-false, false≢true}
 use Rattle.std.proofs.lemmas.List.{length-set}
-use Rattle.std.proofs.lemmas.Option.{same_Some, slice_get_within}
+use Rattle.std.proofs.lemmas.Option.{same_Some}
 use Rattle.net_base.specs.declared.history.Entry.{Entry}
 use Rattle.net_base.specs.declared.world.World.{World}
-use Rattle.net_base.specs.Callers.{caller_count}
 use Rattle.net_base.specs.Calm.{most_entries}
 use Rattle.net_base.specs.Net.{moment}
 use Rattle.net_base.specs.Next.{by}
 use Rattle.history_laws.proofs.Limits.{within}
 use Rattle.plain_runner.specs.Callers.{IsCaller, IsTurning, Takes, TakesIf}
 use Rattle.plain_runner.specs.declared.rounds.RunEnd.{RunEnd}
-use Rattle.plain_runner.specs.Rounds.{AreThrough, GoesOrEnds, IsThrough, Turned, TurnedAll}
+use Rattle.plain_runner.specs.Rounds.{GoesOrEnds, IsThrough, Turned, TurnedAll}
 use Rattle.plain_runner.specs.Tracks.{Grows, IsBefore, IsReady, RecordedSo, Tracks}
 use Rattle.plain_runner.specs.Turns.{IsReadyTurn, IsTurn, may_turn}
 use Rattle.plain_runner.specs.Recording.{IsHistory}

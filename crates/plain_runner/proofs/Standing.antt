@@ -1,22 +1,19 @@
 -- How far the scripts of a run are.
-use Rattle.std.proofs.Common.{◌≡◌, ℕ, zero, suc, ◌+◌, ◌-◌, ◌*◌, ◌<◌, ◌≤◌, ◌==◌, ◌||◌, Bool, true, false, List, [], ◌∷◌, length, drop, take, get_or, Option, Some, None, slice_get, sum_by, Bor, refl, sym, ap, subst, ◌∙◌, arith, rules, tests, nat_lt}
+use Rattle.std.proofs.Common.{◌≡◌, ℕ, zero, suc, ◌+◌, ◌<◌, ◌≤◌, ◌==◌, ◌||◌, Bool, true, false, List, [], ◌∷◌, length, drop, Some, slice_get, sum_by, Bor, refl, sym, ap, subst, ◌∙◌, arith}
 use Rattle.std.specs.List.{list_any, enumerate_from}
-use Rattle.std.proofs.lemmas.Bool.{true≢false, false≢true, eqb-true, lt-ltb}
-use Rattle.std.proofs.lemmas.Option.{none-some, same_Some, slice_get_within}
+use Rattle.std.proofs.lemmas.Bool.{true≢false, eqb-true, lt-ltb}
+use Rattle.std.proofs.lemmas.Option.{none-some, same_Some}
 use Rattle.std.proofs.lemmas.List.Sums.{sum_by-cons}
 use Rattle.net_base.specs.declared.history.Entry.{Entry}
-use Rattle.net_base.specs.declared.reply.Reply.{Reply}
 use Rattle.net_base.specs.declared.world.Script.{Script}
 use Rattle.net_base.specs.declared.world.World.{World}
-use Rattle.net_base.specs.Callers.{Caller as AnyCaller, IsScript, IsCourier, IsClock, IsNobody, caller_of}
-use Rattle.net_base.specs.Calm.{owes}
+use Rattle.net_base.specs.Callers.{Caller as AnyCaller, IsScript}
 use Rattle.net_base.specs.Duties.{Duty}
-use Rattle.net_base.specs.Net.{after, opening_net}
-use Rattle.net_base.specs.Next.{finished_by, is_unfinished, own_replies, standing}
+use Rattle.net_base.specs.Net.{after}
+use Rattle.net_base.specs.Next.{finished_by, is_unfinished, own_replies}
 use Rattle.net_base.specs.Summary.{answered_by}
-use Rattle.script_player.specs.Players.{IsAt, Playing}
-use Rattle.history_laws.proofs.Owed.{past_after}
-use Rattle.plain_runner.specs.Callers.{HasRole, IsCaller, IsScriptAt}
+use Rattle.script_player.specs.Players.{Playing}
+use Rattle.plain_runner.specs.Callers.{HasRole, IsScriptAt}
 use Rattle.plain_runner.specs.Tracks.{Tracks}
 use Rattle.plain_runner.specs.declared.caller.Caller.{Caller}
 use Rattle.plain_runner.specs.declared.caller.Role.{Role}

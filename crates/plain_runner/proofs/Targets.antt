@@ -1,5 +1,5 @@
 -- Where the clock moves.
-use Rattle.std.proofs.Common.{◌≡◌, ℕ, zero, suc, ◌+◌, ◌-◌, ◌<◌, ◌≤◌, List, [], ◌∷◌, ◌++◌, length, map, min, drop, get_or, filter_map, option_to_list, Option, Some, None, slice_get, refl, sym, ap, subst, ◌∙◌, arith}
+use Rattle.std.proofs.Common.{◌≡◌, ℕ, suc, ◌+◌, ◌-◌, ◌<◌, ◌≤◌, List, [], ◌∷◌, ◌++◌, length, map, min, drop, get_or, filter_map, option_to_list, Option, Some, None, slice_get, refl, sym, ap, ◌∙◌, arith}
 use Rattle.std.specs.List.{flat_map, range_with_len}
 use Rattle.std.proofs.Math.Nat.{min_comm}
 use Rattle.std.proofs.lemmas.List.{map-append}
@@ -17,7 +17,6 @@ use Rattle.net_base.specs.Calm.{awaited_moment, callers, least, target}
 use Rattle.net_base.specs.Duties.{conversations, due_of, slots_of}
 use Rattle.net_base.specs.Net.{after}
 use Rattle.net_base.specs.Next.{next, next_of}
-use Rattle.net_base.specs.Steps.{Ask}
 use Rattle.duties.specs.declared.due.Due.{Due}
 use Rattle.duties.specs.Ticking.{due_at, dues_of}
 use Rattle.plain_runner.specs.Rounds.{awaited_moments, due_moments}
@@ -25,7 +24,6 @@ use Rattle.plain_runner.specs.Tracks.{Tracks}
 use Rattle.plain_runner.specs.Turns.{asks_of}
 use Rattle.plain_runner.specs.declared.caller.Caller.{Caller}
 use Rattle.plain_runner.specs.declared.runner.Runner.{Runner}
-use Rattle.plain_runner.specs.declared.turn.Turn.{Turn}
 use Rattle.plain_runner.proofs.Could.{past_is}
 use Rattle.plain_runner.proofs.Standing.{next_one, past_all}
 

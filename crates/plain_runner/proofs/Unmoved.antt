@@ -1,7 +1,7 @@
 -- What a caller owes, and what a script or a courier records next, is no move; so a turn that is ready comes in time.
-use Rattle.std.proofs.Common.{◌≡◌, ℕ, ◌<◌, Bool, true, false, List, [], ◌∷◌, length, Option, Some, None, is_some, refl, sym, ap, subst, ◌∙◌}
+use Rattle.std.proofs.Common.{◌≡◌, ℕ, ◌<◌, true, false, List, [], ◌∷◌, length, Option, Some, None, is_some, refl, sym, subst}
 use Rattle.std.proofs.lemmas.Bool.{false≢true}
-use Rattle.std.proofs.lemmas.Option.{none-some, same_Some}
+use Rattle.std.proofs.lemmas.Option.{none-some}
 use Rattle.net_base.specs.declared.actor.ActorName.{ActorName}
 use Rattle.net_base.specs.declared.actor.ActorName.TheVariants as name
 use Rattle.net_base.specs.declared.event.Event.{Event}
@@ -9,7 +9,6 @@ use Rattle.net_base.specs.declared.event.Event.TheVariants as event
 use Rattle.net_base.specs.declared.history.Entry.{Entry}
 use Rattle.net_base.specs.declared.history.With.{With}
 use Rattle.net_base.specs.declared.history.With.TheVariants as given
-use Rattle.net_base.specs.declared.history.Work.{Work}
 use Rattle.net_base.specs.declared.reply.Reply.{Reply}
 use Rattle.net_base.specs.declared.reply.Reply.TheVariants as reply
 use Rattle.net_base.specs.declared.world.Step.{Step}
@@ -19,18 +18,17 @@ use Rattle.net_base.specs.Actors.{actor_step}
 use Rattle.net_base.specs.Callers.{Caller, IsScript, IsCourier, IsClock, IsNobody, caller_count, caller_of}
 use Rattle.net_base.specs.Calm.{is_ready, most_entries}
 use Rattle.net_base.specs.Duties.{Duty}
-use Rattle.net_base.specs.Legal.{IsAsked, IsInTime, IsLegal, IsNext, asked_by}
+use Rattle.net_base.specs.Legal.{IsAsked, IsInTime, IsNext, asked_by}
 use Rattle.net_base.specs.Net.{Net, after, moment, owed, with_of}
 use Rattle.net_base.specs.Next.{by, next, next_of, own_replies}
-use Rattle.net_base.specs.Steps.{Ask, Bound, clone_path, lines_in, position}
-use Rattle.net_base.specs.World.{IsWorld}
+use Rattle.net_base.specs.Steps.{Ask, clone_path, lines_in, position}
 use Rattle.history_laws.proofs.Ordered.{Each, each_any}
 use Rattle.history_laws.proofs.Owed.{past_after}
 use Rattle.history_laws.proofs.StepEvents.{Fits, IsNextEvent, IsOpened, IsOwn, Says, next_event}
 use Rattle.progress_law.proofs.Always.{steady_after}
 use Rattle.progress_law.proofs.Duties.{IsKind, OfKind}
 use Rattle.plain_runner.specs.Recording.{IsHistory}
-use Rattle.plain_runner.specs.Turns.{IsAskedOf, IsReadyTurn, IsTurn, is_duty_ready, may_turn, may_turn_by}
+use Rattle.plain_runner.specs.Turns.{IsReadyTurn, IsTurn, may_turn, may_turn_by}
 use Rattle.plain_runner.specs.declared.turn.Turn.{Turn}
 
 -- Moves.

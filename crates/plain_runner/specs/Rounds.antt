@@ -1,8 +1,8 @@
 -- Turns of callers in rounds, and what comes after a round that recorded nothing.
-use Rattle.std.specs.Prelude.{◌≡◌, ℕ, ◌<◌, ◌⊎◌, ◌==◌, ◌||◌, ◌&&◌, not, Bool, true, false, List, filter_map, length, map, Option, Some, None}
+use Rattle.std.specs.Prelude.{◌≡◌, ℕ, ◌<◌, ◌⊎◌, ◌||◌, Bool, true, false, List, filter_map, length, map, Option, Some, None}
 use Rattle.net_base.specs.declared.history.Entry.{Entry}
 use Rattle.net_base.specs.declared.world.World.{World}
-use Rattle.net_base.specs.Callers.{caller_count, clock_number}
+use Rattle.net_base.specs.Callers.{caller_count}
 use Rattle.duties.specs.declared.due.Due.{Due}
 use Rattle.net_base.specs.Calm.{awaited_moment, callers, can_go_on, done, limited, most_entries, owes, stopped}
 use Rattle.net_base.specs.Net.{Net, after}

@@ -1,5 +1,3 @@
-use Rattle.std.proofs.Common.{get_or}
-use Rattle.std.proofs.lemmas.Option.{slice_get-get_or}
 use Rattle.plain_runner.proofs.Targets.{due_all, due_step}
 use Rattle.plain_runner.proofs.ending.least_due.Goals as goal
 

@@ -1,4 +1,4 @@
-use Rattle.std.proofs.Common.{◌≡◌, ◌==◌, ◌&&◌, ℕ, Bool, false, length, refl, sym, ◌∙◌, arith}
+use Rattle.std.proofs.Common.{◌≡◌, ◌==◌, ◌&&◌, ℕ, false, length, refl, sym, ◌∙◌, arith}
 use Rattle.net_base.specs.Calm.{most_entries}
 use Rattle.net_base.specs.Next.{by}
 use Rattle.plain_runner.specs.Rounds.{could}

@@ -1,4 +1,4 @@
-use Rattle.std.proofs.Common.{◌+◌, ◌≡◌, ℕ, arith}
+use Rattle.std.proofs.Common.{◌+◌, ◌≡◌, arith}
 use Rattle.net_base.specs.Callers.{clock_number}
 use Rattle.plain_runner.proofs.Could.{busy_so, done_told, full_told, other_told, stopped_told}
 use Rattle.plain_runner.proofs.runner.Runner.end.Goals as goal

@@ -1,4 +1,4 @@
-use Rattle.std.proofs.Common.{List, length, ap, sym, subst, ◌∙◌, ◌<◌, ◌≤◌, slice_get, ℕ}
+use Rattle.std.proofs.Common.{List, length, ap, sym, subst, ◌∙◌, ◌<◌, ◌≤◌, slice_get}
 use Rattle.plain_runner.specs.declared.caller.Caller.{Caller}
 use Rattle.plain_runner.proofs.Recorded.{got}
 use Rattle.plain_runner.proofs.Targets.{awaited_all, awaited_next}

@@ -1,8 +1,5 @@
-use Rattle.std.proofs.Common.{ap, ◌∙◌, List}
-use Rattle.net_base.specs.Calm.{least}
+use Rattle.std.proofs.Common.{◌∙◌}
 use Rattle.net_base.specs.Net.{after}
-use Rattle.plain_runner.specs.Rounds.{due_moments}
-use Rattle.duties.specs.declared.due.Due.{Due}
 use Rattle.plain_runner.proofs.Targets.{target_is}
 use Rattle.plain_runner.proofs.runner.Runner.target.Goals as goal
 
