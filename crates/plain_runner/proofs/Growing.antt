@@ -19,27 +19,25 @@ use Rattle.net_base.specs.Actors.{Actor, actor_step, has_actor, opening_actor, t
 use Rattle.net_base.specs.Callers.{Caller as Called, IsScript, IsCourier, IsClock, IsNobody, caller_of, caller_count}
 use Rattle.net_base.specs.Calm.{most_entries}
 use Rattle.net_base.specs.Duties.{Duty, duties}
-use Rattle.net_base.specs.Legal.{IsLegal, IsTimed, IsMove, IsNext, IsAsked, MayFollow, Shows, shown_by, cites_of}
-use Rattle.net_base.specs.Net.{Net, Play, actors_after, after, moment, net_after, next_net, owed, owed_after, outcome_in, played, state, step_of, with_of, work_of, works}
+use Rattle.net_base.specs.Legal.{IsNext, IsAsked, MayFollow, Shows, shown_by, cites_of}
+use Rattle.net_base.specs.Net.{Net, actors_after, after, moment, net_after, next_net, owed, owed_after, outcome_in, step_of, with_of, work_of}
 use Rattle.net_base.specs.Next.{by, next}
 use Rattle.net_base.specs.Steps.{Ask}
-use Rattle.net_base.specs.World.{IsWorld}
 use Rattle.duties.specs.declared.due.Due.{Due}
 use Rattle.duties.specs.Owing.{Gives, without_copy}
 use Rattle.duties.specs.Queue.{Adds, Queue}
 use Rattle.duties.specs.Showing.{shown_entry, shows}
 use Rattle.duties.specs.WaysOf.{AreWaysOfWorld}
-use Rattle.net_actors.specs.Small.{IsSmall}
-use Rattle.net_actors.specs.Together.{AreActors, CanStep, Numbered, Steps, StepsIn}
+use Rattle.net_actors.specs.Together.{AreActors, Numbered, Steps, StepsIn}
 use Rattle.script_task.specs.Fitting.{fits}
 use Rattle.plain_runner.specs.declared.caller.Caller.{Caller}
 use Rattle.plain_runner.specs.declared.turn.Turn.{Turn}
 use Rattle.plain_runner.specs.Callers.{GoesOn, IsCaller, IsEntryOf, IsTurning}
-use Rattle.plain_runner.specs.Recording.{CanRecord, Comes, DuesOf, OwesAll, Recorded, Records}
+use Rattle.plain_runner.specs.Recording.{Comes, DuesOf, OwesAll, Recorded, Records}
 use Rattle.plain_runner.specs.Turns.{IsReadyTurn}
 use Rattle.plain_runner.proofs.Replies.{one_entry_more}
 
--- What is asked of the step.
+-- The actor.
 
 -- what is ready is there
 has_by : (b : Bool) (o : Option (Step Actor)) → is_some (when b o) ≡ true → b ≡ true
@@ -48,32 +46,6 @@ has_by false o ready = absurd (false≢true ready)
 
 ready_has : (w : World) (h : List Entry) (c : ℕ) (t : Turn) → IsReadyTurn w h c t → has_actor w t.actor ≡ true
 ready_has w h c t ready = has_by (has_actor w t.actor) (table_step w t.actor ((after w h).actors t.actor) (moment w h) t.work) ready.ready
-
-abbrev pub AreSmall : Type 0
-AreSmall = (w : World) (h : List Entry) (a : ActorName) → IsWorld w → IsLegal w h → IsSmall (state w h a)
-
-pub can_step : AreSmall → (c : ℕ) (t : Turn) (k : Caller) (net : Numbered) (ways : List HostWays) (stamp now : ℕ)
-    → CanRecord c t k net ways stamp now → CanStep net t.actor now t.work
-can_step small c t k net ways stamp now can =
-    let w = can.world in
-    let h = can.past in
-    let comes = can.comes in
-    record {
-      world = w;
-      states = (after w h).actors;
-      are = comes.are;
-      has = ready_has w h c t comes.ready;
-      small = small w h t.actor comes.history.world comes.history.legal;
-      ready = subst (λ (m : ℕ). is_some (actor_step w t.actor ((after w h).actors t.actor) m t.work) ≡ true) (sym comes.now_is) comes.ready.ready;
-    }
-
-abbrev pub AreEarly : Type 0
-AreEarly = (w : World) (h : List Entry) → IsWorld w → IsTimed w h → moment w h < 2 ^ 63
-
-pub now_early : AreEarly → (c : ℕ) (t : Turn) (k : Caller) (net : Numbered) (ways : List HostWays) (stamp now : ℕ)
-    → CanRecord c t k net ways stamp now → now < 2 ^ 63
-now_early early c t k net ways stamp now can =
-    subst (λ (m : ℕ). m < 2 ^ 63) (sym can.comes.now_is) (early can.world can.past can.comes.history.world can.comes.history.timed)
 
 -- The net after the entry.
 
