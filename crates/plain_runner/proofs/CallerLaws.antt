@@ -1,5 +1,5 @@
 -- A caller before, while and after its turn is recorded.
-use Rattle.std.proofs.Common.{◌≡◌, ℕ, ◌+◌, ◌-◌, Bool, true, false, List, [], ◌∷◌, ◌++◌, drop, take, length, Option, Some, None, IsSome, is_some, slice_get, refl, sym, ap, subst, ◌∙◌}
+use Rattle.std.proofs.Common.{◌≡◌, ℕ, ◌+◌, ◌-◌, true, false, List, [], ◌∷◌, ◌++◌, drop, take, length, Option, Some, None, IsSome, is_some, slice_get, refl, sym, ap, subst, ◌∙◌}
 use Rattle.std.proofs.lemmas.Bool.{true≢false, false≢true}
 use Rattle.std.proofs.lemmas.Option.{none-some, same_Some}
 use Rattle.net_base.specs.declared.history.Entry.{Entry}
@@ -13,7 +13,7 @@ use Rattle.net_base.specs.Callers.{Caller as Called, IsScript, IsCourier, IsCloc
 use Rattle.net_base.specs.Calm.{is_ready}
 use Rattle.net_base.specs.Duties.{Duty}
 use Rattle.net_base.specs.Legal.{IsAsked, IsNext, asked_by, cites_of}
-use Rattle.net_base.specs.Net.{Net, after, owed, with_of}
+use Rattle.net_base.specs.Net.{after, owed, with_of}
 use Rattle.net_base.specs.Next.{by, finished_by, next, next_of, own_replies}
 use Rattle.net_base.specs.Steps.{Ask, position}
 use Rattle.script_player.specs.Players.{IsAt, Playing, next_after}
@@ -22,9 +22,9 @@ use Rattle.plain_runner.specs.declared.caller.Caller.{Caller}
 use Rattle.plain_runner.specs.declared.caller.Role.{Role}
 use Rattle.plain_runner.specs.declared.caller.Role.TheVariants as role
 use Rattle.plain_runner.specs.declared.turn.Turn.{Turn}
-use Rattle.plain_runner.specs.Callers.{GoesOn, HasRole, IsCaller, IsEntryOf, IsScriptAt, IsTurning, Stands, Turns}
-use Rattle.plain_runner.specs.Turns.{AreOwn, IsOwn, IsTurn, OfDuty, ask_of, asks_of, is_duty_ready, may_turn, may_turn_by}
-use Rattle.plain_runner.proofs.Replies.{before_last, duty_replies, next_replies, one_entry_more}
+use Rattle.plain_runner.specs.Callers.{GoesOn, HasRole, IsCaller, IsEntryOf, IsScriptAt}
+use Rattle.plain_runner.specs.Turns.{AreOwn, IsOwn, IsTurn, OfDuty, ask_of, asks_of, may_turn, may_turn_by}
+use Rattle.plain_runner.proofs.Replies.{before_last, duty_replies, next_replies}
 
 -- What comes next.
 

@@ -1,22 +1,19 @@
 -- A history grows by the entry of a turn.
-use Rattle.std.proofs.Common.{◌≡◌, ℕ, ◌+◌, ◌<◌, ◌^◌, Bool, true, false, List, [], ◌∷◌, ◌++◌, drop, length, Option, Some, None, IsSome, is_some, Vec, refl, sym, ap, subst, ◌∙◌, append_assoc}
-use Rattle.std.proofs.lemmas.Bool.{eq-eqb, true≢false, false≢true}
-use Rattle.std.proofs.lemmas.Option.{none-some, same_Some}
+use Rattle.std.proofs.Common.{◌≡◌, ℕ, ◌+◌, ◌<◌, Bool, true, false, List, [], ◌∷◌, ◌++◌, drop, length, Option, Some, None, IsSome, is_some, Vec, refl, sym, ap, subst, ◌∙◌}
+use Rattle.std.proofs.lemmas.Bool.{eq-eqb, false≢true}
+use Rattle.std.proofs.lemmas.Option.{none-some}
 use Rattle.std.specs.Option.{option_map}
 use Rattle.ip_route.specs.Kept.{HostWays}
 use Rattle.net_base.specs.declared.actor.ActorName.{ActorName}
-use Rattle.net_base.specs.declared.actor.ActorName.TheVariants as name
 use Rattle.net_base.specs.declared.event.Event.{Event}
-use Rattle.net_base.specs.declared.event.Event.TheVariants as event
 use Rattle.net_base.specs.declared.history.Entry.{Entry}
 use Rattle.net_base.specs.declared.history.Outcome.{Outcome}
 use Rattle.net_base.specs.declared.history.With.{With}
 use Rattle.net_base.specs.declared.history.Work.{Work}
-use Rattle.net_base.specs.declared.reply.Reply.{Reply}
 use Rattle.net_base.specs.declared.world.World.{World}
 use Rattle.net_base.specs.ActorStep.{Step, when}
-use Rattle.net_base.specs.Actors.{Actor, actor_step, has_actor, opening_actor, table_step}
-use Rattle.net_base.specs.Callers.{Caller as Called, IsScript, IsCourier, IsClock, IsNobody, caller_of, caller_count}
+use Rattle.net_base.specs.Actors.{Actor, actor_step, has_actor, table_step}
+use Rattle.net_base.specs.Callers.{Caller as Called, caller_of, caller_count}
 use Rattle.net_base.specs.Calm.{most_entries}
 use Rattle.net_base.specs.Duties.{Duty, duties}
 use Rattle.net_base.specs.Legal.{IsNext, IsAsked, MayFollow, Shows, shown_by, cites_of}
@@ -25,15 +22,14 @@ use Rattle.net_base.specs.Next.{by, next}
 use Rattle.net_base.specs.Steps.{Ask}
 use Rattle.duties.specs.declared.due.Due.{Due}
 use Rattle.duties.specs.Owing.{Gives, without_copy}
-use Rattle.duties.specs.Queue.{Adds, Queue}
+use Rattle.duties.specs.Queue.{Queue}
 use Rattle.duties.specs.Showing.{shown_entry, shows}
-use Rattle.duties.specs.WaysOf.{AreWaysOfWorld}
 use Rattle.net_actors.specs.Together.{AreActors, Numbered, Steps, StepsIn}
 use Rattle.script_task.specs.Fitting.{fits}
 use Rattle.plain_runner.specs.declared.caller.Caller.{Caller}
 use Rattle.plain_runner.specs.declared.turn.Turn.{Turn}
-use Rattle.plain_runner.specs.Callers.{GoesOn, IsCaller, IsEntryOf, IsTurning}
-use Rattle.plain_runner.specs.Recording.{Comes, DuesOf, OwesAll, Recorded, Records}
+use Rattle.plain_runner.specs.Callers.{GoesOn, IsCaller, IsEntryOf}
+use Rattle.plain_runner.specs.Recording.{Comes, DuesOf, OwesAll, Records}
 use Rattle.plain_runner.specs.Turns.{IsReadyTurn}
 use Rattle.plain_runner.proofs.Replies.{one_entry_more}
 
