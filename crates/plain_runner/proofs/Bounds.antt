@@ -122,9 +122,9 @@ moment_within grows w h timed = subst (λ (k : List Entry). moment w k ≤ w.end
     up_to (suc k) le =
         let x = one_more_entry h k (omega (arith, le)) in
         let net : after w (take (suc k) h) ≡ next_net w (after w (take k h)) x.0 =
-            subst (λ (past : List Entry). after w past ≡ next_net w (after w (take k h)) x.0) (sym x.2) (grows w (take k h) x.0) in
+        subst (λ (past : List Entry). after w past ≡ next_net w (after w (take k h)) x.0) (sym x.2) (grows w (take k h) x.0) in
         subst (λ (n : Net). n.moment ≤ w.end) (sym net)
-            (step_within w (after w (take k h)) x.0 (step_of w (after w (take k h)) x.0) (timed k x.0 x.1) (up_to k (omega (arith, le))))
+        (step_within w (after w (take k h)) x.0 (step_of w (after w (take k h)) x.0) (timed k x.0 x.1) (up_to k (omega (arith, le))))
 
 pub is_early : Grows → (w : World) (h : List Entry) → IsWorld w → IsTimed w h → moment w h < 2 ^ 63
 is_early grows w h world timed =

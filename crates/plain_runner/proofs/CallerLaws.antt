@@ -189,9 +189,9 @@ script_goes : (w : World) (h : List Entry) (c : ℕ) (s : Script) (p told : Play
 script_goes w h c s p told reply x earlier tells at is =
     let came : next w h c ≡ Some (asked_by x) = subst (λ (k : Called). IsNext k (next w h c) x) (script_is w c s at.is) (is.came_next refl) in
     let more : own_replies (h ++ x ∷ []) c ≡ own_replies h c ++ reply ∷ [] =
-        next_replies h x c is.caller_is is.cites_is ∙ ap (λ (r : Reply). own_replies h c ++ r ∷ []) is.reply_is in
+    next_replies h x c is.caller_is is.cites_is ∙ ap (λ (r : Reply). own_replies h c ++ r ∷ []) is.reply_is in
     subst (λ (rs : List Reply). IsAt s rs told) (sym more)
-        (tells (own_replies h c) (asked_by x) at.at (sym (next_of_script w h c s at.is) ∙ came) is.fitting)
+    (tells (own_replies h c) (asked_by x) at.at (sym (next_of_script w h c s at.is) ∙ came) is.fitting)
 
 -- what a script goes on as
 pub stands_script : (w : World) (h : List Entry) (c : ℕ) (s : Script) (p told asked : Playing) (earlier before : ℕ)
@@ -205,10 +205,9 @@ pub stands_script : (w : World) (h : List Entry) (c : ℕ) (s : Script) (p told 
 stands_script w h c s p told asked earlier before event reply x finished tells nexts same at is =
     let there = script_goes w h c s p told reply x earlier tells at is in
     let more : own_replies (h ++ x ∷ []) c ≡ own_replies h c ++ reply ∷ [] =
-        next_replies h x c is.caller_is is.cites_is ∙ ap (λ (r : Reply). own_replies h c ++ r ∷ []) is.reply_is in
+    next_replies h x c is.caller_is is.cites_is ∙ ap (λ (r : Reply). own_replies h c ++ r ∷ []) is.reply_is in
     let last : take (length (own_replies (h ++ x ∷ []) c) - 1) (own_replies (h ++ x ∷ []) c) ≡ own_replies h c =
-        ap (λ (rs : List Reply). take (length rs - 1) rs) more ∙ before_last (own_replies h c) reply in
-    (
+    ap (λ (rs : List Reply). take (length rs - 1) rs) more ∙ before_last (own_replies h c) reply in (
       record {
         is = at.is;
         at = same (own_replies (h ++ x ∷ []) c) there;
