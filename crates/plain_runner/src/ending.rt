@@ -130,7 +130,8 @@ impl<'a> Runner<'a> {
     }
 
     // The least of a moment and those for which callers wait.
-    fn least_awaited(&self, last: u64) -> u64 {
+    fn least_awaited(&self, last: u64) -> u64
+    {
         let mut least = last;
         for caller in &self.callers {
             if let Some(turn) = &caller.next {
