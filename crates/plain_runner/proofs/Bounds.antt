@@ -1,5 +1,5 @@
 -- A history has few entries, its actors have few works, and its moments are early.
-use Rattle.std.proofs.Common.{◌≡◌, ℕ, zero, suc, ◌+◌, ◌*◌, ◌^◌, ◌<◌, ◌≤◌, ◌==◌, Bool, true, false, List, [], ◌∷◌, ◌++◌, length, take, min, Some, None, slice_get, filter, Option, inl, inr, refl, sym, ap, subst, arith, nat_lt, nat_le, if◌then◌else◌}
+use Rattle.std.proofs.Common.{◌≡◌, ℕ, zero, suc, ◌+◌, ◌*◌, ◌^◌, ◌<◌, ◌≤◌, ◌==◌, Bool, true, false, List, [], ◌∷◌, ◌++◌, length, take, Some, None, slice_get, filter, Option, inl, inr, refl, sym, ap, subst, arith, nat_lt, nat_le}
 use Rattle.std.proofs.lemmas.Bool.{and_parts, lt-ltb, le-ltb, ltb-true, ltb-false, leb-true, eqb-true, eqb-false}
 use Rattle.std.proofs.lemmas.Bool.Decides.{eqb_tells}
 use Rattle.std.proofs.lemmas.List.{take_all}
@@ -10,10 +10,10 @@ use Rattle.net_base.specs.declared.history.Entry.{Entry}
 use Rattle.net_base.specs.declared.world.World.{World}
 use Rattle.net_base.specs.ActorStep.{Step}
 use Rattle.net_base.specs.Actors.{Actor}
-use Rattle.net_base.specs.Calm.{least, target, most_entries}
+use Rattle.net_base.specs.Calm.{least, most_entries}
 use Rattle.net_base.specs.Callers.{caller_count}
 use Rattle.net_base.specs.Legal.{IsLegal, IsTimed, IsInTime}
-use Rattle.net_base.specs.Net.{Net, after, moment, moment_after, net_after, next_net, opening_net, step_of, work_of, works, works_from}
+use Rattle.net_base.specs.Net.{Net, after, moment, moment_after, net_after, next_net, opening_net, step_of, works, works_from}
 use Rattle.net_base.specs.Next.{by}
 use Rattle.net_base.specs.Stamped.{same_actor}
 use Rattle.net_base.specs.World.{IsWorld}
@@ -122,9 +122,9 @@ moment_within grows w h timed = subst (λ (k : List Entry). moment w k ≤ w.end
     up_to (suc k) le =
         let x = one_more_entry h k (omega (arith, le)) in
         let net : after w (take (suc k) h) ≡ next_net w (after w (take k h)) x.0 =
-            subst (λ (past : List Entry). after w past ≡ next_net w (after w (take k h)) x.0) (sym x.2) (grows w (take k h) x.0) in
+        subst (λ (past : List Entry). after w past ≡ next_net w (after w (take k h)) x.0) (sym x.2) (grows w (take k h) x.0) in
         subst (λ (n : Net). n.moment ≤ w.end) (sym net)
-            (step_within w (after w (take k h)) x.0 (step_of w (after w (take k h)) x.0) (timed k x.0 x.1) (up_to k (omega (arith, le))))
+        (step_within w (after w (take k h)) x.0 (step_of w (after w (take k h)) x.0) (timed k x.0 x.1) (up_to k (omega (arith, le))))
 
 pub is_early : Grows → (w : World) (h : List Entry) → IsWorld w → IsTimed w h → moment w h < 2 ^ 63
 is_early grows w h world timed =

@@ -1,5 +1,5 @@
 -- A caller before, while and after its turn is recorded.
-use Rattle.std.proofs.Common.{◌≡◌, ℕ, ◌+◌, ◌-◌, Bool, true, false, List, [], ◌∷◌, ◌++◌, drop, take, length, Option, Some, None, IsSome, is_some, slice_get, refl, sym, ap, subst, ◌∙◌}
+use Rattle.std.proofs.Common.{◌≡◌, ℕ, ◌+◌, ◌-◌, true, false, List, [], ◌∷◌, ◌++◌, drop, take, length, Option, Some, None, IsSome, is_some, slice_get, refl, sym, ap, subst, ◌∙◌}
 use Rattle.std.proofs.lemmas.Bool.{true≢false, false≢true}
 use Rattle.std.proofs.lemmas.Option.{none-some, same_Some}
 use Rattle.net_base.specs.declared.history.Entry.{Entry}
@@ -13,7 +13,7 @@ use Rattle.net_base.specs.Callers.{Caller as Called, IsScript, IsCourier, IsCloc
 use Rattle.net_base.specs.Calm.{is_ready}
 use Rattle.net_base.specs.Duties.{Duty}
 use Rattle.net_base.specs.Legal.{IsAsked, IsNext, asked_by, cites_of}
-use Rattle.net_base.specs.Net.{Net, after, owed, with_of}
+use Rattle.net_base.specs.Net.{after, owed, with_of}
 use Rattle.net_base.specs.Next.{by, finished_by, next, next_of, own_replies}
 use Rattle.net_base.specs.Steps.{Ask, position}
 use Rattle.script_player.specs.Players.{IsAt, Playing, next_after}
@@ -22,9 +22,9 @@ use Rattle.plain_runner.specs.declared.caller.Caller.{Caller}
 use Rattle.plain_runner.specs.declared.caller.Role.{Role}
 use Rattle.plain_runner.specs.declared.caller.Role.TheVariants as role
 use Rattle.plain_runner.specs.declared.turn.Turn.{Turn}
-use Rattle.plain_runner.specs.Callers.{GoesOn, HasRole, IsCaller, IsEntryOf, IsScriptAt, IsTurning, Stands, Turns}
-use Rattle.plain_runner.specs.Turns.{AreOwn, IsOwn, IsTurn, OfDuty, ask_of, asks_of, is_duty_ready, may_turn, may_turn_by}
-use Rattle.plain_runner.proofs.Replies.{before_last, duty_replies, next_replies, one_entry_more}
+use Rattle.plain_runner.specs.Callers.{GoesOn, HasRole, IsCaller, IsEntryOf, IsScriptAt}
+use Rattle.plain_runner.specs.Turns.{AreOwn, IsOwn, IsTurn, OfDuty, ask_of, asks_of, may_turn, may_turn_by}
+use Rattle.plain_runner.proofs.Replies.{before_last, duty_replies, next_replies}
 
 -- What comes next.
 
@@ -189,9 +189,9 @@ script_goes : (w : World) (h : List Entry) (c : ℕ) (s : Script) (p told : Play
 script_goes w h c s p told reply x earlier tells at is =
     let came : next w h c ≡ Some (asked_by x) = subst (λ (k : Called). IsNext k (next w h c) x) (script_is w c s at.is) (is.came_next refl) in
     let more : own_replies (h ++ x ∷ []) c ≡ own_replies h c ++ reply ∷ [] =
-        next_replies h x c is.caller_is is.cites_is ∙ ap (λ (r : Reply). own_replies h c ++ r ∷ []) is.reply_is in
+    next_replies h x c is.caller_is is.cites_is ∙ ap (λ (r : Reply). own_replies h c ++ r ∷ []) is.reply_is in
     subst (λ (rs : List Reply). IsAt s rs told) (sym more)
-        (tells (own_replies h c) (asked_by x) at.at (sym (next_of_script w h c s at.is) ∙ came) is.fitting)
+    (tells (own_replies h c) (asked_by x) at.at (sym (next_of_script w h c s at.is) ∙ came) is.fitting)
 
 -- what a script goes on as
 pub stands_script : (w : World) (h : List Entry) (c : ℕ) (s : Script) (p told asked : Playing) (earlier before : ℕ)
@@ -205,10 +205,9 @@ pub stands_script : (w : World) (h : List Entry) (c : ℕ) (s : Script) (p told 
 stands_script w h c s p told asked earlier before event reply x finished tells nexts same at is =
     let there = script_goes w h c s p told reply x earlier tells at is in
     let more : own_replies (h ++ x ∷ []) c ≡ own_replies h c ++ reply ∷ [] =
-        next_replies h x c is.caller_is is.cites_is ∙ ap (λ (r : Reply). own_replies h c ++ r ∷ []) is.reply_is in
+    next_replies h x c is.caller_is is.cites_is ∙ ap (λ (r : Reply). own_replies h c ++ r ∷ []) is.reply_is in
     let last : take (length (own_replies (h ++ x ∷ []) c) - 1) (own_replies (h ++ x ∷ []) c) ≡ own_replies h c =
-        ap (λ (rs : List Reply). take (length rs - 1) rs) more ∙ before_last (own_replies h c) reply in
-    (
+    ap (λ (rs : List Reply). take (length rs - 1) rs) more ∙ before_last (own_replies h c) reply in (
       record {
         is = at.is;
         at = same (own_replies (h ++ x ∷ []) c) there;

@@ -1,45 +1,39 @@
 -- A history grows by the entry of a turn.
-use Rattle.std.proofs.Common.{◌≡◌, ℕ, ◌+◌, ◌<◌, ◌^◌, Bool, true, false, List, [], ◌∷◌, ◌++◌, drop, length, Option, Some, None, IsSome, is_some, Vec, refl, sym, ap, subst, ◌∙◌, append_assoc}
-use Rattle.std.proofs.lemmas.Bool.{eq-eqb, true≢false, false≢true}
-use Rattle.std.proofs.lemmas.Option.{none-some, same_Some}
+use Rattle.std.proofs.Common.{◌≡◌, ℕ, ◌+◌, ◌<◌, Bool, true, false, List, [], ◌∷◌, ◌++◌, drop, length, Option, Some, None, IsSome, is_some, Vec, refl, sym, ap, subst, ◌∙◌}
+use Rattle.std.proofs.lemmas.Bool.{eq-eqb, false≢true}
+use Rattle.std.proofs.lemmas.Option.{none-some}
 use Rattle.std.specs.Option.{option_map}
 use Rattle.ip_route.specs.Kept.{HostWays}
 use Rattle.net_base.specs.declared.actor.ActorName.{ActorName}
-use Rattle.net_base.specs.declared.actor.ActorName.TheVariants as name
 use Rattle.net_base.specs.declared.event.Event.{Event}
-use Rattle.net_base.specs.declared.event.Event.TheVariants as event
 use Rattle.net_base.specs.declared.history.Entry.{Entry}
 use Rattle.net_base.specs.declared.history.Outcome.{Outcome}
 use Rattle.net_base.specs.declared.history.With.{With}
 use Rattle.net_base.specs.declared.history.Work.{Work}
-use Rattle.net_base.specs.declared.reply.Reply.{Reply}
 use Rattle.net_base.specs.declared.world.World.{World}
 use Rattle.net_base.specs.ActorStep.{Step, when}
-use Rattle.net_base.specs.Actors.{Actor, actor_step, has_actor, opening_actor, table_step}
-use Rattle.net_base.specs.Callers.{Caller as Called, IsScript, IsCourier, IsClock, IsNobody, caller_of, caller_count}
+use Rattle.net_base.specs.Actors.{Actor, actor_step, has_actor, table_step}
+use Rattle.net_base.specs.Callers.{Caller as Called, caller_of, caller_count}
 use Rattle.net_base.specs.Calm.{most_entries}
 use Rattle.net_base.specs.Duties.{Duty, duties}
-use Rattle.net_base.specs.Legal.{IsLegal, IsTimed, IsMove, IsNext, IsAsked, MayFollow, Shows, shown_by, cites_of}
-use Rattle.net_base.specs.Net.{Net, Play, actors_after, after, moment, net_after, next_net, owed, owed_after, outcome_in, played, state, step_of, with_of, work_of, works}
+use Rattle.net_base.specs.Legal.{IsNext, IsAsked, MayFollow, Shows, shown_by, cites_of}
+use Rattle.net_base.specs.Net.{Net, actors_after, after, moment, net_after, next_net, owed, owed_after, outcome_in, step_of, with_of, work_of}
 use Rattle.net_base.specs.Next.{by, next}
 use Rattle.net_base.specs.Steps.{Ask}
-use Rattle.net_base.specs.World.{IsWorld}
 use Rattle.duties.specs.declared.due.Due.{Due}
 use Rattle.duties.specs.Owing.{Gives, without_copy}
-use Rattle.duties.specs.Queue.{Adds, Queue}
+use Rattle.duties.specs.Queue.{Queue}
 use Rattle.duties.specs.Showing.{shown_entry, shows}
-use Rattle.duties.specs.WaysOf.{AreWaysOfWorld}
-use Rattle.net_actors.specs.Small.{IsSmall}
-use Rattle.net_actors.specs.Together.{AreActors, CanStep, Numbered, Steps, StepsIn}
+use Rattle.net_actors.specs.Together.{AreActors, Numbered, Steps, StepsIn}
 use Rattle.script_task.specs.Fitting.{fits}
 use Rattle.plain_runner.specs.declared.caller.Caller.{Caller}
 use Rattle.plain_runner.specs.declared.turn.Turn.{Turn}
-use Rattle.plain_runner.specs.Callers.{GoesOn, IsCaller, IsEntryOf, IsTurning}
-use Rattle.plain_runner.specs.Recording.{CanRecord, Comes, DuesOf, OwesAll, Recorded, Records}
+use Rattle.plain_runner.specs.Callers.{GoesOn, IsCaller, IsEntryOf}
+use Rattle.plain_runner.specs.Recording.{Comes, DuesOf, OwesAll, Records}
 use Rattle.plain_runner.specs.Turns.{IsReadyTurn}
 use Rattle.plain_runner.proofs.Replies.{one_entry_more}
 
--- What is asked of the step.
+-- The actor.
 
 -- what is ready is there
 has_by : (b : Bool) (o : Option (Step Actor)) → is_some (when b o) ≡ true → b ≡ true
@@ -48,32 +42,6 @@ has_by false o ready = absurd (false≢true ready)
 
 ready_has : (w : World) (h : List Entry) (c : ℕ) (t : Turn) → IsReadyTurn w h c t → has_actor w t.actor ≡ true
 ready_has w h c t ready = has_by (has_actor w t.actor) (table_step w t.actor ((after w h).actors t.actor) (moment w h) t.work) ready.ready
-
-abbrev pub AreSmall : Type 0
-AreSmall = (w : World) (h : List Entry) (a : ActorName) → IsWorld w → IsLegal w h → IsSmall (state w h a)
-
-pub can_step : AreSmall → (c : ℕ) (t : Turn) (k : Caller) (net : Numbered) (ways : List HostWays) (stamp now : ℕ)
-    → CanRecord c t k net ways stamp now → CanStep net t.actor now t.work
-can_step small c t k net ways stamp now can =
-    let w = can.world in
-    let h = can.past in
-    let comes = can.comes in
-    record {
-      world = w;
-      states = (after w h).actors;
-      are = comes.are;
-      has = ready_has w h c t comes.ready;
-      small = small w h t.actor comes.history.world comes.history.legal;
-      ready = subst (λ (m : ℕ). is_some (actor_step w t.actor ((after w h).actors t.actor) m t.work) ≡ true) (sym comes.now_is) comes.ready.ready;
-    }
-
-abbrev pub AreEarly : Type 0
-AreEarly = (w : World) (h : List Entry) → IsWorld w → IsTimed w h → moment w h < 2 ^ 63
-
-pub now_early : AreEarly → (c : ℕ) (t : Turn) (k : Caller) (net : Numbered) (ways : List HostWays) (stamp now : ℕ)
-    → CanRecord c t k net ways stamp now → now < 2 ^ 63
-now_early early c t k net ways stamp now can =
-    subst (λ (m : ℕ). m < 2 ^ 63) (sym can.comes.now_is) (early can.world can.past can.comes.history.world can.comes.history.timed)
 
 -- The net after the entry.
 
@@ -100,9 +68,9 @@ stepped : (w : World) (h : List Entry) (c : ℕ) (t : Turn) (k : Caller) (net : 
     → IsStepped w h c t o s x
 stepped w h c t k net ways stamp now o s x comes caller actor event step =
     let work : work_of (after w h) x ≡ t.work =
-        ap (λ (e : Event). record { event = e; with = with_of ((after w h).owed x.caller) }) event
-        ∙ ap (λ (d : ℕ). record { event = t.work.event; with = with_of ((after w h).owed d) }) caller
-        ∙ ap (λ (g : With). record { event = t.work.event; with = g }) (sym comes.ready.turn.given) in
+    ap (λ (e : Event). record { event = e; with = with_of ((after w h).owed x.caller) }) event
+    ∙ ap (λ (d : ℕ). record { event = t.work.event; with = with_of ((after w h).owed d) }) caller
+    ∙ ap (λ (g : With). record { event = t.work.event; with = g }) (sym comes.ready.turn.given) in
     record {
       step =
           ap (λ (a : ActorName). actor_step w a ((after w h).actors a) (after w h).moment (work_of (after w h) x)) actor
@@ -128,102 +96,102 @@ module _ {Z : Type 0} (grows : Grows) (pasts : HavePasts) (replies : RepliesFit)
     (goes : GoesOn (record old { owed = owed_new }) new t.cites o.reply)
     (entry_is : x ≡ shown_entry t.actor c now t.cites (shows t.work.event (without_copy o)))
   where
-  caller_so : x.caller ≡ c
-  caller_so = ap (λ (y : Entry). y.caller) entry_is
+    caller_so : x.caller ≡ c
+    caller_so = ap (λ (y : Entry). y.caller) entry_is
 
-  actor_so : x.actor ≡ t.actor
-  actor_so = ap (λ (y : Entry). y.actor) entry_is
+    actor_so : x.actor ≡ t.actor
+    actor_so = ap (λ (y : Entry). y.actor) entry_is
 
-  event_so : x.event ≡ t.work.event
-  event_so = ap (λ (y : Entry). y.event) entry_is
+    event_so : x.event ≡ t.work.event
+    event_so = ap (λ (y : Entry). y.event) entry_is
 
-  -- the step in a world
-  stepped_in : (w : World) (h : List Entry) → Comes w h c t old net ways stamp now → StepsIn w (after w h).actors net_new t.actor now t.work o
-  stepped_in w h comes = steps w (after w h).actors comes.are (ready_has w h c t comes.ready)
+    -- the step in a world
+    stepped_in : (w : World) (h : List Entry) → Comes w h c t old net ways stamp now → StepsIn w (after w h).actors net_new t.actor now t.work o
+    stepped_in w h comes = steps w (after w h).actors comes.are (ready_has w h c t comes.ready)
 
-  step_so : (w : World) (h : List Entry) (comes : Comes w h c t old net ways stamp now) → IsStepped w h c t o (stepped_in w h comes).state x
-  step_so w h comes = stepped w h c t old net ways stamp now o (stepped_in w h comes).state x comes caller_so actor_so event_so (stepped_in w h comes).step
+    step_so : (w : World) (h : List Entry) (comes : Comes w h c t old net ways stamp now) → IsStepped w h c t o (stepped_in w h comes).state x
+    step_so w h comes = stepped w h c t old net ways stamp now o (stepped_in w h comes).state x comes caller_so actor_so event_so (stepped_in w h comes).step
 
-  after_so : (w : World) (h : List Entry) (comes : Comes w h c t old net ways stamp now)
-      → after w (h ++ x ∷ []) ≡ net_after w (after w h) x (Some (record { state = (stepped_in w h comes).state; outcome = o }))
-  after_so w h comes = grows w h x ∙ ap (net_after w (after w h) x) (step_so w h comes).step
+    after_so : (w : World) (h : List Entry) (comes : Comes w h c t old net ways stamp now)
+        → after w (h ++ x ∷ []) ≡ net_after w (after w h) x (Some (record { state = (stepped_in w h comes).state; outcome = o }))
+    after_so w h comes = grows w h x ∙ ap (net_after w (after w h) x) (step_so w h comes).step
 
-  outcome_so : (w : World) (h : List Entry) → Comes w h c t old net ways stamp now → outcome_in w (after w h) x ≡ Some o
-  outcome_so w h comes = ap (option_map (λ (s : Step Actor). s.outcome)) (step_so w h comes).step
+    outcome_so : (w : World) (h : List Entry) → Comes w h c t old net ways stamp now → outcome_in w (after w h) x ≡ Some o
+    outcome_so w h comes = ap (option_map (λ (s : Step Actor). s.outcome)) (step_so w h comes).step
 
-  follows_so : (w : World) (h : List Entry) → Comes w h c t old net ways stamp now → MayFollow w h x
-  follows_so w h comes =
-      record {
-        answers = subst (λ (p : Option Outcome). Shows p x) (sym (outcome_so w h comes)) (ap shown_by entry_is);
-        at_moment = ap (λ (y : Entry). y.moment) entry_is ∙ comes.now_is;
-        cites = ap (λ (y : Entry). y.cites) entry_is ∙ comes.ready.turn.cited ∙ ap (λ (e : ℕ). cites_of (owed w h e)) (sym caller_so);
-        is_asked = subst (λ (e : ℕ). IsAsked (owed w h e) (caller_of w e) (next w h e) x) (sym caller_so) (comes.ready.turn.asked x actor_so event_so);
-        is_ready = subst (λ (p : Option Outcome). IsSome p) (sym (outcome_so w h comes)) refl;
-        is_known = (
-          subst (λ (a : ActorName). has_actor w a ≡ true) (sym actor_so) (ready_has w h c t comes.ready),
-          subst (λ (e : ℕ). e < caller_count w) (sym caller_so) comes.ready.known,
-        );
-        has_room = subst (λ (e : ℕ). length (by h e) < most_entries) (sym caller_so) comes.ready.room;
-      }
+    follows_so : (w : World) (h : List Entry) → Comes w h c t old net ways stamp now → MayFollow w h x
+    follows_so w h comes =
+        record {
+          answers = subst (λ (p : Option Outcome). Shows p x) (sym (outcome_so w h comes)) (ap shown_by entry_is);
+          at_moment = ap (λ (y : Entry). y.moment) entry_is ∙ comes.now_is;
+          cites = ap (λ (y : Entry). y.cites) entry_is ∙ comes.ready.turn.cited ∙ ap (λ (e : ℕ). cites_of (owed w h e)) (sym caller_so);
+          is_asked = subst (λ (e : ℕ). IsAsked (owed w h e) (caller_of w e) (next w h e) x) (sym caller_so) (comes.ready.turn.asked x actor_so event_so);
+          is_ready = subst (λ (p : Option Outcome). IsSome p) (sym (outcome_so w h comes)) refl;
+          is_known = (
+            subst (λ (a : ActorName). has_actor w a ≡ true) (sym actor_so) (ready_has w h c t comes.ready),
+            subst (λ (e : ℕ). e < caller_count w) (sym caller_so) comes.ready.known,
+          );
+          has_room = subst (λ (e : ℕ). length (by h e) < most_entries) (sym caller_so) comes.ready.room;
+        }
 
-  is_entry : (w : World) (h : List Entry) → Comes w h c t old net ways stamp now → IsEntryOf w h c t.cites o.reply x
-  is_entry w h comes =
-      record {
-        caller_is = caller_so;
-        cites_is = ap (λ (y : Entry). y.cites) entry_is;
-        reply_is = ap (λ (y : Entry). y.reply) entry_is;
-        fitting = ap (λ (e : Event). fits e o.reply) event_so ∙ replies w h t.actor now t.work _ (stepped_in w h comes).step;
-        came_next = λ none. came_by (caller_of w c) (next w h c) (owed w h c) x (sym comes.ready.turn.cited ∙ none)
-            (comes.ready.turn.asked x actor_so event_so);
-      }
+    is_entry : (w : World) (h : List Entry) → Comes w h c t old net ways stamp now → IsEntryOf w h c t.cites o.reply x
+    is_entry w h comes =
+        record {
+          caller_is = caller_so;
+          cites_is = ap (λ (y : Entry). y.cites) entry_is;
+          reply_is = ap (λ (y : Entry). y.reply) entry_is;
+          fitting = ap (λ (e : Event). fits e o.reply) event_so ∙ replies w h t.actor now t.work _ (stepped_in w h comes).step;
+          came_next = λ none. came_by (caller_of w c) (next w h c) (owed w h c) x (sym comes.ready.turn.cited ∙ none)
+              (comes.ready.turn.asked x actor_so event_so);
+        }
 
-  -- what it owes then
-  new_duties : (w : World) (h : List Entry) (comes : Comes w h c t old net ways stamp now)
-      → duties w (after w h).actors t.actor stamp t.work (record { state = (stepped_in w h comes).state; outcome = o })
-      ≡ duties w (after w h).actors x.actor (length (after w h).past) (work_of (after w h) x)
-          (record { state = (stepped_in w h comes).state; outcome = o })
-  new_duties w h comes =
-      let s : Step Actor = record { state = (stepped_in w h comes).state; outcome = o } in
-      ap (λ (a : ActorName). duties w (after w h).actors a stamp t.work s) (sym actor_so)
-      ∙ ap (λ (n : ℕ). duties w (after w h).actors x.actor n t.work s) (comes.stamp_is ∙ ap length (sym (pasts w h)))
-      ∙ ap (λ (work : Work). duties w (after w h).actors x.actor (length (after w h).past) work s) (sym (step_so w h comes).work)
+    -- what it owes then
+    new_duties : (w : World) (h : List Entry) (comes : Comes w h c t old net ways stamp now)
+        → duties w (after w h).actors t.actor stamp t.work (record { state = (stepped_in w h comes).state; outcome = o })
+        ≡ duties w (after w h).actors x.actor (length (after w h).past) (work_of (after w h) x)
+        (record { state = (stepped_in w h comes).state; outcome = o })
+    new_duties w h comes =
+        let s : Step Actor = record { state = (stepped_in w h comes).state; outcome = o } in
+        ap (λ (a : ActorName). duties w (after w h).actors a stamp t.work s) (sym actor_so)
+        ∙ ap (λ (n : ℕ). duties w (after w h).actors x.actor n t.work s) (comes.stamp_is ∙ ap length (sym (pasts w h)))
+        ∙ ap (λ (work : Work). duties w (after w h).actors x.actor (length (after w h).past) work s) (sym (step_so w h comes).work)
 
-  owes_so : (w : World) (h : List Entry) → Comes w h c t old net ways stamp now → new.owed.list ≡ owed w (h ++ x ∷ []) c
-  owes_so w h comes =
-      let s : Step Actor = record { state = (stepped_in w h comes).state; outcome = o } in
-      let gives : Gives w t.actor t.work (without_copy o) s =
-          record { before = (after w h).actors t.actor; now = now; gives = (stepped_in w h comes).step; outcome = refl } in
-      let adds : owed_new.list ≡ old.owed.list ++ duties w (after w h).actors t.actor stamp t.work s =
-          owes_all w (after w h).actors s comes.ways_are (dues w (after w h).actors comes.are) gives in
-      ap (λ (q : Queue). q.list) goes.owed_stays
-      ∙ adds
-      ∙ ap (λ (ds : List Duty). ds ++ duties w (after w h).actors t.actor stamp t.work s) comes.turning.owes
-      ∙ ap (λ (ds : List Duty). drop 1 (owed w h c) ++ ds) (new_duties w h comes)
-      ∙ sym (own_owed (after w h).owed x.caller c (duties w (after w h).actors x.actor (length (after w h).past) (work_of (after w h) x) s) caller_so)
-      ∙ sym (ap (λ (n : Net). n.owed c) (after_so w h comes))
+    owes_so : (w : World) (h : List Entry) → Comes w h c t old net ways stamp now → new.owed.list ≡ owed w (h ++ x ∷ []) c
+    owes_so w h comes =
+        let s : Step Actor = record { state = (stepped_in w h comes).state; outcome = o } in
+        let gives : Gives w t.actor t.work (without_copy o) s =
+        record { before = (after w h).actors t.actor; now = now; gives = (stepped_in w h comes).step; outcome = refl } in
+        let adds : owed_new.list ≡ old.owed.list ++ duties w (after w h).actors t.actor stamp t.work s =
+        owes_all w (after w h).actors s comes.ways_are (dues w (after w h).actors comes.are) gives in
+        ap (λ (q : Queue). q.list) goes.owed_stays
+        ∙ adds
+        ∙ ap (λ (ds : List Duty). ds ++ duties w (after w h).actors t.actor stamp t.work s) comes.turning.owes
+        ∙ ap (λ (ds : List Duty). drop 1 (owed w h c) ++ ds) (new_duties w h comes)
+        ∙ sym (own_owed (after w h).owed x.caller c (duties w (after w h).actors x.actor (length (after w h).past) (work_of (after w h) x) s) caller_so)
+        ∙ sym (ap (λ (n : Net). n.owed c) (after_so w h comes))
 
-  kept_so : (w : World) (h : List Entry) → Comes w h c t old net ways stamp now → IsCaller w (h ++ x ∷ []) c new
-  kept_so w h comes =
-      let turns = comes.turning.turns in
-      record {
-        stands = goes.goes w h c x (record { role_is = turns.role_is; next_is = turns.next_is; own = turns.own }) (is_entry w h comes);
-        owes = owes_so w h comes;
-        entries_is = goes.entries_is ∙ ap (λ (n : ℕ). n + 1) comes.turning.entries_is ∙ sym (one_entry_more h x c caller_so);
-      }
+    kept_so : (w : World) (h : List Entry) → Comes w h c t old net ways stamp now → IsCaller w (h ++ x ∷ []) c new
+    kept_so w h comes =
+        let turns = comes.turning.turns in
+        record {
+          stands = goes.goes w h c x (record { role_is = turns.role_is; next_is = turns.next_is; own = turns.own }) (is_entry w h comes);
+          owes = owes_so w h comes;
+          entries_is = goes.entries_is ∙ ap (λ (n : ℕ). n + 1) comes.turning.entries_is ∙ sym (one_entry_more h x c caller_so);
+        }
 
-  are_so : (w : World) (h : List Entry) → Comes w h c t old net ways stamp now → AreActors w net_new (after w (h ++ x ∷ [])).actors
-  are_so w h comes =
-      subst (λ (n : Net). AreActors w net_new n.actors) (sym (after_so w h comes))
-      (subst (λ (a : ActorName). AreActors w net_new (actors_after (after w h).actors a (stepped_in w h comes).state)) (sym actor_so)
-          (stepped_in w h comes).are)
+    are_so : (w : World) (h : List Entry) → Comes w h c t old net ways stamp now → AreActors w net_new (after w (h ++ x ∷ [])).actors
+    are_so w h comes =
+        subst (λ (n : Net). AreActors w net_new n.actors) (sym (after_so w h comes))
+        (subst (λ (a : ActorName). AreActors w net_new (actors_after (after w h).actors a (stepped_in w h comes).state)) (sym actor_so)
+        (stepped_in w h comes).are)
 
-  pub records_so : Records c t old new net net_new ways stamp now x
-  records_so = λ w h comes.
-      record {
-        follows = follows_so w h comes;
-        caller_is = caller_so;
-        actor_is = actor_so;
-        event_is = event_so;
-        kept = kept_so w h comes;
-        are = are_so w h comes;
-      }
+    pub records_so : Records c t old new net net_new ways stamp now x
+    records_so = λ w h comes.
+        record {
+          follows = follows_so w h comes;
+          caller_is = caller_so;
+          actor_is = actor_so;
+          event_is = event_so;
+          kept = kept_so w h comes;
+          are = are_so w h comes;
+        }

@@ -1,5 +1,5 @@
 -- The entries of a caller, and the replies to its own events, with an entry more.
-use Rattle.std.proofs.Common.{◌≡◌, ℕ, suc, ◌+◌, ◌-◌, ◌==◌, Bool, true, false, List, [], ◌∷◌, ◌++◌, length, take, map, filter, Option, Some, None, is_none, refl, sym, ap, ◌∙◌, arith, append-nil, length-append}
+use Rattle.std.proofs.Common.{◌≡◌, ℕ, ◌+◌, ◌-◌, ◌==◌, List, [], ◌∷◌, ◌++◌, length, take, map, filter, Some, None, is_none, refl, ap, ◌∙◌, arith, append-nil, length-append}
 use Rattle.std.proofs.lemmas.Bool.{eq-eqb}
 use Rattle.std.proofs.lemmas.List.{map-append, take_at}
 use Rattle.std.proofs.lemmas.List.Elements.{filter-append}
@@ -21,7 +21,7 @@ pub duty_replies : (h : List Entry) (x : Entry) (c n : ℕ) → x.caller ≡ c �
 duty_replies h x c n is cites =
     ap own_of (own_entry h x c is)
     ∙ ap (λ (xs : List Entry). map (λ (y : Entry). y.reply) xs)
-        (filter-append (λ (y : Entry). is_none y.cites) (by h c) (x ∷ []) ∙ rw cites (append-nil (filter (λ (y : Entry). is_none y.cites) (by h c))))
+    (filter-append (λ (y : Entry). is_none y.cites) (by h c) (x ∷ []) ∙ rw cites (append-nil (filter (λ (y : Entry). is_none y.cites) (by h c))))
 
 -- an own one
 pub next_replies : (h : List Entry) (x : Entry) (c : ℕ) → x.caller ≡ c → x.cites ≡ None → own_replies (h ++ x ∷ []) c ≡ own_replies h c ++ x.reply ∷ []

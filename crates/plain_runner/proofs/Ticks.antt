@@ -1,5 +1,5 @@
 -- What a turn owes: the ticks of a move, or what its step owes.
-use Rattle.std.proofs.Common.{◌≡◌, ℕ, List, ◌++◌, Option, Some, None, Vec, Result, Ok, Err, OnOk, refl, sym, ap, subst, ◌∙◌}
+use Rattle.std.proofs.Common.{◌≡◌, ℕ, List, Some, Vec, Result, Ok, Err, OnOk, refl, sym, ap, subst, ◌∙◌}
 use Rattle.ip_route.specs.Kept.{HostWays}
 use Rattle.net_base.specs.declared.actor.ActorName.{ActorName}
 use Rattle.net_base.specs.declared.actor.ActorName.TheVariants as name
@@ -14,11 +14,9 @@ use Rattle.net_base.specs.Actors.{Actor, actor_step}
 use Rattle.net_base.specs.Duties.{Duty, duties}
 use Rattle.net_base.specs.Legal.{IsMove}
 use Rattle.duties.specs.declared.due.Due.{Due}
-use Rattle.duties.specs.Owing.{Gives}
 use Rattle.duties.specs.Queue.{Adds, Queue}
 use Rattle.duties.specs.Ticking.{MoveOwes, dues_of, ticks_of}
-use Rattle.duties.specs.WaysOf.{AreWaysOfWorld}
-use Rattle.plain_runner.specs.Recording.{DuesOf, OwesAll}
+use Rattle.plain_runner.specs.Recording.{OwesAll}
 
 -- moves owe their ticks
 abbrev pub MovesOwe : Type 0

@@ -78,5 +78,5 @@ pub record GoesOn (old new : Caller) (cites : Option ℕ) (reply : Reply) : Type
   pub owed_stays : new.owed ≡ old.owed
   pub entries_is : new.entries ≡ old.entries + 1
   pub goes :
-    (w : World) (h : List Entry) (c : ℕ) (x : Entry)
-    → Turns w h c cites old → IsEntryOf w h c cites reply x → Stands w (h ++ x ∷ []) c new
+      (w : World) (h : List Entry) (c : ℕ) (x : Entry)
+      → Turns w h c cites old → IsEntryOf w h c cites reply x → Stands w (h ++ x ∷ []) c new

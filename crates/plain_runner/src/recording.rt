@@ -12,8 +12,8 @@ ghost use Rattle.net_actors.specs.Together.{AreActors};
 ghost use Rattle.plain_runner.specs.Recording.{CanRecord, DuesOf, OwesAll, Records};
 
 use crate::caller::Caller;
-use crate::turn::Turn;
 use crate::law::histories_are_short;
+use crate::turn::Turn;
 use duties::{Due, Duties, Shown, WorldWays, a_move_owes_its_ticks, entry_of, most_owed};
 use history_laws::histories_grow;
 use net_actors::Actors;

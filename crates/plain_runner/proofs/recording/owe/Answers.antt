@@ -15,7 +15,7 @@ returns-in-Some-clause-owes c =
     (OwesAll c.args.ways.now c.args.actor c.args.stamp c.args.work c.args.outcome c.args.dues c.args.owed.now c.owe_ticks.new.owed)
     (λ adds.
     subst (λ (o : _). OwesAll c.args.ways.now c.args.actor c.args.stamp c.args.work c.args.outcome o c.args.owed.now c.owe_ticks.new.owed)
-        (sym c.in-Some.is)
+    (sym c.in-Some.is)
     (move_owes c.a_move_owes_its_ticks.ensures c.args.ways.now c.args.actor c.args.stamp c.args.work c.args.outcome c.in-Some.dues
     c.args.owed.now c.owe_ticks.new.owed
     (λ m is. subst (λ (ds : List Due). Adds c.args.owed.now c.owe_ticks.new.owed (ticks_of c.args.stamp m ds)) c.deref.ensures.value (adds m is))))

@@ -16,7 +16,7 @@ pub returns-in-Some-next : goal.returns-in-Some-next
 returns-in-Some-next c = λ w h number kept are now_is.
     let none : slice_get c.args.self.now.owed.list 0 ≡ None = cc in
     c.ready-in-Some-next.ensures w (after w h).actors are
-        ∙ may_own w h number c.args.self.now c.in-Some-next.turn c.args.now (c.histories_grow.ensures.past w h) kept none c.in-Some-next.is now_is
+    ∙ may_own w h number c.args.self.now c.in-Some-next.turn c.args.now (c.histories_grow.ensures.past w h) kept none c.in-Some-next.is now_is
 
 pub returns-in-None : goal.returns-in-None
 returns-in-None c = λ w h number kept are now_is.
