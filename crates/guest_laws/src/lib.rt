@@ -1,0 +1,10 @@
+//! Laws of histories whose entries stand with their works, and of the guests that know a part of one.
+#![tactic(auto)]
+
+mod law;
+
+pub use law::{
+    an_own_entry_is_gained, guests_hand_over, guests_look, guests_meet, guests_record,
+    guests_stay_by_others, histories_of_guests_are_legal, locks_keep_actors, moves_are_the_clocks,
+    nets_of_works_grow, others_leave_a_caller, turns_are_these,
+};
