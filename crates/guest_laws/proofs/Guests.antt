@@ -1,5 +1,5 @@
 -- A guest stays one: over what its pass has seen more, and over an entry of its own.
-use Rattle.std.proofs.Common.{◌≡◌, ℕ, suc, ◌==◌, Bool, true, List, [], ◌∷◌, ◌++◌, length, map, drop, Option, Some, None, if◌then◌else◌, refl, ap, sym, subst, ◌∙◌, arith}
+use Rattle.std.proofs.Common.{◌≡◌, ℕ, suc, ◌<◌, ◌==◌, Bool, true, List, [], ◌∷◌, ◌++◌, length, map, drop, Option, Some, None, if◌then◌else◌, refl, ap, sym, subst, ◌∙◌, arith}
 use Rattle.std.proofs.lemmas.Bool.Decides.{nat_tests}
 use Rattle.std.proofs.lemmas.Option.{none-some, same_Some}
 use Rattle.std.specs.Option.{option_map}
@@ -148,3 +148,20 @@ module _ (still : LaterStands) (state_is : (w : World) (log : List Noted) (a : A
     nexts = λ asked before. subst (λ (l : List Noted). AreNext w c l) (sym d.seen) ((gains w c d.past the).nexts (stands.nexts before) (is_next asked));
     timely = λ timely before. subst (λ (l : List Noted). AreTimely w c l) (sym d.seen) ((gains w c d.past the).timely (stands.timely before) timely);
   }
+
+-- nothing was seen
+pub begins : (w : World) (r : Roster) (c : ℕ) (p : Sight) → c < r.callers → p.seen ≡ [] → In (number.Caller c, []) p.held → IsGuest w r c p []
+begins w r c p lt none held = record {
+  list = [];
+  held = held;
+  all = ap (at (number.Caller c)) none;
+  known = lt;
+  owed = ap (λ (l : List Noted). owed_in w l c) none;
+  turns = subst (λ (l : List Noted). AreTurns w c l) (sym none) tt;
+}
+
+pub no_nexts : (w : World) (c : ℕ) (log : List Noted) → log ≡ [] → AreNext w c log
+no_nexts w c log none = subst (λ (l : List Noted). AreNext w c l) (sym none) tt
+
+pub no_moves : (w : World) (c : ℕ) (log : List Noted) → log ≡ [] → AreTimely w c log
+no_moves w c log none = subst (λ (l : List Noted). AreTimely w c l) (sym none) tt

@@ -86,6 +86,14 @@ pub fn turns_are_these()
         → IsTurn w c p [] name.Clock (record { event = event.Move m; with = given.Nothing }) None }
 {}
 
+/// A caller whose pass has seen nothing is a guest that owes nothing, and all of its entries are as they should be.
+pub fn guests_begin()
+    ensures guest { (w : World) (r : Roster) (c : ℕ) (p : Sight) → c < r.callers → p.seen ≡ [] → In (number.Caller c, []) p.held
+        → IsGuest w r c p [] }
+    ensures nexts { (w : World) (c : ℕ) (log : List Noted) → log ≡ [] → AreNext w c log }
+    ensures timely { (w : World) (c : ℕ) (log : List Noted) → log ≡ [] → AreTimely w c log }
+{}
+
 /// A caller whose turn was recorded owes the duties of the entry after the others, its first duty being done.
 pub fn guests_record()
     ensures { (w : World) (r : Roster) (a : ActorName) (c now : ℕ) (work : Work) (cites : Option ℕ) (p : Sight) (ds : List Duty)
