@@ -42,7 +42,8 @@ by_from n c [] = refl
 by_from n c (x ∷ xs) = by_test (by_from (n + 1) c xs) (x.entry.caller == c)
   where
     by_test : by (entries xs) c ≡ map own (at_from (number.Caller c) (n + 1) xs) → (b : Bool)
-        → (if b then x.entry ∷ by (entries xs) c else by (entries xs) c) ≡ map own (if b then (n, x) ∷ at_from (number.Caller c) (n + 1) xs else at_from (number.Caller c) (n + 1) xs)
+        → (if b then x.entry ∷ by (entries xs) c else by (entries xs) c) ≡ map own
+        (if b then (n, x) ∷ at_from (number.Caller c) (n + 1) xs else at_from (number.Caller c) (n + 1) xs)
     by_test rec true = ap (λ (l : List Entry). x.entry ∷ l) rec
     by_test rec false = rec
 
@@ -106,7 +107,8 @@ gains w c log x = record { turns = own_push w c (IsTurnOf w) log x; nexts = own_
 abbrev pub LaterStands : Type 0
 LaterStands = (w : World) (h l : List Entry) (c : ℕ) → IsPrefix h l → by l c ≡ by h c → apart.StandsStill w c h l
 
-pub stands_by : LaterStands → (w : World) (c : ℕ) (log more : List Noted) → at (number.Caller c) log ≡ at (number.Caller c) (log ++ more) → StandsStill w c log (log ++ more)
+pub stands_by : LaterStands → (w : World) (c : ℕ) (log more : List Noted) → at (number.Caller c) log ≡ at (number.Caller c) (log ++ more)
+    → StandsStill w c log (log ++ more)
 stands_by still w c log more same =
     let none = none_between (number.Caller c) log more same in
     let recorded : by (entries (log ++ more)) c ≡ by (entries log) c = by_from 0 c (log ++ more) ∙ (ap (map own) (sym same) ∙ sym (by_from 0 c log)) in
@@ -120,6 +122,7 @@ stands_by still w c log more same =
     }
 
 -- what a caller owes, what comes next for it and what its entries are stay while it records nothing
-pub stands_still : LaterStands → (w : World) (c : ℕ) (earlier later : List Noted) → IsPrefix earlier later → at (number.Caller c) earlier ≡ at (number.Caller c) later → StandsStill w c earlier later
+pub stands_still : LaterStands → (w : World) (c : ℕ) (earlier later : List Noted) → IsPrefix earlier later
+    → at (number.Caller c) earlier ≡ at (number.Caller c) later → StandsStill w c earlier later
 stands_still still w c earlier later front same =
     subst (λ (l : List Noted). StandsStill w c earlier l) front.1 (stands_by still w c earlier front.0 (same ∙ ap (at (number.Caller c)) (sym front.1)))

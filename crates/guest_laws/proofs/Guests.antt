@@ -40,7 +40,8 @@ length_map f (x ∷ xs) = ap suc (length_map f xs)
 pub same_refl : (n : ℕ) → (n == n) ≡ true
 same_refl n = grind (arith, nat_tests)
 
-step_under : (a : ActorName) (t : Option (Step Actor)) (step : Step Named) → option_map (named_step a) t ≡ Some step → (s : Step Actor) × (t ≡ Some s) × (step.outcome ≡ s.outcome)
+step_under : (a : ActorName) (t : Option (Step Actor)) (step : Step Named) → option_map (named_step a) t ≡ Some step → (s : Step Actor) × (t ≡ Some s)
+    × (step.outcome ≡ s.outcome)
 step_under a None step is = absurd (none-some step is)
 step_under a (Some s) step is = (s, refl, sym (ap (λ (q : Step Named). q.outcome) (same_Some (named_step a s) step is)))
 
@@ -60,17 +61,20 @@ module _ (still : LaterStands) (w : World) (r : Roster) (c : ℕ) (p p' : Sight)
   -- two passes met, and the guest's was the one that stays
   pub meets_this : (q : Sight) → Met r p q p' → StaysGuest w r c p ds p'
   meets_this q m =
-      let held : In (number.Caller c, g.list) p'.held = subst (λ (hs : List Held). In (number.Caller c, g.list) hs) (sym m.held) (in-left (number.Caller c, g.list) p.held q.held g.held) in
+      let held : In (number.Caller c, g.list) p'.held =
+      subst (λ (hs : List Held). In (number.Caller c, g.list) hs) (sym m.held) (in-left (number.Caller c, g.list) p.held q.held g.held) in
       stays m.this held (m.lists (number.Caller c) g.list held)
 
   -- or the one that was taken in
   pub meets_that : (q : Sight) → Met r q p p' → StaysGuest w r c p ds p'
   meets_that q m =
-      let held : In (number.Caller c, g.list) p'.held = subst (λ (hs : List Held). In (number.Caller c, g.list) hs) (sym m.held) (in-right (number.Caller c, g.list) q.held p.held g.held) in
+      let held : In (number.Caller c, g.list) p'.held =
+      subst (λ (hs : List Held). In (number.Caller c, g.list) hs) (sym m.held) (in-right (number.Caller c, g.list) q.held p.held g.held) in
       stays m.that held (m.lists (number.Caller c) g.list held)
 
 -- an entry of its own
-module _ (still : LaterStands) (state_is : (w : World) (log : List Noted) (a : ActorName) → state_at opening (answer_in w) a log ≡ named a ((noted_net w log).actors a))
+module _ (still : LaterStands)
+    (state_is : (w : World) (log : List Noted) (a : ActorName) → state_at opening (answer_in w) a log ≡ named a ((noted_net w log).actors a))
     (w : World) (r : Roster) (c : ℕ) (p p' : Sight) (ds : List Duty) (a : ActorName) (now : ℕ) (work : Work) (cites : Option ℕ) (stamp : ℕ) (o : Outcome)
     (g : IsGuest w r c p ds) (t : IsTurn w c p ds a work cites) (d : Records w r a c now work cites p stamp o p') where
   abbrev the : Noted
@@ -88,7 +92,8 @@ module _ (still : LaterStands) (state_is : (w : World) (log : List Noted) (a : A
   -- the step that the lock's machine made, in the net of the past
   stepped : (s : Step Actor) × (actor_step w a ((noted_net w d.past).actors a) now work ≡ Some s) × (d.step.outcome ≡ s.outcome)
   stepped =
-      step_under a (actor_step w a ((noted_net w d.past).actors a) now work) d.step (ap (λ (q : Named). answer_in w q now work) (sym (state_is w d.past a)) ∙ d.ready)
+      step_under a (actor_step w a ((noted_net w d.past).actors a) now work) d.step
+      (ap (λ (q : Named). answer_in w q now work) (sym (state_is w d.past a)) ∙ d.ready)
 
   nexts_are : next w (entries p.seen) c ≡ next w (noted_net w d.past).past c
   nexts_are = sym stands.comes_next ∙ ap (λ (l : List Entry). next w l c) (sym (past_is w d.past))
@@ -118,11 +123,13 @@ module _ (still : LaterStands) (state_is : (w : World) (log : List Noted) (a : A
   held' : In (number.Caller c, list') p'.held
   held' =
       subst (λ (hs : List Held). In (number.Caller c, list') hs) (sym d.held)
-      (subst (λ (b : Bool). In (number.Caller c, if b then list' else g.list) (map (gain stamp the) p.held)) mine (in-gain stamp the p.held (number.Caller c) g.list g.held))
+      (subst (λ (b : Bool). In (number.Caller c, if b then list' else g.list) (map (gain stamp the) p.held)) mine
+      (in-gain stamp the p.held (number.Caller c) g.list g.held))
 
   all' : at (number.Caller c) (d.past ++ the ∷ []) ≡ list'
   all' =
-      at-snoc (number.Caller c) d.past the ∙ (ap (λ (b : Bool). if b then at (number.Caller c) d.past ++ (length d.past, the) ∷ [] else at (number.Caller c) d.past) mine
+      at-snoc (number.Caller c) d.past the
+      ∙ (ap (λ (b : Bool). if b then at (number.Caller c) d.past ++ (length d.past, the) ∷ [] else at (number.Caller c) d.past) mine
       ∙ (ap (λ (l : List (ℕ × Noted)). l ++ (length d.past, the) ∷ []) same ∙ ap (λ (n : ℕ). g.list ++ (n, the) ∷ []) d.stamp_is))
 
   owed' : owed_in w (d.past ++ the ∷ []) c ≡ drop 1 ds ++ duties w (noted_net w d.past).actors a stamp work stepped.0

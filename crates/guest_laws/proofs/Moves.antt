@@ -23,7 +23,8 @@ use Rattle.net_base.specs.Stamped.{same_actor}
 use Rattle.guest_laws.specs.Works.{step_by, moment_by}
 
 module _ (w : World) where
-  no_move : (a : ActorName) (s : Actor) (now m : ℕ) (g : With) → same_actor a name.Clock ≡ false → table_step w a s now (record { event = event.Move m; with = g }) ≡ None
+  no_move : (a : ActorName) (s : Actor) (now m : ℕ) (g : With) → same_actor a name.Clock ≡ false
+      → table_step w a s now (record { event = event.Move m; with = g }) ≡ None
   no_move (name.Desk h) IsPlain now m g other = by_host (slice_get w.hosts h)
     where
       by_host : (host : Option HostSpec) → option_and_then (λ (host : HostSpec). option_map plain_step (desk_reply w.db host (event.Move m) now)) host ≡ None
@@ -46,22 +47,27 @@ module _ (w : World) where
   when_none true = refl
   when_none false = refl
 
-  still : (a : ActorName) (s : Actor) (now m : ℕ) (e : Event) (g : With) (t : Step Actor) → same_actor a name.Clock ≡ false → actor_step w a s now (record { event = e; with = g }) ≡ Some t → moment_after m e ≡ m
+  still : (a : ActorName) (s : Actor) (now m : ℕ) (e : Event) (g : With) (t : Step Actor) → same_actor a name.Clock ≡ false
+      → actor_step w a s now (record { event = e; with = g }) ≡ Some t → moment_after m e ≡ m
   still a s now m (event.Move k) g t other is =
       absurd (none-some t (sym (ap (when (has_actor w a)) (no_move a s now k g other) ∙ when_none (has_actor w a)) ∙ is))
   still a s now m e g t other is = refl
 
   -- what is ready elsewhere than at the clock is no move
-  pub never_moves : (a : ActorName) (s : Actor) (now : ℕ) (work : Work) (t : Step Actor) (net : Net) → same_actor a name.Clock ≡ false → actor_step w a s now work ≡ Some t → IsInTime net w work.event
+  pub never_moves : (a : ActorName) (s : Actor) (now : ℕ) (work : Work) (t : Step Actor) (net : Net) → same_actor a name.Clock ≡ false
+      → actor_step w a s now work ≡ Some t → IsInTime net w work.event
   never_moves a s now work t net other is = by_event work.event work.with is
     where
       by_event : (e : Event) (g : With) → actor_step w a s now (record { event = e; with = g }) ≡ Some t → IsInTime net w e
       by_event (event.Move k) g is = absurd (none-some t (sym (ap (when (has_actor w a)) (no_move a s now k g other) ∙ when_none (has_actor w a)) ∙ is))
       by_event e g is = tt
 
-  pub moment_same : (net : Net) (x : Noted) (s : Step Actor) → x.entry.event ≡ x.work.event → step_by w net x ≡ Some s → moment_by net.moment x ≡ moment_after net.moment x.entry.event
+  pub moment_same : (net : Net) (x : Noted) (s : Step Actor) → x.entry.event ≡ x.work.event → step_by w net x ≡ Some s
+      → moment_by net.moment x ≡ moment_after net.moment x.entry.event
   moment_same net x s e step = by_clock (same_actor x.entry.actor name.Clock) refl
     where
-      by_clock : (b : Bool) → same_actor x.entry.actor name.Clock ≡ b → (if b then moment_after net.moment x.entry.event else net.moment) ≡ moment_after net.moment x.entry.event
+      by_clock : (b : Bool) → same_actor x.entry.actor name.Clock ≡ b
+          → (if b then moment_after net.moment x.entry.event else net.moment) ≡ moment_after net.moment x.entry.event
       by_clock true is = refl
-      by_clock false is = sym (ap (moment_after net.moment) e ∙ still x.entry.actor (net.actors x.entry.actor) x.entry.moment net.moment x.work.event x.work.with s is step)
+      by_clock false is = sym (ap (moment_after net.moment) e
+          ∙ still x.entry.actor (net.actors x.entry.actor) x.entry.moment net.moment x.work.event x.work.with s is step)

@@ -24,11 +24,13 @@ named_left a s None = refl
 named_left a s (Some t) = refl
 
 module _ (w : World) (equal : (a b : ActorName) → same_actor a b ≡ true → a ≡ b) where
-  moved : (net : Net) (x : Noted) (a : ActorName) (t : Option (Step Actor)) → same_actor x.entry.actor a ≡ true → (noted_after w net x t).actors a ≡ stepped_to (net.actors a) t
+  moved : (net : Net) (x : Noted) (a : ActorName) (t : Option (Step Actor)) → same_actor x.entry.actor a ≡ true
+      → (noted_after w net x t).actors a ≡ stepped_to (net.actors a) t
   moved net x a None same = refl
   moved net x a (Some s) same = ap (λ (b : Bool). if b then s.state else net.actors a) same
 
-  unmoved : (net : Net) (x : Noted) (a : ActorName) (t : Option (Step Actor)) → same_actor x.entry.actor a ≡ false → (noted_after w net x t).actors a ≡ net.actors a
+  unmoved : (net : Net) (x : Noted) (a : ActorName) (t : Option (Step Actor)) → same_actor x.entry.actor a ≡ false
+      → (noted_after w net x t).actors a ≡ net.actors a
   unmoved net x a None other = refl
   unmoved net x a (Some s) other = ap (λ (b : Bool). if b then s.state else net.actors a) other
 
@@ -37,7 +39,8 @@ module _ (w : World) (equal : (a b : ActorName) → same_actor a b ≡ true → 
       → left_by (named a (net.actors a)) (answer_in w (named a (net.actors a)) x.entry.moment x.work) ≡ named a ((next_noted w net x).actors a)
   named_moved net x a same =
       let is : x.entry.actor ≡ a = equal x.entry.actor a same in
-      let step : actor_step w a (net.actors a) x.entry.moment x.work ≡ step_by w net x = ap (λ (b : ActorName). actor_step w b (net.actors b) x.entry.moment x.work) (sym is) in
+      let step : actor_step w a (net.actors a) x.entry.moment x.work ≡ step_by w net x =
+      ap (λ (b : ActorName). actor_step w b (net.actors b) x.entry.moment x.work) (sym is) in
       named_left a (net.actors a) (actor_step w a (net.actors a) x.entry.moment x.work)
       ∙ ap (named a) (ap (λ (t : Option (Step Actor)). stepped_to (net.actors a) t) step ∙ sym (moved net x a (step_by w net x) same))
 
@@ -70,7 +73,8 @@ module _ (w : World) where
   past_from : (net : Net) (xs : List Noted) → (noted_from w net xs).past ≡ net.past ++ entries xs
   past_from net [] = sym (append-nil net.past)
   past_from net (x ∷ xs) =
-      past_from (next_noted w net x) xs ∙ (ap (λ (l : List Entry). l ++ entries xs) (after_one (step_by w net x)) ∙ append_assoc net.past (x.entry ∷ []) (entries xs))
+      past_from (next_noted w net x) xs
+      ∙ (ap (λ (l : List Entry). l ++ entries xs) (after_one (step_by w net x)) ∙ append_assoc net.past (x.entry ∷ []) (entries xs))
     where
       after_one : (t : Option (Step Actor)) → (noted_after w net x t).past ≡ net.past ++ x.entry ∷ []
       after_one None = refl
@@ -94,10 +98,12 @@ module _ (w : World) where
   moment_from : (net : Net) (n : ℕ) (xs : List Noted) → (noted_from w net xs).moment ≡ latest net.moment (at_from clock n xs)
   moment_from net n [] = refl
   moment_from net n (x ∷ xs) =
-      moment_from (next_noted w net x) (n + 1) xs ∙ (ap (λ (m : ℕ). latest m (at_from clock (n + 1) xs)) (moment_one net x (step_by w net x)) ∙ by_clock (same_actor x.entry.actor name.Clock) refl)
+      moment_from (next_noted w net x) (n + 1) xs
+      ∙ (ap (λ (m : ℕ). latest m (at_from clock (n + 1) xs)) (moment_one net x (step_by w net x)) ∙ by_clock (same_actor x.entry.actor name.Clock) refl)
     where
       by_clock : (b : Bool) → same_actor x.entry.actor name.Clock ≡ b
-          → latest (if b then moment_after net.moment x.entry.event else net.moment) (at_from clock (n + 1) xs) ≡ latest net.moment (if b then (n, x) ∷ at_from clock (n + 1) xs else at_from clock (n + 1) xs)
+          → latest (if b then moment_after net.moment x.entry.event else net.moment) (at_from clock (n + 1) xs) ≡ latest net.moment
+          (if b then (n, x) ∷ at_from clock (n + 1) xs else at_from clock (n + 1) xs)
       by_clock true is = ap (λ (m : ℕ). latest m (at_from clock (n + 1) xs)) (sym (same_moment_after net.moment x))
       by_clock false is = refl
 

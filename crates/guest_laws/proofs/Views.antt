@@ -16,7 +16,8 @@ some_under : (a : ActorName) (t : Option (Step Actor)) → is_some (option_map (
 some_under a None = refl
 some_under a (Some s) = refl
 
-module _ (state_is : (w : World) (log : List Noted) (a : ActorName) → state_at opening (answer_in w) a log ≡ named a ((noted_net w log).actors a)) (w : World) (log : List Noted) where
+module _ (state_is : (w : World) (log : List Noted) (a : ActorName) → state_at opening (answer_in w) a log ≡ named a ((noted_net w log).actors a))
+    (w : World) (log : List Noted) where
   -- what is ready at a lock is ready in the net of the works
   pub ready_is : (a : ActorName) (now : ℕ) (work : Work)
       → is_some (answer_in w (state_at opening (answer_in w) a log) now work) ≡ is_some (actor_step w a ((noted_net w log).actors a) now work)

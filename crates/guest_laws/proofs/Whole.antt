@@ -87,7 +87,8 @@ module _ (w : World) (r : Roster) (past : List Noted) (x : Noted) (fits : Fits r
     answers = answers;
     at_moment = sym here;
     cites = turn.cites;
-    is_asked = subst (λ (l : List Entry). IsAskedButOfScripts ((noted_net w past).owed x.entry.caller) (caller_of w x.entry.caller) (next w l x.entry.caller) x.entry) (past_is w past) turn.asked;
+    is_asked = subst (λ (l : List Entry). IsAskedButOfScripts ((noted_net w past).owed x.entry.caller) (caller_of w x.entry.caller)
+        (next w l x.entry.caller) x.entry) (past_is w past) turn.asked;
     is_ready = ready;
     is_known = (has, subst (λ (n : ℕ). x.entry.caller < n) count fits.caller);
     has_room = subst (λ (n : ℕ). n < 131072) (sym (count_is x.entry.caller past)) fits.room;
@@ -98,10 +99,12 @@ module _ (w : World) (r : Roster) (past : List Noted) (x : Noted) (fits : Fits r
       let net = noted_net w past in
       let s = turn.step in
       ap (noted_after w net x) turn.gives ∙ ap (made_net w net x s x.work) (moment_same w net x s fits.event_is turn.gives)
-      ∙ ap (λ (k : Work). made_net w net x s k (moment_after net.moment x.entry.event)) (sym work_is) ∙ ap (net_after w net x.entry) (sym (step_is ∙ turn.gives))
+      ∙ ap (λ (k : Work). made_net w net x s k (moment_after net.moment x.entry.event)) (sym work_is)
+      ∙ ap (net_after w net x.entry) (sym (step_is ∙ turn.gives))
 
 -- with what its caller asks it follows
-follows : (w : World) (past : List Entry) (net : Net) (x : Entry) → FollowsButScripts w past net x → IsAsked (net.owed x.caller) (caller_of w x.caller) (next w past x.caller) x → Follows w past net x
+follows : (w : World) (past : List Entry) (net : Net) (x : Entry) → FollowsButScripts w past net x
+    → IsAsked (net.owed x.caller) (caller_of w x.caller) (next w past x.caller) x → Follows w past net x
 follows w past net x f asked = record {
   answers = f.answers;
   at_moment = f.at_moment;
@@ -135,7 +138,8 @@ module _ (grows : Grows) (w : World) (r : Roster) (known : (a : ActorName) → I
         let f : FollowsButScripts w (entries past) (after w (entries past)) x.entry =
         subst (λ (n : Net). FollowsButScripts w (entries past) n x.entry) same (follows_but w r past x fits turn (known x.entry.actor fits.actor) count) in
         let after_it : noted_net w (past ++ x ∷ []) ≡ after w (entries (past ++ x ∷ [])) =
-        noted_push w past x ∙ (same_next w r past x fits turn ∙ (ap (λ (n : Net). next_net w n x.entry) same ∙ (sym (grows w (entries past) x.entry) ∙ ap (after w) (sym (entries_push past x))))) in
+        noted_push w past x ∙ (same_next w r past x fits turn
+        ∙ (ap (λ (n : Net). next_net w n x.entry) same ∙ (sym (grows w (entries past) x.entry) ∙ ap (after w) (sym (entries_push past x))))) in
         each_from log (past ++ x ∷ []) rest (is ∙ sym (append_assoc past (x ∷ []) rest)) lawful after_it
         (subst (λ (l : List Entry). Each L l) (sym (entries_push past x)) (each_push L (entries past) x.entry each (leads past x f k (sym same))))
         (λ c lt. subst (λ (n : Net). OwnFrom w c (IsTurnOf w) n rest) (sym (noted_push w past x)) (turns c lt).1)
@@ -152,9 +156,12 @@ module _ (grows : Grows) (w : World) (r : Roster) (known : (a : ActorName) → I
     pub legal : ((c : ℕ) → c < r.callers → AreNext w c log) → IsLegal w (entries log)
     legal nexts = (each_of (IsNextOf w) (λ p x. MayFollow w p x)
         (λ past x f k same. follows w (entries past) (after w (entries past)) x.entry f
-        (subst (λ (l : List Entry). IsAsked ((after w (entries past)).owed x.entry.caller) (caller_of w x.entry.caller) (next w l x.entry.caller) x.entry) (past_is w past)
-        (subst (λ (n : Net). IsAsked (n.owed x.entry.caller) (caller_of w x.entry.caller) (next w (noted_net w past).past x.entry.caller) x.entry) (sym same) k)))
+        (subst (λ (l : List Entry). IsAsked ((after w (entries past)).owed x.entry.caller) (caller_of w x.entry.caller)
+        (next w l x.entry.caller) x.entry) (past_is w past)
+        (subst (λ (n : Net). IsAsked (n.owed x.entry.caller) (caller_of w x.entry.caller) (next w (noted_net w past).past x.entry.caller) x.entry)
+        (sym same) k)))
         log lawful turns nexts).0
 
     pub timed : ((c : ℕ) → c < r.callers → AreTimely w c log) → IsTimed w (entries log)
-    timed timely = (each_of (IsTimelyIn w) (λ p x. IsInTime (after w p) w x.event) (λ past x f k same. subst (λ (n : Net). IsInTime n w x.entry.event) (sym same) k) log lawful turns timely).0
+    timed timely = (each_of (IsTimelyIn w) (λ p x. IsInTime (after w p) w x.event)
+        (λ past x f k same. subst (λ (n : Net). IsInTime n w x.entry.event) (sym same) k) log lawful turns timely).0

@@ -25,14 +25,16 @@ IsAskedButOfScripts ds caller ask x = IsAsked ds caller ask x
 pub record IsTurnOf (w : World) (net : Net) (x : Noted) : Type 0 where
   pub given : x.work.with ≡ with_of (net.owed x.entry.caller)
   pub cites : x.entry.cites ≡ cites_of (net.owed x.entry.caller)
-  pub asked : IsAskedButOfScripts (net.owed x.entry.caller) (caller_of w x.entry.caller) (next w net.past x.entry.caller) x.entry
+  pub asked : IsAskedButOfScripts (net.owed x.entry.caller) (caller_of w x.entry.caller)
+      (next w net.past x.entry.caller) x.entry
   pub step : Step Actor
   pub gives : step_by w net x ≡ Some step
   pub shows : shown_by x.entry ≡ shown_of step.outcome
 
 -- where nothing is owed it is what comes next
 abbrev pub IsNextOf : World → Net → Noted → Type 0
-IsNextOf w net x = IsAsked (net.owed x.entry.caller) (caller_of w x.entry.caller) (next w net.past x.entry.caller) x.entry
+IsNextOf w net x = IsAsked (net.owed x.entry.caller) (caller_of w x.entry.caller)
+    (next w net.past x.entry.caller) x.entry
 
 -- where it is a move it comes in time
 abbrev pub IsTimelyIn : World → Net → Noted → Type 0
@@ -86,4 +88,5 @@ pub record FollowsButScripts (w : World) (past : List Entry) (net : Net) (x : En
 
 -- the history is legal, but that the entries of scripts that aren't duties are their next events
 abbrev pub IsLegalButScripts : World → List Entry → Type 0
-IsLegalButScripts w h = (k : ℕ) (x : Entry) → slice_get h k ≡ Some x → FollowsButScripts w (take k h) (after w (take k h)) x
+IsLegalButScripts w h = (k : ℕ) (x : Entry) → slice_get h k ≡ Some x
+    → FollowsButScripts w (take k h) (after w (take k h)) x

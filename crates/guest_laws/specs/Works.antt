@@ -1,5 +1,5 @@
--- The net after entries that stand with their works: each actor steps by the work that stands with its entry, at the entry's
--- moment. A guest knows so much, though it doesn't know whether the entries of others are what their callers owe.
+-- The net after entries that stand with their works: each actor steps by the work that stands with its entry, at the
+-- moment of the entry. A guest knows so much, though it does not know whether the entries of others are what they owed.
 use Rattle.std.specs.Prelude.{ℕ, List, [], ◌∷◌, ◌++◌, length, map, Option, Some, None, if◌then◌else◌}
 use Rattle.net_base.specs.declared.actor.ActorName.TheVariants as name
 use Rattle.net_base.specs.declared.history.Entry.{Entry}

@@ -13,8 +13,8 @@ ghost use Rattle.net_base.specs.declared.noted.Number.TheVariants as number;
 ghost use Rattle.net_base.specs.declared.world.Script.{Script};
 ghost use Rattle.net_base.specs.declared.world.World.{World};
 ghost use Rattle.net_base.specs.ActorStep.{Step};
-ghost use Rattle.net_base.specs.Actors.{Actor, actor_step, has_actor};
-ghost use Rattle.net_base.specs.Callers.{IsScript, IsCourier, IsClock, caller_count, caller_of};
+ghost use Rattle.net_base.specs.Actors.{Actor, actor_step};
+ghost use Rattle.net_base.specs.Callers.{IsScript, IsCourier, IsClock, caller_of};
 ghost use Rattle.net_base.specs.Duties as duties;
 ghost use Rattle.net_base.specs.Duties.{Duty};
 ghost use Rattle.net_base.specs.Legal.{IsInTime, IsLegal, IsTimed};
@@ -22,19 +22,19 @@ ghost use Rattle.net_base.specs.Net.{Net, after};
 ghost use Rattle.net_base.specs.Stamped.{In, at, moment, same_actor};
 ghost use Rattle.journal.specs.declared.law.Roster.{Roster};
 ghost use Rattle.journal.specs.declared.tokens.Sight.{Sight};
-ghost use Rattle.journal.specs.Rule.{Lawful};
 ghost use Rattle.journal.specs.Tokens.{Looked, Met};
 ghost use Rattle.locked.specs.Acts.{state_at};
 ghost use Rattle.guest_laws.specs.Works.{noted_net, next_noted, entries};
-ghost use Rattle.guest_laws.specs.Own.{AreNext, AreTimely, AreTurns, Gains, IsLegalButScripts, StandsStill};
+ghost use Rattle.guest_laws.specs.Own.{AreNext, AreTimely, Gains, IsLegalButScripts, StandsStill};
 ghost use Rattle.guest_laws.specs.Named.{answer_in, due_of, generation_of, named, opening};
-ghost use Rattle.guest_laws.specs.Guests.{HandsOver, HasRecorded, IsGuest, IsTurn, Records, StaysGuest};
+ghost use Rattle.guest_laws.specs.Guests.{HandsOver, HasRecorded, IsGuest, IsOfGuests, IsTurn, Records, StaysGuest};
 
 use history_laws::{callers_are_apart, histories_grow, same_actors_are_equal};
 
 /// With an entry more the net of the works is the next one. It has these entries, and their moment.
 pub fn nets_of_works_grow()
-    ensures next { (w : World) (log : List Noted) (x : Noted) → noted_net w (log ++ x ∷ []) ≡ next_noted w (noted_net w log) x }
+    ensures next { (w : World) (log : List Noted) (x : Noted)
+        → noted_net w (log ++ x ∷ []) ≡ next_noted w (noted_net w log) x }
     ensures past { (w : World) (log : List Noted) → (noted_net w log).past ≡ entries log }
     ensures moment { (w : World) (log : List Noted) → (noted_net w log).moment ≡ moment log }
 {}
@@ -73,8 +73,8 @@ pub fn an_own_entry_is_gained()
     ensures { (w : World) (c : ℕ) (past : List Noted) (x : Noted) → Gains w c past x (past ++ x ∷ []) }
 {}
 
-/// Turns are the first duty, any event of a script that owes nothing, a copy that a courier takes of its medium, a move of
-/// the clock.
+/// Turns are the first duty, any event of a script that owes nothing, a copy that a courier takes of its medium, a move
+/// of the clock.
 pub fn turns_are_these()
     ensures duty { (w : World) (c : ℕ) (p : Sight) (d : Duty) (ds : List Duty)
         → IsTurn w c p (d ∷ ds) d.actor (record { event = d.event; with = d.with }) (Some d.cites) }
@@ -88,7 +88,8 @@ pub fn turns_are_these()
 
 /// A caller whose pass has seen nothing is a guest that owes nothing, and all of its entries are as they should be.
 pub fn guests_begin()
-    ensures guest { (w : World) (r : Roster) (c : ℕ) (p : Sight) → c < r.callers → p.seen ≡ [] → In (number.Caller c, []) p.held
+    ensures guest { (w : World) (r : Roster) (c : ℕ) (p : Sight) → c < r.callers → p.seen ≡ []
+        → In (number.Caller c, []) p.held
         → IsGuest w r c p [] }
     ensures nexts { (w : World) (c : ℕ) (log : List Noted) → log ≡ [] → AreNext w c log }
     ensures timely { (w : World) (c : ℕ) (log : List Noted) → log ≡ [] → AreTimely w c log }
@@ -96,9 +97,10 @@ pub fn guests_begin()
 
 /// A caller whose turn was recorded owes the duties of the entry after the others, its first duty being done.
 pub fn guests_record()
-    ensures { (w : World) (r : Roster) (a : ActorName) (c now : ℕ) (work : Work) (cites : Option ℕ) (p : Sight) (ds : List Duty)
-        (stamp : ℕ) (o : Outcome) (p' : Sight) → IsGuest w r c p ds → IsTurn w c p ds a work cites
-        → (d : Records w r a c now work cites p stamp o p') → HasRecorded w r a c now work cites d.past p ds stamp o p' }
+    ensures { (w : World) (r : Roster) (a : ActorName) (c now : ℕ) (work : Work) (cites : Option ℕ) (p : Sight)
+        (ds : List Duty) (stamp : ℕ) (o : Outcome) (p' : Sight) → IsGuest w r c p ds → IsTurn w c p ds a work cites
+        → (d : Records w r a c now work cites p stamp o p')
+        → HasRecorded w r a c now work cites d.past p ds stamp o p' }
 {
     callers_are_apart();
     locks_keep_actors();
@@ -114,8 +116,8 @@ pub fn guests_look()
 
 /// A guest stays one over an entry of another caller by the same pass.
 pub fn guests_stay_by_others()
-    ensures { (w : World) (r : Roster) (a : ActorName) (c e now : ℕ) (work : Work) (cites : Option ℕ) (p : Sight) (ds : List Duty)
-        (stamp : ℕ) (o : Outcome) (p' : Sight) → IsGuest w r e p ds → (c == e) ≡ false
+    ensures { (w : World) (r : Roster) (a : ActorName) (c e now : ℕ) (work : Work) (cites : Option ℕ) (p : Sight)
+        (ds : List Duty) (stamp : ℕ) (o : Outcome) (p' : Sight) → IsGuest w r e p ds → (c == e) ≡ false
         → Records w r a c now work cites p stamp o p' → StaysGuest w r e p ds p' }
 {
     callers_are_apart();
@@ -143,23 +145,17 @@ pub fn guests_hand_over()
     callers_are_apart();
 }
 
-/// What is known of every caller's entries by itself gives the whole history: legal, but that the entries of scripts are
-/// their next events; legal where they are; timed where each move comes in time.
+/// What is known of every caller's entries by itself gives the whole history: legal, but that the entries of scripts
+/// are their next events; legal where they are; timed where each move comes in time.
 pub fn histories_of_guests_are_legal()
-    ensures but_scripts { (w : World) (r : Roster) (log : List Noted)
-        → ((a : ActorName) → In a r.actors → has_actor w a ≡ true) → r.callers ≡ caller_count w → Lawful r log
-        → ((c : ℕ) → c < r.callers → AreTurns w c log) → IsLegalButScripts w (entries log) }
-    ensures net { (w : World) (r : Roster) (log : List Noted)
-        → ((a : ActorName) → In a r.actors → has_actor w a ≡ true) → r.callers ≡ caller_count w → Lawful r log
-        → ((c : ℕ) → c < r.callers → AreTurns w c log) → noted_net w log ≡ after w (entries log) }
-    ensures legal { (w : World) (r : Roster) (log : List Noted)
-        → ((a : ActorName) → In a r.actors → has_actor w a ≡ true) → r.callers ≡ caller_count w → Lawful r log
-        → ((c : ℕ) → c < r.callers → AreTurns w c log) → ((c : ℕ) → c < r.callers → AreNext w c log)
-        → IsLegal w (entries log) }
-    ensures timed { (w : World) (r : Roster) (log : List Noted)
-        → ((a : ActorName) → In a r.actors → has_actor w a ≡ true) → r.callers ≡ caller_count w → Lawful r log
-        → ((c : ℕ) → c < r.callers → AreTurns w c log) → ((c : ℕ) → c < r.callers → AreTimely w c log)
-        → IsTimed w (entries log) }
+    ensures but_scripts { (w : World) (r : Roster) (log : List Noted) → IsOfGuests w r log
+        → IsLegalButScripts w (entries log) }
+    ensures net { (w : World) (r : Roster) (log : List Noted) → IsOfGuests w r log
+        → noted_net w log ≡ after w (entries log) }
+    ensures legal { (w : World) (r : Roster) (log : List Noted) → IsOfGuests w r log
+        → ((c : ℕ) → c < r.callers → AreNext w c log) → IsLegal w (entries log) }
+    ensures timed { (w : World) (r : Roster) (log : List Noted) → IsOfGuests w r log
+        → ((c : ℕ) → c < r.callers → AreTimely w c log) → IsTimed w (entries log) }
 {
     histories_grow();
 }
