@@ -6,3 +6,4 @@ pub mod Moves
 pub mod Whole
 pub mod Views
 pub mod Turns
+pub mod FewCalls

@@ -24,12 +24,12 @@ named_left a s None = refl
 named_left a s (Some t) = refl
 
 module _ (w : World) (equal : (a b : ActorName) → same_actor a b ≡ true → a ≡ b) where
-  moved : (net : Net) (x : Noted) (a : ActorName) (t : Option (Step Actor)) → same_actor x.entry.actor a ≡ true
+  pub moved : (net : Net) (x : Noted) (a : ActorName) (t : Option (Step Actor)) → same_actor x.entry.actor a ≡ true
       → (noted_after w net x t).actors a ≡ stepped_to (net.actors a) t
   moved net x a None same = refl
   moved net x a (Some s) same = ap (λ (b : Bool). if b then s.state else net.actors a) same
 
-  unmoved : (net : Net) (x : Noted) (a : ActorName) (t : Option (Step Actor)) → same_actor x.entry.actor a ≡ false
+  pub unmoved : (net : Net) (x : Noted) (a : ActorName) (t : Option (Step Actor)) → same_actor x.entry.actor a ≡ false
       → (noted_after w net x t).actors a ≡ net.actors a
   unmoved net x a None other = refl
   unmoved net x a (Some s) other = ap (λ (b : Bool). if b then s.state else net.actors a) other

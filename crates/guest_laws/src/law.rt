@@ -1,8 +1,10 @@
 //! Laws of histories whose entries stand with their works, and of the guests that know a part of one.
-ghost use Rattle.std.specs.Prelude.{◌≡◌, ◌<◌, ◌==◌, ◌++◌, ◌∷◌, List, [], Option, Some, None, ℕ, true, false, is_some};
+ghost use Rattle.std.specs.Prelude.{◌≡◌, ◌<◌, ◌≤◌, length, ◌==◌, ◌++◌, ◌∷◌, List, [], Option, Some, None, ℕ, true, false, is_some};
 ghost use mathlib.Core.List.{IsPrefix};
 ghost use Rattle.net_base.specs.declared.actor.ActorName.{ActorName};
 ghost use Rattle.net_base.specs.declared.actor.ActorName.TheVariants as name;
+ghost use Rattle.net_base.specs.declared.actor.Call.{Call};
+ghost use Rattle.net_base.specs.declared.address.Proto.{Proto};
 ghost use Rattle.net_base.specs.declared.event.Event.TheVariants as event;
 ghost use Rattle.net_base.specs.declared.history.Entry.{Entry};
 ghost use Rattle.net_base.specs.declared.history.Outcome.{Outcome};
@@ -10,6 +12,7 @@ ghost use Rattle.net_base.specs.declared.history.With.TheVariants as given;
 ghost use Rattle.net_base.specs.declared.history.Work.{Work};
 ghost use Rattle.net_base.specs.declared.noted.Noted.{Noted};
 ghost use Rattle.net_base.specs.declared.noted.Number.TheVariants as number;
+ghost use Rattle.net_base.specs.declared.reply.Reply.TheVariants as reply;
 ghost use Rattle.net_base.specs.declared.world.Script.{Script};
 ghost use Rattle.net_base.specs.declared.world.World.{World};
 ghost use Rattle.net_base.specs.ActorStep.{Step};
@@ -59,6 +62,16 @@ pub fn moves_are_the_clocks()
     ensures { (w : World) (net : Net) (a : ActorName) (s : Actor) (now : ℕ) (work : Work) (t : Step Actor)
         → same_actor a name.Clock ≡ false → actor_step w a s now work ≡ Some t → IsInTime net w work.event }
 {}
+
+/// A directory never tells more than ten calls that waited, whatever works were done before.
+pub fn few_calls_wait()
+    ensures { (w : World) (h : ℕ) (p : Proto) (log : List Noted) (now : ℕ) (work : Work) (t : Step Actor)
+        (calls : List Call)
+        → actor_step w (name.Dir h p) ((noted_net w log).actors (name.Dir h p)) now work ≡ Some t
+        → t.outcome.reply ≡ reply.Calls calls → length calls ≤ 10 }
+{
+    same_actors_are_equal();
+}
 
 /// What a caller owes, what comes next for it and what its own entries are stay when others record.
 pub fn others_leave_a_caller()

@@ -4,7 +4,8 @@
 mod law;
 
 pub use law::{
-    an_own_entry_is_gained, guests_begin, guests_hand_over, guests_look, guests_meet,
-    guests_record, guests_stay_by_others, histories_of_guests_are_legal, locks_keep_actors,
-    moves_are_the_clocks, nets_of_works_grow, others_leave_a_caller, turns_are_these,
+    an_own_entry_is_gained, few_calls_wait, guests_begin, guests_hand_over, guests_look,
+    guests_meet, guests_record, guests_stay_by_others, histories_of_guests_are_legal,
+    locks_keep_actors, moves_are_the_clocks, nets_of_works_grow, others_leave_a_caller,
+    turns_are_these,
 };
