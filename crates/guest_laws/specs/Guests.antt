@@ -49,8 +49,8 @@ pub record StaysGuest (w : World) (r : Roster) (c : ℕ) (p : Sight) (ds : List 
   pub guest : IsGuest w r c p' ds
   pub stands : StandsStill w c p.seen p'.seen
 
--- the entry was a step of its actor in the net of the past, and the caller is a guest still. Its first duty is done, and
--- the duties of the entry are owed after the others
+-- the entry was a step of its actor in the net of the past, and the caller is a guest still. Its first duty is done,
+-- and the duties of the entry are owed after the others
 pub record HasRecorded (w : World) (r : Roster) (a : ActorName) (c now : ℕ) (work : Work) (cites : Option ℕ)
     (past : List Noted) (p : Sight) (ds : List Duty) (stamp : ℕ) (o : Outcome) (p' : Sight) : Type 0 where
   pub step : Step Actor

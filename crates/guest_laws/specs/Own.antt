@@ -2,7 +2,6 @@
 use Rattle.std.specs.Prelude.{◌≡◌, ℕ, ◌==◌, ◌<◌, true, List, [], ◌∷◌, length, take, Option, Some, IsSome, slice_get}
 use Rattle.net_base.specs.declared.history.Entry.{Entry}
 use Rattle.net_base.specs.declared.noted.Noted.{Noted}
-use Rattle.net_base.specs.declared.noted.Number.TheVariants as number
 use Rattle.net_base.specs.declared.world.World.{World}
 use Rattle.net_base.specs.ActorStep.{Step}
 use Rattle.net_base.specs.Actors.{Actor, has_actor}
@@ -13,7 +12,6 @@ use Rattle.net_base.specs.Legal.{IsAsked, IsInTime, Shows, cites_of, shown_by, s
 use Rattle.net_base.specs.Net.{Net, opening_net, after, outcome_in, with_of}
 use Rattle.net_base.specs.Next.{by, next}
 use Rattle.net_base.specs.Steps.{Ask}
-use Rattle.net_base.specs.Stamped.{at}
 use Rattle.guest_laws.specs.Works.{step_by, next_noted, noted_net, owed_in, entries}
 
 -- the first duty, or what comes next where none is owed; of a script that owes nothing it is any event
