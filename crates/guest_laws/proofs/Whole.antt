@@ -9,20 +9,22 @@ use Rattle.net_base.specs.declared.history.Entry.{Entry}
 use Rattle.net_base.specs.declared.history.Work.{Work}
 use Rattle.net_base.specs.declared.noted.Noted.{Noted}
 use Rattle.net_base.specs.declared.noted.Number.TheVariants as number
+use Rattle.net_base.specs.declared.world.Script.{Script}
 use Rattle.net_base.specs.declared.world.World.{World}
 use Rattle.net_base.specs.ActorStep.{Step}
 use Rattle.net_base.specs.Actors.{Actor, has_actor, actor_step}
-use Rattle.net_base.specs.Callers.{caller_count, caller_of}
-use Rattle.net_base.specs.Duties.{duties}
-use Rattle.net_base.specs.Legal.{IsLegal, IsTimed, IsInTime, IsAsked, MayFollow, Follows, Shows}
+use Rattle.net_base.specs.Callers.{Caller, IsScript, IsCourier, IsClock, IsNobody, caller_count, caller_of}
+use Rattle.net_base.specs.Duties.{Duty, duties}
+use Rattle.net_base.specs.Legal.{IsLegal, IsTimed, IsInTime, IsAsked, asked_by, MayFollow, Follows, Shows}
 use Rattle.net_base.specs.Net.{Net, actors_after, after, moment_after, net_after, next_net, outcome_in, owed_after, step_of, work_of}
 use Rattle.net_base.specs.Next.{by, next}
+use Rattle.net_base.specs.Steps.{Ask}
 use Rattle.net_base.specs.Stamped.{In, at}
 use Rattle.history_laws.proofs.Histories.{in_pushed}
 use Rattle.journal.specs.declared.law.Roster.{Roster}
 use Rattle.journal.specs.Rule.{Lawful, Fits}
 use Rattle.guest_laws.specs.Works.{step_by, noted_after, next_noted, noted_net, entries}
-use Rattle.guest_laws.specs.Own.{IsAskedButOfScripts, IsTurnOf, IsNextOf, IsTimelyIn, OwnFrom, EachOwn, AreTurns, AreNext, AreTimely, FollowsButScripts, IsLegalButScripts}
+use Rattle.guest_laws.specs.Own.{IsAskedButOfScripts, IsTurnOf, IsNextOf, IsTimelyIn, OwnFrom, EachOwn, AreTurns, AreNext, AreTimely, FollowsButScripts, IsLegalButScripts, DoScriptsGoOn}
 use Rattle.guest_laws.proofs.Nets.{noted_push, past_is, moment_is}
 use Rattle.guest_laws.proofs.Apart.{own, by_from}
 use Rattle.guest_laws.proofs.Guests.{same_refl}
@@ -114,6 +116,21 @@ follows w past net x f asked = record {
   is_known = f.is_known;
   has_room = f.has_room;
 }
+
+asked_of : (ds : List Duty) (k : Caller) (ask : Option Ask) (x : Entry) → IsAskedButOfScripts ds k ask x
+    → ((s : Script) → k ≡ IsScript s → ds ≡ [] → ask ≡ Some (asked_by x)) → IsAsked ds k ask x
+asked_of [] (IsScript s) ask x is own = own s refl refl
+asked_of [] (IsCourier m) ask x is own = is
+asked_of [] IsClock ask x is own = is
+asked_of [] IsNobody ask x is own = is
+asked_of (d ∷ ds) k ask x is own = is
+
+-- where scripts go on, all of it is legal
+pub made_legal : (w : World) (h : List Entry) → IsLegalButScripts w h → DoScriptsGoOn w h → IsLegal w h
+made_legal w h but own k x is =
+    let f = but k x is in
+    follows w (take k h) (after w (take k h)) x f
+    (asked_of ((after w (take k h)).owed x.caller) (caller_of w x.caller) (next w (take k h) x.caller) x f.is_asked (λ s script none. own k x s is script none))
 
 -- the next net of the definitions
 abbrev pub Grows : Type 0

@@ -2,14 +2,15 @@
 use Rattle.std.specs.Prelude.{◌≡◌, ℕ, ◌==◌, ◌<◌, true, List, [], ◌∷◌, length, take, Option, Some, IsSome, slice_get}
 use Rattle.net_base.specs.declared.history.Entry.{Entry}
 use Rattle.net_base.specs.declared.noted.Noted.{Noted}
+use Rattle.net_base.specs.declared.world.Script.{Script}
 use Rattle.net_base.specs.declared.world.World.{World}
 use Rattle.net_base.specs.ActorStep.{Step}
 use Rattle.net_base.specs.Actors.{Actor, has_actor}
 use Rattle.net_base.specs.Callers.{Caller, IsScript, caller_of, caller_count}
 use Rattle.net_base.specs.Calm.{most_entries}
 use Rattle.net_base.specs.Duties.{Duty}
-use Rattle.net_base.specs.Legal.{IsAsked, IsInTime, Shows, cites_of, shown_by, shown_of}
-use Rattle.net_base.specs.Net.{Net, opening_net, after, outcome_in, with_of}
+use Rattle.net_base.specs.Legal.{IsAsked, IsInTime, Shows, asked_by, cites_of, shown_by, shown_of}
+use Rattle.net_base.specs.Net.{Net, opening_net, after, outcome_in, owed, with_of}
 use Rattle.net_base.specs.Next.{by, next}
 use Rattle.net_base.specs.Steps.{Ask}
 use Rattle.guest_laws.specs.Works.{step_by, next_noted, noted_net, owed_in, entries}
@@ -88,3 +89,8 @@ pub record FollowsButScripts (w : World) (past : List Entry) (net : Net) (x : En
 abbrev pub IsLegalButScripts : World → List Entry → Type 0
 IsLegalButScripts w h = (k : ℕ) (x : Entry) → slice_get h k ≡ Some x
     → FollowsButScripts w (take k h) (after w (take k h)) x
+
+-- and so they are: where a script owes nothing, its entry is what comes next for it
+abbrev pub DoScriptsGoOn : World → List Entry → Type 0
+DoScriptsGoOn w h = (k : ℕ) (x : Entry) (s : Script) → slice_get h k ≡ Some x → caller_of w x.caller ≡ IsScript s
+    → owed w (take k h) x.caller ≡ [] → next w (take k h) x.caller ≡ Some (asked_by x)

@@ -28,7 +28,7 @@ ghost use Rattle.journal.specs.declared.tokens.Sight.{Sight};
 ghost use Rattle.journal.specs.Tokens.{Looked, Met};
 ghost use Rattle.locked.specs.Acts.{state_at};
 ghost use Rattle.guest_laws.specs.Works.{noted_net, next_noted, entries};
-ghost use Rattle.guest_laws.specs.Own.{AreNext, AreTimely, Gains, IsLegalButScripts, StandsStill};
+ghost use Rattle.guest_laws.specs.Own.{AreNext, AreTimely, DoScriptsGoOn, Gains, IsLegalButScripts, StandsStill};
 ghost use Rattle.guest_laws.specs.Named.{answer_in, due_of, generation_of, named, opening};
 ghost use Rattle.guest_laws.specs.Guests.{HandsOver, HasRecorded, IsGuest, IsOfGuests, IsTurn, Records, StaysGuest};
 
@@ -172,3 +172,8 @@ pub fn histories_of_guests_are_legal()
 {
     histories_grow();
 }
+
+/// Where the entries of scripts that owe nothing are their next events, nothing is missing of a legal history.
+pub fn scripts_that_go_on_are_legal()
+    ensures { (w : World) (h : List Entry) → IsLegalButScripts w h → DoScriptsGoOn w h → IsLegal w h }
+{}
