@@ -26,6 +26,7 @@ pub enum Answer {
 pub struct View {
     pub ready: bool,
     pub due: Option<u64>,
+    pub generation: u64,
     pub front: u64,
 }
 
@@ -143,14 +144,21 @@ impl<J: Naming, M: Machine> Guarded<J, M> {
         ensures ready { MatchOption work.entry (result.ready ≡ false)
             (λ w. result.ready ≡ is_some (M.answer (state_at M.begin M.answer self.old.actor pass.new.seen) now w.now)) }
         ensures due { result.due ≡ M.due_of (state_at M.begin M.answer self.old.actor pass.new.seen) }
+        ensures generation { result.generation ≡ M.generation_of (state_at M.begin M.answer self.old.actor pass.new.seen) }
     {
         let ready = match work {
             Some(work) => self.machine.ready(now, work),
             None => false,
         };
         let due = self.machine.due();
+        let generation = self.machine.generation();
         let front = journal.look_with(&mut self.book, pass);
-        View { ready, due, front }
+        View {
+            ready,
+            due,
+            generation,
+            front,
+        }
     }
 
     /// The machine and its book.

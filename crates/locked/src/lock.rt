@@ -36,6 +36,13 @@ impl<J: Naming, M: Machine> Locked<J, M> {
         }
     }
 
+    /// Which actor.
+    pub fn actor(&self) -> ActorName
+        ensures { result ≡ self.now.actor }
+    {
+        self.actor
+    }
+
     /// One event at the actor by the caller. Two calls of the gate are made where it is recorded, inside the lock before
     /// the record and after the lock.
     pub fn act<R: Wait, G: Gate>(
@@ -122,6 +129,7 @@ impl<J: Naming, M: Machine> Locked<J, M> {
         ensures ready { MatchOption work.entry (result.ready ≡ false)
             (λ w. result.ready ≡ is_some (M.answer (state_at M.begin M.answer self.now.actor pass.new.seen) now w.now)) }
         ensures due { result.due ≡ M.due_of (state_at M.begin M.answer self.now.actor pass.new.seen) }
+        ensures generation { result.generation ≡ M.generation_of (state_at M.begin M.answer self.now.actor pass.new.seen) }
     {
         // The first round ends it, since the lock has this actor.
         for _ in rt.forever() {

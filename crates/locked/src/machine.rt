@@ -20,6 +20,9 @@ pub trait Machine: Drop {
     // The moment at which something is due in the state.
     ghost due_of: { Self → Option ℕ };
 
+    // The generation of the state, which a tick names.
+    ghost generation_of: { Self → ℕ };
+
     /// Whether the work is ready now.
     fn ready(&self, now: u64, work: &Work) -> bool
         ensures { result ≡ is_some (answer self.now now work.now) };
@@ -38,4 +41,8 @@ pub trait Machine: Drop {
     /// The moment at which something is due.
     fn due(&self) -> Option<u64>
         ensures { result ≡ due_of self.now };
+
+    /// The generation, which a tick names.
+    fn generation(&self) -> u64
+        ensures { result ≡ generation_of self.now };
 }

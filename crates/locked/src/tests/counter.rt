@@ -28,6 +28,8 @@ impl Machine for Counter {
 
     ghost due_of = { λ s. None };
 
+    ghost generation_of = { λ s. 0 };
+
     fn ready(&self, _now: u64, work: &Work) -> bool {
         match work.event {
             Event::Take => true,
@@ -51,5 +53,9 @@ impl Machine for Counter {
 
     fn due(&self) -> Option<u64> {
         None
+    }
+
+    fn generation(&self) -> u64 {
+        0
     }
 }

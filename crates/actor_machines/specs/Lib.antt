@@ -1,0 +1,2 @@
+pub mod Placed
+pub use Rattle.guest_laws.specs.Named

@@ -1,0 +1,6 @@
+-- Some world, where none is named.
+use Rattle.std.specs.Prelude.{[]}
+use Rattle.net_base.specs.declared.world.World.{World}
+
+abbrev pub no_world : World
+no_world = record { end = 0; seed = 0; media = []; hosts = []; scripts = []; db = [] }

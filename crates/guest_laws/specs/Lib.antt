@@ -1,0 +1,4 @@
+pub mod Works
+pub mod Own
+pub mod Named
+pub mod Guests
