@@ -53,8 +53,7 @@ media-lead e s before (x ∷ rest) k =
     let same : (before ++ x ∷ []) ++ rest ≡ before ++ x ∷ rest = append_assoc before (x ∷ []) rest in
     let whole : FineMedia ((before ++ x ∷ []) ++ rest) = subst FineMedia (sym same) k in
     let some = media-front (before ++ x ∷ []) rest whole in
-    let g = media-good e s before x some in
-    (
+    let g = media-good e s before x some in (
       all-at fit_medium_line (before ++ x ∷ rest) before x rest refl k.fit,
       g.good,
       subst (λ (d : Draft). Led d (of_media rest) (media_draft e s (before ++ x ∷ rest))) (sym (media-after e s before x g.fine.behind g.behind g.new))
@@ -84,8 +83,7 @@ under-lead e s media rated front h before (x ∷ rest) k =
     let whole : FineHosts ns (front ++ under_text h ((before ++ x ∷ []) ++ rest) ∷ []) = subst (λ (ls : List HostLine). FineHosts ns (front ++ under_text h ls ∷ [])) (sym same) k in
     let some = under-front media front h (before ++ x ∷ []) rest whole in
     let g = line-good e s media rated front (under_text h before) x some in
-    let mine = each-last (EachFine ns) front (under_text h (before ++ x ∷ rest)) k.each in
-    (
+    let mine = each-last (EachFine ns) front (under_text h (before ++ x ∷ rest)) k.each in (
       all-at fit_host_line (before ++ x ∷ rest) before x rest refl mine.fit,
       g.good,
       subst (λ (d : Draft). Led d (of_host rest) (host_draft e s media rated (front ++ under_text h (before ++ x ∷ rest) ∷ []))) (sym (line-after e s media rated front (under_text h before) x))
@@ -105,8 +103,7 @@ hosts-lead e s media rated front (h ∷ rest) k =
     let mine = each-last (EachFine ns) front h some.each in
     let later = subst (λ (ls : List HostText). Led (host_draft e s media rated (front ++ h ∷ [])) (flat_map lines_of_text rest) (host_draft e s media rated ls)) same (hosts-lead e s media rated (front ++ h ∷ []) rest whole) in
     let under = under-lead e s media rated front h [] h.under some in
-    let all = led-more (host_draft e s media rated (front ++ bare_text h.name h.nets ∷ [])) (host_draft e s media rated (front ++ h ∷ [])) (host_draft e s media rated (front ++ h ∷ rest)) (of_host h.under) (flat_map lines_of_text rest) under later in
-    (
+    let all = led-more (host_draft e s media rated (front ++ bare_text h.name h.nets ∷ [])) (host_draft e s media rated (front ++ h ∷ [])) (host_draft e s media rated (front ++ h ∷ rest)) (of_host h.under) (flat_map lines_of_text rest) under later in (
       mine.head,
       host-good e s media rated front h.name h.nets bare,
       subst (λ (d : Draft). Led d (of_host h.under ++ flat_map lines_of_text rest) (host_draft e s media rated (front ++ h ∷ rest))) (sym (host-after e s media rated front h.name h.nets)) all,
@@ -121,8 +118,7 @@ steps-lead e s media rated hosts front called before [] k = ap (λ xs. script_dr
 steps-lead e s media rated hosts front called before (x ∷ rest) k =
     let same : (before ++ x ∷ []) ++ rest ≡ before ++ x ∷ rest = append_assoc before (x ∷ []) rest in
     let t : ScriptText = record { host = called; steps = before } in
-    let whole = subst (λ (xs : List Step). FineScripts (host_names hosts) (front ++ record { host = called; steps = xs } ∷ [])) (sym same) k in
-    (
+    let whole = subst (λ (xs : List Step). FineScripts (host_names hosts) (front ++ record { host = called; steps = xs } ∷ [])) (sym same) k in (
       step-own (host_names hosts) front called before x rest k,
       step-good (script_draft e s media rated hosts (front ++ t ∷ [])) front t refl,
       subst (λ (d : Draft). Led d (of_script rest) (script_draft e s media rated hosts (front ++ record { host = called; steps = before ++ x ∷ rest } ∷ []))) (sym (step-after e s media rated hosts front t x))
@@ -154,8 +150,7 @@ scripts-lead e s media rated hosts front (t ∷ rest) names k =
     (scripts-lead e s media rated hosts (front ++ t ∷ []) rest names whole) in
     let steps = steps-lead e s media rated hosts front t.host [] t.steps some in
     let all = led-more (script_draft e s media rated hosts (front ++ empty_text t.host ∷ [])) (script_draft e s media rated hosts (front ++ t ∷ [])) (script_draft e s media rated hosts (front ++ t ∷ rest))
-    (of_script t.steps) (flat_map lines_of_steps rest) steps later in
-    (
+    (of_script t.steps) (flat_map lines_of_steps rest) steps later in (
       script-named ns front t.host names empty,
       script-good (script_draft e s media rated hosts front) front t.host refl empty,
       subst (λ (d : Draft). Led d (of_script t.steps ++ flat_map lines_of_steps rest) (script_draft e s media rated hosts (front ++ t ∷ rest))) (sym (script-after e s media rated hosts front t.host)) all,
@@ -204,8 +199,7 @@ world-lead e s media hosts scripts k =
     let second = subst (λ (d : Draft). Led d (flat_map lines_of_text hosts) (host_draft e s ms rated hosts)) (sym (media-hosts e s media k.some_media)) (hosts-lead e s ms rated [] hosts k.hosts_fine) in
     let third = subst (λ (d : Draft). Led d (flat_map lines_of_steps scripts) (script_draft e s ms rated hs scripts)) (sym (hosts-scripts e s ms rated hosts k.some_hosts))
     (scripts-lead e s ms rated hs [] scripts k.host_names_fit k.scripts_fine) in
-    let late = led-more (media_draft e s media) (host_draft e s ms rated hosts) (script_draft e s ms rated hs scripts) (flat_map lines_of_text hosts) (flat_map lines_of_steps scripts) second third in
-    (
+    let late = led-more (media_draft e s media) (host_draft e s ms rated hosts) (script_draft e s ms rated hs scripts) (flat_map lines_of_text hosts) (flat_map lines_of_steps scripts) second third in (
       k.end,
       refl,
       (k.seed, refl, led-more (media_draft e s []) (media_draft e s media) (script_draft e s ms rated hs scripts) (of_media media) (flat_map lines_of_text hosts ++ flat_map lines_of_steps scripts) first late),

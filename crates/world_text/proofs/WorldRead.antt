@@ -106,10 +106,13 @@ all-going media hosts scripts =
 -- the spelled lines of a world lead to it
 pub world-leads : (e s : ℕ) (media : List MediumLine) (hosts : List HostText) (scripts : List ScriptText) → FineWorld e s media hosts scripts
     → Leads opening_draft (map spelling (lines_said e s media hosts scripts)) (whole_draft e s media hosts scripts)
-world-leads e s media hosts scripts k =
-    (begun, refl, spelled-leads begun (whole_draft e s media hosts scripts)
-        (line.End e ∷ line.Seed s ∷ (of_media media ++ (flat_map lines_of_text hosts ++ flat_map lines_of_steps scripts))) refl (all-going media hosts scripts)
-        (world-lead e s media hosts scripts k))
+world-leads e s media hosts scripts k = (
+  begun,
+  refl,
+  spelled-leads begun (whole_draft e s media hosts scripts)
+      (line.End e ∷ line.Seed s ∷ (of_media media ++ (flat_map lines_of_text hosts ++ flat_map lines_of_steps scripts))) refl (all-going media hosts scripts)
+      (world-lead e s media hosts scripts k),
+)
 
 -- From worlds to lines.
 

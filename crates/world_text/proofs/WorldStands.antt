@@ -229,7 +229,7 @@ with-medium ls d x k hosts (t ∷ scripts) eh es fit good =
     absurd (false≢true (sym (media-early (stands_draft k.end_at k.seed_at k.media k.hosts (t ∷ scripts)) x (ap (λ (f : Draft). medium_line_cause f x) (sym (k.draft ∙ ap (stands_draft k.end_at k.seed_at k.media k.hosts) es)) ∙ good))))
 with-medium ls d x k (h ∷ hosts) [] eh es fit good =
     absurd (false≢true (sym (media-early (stands_draft k.end_at k.seed_at k.media (h ∷ hosts) []) x
-        (ap (λ (f : Draft). medium_line_cause f x) (sym (k.draft ∙ (ap (stands_draft k.end_at k.seed_at k.media k.hosts) es ∙ ap (λ hs. stands_draft k.end_at k.seed_at k.media hs []) eh))) ∙ good))))
+    (ap (λ (f : Draft). medium_line_cause f x) (sym (k.draft ∙ (ap (stands_draft k.end_at k.seed_at k.media k.hosts) es ∙ ap (λ hs. stands_draft k.end_at k.seed_at k.media hs []) eh))) ∙ good))))
 with-medium ls d x k [] [] eh es fit good =
     let is : d ≡ media_draft k.end_at k.seed_at k.media = k.draft ∙ (ap (stands_draft k.end_at k.seed_at k.media k.hosts) es ∙ ap (λ hs. stands_draft k.end_at k.seed_at k.media hs []) eh) in
     let f = media-fits k.end_at k.seed_at k.media x k.media_fine fit (ap (λ (g : Draft). medium_line_cause g x) (sym is) ∙ good) in
@@ -261,7 +261,7 @@ with-host : (ls : List WorldLine) (d : Draft) (called : List ℕ) (nets : List P
     → is_fit (line.Host called nets) ≡ true → line_cause d (line.Host called nets) ≡ None → Stands (ls ++ line.Host called nets ∷ []) (after d (line.Host called nets))
 with-host ls d called nets k (t ∷ scripts) es fit good =
     absurd (false≢true (sym (host-early (stands_draft k.end_at k.seed_at k.media k.hosts (t ∷ scripts)) called
-        (ap (λ (f : Draft). host_cause f called) (sym (k.draft ∙ ap (stands_draft k.end_at k.seed_at k.media k.hosts) es)) ∙ good)).0))
+    (ap (λ (f : Draft). host_cause f called) (sym (k.draft ∙ ap (stands_draft k.end_at k.seed_at k.media k.hosts) es)) ∙ good)).0))
 with-host ls d called nets k [] es fit good =
     let ms : List MediumSpec = media_said k.media in
     let rated : List (List ℕ) = filter_map rated_name k.media in

@@ -155,6 +155,7 @@ cs_of [] = None
 abbrev pub of_one : (List ℕ → Step) → List (List ℕ) → Option Step
 of_one make (word ∷ []) = kept (make word)
 of_one make _ = None
+
 -- a step with two words
 abbrev pub of_two : (List ℕ → List ℕ → Step) → List (List ℕ) → Option Step
 of_two make (word ∷ other ∷ []) = kept (make word other)

@@ -96,15 +96,10 @@ pub enum WorldLine {
     End(u64),
     Seed(u64),
     OfMedium(MediumLine),
-    Host {
-        name: Octets,
-        nets: Nets,
-    },
+    Host { name: Octets, nets: Nets },
     /// A line under the last host.
     OfHost(HostLine),
-    Script {
-        host: Octets,
-    },
+    Script { host: Octets },
     /// A step of the last script.
     OfScript(Step),
     Ndb,

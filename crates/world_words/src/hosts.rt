@@ -27,11 +27,7 @@ pub(crate) fn read_host(
 }
 
 /// A host by its name and the words of its nets.
-fn host_of(
-    alloc: Global,
-    name: &[u8],
-    nets: &[&[u8]],
-) -> Result<Option<WorldLine>, AllocError>
+fn host_of(alloc: Global, name: &[u8], nets: &[&[u8]]) -> Result<Option<WorldLine>, AllocError>
     ensures { IfOk result (λ read. read ≡ spec.host_of (name.now ∷ map (λ w. w.now) nets.now)) }
 {
     let nets = nets_named(alloc, nets)?;
@@ -69,16 +65,14 @@ pub(crate) fn read_route(args: &Arguments<'_>) -> Option<WorldLine>
     ensures { result ≡ spec.route_of args.now }
 {
     let (net, mask, gateway) = args.three()?;
-    let (Some(net), Some(mask), Some(gateway)) =
-        (address_in(net), address_in(mask), address_in(gateway))
-    else {
+    let (Some(net), Some(mask), Some(gateway)) = (
+        address_in(net),
+        address_in(mask),
+        address_in(gateway),
+    ) else {
         return None;
     };
-    Some(WorldLine::OfHost(HostLine::Route(RouteLine {
-        net,
-        mask,
-        gateway,
-    })))
+    Some(WorldLine::OfHost(HostLine::Route(RouteLine { net, mask, gateway })))
 }
 
 /// `start N`

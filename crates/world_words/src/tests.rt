@@ -157,11 +157,15 @@ fn wrong_steps_are_told(rt: HostRuntime) -> Result<(), Fail> {
 /// Whether a line is the fate of one frame, or the fate of several.
 fn is_fate_of(alloc: Global, line: &[u8], want: Frames) -> bool {
     match read_line(alloc, line) {
-        Ok(WorldLine::OfMedium(MediumLine::Fate {
-            frames,
-            fate: Fate::Lose,
-            ..
-        })) => frames == want,
+        Ok(
+            WorldLine::OfMedium(
+                MediumLine::Fate {
+                    frames,
+                    fate: Fate::Lose,
+                    ..
+                },
+            ),
+        ) => frames == want,
         _ => false,
     }
 }
@@ -171,12 +175,18 @@ fn lines_say_what_they_spell(rt: HostRuntime) -> Result<(), Fail> {
     assert!(rt; is_fate_of(rt.alloc(), b"fate a 4 lose", Frames::One(4)));
     assert!(rt; is_fate_of(rt.alloc(), b"fate a 4-4 lose", Frames::Range(4, 4)));
     let host = read_line(rt.alloc(), b"host anna udp il");
-    assert!(rt; matches!(&host, Ok(WorldLine::Host { nets, .. })
-        if matches!(nets.as_slice(), [Proto::Udp, Proto::Il])));
+    assert!(rt;
+        matches!(&host, Ok(WorldLine::Host { nets, .. })
+        if matches!(nets.as_slice(), [Proto::Udp, Proto::Il]))
+    );
     let iface = read_line(rt.alloc(), b"if ether0 10.0.0.1 255.0.0.0");
-    assert!(rt; matches!(&iface, Ok(WorldLine::OfHost(HostLine::If { ip, .. })) if *ip == 167_772_161));
+    assert!(rt;
+        matches!(&iface, Ok(WorldLine::OfHost(HostLine::If { ip, .. })) if *ip == 167_772_161)
+    );
     let write = read_line(rt.alloc(), b"write c two  words");
-    assert!(rt; matches!(&write, Ok(WorldLine::OfScript(Step::Write { text, .. }))
-        if text.as_slice() == b"two  words".as_slice()));
+    assert!(rt;
+        matches!(&write, Ok(WorldLine::OfScript(Step::Write { text, .. }))
+        if text.as_slice() == b"two  words".as_slice())
+    );
     Ok(())
 }
