@@ -1,7 +1,9 @@
--- At most ten calls wait at a slot, whatever works were done.
+-- At most ten calls wait at a slot, whatever works were done, and only directories tell of them.
 use Rattle.std.proofs.Common.{◌≡◌, ℕ, zero, suc, ◌+◌, ◌≤◌, ◌==◌, nat_lt, ◌&&◌, not, Bool, true, false, List, [], ◌∷◌, ◌++◌, length, Option, Some, None, is_none, slice_get, slice_set, replicate, if◌then◌else◌, refl, ap, sym, subst, arith, length-append}
-use Rattle.std.specs.Option.{option_and_then}
+use Rattle.std.specs.Option.{option_and_then, option_map}
+use Rattle.std.specs.Prelude.{bytes_eq, codes, nat_le}
 use Rattle.std.proofs.lemmas.Bool.Decides.{nat_tests}
+use Rattle.std.proofs.lemmas.Bool.{true≢false}
 use Rattle.std.proofs.lemmas.Option.{none-some, same_Some}
 use Rattle.net_base.specs.declared.actor.ActorName.{ActorName}
 use Rattle.net_base.specs.declared.actor.ActorName.TheVariants as name
@@ -11,28 +13,39 @@ use Rattle.net_base.specs.declared.address.Pair.{Pair}
 use Rattle.net_base.specs.declared.address.Proto.{Proto}
 use Rattle.net_base.specs.declared.event.Event.{Event}
 use Rattle.net_base.specs.declared.event.Event.TheVariants as event
+use Rattle.net_base.specs.declared.history.Taken.{Taken}
 use Rattle.net_base.specs.declared.history.With.{With}
 use Rattle.net_base.specs.declared.history.With.TheVariants as given
 use Rattle.net_base.specs.declared.history.Work.{Work}
 use Rattle.net_base.specs.declared.il.StateName.{StateName}
 use Rattle.net_base.specs.declared.il.StateName.TheVariants as state_name
+use Rattle.net_base.specs.declared.names.Mode.{Mode}
+use Rattle.net_base.specs.declared.names.Node.{Node}
+use Rattle.net_base.specs.declared.ndb.NdbPair.{NdbPair}
 use Rattle.net_base.specs.declared.noted.Noted.{Noted}
 use Rattle.net_base.specs.declared.packet.Body.{Body}
 use Rattle.net_base.specs.declared.packet.Body.TheVariants as body
 use Rattle.net_base.specs.declared.packet.Packet.{Packet}
 use Rattle.net_base.specs.declared.reply.Reply.{Reply}
 use Rattle.net_base.specs.declared.reply.Reply.TheVariants as reply
+use Rattle.net_base.specs.declared.world.HostSpec.{HostSpec}
+use Rattle.net_base.specs.declared.world.MediumSpec.{MediumSpec}
 use Rattle.net_base.specs.declared.world.World.{World}
 use Rattle.net_base.specs.ActorStep.{Step, when}
-use Rattle.net_base.specs.Actors.{Actor, IsDir, IsConv, IsMedium, IsPlain, actor_step, has_actor, step_as, table_step}
+use Rattle.net_base.specs.Actors.{Actor, IsDir, IsConv, IsMedium, IsPlain, actor_step, has_actor, plain_step, step_as, table_step}
 use Rattle.net_base.specs.Directory.{Dir, Home, Slot, Taker, announces, arrives_at, binds, born_or_not, dir_answers, dir_step, first_slot, free_slot, gets, grants, grants_by, grants_pair, home_at, in_found_slot, is_free, is_live_with, is_of, is_reserved, listens, listens_at, match_of, may_bear, next_call, pair_of, pair_place, port_for, refused_or_dropped, reserves, taker_of}
-use Rattle.net_base.specs.Conversation.{is_sync}
+use Rattle.net_base.specs.Conversation.{Conv, conv_step, is_sync}
+use Rattle.net_base.specs.Cs.{CsAnswer, Lines, Refused, cs_list}
+use Rattle.net_base.specs.Desk.{clock_reply, cs_reply, desk_reply, open_refusal}
+use Rattle.net_base.specs.Medium.{Medium, datagram_length, fate_of, lays, medium_leaves, medium_step, puts, takes}
 use Rattle.net_base.specs.Mirror.{mirror}
 use Rattle.net_base.specs.Net.{Net, opening_net, stepped_to}
+use Rattle.net_base.specs.Paths.{walk, may_open}
 use Rattle.net_base.specs.Routes.{Way, way}
 use Rattle.net_base.specs.Same.{same_addr, same_pair}
 use Rattle.net_base.specs.Stamped.{same_actor}
 use Rattle.guest_laws.specs.Works.{step_by, next_noted, noted_from, noted_net}
+use Rattle.guest_laws.proofs.ConvCalls.{Tells, conv_plain, is_calls}
 use Rattle.guest_laws.proofs.Nets.{moved, unmoved}
 
 abbrev calls_in : Reply → ℕ
@@ -245,3 +258,119 @@ module _ (equal : (a b : ActorName) → same_actor a b ≡ true → a ≡ b) (w 
   few_calls log now work t calls gives is =
       let few = actor_few w h p ((noted_net w log).actors dir) now work (from_few opening_net log opens_few) in
       told t calls (subst (λ (o : Option (Step Actor)). FewAfter o) gives few).1 is
+
+-- Elsewhere.
+
+few_of : (r : Reply) → is_calls r ≡ false → calls_in r ≤ 10
+few_of (reply.Calls calls) is = absurd (true≢false is)
+few_of _ is = none
+
+abbrev FewTold : Option (Step Actor) → Type 0
+FewTold None = Unit {0}
+FewTold (Some s) = calls_in s.outcome.reply ≤ 10
+
+any_told : {S : Type 0} (actor : S → Actor) (o : Option (Step S)) → Tells o → FewTold (step_as actor o)
+any_told actor None plain = tt
+any_told actor (Some s) plain = few_of s.outcome.reply plain
+
+-- what an actor that keeps nothing replies
+abbrev NoCalls : Option Reply → Type 0
+NoCalls None = Unit {0}
+NoCalls (Some r) = is_calls r ≡ false
+
+plain_told : (o : Option Reply) → NoCalls o → FewTold (option_map plain_step o)
+plain_told None plain = tt
+plain_told (Some r) plain = few_of r plain
+
+cs_told : (answer : CsAnswer) → NoCalls (Some (cs_reply answer))
+cs_told (Lines lines) = refl
+cs_told (Refused n) = refl
+
+ls_told : (b : Bool) (names : List (List ℕ)) → NoCalls (Some (if b then reply.Names names else reply.NoFile))
+ls_told true names = refl
+ls_told false names = refl
+
+mode_told : (b : Bool) → NoCalls (if b then None else Some reply.BadMode)
+mode_told true = tt
+mode_told false = refl
+
+open_told : (m : Mode) (o : Option Node) → NoCalls (open_refusal o m)
+open_told m None = refl
+open_told m (Some n) = mode_told (may_open n m)
+
+until_told : (b : Bool) → NoCalls (when b (Some reply.Ok))
+until_told true = refl
+until_told false = tt
+
+desk_told : (db : List (List (List NdbPair))) (h : HostSpec) (e : Event) (now : ℕ) → NoCalls (desk_reply db h e now)
+desk_told db h (event.Cs query) now = cs_told (cs_list db h.name h.nets query)
+desk_told db h (event.LsPath path) now = ls_told (bytes_eq path (codes "/net")) _
+desk_told db h (event.OpenPath path m) now = open_told m (walk path)
+desk_told db h (event.Use name) now = refl
+desk_told db h (event.Misuse name) now = refl
+desk_told db h (event.Until moment) now = until_told (nat_le moment now)
+desk_told db h _ now = tt
+
+clock_told : (e : Event) → NoCalls (clock_reply e)
+clock_told (event.Move moment) = refl
+clock_told _ = tt
+
+takes_told : (queue held : List Taken) (m : Medium) → Tells (takes queue held m)
+takes_told (t ∷ rest) held m = refl
+takes_told [] (t ∷ rest) m = refl
+takes_told [] [] m = tt
+
+lays_told : (s : MediumSpec) (seed to : ℕ) (p : Packet) (m : Medium) (b : Bool) → Tells (Some (if b then medium_leaves reply.TooBig None m else lays (fate_of seed s (m.frames + 1)) (record { frame = m.frames + 1; to = to; packet = p }) m))
+lays_told s seed to p m true = refl
+lays_told s seed to p m false = refl
+
+puts_told : (s : MediumSpec) (seed : ℕ) (to : Option ℕ) (p : Packet) (m : Medium) → Tells (Some (puts s seed to p m))
+puts_told s seed None p m = refl
+puts_told s seed (Some to) p m = lays_told s seed to p m (nat_lt s.mtu (datagram_length p.body))
+
+medium_told : (s : MediumSpec) (seed : ℕ) (e : Event) (with : With) (m : Medium) → Tells (medium_step s seed e with m)
+medium_told s seed (event.Put to) (given.Packet p) m = puts_told s seed to p m
+medium_told s seed event.Take with m = takes_told m.queue m.held m
+medium_told s seed _ _ m = tt
+
+desk_at : (w : World) (now : ℕ) (e : Event) (o : Option HostSpec) → FewTold (option_and_then (λ (host : HostSpec). option_map plain_step (desk_reply w.db host e now)) o)
+desk_at w now e None = tt
+desk_at w now e (Some host) = plain_told (desk_reply w.db host e now) (desk_told w.db host e now)
+
+medium_at : (w : World) (m : Medium) (e : Event) (with : With) (o : Option MediumSpec)
+    → FewTold (option_and_then (λ (spec : MediumSpec). step_as IsMedium (medium_step spec w.seed e with m)) o)
+medium_at w m e with None = tt
+medium_at w m e with (Some spec) = any_told IsMedium (medium_step spec w.seed e with m) (medium_told spec w.seed e with m)
+
+when_told : (b : Bool) (t : Option (Step Actor)) → FewTold t → FewTold (when b t)
+when_told true t few = few
+when_told false t few = tt
+
+-- no other actor tells any
+abbrev IsElsewhere : ActorName → Type 0
+IsElsewhere (name.Dir h p) = ⊥
+IsElsewhere _ = Unit {0}
+
+table_told : (w : World) (a : ActorName) (s : Actor) (now : ℕ) (work : Work) → IsElsewhere a → FewTold (table_step w a s now work)
+table_told w (name.Dir h p) s now work elsewhere = absurd elsewhere
+table_told w (name.Desk h) IsPlain now work elsewhere = desk_at w now work.event (slice_get w.hosts h)
+table_told w (name.Conv h p n) (IsConv c) now work elsewhere = any_told IsConv (conv_step n work.event work.with now c) (conv_plain n work.event work.with now c)
+table_told w (name.Medium m) (IsMedium s) now work elsewhere = medium_at w s work.event work.with (slice_get w.media m)
+table_told w name.Clock IsPlain now work elsewhere = plain_told (clock_reply work.event) (clock_told work.event)
+table_told w _ _ now work elsewhere = tt
+
+elsewhere_few : (w : World) (a : ActorName) → IsElsewhere a → (s : Actor) (now : ℕ) (work : Work) (t : Step Actor) (calls : List Call)
+    → actor_step w a s now work ≡ Some t → t.outcome.reply ≡ reply.Calls calls → length calls ≤ 10
+elsewhere_few w a elsewhere s now work t calls gives is =
+    let few = when_told (has_actor w a) (table_step w a s now work) (table_told w a s now work elsewhere) in
+    subst (λ (r : Reply). calls_in r ≤ 10) is (subst (λ (o : Option (Step Actor)). FewTold o) gives few)
+
+-- so no actor ever tells more than ten
+pub no_more : ((a b : ActorName) → same_actor a b ≡ true → a ≡ b) → (w : World) (a : ActorName) (log : List Noted) (now : ℕ) (work : Work) (t : Step Actor) (calls : List Call)
+    → actor_step w a ((noted_net w log).actors a) now work ≡ Some t
+    → t.outcome.reply ≡ reply.Calls calls → length calls ≤ 10
+no_more equal w (name.Dir h p) log now work t calls gives is = few_calls equal w h p log now work t calls gives is
+no_more equal w (name.Desk h) log now work t calls gives is = elsewhere_few w (name.Desk h) tt _ now work t calls gives is
+no_more equal w (name.Conv h p n) log now work t calls gives is = elsewhere_few w (name.Conv h p n) tt _ now work t calls gives is
+no_more equal w (name.Medium m) log now work t calls gives is = elsewhere_few w (name.Medium m) tt _ now work t calls gives is
+no_more equal w name.Clock log now work t calls gives is = elsewhere_few w name.Clock tt _ now work t calls gives is

@@ -4,7 +4,6 @@ ghost use mathlib.Core.List.{IsPrefix};
 ghost use Rattle.net_base.specs.declared.actor.ActorName.{ActorName};
 ghost use Rattle.net_base.specs.declared.actor.ActorName.TheVariants as name;
 ghost use Rattle.net_base.specs.declared.actor.Call.{Call};
-ghost use Rattle.net_base.specs.declared.address.Proto.{Proto};
 ghost use Rattle.net_base.specs.declared.event.Event.TheVariants as event;
 ghost use Rattle.net_base.specs.declared.history.Entry.{Entry};
 ghost use Rattle.net_base.specs.declared.history.Outcome.{Outcome};
@@ -27,7 +26,7 @@ ghost use Rattle.journal.specs.declared.law.Roster.{Roster};
 ghost use Rattle.journal.specs.declared.tokens.Sight.{Sight};
 ghost use Rattle.journal.specs.Tokens.{Looked, Met};
 ghost use Rattle.locked.specs.Acts.{state_at};
-ghost use Rattle.guest_laws.specs.Works.{noted_net, next_noted, entries};
+ghost use Rattle.guest_laws.specs.Works.{noted_net, next_noted, entries, owed_in};
 ghost use Rattle.guest_laws.specs.Own.{AreNext, AreTimely, DoScriptsGoOn, Gains, IsLegalButScripts, StandsStill};
 ghost use Rattle.guest_laws.specs.Named.{answer_in, due_of, generation_of, named, opening};
 ghost use Rattle.guest_laws.specs.Guests.{HandsOver, HasRecorded, IsGuest, IsOfGuests, IsTurn, Records, StaysGuest};
@@ -63,15 +62,21 @@ pub fn moves_are_the_clocks()
         → same_actor a name.Clock ≡ false → actor_step w a s now work ≡ Some t → IsInTime net w work.event }
 {}
 
-/// A directory never tells more than ten calls that waited, whatever works were done before.
+/// No actor ever tells more than ten calls that waited, whatever works were done before.
 pub fn few_calls_wait()
-    ensures { (w : World) (h : ℕ) (p : Proto) (log : List Noted) (now : ℕ) (work : Work) (t : Step Actor)
+    ensures { (w : World) (a : ActorName) (log : List Noted) (now : ℕ) (work : Work) (t : Step Actor)
         (calls : List Call)
-        → actor_step w (name.Dir h p) ((noted_net w log).actors (name.Dir h p)) now work ≡ Some t
+        → actor_step w a ((noted_net w log).actors a) now work ≡ Some t
         → t.outcome.reply ≡ reply.Calls calls → length calls ≤ 10 }
 {
     same_actors_are_equal();
 }
+
+/// No duty is one at the clock.
+pub fn no_duty_is_the_clocks()
+    ensures { (w : World) (log : List Noted) (c : ℕ) (d : Duty) → In d (owed_in w log c)
+        → same_actor d.actor name.Clock ≡ false }
+{}
 
 /// What a caller owes, what comes next for it and what its own entries are stay when others record.
 pub fn others_leave_a_caller()

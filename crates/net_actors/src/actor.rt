@@ -10,7 +10,8 @@ ghost use Rattle.net_actors.specs.Small.{IsSmall};
 ghost use Rattle.net_actors.specs.Stepping.{IsReady, Steps};
 
 use crate::kind::Kind;
-use net_base::{ActorName, Db, Outcome, Work, World};
+use ndb_index::Index;
+use net_base::{ActorName, Outcome, Work, World};
 use std::alloc::{AllocError, Global};
 use std::sync::Arc;
 
@@ -30,7 +31,7 @@ impl Actor {
     pub fn new(
         alloc: Global,
         world: &World,
-        db: &Arc<Db, Global>,
+        db: &Arc<Index, Global>,
         name: ActorName,
     ) -> Result<Actor, AllocError>
         requires world { IsWorld world.now }

@@ -14,6 +14,7 @@ ghost use Rattle.net_actors.specs.Together.{AreActors, AreFirst, CanStep, Steps,
 use crate::actor::Actor;
 use crate::number::{actor_at, actor_count, is_among, number_of};
 use duties::Due;
+use ndb_index::Index;
 use net_base::{ActorName, Db, Outcome, Proto, Work, World};
 use std::alloc::{AllocError, Global};
 use std::marker::Model;
@@ -50,7 +51,7 @@ impl Actors {
     {
         let hosts = world.hosts.len() as u32;
         let media = world.media.len() as u32;
-        let db = Arc::new(alloc, copy_of(&world.db)?)?;
+        let db = Arc::new(alloc, index_of(alloc, &world.db)?)?;
         let actors = all_actors(alloc, world, &db, hosts, media)?;
         Ok(Actors {
             hosts,
@@ -171,11 +172,18 @@ fn copy_of(db: &Db) -> Result<Db, AllocError>
     db.clone()
 }
 
+/// The index of a copy of the database.
+fn index_of(alloc: Global, db: &Db) -> Result<Index, AllocError>
+    ensures { IfOk result (λ index. index ≡ db.now) }
+{
+    Index::new(alloc, copy_of(db)?)
+}
+
 /// All actors of a world in the order of their numbers.
 fn all_actors(
     alloc: Global,
     world: &World,
-    db: &Arc<Db, Global>,
+    db: &Arc<Index, Global>,
     hosts: u32,
     media: u32,
 ) -> Result<Vec<Actor>, AllocError>

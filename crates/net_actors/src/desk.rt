@@ -9,20 +9,22 @@ ghost use Rattle.net_base.specs.World.{is_nets};
 ghost use Rattle.net_actors.specs.AtDesk.{Replies, host_of};
 
 use crate::outcome::answered;
-use cs_resolver::{CsError, answer};
-use net_base::{Db, Event, HostSpec, Lines, Mode, Nets, Node, Octets, Outcome, Reply};
+use cs_resolver::{CsError, answer_indexed};
+use ndb_index::Index;
+use net_base::{Event, HostSpec, Lines, Mode, Nets, Node, Octets, Outcome, Reply};
 use net_tree::{may_open, names, walk};
 use std::alloc::{AllocError, Global};
 use std::marker::Model;
 use std::sync::Arc;
 
-/// The desk of a host, which keeps nothing but what the world says. The database stands once for all desks.
+/// The desk of a host, which keeps nothing but what the world says. The database stands once for all desks, with its
+/// index.
 ///
 /// Clauses see the database, and the name and the nets of the host.
 #[derive(Drop)]
 pub struct Desk {
     alloc: Global,
-    db: Arc<Db, Global>,
+    db: Arc<Index, Global>,
     name: Octets,
     nets: Nets,
 }
@@ -41,7 +43,7 @@ impl Model for Desk {
 impl Desk {
     /// The desk of a host.
     #[tactic(auto, using(crate::proofs::Said::are_nets))]
-    pub fn new(alloc: Global, db: &Arc<Db, Global>, host: &HostSpec) -> Result<Desk, AllocError>
+    pub fn new(alloc: Global, db: &Arc<Index, Global>, host: &HostSpec) -> Result<Desk, AllocError>
         requires { is_nets host.now.nets ≡ true }
         ensures { IfOk result (λ d. d ≡ record { db = arc_value db.now; name = host.now.name; nets = host.now.nets }) }
     {
@@ -90,7 +92,7 @@ impl Desk {
             (cs_list self.now.db self.now.name self.now.nets query.now)))) }
     {
         let nets = self.nets.as_slice();
-        match answer(self.alloc, &self.db, self.name.as_slice(), nets, query) {
+        match answer_indexed(self.alloc, &self.db, self.name.as_slice(), nets, query) {
             Ok(lines) => given(lines),
             Err(CsError::Memory) => Err(AllocError),
             Err(error) => Ok(refused(error.number())),

@@ -20,7 +20,8 @@ use crate::outcome::answered;
 use conversation::Conv;
 use host_dir::Dir;
 use medium::Medium;
-use net_base::{ActorName, Db, Event, Outcome, Proto, Reply, Work, World};
+use ndb_index::Index;
+use net_base::{ActorName, Event, Outcome, Proto, Reply, Work, World};
 use std::alloc::{AllocError, Global};
 use std::sync::Arc;
 
@@ -39,7 +40,7 @@ impl Kind {
     pub fn new(
         alloc: Global,
         world: &World,
-        db: &Arc<Db, Global>,
+        db: &Arc<Index, Global>,
         name: ActorName,
     ) -> Result<Kind, AllocError>
         requires world { IsWorld world.now }
@@ -115,7 +116,7 @@ impl Kind {
 fn desk_of(
     alloc: Global,
     world: &World,
-    db: &Arc<Db, Global>,
+    db: &Arc<Index, Global>,
     host: u32,
 ) -> Result<Desk, AllocError>
     requires world { IsWorld world.now }

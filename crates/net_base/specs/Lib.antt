@@ -41,7 +41,6 @@ pub mod Next
 pub mod Calm
 pub mod Legal
 pub mod World
-pub mod WorldForm
 pub mod Written
 pub mod Transcript
 pub mod Summary
