@@ -200,6 +200,12 @@ goes_fits e (Some s) t is goes = subst (λ (x : Step Actor). fits e x.outcome.re
 pub step_fits : (w : World) (h : List Entry) (a : ActorName) (now : ℕ) (work : Work) (t : Step Actor) → actor_step w a ((after w h).actors a) now work ≡ Some t → fits work.event t.outcome.reply ≡ true
 step_fits w h a now work t is = goes_fits work.event (actor_step w a ((after w h).actors a) now work) t is (actor_goes w a ((after w h).actors a) now work (fine_after w h a))
 
+-- a step of an actor after any works
+pub played_fits : (w : World) (a : ActorName) (ps : List Play) (now : ℕ) (work : Work) (t : Step Actor) → actor_step w a (played w a (opening_actor a) ps) now work ≡ Some t → fits work.event t.outcome.reply ≡ true
+played_fits w a ps now work t is =
+    goes_fits work.event (actor_step w a (played w a (opening_actor a) ps) now work) t is
+    (actor_goes w a (played w a (opening_actor a) ps) now work (played_fine w a (opening_actor a) ps (opening_is_fine a)))
+
 shown_fits : (x : Entry) (e : Event) (o : Option (Step Actor)) → Goes e o → IsSome (option_map (λ (s : Step Actor). s.outcome) o) → Shows (option_map (λ (s : Step Actor). s.outcome) o) x → fits e x.reply ≡ true
 shown_fits x e None goes ready shows = absurd (false≢true ready)
 shown_fits x e (Some s) goes ready shows = subst (λ (y : Shown). fits e y.reply ≡ true) (sym shows) goes.1

@@ -5,9 +5,9 @@ ghost use Rattle.net_base.specs.declared.history.Entry.{Entry};
 ghost use Rattle.net_base.specs.declared.history.Work.{Work};
 ghost use Rattle.net_base.specs.declared.world.World.{World};
 ghost use Rattle.net_base.specs.ActorStep.{Step};
-ghost use Rattle.net_base.specs.Actors.{Actor, actor_step};
+ghost use Rattle.net_base.specs.Actors.{Actor, actor_step, opening_actor};
 ghost use Rattle.net_base.specs.Legal.{IsLegal};
-ghost use Rattle.net_base.specs.Net.{after};
+ghost use Rattle.net_base.specs.Net.{Play, after, played};
 ghost use Rattle.net_base.specs.declared.reply.Reply.{Reply};
 ghost use Rattle.net_tree.specs.Bindings.{Bindings};
 ghost use Rattle.script_task.specs.declared.request.Request.{Request};
@@ -16,12 +16,15 @@ ghost use Rattle.script_task.specs.Fitting.{fits};
 ghost use Rattle.script_task.specs.Requests.{settled};
 
 /// Each entry of a legal history has a reply that fits its event, and so has each step of an actor as it is after any
-/// history.
+/// history, or after any works.
 pub fn replies_fit()
     ensures entries { (w : World) (h : List Entry) (k : ℕ) (x : Entry)
         → IsLegal w h → slice_get h k ≡ Some x → fits x.event x.reply ≡ true }
     ensures steps { (w : World) (h : List Entry) (a : ActorName) (now : ℕ) (work : Work) (t : Step Actor)
         → actor_step w a ((after w h).actors a) now work ≡ Some t → fits work.event t.outcome.reply ≡ true }
+    ensures works { (w : World) (a : ActorName) (ps : List Play) (now : ℕ) (work : Work) (t : Step Actor)
+        → actor_step w a (played w a (opening_actor a) ps) now work ≡ Some t
+        → fits work.event t.outcome.reply ≡ true }
 {}
 
 /// The effect of a request settles the names as the request itself does.
