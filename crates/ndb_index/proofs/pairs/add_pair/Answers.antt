@@ -11,7 +11,7 @@ returns c =
     c.args.pairs.now.entries (map_with_value c.in_ok-pairs.field-0 c.add_spot.new.spots).entries _
     c.in_ok-of.ensures.attr c.in_ok-of.ensures.value refl
     (c.in_ok-add_spot.ensures
-        ∙ ap (with_spot c.args.spot) (c.or_insert-spots.ensures.value
-            ∙ ap (unwrap_or (entry_value c.in_ok-pairs.field-0)) c.new.ensures
-            ∙ ap (λ (o : Option (List Spot)). unwrap_or o []) c.in_ok-pairs.ensures.value))
+    ∙ ap (with_spot c.args.spot) (c.or_insert-spots.ensures.value
+    ∙ ap (unwrap_or (entry_value c.in_ok-pairs.field-0)) c.new.ensures
+    ∙ ap (λ (o : Option (List Spot)). unwrap_or o []) c.in_ok-pairs.ensures.value))
     (c.in_ok-pairs.ensures.update.0 c.add_spot.new.spots).0 (search rules)
