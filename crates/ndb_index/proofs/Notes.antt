@@ -1,9 +1,8 @@
 -- The spots of pairs, as they are noted pair by pair, line by line and tuple by tuple.
-use Rattle.std.proofs.Common.{◌≡◌, ℕ, ◌+◌, ◌-◌, ◌<◌, ◌≤◌, ◌==◌, ◌||◌, Bool, true, false, cond, List, [], ◌∷◌, ◌++◌, length, get_or, take, drop, refl, sym, ap, ◌∙◌, subst, zero, suc, Option, Some, None, arith, append-nil, append_assoc, length-append, slice_get, unwrap_or}
+use Rattle.std.proofs.Common.{◌≡◌, ℕ, ◌+◌, ◌-◌, ◌<◌, ◌≤◌, ◌==◌, ◌||◌, Bool, true, false, cond, List, [], ◌∷◌, ◌++◌, length, get_or, take, drop, refl, sym, ap, ◌∙◌, zero, suc, Option, Some, None, arith, append-nil, append_assoc, length-append, slice_get, unwrap_or}
 use Rattle.std.specs.Prelude.{option_map, option_to_list, bytes_eq}
 use Rattle.std.specs.Option.{option_map_or}
-use Rattle.std.specs.List.{list_any, position_from}
-use Rattle.std.specs.Map.{lookup}
+use Rattle.std.specs.List.{position_from}
 use Rattle.std.specs.Cmp.{first_so, second_so}
 use Rattle.std.specs.Cmp.Lexicographic.{bytes_decides}
 use Rattle.std.proofs.lemmas.Bool.Decides.{nat_tests}
@@ -14,7 +13,7 @@ use Rattle.net_base.specs.Search.{is_pair, line_has}
 use Rattle.ndb_index.specs.declared.spot.Spot.{Spot}
 use Rattle.ndb_index.specs.declared.key.Key.{Key}
 use Rattle.ndb_index.specs.Keys.{same_pair}
-use Rattle.ndb_index.specs.Kept.{spot_at, spot_in, spots_from, is_key, spots_found, spots_kept, ends_at, with_spot, noted, lines_noted}
+use Rattle.ndb_index.specs.Kept.{spot_at, spot_in, spots_from, spots_found, spots_kept, ends_at, with_spot, noted, lines_noted}
 
 -- A pair.
 
@@ -42,17 +41,12 @@ put_noted a v before after spot old new had is put attr value =
         ∙ ap (λ (w : List ℕ). with_spot spot (spots_kept attr w old)) same.1
     at false e = refl
 
--- the first spot of a pair
-pub first_noted : (pair : NdbPair) (key : Key) (spots : List Spot) (spot : Spot) (old new : Kept) → key.attr ≡ pair.attr → key.value ≡ pair.value → spots ≡ spot ∷ [] → spots_found pair.attr pair.value old ≡ None → Puts key.attr key.value spots old new → (attr value : List ℕ) → spots_kept attr value new ≡ noted (is_pair attr value pair) spot (spots_kept attr value old)
-first_noted pair key spots spot old new attr_is value_is one none put =
-    put_noted pair.attr pair.value None spots spot old new none one
-    (subst (λ (a : List ℕ). Puts a pair.value spots old new) attr_is (subst (λ (v : List ℕ). Puts key.attr v spots old new) value_is put))
-
--- one more spot of a pair, where it had some
-pub more_noted : (pair : NdbPair) (a v : List ℕ) (before after : List Spot) (spot : Spot) (old new : Kept) → a ≡ pair.attr → v ≡ pair.value → spots_found a v old ≡ Some before → after ≡ with_spot spot before → Puts a v after old new → (attr value : List ℕ) → spots_kept attr value new ≡ noted (is_pair attr value pair) spot (spots_kept attr value old)
-more_noted pair a v before after spot old new attr_is value_is had is put attr value =
-    put_noted a v (Some before) after spot old new had is put attr value
-    ∙ ap (λ (w : List ℕ). noted (same_pair w v attr value) spot (spots_kept attr value old)) attr_is
+-- a pair's key has one more spot, or its first
+pub pair_noted : (pair : NdbPair) (key : Key) (before : Option (List Spot)) (after : List Spot) (spot : Spot) (old made new : Kept) → key.attr ≡ pair.attr → key.value ≡ pair.value → spots_found key.attr key.value old ≡ before → after ≡ with_spot spot (unwrap_or before []) → Puts key.attr key.value after old made → new ≡ made → (attr value : List ℕ) → spots_kept attr value new ≡ noted (is_pair attr value pair) spot (spots_kept attr value old)
+pair_noted pair key before after spot old made new attr_is value_is had is put same attr value =
+    ap (spots_kept attr value) same
+    ∙ put_noted key.attr key.value before after spot old made had is put attr value
+    ∙ ap (λ (w : List ℕ). noted (same_pair w key.value attr value) spot (spots_kept attr value old)) attr_is
     ∙ ap (λ (w : List ℕ). noted (same_pair pair.attr w attr value) spot (spots_kept attr value old)) value_is
 
 -- A line.

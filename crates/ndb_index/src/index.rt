@@ -39,11 +39,14 @@ impl Model for Index {
     ghost invariant = { λ i. IsIndex i.tuples i.pairs.entries i.networks.entries i.lengths.keys };
 }
 
+/// How many pairs of its own a tuple mostly has.
+const PAIRS: usize = 3;
+
 /// The spots of all pairs.
 fn pairs_of(alloc: Global, db: &Db) -> Result<Pairs, AllocError>
     ensures { IfOk result (λ pairs. HasSpots db.now pairs.entries) }
 {
-    let mut pairs = IndexMap::new(alloc);
+    let mut pairs = IndexMap::with_capacity(alloc, db.len().saturating_mul(PAIRS))?;
     for (place, tuple) in db.as_slice().iter().enumerate() {
         pairs::add_tuple(alloc, &mut pairs, tuple, place as u64)?;
     }

@@ -4,27 +4,28 @@ ghost use Rattle.std.specs.Cmp.Rules.{comparing};
 ghost use Rattle.std.proofs.Common.{rules};
 ghost use Rattle.ndb_index.specs.Keys.{same_pair, fed_alike, found_alike};
 
+use crate::text::Text;
 use indexmap::Equivalent;
-use net_base::{NdbPair, Octets};
-use std::alloc::AllocError;
+use net_base::NdbPair;
+use std::alloc::{AllocError, Global};
 use std::hash::{Hash, Hasher};
 
 /// A pair, by its attribute and its value.
 #[derive(Drop)]
 pub struct Key {
-    pub attr: Octets,
-    pub value: Octets,
+    pub attr: Text,
+    pub value: Text,
 }
 
 impl Key {
     /// A copy of a pair.
-    pub fn of(pair: &NdbPair) -> Result<Key, AllocError>
+    pub fn of(alloc: Global, pair: &NdbPair) -> Result<Key, AllocError>
         ensures attr { IfOk result (λ key. key.attr ≡ pair.now.attr) }
         ensures value { IfOk result (λ key. key.value ≡ pair.now.value) }
     {
         Ok(Key {
-            attr: pair.attr.clone()?,
-            value: pair.value.clone()?,
+            attr: Text::of(alloc, pair.attr.as_slice())?,
+            value: Text::of(alloc, pair.value.as_slice())?,
         })
     }
 }
@@ -35,7 +36,8 @@ impl PartialEq for Key {
     ghost laws = { Prim.search (comparing, rules) };
 
     fn eq(&self, other: &Key) -> bool {
-        self.attr == other.attr && self.value == other.value
+        self.attr.as_slice() == other.attr.as_slice()
+            && self.value.as_slice() == other.value.as_slice()
     }
 }
 
@@ -95,18 +97,5 @@ impl Equivalent<Key> for Asked<'_> {
 
     fn equivalent(&self, key: &Key) -> bool {
         self.attr == key.attr.as_slice() && self.value == key.value.as_slice()
-    }
-}
-
-impl<'a> Asked<'a> {
-    /// A pair of a database, lent.
-    pub fn of(pair: &'a NdbPair) -> Asked<'a>
-        ensures attr { result.attr.now ≡ pair.now.attr }
-        ensures value { result.value.now ≡ pair.now.value }
-    {
-        Asked {
-            attr: pair.attr.as_slice(),
-            value: pair.value.as_slice(),
-        }
     }
 }

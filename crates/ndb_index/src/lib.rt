@@ -7,8 +7,10 @@ mod near;
 mod networks;
 mod pairs;
 mod spot;
+mod spots;
 #[cfg(test)]
 mod tests;
+mod text;
 
 pub use index::Index;
 pub use ndb_reader::{Steps, Tuples};

@@ -1,16 +1,14 @@
 //! Where each pair of a database stands.
-ghost use Rattle.std.specs.Prelude.{◌≡◌, ℕ, List, None, OnOk};
+ghost use Rattle.std.specs.Prelude.{◌≡◌, ℕ, List, OnOk};
 ghost use Rattle.net_base.specs.Search.{is_pair, line_has};
 ghost use Rattle.ndb_index.specs.Kept as spec;
 
 use crate::key::{Asked, Key};
 use crate::spot::Spot;
+use crate::spots::Spots;
 use indexmap::IndexMap;
-use net_base::{Line, NdbPair, Sequence, Tuple};
+use net_base::{Line, NdbPair, Tuple};
 use std::alloc::{AllocError, Global};
-
-/// Spots in order, one a tuple.
-pub type Spots = Sequence<Spot>;
 
 /// The spots of each pair.
 pub type Pairs = IndexMap<Key, Spots>;
@@ -45,26 +43,14 @@ fn add_spot(spots: &mut Spots, spot: Spot) -> Result<(), AllocError>
     spots.push(spot)
 }
 
-/// Adds the first spot of a pair.
-fn add_first(alloc: Global, pairs: &mut Pairs, pair: &NdbPair, spot: Spot) -> Result<(), AllocError>
-    requires { spec.spots_found pair.now.attr pair.now.value pairs.old.entries ≡ None }
-    ensures { OnOk result ((attr value : List ℕ) → spec.spots_kept attr value pairs.new.entries
-        ≡ spec.noted (is_pair attr value pair.now) spot (spec.spots_kept attr value pairs.old.entries)) }
-{
-    let mut spots = Spots::new(alloc);
-    spots.push(spot)?;
-    pairs.insert(Key::of(pair)?, spots)?;
-    Ok(())
-}
-
 /// Notes that a pair stands at a spot.
 fn add_pair(alloc: Global, pairs: &mut Pairs, pair: &NdbPair, spot: Spot) -> Result<(), AllocError>
     ensures { OnOk result ((attr value : List ℕ) → spec.spots_kept attr value pairs.new.entries
         ≡ spec.noted (is_pair attr value pair.now) spot (spec.spots_kept attr value pairs.old.entries)) }
 {
-    let Some(spots) = pairs.get_mut(Asked::of(pair)) else {
-        return add_first(alloc, pairs, pair, spot);
-    };
+    let spots = pairs
+        .entry(Key::of(alloc, pair)?)?
+        .or_insert(Spots::new(alloc));
     add_spot(spots, spot)?;
     Ok(())
 }

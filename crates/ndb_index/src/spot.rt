@@ -8,7 +8,7 @@ ghost use Rattle.ndb_index.specs.Spots.{same_spot};
 use std::hash::{Hash, Hasher};
 
 /// A tuple that contains a pair, and the first of its lines on which the pair stands. Both count from 0.
-#[derive(Clone, Copy, Debug)]
+#[derive(Clone, Copy, Debug, Default)]
 pub struct Spot {
     pub place: u64,
     pub line: u64,

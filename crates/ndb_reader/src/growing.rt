@@ -38,11 +38,12 @@ impl Growing {
         ensures whole { OnOk result (self.new.whole.items ≡ self.old.whole.items ++ tuple_of self.old.last.items) }
         ensures last { OnOk result (self.new.last.items ≡ pairs.items ∷ []) }
     {
-        if !self.last.is_empty() {
-            let tuple = mem::replace(&mut self.last, Vec::new(alloc));
+        let mut lines = Vec::with_capacity(alloc, 2)?;
+        lines.push(Sequence::from_vec(pairs))?;
+        let tuple = mem::replace(&mut self.last, lines);
+        if !tuple.is_empty() {
             self.whole.push(Sequence::from_vec(tuple))?;
         }
-        self.last.push(Sequence::from_vec(pairs))?;
         Ok(())
     }
 

@@ -44,6 +44,17 @@ impl Words {
         }
     }
 
+    /// No words, and memory for so many.
+    fn with_capacity(alloc: Global, count: usize) -> Result<Words, AllocError>
+        ensures { IfOk result (λ words. AreWords words []) }
+    {
+        Ok(Words {
+            pairs: Vec::with_capacity(alloc, count)?,
+            unclosed: false,
+            followed: false,
+        })
+    }
+
     /// The pairs alone.
     pub(crate) fn into_pairs(self) -> Vec<NdbPair>
         ensures { result.items ≡ self.pairs.items }
@@ -69,11 +80,18 @@ impl Words {
     }
 }
 
+/// How many words a line seems to have, by its `=`, or 4 where there are more.
+fn likely_count(line: &[u8]) -> usize
+    ensures { result ≤ 4 }
+{
+    line.iter().filter(|byte| **byte == b'=').count().min(4)
+}
+
 /// The words of a line that doesn't begin with `%`, up to one that begins with `#`.
 pub(crate) fn read_words(alloc: Global, line: &[u8]) -> Result<Words, AllocError>
     ensures { IfOk result (λ words. AreWords words (spec.words_behind 0 line.now)) }
 {
-    let mut words = Words::new(alloc);
+    let mut words = Words::with_capacity(alloc, likely_count(line))?;
     let mut rest = line;
     while !rest.is_empty() {
         if rest[0] == b'#' {

@@ -1,11 +1,17 @@
-use Rattle.std.proofs.Common.{rules, sym, ap, ◌∙◌}
-use Rattle.std.specs.Option.{option_copied_mut}
-use Rattle.ndb_index.proofs.Notes.{more_noted}
+use Rattle.std.proofs.Common.{rules, List, [], Option, ap, ◌∙◌, unwrap_or, refl}
+use Rattle.indexmap.specs.Entry.{entry_value, map_with_value}
+use Rattle.ndb_index.specs.declared.spot.Spot.{Spot}
+use Rattle.ndb_index.specs.Kept.{with_spot}
+use Rattle.ndb_index.proofs.Notes.{pair_noted}
 use Rattle.ndb_index.proofs.pairs.add_pair.Goals as goal
 
 pub returns : goal.returns
 returns c =
-    more_noted c.args.pair.now c.of.result.attr.now c.of.result.value.now c.in-Some.spots.now c.add_spot.new.spots c.args.spot
-    c.args.pairs.now.entries (c.get_mut.follows.lender c.add_spot.new.spots).entries
-    c.of.ensures.attr c.of.ensures.value (sym c.get_mut.ensures.value ∙ ap option_copied_mut c.in-Some.is) c.in_ok-add_spot.ensures
-    ((c.get_mut.follows.holds c.add_spot.new.spots).3 (search rules)).0
+    pair_noted c.args.pair.now c.in_ok-of.field-0 _ c.add_spot.new.spots c.args.spot
+    c.args.pairs.now.entries (map_with_value c.in_ok-pairs.field-0 c.add_spot.new.spots).entries _
+    c.in_ok-of.ensures.attr c.in_ok-of.ensures.value refl
+    (c.in_ok-add_spot.ensures
+    ∙ ap (with_spot c.args.spot) (c.or_insert-spots.ensures.value
+    ∙ ap (unwrap_or (entry_value c.in_ok-pairs.field-0)) c.new.ensures
+    ∙ ap (λ (o : Option (List Spot)). unwrap_or o []) c.in_ok-pairs.ensures.value))
+    (c.in_ok-pairs.ensures.update.0 c.add_spot.new.spots).0 (search rules)

@@ -4,7 +4,7 @@ use Rattle.ndb_reader.proofs.Rests.{parsed-none, parsed-white, parsed-word, pars
 use Rattle.ndb_reader.proofs.words.read_words.Goals as goal
 
 pub loop-rest-init : goal.loop-rest-init
-loop-rest-init c = parsed-none c.args.line.now c.new-words.result c.new-words.ensures
+loop-rest-init c = parsed-none c.args.line.now c.in_ok-words.words c.in_ok-words.ensures
 
 pub loop-rest-preserved-then-is_white : goal.loop-rest-preserved-then-is_white
 loop-rest-preserved-then-is_white c =
