@@ -42,11 +42,14 @@ impl Model for Index {
 /// How many pairs of its own a tuple mostly has.
 const PAIRS: usize = 3;
 
+/// For the pairs of how many tuples room is made at once.
+const TUPLES: usize = 16384;
+
 /// The spots of all pairs.
 fn pairs_of(alloc: Global, db: &Db) -> Result<Pairs, AllocError>
     ensures { IfOk result (λ pairs. HasSpots db.now pairs.entries) }
 {
-    let mut pairs = IndexMap::with_capacity(alloc, db.len().saturating_mul(PAIRS))?;
+    let mut pairs = IndexMap::with_capacity(alloc, db.len().min(TUPLES) * PAIRS)?;
     for (place, tuple) in db.as_slice().iter().enumerate() {
         pairs::add_tuple(alloc, &mut pairs, tuple, place as u64)?;
     }
