@@ -42,6 +42,14 @@ clock_is w =
 pub clock_waits : (w : World) (net : Net) → can_go_on w net (clock_number w) ≡ false
 clock_waits w net = ap (λ (k : Caller). is_ready w net (next_of k net.past (clock_number w))) (clock_is w)
 
+-- so it could record only what it owes
+pub clock_only_owes : (w : World) (net : Net) → could w net (clock_number w) ≡ owes net (clock_number w)
+clock_only_owes w net = rw (clock_waits w net) (or_none (owes net (clock_number w)))
+  where
+    or_none : (b : Bool) → (b || false) ≡ b
+    or_none true = refl
+    or_none false = refl
+
 some_there : (xs : List Script) (i : ℕ) → i < length xs → slice_get xs i ≡ None → ⊥
 some_there [] i lt none = absurd (omega (arith, lt))
 some_there (x ∷ xs) zero lt none = none-some x (sym none)

@@ -1,13 +1,14 @@
 -- Whether a run is limited, by what is known of each caller and of the clock.
-use Rattle.std.proofs.Common.{◌≡◌, ℕ, ◌<◌, ◌==◌, ◌&&◌, ◌||◌, Bool, true, false, refl, sym, ap, subst, ◌∙◌, arith}
-use Rattle.std.proofs.lemmas.Bool.{false≢true, and_from, eqb-true, eqb-false}
+use Rattle.std.proofs.Common.{◌≡◌, ℕ, ◌<◌, ◌==◌, ◌&&◌, ◌||◌, Bool, true, false, length, refl, sym, ap, subst, ◌∙◌, arith}
+use Rattle.std.proofs.lemmas.Bool.{eqb-true, eqb-false}
 use Rattle.net_base.specs.declared.world.World.{World}
 use Rattle.net_base.specs.Callers.{Caller, caller_of, caller_count, clock_number}
-use Rattle.net_base.specs.Calm.{at_limit, can_go_on, could_record, limited, movable, owes}
+use Rattle.net_base.specs.Calm.{at_limit, can_go_on, could_record, limited, most_entries, movable, owes}
 use Rattle.net_base.specs.Net.{Net}
+use Rattle.net_base.specs.Next.{by}
 use Rattle.calm_laws.specs.Could.{could, is_full}
-use Rattle.calm_laws.proofs.Calming.{Kind, OfScript, OfCourier, OfClock, clock_is, clock_waits, courier_is, kind_of, script_is}
-use Rattle.calm_laws.proofs.Ranges.{none_range, or_right, some_range}
+use Rattle.calm_laws.proofs.Calming.{Kind, OfScript, OfCourier, OfClock, clock_is, clock_only_owes, courier_is, kind_of, script_is}
+use Rattle.calm_laws.proofs.Ranges.{none_range, or_left, or_right}
 
 -- a caller that is no clock could record where the definition of limits says so
 could_is : (w : World) (net : Net) (c : ℕ) → (c ≡ clock_number w → ⊥) → Kind w c → could_record w net (caller_of w c) c ≡ could w net c
@@ -40,15 +41,16 @@ nobody w net none still = none_range (at_limit w net) (caller_count w) 0 (λ c l
 
 -- the clock has no next event, so it owes where it could record
 clock_owes : (w : World) (net : Net) → could w net (clock_number w) ≡ true → could_record w net (caller_of w (clock_number w)) (clock_number w) ≡ true
-clock_owes w net is = clock_could w net ∙ owing (owes net (clock_number w)) (can_go_on w net (clock_number w)) (clock_waits w net) is
-  where
-    owing : (a b : Bool) → b ≡ false → (a || b) ≡ true → (a || movable w net) ≡ true
-    owing true b waits is = refl
-    owing false b waits is = absurd (false≢true (sym waits ∙ is))
+clock_owes w net is = clock_could w net ∙ or_left (owes net (clock_number w)) (movable w net) (sym (clock_only_owes w net) ∙ is)
 
-pub full_caller : (w : World) (net : Net) (c : ℕ) → c < caller_count w → is_full net c ≡ true → could w net c ≡ true → limited w net ≡ true
-full_caller w net c lt full goes = some_range (at_limit w net) (caller_count w) 0 c (omega arith) (omega (arith, lt))
-    (and_from (is_full net c) (could_record w net (caller_of w c) c) full (by_clock (c == clock_number w) refl))
+-- what a lower law says: a caller that has all its entries, and could record one more, limits the run
+abbrev pub DoFullOnesLimit : Type 0
+DoFullOnesLimit = (w : World) (net : Net) (c : ℕ) → c < caller_count w → length (by net.past c) ≡ most_entries
+    → could_record w net (caller_of w c) c ≡ true → limited w net ≡ true
+
+pub full_caller : DoFullOnesLimit → (w : World) (net : Net) (c : ℕ) → c < caller_count w → is_full net c ≡ true → could w net c ≡ true
+    → limited w net ≡ true
+full_caller limits w net c lt full goes = limits w net c lt (eqb-true (length (by net.past c)) most_entries full) (by_clock (c == clock_number w) refl)
   where
     by_clock : (b : Bool) → (c == clock_number w) ≡ b → could_record w net (caller_of w c) c ≡ true
     by_clock false is = could_is w net c (eqb-false c (clock_number w) is) (kind_of w c lt) ∙ goes
@@ -57,7 +59,6 @@ full_caller w net c lt full goes = some_range (at_limit w net) (caller_count w) 
         subst (λ (k : ℕ). could_record w net (caller_of w k) k ≡ true) (sym at)
         (clock_owes w net (subst (λ (k : ℕ). could w net k ≡ true) at goes))
 
-pub full_clock : (w : World) (net : Net) → is_full net (clock_number w) ≡ true → movable w net ≡ true → limited w net ≡ true
-full_clock w net full moves = some_range (at_limit w net) (caller_count w) 0 (clock_number w) (omega arith) (omega arith)
-    (and_from (is_full net (clock_number w)) (could_record w net (caller_of w (clock_number w)) (clock_number w)) full
-    (clock_could w net ∙ or_right (owes net (clock_number w)) (movable w net) moves))
+pub full_clock : DoFullOnesLimit → (w : World) (net : Net) → is_full net (clock_number w) ≡ true → movable w net ≡ true → limited w net ≡ true
+full_clock limits w net full moves = limits w net (clock_number w) (omega arith) (eqb-true (length (by net.past (clock_number w))) most_entries full)
+    (clock_could w net ∙ or_right (owes net (clock_number w)) (movable w net) moves)

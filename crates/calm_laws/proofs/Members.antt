@@ -40,7 +40,7 @@ in_right (y ∷ xs) ys x there = inr (in_right xs ys x there)
 pub in_either : {A : Type 0} (xs ys : List A) (x : A) → In x (xs ++ ys) → In x xs ⊎ In x ys
 in_either [] ys x there = inr there
 in_either (y ∷ xs) ys x (inl is) = inl (inl is)
-in_either (y ∷ xs) ys x (inr there) = elim (in_either xs ys x there) [ | inl left ↦ inl (inr left) | inr right ↦ inr right ]
+in_either (y ∷ xs) ys x (inr there) = elim (in_either xs ys x there) [ inl left ↦ inl (inr left) | inr right ↦ inr right ]
 
 -- Lists made from others.
 

@@ -1,5 +1,5 @@
 -- Tests, and whether the numbers of a range pass them.
-use Rattle.std.proofs.Common.{◌≡◌, ℕ, zero, suc, ◌+◌, ◌<◌, ◌≤◌, ◌==◌, ◌&&◌, ◌||◌, Bool, true, false, refl, sym, ap, ◌∙◌, arith}
+use Rattle.std.proofs.Common.{◌≡◌, ℕ, zero, suc, ◌+◌, ◌<◌, ◌≤◌, ◌==◌, ◌&&◌, ◌||◌, Bool, true, false, refl, ap, ◌∙◌, arith}
 use Rattle.std.specs.List.{list_all, list_any, range_with_len}
 use Rattle.std.proofs.lemmas.Bool.{true≢false, eqb-true, eqb-false}
 
@@ -9,6 +9,9 @@ and_left a b is = rw is refl
 pub and_right : (a b : Bool) → b ≡ false → (a && b) ≡ false
 and_right true b is = is
 and_right false b is = refl
+
+pub or_left : (a b : Bool) → a ≡ true → (a || b) ≡ true
+or_left a b is = rw is refl
 
 pub or_right : (a b : Bool) → b ≡ true → (a || b) ≡ true
 or_right true b is = refl
@@ -25,15 +28,6 @@ all_range test (suc n) a all = rw (all a (omega arith), all_range test n (a + 1)
 pub none_range : (test : ℕ → Bool) (n a : ℕ) → ((k : ℕ) → k < a + n → test k ≡ false) → list_any test (range_with_len a n) ≡ false
 none_range test zero a all = refl
 none_range test (suc n) a all = rw (all a (omega arith), none_range test n (a + 1) (λ k lt. all k (omega (arith, lt)))) refl
-
-pub some_range : (test : ℕ → Bool) (n a k : ℕ) → a ≤ k → k < a + n → test k ≡ true → list_any test (range_with_len a n) ≡ true
-some_range test zero a k above below is = absurd (omega (arith, above, below))
-some_range test (suc n) a k above below is = by_first (test a) refl
-    (λ apart. some_range test n (a + 1) k (omega (arith, above, apart)) (omega (arith, below)) is)
-  where
-    by_first : (b : Bool) → test a ≡ b → ((a ≡ k → ⊥) → list_any test (range_with_len (a + 1) n) ≡ true) → list_any test (range_with_len a (suc n)) ≡ true
-    by_first true here rest = rw here refl
-    by_first false here rest = rw here (rest (λ e. true≢false (sym is ∙ ap test (sym e) ∙ here)))
 
 -- a range with a number that fails
 pub fails_range : (test : ℕ → Bool) (n a k : ℕ) → a ≤ k → k < a + n → test k ≡ false → list_all test (range_with_len a n) ≡ false

@@ -1,5 +1,5 @@
 -- The least of some moments, and the target of the clock.
-use Rattle.std.proofs.Common.{◌≡◌, ℕ, ◌<◌, ◌≤◌, List, [], ◌∷◌, ◌++◌, min, filter_map, Option, ◌⊎◌, inl, inr, refl, arith}
+use Rattle.std.proofs.Common.{◌≡◌, ℕ, ◌≤◌, List, [], ◌∷◌, ◌++◌, filter_map, Option, ◌⊎◌, inl, inr, refl, arith}
 use Rattle.net_base.specs.declared.actor.ActorName.{ActorName}
 use Rattle.net_base.specs.declared.world.World.{World}
 use Rattle.net_base.specs.Callers.{caller_of, caller_count}
@@ -57,7 +57,7 @@ is_target w net t le due_later awaited_later some = is_least w.end (dues w net +
         awaited_later m (record { caller = found.from; known = omega (arith, below.1); awaits = found.gives })
 
     all : (m : ℕ) → In m (dues w net ++ awaits w net) → t ≤ m
-    all m there = elim (in_either (dues w net) (awaits w net) m there) [ | inl left ↦ due_in m left | inr right ↦ awaited_in m right ]
+    all m there = elim (in_either (dues w net) (awaits w net) m there) [ inl left ↦ due_in m left | inr right ↦ awaited_in m right ]
 
     one : (t ≡ w.end) ⊎ (IsDue w net t ⊎ IsAwaited w net t) → (t ≡ w.end) ⊎ In t (dues w net ++ awaits w net)
     one (inl is) = inl is

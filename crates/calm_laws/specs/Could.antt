@@ -1,4 +1,4 @@
--- Whether a caller could record, and whether it may.
+-- Whether a caller could record an entry more, and whether it is full.
 use Rattle.std.specs.Prelude.{ℕ, ◌==◌, ◌||◌, Bool, length}
 use Rattle.net_base.specs.declared.world.World.{World}
 use Rattle.net_base.specs.Calm.{can_go_on, most_entries, owes}

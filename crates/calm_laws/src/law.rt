@@ -8,7 +8,7 @@ ghost use Rattle.net_base.specs.declared.history.Entry.{Entry};
 ghost use Rattle.net_base.specs.declared.world.World.{World};
 ghost use Rattle.net_base.specs.Actors.{has_actor};
 ghost use Rattle.net_base.specs.Callers.{caller_count, clock_number};
-ghost use Rattle.net_base.specs.Calm.{calm, limited, movable, target, unfinished};
+ghost use Rattle.net_base.specs.Calm.{calm, limited, movable, owes, target, unfinished};
 ghost use Rattle.net_base.specs.Duties.{conversations};
 ghost use Rattle.net_base.specs.Legal.{IsInTime};
 ghost use Rattle.net_base.specs.Net.{Net};
@@ -16,12 +16,15 @@ ghost use Rattle.net_base.specs.Stamped.{In, of_caller};
 ghost use Rattle.calm_laws.specs.Could.{could, is_full};
 ghost use Rattle.calm_laws.specs.Moments.{IsAwaited, IsDue};
 
-/// The net is calm exactly where no caller could record.
+use history_laws::full_callers_limit;
+
+/// The net is calm exactly where no caller could record. The clock could record only what it owes.
 pub fn calm_is_that_nobody_could()
     ensures calm { (w : World) (net : Net) → ((c : ℕ) → c < caller_count w → could w net c ≡ false)
         → calm w net ≡ true }
     ensures busy { (w : World) (net : Net) (c : ℕ) → c < caller_count w → could w net c ≡ true
         → calm w net ≡ false }
+    ensures clock { (w : World) (net : Net) → could w net (clock_number w) ≡ owes net (clock_number w) }
 {}
 
 /// Where no full caller could record, and the clock isn't full where it may move, the run isn't limited.
@@ -36,7 +39,9 @@ pub fn somebody_is_limited()
         → could w net c ≡ true → limited w net ≡ true }
     ensures clock { (w : World) (net : Net) → is_full net (clock_number w) ≡ true → movable w net ≡ true
         → limited w net ≡ true }
-{}
+{
+    full_callers_limit();
+}
 
 /// A conversation stands in the list of a world's exactly where the world has it.
 pub fn conversations_are_these()
