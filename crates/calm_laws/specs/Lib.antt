@@ -1,0 +1,2 @@
+pub mod Could
+pub mod Moments
