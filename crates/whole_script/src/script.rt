@@ -1,0 +1,137 @@
+//! The task of a whole script.
+ghost use Rattle.std.specs.Prelude.{◌≡◌, ℕ, List, [], IfOk, OnOk, OnErr, option_map, slice_get};
+ghost use Rattle.net_base.specs.declared.reply.Reply.{Reply};
+ghost use Rattle.net_base.specs.declared.world.Script.{Script};
+ghost use Rattle.net_base.specs.Next.{finished_by};
+ghost use Rattle.net_base.specs.Steps.{Bound, Ends};
+ghost use Rattle.dial_lib.specs.StepTasks.{begun};
+ghost use Rattle.whole_script.specs.ScriptTasks as spec;
+
+use dial_lib::StepTask;
+use net_base::{Reply, Script, Step};
+use net_tree::Fids;
+use script_task::{Request, Task};
+use std::alloc::{AllocError, Global};
+use std::marker::Model;
+
+/// A whole script that is being played. Its steps are lent.
+#[derive(Drop)]
+pub struct ScriptTask<'a> {
+    steps: &'a [Step],
+    finished: usize,
+    // the task of the step behind those, where it was told a reply
+    task: Option<StepTask>,
+}
+
+impl<'a> Model for ScriptTask<'a> {
+    ghost use Rattle.std.specs.Prelude.{◌<◌, IfSome, drop, length};
+    ghost use Rattle.whole_script.specs.ScriptTasks.{GoesOn, Scripting, progress};
+
+    ghost Value = { Scripting };
+
+    ghost view = { λ s. progress s.finished s.task (drop s.finished s.steps.now) };
+
+    ghost invariant = { λ s. IfSome s.task (λ t. (s.finished < length s.steps.now) × GoesOn t) };
+}
+
+impl<'a> ScriptTask<'a> {
+    /// The task of a script of which nothing is recorded. It takes no memory.
+    #[tactic(auto, using(crate::proofs::Played::starts))]
+    pub fn new(script: &'a Script) -> ScriptTask<'a>
+        ensures { spec.Plays script.now [] [] result }
+    {
+        ScriptTask {
+            steps: script.steps.as_slice(),
+            finished: 0,
+            task: None,
+        }
+    }
+
+    /// The task of a script without steps.
+    pub fn idle() -> ScriptTask<'a>
+        ensures { (h : ℕ) (names : List Bound) → spec.StandsFor h names result (Ends names) }
+    {
+        ScriptTask {
+            steps: &[],
+            finished: 0,
+            task: None,
+        }
+    }
+
+    /// How many steps are finished.
+    #[tactic(auto, using(crate::proofs::Played::finished_right, crate::proofs::Played::progress_finished))]
+    pub fn finished(&self) -> usize
+        ensures { (s : Script) (rs : List Reply) (names : List Bound)
+            → spec.Plays s rs names self.now → result ≡ finished_by rs s }
+    {
+        self.finished
+    }
+}
+
+impl Task for ScriptTask<'_> {
+    ghost use Rattle.whole_script.specs.ScriptLaws as laws;
+
+    ghost asks = { spec.asks };
+
+    ghost after = { spec.after };
+
+    ghost Stands = { spec.StandsFor };
+
+    ghost asks_so = { laws.asks_so };
+
+    ghost moves_so = { laws.moves_so };
+
+    fn next(&self, alloc: Global, fids: &Fids) -> Result<Option<Request>, AllocError> {
+        match &self.task {
+            Some(task) => task.next(alloc, fids),
+            None => match first(alloc, self.steps, self.finished)? {
+                Some(task) => task.next(alloc, fids),
+                None => Ok(None),
+            },
+        }
+    }
+
+    #[tactic(auto, using(crate::proofs::Played::through_right))]
+    fn is_through(&self) -> bool {
+        self.steps.len() <= self.finished
+    }
+
+    fn told(&mut self, alloc: Global, reply: Reply) -> Result<(), AllocError> {
+        begin(alloc, self.steps, self.finished, &mut self.task)?;
+        let Some(task) = &mut self.task else {
+            return Ok(());
+        };
+        task.told(alloc, reply)?;
+        if task.is_through() {
+            self.finished += 1;
+            self.task = None;
+        }
+        Ok(())
+    }
+}
+
+// The step behind so many begins, where none has begun and one is left.
+fn begin(
+    alloc: Global,
+    steps: &[Step],
+    finished: usize,
+    task: &mut Option<StepTask>,
+) -> Result<(), AllocError>
+    ensures ok { OnOk result (task.new ≡ spec.begun_by task.old (slice_get steps.now finished)) }
+    ensures err { OnErr result (task.new ≡ task.old) }
+{
+    if task.is_none() {
+        *task = first(alloc, steps, finished)?;
+    }
+    Ok(())
+}
+
+// The task of the step behind so many, if one is left.
+fn first(alloc: Global, steps: &[Step], finished: usize) -> Result<Option<StepTask>, AllocError>
+    ensures { IfOk result (λ task. task ≡ option_map begun (slice_get steps.now finished)) }
+{
+    match steps.get(finished) {
+        Some(step) => Ok(Some(StepTask::new(alloc, step)?)),
+        None => Ok(None),
+    }
+}

@@ -1,0 +1,1 @@
+//! A script, from its first request to its last.
