@@ -1,5 +1,5 @@
 -- A script's task plays the script, and its code goes from step to step as the definitions do.
-use Rattle.std.proofs.Common.{◌≡◌, ℕ, zero, suc, ◌+◌, ◌-◌, ◌<◌, ◌≤◌, ◌∙◌, Bool, true, false, List, [], ◌∷◌, ◌++◌, drop, length, Option, Some, None, IfSome, slice_get, is_none, is_some, nat_lt, option_map, refl, sym, ap, subst, rules, tests, arith}
+use Rattle.std.proofs.Common.{◌≡◌, ℕ, zero, suc, ◌+◌, ◌-◌, ◌<◌, ◌≤◌, ◌∙◌, Bool, true, false, List, [], ◌∷◌, ◌++◌, drop, length, Option, Some, None, slice_get, is_none, is_some, nat_lt, nat_le, option_map, refl, sym, ap, subst, rules, tests, arith}
 use Rattle.std.proofs.lemmas.Bool.Decides.{nat_tests}
 use Rattle.std.proofs.lemmas.Bool.{true≢false, false≢true}
 use Rattle.std.proofs.lemmas.Option.{none-some, same_Some}
@@ -17,7 +17,7 @@ use Rattle.dial_lib.specs.Slots.{HaveSlots}
 use Rattle.dial_lib.specs.StepLaws as step_laws
 use Rattle.dial_lib.specs.StepTasks as step
 use Rattle.whole_script.specs.ScriptLaws.{begun_asks, begins, asks_alike, ended_play, step_heads}
-use Rattle.whole_script.specs.ScriptTasks.{Scripting, finished_in, AtStep, AtEnd, begun_at, begun_by, progress, goes_on, GoesOn, asks, after, after_all, AllFit, then_play, plays_of, StandsFor, Plays}
+use Rattle.whole_script.specs.ScriptTasks.{Scripting, finished_in, AtStep, AtEnd, begun_at, begun_by, progress, goes_on, Kept, asks, after, heard, is_played, after_all, AllFit, then_play, plays_of, StandsFor, Plays}
 
 -- The play of the steps is the script's.
 
@@ -140,17 +140,17 @@ pub progress_finished : (n : ℕ) (t : Option StepTask) (left : List Step) → f
 progress_finished n None left = begun_finished n left
 progress_finished n (Some t) left = refl
 
-not_le : (m n : ℕ) → n < m → lib.Dec.leb m n ≡ false
+not_le : (m n : ℕ) → n < m → nat_le m n ≡ false
 not_le m n lt = search (rules, tests, lt)
 
-le_nothing : (n : ℕ) → lib.Dec.leb 0 n ≡ true
+le_nothing : (n : ℕ) → nat_le 0 n ≡ true
 le_nothing n = search (rules, tests)
 
-le_more : (m n : ℕ) → lib.Dec.leb (suc m) (suc n) ≡ lib.Dec.leb m n
+le_more : (m n : ℕ) → nat_le (suc m) (suc n) ≡ nat_le m n
 le_more m n = grind (arith, nat_tests)
 
 -- no step is left exactly where nothing is asked
-none_left : (n : ℕ) (ss : List Step) (names : List Bound) → lib.Dec.leb (length ss) n ≡ is_none (asks (begun_at 0 (drop n ss)) names)
+none_left : (n : ℕ) (ss : List Step) (names : List Bound) → nat_le (length ss) n ≡ is_none (asks (begun_at 0 (drop n ss)) names)
 none_left zero [] names = le_nothing 0
 none_left zero (s ∷ ss) names = not_le (suc (length ss)) 0 (omega arith) ∙ sym (begun_asks s names)
 none_left (suc n) [] names = le_nothing (suc n)
@@ -160,8 +160,8 @@ begun_alike : (m n : ℕ) (left : List Step) (names : List Bound) → asks (begu
 begun_alike m n [] names = refl
 begun_alike m n (s ∷ ss) names = refl
 
-pub through_right : (n : ℕ) (t : Option StepTask) (ss : List Step) → IfSome t (λ (x : StepTask). (n < length ss) × GoesOn x)
-    → (names : List Bound) → lib.Dec.leb (length ss) n ≡ is_none (asks (progress n t (drop n ss)) names)
+pub through_right : (n : ℕ) (t : Option StepTask) (ss : List Step) → Kept n t ss
+    → (names : List Bound) → nat_le (length ss) n ≡ is_none (asks (progress n t (drop n ss)) names)
 through_right n None ss kept names = none_left n ss names ∙ ap is_none (begun_alike 0 n (drop n ss) names)
 through_right n (Some t) ss kept names = not_le (length ss) n kept.0 ∙ sym (kept.1 names)
 
@@ -176,3 +176,114 @@ begun_left (suc n) (s ∷ ss) o is m = begun_left n ss o is m
 pub begun_same : (n : ℕ) (t : Option StepTask) (ss : List Step) → progress n (begun_by t (slice_get ss n)) (drop n ss) ≡ progress n t (drop n ss)
 begun_same n None ss = begun_left n ss (slice_get ss n) refl n
 begun_same n (Some t) ss = refl
+
+-- The first of the steps that are left.
+
+drop_none : (n : ℕ) (ss : List Step) → slice_get ss n ≡ None → drop n ss ≡ []
+drop_none zero [] is = refl
+drop_none (suc n) [] is = refl
+drop_none zero (x ∷ ss) is = absurd (none-some x (sym is))
+drop_none (suc n) (x ∷ ss) is = drop_none n ss is
+
+drop_more : (n : ℕ) (ss : List Step) → drop (n + 1) ss ≡ drop 1 (drop n ss)
+drop_more n ss = ap (λ (k : ℕ). drop k ss) next ∙ by n ss
+  where
+    next : n + 1 ≡ suc n
+    next = omega arith
+    by : (n : ℕ) (ss : List Step) → drop (suc n) ss ≡ drop 1 (drop n ss)
+    by zero ss = refl
+    by (suc n) [] = refl
+    by (suc n) (x ∷ ss) = by n ss
+
+in_range : (n : ℕ) (ss : List Step) (s : Step) → slice_get ss n ≡ Some s → n < length ss
+in_range n [] s is = absurd (none-some s is)
+in_range zero (x ∷ ss) s is = omega arith
+in_range (suc n) (x ∷ ss) s is = omega (arith, in_range n ss s is)
+
+-- its task asks as the script's
+first_by : (n m : ℕ) (ss : List Step) (t : StepTask) → Some t ≡ option_map step.begun (slice_get ss n) → (names : List Bound) → step.asks t names ≡ asks (begun_at m (drop n ss)) names
+first_by n m [] t is names = absurd (none-some t (sym is))
+first_by zero m (x ∷ ss) t is names = ap (λ (u : StepTask). step.asks u names) (same_Some t (step.begun x) is)
+first_by (suc n) m (x ∷ ss) t is names = first_by n m ss t is names
+
+pub first_asks : (n : ℕ) (o : Option StepTask) (ss : List Step) (t : StepTask) → o ≡ None → Some t ≡ option_map step.begun (slice_get ss n) → (names : List Bound)
+    → step.asks t names ≡ asks (progress n o (drop n ss)) names
+first_asks n o ss t none is names = first_by n n ss t is names ∙ ap (λ (u : Option StepTask). asks (progress n u (drop n ss)) names) (sym none)
+
+none_by : (n m : ℕ) (ss : List Step) → None ≡ option_map step.begun (slice_get ss n) → (names : List Bound) → None ≡ asks (begun_at m (drop n ss)) names
+none_by zero m [] is names = refl
+none_by (suc n) m [] is names = refl
+none_by zero m (x ∷ ss) is names = absurd (none-some (step.begun x) is)
+none_by (suc n) m (x ∷ ss) is names = none_by n m ss is names
+
+pub none_asks : (n : ℕ) (o : Option StepTask) (ss : List Step) → o ≡ None → None ≡ option_map step.begun (slice_get ss n) → (names : List Bound)
+    → None ≡ asks (progress n o (drop n ss)) names
+none_asks n o ss none is names = none_by n n ss is names ∙ ap (λ (u : Option StepTask). asks (progress n u (drop n ss)) names) (sym none)
+
+-- A reply.
+
+kept_first : (n : ℕ) (ss : List Step) (o : Option Step) → slice_get ss n ≡ o → Kept n (option_map step.begun o) ss
+kept_first n ss None is = tt
+kept_first n ss (Some s) is = (in_range n ss s is, begun_asks s)
+
+kept_by : (n : ℕ) (t : Option StepTask) (ss : List Step) → Kept n t ss → Kept n (begun_by t (slice_get ss n)) ss
+kept_by n None ss kept = kept_first n ss (slice_get ss n) refl
+kept_by n (Some t) ss kept = kept
+
+pub kept_begun : (n : ℕ) (t u : Option StepTask) (ss : List Step) → Kept n t ss → u ≡ begun_by t (slice_get ss n)
+    → Kept n u ss
+kept_begun n t u ss kept is = subst (λ (x : Option StepTask). Kept n x ss) (sym is) (kept_by n t ss kept)
+
+heard_kept : (n : ℕ) (u : Option StepTask) (ss : List Step) (r : Reply) → Kept n u ss → ((names : List Bound) → false ≡ is_played (heard u r) names) → Kept n (heard u r) ss
+heard_kept n None ss r kept on = tt
+heard_kept n (Some t) ss r kept on = (kept.0, λ names. sym (on names))
+
+pub kept_told : (n : ℕ) (t u v : Option StepTask) (ss : List Step) (r : Reply) → Kept n t ss → u ≡ begun_by t (slice_get ss n) → v ≡ heard u r
+    → ((names : List Bound) → false ≡ is_played v names) → Kept n v ss
+kept_told n t u v ss r kept is told on =
+    subst (λ (x : Option StepTask). Kept n x ss) (sym told) (heard_kept n u ss r (kept_begun n t u ss kept is) (subst (λ (x : Option StepTask). (names : List Bound) → false ≡ is_played x names) told on))
+
+room_by : (n : ℕ) (u : Option StepTask) (ss : List Step) (r : Reply) → Kept n u ss → true ≡ is_played (heard u r) [] → n < length ss
+room_by n None ss r kept over = absurd (true≢false over)
+room_by n (Some t) ss r kept over = kept.0
+
+pub has_room : (n : ℕ) (t u v : Option StepTask) (ss : List Step) (r : Reply) → Kept n t ss → u ≡ begun_by t (slice_get ss n) → v ≡ heard u r
+    → ((names : List Bound) → true ≡ is_played v names) → n < length ss
+has_room n t u v ss r kept is told over =
+    room_by n u ss r (kept_begun n t u ss kept is) (subst (λ (x : Option StepTask). true ≡ is_played x []) told (over []))
+
+-- begun as it is, the script's task is as before
+same_by : (n : ℕ) (t u : Option StepTask) (ss : List Step) → u ≡ begun_by t (slice_get ss n) → progress n u (drop n ss) ≡ progress n t (drop n ss)
+same_by n t u ss is = ap (λ (x : Option StepTask). progress n x (drop n ss)) is ∙ begun_same n t ss
+
+-- the step goes on
+on_by : (n : ℕ) (u : Option StepTask) (ss : List Step) (r : Reply) → u ≡ begun_by u (slice_get ss n) → (x : Option StepTask) → heard u r ≡ x → false ≡ is_played x [] → progress n x (drop n ss) ≡ after (progress n u (drop n ss)) r
+on_by n None ss r is x told on = ap (λ (y : Option StepTask). progress n y (drop n ss)) (sym told) ∙ ended_after (slice_get ss n) refl
+  where
+    ended_after : (o : Option Step) → slice_get ss n ≡ o → begun_at n (drop n ss) ≡ after (begun_at n (drop n ss)) r
+    ended_after None none = subst (λ (left : List Step). begun_at n left ≡ after (begun_at n left) r) (sym (drop_none n ss none)) refl
+    ended_after (Some s) some = absurd (none-some (step.begun s) (is ∙ ap (option_map step.begun) some))
+on_by n (Some t) ss r is x told on =
+    ap (λ (y : Option StepTask). progress n y (drop n ss)) (sym told)
+        ∙ ap (goes_on n (step.after t r) (drop 1 (drop n ss))) (on ∙ sym (ap (λ (y : Option StepTask). is_played y []) told))
+
+twice : (t : Option StepTask) (o : Option Step) → begun_by t o ≡ begun_by (begun_by t o) o
+twice None None = refl
+twice None (Some s) = refl
+twice (Some t) o = refl
+
+pub told_on : (n : ℕ) (t u v : Option StepTask) (ss : List Step) (r : Reply) → u ≡ begun_by t (slice_get ss n) → v ≡ heard u r → ((names : List Bound) → false ≡ is_played v names)
+    → progress n v (drop n ss) ≡ after (progress n t (drop n ss)) r
+told_on n t u v ss r is told on =
+    let again : u ≡ begun_by u (slice_get ss n) = subst (λ (x : Option StepTask). x ≡ begun_by x (slice_get ss n)) (sym is) (twice t (slice_get ss n)) in
+    on_by n u ss r again v (sym told) (on []) ∙ ap (λ (x : Scripting). after x r) (same_by n t u ss is)
+
+-- the step is finished, and the next one begins
+through_by : (n : ℕ) (u : Option StepTask) (ss : List Step) (r : Reply) → true ≡ is_played (heard u r) [] → begun_at (n + 1) (drop (n + 1) ss) ≡ after (progress n u (drop n ss)) r
+through_by n None ss r over = absurd (true≢false over)
+through_by n (Some t) ss r over = ap (begun_at (n + 1)) (drop_more n ss) ∙ ap (goes_on n (step.after t r) (drop 1 (drop n ss))) over
+
+pub told_through : (n : ℕ) (t u v : Option StepTask) (ss : List Step) (r : Reply) → u ≡ begun_by t (slice_get ss n) → v ≡ heard u r → ((names : List Bound) → true ≡ is_played v names)
+    → progress (n + 1) None (drop (n + 1) ss) ≡ after (progress n t (drop n ss)) r
+told_through n t u v ss r is told over =
+    through_by n u ss r (subst (λ (x : Option StepTask). true ≡ is_played x []) told (over [])) ∙ ap (λ (x : Scripting). after x r) (same_by n t u ss is)

@@ -1,5 +1,5 @@
 -- The task of a whole script: its requests, what a reply makes of it, and the plays that it stands for.
-use Rattle.std.specs.Prelude.{◌≡◌, ℕ, ◌+◌, Bool, true, false, List, [], ◌∷◌, ◌++◌, drop, Option, Some, None, is_none, option_map}
+use Rattle.std.specs.Prelude.{◌≡◌, ℕ, ◌+◌, ◌<◌, Bool, true, false, List, [], ◌∷◌, ◌++◌, drop, length, Option, Some, None, IfSome, is_none, option_map}
 use Rattle.net_base.specs.declared.reply.Reply.{Reply}
 use Rattle.net_base.specs.declared.world.Script.{Script}
 use Rattle.net_base.specs.declared.world.Step.{Step}
@@ -48,6 +48,10 @@ asks (AtEnd n) names = None
 abbrev pub GoesOn : StepTask → Type 0
 GoesOn t = (names : List Bound) → is_none (step.asks t names) ≡ false
 
+-- a step that has begun is one of those that are left, and isn't through
+abbrev pub Kept : ℕ → Option StepTask → List Step → Type 0
+Kept n t steps = IfSome t (λ (x : StepTask). (n < length steps) × GoesOn x)
+
 -- a step that is through is finished, and the next one begins
 abbrev pub goes_on : ℕ → StepTask → List Step → Bool → Scripting
 goes_on n t behind false = AtStep n t behind
@@ -57,6 +61,16 @@ goes_on n t behind true = begun_at (n + 1) behind
 abbrev pub after : Scripting → Reply → Scripting
 after (AtStep n t behind) r = goes_on n (step.after t r) behind (is_none (step.asks (step.after t r) []))
 after (AtEnd n) r = AtEnd n
+
+-- the same by parts: the step that has begun, if one has, after a reply
+abbrev pub heard : Option StepTask → Reply → Option StepTask
+heard None r = None
+heard (Some t) r = Some (step.after t r)
+
+-- a step has begun and is through
+abbrev pub is_played : Option StepTask → List Bound → Bool
+is_played None names = false
+is_played (Some t) names = is_none (step.asks t names)
 
 -- The play that it stands for.
 

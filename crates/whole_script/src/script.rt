@@ -24,14 +24,14 @@ pub struct ScriptTask<'a> {
 }
 
 impl<'a> Model for ScriptTask<'a> {
-    ghost use Rattle.std.specs.Prelude.{◌<◌, IfSome, drop, length};
-    ghost use Rattle.whole_script.specs.ScriptTasks.{GoesOn, Scripting, progress};
+    ghost use Rattle.std.specs.Prelude.{drop};
+    ghost use Rattle.whole_script.specs.ScriptTasks.{Kept, Scripting, progress};
 
     ghost Value = { Scripting };
 
     ghost view = { λ s. progress s.finished s.task (drop s.finished s.steps.now) };
 
-    ghost invariant = { λ s. IfSome s.task (λ t. (s.finished < length s.steps.now) × GoesOn t) };
+    ghost invariant = { λ s. Kept s.finished s.task s.steps.now };
 }
 
 impl<'a> ScriptTask<'a> {
@@ -81,6 +81,7 @@ impl Task for ScriptTask<'_> {
 
     ghost moves_so = { laws.moves_so };
 
+    #[tactic(auto, using(crate::proofs::Played::first_asks, crate::proofs::Played::none_asks))]
     fn next(&self, alloc: Global, fids: &Fids) -> Result<Option<Request>, AllocError> {
         match &self.task {
             Some(task) => task.next(alloc, fids),
@@ -96,17 +97,36 @@ impl Task for ScriptTask<'_> {
         self.steps.len() <= self.finished
     }
 
+    #[tactic(auto, using(crate::proofs::Played::begun_same, crate::proofs::Played::kept_begun, crate::proofs::Played::kept_told, crate::proofs::Played::told_on, crate::proofs::Played::told_through, crate::proofs::Played::has_room))]
     fn told(&mut self, alloc: Global, reply: Reply) -> Result<(), AllocError> {
         begin(alloc, self.steps, self.finished, &mut self.task)?;
-        let Some(task) = &mut self.task else {
-            return Ok(());
-        };
-        task.told(alloc, reply)?;
-        if task.is_through() {
+        hear(alloc, &mut self.task, reply)?;
+        if is_played(&self.task) {
             self.finished += 1;
             self.task = None;
         }
         Ok(())
+    }
+}
+
+// Takes a reply, where a step has begun.
+fn hear(alloc: Global, task: &mut Option<StepTask>, reply: Reply) -> Result<(), AllocError>
+    ensures ok { OnOk result (task.new ≡ spec.heard task.old reply) }
+    ensures err { OnErr result (task.new ≡ task.old) }
+{
+    match task {
+        Some(task) => task.told(alloc, reply),
+        None => Ok(()),
+    }
+}
+
+// Whether a step has begun that is through.
+fn is_played(task: &Option<StepTask>) -> bool
+    ensures { (names : List Bound) → result ≡ spec.is_played task.now names }
+{
+    match task {
+        Some(task) => task.is_through(),
+        None => false,
     }
 }
 
