@@ -234,6 +234,9 @@ pub kept_begun : (n : ℕ) (t u : Option StepTask) (ss : List Step) → Kept n t
     → Kept n u ss
 kept_begun n t u ss kept is = subst (λ (x : Option StepTask). Kept n x ss) (sym is) (kept_by n t ss kept)
 
+pub kept_none : (n : ℕ) (t : Option StepTask) (ss : List Step) → t ≡ None → Kept n t ss
+kept_none n t ss is = subst (λ (x : Option StepTask). Kept n x ss) (sym is) tt
+
 heard_kept : (n : ℕ) (u : Option StepTask) (ss : List Step) (r : Reply) → Kept n u ss → ((names : List Bound) → false ≡ is_played (heard u r) names) → Kept n (heard u r) ss
 heard_kept n None ss r kept on = tt
 heard_kept n (Some t) ss r kept on = (kept.0, λ names. sym (on names))

@@ -1,5 +1,5 @@
 //! The task of a whole script.
-ghost use Rattle.std.specs.Prelude.{◌≡◌, ℕ, List, [], IfOk, OnOk, OnErr, option_map, slice_get};
+ghost use Rattle.std.specs.Prelude.{◌≡◌, ℕ, List, [], None, IfOk, OnOk, OnErr, option_map, slice_get};
 ghost use Rattle.net_base.specs.declared.reply.Reply.{Reply};
 ghost use Rattle.net_base.specs.declared.world.Script.{Script};
 ghost use Rattle.net_base.specs.Next.{finished_by};
@@ -97,13 +97,13 @@ impl Task for ScriptTask<'_> {
         self.steps.len() <= self.finished
     }
 
-    #[tactic(auto, using(crate::proofs::Played::begun_same, crate::proofs::Played::kept_begun, crate::proofs::Played::kept_told, crate::proofs::Played::told_on, crate::proofs::Played::told_through, crate::proofs::Played::has_room))]
+    #[tactic(auto, using(crate::proofs::Played::begun_same, crate::proofs::Played::kept_begun, crate::proofs::Played::kept_none))]
     fn told(&mut self, alloc: Global, reply: Reply) -> Result<(), AllocError> {
         begin(alloc, self.steps, self.finished, &mut self.task)?;
         hear(alloc, &mut self.task, reply)?;
         if is_played(&self.task) {
             self.finished += 1;
-            self.task = None;
+            forget(&mut self.task);
         }
         Ok(())
     }
@@ -128,6 +128,13 @@ fn is_played(task: &Option<StepTask>) -> bool
         Some(task) => task.is_through(),
         None => false,
     }
+}
+
+// Forgets a step.
+fn forget(task: &mut Option<StepTask>)
+    ensures { task.new ≡ None }
+{
+    *task = None;
 }
 
 // The step behind so many begins, where none has begun and one is left.
