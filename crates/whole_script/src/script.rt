@@ -59,7 +59,6 @@ impl<'a> ScriptTask<'a> {
     }
 
     /// How many steps are finished.
-    #[tactic(auto, using(crate::proofs::Played::finished_right, crate::proofs::Played::progress_finished))]
     pub fn finished(&self) -> usize
         ensures { (s : Script) (rs : List Reply) (names : List Bound)
             → spec.Plays s rs names self.now → result ≡ finished_by rs s }
