@@ -1,23 +1,23 @@
 -- A script's task plays the script, and its code goes from step to step as the definitions do.
-use Rattle.std.proofs.Common.{◌≡◌, ℕ, zero, suc, ◌+◌, ◌-◌, ◌<◌, ◌≤◌, ◌∙◌, Bool, true, false, List, [], ◌∷◌, ◌++◌, drop, length, Option, Some, None, slice_get, is_none, is_some, nat_lt, nat_le, option_map, refl, sym, ap, subst, rules, tests, arith}
+use Rattle.std.proofs.Common.{◌≡◌, ℕ, zero, suc, ◌+◌, ◌<◌, ◌∙◌, Bool, true, false, List, [], ◌∷◌, ◌++◌, drop, length, Option, Some, None, slice_get, is_none, is_some, nat_lt, nat_le, option_map, refl, sym, ap, subst, rules, tests, arith}
 use Rattle.std.proofs.lemmas.Bool.Decides.{nat_tests}
-use Rattle.std.proofs.lemmas.Bool.{true≢false, false≢true}
+use Rattle.std.proofs.lemmas.Bool.{true≢false}
 use Rattle.std.proofs.lemmas.Option.{none-some, same_Some}
 use Rattle.net_base.specs.declared.reply.Reply.{Reply}
 use Rattle.net_base.specs.declared.world.Script.{Script}
 use Rattle.net_base.specs.declared.world.Step.{Step}
 use Rattle.net_base.specs.Next.{finished_by}
-use Rattle.net_base.specs.Steps.{Ask, Bound, Play, Asks, Ends, Position, position, position_by, play_of, stands}
+use Rattle.net_base.specs.Steps.{Bound, Play, Asks, Ends, Position, position, position_by, play_of, stands}
 use Rattle.script_task.specs.declared.request.Request.{Request}
 use Rattle.script_task.specs.Requests.{head, settled}
-use Rattle.script_task.specs.Rest.{Continues, rest}
-use Rattle.script_task.specs.Task.{Heads, follow, fits_play}
+use Rattle.script_task.specs.Rest.{rest}
+use Rattle.script_task.specs.Task.{Heads}
 use Rattle.dial_lib.specs.declared.step.StepTask.{StepTask}
 use Rattle.dial_lib.specs.Slots.{HaveSlots}
 use Rattle.dial_lib.specs.StepLaws as step_laws
 use Rattle.dial_lib.specs.StepTasks as step
 use Rattle.whole_script.specs.ScriptLaws.{begun_asks, begins, asks_alike, ended_play, step_heads}
-use Rattle.whole_script.specs.ScriptTasks.{Scripting, finished_in, AtStep, AtEnd, begun_at, begun_by, progress, goes_on, Kept, asks, after, heard, is_played, after_all, AllFit, then_play, plays_of, StandsFor, Plays}
+use Rattle.whole_script.specs.ScriptTasks.{Scripting, finished_in, AtStep, AtEnd, begun_at, begun_by, progress, goes_on, Kept, asks, after, heard, is_played, after_all, AllFit, then_play, plays_of, Plays}
 
 -- The play of the steps is the script's.
 
@@ -97,8 +97,8 @@ adds_more h r rs more n names t behind s (Ends ns) at on fit = absurd (not_ended
 adds_more h r rs more n names t behind s (Asks a e next) at on fit =
     let found = some_request (step.asks t names) on in
     adds_by h rs more n (settled names found.0 r) (step.after t r) behind s (next r)
-        (step_laws.moves_so h names t (Asks a e next) found.0 r at found.1 fit.0)
-        (is_none (step.asks (step.after t r) [])) (asks_alike (step.after t r) (settled names found.0 r) []) fit.1
+    (step_laws.moves_so h names t (Asks a e next) found.0 r at found.1 fit.0)
+    (is_none (step.asks (step.after t r) [])) (asks_alike (step.after t r) (settled names found.0 r) []) fit.1
 
 adds_up : (h : ℕ) (rs : List Reply) → AddsUp h rs
 adds_up h [] = adds_none h
@@ -190,6 +190,7 @@ drop_more n ss = ap (λ (k : ℕ). drop k ss) next ∙ by n ss
   where
     next : n + 1 ≡ suc n
     next = omega arith
+
     by : (n : ℕ) (ss : List Step) → drop (suc n) ss ≡ drop 1 (drop n ss)
     by zero ss = refl
     by (suc n) [] = refl
@@ -268,7 +269,7 @@ on_by n None ss r is x told on = ap (λ (y : Option StepTask). progress n y (dro
     ended_after (Some s) some = absurd (none-some (step.begun s) (is ∙ ap (option_map step.begun) some))
 on_by n (Some t) ss r is x told on =
     ap (λ (y : Option StepTask). progress n y (drop n ss)) (sym told)
-        ∙ ap (goes_on n (step.after t r) (drop 1 (drop n ss))) (on ∙ sym (ap (λ (y : Option StepTask). is_played y []) told))
+    ∙ ap (goes_on n (step.after t r) (drop 1 (drop n ss))) (on ∙ sym (ap (λ (y : Option StepTask). is_played y []) told))
 
 twice : (t : Option StepTask) (o : Option Step) → begun_by t o ≡ begun_by (begun_by t o) o
 twice None None = refl

@@ -2,7 +2,6 @@
 use Rattle.std.proofs.Common.{◌≡◌, ℕ, ◌+◌, ◌∙◌, Bool, true, false, List, [], ◌∷◌, ◌++◌, Option, Some, None, is_none, is_some, length, nat_lt, refl, sym, ap, subst}
 use Rattle.std.proofs.lemmas.Bool.{true≢false, false≢true}
 use Rattle.std.proofs.lemmas.Option.{none-some, same_Some}
-use Rattle.net_base.specs.declared.event.Event.{Event}
 use Rattle.net_base.specs.declared.names.FileName.{FileName}
 use Rattle.net_base.specs.declared.names.FileName.TheVariants as file
 use Rattle.net_base.specs.declared.reply.Reply.{Reply}
@@ -28,7 +27,7 @@ use Rattle.dial_lib.specs.Beside as beside
 use Rattle.dial_lib.specs.Dials as dials
 use Rattle.dial_lib.specs.StepLaws as step_laws
 use Rattle.dial_lib.specs.StepTasks as step
-use Rattle.whole_script.specs.ScriptTasks.{Scripting, finished_in, AtStep, AtEnd, begun_at, goes_on, GoesOn, asks, after, after_all, AllFit, then_play, plays_of, InStep, StandsFor, Plays}
+use Rattle.whole_script.specs.ScriptTasks.{Scripting, finished_in, AtStep, AtEnd, begun_at, goes_on, asks, after, after_all, then_play, plays_of, StandsFor, Plays}
 
 -- Steps.
 
@@ -107,7 +106,7 @@ asks_then h names (Some q) p later is heads = (heads.0, head_then p later heads.
 pub asks_so : AsksSo Scripting asks StandsFor
 asks_so h names (AtStep n t behind) p at =
     subst (λ (x : Play). Heads h names (step.asks t names) x) (sym at.play_is)
-        (asks_then h names (step.asks t names) at.step_play (plays_of h behind) at.asks_on (step_laws.asks_so h names t at.step_play at.stands_for))
+    (asks_then h names (step.asks t names) at.step_play (plays_of h behind) at.asks_on (step_laws.asks_so h names t at.step_play at.stands_for))
 asks_so h names (AtEnd n) p at = at
 
 -- After a reply.
@@ -144,9 +143,9 @@ moves_so h names (AtStep n t behind) p q r at asked fit =
     let fits_step : fits_play at.step_play r ≡ true = fits_then at.step_play (plays_of h behind) heads.0 r heads.1 (subst (λ (x : Play). fits_play x r ≡ true) at.play_is fit) in
     let is : follow p r ≡ then_play (follow at.step_play r) (plays_of h behind) = ap (λ (x : Play). follow x r) at.play_is ∙ follow_then at.step_play (plays_of h behind) heads.0 r heads.1 in
     subst (λ (x : Play). StandsFor h (settled names q r) (after (AtStep n t behind) r) x) (sym is)
-        (moves_by h n (settled names q r) (step.after t r) behind (follow at.step_play r)
-            (step_laws.moves_so h names t at.step_play q r at.stands_for asked fits_step)
-            (is_none (step.asks (step.after t r) [])) (asks_alike (step.after t r) (settled names q r) []))
+    (moves_by h n (settled names q r) (step.after t r) behind (follow at.step_play r)
+    (step_laws.moves_so h names t at.step_play q r at.stands_for asked fits_step)
+    (is_none (step.asks (step.after t r) [])) (asks_alike (step.after t r) (settled names q r) []))
 moves_so h names (AtEnd n) p q r at asked fit = absurd (none-some q asked)
 
 -- The script goes on.

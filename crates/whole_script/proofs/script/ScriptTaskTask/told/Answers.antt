@@ -1,4 +1,4 @@
-use Rattle.std.proofs.Common.{◌≡◌, ◌+◌, ◌<◌, ◌∙◌, Option, drop, length, ap, arith}
+use Rattle.std.proofs.Common.{◌+◌, ◌<◌, ◌∙◌, Option, drop, length, ap, arith}
 use Rattle.dial_lib.specs.declared.step.StepTask.{StepTask}
 use Rattle.whole_script.specs.ScriptTasks as spec
 use Rattle.whole_script.proofs.Played.{has_room, kept_told, told_on, told_through}
@@ -18,10 +18,10 @@ invariant_of-self-else-is_played c =
 pub returns-then-is_played-clause-ok : goal.returns-then-is_played-clause-ok
 returns-then-is_played-clause-ok c =
     ap (λ (t : Option StepTask). spec.progress (c.self.inside.finished + 1) t (drop (c.self.inside.finished + 1) c.self.inside.steps.now)) c.forget.ensures
-        ∙ told_through c.self.inside.finished c.self.inside.task c.begin.new.task c.hear.new.task c.self.inside.steps.now c.args.reply c.in_ok-begin.ensures.ok c.in_ok-hear.ensures.ok c.if-is_played.ensures
-        ∙ ap (λ (s : spec.Scripting). spec.after s c.args.reply) c.self.view_is
+    ∙ told_through c.self.inside.finished c.self.inside.task c.begin.new.task c.hear.new.task c.self.inside.steps.now c.args.reply c.in_ok-begin.ensures.ok c.in_ok-hear.ensures.ok c.if-is_played.ensures
+    ∙ ap (λ (s : spec.Scripting). spec.after s c.args.reply) c.self.view_is
 
 pub returns-else-is_played-clause-ok : goal.returns-else-is_played-clause-ok
 returns-else-is_played-clause-ok c =
     told_on c.self.inside.finished c.self.inside.task c.begin.new.task c.hear.new.task c.self.inside.steps.now c.args.reply c.in_ok-begin.ensures.ok c.in_ok-hear.ensures.ok c.if-is_played.ensures
-        ∙ ap (λ (s : spec.Scripting). spec.after s c.args.reply) c.self.view_is
+    ∙ ap (λ (s : spec.Scripting). spec.after s c.args.reply) c.self.view_is
