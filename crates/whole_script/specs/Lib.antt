@@ -1,0 +1,6 @@
+pub mod ScriptTasks
+pub mod ScriptLaws
+pub use Rattle.net_base.specs.Next
+pub use Rattle.script_task.specs.Rest
+pub use Rattle.script_task.specs.Task
+pub use Rattle.dial_lib.specs.StepTasks

@@ -1,0 +1,163 @@
+//! The task of a whole script.
+ghost use Rattle.std.specs.Prelude.{◌≡◌, ℕ, List, [], None, IfOk, OnOk, OnErr, option_map, slice_get};
+ghost use Rattle.net_base.specs.declared.reply.Reply.{Reply};
+ghost use Rattle.net_base.specs.declared.world.Script.{Script};
+ghost use Rattle.net_base.specs.Next.{finished_by};
+ghost use Rattle.net_base.specs.Steps.{Bound, Ends};
+ghost use Rattle.dial_lib.specs.StepTasks.{begun};
+ghost use Rattle.whole_script.specs.ScriptTasks as spec;
+
+use dial_lib::StepTask;
+use net_base::{Reply, Script, Step};
+use net_tree::Fids;
+use script_task::{Request, Task};
+use std::alloc::{AllocError, Global};
+use std::marker::Model;
+
+/// A whole script that is being played. Its steps are lent.
+#[derive(Drop)]
+pub struct ScriptTask<'a> {
+    steps: &'a [Step],
+    finished: usize,
+    // the task of the step behind those, where it was told a reply
+    task: Option<StepTask>,
+}
+
+impl<'a> Model for ScriptTask<'a> {
+    ghost use Rattle.std.specs.Prelude.{drop};
+    ghost use Rattle.whole_script.specs.ScriptTasks.{Kept, Scripting, progress};
+
+    ghost Value = { Scripting };
+
+    ghost view = { λ s. progress s.finished s.task (drop s.finished s.steps.now) };
+
+    ghost invariant = { λ s. Kept s.finished s.task s.steps.now };
+}
+
+impl<'a> ScriptTask<'a> {
+    /// The task of a script of which nothing is recorded. It takes no memory.
+    #[tactic(auto, using(crate::proofs::Played::starts))]
+    pub fn new(script: &'a Script) -> ScriptTask<'a>
+        ensures { spec.Plays script.now [] [] result }
+    {
+        ScriptTask {
+            steps: script.steps.as_slice(),
+            finished: 0,
+            task: None,
+        }
+    }
+
+    /// The task of a script without steps.
+    pub fn idle() -> ScriptTask<'a>
+        ensures { (h : ℕ) (names : List Bound) → spec.StandsFor h names result (Ends names) }
+    {
+        ScriptTask {
+            steps: &[],
+            finished: 0,
+            task: None,
+        }
+    }
+
+    /// How many steps are finished.
+    pub fn finished(&self) -> usize
+        ensures { (s : Script) (rs : List Reply) (names : List Bound)
+            → spec.Plays s rs names self.now → result ≡ finished_by rs s }
+    {
+        self.finished
+    }
+}
+
+impl Task for ScriptTask<'_> {
+    ghost use Rattle.whole_script.specs.ScriptLaws as laws;
+
+    ghost asks = { spec.asks };
+
+    ghost after = { spec.after };
+
+    ghost Stands = { spec.StandsFor };
+
+    ghost asks_so = { laws.asks_so };
+
+    ghost moves_so = { laws.moves_so };
+
+    #[tactic(auto, using(crate::proofs::Played::first_asks, crate::proofs::Played::none_asks))]
+    fn next(&self, alloc: Global, fids: &Fids) -> Result<Option<Request>, AllocError> {
+        match &self.task {
+            Some(task) => task.next(alloc, fids),
+            None => match first(alloc, self.steps, self.finished)? {
+                Some(task) => task.next(alloc, fids),
+                None => Ok(None),
+            },
+        }
+    }
+
+    #[tactic(auto, using(crate::proofs::Played::through_right))]
+    fn is_through(&self) -> bool {
+        self.steps.len() <= self.finished
+    }
+
+    #[tactic(auto, using(crate::proofs::Played::begun_same, crate::proofs::Played::kept_begun, crate::proofs::Played::kept_none))]
+    fn told(&mut self, alloc: Global, reply: Reply) -> Result<(), AllocError> {
+        begin(alloc, self.steps, self.finished, &mut self.task)?;
+        hear(alloc, &mut self.task, reply)?;
+        if is_played(&self.task) {
+            self.finished += 1;
+            forget(&mut self.task);
+        }
+        Ok(())
+    }
+}
+
+// Takes a reply, where a step has begun.
+fn hear(alloc: Global, task: &mut Option<StepTask>, reply: Reply) -> Result<(), AllocError>
+    ensures ok { OnOk result (task.new ≡ spec.heard task.old reply) }
+    ensures err { OnErr result (task.new ≡ task.old) }
+{
+    match task {
+        Some(task) => task.told(alloc, reply),
+        None => Ok(()),
+    }
+}
+
+// Whether a step has begun that is through.
+fn is_played(task: &Option<StepTask>) -> bool
+    ensures { (names : List Bound) → result ≡ spec.is_played task.now names }
+{
+    match task {
+        Some(task) => task.is_through(),
+        None => false,
+    }
+}
+
+// Forgets a step.
+fn forget(task: &mut Option<StepTask>)
+    ensures { task.new ≡ None }
+{
+    *task = None;
+}
+
+// The step behind so many begins, where none has begun and one is left.
+fn begin(
+    alloc: Global,
+    steps: &[Step],
+    finished: usize,
+    task: &mut Option<StepTask>,
+) -> Result<(), AllocError>
+    ensures ok { OnOk result (task.new ≡ spec.begun_by task.old (slice_get steps.now finished)) }
+    ensures err { OnErr result (task.new ≡ task.old) }
+{
+    if task.is_none() {
+        *task = first(alloc, steps, finished)?;
+    }
+    Ok(())
+}
+
+// The task of the step behind so many, if one is left.
+fn first(alloc: Global, steps: &[Step], finished: usize) -> Result<Option<StepTask>, AllocError>
+    ensures { IfOk result (λ task. task ≡ option_map begun (slice_get steps.now finished)) }
+{
+    match steps.get(finished) {
+        Some(step) => Ok(Some(StepTask::new(alloc, step)?)),
+        None => Ok(None),
+    }
+}
