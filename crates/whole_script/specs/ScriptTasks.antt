@@ -13,7 +13,7 @@ use Rattle.dial_lib.specs.StepTasks as step
 
 -- The task.
 
--- what a contract sees of it: how many steps are finished, and the step that is played with the steps behind it, if one is left
+-- what a contract sees of it: how many steps are finished, and, if one is left, the step that is played and those behind
 pub data Scripting : Type 0 where
   AtStep : ℕ → StepTask → List Step → Scripting
   AtEnd : ℕ → Scripting
