@@ -28,6 +28,7 @@ use duties::{Duties, WorldWays};
 use guest_laws::{histories_of_guests_are_legal, no_duty_is_the_clocks, turns_are_these};
 use journal::{Book, Journal, Naming, Pass};
 use locked::{Locked, Machine};
+use ndb_index::Index;
 use net_actors::{Actor, is_among, number_of, numbers_are_apart};
 use net_base::{ActorName, Db, Event, History, With, Work, World};
 use net_tree::Fids;
@@ -291,7 +292,7 @@ fn locks_of<J: Naming + Placing>(
     requires blank { AreUnused books.items }
     ensures { IfOk result (λ locks. map (λ l. l.actor) locks.items ≡ map (λ b. b.actor) books.items) }
 {
-    let db = Arc::new(alloc, copy_of(&world.db)?)?;
+    let db = Arc::new(alloc, index_of(alloc, &world.db)?)?;
     let mut locks = Vec::with_capacity(alloc, books.len())?;
     books.reverse();
     while let Some(book) = books.pop() {
@@ -300,17 +301,18 @@ fn locks_of<J: Naming + Placing>(
     Ok(locks)
 }
 
-fn copy_of(db: &Db) -> Result<Db, AllocError>
-    ensures { IfOk result (λ copy. copy ≡ db.now) }
+// A copy of the database with its index.
+fn index_of(alloc: Global, db: &Db) -> Result<Index, AllocError>
+    ensures { IfOk result (λ index. index ≡ db.now) }
 {
-    db.clone()
+    Index::new(alloc, db.clone()?)
 }
 
 // The actor of a book behind its lock.
 fn lock_for<J: Naming + Placing>(
     alloc: Global,
     world: &World,
-    db: &Arc<Db, Global>,
+    db: &Arc<Index, Global>,
     book: Book<J>,
 ) -> Result<Locked<J, WorldActor<J>>, AllocError>
     requires world { J.world ≡ world.now }

@@ -140,7 +140,7 @@ fn echoed<J: Naming + Placing, R: Wait + Abort>(
     requires is { IsWorld world.now }
     requires roster { IsRosterOf J.world J.run.roster }
 {
-    let (net, mut guests) = Net::named(alloc, world, opened)?;
+    let (net, mut guests) = Net::<J, WorldActor<J>>::named(alloc, world, opened)?;
     let (Some(clock), Some(mut courier), Some(mut script)) = (
         guests.pop(),
         guests.pop(),
