@@ -4,3 +4,4 @@ pub mod Freshly
 pub mod Rows
 pub mod Passes
 pub mod Firsts
+pub mod Facts

@@ -17,6 +17,7 @@ ghost use Rattle.guest_laws.specs.Guests.{IsGuest, IsTurn};
 ghost use Rattle.script_task.specs.Requests.{HasRoom as HasRoomFor, newly_bound};
 ghost use Rattle.duties.specs.Queue.{work_of_duty};
 ghost use Rattle.host_net.specs.Rosters.{AreUnused, IsNetOf, IsRosterOf};
+ghost use Rattle.host_net.proofs.Facts.{net_prop};
 ghost use Rattle.host_net.specs.Visits.{AreFresh, Finished, HasGuest, IsSame, Operated, Takes, Turned, bare};
 
 use crate::finishing::{books_of, gather};
@@ -45,7 +46,8 @@ pub struct Net<J: Naming + Placing, M: Machine> {
     ways: WorldWays,
     hosts: u32,
     media: u32,
-    ghost of: { IsNetOf J.world J.run.roster hosts media ways (map (λ l. l.actor) locks.items) },
+    ghost of: { IsNetOf J.world J.run.roster hosts media ways (map (λ l. l.actor) locks.items) }
+        by { net_prop J.world J.run.roster hosts media ways (map (λ l. l.actor) locks.items) },
 }
 
 impl<J: Naming + Placing> Net<J, WorldActor<J>> {
@@ -240,6 +242,7 @@ impl<J: Naming + Placing> Net<J, WorldActor<J>> {
         ensures { IfOk result (Finished J.world guests.items) }
     {
         histories_of_guests_are_legal();
+        numbers_are_apart();
         let Net {
             journal,
             locks,
@@ -301,11 +304,17 @@ fn locks_of<J: Naming + Placing>(
     Ok(locks)
 }
 
-// A copy of the database with its index.
+fn copy_of(db: &Db) -> Result<Db, AllocError>
+    ensures { IfOk result (λ copy. copy ≡ db.now) }
+{
+    db.clone()
+}
+
+// The index of a copy of the database.
 fn index_of(alloc: Global, db: &Db) -> Result<Index, AllocError>
     ensures { IfOk result (λ index. index ≡ db.now) }
 {
-    Index::new(alloc, db.clone()?)
+    Index::new(alloc, copy_of(db)?)
 }
 
 // The actor of a book behind its lock.
