@@ -31,7 +31,7 @@ impl<J: Naming + Placing> Model for Guest<J> {
 
     ghost Value = { Visit };
 
-    ghost view = { λ g. record { caller = g.caller; now = g.now; sight = g.pass; owed = g.duties.list; names = g.fids.names } };
+    ghost view = { λ g. record { caller = g.caller; moment = g.now; sight = g.pass; owed = g.duties.list; names = g.fids.names } };
 
     ghost invariant = { λ g. IsVisit J.world J.run.roster g.caller g.now g.pass g.duties.list g.host };
 }
@@ -81,7 +81,7 @@ impl<J: Naming + Placing> Guest<J> {
 
     /// The moment.
     pub fn now(&self) -> u64
-        ensures { result ≡ self.now.now }
+        ensures { result ≡ self.now.moment }
     {
         self.now
     }

@@ -17,6 +17,7 @@ ghost use Rattle.guest_laws.specs.Guests.{IsGuest, IsTurn};
 ghost use Rattle.script_task.specs.Requests.{HasRoom as HasRoomFor, newly_bound};
 ghost use Rattle.duties.specs.Queue.{work_of_duty};
 ghost use Rattle.host_net.specs.Rosters.{AreUnused, IsNetOf, IsRosterOf};
+ghost use Rattle.host_net.proofs.Facts.{net_prop};
 ghost use Rattle.host_net.specs.Visits.{AreFresh, Finished, HasGuest, IsSame, Operated, Takes, Turned, bare};
 
 use crate::finishing::{books_of, gather};
@@ -28,6 +29,7 @@ use duties::{Duties, WorldWays};
 use guest_laws::{histories_of_guests_are_legal, no_duty_is_the_clocks, turns_are_these};
 use journal::{Book, Journal, Naming, Pass};
 use locked::{Locked, Machine};
+use ndb_index::Index;
 use net_actors::{Actor, is_among, number_of, numbers_are_apart};
 use net_base::{ActorName, Db, Event, History, With, Work, World};
 use net_tree::Fids;
@@ -44,7 +46,8 @@ pub struct Net<J: Naming + Placing, M: Machine> {
     ways: WorldWays,
     hosts: u32,
     media: u32,
-    ghost of: { IsNetOf J.world J.run.roster hosts media ways (map (λ l. l.actor) locks.items) },
+    ghost of: { IsNetOf J.world J.run.roster hosts media ways (map (λ l. l.actor) locks.items) }
+        by { net_prop J.world J.run.roster hosts media ways (map (λ l. l.actor) locks.items) },
 }
 
 impl<J: Naming + Placing> Net<J, WorldActor<J>> {
@@ -239,6 +242,7 @@ impl<J: Naming + Placing> Net<J, WorldActor<J>> {
         ensures { IfOk result (Finished J.world guests.items) }
     {
         histories_of_guests_are_legal();
+        numbers_are_apart();
         let Net {
             journal,
             locks,
@@ -291,7 +295,7 @@ fn locks_of<J: Naming + Placing>(
     requires blank { AreUnused books.items }
     ensures { IfOk result (λ locks. map (λ l. l.actor) locks.items ≡ map (λ b. b.actor) books.items) }
 {
-    let db = Arc::new(alloc, copy_of(&world.db)?)?;
+    let db = Arc::new(alloc, index_of(alloc, &world.db)?)?;
     let mut locks = Vec::with_capacity(alloc, books.len())?;
     books.reverse();
     while let Some(book) = books.pop() {
@@ -306,11 +310,18 @@ fn copy_of(db: &Db) -> Result<Db, AllocError>
     db.clone()
 }
 
+// The index of a copy of the database.
+fn index_of(alloc: Global, db: &Db) -> Result<Index, AllocError>
+    ensures { IfOk result (λ index. index ≡ db.now) }
+{
+    Index::new(alloc, copy_of(db)?)
+}
+
 // The actor of a book behind its lock.
 fn lock_for<J: Naming + Placing>(
     alloc: Global,
     world: &World,
-    db: &Arc<Db, Global>,
+    db: &Arc<Index, Global>,
     book: Book<J>,
 ) -> Result<Locked<J, WorldActor<J>>, AllocError>
     requires world { J.world ≡ world.now }
