@@ -18,7 +18,7 @@ ghost use Rattle.script_task.specs.Requests.{HasRoom as HasRoomFor, newly_bound}
 ghost use Rattle.duties.specs.Queue.{work_of_duty};
 ghost use Rattle.host_net.specs.Rosters.{AreUnused, IsNetOf, IsRosterOf};
 ghost use Rattle.host_net.proofs.Facts.{net_prop};
-ghost use Rattle.host_net.specs.Visits.{AreFresh, Finished, HasGuest, IsSame, Operated, Takes, Turned, bare};
+ghost use Rattle.host_net.specs.Visits.{AreFresh, Finished, HasGuest, IsSame, Operated, Takes, Turned, bare, names_after};
 
 use crate::finishing::{books_of, gather};
 use crate::guest::Guest;
@@ -229,10 +229,7 @@ impl<J: Naming + Placing> Net<J, WorldActor<J>> {
             planned.actor,
             planned.event,
         );
-        if let Turn::Recorded { reply, .. } = &turn {
-            // there is room for what it binds
-            let _ = settle(&mut guest.fids, request, reply);
-        }
+        settle_turn(&mut guest.fids, request, &turn);
         turn
     }
 
@@ -280,6 +277,16 @@ fn reserve(fids: &mut Fids, request: &Request) -> Result<(), AllocError>
     match request {
         Request::Open { name, .. } => fids.reserve(name.as_slice()),
         _ => Ok(()),
+    }
+}
+
+// The names after a turn with a request. There is room for what it binds.
+fn settle_turn(fids: &mut Fids, request: &Request, turn: &Turn)
+    requires { (r : AnyReply) → HasRoomFor fids.old (newly_bound fids.old.names request.now r) }
+    ensures { fids.new.names ≡ names_after fids.old.names request.now turn.now }
+{
+    if let Turn::Recorded { reply, .. } = turn {
+        let _ = settle(fids, request, reply);
     }
 }
 
