@@ -111,7 +111,7 @@ impl<J: Naming + Placing> Net<J, WorldActor<J>> {
                 &mut guest.pass,
                 &mut guest.duties,
                 guest.caller,
-                guest.now,
+                guest.moment,
             ),
             None => absent(&guest.pass, guest.caller),
         }
@@ -187,7 +187,7 @@ impl<J: Naming + Placing> Net<J, WorldActor<J>> {
             &mut guest.pass,
             &mut guest.duties,
             guest.caller,
-            guest.now,
+            guest.moment,
             ActorName::Medium(medium),
             Event::Take,
         )
@@ -225,7 +225,7 @@ impl<J: Naming + Placing> Net<J, WorldActor<J>> {
             &mut guest.pass,
             &mut guest.duties,
             guest.caller,
-            guest.now,
+            guest.moment,
             planned.actor,
             planned.event,
         );
