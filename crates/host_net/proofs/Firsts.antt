@@ -1,5 +1,5 @@
 -- Whether a duty is owed, and which stands first.
-use Rattle.std.proofs.Common.{◌≡◌, ◌≢◌, ℕ, suc, arith, ◌==◌, not, Bool, true, false, List, [], ◌∷◌, drop, length, Option, Some, None, slice_get, inl, inr, refl, ap, sym, subst, ◌∙◌}
+use Rattle.std.proofs.Common.{◌≡◌, ◌≢◌, ℕ, suc, arith, ◌==◌, not, Bool, Bor, true, false, List, [], ◌∷◌, drop, length, Option, Some, None, IsSome, option_copied, slice_get, inl, inr, refl, ap, sym, subst, ◌∙◌}
 use Rattle.std.proofs.lemmas.Bool.{true≢false}
 use Rattle.std.proofs.lemmas.Bool.Decides.{nat_tests}
 use Rattle.std.proofs.lemmas.Option.{none-some, same_Some}
@@ -48,3 +48,9 @@ pub first_turn : (w : World) (c : ℕ) (p : Sight) (ds : List Duty) (d : Duty) �
 first_turn w c p ds d is a at turn =
     subst (λ (l : List Duty). IsTurn w c p l a (work_of_duty d) (Some d.cites)) (sym (first_of ds d is))
     (subst (λ (b : ActorName). IsTurn w c p (d ∷ drop 1 ds) b (work_of_duty d) (Some d.cites)) at turn)
+
+-- what stands first of some is there
+pub some_first : (o : Option (Bor Duty)) (ds : List Duty) → option_copied o ≡ slice_get ds 0 → ds ≢ [] → IsSome o
+some_first None [] is some = absurd (some refl)
+some_first None (d ∷ ds) is some = absurd (none-some d is)
+some_first (Some x) ds is some = refl
