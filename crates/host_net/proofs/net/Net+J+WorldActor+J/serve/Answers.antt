@@ -1,4 +1,4 @@
-use Rattle.std.proofs.Common.{◌≡◌, false, List, Some, slice_get, ap, sym, subst, ◌∙◌}
+use Rattle.std.proofs.Common.{◌≡◌, false, List, Some, slice_get, refl, ap, sym, subst, ◌∙◌}
 use Rattle.std.specs.Prelude.{option_copied}
 use Rattle.std.proofs.lemmas.Option.{same_Some}
 use Rattle.net_base.specs.declared.actor.ActorName.{ActorName}
@@ -37,6 +37,6 @@ returns-in-None-clause-turn g c d is =
     let w = g.J.Placing.world in
     let first : c.unwrap.result.now ≡ d = same_Some c.unwrap.result.now d (ap option_copied (sym c.unwrap.ensures) ∙ (c.first.ensures ∙ (ap (λ (v : Visit). slice_get v.owed 0) c.guest.view_is ∙ is))) in
     let at : c.behind-first.inside.actor ≡ d.actor = ap (λ (q : Duty). q.actor) (c.behind-first.view_is ∙ first) in
-    let none : has_actor w d.actor ≡ false = ap (has_actor w) (sym at) ∙ c.in-None.ensures.none in
+    let none : has_actor w d.actor ≡ false = ap (has_actor w) (sym at) ∙ c.in-None.ensures.none refl in
     subst (λ (v : Visit). Takes w d.actor (work_of_duty d) (Some d.cites) v c.absent.result v) c.guest.view_is
     (c.absent.ensures c.guest.inside.moment d.actor (work_of_duty d) (Some d.cites) c.guest.inside.duties.list none)
