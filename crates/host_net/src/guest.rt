@@ -23,7 +23,7 @@ pub struct Guest<J: Naming + Placing> {
     pub(crate) fids: Fids,
     pub(crate) caller: u32,
     pub(crate) host: u32,
-    pub(crate) moment: u64,
+    pub(crate) now: u64,
 }
 
 impl<J: Naming + Placing> Model for Guest<J> {
@@ -31,9 +31,9 @@ impl<J: Naming + Placing> Model for Guest<J> {
 
     ghost Value = { Visit };
 
-    ghost view = { λ g. record { caller = g.caller; moment = g.moment; sight = g.pass; owed = g.duties.list; names = g.fids.names } };
+    ghost view = { λ g. record { caller = g.caller; moment = g.now; sight = g.pass; owed = g.duties.list; names = g.fids.names } };
 
-    ghost invariant = { λ g. IsVisit J.world J.run.roster g.caller g.moment g.pass g.duties.list g.host };
+    ghost invariant = { λ g. IsVisit J.world J.run.roster g.caller g.now g.pass g.duties.list g.host };
 }
 
 impl<J: Naming + Placing> Guest<J> {
@@ -52,7 +52,7 @@ impl<J: Naming + Placing> Guest<J> {
             fids: Fids::new(alloc),
             caller,
             host,
-            moment: 0,
+            now: 0,
         }
     }
 
@@ -67,7 +67,7 @@ impl<J: Naming + Placing> Guest<J> {
             fids: _,
             caller: _,
             host: _,
-            moment: _,
+            now: _,
         } = self;
         pass
     }
@@ -83,7 +83,7 @@ impl<J: Naming + Placing> Guest<J> {
     pub fn now(&self) -> u64
         ensures { result ≡ self.now.moment }
     {
-        self.moment
+        self.now
     }
 
     /// Whether a duty is owed.

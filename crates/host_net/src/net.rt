@@ -111,7 +111,7 @@ impl<J: Naming + Placing> Net<J, WorldActor<J>> {
                 &mut guest.pass,
                 &mut guest.duties,
                 guest.caller,
-                guest.moment,
+                guest.now,
             ),
             None => absent(&guest.pass, guest.caller),
         }
@@ -187,7 +187,7 @@ impl<J: Naming + Placing> Net<J, WorldActor<J>> {
             &mut guest.pass,
             &mut guest.duties,
             guest.caller,
-            guest.moment,
+            guest.now,
             ActorName::Medium(medium),
             Event::Take,
         )
@@ -225,7 +225,7 @@ impl<J: Naming + Placing> Net<J, WorldActor<J>> {
             &mut guest.pass,
             &mut guest.duties,
             guest.caller,
-            guest.moment,
+            guest.now,
             planned.actor,
             planned.event,
         );
