@@ -17,6 +17,7 @@ ghost use Rattle.guest_laws.specs.Guests.{IsGuest, IsTurn};
 ghost use Rattle.script_task.specs.Requests.{HasRoom as HasRoomFor, newly_bound};
 ghost use Rattle.duties.specs.Queue.{work_of_duty};
 ghost use Rattle.host_net.specs.Rosters.{AreUnused, IsNetOf, IsRosterOf};
+ghost use Rattle.host_net.specs.Facts.{net_prop};
 ghost use Rattle.host_net.specs.Visits.{AreFresh, Finished, HasGuest, IsSame, Operated, Takes, Turned, bare};
 
 use crate::finishing::{books_of, gather};
@@ -44,7 +45,8 @@ pub struct Net<J: Naming + Placing, M: Machine> {
     ways: WorldWays,
     hosts: u32,
     media: u32,
-    ghost of: { IsNetOf J.world J.run.roster hosts media ways (map (λ l. l.actor) locks.items) },
+    ghost of: { IsNetOf J.world J.run.roster hosts media ways (map (λ l. l.actor) locks.items) }
+        by { net_prop J.world J.run.roster hosts media ways (map (λ l. l.actor) locks.items) },
 }
 
 impl<J: Naming + Placing> Net<J, WorldActor<J>> {
