@@ -29,6 +29,7 @@ use duties::{Duties, WorldWays};
 use guest_laws::{histories_of_guests_are_legal, no_duty_is_the_clocks, turns_are_these};
 use journal::{Book, Journal, Naming, Pass};
 use locked::{Locked, Machine};
+use ndb_index::Index;
 use net_actors::{Actor, is_among, number_of, numbers_are_apart};
 use net_base::{ActorName, Db, Event, History, With, Work, World};
 use net_tree::Fids;
@@ -241,6 +242,7 @@ impl<J: Naming + Placing> Net<J, WorldActor<J>> {
         ensures { IfOk result (Finished J.world guests.items) }
     {
         histories_of_guests_are_legal();
+        numbers_are_apart();
         let Net {
             journal,
             locks,
@@ -293,11 +295,12 @@ fn locks_of<J: Naming + Placing>(
     requires blank { AreUnused books.items }
     ensures { IfOk result (λ locks. map (λ l. l.actor) locks.items ≡ map (λ b. b.actor) books.items) }
 {
-    let db = Arc::new(alloc, copy_of(&world.db)?)?;
+    let db = Arc::new(alloc, index_of(alloc, &world.db)?)?;
     let mut locks = Vec::with_capacity(alloc, books.len())?;
     books.reverse();
     while let Some(book) = books.pop() {
-        locks.push(lock_for(alloc, world, &db, book)?)?;
+        let lock = lock_for(alloc, world, &db, book)?;
+        locks.push(lock)?;
     }
     Ok(locks)
 }
@@ -308,11 +311,18 @@ fn copy_of(db: &Db) -> Result<Db, AllocError>
     db.clone()
 }
 
+// The index of a copy of the database.
+fn index_of(alloc: Global, db: &Db) -> Result<Index, AllocError>
+    ensures { IfOk result (λ index. index ≡ db.now) }
+{
+    Index::new(alloc, copy_of(db)?)
+}
+
 // The actor of a book behind its lock.
 fn lock_for<J: Naming + Placing>(
     alloc: Global,
     world: &World,
-    db: &Arc<Db, Global>,
+    db: &Arc<Index, Global>,
     book: Book<J>,
 ) -> Result<Locked<J, WorldActor<J>>, AllocError>
     requires world { J.world ≡ world.now }
