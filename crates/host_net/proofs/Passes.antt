@@ -11,7 +11,7 @@ use Rattle.net_base.specs.Actors.{has_actor}
 use Rattle.net_base.specs.Callers.{caller_count}
 use Rattle.net_base.specs.Duties.{Duty}
 use Rattle.net_base.specs.Legal.{IsLegal, IsTimed}
-use Rattle.net_base.specs.Stamped.{In, at, of_caller}
+use Rattle.net_base.specs.Stamped.{In, at, of_actor, of_caller}
 use Rattle.journal.specs.declared.law.Roster.{Roster}
 use Rattle.journal.specs.declared.tokens.Sight.{Sight}
 use Rattle.journal.specs.declared.tokens.Volume.{Volume}
@@ -23,9 +23,9 @@ use Rattle.net_actors.specs.Numbers.{count_in, number_in}
 use Rattle.guest_laws.specs.Guests.{IsGuest, IsOfGuests, StaysGuest}
 use Rattle.guest_laws.specs.Own.{AreNext, AreTimely, AreTurns, IsLegalButScripts, StandsStill}
 use Rattle.guest_laws.specs.Works.{entries}
-use Rattle.host_net.proofs.Rows.{in_get}
+use Rattle.host_net.proofs.Rows.{in_books, in_get}
 use Rattle.host_net.specs.Rosters.{AreNumbered, IsRosterOf}
-use Rattle.host_net.specs.Visits.{Finished, Gathering, Gathers, HasGuest, IsWith, Stays, Visit, own}
+use Rattle.host_net.specs.Visits.{AreReplayed, Finished, Gathering, Gathers, HasBook, HasGuest, IsReplayed, IsWith, Stays, Visit, own}
 
 -- Guests that stay.
 
@@ -138,6 +138,14 @@ module _ (w : World) (r : Roster) (vs : List Visit) (p' : Sight) where
 
 -- The end.
 
+-- one book more
+pub replayed_on : (w : World) (bs : List Volume) (b : Volume) → AreReplayed w bs → IsReplayed w b.actor b.list → AreReplayed w (bs ++ b ∷ [])
+replayed_on w bs b all is d i = place (last_or d bs b i)
+  where
+    place : In d bs ⊎ (d ≡ b) → IsReplayed w d.actor d.list
+    place (inl there) = all d there
+    place (inr e) = subst (λ (x : Volume). IsReplayed w x.actor x.list) (sym e) is
+
 -- each actor of the roster is the world's
 pub known : (w : World) (n : ℕ) (actors : List ActorName) → AreNumbered w n actors → (a : ActorName) → In a actors → has_actor w a ≡ true
 known w n actors are a i = let at_k = in_get actors a i in (are.each at_k.0 a at_k.1).0
@@ -158,12 +166,23 @@ module _ (w : World) (r : Roster) (roster : IsRosterOf w r) (vs : List Visit) (p
       let with = here v i in
       whole.callers v.caller with.guest.list with.guest.held ∙ ap (map plain) (sym with.guest.all ∙ with.stays.alone)
 
-  pub finished : (IsOfGuests w r p.seen → IsLegalButScripts w (entries p.seen))
+  pub kept : map (λ (b : Volume). b.actor) books ≡ r.actors → AreReplayed w books → ((a : ActorName) → has_actor w a ≡ true → In a r.actors)
+      → (a : ActorName) → has_actor w a ≡ true → HasBook w a h
+  kept names replayed has a is =
+      let b = in_books books a (subst (λ (l : List ActorName). In a l) (sym names) (has a is)) in
+      record {
+        list = b.0.list;
+        all = subst (λ (d : ActorName). of_actor d h ≡ map plain b.0.list) b.2 (whole.actors b.0 b.1);
+        replayed = subst (λ (d : ActorName). IsReplayed w d b.0.list) b.2 (replayed b.0 b.1);
+      }
+
+  pub finished : ((a : ActorName) → has_actor w a ≡ true → HasBook w a h) → (IsOfGuests w r p.seen → IsLegalButScripts w (entries p.seen))
       → (IsOfGuests w r p.seen → ((c : ℕ) → c < r.callers → AreNext w c p.seen) → IsLegal w (entries p.seen))
       → (IsOfGuests w r p.seen → ((c : ℕ) → c < r.callers → AreTimely w c p.seen) → IsTimed w (entries p.seen)) → Finished w vs h
-  finished but legal timed =
+  finished has_books but legal timed =
       record {
         lists = lists;
+        books = has_books;
         but_scripts = subst (λ (l : List Entry). IsLegalButScripts w l) (sym whole.entries) (but of_guests);
         legal = λ each.
             subst (λ (l : List Entry). IsLegal w l) (sym whole.entries)

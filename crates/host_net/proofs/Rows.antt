@@ -1,9 +1,9 @@
 -- Actors, books and locks in the order of their numbers.
-use Rattle.std.proofs.Common.{◌≡◌, ℕ, zero, suc, ◌+◌, ◌*◌, ◌<◌, ◌≤◌, ◌⊎◌, nat_le, inl, inr, Bool, true, false, List, [], ◌∷◌, ◌++◌, length, map, reverse, Option, Some, None, slice_get, refl, ap, sym, subst, ◌∙◌, arith, append_assoc}
+use Rattle.std.proofs.Common.{◌≡◌, ℕ, zero, suc, ◌+◌, ◌*◌, ◌<◌, ◌≤◌, ◌⊎◌, nat_le, inl, inr, Bool, true, false, List, [], ◌∷◌, ◌++◌, length, map, reverse, Option, Some, None, get_or, slice_get, refl, ap, sym, subst, ◌∙◌, arith, append_assoc}
 use Rattle.std.specs.Option.{option_map}
 use Rattle.std.proofs.lemmas.Bool.{and_parts, leb-true}
-use Rattle.std.proofs.lemmas.List.{append-nil, map-append, reverse-append, reverse-reverse}
-use Rattle.std.proofs.lemmas.Option.{none-some, same_Some, slice_get-map, slice_get_within}
+use Rattle.std.proofs.lemmas.List.{append-nil, length-map, map-append, reverse-append, reverse-reverse}
+use Rattle.std.proofs.lemmas.Option.{none-some, same_Some, slice_get-map, slice_get_read}
 use Rattle.net_base.specs.declared.actor.ActorName.{ActorName}
 use Rattle.net_base.specs.declared.actor.ActorName.TheVariants as name
 use Rattle.net_base.specs.declared.world.World.{World}
@@ -26,6 +26,16 @@ pub in_get : (xs : List ActorName) (a : ActorName) → In a xs → (k : ℕ) × 
 in_get [] a is = absurd is
 in_get (x ∷ xs) a (inl is) = (0, ap (λ (b : ActorName). Some b) (sym is))
 in_get (x ∷ xs) a (inr there) = let rest = in_get xs a there in (suc rest.0, rest.1)
+
+get_in : (xs : List ActorName) (k : ℕ) (a : ActorName) → slice_get xs k ≡ Some a → In a xs
+get_in [] k a is = absurd (none-some a is)
+get_in (x ∷ xs) zero a is = inl (sym (same_Some x a is))
+get_in (x ∷ xs) (suc k) a is = inr (get_in xs k a is)
+
+get_within : (xs : List ActorName) (k : ℕ) → k < length xs → (a : ActorName) × (slice_get xs k ≡ Some a)
+get_within [] k lt = absurd (omega (arith, lt))
+get_within (x ∷ xs) zero lt = (x, refl)
+get_within (x ∷ xs) (suc k) lt = get_within xs k (omega (arith, lt))
 
 shift : (n : ℕ) → suc (n + 1) ≡ suc n + 1
 shift n = omega arith
@@ -59,6 +69,15 @@ module _ (w : World) where
       → (n : ℕ) (actors : List ActorName) → AreNumbered w n actors → (k : ℕ) (a b : ActorName) → slice_get actors k ≡ Some b → has_actor w a ≡ true → number_in w a ≡ k → b ≡ a
   at_number apart n actors are k a b is has number =
       let each = are.each k b is in apart b a each.0 has (each.1 ∙ sym number)
+
+  -- each actor of the world is among them
+  pub has_number : ((a : ActorName) → has_actor w a ≡ true → number_in w a < count_in w)
+      → ((a b : ActorName) → has_actor w a ≡ true → has_actor w b ≡ true → number_in w a ≡ number_in w b → a ≡ b)
+      → (actors : List ActorName) → AreNumbered w (count_in w) actors → (a : ActorName) → has_actor w a ≡ true → In a actors
+  has_number below apart actors are a has =
+      let there = get_within actors (number_in w a) (omega (arith, below a has, are.many)) in
+      subst (λ (b : ActorName). In b actors) (at_number apart (count_in w) actors are (number_in w a) a there.0 there.1 has refl)
+      (get_in actors (number_in w a) there.0 there.1)
 
   -- one more
   pub numbered_on : (n : ℕ) (actors : List ActorName) (a : ActorName) → AreNumbered w n actors → has_actor w a ≡ true → number_in w a ≡ n → AreNumbered w (n + 1) (actors ++ a ∷ [])
@@ -124,6 +143,11 @@ module _ (w : World) (r : Roster) (hosts media : ℕ) (ways : List HostWays) (na
       at_number w apart (count_in w) r.actors net.roster.actors_are (number_of hosts media a) a b
       (subst (λ (l : List ActorName). slice_get l (number_of hosts media a) ≡ Some b) net.actors_are there) (sym among_is ∙ is) (sym number_is)
 
+-- what stands at a number
+pub named_at : {A : Type 0} (f : A → ActorName) (xs : List A) (k : ℕ) (x : A) → k < length (map f xs) → x ≡ get_or xs k x → slice_get (map f xs) k ≡ Some (f x)
+named_at f xs k x lt is =
+    slice_get-map f xs k ∙ ap (option_map f) (slice_get_read xs (length xs) k x refl (subst (λ (n : ℕ). k < n) (length-map xs f) lt) is)
+
 -- Few.
 
 within_most : (least most n : ℕ) → is_within least most n ≡ true → n ≤ most
@@ -144,6 +168,11 @@ module _ (w : World) (is : IsWorld w) where
 
 -- Books.
 
+pub in_books : (bs : List Volume) (a : ActorName) → In a (actors_of bs) → (b : Volume) × In b bs × (b.actor ≡ a)
+in_books [] a is = absurd is
+in_books (b ∷ bs) a (inl is) = (b, inl refl, sym is)
+in_books (b ∷ bs) a (inr there) = let rest = in_books bs a there in (rest.0, inr rest.1, rest.2)
+
 pub blank_names : (n : ℕ) (names : List ActorName) (bs : List Volume) → AreBlank n names bs → (actors_of bs ≡ names) × AreUnused bs
 blank_names n [] [] is = (refl, tt)
 blank_names n [] (b ∷ bs) is = absurd is
@@ -162,6 +191,10 @@ pub unused_reverse : (bs : List Volume) → AreUnused bs → AreUnused (reverse 
 unused_reverse [] all = tt
 unused_reverse (b ∷ bs) all = subst (λ (l : List Volume). AreUnused l) (sym (reverse-append (b ∷ []) bs)) (unused_more (reverse bs) b (unused_reverse bs all.1) all.0)
 
+in_back : (a : ActorName) (xs ys : List ActorName) → In a ys → In a (xs ++ ys)
+in_back a [] ys there = there
+in_back a (x ∷ xs) ys there = inr (in_back a xs ys there)
+
 -- One after another: what was made of the first ones, with what stands for those that are left.
 module _ {A B : Type 0} (f : A → ActorName) (g : B → ActorName) where
   -- one more is taken, and one more made of it
@@ -172,6 +205,13 @@ module _ {A B : Type 0} (f : A → ActorName) (g : B → ActorName) where
       ∙ (append_assoc (map f made) (f a ∷ []) (map g (reverse rest))
       ∙ (ap (λ (n : ActorName). map f made ++ n ∷ map g (reverse rest)) same
       ∙ (ap (λ (l : List B). map f made ++ map g l) (sym (ap reverse is ∙ reverse-append rest (b ∷ []))) ∙ so)))
+
+  -- what is taken was there
+  pub taken_in : (made : List A) (left rest : List B) (all : List ActorName) (b : B) → map f made ++ map g (reverse left) ≡ all → left ≡ rest ++ b ∷ [] → In (g b) all
+  taken_in made left rest all b so is =
+      subst (λ (l : List ActorName). In (g b) l) so
+      (in_back (g b) (map f made) (map g (reverse left))
+      (subst (λ (l : List B). In (g b) (map g l)) (sym (ap reverse is ∙ reverse-append rest (b ∷ []))) (inl refl)))
 
   -- in the end
   pub taken_all : (made : List A) (left : List B) (all : List ActorName) → map f made ++ map g (reverse left) ≡ all → left ≡ [] → map f made ≡ all

@@ -1,5 +1,5 @@
 -- What contracts see of a guest, and what its turns do.
-use Rattle.std.specs.Prelude.{◌≡◌, ◌≢◌, ℕ, ◌+◌, ◌<◌, ◌^◌, ◌⊎◌, List, [], ◌∷◌, ◌++◌, length, map, drop, Option, Some, None, slice_get}
+use Rattle.std.specs.Prelude.{◌≡◌, ◌≢◌, ℕ, true, ◌+◌, ◌<◌, ◌^◌, ◌⊎◌, List, [], ◌∷◌, ◌++◌, length, map, drop, Option, Some, None, slice_get}
 use mathlib.Core.List.{IsPrefix}
 use Rattle.net_base.specs.declared.actor.ActorName.{ActorName}
 use Rattle.net_base.specs.declared.event.Event.{Event}
@@ -13,18 +13,19 @@ use Rattle.net_base.specs.declared.reply.Reply.{Reply}
 use Rattle.net_base.specs.declared.world.Script.{Script}
 use Rattle.net_base.specs.declared.world.World.{World}
 use Rattle.net_base.specs.ActorStep.{Step}
-use Rattle.net_base.specs.Actors.{Actor, actor_step}
+use Rattle.net_base.specs.Actors.{Actor, actor_step, has_actor}
 use Rattle.net_base.specs.Callers.{IsScript, caller_of}
 use Rattle.net_base.specs.Duties.{Duty, duties}
 use Rattle.net_base.specs.Legal.{IsAsked, IsLegal, IsTimed}
 use Rattle.net_base.specs.Net.{after}
 use Rattle.net_base.specs.Next.{next}
-use Rattle.net_base.specs.Stamped.{In, at, moment, of_caller}
+use Rattle.net_base.specs.Stamped.{In, at, moment, of_actor, of_caller}
 use Rattle.net_base.specs.Steps.{Ask, Bound}
 use Rattle.journal.specs.declared.law.Roster.{Roster}
 use Rattle.journal.specs.declared.tokens.Sight.{Sight}
+use Rattle.journal.specs.declared.tokens.Volume.{Volume}
 use Rattle.journal.specs.Closing.{plain}
-use Rattle.locked.specs.Acts.{made, without_copy}
+use Rattle.locked.specs.Acts.{Replays, made, without_copy}
 use Rattle.ip_route.specs.Kept.{HostWays}
 use Rattle.duties.specs.Owing.{Owes}
 use Rattle.duties.specs.Queue.{Queue}
@@ -33,6 +34,7 @@ use Rattle.script_task.specs.Requests.{planned, settled}
 use Rattle.guest_laws.specs.Works.{entries, noted_net}
 use Rattle.guest_laws.specs.Own.{AreNext, AreTimely, IsLegalButScripts, StandsStill}
 use Rattle.guest_laws.specs.Guests.{IsGuest}
+use Rattle.guest_laws.specs.Named.{answer_in, opening}
 use Rattle.host_net.specs.declared.turn.Turn.{Turn}
 use Rattle.host_net.specs.declared.turn.Turn.TheVariants as turn
 
@@ -153,10 +155,26 @@ pub record IsWith (w : World) (r : Roster) (v : Visit) (p : Sight) : Type 0 wher
   pub guest : IsGuest w r v.caller p v.owed
   pub stays : Stays w v.caller v.sight p
 
--- the history of these guests: each caller's entries are those that its guest knows, and it is legal, but that the
--- entries of scripts are their next events; legal where they are, and timed where each move comes in time
+-- each of these entries was a step of the actor, in the state to which those before it led
+abbrev pub IsReplayed : World → ActorName → List (ℕ × Noted) → Type 0
+IsReplayed w a list = Replays opening (answer_in w) (opening a) list
+
+-- each of these books is so
+abbrev pub AreReplayed : World → List Volume → Type 0
+AreReplayed w bs = (b : Volume) → In b bs → IsReplayed w b.actor b.list
+
+-- the actor's entries in the history are those of its book
+pub record HasBook (w : World) (a : ActorName) (h : List Entry) : Type 0 where
+  pub list : List (ℕ × Noted)
+  pub all : of_actor a h ≡ map plain list
+  pub replayed : IsReplayed w a list
+
+-- the history of these guests: each caller's entries are those that its guest knows, each actor's are those of its book,
+-- and it is legal, but that the entries of scripts are their next events; legal where they are, and timed where each
+-- move comes in time
 pub record Finished (w : World) (vs : List Visit) (h : List Entry) : Type 0 where
   pub lists : (v : Visit) → In v vs → of_caller v.caller h ≡ map plain (own v.caller v.sight)
+  pub books : (a : ActorName) → has_actor w a ≡ true → HasBook w a h
   pub but_scripts : IsLegalButScripts w h
   pub legal : ((v : Visit) → In v vs → AreNext w v.caller v.sight.seen) → IsLegal w h
   pub timed : ((v : Visit) → In v vs → AreTimely w v.caller v.sight.seen) → IsTimed w h
