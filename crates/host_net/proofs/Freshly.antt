@@ -58,6 +58,13 @@ pub fresh_more : (n : ℕ) (vs : List Visit) (v : Visit) → AreFresh n vs → I
 fresh_more n [] v are is = (subst (λ (k : ℕ). IsFresh k v) (omega arith) is, tt)
 fresh_more n (x ∷ vs) v are is = (are.0, fresh_more (n + 1) vs v are.1 (subst (λ (k : ℕ). IsFresh k v) (omega arith) is))
 
+-- the last of them
+pub fresh_last : (n : ℕ) (vs : List Visit) (v : Visit) → AreFresh n (vs ++ v ∷ []) → AreFresh n vs × IsFresh (n + length vs) v
+fresh_last n [] v are = (tt, subst (λ (k : ℕ). IsFresh k v) (omega arith) are.0)
+fresh_last n (x ∷ vs) v are =
+    let rest = fresh_last (n + 1) vs v are.1 in
+    ((are.0, rest.0), subst (λ (k : ℕ). IsFresh k v) (omega arith) rest.1)
+
 -- Scripts.
 
 abbrev script_of : Script → Caller → Script
