@@ -1,12 +1,12 @@
 -- Guests to whom nothing has happened.
-use Rattle.std.proofs.Common.{◌≡◌, ℕ, zero, suc, ◌+◌, ◌<◌, ◌≤◌, ◌-◌, ◌==◌, nat_lt, inl, inr, Bool, true, false, not, List, [], ◌∷◌, ◌++◌, length, filter, Option, Some, None, if◌then◌else◌, slice_get, refl, ap, sym, subst, ◌∙◌, arith}
+use Rattle.std.proofs.Common.{◌≡◌, ℕ, zero, suc, ◌+◌, ◌<◌, ◌-◌, ◌==◌, nat_lt, inl, inr, Bool, true, false, not, List, [], ◌∷◌, ◌++◌, length, filter, Option, Some, None, if◌then◌else◌, refl, ap, sym, subst, ◌∙◌, arith}
 use Rattle.std.specs.Option.{option_map_or}
 use Rattle.std.proofs.lemmas.Bool.{true≢false}
 use Rattle.std.proofs.lemmas.Bool.Decides.{nat_tests}
 use Rattle.net_base.specs.declared.noted.Number.TheVariants as number
 use Rattle.net_base.specs.declared.world.Script.{Script}
 use Rattle.net_base.specs.declared.world.World.{World}
-use Rattle.net_base.specs.Callers.{Caller, IsClock, IsCourier, IsNobody, IsScript, caller_of, clock_number, first_courier, other_caller}
+use Rattle.net_base.specs.Callers.{Caller, IsClock, IsCourier, IsNobody, IsScript, clock_number, first_courier, other_caller}
 use Rattle.net_base.specs.Stamped.{In}
 use Rattle.journal.specs.Rule.{Held, caller_numbers, same_number}
 use Rattle.host_net.specs.Visits.{AreFresh, IsFresh, Visit}

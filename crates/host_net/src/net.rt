@@ -46,7 +46,7 @@ pub struct Net<J: Naming + Placing, M: Machine> {
     ways: WorldWays,
     hosts: u32,
     media: u32,
-    ghost of: { IsNetOf J.world J.run.roster hosts media ways (map (λ l. l.actor) locks.items) } by { net_prop J.world J.run.roster hosts media ways (map (λ l. l.actor) locks.items) },
+    ghost of: { IsNetOf J.world J.run.roster hosts media ways (map (λ l. l.actor) locks.items) } by { net_prop },
 }
 
 impl<J: Naming + Placing> Net<J, WorldActor<J>> {

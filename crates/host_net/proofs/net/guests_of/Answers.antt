@@ -1,9 +1,9 @@
-use Rattle.std.proofs.Common.{◌≡◌, ℕ, ◌+◌, ◌<◌, ◌≤◌, List, [], ◌∷◌, ◌++◌, length, length-append, ap, sym, subst, ◌∙◌, arith}
+use Rattle.std.proofs.Common.{◌≡◌, ℕ, ◌+◌, ◌<◌, List, [], ◌∷◌, length, length-append, ap, sym, subst, ◌∙◌, arith}
 use Rattle.net_base.specs.declared.noted.Number.TheVariants as number
 use Rattle.net_base.specs.Callers.{caller_count as callers_in}
 use Rattle.net_base.specs.Stamped.{In}
-use Rattle.journal.specs.Rule.{Held, caller_numbers}
-use Rattle.host_net.specs.Visits.{AreFresh, IsFresh, Visit}
+use Rattle.journal.specs.Rule.{Held}
+use Rattle.host_net.specs.Visits.{AreFresh, IsFresh}
 use Rattle.host_net.proofs.Freshly.{all_numbers, fresh_more, given_own, kept_later}
 use Rattle.host_net.proofs.net.guests_of.Goals as goal
 
