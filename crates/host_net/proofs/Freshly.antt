@@ -1,12 +1,12 @@
 -- Guests to whom nothing has happened.
-use Rattle.std.proofs.Common.{◌≡◌, ℕ, zero, suc, ◌+◌, ◌<◌, ◌≤◌, ◌-◌, ◌==◌, nat_lt, inl, inr, Bool, true, false, not, List, [], ◌∷◌, ◌++◌, length, filter, Option, Some, None, if◌then◌else◌, slice_get, refl, ap, sym, subst, ◌∙◌, arith}
+use Rattle.std.proofs.Common.{◌≡◌, ℕ, zero, suc, ◌+◌, ◌<◌, ◌-◌, ◌==◌, nat_lt, inl, inr, Bool, true, false, not, List, [], ◌∷◌, ◌++◌, length, filter, Option, Some, None, if◌then◌else◌, refl, ap, sym, subst, ◌∙◌, arith}
 use Rattle.std.specs.Option.{option_map_or}
 use Rattle.std.proofs.lemmas.Bool.{true≢false}
 use Rattle.std.proofs.lemmas.Bool.Decides.{nat_tests}
 use Rattle.net_base.specs.declared.noted.Number.TheVariants as number
 use Rattle.net_base.specs.declared.world.Script.{Script}
 use Rattle.net_base.specs.declared.world.World.{World}
-use Rattle.net_base.specs.Callers.{Caller, IsClock, IsCourier, IsNobody, IsScript, caller_of, clock_number, first_courier, other_caller}
+use Rattle.net_base.specs.Callers.{Caller, IsClock, IsCourier, IsNobody, IsScript, clock_number, first_courier, other_caller}
 use Rattle.net_base.specs.Stamped.{In}
 use Rattle.journal.specs.Rule.{Held, caller_numbers, same_number}
 use Rattle.host_net.specs.Visits.{AreFresh, IsFresh, Visit}
@@ -57,6 +57,13 @@ all_numbers (suc n) d lt = by_place (λ below. all_numbers n d below) (d == n) r
 pub fresh_more : (n : ℕ) (vs : List Visit) (v : Visit) → AreFresh n vs → IsFresh (n + length vs) v → AreFresh n (vs ++ v ∷ [])
 fresh_more n [] v are is = (subst (λ (k : ℕ). IsFresh k v) (omega arith) is, tt)
 fresh_more n (x ∷ vs) v are is = (are.0, fresh_more (n + 1) vs v are.1 (subst (λ (k : ℕ). IsFresh k v) (omega arith) is))
+
+-- the last of them
+pub fresh_last : (n : ℕ) (vs : List Visit) (v : Visit) → AreFresh n (vs ++ v ∷ []) → AreFresh n vs × IsFresh (n + length vs) v
+fresh_last n [] v are = (tt, subst (λ (k : ℕ). IsFresh k v) (omega arith) are.0)
+fresh_last n (x ∷ vs) v are =
+    let rest = fresh_last (n + 1) vs v are.1 in
+    ((are.0, rest.0), subst (λ (k : ℕ). IsFresh k v) (omega arith) rest.1)
 
 -- Scripts.
 

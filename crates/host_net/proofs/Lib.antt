@@ -5,4 +5,3 @@ pub mod Rows
 pub mod Passes
 pub mod Firsts
 pub mod Operating
-pub mod Facts

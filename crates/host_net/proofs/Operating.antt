@@ -34,7 +34,7 @@ unready_there w c now a work p room none =
     record { room = room; stays = stays_there w c p; unready = absent_unready w a ((noted_net w p.seen).actors a) now work none }
 
 abbrev pub visit : ℕ → ℕ → Sight → List Duty → List Bound → Visit
-visit c now p ds names = record { caller = c; moment = now; sight = p; owed = ds; names = names }
+visit c now p ds names = record { caller = c; now = now; sight = p; owed = ds; names = names }
 
 same_visit : (c now : ℕ) (p p' : Sight) (ds ds' : List Duty) (names names' : List Bound) → p' ≡ p → ds' ≡ ds → names' ≡ names → visit c now p' ds' names' ≡ visit c now p ds names
 same_visit c now p p' ds ds' names names' sight owed called =

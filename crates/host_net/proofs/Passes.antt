@@ -1,5 +1,5 @@
 -- The passes of guests come together, and with them what each guest knows.
-use Rattle.std.proofs.Common.{◌≡◌, ℕ, ◌+◌, ◌<◌, ◌⊎◌, inl, inr, true, List, [], ◌∷◌, ◌++◌, length, map, Option, Some, None, slice_get, refl, ap, sym, subst, ◌∙◌, arith}
+use Rattle.std.proofs.Common.{◌≡◌, ℕ, ◌<◌, ◌⊎◌, inl, inr, true, List, [], ◌∷◌, ◌++◌, length, map, refl, ap, sym, subst, ◌∙◌, arith}
 use mathlib.Core.List.{IsPrefix}
 use Rattle.std.proofs.lemmas.List.{append-nil}
 use Rattle.net_base.specs.declared.actor.ActorName.{ActorName}
@@ -8,8 +8,6 @@ use Rattle.net_base.specs.declared.noted.Noted.{Noted}
 use Rattle.net_base.specs.declared.noted.Number.TheVariants as number
 use Rattle.net_base.specs.declared.world.World.{World}
 use Rattle.net_base.specs.Actors.{has_actor}
-use Rattle.net_base.specs.Callers.{caller_count}
-use Rattle.net_base.specs.Duties.{Duty}
 use Rattle.net_base.specs.Legal.{IsLegal, IsTimed}
 use Rattle.net_base.specs.Stamped.{In, at, of_actor, of_caller}
 use Rattle.journal.specs.declared.law.Roster.{Roster}
@@ -19,7 +17,7 @@ use Rattle.journal.specs.Closing.{IsWhole, plain}
 use Rattle.journal.specs.Rule.{Held}
 use Rattle.journal.specs.Tokens.{Holds, HoldsAll, Met}
 use Rattle.journal.proofs.Lists.{in-left, in-right, prefix_trans}
-use Rattle.net_actors.specs.Numbers.{count_in, number_in}
+use Rattle.net_actors.specs.Numbers.{count_in}
 use Rattle.guest_laws.specs.Guests.{IsGuest, IsOfGuests, StaysGuest}
 use Rattle.guest_laws.specs.Own.{AreNext, AreTimely, AreTurns, IsLegalButScripts, StandsStill}
 use Rattle.guest_laws.specs.Works.{entries}

@@ -1,9 +1,9 @@
 -- Actors, books and locks in the order of their numbers.
-use Rattle.std.proofs.Common.{◌≡◌, ℕ, zero, suc, ◌+◌, ◌*◌, ◌<◌, ◌≤◌, ◌⊎◌, nat_le, inl, inr, Bool, true, false, List, [], ◌∷◌, ◌++◌, length, map, reverse, Option, Some, None, slice_get, refl, ap, sym, subst, ◌∙◌, arith, append_assoc}
+use Rattle.std.proofs.Common.{◌≡◌, ℕ, zero, suc, ◌+◌, ◌<◌, ◌≤◌, ◌⊎◌, nat_le, inl, inr, true, false, List, [], ◌∷◌, ◌++◌, length, map, reverse, Some, get_or, slice_get, refl, ap, sym, subst, ◌∙◌, arith, append_assoc}
 use Rattle.std.specs.Option.{option_map}
 use Rattle.std.proofs.lemmas.Bool.{and_parts, leb-true}
-use Rattle.std.proofs.lemmas.List.{append-nil, map-append, reverse-append, reverse-reverse}
-use Rattle.std.proofs.lemmas.Option.{none-some, same_Some, slice_get-map, slice_get_within}
+use Rattle.std.proofs.lemmas.List.{append-nil, length-map, map-append, reverse-append}
+use Rattle.std.proofs.lemmas.Option.{none-some, same_Some, slice_get-map, slice_get_read}
 use Rattle.net_base.specs.declared.actor.ActorName.{ActorName}
 use Rattle.net_base.specs.declared.actor.ActorName.TheVariants as name
 use Rattle.net_base.specs.declared.world.World.{World}
@@ -142,6 +142,11 @@ module _ (w : World) (r : Roster) (hosts media : ℕ) (ways : List HostWays) (na
   found_at apart is b there =
       at_number w apart (count_in w) r.actors net.roster.actors_are (number_of hosts media a) a b
       (subst (λ (l : List ActorName). slice_get l (number_of hosts media a) ≡ Some b) net.actors_are there) (sym among_is ∙ is) (sym number_is)
+
+-- what stands at a number
+pub named_at : {A : Type 0} (f : A → ActorName) (xs : List A) (k : ℕ) (x : A) → k < length (map f xs) → x ≡ get_or xs k x → slice_get (map f xs) k ≡ Some (f x)
+named_at f xs k x lt is =
+    slice_get-map f xs k ∙ ap (option_map f) (slice_get_read xs (length xs) k x refl (subst (λ (n : ℕ). k < n) (length-map xs f) lt) is)
 
 -- Few.
 

@@ -41,7 +41,7 @@ use Rattle.host_net.specs.declared.turn.Turn.TheVariants as turn
 -- a caller, the moment, its pass, what it owes, and the names that it has bound
 pub record Visit : Type 0 where
   pub caller : ℕ
-  pub moment : ℕ
+  pub now : ℕ
   pub sight : Sight
   pub owed : List Duty
   pub names : List Bound
@@ -108,7 +108,7 @@ Turned w c now a work cites p ds turn.Memory p' ds' = HasRoom c p × (p' ≡ p) 
 -- a guest's turn with this work at this actor
 abbrev pub Takes : World → ActorName → Work → Option ℕ → Visit → Turn → Visit → Type 0
 Takes w a work cites old answer new =
-    Turned w old.caller old.moment a work cites old.sight old.owed answer new.sight new.owed
+    Turned w old.caller old.now a work cites old.sight old.owed answer new.sight new.owed
 
 -- the first duty is done, and what its entry owes stands after those that are left
 pub record OwesLeft (ks : List HostWays) (a : ActorName) (stamp : ℕ) (work : Work) (o : Outcome) (old new : Queue) : Type 0 where
@@ -143,7 +143,7 @@ Operated w h q old answer new = Asked w h q old answer new
 -- the same guest as before, its pass, duties and names aside
 pub record IsSame (old new : Visit) : Type 0 where
   pub caller : new.caller ≡ old.caller
-  pub moment : new.moment ≡ old.moment
+  pub now : new.now ≡ old.now
 
 -- The end.
 
@@ -194,7 +194,7 @@ pub record Gathering (w : World) (r : Roster) (p : Sight) (vs : List Visit) (p' 
 -- the guest of a caller to whom nothing has happened
 pub record IsFresh (c : ℕ) (v : Visit) : Type 0 where
   pub caller : v.caller ≡ c
-  pub moment : v.moment ≡ 0
+  pub now : v.now ≡ 0
   pub seen : v.sight.seen ≡ []
   pub owed : v.owed ≡ []
   pub names : v.names ≡ []

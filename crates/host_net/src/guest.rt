@@ -31,7 +31,7 @@ impl<J: Naming + Placing> Model for Guest<J> {
 
     ghost Value = { Visit };
 
-    ghost view = { λ g. record { caller = g.caller; moment = g.now; sight = g.pass; owed = g.duties.list; names = g.fids.names } };
+    ghost view = { λ g. record { caller = g.caller; now = g.now; sight = g.pass; owed = g.duties.list; names = g.fids.names } };
 
     ghost invariant = { λ g. IsVisit J.world J.run.roster g.caller g.now g.pass g.duties.list g.host };
 }
@@ -74,28 +74,28 @@ impl<J: Naming + Placing> Guest<J> {
 
     /// Which caller.
     pub fn caller(&self) -> u32
-        ensures { result ≡ self.now.caller }
+        ensures { result ≡ self.entry.now.caller }
     {
         self.caller
     }
 
     /// The moment.
     pub fn now(&self) -> u64
-        ensures { result ≡ self.now.moment }
+        ensures { result ≡ self.entry.now.now }
     {
         self.now
     }
 
     /// Whether a duty is owed.
     pub fn owes(&self) -> bool
-        ensures { result ≡ not (length self.now.owed == 0) }
+        ensures { result ≡ not (length self.entry.now.owed == 0) }
     {
         !self.duties.is_empty()
     }
 
     /// The names that are bound.
     pub fn fids(&self) -> &Fids
-        ensures { result.now.names ≡ self.now.names }
+        ensures { result.now.names ≡ self.entry.now.names }
     {
         &self.fids
     }

@@ -17,7 +17,7 @@ ghost use Rattle.guest_laws.specs.Guests.{IsGuest, IsTurn};
 ghost use Rattle.script_task.specs.Requests.{HasRoom as HasRoomFor, newly_bound};
 ghost use Rattle.duties.specs.Queue.{work_of_duty};
 ghost use Rattle.host_net.specs.Rosters.{AreUnused, IsNetOf, IsRosterOf};
-ghost use Rattle.host_net.proofs.Facts.{net_prop};
+ghost use Rattle.host_net.specs.Facts.{net_prop};
 ghost use Rattle.host_net.specs.Visits.{AreFresh, Finished, HasGuest, IsSame, Operated, Takes, Turned, bare, names_after};
 
 use crate::finishing::{books_of, gather};
@@ -46,8 +46,7 @@ pub struct Net<J: Naming + Placing, M: Machine> {
     ways: WorldWays,
     hosts: u32,
     media: u32,
-    ghost of: { IsNetOf J.world J.run.roster hosts media ways (map (λ l. l.actor) locks.items) }
-        by { net_prop J.world J.run.roster hosts media ways (map (λ l. l.actor) locks.items) },
+    ghost of: { IsNetOf J.world J.run.roster hosts media ways (map (λ l. l.actor) locks.items) } by { net_prop },
 }
 
 impl<J: Naming + Placing> Net<J, WorldActor<J>> {
@@ -306,7 +305,8 @@ fn locks_of<J: Naming + Placing>(
     let mut locks = Vec::with_capacity(alloc, books.len())?;
     books.reverse();
     while let Some(book) = books.pop() {
-        locks.push(lock_for(alloc, world, &db, book)?)?;
+        let lock = lock_for(alloc, world, &db, book)?;
+        locks.push(lock)?;
     }
     Ok(locks)
 }

@@ -11,8 +11,8 @@ use super::*;
 use actor_machines::{Placing, WorldActor};
 use journal::Naming;
 use net_base::{
-    Db, Fates, History, HostSpec, Hosts, Iface, Ifaces, Media, MediumSpec, Mode, Nets, Octets, Proto,
-    RouteLines, Script, Scripts, Starts, Step, StepList, World,
+    Db, Fates, History, HostSpec, Hosts, Iface, Ifaces, Media, MediumSpec, Mode, Nets, Octets,
+    Proto, RouteLines, Script, Scripts, Starts, Step, StepList, World,
 };
 use outside::OpenGate;
 use script_task::Request;
@@ -211,9 +211,7 @@ fn write<J: Naming + Placing, R: Wait + Abort>(
 }
 
 // The guests of three callers.
-fn three<J: Naming + Placing>(
-    mut guests: Vec<Guest<J>>,
-) -> Option<(Guest<J>, Guest<J>, Guest<J>)>
+fn three<J: Naming + Placing>(mut guests: Vec<Guest<J>>) -> Option<(Guest<J>, Guest<J>, Guest<J>)>
     requires many { length guests.items ≡ 3 }
     requires fresh { AreFresh 0 guests.items }
     ensures { IfSome result (λ r. IsFresh 0 r.0 × IsFresh 1 r.1 × IsFresh 2 r.2) }

@@ -1,8 +1,9 @@
-use Rattle.std.proofs.Common.{◌≡◌, ℕ, ◌+◌, ◌<◌, ◌≤◌, List, [], ◌∷◌, ◌++◌, length, length-append, ap, sym, subst, ◌∙◌, arith}
+use Rattle.std.proofs.Common.{◌≡◌, ℕ, ◌+◌, ◌<◌, List, [], ◌∷◌, length, length-append, ap, sym, subst, ◌∙◌, arith}
 use Rattle.net_base.specs.declared.noted.Number.TheVariants as number
+use Rattle.net_base.specs.Callers.{caller_count as callers_in}
 use Rattle.net_base.specs.Stamped.{In}
-use Rattle.journal.specs.Rule.{Held, caller_numbers}
-use Rattle.host_net.specs.Visits.{AreFresh, IsFresh, Visit}
+use Rattle.journal.specs.Rule.{Held}
+use Rattle.host_net.specs.Visits.{AreFresh, IsFresh}
 use Rattle.host_net.proofs.Freshly.{all_numbers, fresh_more, given_own, kept_later}
 use Rattle.host_net.proofs.net.guests_of.Goals as goal
 
@@ -11,7 +12,7 @@ loop-caller-init g c = (
   c.requires.seen,
   λ d le lt.
       subst (λ (hs : List Held). In (number.Caller d, []) hs) (sym c.requires.held)
-      (all_numbers g.J.Naming.run.roster.callers d (omega (arith, lt, c.caller_count.ensures, c.requires.callers))),
+      (all_numbers g.J.Naming.run.roster.callers d (subst (λ (n : ℕ). d < n) (c.caller_count-callers.ensures ∙ (ap callers_in (sym c.requires.world) ∙ sym c.requires.callers)) lt)),
   ap length c.in_ok-guests.ensures.items,
   subst (AreFresh 0) (sym c.in_ok-guests.ensures.items) tt,
 )
@@ -26,7 +27,8 @@ fresh-requires-clause-held g c =
 
 pub loop-caller-preserved : goal.loop-caller-preserved
 loop-caller-preserved g c =
-    let k = c.loop-caller.caller in (
+    let k = c.loop-caller.caller in
+    let at : k ≡ 0 + length c.loop-caller.guests.items = omega (arith, c.loop-caller.invariant.2) in (
       c.split_pass-own.ensures.kept.0 ∙ c.loop-caller.invariant.0,
       λ d le lt.
           subst (λ (hs : List Held). In (number.Caller d, []) hs) (sym c.split_pass-own.ensures.kept.1)
@@ -34,5 +36,5 @@ loop-caller-preserved g c =
       ap length c.in_ok-push.ensures.items ∙ (length-append c.loop-caller.guests.items (c.fresh.result ∷ []) ∙ ap (λ (n : ℕ). n + 1) c.loop-caller.invariant.2),
       subst (AreFresh 0) (sym c.in_ok-push.ensures.items)
           (fresh_more 0 c.loop-caller.guests.items c.fresh.result c.loop-caller.invariant.3
-          (subst (λ (n : ℕ). IsFresh n c.fresh.result) (sym c.loop-caller.invariant.2) c.fresh.ensures)),
+          (subst (λ (n : ℕ). IsFresh n c.fresh.result) at c.fresh.ensures)),
     )

@@ -29,7 +29,7 @@ pub loop-book-preserved : goal.loop-book-preserved
 loop-book-preserved g c = (
   subst (λ (l : _). map (λ q. q.actor) l ++ map (λ (b : Volume). b.actor) (reverse c.pop.new.self.items) ≡ map (λ (b : Volume). b.actor) c.args.books.items) (sym c.in_ok-push.ensures.items)
       (taken_on (λ q. q.actor) (λ (b : Volume). b.actor) c.loop-book.locks.items c.loop-book.books.items c.pop.new.self.items (map (λ (b : Volume). b.actor) c.args.books.items)
-      c.in_ok-lock_for.value c.in-Some.book c.loop-book.invariant.0 c.in-Some.ensures.items c.in_ok-lock_for.ensures),
+      c.in_ok-lock.lock c.in-Some.book c.loop-book.invariant.0 c.in-Some.ensures.items c.in_ok-lock.ensures),
   (unused_parts c.pop.new.self.items c.in-Some.book (subst (λ (l : List Volume). AreUnused l) c.in-Some.ensures.items c.loop-book.invariant.1)).0,
 )
 

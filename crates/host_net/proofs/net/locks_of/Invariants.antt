@@ -1,5 +1,4 @@
 use Rattle.std.proofs.Common.{◌≡◌, ◌++◌, map, reverse, length}
-use Rattle.net_base.specs.declared.actor.ActorName.{ActorName}
 use Rattle.journal.specs.declared.tokens.Volume.{Volume}
 use Rattle.host_net.specs.Rosters.{AreUnused}
 use Rattle.host_net.proofs.net.locks_of.Given as goal

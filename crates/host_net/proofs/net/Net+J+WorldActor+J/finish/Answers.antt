@@ -1,4 +1,4 @@
-use Rattle.std.proofs.Common.{◌≡◌, ◌∙◌}
+use Rattle.std.proofs.Common.{◌∙◌}
 use Rattle.std.proofs.lemmas.Result.{IfOk-weaker}
 use Rattle.journal.specs.Closing.{IsWhole}
 use Rattle.host_net.specs.Visits.{Finished}
@@ -25,7 +25,7 @@ returns g c =
     let here = all_with w r c.args.guests.items c.gather.new.all c.pop.new.self.items c.in-Some.last c.into_pass-all.result c.in-Some.ensures.items mine c.gather.ensures in
     let roster = c.args.self.of.roster in
     let names = c.in_ok-books.ensures.actors ∙ c.args.self.of.actors_are in
-    let has = has_number w c.numbers_are_apart.ensures.below c.numbers_are_apart.ensures.apart r.actors roster.actors_are in
+    let has = has_number w (c.numbers_are_apart.ensures.below w) (c.numbers_are_apart.ensures.apart w) r.actors roster.actors_are in
     IfOk-weaker c.close.result (λ h. IsWhole r c.gather.new.all c.in_ok-books.books.items h) (λ h. Finished w c.args.guests.items h)
     (λ h whole.
     finished w r roster c.args.guests.items c.gather.new.all c.in_ok-books.books.items h c.requires.all here whole

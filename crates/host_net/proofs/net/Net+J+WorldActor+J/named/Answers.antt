@@ -1,4 +1,4 @@
-use Rattle.std.proofs.Common.{◌≡◌, List, length, ap, sym, subst, ◌∙◌}
+use Rattle.std.proofs.Common.{List, length, ap, sym, subst, ◌∙◌}
 use Rattle.net_base.specs.declared.actor.ActorName.{ActorName}
 use Rattle.net_base.specs.declared.world.World.{World}
 use Rattle.net_base.specs.Stamped.{In}
@@ -31,9 +31,11 @@ locks_of-requires-clause-blank g c = (blank_names 0 g.J.Naming.run.roster.actors
 
 pub invariant_of-net : goal.invariant_of-net
 invariant_of-net g c = record {
-  hosts_are = c.len-hosts.ensures ∙ ap (λ (w : World). length w.hosts) (sym c.requires.world);
-  media_are = c.len-media.ensures ∙ ap (λ (w : World). length w.media) (sym c.requires.world);
-  ways_are = subst (λ (w : World). AreWaysOfWorld w c.in_ok-ways.ways) (sym c.requires.world) c.in_ok-ways.ensures;
-  roster = c.requires.roster;
-  actors_are = c.in_ok-locks.ensures ∙ (blank_names 0 g.J.Naming.run.roster.actors c.in_ok-journal.books.items c.in_ok-journal.ensures.books).0;
+  of = record {
+    hosts_are = c.len.ensures ∙ ap (λ (w : World). length w.hosts) (sym c.requires.world);
+    media_are = c.len-2.ensures ∙ ap (λ (w : World). length w.media) (sym c.requires.world);
+    ways_are = subst (λ (w : World). AreWaysOfWorld w c.in_ok-ways.ways) (sym c.requires.world) c.in_ok-ways.ensures;
+    roster = c.requires.roster;
+    actors_are = c.in_ok-locks.ensures ∙ (blank_names 0 g.J.Naming.run.roster.actors c.in_ok-journal.books.items c.in_ok-journal.ensures.books).0;
+  };
 }

@@ -18,11 +18,11 @@ returns-clause-turn g c s is =
     let w = g.J.Placing.world in
     let q = c.args.request.now in
     let names = c.guest.inside.fids.names in
-    let new = visit c.guest.inside.caller c.guest.inside.moment c.own-turn.new.pass c.own-turn.new.duties.list c.settle_turn.new.fids.names in
+    let new = visit c.guest.inside.caller c.guest.inside.now c.own-turn.new.pass c.own-turn.new.duties.list c.settle_turn.new.fids.names in
     let home : s.host ≡ c.guest.inside.host = c.guest.invariant.home s (ap (λ (v : Visit). caller_of w v.caller) c.guest.view_is ∙ is) in
     let none : not (length c.guest.inside.duties.list == 0) ≡ false = cc (ap (λ (v : Visit). not (length v.owed == 0)) c.guest.view_is, c.owes.ensures, c.if-owes.false) in
     let called = c.settle_turn.ensures ∙ ap (λ (l : List Bound). names_after l q c.own-turn.result) c.reserve.ensures.names in
     subst (λ (v : Visit). Operated w s.host q v c.own-turn.result new) c.guest.view_is
-    (operated w s.host q c.guest.inside.caller c.guest.inside.moment c.guest.inside.pass c.own-turn.new.pass c.guest.inside.duties.list c.own-turn.new.duties.list
+    (operated w s.host q c.guest.inside.caller c.guest.inside.now c.guest.inside.pass c.own-turn.new.pass c.guest.inside.duties.list c.own-turn.new.duties.list
     names c.settle_turn.new.fids.names (ask_of c.in-Ok.planned) c.own-turn.result (free_none c.guest.inside.duties.list none)
     (ap (λ (h : ℕ). planned h names q) home ∙ c.in-Ok.ensures.event) c.own-turn.ensures.turn called)

@@ -28,7 +28,7 @@ serve_at-requires-clause-other g c =
 
 pub returns-in-Some-clause-turn : goal.returns-in-Some-clause-turn
 returns-in-Some-clause-turn g c d is =
-    let new = visit c.guest.inside.caller c.guest.inside.moment c.serve_at.new.pass c.serve_at.new.duties.list c.guest.inside.fids.names in
+    let new = visit c.guest.inside.caller c.guest.inside.now c.serve_at.new.pass c.serve_at.new.duties.list c.guest.inside.fids.names in
     subst (λ (v : Visit). Takes g.J.Placing.world d.actor (work_of_duty d) (Some d.cites) v c.serve_at.result new) c.guest.view_is
     (c.serve_at.ensures.turn d (ap (λ (v : Visit). slice_get v.owed 0) c.guest.view_is ∙ is))
 
@@ -39,4 +39,4 @@ returns-in-None-clause-turn g c d is =
     let at : c.behind-first.inside.actor ≡ d.actor = ap (λ (q : Duty). q.actor) (c.behind-first.view_is ∙ first) in
     let none : has_actor w d.actor ≡ false = ap (has_actor w) (sym at) ∙ c.in-None.ensures.none refl in
     subst (λ (v : Visit). Takes w d.actor (work_of_duty d) (Some d.cites) v c.absent.result v) c.guest.view_is
-    (c.absent.ensures c.guest.inside.moment d.actor (work_of_duty d) (Some d.cites) c.guest.inside.duties.list none)
+    (c.absent.ensures c.guest.inside.now d.actor (work_of_duty d) (Some d.cites) c.guest.inside.duties.list none)
