@@ -73,9 +73,8 @@ returns-in-NotReady-clause-turn g c =
     let ds = c.args.duties.now.list in
     let n = c.in-NotReady.ensures in
     let stays = c.guests_look.ensures w r c.args.caller c.args.pass.now ds c.in-NotReady.front c.act.new.pass c.requires.guest n.look in
-    let room = has_room w r c.args.caller c.args.pass.now ds c.requires.guest c.room.result (c.room.ensures c.requires.guest.list c.requires.guest.held) (omega (arith, c.if-room-eq0.false)) in
-    (
+    let room = has_room w r c.args.caller c.args.pass.now ds c.requires.guest c.room.result (c.room.ensures c.requires.guest.list c.requires.guest.held) (omega (arith, c.if-room-eq0.false)) in (
       unready w r c.args.caller c.args.pass.now ds c.requires.guest c.args.now a c.args.work c.act.new.pass c.in-NotReady.front room n stays
-      (c.locks_keep_actors.ensures.ready w c.act.new.pass.seen a c.args.now c.args.work),
+          (c.locks_keep_actors.ensures.ready w c.act.new.pass.seen a c.args.now c.args.work),
       c.reserve.ensures.list,
     )

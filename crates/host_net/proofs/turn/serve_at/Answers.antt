@@ -103,10 +103,9 @@ returns-in-NotReady-clause-turn g c e is =
     let at : e.actor ≡ a = ap (λ (q : Duty). q.actor) (same_Some e f.0 (sym is ∙ f.1)) ∙ f.2 in
     let n = c.in-NotReady.ensures e (ap (λ (l : List Duty). slice_get l 0) c.reserve.ensures.list ∙ is) in
     let stays = c.guests_look.ensures w r c.args.caller c.args.pass.now ds c.in-NotReady.front c.act_first.new.pass c.requires.guest n.look in
-    let room = has_room w r c.args.caller c.args.pass.now ds c.requires.guest c.room.result (c.room.ensures c.requires.guest.list c.requires.guest.held) (omega (arith, c.if-room-eq0.false)) in
-    (
+    let room = has_room w r c.args.caller c.args.pass.now ds c.requires.guest c.room.result (c.room.ensures c.requires.guest.list c.requires.guest.held) (omega (arith, c.if-room-eq0.false)) in (
       subst (λ (b : ActorName). Unready w c.args.caller c.args.now b (work_of_duty e) c.args.pass.now c.act_first.new.pass) (sym at)
-      (unready w r c.args.caller c.args.pass.now ds c.requires.guest c.args.now a (work_of_duty e) c.act_first.new.pass c.in-NotReady.front room n stays
-      (c.locks_keep_actors.ensures.ready w c.act_first.new.pass.seen a c.args.now (work_of_duty e))),
+          (unready w r c.args.caller c.args.pass.now ds c.requires.guest c.args.now a (work_of_duty e) c.act_first.new.pass c.in-NotReady.front room n stays
+          (c.locks_keep_actors.ensures.ready w c.act_first.new.pass.seen a c.args.now (work_of_duty e))),
       c.reserve.ensures.list,
     )
