@@ -1,0 +1,89 @@
+-- Guests to whom nothing has happened.
+use Rattle.std.proofs.Common.{◌≡◌, ℕ, zero, suc, ◌+◌, ◌<◌, ◌-◌, ◌==◌, nat_lt, inl, inr, Bool, true, false, not, List, [], ◌∷◌, ◌++◌, length, filter, Option, Some, None, if◌then◌else◌, refl, ap, sym, subst, ◌∙◌, arith}
+use Rattle.std.specs.Option.{option_map_or}
+use Rattle.std.proofs.lemmas.Bool.{true≢false}
+use Rattle.std.proofs.lemmas.Bool.Decides.{nat_tests}
+use Rattle.net_base.specs.declared.noted.Number.TheVariants as number
+use Rattle.net_base.specs.declared.world.Script.{Script}
+use Rattle.net_base.specs.declared.world.World.{World}
+use Rattle.net_base.specs.Callers.{Caller, IsClock, IsCourier, IsNobody, IsScript, clock_number, first_courier, other_caller}
+use Rattle.net_base.specs.Stamped.{In}
+use Rattle.journal.specs.Rule.{Held, caller_numbers, same_number}
+use Rattle.host_net.specs.Visits.{AreFresh, IsFresh, Visit}
+
+in_filter : (test : Held → Bool) (h : Held) (hs : List Held) → In h hs → test h ≡ true → In h (filter test hs)
+in_filter test h [] none is = absurd none
+in_filter test h (x ∷ hs) (inl here) is = at_head (test x) (ap test (sym here) ∙ is)
+  where
+    at_head : (b : Bool) → b ≡ true → In h (if b then x ∷ filter test hs else filter test hs)
+    at_head true yes_ = inl here
+    at_head false yes_ = absurd (true≢false (sym yes_))
+in_filter test h (x ∷ hs) (inr there) is = past_head (in_filter test h hs there is) (test x)
+  where
+    past_head : In h (filter test hs) → (b : Bool) → In h (if b then x ∷ filter test hs else filter test hs)
+    past_head rest true = inr rest
+    past_head rest false = rest
+
+same_refl : (n : ℕ) → (n == n) ≡ true
+same_refl n = grind (arith, nat_tests)
+
+apart : (c d : ℕ) → c < d → not (d == c) ≡ true
+apart c d lt = grind (arith, nat_tests)
+
+-- the number that is handed over
+pub given_own : (c : ℕ) (hs : List Held) → In (number.Caller c, []) hs → In (number.Caller c, []) (filter (λ (h : Held). same_number h.0 (number.Caller c)) hs)
+given_own c hs there = in_filter (λ (h : Held). same_number h.0 (number.Caller c)) (number.Caller c, []) hs there (same_refl c)
+
+-- the later numbers stay
+pub kept_later : (c d : ℕ) (hs : List Held) → c < d → In (number.Caller d, []) hs → In (number.Caller d, []) (filter (λ (h : Held). not (same_number h.0 (number.Caller c))) hs)
+kept_later c d hs lt there = in_filter (λ (h : Held). not (same_number h.0 (number.Caller c))) (number.Caller d, []) hs there (apart c d lt)
+
+same_is : (d n : ℕ) → (d == n) ≡ true → d ≡ n
+same_is d n e = grind (arith, nat_tests)
+
+less : (d n : ℕ) → d < suc n → (d == n) ≡ false → d < n
+less d n lt e = grind (arith, nat_tests)
+
+-- the first pass has all of them
+pub all_numbers : (n d : ℕ) → d < n → In (number.Caller d, []) (caller_numbers n)
+all_numbers zero d lt = absurd (omega arith)
+all_numbers (suc n) d lt = by_place (λ below. all_numbers n d below) (d == n) refl
+  where
+    by_place : (d < n → In (number.Caller d, []) (caller_numbers n)) → (b : Bool) → (d == n) ≡ b → In (number.Caller d, []) ((number.Caller n, []) ∷ caller_numbers n)
+    by_place rec true is = inl (ap (λ (k : ℕ). (number.Caller k, [])) (same_is d n is))
+    by_place rec false is = inr (rec (less d n lt is))
+
+-- one guest more
+pub fresh_more : (n : ℕ) (vs : List Visit) (v : Visit) → AreFresh n vs → IsFresh (n + length vs) v → AreFresh n (vs ++ v ∷ [])
+fresh_more n [] v are is = (subst (λ (k : ℕ). IsFresh k v) (omega arith) is, tt)
+fresh_more n (x ∷ vs) v are is = (are.0, fresh_more (n + 1) vs v are.1 (subst (λ (k : ℕ). IsFresh k v) (omega arith) is))
+
+-- the last of them
+pub fresh_last : (n : ℕ) (vs : List Visit) (v : Visit) → AreFresh n (vs ++ v ∷ []) → AreFresh n vs × IsFresh (n + length vs) v
+fresh_last n [] v are = (tt, subst (λ (k : ℕ). IsFresh k v) (omega arith) are.0)
+fresh_last n (x ∷ vs) v are =
+    let rest = fresh_last (n + 1) vs v are.1 in
+    ((are.0, rest.0), subst (λ (k : ℕ). IsFresh k v) (omega arith) rest.1)
+
+-- Scripts.
+
+abbrev script_of : Script → Caller → Script
+script_of t (IsScript s) = s
+script_of t _ = t
+
+abbrev is_script : Caller → Bool
+is_script (IsScript s) = true
+is_script _ = false
+
+other_script : (w : World) (c : ℕ) → is_script (other_caller w c) ≡ false
+other_script w c = by_courier (nat_lt c (clock_number w)) (c == clock_number w)
+  where
+    by_courier : (a b : Bool) → is_script (if a then IsCourier (c - first_courier w) else (if b then IsClock else IsNobody)) ≡ false
+    by_courier true b = refl
+    by_courier false true = refl
+    by_courier false false = refl
+
+-- a script of the world stands at its number
+pub host_by : (w : World) (c : ℕ) (o : Option Script) (s : Script) → option_map_or (λ (t : Script). IsScript t) o (other_caller w c) ≡ IsScript s → o ≡ Some s
+host_by w c None s is = absurd (true≢false (sym (ap is_script is) ∙ other_script w c))
+host_by w c (Some t) s is = ap (λ (q : Caller). Some (script_of t q)) is

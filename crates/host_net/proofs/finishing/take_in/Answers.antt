@@ -1,0 +1,19 @@
+use Rattle.host_net.proofs.Passes.{itself, with_that, with_this}
+use Rattle.host_net.proofs.finishing.take_in.Goals as goal
+
+pub returns-clause-kept : goal.returns-clause-kept
+returns-clause-kept g c v is =
+    let w = g.J.Placing.world in
+    let r = g.J.Naming.run.roster in
+    with_this w r v c.args.all.now is c.meet.new.pass c.into_pass.result c.meet.ensures
+    (c.guests_meet.ensures.this w r v.caller c.args.all.now c.into_pass.result c.meet.new.pass v.owed is.guest c.meet.ensures)
+
+pub returns-clause-taken : goal.returns-clause-taken
+returns-clause-taken g c =
+    let w = g.J.Placing.world in
+    let r = g.J.Naming.run.roster in
+    let v = c.args.guest in
+    let p = c.into_pass.result in
+    let is = itself w r v p c.into_pass.ensures.same c.into_pass.ensures.guest in
+    with_that w r v p is c.meet.new.pass c.args.all.now c.meet.ensures
+    (c.guests_meet.ensures.that w r v.caller c.args.all.now p c.meet.new.pass v.owed c.into_pass.ensures.guest c.meet.ensures)

@@ -1,0 +1,16 @@
+//! The net behind locks: every actor of a world behind its own, and a guest for each caller.
+#![tactic(auto)]
+
+mod finishing;
+mod guest;
+mod net;
+mod opening;
+mod turn;
+
+pub use guest::Guest;
+pub use net::Net;
+pub use opening::NetOpened;
+pub use turn::Turn;
+
+#[cfg(test)]
+mod tests;
