@@ -11,6 +11,3 @@ pub use guest::Guest;
 pub use net::Net;
 pub use opening::NetOpened;
 pub use turn::Turn;
-
-#[cfg(test)]
-mod tests;
