@@ -14,14 +14,30 @@ use std::alloc::{AllocError, Global};
 use std::process::Abort;
 use std::test::*;
 
-/// A message in a row.
+/// A message in a row, by its kind, id, ack and text. Its spec is 0, but of `CloseOf`.
 #[derive(Clone, Copy)]
-struct Said {
-    kind: IlKind,
-    spec: u8,
-    id: u32,
-    ack: u32,
-    text: &'static [u8],
+enum Said {
+    /// No message.
+    Quiet,
+    /// One without a text.
+    Bare(IlKind, u32, u32),
+    Data(u32, u32, &'static [u8]),
+    Own(IlKind, u32, u32, &'static [u8]),
+    /// A close with this spec.
+    CloseOf(u8, u32, u32),
+}
+
+/// The kind, spec, id, ack and text of a message.
+type Parts = (IlKind, u8, u32, u32, &'static [u8]);
+
+const fn parts(said: Said) -> Option<Parts> {
+    match said {
+        Said::Quiet => None,
+        Said::Bare(kind, id, ack) => Some((kind, 0, id, ack, b"")),
+        Said::Data(id, ack, text) => Some((IlKind::Data, 0, id, ack, text)),
+        Said::Own(kind, id, ack, text) => Some((kind, 0, id, ack, text)),
+        Said::CloseOf(spec, id, ack) => Some((IlKind::Close, spec, id, ack, b"")),
+    }
 }
 
 /// A call at an end.
@@ -40,94 +56,19 @@ enum Deed {
     Tick,
     /// Its state and what is due are asked for.
     Look(IlState, Option<u64>),
+    /// The cause of its end is asked for.
+    Ended(Cause),
 }
 
-/// Which of two ends.
+/// Which of two ends: the one that connects, or the only one, and the one that is born.
 #[derive(Clone, Copy)]
 enum Side {
     Near,
     Far,
 }
 
-/// A call with its moment, and what it emits.
-#[derive(Clone, Copy)]
-struct Row {
-    side: Side,
-    now: u64,
-    deed: Deed,
-    says: Option<Said>,
-}
-
-/// A call at the end that connects, or at the only one, which emits nothing.
-const fn near(now: u64, deed: Deed) -> Row {
-    Row {
-        side: Side::Near,
-        now,
-        deed,
-        says: None,
-    }
-}
-
-/// One that emits this.
-const fn near_says(now: u64, deed: Deed, says: Said) -> Row {
-    Row {
-        side: Side::Near,
-        now,
-        deed,
-        says: Some(says),
-    }
-}
-
-/// A call at the end that is born, which emits nothing.
-const fn far(now: u64, deed: Deed) -> Row {
-    Row {
-        side: Side::Far,
-        now,
-        deed,
-        says: None,
-    }
-}
-
-/// One that emits this.
-const fn far_says(now: u64, deed: Deed, says: Said) -> Row {
-    Row {
-        side: Side::Far,
-        now,
-        deed,
-        says: Some(says),
-    }
-}
-
-/// A message of this kind with spec 0.
-const fn own(kind: IlKind, id: u32, ack: u32, text: &'static [u8]) -> Said {
-    Said {
-        kind,
-        spec: 0,
-        id,
-        ack,
-        text,
-    }
-}
-
-/// A message without a text.
-const fn bare(kind: IlKind, id: u32, ack: u32) -> Said {
-    own(kind, id, ack, b"")
-}
-
-const fn data(id: u32, ack: u32, text: &'static [u8]) -> Said {
-    own(IlKind::Data, id, ack, text)
-}
-
-/// A close with this spec.
-const fn close(spec: u8, id: u32, ack: u32) -> Said {
-    Said {
-        kind: IlKind::Close,
-        spec,
-        id,
-        ack,
-        text: b"",
-    }
-}
+/// A call at an end with its moment, and what it emits.
+type Row = (Side, u64, Deed, Said);
 
 /// Two ends.
 #[derive(Drop)]
@@ -153,14 +94,34 @@ fn is_ready(end: &IlEnd, ask: Ask) -> bool
     end.is_short() && end.ready(ask)
 }
 
-fn message(alloc: Global, said: Said) -> Result<IlMsg, AllocError> {
-    Ok(IlMsg {
-        kind: said.kind,
-        spec: said.spec,
-        id: said.id,
-        ack: said.ack,
-        text: Octets::from_slice(alloc, said.text)?,
-    })
+fn message(alloc: Global, said: Said) -> Result<Option<IlMsg>, AllocError> {
+    let Some((kind, spec, id, ack, text)) = parts(said) else {
+        return Ok(None);
+    };
+    let text = Octets::from_slice(alloc, text)?;
+    Ok(Some(IlMsg {
+        kind,
+        spec,
+        id,
+        ack,
+        text,
+    }))
+}
+
+// The message comes. None comes where nothing is said.
+fn hear<R: Abort>(
+    rt: &R,
+    alloc: Global,
+    end: &mut IlEnd,
+    now: u64,
+    said: Said,
+) -> Result<Option<IlMsg>, AllocError> {
+    assert!(rt; now < 1 << 62);
+    assert!(rt; end.is_short());
+    match message(alloc, said)? {
+        Some(message) => end.arrive(now, &message),
+        None => Ok(None),
+    }
 }
 
 // Writes a message, which must not be refused.
@@ -243,10 +204,7 @@ fn done<R: Abort>(
             end.announced();
             Ok(None)
         }
-        Deed::Hear(said) => {
-            assert!(rt; end.is_short());
-            end.arrive(now, &message(alloc, said)?)
-        }
+        Deed::Hear(said) => hear(rt, alloc, end, now, said),
         Deed::Write(text) => written(rt, end, now, text),
         Deed::WriteHungup(cause) => {
             refused(rt, end, now, cause);
@@ -271,38 +229,49 @@ fn done<R: Abort>(
             assert_eq!(rt; end.due(), due, "what is due at {now}");
             Ok(None)
         }
+        Deed::Ended(cause) => {
+            assert_eq!(rt; end.cause(), Some(cause), "the cause at {now}");
+            Ok(None)
+        }
+    }
+}
+
+// Whether what is emitted is what the row says.
+fn is_said(emitted: &Option<IlMsg>, said: Said) -> bool {
+    match (emitted, parts(said)) {
+        (Some(message), Some((kind, spec, id, ack, text))) => {
+            (message.kind, message.spec, message.id, message.ack) == (kind, spec, id, ack)
+                && message.text.as_slice() == text
+        }
+        (None, None) => true,
+        _ => false,
     }
 }
 
 // Does what a row says, and compares what it emits.
 fn step<R: Abort>(rt: &R, alloc: Global, end: &mut IlEnd, row: &Row) -> Result<(), AllocError> {
-    let now = row.now;
-    match (done(rt, alloc, end, now, row.deed)?, row.says) {
-        (Some(message), Some(said)) => {
-            assert_eq!(rt; message.kind, said.kind, "the kind at {now}");
-            assert_eq!(rt; message.spec, said.spec, "the spec at {now}");
-            assert_eq!(rt; message.id, said.id, "the id at {now}");
-            assert_eq!(rt; message.ack, said.ack, "the ack at {now}");
-            assert_eq!(rt; message.text.as_slice(), said.text, "the text at {now}");
-        }
-        (None, None) => {}
-        (Some(message), None) => {
-            panic!(rt; "a {:?} is emitted at {now}", message.kind);
-        }
-        (None, Some(said)) => {
-            panic!(rt; "no {:?} is emitted at {now}", said.kind);
-        }
-    }
+    let (_, now, deed, said) = *row;
+    let emitted = done(rt, alloc, end, now, deed)?;
+    assert!(rt; is_said(&emitted, said), "what is emitted at {now}");
     Ok(())
 }
 
 // Does what the rows say, one after another.
 fn play<R: Abort>(rt: &R, alloc: Global, ends: &mut Ends, rows: &[Row]) -> Result<(), AllocError> {
     for row in rows {
-        match row.side {
+        match row.0 {
             Side::Near => step(rt, alloc, &mut ends.near, row)?,
             Side::Far => step(rt, alloc, &mut ends.far, row)?,
         }
+    }
+    Ok(())
+}
+
+// The same of tables, at fresh ends.
+fn plays<R: Abort>(rt: &R, alloc: Global, tables: &[&[Row]]) -> Result<(), AllocError> {
+    let mut ends = Ends::fresh(alloc)?;
+    for rows in tables {
+        play(rt, alloc, &mut ends, rows)?;
     }
     Ok(())
 }
