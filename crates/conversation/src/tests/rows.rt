@@ -44,6 +44,9 @@ pub enum Deed {
     Arrive(u64, Came),
     Tick(u64),
     Reserve,
+    /// What is due is asked for.
+    Due,
+    Generation,
 }
 
 /// A packet that comes.
@@ -74,6 +77,8 @@ pub enum Told {
     Full,
     Ticked,
     NotDue,
+    Due(Option<u64>),
+    Generation(u64),
 }
 
 /// What is emitted: the kind, id and ack of an IL message, or the length of a datagram, and the ttl.
@@ -171,7 +176,7 @@ fn event_of(alloc: Global, deed: Deed) -> Result<Event, AllocError> {
         Deed::Close(generation) => Event::Close { generation },
         Deed::Arrive(generation, _) => Event::ArriveAt { generation },
         Deed::Tick(generation) => Event::Tick { generation },
-        Deed::Reserve => Event::Reserve,
+        Deed::Reserve | Deed::Due | Deed::Generation => Event::Reserve,
     })
 }
 
@@ -235,6 +240,25 @@ fn done(
     Ok(Some(conv.step(now, work)?))
 }
 
+fn work_of(alloc: Global, deed: Deed) -> Result<Work, AllocError> {
+    let event = event_of(alloc, deed)?;
+    let with = with_of(alloc, deed)?;
+    Ok(Work { event, with })
+}
+
+// Makes the call of a row. The answer is whether it comes to what the row says.
+fn is_met(rt: &impl Abort, alloc: Global, conv: &mut Conv, row: &Row) -> Result<bool, AllocError> {
+    let (now, deed, told, sends, ends) = *row;
+    let work = work_of(alloc, deed)?;
+    match done(rt, conv, now, &work)? {
+        None => Ok(told == Told::Waits),
+        Some(outcome) => {
+            let rest = (sent_in(&outcome.emit), outcome.ended) == (sends, ends);
+            Ok(rest && is_told(&outcome.reply, told))
+        }
+    }
+}
+
 /// Makes the calls of a table, and compares what they come to.
 pub fn run(
     rt: &impl Abort,
@@ -243,19 +267,28 @@ pub fn run(
     rows: &[Row],
 ) -> Result<(), AllocError> {
     for (i, row) in rows.iter().enumerate() {
-        let (now, deed, told, sends, ends) = *row;
-        let work = Work {
-            event: event_of(alloc, deed)?,
-            with: with_of(alloc, deed)?,
+        let (_, deed, told, _, _) = *row;
+        let met = match deed {
+            Deed::Due => told == Told::Due(conv.due()),
+            Deed::Generation => told == Told::Generation(conv.generation()),
+            _ => is_met(rt, alloc, conv, row)?,
         };
-        match done(rt, conv, now, &work)? {
-            None => assert_eq!(rt; told, Told::Waits, "row {i}"),
-            Some(outcome) => {
-                assert!(rt; is_told(&outcome.reply, told), "the reply of row {i}");
-                assert_eq!(rt; sent_in(&outcome.emit), sends, "row {i}");
-                assert_eq!(rt; outcome.ended, ends, "row {i}");
-            }
-        }
+        assert!(rt; met, "row {i}");
+    }
+    Ok(())
+}
+
+/// The same of tables, one after another, at a fresh conversation.
+pub fn plays(
+    rt: &impl Abort,
+    alloc: Global,
+    proto: Proto,
+    slot: u32,
+    tables: &[&[Row]],
+) -> Result<(), AllocError> {
+    let mut conv = Conv::new(alloc, 0, proto, slot)?;
+    for rows in tables {
+        run(rt, alloc, &mut conv, rows)?;
     }
     Ok(())
 }
@@ -264,23 +297,40 @@ pub const SYNC: Came = Came::Il(IlKind::Sync, 500, 100, b"");
 
 pub const NOTHING: Sent = Sent::Nothing;
 
-/// A conversation of IL in slot 3 that was connected with this limit.
-pub const fn connecting(limit: u32) -> [Row; 3] {
-    [
-        (0, Deed::Begin(1), Told::Ok, NOTHING, false),
-        (
-            0,
-            Deed::Connect(1, 100, limit),
-            Told::Ok,
-            Sent::Il(IlKind::Sync, 100, 0, 255),
-            false,
-        ),
-        (
-            0,
-            Deed::Arrive(1, SYNC),
-            Told::Took,
-            Sent::Il(IlKind::Ack, 100, 500, 255),
-            false,
-        ),
-    ]
-}
+/// A conversation of IL in slot 3 that is connected with a limit of 8,192 bytes.
+pub const CONNECTING: &[Row] = &[
+    (0, Deed::Begin(1), Told::Ok, NOTHING, false),
+    (
+        0,
+        Deed::Connect(1, 100, 8192),
+        Told::Ok,
+        Sent::Il(IlKind::Sync, 100, 0, 255),
+        false,
+    ),
+    (
+        0,
+        Deed::Arrive(1, SYNC),
+        Told::Took,
+        Sent::Il(IlKind::Ack, 100, 500, 255),
+        false,
+    ),
+];
+
+/// With one of 538.
+pub const CONNECTING_538: &[Row] = &[
+    (0, Deed::Begin(1), Told::Ok, NOTHING, false),
+    (
+        0,
+        Deed::Connect(1, 100, 538),
+        Told::Ok,
+        Sent::Il(IlKind::Sync, 100, 0, 255),
+        false,
+    ),
+    (
+        0,
+        Deed::Arrive(1, SYNC),
+        Told::Took,
+        Sent::Il(IlKind::Ack, 100, 500, 255),
+        false,
+    ),
+];
