@@ -5,9 +5,11 @@ ghost use Rattle.medium.specs.OnFates.{AreLines};
 use crate::datagram::datagram_of;
 use crate::{Laid, Medium};
 use net_base::{
-    Addr, Body, Fate, FateRange, Fates, IlKind, IlMsg, MediumSpec, Octets, Packet, Sequence,
+    Addr, Body, Fate, FateRange, Fates, IlKind, IlMsg, MediumSpec, Octets, Packet, Proto, Sequence,
+    Taken,
 };
 use std::alloc::{AllocError, Global};
+use std::process::Abort;
 use std::test::Fail;
 
 const ANNA: Addr = Addr {
@@ -163,45 +165,69 @@ fn a_packet_as_bytes(rt: HostRuntime) -> Result<(), Fail> {
     Ok(())
 }
 
+/// What becomes of a packet of a protocol that is put for a station.
+fn lays(
+    alloc: Global,
+    medium: &mut Medium,
+    to: Option<u32>,
+    proto: Proto,
+    text: &[u8],
+) -> Result<Laid, AllocError> {
+    let packet = match proto {
+        Proto::Udp => udp(alloc, text)?,
+        Proto::Il => il(alloc, text)?,
+    };
+    medium.put(to, &packet)
+}
+
+/// Takes a copy, which must be there.
+fn taken(rt: &impl Abort, medium: &mut Medium) -> Result<Taken, AllocError> {
+    assert!(rt; medium.pending());
+    medium.take()
+}
+
+/// Whether it is the datagram `hi`, of the first frame to station 1.
+fn is_first(taken: &Taken) -> bool {
+    let packet = &taken.packet;
+    let head = (taken.frame, taken.to, packet.src, packet.dst) == (1, 1, ANNA, HELIX);
+    match &packet.body {
+        Body::Udp(text) => {
+            head && (packet.ttl, packet.tos) == (255, 0) && text.as_slice() == b"hi".as_slice()
+        }
+        Body::Il(_) => false,
+    }
+}
+
+/// Whether it is the message `hello`, of the second frame to station 0.
+fn is_second(taken: &Taken) -> bool {
+    let packet = &taken.packet;
+    let head = (taken.frame, taken.to, packet.ttl, packet.tos) == (2, 0, 9, 3);
+    match &packet.body {
+        Body::Il(message) => {
+            let told = (message.kind, message.spec, message.id, message.ack);
+            head && told == (IlKind::Data, 0, 2, 101)
+                && message.text.as_slice() == b"hello".as_slice()
+        }
+        Body::Udp(_) => false,
+    }
+}
+
 #[test]
 fn packets_come_in_their_order(rt: HostRuntime) -> Result<(), Fail> {
     let mut medium = ether(rt.alloc())?;
-    assert!(rt; !medium.pending());
-    assert_eq!(rt;
-        medium.put(Some(1), &udp(rt.alloc(), b"hi")?)?,
-        Laid::Frame(1)
-    );
-    assert_eq!(rt;
-        medium.put(None, &udp(rt.alloc(), b"hi")?)?,
-        Laid::NoStation
-    );
-    assert_eq!(rt;
-        medium.put(Some(0), &il(rt.alloc(), b"hello")?)?,
-        Laid::Frame(2)
-    );
-    assert!(rt; medium.pending());
-    let first = medium.take()?;
-    assert_eq!(rt; (first.frame, first.to), (1, 1));
-    assert_eq!(rt; (first.packet.src, first.packet.dst), (ANNA, HELIX));
-    assert_eq!(rt; (first.packet.ttl, first.packet.tos), (255, 0));
-    assert!(rt;
-        matches!(&first.packet.body, Body::Udp(text) if text.as_slice() == b"hi".as_slice())
-    );
-    assert!(rt; medium.pending());
-    let second = medium.take()?;
-    assert_eq!(rt; (second.frame, second.to), (2, 0));
-    assert_eq!(rt; (second.packet.ttl, second.packet.tos), (9, 3));
-    match &second.packet.body {
-        Body::Il(message) => {
-            assert_eq!(rt;
-                (message.kind, message.spec, message.id, message.ack),
-                (IlKind::Data, 0, 2, 101)
-            );
-            assert_eq!(rt; message.text.as_slice(), b"hello".as_slice());
-        }
-        Body::Udp(_) => assert!(rt; false, "the second packet is IL"),
+    let before = medium.pending();
+    let rows = [
+        (Some(1), Proto::Udp, b"hi".as_slice(), Laid::Frame(1)),
+        (None, Proto::Udp, b"hi", Laid::NoStation),
+        (Some(0), Proto::Il, b"hello", Laid::Frame(2)),
+    ];
+    for (to, proto, text, laid) in rows {
+        assert_eq!(rt; lays(rt.alloc(), &mut medium, to, proto, text), Ok(laid));
     }
-    assert!(rt; !medium.pending());
+    let first = taken(&rt, &mut medium)?;
+    let second = taken(&rt, &mut medium)?;
+    assert_eq!(rt; (before, medium.pending()), (false, false));
+    assert_eq!(rt; (is_first(&first), is_second(&second)), (true, true));
     Ok(())
 }
 
@@ -209,26 +235,20 @@ fn packets_come_in_their_order(rt: HostRuntime) -> Result<(), Fail> {
 fn packets_up_to_the_mtu(rt: HostRuntime) -> Result<(), Fail> {
     let text = [b'x'; 549];
     let mut medium = ether(rt.alloc())?;
-    assert_eq!(rt;
-        medium.put(Some(0), &udp(rt.alloc(), &text[..548])?)?,
-        Laid::Frame(1)
-    );
-    assert_eq!(rt;
-        medium.put(Some(0), &udp(rt.alloc(), &text)?)?,
-        Laid::TooBig
-    );
-    assert_eq!(rt;
-        medium.put(None, &udp(rt.alloc(), &text)?)?,
-        Laid::NoStation
-    );
-    assert_eq!(rt;
-        medium.put(Some(0), &il(rt.alloc(), &text[..538])?)?,
-        Laid::Frame(2)
-    );
-    assert_eq!(rt;
-        medium.put(Some(0), &il(rt.alloc(), &text[..539])?)?,
-        Laid::TooBig
-    );
+    let rows = [
+        (Some(0), Proto::Udp, &text[..548], Laid::Frame(1)),
+        (Some(0), Proto::Udp, &text[..549], Laid::TooBig),
+        (None, Proto::Udp, &text[..549], Laid::NoStation),
+        (Some(0), Proto::Il, &text[..538], Laid::Frame(2)),
+        (Some(0), Proto::Il, &text[..539], Laid::TooBig),
+    ];
+    for (i, (to, proto, text, laid)) in rows.iter().enumerate() {
+        assert_eq!(rt;
+            lays(rt.alloc(), &mut medium, *to, *proto, text),
+            Ok(*laid),
+            "row {i}"
+        );
+    }
     Ok(())
 }
 
@@ -241,31 +261,27 @@ fn fates_by_lines(rt: HostRuntime) -> Result<(), Fail> {
 #[test]
 fn fates_by_rates(rt: HostRuntime) -> Result<(), Fail> {
     let alloc = rt.alloc();
-    assert!(rt;
+    let rows = [
+        // 86 below the loss of 87, and at the loss of 86
         rates_give(alloc, 87, 0, 0, &[2])?,
-        "86 below the loss of 87"
-    );
-    assert!(rt;
         rates_give(alloc, 86, 0, 0, &[1, 2])?,
-        "86 at the loss of 86"
-    );
-    assert!(rt;
+        // 86 below loss and twice
         rates_give(alloc, 80, 7, 0, &[1, 1, 2])?,
-        "86 below loss and twice"
-    );
-    assert!(rt;
+        // 86 at loss and twice, below all three
         rates_give(alloc, 80, 6, 1, &[2, 1])?,
-        "86 at loss and twice, below all three"
-    );
-    assert!(rt; rates_give(alloc, 40, 40, 6, &[1, 2])?, "86 at all three");
+        // 86 at all three
+        rates_give(alloc, 40, 40, 6, &[1, 2])?,
+    ];
+    assert_eq!(rt; rows, [true; 5]);
     Ok(())
 }
 
 #[test]
 fn words_are_drawn_for_all_frames(rt: HostRuntime) -> Result<(), Fail> {
     // 86, 797, 970, 809, 448, 80, 103, 790, 936 and 677
-    assert!(rt; lines_give(rt.alloc(), 500, &[], 10, &[2, 3, 4, 8, 9, 10])?);
-    assert!(rt; lines_give(rt.alloc(), 500, &LINES, 10, &[2, 4, 4, 3, 5, 5, 8, 9, 10])?);
+    let lost = lines_give(rt.alloc(), 500, &[], 10, &[2, 3, 4, 8, 9, 10])?;
+    let lined = lines_give(rt.alloc(), 500, &LINES, 10, &[2, 4, 4, 3, 5, 5, 8, 9, 10])?;
+    assert_eq!(rt; (lost, lined), (true, true));
     Ok(())
 }
 
