@@ -1,24 +1,22 @@
 //! A host sends itself a datagram, by guests in one thread.
-ghost use Rattle.std.specs.Prelude.{◌≡◌, ◌∷◌, [], IfOk, IfSome, codes, length};
+ghost use Rattle.std.specs.Prelude.{◌≡◌, ◌∷◌, [], IfOk, IfSome};
 ghost use Rattle.net_base.specs.declared.world.Script.{Script as AnyScript};
 ghost use Rattle.net_base.specs.Callers.{IsCourier, IsScript, caller_of};
 ghost use Rattle.net_base.specs.World.{IsWorld};
 ghost use Rattle.host_net.specs.Rosters.{IsRosterOf};
-ghost use Rattle.host_net.specs.Visits.{AreFresh, IsFresh, IsSame};
 ghost use Rattle.host_net.specs.Worked as worked;
 
 use super::*;
 use actor_machines::{Placing, WorldActor};
 use journal::Naming;
 use net_base::{
-    Db, Fates, History, HostSpec, Hosts, Iface, Ifaces, Media, MediumSpec, Mode, Nets, Octets,
-    Proto, RouteLines, Script, Scripts, Starts, Step, StepList, World,
+    Db, Fates, HostSpec, Hosts, Iface, Ifaces, Media, MediumSpec, Mode, Nets, Octets, Proto,
+    RouteLines, Script, Scripts, Starts, Step, StepList, World,
 };
 use outside::OpenGate;
 use script_task::Request;
 use std::alloc::{AllocError, Global};
 use std::marker::Brand;
-use std::process::Abort;
 use std::sync::Wait;
 use std::test::*;
 use transcript::text_of;
@@ -81,7 +79,8 @@ fn scripts(alloc: Global) -> Result<Scripts, AllocError>
 }
 
 fn world(alloc: Global) -> Result<World, AllocError>
-    ensures { IfOk result (λ w. w ≡ worked.echo_world) }
+    ensures worked { IfOk result (λ w. w ≡ worked.echo_world) }
+    ensures is { IfOk result IsWorld }
 {
     Ok(World {
         end: 60000,
@@ -111,10 +110,54 @@ const LINES: &[u8] = b"\
 13 0 1 conv.0.udp.2 12 born 1 = ok
 ";
 
+// Requests.
+
+fn opens(alloc: Global, name: &[u8], path: &[u8]) -> Result<Request, AllocError> {
+    let name = text(alloc, name)?;
+    let path = text(alloc, path)?;
+    Ok(Request::Open {
+        name,
+        path,
+        mode: Mode::Both,
+    })
+}
+
+fn writes(alloc: Global, name: &[u8], bytes: &[u8]) -> Result<Request, AllocError> {
+    let name = text(alloc, name)?;
+    let text = text(alloc, bytes)?;
+    Ok(Request::Write { name, text })
+}
+
 // Turns.
 
-fn is_recorded(turn: &Turn) -> bool {
-    matches!(turn, Turn::Recorded { .. })
+// What became of a turn, without its reply.
+#[derive(Clone, Copy)]
+enum Heard {
+    Recorded,
+    NotReady,
+    Owes,
+    Memory,
+}
+
+fn hear(turn: &Turn) -> Heard {
+    match turn {
+        Turn::Recorded { .. } => Heard::Recorded,
+        Turn::NotReady => Heard::NotReady,
+        Turn::Owes => Heard::Owes,
+        Turn::Limit | Turn::Memory => Heard::Memory,
+    }
+}
+
+fn operated_once<J: Naming + Placing, R: Wait>(
+    rt: &R,
+    net: &Net<J, WorldActor<J>>,
+    script: &mut Guest<J>,
+    request: &Request,
+) -> Heard
+    requires script { (s : AnyScript) × (caller_of J.world script.old.caller ≡ IsScript s) }
+    ensures { script.new.caller ≡ script.old.caller }
+{
+    hear(&net.operate(rt, &OpenGate, script, request))
 }
 
 // The turn of a request, once more where memory ran out.
@@ -123,140 +166,150 @@ fn operated<J: Naming + Placing, R: Wait>(
     net: &Net<J, WorldActor<J>>,
     script: &mut Guest<J>,
     request: &Request,
-) -> Turn
+) -> Heard
     requires script { (s : AnyScript) × (caller_of J.world script.old.caller ≡ IsScript s) }
-    ensures { IsSame script.old script.new }
+    ensures { script.new.caller ≡ script.old.caller }
 {
-    match net.operate(rt, &OpenGate, script, request) {
-        Turn::Memory => net.operate(rt, &OpenGate, script, request),
-        turn => turn,
+    let first = operated_once(rt, net, script, request);
+    if matches!(first, Heard::Memory) {
+        return operated_once(rt, net, script, request);
     }
+    first
 }
 
-// The courier's turn, once more where memory ran out.
-fn carried<J: Naming + Placing, R: Wait>(
+fn carried_once<J: Naming + Placing, R: Wait>(
     rt: &R,
     net: &Net<J, WorldActor<J>>,
     courier: &mut Guest<J>,
-) -> Turn
+) -> Heard
     requires courier { caller_of J.world courier.old.caller ≡ IsCourier 0 }
-    ensures { IsSame courier.old courier.new }
+    ensures { courier.new.caller ≡ courier.old.caller }
 {
-    match net.courier_turn(rt, &OpenGate, courier, 0) {
-        Turn::Memory => net.courier_turn(rt, &OpenGate, courier, 0),
-        turn => turn,
-    }
+    hear(&net.courier_turn(rt, &OpenGate, courier, 0))
 }
 
-// How many duties were served, once more where memory ran out.
-fn served<J: Naming + Placing, R: Wait>(
+// The courier's turns until nothing is there to carry, which is said. Memory may run out once.
+fn carries<J: Naming + Placing, R: Wait>(
+    rt: &R,
+    net: &Net<J, WorldActor<J>>,
+    courier: &mut Guest<J>,
+) -> bool
+    requires courier { caller_of J.world courier.old.caller ≡ IsCourier 0 }
+    ensures { courier.new.caller ≡ courier.old.caller }
+{
+    for _ in 0..5_u32 {
+        if matches!(carried_once(rt, net, courier), Heard::NotReady) {
+            return true;
+        }
+    }
+    false
+}
+
+// The first duty, if any is owed.
+fn serves_once<J: Naming + Placing, R: Wait>(
     rt: &R,
     net: &Net<J, WorldActor<J>>,
     guest: &mut Guest<J>,
-) -> u32
-    ensures { IsSame guest.old guest.new }
+)
+    ensures { guest.new.caller ≡ guest.old.caller }
 {
-    let mut count = 0;
-    for _ in 0..4 {
-        if guest.owes() && is_recorded(&net.serve(rt, &OpenGate, guest)) {
-            count += 1;
-        }
+    if guest.owes() {
+        net.serve(rt, &OpenGate, guest);
     }
-    count
 }
 
-// Opens the file of a path and serves what is owed then.
-fn open<J: Naming + Placing, R: Wait + Abort>(
+// All duties. Memory may run out once.
+fn serves<J: Naming + Placing, R: Wait>(rt: &R, net: &Net<J, WorldActor<J>>, guest: &mut Guest<J>)
+    ensures { guest.new.caller ≡ guest.old.caller }
+{
+    for _ in 0..3_u32 {
+        serves_once(rt, net, guest);
+    }
+}
+
+// Opens a file and writes to it. Says whether the script was held up by what it owed for the write.
+fn speaks<J: Naming + Placing, R: Wait>(
     rt: &R,
     alloc: Global,
     net: &Net<J, WorldActor<J>>,
     script: &mut Guest<J>,
     name: &[u8],
     path: &[u8],
-    owed: u32,
-) -> Result<(), AllocError>
-    requires script { (s : AnyScript) × (caller_of J.world script.old.caller ≡ IsScript s) }
-    ensures { IsSame script.old script.new }
-{
-    let request = Request::Open {
-        name: text(alloc, name)?,
-        path: text(alloc, path)?,
-        mode: Mode::Both,
-    };
-    assert!(rt; is_recorded(&operated(rt, net, script, &request)));
-    assert_eq!(rt; served(rt, net, script), owed);
-    Ok(())
-}
-
-// Writes to the file of a name and serves what is owed then, before which nothing else can be asked for.
-fn write<J: Naming + Placing, R: Wait + Abort>(
-    rt: &R,
-    alloc: Global,
-    net: &Net<J, WorldActor<J>>,
-    script: &mut Guest<J>,
-    name: &[u8],
     bytes: &[u8],
-) -> Result<(), AllocError>
+) -> Result<bool, AllocError>
     requires script { (s : AnyScript) × (caller_of J.world script.old.caller ≡ IsScript s) }
-    ensures { IsSame script.old script.new }
+    ensures { script.new.caller ≡ script.old.caller }
 {
-    let request = Request::Write {
-        name: text(alloc, name)?,
-        text: text(alloc, bytes)?,
-    };
-    assert!(rt; is_recorded(&operated(rt, net, script, &request)));
-    assert!(rt; matches!(operated(rt, net, script, &request), Turn::Owes));
-    assert_eq!(rt; served(rt, net, script), 1);
-    Ok(())
+    let open = opens(alloc, name, path)?;
+    operated(rt, net, script, &open);
+    serves(rt, net, script);
+    let write = writes(alloc, name, bytes)?;
+    operated(rt, net, script, &write);
+    let again = operated(rt, net, script, &write);
+    serves(rt, net, script);
+    Ok(matches!(again, Heard::Owes))
 }
 
-// The guests of three callers.
-fn three<J: Naming + Placing>(mut guests: Vec<Guest<J>>) -> Option<(Guest<J>, Guest<J>, Guest<J>)>
-    requires many { length guests.items ≡ 3 }
-    requires fresh { AreFresh 0 guests.items }
-    ensures { IfSome result (λ r. IsFresh 0 r.0 × IsFresh 1 r.1 × IsFresh 2 r.2) }
-{
-    let clock = guests.pop()?;
-    let courier = guests.pop()?;
-    let script = guests.pop()?;
-    Some((script, courier, clock))
-}
-
-// The script sends itself a datagram, which the courier carries.
-fn play<J: Naming + Placing, R: Wait + Abort>(
+// The script sends itself a datagram, which the courier carries. Says whether each waited where it had to.
+fn play<J: Naming + Placing, R: Wait>(
     rt: &R,
     alloc: Global,
     net: &Net<J, WorldActor<J>>,
     script: &mut Guest<J>,
     courier: &mut Guest<J>,
-) -> Result<(), AllocError>
+) -> Result<bool, AllocError>
     requires script { (s : AnyScript) × (caller_of J.world script.old.caller ≡ IsScript s) }
     requires courier { caller_of J.world courier.old.caller ≡ IsCourier 0 }
-    ensures script { IsSame script.old script.new }
-    ensures courier { IsSame courier.old courier.new }
+    ensures script { script.new.caller ≡ script.old.caller }
+    ensures courier { courier.new.caller ≡ courier.old.caller }
 {
-    open(rt, alloc, net, script, b"a", b"/net/udp/clone", 1)?;
-    write(rt, alloc, net, script, b"a", b"announce 7")?;
-    open(rt, alloc, net, script, b"b", b"/net/udp/clone", 1)?;
-    write(rt, alloc, net, script, b"b", b"connect 135.104.9.6!7")?;
-    open(rt, alloc, net, script, b"d", b"/net/udp/1/data", 0)?;
-    assert!(rt; matches!(carried(rt, net, courier), Turn::NotReady));
-    write(rt, alloc, net, script, b"d", b"hi")?;
-    for _ in 0..3 {
-        assert!(rt; is_recorded(&carried(rt, net, courier)));
-    }
-    assert!(rt; matches!(carried(rt, net, courier), Turn::NotReady));
-    Ok(())
+    let mut held = carries(rt, net, courier);
+    held &= speaks(
+        rt,
+        alloc,
+        net,
+        script,
+        b"a",
+        b"/net/udp/clone",
+        b"announce 7",
+    )?;
+    held &= speaks(
+        rt,
+        alloc,
+        net,
+        script,
+        b"b",
+        b"/net/udp/clone",
+        b"connect 135.104.9.6!7",
+    )?;
+    held &= speaks(rt, alloc, net, script, b"d", b"/net/udp/1/data", b"hi")?;
+    held &= carries(rt, net, courier);
+    Ok(held)
 }
 
-// The history of three guests.
+// The whole.
+
+// The guests of three callers: the script, the courier and the clock.
+fn three<J: Naming + Placing>(mut guests: Vec<Guest<J>>) -> Option<(Guest<J>, Guest<J>, Guest<J>)>
+    ensures { IfSome result (λ r. (r.0.caller ≡ 0) × (r.1.caller ≡ 1) × (r.2.caller ≡ 2)) }
+{
+    let clock = guests.pop()?;
+    let courier = guests.pop()?;
+    let script = guests.pop()?;
+    if script.caller() != 0 || courier.caller() != 1 || clock.caller() != 2 {
+        return None;
+    }
+    Some((script, courier, clock))
+}
+
+// The text of the history of three guests.
 fn ended<J: Naming + Placing>(
     alloc: Global,
     net: Net<J, WorldActor<J>>,
     script: Guest<J>,
     courier: Guest<J>,
     clock: Guest<J>,
-) -> Result<History, AllocError>
+) -> Result<Octets, AllocError>
     requires many { J.run.roster.callers ≡ 3 }
     requires script { script.caller ≡ 0 }
     requires courier { courier.caller ≡ 1 }
@@ -266,15 +319,16 @@ fn ended<J: Naming + Placing>(
     guests.push(script)?;
     guests.push(courier)?;
     guests.push(clock)?;
-    net.finish(alloc, guests)
+    text_of(alloc, &net.finish(alloc, guests)?)
 }
 
-fn echoed<J: Naming + Placing, R: Wait + Abort>(
+// The text of the history, or none where somebody didn't wait, a name isn't bound, or the clock moved.
+fn echoed<J: Naming + Placing, R: Wait>(
     rt: &R,
     alloc: Global,
     world: &World,
     opened: NetOpened,
-) -> Result<(), Fail>
+) -> Result<Option<Octets>, AllocError>
     requires name { opened ≡ J.run }
     requires world { J.world ≡ world.now }
     requires worked { world.now ≡ worked.echo_world }
@@ -283,15 +337,14 @@ fn echoed<J: Naming + Placing, R: Wait + Abort>(
 {
     let (net, guests) = Net::<J, WorldActor<J>>::named(alloc, world, opened)?;
     let Some((mut script, mut courier, clock)) = three(guests) else {
-        panic!(rt; "three guests")
+        return Ok(None);
     };
-    assert_eq!(rt; script.caller(), 0);
-    play(rt, alloc, &net, &mut script, &mut courier)?;
-    assert!(rt; script.fids().is_bound(b"d"));
-    assert_eq!(rt; clock.now(), 0);
-    let history = ended(alloc, net, script, courier, clock)?;
-    assert!(rt; text_of(alloc, &history)?.as_slice() == LINES);
-    Ok(())
+    let held = play(rt, alloc, &net, &mut script, &mut courier)?;
+    if !held || !script.fids().is_bound(b"d") || clock.now() != 0 {
+        return Ok(None);
+    }
+    let told = ended(alloc, net, script, courier, clock)?;
+    Ok(Some(told))
 }
 
 #[test]
@@ -299,5 +352,7 @@ fn a_host_sends_itself_a_datagram(rt: HostRuntime) -> Result<(), Fail> {
     let alloc = rt.alloc();
     let world = world(alloc)?;
     let opened = NetOpened::new(alloc, &world)?;
-    echoed::<Brand, _>(&rt, alloc, &world, opened)
+    let told = echoed::<Brand, _>(&rt, alloc, &world, opened)?;
+    assert!(rt; told.is_some_and(|text| text.as_slice() == LINES));
+    Ok(())
 }
