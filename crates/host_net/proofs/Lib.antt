@@ -5,4 +5,4 @@ pub mod Rows
 pub mod Passes
 pub mod Firsts
 pub mod Operating
-pub mod Three
+pub mod Staying

@@ -1,5 +1,5 @@
 //! A host sends itself a datagram, by guests in one thread.
-ghost use Rattle.std.specs.Prelude.{◌≡◌, ◌∷◌, [], IfOk, IfSome};
+ghost use Rattle.std.specs.Prelude.{◌≡◌, ◌∷◌, [], IfOk, map};
 ghost use Rattle.net_base.specs.declared.world.Script.{Script as AnyScript};
 ghost use Rattle.net_base.specs.Callers.{IsCourier, IsScript, caller_of};
 ghost use Rattle.net_base.specs.World.{IsWorld};
@@ -250,21 +250,19 @@ fn speaks<J: Naming + Placing, R: Wait>(
     Ok(matches!(again, Heard::Owes))
 }
 
-// The script sends itself a datagram, which the courier carries. Says whether each waited where it had to.
-fn play<J: Naming + Placing, R: Wait>(
+// Three guests: the script's, the courier's and the clock's.
+
+// The script sends itself a datagram. Says whether each write held it up, and its last name is bound.
+fn script_speaks<J: Naming + Placing, R: Wait>(
     rt: &R,
     alloc: Global,
     net: &Net<J, WorldActor<J>>,
     script: &mut Guest<J>,
-    courier: &mut Guest<J>,
 ) -> Result<bool, AllocError>
     requires script { (s : AnyScript) × (caller_of J.world script.old.caller ≡ IsScript s) }
-    requires courier { caller_of J.world courier.old.caller ≡ IsCourier 0 }
-    ensures script { script.new.caller ≡ script.old.caller }
-    ensures courier { courier.new.caller ≡ courier.old.caller }
+    ensures { script.new.caller ≡ script.old.caller }
 {
-    let mut held = carries(rt, net, courier);
-    held &= speaks(
+    let a = speaks(
         rt,
         alloc,
         net,
@@ -273,7 +271,7 @@ fn play<J: Naming + Placing, R: Wait>(
         b"/net/udp/clone",
         b"announce 7",
     )?;
-    held &= speaks(
+    let b = speaks(
         rt,
         alloc,
         net,
@@ -282,69 +280,70 @@ fn play<J: Naming + Placing, R: Wait>(
         b"/net/udp/clone",
         b"connect 135.104.9.6!7",
     )?;
-    held &= speaks(rt, alloc, net, script, b"d", b"/net/udp/1/data", b"hi")?;
-    held &= carries(rt, net, courier);
-    Ok(held)
+    let d = speaks(rt, alloc, net, script, b"d", b"/net/udp/1/data", b"hi")?;
+    Ok(a && b && d && script.fids().is_bound(b"d") && script.now() == 0)
 }
 
-// The whole.
-
-// The guests of three callers: the script, the courier and the clock.
-fn three<J: Naming + Placing>(mut guests: Vec<Guest<J>>) -> Option<(Guest<J>, Guest<J>, Guest<J>)>
-    ensures { IfSome result (λ r. (r.0.caller ≡ 0) × (r.1.caller ≡ 1) × (r.2.caller ≡ 2)) }
-{
-    let clock = guests.pop()?;
-    let courier = guests.pop()?;
-    let script = guests.pop()?;
-    if script.caller() != 0 || courier.caller() != 1 || clock.caller() != 2 {
-        return None;
-    }
-    Some((script, courier, clock))
-}
-
-// The text of the history of three guests.
-fn ended<J: Naming + Placing>(
+fn first_speaks<J: Naming + Placing, R: Wait>(
+    rt: &R,
     alloc: Global,
-    net: Net<J, WorldActor<J>>,
-    script: Guest<J>,
-    courier: Guest<J>,
-    clock: Guest<J>,
-) -> Result<Octets, AllocError>
-    requires many { J.run.roster.callers ≡ 3 }
-    requires script { script.caller ≡ 0 }
-    requires courier { courier.caller ≡ 1 }
-    requires clock { clock.caller ≡ 2 }
+    net: &Net<J, WorldActor<J>>,
+    guests: &mut [Guest<J>],
+) -> Result<bool, AllocError>
+    requires world { J.world ≡ worked.echo_world }
+    requires callers { map (λ g. g.caller) guests.old ≡ 0 ∷ 1 ∷ 2 ∷ [] }
+    ensures { map (λ g. g.caller) guests.new ≡ 0 ∷ 1 ∷ 2 ∷ [] }
 {
-    let mut guests = Vec::new(alloc);
-    guests.push(script)?;
-    guests.push(courier)?;
-    guests.push(clock)?;
-    text_of(alloc, &net.finish(alloc, guests)?)
+    script_speaks(rt, alloc, net, &mut guests[0])
 }
 
-// The text of the history, or none where somebody didn't wait, a name isn't bound, or the clock moved.
+fn second_carries<J: Naming + Placing, R: Wait>(
+    rt: &R,
+    net: &Net<J, WorldActor<J>>,
+    guests: &mut [Guest<J>],
+) -> bool
+    requires world { J.world ≡ worked.echo_world }
+    requires callers { map (λ g. g.caller) guests.old ≡ 0 ∷ 1 ∷ 2 ∷ [] }
+    ensures { map (λ g. g.caller) guests.new ≡ 0 ∷ 1 ∷ 2 ∷ [] }
+{
+    carries(rt, net, &mut guests[1])
+}
+
+// The courier carries the datagram that the script sends, and nothing before. Says whether each waited where it had to.
+fn play<J: Naming + Placing, R: Wait>(
+    rt: &R,
+    alloc: Global,
+    net: &Net<J, WorldActor<J>>,
+    guests: &mut [Guest<J>],
+) -> Result<bool, AllocError>
+    requires world { J.world ≡ worked.echo_world }
+    requires callers { map (λ g. g.caller) guests.old ≡ 0 ∷ 1 ∷ 2 ∷ [] }
+    ensures { map (λ g. g.caller) guests.new ≡ 0 ∷ 1 ∷ 2 ∷ [] }
+{
+    let before = second_carries(rt, net, guests);
+    let held = first_speaks(rt, alloc, net, guests)?;
+    let after = second_carries(rt, net, guests);
+    Ok(before && held && after)
+}
+
+// The text of the history, and whether all went as it had to.
 fn echoed<J: Naming + Placing, R: Wait>(
     rt: &R,
     alloc: Global,
     world: &World,
     opened: NetOpened,
-) -> Result<Option<Octets>, AllocError>
+) -> Result<(bool, Octets), AllocError>
     requires name { opened ≡ J.run }
     requires world { J.world ≡ world.now }
     requires worked { world.now ≡ worked.echo_world }
     requires is { IsWorld world.now }
     requires roster { IsRosterOf J.world J.run.roster }
 {
-    let (net, guests) = Net::<J, WorldActor<J>>::named(alloc, world, opened)?;
-    let Some((mut script, mut courier, clock)) = three(guests) else {
-        return Ok(None);
-    };
-    let held = play(rt, alloc, &net, &mut script, &mut courier)?;
-    if !held || !script.fids().is_bound(b"d") || clock.now() != 0 {
-        return Ok(None);
-    }
-    let told = ended(alloc, net, script, courier, clock)?;
-    Ok(Some(told))
+    let (net, mut guests) = Net::<J, WorldActor<J>>::named(alloc, world, opened)?;
+    let held = play(rt, alloc, &net, &mut guests)?;
+    let history = net.finish(alloc, guests)?;
+    let text = text_of(alloc, &history)?;
+    Ok((held, text))
 }
 
 #[test]
@@ -352,7 +351,8 @@ fn a_host_sends_itself_a_datagram(rt: HostRuntime) -> Result<(), Fail> {
     let alloc = rt.alloc();
     let world = world(alloc)?;
     let opened = NetOpened::new(alloc, &world)?;
-    let told = echoed::<Brand, _>(&rt, alloc, &world, opened)?;
-    assert!(rt; told.is_some_and(|text| text.as_slice() == LINES));
+    let (held, text) = echoed::<Brand, _>(&rt, alloc, &world, opened)?;
+    assert!(rt; held);
+    assert!(rt; text.as_slice() == LINES);
     Ok(())
 }
