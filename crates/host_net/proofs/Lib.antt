@@ -5,3 +5,4 @@ pub mod Rows
 pub mod Passes
 pub mod Firsts
 pub mod Operating
+pub mod Staying

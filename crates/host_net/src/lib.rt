@@ -11,3 +11,6 @@ pub use guest::Guest;
 pub use net::Net;
 pub use opening::NetOpened;
 pub use turn::Turn;
+
+#[cfg(test)]
+mod tests;
