@@ -5,3 +5,9 @@ pub mod Rows
 pub mod Passes
 pub mod Firsts
 pub mod Operating
+pub mod Handing
+pub mod Lending
+pub mod Telling
+pub mod Taking
+pub mod Standings
+pub mod Outcomes
