@@ -1,5 +1,7 @@
 pub mod Visits
 pub mod Rosters
 pub mod Facts
+pub mod Playing
+pub mod Groups
 pub use Rattle.guest_laws.specs.Guests
 pub use Rattle.script_task.specs.Requests
