@@ -1,7 +1,7 @@
 -- The calm clock: how callers stand before it may move, and what becomes of it.
 --     AllStand       what is known of every caller, by a pass that holds all numbers
 --     Decided        what became of the clock
-use Rattle.std.specs.Prelude.{◌≡◌, ℕ, ◌<◌, ◌≤◌, ◌==◌, ◌&&◌, Bool, true, false, not, List, length, map, filter_map, Option, Some, None}
+use Rattle.std.specs.Prelude.{◌≡◌, ℕ, ◌<◌, ◌≤◌, ◌==◌, ◌&&◌, Bool, true, false, not, List, length, map, filter_map, Option, Some, None, is_some, nat_lt}
 use Rattle.std.specs.Option.{option_map}
 use Rattle.net_base.specs.declared.actor.ActorName.{ActorName}
 use Rattle.net_base.specs.declared.actor.ActorName.TheVariants as name
@@ -89,6 +89,10 @@ awaited_moments ss = filter_map awaited_of ss
 abbrev pub due_moments : List Due → List ℕ
 due_moments dues = map (λ (d : Due). d.due) dues
 
+-- it is one of the first so many callers, and has an event left to record
+abbrev pub has_left : ℕ → Standing → Bool
+has_left n s = nat_lt s.caller n && is_some s.next
+
 -- What became of the clock.
 
 -- the net after all that was seen
@@ -101,16 +105,19 @@ pub record IsLeast (w : World) (net : Net) (c : ℕ) : Type 0 where
   pub could_is : could w net c ≡ true
   pub least : (d : ℕ) → d < caller_count w → could w net d ≡ true → c ≤ d
 
--- its move to this moment was recorded, after all that had been seen: it may move, has room and moves to the target
+-- the clock's move to this moment was recorded, after all that had been seen
+pub record MovesTo (w : World) (c now m : ℕ) (p : Sight) (ds : List Duty) (p' : Sight) (ds' : List Duty) : Type 0 where
+  pub stamp : ℕ
+  pub reply : Reply
+  pub turn : Recorded w c now name.Clock (bare (event.Move m)) None p ds stamp reply p' ds'
+  pub whole : turn.past ≡ p.seen
+
+-- it may move, has room, and moved to the target
 pub record Moves (w : World) (old : Visit) (m : ℕ) (new : Visit) : Type 0 where
   pub may : movable w (net_of w old) ≡ true
   pub has_room : limited w (net_of w old) ≡ false
   pub target_is : m ≡ target w (net_of w old)
-  pub stamp : ℕ
-  pub reply : Reply
-  pub turn : Recorded w old.caller old.now name.Clock (bare (event.Move m)) None old.sight old.owed
-      stamp reply new.sight new.owed
-  pub whole : turn.past ≡ old.sight.seen
+  pub entry : MovesTo w old.caller old.now m old.sight old.owed new.sight new.owed
   pub now_is : new.now ≡ m
 
 -- by the answer. Where it didn't move it is as it was. What limits a run is told before what keeps the clock from moving,
