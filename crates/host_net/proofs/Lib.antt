@@ -5,3 +5,10 @@ pub mod Rows
 pub mod Passes
 pub mod Firsts
 pub mod Operating
+pub mod Sighted
+pub mod Found
+pub mod Leasts
+pub mod Slots
+pub mod Through
+pub mod Moved
+pub mod Concluding
