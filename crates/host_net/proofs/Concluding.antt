@@ -145,7 +145,7 @@ module _ (w : World) (r : Roster) (p : Sight) (ss : List Standing) (stand : AllS
 
   none_full : (full : Bool) → full ≡ false → DoesAny (λ (c : ℕ). is_full net c && could w net c) (callers_of ss) full → (c : ℕ) → c < caller_count w → (is_full net c && could w net c) ≡ false
   none_full true is some = absurd (true≢false is)
-  none_full false is none c lt = none c (there c lt)
+  none_full false is none = λ c lt. none c (there c lt)
 
   module _ (busy : Busy) (finds : Finds (could w net) (is_full net) (callers_of ss) busy) (not_full : busy.full ≡ false)
       (nobody : NobodyIsLimited) where

@@ -106,7 +106,7 @@ module _ (goes full : ℕ → Bool) (cs : List ℕ) (c : ℕ) where
         full_is = stays_any (λ (d : ℕ). full d && goes d) found.full f.full_is (and_false (full c) (goes c) fails);
       }
 
-  new_least : (found : Option ℕ) → IsLeastOf goes cs found → goes c ≡ true → IsLeastOf goes (cs ++ c ∷ []) (Some (option_map_or (λ (l : ℕ). min l c) c found))
+  new_least : (found : Option ℕ) → IsLeastOf goes cs found → goes c ≡ true → IsLeastOf goes (cs ++ c ∷ []) (Some (option_map_or (λ (l : ℕ). min l c) found c))
   new_least None none is =
       (in_back cs (c ∷ []) c (inl refl), is, one_more (λ (d : ℕ). goes d ≡ true → c ≤ d) (λ d there passes. absurd (true≢false (sym passes ∙ none d there))) (λ _. omega arith))
   new_least (Some l) least is = by_order (cases_lt c l)
@@ -129,7 +129,7 @@ module _ (goes full : ℕ → Bool) (cs : List ℕ) (c : ℕ) where
 
   -- a caller more that could
   pub finds_more : (found : Busy) (full_it : Bool) → Finds goes full cs found → goes c ≡ true → full_it ≡ full c
-      → Finds goes full (cs ++ c ∷ []) (record { least = Some (option_map_or (λ (l : ℕ). min l c) c found.least); full = found.full || full_it })
+      → Finds goes full (cs ++ c ∷ []) (record { least = Some (option_map_or (λ (l : ℕ). min l c) found.least c); full = found.full || full_it })
   finds_more found full_it f passes is =
       record {
         least_is = new_least found.least f.least_is passes;

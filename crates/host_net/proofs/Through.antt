@@ -44,14 +44,18 @@ module _ (test : ℕ × Script → Bool) where
   none_of : (xs : List Script) (n : ℕ) → ((k : ℕ) (s : Script) → slice_get xs k ≡ Some s → test (n + k, s) ≡ false) → list_any test (enumerate_from n xs) ≡ false
   none_of [] n none = refl
   none_of (x ∷ xs) n none =
-      rw (subst (λ (i : ℕ). test (i, x) ≡ false) (omega arith) (none zero x refl))
-      (none_of xs (n + 1) (λ k s is. subst (λ (i : ℕ). test (i, s) ≡ false) (omega arith) (none (suc k) s is)))
+      let here : n + zero ≡ n = omega arith in
+      rw (subst (λ (i : ℕ). test (i, x) ≡ false) here (none zero x refl))
+      (none_of xs (n + 1) (λ k s is. let next : n + suc k ≡ n + 1 + k = omega arith in subst (λ (i : ℕ). test (i, s) ≡ false) next (none (suc k) s is)))
 
   some_of : (xs : List Script) (n k : ℕ) (s : Script) → slice_get xs k ≡ Some s → test (n + k, s) ≡ true → list_any test (enumerate_from n xs) ≡ true
   some_of [] n k s is passes = absurd (none-some s is)
-  some_of (x ∷ xs) n zero s is passes = rw (subst (λ (i : ℕ). test (i, x) ≡ true) (omega arith) (ap (λ (t : Script). test (n + zero, t)) (same_Some x s is) ∙ passes)) refl
+  some_of (x ∷ xs) n zero s is passes =
+      let here : n + zero ≡ n = omega arith in
+      rw (subst (λ (i : ℕ). test (i, x) ≡ true) here (ap (λ (t : Script). test (n + zero, t)) (same_Some x s is) ∙ passes)) refl
   some_of (x ∷ xs) n (suc k) s is passes =
-      later (test (n, x)) (some_of xs (n + 1) k s is (subst (λ (i : ℕ). test (i, s) ≡ true) (omega arith) passes))
+      let next : n + suc k ≡ n + 1 + k = omega arith in
+      later (test (n, x)) (some_of xs (n + 1) k s is (subst (λ (i : ℕ). test (i, s) ≡ true) next passes))
     where
       later : (b : Bool) → list_any test (enumerate_from (n + 1) xs) ≡ true → (b || list_any test (enumerate_from (n + 1) xs)) ≡ true
       later true rest = refl
@@ -122,7 +126,8 @@ module _ (w : World) (r : Roster) (p : Sight) (ss : List Standing) (stand : AllS
       let st = stand.each s.0 s.1 in
       let at : slice_get w.scripts s.0.caller ≡ Some script = ap (slice_get w.scripts) s.2 ∙ is in
       let first : nat_lt s.0.caller (length w.scripts) ≡ true = lt-ltb s.0.caller (length w.scripts) (within w.scripts s.0.caller script at) in
-      subst (λ (i : ℕ). is_unfinished net.past i script ≡ false) (s.2 ∙ omega arith)
+      let here : s.0.caller ≡ 0 + k = omega (arith, s.2) in
+      subst (λ (i : ℕ). is_unfinished net.past i script ≡ false) here
       (unfinished_so s.0 st script at
       ∙ and_second (nat_lt s.0.caller (length w.scripts)) (is_some s.0.next) (unpassed (has_left (length w.scripts)) ss none s.0 s.1) first))
 
@@ -131,5 +136,6 @@ module _ (w : World) (r : Roster) (p : Sight) (ss : List Standing) (stand : AllS
       let s = passed (has_left (length w.scripts)) ss some in
       let both = and_both (nat_lt s.0.caller (length w.scripts)) (is_some s.0.next) s.2 in
       let script = some_there w.scripts s.0.caller (ltb-true s.0.caller (length w.scripts) both.0) in
+      let here : s.0.caller ≡ 0 + s.0.caller = omega arith in
       some_of unfinished_at w.scripts 0 s.0.caller script.0 script.1
-      (subst (λ (i : ℕ). is_unfinished net.past i script.0 ≡ true) (omega arith) (unfinished_so s.0 (stand.each s.0 s.1) script.0 script.1 ∙ both.1))
+      (subst (λ (i : ℕ). is_unfinished net.past i script.0 ≡ true) here (unfinished_so s.0 (stand.each s.0 s.1) script.0 script.1 ∙ both.1))
