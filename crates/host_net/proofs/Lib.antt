@@ -11,3 +11,10 @@ pub mod Telling
 pub mod Taking
 pub mod Standings
 pub mod Outcomes
+pub mod Sighted
+pub mod Found
+pub mod Leasts
+pub mod Slots
+pub mod Through
+pub mod Moved
+pub mod Concluding

@@ -3,5 +3,6 @@ pub mod Rosters
 pub mod Facts
 pub mod Playing
 pub mod Groups
+pub mod Deciding
 pub use Rattle.guest_laws.specs.Guests
 pub use Rattle.script_task.specs.Requests

@@ -1,6 +1,7 @@
 //! The net behind locks: every actor of a world behind its own, and a guest for each caller.
 #![tactic(auto)]
 
+mod clock;
 mod finishing;
 mod guest;
 mod net;
@@ -9,6 +10,7 @@ mod player;
 mod players;
 mod turn;
 
+pub use clock::Advance;
 pub use guest::Guest;
 pub use net::Net;
 pub use opening::NetOpened;
