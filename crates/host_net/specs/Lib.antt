@@ -4,5 +4,6 @@ pub mod Facts
 pub mod Playing
 pub mod Groups
 pub mod Deciding
+pub mod Advancing
 pub use Rattle.guest_laws.specs.Guests
 pub use Rattle.script_task.specs.Requests
