@@ -1,5 +1,5 @@
 -- The numbers of all callers come to the clock's guest one after another, and go back.
-use Rattle.std.proofs.Common.{◌≡◌, ℕ, ◌<◌, ◌==◌, ◌⊎◌, inl, inr, Bool, true, false, List, [], ◌∷◌, ◌++◌, length, map, refl, ap, sym, subst, ◌∙◌}
+use Rattle.std.proofs.Common.{◌≡◌, ℕ, suc, ◌+◌, ◌<◌, ◌==◌, ◌⊎◌, inl, inr, Bool, true, false, List, [], ◌∷◌, ◌++◌, length, map, refl, ap, sym, subst, ◌∙◌}
 use Rattle.net_base.specs.declared.noted.Noted.{Noted}
 use Rattle.net_base.specs.declared.world.World.{World}
 use Rattle.net_base.specs.Next.{next}
@@ -13,6 +13,7 @@ use Rattle.host_net.specs.declared.clock.Advance.{Advance}
 use Rattle.host_net.specs.declared.clock.Standing.{Standing}
 use Rattle.host_net.specs.Advancing.{Advances, AreLent, IsStanding}
 use Rattle.host_net.specs.Deciding.{AllStand, Decided, StandsAt}
+use Rattle.host_net.specs.Groups.{Grouped}
 use Rattle.host_net.specs.Visits.{Gathers, IsWith, Visit, own}
 
 module _ (w : World) (r : Roster) where
@@ -98,3 +99,8 @@ module _ (w : World) (r : Roster) where
       taken : (u : Visit) → In u (v ∷ vs) → IsWith w r u a.at.sight
       taken u (inl e) = a.gathers.kept u (subst (λ (x : Visit). IsWith w r x with.sight) (sym e) mine)
       taken u (inr there) = a.gathers.taken u there
+
+-- how many players the groups have, each group counted as one more
+abbrev pub players_left : {T : Type 0} → List (Grouped T) → ℕ
+players_left [] = 0
+players_left (g ∷ gs) = suc (length g.players + players_left gs)

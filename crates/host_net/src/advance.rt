@@ -1,5 +1,5 @@
 //! The calm clock: it may move where no caller can go on, and for that its guest gets the numbers of all callers.
-ghost use Rattle.std.specs.Prelude.{◌≡◌, ◌==◌, ◌++◌, ◌∷◌, [], ℕ, List, Some, false, option_map, IfOk, IfSome, IsNone, OnOk};
+ghost use Rattle.std.specs.Prelude.{◌≡◌, ◌++◌, ◌∷◌, ℕ, List, Some, None, option_map, IfOk, IfSome, IsNone, OnOk};
 ghost use Rattle.net_base.specs.declared.noted.Noted.{Noted};
 ghost use Rattle.net_base.specs.declared.world.Script.{Script as AnyScript};
 ghost use Rattle.net_base.specs.Callers.{IsClock, IsScript, caller_of};
@@ -177,15 +177,15 @@ impl<J: Naming + Placing> Net<J, WorldActor<J>> {
     }
 
     // The numbers of these players, and of those in the groups, go to the clock's guest, and back when it has decided.
-    fn with_all<R: Wait, G: Gate, T: Task + Drop>(
+    fn with_all<'a, R: Wait, G: Gate, T: Task + Drop>(
         &self,
         rt: &R,
         alloc: Global,
         gate: &G,
         world: &World,
         standings: &[Standing],
-        players: &mut [Player<J, T>],
-        groups: &mut [Group<J, T>],
+        players: &'a mut [Player<J, T>],
+        groups: &'a mut [Group<J, T>],
         clock: &mut Guest<J>,
     ) -> Advance
         requires world { J.world ≡ world.now }
@@ -241,12 +241,20 @@ fn take_clock<J: Naming + Placing, T: Task + Drop>(
 {
     let mut place = 0;
     while place < groups.len() {
-        if let Some(clock) = groups[place].clock.take() {
+        if let Some(clock) = take_from(&mut groups[place]) {
             return Some((clock, place));
         }
         place += 1;
     }
     None
+}
+
+// The clock's player, taken out of this group, where it has it.
+fn take_from<J: Naming + Placing, T: Task + Drop>(group: &mut Group<J, T>) -> Option<Player<J, T>>
+    ensures taken { result ≡ group.old.clock }
+    ensures left { group.new ≡ record group.old { clock = None } }
+{
+    group.clock.take()
 }
 
 // The clock's player is in its group again.
