@@ -7,7 +7,7 @@ pub mod Firsts
 pub mod Operating
 pub mod Handing
 pub mod Lending
-pub mod Telling
+pub mod Histories
 pub mod Taking
 pub mod Standings
 pub mod Outcomes
@@ -19,3 +19,4 @@ pub mod Through
 pub mod Moved
 pub mod Concluding
 pub mod Passing
+pub mod Foreseen

@@ -21,7 +21,7 @@ use Rattle.host_net.specs.declared.clock.Advance.TheVariants as advance
 use Rattle.host_net.specs.declared.player.Role.{Role}
 use Rattle.host_net.proofs.Standings.{no_script}
 use Rattle.host_net.proofs.Taking.{all_lent, in_visits, visit_in}
-use Rattle.host_net.proofs.Telling.{AreOne, after_all}
+use Rattle.host_net.proofs.Histories.{AreOne, after_all}
 use Rattle.host_net.specs.Advancing.{Advanced, Advances, AfterAll, GroupsAreBack, other_players}
 use Rattle.host_net.specs.Deciding.{Decided, IsLeast}
 use Rattle.host_net.specs.Groups.{Grouped, all_members, visits}

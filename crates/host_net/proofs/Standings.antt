@@ -1,9 +1,9 @@
 -- How all callers stand, before the clock's guest gets their numbers.
-use Rattle.std.proofs.Common.{◌≡◌, ℕ, zero, suc, ◌<◌, ◌==◌, ◌⊎◌, inl, inr, Bool, true, false, List, [], ◌∷◌, ◌++◌, map, Option, Some, None, if◌then◌else◌, nat_lt, slice_get, refl, ap, sym, subst, ◌∙◌, arith, append_assoc, ◌-◌}
+use Rattle.std.proofs.Common.{◌≡◌, ℕ, zero, suc, ◌+◌, ◌<◌, ◌≤◌, ◌==◌, ◌⊎◌, inl, inr, Bool, true, false, List, [], ◌∷◌, ◌++◌, get_or, length, map, take, Option, Some, None, if◌then◌else◌, nat_lt, slice_get, refl, ap, sym, subst, ◌∙◌, arith, append_assoc, ◌-◌}
 use Rattle.std.specs.Prelude.{IfSome}
 use Rattle.std.specs.Option.{option_map, option_map_or}
 use Rattle.std.proofs.lemmas.Bool.Decides.{nat_tests}
-use Rattle.std.proofs.lemmas.List.{append-nil}
+use Rattle.std.proofs.lemmas.List.{append-nil, map-append, take_all, take_more}
 use Rattle.std.proofs.lemmas.Option.{none-some, same_Some}
 use Rattle.net_base.specs.declared.world.Script.{Script}
 use Rattle.net_base.specs.declared.world.World.{World}
@@ -15,7 +15,7 @@ use Rattle.host_net.specs.declared.clock.Standing.{Standing}
 use Rattle.host_net.proofs.Handing.{apart_test, in_back, in_front}
 use Rattle.host_net.proofs.Taking.{ClockIs, Clocks, all_callers_are, all_not, caller_in, in_visits, of_both, of_callers, others_apart, visit_in}
 use Rattle.host_net.specs.Advancing.{Adds, AreLent, AreStandings, IsStanding, other_players}
-use Rattle.host_net.specs.Groups.{Apart, AreUpTo, Grouped, IsDealt, IsSeated, NotIn, Seats, all_callers, all_members, all_seats, caller, callers_of, seats, visits}
+use Rattle.host_net.specs.Groups.{Apart, AreUpTo, Grouped, IsDealt, IsSeated, NotIn, Seats, all_callers, all_members, all_seats, caller, callers_of, members, seats, visits, with_last}
 use Rattle.host_net.specs.Playing.{Playing}
 use Rattle.host_net.specs.Visits.{HasGuest, IsWith, Visit}
 
@@ -80,6 +80,47 @@ standing_for w [] (t ∷ ss) are v there = absurd are
 standing_for w (x ∷ vs) [] are v there = absurd are
 standing_for w (x ∷ vs) (t ∷ ss) are v (inl is) = (t, inl refl, subst (λ (y : Visit). IsStanding w y t) (sym is) are.0)
 standing_for w (x ∷ vs) (t ∷ ss) are v (inr there) = let found = standing_for w vs ss are.1 v there in (found.0, inr found.1, found.2)
+
+-- The standings of players, one more at a time.
+module _ {T : Type 0} (w : World) where
+  pub adds_player : (ps : List (Playing T)) (i : ℕ) (p : Playing T) (old mid new : List Standing) (s : Standing) → i < length ps → p ≡ get_or ps i p
+      → Adds w (visits (take i ps)) old mid → IsStanding w p.visit s → new ≡ mid ++ s ∷ [] → Adds w (visits (take (i + 1) ps)) old new
+  adds_player ps i p old mid new s lt is adds stands push =
+      subst (λ (l : List (Playing T)). Adds w (visits l) old new)
+      (sym (take_more ps i p lt ∙ ap (λ (x : Playing T). take i ps ++ x ∷ []) (sym is)))
+      (subst (λ (l : List Visit). Adds w l old new) (sym (map-append (λ (x : Playing T). x.visit) (take i ps) (p ∷ [])))
+      (adds_on w (visits (take i ps)) (p.visit ∷ []) old mid new adds (adds_one w p.visit s mid new stands push)))
+
+  -- and the clock's behind them
+  pub adds_clock : (g : Grouped T) (ps : List (Playing T)) (i : ℕ) (p : Playing T) (old mid new : List Standing) (s : Standing) → length ps ≤ i
+      → ps ≡ g.players → g.clock ≡ Some p → Adds w (visits (take i ps)) old mid → IsStanding w p.visit s → new ≡ mid ++ s ∷ []
+      → Adds w (visits (members g)) old new
+  adds_clock g ps i p old mid new s le players clock adds stands push =
+      subst (λ (c : Option (Playing T)). Adds w (visits (with_last g.players c)) old new) (sym clock)
+      (subst (λ (l : List Visit). Adds w l old new) (sym (map-append (λ (x : Playing T). x.visit) g.players (p ∷ [])))
+      (adds_on w (visits g.players) (p.visit ∷ []) old mid new
+      (subst (λ (l : List (Playing T)). Adds w (visits l) old mid) (take_all i ps le ∙ players) adds) (adds_one w p.visit s mid new stands push)))
+
+  one_more : (gs : List (Grouped T)) (g : Grouped T) → all_members (gs ++ g ∷ []) ≡ all_members gs ++ members g
+  one_more [] g = append-nil (members g)
+  one_more (x ∷ gs) g =
+      ap (λ (l : List (Playing T)). members x ++ l) (one_more gs g) ∙ sym (append_assoc (members x) (all_members gs) (members g))
+
+  -- a group more
+  pub standings_group : (gs : List (Grouped T)) (i : ℕ) (g : Grouped T) (ss new : List Standing) → i < length gs → g ≡ get_or gs i g
+      → AreStandings w (visits (all_members (take i gs))) ss → Adds w (visits (members g)) ss new
+      → AreStandings w (visits (all_members (take (i + 1) gs))) new
+  standings_group gs i g ss new lt is are adds =
+      subst (λ (l : List (Grouped T)). AreStandings w (visits (all_members l)) new)
+      (sym (take_more gs i g lt ∙ ap (λ (x : Grouped T). take i gs ++ x ∷ []) (sym is)))
+      (subst (λ (l : List (Playing T)). AreStandings w (visits l) new) (sym (one_more (take i gs) g))
+      (subst (λ (l : List Visit). AreStandings w l new) (sym (map-append (λ (x : Playing T). x.visit) (all_members (take i gs)) (members g)))
+      (subst (λ (l : List Standing). AreStandings w (visits (all_members (take i gs)) ++ visits (members g)) l) (sym adds.behind)
+      (standings_more w (visits (all_members (take i gs))) (visits (members g)) ss adds.added are adds.standings))))
+
+  pub all_standings : (gs : List (Grouped T)) (i : ℕ) (hs : List (Grouped T)) (ss : List Standing) → length gs ≤ i → gs ≡ hs
+      → AreStandings w (visits (all_members (take i gs))) ss → AreStandings w (visits (all_members hs)) ss
+  all_standings gs i hs ss le is are = subst (λ (l : List (Grouped T)). AreStandings w (visits (all_members l)) ss) (take_all i gs le ∙ is) are
 
 -- The players of groups.
 
