@@ -20,3 +20,4 @@ pub mod Moved
 pub mod Concluding
 pub mod Passing
 pub mod Foreseen
+pub mod Replacing

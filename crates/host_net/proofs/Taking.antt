@@ -1,17 +1,17 @@
 -- The clock's player is taken out of its group, and put back: no other group has one, and the other players stay.
-use Rattle.std.proofs.Common.{◌≡◌, ℕ, zero, suc, ◌<◌, ◌==◌, ◌⊎◌, inl, inr, Bool, true, false, List, [], ◌∷◌, ◌++◌, length, map, Option, Some, None, slice_get, slice_set, refl, ap, sym, subst, ◌∙◌, arith}
+use Rattle.std.proofs.Common.{◌≡◌, ℕ, zero, suc, ◌<◌, ◌==◌, ◌⊎◌, inl, inr, Bool, true, false, List, [], ◌∷◌, ◌++◌, drop, length, map, take, Option, Some, None, slice_get, slice_set, refl, ap, sym, subst, ◌∙◌, arith}
 use Rattle.std.specs.Option.{option_map}
 use Rattle.std.proofs.lemmas.Bool.{true≢false}
-use Rattle.std.proofs.lemmas.List.{map-append}
+use Rattle.std.proofs.lemmas.List.{append-nil, drop_all, map-append, take_all}
 use Rattle.std.proofs.lemmas.Option.{none-some, same_Some}
 use Rattle.net_base.specs.declared.world.World.{World}
 use Rattle.net_base.specs.Stamped.{In}
-use Rattle.host_net.proofs.Handing.{in_back, in_front, same_number_is}
+use Rattle.host_net.proofs.Handing.{in_back, in_front, none_more, same_number_is}
 use Rattle.host_net.proofs.Passes.{last_or}
 use Rattle.host_net.specs.Advancing.{AreBack, AreKept, ClockStays, GroupsAreBack, GroupsAreKept, IsBack, IsClockKept, IsGroupKept, IsKept, other_players}
 use Rattle.host_net.specs.Groups.{Apart, Grouped, NotIn, all_callers, all_members, all_seats, caller, callers_in, callers_of, members, seats, visits, with_last}
 use Rattle.host_net.specs.Playing.{Playing}
-use Rattle.host_net.specs.Visits.{Visit}
+use Rattle.host_net.specs.Visits.{Stays, Visit}
 
 -- Numbers.
 
@@ -323,6 +323,39 @@ module _ {T : Type 0} where
       groups_kept w now gs ks back.1)
   filled_kept w now (x ∷ gs) (y ∷ ks) (suc n) g k p q there is at clock back =
       (group_kept w now x y back.0, filled_kept w now gs ks n g k p q there is at clock back.1)
+
+  stays_itself : (w : World) (v : Visit) → Stays w v.caller v.sight v.sight
+  stays_itself w v =
+      record {
+        before = none_more v.sight.seen;
+        alone = refl;
+        stands = record { owes = refl; comes_next = refl; turns = λ t. t; nexts = λ t. t; timely = λ t. t };
+      }
+
+  players_itself : (w : World) (ps : List (Playing T)) → AreKept w ps ps
+  players_itself w [] = tt
+  players_itself w (p ∷ ps) =
+      (record { caller_is = refl; owed_is = refl; names_are = refl; role_is = refl; task_is = refl; lost_is = refl; stays = stays_itself w p.visit },
+      players_itself w ps)
+
+  -- nothing was done
+  pub kept_itself : (w : World) (gs : List (Grouped T)) → GroupsAreKept w gs gs
+  kept_itself w [] = tt
+  kept_itself w (g ∷ gs) =
+      (record { players = players_itself w g.players; clock_stays = same_clock g.clock g.clock refl; memory_is = refl }, kept_itself w gs)
+
+  length_kept : (w : World) (gs ks : List (Grouped T)) → GroupsAreKept w gs ks → length ks ≡ length gs
+  length_kept w [] [] kept = refl
+  length_kept w [] (k ∷ ks) kept = absurd kept
+  length_kept w (g ∷ gs) [] kept = absurd kept
+  length_kept w (g ∷ gs) (k ∷ ks) kept = ap suc (length_kept w gs ks kept.1)
+
+  -- what a vector has after its elements were written as a slice
+  pub written : (w : World) (n : ℕ) (gs ks : List (Grouped T)) → length gs ≡ n → GroupsAreKept w gs ks → take n (ks ++ drop (length ks) gs) ≡ ks
+  written w n gs ks many kept =
+      let same = length_kept w gs ks kept in
+      ap (λ (l : List (Grouped T)). take n (ks ++ l)) (drop_all (length ks) gs (omega (arith, same)))
+      ∙ (ap (take n) (append-nil ks) ∙ take_all n ks (omega (arith, same, many)))
 
   callers_kept : (w : World) (ps qs : List (Playing T)) → AreKept w ps qs → callers_of qs ≡ callers_of ps
   callers_kept w [] [] kept = refl

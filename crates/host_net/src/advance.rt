@@ -10,7 +10,7 @@ ghost use Rattle.guest_laws.specs.Guests.{HandsOver};
 ghost use Rattle.guest_laws.specs.Works.{entries};
 ghost use Rattle.host_net.specs.Advancing.{Adds, Advanced, Advances, AreBack, AreLent, AreStandings, GroupsAreBack, GroupsAreKept, IsStanding, IsTaken, other_players};
 ghost use Rattle.host_net.specs.Deciding.{IsBare, ask_of};
-ghost use Rattle.host_net.specs.Groups.{Apart, NotIn, all_members, all_seats, callers_of, members, visits};
+ghost use Rattle.host_net.specs.Groups.{Apart, IsDealt, NotIn, all_members, all_seats, callers_of, members, visits};
 ghost use Rattle.host_net.specs.Visits as visiting;
 ghost use Rattle.host_net.specs.Visits.{IsWith, Visit};
 
@@ -154,12 +154,34 @@ impl<J: Naming + Placing> Net<J, WorldActor<J>> {
         ensures answer { Advanced J.world (visits (all_members players.old.groups)) result
             (visits (all_members players.new.groups)) }
     {
-        histories_are_their_callers();
-        histories_of_guests_are_legal();
         let Ok(standings) = standings_of(alloc, players) else {
             return Advance::Memory;
         };
-        let Some((mut clock, place)) = take_clock(&mut players.groups) else {
+        let groups = players.groups.as_mut_slice();
+        self.advance_groups(rt, alloc, gate, world, standings.as_slice(), groups)
+    }
+
+    // The same, where all callers stand so.
+    fn advance_groups<R: Wait, G: Gate, T: Task + Drop>(
+        &self,
+        rt: &R,
+        alloc: Global,
+        gate: &G,
+        world: &World,
+        standings: &[Standing],
+        groups: &mut [Group<J, T>],
+    ) -> Advance
+        requires world { J.world ≡ world.now }
+        requires is { IsWorld world.now }
+        requires dealt { IsDealt J.world J.run.roster.callers (all_seats groups.old) }
+        requires standings { AreStandings J.world (visits (all_members groups.old)) standings.now }
+        ensures seats { all_seats groups.new ≡ all_seats groups.old }
+        ensures kept { GroupsAreKept J.world groups.old groups.new }
+        ensures answer { Advanced J.world (visits (all_members groups.old)) result (visits (all_members groups.new)) }
+    {
+        histories_are_their_callers();
+        histories_of_guests_are_legal();
+        let Some((mut clock, place)) = take_clock(groups) else {
             return Advance::Memory;
         };
         let answer = self.with_all(
@@ -167,12 +189,12 @@ impl<J: Naming + Placing> Net<J, WorldActor<J>> {
             alloc,
             gate,
             world,
-            standings.as_slice(),
+            standings,
             &mut [],
-            &mut players.groups,
+            groups,
             &mut clock.guest,
         );
-        put_clock(&mut players.groups[place], clock);
+        put_clock(&mut groups[place], clock);
         answer
     }
 
