@@ -76,6 +76,16 @@ module _ {T : Type 0} (Stands : ℕ → List Bound → T → Play → Type 0) (w
         goes_on = λ s script told. absurd (no_script w old.caller s clock (ap (caller_of w) (sym caller) ∙ script));
       }
 
+-- what the clock recorded came next, and in time
+pub clock_played : (w : World) (r : Roster) (vs : List Visit) (old : Visit) (answer : Advance) (new : Visit) → Advances w r vs old answer new
+    → IsWith w r old old.sight → IsPlayed w old → IsPlayed w new
+clock_played w r vs old answer new a mine is =
+    let stands = (a.gathers.kept old mine).stays.stands in
+    record {
+      nexts = subst (λ (c : ℕ). AreNext w c new.sight.seen) (sym a.caller_is) (a.nexts (stands.nexts is.nexts));
+      timely = subst (λ (c : ℕ). AreTimely w c new.sight.seen) (sym a.caller_is) (a.timely (stands.timely is.timely));
+    }
+
 -- The answer.
 
 module _ {T : Type 0} (w : World) (r : Roster) (gs lent ks new : List (Grouped T)) (p q : Playing T) (answer : Advance)

@@ -58,6 +58,15 @@ join_apart (x ∷ xs) ys one two between =
     join_not c [] ys one two = two
     join_not c (x ∷ xs) ys one two = (one.0, join_not c xs ys one.1 two)
 
+-- nothing more was seen
+stays_itself : (w : World) (v : Visit) → Stays w v.caller v.sight v.sight
+stays_itself w v =
+    record {
+      before = none_more v.sight.seen;
+      alone = refl;
+      stands = record { owes = refl; comes_next = refl; turns = λ t. t; nexts = λ t. t; timely = λ t. t };
+    }
+
 -- Players.
 
 module _ {T : Type 0} where
@@ -323,14 +332,6 @@ module _ {T : Type 0} where
       groups_kept w now gs ks back.1)
   filled_kept w now (x ∷ gs) (y ∷ ks) (suc n) g k p q there is at clock back =
       (group_kept w now x y back.0, filled_kept w now gs ks n g k p q there is at clock back.1)
-
-  stays_itself : (w : World) (v : Visit) → Stays w v.caller v.sight v.sight
-  stays_itself w v =
-      record {
-        before = none_more v.sight.seen;
-        alone = refl;
-        stands = record { owes = refl; comes_next = refl; turns = λ t. t; nexts = λ t. t; timely = λ t. t };
-      }
 
   players_itself : (w : World) (ps : List (Playing T)) → AreKept w ps ps
   players_itself w [] = tt

@@ -6,7 +6,7 @@ ghost use Rattle.net_base.specs.Callers.{IsClock, IsScript, caller_of};
 ghost use Rattle.net_base.specs.Next.{next};
 ghost use Rattle.net_base.specs.World.{IsWorld};
 ghost use Rattle.journal.specs.Tokens.{Holds};
-ghost use Rattle.guest_laws.specs.Guests.{HandsOver};
+ghost use Rattle.guest_laws.specs.Guests.{HandsOver, IsGuest};
 ghost use Rattle.guest_laws.specs.Works.{entries};
 ghost use Rattle.host_net.specs.Advancing.{Adds, Advanced, Advances, AreBack, AreLent, AreStandings, GroupsAreBack, GroupsAreKept, IsStanding, IsTaken, other_players};
 ghost use Rattle.host_net.specs.Deciding.{IsBare, ask_of};
@@ -126,6 +126,13 @@ fn add_standings<J: Naming + Placing, T: Task + Drop>(
     Ok(())
 }
 
+// What is known of a guest by itself.
+fn guest_keeps<J: Naming + Placing>(guest: &Guest<J>)
+    ensures { IsGuest J.world J.run.roster guest.entry.now.caller guest.entry.now.sight guest.entry.now.owed }
+{
+    let _caller = guest.caller;
+}
+
 // A caller's number goes from one pass to another.
 fn hand_over<J: Naming>(journal: &Journal<J>, from: &mut Pass<J>, to: &mut Pass<J>, caller: u32)
     requires { (es : List (ℕ × Noted)) × Holds from.old caller es }
@@ -184,6 +191,7 @@ impl<J: Naming + Placing> Net<J, WorldActor<J>> {
         let Some((mut clock, place)) = take_clock(groups) else {
             return Advance::Memory;
         };
+        guest_keeps(&clock.guest);
         let answer = self.with_all(
             rt,
             alloc,
