@@ -1,6 +1,6 @@
 -- The clock's player is out of its group while its guest decides, and then it is back.
-use Rattle.std.proofs.Common.{◌≡◌, ℕ, zero, suc, ◌<◌, ◌⊎◌, List, [], ◌∷◌, length, Some, slice_get, slice_set, slice_index_or, refl, ap, sym, subst, ◌∙◌}
-use Rattle.std.proofs.lemmas.Option.{get_or_from_slice_get, none-some, slice_get_within}
+use Rattle.std.proofs.Common.{◌≡◌, ℕ, zero, suc, ◌<◌, ◌⊎◌, List, [], ◌∷◌, length, Some, slice_get, slice_set, refl, ap, sym, subst, ◌∙◌}
+use Rattle.std.proofs.lemmas.Option.{none-some, slice_get_within}
 use Rattle.net_base.specs.declared.world.World.{World}
 use Rattle.net_base.specs.Callers.{IsClock, caller_of}
 use Rattle.net_base.specs.Net.{after}
@@ -71,36 +71,35 @@ module _ {T : Type 0} (w : World) (r : Roster) (gs lent : List (Grouped T)) (pla
     pub place_within : place < length ks
     place_within = slice_get_within ks place there_back.0 there_back.1
 
-    module _ (clock : IsClockKept p q) (d put : Grouped T) (is : put ≡ filled (slice_index_or ks place d) q) where
-      put_is : slice_set ks place put ≡ slice_set ks place (filled there_back.0 q)
-      put_is =
-          ap (λ (k : Grouped T). slice_set ks place k)
-          (is ∙ ap (λ (k : Grouped T). filled k q) (get_or_from_slice_get ks place there_back.0 d there_back.1))
+    module _ (clock : IsClockKept p q) (new : List (Grouped T))
+        (is : (k : Grouped T) → slice_get ks place ≡ Some k → new ≡ slice_set ks place (filled k q)) where
+      put_is : new ≡ slice_set ks place (filled there_back.0 q)
+      put_is = is there_back.0 there_back.1
 
-      pub all_kept : GroupsAreKept w gs (slice_set ks place put)
+      pub all_kept : GroupsAreKept w gs new
       all_kept =
           subst (λ (l : List (Grouped T)). GroupsAreKept w gs l) (sym put_is)
           (filled_kept w q.visit.now gs ks place taken.group there_back.0 p q taken.there taken.clock_is there_back.1 clock
           (subst (λ (l : List (Grouped T)). GroupsAreBack w q.visit.now l ks) taken.new_is back))
 
-      pub all_seated : all_seats (slice_set ks place put) ≡ all_seats gs
-      all_seated = seats_kept w gs (slice_set ks place put) all_kept
+      pub all_seated : all_seats new ≡ all_seats gs
+      all_seated = seats_kept w gs new all_kept
 
-      replaced : (x : Playing T) → In x (all_members (slice_set ks place put)) → In x (other_players ks) ⊎ (x ≡ q)
+      replaced : (x : Playing T) → In x (all_members new) → In x (other_players ks) ⊎ (x ≡ q)
       replaced x i =
           subst (λ (l : List (Playing T)). In x l ⊎ (x ≡ q)) (filled_others ks place there_back.0 q there_back.1)
           (all_placed (slice_set ks place (filled there_back.0 q)) place (filled there_back.0 q) q x (filled_at ks place there_back.0 q there_back.1) refl
           (emptied_again ks place there_back.0 q there_back.1 (still_none w q.visit.now lent ks back none))
           (subst (λ (l : List (Grouped T)). In x (all_members l)) put_is i))
 
-      all_again : (c : ℕ) → c < r.callers → HasGuest c (visits (all_members (slice_set ks place put)))
+      all_again : (c : ℕ) → c < r.callers → HasGuest c (visits (all_members new))
       all_again =
-          has_guest r.callers (slice_set ks place put)
+          has_guest r.callers new
           (subst (λ (l : List _). AreUpTo r.callers (all_callers l)) (sym all_seated) dealt.callers)
 
       pub all_advanced : (answer : Advance) → Advances w r (visits (other_players lent)) p.visit answer q.visit → IsWith w r p.visit p.visit.sight
           → AreOne → ButScripts w r → SameNets w r
-          → Advanced w (visits (all_members gs)) answer (visits (all_members (slice_set ks place put)))
+          → Advanced w (visits (all_members gs)) answer (visits (all_members new))
       all_advanced answer a mine one but net =
-          advanced w r gs lent ks (slice_set ks place put) p q answer a back placed replaced mine (has_guest r.callers gs dealt.callers) all_again one
+          advanced w r gs lent ks new p q answer a back placed replaced mine (has_guest r.callers gs dealt.callers) all_again one
           (but a.at.sight.seen a.guests) (net a.at.sight.seen a.guests)

@@ -1,5 +1,5 @@
 //! The calm clock: it may move where no caller can go on, and for that its guest gets the numbers of all callers.
-ghost use Rattle.std.specs.Prelude.{◌≡◌, ◌++◌, ◌∷◌, ℕ, List, Some, None, option_map, IfOk, IfSome, IsNone, OnOk};
+ghost use Rattle.std.specs.Prelude.{◌≡◌, ◌<◌, ◌++◌, ◌∷◌, ℕ, List, Some, None, length, option_map, slice_get, slice_set, IfOk, IfSome, IsNone, OnOk};
 ghost use Rattle.net_base.specs.declared.noted.Noted.{Noted};
 ghost use Rattle.net_base.specs.declared.world.Script.{Script as AnyScript};
 ghost use Rattle.net_base.specs.Callers.{IsClock, IsScript, caller_of};
@@ -10,7 +10,7 @@ ghost use Rattle.guest_laws.specs.Guests.{HandsOver, IsGuest};
 ghost use Rattle.guest_laws.specs.Works.{entries};
 ghost use Rattle.host_net.specs.Advancing.{Adds, Advanced, Advances, AreBack, AreLent, AreStandings, GroupsAreBack, GroupsAreKept, IsStanding, IsTaken, other_players};
 ghost use Rattle.host_net.specs.Deciding.{IsBare, ask_of};
-ghost use Rattle.host_net.specs.Groups.{Apart, IsDealt, NotIn, all_members, all_seats, callers_of, members, visits};
+ghost use Rattle.host_net.specs.Groups.{Apart, Grouped, IsDealt, NotIn, all_members, all_seats, callers_of, members, visits};
 ghost use Rattle.host_net.specs.Visits as visiting;
 ghost use Rattle.host_net.specs.Visits.{IsWith, Visit};
 
@@ -202,7 +202,7 @@ impl<J: Naming + Placing> Net<J, WorldActor<J>> {
             groups,
             &mut clock.guest,
         );
-        put_clock(&mut groups[place], clock);
+        put_clock(groups, place, clock);
         answer
     }
 
@@ -287,8 +287,21 @@ fn take_from<J: Naming + Placing, T: Task + Drop>(group: &mut Group<J, T>) -> Op
     group.clock.take()
 }
 
-// The clock's player is in its group again.
-fn put_clock<J: Naming + Placing, T: Task + Drop>(group: &mut Group<J, T>, clock: Player<J, T>)
+// The clock's player is in the group of this place again.
+fn put_clock<J: Naming + Placing, T: Task + Drop>(
+    groups: &mut [Group<J, T>],
+    place: usize,
+    clock: Player<J, T>,
+)
+    requires { place < length groups.old }
+    ensures { (g : Grouped T) → slice_get groups.old place ≡ Some g
+        → groups.new ≡ slice_set groups.old place (record g { clock = Some clock }) }
+{
+    put_into(&mut groups[place], clock);
+}
+
+// The clock's player is in this group.
+fn put_into<J: Naming + Placing, T: Task + Drop>(group: &mut Group<J, T>, clock: Player<J, T>)
     ensures { group.new ≡ record group.old { clock = Some clock } }
 {
     group.clock = Some(clock);

@@ -42,8 +42,8 @@ with_all-answer-requires-clause-lent g c =
     let mine = itself w r c.clock.inside.guest c.clock.inside.guest.sight refl c.guest_keeps.ensures in
     all_lent_first w r c.args.groups.now c.take_clock.new.groups c.in-Some.place p taken c.requires.dealt c.args.standings.now c.requires.standings mine
 
-pub bounds-groups-place : goal.bounds-groups-place
-bounds-groups-place g c =
+pub put_clock-requires : goal.put_clock-requires
+put_clock-requires g c =
     let w = g.J.Placing.world in
     let r = g.J.Naming.run.roster in
     let p = player c.clock.inside.guest c.clock.inside.role c.clock.inside.task c.clock.inside.lost in
@@ -74,7 +74,7 @@ returns-clause-seats g c =
     subst (λ (x : Playing g.row.T.Denot). IsTaken c.args.groups.now x c.in-Some.place c.take_clock.new.groups) (sym c.clock.view_is) c.in-Some.ensures.some in
     let q = player c.with_all-answer.new.clock c.clock.inside.role c.clock.inside.task c.clock.inside.lost in
     all_seated w r c.args.groups.now c.take_clock.new.groups c.in-Some.place p taken c.requires.dealt q c.with_all-answer.new.groups c.with_all-answer.ensures.groups
-    (record { caller_is = c.with_all-answer.ensures.clock.caller_is; role_is = refl; task_is = refl; lost_is = refl }) _ c.put_clock.new.group c.put_clock.ensures
+    (record { caller_is = c.with_all-answer.ensures.clock.caller_is; role_is = refl; task_is = refl; lost_is = refl }) c.put_clock.new.groups c.put_clock.ensures
 
 pub returns-clause-kept : goal.returns-clause-kept
 returns-clause-kept g c =
@@ -85,7 +85,7 @@ returns-clause-kept g c =
     subst (λ (x : Playing g.row.T.Denot). IsTaken c.args.groups.now x c.in-Some.place c.take_clock.new.groups) (sym c.clock.view_is) c.in-Some.ensures.some in
     let q = player c.with_all-answer.new.clock c.clock.inside.role c.clock.inside.task c.clock.inside.lost in
     all_kept w r c.args.groups.now c.take_clock.new.groups c.in-Some.place p taken c.requires.dealt q c.with_all-answer.new.groups c.with_all-answer.ensures.groups
-    (record { caller_is = c.with_all-answer.ensures.clock.caller_is; role_is = refl; task_is = refl; lost_is = refl }) _ c.put_clock.new.group c.put_clock.ensures
+    (record { caller_is = c.with_all-answer.ensures.clock.caller_is; role_is = refl; task_is = refl; lost_is = refl }) c.put_clock.new.groups c.put_clock.ensures
 
 pub returns-clause-answer : goal.returns-clause-answer
 returns-clause-answer g c =
@@ -97,6 +97,6 @@ returns-clause-answer g c =
     let mine = itself w r c.clock.inside.guest c.clock.inside.guest.sight refl c.guest_keeps.ensures in
     let q = player c.with_all-answer.new.clock c.clock.inside.role c.clock.inside.task c.clock.inside.lost in
     all_advanced w r c.args.groups.now c.take_clock.new.groups c.in-Some.place p taken c.requires.dealt q c.with_all-answer.new.groups c.with_all-answer.ensures.groups
-    (record { caller_is = c.with_all-answer.ensures.clock.caller_is; role_is = refl; task_is = refl; lost_is = refl }) _ c.put_clock.new.group c.put_clock.ensures
+    (record { caller_is = c.with_all-answer.ensures.clock.caller_is; role_is = refl; task_is = refl; lost_is = refl }) c.put_clock.new.groups c.put_clock.ensures
     c.with_all-answer.result c.with_all-answer.ensures.clock mine c.histories_are_their_callers.ensures (c.histories_of_guests_are_legal.ensures.but_scripts w r)
     (c.histories_of_guests_are_legal.ensures.net w r)
