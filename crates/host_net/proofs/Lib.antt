@@ -5,3 +5,7 @@ pub mod Rows
 pub mod Passes
 pub mod Firsts
 pub mod Operating
+pub mod Continuing
+pub mod Keeping
+pub mod Telling
+pub mod Seating
