@@ -13,7 +13,7 @@ use Rattle.net_base.specs.declared.reply.Reply.{Reply}
 use Rattle.net_base.specs.declared.world.Script.{Script}
 use Rattle.net_base.specs.declared.world.World.{World}
 use Rattle.net_base.specs.Actors.{actor_step}
-use Rattle.net_base.specs.Callers.{Caller, IsCourier, IsScript, caller_of}
+use Rattle.net_base.specs.Callers.{Caller, IsClock, IsCourier, IsScript, caller_of}
 use Rattle.net_base.specs.Duties.{Duty}
 use Rattle.net_base.specs.Legal.{IsAsked}
 use Rattle.net_base.specs.Next.{next, next_of, own_replies}
@@ -211,3 +211,10 @@ module _ (w : World) (m : ℕ) (old new : Visit) (same : IsSame old new) (names 
   take_plays who t lost =
       turn_plays w (name.Medium m) (bare event.Take) None old new same who t lost names answer takes
       (λ unready stays owed. subst (λ (ds : List Duty). IsUnready w new ds) (sym (owed ∙ free)) (unready_next w old new same (record { actor = name.Medium m; event = event.Take }) unready stays take_next))
+
+-- The clock waits for the calm.
+
+pub clock_waits : (w : World) (v : Visit) → caller_of w v.caller ≡ IsClock → v.owed ≡ [] → IsWaiting w v
+clock_waits w v clock free =
+    let nothing : next w (entries v.sight.seen) v.caller ≡ None = ap (λ (k : Caller). next_of k (entries v.sight.seen) v.caller) clock in
+    inr (subst (λ (ds : List Duty). IsUnready w v ds) (sym free) (λ ask comes. absurd (none-some ask (sym nothing ∙ comes))))

@@ -9,3 +9,4 @@ pub mod Continuing
 pub mod Keeping
 pub mod Telling
 pub mod Seating
+pub mod Naming

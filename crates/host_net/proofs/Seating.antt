@@ -1,9 +1,9 @@
 -- The callers of groups, and what becomes of them.
-use Rattle.std.proofs.Common.{◌≡◌, ℕ, zero, suc, ◌+◌, ◌<◌, ◌≤◌, ◌%◌, ◌==◌, nat_lt, ◌⊎◌, inl, inr, Bool, true, false, ◌||◌, List, [], ◌∷◌, ◌++◌, length, map, take, option_map, Option, Some, None, IfSome, slice_get, slice_set, slice_index_or, refl, ap, sym, subst, ◌∙◌, append_assoc, arith}
+use Rattle.std.proofs.Common.{◌≡◌, ℕ, zero, suc, ◌+◌, ◌<◌, ◌≤◌, ◌%◌, ◌==◌, nat_lt, ◌⊎◌, inl, inr, Bool, true, false, ◌||◌, List, [], ◌∷◌, ◌++◌, length, map, take, option_map, Option, Some, None, IfSome, slice_get, slice_set, slice_index_or, reverse, refl, ap, sym, subst, ◌∙◌, append_assoc, arith}
 use Rattle.std.specs.List.{list_any}
 use Rattle.std.proofs.lemmas.Bool.{true≢false}
 use Rattle.std.proofs.lemmas.Bool.Decides.{nat_tests}
-use Rattle.std.proofs.lemmas.List.{append-nil}
+use Rattle.std.proofs.lemmas.List.{append-nil, reverse-append}
 use Rattle.std.proofs.lemmas.Option.{none-some, same_Some}
 use Rattle.net_base.specs.declared.world.Script.{Script}
 use Rattle.net_base.specs.declared.world.World.{World}
@@ -12,7 +12,7 @@ use Rattle.net_base.specs.Stamped.{In}
 use Rattle.host_net.specs.declared.player.Role.{Role}
 use Rattle.host_net.specs.declared.player.Role.TheVariants as role
 use Rattle.host_net.specs.Groups.{Apart, AreUpTo, AreWaiting, Grouped, Inserts, IsDealt, IsSeated, NotIn, Seats, all_callers, all_members, all_seats, caller, callers_in, callers_of, joined, joined_as, joined_at, members, seats, visits, with_last}
-use Rattle.host_net.specs.Playing.{HasRole, IsWaiting, Playing}
+use Rattle.host_net.specs.Playing.{ArePlayed, HasRole, IsPlayed, IsWaiting, Playing}
 use Rattle.host_net.specs.Visits.{HasGuest, Visit}
 
 -- Members of lists.
@@ -419,6 +419,9 @@ module _ {T : Type 0} (w : World) where
 
 -- Guests of all callers.
 
+last_first : {A : Type 0} (xs : List A) (x : A) → reverse (xs ++ x ∷ []) ≡ x ∷ reverse xs
+last_first xs x = reverse-append xs (x ∷ [])
+
 module _ {T : Type 0} where
   members_callers : (ps : List (Playing T)) (o : Option (Playing T)) → callers_of (with_last ps o) ≡ with_last (callers_of ps) (option_map caller o)
   members_callers ps None = refl
@@ -446,3 +449,33 @@ module _ {T : Type 0} where
   pub all_members_more : (gs hs : List (Grouped T)) → all_members (gs ++ hs) ≡ all_members gs ++ all_members hs
   all_members_more [] hs = refl
   all_members_more (g ∷ gs) hs = ap (λ (l : List (Playing T)). members g ++ l) (all_members_more gs hs) ∙ sym (append_assoc (members g) (all_members gs) (all_members hs))
+
+  -- Guests that are taken out, one after another.
+
+  -- the guests of one group more
+  pub groups_on : (before after whole : List Visit) (gs rest : List (Grouped T)) (g : Grouped T) → before ++ visits (all_members (reverse gs)) ≡ whole
+      → gs ≡ rest ++ g ∷ [] → after ≡ before ++ visits (members g) → after ++ visits (all_members (reverse rest)) ≡ whole
+  groups_on before after whole gs rest g so_far parts adds =
+      ap (λ (l : List Visit). l ++ visits (all_members (reverse rest))) adds
+      ∙ (append_assoc before (visits (members g)) (visits (all_members (reverse rest)))
+      ∙ (ap (λ (l : List Visit). before ++ l) (sym (visits_more (members g) (all_members (reverse rest))))
+      ∙ (ap (λ (l : List (Grouped T)). before ++ visits (all_members l)) (sym (ap reverse parts ∙ last_first rest g))
+      ∙ so_far)))
+
+  -- one guest more
+  pub players_on : (before after whole : List Visit) (ps rest : List (Playing T)) (p : Playing T) → before ++ visits (reverse ps) ≡ whole
+      → ps ≡ rest ++ p ∷ [] → after ≡ before ++ p.visit ∷ [] → after ++ visits (reverse rest) ≡ whole
+  players_on before after whole ps rest p so_far parts adds =
+      ap (λ (l : List Visit). l ++ visits (reverse rest)) adds
+      ∙ (append_assoc before (p.visit ∷ []) (visits (reverse rest))
+      ∙ (ap (λ (l : List (Playing T)). before ++ visits l) (sym (ap reverse parts ∙ last_first rest p))
+      ∙ so_far))
+
+-- each of these guests was played, and one more
+pub plays_more : (w : World) (vs : List Visit) (v : Visit) → ArePlayed w vs → IsPlayed w v → ArePlayed w (vs ++ v ∷ [])
+plays_more w vs v are is u there = which (in_parts u vs (v ∷ []) there)
+  where
+    which : In u vs ⊎ In u (v ∷ []) → IsPlayed w u
+    which (inl first) = are u first
+    which (inr (inl same)) = subst (λ (x : Visit). IsPlayed w x) (sym same) is
+    which (inr (inr none)) = absurd none

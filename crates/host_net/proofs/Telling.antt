@@ -22,6 +22,7 @@ use Rattle.guest_laws.specs.Works.{entries}
 use Rattle.host_net.specs.declared.player.Played.{Played}
 use Rattle.host_net.specs.declared.player.Played.TheVariants as played
 use Rattle.host_net.specs.declared.player.Role.{Role}
+use Rattle.host_net.specs.declared.player.Role.TheVariants as role
 use Rattle.host_net.specs.declared.turn.Turn.{Turn}
 use Rattle.host_net.specs.declared.turn.Turn.TheVariants as turn
 use Rattle.host_net.specs.Playing.{GoesOn, HasMore, HasRole, Heard, IsPlayed, IsPlayer, IsUnmoved, IsUnready, IsWaiting, PlaysOn, Told, played_by}
@@ -176,3 +177,24 @@ module _ {T : Type 0} (asks : T → List Bound → Option Request) (after : T �
     script_plays s script turn.Memory does result t' lost' heard =
         unmoved_by result played.Memory t' lost' heard.0 heard.1 heard.2
         (subst (λ (v : Visit). PlaysOn w (playing old who t lost) played.Memory (playing v who t lost)) (sym (does s script).2) (inl still))
+
+  -- a script whose task is through, at its turn
+  pub through_plays : (v : Visit) (who : Role) (t : T) (lost : Bool) → who ≡ role.Script → lost ≡ false → IsPlayer Stands w v who t lost → v.owed ≡ [] → asks t v.names ≡ None
+      → PlaysOn w (playing v who t lost) played.Waits (playing v who t lost)
+  through_plays v who t lost script told player free none =
+      let s = subst (λ (r : Role). HasRole w v.caller r) script player.role_is in
+      (record { own_is = refl; owed = refl; names = refl; task = refl; lost = refl }, through_waits v s.0 t s.1 free (player.goes_on s.0 s.1 told) none)
+
+  -- a script's turn
+  module _ (old new : Visit) (same : IsSame old new) (who : Role) (t : T) (lost : Bool) (script : who ≡ role.Script) (told : lost ≡ false) (player : IsPlayer Stands w old who t lost)
+      (free : old.owed ≡ []) (q : Request) (asks_it : Some q ≡ asks t old.names) (keeps : KeepsActors) (fit : FitWorks) (answer : Turn)
+      (does : (s : Script) → caller_of w old.caller ≡ IsScript s → Operated w s.host q old answer new) (result : Played) (t' : T) (lost' : Bool)
+      (heard : Heard after t lost answer result t' lost') where
+    scripted : (s : Script) × (caller_of w old.caller ≡ IsScript s)
+    scripted = subst (λ (r : Role). HasRole w old.caller r) script player.role_is
+
+    pub heard_keeps : IsPlayer Stands w new who t' lost'
+    heard_keeps = script_keeps old new same who t lost told player free q (sym asks_it) keeps fit scripted.0 scripted.1 answer does result t' lost' heard
+
+    pub heard_plays : PlaysOn w (playing old who t lost) result (playing new who t' lost')
+    heard_plays = script_plays old new same who t lost told player free q (sym asks_it) keeps fit scripted.0 scripted.1 answer does result t' lost' heard

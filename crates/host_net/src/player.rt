@@ -14,10 +14,11 @@ use crate::guest::Guest;
 use crate::net::Net;
 use crate::turn::Turn;
 use actor_machines::{Placing, WorldActor};
+use guest_laws::{guests_begin, locks_keep_actors};
 use journal::Naming;
 use net_base::{Reply, World};
 use outside::Gate;
-use script_task::Task;
+use script_task::{Task, replies_fit};
 use std::alloc::Global;
 use std::marker::Model;
 use std::sync::Wait;
@@ -65,6 +66,7 @@ impl<J: Naming + Placing, T: Task> Player<J, T> {
         ensures task { result.task ≡ task }
         ensures told { result.lost ≡ false }
     {
+        guests_begin();
         Player {
             role: role_of(world, guest.caller),
             guest,
@@ -233,6 +235,8 @@ impl<J: Naming + Placing> Net<J, WorldActor<J>> {
         ensures same { IsSamePlayer player.old player.new }
         ensures turn { PlaysOn J.world player.old result player.new }
     {
+        locks_keep_actors();
+        replies_fit();
         if player.lost {
             return Played::Memory;
         }
