@@ -218,3 +218,7 @@ pub clock_waits : (w : World) (v : Visit) → caller_of w v.caller ≡ IsClock �
 clock_waits w v clock free =
     let nothing : next w (entries v.sight.seen) v.caller ≡ None = ap (λ (k : Caller). next_of k (entries v.sight.seen) v.caller) clock in
     inr (subst (λ (ds : List Duty). IsUnready w v ds) (sym free) (λ ask comes. absurd (none-some ask (sym nothing ∙ comes))))
+
+-- a turn that came to nothing
+pub waits_from : {T : Type 0} (w : World) (old new : Playing T) (result : Played) → PlaysOn w old result new → result ≡ played.Waits → IsWaiting w new.visit
+waits_from w old new result plays is = (subst (λ (r : Played). PlaysOn w old r new) is plays).1

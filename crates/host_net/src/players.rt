@@ -1,5 +1,6 @@
 //! Players in groups, one for each worker.
-ghost use Rattle.std.specs.Prelude.{◌≡◌, ℕ, ◌<◌, ◌++◌, length, true, false, None, option_map, IfOk, IfSome, OnErr, OnOk, list_any, slice_index_or};
+ghost use Rattle.std.specs.Prelude.{◌≡◌, ℕ, ◌<◌, ◌++◌, length, true, false, None, option_map, IfOk, IfSome, OnErr, OnOk, slice_index_or};
+ghost use Rattle.std.specs.List.{list_any};
 ghost use Rattle.host_net.specs.Groups.{AreWaiting, all_members, all_seats, caller, callers_of, dealt, joined, members, no_players, seats, visits};
 ghost use Rattle.host_net.specs.Playing.{ArePlayed, IsWaiting};
 ghost use Rattle.host_net.specs.Visits.{HasGuest};
