@@ -21,3 +21,8 @@ pub mod Concluding
 pub mod Passing
 pub mod Foreseen
 pub mod Replacing
+pub mod Continuing
+pub mod Keeping
+pub mod Telling
+pub mod Seating
+pub mod Naming

@@ -3,6 +3,7 @@
 --     PlaysOn       what its turn did
 use Rattle.std.specs.Prelude.{◌≡◌, ℕ, ◌⊎◌, Bool, true, false, List, [], ◌∷◌, ◌++◌, Option, Some, None}
 use Rattle.net_base.specs.declared.noted.Noted.{Noted}
+use Rattle.net_base.specs.declared.reply.Reply.{Reply}
 use Rattle.net_base.specs.declared.world.Script.{Script}
 use Rattle.net_base.specs.declared.world.World.{World}
 use Rattle.net_base.specs.Actors.{actor_step}
@@ -19,6 +20,8 @@ use Rattle.host_net.specs.declared.player.Played.{Played}
 use Rattle.host_net.specs.declared.player.Played.TheVariants as played
 use Rattle.host_net.specs.declared.player.Role.{Role}
 use Rattle.host_net.specs.declared.player.Role.TheVariants as role
+use Rattle.host_net.specs.declared.turn.Turn.{Turn}
+use Rattle.host_net.specs.declared.turn.Turn.TheVariants as turn
 use Rattle.host_net.specs.Visits.{IsFull, Visit, bare, own}
 
 -- who a caller is
@@ -57,6 +60,25 @@ module _ {T : Type 0} (Stands : ℕ → List Bound → T → Play → Type 0) wh
     pub goes_on : (s : Script) → caller_of w v.caller ≡ IsScript s → lost ≡ false → GoesOn s v t
 
 -- Turns.
+
+-- what a turn came to
+abbrev pub played_by : Turn → Played
+played_by (turn.Recorded stamp answer) = played.Recorded
+played_by turn.NotReady = played.Waits
+played_by turn.Owes = played.Waits
+played_by turn.Limit = played.Waits
+played_by turn.Memory = played.Memory
+
+-- the task took the reply; or it is as before, and the reply is lost
+abbrev pub Told : {T : Type 0} → (T → Reply → T) → T → Bool → Reply → Played → T → Bool → Type 0
+Told after t lost r played.Recorded t' lost' = (t' ≡ after t r) × (lost' ≡ lost)
+Told after t lost r played.Waits t' lost' = ⊥
+Told after t lost r played.Memory t' lost' = (t' ≡ t) × (lost' ≡ true)
+
+-- where the turn recorded an entry, the task was told the reply
+abbrev pub Heard : {T : Type 0} → (T → Reply → T) → T → Bool → Turn → Played → T → Bool → Type 0
+Heard after t lost (turn.Recorded stamp answer) result t' lost' = Told after t lost answer result t' lost'
+Heard after t lost answer result t' lost' = (result ≡ played_by answer) × (t' ≡ t) × (lost' ≡ lost)
 
 -- the same caller at the same moment
 pub record IsSamePlayer {T : Type 0} (old new : Playing T) : Type 0 where

@@ -1,24 +1,24 @@
 //! Callers that are played.
-ghost use Rattle.std.specs.Prelude.{◌≡◌, ◌≢◌, ◌<◌, ◌⊎◌, [], true, false};
+ghost use Rattle.std.specs.Prelude.{◌≡◌, ◌≢◌, ◌<◌, [], false};
 ghost use Rattle.net_base.specs.declared.world.Script.{Script as AnyScript};
 ghost use Rattle.net_base.specs.Callers.{IsScript, caller_count, caller_of};
 ghost use Rattle.net_base.specs.Steps.{Play};
 ghost use Rattle.net_base.specs.World.{IsWorld};
 ghost use Rattle.script_task.specs.Rest.{Continues};
-ghost use Rattle.host_net.specs.Playing.{HasRole, IsPlayed, IsSamePlayer, PlaysOn};
+ghost use Rattle.host_net.specs.Playing.{HasRole, IsPlayed, IsSamePlayer, PlaysOn, Heard, Told, played_by};
 ghost use Rattle.host_net.specs.Rosters.{IsRosterOf};
-ghost use Rattle.host_net.specs.Visits.{IsFresh, Turned};
-ghost use Rattle.host_net.specs.declared.player.Played.TheVariants as played;
+ghost use Rattle.host_net.specs.Visits.{IsFresh};
 ghost use Rattle.host_net.specs.declared.player.Role.TheVariants as role;
 
 use crate::guest::Guest;
 use crate::net::Net;
 use crate::turn::Turn;
 use actor_machines::{Placing, WorldActor};
+use guest_laws::{guests_begin, locks_keep_actors};
 use journal::Naming;
 use net_base::{Reply, World};
 use outside::Gate;
-use script_task::Task;
+use script_task::{Task, replies_fit};
 use std::alloc::Global;
 use std::marker::Model;
 use std::sync::Wait;
@@ -66,6 +66,7 @@ impl<J: Naming + Placing, T: Task> Player<J, T> {
         ensures task { result.task ≡ task }
         ensures told { result.lost ≡ false }
     {
+        guests_begin();
         Player {
             role: role_of(world, guest.caller),
             guest,
@@ -133,19 +134,34 @@ pub enum Played {
 }
 
 // What a turn came to.
-fn played(turn: &Turn) -> Played {
+fn played_of(turn: &Turn) -> Played
+    ensures { result ≡ played_by turn.now }
+{
     match turn {
         Turn::Recorded { .. } => Played::Recorded,
-        Turn::NotReady | Turn::Owes | Turn::Limit => Played::Waits,
+        Turn::NotReady => Played::Waits,
+        Turn::Owes => Played::Waits,
+        Turn::Limit => Played::Waits,
+        Turn::Memory => Played::Memory,
+    }
+}
+
+// What a script's turn came to. Its task is told the reply.
+fn hear<T: Task>(task: &mut T, lost: &mut bool, alloc: Global, turn: Turn) -> Played
+    ensures { Heard T.after task.old lost.old turn result task.new lost.new }
+{
+    match turn {
+        Turn::Recorded { stamp: _, reply } => tell(task, lost, alloc, reply),
+        Turn::NotReady => Played::Waits,
+        Turn::Owes => Played::Waits,
+        Turn::Limit => Played::Waits,
         Turn::Memory => Played::Memory,
     }
 }
 
 // The task takes the reply to the event that it asked for.
-fn told<T: Task>(task: &mut T, lost: &mut bool, alloc: Global, reply: Reply) -> Played
-    ensures ok { result ≡ played.Recorded → (task.new ≡ T.after task.old reply) × (lost.new ≡ lost.old) }
-    ensures err { result ≢ played.Recorded
-        → (result ≡ played.Memory) × (task.new ≡ task.old) × (lost.new ≡ true) }
+fn tell<T: Task>(task: &mut T, lost: &mut bool, alloc: Global, reply: Reply) -> Played
+    ensures { Told T.after task.old lost.old reply result task.new lost.new }
 {
     if task.told(alloc, reply).is_err() {
         *lost = true;
@@ -187,7 +203,7 @@ impl<J: Naming + Placing> Net<J, WorldActor<J>> {
         ensures same { IsSamePlayer player.old player.new }
         ensures turn { PlaysOn J.world player.old result player.new }
     {
-        played(&self.serve(rt, gate, &mut player.guest))
+        played_of(&self.serve(rt, gate, &mut player.guest))
     }
 
     // The copy that a courier that owes nothing takes.
@@ -203,7 +219,7 @@ impl<J: Naming + Placing> Net<J, WorldActor<J>> {
         ensures same { IsSamePlayer player.old player.new }
         ensures turn { PlaysOn J.world player.old result player.new }
     {
-        played(&self.courier_turn(rt, gate, &mut player.guest, medium))
+        played_of(&self.courier_turn(rt, gate, &mut player.guest, medium))
     }
 
     // The next event of a script that owes nothing.
@@ -219,6 +235,8 @@ impl<J: Naming + Placing> Net<J, WorldActor<J>> {
         ensures same { IsSamePlayer player.old player.new }
         ensures turn { PlaysOn J.world player.old result player.new }
     {
+        locks_keep_actors();
+        replies_fit();
         if player.lost {
             return Played::Memory;
         }
@@ -227,11 +245,7 @@ impl<J: Naming + Placing> Net<J, WorldActor<J>> {
             Ok(None) => return Played::Waits,
             Err(_) => return Played::Memory,
         };
-        match self.operate(rt, gate, &mut player.guest, &request) {
-            Turn::Recorded { stamp: _, reply } => {
-                told(&mut player.task, &mut player.lost, alloc, reply)
-            }
-            turn => played(&turn),
-        }
+        let turn = self.operate(rt, gate, &mut player.guest, &request);
+        hear(&mut player.task, &mut player.lost, alloc, turn)
     }
 }

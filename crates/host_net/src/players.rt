@@ -1,5 +1,6 @@
 //! Players in groups, one for each worker.
-ghost use Rattle.std.specs.Prelude.{◌≡◌, ℕ, ◌<◌, ◌++◌, length, true, false, None, option_map, IfOk, IfSome, OnErr, OnOk, list_any};
+ghost use Rattle.std.specs.Prelude.{◌≡◌, ℕ, ◌<◌, ◌++◌, length, true, false, None, option_map, IfOk, IfSome, OnErr, OnOk, slice_index_or};
+ghost use Rattle.std.specs.List.{list_any};
 ghost use Rattle.host_net.specs.Groups.{AreWaiting, all_members, all_seats, caller, callers_of, dealt, joined, members, no_players, seats, visits};
 ghost use Rattle.host_net.specs.Playing.{ArePlayed, IsWaiting};
 ghost use Rattle.host_net.specs.Visits.{HasGuest};
@@ -188,9 +189,26 @@ impl<J: Naming + Placing> Net<J, WorldActor<J>> {
         ensures rest { list_any (λ g. g.memory) players.new.groups ≡ false
             → AreWaiting J.world (all_members players.new.groups) }
     {
+        self.play_groups(rt, alloc, gate, &mut players.groups);
+    }
+
+    fn play_groups<R: Threads + Wait + Sync, G: Gate + Sync, T: Task + Drop + Send>(
+        &self,
+        rt: &R,
+        alloc: Global,
+        gate: &G,
+        groups: &mut [Group<J, T>],
+    )
+        where J: Send + Sync
+        ensures many { length groups.new ≡ length groups.old }
+        ensures seats { (i : ℕ) (d : _) → i < length groups.old
+            → seats (slice_index_or groups.new i d) ≡ seats (slice_index_or groups.old i d) }
+        ensures rest { (i : ℕ) (d : _) → i < length groups.old → (slice_index_or groups.new i d).memory ≡ false
+            → AreWaiting J.world (members (slice_index_or groups.new i d)) }
+    {
         thread::for_each_mut(
             rt,
-            &mut players.groups,
+            groups,
             16,
             &|_, group| self.play_group(rt, alloc, gate, group),
         );
