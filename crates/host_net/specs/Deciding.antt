@@ -27,7 +27,7 @@ use Rattle.host_net.specs.declared.clock.Advance.{Advance}
 use Rattle.host_net.specs.declared.clock.Advance.TheVariants as advance
 use Rattle.host_net.specs.declared.clock.Busy.{Busy}
 use Rattle.host_net.specs.declared.clock.Standing.{Standing}
-use Rattle.host_net.specs.Visits.{Recorded, Visit, bare, own}
+use Rattle.host_net.specs.Visits.{HasRoom, Recorded, Visit, bare, own}
 
 -- How callers stand.
 
@@ -105,6 +105,27 @@ pub record IsLeast (w : World) (net : Net) (c : ℕ) : Type 0 where
   pub could_is : could w net c ≡ true
   pub least : (d : ℕ) → d < caller_count w → could w net d ≡ true → c ≤ d
 
+-- what keeps the clock where it is, where the net stands so. What limits a run is told before what keeps the clock from
+-- moving, and before how the run ended
+abbrev pub Keeps : World → Net → Advance → Type 0
+Keeps w net (advance.Moved m) = ⊥
+Keeps w net advance.Done = done w net ≡ true
+Keeps w net advance.Stopped = stopped w net ≡ true
+Keeps w net (advance.NotCalm c) = IsLeast w net c × (limited w net ≡ false)
+Keeps w net advance.Limit = limited w net ≡ true
+Keeps w net advance.Memory = ⊥
+
+-- the clock may move, and has room
+pub record MayMove (w : World) (c : ℕ) (p : Sight) : Type 0 where
+  pub may : movable w (noted_net w p.seen) ≡ true
+  pub unlimited : limited w (noted_net w p.seen) ≡ false
+  pub free : could w (noted_net w p.seen) c ≡ false
+  pub room : HasRoom c p
+
+abbrev pub Halts : World → ℕ → Sight → Option Advance → Type 0
+Halts w c p None = MayMove w c p
+Halts w c p (Some answer) = Keeps w (noted_net w p.seen) answer
+
 -- the clock's move to this moment was recorded, after all that had been seen
 pub record MovesTo (w : World) (c now m : ℕ) (p : Sight) (ds : List Duty) (p' : Sight) (ds' : List Duty) : Type 0 where
   pub stamp : ℕ
@@ -120,12 +141,8 @@ pub record Moves (w : World) (old : Visit) (m : ℕ) (new : Visit) : Type 0 wher
   pub entry : MovesTo w old.caller old.now m old.sight old.owed new.sight new.owed
   pub now_is : new.now ≡ m
 
--- by the answer. Where it didn't move it is as it was. What limits a run is told before what keeps the clock from moving,
--- and before how the run ended
+-- by the answer. Where it didn't move it is as it was
 abbrev pub Decided : World → Visit → Advance → Visit → Type 0
 Decided w old (advance.Moved m) new = Moves w old m new
-Decided w old advance.Done new = (done w (net_of w old) ≡ true) × (new ≡ old)
-Decided w old advance.Stopped new = (stopped w (net_of w old) ≡ true) × (new ≡ old)
-Decided w old (advance.NotCalm c) new = IsLeast w (net_of w old) c × (limited w (net_of w old) ≡ false) × (new ≡ old)
-Decided w old advance.Limit new = (limited w (net_of w old) ≡ true) × (new ≡ old)
 Decided w old advance.Memory new = new ≡ old
+Decided w old answer new = Keeps w (net_of w old) answer × (new ≡ old)

@@ -4,6 +4,7 @@ ghost use Rattle.std.specs.List.{list_any};
 ghost use Rattle.std.specs.Option.{option_map_or};
 ghost use Rattle.net_base.specs.declared.actor.ActorName.TheVariants as name;
 ghost use Rattle.net_base.specs.declared.event.Event.TheVariants as event;
+ghost use Rattle.net_base.specs.declared.noted.Noted.{Noted};
 ghost use Rattle.net_base.specs.Actors.{actor_step};
 ghost use Rattle.net_base.specs.Callers.{IsClock, caller_of};
 ghost use Rattle.net_base.specs.Calm as calm;
@@ -12,25 +13,25 @@ ghost use Rattle.net_base.specs.Legal.{IsInTime};
 ghost use Rattle.net_base.specs.Stamped.{moment as moment_of};
 ghost use Rattle.net_base.specs.World.{IsWorld};
 ghost use Rattle.calm_laws.specs.Could.{could, is_full};
-ghost use Rattle.journal.specs.Tokens.{HoldsAll};
+ghost use Rattle.journal.specs.Rule.{Lawful};
+ghost use Rattle.journal.specs.Tokens.{Holds, HoldsAll};
 ghost use Rattle.duties.specs.Ticking.{due_at, dues_of};
 ghost use Rattle.guest_laws.specs.Guests.{IsGuest, IsOfGuests};
 ghost use Rattle.guest_laws.specs.Own.{AreNext, AreTimely};
 ghost use Rattle.guest_laws.specs.Works.{noted_net};
-ghost use Rattle.host_net.specs.Deciding.{AllStand, Decided, Finds, MovesTo, StandsAt, awaited_moments, awaited_of, callers_of, due_moments, has_left};
+ghost use Rattle.host_net.specs.Deciding.{AllStand, Decided, Finds, Halts, MayMove, MovesTo, StandsAt, awaited_moments, awaited_of, callers_of, due_moments, has_left};
 ghost use Rattle.host_net.specs.Visits.{HasRoom, IsWith, Visit};
 
 use crate::guest::Guest;
 use crate::net::Net;
 use actor_machines::{Placing, WorldActor};
 use calm_laws::{
-    calm_is_that_nobody_could, conversations_are_these, moves_are_timely, nobody_is_limited,
-    somebody_is_limited, targets_are_least,
+    calm_is_that_nobody_could, conversations_are_these, nobody_is_limited, somebody_is_limited,
+    targets_are_least,
 };
 use duties::{Due, Duties, a_move_owes_its_ticks};
 use guest_laws::{
-    guests_record, guests_stay_by_others, histories_of_guests_are_legal, locks_keep_actors,
-    nets_of_works_grow, turns_are_these,
+    guests_record, guests_stay_by_others, locks_keep_actors, nets_of_works_grow, turns_are_these,
 };
 use journal::{Naming, Pass};
 use locked::Answer;
@@ -103,24 +104,62 @@ impl<J: Naming + Placing> Net<J, WorldActor<J>> {
         ensures decided { Decided J.world clock.old result clock.new }
     {
         self.journal.look(&mut clock.pass);
-        let busy = self.busy(rt, standings, &mut clock.pass, clock.now);
-        if busy.full {
-            return Advance::Limit;
-        }
-        if let Some(caller) = busy.least {
-            return Advance::NotCalm(caller);
-        }
-        if is_through(world.scripts.len(), standings) {
-            return Advance::Done;
-        }
-        if clock.now == world.end {
-            return Advance::Stopped;
-        }
-        if clock.pass.room(clock.caller) == 0 {
-            return Advance::Limit;
+        let halt = self.halt(
+            rt,
+            world,
+            standings,
+            &mut clock.pass,
+            clock.caller,
+            clock.now,
+        );
+        if let Some(answer) = halt {
+            return answer;
         }
         self.move_clock(rt, alloc, gate, world, standings, clock)
     }
+
+    // What keeps the clock from moving, or how the run ended, if the clock isn't to move.
+    fn halt<R: Wait>(
+        &self,
+        rt: &R,
+        world: &World,
+        standings: &[Standing],
+        pass: &mut Pass<J>,
+        caller: u32,
+        now: u64,
+    ) -> Option<Advance>
+        requires world { J.world ≡ world.now }
+        requires clock { caller_of J.world caller ≡ IsClock }
+        requires held { (es : List (ℕ × Noted)) × Holds pass.old caller es }
+        requires moment { now ≡ moment_of pass.old.seen }
+        requires all { AllStand J.world J.run.roster pass.old standings.now }
+        requires lawful { Lawful J.run.roster pass.old.seen }
+        ensures same { pass.new ≡ pass.old }
+        ensures halts { Halts J.world caller pass.old result }
+    {
+        calm_is_that_nobody_could();
+        nets_of_works_grow();
+        nobody_is_limited();
+        somebody_is_limited();
+        let busy = self.busy(rt, standings, pass, now);
+        if busy.full {
+            return Some(Advance::Limit);
+        }
+        if let Some(caller) = busy.least {
+            return Some(Advance::NotCalm(caller));
+        }
+        if is_through(world.scripts.len(), standings) {
+            return Some(Advance::Done);
+        }
+        if now == world.end {
+            return Some(Advance::Stopped);
+        }
+        if pass.room(caller) == 0 {
+            return Some(Advance::Limit);
+        }
+        None
+    }
+
     // The least caller that could record, and whether a full one could.
     fn busy<R: Wait>(&self, rt: &R, standings: &[Standing], pass: &mut Pass<J>, now: u64) -> Busy
         requires numbers { HoldsAll J.run.roster pass.old }
@@ -197,16 +236,15 @@ impl<J: Naming + Placing> Net<J, WorldActor<J>> {
         requires is { IsWorld world.now }
         requires clock { caller_of J.world clock.old.caller ≡ IsClock }
         requires all { AllStand J.world J.run.roster clock.old.sight standings.now }
-        requires free { clock.old.owed ≡ [] }
-        requires room { HasRoom clock.old.caller clock.old.sight }
-        requires may { calm.movable J.world (noted_net J.world clock.old.sight.seen) ≡ true }
-        requires has_room { calm.limited J.world (noted_net J.world clock.old.sight.seen) ≡ false }
+        requires may { MayMove J.world clock.old.caller clock.old.sight }
         ensures caller { clock.new.caller ≡ clock.old.caller }
         ensures names { clock.new.names ≡ clock.old.names }
         ensures others { (v : Visit) → IsWith J.world J.run.roster v clock.old.sight
             → (v.caller == clock.old.caller) ≡ false → IsWith J.world J.run.roster v clock.new.sight }
         ensures decided { Decided J.world clock.old result clock.new }
     {
+        conversations_are_these();
+        nets_of_works_grow();
         targets_are_least();
         let Ok(dues) = self.dues(rt, alloc, &mut clock.pass, clock.now) else {
             return Advance::Memory;
@@ -349,12 +387,13 @@ impl<J: Naming + Placing> Net<J, WorldActor<J>> {
         locks_keep_actors();
         let lock = self.lock_of(ActorName::Conv(host, proto, slot))?;
         let view = lock.view(rt, &self.journal, pass, now, None);
+        let due = view.due?;
         Some(Due {
             host,
             proto,
             slot,
             generation: view.generation,
-            due: view.due?,
+            due,
         })
     }
 }
