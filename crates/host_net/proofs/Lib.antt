@@ -12,3 +12,4 @@ pub mod Slots
 pub mod Through
 pub mod Moved
 pub mod Concluding
+pub mod Halting
