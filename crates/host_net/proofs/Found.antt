@@ -140,6 +140,20 @@ module _ (goes full : ℕ → Bool) (cs : List ℕ) (c : ℕ) where
       passes_as true b yes_ = yes_
       passes_as false b yes_ = refl
 
+  pub finds_with : (found : Busy) (full_it : Bool) → Finds goes full cs found → goes c ≡ true → full_it ≡ full c
+      → (least : ℕ) → least ≡ option_map_or (λ (l : ℕ). min l c) found.least c → (any : Bool) → any ≡ (found.full || full_it)
+      → Finds goes full (cs ++ c ∷ []) (record { least = Some least; full = any })
+  finds_with found full_it f passes is least at any so =
+      subst (λ (l : ℕ). Finds goes full (cs ++ c ∷ []) (record { least = Some l; full = any })) (sym at)
+      (subst (λ (b : Bool). Finds goes full (cs ++ c ∷ []) (record { least = Some (option_map_or (λ (l : ℕ). min l c) found.least c); full = b })) (sym so)
+      (finds_more found full_it f passes is))
+
+pub or_true : (a b : Bool) → a ≡ true → a ≡ (a || b)
+or_true a b is = is ∙ sym (ap (λ (x : Bool). x || b) is)
+
+pub or_false : (a b : Bool) → a ≡ false → b ≡ (a || b)
+or_false a b is = sym (ap (λ (x : Bool). x || b) is)
+
 pub finds_none : (goes full : ℕ → Bool) → Finds goes full [] (record { least = None; full = false })
 finds_none goes full = record { least_is = λ c there. absurd there; full_is = λ c there. absurd there }
 

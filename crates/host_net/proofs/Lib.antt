@@ -26,3 +26,4 @@ pub mod Keeping
 pub mod Telling
 pub mod Seating
 pub mod Naming
+pub mod Halting

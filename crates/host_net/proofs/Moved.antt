@@ -1,6 +1,7 @@
 -- What the clock's entry of a move leaves.
 use Rattle.std.proofs.Common.{◌≡◌, ℕ, zero, suc, ◌+◌, ◌<◌, ◌≤◌, ◌==◌, Bool, true, false, List, [], ◌∷◌, ◌++◌, length, drop, Option, Some, None, if◌then◌else◌, refl, ap, sym, subst, ◌∙◌, arith, append_assoc}
 use mathlib.Core.List.{IsPrefix}
+use Rattle.std.proofs.lemmas.Bool.{false≢true, true≢false}
 use Rattle.std.proofs.lemmas.Bool.Decides.{nat_tests}
 use Rattle.net_base.specs.declared.actor.ActorName.{ActorName}
 use Rattle.net_base.specs.declared.actor.ActorName.TheVariants as name
@@ -27,7 +28,7 @@ use Rattle.duties.specs.declared.due.Due.{Due}
 use Rattle.duties.specs.Ticking.{MoveOwes, dues_of, ticks_of}
 use Rattle.guest_laws.specs.Guests.{HasRecorded, IsGuest, Records, StaysGuest}
 use Rattle.guest_laws.specs.Works.{entries, next_noted, noted_after, noted_net, step_by}
-use Rattle.host_net.specs.Deciding.{MovesTo}
+use Rattle.host_net.specs.Deciding.{LeavesMoved, MayLeave, MovesTo}
 use Rattle.host_net.specs.Visits.{HasRoom, IsWith, Recorded, Stays, Visit, bare, own}
 use Rattle.host_net.proofs.Passes.{stays_on}
 
@@ -118,3 +119,30 @@ module _ (w : World) (r : Roster) (c now m : ℕ) (p p' : Sight) (ds : List Duty
               stands = stays.stands;
             });
       }
+
+  pub leaves_moved : MovesOwe
+      → ((log : List Noted) (x : Noted) → noted_net w (log ++ x ∷ []) ≡ next_noted w (noted_net w log) x)
+      → ((log : List Noted) → (noted_net w log).moment ≡ moment log)
+      → ((v : Visit) → (c == v.caller) ≡ false → IsGuest w r v.caller p v.owed → StaysGuest w r v.caller p v.owed p')
+      → HasRoom c p → IsInTime (noted_net w p.seen) w (event.Move m)
+      → (dues : List Due) → dues ≡ dues_of w (noted_net w p.seen).actors → (ds' : List Duty) → ds' ≡ ds ++ ticks_of stamp m dues
+      → LeavesMoved w r c now m p ds p' ds'
+  leaves_moved owe grows here stay room in_time dues are ds' added =
+      let owed = owed_so owe dues are ds' added in
+      record {
+        guest = guest_on ds' owed;
+        entry = moves_to room in_time ds' owed;
+        here = moment_on grows here;
+        others = λ v is other. with_on v is other (stay v (apart v.caller c other) is.guest);
+      }
+
+-- After what came before it, which left the pass and the duties as they were.
+module _ (w : World) (r : Roster) (c now m : ℕ) (p q p' : Sight) (ds es ds' : List Duty) (same : q ≡ p) (still : es ≡ ds) where
+  pub unmoved_so : (b : Bool) → MayLeave w r c now m q es b p' ds' → b ≡ false → (p' ≡ p) × (ds' ≡ ds)
+  unmoved_so true left is = absurd (true≢false is)
+  unmoved_so false left is = (left.0 ∙ same, left.1 ∙ still)
+
+  pub moved_so : (b : Bool) → MayLeave w r c now m q es b p' ds' → b ≡ true → LeavesMoved w r c now m p ds p' ds'
+  moved_so true left is =
+      subst (λ (l : List Duty). LeavesMoved w r c now m p l p' ds') still (subst (λ (s : Sight). LeavesMoved w r c now m s es p' ds') same left)
+  moved_so false left is = absurd (false≢true is)

@@ -10,7 +10,8 @@ use Rattle.net_base.specs.declared.noted.Noted.{Noted}
 use Rattle.net_base.specs.declared.noted.Number.TheVariants as number
 use Rattle.net_base.specs.declared.world.Script.{Script}
 use Rattle.net_base.specs.declared.world.World.{World}
-use Rattle.net_base.specs.Actors.{actor_step}
+use Rattle.net_base.specs.ActorStep.{when}
+use Rattle.net_base.specs.Actors.{Actor, actor_step, has_actor, table_step}
 use Rattle.net_base.specs.Callers.{Caller, IsScript, IsCourier, IsClock, IsNobody, caller_of, clock_number, first_courier, other_caller}
 use Rattle.net_base.specs.Calm.{can_go_on, is_ready, owes}
 use Rattle.net_base.specs.Duties.{Duty}
@@ -23,6 +24,8 @@ use Rattle.journal.specs.declared.law.Roster.{Roster}
 use Rattle.journal.specs.declared.tokens.Sight.{Sight}
 use Rattle.journal.specs.Rule.{Held}
 use Rattle.journal.specs.Tokens.{Holds, HoldsAll, Looked}
+use Rattle.locked.specs.Acts.{state_at}
+use Rattle.guest_laws.specs.Named.{answer_in, opening}
 use Rattle.guest_laws.specs.Works.{entries, noted_net}
 use Rattle.host_net.specs.declared.clock.Standing.{Standing}
 use Rattle.host_net.specs.Deciding.{AllStand, IsBare, StandsAt, ask_of}
@@ -44,6 +47,30 @@ holds_all w r p ss stand c lt =
     let there = stand.all c lt in
     let st = stand.each there.0 there.1 in
     subst (λ (k : ℕ). (es : List (ℕ × Noted)) × Holds p k es) there.2 (st.guest.list, st.guest.held)
+
+-- What is seen of an actor.
+
+-- an actor that the world hasn't is never ready
+pub absent : (w : World) (a : ActorName) (s : Actor) (now : ℕ) (work : Work) → has_actor w a ≡ false → false ≡ is_some (actor_step w a s now work)
+absent w a s now work none = sym (ap (λ (b : Bool). is_some (when b (table_step w a s now work))) none)
+
+module _ (w : World) (p p' : Sight) (same : p' ≡ p) (at_lock a : ActorName) (is : at_lock ≡ a) where
+  -- whether a work is ready at it
+  pub ready_seen : (now : ℕ) (work : Work) (b : Bool) → b ≡ is_some (answer_in w (state_at opening (answer_in w) at_lock p'.seen) now work)
+      → is_some (answer_in w (state_at opening (answer_in w) at_lock p'.seen) now work) ≡ is_some (actor_step w at_lock ((noted_net w p'.seen).actors at_lock) now work)
+      → b ≡ is_some (actor_step w a ((noted_net w p.seen).actors a) now work)
+  ready_seen now work b told law =
+      told
+      ∙ (law
+      ∙ (ap (λ (q : Sight). is_some (actor_step w at_lock ((noted_net w q.seen).actors at_lock) now work)) same
+      ∙ ap (λ (n : ActorName). is_some (actor_step w n ((noted_net w p.seen).actors n) now work)) is))
+
+  -- what it says of its state
+  pub said : {A : Type 0} (f : Actor → A) (x y : A) → x ≡ y → y ≡ f ((noted_net w p'.seen).actors at_lock) → x ≡ f ((noted_net w p.seen).actors a)
+  said f x y told law =
+      told
+      ∙ (law
+      ∙ (ap (λ (q : Sight). f ((noted_net w q.seen).actors at_lock)) same ∙ ap (λ (n : ActorName). f ((noted_net w p.seen).actors n)) is))
 
 -- The clock's number.
 

@@ -12,25 +12,24 @@ ghost use Rattle.net_base.specs.Legal.{IsInTime};
 ghost use Rattle.net_base.specs.Stamped.{moment as moment_of};
 ghost use Rattle.net_base.specs.World.{IsWorld};
 ghost use Rattle.calm_laws.specs.Could.{could, is_full};
+ghost use Rattle.journal.specs.Rule.{Lawful};
 ghost use Rattle.journal.specs.Tokens.{HoldsAll};
 ghost use Rattle.duties.specs.Ticking.{due_at, dues_of};
 ghost use Rattle.guest_laws.specs.Guests.{IsGuest, IsOfGuests};
-ghost use Rattle.guest_laws.specs.Own.{AreNext, AreTimely};
 ghost use Rattle.guest_laws.specs.Works.{noted_net};
-ghost use Rattle.host_net.specs.Deciding.{AllStand, Decided, Finds, MovesTo, StandsAt, awaited_moments, awaited_of, callers_of, due_moments, has_left};
-ghost use Rattle.host_net.specs.Visits.{HasRoom, IsWith, Visit};
+ghost use Rattle.host_net.specs.Deciding.{AllStand, Finds, Halts, Leaves, MayGo, MayLeave, MayMove, StandsAt, awaited_moments, awaited_of, callers_of, due_moments, has_left};
+ghost use Rattle.host_net.specs.Visits.{HasRoom};
 
 use crate::guest::Guest;
 use crate::net::Net;
 use actor_machines::{Placing, WorldActor};
 use calm_laws::{
-    calm_is_that_nobody_could, conversations_are_these, moves_are_timely, nobody_is_limited,
-    somebody_is_limited, targets_are_least,
+    calm_is_that_nobody_could, conversations_are_these, nobody_is_limited, somebody_is_limited,
+    targets_are_least,
 };
 use duties::{Due, Duties, a_move_owes_its_ticks};
 use guest_laws::{
-    guests_record, guests_stay_by_others, histories_of_guests_are_legal, locks_keep_actors,
-    nets_of_works_grow, turns_are_these,
+    guests_record, guests_stay_by_others, locks_keep_actors, nets_of_works_grow, turns_are_these,
 };
 use journal::{Naming, Pass};
 use locked::Answer;
@@ -91,36 +90,80 @@ impl<J: Naming + Placing> Net<J, WorldActor<J>> {
         requires is { IsWorld world.now }
         requires clock { caller_of J.world clock.old.caller ≡ IsClock }
         requires all { AllStand J.world J.run.roster clock.old.sight standings.now }
-        ensures caller { clock.new.caller ≡ clock.old.caller }
-        ensures names { clock.new.names ≡ clock.old.names }
         ensures guests { IsOfGuests J.world J.run.roster clock.old.sight.seen }
-        ensures others { (v : Visit) → IsWith J.world J.run.roster v clock.old.sight
-            → (v.caller == clock.old.caller) ≡ false → IsWith J.world J.run.roster v clock.new.sight }
-        ensures nexts { AreNext J.world clock.old.caller clock.old.sight.seen
-            → AreNext J.world clock.old.caller clock.new.sight.seen }
-        ensures timely { AreTimely J.world clock.old.caller clock.old.sight.seen
-            → AreTimely J.world clock.old.caller clock.new.sight.seen }
-        ensures decided { Decided J.world clock.old result clock.new }
+        ensures leaves { Leaves J.world J.run.roster clock.old result clock.new }
     {
         self.journal.look(&mut clock.pass);
-        let busy = self.busy(rt, standings, &mut clock.pass, clock.now);
+        let halt = self.halt(
+            rt,
+            world,
+            standings,
+            &mut clock.pass,
+            clock.caller,
+            clock.now,
+        );
+        if let Some(answer) = halt {
+            return answer;
+        }
+        let moved = self.try_move(
+            rt,
+            alloc,
+            gate,
+            world,
+            standings,
+            &mut clock.pass,
+            &mut clock.duties,
+            clock.caller,
+            clock.now,
+        );
+        let Some(moment) = moved else {
+            return Advance::Memory;
+        };
+        clock.now = moment;
+        Advance::Moved(moment)
+    }
+
+    // What keeps the clock from moving, or how the run ended, if the clock isn't to move.
+    fn halt<R: Wait>(
+        &self,
+        rt: &R,
+        world: &World,
+        standings: &[Standing],
+        pass: &mut Pass<J>,
+        caller: u32,
+        now: u64,
+    ) -> Option<Advance>
+        requires world { J.world ≡ world.now }
+        requires clock { caller_of J.world caller ≡ IsClock }
+        requires moment { now ≡ moment_of pass.old.seen }
+        requires all { AllStand J.world J.run.roster pass.old standings.now }
+        requires lawful { Lawful J.run.roster pass.old.seen }
+        ensures same { pass.new ≡ pass.old }
+        ensures halts { Halts J.world caller pass.old result }
+    {
+        calm_is_that_nobody_could();
+        nets_of_works_grow();
+        nobody_is_limited();
+        somebody_is_limited();
+        let busy = self.busy(rt, standings, pass, now);
         if busy.full {
-            return Advance::Limit;
+            return Some(Advance::Limit);
         }
         if let Some(caller) = busy.least {
-            return Advance::NotCalm(caller);
+            return Some(Advance::NotCalm(caller));
         }
         if is_through(world.scripts.len(), standings) {
-            return Advance::Done;
+            return Some(Advance::Done);
         }
-        if clock.now == world.end {
-            return Advance::Stopped;
+        if now == world.end {
+            return Some(Advance::Stopped);
         }
-        if clock.pass.room(clock.caller) == 0 {
-            return Advance::Limit;
+        if pass.room(caller) == 0 {
+            return Some(Advance::Limit);
         }
-        self.move_clock(rt, alloc, gate, world, standings, clock)
+        None
     }
+
     // The least caller that could record, and whether a full one could.
     fn busy<R: Wait>(&self, rt: &R, standings: &[Standing], pass: &mut Pass<J>, now: u64) -> Busy
         requires numbers { HoldsAll J.run.roster pass.old }
@@ -130,6 +173,7 @@ impl<J: Naming + Placing> Net<J, WorldActor<J>> {
         ensures finds { Finds (could J.world (noted_net J.world pass.old.seen)) (is_full (noted_net J.world pass.old.seen))
             (callers_of standings.now) result }
     {
+        nets_of_works_grow();
         let mut busy = Busy {
             least: None,
             full: false,
@@ -183,54 +227,44 @@ impl<J: Naming + Placing> Net<J, WorldActor<J>> {
         view.ready
     }
 
-    // The clock moves to the target, where it may move and has room.
-    fn move_clock<R: Wait, G: Gate>(
+    // The clock moves to the target, where it may move and has room. None where memory ran out.
+    fn try_move<R: Wait, G: Gate>(
         &self,
         rt: &R,
         alloc: Global,
         gate: &G,
         world: &World,
         standings: &[Standing],
-        clock: &mut Guest<J>,
-    ) -> Advance
+        pass: &mut Pass<J>,
+        duties: &mut Duties,
+        caller: u32,
+        now: u64,
+    ) -> Option<u64>
         requires world { J.world ≡ world.now }
-        requires is { IsWorld world.now }
-        requires clock { caller_of J.world clock.old.caller ≡ IsClock }
-        requires all { AllStand J.world J.run.roster clock.old.sight standings.now }
-        requires free { clock.old.owed ≡ [] }
-        requires room { HasRoom clock.old.caller clock.old.sight }
-        requires may { calm.movable J.world (noted_net J.world clock.old.sight.seen) ≡ true }
-        requires has_room { calm.limited J.world (noted_net J.world clock.old.sight.seen) ≡ false }
-        ensures caller { clock.new.caller ≡ clock.old.caller }
-        ensures names { clock.new.names ≡ clock.old.names }
-        ensures others { (v : Visit) → IsWith J.world J.run.roster v clock.old.sight
-            → (v.caller == clock.old.caller) ≡ false → IsWith J.world J.run.roster v clock.new.sight }
-        ensures decided { Decided J.world clock.old result clock.new }
+        requires clock { caller_of J.world caller ≡ IsClock }
+        requires guest { IsGuest J.world J.run.roster caller pass.old duties.old.list }
+        requires moment { now ≡ moment_of pass.old.seen }
+        requires early { now < 2 ^ 63 }
+        requires all { AllStand J.world J.run.roster pass.old standings.now }
+        requires may { MayMove J.world caller pass.old }
+        ensures { MayGo J.world J.run.roster caller now pass.old duties.old.list result pass.new duties.new.list }
     {
+        conversations_are_these();
+        nets_of_works_grow();
         targets_are_least();
-        let Ok(dues) = self.dues(rt, alloc, &mut clock.pass, clock.now) else {
-            return Advance::Memory;
+        let Ok(dues) = self.dues(rt, alloc, pass, now) else {
+            return None;
         };
-        if clock.duties.reserve(dues.len()).is_err() {
-            return Advance::Memory;
+        if duties.reserve(dues.len()).is_err() {
+            return None;
         }
         let awaited = least_awaited(standings, world.end);
         let moment = least_due(dues.as_slice(), awaited);
-        let moved = self.record_move(
-            rt,
-            gate,
-            dues.as_slice(),
-            moment,
-            &mut clock.pass,
-            &mut clock.duties,
-            clock.caller,
-            clock.now,
-        );
+        let moved = self.record_move(rt, gate, dues.as_slice(), moment, pass, duties, caller, now);
         if !moved {
-            return Advance::Memory;
+            return None;
         }
-        clock.now = moment;
-        Advance::Moved(moment)
+        Some(moment)
     }
 
     // The clock's entry, and the ticks that it owes. Whether it was recorded.
@@ -255,13 +289,8 @@ impl<J: Naming + Placing> Net<J, WorldActor<J>> {
         requires dues { dues.now ≡ dues_of J.world (noted_net J.world pass.old.seen).actors }
         requires reserved { length dues.now ≤ duties.old.room }
         requires in_time { IsInTime (noted_net J.world pass.old.seen) J.world (event.Move moment) }
-        ensures guest { IsGuest J.world J.run.roster caller pass.new duties.new.list }
-        ensures others { (v : Visit) → IsWith J.world J.run.roster v pass.old
-            → (v.caller == caller) ≡ false → IsWith J.world J.run.roster v pass.new }
-        ensures moved { result ≡ true → MovesTo J.world caller now moment pass.old duties.old.list
-            pass.new duties.new.list }
-        ensures here { result ≡ true → moment ≡ moment_of pass.new.seen }
-        ensures unmoved { result ≡ false → (pass.new ≡ pass.old) × (duties.new.list ≡ duties.old.list) }
+        ensures { MayLeave J.world J.run.roster caller now moment pass.old duties.old.list
+            result pass.new duties.new.list }
     {
         a_move_owes_its_ticks();
         guests_record();
@@ -349,12 +378,15 @@ impl<J: Naming + Placing> Net<J, WorldActor<J>> {
         locks_keep_actors();
         let lock = self.lock_of(ActorName::Conv(host, proto, slot))?;
         let view = lock.view(rt, &self.journal, pass, now, None);
+        let Some(due) = view.due else {
+            return None;
+        };
         Some(Due {
             host,
             proto,
             slot,
             generation: view.generation,
-            due: view.due?,
+            due,
         })
     }
 }
