@@ -144,7 +144,7 @@ module _ {T : Type 0} (w : World) (r : Roster) (gs lent ks new : List (Grouped T
       }
   advanced_by advance.Done d = told_new d.1 (λ (net_ : Net). done w net_ ≡ true) d.0
   advanced_by advance.Stopped d = told_new d.1 (λ (net_ : Net). stopped w net_ ≡ true) d.0
-  advanced_by (advance.NotCalm c) d = told_new d.2 (λ (net_ : Net). IsLeast w net_ c × (limited w net_ ≡ false)) (d.0, d.1)
+  advanced_by (advance.NotCalm c) d = told_new d.1 (λ (net_ : Net). IsLeast w net_ c × (limited w net_ ≡ false)) d.0
   advanced_by advance.Limit d = told_new d.1 (λ (net_ : Net). limited w net_ ≡ true) d.0
   advanced_by advance.Memory d = tt
 

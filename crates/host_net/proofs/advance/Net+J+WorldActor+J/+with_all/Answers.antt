@@ -1,7 +1,7 @@
 use Rattle.std.proofs.Common.{◌≡◌, ◌++◌, ◌∷◌, ◌+◌, ◌<◌, [], length, ℕ, List, refl, ap, sym, subst, ◌∙◌, arith}
 use Rattle.net_base.specs.Callers.{caller_of}
 use Rattle.host_net.specs.declared.player.Player.TheInside.{Inside}
-use Rattle.host_net.proofs.Lending.{all_stand, players_left}
+use Rattle.host_net.proofs.Lending.{advances_at, all_stand, players_left}
 use Rattle.host_net.proofs.Outcomes.{player_stays}
 use Rattle.host_net.proofs.Operating.{visit}
 use Rattle.host_net.proofs.Passes.{nil_of}
@@ -227,4 +227,15 @@ returns-in-Some-split_first_mut-clause-clock g t c =
     subst (λ (l : List (Playing g.row.T.Denot)). Advances w r (visits l) c.args.clock.now c.with_all.result c.with_all.new.clock) (sym same) c.with_all.ensures.clock
 
 pub returns-in-None-split_first_mut-clause-others : goal.returns-in-None-split_first_mut-clause-others
-returns-in-None-split_first_mut-clause-others g t c v none is = c.decide.ensures.others v is none.0
+returns-in-None-split_first_mut-clause-others g t c v none is = c.decide.ensures.leaves.others v is none.0
+
+pub returns-in-None-split_first_mut-clause-clock : goal.returns-in-None-split_first_mut-clause-clock
+returns-in-None-split_first_mut-clause-clock g t c =
+    let w = g.J.Placing.world in
+    let r = g.J.Naming.run.roster in
+    let leaves = c.decide.ensures.leaves in
+    let none : c.args.players.now ++ other_players c.args.groups.now ≡ [] =
+    ap (λ (l : List (Playing g.row.T.Denot)). l ++ other_players c.args.groups.now) (nil_of c.args.players.now c.in-None.ensures.cases)
+    ∙ ap other_players (nil_of c.args.groups.now c.in-None-split_first_mut.ensures.cases) in
+    subst (λ (l : List (Playing g.row.T.Denot)). Advances w r (visits l) c.args.clock.now c.decide.result c.decide.new.clock) (sym none)
+    (advances_at w r c.args.clock.now c.decide.result c.decide.new.clock c.decide.ensures.guests leaves.decided leaves.caller leaves.nexts leaves.timely)
