@@ -30,7 +30,7 @@ use Rattle.host_net.specs.declared.clock.Advance.{Advance}
 use Rattle.host_net.specs.declared.clock.Advance.TheVariants as advance
 use Rattle.host_net.specs.declared.clock.Standing.{Standing}
 use Rattle.host_net.specs.Deciding.{AllStand, Decided, Keeps, Leaves, LeavesMoved, MayMove, Moves, net_of}
-use Rattle.host_net.specs.Visits.{HasRoom, IsWith, Visit, own}
+use Rattle.host_net.specs.Visits.{HasRoom, IsVisit, IsWith, Visit, own}
 use Rattle.host_net.proofs.Concluding.{of_guests}
 use Rattle.host_net.proofs.Operating.{visit}
 use Rattle.host_net.proofs.Passes.{known}
@@ -197,6 +197,11 @@ module _ (w : World) (r : Roster) (c now : ℕ) (p q : Sight) (ds : List Duty) (
             now_is = refl;
           })
 
--- before what no clause tells of later
+-- a guest as it was
+pub visit_same : (w : World) (r : Roster) (c now : ℕ) (p p' : Sight) (ds ds' : List Duty) (host : ℕ) → p' ≡ p → ds' ≡ ds → IsVisit w r c now p ds host → IsVisit w r c now p' ds' host
+visit_same w r c now p p' ds ds' host sight owed is =
+    subst (λ (l : List Duty). IsVisit w r c now p' l host) (sym owed) (subst (λ (s : Sight). IsVisit w r c now s ds host) (sym sight) is)
+
+-- the moment of a world's end is early
 pub early_end : (m end : ℕ) → is_moment end ≡ true → m ≤ end → m < 2 ^ 63
 early_end m end is le = omega (arith, le, within_most 1 1000000000 end is)

@@ -91,7 +91,7 @@ clock_at w c is = by_script w c (slice_get w.scripts c) is
 
 -- How many entries a caller has.
 
-counted : (c n : ℕ) (log : List Noted) → length (by (entries log) c) ≡ length (at_from (number.Caller c) n log)
+pub counted : (c n : ℕ) (log : List Noted) → length (by (entries log) c) ≡ length (at_from (number.Caller c) n log)
 counted c n [] = refl
 counted c n (x ∷ log) = by_caller (x.entry.caller == c) (counted c (n + 1) log)
   where

@@ -18,12 +18,12 @@ busy-busy-requires-clause-numbers g c = holds_all g.J.Placing.world g.J.Naming.r
 
 pub returns-then-busy-clause-halts : goal.returns-then-busy-clause-halts
 returns-then-busy-clause-halts g c =
-    full_limits g.J.Placing.world g.J.Naming.run.roster c.args.pass.now c.args.standings.now c.requires.all c.args.self.of.roster.callers_are
+    full_limits g.J.Placing.world g.J.Naming.run.roster c.args.pass.now c.args.standings.now c.requires.all c.args.self.now.of.roster.callers_are
     c.somebody_is_limited.ensures.caller c.busy-busy.result.full c.if-busy.true c.busy-busy.ensures.finds.full_is
 
 pub returns-in-Some-clause-halts : goal.returns-in-Some-clause-halts
 returns-in-Some-clause-halts g c =
-    not_calm g.J.Placing.world g.J.Naming.run.roster c.args.pass.now c.args.standings.now c.requires.all c.args.self.of.roster.callers_are
+    not_calm g.J.Placing.world g.J.Naming.run.roster c.args.pass.now c.args.standings.now c.requires.all c.args.self.now.of.roster.callers_are
     c.busy-busy.result c.busy-busy.ensures.finds c.if-busy.false c.nobody_is_limited.ensures c.calm_is_that_nobody_could.ensures.busy c.in-Some.caller c.in-Some.is
 
 pub returns-then-is_through-clause-halts : goal.returns-then-is_through-clause-halts
@@ -32,7 +32,7 @@ returns-then-is_through-clause-halts g c =
     let r = g.J.Naming.run.roster in
     let p = c.args.pass.now in
     let ss = c.args.standings.now in
-    let callers = c.args.self.of.roster.callers_are in
+    let callers = c.args.self.now.of.roster.callers_are in
     let scripts : c.len.result ≡ length w.scripts = c.len.ensures ∙ ap (λ (v : World). length v.scripts) (sym c.requires.world) in
     let none : list_any (has_left (length w.scripts)) ss ≡ false =
     ap (λ (n : ℕ). list_any (has_left n) ss) (sym scripts) ∙ flipped (list_any (has_left c.len.result) ss) c.is_through.result true c.is_through.ensures c.if-is_through.true in
@@ -46,7 +46,7 @@ returns-then-now-world-clause-halts g c =
     let r = g.J.Naming.run.roster in
     let p = c.args.pass.now in
     let ss = c.args.standings.now in
-    let callers = c.args.self.of.roster.callers_are in
+    let callers = c.args.self.now.of.roster.callers_are in
     let scripts : c.len.result ≡ length w.scripts = c.len.ensures ∙ ap (λ (v : World). length v.scripts) (sym c.requires.world) in
     let some : list_any (has_left (length w.scripts)) ss ≡ true =
     ap (λ (n : ℕ). list_any (has_left n) ss) (sym scripts) ∙ flipped (list_any (has_left c.len.result) ss) c.is_through.result false c.is_through.ensures c.if-is_through.false in
@@ -61,7 +61,7 @@ returns-then-room-eq0-clause-halts g c =
     let r = g.J.Naming.run.roster in
     let p = c.args.pass.now in
     let ss = c.args.standings.now in
-    let callers = c.args.self.of.roster.callers_are in
+    let callers = c.args.self.now.of.roster.callers_are in
     let past = c.nets_of_works_grow.ensures.past w p.seen in
     let scripts : c.len.result ≡ length w.scripts = c.len.ensures ∙ ap (λ (v : World). length v.scripts) (sym c.requires.world) in
     let some : list_any (has_left (length w.scripts)) ss ≡ true =
@@ -79,7 +79,7 @@ returns-clause-halts g c =
     let r = g.J.Naming.run.roster in
     let p = c.args.pass.now in
     let ss = c.args.standings.now in
-    let callers = c.args.self.of.roster.callers_are in
+    let callers = c.args.self.now.of.roster.callers_are in
     let past = c.nets_of_works_grow.ensures.past w p.seen in
     let scripts : c.len.result ≡ length w.scripts = c.len.ensures ∙ ap (λ (v : World). length v.scripts) (sym c.requires.world) in
     let some : list_any (has_left (length w.scripts)) ss ≡ true =
@@ -102,6 +102,6 @@ room-requires g c =
     let w = g.J.Placing.world in
     let r = g.J.Naming.run.roster in
     let p = c.args.pass.now in
-    let callers = c.args.self.of.roster.callers_are in
+    let callers = c.args.self.now.of.roster.callers_are in
     let numbers = subst (λ (q : Sight). HoldsAll r q) (sym c.busy-busy.ensures.same) (holds_all w r p c.args.standings.now c.requires.all) in
     numbers c.args.caller (known_clock w r p c.args.standings.now c.requires.all callers (c.nets_of_works_grow.ensures.past w p.seen) c.args.caller c.requires.clock)

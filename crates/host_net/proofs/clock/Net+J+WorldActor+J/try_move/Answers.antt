@@ -56,7 +56,7 @@ pub record_move-moved-requires-clause-in_time : goal.record_move-moved-requires-
 record_move-moved-requires-clause-in_time g c =
     let w = g.J.Placing.world in
     let p = c.args.pass.now in
-    let t = target_is w g.J.Naming.run.roster p c.args.standings.now c.requires.all c.args.self.of.roster.callers_are (c.nets_of_works_grow.ensures.past w p.seen)
+    let t = target_is w g.J.Naming.run.roster p c.args.standings.now c.requires.all c.args.self.now.of.roster.callers_are (c.nets_of_works_grow.ensures.past w p.seen)
     (c.conversations_are_these.ensures.only w) (c.targets_are_least.ensures w (noted_net w p.seen)) c.in-Ok.dues.items c.least_awaited-awaited.result c.least_due-moment.result
     c.in-Ok.ensures.dues (c.least_awaited-awaited.ensures ∙ ap (λ (v : World). least v.end (awaited_moments c.args.standings.now)) (sym c.requires.world))
     (c.least_due-moment.ensures ∙ ap (λ (ds : List Due). least c.least_awaited-awaited.result (due_moments ds)) c.as_slice.ensures.value) in
@@ -71,7 +71,7 @@ pub returns : goal.returns
 returns g c =
     let w = g.J.Placing.world in
     let p = c.args.pass.now in
-    let t = target_is w g.J.Naming.run.roster p c.args.standings.now c.requires.all c.args.self.of.roster.callers_are (c.nets_of_works_grow.ensures.past w p.seen)
+    let t = target_is w g.J.Naming.run.roster p c.args.standings.now c.requires.all c.args.self.now.of.roster.callers_are (c.nets_of_works_grow.ensures.past w p.seen)
     (c.conversations_are_these.ensures.only w) (c.targets_are_least.ensures w (noted_net w p.seen)) c.in-Ok.dues.items c.least_awaited-awaited.result c.least_due-moment.result
     c.in-Ok.ensures.dues (c.least_awaited-awaited.ensures ∙ ap (λ (v : World). least v.end (awaited_moments c.args.standings.now)) (sym c.requires.world))
     (c.least_due-moment.ensures ∙ ap (λ (ds : List Due). least c.least_awaited-awaited.result (due_moments ds)) c.as_slice.ensures.value) in (
