@@ -82,9 +82,11 @@ module _ (w : World) (a : ActorName) (work : Work) (cites : Option ℕ) (old new
   pub more : (stamp : ℕ) (r : Reply) → RecordsIt stamp r → HasMore old new
   more stamp r rec =
       let x = made a old.caller old.now work cites (without_copy rec.step.outcome) in
-      let push = own_push old.caller rec.past x refl in
-      ((push.0, x), ap (λ (c : ℕ). own c new.sight) same.caller ∙ (ap (at (number.Caller old.caller)) rec.seen
-      ∙ (push.1 ∙ ap (λ (l : List (ℕ × Noted)). l ++ (push.0, x) ∷ []) rec.alone)))
+      let push = own_push old.caller rec.past x refl in (
+        (push.0, x),
+        ap (λ (c : ℕ). own c new.sight) same.caller ∙ (ap (at (number.Caller old.caller)) rec.seen
+            ∙ (push.1 ∙ ap (λ (l : List (ℕ × Noted)). l ++ (push.0, x) ∷ []) rec.alone)),
+      )
 
   pub own_sight : new.sight ≡ old.sight → own new.caller new.sight ≡ own old.caller old.sight
   own_sight sight = ap (λ (c : ℕ). own c new.sight) same.caller ∙ ap (own old.caller) sight

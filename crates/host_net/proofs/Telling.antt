@@ -68,10 +68,11 @@ module _ {T : Type 0} (asks : T → List Bound → Option Request) (after : T �
         ∙ (ap (λ (l : List Noted). own_replies (entries l) old.caller) rec.seen
         ∙ (own_reply old.caller rec.past x refl refl
         ∙ (ap (λ (l : List Reply). l ++ rec.step.outcome.reply ∷ []) (own_stays old.caller old.sight.seen rec.past rec.alone)
-        ∙ ap (λ (y : Reply). own_replies (entries old.sight.seen) old.caller ++ y ∷ []) (sym rec.reply)))) in
-        (follow goes.0 r,
+        ∙ ap (λ (y : Reply). own_replies (entries old.sight.seen) old.caller ++ y ∷ []) (sym rec.reply)))) in (
+          follow goes.0 r,
           subst (λ (l : List Bound). Stands s.host l (after t r) (follow goes.0 r)) (sym is.names) stands,
-          subst (λ (rs : List Reply). Continues s rs (follow goes.0 r)) (sym replies) (continues_on s (own_replies (entries old.sight.seen) old.caller) goes.0 r goes.2))
+          subst (λ (rs : List Reply). Continues s rs (follow goes.0 r)) (sym replies) (continues_on s (own_replies (entries old.sight.seen) old.caller) goes.0 r goes.2),
+        )
 
     -- the entry, and what isn't ready
     pub asked_played : (answer : Turn) → Asked w s.host q old answer new → IsPlayed w old → IsPlayed w new

@@ -103,9 +103,10 @@ impl<J: Naming + Placing, T: Task + Drop> Players<J, T> {
         ensures ok { OnOk result (self.new ≡ dealt self.old player) }
         ensures err { OnErr result (self.new ≡ self.old) }
     {
-        let place = self.callers % self.groups.len();
+        let caller = player.guest().caller() as usize;
+        let place = caller % self.groups.len();
         self.groups[place].add(player)?;
-        self.callers += 1;
+        self.callers = caller + 1;
         Ok(())
     }
 
@@ -199,7 +200,8 @@ impl<J: Naming + Placing> Net<J, WorldActor<J>> {
         gate: &G,
         groups: &mut [Group<J, T>],
     )
-        where J: Send + Sync
+    where
+        J: Send + Sync,
         ensures many { length groups.new ≡ length groups.old }
         ensures seats { (i : ℕ) (d : _) → i < length groups.old
             → seats (slice_index_or groups.new i d) ≡ seats (slice_index_or groups.old i d) }
