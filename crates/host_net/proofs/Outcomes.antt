@@ -58,13 +58,12 @@ module _ {T : Type 0} (Stands : ℕ → List Bound → T → Play → Type 0) (w
       }
     where
       goes_on : (s : Script) → GoesOn Stands s old t → GoesOn Stands s new t
-      goes_on s on =
-          (
-            on.0,
-            subst (λ (l : List Bound). Stands s.host l t on.0) (sym names) on.1,
-            subst (λ (rs : List Reply). Continues s rs on.0)
-                (sym (ap (own_replies (entries new.sight.seen)) caller ∙ same_replies old.caller old.sight.seen new.sight.seen stays.alone)) on.2,
-          )
+      goes_on s on = (
+        on.0,
+        subst (λ (l : List Bound). Stands s.host l t on.0) (sym names) on.1,
+        subst (λ (rs : List Reply). Continues s rs on.0)
+            (sym (ap (own_replies (entries new.sight.seen)) caller ∙ same_replies old.caller old.sight.seen new.sight.seen stays.alone)) on.2,
+      )
 
   -- the clock's player has no task
   pub clock_player : (old new : Visit) (who : Role) (t : T) (lost : Bool) → IsPlayer Stands w old who t lost → new.caller ≡ old.caller

@@ -140,72 +140,71 @@ module _ {T : Type 0} (w : World) (r : Roster) (over : Overs w r) (there : There
   -- `had` is the clock's guest after the others, and `had_now` as it was left
   module _ (had had_now : Visit) (is_had : had ≡ had_now) (answer : Advance) (with : Visit) (with_clock : with ≡ with_sight clock q1)
       (stay : OthersStay w r (clock.caller ∷ callers_of left) q1 had_now.sight) (advances : Advances w r (visits left) with answer had_now)
-      where
-    stay_here : OthersStay w r (clock.caller ∷ callers_of left) q1 had.sight
-    stay_here = subst (λ (v : Visit). OthersStay w r (clock.caller ∷ callers_of left) q1 v.sight) (sym is_had) stay
+    where
+      stay_here : OthersStay w r (clock.caller ∷ callers_of left) q1 had.sight
+      stay_here = subst (λ (v : Visit). OthersStay w r (clock.caller ∷ callers_of left) q1 v.sight) (sym is_had) stay
 
-    had_caller : had.caller ≡ clock.caller
-    had_caller = ap (λ (v : Visit). v.caller) is_had ∙ (advances.caller_is ∙ ap (λ (v : Visit). v.caller) with_clock)
+      had_caller : had.caller ≡ clock.caller
+      had_caller = ap (λ (v : Visit). v.caller) is_had ∙ (advances.caller_is ∙ ap (λ (v : Visit). v.caller) with_clock)
 
-    pub still_with : IsWith w r me had.sight
-    still_with = still w r over there here me clock.caller (callers_of left) apart_here mine clock.sight p1 q1 h had.sight stay_here
+      pub still_with : IsWith w r me had.sight
+      still_with = still w r over there here me clock.caller (callers_of left) apart_here mine clock.sight p1 q1 h had.sight stay_here
 
-    module _ (p2 s2 : Sight) (b : HandsOver r me.caller had.sight p1 s2 p2) where
-      pub me_back : IsWith w r me p2
-      me_back = returned w r over there here me clock.caller (callers_of left) apart_here mine clock.sight p1 q1 h had.sight stay_here p2 s2 b
+      module _ (p2 s2 : Sight) (b : HandsOver r me.caller had.sight p1 s2 p2) where
+        pub me_back : IsWith w r me p2
+        me_back = returned w r over there here me clock.caller (callers_of left) apart_here mine clock.sight p1 q1 h had.sight stay_here p2 s2 b
 
-      -- the first player's guest
-      pub me_visits : (ds : List Duty) (host : ℕ) → IsVisit w r had.caller had.now had.sight ds host
-          → (home : ℕ)
-          → ((s : Script) → caller_of w me.caller ≡ IsScript s → s.host ≡ home) → IsVisit w r me.caller had.now p2 me.owed home
-      me_visits ds host is home at_home =
-          record {
-            guest = me_back.guest;
-            here = is.here ∙ sym (returned_moment w r over there here me clock.caller (callers_of left) apart_here mine clock.sight p1 q1 h had.sight stay_here p2 s2 b);
-            early = is.early;
-            home = at_home;
-          }
+        -- the first player's guest
+        pub me_visits : (ds : List Duty) (host : ℕ) → IsVisit w r had.caller had.now had.sight ds host
+            → (home : ℕ)
+            → ((s : Script) → caller_of w me.caller ≡ IsScript s → s.host ≡ home) → IsVisit w r me.caller had.now p2 me.owed home
+        me_visits ds host is home at_home =
+            record {
+              guest = me_back.guest;
+              here = is.here ∙ sym (returned_moment w r over there here me clock.caller (callers_of left) apart_here mine clock.sight p1 q1 h had.sight stay_here p2 s2 b);
+              early = is.early;
+              home = at_home;
+            }
 
-      -- the clock's guest
-      pub clock_visits : (ds : List Duty) (host : ℕ) → IsVisit w r had.caller had.now had.sight ds host → IsVisit w r had.caller had.now s2 ds host
-      clock_visits ds host is =
-          record {
-            guest = subst (λ (c : ℕ). IsGuest w r c s2 ds) (sym had_caller)
-                (clock_guest_after w r over there here me clock.caller (callers_of left) apart_here mine clock.sight p1 q1 h had.sight stay_here p2 s2 b ds
-                (subst (λ (c : ℕ). IsGuest w r c had.sight ds) had_caller is.guest));
-            here = is.here ∙ sym (clock_moment_after w r over there here me clock.caller (callers_of left) apart_here mine clock.sight p1 q1 h had.sight stay_here p2 s2 b);
-            early = is.early;
-            home = is.home;
-          }
+        -- the clock's guest
+        pub clock_visits : (ds : List Duty) (host : ℕ) → IsVisit w r had.caller had.now had.sight ds host → IsVisit w r had.caller had.now s2 ds host
+        clock_visits ds host is =
+            record {
+              guest = subst (λ (c : ℕ). IsGuest w r c s2 ds) (sym had_caller)
+                  (clock_guest_after w r over there here me clock.caller (callers_of left) apart_here mine clock.sight p1 q1 h had.sight stay_here p2 s2 b ds
+                  (subst (λ (c : ℕ). IsGuest w r c had.sight ds) had_caller is.guest));
+              here = is.here ∙ sym (clock_moment_after w r over there here me clock.caller (callers_of left) apart_here mine clock.sight p1 q1 h had.sight stay_here p2 s2 b);
+              early = is.early;
+              home = is.home;
+            }
 
-      pub others_stay_here : OthersStay w r (now_clock.caller ∷ callers_of (ps ++ other_players gs)) now_clock.sight s2
-      others_stay_here =
-          subst (λ (l : List (Playing T)). OthersStay w r (now_clock.caller ∷ callers_of l) now_clock.sight s2) (sym lists)
-          (subst (λ (v : Visit). OthersStay w r (v.caller ∷ me.caller ∷ callers_of left) v.sight s2) is_clock
-          (all_stay w r over there here me clock.caller (callers_of left) apart_here mine clock.sight p1 q1 h had.sight stay_here p2 s2 b))
+        pub others_stay_here : OthersStay w r (now_clock.caller ∷ callers_of (ps ++ other_players gs)) now_clock.sight s2
+        others_stay_here =
+            subst (λ (l : List (Playing T)). OthersStay w r (now_clock.caller ∷ callers_of l) now_clock.sight s2) (sym lists)
+            (subst (λ (v : Visit). OthersStay w r (v.caller ∷ me.caller ∷ callers_of left) v.sight s2) is_clock
+            (all_stay w r over there here me clock.caller (callers_of left) apart_here mine clock.sight p1 q1 h had.sight stay_here p2 s2 b))
 
-      pub advances_here : Advances w r (visits (ps ++ other_players gs)) now_clock answer (with_sight had s2)
-      advances_here =
-          subst (λ (l : List (Playing T)). Advances w r (visits l) now_clock answer (with_sight had s2)) (sym lists)
-          (subst (λ (v : Visit). Advances w r (me ∷ visits left) v answer (with_sight had s2)) is_clock
-          (advances_on w r me (visits left) clock (with_sight clock q1) answer had (with_sight had s2)
-          (had_still w r over there here me clock.caller (callers_of left) apart_here mine clock.sight p1 q1 h)
-          (lent_one w r over there here me clock.caller (callers_of left) apart_here mine clock.sight p1 q1 h) refl refl refl refl b.left_seen
-          (subst (λ (v : Visit). Advances w r (visits left) (with_sight clock q1) answer v) (sym is_had)
-          (subst (λ (v : Visit). Advances w r (visits left) v answer had_now) with_clock advances))))
+        pub advances_here : Advances w r (visits (ps ++ other_players gs)) now_clock answer (with_sight had s2)
+        advances_here =
+            subst (λ (l : List (Playing T)). Advances w r (visits l) now_clock answer (with_sight had s2)) (sym lists)
+            (subst (λ (v : Visit). Advances w r (me ∷ visits left) v answer (with_sight had s2)) is_clock
+            (advances_on w r me (visits left) clock (with_sight clock q1) answer had (with_sight had s2)
+            (had_still w r over there here me clock.caller (callers_of left) apart_here mine clock.sight p1 q1 h)
+            (lent_one w r over there here me clock.caller (callers_of left) apart_here mine clock.sight p1 q1 h) refl refl refl refl b.left_seen
+            (subst (λ (v : Visit). Advances w r (visits left) (with_sight clock q1) answer v) (sym is_had)
+            (subst (λ (v : Visit). Advances w r (visits left) v answer had_now) with_clock advances))))
 
-      pub are_back : (now : ℕ) (new : List (Playing T)) → AreBack w now others new → had.now ≡ now
-          → AreBack w now ps (player (record { caller = me.caller; now = had.now; sight = p2; owed = me.owed; names = me.names }) who task lost ∷ new)
-      are_back now new rest is =
-          subst (λ (l : List (Playing T)). AreBack w now l (player (record { caller = me.caller; now = had.now; sight = p2; owed = me.owed; names = me.names }) who task lost ∷ new))
-          (sym (parts ∙ ap (λ (x : Playing T). x ∷ others) (sym is_one)))
-          (
-            (
-              record { caller_is = refl; owed_is = refl; names_are = refl; role_is = refl; task_is = refl; lost_is = refl; stays = me_back.stays },
-              is,
-            ),
-            rest,
-          )
+        pub are_back : (now : ℕ) (new : List (Playing T)) → AreBack w now others new → had.now ≡ now
+            → AreBack w now ps (player (record { caller = me.caller; now = had.now; sight = p2; owed = me.owed; names = me.names }) who task lost ∷ new)
+        are_back now new rest is =
+            subst (λ (l : List (Playing T)). AreBack w now l (player (record { caller = me.caller; now = had.now; sight = p2; owed = me.owed; names = me.names }) who task lost ∷ new))
+            (sym (parts ∙ ap (λ (x : Playing T). x ∷ others) (sym is_one))) (
+              (
+                record { caller_is = refl; owed_is = refl; names_are = refl; role_is = refl; task_is = refl; lost_is = refl; stays = me_back.stays },
+                is,
+              ),
+              rest,
+            )
 
 -- the players of the first group, which are next
 pub group_lists : {T : Type 0} (ps : List (Playing T)) (gs : List (Grouped T)) (g : Grouped T) (rest : List (Grouped T)) (xs : List (Playing T))

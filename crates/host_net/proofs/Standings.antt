@@ -164,11 +164,13 @@ module _ {T : Type 0} where
   -- the clock is none of the others, and no two of these are one caller
   pub clock_apart : (w : World) (k : ℕ) (gs : List (Grouped T)) → caller_of w k ≡ IsClock → ((s : Seats) → In s (all_seats gs) → IsSeated w s)
       → Apart (all_callers (all_seats gs)) → Apart (k ∷ callers_of (other_players gs))
-  clock_apart w k gs clock seated apart =
-      (all_not k (callers_of (other_players gs)) (λ d there.
-      let found = of_callers d (other_players gs) there in
-      apart_test k d (λ (e : k ≡ d).
-      others_seated w gs seated found.0 found.1 (ap (caller_of w) (found.2 ∙ sym e) ∙ clock))), others_apart gs apart)
+  clock_apart w k gs clock seated apart = (
+    all_not k (callers_of (other_players gs)) (λ d there.
+        let found = of_callers d (other_players gs) there in
+        apart_test k d (λ (e : k ≡ d).
+        others_seated w gs seated found.0 found.1 (ap (caller_of w) (found.2 ∙ sym e) ∙ clock))),
+    others_apart gs apart,
+  )
 
   -- at first each is with its own guest, and the clock's with the clock's pass
   pub lent_first : (w : World) (r : Roster) (gs : List (Grouped T)) (left : List (Playing T)) (p : Playing T) (ss : List Standing)

@@ -151,9 +151,10 @@ module _ {T : Type 0} where
 
   no_clocks : (k : ℕ) (gs : List (Grouped T)) → Clocks k gs → NotIn k (all_callers (all_seats gs)) → NoClocks gs
   no_clocks k [] are none = tt
-  no_clocks k (g ∷ gs) are none =
-      (not_clock k g.players g.clock are.0 (not_front k (callers_in (seats g)) (all_callers (all_seats gs)) none),
-      no_clocks k gs are.1 (not_back k (callers_in (seats g)) (all_callers (all_seats gs)) none))
+  no_clocks k (g ∷ gs) are none = (
+    not_clock k g.players g.clock are.0 (not_front k (callers_in (seats g)) (all_callers (all_seats gs)) none),
+    no_clocks k gs are.1 (not_back k (callers_in (seats g)) (all_callers (all_seats gs)) none),
+  )
 
   -- the clock's caller is one of its group
   seat_of : (k : ℕ) (g : Grouped T) (p : Playing T) → g.clock ≡ Some p → caller p ≡ k → In k (callers_in (seats g))
@@ -191,12 +192,15 @@ module _ {T : Type 0} where
     pub none_left : (gs : List (Grouped T)) (place : ℕ) → slice_get gs place ≡ Some g → Clocks k gs
         → Apart (all_callers (all_seats gs)) → NoClocks (slice_set gs place (emptied g))
     none_left [] place there are apart = absurd (none-some g there)
-    none_left (x ∷ gs) zero there are apart =
-        (refl, no_clocks k gs are.1 (apart_between k (callers_in (seats x)) (all_callers (all_seats gs)) apart
-        (seat_of k x p (ap (λ (y : Grouped T). y.clock) (same_Some x g there) ∙ is) at_k)))
-    none_left (x ∷ gs) (suc place) there are apart =
-        (none_before k x gs are.0 (seat_there k gs place g p there is at_k) apart,
-        none_left gs place there are.1 (apart_back (callers_in (seats x)) (all_callers (all_seats gs)) apart))
+    none_left (x ∷ gs) zero there are apart = (
+      refl,
+      no_clocks k gs are.1 (apart_between k (callers_in (seats x)) (all_callers (all_seats gs)) apart
+          (seat_of k x p (ap (λ (y : Grouped T). y.clock) (same_Some x g there) ∙ is) at_k)),
+    )
+    none_left (x ∷ gs) (suc place) there are apart = (
+      none_before k x gs are.0 (seat_there k gs place g p there is at_k) apart,
+      none_left gs place there are.1 (apart_back (callers_in (seats x)) (all_callers (all_seats gs)) apart),
+    )
 
   -- the other players are as they were
   pub others_stay : (gs : List (Grouped T)) (place : ℕ) (g : Grouped T) → slice_get gs place ≡ Some g
@@ -322,22 +326,24 @@ module _ {T : Type 0} where
       → GroupsAreKept w gs (slice_set ks n (filled k q))
   filled_kept w now [] ks n g k p q there is at clock back = absurd (none-some g there)
   filled_kept w now (x ∷ gs) [] n g k p q there is at clock back = absurd (none-some k at)
-  filled_kept w now (x ∷ gs) (y ∷ ks) zero g k p q there is at clock back =
-      (record {
-        players = subst (λ (z : Grouped T). AreKept w z.players k.players) (sym (same_Some x g there))
-            (subst (λ (z : Grouped T). AreKept w g.players z.players) (same_Some y k at) (kept_of w now g.players y.players back.0.players));
-        clock_stays = subst (λ (c : Option (Playing T)). ClockStays c (Some q)) (sym (ap (λ (z : Grouped T). z.clock) (same_Some x g there) ∙ is)) clock;
-        memory_is = ap (λ (z : Grouped T). z.memory) (sym (same_Some y k at)) ∙ (back.0.memory_is ∙ ap (λ (z : Grouped T). z.memory) (sym (same_Some x g there)));
-      },
-      groups_kept w now gs ks back.1)
+  filled_kept w now (x ∷ gs) (y ∷ ks) zero g k p q there is at clock back = (
+    record {
+      players = subst (λ (z : Grouped T). AreKept w z.players k.players) (sym (same_Some x g there))
+          (subst (λ (z : Grouped T). AreKept w g.players z.players) (same_Some y k at) (kept_of w now g.players y.players back.0.players));
+      clock_stays = subst (λ (c : Option (Playing T)). ClockStays c (Some q)) (sym (ap (λ (z : Grouped T). z.clock) (same_Some x g there) ∙ is)) clock;
+      memory_is = ap (λ (z : Grouped T). z.memory) (sym (same_Some y k at)) ∙ (back.0.memory_is ∙ ap (λ (z : Grouped T). z.memory) (sym (same_Some x g there)));
+    },
+    groups_kept w now gs ks back.1,
+  )
   filled_kept w now (x ∷ gs) (y ∷ ks) (suc n) g k p q there is at clock back =
       (group_kept w now x y back.0, filled_kept w now gs ks n g k p q there is at clock back.1)
 
   players_itself : (w : World) (ps : List (Playing T)) → AreKept w ps ps
   players_itself w [] = tt
-  players_itself w (p ∷ ps) =
-      (record { caller_is = refl; owed_is = refl; names_are = refl; role_is = refl; task_is = refl; lost_is = refl; stays = stays_itself w p.visit },
-      players_itself w ps)
+  players_itself w (p ∷ ps) = (
+    record { caller_is = refl; owed_is = refl; names_are = refl; role_is = refl; task_is = refl; lost_is = refl; stays = stays_itself w p.visit },
+    players_itself w ps,
+  )
 
   -- nothing was done
   pub kept_itself : (w : World) (gs : List (Grouped T)) → GroupsAreKept w gs gs

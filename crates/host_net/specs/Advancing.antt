@@ -86,7 +86,8 @@ Advanced w old advance.Memory new = Unit {0}
 
 -- The numbers of all callers were with the pass of the clock's guest, which decided.
 --     at, to      the guest as it was then, and as it was when it had decided
-pub record Advances (w : World) (r : Roster) (left : List Visit) (old : Visit) (answer : Advance) (new : Visit) : Type 0 where
+pub record Advances (w : World) (r : Roster) (left : List Visit) (old : Visit) (answer : Advance) (new : Visit)
+    : Type 0 where
   pub at : Visit
   pub to : Visit
   pub gathers : Gathers w r old.sight left at.sight

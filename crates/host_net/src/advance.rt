@@ -143,7 +143,9 @@ fn hand_over<J: Naming>(journal: &Journal<J>, from: &mut Pass<J>, to: &mut Pass<
 }
 
 impl<J: Naming + Placing> Net<J, WorldActor<J>> {
-    /// The clock moves to the next moment, where all is calm and some script isn't through.
+    /// The clock moves to the next moment, in ms, where no caller can go on and some script isn't through, and then that is
+    /// the moment of each player. Else it tells why it didn't. A player whose last reply was lost for want of memory can't
+    /// tell what comes next: then this finds no memory either. It records nothing but the move.
     pub fn advance<R: Wait, G: Gate, T: Task + Drop>(
         &self,
         rt: &R,
@@ -206,7 +208,9 @@ impl<J: Naming + Placing> Net<J, WorldActor<J>> {
         answer
     }
 
-    // The numbers of these players, and of those in the groups, go to the clock's guest, and back when it has decided.
+    // The numbers of these players, and of those in the groups, go to the clock's guest, and back when it has decided. Each
+    // player keeps its number in its pass, so that none may be left without it between two calls: one is opened, and the
+    // others are seen to before it closes. That is at most 37 calls deep.
     fn with_all<'a, R: Wait, G: Gate, T: Task + Drop>(
         &self,
         rt: &R,
@@ -222,10 +226,13 @@ impl<J: Naming + Placing> Net<J, WorldActor<J>> {
         requires is { IsWorld world.now }
         requires clock { caller_of J.world clock.old.caller ≡ IsClock }
         requires apart { Apart (clock.old.caller ∷ callers_of (players.old ++ other_players groups.old)) }
-        requires lent { AreLent J.world J.run.roster (visits (players.old ++ other_players groups.old)) clock.old.sight standings.now }
-        ensures others { (v : Visit) → NotIn v.caller (clock.old.caller ∷ callers_of (players.old ++ other_players groups.old))
+        requires lent { AreLent J.world J.run.roster (visits (players.old ++ other_players groups.old))
+            clock.old.sight standings.now }
+        ensures others { (v : Visit)
+            → NotIn v.caller (clock.old.caller ∷ callers_of (players.old ++ other_players groups.old))
             → IsWith J.world J.run.roster v clock.old.sight → IsWith J.world J.run.roster v clock.new.sight }
-        ensures clock { Advances J.world J.run.roster (visits (players.old ++ other_players groups.old)) clock.old result clock.new }
+        ensures clock { Advances J.world J.run.roster (visits (players.old ++ other_players groups.old))
+            clock.old result clock.new }
         ensures players { AreBack J.world clock.new.now players.old players.new }
         ensures groups { GroupsAreBack J.world clock.new.now groups.old groups.new }
     {

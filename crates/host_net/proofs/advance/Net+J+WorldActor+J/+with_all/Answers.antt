@@ -47,9 +47,22 @@ with_all-answer-requires g t c κs within =
     next_lent w r (law.over w r) (law.there w r) (law.here w r) c.first-inside.inside.0.1.0 c.first-inside.inside.0.1.1.0 c.first-inside.inside.0.1.1.1.0 mine old
     c.args.clock.now c.in-Some.first.now c.in-Some.others.now c.args.players.now c.args.groups.now one c.in-Some.ensures.cases.0 c.clock.view_is c.args.standings.now
     c.requires.apart c.requires.lent c.first-inside.invariant.guest c.hand_over.new.from c.hand_over.new.to c.hand_over.ensures in
-    let less : length c.in-Some.others.now + players_left c.args.groups.now < t = omega (arith, c.in-Some.ensures.cases.1, c.decreases) in
-    (less, (within.0, (within.1.0, (within.1.1.0, (within.1.1.1,
-    (c.requires.world, (c.requires.is, (ap (λ (v : Visit). caller_of w v.caller) c.clock.view_is ∙ c.requires.clock, (apart, lent)))))))))
+    let less : length c.in-Some.others.now + players_left c.args.groups.now < t = omega (arith, c.in-Some.ensures.cases.1, c.decreases) in (
+      less,
+      (
+        within.0,
+        (
+          within.1.0,
+          (
+            within.1.1.0,
+            (
+              within.1.1.1,
+              (c.requires.world, (c.requires.is, (ap (λ (v : Visit). caller_of w v.caller) c.clock.view_is ∙ c.requires.clock, (apart, lent)))),
+            ),
+          ),
+        ),
+      ),
+    )
 
 pub hand_over-requires-in-Some : goal.hand_over-requires-in-Some
 hand_over-requires-in-Some g t c =
