@@ -27,3 +27,4 @@ pub mod Telling
 pub mod Seating
 pub mod Naming
 pub mod Halting
+pub mod Joining
