@@ -2,5 +2,9 @@ pub mod Visits
 pub mod Rosters
 pub mod Facts
 pub mod Worked
+pub mod Playing
+pub mod Groups
+pub mod Deciding
+pub mod Advancing
 pub use Rattle.guest_laws.specs.Guests
 pub use Rattle.script_task.specs.Requests
