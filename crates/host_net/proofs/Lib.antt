@@ -10,3 +10,4 @@ pub mod Keeping
 pub mod Telling
 pub mod Seating
 pub mod Naming
+pub mod Joining
