@@ -1,4 +1,4 @@
-use Rattle.std.proofs.Common.{◌≡◌, ◌≤◌, length, arith, ◌∙◌}
+use Rattle.std.proofs.Common.{◌≡◌, ◌≤◌, length, slice_index_or, arith, ◌∙◌}
 use Rattle.host_net.proofs.Keeping.{waits_from}
 use Rattle.host_net.proofs.Seating.{all_waiting, same_callers, waiting_more}
 use Rattle.host_net.proofs.players.Net+J+WorldActor+J.play_each.Goals as goal
@@ -9,7 +9,7 @@ loop-i-preserved g c = (
   λ waits.
       let both = c.both-turns.ensures.waits waits in
       waiting_more g.J.Placing.world c.loop-i.players c.loop-i.i c.play.new.player (omega (arith, c.loop-i-test.true)) (c.loop-i.invariant.1 both.0)
-      (waits_from g.J.Placing.world _ c.play.new.player c.play.result c.play.ensures.turn both.1),
+      (waits_from g.J.Placing.world (slice_index_or c.loop-i.players c.loop-i.i c.index-players-i.result) c.play.new.player c.play.result c.play.ensures.turn both.1),
 )
 
 pub returns-clause-rest : goal.returns-clause-rest
