@@ -1,8 +1,5 @@
 -- How the parts of a call make its end.
 use Rattle.std.proofs.Common.{◌≡◌, ◌≢◌, ◌&&◌, [], ◌∷◌, ℕ, ◌+◌, ◌<◌, ◌≤◌, ◌⊎◌, Bool, true, false, nat_lt, List, ◌++◌, length, Option, Some, None, Result, Err, Ok, if◌then◌else◌, refl, sym, ◌∙◌, ap, subst, inr, rules, arith}
-use Rattle.std.specs.Prelude.{bytes_eq, codes}
-use Rattle.std.specs.Option.{option_map}
-use Rattle.std.proofs.lemmas.Bool.{false≢true}
 use Rattle.std.proofs.lemmas.Bool.Decides.{nat_tests}
 use Rattle.std.proofs.lemmas.List.{length-append}
 use Rattle.std.specs.Io.KnownBytes.{Consumes}
@@ -10,8 +7,7 @@ use Rattle.outside.specs.Streams.{ConsumedToEnd, Rose}
 use Rattle.outside.specs.declared.fault.TakeError.{TakeError}
 use Rattle.outside.specs.declared.fault.TakeError.TheVariants as error
 use Rattle.net_model.specs.Answers.{Answer, bad_input, read_fault, input_limit}
-use Rattle.net_base.specs.Addresses.{number_in}
-use Rattle.net_model.specs.Words.{Command, Cs, Query, Run, Make, is_word, messages_in, command_of, words_wait, reads}
+use Rattle.net_model.specs.Words.{Command, reads}
 use Rattle.net_base.specs.declared.world.World.{World}
 use Rattle.made_world.specs.Made.{made_world}
 use Rattle.world_writer.specs.Written.{file_text}
@@ -91,28 +87,3 @@ pub ends_unread : (asked : Command) (text : List ℕ) (result : ℕ) (intake : I
 ends_unread asked text result intake output has rose same_text told =
     let by_text : List ℕ → Type 0 = λ t. Told (record { status = 6; text = t }) result output
     in unread asked refl has rose (subst by_text same_text told)
-
--- the words that wait are those of a run on one worker
-pub waits_run : (words : List (List ℕ)) → words_wait (command_of words) ≡ true → command_of words ≡ Some (Run 1)
-waits_run [] waits = absurd (false≢true waits)
-waits_run (name ∷ []) waits = absurd (false≢true waits)
-waits_run (name ∷ number ∷ []) waits = by (bytes_eq name (codes "run") && bytes_eq number (codes "1")) (bytes_eq name (codes "make")) (messages_in number) waits
-  where
-    by : (b c : Bool) (n : Option ℕ) → words_wait (if b then Some (Run 1) else (if c then option_map Make n else None)) ≡ true → (if b then Some (Run 1) else (if c then option_map Make n else None)) ≡ Some (Run 1)
-    by true c n waits = refl
-    by false true (Some n) waits = absurd (false≢true waits)
-    by false true None waits = absurd (false≢true waits)
-    by false false n waits = absurd (false≢true waits)
-waits_run (name ∷ sys ∷ query ∷ []) waits = absurd (by (is_word sys && is_word query) (bytes_eq name (codes "cs")) (bytes_eq name (codes "query")) waits)
-  where
-    by : (b c d : Bool) → words_wait (if b then (if c then Some (Cs sys query) else (if d then Some (Query sys query None) else None)) else None) ≡ true → ⊥
-    by true true d waits = false≢true waits
-    by true false true waits = false≢true waits
-    by true false false waits = false≢true waits
-    by false c d waits = false≢true waits
-waits_run (name ∷ attr ∷ value ∷ other ∷ []) waits = absurd (by (bytes_eq name (codes "query") && is_word attr && is_word value && is_word other) waits)
-  where
-    by : (b : Bool) → words_wait (if b then Some (Query attr value (Some other)) else None) ≡ true → ⊥
-    by true waits = false≢true waits
-    by false waits = false≢true waits
-waits_run (name ∷ attr ∷ value ∷ other ∷ more ∷ words) waits = absurd (false≢true waits)
