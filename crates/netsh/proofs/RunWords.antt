@@ -1,5 +1,5 @@
 -- The words of a run.
-use Rattle.std.proofs.Common.{◌≡◌, ◌&&◌, [], ◌∷◌, ℕ, ◌<◌, ◌≤◌, Bool, true, false, nat_le, List, Option, Some, None, if◌then◌else◌, arith}
+use Rattle.std.proofs.Common.{◌≡◌, ◌&&◌, [], ◌∷◌, ℕ, ◌<◌, ◌≤◌, Bool, true, false, nat_le, List, Option, Some, None, if◌then◌else◌, refl, arith}
 use Rattle.std.specs.Prelude.{bytes_eq, codes}
 use Rattle.std.specs.Option.{option_and_then, option_map}
 use Rattle.std.proofs.lemmas.Bool.Decides.{nat_tests}

@@ -1,5 +1,5 @@
 //! The top call: words and an input in, a status and a text out.
-ghost use Rattle.std.specs.Prelude.{◌≡◌, ◌≢◌, ◌<◌, ◌≤◌, ◌↔◌, ℕ, map, string_bytes, length, IsNone, IfNone, IfSome, IfOk, IsTrue, Some, None, false};
+ghost use Rattle.std.specs.Prelude.{◌≡◌, ◌≢◌, ◌<◌, ◌≤◌, ◌↔◌, ℕ, map, string_bytes, length, IsNone, IfNone, IfSome, IfOk, IsTrue, Some, None, Err, false};
 ghost use Rattle.net_model.specs.Words.{Command as AnyCommand, Run as AnyRun, command_of, words_wait};
 ghost use Rattle.netsh.specs.Ends.{Ends, Causes, Intake, IsAnswered, Told};
 ghost use Rattle.net_model.specs.Answers.{input_limit};
@@ -33,6 +33,18 @@ fn tell<K: Sink>(sink: &mut K, status: u8, text: &[u8]) -> u8
     }
 }
 
+/// Tells why there is no answer to a command and its input. One over the limit is answered as a bad one.
+fn tell_error<K: Sink>(sink: &mut K, error: TakeError) -> u8
+    ensures { (asked : AnyCommand) (intake : Intake) → IsAnswered asked intake (Err error) → Ends (Some asked) result intake
+        (record { held = K.held sink.old; holds = K.held sink.new; before = K.faults sink.old; after = K.faults sink.new }) }
+{
+    match error {
+        TakeError::TooLarge => tell(sink, 2, TOO_LONG.as_bytes()),
+        TakeError::Failed => tell(sink, 6, READ_FAULT.as_bytes()),
+        TakeError::Memory => 8,
+    }
+}
+
 /// Tells what became of a command and its input.
 fn tell_answer<K: Sink>(sink: &mut K, answered: Result<Answer, TakeError>) -> u8
     ensures { (asked : AnyCommand) (intake : Intake) → IsAnswered asked intake answered → Ends (Some asked) result intake
@@ -40,9 +52,7 @@ fn tell_answer<K: Sink>(sink: &mut K, answered: Result<Answer, TakeError>) -> u8
 {
     match answered {
         Ok(answer) => tell(sink, answer.status(), answer.text()),
-        Err(TakeError::TooLarge) => tell(sink, 2, TOO_LONG.as_bytes()),
-        Err(TakeError::Failed) => tell(sink, 6, READ_FAULT.as_bytes()),
-        Err(TakeError::Memory) => 8,
+        Err(error) => tell_error(sink, error),
     }
 }
 
