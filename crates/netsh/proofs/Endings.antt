@@ -1,5 +1,5 @@
 -- How the parts of a call make its end.
-use Rattle.std.proofs.Common.{◌≡◌, ◌≢◌, ◌&&◌, [], ◌∷◌, ℕ, ◌+◌, ◌<◌, ◌≤◌, ◌⊎◌, Bool, true, false, nat_lt, List, ◌++◌, length, Option, Some, None, Result, Err, Ok, if◌then◌else◌, refl, sym, ◌∙◌, ap, subst, inr, rules, arith}
+use Rattle.std.proofs.Common.{◌≡◌, ◌≢◌, ◌&&◌, ℕ, ◌+◌, ◌<◌, ◌≤◌, Bool, true, false, nat_lt, List, ◌++◌, length, Option, Some, None, Result, Err, if◌then◌else◌, refl, sym, ◌∙◌, ap, subst, inr, arith}
 use Rattle.std.proofs.lemmas.Bool.{true≢false}
 use Rattle.std.proofs.lemmas.Bool.Decides.{nat_tests}
 use Rattle.std.proofs.lemmas.List.{length-append}
@@ -19,7 +19,7 @@ use Rattle.netsh.specs.declared.command.Question.TheVariants as question
 use Rattle.netsh.specs.declared.top.Asked.TheVariants as asks
 use Rattle.netsh.specs.Built.{bad_line, first_bad, made, IsGiven}
 use Rattle.netsh.specs.Commands.{question_read}
-use Rattle.netsh.specs.Ends.{Intake, Output, Told, Took, TookSome, IsInput, IsRead, IsUnread, IsUnwritten, IsAnswered, Answers, Ends, answered, unread, no_memory}
+use Rattle.netsh.specs.Ends.{Intake, Output, Told, Took, TookSome, IsInput, IsRead, IsUnread, IsAnswered, Answers, Ends, answered, unread}
 
 -- an input over the limit is bad
 pub too_long_is_bad : (asked : Command) (input : List ℕ) → reads asked ≡ true → input_limit < length input → first_bad asked input ≡ Some (0, 9)

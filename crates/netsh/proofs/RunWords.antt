@@ -1,10 +1,10 @@
 -- The words of a run.
-use Rattle.std.proofs.Common.{◌≡◌, ◌&&◌, [], ◌∷◌, ℕ, ◌<◌, ◌≤◌, Bool, true, false, nat_le, List, Option, Some, None, if◌then◌else◌, refl, arith}
+use Rattle.std.proofs.Common.{◌≡◌, ◌&&◌, [], ◌∷◌, ℕ, ◌≤◌, Bool, true, false, nat_le, List, Option, Some, None, if◌then◌else◌, refl, arith}
 use Rattle.std.specs.Prelude.{bytes_eq, codes}
 use Rattle.std.specs.Option.{option_and_then, option_map}
 use Rattle.std.proofs.lemmas.Bool.Decides.{nat_tests}
 use Rattle.net_base.specs.Addresses.{is_padded, read_digits, within}
-use Rattle.net_model.specs.Words.{Command, Cs, Query, Run, Make, is_word, messages_in, workers_in, command_of}
+use Rattle.net_model.specs.Words.{Cs, Query, Run, Make, is_word, messages_in, workers_in, command_of}
 
 -- What a chain of tests gives.
 
