@@ -65,7 +65,8 @@ fn run_named<J: Naming + Placing + Send + Sync, R: Threads + Wait + Sync, G: Gat
     let (net, guests) = Net::<J, WorldActor<J>>::named(alloc, world, opened)?;
     let mut players = players_of(alloc, world, guests, workers)?;
     let end = phases(rt, alloc, world, gate, &net, &mut players)?;
-    let history = net.finish(alloc, players.into_guests(alloc)?)?;
+    let played = players.into_guests(alloc)?;
+    let history = net.finish(alloc, played)?;
     Ok(Run { history, end })
 }
 

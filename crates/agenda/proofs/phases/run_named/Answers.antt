@@ -3,13 +3,13 @@ use Rattle.agenda.proofs.phases.run_named.Goals as goal
 
 pub returns-clause-legal : goal.returns-clause-legal
 returns-clause-legal g c =
-    closed_legal g.J.Placing.world c.in_ok-into_guests.field-0.items c.in_ok-history.history c.in_ok-history.ensures c.in_ok-into_guests.ensures.plays
+    closed_legal g.J.Placing.world c.in_ok-played.played.items c.in_ok-history.history c.in_ok-history.ensures c.in_ok-played.ensures.plays
 
 pub returns-clause-timed : goal.returns-clause-timed
 returns-clause-timed g c =
-    closed_timed g.J.Placing.world c.in_ok-into_guests.field-0.items c.in_ok-history.history c.in_ok-history.ensures c.in_ok-into_guests.ensures.plays
+    closed_timed g.J.Placing.world c.in_ok-played.played.items c.in_ok-history.history c.in_ok-history.ensures c.in_ok-played.ensures.plays
 
 pub returns-clause-end : goal.returns-clause-end
 returns-clause-end g c =
     c.in_ok-end.ensures.ended c.in_ok-history.history
-    (closed_history g.J.Placing.world c.in_ok-into_guests.field-0.items c.in_ok-history.history c.in_ok-history.ensures c.in_ok-into_guests.ensures.plays _ c.in_ok-into_guests.ensures.same)
+    (closed_history g.J.Placing.world c.in_ok-played.played.items c.in_ok-history.history c.in_ok-history.ensures c.in_ok-played.ensures.plays _ c.in_ok-played.ensures.same)
