@@ -1,22 +1,19 @@
 -- What is concluded of the clock from how the callers stand.
-use Rattle.std.proofs.Common.{◌≡◌, ℕ, zero, suc, ◌+◌, ◌<◌, ◌≤◌, ◌==◌, ◌&&◌, ◌||◌, nat_lt, not, Bool, true, false, List, [], ◌∷◌, ◌++◌, length, Option, Some, None, if◌then◌else◌, refl, ap, sym, subst, ◌∙◌, arith, inl, inr}
-use Rattle.std.proofs.lemmas.Bool.{eq-eqb, eqb-false, eqb-true, false≢true, lt-ltb, le-ltb, ne_eqb, true≢false}
+use Rattle.std.proofs.Common.{◌≡◌, ℕ, ◌<◌, ◌≤◌, ◌&&◌, ◌||◌, nat_lt, Bool, true, false, List, [], ◌∷◌, length, Option, Some, None, if◌then◌else◌, refl, ap, sym, subst, ◌∙◌, arith, inl, inr}
+use Rattle.std.proofs.lemmas.Bool.{eq-eqb, false≢true, lt-ltb, le-ltb, true≢false}
 use Rattle.net_base.specs.declared.actor.ActorName.{ActorName}
 use Rattle.net_base.specs.declared.actor.ActorName.TheVariants as name
 use Rattle.net_base.specs.declared.event.Event.{Event}
 use Rattle.net_base.specs.declared.event.Event.TheVariants as event
-use Rattle.net_base.specs.declared.history.Entry.{Entry}
 use Rattle.net_base.specs.declared.noted.Noted.{Noted}
-use Rattle.net_base.specs.declared.noted.Number.TheVariants as number
 use Rattle.net_base.specs.declared.world.World.{World}
 use Rattle.net_base.specs.ActorStep.{Step}
 use Rattle.net_base.specs.Actors.{Actor, has_actor}
-use Rattle.net_base.specs.Callers.{IsClock, caller_count, caller_of, clock_number}
-use Rattle.net_base.specs.Calm.{awaited_moment, calm, can_go_on, done, least, limited, most_entries, movable, owes, stopped, target, unfinished}
+use Rattle.net_base.specs.Callers.{caller_count, clock_number}
+use Rattle.net_base.specs.Calm.{calm, can_go_on, done, least, limited, movable, owes, stopped, target, unfinished}
 use Rattle.net_base.specs.Duties.{Duty}
 use Rattle.net_base.specs.Legal.{IsInTime}
 use Rattle.net_base.specs.Net.{Net, moment_after, opening_net}
-use Rattle.net_base.specs.Next.{by}
 use Rattle.net_base.specs.Stamped.{In, same_actor}
 use Rattle.calm_laws.specs.Could.{could, is_full}
 use Rattle.journal.specs.declared.law.Roster.{Roster}
@@ -24,11 +21,10 @@ use Rattle.journal.specs.declared.tokens.Sight.{Sight}
 use Rattle.journal.specs.Rule.{Lawful}
 use Rattle.guest_laws.specs.Guests.{IsGuest, IsOfGuests}
 use Rattle.guest_laws.specs.Own.{AreTimely, AreTurns, IsTimelyIn, OwnFrom}
-use Rattle.guest_laws.specs.Works.{entries, moment_by, next_noted, noted_after, noted_from, noted_net, step_by}
+use Rattle.guest_laws.specs.Works.{moment_by, next_noted, noted_after, noted_from, noted_net, step_by}
 use Rattle.host_net.specs.declared.clock.Busy.{Busy}
 use Rattle.host_net.specs.declared.clock.Standing.{Standing}
-use Rattle.host_net.specs.Deciding.{AllStand, DoesAny, Finds, IsLeast, IsLeastOf, StandsAt, callers_of}
-use Rattle.host_net.specs.Visits.{own}
+use Rattle.host_net.specs.Deciding.{AllStand, DoesAny, Finds, IsLeast, IsLeastOf, callers_of}
 use Rattle.host_net.proofs.Found.{in_map, in_split, map_in}
 
 -- The history of guests.

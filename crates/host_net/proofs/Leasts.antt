@@ -1,22 +1,19 @@
 -- The least moment, and when conversations are due.
-use Rattle.std.proofs.Common.{◌≡◌, ℕ, zero, suc, ◌+◌, ◌<◌, ◌≤◌, ◌⊎◌, inl, inr, Bool, true, false, List, [], ◌∷◌, ◌++◌, length, map, min, drop, filter_map, flat_map, get_or, option_to_list, Option, Some, None, refl, ap, sym, subst, ◌∙◌, arith, append_assoc, append-nil}
-use Rattle.std.specs.List.{cons_option, range_with_len}
+use Rattle.std.proofs.Common.{◌≡◌, ℕ, ◌+◌, ◌<◌, ◌≤◌, ◌⊎◌, inl, inr, true, List, [], ◌∷◌, length, min, drop, get_or, option_to_list, Option, Some, None, refl, ap, sym, subst, ◌∙◌, arith}
+use Rattle.std.specs.List.{cons_option}
 use Rattle.std.specs.Option.{option_map}
 use Rattle.std.proofs.Math.Nat.{min_comm}
 use Rattle.std.proofs.lemmas.Bool.{cases_lt}
-use Rattle.std.proofs.lemmas.Grind.{flat_map-append}
-use Rattle.std.proofs.lemmas.List.{at_drop_more, drop_all, map-append}
-use Rattle.std.proofs.lemmas.List.Elements.{filter_map-append}
+use Rattle.std.proofs.lemmas.List.{at_drop_more, drop_all}
 use Rattle.net_base.specs.declared.actor.ActorName.{ActorName}
 use Rattle.net_base.specs.declared.actor.ActorName.TheVariants as name
 use Rattle.net_base.specs.declared.address.Proto.{Proto}
-use Rattle.net_base.specs.declared.address.Proto.TheVariants as proto
 use Rattle.net_base.specs.declared.history.Entry.{Entry}
 use Rattle.net_base.specs.declared.world.World.{World}
 use Rattle.net_base.specs.Actors.{Actor, has_actor}
 use Rattle.net_base.specs.Callers.{caller_count, caller_of}
 use Rattle.net_base.specs.Calm.{awaited_moment, least, target}
-use Rattle.net_base.specs.Duties.{conversations, due_of, generation_of, slots_of}
+use Rattle.net_base.specs.Duties.{conversations, due_of, generation_of}
 use Rattle.net_base.specs.Net.{Net}
 use Rattle.net_base.specs.Next.{next_of}
 use Rattle.net_base.specs.Stamped.{In}
@@ -27,7 +24,7 @@ use Rattle.duties.specs.declared.due.Due.{Due}
 use Rattle.duties.specs.Ticking.{due_at, dues_of}
 use Rattle.guest_laws.specs.Works.{entries, noted_net}
 use Rattle.host_net.specs.declared.clock.Standing.{Standing}
-use Rattle.host_net.specs.Deciding.{AllStand, StandsAt, ask_of, awaited_moments, awaited_of, due_moments}
+use Rattle.host_net.specs.Deciding.{AllStand, StandsAt, awaited_moments, awaited_of, due_moments}
 use Rattle.host_net.proofs.Found.{filter_map_in, in_filter_map, in_map, map_in}
 
 -- The least.

@@ -1,6 +1,5 @@
 -- What the clock's entry of a move leaves.
-use Rattle.std.proofs.Common.{◌≡◌, ℕ, zero, suc, ◌+◌, ◌<◌, ◌≤◌, ◌==◌, Bool, true, false, List, [], ◌∷◌, ◌++◌, length, drop, Option, Some, None, if◌then◌else◌, refl, ap, sym, subst, ◌∙◌, arith, append_assoc}
-use mathlib.Core.List.{IsPrefix}
+use Rattle.std.proofs.Common.{◌≡◌, ℕ, ◌+◌, ◌==◌, Bool, true, false, List, [], ◌∷◌, ◌++◌, drop, Option, Some, None, if◌then◌else◌, refl, ap, sym, subst, ◌∙◌, arith}
 use Rattle.std.proofs.lemmas.Bool.{false≢true, true≢false}
 use Rattle.std.proofs.lemmas.Bool.Decides.{nat_tests}
 use Rattle.net_base.specs.declared.actor.ActorName.{ActorName}
@@ -23,13 +22,13 @@ use Rattle.net_base.specs.Stamped.{at, at_from, matches, moment}
 use Rattle.journal.specs.declared.law.Roster.{Roster}
 use Rattle.journal.specs.declared.tokens.Sight.{Sight}
 use Rattle.journal.specs.Tokens.{HoldsAll}
-use Rattle.locked.specs.Acts.{made, without_copy}
+use Rattle.locked.specs.Acts.{made}
 use Rattle.duties.specs.declared.due.Due.{Due}
 use Rattle.duties.specs.Ticking.{MoveOwes, dues_of, ticks_of}
 use Rattle.guest_laws.specs.Guests.{HasRecorded, IsGuest, Records, StaysGuest}
 use Rattle.guest_laws.specs.Works.{entries, next_noted, noted_after, noted_net, step_by}
 use Rattle.host_net.specs.Deciding.{LeavesMoved, MayLeave, MovesTo}
-use Rattle.host_net.specs.Visits.{HasRoom, IsWith, Recorded, Stays, Visit, bare, own}
+use Rattle.host_net.specs.Visits.{HasRoom, IsWith, Visit, bare}
 use Rattle.host_net.proofs.Passes.{stays_on}
 
 -- moves owe their ticks

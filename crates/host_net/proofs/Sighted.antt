@@ -1,5 +1,5 @@
 -- Passes that hold the numbers of all callers, and how callers stand by them.
-use Rattle.std.proofs.Common.{◌≡◌, ℕ, zero, suc, ◌+◌, ◌-◌, ◌<◌, ◌==◌, ◌||◌, nat_lt, not, Bool, true, false, List, [], ◌∷◌, ◌++◌, length, Option, Some, None, is_some, slice_get, if◌then◌else◌, refl, ap, sym, subst, ◌∙◌, arith}
+use Rattle.std.proofs.Common.{◌≡◌, ℕ, suc, ◌+◌, ◌-◌, ◌==◌, ◌||◌, nat_lt, not, Bool, true, false, List, [], ◌∷◌, length, Option, Some, None, is_some, slice_get, if◌then◌else◌, refl, ap, sym, subst, ◌∙◌, arith}
 use Rattle.std.specs.Option.{option_map, option_map_or}
 use Rattle.std.proofs.lemmas.Bool.{eqb-true}
 use Rattle.std.proofs.lemmas.Bool.Decides.{nat_tests}
@@ -12,13 +12,12 @@ use Rattle.net_base.specs.declared.world.Script.{Script}
 use Rattle.net_base.specs.declared.world.World.{World}
 use Rattle.net_base.specs.ActorStep.{when}
 use Rattle.net_base.specs.Actors.{Actor, actor_step, has_actor, table_step}
-use Rattle.net_base.specs.Callers.{Caller, IsScript, IsCourier, IsClock, IsNobody, caller_of, clock_number, first_courier, other_caller}
+use Rattle.net_base.specs.Callers.{IsScript, IsCourier, IsClock, IsNobody, caller_of, clock_number, first_courier, other_caller}
 use Rattle.net_base.specs.Calm.{can_go_on, is_ready, owes}
 use Rattle.net_base.specs.Duties.{Duty}
 use Rattle.net_base.specs.Net.{Net}
-use Rattle.net_base.specs.Next.{by, next, next_of}
-use Rattle.net_base.specs.Stamped.{at, at_from}
-use Rattle.net_base.specs.Steps.{Ask}
+use Rattle.net_base.specs.Next.{by, next_of}
+use Rattle.net_base.specs.Stamped.{at_from}
 use Rattle.calm_laws.specs.Could.{could, is_full}
 use Rattle.journal.specs.declared.law.Roster.{Roster}
 use Rattle.journal.specs.declared.tokens.Sight.{Sight}
@@ -29,7 +28,7 @@ use Rattle.guest_laws.specs.Named.{answer_in, opening}
 use Rattle.guest_laws.specs.Works.{entries, noted_net}
 use Rattle.host_net.specs.declared.clock.Standing.{Standing}
 use Rattle.host_net.specs.Deciding.{AllStand, IsBare, StandsAt, ask_of}
-use Rattle.host_net.specs.Visits.{bare, own}
+use Rattle.host_net.specs.Visits.{bare}
 
 -- A look shows nothing more.
 

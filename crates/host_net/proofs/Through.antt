@@ -1,5 +1,5 @@
 -- Whether scripts are through, by what they record next.
-use Rattle.std.proofs.Common.{◌≡◌, ℕ, zero, suc, ◌+◌, ◌<◌, ◌≤◌, ◌&&◌, ◌||◌, ◌⊎◌, inl, inr, nat_lt, not, Bool, true, false, List, [], ◌∷◌, length, Option, Some, None, is_some, slice_get, refl, ap, sym, subst, ◌∙◌, arith}
+use Rattle.std.proofs.Common.{◌≡◌, ℕ, zero, suc, ◌+◌, ◌<◌, ◌&&◌, ◌||◌, inl, inr, nat_lt, Bool, true, false, List, [], ◌∷◌, length, Option, Some, None, is_some, slice_get, refl, ap, sym, subst, ◌∙◌, arith}
 use Rattle.std.specs.List.{enumerate_from, list_any}
 use Rattle.std.specs.Option.{option_map, option_map_or}
 use Rattle.std.proofs.lemmas.Bool.{false≢true, lt-ltb, ltb-true, true≢false}
@@ -14,9 +14,9 @@ use Rattle.net_base.specs.declared.world.World.{World}
 use Rattle.net_base.specs.Callers.{Caller, IsScript, caller_count, caller_of, other_caller}
 use Rattle.net_base.specs.Calm.{unfinished}
 use Rattle.net_base.specs.Net.{Net}
-use Rattle.net_base.specs.Next.{is_unfinished, next, next_of, standing}
+use Rattle.net_base.specs.Next.{is_unfinished, next_of}
 use Rattle.net_base.specs.Stamped.{In}
-use Rattle.net_base.specs.Steps.{Ask, Bound, Stand, Asking, Finished, Position, play_of, position, position_by, stands}
+use Rattle.net_base.specs.Steps.{Bound, Stand, Asking, Finished, play_of, position, position_by, stands}
 use Rattle.journal.specs.declared.law.Roster.{Roster}
 use Rattle.journal.specs.declared.tokens.Sight.{Sight}
 use Rattle.guest_laws.specs.Works.{entries, noted_net}

@@ -1,8 +1,7 @@
-use Rattle.std.proofs.Common.{◌≡◌, Option, None, Some, sym, subst, ◌∙◌}
+use Rattle.std.proofs.Common.{◌≡◌, sym, subst, ◌∙◌}
 use Rattle.net_base.specs.declared.actor.ActorName.TheVariants as name
 use Rattle.journal.specs.declared.tokens.Sight.{Sight}
 use Rattle.journal.specs.Tokens.{HoldsAll}
-use Rattle.duties.specs.declared.due.Due.{Due}
 use Rattle.duties.specs.Ticking.{due_at}
 use Rattle.guest_laws.specs.Works.{noted_net}
 use Rattle.host_net.proofs.Slots.{slot_due, slot_free}

@@ -1,10 +1,10 @@
-use Rattle.std.proofs.Common.{◌≡◌, ℕ, ◌+◌, Bool, false, List, ◌∷◌, ◌++◌, take, refl, ap, sym, subst, ◌∙◌, arith}
+use Rattle.std.proofs.Common.{◌≡◌, ℕ, false, List, take, ap, sym, subst, ◌∙◌}
 use Rattle.journal.specs.declared.tokens.Sight.{Sight}
 use Rattle.journal.specs.Tokens.{HoldsAll}
 use Rattle.calm_laws.specs.Could.{could, is_full}
 use Rattle.guest_laws.specs.Works.{noted_net}
 use Rattle.host_net.specs.Deciding.{Finds, StandsAt, callers_of}
-use Rattle.host_net.proofs.Found.{callers_all, callers_more, finds_less, in_at}
+use Rattle.host_net.proofs.Found.{callers_more, finds_less, in_at}
 use Rattle.host_net.proofs.Sighted.{full_so}
 use Rattle.host_net.proofs.clock.Net+J+WorldActor+J.busy.Goals as goal
 

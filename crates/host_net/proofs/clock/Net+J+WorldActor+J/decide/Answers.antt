@@ -1,11 +1,7 @@
-use Rattle.std.proofs.Common.{◌≡◌, ℕ, List, Option, length, refl, ap, sym, subst, ◌∙◌, arith}
-use Rattle.net_base.specs.declared.world.World.{World}
+use Rattle.std.proofs.Common.{◌≡◌, ℕ, Option, refl, ap, sym, subst, ◌∙◌}
 use Rattle.net_base.specs.Callers.{caller_of}
 use Rattle.net_base.specs.Stamped.{moment as moment_of}
-use Rattle.net_base.specs.World.{IsWorld}
-use Rattle.net_actors.specs.Numbers.{count_in}
 use Rattle.journal.specs.declared.tokens.Sight.{Sight}
-use Rattle.journal.specs.Rule.{Lawful}
 use Rattle.guest_laws.specs.Guests.{IsGuest}
 use Rattle.host_net.specs.declared.clock.Advance.{Advance}
 use Rattle.host_net.specs.declared.clock.Advance.TheVariants as advance
