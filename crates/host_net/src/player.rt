@@ -75,6 +75,14 @@ impl<J: Naming + Placing, T: Task> Player<J, T> {
         }
     }
 
+    // Which caller. Its role is who that is.
+    pub(crate) fn caller(&self) -> u32
+        ensures same { result ≡ self.now.visit.caller }
+        ensures role { HasRole J.world self.now.visit.caller self.now.role }
+    {
+        self.guest.caller()
+    }
+
     /// The guest.
     pub fn guest(&self) -> &Guest<J>
         ensures { result.now ≡ self.now.visit }

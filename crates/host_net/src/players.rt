@@ -1,7 +1,7 @@
 //! Players in groups, one for each worker.
-ghost use Rattle.std.specs.Prelude.{◌≡◌, ℕ, ◌<◌, ◌++◌, length, true, false, None, option_map, IfOk, IfSome, OnErr, OnOk, slice_index_or};
+ghost use Rattle.std.specs.Prelude.{◌≡◌, ℕ, ◌<◌, ◌++◌, [], length, true, false, None, option_map, IfOk, IfSome, OnErr, OnOk, slice_index_or};
 ghost use Rattle.std.specs.List.{list_any};
-ghost use Rattle.host_net.specs.Groups.{AreWaiting, all_members, all_seats, caller, callers_of, dealt, joined, members, no_players, seats, visits};
+ghost use Rattle.host_net.specs.Groups.{AreWaiting, all_members, all_seats, caller, callers_of, dealt, joined, members, no_players, seats, visits, with_last};
 ghost use Rattle.host_net.specs.Playing.{ArePlayed, IsWaiting};
 ghost use Rattle.host_net.specs.Visits.{HasGuest};
 ghost use Rattle.host_net.specs.declared.player.Played.TheVariants as played;
@@ -103,7 +103,7 @@ impl<J: Naming + Placing, T: Task + Drop> Players<J, T> {
         ensures ok { OnOk result (self.new ≡ dealt self.old player) }
         ensures err { OnErr result (self.new ≡ self.old) }
     {
-        let caller = player.guest().caller() as usize;
+        let caller = player.caller() as usize;
         let place = caller % self.groups.len();
         self.groups[place].add(player)?;
         self.callers = caller + 1;
@@ -145,18 +145,43 @@ fn add_guests<J: Naming + Placing, T: Task + Drop>(
     ensures plays { OnOk result (ArePlayed J.world guests.old.items → ArePlayed J.world guests.new.items) }
 {
     let Group {
-        mut players,
+        players,
         clock,
         memory: _,
     } = group;
+    add_players(players, guests)?;
+    add_clock(clock, guests)?;
+    Ok(())
+}
+
+fn add_players<J: Naming + Placing, T: Task + Drop>(
+    mut players: Vec<Player<J, T>>,
+    guests: &mut Vec<Guest<J>>,
+) -> Result<(), AllocError>
+    ensures same { OnOk result (guests.new.items ≡ guests.old.items ++ visits players.items) }
+    ensures plays { OnOk result (ArePlayed J.world guests.old.items → ArePlayed J.world guests.new.items) }
+{
     players.reverse();
     while let Some(player) = players.pop() {
         guests.push(player.into_guest())?;
     }
-    if let Some(player) = clock {
-        guests.push(player.into_guest())?;
-    }
     Ok(())
+}
+
+fn add_clock<J: Naming + Placing, T: Task + Drop>(
+    clock: Option<Player<J, T>>,
+    guests: &mut Vec<Guest<J>>,
+) -> Result<(), AllocError>
+    ensures same { OnOk result (guests.new.items ≡ guests.old.items ++ visits (with_last [] clock)) }
+    ensures plays { OnOk result (ArePlayed J.world guests.old.items → ArePlayed J.world guests.new.items) }
+{
+    match clock {
+        Some(player) => {
+            guests.push(player.into_guest())?;
+            Ok(())
+        }
+        None => Ok(()),
+    }
 }
 
 // What two turns, or more, came to.

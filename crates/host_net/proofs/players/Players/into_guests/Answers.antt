@@ -1,7 +1,7 @@
 use Rattle.std.proofs.Common.{◌≡◌, ◌++◌, List, [], ◌∷◌, length, length-append, reverse, ap, sym, subst, ◌∙◌, arith}
 use Rattle.std.proofs.lemmas.List.{append-nil, reverse-reverse}
 use Rattle.net_base.specs.Stamped.{In}
-use Rattle.host_net.specs.Groups.{all_members, visits}
+use Rattle.host_net.specs.Groups.{IsDealt, all_members, all_seats, visits}
 use Rattle.host_net.specs.Playing.{ArePlayed}
 use Rattle.host_net.specs.Visits.{HasGuest, Visit}
 use Rattle.host_net.proofs.Passes.{nil_of}
@@ -33,4 +33,5 @@ returns-clause-same g c =
 pub returns-clause-all : goal.returns-clause-all
 returns-clause-all g c k lt =
     subst (λ (l : List Visit). HasGuest k l) (sym (returns-clause-same g c))
-    (has_guest g.J.Placing.world c.args.self.callers c.args.self.groups ? k lt)
+    (has_guest g.J.Placing.world c.args.self.callers c.args.self.groups
+    (subst (λ x. IsDealt g.J.Placing.world x.callers (all_seats x.groups)) c.self.view_is c.self.invariant) k lt)

@@ -12,3 +12,7 @@ loop-preserved g c = (
   subst (λ gs. AreEmpty gs) (sym c.in_ok-push.ensures.items)
       (empty_more c.loop.groups.items c.new.result c.loop.invariant.1 (ap (λ x. callers_in (seats x)) c.new.ensures)),
 )
+
+pub invariant_of-result : goal.invariant_of-result
+invariant_of-result g c =
+    none_dealt g.J.Placing.world c.loop.groups.items (omega (arith, c.loop.invariant.0, c.loop-test.false, c.requires)) c.loop.invariant.1
