@@ -5,6 +5,7 @@ use net_base::{
     Proto, Reply, RouteLine, Sequence, Taken, With, Work, World,
 };
 use std::alloc::{AllocError, Global};
+use std::process::Abort;
 use std::test::*;
 
 /// 10.0.0.1 and 10.0.1.1, on both media
@@ -145,18 +146,43 @@ fn read_with(with: &With) -> Given {
     }
 }
 
-fn read_duty(duty: &Duty) -> (ActorName, Asked, Given) {
+/// What is asked of an actor.
+type Owed = (ActorName, Asked, Given);
+
+fn read_duty(duty: &Duty) -> Owed {
     let work = duty.work();
     (duty.actor, read_event(&work.event), read_with(&work.with))
 }
 
 /// Takes the first duty.
-fn next(owed: &mut Duties) -> Option<(ActorName, Asked, Given)> {
+fn next(owed: &mut Duties) -> Option<Owed> {
     let duty = owed.pop()?;
     Some(read_duty(&duty))
 }
 
+/// What is owed is this, in this order, and nothing else.
+fn is_owed(rt: &impl Abort, owed: &mut Duties, all: &[Owed]) {
+    for (i, want) in all.iter().enumerate() {
+        assert_eq!(rt; next(owed), Some(*want), "duty {i}");
+    }
+    assert!(rt; owed.is_empty());
+}
+
 // Works and outcomes.
+
+fn alone(event: Event) -> Work {
+    Work {
+        event,
+        with: With::Nothing,
+    }
+}
+
+fn arrival(packet: Packet) -> Work {
+    Work {
+        event: Event::Arrive,
+        with: With::Packet(packet),
+    }
+}
 
 fn outcome(reply: Reply) -> Outcome {
     Outcome {
@@ -192,32 +218,48 @@ fn set_up(alloc: Global) -> Result<Bench, AllocError> {
 }
 
 /// What the entry of a step owes is owed too.
-fn owes(bench: &mut Bench, actor: ActorName, event: Event, with: With, outcome: Outcome) {
-    if bench.owed.reserve(most_owed(&outcome)).is_err() {
-        return;
+fn owes(bench: &mut Bench, actor: ActorName, work: Work, outcome: Outcome) {
+    if bench.owed.reserve(most_owed(&outcome)).is_ok() {
+        let _ = bench.ways.owe(actor, STAMP, work, outcome, &mut bench.owed);
     }
-    let work = Work { event, with };
-    let _ = bench.ways.owe(actor, STAMP, work, outcome, &mut bench.owed);
 }
 
 /// The directory of the near host.
 const DIRECTORY: ActorName = ActorName::Dir(0, Proto::Udp);
 
-/// Its conversation in a slot.
-fn conversation(slot: u32) -> ActorName {
-    ActorName::Conv(0, Proto::Udp, slot)
+// Its conversations.
+
+const SECOND: ActorName = ActorName::Conv(0, Proto::Udp, 2);
+
+const FOURTH: ActorName = ActorName::Conv(0, Proto::Udp, 4);
+
+const FIFTH: ActorName = ActorName::Conv(0, Proto::Udp, 5);
+
+/// A reply of the directory owes this, and nothing else.
+fn follow(rt: &impl Abort, bench: &mut Bench, work: Work, reply: Reply, all: &[Owed]) {
+    owes(bench, DIRECTORY, work, outcome(reply));
+    is_owed(rt, &mut bench.owed, all);
 }
 
-/// The only duty that a reply of the directory has.
-fn follow_up(
-    bench: &mut Bench,
-    event: Event,
-    with: With,
-    reply: Reply,
-) -> Option<(ActorName, Asked, Given)> {
-    owes(bench, DIRECTORY, event, with, outcome(reply));
-    let first = next(&mut bench.owed);
-    if bench.owed.is_empty() { first } else { None }
+/// A grant to slot 2.
+fn grant() -> Event {
+    Event::Grant {
+        slot: 2,
+        generation: 3,
+        remote: Addr { ip: FAR, port: 7 },
+        lport: None,
+    }
+}
+
+fn granted() -> Reply {
+    Reply::Granted {
+        pair: Pair {
+            local: Addr { ip: NEAR, port: 5 },
+            remote: Addr { ip: FAR, port: 7 },
+        },
+        start: 100,
+        limit: 1462,
+    }
 }
 
 #[test]
@@ -227,100 +269,69 @@ fn a_slot_begins_and_connects(rt: HostRuntime) -> Result<(), Fail> {
         slot: 2,
         generation: 3,
     };
-    assert_eq!(rt;
-        follow_up(&mut bench, Event::Reserve, With::Nothing, slot),
-        Some((conversation(2), Asked::Begin(3), Given::Nothing))
-    );
-    let grant = Event::Grant {
+    let begin = [(SECOND, Asked::Begin(3), Given::Nothing)];
+    follow(&rt, &mut bench, alone(Event::Reserve), slot, &begin);
+    let connect = [(SECOND, Asked::Connect(3), Given::Grant(100, 1462))];
+    follow(&rt, &mut bench, alone(grant()), granted(), &connect);
+    Ok(())
+}
+
+fn announce() -> Event {
+    Event::Announce {
         slot: 2,
         generation: 3,
-        remote: Addr { ip: FAR, port: 7 },
-        lport: None,
-    };
-    let granted = Reply::Granted {
-        pair: Pair {
-            local: Addr { ip: NEAR, port: 5 },
-            remote: Addr { ip: FAR, port: 7 },
-        },
-        start: 100,
-        limit: 1462,
-    };
-    assert_eq!(rt;
-        follow_up(&mut bench, grant, With::Nothing, granted),
-        Some((conversation(2), Asked::Connect(3), Given::Grant(100, 1462)))
-    );
-    Ok(())
+        ip: None,
+        port: Some(7),
+    }
+}
+
+fn bind() -> Event {
+    Event::Bind {
+        slot: 2,
+        generation: 3,
+        port: 9,
+    }
 }
 
 #[test]
 fn ports_are_named(rt: HostRuntime) -> Result<(), Fail> {
     let mut bench = set_up(rt.alloc())?;
-    let announce = Event::Announce {
-        slot: 2,
-        generation: 3,
-        ip: None,
-        port: Some(7),
-    };
-    assert_eq!(rt;
-        follow_up(&mut bench, announce, With::Nothing, Reply::Ok),
-        Some((conversation(2), Asked::Announced(3), Given::Key(0, 7)))
-    );
-    let bind = Event::Bind {
-        slot: 2,
-        generation: 3,
-        port: 9,
-    };
-    assert_eq!(rt;
-        follow_up(&mut bench, bind, With::Nothing, Reply::Ok),
-        Some((conversation(2), Asked::Bound(3), Given::Key(0, 9)))
-    );
-    let bind = Event::Bind {
-        slot: 2,
-        generation: 3,
-        port: 9,
-    };
-    assert_eq!(rt;
-        follow_up(&mut bench, bind, With::Nothing, Reply::Stale),
-        None,
-        "refused"
-    );
+    let announced = [(SECOND, Asked::Announced(3), Given::Key(0, 7))];
+    follow(&rt, &mut bench, alone(announce()), Reply::Ok, &announced);
+    let bound = [(SECOND, Asked::Bound(3), Given::Key(0, 9))];
+    follow(&rt, &mut bench, alone(bind()), Reply::Ok, &bound);
+    // refused
+    follow(&rt, &mut bench, alone(bind()), Reply::Stale, &[]);
     Ok(())
+}
+
+fn born() -> Reply {
+    Reply::Born {
+        slot: 4,
+        generation: 1,
+        start: 100,
+        limit: 1462,
+    }
 }
 
 #[test]
 fn packets_arrive(rt: HostRuntime) -> Result<(), Fail> {
+    let first = packet(rt.alloc(), NEAR, 9)?;
+    let second = packet(rt.alloc(), NEAR, 9)?;
     let mut bench = set_up(rt.alloc())?;
     let to = Reply::To {
         slot: 2,
         generation: 3,
     };
-    let with = With::Packet(packet(rt.alloc(), NEAR, 9)?);
-    assert_eq!(rt;
-        follow_up(&mut bench, Event::Arrive, with, to),
-        Some((conversation(2), Asked::ArriveAt(3), Given::Packet(9, NEAR)))
-    );
-    let born = Reply::Born {
-        slot: 4,
-        generation: 1,
-        start: 100,
-        limit: 1462,
-    };
-    let with = With::Packet(packet(rt.alloc(), NEAR, 9)?);
-    assert_eq!(rt;
-        follow_up(&mut bench, Event::Arrive, with, born),
-        Some((
-            conversation(4),
-            Asked::Born(1),
-            Given::Birth(NEAR, 100, 1462)
-        ))
-    );
+    let arrive = [(SECOND, Asked::ArriveAt(3), Given::Packet(9, NEAR))];
+    follow(&rt, &mut bench, arrival(first), to, &arrive);
+    let birth = [(FOURTH, Asked::Born(1), Given::Birth(NEAR, 100, 1462))];
+    follow(&rt, &mut bench, arrival(second), born(), &birth);
     Ok(())
 }
 
-#[test]
-fn calls_are_claimed_or_closed(rt: HostRuntime) -> Result<(), Fail> {
-    let alloc = rt.alloc();
-    let mut bench = set_up(alloc)?;
+/// The calls of two listeners' clients.
+fn two_calls(alloc: Global) -> Result<Reply, AllocError> {
     let first = Call {
         slot: 4,
         generation: 1,
@@ -329,25 +340,35 @@ fn calls_are_claimed_or_closed(rt: HostRuntime) -> Result<(), Fail> {
         slot: 5,
         generation: 6,
     };
-    let calls = Sequence::from_vec(vec![in alloc; first, second]?);
+    Ok(Reply::Calls {
+        calls: Sequence::from_vec(vec![in alloc; first, second]?),
+    })
+}
+
+#[test]
+fn calls_are_claimed_or_closed(rt: HostRuntime) -> Result<(), Fail> {
+    let calls = two_calls(rt.alloc())?;
+    let mut bench = set_up(rt.alloc())?;
     let withdraw = Event::Withdraw {
         slot: 2,
         generation: 3,
     };
-    let left = outcome(Reply::Calls { calls });
-    owes(&mut bench, DIRECTORY, withdraw, With::Nothing, left);
-    let close = Some((conversation(4), Asked::Close(1), Given::Nothing));
-    assert_eq!(rt; next(&mut bench.owed), close);
-    let close = Some((conversation(5), Asked::Close(6), Given::Nothing));
-    assert_eq!(rt; next(&mut bench.owed), close);
-    assert_eq!(rt; next(&mut bench.owed), None);
+    let closes = [
+        (FOURTH, Asked::Close(1), Given::Nothing),
+        (FIFTH, Asked::Close(6), Given::Nothing),
+    ];
+    follow(&rt, &mut bench, alone(withdraw), calls, &closes);
     let call = Reply::Call {
         slot: 4,
         generation: 1,
     };
-    assert_eq!(rt;
-        follow_up(&mut bench, Event::Listen { slot: 2 }, With::Nothing, call),
-        Some((conversation(4), Asked::Claim(1), Given::Nothing))
+    let claim = [(FOURTH, Asked::Claim(1), Given::Nothing)];
+    follow(
+        &rt,
+        &mut bench,
+        alone(Event::Listen { slot: 2 }),
+        call,
+        &claim,
     );
     Ok(())
 }
@@ -356,11 +377,9 @@ fn calls_are_claimed_or_closed(rt: HostRuntime) -> Result<(), Fail> {
 fn a_listener_that_is_left_withdraws(rt: HostRuntime) -> Result<(), Fail> {
     let mut bench = set_up(rt.alloc())?;
     let hangup = Event::Hangup { generation: 3 };
-    let left = outcome(Reply::Left);
-    owes(&mut bench, conversation(2), hangup, With::Nothing, left);
-    let withdraw = Some((DIRECTORY, Asked::Withdraw(2, 3), Given::Nothing));
-    assert_eq!(rt; next(&mut bench.owed), withdraw);
-    assert_eq!(rt; next(&mut bench.owed), None);
+    owes(&mut bench, SECOND, alone(hangup), outcome(Reply::Left));
+    let withdraw = [(DIRECTORY, Asked::Withdraw(2, 3), Given::Nothing)];
+    is_owed(&rt, &mut bench.owed, &withdraw);
     Ok(())
 }
 
@@ -377,20 +396,20 @@ fn last(packet: Packet) -> Outcome {
 
 #[test]
 fn a_last_close_is_put_and_releases(rt: HostRuntime) -> Result<(), Fail> {
-    let mut bench = set_up(rt.alloc())?;
     let last = last(packet(rt.alloc(), FAR, 255)?);
+    let mut bench = set_up(rt.alloc())?;
     let close = Event::Close { generation: 3 };
-    owes(&mut bench, conversation(2), close, With::Nothing, last);
+    owes(&mut bench, SECOND, alone(close), last);
     // the far host goes by the gateway
-    let put = Some((
-        ActorName::Medium(0),
-        Asked::Put(Some(1)),
-        Given::Packet(255, FAR),
-    ));
-    assert_eq!(rt; next(&mut bench.owed), put);
-    let release = Some((DIRECTORY, Asked::Release(2, 3), Given::Nothing));
-    assert_eq!(rt; next(&mut bench.owed), release);
-    assert_eq!(rt; next(&mut bench.owed), None);
+    let all = [
+        (
+            ActorName::Medium(0),
+            Asked::Put(Some(1)),
+            Given::Packet(255, FAR),
+        ),
+        (DIRECTORY, Asked::Release(2, 3), Given::Nothing),
+    ];
+    is_owed(&rt, &mut bench.owed, &all);
     Ok(())
 }
 
@@ -409,45 +428,32 @@ fn copy(to: u32, packet: Packet) -> Outcome {
     }
 }
 
-/// What the courier of medium 0 owes then.
-fn carries(bench: &mut Bench, to: u32, packet: Packet) -> Option<(ActorName, Asked, Given)> {
-    let took = copy(to, packet);
-    owes(
-        bench,
-        ActorName::Medium(0),
-        Event::Take,
-        With::Nothing,
-        took,
-    );
-    next(&mut bench.owed)
+/// What the courier of medium 0 owes once it took a packet to this address, with this ttl, for a host.
+fn carries(alloc: Global, to: u32, ip: u32, ttl: u8) -> Result<Option<Owed>, AllocError> {
+    let copy = copy(to, packet(alloc, ip, ttl)?);
+    let mut bench = set_up(alloc)?;
+    owes(&mut bench, ActorName::Medium(0), alone(Event::Take), copy);
+    Ok(next(&mut bench.owed))
 }
 
 #[test]
 fn copies_arrive_or_go_on(rt: HostRuntime) -> Result<(), Fail> {
-    let alloc = rt.alloc();
-    let mut bench = set_up(alloc)?;
-    let arrive = Some((DIRECTORY, Asked::Arrive, Given::Packet(9, NEAR)));
-    assert_eq!(rt; carries(&mut bench, 0, packet(alloc, NEAR, 9)?), arrive);
-    let put = Some((
+    let arrive = (DIRECTORY, Asked::Arrive, Given::Packet(9, NEAR));
+    let put = (
         ActorName::Medium(1),
         Asked::Put(Some(2)),
         Given::Packet(8, FAR),
-    ));
-    assert_eq!(rt;
-        carries(&mut bench, 1, packet(alloc, FAR, 9)?),
-        put,
-        "at the gateway"
     );
-    assert_eq!(rt;
-        carries(&mut bench, 1, packet(alloc, FAR, 1)?),
-        None,
-        "at its last hop"
-    );
-    assert_eq!(rt;
-        carries(&mut bench, 1, packet(alloc, NOWHERE, 9)?),
-        None,
-        "without a way"
-    );
+    let rows = [
+        (0, NEAR, 9, Some(arrive)),
+        // at the gateway, at its last hop, and without a way
+        (1, FAR, 9, Some(put)),
+        (1, FAR, 1, None),
+        (1, NOWHERE, 9, None),
+    ];
+    for (to, ip, ttl, owed) in rows {
+        assert_eq!(rt; carries(rt.alloc(), to, ip, ttl), Ok(owed), "{ip}, {ttl}");
+    }
     Ok(())
 }
 
@@ -467,11 +473,11 @@ fn conversations_tick_when_they_are_due(rt: HostRuntime) -> Result<(), Fail> {
     let dues = [due(2, 100), due(4, 101), due(5, 90)];
     owed.reserve(dues.len())?;
     owed.owe_ticks(STAMP, 100, &dues);
-    assert_eq!(rt; owed.len(), 2);
     assert_eq!(rt; owed.first().map(|duty| duty.cites), Some(STAMP));
-    let tick = Some((conversation(2), Asked::Tick(3), Given::Nothing));
-    assert_eq!(rt; next(&mut owed), tick);
-    let tick = Some((conversation(5), Asked::Tick(3), Given::Nothing));
-    assert_eq!(rt; next(&mut owed), tick);
+    let ticks = [
+        (SECOND, Asked::Tick(3), Given::Nothing),
+        (FIFTH, Asked::Tick(3), Given::Nothing),
+    ];
+    is_owed(&rt, &mut owed, &ticks);
     Ok(())
 }

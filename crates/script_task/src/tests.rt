@@ -3,6 +3,7 @@ use crate::{Effect, Planned, Request, event_of, plan, settle};
 use net_base::{ActorName, Event, FileName, Mode, Node, Octets, Proto, Reply};
 use net_tree::{Fid, Fids};
 use std::alloc::{AllocError, Global};
+use std::process::Abort;
 use std::test::*;
 
 const DESK: ActorName = ActorName::Desk(2);
@@ -21,9 +22,9 @@ fn fid(slot: u32, generation: u64, file: FileName, mode: Mode) -> Fid {
     }
 }
 
-// A ctl file `c`, a data file `d`, a status file `s` and a data file `w` that is open to write alone.
-fn some_names(alloc: Global) -> Result<Fids, AllocError> {
-    let mut fids = Fids::new(alloc);
+// Whether there was room for a ctl file `c`, a data file `d`, a status file `s` and a data file `w` that is open to write
+// alone.
+fn bind_all(fids: &mut Fids) -> bool {
     let rows: [(&[u8], FileName, Mode); 4] = [
         (b"c", FileName::Ctl, Mode::Both),
         (b"d", FileName::Data, Mode::Both),
@@ -32,10 +33,19 @@ fn some_names(alloc: Global) -> Result<Fids, AllocError> {
     ];
     for (name, file, mode) in rows {
         if fids.bind(name, fid(3, 7, file, mode)).is_err() {
-            return Err(AllocError);
+            return false;
         }
     }
-    Ok(fids)
+    true
+}
+
+fn some_names(alloc: Global) -> Result<Fids, AllocError> {
+    let mut fids = Fids::new(alloc);
+    if bind_all(&mut fids) {
+        Ok(fids)
+    } else {
+        Err(AllocError)
+    }
 }
 
 fn word(event: &Event) -> &'static [u8] {
@@ -76,127 +86,184 @@ fn records(fids: &Fids, request: Request, actor: ActorName, text: &[u8]) -> bool
     at == actor && word(&event) == text
 }
 
+/// A request in a row.
+#[derive(Clone, Copy)]
+enum Ask {
+    Write(&'static [u8], &'static [u8]),
+    Open(&'static [u8], &'static [u8], Mode),
+    Read(&'static [u8]),
+    Close(&'static [u8]),
+    Wait(&'static [u8]),
+    Unbound(&'static [u8]),
+    Misuse(&'static [u8]),
+    Ls(&'static [u8]),
+    Cs(&'static [u8]),
+    Until,
+}
+
 fn write(alloc: Global, name: &[u8], text: &[u8]) -> Result<Request, AllocError> {
-    Ok(Request::Write {
-        name: Octets::from_slice(alloc, name)?,
-        text: Octets::from_slice(alloc, text)?,
-    })
+    let name = Octets::from_slice(alloc, name)?;
+    let text = Octets::from_slice(alloc, text)?;
+    Ok(Request::Write { name, text })
 }
 
 fn open(alloc: Global, name: &[u8], path: &[u8], mode: Mode) -> Result<Request, AllocError> {
-    Ok(Request::Open {
-        name: Octets::from_slice(alloc, name)?,
-        path: Octets::from_slice(alloc, path)?,
-        mode,
-    })
+    let name = Octets::from_slice(alloc, name)?;
+    let path = Octets::from_slice(alloc, path)?;
+    Ok(Request::Open { name, path, mode })
 }
 
-// A request of a name alone, by its letter.
-fn request(alloc: Global, letter: u8, name: &[u8]) -> Result<Request, AllocError> {
-    let name = Octets::from_slice(alloc, name)?;
-    Ok(match letter {
-        b'r' => Request::Read { name, count: 8192 },
-        b'c' => Request::Close { name },
-        b'w' => Request::Wait { name },
-        b'u' => Request::Unbound { name },
-        b'm' => Request::Misuse { name },
-        b'l' => Request::Ls { path: name },
-        b'q' => Request::Cs { query: name },
-        _ => Request::Until { moment: 10 },
-    })
+fn request(alloc: Global, ask: Ask) -> Result<Request, AllocError> {
+    match ask {
+        Ask::Write(name, text) => write(alloc, name, text),
+        Ask::Open(name, path, mode) => open(alloc, name, path, mode),
+        Ask::Read(name) => Ok(Request::Read {
+            name: Octets::from_slice(alloc, name)?,
+            count: 8192,
+        }),
+        Ask::Close(name) => Ok(Request::Close {
+            name: Octets::from_slice(alloc, name)?,
+        }),
+        Ask::Wait(name) => Ok(Request::Wait {
+            name: Octets::from_slice(alloc, name)?,
+        }),
+        Ask::Unbound(name) => Ok(Request::Unbound {
+            name: Octets::from_slice(alloc, name)?,
+        }),
+        Ask::Misuse(name) => Ok(Request::Misuse {
+            name: Octets::from_slice(alloc, name)?,
+        }),
+        Ask::Ls(path) => Ok(Request::Ls {
+            path: Octets::from_slice(alloc, path)?,
+        }),
+        Ask::Cs(query) => Ok(Request::Cs {
+            query: Octets::from_slice(alloc, query)?,
+        }),
+        Ask::Until => Ok(Request::Until { moment: 10 }),
+    }
 }
+
+/// A request, the actor at which it is recorded, and its event.
+type Row = (Ask, ActorName, &'static [u8]);
+
+fn record(rt: &impl Abort, alloc: Global, fids: &Fids, rows: &[Row]) -> Result<(), AllocError> {
+    for (i, row) in rows.iter().enumerate() {
+        let (ask, actor, text) = *row;
+        let request = request(alloc, ask)?;
+        assert!(rt; records(fids, request, actor, text), "row {i}");
+    }
+    Ok(())
+}
+
+fn record_all(rt: &impl Abort, alloc: Global, rows: &[Row]) -> Result<(), AllocError> {
+    let fids = some_names(alloc)?;
+    record(rt, alloc, &fids, rows)
+}
+
+const WRITES: &[Row] = &[
+    (
+        Ask::Write(b"c", b"connect 135.104.9.31!17008"),
+        DIRECTORY,
+        b"grant",
+    ),
+    (
+        Ask::Write(b"c", b"announce 17008\n"),
+        DIRECTORY,
+        b"announce",
+    ),
+    (Ask::Write(b"c", b"bind 7"), DIRECTORY, b"bind"),
+    (Ask::Write(b"c", b"hangup"), CONVERSATION, b"hangup"),
+    (Ask::Write(b"c", b"ttl 3"), CONVERSATION, b"ttl"),
+    (Ask::Write(b"c", b"tos 0"), CONVERSATION, b"tos"),
+    (Ask::Write(b"c", b"connect *!17008"), CONVERSATION, b"ctl"),
+    (Ask::Write(b"d", b"hangup"), CONVERSATION, b"write"),
+    (Ask::Write(b"w", b"hello"), CONVERSATION, b"write"),
+    (Ask::Write(b"s", b"hello"), DESK, b"misuse"),
+    (Ask::Write(b"e", b"hello"), DESK, b"use"),
+];
 
 #[test]
 fn writes_have_events(rt: HostRuntime) -> Result<(), Fail> {
-    let alloc = rt.alloc();
-    let fids = some_names(alloc)?;
-    let rows: [(&[u8], &[u8], ActorName, &[u8]); 11] = [
-        (b"c", b"connect 135.104.9.31!17008", DIRECTORY, b"grant"),
-        (b"c", b"announce 17008\n", DIRECTORY, b"announce"),
-        (b"c", b"bind 7", DIRECTORY, b"bind"),
-        (b"c", b"hangup", CONVERSATION, b"hangup"),
-        (b"c", b"ttl 3", CONVERSATION, b"ttl"),
-        (b"c", b"tos 0", CONVERSATION, b"tos"),
-        (b"c", b"connect *!17008", CONVERSATION, b"ctl"),
-        (b"d", b"hangup", CONVERSATION, b"write"),
-        (b"w", b"hello", CONVERSATION, b"write"),
-        (b"s", b"hello", DESK, b"misuse"),
-        (b"e", b"hello", DESK, b"use"),
-    ];
-    for (name, text, actor, event) in rows {
-        assert!(rt; records(&fids, write(alloc, name, text)?, actor, event));
-    }
+    record_all(&rt, rt.alloc(), WRITES)?;
     Ok(())
 }
+
+const OPENS: &[Row] = &[
+    (
+        Ask::Open(b"n", b"/net/il/clone", Mode::Both),
+        DIRECTORY,
+        b"reserve",
+    ),
+    (
+        Ask::Open(b"n", b"/net/il/3/listen", Mode::Both),
+        DIRECTORY,
+        b"listen",
+    ),
+    (
+        Ask::Open(b"n", b"/net/il/3/status", Mode::Read),
+        CONVERSATION,
+        b"open",
+    ),
+    (
+        Ask::Open(b"n", b"/net/il/3/status", Mode::Both),
+        DESK,
+        b"open of a path",
+    ),
+    (
+        Ask::Open(b"n", b"/net/il/32/data", Mode::Both),
+        DESK,
+        b"open of a path",
+    ),
+    (
+        Ask::Open(b"n", b"/net/cs", Mode::Read),
+        DESK,
+        b"open of a path",
+    ),
+    (Ask::Open(b"c", b"/net/il/clone", Mode::Both), DESK, b"use"),
+];
 
 #[test]
 fn opens_have_events(rt: HostRuntime) -> Result<(), Fail> {
-    let alloc = rt.alloc();
-    let fids = some_names(alloc)?;
-    let rows: [(&[u8], &[u8], Mode, ActorName, &[u8]); 7] = [
-        (b"n", b"/net/il/clone", Mode::Both, DIRECTORY, b"reserve"),
-        (b"n", b"/net/il/3/listen", Mode::Both, DIRECTORY, b"listen"),
-        (b"n", b"/net/il/3/status", Mode::Read, CONVERSATION, b"open"),
-        (
-            b"n",
-            b"/net/il/3/status",
-            Mode::Both,
-            DESK,
-            b"open of a path",
-        ),
-        (
-            b"n",
-            b"/net/il/32/data",
-            Mode::Both,
-            DESK,
-            b"open of a path",
-        ),
-        (b"n", b"/net/cs", Mode::Read, DESK, b"open of a path"),
-        (b"c", b"/net/il/clone", Mode::Both, DESK, b"use"),
-    ];
-    for (name, path, mode, actor, event) in rows {
-        assert!(rt; records(&fids, open(alloc, name, path, mode)?, actor, event));
-    }
+    record_all(&rt, rt.alloc(), OPENS)?;
     Ok(())
 }
+
+const OTHERS: &[Row] = &[
+    (Ask::Read(b"d"), CONVERSATION, b"read"),
+    (Ask::Read(b"c"), CONVERSATION, b"file"),
+    (Ask::Read(b"s"), CONVERSATION, b"file"),
+    (Ask::Read(b"w"), DESK, b"misuse"),
+    (Ask::Read(b"e"), DESK, b"use"),
+    (Ask::Close(b"c"), CONVERSATION, b"close"),
+    (Ask::Close(b"e"), DESK, b"use"),
+    (Ask::Wait(b"c"), CONVERSATION, b"await"),
+    (Ask::Wait(b"e"), DESK, b"use"),
+    (Ask::Unbound(b"c"), DESK, b"use"),
+    (Ask::Misuse(b"c"), DESK, b"misuse"),
+    (Ask::Ls(b"/net/il"), DIRECTORY, b"ls"),
+    (Ask::Ls(b"/net/il/3"), CONVERSATION, b"ls"),
+    (Ask::Ls(b"/net"), DESK, b"ls of a path"),
+    (Ask::Ls(b"/net/tcp"), DESK, b"ls of a path"),
+    (Ask::Cs(b"net!helix!9fs"), DESK, b"cs"),
+    (Ask::Until, DESK, b"until"),
+];
 
 #[test]
 fn other_requests_have_events(rt: HostRuntime) -> Result<(), Fail> {
-    let alloc = rt.alloc();
-    let fids = some_names(alloc)?;
-    let rows: [(u8, &[u8], ActorName, &[u8]); 17] = [
-        (b'r', b"d", CONVERSATION, b"read"),
-        (b'r', b"c", CONVERSATION, b"file"),
-        (b'r', b"s", CONVERSATION, b"file"),
-        (b'r', b"w", DESK, b"misuse"),
-        (b'r', b"e", DESK, b"use"),
-        (b'c', b"c", CONVERSATION, b"close"),
-        (b'c', b"e", DESK, b"use"),
-        (b'w', b"c", CONVERSATION, b"await"),
-        (b'w', b"e", DESK, b"use"),
-        (b'u', b"c", DESK, b"use"),
-        (b'm', b"c", DESK, b"misuse"),
-        (b'l', b"/net/il", DIRECTORY, b"ls"),
-        (b'l', b"/net/il/3", CONVERSATION, b"ls"),
-        (b'l', b"/net", DESK, b"ls of a path"),
-        (b'l', b"/net/tcp", DESK, b"ls of a path"),
-        (b'q', b"net!helix!9fs", DESK, b"cs"),
-        (b't', b"", DESK, b"until"),
-    ];
-    for (letter, name, actor, event) in rows {
-        assert!(rt; records(&fids, request(alloc, letter, name)?, actor, event));
-    }
+    record_all(&rt, rt.alloc(), OTHERS)?;
     Ok(())
 }
 
+// The actor of a request that is kept.
+fn asked(alloc: Global) -> Result<ActorName, AllocError> {
+    let request = request(alloc, Ask::Cs(b"net!helix!9fs"))?;
+    let planned = event_of(2, &Fids::new(alloc), &request)?;
+    Ok(planned.actor)
+}
+
 #[test]
-fn a_request_may_be_kept(rt: HostRuntime) -> Result<(), Fail> {
-    let alloc = rt.alloc();
-    let fids = Fids::new(alloc);
-    let request = request(alloc, b'q', b"net!helix!9fs")?;
-    let planned = event_of(2, &fids, &request)?;
-    assert_eq!(rt; planned.actor, DESK);
-    Ok(())
+fn a_request_may_be_kept(rt: HostRuntime) {
+    assert_eq!(rt; asked(rt.alloc()), Ok(DESK));
 }
 
 // What the name `n` is bound to after a reply to the open of a path.
@@ -206,8 +273,8 @@ fn opened(
     mode: Mode,
     reply: &Reply,
 ) -> Result<Option<Fid>, AllocError> {
-    let mut fids = Fids::new(alloc);
     let request = open(alloc, b"n", path, mode)?;
+    let mut fids = Fids::new(alloc);
     settle(&mut fids, &request, reply)?;
     Ok(fids.get(b"n"))
 }
@@ -225,45 +292,46 @@ const CALL: Reply = Reply::Call {
 const OPENED: Reply = Reply::Opened { generation: 7 };
 
 #[test]
-fn opens_bind_what_is_opened(rt: HostRuntime) -> Result<(), Fail> {
-    let alloc = rt.alloc();
+fn opens_bind_what_is_opened(rt: HostRuntime) {
     let (ctl, both) = (FileName::Ctl, Mode::Both);
-    let clone = opened(alloc, b"/net/il/clone", both, &SLOT)?;
-    assert_eq!(rt; clone, Some(fid(4, 9, ctl, both)));
-    let call = opened(alloc, b"/net/il/3/listen", both, &CALL)?;
-    assert_eq!(rt; call, Some(fid(5, 2, ctl, both)));
-    let status = opened(alloc, b"/net/il/3/status", Mode::Read, &OPENED)?;
-    assert_eq!(rt; status, Some(fid(3, 7, FileName::Status, Mode::Read)));
-    let refused = opened(alloc, b"/net/il/clone", both, &Reply::NoSlot)?;
-    assert_eq!(rt; refused, None);
-    let refused = opened(alloc, b"/net/il/3/status", both, &Reply::BadMode)?;
-    assert_eq!(rt; refused, None);
-    Ok(())
+    let status = fid(3, 7, FileName::Status, Mode::Read);
+    let rows: [(&[u8], Mode, &Reply, Option<Fid>); 5] = [
+        (b"/net/il/clone", both, &SLOT, Some(fid(4, 9, ctl, both))),
+        (b"/net/il/3/listen", both, &CALL, Some(fid(5, 2, ctl, both))),
+        (b"/net/il/3/status", Mode::Read, &OPENED, Some(status)),
+        (b"/net/il/clone", both, &Reply::NoSlot, None),
+        (b"/net/il/3/status", both, &Reply::BadMode, None),
+    ];
+    for (i, (path, mode, reply, fid)) in rows.iter().enumerate() {
+        assert_eq!(rt; opened(rt.alloc(), path, *mode, reply), Ok(*fid), "row {i}");
+    }
 }
 
 // What the names `c` and `d` are bound to after a reply to a request.
-fn after(
-    alloc: Global,
-    request: Request,
-    reply: &Reply,
-) -> Result<(Option<Fid>, Option<Fid>), AllocError> {
+fn after(alloc: Global, ask: Ask, reply: &Reply) -> Result<(Option<Fid>, Option<Fid>), AllocError> {
+    let request = request(alloc, ask)?;
     let mut fids = some_names(alloc)?;
     settle(&mut fids, &request, reply)?;
     Ok((fids.get(b"c"), fids.get(b"d")))
 }
 
 #[test]
-fn closes_unbind_whatever_the_reply(rt: HostRuntime) -> Result<(), Fail> {
-    let alloc = rt.alloc();
+fn closes_unbind_whatever_the_reply(rt: HostRuntime) {
     let ctl = Some(fid(3, 7, FileName::Ctl, Mode::Both));
     let data = Some(fid(3, 7, FileName::Data, Mode::Both));
-    let left = after(alloc, request(alloc, b'c', b"c")?, &Reply::Ok)?;
-    assert_eq!(rt; left, (None, data));
-    let left = after(alloc, request(alloc, b'c', b"c")?, &Reply::Stale)?;
-    assert_eq!(rt; left, (None, data));
-    let again = open(alloc, b"c", b"/net/il/clone", Mode::Both)?;
-    assert_eq!(rt; after(alloc, again, &Reply::BadFid)?, (ctl, data));
-    Ok(())
+    let again = Ask::Open(b"c", b"/net/il/clone", Mode::Both);
+    let rows = [
+        (Ask::Close(b"c"), &Reply::Ok, None),
+        (Ask::Close(b"c"), &Reply::Stale, None),
+        (again, &Reply::BadFid, ctl),
+    ];
+    for (i, (ask, reply, left)) in rows.iter().enumerate() {
+        assert_eq!(rt;
+            after(rt.alloc(), *ask, reply),
+            Ok((*left, data)),
+            "row {i}"
+        );
+    }
 }
 
 // Run it with each allocation failing in turn: where there was memory for the room, there is none that the open wants.
@@ -278,8 +346,8 @@ fn an_open_of_a_reserved_name_wants_no_memory(rt: HostRuntime) -> Result<(), Fai
     };
     if fids.reserve(b"n").is_ok() {
         let fid = effect.opened(&SLOT);
-        assert!(rt; effect.settle(&mut fids, fid).is_ok());
-        assert_eq!(rt; fids.get(b"n"), fid);
+        let settled = effect.settle(&mut fids, fid).is_ok();
+        assert_eq!(rt; (settled, fids.get(b"n")), (true, fid));
     }
     Ok(())
 }

@@ -151,8 +151,7 @@ fn talks(alloc: Global, history: &mut History) -> Result<(), AllocError> {
     history.push(read(alloc)?)
 }
 
-fn datagram(alloc: Global) -> Result<History, AllocError> {
-    let mut history = History::new(alloc);
+fn prepares(history: &mut History) -> Result<(), AllocError> {
     for h in 0..2 {
         history.push(reserve(h))?;
     }
@@ -171,13 +170,22 @@ fn datagram(alloc: Global) -> Result<History, AllocError> {
     for h in 0..2 {
         history.push(open(h))?;
     }
+    Ok(())
+}
+
+fn datagram(alloc: Global) -> Result<History, AllocError> {
+    let mut history = History::new(alloc);
+    prepares(&mut history)?;
     talks(alloc, &mut history)?;
     Ok(history)
 }
 
+fn datagram_text(alloc: Global) -> Result<Octets, AllocError> {
+    text_of(alloc, &datagram(alloc)?)
+}
+
 #[test]
 fn a_datagram_goes(rt: HostRuntime) -> Result<(), Fail> {
-    let history = datagram(rt.alloc())?;
     let lines = b"0 0 0 dir.0.udp - reserve = slot 0 1
 1 0 1 dir.1.udp - reserve = slot 0 1
 2 0 0 conv.0.udp.0 0 begin 1 = ok
@@ -197,13 +205,12 @@ fn a_datagram_goes(rt: HostRuntime) -> Result<(), Fail> {
 16 0 2 conv.1.udp.0 15 arrive 1 = took
 17 0 1 conv.1.udp.0 - read 1 8192 = bytes 6869
 ";
-    let text = text_of(rt.alloc(), &history)?;
+    let text = datagram_text(rt.alloc())?;
     assert!(rt; text.as_slice() == lines.as_slice());
     Ok(())
 }
 
-#[test]
-fn a_refused_call_ends(rt: HostRuntime) -> Result<(), Fail> {
+fn last_tick() -> Entry {
     let actor = ActorName::Conv(0, Proto::Il, 31);
     let event = Event::Tick { generation: 3 };
     let mut last = entry(actor, 9, Some(7), event, Reply::Ticked);
@@ -222,30 +229,66 @@ fn a_refused_call_ends(rt: HostRuntime) -> Result<(), Fail> {
             length: 0,
         },
     });
-    let mut history = History::new(rt.alloc());
-    history.push(last)?;
+    last
+}
+
+fn text_of_one(alloc: Global, entry: Entry) -> Result<Octets, AllocError> {
+    let mut history = History::new(alloc);
+    history.push(entry)?;
+    text_of(alloc, &history)
+}
+
+#[test]
+fn a_refused_call_ends(rt: HostRuntime) -> Result<(), Fail> {
     let line =
         b"0 30010 9 conv.0.il.31 7 tick 3 = ticked + il 135.104.9.31!7 135.104.9.6!5000 255 16 close 1 4294967295 101 0 ended\n";
-    let text = text_of(rt.alloc(), &history)?;
+    let text = text_of_one(rt.alloc(), last_tick())?;
     assert!(rt; text.as_slice() == line.as_slice());
     Ok(())
 }
 
-// The line of an event and a reply at the clock.
-fn shows(
-    rt: &impl Abort,
-    alloc: Global,
-    event: Event,
-    reply: Reply,
-    words: &str,
-) -> Result<(), AllocError> {
-    let mut history = History::new(alloc);
-    history.push(entry(ActorName::Clock, 0, None, event, reply))?;
-    let line = text_of(alloc, &history)?;
-    let mut wanted = text(alloc, b"0 0 0 clock - ")?;
-    wanted.append(words.as_bytes())?;
-    wanted.push(b'\n')?;
-    assert!(rt; line == wanted, "{words}");
+// Whether an event and a reply at the clock have this line.
+fn is_line(alloc: Global, event: Event, reply: Reply, words: &str) -> Result<bool, AllocError> {
+    let line = text_of_one(alloc, entry(ActorName::Clock, 0, None, event, reply))?;
+    let start = b"0 0 0 clock - ";
+    let rest = line.as_slice().strip_prefix(start.as_slice());
+    match rest {
+        Some(rest) => Ok(rest.strip_suffix(b"\n".as_slice()) == Some(words.as_bytes())),
+        None => Ok(false),
+    }
+}
+
+// The line of an event and a reply at the clock is this.
+fn shows(rt: &impl Abort, alloc: Global, event: Event, reply: Reply, words: &str) {
+    let shown = is_line(alloc, event, reply, words);
+    assert_eq!(rt; shown, Ok(true), "{words}");
+}
+
+fn put_names(alloc: Global, names: &mut Lines) -> Result<(), AllocError> {
+    names.push(text(alloc, b"cs")?)?;
+    names.push(text(alloc, b"")?)?;
+    names.push(text(alloc, b"udp")?)
+}
+
+fn named(alloc: Global) -> Result<Reply, AllocError> {
+    let mut names = Lines::new(alloc);
+    put_names(alloc, &mut names)?;
+    Ok(Reply::Names { names })
+}
+
+fn called(alloc: Global, slots: &[u32], generation: u64) -> Result<Reply, AllocError> {
+    let mut calls = CallList::new(alloc);
+    put_calls(&mut calls, slots, generation)?;
+    Ok(Reply::Calls { calls })
+}
+
+fn put_calls(calls: &mut CallList, slots: &[u32], generation: u64) -> Result<(), AllocError> {
+    for slot in slots {
+        calls.push(Call {
+            slot: *slot,
+            generation,
+        })?;
+    }
     Ok(())
 }
 
@@ -256,38 +299,15 @@ fn lists_are_hexadecimal(rt: HostRuntime) -> Result<(), Fail> {
         lines: Lines::new(alloc),
     };
     let query = text(alloc, b"")?;
-    shows(&rt, alloc, Event::Cs { query }, nothing, "cs - = lines -")?;
-    let mut names = Lines::new(alloc);
-    names.push(text(alloc, b"cs")?)?;
-    names.push(text(alloc, b"")?)?;
-    names.push(text(alloc, b"udp")?)?;
+    shows(&rt, alloc, Event::Cs { query }, nothing, "cs - = lines -");
+    let names = named(alloc)?;
     let path = text(alloc, b"/net")?;
     let words = "ls 2f6e6574 = names 63730a0a7564700a";
-    shows(
-        &rt,
-        alloc,
-        Event::LsPath { path },
-        Reply::Names { names },
-        words,
-    )?;
-    let none = Reply::Calls {
-        calls: CallList::new(alloc),
-    };
-    shows(&rt, alloc, Event::Take, none, "take = calls -")?;
-    let mut calls = CallList::new(alloc);
-    for slot in [3, 31] {
-        calls.push(Call {
-            slot,
-            generation: 2,
-        })?;
-    }
-    shows(
-        &rt,
-        alloc,
-        Event::Ls,
-        Reply::Calls { calls },
-        "ls = calls 3 2 31 2",
-    )?;
+    shows(&rt, alloc, Event::LsPath { path }, names, words);
+    let none = called(alloc, &[], 2)?;
+    shows(&rt, alloc, Event::Take, none, "take = calls -");
+    let two = called(alloc, &[3, 31], 2)?;
+    shows(&rt, alloc, Event::Ls, two, "ls = calls 3 2 31 2");
     Ok(())
 }
 
@@ -306,7 +326,7 @@ fn announcements_have_stars(rt: HostRuntime) -> Result<(), Fail> {
         any,
         Reply::PortTaken { slot: 3 },
         "announce 2 5 * * = taken 3",
-    )?;
+    );
     let one = Event::Announce {
         slot: 2,
         generation: 5,
@@ -317,9 +337,9 @@ fn announcements_have_stars(rt: HostRuntime) -> Result<(), Fail> {
         state: StateName::Announced,
     };
     let words = "announce 2 5 135.104.9.6 17008 = wrong Announced";
-    shows(&rt, alloc, one, wrong, words)?;
+    shows(&rt, alloc, one, wrong, words);
     let put = Event::Put { to: None };
-    shows(&rt, alloc, put, Reply::NoStation, "put - = nostation")?;
+    shows(&rt, alloc, put, Reply::NoStation, "put - = nostation");
     let hungup = Reply::Hungup {
         cause: Cause::TimedOut,
     };
@@ -329,7 +349,7 @@ fn announcements_have_stars(rt: HostRuntime) -> Result<(), Fail> {
         Event::Await { generation: 1 },
         hungup,
         "await 1 = hungup 2",
-    )?;
+    );
     Ok(())
 }
 
@@ -343,7 +363,7 @@ fn names_stand_as_they_are(rt: HostRuntime) -> Result<(), Fail> {
         Event::Use { name },
         Reply::BadFid,
         "use d-1 = badfid",
-    )?;
+    );
     let name = text(alloc, b"=")?;
     shows(
         &rt,
@@ -351,7 +371,7 @@ fn names_stand_as_they_are(rt: HostRuntime) -> Result<(), Fail> {
         Event::Misuse { name },
         Reply::BadMode,
         "misuse = = badmode",
-    )?;
+    );
     let path = text(alloc, b"/net/tcp")?;
     let mode = Mode::Write;
     let words = "open 2f6e65742f746370 w = nofile";
@@ -361,7 +381,7 @@ fn names_stand_as_they_are(rt: HostRuntime) -> Result<(), Fail> {
         Event::OpenPath { path, mode },
         Reply::NoFile,
         words,
-    )?;
+    );
     let file = Event::File {
         generation: 1,
         file: FileName::Status,
@@ -369,7 +389,7 @@ fn names_stand_as_they_are(rt: HostRuntime) -> Result<(), Fail> {
     };
     let bytes = text(alloc, b"Open\n")?;
     let words = "file 1 status 65536 = bytes 4f70656e0a";
-    shows(&rt, alloc, file, Reply::Bytes { bytes }, words)?;
+    shows(&rt, alloc, file, Reply::Bytes { bytes }, words);
     Ok(())
 }
 
@@ -396,10 +416,14 @@ fn reads(alloc: Global, name: &[u8]) -> Result<Step, AllocError> {
 
 fn connects(alloc: Global, words: &[u8]) -> Result<StepList, AllocError> {
     let mut steps = StepList::new(alloc);
+    put_steps(alloc, &mut steps, words)?;
+    Ok(steps)
+}
+
+fn put_steps(alloc: Global, steps: &mut StepList, words: &[u8]) -> Result<(), AllocError> {
     steps.push(opens(alloc, b"c", b"/net/udp/clone")?)?;
     steps.push(writes(alloc, b"c", words)?)?;
-    steps.push(opens(alloc, b"d", b"/net/udp/0/data")?)?;
-    Ok(steps)
+    steps.push(opens(alloc, b"d", b"/net/udp/0/data")?)
 }
 
 fn anna(alloc: Global) -> Result<Script, AllocError> {
@@ -414,11 +438,15 @@ fn helix(alloc: Global) -> Result<Script, AllocError> {
     Ok(Script { host: 1, steps })
 }
 
+fn put_scripts(alloc: Global, scripts: &mut Scripts) -> Result<(), AllocError> {
+    scripts.push(anna(alloc)?)?;
+    scripts.push(helix(alloc)?)
+}
+
 // The scripts alone: a summary asks for nothing else of a world.
 fn scripts(alloc: Global) -> Result<World, AllocError> {
     let mut scripts = Scripts::new(alloc);
-    scripts.push(anna(alloc)?)?;
-    scripts.push(helix(alloc)?)?;
+    put_scripts(alloc, &mut scripts)?;
     Ok(World {
         end: 60000,
         seed: 7,
@@ -429,6 +457,10 @@ fn scripts(alloc: Global) -> Result<World, AllocError> {
     })
 }
 
+fn summed(alloc: Global, history: History, status: RunStatus) -> Result<Octets, AllocError> {
+    summary_by(alloc, &scripts(alloc)?, &history, status)
+}
+
 #[test]
 fn a_datagram_is_summed(rt: HostRuntime) -> Result<(), Fail> {
     let alloc = rt.alloc();
@@ -436,7 +468,7 @@ fn a_datagram_is_summed(rt: HostRuntime) -> Result<(), Fail> {
         answered: 8,
         end: End::Done,
     };
-    let summary = summary_by(alloc, &scripts(alloc)?, &datagram(alloc)?, status)?;
+    let summary = summed(alloc, datagram(alloc)?, status)?;
     let lines = b"steps 8 of 8
 messages 1 1
 bytes 2 2
@@ -476,20 +508,29 @@ fn refusals(alloc: Global, history: &mut History) -> Result<(), AllocError> {
     history.push(entry(conv(1), 1, None, file, status))
 }
 
-#[test]
-fn refusals_are_no_messages(rt: HostRuntime) -> Result<(), Fail> {
-    let alloc = rt.alloc();
-    let mut history = History::new(alloc);
-    refusals(alloc, &mut history)?;
+fn moves(history: &mut History) -> Result<(), AllocError> {
     for moment in [10, 60000] {
         let event = Event::Move { moment };
         history.push(entry(ActorName::Clock, 3, None, event, Reply::Ok))?;
     }
+    Ok(())
+}
+
+fn refused(alloc: Global) -> Result<History, AllocError> {
+    let mut history = History::new(alloc);
+    refusals(alloc, &mut history)?;
+    moves(&mut history)?;
+    Ok(history)
+}
+
+#[test]
+fn refusals_are_no_messages(rt: HostRuntime) -> Result<(), Fail> {
+    let alloc = rt.alloc();
     let status = RunStatus {
         answered: 3,
         end: End::Stopped,
     };
-    let summary = summary_by(alloc, &scripts(alloc)?, &history, status)?;
+    let summary = summed(alloc, refused(alloc)?, status)?;
     let lines = b"steps 3 of 8
 messages 0 0
 bytes 0 0
@@ -503,22 +544,22 @@ end stopped 60000
 fn a_directory_replies(rt: HostRuntime) -> Result<(), Fail> {
     let alloc = rt.alloc();
     let reserve = Event::Reserve;
-    shows(&rt, alloc, reserve, Reply::NoSlot, "reserve = noslot")?;
+    shows(&rt, alloc, reserve, Reply::NoSlot, "reserve = noslot");
     let words = "grant 4 2 135.104.9.6!5000 - = noroute";
-    shows(&rt, alloc, asks(None), Reply::NoRoute, words)?;
+    shows(&rt, alloc, asks(None), Reply::NoRoute, words);
     let words = "grant 4 2 135.104.9.6!5000 - = noport";
-    shows(&rt, alloc, asks(None), Reply::NoPort, words)?;
+    shows(&rt, alloc, asks(None), Reply::NoPort, words);
     let words = "grant 4 2 135.104.9.6!5000 5000 = selfpair";
-    shows(&rt, alloc, asks(Some(5000)), Reply::SelfPair, words)?;
+    shows(&rt, alloc, asks(Some(5000)), Reply::SelfPair, words);
     let words = "grant 4 2 135.104.9.6!5000 7 = pairused 12";
     let used = Reply::PairUsed { k: 12 };
-    shows(&rt, alloc, asks(Some(7)), used, words)?;
+    shows(&rt, alloc, asks(Some(7)), used, words);
     let bind = Event::Bind {
         slot: 4,
         generation: 2,
         port: 53,
     };
-    shows(&rt, alloc, bind, Reply::Ok, "bind 4 2 53 = ok")?;
+    shows(&rt, alloc, bind, Reply::Ok, "bind 4 2 53 = ok");
     Ok(())
 }
 
@@ -539,18 +580,13 @@ fn calls_are_listed(rt: HostRuntime) -> Result<(), Fail> {
         slot: 5,
         generation: 1,
     };
-    shows(&rt, alloc, listen, call, "listen 4 = call 5 1")?;
+    shows(&rt, alloc, listen, call, "listen 4 = call 5 1");
     let withdraw = Event::Withdraw {
         slot: 4,
         generation: 2,
     };
-    let mut calls = CallList::new(alloc);
-    calls.push(Call {
-        slot: 5,
-        generation: 1,
-    })?;
-    let calls = Reply::Calls { calls };
-    shows(&rt, alloc, withdraw, calls, "withdraw 4 2 = calls 5 1")?;
+    let calls = called(alloc, &[5], 1)?;
+    shows(&rt, alloc, withdraw, calls, "withdraw 4 2 = calls 5 1");
     let release = Event::Release {
         slot: 4,
         generation: 2,
@@ -558,7 +594,7 @@ fn calls_are_listed(rt: HostRuntime) -> Result<(), Fail> {
     let calls = Reply::Calls {
         calls: CallList::new(alloc),
     };
-    shows(&rt, alloc, release, calls, "release 4 2 = calls -")?;
+    shows(&rt, alloc, release, calls, "release 4 2 = calls -");
     let born = Reply::Born {
         slot: 5,
         generation: 1,
@@ -566,21 +602,21 @@ fn calls_are_listed(rt: HostRuntime) -> Result<(), Fail> {
         limit: 8192,
     };
     let words = "arrive = born 5 1 4294967295 8192";
-    shows(&rt, alloc, Event::Arrive, born, words)?;
+    shows(&rt, alloc, Event::Arrive, born, words);
     shows(
         &rt,
         alloc,
         Event::Arrive,
         Reply::Refused,
         "arrive = refused",
-    )?;
+    );
     shows(
         &rt,
         alloc,
         Event::Arrive,
         Reply::Dropped,
         "arrive = dropped",
-    )?;
+    );
     Ok(())
 }
 
@@ -595,22 +631,22 @@ fn a_conversation_begins(rt: HostRuntime) -> Result<(), Fail> {
         born,
         Reply::Ok,
         "born 18446744073709551615 = ok",
-    )?;
+    );
     let claim = Event::Claim { generation: 2 };
-    shows(&rt, alloc, claim, Reply::Stale, "claim 2 = stale")?;
+    shows(&rt, alloc, claim, Reply::Stale, "claim 2 = stale");
     let announced = Event::Announced { generation: 2 };
-    shows(&rt, alloc, announced, Reply::Ok, "announced 2 = ok")?;
+    shows(&rt, alloc, announced, Reply::Ok, "announced 2 = ok");
     let bound = Event::Bound { generation: 2 };
-    shows(&rt, alloc, bound, Reply::Ok, "bound 2 = ok")?;
+    shows(&rt, alloc, bound, Reply::Ok, "bound 2 = ok");
     let open = Event::Open {
         file: FileName::Err,
         mode: Mode::Read,
     };
-    shows(&rt, alloc, open, Reply::NotOpen, "open err r = notopen")?;
+    shows(&rt, alloc, open, Reply::NotOpen, "open err r = notopen");
     let arrive = Event::ArriveAt { generation: 2 };
-    shows(&rt, alloc, arrive, Reply::Full, "arrive 2 = full")?;
+    shows(&rt, alloc, arrive, Reply::Full, "arrive 2 = full");
     let tick = Event::Tick { generation: 2 };
-    shows(&rt, alloc, tick, Reply::NotDue, "tick 2 = notdue")?;
+    shows(&rt, alloc, tick, Reply::NotDue, "tick 2 = notdue");
     Ok(())
 }
 
@@ -621,7 +657,7 @@ fn a_conversation_refuses(rt: HostRuntime) -> Result<(), Fail> {
         generation: 2,
         text: text(alloc, b"")?,
     };
-    shows(&rt, alloc, write, Reply::ZeroWrite, "write 2 - = zerowrite")?;
+    shows(&rt, alloc, write, Reply::ZeroWrite, "write 2 - = zerowrite");
     let write = Event::Write {
         generation: 2,
         text: text(alloc, b"\x00\xff")?,
@@ -630,17 +666,17 @@ fn a_conversation_refuses(rt: HostRuntime) -> Result<(), Fail> {
         length: 2,
         limit: 1,
     };
-    shows(&rt, alloc, write, long, "write 2 00ff = toolong 2 1")?;
+    shows(&rt, alloc, write, long, "write 2 00ff = toolong 2 1");
     let ctl = Event::Ctl {
         generation: 2,
         text: text(alloc, b"go\n")?,
     };
     let bad = Reply::BadCtl { number: 1 };
-    shows(&rt, alloc, ctl, bad, "ctl 2 676f0a = badctl 1")?;
+    shows(&rt, alloc, ctl, bad, "ctl 2 676f0a = badctl 1");
     let hangup = Event::Hangup { generation: 2 };
-    shows(&rt, alloc, hangup, Reply::Left, "hangup 2 = left")?;
+    shows(&rt, alloc, hangup, Reply::Left, "hangup 2 = left");
     let close = Event::Close { generation: 2 };
-    shows(&rt, alloc, close, Reply::Ok, "close 2 = ok")?;
+    shows(&rt, alloc, close, Reply::Ok, "close 2 = ok");
     Ok(())
 }
 
@@ -650,22 +686,22 @@ fn numbers_stand_in_decimal(rt: HostRuntime) -> Result<(), Fail> {
     let query = text(alloc, b"il!")?;
     let refused = Reply::CsRefused { number: 3 };
     let words = "cs 696c21 = csrefused 3";
-    shows(&rt, alloc, Event::Cs { query }, refused, words)?;
+    shows(&rt, alloc, Event::Cs { query }, refused, words);
     let ttl = Event::Ttl {
         generation: 2,
         n: 64,
     };
-    shows(&rt, alloc, ttl, Reply::Ok, "ttl 2 64 = ok")?;
+    shows(&rt, alloc, ttl, Reply::Ok, "ttl 2 64 = ok");
     let tos = Event::Tos {
         generation: 2,
         n: 16,
     };
-    shows(&rt, alloc, tos, Reply::Ok, "tos 2 16 = ok")?;
+    shows(&rt, alloc, tos, Reply::Ok, "tos 2 16 = ok");
     let put = Event::Put { to: Some(7) };
-    shows(&rt, alloc, put, Reply::TooBig, "put 7 = toobig")?;
+    shows(&rt, alloc, put, Reply::TooBig, "put 7 = toobig");
     let until = Event::Until { moment: 10 };
-    shows(&rt, alloc, until, Reply::Ok, "until 10 = ok")?;
+    shows(&rt, alloc, until, Reply::Ok, "until 10 = ok");
     let moved = Event::Move { moment: 60000 };
-    shows(&rt, alloc, moved, Reply::Ok, "move 60000 = ok")?;
+    shows(&rt, alloc, moved, Reply::Ok, "move 60000 = ok");
     Ok(())
 }
