@@ -6,3 +6,11 @@ pub mod Passes
 pub mod Firsts
 pub mod Operating
 pub mod Staying
+pub mod Sighted
+pub mod Found
+pub mod Leasts
+pub mod Slots
+pub mod Through
+pub mod Moved
+pub mod Concluding
+pub mod Halting

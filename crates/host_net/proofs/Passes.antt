@@ -38,7 +38,7 @@ module _ (w : World) (r : Roster) where
         timely = λ t. two.timely (one.timely t);
       }
 
-  stays_on : (c : ℕ) (p q s : Sight) → Stays w c p q → Stays w c q s → Stays w c p s
+  pub stays_on : (c : ℕ) (p q s : Sight) → Stays w c p q → Stays w c q s → Stays w c p s
   stays_on c p q s one two =
       record {
         before = prefix_trans p.seen q.seen s.seen one.before two.before;

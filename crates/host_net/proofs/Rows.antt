@@ -150,7 +150,7 @@ named_at f xs k x lt is =
 
 -- Few.
 
-within_most : (least most n : ℕ) → is_within least most n ≡ true → n ≤ most
+pub within_most : (least most n : ℕ) → is_within least most n ≡ true → n ≤ most
 within_most least most n is = leb-true n most (and_parts (nat_le least n) (nat_le n most) is).1
 
 module _ (w : World) (is : IsWorld w) where

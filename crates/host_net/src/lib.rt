@@ -1,12 +1,14 @@
 //! The net behind locks: every actor of a world behind its own, and a guest for each caller.
 #![tactic(auto)]
 
+mod clock;
 mod finishing;
 mod guest;
 mod net;
 mod opening;
 mod turn;
 
+pub use clock::Advance;
 pub use guest::Guest;
 pub use net::Net;
 pub use opening::NetOpened;

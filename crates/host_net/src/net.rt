@@ -41,10 +41,10 @@ use std::sync::{Arc, Wait};
 /// Every actor of a world behind its lock, each at its number.
 #[derive(Drop)]
 pub struct Net<J: Naming + Placing, M: Machine> {
-    journal: Journal<J>,
+    pub(crate) journal: Journal<J>,
     locks: Vec<Locked<J, M>>,
     ways: WorldWays,
-    hosts: u32,
+    pub(crate) hosts: u32,
     media: u32,
     ghost of: { IsNetOf J.world J.run.roster hosts media ways (map (λ l. l.actor) locks.items) } by { net_prop },
 }
@@ -79,7 +79,7 @@ impl<J: Naming + Placing> Net<J, WorldActor<J>> {
     }
 
     // The lock of an actor, where the world has it.
-    fn lock_of(&self, actor: ActorName) -> Option<&Locked<J, WorldActor<J>>>
+    pub(crate) fn lock_of(&self, actor: ActorName) -> Option<&Locked<J, WorldActor<J>>>
         ensures some { IfSome result (λ l. l.now.actor ≡ actor) }
         ensures none { IsNone result → has_actor J.world actor ≡ false }
     {
