@@ -8,7 +8,7 @@ use Rattle.host_net.specs.Playing.{HasRole, Playing}
 use Rattle.host_net.proofs.Naming.{one_clock}
 use Rattle.host_net.proofs.Seating.{alone_at, dealt_more, set_joined, visits_more}
 use Rattle.host_net.specs.Visits.{Visit}
-use Rattle.std.proofs.lemmas.List.{append-nil, length-map}
+use Rattle.std.proofs.lemmas.List.{append-nil}
 
 get_index : {A : Type 0} (xs : List A) (k : ℕ) (d : A) → k < length xs → slice_get xs k ≡ Some (slice_index_or xs k d)
 get_index [] k d lt = absurd (omega (arith, lt))
@@ -54,5 +54,9 @@ take_first (x ∷ xs) ys (suc n) is = ap (λ (l : _). x ∷ l) (take_first xs ys
 pub written : {A : Type 0} (xs ys : List A) (n : ℕ) → n ≡ length ys → length xs ≡ length ys → take n (xs ++ drop (length xs) ys) ≡ xs
 written xs ys n long same = take_first xs (drop (length xs) ys) n (long ∙ sym same)
 
+callers_long : {T : Type 0} (ps : List (Playing T)) → length (callers_of ps) ≡ length ps
+callers_long [] = refl
+callers_long (p ∷ ps) = ap suc (callers_long ps)
+
 pub same_long : {T : Type 0} (ps qs : List (Playing T)) → callers_of ps ≡ callers_of qs → length ps ≡ length qs
-same_long ps qs is = sym (length-map caller ps) ∙ (ap length is ∙ length-map caller qs)
+same_long ps qs is = sym (callers_long ps) ∙ (ap length is ∙ callers_long qs)
