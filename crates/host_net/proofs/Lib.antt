@@ -14,3 +14,9 @@ pub mod Through
 pub mod Moved
 pub mod Concluding
 pub mod Halting
+pub mod Continuing
+pub mod Keeping
+pub mod Telling
+pub mod Seating
+pub mod Naming
+pub mod Joining

@@ -3,5 +3,7 @@ pub mod Rosters
 pub mod Facts
 pub mod Worked
 pub mod Deciding
+pub mod Playing
+pub mod Groups
 pub use Rattle.guest_laws.specs.Guests
 pub use Rattle.script_task.specs.Requests

@@ -6,12 +6,16 @@ mod finishing;
 mod guest;
 mod net;
 mod opening;
+mod player;
+mod players;
 mod turn;
 
 pub use clock::Advance;
 pub use guest::Guest;
 pub use net::Net;
 pub use opening::NetOpened;
+pub use player::{Played, Player, Role};
+pub use players::{Group, Players};
 pub use turn::Turn;
 
 #[cfg(test)]

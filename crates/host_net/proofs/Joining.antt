@@ -1,0 +1,62 @@
+-- The next caller's player joins its group.
+use Rattle.std.proofs.Common.{◌≡◌, ℕ, zero, suc, ◌+◌, ◌<◌, ◌%◌, Result, Ok, Err, OnErr, List, [], ◌∷◌, ◌++◌, append_assoc, length, Option, None, Some, slice_get, slice_set, slice_index_or, take, drop, refl, ap, sym, subst, ◌∙◌, arith}
+use Rattle.net_base.specs.declared.world.World.{World}
+use Rattle.net_base.specs.Callers.{IsClock, caller_of}
+use Rattle.host_net.specs.declared.player.Role.TheVariants as role
+use Rattle.host_net.specs.Groups.{Grouped, Grouping, IsDealt, all_seats, caller, callers_of, joined, joined_at, visits, with_last}
+use Rattle.host_net.specs.Playing.{HasRole, Playing}
+use Rattle.host_net.proofs.Naming.{one_clock}
+use Rattle.host_net.proofs.Seating.{alone_at, dealt_more, set_joined, visits_more}
+use Rattle.host_net.specs.Visits.{Visit}
+use Rattle.std.proofs.lemmas.List.{append-nil}
+
+get_index : {A : Type 0} (xs : List A) (k : ℕ) (d : A) → k < length xs → slice_get xs k ≡ Some (slice_index_or xs k d)
+get_index [] k d lt = absurd (omega (arith, lt))
+get_index (x ∷ xs) zero d lt = refl
+get_index (x ∷ xs) (suc k) d lt = get_index xs k d (omega (arith, lt))
+
+-- an error leaves what stands anyway
+pub on_error : {A E : Type 0} (r : Result A E) (P : Type 0) → P → OnErr r P
+on_error (Ok x) P p = tt
+on_error (Err e) P p = p
+
+abbrev pub grouping : {T : Type 0} → List (Grouped T) → ℕ → Grouping T
+grouping gs n = record { groups = gs; callers = n }
+
+module _ {T : Type 0} (w : World) (n : ℕ) (gs : List (Grouped T)) (dealt : IsDealt w n (all_seats gs)) (p : Playing T) (next : caller p ≡ n) (has : HasRole w (caller p) p.role)
+    (k : ℕ) (is : k ≡ n % length gs) (lt : k < length gs) (d : Grouped T) where
+  -- the group that the player joins
+  pub alone_index : p.role ≡ role.Clock → (slice_index_or gs k d).clock ≡ None
+  alone_index = alone_at w n gs dealt p next has (one_clock w) (slice_index_or gs k d) (ap (slice_get gs) (sym is) ∙ get_index gs k d lt)
+
+  pub dealt_set : (new : Grouped T) → new ≡ joined (slice_index_or gs k d) p → IsDealt w (n + 1) (all_seats (slice_set gs k new))
+  dealt_set new joins =
+      let set : slice_set gs k new ≡ joined_at (n % length gs) gs p = ap (slice_set gs k) joins ∙ (set_joined gs k d p ∙ ap (λ (i : ℕ). joined_at i gs p) is) in
+      subst (λ (l : List (Grouped T)). IsDealt w (n + 1) (all_seats l)) (sym set)
+      (dealt_more w n gs dealt p next has (subst (λ (i : ℕ). i < length gs) is lt) (alone_at w n gs dealt p next has (one_clock w)))
+
+  pub groups_set : (new : Grouped T) → new ≡ joined (slice_index_or gs k d) p → slice_set gs k new ≡ joined_at (n % length gs) gs p
+  groups_set new joins = ap (slice_set gs k) joins ∙ (set_joined gs k d p ∙ ap (λ (i : ℕ). joined_at i gs p) is)
+
+-- the players of a group, and then its clock
+pub group_visits : {T : Type 0} (vs : List Visit) (ps : List (Playing T)) (o : Option (Playing T)) → (vs ++ visits ps) ++ visits (with_last [] o) ≡ vs ++ visits (with_last ps o)
+group_visits vs ps None = append-nil (vs ++ visits ps)
+group_visits vs ps (Some p) = append_assoc vs (visits ps) (p.visit ∷ []) ∙ ap (λ (l : List Visit). vs ++ l) (sym (visits_more ps (p ∷ [])))
+
+-- What a call wrote to all elements of a vector.
+
+take_first : {A : Type 0} (xs ys : List A) (n : ℕ) → n ≡ length xs → take n (xs ++ ys) ≡ xs
+take_first [] ys zero is = refl
+take_first [] ys (suc n) is = absurd (omega (arith, is))
+take_first (x ∷ xs) ys zero is = absurd (omega (arith, is))
+take_first (x ∷ xs) ys (suc n) is = ap (λ (l : _). x ∷ l) (take_first xs ys n (omega (arith, is)))
+
+pub written : {A : Type 0} (xs ys : List A) (n : ℕ) → n ≡ length ys → length xs ≡ length ys → take n (xs ++ drop (length xs) ys) ≡ xs
+written xs ys n long same = take_first xs (drop (length xs) ys) n (long ∙ sym same)
+
+callers_long : {T : Type 0} (ps : List (Playing T)) → length (callers_of ps) ≡ length ps
+callers_long [] = refl
+callers_long (p ∷ ps) = ap suc (callers_long ps)
+
+pub same_long : {T : Type 0} (ps qs : List (Playing T)) → callers_of ps ≡ callers_of qs → length ps ≡ length qs
+same_long ps qs is = sym (callers_long ps) ∙ (ap length is ∙ callers_long qs)

@@ -1,0 +1,226 @@
+-- What a turn leaves of a player.
+use Rattle.std.proofs.Common.{◌≡◌, ◌≢◌, ℕ, ◌⊎◌, inl, inr, Bool, true, false, List, [], ◌∷◌, ◌++◌, Option, Some, None, refl, ap, sym, subst, ◌∙◌}
+use Rattle.std.proofs.lemmas.Bool.{true≢false}
+use Rattle.std.proofs.lemmas.Option.{none-some, same_Some}
+use Rattle.net_base.specs.declared.actor.ActorName.{ActorName}
+use Rattle.net_base.specs.declared.actor.ActorName.TheVariants as name
+use Rattle.net_base.specs.declared.event.Event.TheVariants as event
+use Rattle.net_base.specs.declared.history.Outcome.{Outcome}
+use Rattle.net_base.specs.declared.history.Work.{Work}
+use Rattle.net_base.specs.declared.noted.Noted.{Noted}
+use Rattle.net_base.specs.declared.noted.Number.TheVariants as number
+use Rattle.net_base.specs.declared.reply.Reply.{Reply}
+use Rattle.net_base.specs.declared.world.Script.{Script}
+use Rattle.net_base.specs.declared.world.World.{World}
+use Rattle.net_base.specs.Actors.{actor_step}
+use Rattle.net_base.specs.Callers.{Caller, IsClock, IsCourier, IsScript, caller_of}
+use Rattle.net_base.specs.Duties.{Duty}
+use Rattle.net_base.specs.Legal.{IsAsked}
+use Rattle.net_base.specs.Next.{next, next_of, own_replies}
+use Rattle.net_base.specs.Stamped.{at}
+use Rattle.net_base.specs.Steps.{Ask, Bound, Play}
+use Rattle.duties.specs.Queue.{work_of_duty}
+use Rattle.journal.specs.declared.tokens.Sight.{Sight}
+use Rattle.locked.specs.Acts.{made, without_copy}
+use Rattle.script_task.specs.declared.request.Request.{Request}
+use Rattle.script_task.specs.Requests.{head, planned, settled}
+use Rattle.script_task.specs.Rest.{Continues}
+use Rattle.script_task.specs.Task.{Heads, AsksSo, MovesSo, follow, fits_play}
+use Rattle.guest_laws.specs.Own.{AreNext, AreTimely, StandsStill}
+use Rattle.guest_laws.specs.Works.{entries, noted_net}
+use Rattle.host_net.specs.declared.player.Played.{Played}
+use Rattle.host_net.specs.declared.player.Played.TheVariants as played
+use Rattle.host_net.specs.declared.player.Role.{Role}
+use Rattle.host_net.specs.declared.turn.Turn.{Turn}
+use Rattle.host_net.specs.declared.turn.Turn.TheVariants as turn
+use Rattle.host_net.specs.Playing.{GoesOn, HasMore, HasRole, IsPlayed, IsPlayer, IsSamePlayer, IsUnmoved, IsUnready, IsWaiting, Playing, PlaysOn, Told, played_by}
+use Rattle.host_net.specs.Visits.{Asked, IsFull, IsSame, Operated, Recorded, Stays, Takes, Unready, Visit, bare, own}
+use Rattle.host_net.proofs.Continuing.{FitWorks, KeepsActors, continues_on, duty_replies, fits_there, own_push, own_reply, own_stays, play_fits, script_next}
+
+abbrev pub playing : {T : Type 0} → Visit → Role → T → Bool → Playing T
+playing v who t lost = record { visit = v; role = who; task = t; lost = lost }
+
+-- One turn, whatever is done.
+
+module _ (w : World) (a : ActorName) (work : Work) (cites : Option ℕ) (old new : Visit) (same : IsSame old new) where
+  abbrev AskedFor : Type 0
+  AskedFor = (o : Outcome) → IsAsked old.owed (caller_of w old.caller) (next w (entries old.sight.seen) old.caller) (made a old.caller old.now work cites o).entry
+
+  abbrev RecordsIt : ℕ → Reply → Type 0
+  RecordsIt stamp r = Recorded w old.caller old.now a work cites old.sight old.owed stamp r new.sight new.owed
+
+  by_stands : StandsStill w old.caller old.sight.seen new.sight.seen → IsPlayed w old → IsPlayed w new
+  by_stands stands is =
+      record {
+        nexts = subst (λ (c : ℕ). AreNext w c new.sight.seen) (sym same.caller) (stands.nexts is.nexts);
+        timely = subst (λ (c : ℕ). AreTimely w c new.sight.seen) (sym same.caller) (stands.timely is.timely);
+      }
+
+  by_sight : new.sight ≡ old.sight → IsPlayed w old → IsPlayed w new
+  by_sight sight is =
+      record {
+        nexts = subst (λ (c : ℕ). AreNext w c new.sight.seen) (sym same.caller) (subst (λ (p : Sight). AreNext w old.caller p.seen) (sym sight) is.nexts);
+        timely = subst (λ (c : ℕ). AreTimely w c new.sight.seen) (sym same.caller) (subst (λ (p : Sight). AreTimely w old.caller p.seen) (sym sight) is.timely);
+      }
+
+  pub by_record : (stamp : ℕ) (r : Reply) → RecordsIt stamp r → AskedFor → IsPlayed w old → IsPlayed w new
+  by_record stamp r rec asked is =
+      record {
+        nexts = subst (λ (c : ℕ). AreNext w c new.sight.seen) (sym same.caller) (rec.nexts (asked (without_copy rec.step.outcome)) is.nexts);
+        timely = subst (λ (c : ℕ). AreTimely w c new.sight.seen) (sym same.caller) (rec.timely is.timely);
+      }
+
+  -- its own entries are still its turns
+  pub turn_played : (answer : Turn) → Takes w a work cites old answer new → AskedFor → IsPlayed w old → IsPlayed w new
+  turn_played (turn.Recorded stamp r) takes asked is = by_record stamp r takes asked is
+  turn_played turn.NotReady takes asked is = by_stands takes.0.stays.stands is
+  turn_played turn.Owes takes asked is = absurd takes
+  turn_played turn.Limit takes asked is = by_sight takes.1 is
+  turn_played turn.Memory takes asked is = by_sight takes.1 is
+
+  -- one of them more
+  pub more : (stamp : ℕ) (r : Reply) → RecordsIt stamp r → HasMore old new
+  more stamp r rec =
+      let x = made a old.caller old.now work cites (without_copy rec.step.outcome) in
+      let push = own_push old.caller rec.past x refl in (
+        (push.0, x),
+        ap (λ (c : ℕ). own c new.sight) same.caller ∙ (ap (at (number.Caller old.caller)) rec.seen
+            ∙ (push.1 ∙ ap (λ (l : List (ℕ × Noted)). l ++ (push.0, x) ∷ []) rec.alone)),
+      )
+
+  pub own_sight : new.sight ≡ old.sight → own new.caller new.sight ≡ own old.caller old.sight
+  own_sight sight = ap (λ (c : ℕ). own c new.sight) same.caller ∙ ap (own old.caller) sight
+
+  own_stands : Unready w old.caller old.now a work old.sight new.sight → own new.caller new.sight ≡ own old.caller old.sight
+  own_stands is = ap (λ (c : ℕ). own c new.sight) same.caller ∙ is.stays.alone
+
+  pub full : IsFull old.caller old.sight → new.sight ≡ old.sight → IsFull new.caller new.sight
+  full is sight = subst (λ (c : ℕ). IsFull c new.sight) (sym same.caller) (subst (λ (p : Sight). IsFull old.caller p) (sym sight) is)
+
+  abbrev UnreadyNow : Type 0
+  UnreadyNow = actor_step w a ((noted_net w new.sight.seen).actors a) new.now work ≡ None
+
+  unready_now : Unready w old.caller old.now a work old.sight new.sight → UnreadyNow
+  unready_now is = ap (λ (m : ℕ). actor_step w a ((noted_net w new.sight.seen).actors a) m work) same.now ∙ is.unready
+
+  module _ {T : Type 0} (who : Role) (t : T) (lost : Bool) (names : new.names ≡ old.names) where
+    unmoved : own new.caller new.sight ≡ own old.caller old.sight → new.owed ≡ old.owed → IsUnmoved (playing old who t lost) (playing new who t lost)
+    unmoved own_is owed = record { own_is = own_is; owed = owed; names = names; task = refl; lost = refl }
+
+    -- what its turn came to
+    pub turn_plays : (answer : Turn) → Takes w a work cites old answer new
+        → (UnreadyNow → Stays w old.caller old.sight new.sight → new.owed ≡ old.owed → IsUnready w new new.owed)
+        → PlaysOn w (playing old who t lost) (played_by answer) (playing new who t lost)
+    turn_plays (turn.Recorded stamp r) takes unready = (more stamp r takes, refl)
+    turn_plays turn.NotReady takes unready = (unmoved (own_stands takes.0) takes.1, inr (unready (unready_now takes.0) takes.0.stays takes.1))
+    turn_plays turn.Owes takes unready = absurd takes
+    turn_plays turn.Limit takes unready = (unmoved (own_sight takes.1) takes.2, inl (full takes.0 takes.1))
+    turn_plays turn.Memory takes unready = inl (unmoved (own_sight takes.1) takes.2)
+
+-- what comes next isn't ready
+pub unready_next : (w : World) (old new : Visit) → IsSame old new → (ask : Ask)
+    → actor_step w ask.actor ((noted_net w new.sight.seen).actors ask.actor) new.now (bare ask.event) ≡ None
+    → Stays w old.caller old.sight new.sight → next w (entries old.sight.seen) old.caller ≡ Some ask → IsUnready w new []
+unready_next w old new same ask unready stays is = λ other comes.
+    let found : ask ≡ other = same_Some ask other (sym is ∙ (sym stays.stands.comes_next ∙ (ap (next w (entries new.sight.seen)) (sym same.caller) ∙ comes))) in
+    subst (λ (x : Ask). actor_step w x.actor ((noted_net w new.sight.seen).actors x.actor) new.now (bare x.event) ≡ None) found unready
+
+abbrev is_script : Caller → Bool
+is_script (IsScript s) = true
+is_script _ = false
+
+-- A player after a turn.
+
+module _ {T : Type 0} (Stands : ℕ → List Bound → T → Play → Type 0) (w : World) (old new : Visit) (same : IsSame old new) where
+  pub goes_stay : (s : Script) (t : T) → new.names ≡ old.names → own_replies (entries new.sight.seen) old.caller ≡ own_replies (entries old.sight.seen) old.caller
+      → GoesOn Stands s old t → GoesOn Stands s new t
+  goes_stay s t names replies goes = (
+    goes.0,
+    subst (λ (l : List Bound). Stands s.host l t goes.0) (sym names) goes.1,
+    subst (λ (rs : List Reply). Continues s rs goes.0) (sym (ap (own_replies (entries new.sight.seen)) same.caller ∙ replies)) goes.2,
+  )
+
+  pub still_player : (who : Role) (t : T) (lost : Bool) → IsPlayer Stands w old who t lost → IsPlayed w new
+      → ((s : Script) → GoesOn Stands s old t → GoesOn Stands s new t) → IsPlayer Stands w new who t lost
+  still_player who t lost is plays goes =
+      record {
+        role_is = subst (λ (c : ℕ). HasRole w c who) (sym same.caller) is.role_is;
+        plays = plays;
+        goes_on = λ s script told. goes s (is.goes_on s (ap (caller_of w) (sym same.caller) ∙ script) told);
+      }
+
+-- The first duty.
+
+module _ (w : World) (d : Duty) (old new : Visit) (same : IsSame old new) (names : new.names ≡ old.names) where
+  duty_stays : (a : ActorName) (work : Work) (answer : Turn) → Takes w a work (Some d.cites) old answer new
+      → own_replies (entries new.sight.seen) old.caller ≡ own_replies (entries old.sight.seen) old.caller
+  duty_stays a work (turn.Recorded stamp r) takes =
+      let x = made a old.caller old.now work (Some d.cites) (without_copy takes.step.outcome) in
+      ap (λ (l : List Noted). own_replies (entries l) old.caller) takes.seen ∙ (duty_replies old.caller d.cites takes.past x refl refl
+      ∙ own_stays old.caller old.sight.seen takes.past takes.alone)
+  duty_stays a work turn.NotReady takes = own_stays old.caller old.sight.seen new.sight.seen takes.0.stays.alone
+  duty_stays a work turn.Owes takes = absurd takes
+  duty_stays a work turn.Limit takes = ap (λ (p : Sight). own_replies (entries p.seen) old.caller) takes.1
+  duty_stays a work turn.Memory takes = ap (λ (p : Sight). own_replies (entries p.seen) old.caller) takes.1
+
+  -- what a first duty asks for
+  duty_asked : (rest : List Duty) → old.owed ≡ d ∷ rest → (o : Outcome)
+      → IsAsked old.owed (caller_of w old.caller) (next w (entries old.sight.seen) old.caller) (made d.actor old.caller old.now (work_of_duty d) (Some d.cites) o).entry
+  duty_asked rest is o =
+      subst (λ (ds : List Duty). IsAsked ds (caller_of w old.caller) (next w (entries old.sight.seen) old.caller) (made d.actor old.caller old.now (work_of_duty d) (Some d.cites) o).entry)
+      (sym is) refl
+
+  module _ (rest : List Duty) (is : old.owed ≡ d ∷ rest) (answer : Turn) (takes : Takes w d.actor (work_of_duty d) (Some d.cites) old answer new) where
+    pub duty_keeps : {T : Type 0} (Stands : ℕ → List Bound → T → Play → Type 0) (who : Role) (t : T) (lost : Bool)
+        → IsPlayer Stands w old who t lost → IsPlayer Stands w new who t lost
+    duty_keeps Stands who t lost player =
+        still_player Stands w old new same who t lost player
+        (turn_played w d.actor (work_of_duty d) (Some d.cites) old new same answer takes (duty_asked rest is) player.plays)
+        (λ (s : Script) goes. goes_stay Stands w old new same s t names (duty_stays d.actor (work_of_duty d) answer takes) goes)
+
+    pub duty_plays : {T : Type 0} (who : Role) (t : T) (lost : Bool) → PlaysOn w (playing old who t lost) (played_by answer) (playing new who t lost)
+    duty_plays who t lost =
+        turn_plays w d.actor (work_of_duty d) (Some d.cites) old new same who t lost names answer takes
+        (λ unready stays owed. subst (λ (ds : List Duty). IsUnready w new ds) (sym (owed ∙ is)) unready)
+
+-- The copy that a courier takes.
+
+module _ (w : World) (m : ℕ) (old new : Visit) (same : IsSame old new) (names : new.names ≡ old.names) (courier : caller_of w old.caller ≡ IsCourier m) (free : old.owed ≡ [])
+    (answer : Turn) (takes : Takes w (name.Medium m) (bare event.Take) None old answer new) where
+  take_next : next w (entries old.sight.seen) old.caller ≡ Some (record { actor = name.Medium m; event = event.Take })
+  take_next = ap (λ (k : Caller). next_of k (entries old.sight.seen) old.caller) courier
+
+  take_asked : (o : Outcome)
+      → IsAsked old.owed (caller_of w old.caller) (next w (entries old.sight.seen) old.caller) (made (name.Medium m) old.caller old.now (bare event.Take) None o).entry
+  take_asked o =
+      subst (λ (ds : List Duty). IsAsked ds (caller_of w old.caller) (next w (entries old.sight.seen) old.caller) (made (name.Medium m) old.caller old.now (bare event.Take) None o).entry)
+      (sym free)
+      (subst (λ (k : Caller). IsAsked [] k (next w (entries old.sight.seen) old.caller) (made (name.Medium m) old.caller old.now (bare event.Take) None o).entry) (sym courier) take_next)
+
+  no_script : (s : Script) → caller_of w old.caller ≡ IsScript s → ⊥
+  no_script s is = true≢false (ap is_script (sym is ∙ courier))
+
+  pub take_keeps : {T : Type 0} (Stands : ℕ → List Bound → T → Play → Type 0) (who : Role) (t : T) (lost : Bool)
+      → IsPlayer Stands w old who t lost → IsPlayer Stands w new who t lost
+  take_keeps Stands who t lost player =
+      record {
+        role_is = subst (λ (c : ℕ). HasRole w c who) (sym same.caller) player.role_is;
+        plays = turn_played w (name.Medium m) (bare event.Take) None old new same answer takes take_asked player.plays;
+        goes_on = λ s script told. absurd (no_script s (ap (caller_of w) (sym same.caller) ∙ script));
+      }
+
+  pub take_plays : {T : Type 0} (who : Role) (t : T) (lost : Bool) → PlaysOn w (playing old who t lost) (played_by answer) (playing new who t lost)
+  take_plays who t lost =
+      turn_plays w (name.Medium m) (bare event.Take) None old new same who t lost names answer takes
+      (λ unready stays owed. subst (λ (ds : List Duty). IsUnready w new ds) (sym (owed ∙ free)) (unready_next w old new same (record { actor = name.Medium m; event = event.Take }) unready stays take_next))
+
+-- The clock waits for the calm.
+
+pub clock_waits : (w : World) (v : Visit) → caller_of w v.caller ≡ IsClock → v.owed ≡ [] → IsWaiting w v
+clock_waits w v clock free =
+    let nothing : next w (entries v.sight.seen) v.caller ≡ None = ap (λ (k : Caller). next_of k (entries v.sight.seen) v.caller) clock in
+    inr (subst (λ (ds : List Duty). IsUnready w v ds) (sym free) (λ ask comes. absurd (none-some ask (sym nothing ∙ comes))))
+
+-- a turn that came to nothing
+pub waits_from : {T : Type 0} (w : World) (old new : Playing T) (result : Played) → PlaysOn w old result new → result ≡ played.Waits → IsWaiting w new.visit
+waits_from w old new result plays is = (subst (λ (r : Played). PlaysOn w old r new) is plays).1

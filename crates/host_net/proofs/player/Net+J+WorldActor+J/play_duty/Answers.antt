@@ -1,0 +1,27 @@
+use Rattle.std.proofs.Common.{◌≡◌, ◌≢◌, List, [], ap, sym, subst, ◌∙◌}
+use Rattle.net_base.specs.Duties.{Duty}
+use Rattle.host_net.specs.declared.player.Played.{Played}
+use Rattle.host_net.specs.Playing.{Playing, PlaysOn}
+use Rattle.host_net.proofs.Firsts.{first_of, first_some}
+use Rattle.host_net.proofs.Keeping.{duty_keeps, duty_plays, playing}
+use Rattle.host_net.proofs.player.Net+J+WorldActor+J.play_duty.Goals as goal
+
+pub invariant_of-player : goal.invariant_of-player
+invariant_of-player g c =
+    let p = c.player.inside in
+    let some : p.guest.owed ≢ [] = λ none. c.requires.owes (sym (ap (λ x. x.visit.owed) c.player.view_is) ∙ none) in
+    let first = first_some p.guest.owed some in
+    duty_keeps g.J.Placing.world first.0 p.guest c.serve.new.guest c.serve.ensures.same c.serve.ensures.names _ (first_of p.guest.owed first.0 first.1) c.serve.result
+    (c.serve.ensures.turn first.0 first.1) g.T.Task.Stands p.role p.task p.lost c.player.invariant
+
+pub returns-clause-turn : goal.returns-clause-turn
+returns-clause-turn g c =
+    let w = g.J.Placing.world in
+    let p = c.player.inside in
+    let some : p.guest.owed ≢ [] = λ none. c.requires.owes (sym (ap (λ x. x.visit.owed) c.player.view_is) ∙ none) in
+    let first = first_some p.guest.owed some in
+    let new = playing c.serve.new.guest p.role p.task p.lost in
+    subst (λ x. PlaysOn w x c.played_of.result new) c.player.view_is
+    (subst (λ (r : Played). PlaysOn w (playing p.guest p.role p.task p.lost) r new) (sym c.played_of.ensures)
+    (duty_plays w first.0 p.guest c.serve.new.guest c.serve.ensures.same c.serve.ensures.names _ (first_of p.guest.owed first.0 first.1) c.serve.result
+    (c.serve.ensures.turn first.0 first.1) p.role p.task p.lost))

@@ -1,0 +1,16 @@
+use Rattle.std.proofs.Common.{◌≡◌, ◌≤◌, length, slice_index_or, arith, ◌∙◌}
+use Rattle.host_net.proofs.Keeping.{waits_from}
+use Rattle.host_net.proofs.Seating.{all_waiting, same_callers, waiting_more}
+use Rattle.host_net.proofs.players.Net+J+WorldActor+J.play_each.Goals as goal
+
+pub loop-i-preserved : goal.loop-i-preserved
+loop-i-preserved g c = (
+  same_callers c.loop-i.players c.loop-i.i c.index-players-i.result c.play.new.player c.play.ensures.same.caller ∙ c.loop-i.invariant.0,
+  λ waits.
+      let both = c.both-turns.ensures.waits waits in
+      waiting_more g.J.Placing.world c.loop-i.players c.loop-i.i c.play.new.player (omega (arith, c.loop-i-test.true)) (c.loop-i.invariant.1 both.0)
+      (waits_from g.J.Placing.world (slice_index_or c.loop-i.players c.loop-i.i c.index-players-i.result) c.play.new.player c.play.result c.play.ensures.turn both.1),
+)
+
+pub returns-clause-rest : goal.returns-clause-rest
+returns-clause-rest g c = λ waits. all_waiting g.J.Placing.world c.loop-i.players c.loop-i.i c.loop-i-test.false (c.loop-i.invariant.1 waits)

@@ -1,0 +1,6 @@
+use Rattle.std.proofs.Common.{◌≡◌, length}
+use Rattle.host_net.proofs.Seating.{AreEmpty}
+use Rattle.host_net.proofs.players.Players.new.Given as goal
+
+abbrev pub invariant-loop : goal.invariant-loop
+invariant-loop g l = (length l.groups.items ≡ l.counter) × AreEmpty l.groups.items

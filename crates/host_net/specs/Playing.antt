@@ -1,0 +1,120 @@
+-- Callers that are played.
+--     IsPlayer      what a player keeps
+--     PlaysOn       what its turn did
+use Rattle.std.specs.Prelude.{◌≡◌, ℕ, ◌⊎◌, Bool, true, false, List, [], ◌∷◌, ◌++◌, Option, Some, None}
+use Rattle.net_base.specs.declared.noted.Noted.{Noted}
+use Rattle.net_base.specs.declared.reply.Reply.{Reply}
+use Rattle.net_base.specs.declared.world.Script.{Script}
+use Rattle.net_base.specs.declared.world.World.{World}
+use Rattle.net_base.specs.Actors.{actor_step}
+use Rattle.net_base.specs.Callers.{IsScript, IsCourier, IsClock, caller_of}
+use Rattle.net_base.specs.Duties.{Duty}
+use Rattle.net_base.specs.Next.{next, own_replies}
+use Rattle.net_base.specs.Steps.{Ask, Bound, Play}
+use Rattle.net_base.specs.Stamped.{In}
+use Rattle.duties.specs.Queue.{work_of_duty}
+use Rattle.script_task.specs.Rest.{Continues}
+use Rattle.guest_laws.specs.Own.{AreNext, AreTimely}
+use Rattle.guest_laws.specs.Works.{entries, noted_net}
+use Rattle.host_net.specs.declared.player.Played.{Played}
+use Rattle.host_net.specs.declared.player.Played.TheVariants as played
+use Rattle.host_net.specs.declared.player.Role.{Role}
+use Rattle.host_net.specs.declared.player.Role.TheVariants as role
+use Rattle.host_net.specs.declared.turn.Turn.{Turn}
+use Rattle.host_net.specs.declared.turn.Turn.TheVariants as turn
+use Rattle.host_net.specs.Visits.{IsFull, Visit, bare, own}
+
+-- who a caller is
+abbrev pub HasRole : World → ℕ → Role → Type 0
+HasRole w c role.Script = (s : Script) × (caller_of w c ≡ IsScript s)
+HasRole w c (role.Courier m) = caller_of w c ≡ IsCourier m
+HasRole w c role.Clock = caller_of w c ≡ IsClock
+
+-- each entry of the guest's caller was its first duty or what came next, and each of its moves came in time
+pub record IsPlayed (w : World) (v : Visit) : Type 0 where
+  pub nexts : AreNext w v.caller v.sight.seen
+  pub timely : AreTimely w v.caller v.sight.seen
+
+-- and so for each of these guests
+abbrev pub ArePlayed : World → List Visit → Type 0
+ArePlayed w vs = (v : Visit) → In v vs → IsPlayed w v
+
+-- what contracts see of a player
+pub record Playing (T : Type 0) : Type 0 where
+  pub visit : Visit
+  pub role : Role
+  pub task : T
+  -- the task wasn't told its last reply, for want of memory
+  pub lost : Bool
+
+module _ {T : Type 0} (Stands : ℕ → List Bound → T → Play → Type 0) where
+  -- the task stands for a play that goes on where the own entries of the script leave it
+  abbrev pub GoesOn : Script → Visit → T → Type 0
+  GoesOn s v t = (p : Play) × Stands s.host v.names t p × Continues s (own_replies (entries v.sight.seen) v.caller) p
+
+  -- what a player keeps: its role is who its caller is, what its caller recorded was its duties and what came next, and
+  -- unless a reply was lost for want of memory, the task of a script goes on where its script stands
+  pub record IsPlayer (w : World) (v : Visit) (who : Role) (t : T) (lost : Bool) : Type 0 where
+    pub role_is : HasRole w v.caller who
+    pub plays : IsPlayed w v
+    pub goes_on : (s : Script) → caller_of w v.caller ≡ IsScript s → lost ≡ false → GoesOn s v t
+
+-- Turns.
+
+-- what a turn came to
+abbrev pub played_by : Turn → Played
+played_by (turn.Recorded stamp answer) = played.Recorded
+played_by turn.NotReady = played.Waits
+played_by turn.Owes = played.Waits
+played_by turn.Limit = played.Waits
+played_by turn.Memory = played.Memory
+
+-- the task took the reply; or it is as before, and the reply is lost
+abbrev pub Told : {T : Type 0} → (T → Reply → T) → T → Bool → Reply → Played → T → Bool → Type 0
+Told after t lost r played.Recorded t' lost' = (t' ≡ after t r) × (lost' ≡ lost)
+Told after t lost r played.Waits t' lost' = ⊥
+Told after t lost r played.Memory t' lost' = (t' ≡ t) × (lost' ≡ true)
+
+-- where the turn recorded an entry, the task was told the reply
+abbrev pub Heard : {T : Type 0} → (T → Reply → T) → T → Bool → Turn → Played → T → Bool → Type 0
+Heard after t lost (turn.Recorded stamp answer) result t' lost' = Told after t lost answer result t' lost'
+Heard after t lost answer result t' lost' = (result ≡ played_by answer) × (t' ≡ t) × (lost' ≡ lost)
+
+-- the same caller at the same moment
+pub record IsSamePlayer {T : Type 0} (old new : Playing T) : Type 0 where
+  pub caller : new.visit.caller ≡ old.visit.caller
+  pub now : new.visit.now ≡ old.visit.now
+  pub role : new.role ≡ old.role
+
+-- the first duty, or what comes next where nothing is owed, isn't ready after all that was seen
+abbrev pub IsUnready : World → Visit → List Duty → Type 0
+IsUnready w v [] =
+    (ask : Ask) → next w (entries v.sight.seen) v.caller ≡ Some ask
+    → actor_step w ask.actor ((noted_net w v.sight.seen).actors ask.actor) v.now (bare ask.event) ≡ None
+IsUnready w v (d ∷ ds) =
+    actor_step w d.actor ((noted_net w v.sight.seen).actors d.actor) v.now (work_of_duty d) ≡ None
+
+-- it has no room, or nothing of it is ready
+abbrev pub IsWaiting : World → Visit → Type 0
+IsWaiting w v = IsFull v.caller v.sight ⊎ IsUnready w v v.owed
+
+-- one entry of its own more
+abbrev pub HasMore : Visit → Visit → Type 0
+HasMore old new = (x : ℕ × Noted) × (own new.caller new.sight ≡ own old.caller old.sight ++ x ∷ [])
+
+module _ {T : Type 0} where
+  -- its caller recorded nothing
+  pub record IsUnmoved (old new : Playing T) : Type 0 where
+    pub own_is : own new.visit.caller new.visit.sight ≡ own old.visit.caller old.visit.sight
+    pub owed : new.visit.owed ≡ old.visit.owed
+    pub names : new.visit.names ≡ old.visit.names
+    pub task : new.task ≡ old.task
+    pub lost : new.lost ≡ old.lost
+
+  -- what a player's turn did: it recorded an entry; or it waits; or it found no memory, and then it recorded nothing, or
+  -- its task wasn't told the reply
+  abbrev pub PlaysOn : World → Playing T → Played → Playing T → Type 0
+  PlaysOn w old played.Recorded new = HasMore old.visit new.visit × (new.lost ≡ old.lost)
+  PlaysOn w old played.Waits new = IsUnmoved old new × IsWaiting w new.visit
+  PlaysOn w old played.Memory new =
+      IsUnmoved old new ⊎ (HasMore old.visit new.visit × (new.task ≡ old.task) × (new.lost ≡ true))

@@ -1,0 +1,259 @@
+//! Callers that are played.
+ghost use Rattle.std.specs.Prelude.{◌≡◌, ◌≢◌, ◌<◌, [], false};
+ghost use Rattle.net_base.specs.declared.world.Script.{Script as AnyScript};
+ghost use Rattle.net_base.specs.Callers.{IsScript, caller_count, caller_of};
+ghost use Rattle.net_base.specs.Steps.{Play};
+ghost use Rattle.net_base.specs.World.{IsWorld};
+ghost use Rattle.script_task.specs.Rest.{Continues};
+ghost use Rattle.host_net.specs.Playing.{HasRole, IsPlayed, IsSamePlayer, PlaysOn, Heard, Told, played_by};
+ghost use Rattle.host_net.specs.Rosters.{IsRosterOf};
+ghost use Rattle.host_net.specs.Visits.{IsFresh};
+ghost use Rattle.host_net.specs.declared.player.Role.TheVariants as role;
+
+use crate::guest::Guest;
+use crate::net::Net;
+use crate::turn::Turn;
+use actor_machines::{Placing, WorldActor};
+use guest_laws::{guests_begin, locks_keep_actors};
+use journal::Naming;
+use net_base::{Reply, World};
+use outside::Gate;
+use script_task::{Task, replies_fit};
+use std::alloc::Global;
+use std::marker::Model;
+use std::sync::Wait;
+
+/// Who a caller is.
+#[derive(Clone, Copy, Debug, PartialEq, Eq)]
+pub enum Role {
+    Script,
+    /// The courier of the medium of this number.
+    Courier(u32),
+    Clock,
+}
+
+/// A caller that is played: its guest, and the task that a script is at. The task of another caller is never asked.
+#[derive(Drop)]
+pub struct Player<J: Naming + Placing, T: Task> {
+    pub(crate) guest: Guest<J>,
+    pub(crate) role: Role,
+    pub(crate) task: T,
+    // the task wasn't told its last reply, for want of memory
+    pub(crate) lost: bool,
+}
+
+impl<J: Naming + Placing, T: Task> Model for Player<J, T> {
+    ghost use Rattle.host_net.specs.Playing.{IsPlayer, Playing};
+
+    ghost Value = { Playing T };
+
+    ghost view = { λ p. record { visit = p.guest; role = p.role; task = p.task; lost = p.lost } };
+
+    ghost invariant = { λ p. IsPlayer T.Stands J.world p.guest p.role p.task p.lost };
+}
+
+impl<J: Naming + Placing, T: Task> Player<J, T> {
+    /// The player of a caller to whom nothing has happened, with the task of its whole script.
+    pub fn new(world: &World, guest: Guest<J>, task: T) -> Player<J, T>
+        requires world { J.world ≡ world.now }
+        requires is { IsWorld world.now }
+        requires roster { IsRosterOf J.world J.run.roster }
+        requires fresh { IsFresh guest.caller guest }
+        requires task { (s : AnyScript) → caller_of J.world guest.caller ≡ IsScript s
+            → (p : Play) × T.Stands s.host [] task p × Continues s [] p }
+        ensures visit { result.visit ≡ guest }
+        ensures role { HasRole J.world guest.caller result.role }
+        ensures task { result.task ≡ task }
+        ensures told { result.lost ≡ false }
+    {
+        guests_begin();
+        Player {
+            role: role_of(world, guest.caller),
+            guest,
+            task,
+            lost: false,
+        }
+    }
+
+    // Which caller. Its role is who that is.
+    pub(crate) fn caller(&self) -> u32
+        ensures same { result ≡ self.now.visit.caller }
+        ensures role { HasRole J.world self.now.visit.caller self.now.role }
+    {
+        self.guest.caller()
+    }
+
+    /// The guest.
+    pub fn guest(&self) -> &Guest<J>
+        ensures { result.now ≡ self.now.visit }
+    {
+        &self.guest
+    }
+
+    /// The task.
+    pub fn task(&self) -> &T
+        ensures { result.now ≡ self.now.task }
+    {
+        &self.task
+    }
+}
+
+impl<J: Naming + Placing, T: Task + Drop> Player<J, T> {
+    // The guest alone.
+    pub(crate) fn into_guest(self) -> Guest<J>
+        ensures same { result ≡ self.visit }
+        ensures plays { IsPlayed J.world result }
+    {
+        let Player {
+            guest,
+            role: _,
+            task: _,
+            lost: _,
+        } = self;
+        guest
+    }
+}
+
+// Who the caller of this number is.
+fn role_of(world: &World, caller: u32) -> Role
+    requires is { IsWorld world.now }
+    requires known { caller < caller_count world.now }
+    ensures { HasRole world.now caller result }
+{
+    let scripts = world.scripts.len() as u32;
+    let media = world.media.len() as u32;
+    if caller < scripts {
+        return Role::Script;
+    }
+    if caller - scripts < media {
+        return Role::Courier(caller - scripts);
+    }
+    Role::Clock
+}
+
+/// What became of a player's turn.
+#[derive(Clone, Copy, Debug, PartialEq, Eq)]
+pub enum Played {
+    /// It recorded an entry.
+    Recorded,
+    /// Neither its first duty nor its next event is ready, or it has no room.
+    Waits,
+    Memory,
+}
+
+// What a turn came to.
+fn played_of(turn: &Turn) -> Played
+    ensures { result ≡ played_by turn.now }
+{
+    match turn {
+        Turn::Recorded { .. } => Played::Recorded,
+        Turn::NotReady => Played::Waits,
+        Turn::Owes => Played::Waits,
+        Turn::Limit => Played::Waits,
+        Turn::Memory => Played::Memory,
+    }
+}
+
+// What a script's turn came to. Its task is told the reply.
+fn hear<T: Task>(task: &mut T, lost: &mut bool, alloc: Global, turn: Turn) -> Played
+    ensures { Heard T.after task.old lost.old turn result task.new lost.new }
+{
+    match turn {
+        Turn::Recorded { stamp: _, reply } => tell(task, lost, alloc, reply),
+        Turn::NotReady => Played::Waits,
+        Turn::Owes => Played::Waits,
+        Turn::Limit => Played::Waits,
+        Turn::Memory => Played::Memory,
+    }
+}
+
+// The task takes the reply to the event that it asked for.
+fn tell<T: Task>(task: &mut T, lost: &mut bool, alloc: Global, reply: Reply) -> Played
+    ensures { Told T.after task.old lost.old reply result task.new lost.new }
+{
+    if task.told(alloc, reply).is_err() {
+        *lost = true;
+        return Played::Memory;
+    }
+    Played::Recorded
+}
+
+impl<J: Naming + Placing> Net<J, WorldActor<J>> {
+    /// The turn of a player: its first duty, or, where it owes none, what it records next.
+    pub fn play<R: Wait, G: Gate, T: Task>(
+        &self,
+        rt: &R,
+        alloc: Global,
+        gate: &G,
+        player: &mut Player<J, T>,
+    ) -> Played
+        ensures same { IsSamePlayer player.old player.new }
+        ensures turn { PlaysOn J.world player.old result player.new }
+    {
+        if player.guest.owes() {
+            return self.play_duty(rt, gate, player);
+        }
+        match player.role {
+            Role::Script => self.play_script(rt, alloc, gate, player),
+            Role::Courier(medium) => self.play_courier(rt, gate, player, medium),
+            Role::Clock => Played::Waits,
+        }
+    }
+
+    // The first duty.
+    fn play_duty<R: Wait, G: Gate, T: Task>(
+        &self,
+        rt: &R,
+        gate: &G,
+        player: &mut Player<J, T>,
+    ) -> Played
+        requires owes { player.old.visit.owed ≢ [] }
+        ensures same { IsSamePlayer player.old player.new }
+        ensures turn { PlaysOn J.world player.old result player.new }
+    {
+        played_of(&self.serve(rt, gate, &mut player.guest))
+    }
+
+    // The copy that a courier that owes nothing takes.
+    fn play_courier<R: Wait, G: Gate, T: Task>(
+        &self,
+        rt: &R,
+        gate: &G,
+        player: &mut Player<J, T>,
+        medium: u32,
+    ) -> Played
+        requires courier { player.old.role ≡ role.Courier medium }
+        requires free { player.old.visit.owed ≡ [] }
+        ensures same { IsSamePlayer player.old player.new }
+        ensures turn { PlaysOn J.world player.old result player.new }
+    {
+        played_of(&self.courier_turn(rt, gate, &mut player.guest, medium))
+    }
+
+    // The next event of a script that owes nothing.
+    fn play_script<R: Wait, G: Gate, T: Task>(
+        &self,
+        rt: &R,
+        alloc: Global,
+        gate: &G,
+        player: &mut Player<J, T>,
+    ) -> Played
+        requires script { player.old.role ≡ role.Script }
+        requires free { player.old.visit.owed ≡ [] }
+        ensures same { IsSamePlayer player.old player.new }
+        ensures turn { PlaysOn J.world player.old result player.new }
+    {
+        locks_keep_actors();
+        replies_fit();
+        if player.lost {
+            return Played::Memory;
+        }
+        let request = match player.task.next(alloc, player.guest.fids()) {
+            Ok(Some(request)) => request,
+            Ok(None) => return Played::Waits,
+            Err(_) => return Played::Memory,
+        };
+        let turn = self.operate(rt, gate, &mut player.guest, &request);
+        hear(&mut player.task, &mut player.lost, alloc, turn)
+    }
+}

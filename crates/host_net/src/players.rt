@@ -1,0 +1,319 @@
+//! Players in groups, one for each worker.
+ghost use Rattle.std.specs.Prelude.{◌≡◌, ℕ, ◌<◌, ◌++◌, [], length, true, false, None, option_map, IfOk, IfSome, OnErr, OnOk, slice_index_or};
+ghost use Rattle.std.specs.List.{list_any};
+ghost use Rattle.host_net.specs.Groups.{AreWaiting, all_members, all_seats, caller, callers_of, dealt, joined, members, no_players, seats, visits, with_last};
+ghost use Rattle.host_net.specs.Playing.{ArePlayed, IsWaiting};
+ghost use Rattle.host_net.specs.Visits.{HasGuest};
+ghost use Rattle.host_net.specs.declared.player.Played.TheVariants as played;
+ghost use Rattle.host_net.specs.declared.player.Role.TheVariants as role;
+
+use crate::guest::Guest;
+use crate::net::Net;
+use crate::player::{Played, Player, Role};
+use actor_machines::{Placing, WorldActor};
+use journal::Naming;
+use outside::Gate;
+use script_task::Task;
+use std::alloc::{AllocError, Global};
+use std::marker::Model;
+use std::sync::Wait;
+use std::thread;
+use std::thread::Threads;
+
+/// The players of one worker. The clock's stands by itself, in one of the groups.
+#[derive(Drop)]
+pub struct Group<J: Naming + Placing, T: Task> {
+    pub(crate) players: Vec<Player<J, T>>,
+    pub(crate) clock: Option<Player<J, T>>,
+    // memory ran out in a turn
+    pub(crate) memory: bool,
+}
+
+impl<J: Naming + Placing, T: Task> Model for Group<J, T> {
+    ghost use Rattle.host_net.specs.Groups.{Grouped};
+
+    ghost Value = { Grouped T };
+
+    ghost view = { λ g. record { players = g.players.items; clock = g.clock; memory = g.memory } };
+}
+
+/// The players of all callers so far: the one of caller c stands in the group whose number is c modulo the number of
+/// groups.
+#[derive(Drop)]
+pub struct Players<J: Naming + Placing, T: Task> {
+    pub(crate) groups: Vec<Group<J, T>>,
+    pub(crate) callers: usize,
+}
+
+impl<J: Naming + Placing, T: Task> Model for Players<J, T> {
+    ghost use Rattle.host_net.specs.Groups.{Grouping, IsDealt, all_seats};
+
+    ghost Value = { Grouping T };
+
+    ghost view = { λ p. record { groups = p.groups.items; callers = p.callers } };
+
+    ghost invariant = { λ p. IsDealt J.world p.callers (all_seats p.groups.items) };
+}
+
+impl<J: Naming + Placing, T: Task + Drop> Group<J, T> {
+    // No players.
+    fn new(alloc: Global) -> Group<J, T>
+        ensures { result ≡ no_players }
+    {
+        Group {
+            players: Vec::new(alloc),
+            clock: None,
+            memory: false,
+        }
+    }
+
+    // A player more. The clock has one alone.
+    fn add(&mut self, player: Player<J, T>) -> Result<(), AllocError>
+        requires alone { player.role ≡ role.Clock → self.old.clock ≡ None }
+        ensures ok { OnOk result (self.new ≡ joined self.old player) }
+        ensures err { OnErr result (self.new ≡ self.old) }
+    {
+        match player.role {
+            Role::Clock => {
+                self.clock = Some(player);
+                Ok(())
+            }
+            Role::Script | Role::Courier(_) => Ok(self.players.push(player)?),
+        }
+    }
+}
+
+impl<J: Naming + Placing, T: Task + Drop> Players<J, T> {
+    /// So many groups without players.
+    pub fn new(alloc: Global, workers: u32) -> Result<Players<J, T>, AllocError>
+        requires { 0 < workers }
+        ensures groups { IfOk result (λ p. length p.groups ≡ workers) }
+        ensures empty { IfOk result (λ p. p.callers ≡ 0) }
+    {
+        let mut groups = Vec::with_capacity(alloc, workers as usize)?;
+        for _ in 0..workers {
+            groups.push(Group::new(alloc))?;
+        }
+        Ok(Players { groups, callers: 0 })
+    }
+
+    /// The player of the next caller joins its group. Without memory that caller has no player.
+    pub fn add(&mut self, player: Player<J, T>) -> Result<(), AllocError>
+        requires next { player.visit.caller ≡ self.old.callers }
+        ensures ok { OnOk result (self.new ≡ dealt self.old player) }
+        ensures err { OnErr result (self.new ≡ self.old) }
+    {
+        let caller = player.caller() as usize;
+        let place = caller % self.groups.len();
+        self.groups[place].add(player)?;
+        self.callers = caller + 1;
+        Ok(())
+    }
+
+    /// Whether memory ran out in a turn.
+    pub fn is_short(&self) -> bool
+        ensures { result ≡ list_any (λ g. g.memory) self.now.groups }
+    {
+        self.groups.iter().any(|group| group.memory)
+    }
+
+    /// The guests of all callers. What each of these recorded was its duties and what came next, and in time.
+    pub fn into_guests(self, alloc: Global) -> Result<Vec<Guest<J>>, AllocError>
+        ensures all { IfOk result (λ guests. (c : ℕ) → c < self.callers → HasGuest c guests.items) }
+        ensures plays { IfOk result (λ guests. ArePlayed J.world guests.items) }
+        ensures same { IfOk result (λ guests. guests.items ≡ visits (all_members self.groups)) }
+    {
+        let Players {
+            mut groups,
+            callers,
+        } = self;
+        let mut guests = Vec::with_capacity(alloc, callers)?;
+        groups.reverse();
+        while let Some(group) = groups.pop() {
+            add_guests(group, &mut guests)?;
+        }
+        Ok(guests)
+    }
+}
+
+// The guests of a group join the others.
+fn add_guests<J: Naming + Placing, T: Task + Drop>(
+    group: Group<J, T>,
+    guests: &mut Vec<Guest<J>>,
+) -> Result<(), AllocError>
+    ensures same { OnOk result (guests.new.items ≡ guests.old.items ++ visits (members group)) }
+    ensures plays { OnOk result (ArePlayed J.world guests.old.items → ArePlayed J.world guests.new.items) }
+{
+    let Group {
+        players,
+        clock,
+        memory: _,
+    } = group;
+    add_players(players, guests)?;
+    add_clock(clock, guests)?;
+    Ok(())
+}
+
+fn add_players<J: Naming + Placing, T: Task + Drop>(
+    mut players: Vec<Player<J, T>>,
+    guests: &mut Vec<Guest<J>>,
+) -> Result<(), AllocError>
+    ensures same { OnOk result (guests.new.items ≡ guests.old.items ++ visits players.items) }
+    ensures plays { OnOk result (ArePlayed J.world guests.old.items → ArePlayed J.world guests.new.items) }
+{
+    players.reverse();
+    while let Some(player) = players.pop() {
+        guests.push(player.into_guest())?;
+    }
+    Ok(())
+}
+
+fn add_clock<J: Naming + Placing, T: Task + Drop>(
+    clock: Option<Player<J, T>>,
+    guests: &mut Vec<Guest<J>>,
+) -> Result<(), AllocError>
+    ensures same { OnOk result (guests.new.items ≡ guests.old.items ++ visits (with_last [] clock)) }
+    ensures plays { OnOk result (ArePlayed J.world guests.old.items → ArePlayed J.world guests.new.items) }
+{
+    match clock {
+        Some(player) => {
+            guests.push(player.into_guest())?;
+            Ok(())
+        }
+        None => Ok(()),
+    }
+}
+
+// What two turns, or more, came to.
+fn both(one: Played, other: Played) -> Played
+    ensures waits { result ≡ played.Waits → (one ≡ played.Waits) × (other ≡ played.Waits) }
+{
+    match one {
+        Played::Memory => Played::Memory,
+        Played::Recorded => match other {
+            Played::Memory => Played::Memory,
+            Played::Recorded | Played::Waits => Played::Recorded,
+        },
+        Played::Waits => other,
+    }
+}
+
+impl<J: Naming + Placing> Net<J, WorldActor<J>> {
+    /// Each group is played by a worker, or by the caller where there is none. Unless memory ran out, each player waits
+    /// then.
+    pub fn play_phase<R: Threads + Wait + Sync, G: Gate + Sync, T: Task + Drop + Send>(
+        &self,
+        rt: &R,
+        alloc: Global,
+        gate: &G,
+        players: &mut Players<J, T>,
+    )
+    where
+        J: Send + Sync,
+        ensures callers { players.new.callers ≡ players.old.callers }
+        ensures seats { all_seats players.new.groups ≡ all_seats players.old.groups }
+        ensures rest { list_any (λ g. g.memory) players.new.groups ≡ false
+            → AreWaiting J.world (all_members players.new.groups) }
+    {
+        self.play_groups(rt, alloc, gate, &mut players.groups);
+    }
+
+    fn play_groups<R: Threads + Wait + Sync, G: Gate + Sync, T: Task + Drop + Send>(
+        &self,
+        rt: &R,
+        alloc: Global,
+        gate: &G,
+        groups: &mut [Group<J, T>],
+    )
+    where
+        J: Send + Sync,
+        ensures many { length groups.new ≡ length groups.old }
+        ensures seats { (i : ℕ) (d : _) → i < length groups.old
+            → seats (slice_index_or groups.new i d) ≡ seats (slice_index_or groups.old i d) }
+        ensures rest { (i : ℕ) (d : _) → i < length groups.old → (slice_index_or groups.new i d).memory ≡ false
+            → AreWaiting J.world (members (slice_index_or groups.new i d)) }
+    {
+        thread::for_each_mut(
+            rt,
+            groups,
+            16,
+            &|_, group| self.play_group(rt, alloc, gate, group),
+        );
+    }
+
+    /// Rounds over the players of a group, each of which has a turn, until one in which none recorded anything, or
+    /// memory ran out.
+    pub fn play_group<R: Wait, G: Gate, T: Task + Drop>(
+        &self,
+        rt: &R,
+        alloc: Global,
+        gate: &G,
+        group: &mut Group<J, T>,
+    )
+        ensures seats { seats group.new ≡ seats group.old }
+        ensures rest { group.new.memory ≡ false → AreWaiting J.world (members group.new) }
+    {
+        for _ in rt.forever() {
+            match self.play_round(rt, alloc, gate, group) {
+                Played::Recorded => {}
+                Played::Waits | Played::Memory => return,
+            }
+        }
+    }
+
+    // A turn of each.
+    fn play_round<R: Wait, G: Gate, T: Task + Drop>(
+        &self,
+        rt: &R,
+        alloc: Global,
+        gate: &G,
+        group: &mut Group<J, T>,
+    ) -> Played
+        ensures seats { seats group.new ≡ seats group.old }
+        ensures rest { result ≡ played.Waits → AreWaiting J.world (members group.new) }
+        ensures short { result ≡ played.Memory → group.new.memory ≡ true }
+    {
+        let others = self.play_each(rt, alloc, gate, &mut group.players);
+        let clock = self.play_clock(rt, alloc, gate, &mut group.clock);
+        let round = both(others, clock);
+        if round == Played::Memory {
+            group.memory = true;
+        }
+        round
+    }
+
+    fn play_each<R: Wait, G: Gate, T: Task + Drop>(
+        &self,
+        rt: &R,
+        alloc: Global,
+        gate: &G,
+        players: &mut [Player<J, T>],
+    ) -> Played
+        ensures callers { callers_of players.new ≡ callers_of players.old }
+        ensures rest { result ≡ played.Waits → AreWaiting J.world players.new }
+    {
+        let mut turns = Played::Waits;
+        let mut i = 0;
+        while i < players.len() {
+            turns = both(turns, self.play(rt, alloc, gate, &mut players[i]));
+            i += 1;
+        }
+        turns
+    }
+
+    fn play_clock<R: Wait, G: Gate, T: Task + Drop>(
+        &self,
+        rt: &R,
+        alloc: Global,
+        gate: &G,
+        clock: &mut Option<Player<J, T>>,
+    ) -> Played
+        ensures caller { option_map caller clock.new ≡ option_map caller clock.old }
+        ensures rest { result ≡ played.Waits → IfSome clock.new (λ p. IsWaiting J.world p.visit) }
+    {
+        match clock {
+            Some(player) => self.play(rt, alloc, gate, player),
+            None => Played::Waits,
+        }
+    }
+}
