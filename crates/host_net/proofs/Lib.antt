@@ -6,6 +6,12 @@ pub mod Passes
 pub mod Firsts
 pub mod Operating
 pub mod Staying
+pub mod Handing
+pub mod Lending
+pub mod Histories
+pub mod Taking
+pub mod Standings
+pub mod Outcomes
 pub mod Sighted
 pub mod Found
 pub mod Leasts
@@ -13,10 +19,13 @@ pub mod Slots
 pub mod Through
 pub mod Moved
 pub mod Concluding
-pub mod Halting
+pub mod Passing
+pub mod Foreseen
+pub mod Replacing
 pub mod Continuing
 pub mod Keeping
 pub mod Telling
 pub mod Seating
 pub mod Naming
+pub mod Halting
 pub mod Joining

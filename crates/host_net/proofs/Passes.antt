@@ -60,7 +60,7 @@ module _ (w : World) (r : Roster) where
       }
 
   module _ (v : Visit) (p : Sight) (is : IsWith w r v p) (p' : Sight) where
-    with_more : StaysGuest w r v.caller p v.owed p' → IsPrefix p.seen p'.seen → In (number.Caller v.caller, is.guest.list) p'.held
+    pub with_more : StaysGuest w r v.caller p v.owed p' → IsPrefix p.seen p'.seen → In (number.Caller v.caller, is.guest.list) p'.held
         → at (number.Caller v.caller) p'.seen ≡ is.guest.list → IsWith w r v p'
     with_more stays before held list =
         record {

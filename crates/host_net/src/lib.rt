@@ -1,6 +1,7 @@
 //! The net behind locks: every actor of a world behind its own, and a guest for each caller.
 #![tactic(auto)]
 
+mod advance;
 mod clock;
 mod finishing;
 mod guest;

@@ -1,0 +1,106 @@
+-- The numbers of all callers come to the clock's guest one after another, and go back.
+use Rattle.std.proofs.Common.{◌≡◌, ℕ, suc, ◌+◌, ◌<◌, ◌==◌, ◌⊎◌, inl, inr, Bool, true, false, List, [], ◌∷◌, ◌++◌, length, map, refl, ap, sym, subst, ◌∙◌}
+use Rattle.net_base.specs.declared.noted.Noted.{Noted}
+use Rattle.net_base.specs.declared.world.World.{World}
+use Rattle.net_base.specs.Next.{next}
+use Rattle.net_base.specs.Stamped.{In}
+use Rattle.journal.specs.declared.law.Roster.{Roster}
+use Rattle.journal.specs.declared.tokens.Sight.{Sight}
+use Rattle.guest_laws.specs.Guests.{IsGuest, IsOfGuests}
+use Rattle.guest_laws.specs.Own.{AreNext, AreTimely}
+use Rattle.guest_laws.specs.Works.{entries}
+use Rattle.host_net.specs.declared.clock.Advance.{Advance}
+use Rattle.host_net.specs.declared.clock.Standing.{Standing}
+use Rattle.host_net.specs.Advancing.{Advances, AreLent, IsStanding}
+use Rattle.host_net.specs.Deciding.{AllStand, Decided, StandsAt}
+use Rattle.host_net.specs.Groups.{Grouped}
+use Rattle.host_net.specs.Visits.{Gathers, IsWith, Visit, own}
+
+module _ (w : World) (r : Roster) where
+  -- a standing holds after all that the pass has seen with which its caller is
+  pub stands_at : (v : Visit) (p : Sight) (s : Standing) → IsStanding w v s → IsWith w r v p → StandsAt w r p s
+  stands_at v p s stands is =
+      record {
+        owed = v.owed;
+        guest = subst (λ (c : ℕ). IsGuest w r c p v.owed) (sym stands.caller_is) is.guest;
+        owes_is = stands.owes_is;
+        full_is = stands.full_is ∙ (ap (λ (l : List (ℕ × Noted)). length l == 131072) (sym is.stays.alone)
+            ∙ ap (λ (c : ℕ). length (own c p) == 131072) (sym stands.caller_is));
+        next_is = stands.next_is ∙ (sym is.stays.stands.comes_next ∙ ap (λ (c : ℕ). next w (entries p.seen) c) (sym stands.caller_is));
+        given = stands.given;
+        timely = subst (λ (c : ℕ). AreTimely w c p.seen) (sym stands.caller_is) (is.stays.stands.timely stands.timely);
+      }
+
+  -- nobody is left
+  pub all_stand : (p : Sight) (ss : List Standing) → AreLent w r [] p ss → AllStand w r p ss
+  all_stand p ss lent =
+      record { each = λ s i. let found = lent.each s i in stands_at found.0 p s found.1 (here found.0 found.2); all = lent.all }
+    where
+      here : (v : Visit) → IsWith w r v p ⊎ In v [] → IsWith w r v p
+      here v (inl is) = is
+      here v (inr none) = absurd none
+
+  -- one caller fewer is left
+  pub lent_on : (v : Visit) (vs : List Visit) (p q : Sight) (ss : List Standing) → AreLent w r (v ∷ vs) p ss
+      → ((u : Visit) → IsWith w r u p → IsWith w r u q) → IsWith w r v q → AreLent w r vs q ss
+  lent_on v vs p q ss lent keeps mine =
+      record { each = λ s i. let found = lent.each s i in (found.0, found.1, place found.0 found.2); all = lent.all }
+    where
+      place : (u : Visit) → IsWith w r u p ⊎ In u (v ∷ vs) → IsWith w r u q ⊎ In u vs
+      place u (inl is) = inl (keeps u is)
+      place u (inr (inl e)) = inl (subst (λ (x : Visit). IsWith w r x q) (sym e) mine)
+      place u (inr (inr there)) = inr there
+
+  -- at the bottom
+  pub advances_at : (old : Visit) (answer : Advance) (new : Visit) → IsOfGuests w r old.sight.seen → Decided w old answer new
+      → new.caller ≡ old.caller → (AreNext w old.caller old.sight.seen → AreNext w old.caller new.sight.seen)
+      → (AreTimely w old.caller old.sight.seen → AreTimely w old.caller new.sight.seen) → Advances w r [] old answer new
+  advances_at old answer new guests decided caller nexts timely =
+      record {
+        at = old;
+        to = new;
+        gathers = record { kept = λ v is. is; taken = λ v none. absurd none };
+        guests = guests;
+        caller_at = refl;
+        now_at = refl;
+        decided = decided;
+        nexts = nexts;
+        timely = timely;
+        caller_is = caller;
+        now_is = refl;
+        seen_is = refl;
+      }
+
+  -- above it: the clock's guest got the number of v before, and gave it back
+  pub advances_on : (v : Visit) (vs : List Visit) (old with : Visit) (answer : Advance) (had new : Visit)
+      → ((u : Visit) → IsWith w r u old.sight → IsWith w r u with.sight) → IsWith w r v with.sight
+      → with.caller ≡ old.caller → with.now ≡ old.now → new.caller ≡ had.caller → new.now ≡ had.now → new.sight.seen ≡ had.sight.seen
+      → Advances w r vs with answer had → Advances w r (v ∷ vs) old answer new
+  advances_on v vs old with answer had new keeps mine caller now caller' now' seen a =
+      record {
+        at = a.at;
+        to = a.to;
+        gathers = record { kept = λ u is. a.gathers.kept u (keeps u is); taken = taken };
+        guests = a.guests;
+        caller_at = a.caller_at ∙ caller;
+        now_at = a.now_at ∙ now;
+        decided = a.decided;
+        nexts = λ each. subst (λ (l : List Noted). AreNext w old.caller l) (sym seen)
+            (subst (λ (c : ℕ). AreNext w c had.sight.seen) caller
+            (a.nexts (subst (λ (c : ℕ). AreNext w c a.at.sight.seen) (sym caller) each)));
+        timely = λ each. subst (λ (l : List Noted). AreTimely w old.caller l) (sym seen)
+            (subst (λ (c : ℕ). AreTimely w c had.sight.seen) caller
+            (a.timely (subst (λ (c : ℕ). AreTimely w c a.at.sight.seen) (sym caller) each)));
+        caller_is = caller' ∙ (a.caller_is ∙ caller);
+        now_is = now' ∙ a.now_is;
+        seen_is = seen ∙ a.seen_is;
+      }
+    where
+      taken : (u : Visit) → In u (v ∷ vs) → IsWith w r u a.at.sight
+      taken u (inl e) = a.gathers.kept u (subst (λ (x : Visit). IsWith w r x with.sight) (sym e) mine)
+      taken u (inr there) = a.gathers.taken u there
+
+-- how many players the groups have, each group counted as one more
+abbrev pub players_left : {T : Type 0} → List (Grouped T) → ℕ
+players_left [] = 0
+players_left (g ∷ gs) = suc (length g.players + players_left gs)

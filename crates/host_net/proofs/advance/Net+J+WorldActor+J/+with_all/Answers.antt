@@ -1,0 +1,254 @@
+use Rattle.std.proofs.Common.{◌≡◌, ◌++◌, ◌∷◌, ◌+◌, ◌<◌, [], length, ℕ, List, refl, ap, sym, subst, ◌∙◌, arith}
+use Rattle.net_base.specs.Callers.{caller_of}
+use Rattle.host_net.specs.declared.player.Player.TheInside.{Inside}
+use Rattle.host_net.proofs.Lending.{advances_at, all_stand, players_left}
+use Rattle.host_net.proofs.Outcomes.{player_stays}
+use Rattle.host_net.proofs.Operating.{visit}
+use Rattle.host_net.proofs.Passes.{nil_of}
+use Rattle.host_net.proofs.Passing.{OthersStay, advances_here, are_back, clock_visits, clock_with, group_lists, me_back, me_visits, next_apart, next_lent, others_stay_here, player, still_with}
+use Rattle.host_net.specs.Advancing.{Advances, AreBack, AreLent, other_players}
+use Rattle.host_net.specs.Groups.{Grouped, callers_of, visits}
+use Rattle.host_net.specs.Playing.{IsPlayer, Playing}
+use Rattle.host_net.specs.Visits.{Visit}
+use Rattle.host_net.proofs.advance.Net+J+WorldActor+J.+with_all.Goals as goal
+
+pub invariant_of-clock : goal.invariant_of-clock
+invariant_of-clock g t c =
+    let w = g.J.Placing.world in
+    let r = g.J.Naming.run.roster in
+    let law = c.guests_hand_over.ensures in
+    let me = c.first-inside.inside.0.0 in
+    let mine = visit me.caller me.now me.pass me.duties.list me.fids.names in
+    let clock = c.clock.inside in
+    let old = visit clock.caller clock.now clock.pass clock.duties.list clock.fids.names in
+    let one =
+    ap (λ (i : Inside g.row.J.Denot g.row.T.Denot). player i.guest i.role i.task i.lost) c.first-inside.view_is ∙ c.first.view_is in
+    clock_with w r (law.over w r) (law.there w r) (law.here w r) c.first-inside.inside.0.1.0 c.first-inside.inside.0.1.1.0 c.first-inside.inside.0.1.1.1.0 mine old
+    c.args.clock.now c.in-Some.first.now c.in-Some.others.now c.args.players.now c.args.groups.now one c.in-Some.ensures.cases.0 c.clock.view_is c.args.standings.now
+    c.requires.apart c.requires.lent c.first-inside.invariant.guest c.hand_over.new.from c.hand_over.new.to c.hand_over.ensures
+    clock.duties.list clock.host c.clock.invariant
+
+pub with_all-answer-requires : goal.with_all-answer-requires
+with_all-answer-requires g t c κs within =
+    let w = g.J.Placing.world in
+    let r = g.J.Naming.run.roster in
+    let law = c.guests_hand_over.ensures in
+    let me = c.first-inside.inside.0.0 in
+    let mine = visit me.caller me.now me.pass me.duties.list me.fids.names in
+    let clock = c.clock.inside in
+    let old = visit clock.caller clock.now clock.pass clock.duties.list clock.fids.names in
+    let one =
+    ap (λ (i : Inside g.row.J.Denot g.row.T.Denot). player i.guest i.role i.task i.lost) c.first-inside.view_is ∙ c.first.view_is in
+    let apart =
+    next_apart w r (law.over w r) (law.there w r) (law.here w r) c.first-inside.inside.0.1.0 c.first-inside.inside.0.1.1.0 c.first-inside.inside.0.1.1.1.0 mine old
+    c.args.clock.now c.in-Some.first.now c.in-Some.others.now c.args.players.now c.args.groups.now one c.in-Some.ensures.cases.0 c.clock.view_is c.args.standings.now
+    c.requires.apart c.requires.lent c.first-inside.invariant.guest c.hand_over.new.from c.hand_over.new.to c.hand_over.ensures in
+    let lent =
+    next_lent w r (law.over w r) (law.there w r) (law.here w r) c.first-inside.inside.0.1.0 c.first-inside.inside.0.1.1.0 c.first-inside.inside.0.1.1.1.0 mine old
+    c.args.clock.now c.in-Some.first.now c.in-Some.others.now c.args.players.now c.args.groups.now one c.in-Some.ensures.cases.0 c.clock.view_is c.args.standings.now
+    c.requires.apart c.requires.lent c.first-inside.invariant.guest c.hand_over.new.from c.hand_over.new.to c.hand_over.ensures in
+    let less : length c.in-Some.others.now + players_left c.args.groups.now < t = omega (arith, c.in-Some.ensures.cases.1, c.decreases) in (
+      less,
+      (
+        within.0,
+        (
+          within.1.0,
+          (
+            within.1.1.0,
+            (
+              within.1.1.1,
+              (c.requires.world, (c.requires.is, (ap (λ (v : Visit). caller_of w v.caller) c.clock.view_is ∙ c.requires.clock, (apart, lent)))),
+            ),
+          ),
+        ),
+      ),
+    )
+
+pub hand_over-requires-in-Some : goal.hand_over-requires-in-Some
+hand_over-requires-in-Some g t c =
+    let w = g.J.Placing.world in
+    let r = g.J.Naming.run.roster in
+    let law = c.guests_hand_over.ensures in
+    let me = c.first-inside.inside.0.0 in
+    let mine = visit me.caller me.now me.pass me.duties.list me.fids.names in
+    let clock = c.clock.inside in
+    let old = visit clock.caller clock.now clock.pass clock.duties.list clock.fids.names in
+    let one =
+    ap (λ (i : Inside g.row.J.Denot g.row.T.Denot). player i.guest i.role i.task i.lost) c.first-inside.view_is ∙ c.first.view_is in
+    let had = c.clock-in-Some.inside in
+    let after = visit had.caller had.now had.pass had.duties.list had.fids.names in
+    let is =
+    still_with w r (law.over w r) (law.there w r) (law.here w r) c.first-inside.inside.0.1.0 c.first-inside.inside.0.1.1.0 c.first-inside.inside.0.1.1.1.0 mine old
+    c.args.clock.now c.in-Some.first.now c.in-Some.others.now c.args.players.now c.args.groups.now one c.in-Some.ensures.cases.0 c.clock.view_is c.args.standings.now
+    c.requires.apart c.requires.lent c.first-inside.invariant.guest c.hand_over.new.from c.hand_over.new.to c.hand_over.ensures
+    after c.with_all-answer.new.clock c.clock-in-Some.view_is c.with_all-answer.result (visit clock.caller clock.now c.hand_over.new.to clock.duties.list clock.fids.names) refl
+    c.with_all-answer.ensures.others c.with_all-answer.ensures.clock in
+    (is.guest.list, is.guest.held)
+
+pub invariant_of-first-inside : goal.invariant_of-first-inside
+invariant_of-first-inside g t c =
+    let w = g.J.Placing.world in
+    let r = g.J.Naming.run.roster in
+    let law = c.guests_hand_over.ensures in
+    let me = c.first-inside.inside.0.0 in
+    let mine = visit me.caller me.now me.pass me.duties.list me.fids.names in
+    let clock = c.clock.inside in
+    let old = visit clock.caller clock.now clock.pass clock.duties.list clock.fids.names in
+    let one =
+    ap (λ (i : Inside g.row.J.Denot g.row.T.Denot). player i.guest i.role i.task i.lost) c.first-inside.view_is ∙ c.first.view_is in
+    let had = c.clock-in-Some.inside in
+    let after = visit had.caller had.now had.pass had.duties.list had.fids.names in
+    me_visits w r (law.over w r) (law.there w r) (law.here w r) c.first-inside.inside.0.1.0 c.first-inside.inside.0.1.1.0 c.first-inside.inside.0.1.1.1.0 mine old
+    c.args.clock.now c.in-Some.first.now c.in-Some.others.now c.args.players.now c.args.groups.now one c.in-Some.ensures.cases.0 c.clock.view_is c.args.standings.now
+    c.requires.apart c.requires.lent c.first-inside.invariant.guest c.hand_over.new.from c.hand_over.new.to c.hand_over.ensures
+    after c.with_all-answer.new.clock c.clock-in-Some.view_is c.with_all-answer.result (visit clock.caller clock.now c.hand_over.new.to clock.duties.list clock.fids.names) refl
+    c.with_all-answer.ensures.others c.with_all-answer.ensures.clock c.hand_over-in-Some.new.to c.hand_over-in-Some.new.from c.hand_over-in-Some.ensures
+    had.duties.list had.host c.clock-in-Some.invariant me.host c.first-inside.invariant.home
+
+pub invariant_of-first : goal.invariant_of-first
+invariant_of-first g t c =
+    let w = g.J.Placing.world in
+    let r = g.J.Naming.run.roster in
+    let law = c.guests_hand_over.ensures in
+    let me = c.first-inside.inside.0.0 in
+    let mine = visit me.caller me.now me.pass me.duties.list me.fids.names in
+    let clock = c.clock.inside in
+    let old = visit clock.caller clock.now clock.pass clock.duties.list clock.fids.names in
+    let one =
+    ap (λ (i : Inside g.row.J.Denot g.row.T.Denot). player i.guest i.role i.task i.lost) c.first-inside.view_is ∙ c.first.view_is in
+    let had = c.clock-in-Some.inside in
+    let after = visit had.caller had.now had.pass had.duties.list had.fids.names in
+    let back =
+    me_back w r (law.over w r) (law.there w r) (law.here w r) c.first-inside.inside.0.1.0 c.first-inside.inside.0.1.1.0 c.first-inside.inside.0.1.1.1.0 mine old
+    c.args.clock.now c.in-Some.first.now c.in-Some.others.now c.args.players.now c.args.groups.now one c.in-Some.ensures.cases.0 c.clock.view_is c.args.standings.now
+    c.requires.apart c.requires.lent c.first-inside.invariant.guest c.hand_over.new.from c.hand_over.new.to c.hand_over.ensures
+    after c.with_all-answer.new.clock c.clock-in-Some.view_is c.with_all-answer.result (visit clock.caller clock.now c.hand_over.new.to clock.duties.list clock.fids.names) refl
+    c.with_all-answer.ensures.others c.with_all-answer.ensures.clock c.hand_over-in-Some.new.to c.hand_over-in-Some.new.from c.hand_over-in-Some.ensures in
+    let was =
+    subst (λ (i : Inside g.row.J.Denot g.row.T.Denot). IsPlayer g.T.Task.Stands w i.guest i.role i.task i.lost) (sym c.first-inside.view_is) c.first.invariant in
+    player_stays g.T.Task.Stands w mine (visit me.caller had.now c.hand_over-in-Some.new.to me.duties.list me.fids.names)
+    c.first-inside.inside.0.1.0 c.first-inside.inside.0.1.1.0 c.first-inside.inside.0.1.1.1.0 was refl refl back.stays
+
+pub invariant_of-clock-in-Some : goal.invariant_of-clock-in-Some
+invariant_of-clock-in-Some g t c =
+    let w = g.J.Placing.world in
+    let r = g.J.Naming.run.roster in
+    let law = c.guests_hand_over.ensures in
+    let me = c.first-inside.inside.0.0 in
+    let mine = visit me.caller me.now me.pass me.duties.list me.fids.names in
+    let clock = c.clock.inside in
+    let old = visit clock.caller clock.now clock.pass clock.duties.list clock.fids.names in
+    let one =
+    ap (λ (i : Inside g.row.J.Denot g.row.T.Denot). player i.guest i.role i.task i.lost) c.first-inside.view_is ∙ c.first.view_is in
+    let had = c.clock-in-Some.inside in
+    let after = visit had.caller had.now had.pass had.duties.list had.fids.names in
+    clock_visits w r (law.over w r) (law.there w r) (law.here w r) c.first-inside.inside.0.1.0 c.first-inside.inside.0.1.1.0 c.first-inside.inside.0.1.1.1.0 mine old
+    c.args.clock.now c.in-Some.first.now c.in-Some.others.now c.args.players.now c.args.groups.now one c.in-Some.ensures.cases.0 c.clock.view_is c.args.standings.now
+    c.requires.apart c.requires.lent c.first-inside.invariant.guest c.hand_over.new.from c.hand_over.new.to c.hand_over.ensures
+    after c.with_all-answer.new.clock c.clock-in-Some.view_is c.with_all-answer.result (visit clock.caller clock.now c.hand_over.new.to clock.duties.list clock.fids.names) refl
+    c.with_all-answer.ensures.others c.with_all-answer.ensures.clock c.hand_over-in-Some.new.to c.hand_over-in-Some.new.from c.hand_over-in-Some.ensures
+    had.duties.list had.host c.clock-in-Some.invariant
+
+pub decide-requires-clause-all : goal.decide-requires-clause-all
+decide-requires-clause-all g t c =
+    let w = g.J.Placing.world in
+    let r = g.J.Naming.run.roster in
+    let none : c.args.players.now ++ other_players c.args.groups.now ≡ [] =
+    ap (λ (l : List (Playing g.row.T.Denot)). l ++ other_players c.args.groups.now) (nil_of c.args.players.now c.in-None.ensures.cases)
+    ∙ ap other_players (nil_of c.args.groups.now c.in-None-split_first_mut.ensures.cases) in
+    all_stand w r c.args.clock.now.sight c.args.standings.now
+    (subst (λ (l : List (Playing g.row.T.Denot)). AreLent w r (visits l) c.args.clock.now.sight c.args.standings.now) none c.requires.lent)
+
+pub returns-in-Some-clause-others : goal.returns-in-Some-clause-others
+returns-in-Some-clause-others g t c =
+    let w = g.J.Placing.world in
+    let r = g.J.Naming.run.roster in
+    let law = c.guests_hand_over.ensures in
+    let me = c.first-inside.inside.0.0 in
+    let mine = visit me.caller me.now me.pass me.duties.list me.fids.names in
+    let clock = c.clock.inside in
+    let old = visit clock.caller clock.now clock.pass clock.duties.list clock.fids.names in
+    let one =
+    ap (λ (i : Inside g.row.J.Denot g.row.T.Denot). player i.guest i.role i.task i.lost) c.first-inside.view_is ∙ c.first.view_is in
+    let had = c.clock-in-Some.inside in
+    let after = visit had.caller had.now had.pass had.duties.list had.fids.names in
+    others_stay_here w r (law.over w r) (law.there w r) (law.here w r) c.first-inside.inside.0.1.0 c.first-inside.inside.0.1.1.0 c.first-inside.inside.0.1.1.1.0 mine old
+    c.args.clock.now c.in-Some.first.now c.in-Some.others.now c.args.players.now c.args.groups.now one c.in-Some.ensures.cases.0 c.clock.view_is c.args.standings.now
+    c.requires.apart c.requires.lent c.first-inside.invariant.guest c.hand_over.new.from c.hand_over.new.to c.hand_over.ensures
+    after c.with_all-answer.new.clock c.clock-in-Some.view_is c.with_all-answer.result (visit clock.caller clock.now c.hand_over.new.to clock.duties.list clock.fids.names) refl
+    c.with_all-answer.ensures.others c.with_all-answer.ensures.clock c.hand_over-in-Some.new.to c.hand_over-in-Some.new.from c.hand_over-in-Some.ensures
+
+pub returns-in-Some-clause-clock : goal.returns-in-Some-clause-clock
+returns-in-Some-clause-clock g t c =
+    let w = g.J.Placing.world in
+    let r = g.J.Naming.run.roster in
+    let law = c.guests_hand_over.ensures in
+    let me = c.first-inside.inside.0.0 in
+    let mine = visit me.caller me.now me.pass me.duties.list me.fids.names in
+    let clock = c.clock.inside in
+    let old = visit clock.caller clock.now clock.pass clock.duties.list clock.fids.names in
+    let one =
+    ap (λ (i : Inside g.row.J.Denot g.row.T.Denot). player i.guest i.role i.task i.lost) c.first-inside.view_is ∙ c.first.view_is in
+    let had = c.clock-in-Some.inside in
+    let after = visit had.caller had.now had.pass had.duties.list had.fids.names in
+    advances_here w r (law.over w r) (law.there w r) (law.here w r) c.first-inside.inside.0.1.0 c.first-inside.inside.0.1.1.0 c.first-inside.inside.0.1.1.1.0 mine old
+    c.args.clock.now c.in-Some.first.now c.in-Some.others.now c.args.players.now c.args.groups.now one c.in-Some.ensures.cases.0 c.clock.view_is c.args.standings.now
+    c.requires.apart c.requires.lent c.first-inside.invariant.guest c.hand_over.new.from c.hand_over.new.to c.hand_over.ensures
+    after c.with_all-answer.new.clock c.clock-in-Some.view_is c.with_all-answer.result (visit clock.caller clock.now c.hand_over.new.to clock.duties.list clock.fids.names) refl
+    c.with_all-answer.ensures.others c.with_all-answer.ensures.clock c.hand_over-in-Some.new.to c.hand_over-in-Some.new.from c.hand_over-in-Some.ensures
+
+pub returns-in-Some-clause-players : goal.returns-in-Some-clause-players
+returns-in-Some-clause-players g t c =
+    let w = g.J.Placing.world in
+    let r = g.J.Naming.run.roster in
+    let law = c.guests_hand_over.ensures in
+    let me = c.first-inside.inside.0.0 in
+    let mine = visit me.caller me.now me.pass me.duties.list me.fids.names in
+    let clock = c.clock.inside in
+    let old = visit clock.caller clock.now clock.pass clock.duties.list clock.fids.names in
+    let one =
+    ap (λ (i : Inside g.row.J.Denot g.row.T.Denot). player i.guest i.role i.task i.lost) c.first-inside.view_is ∙ c.first.view_is in
+    let had = c.clock-in-Some.inside in
+    let after = visit had.caller had.now had.pass had.duties.list had.fids.names in
+    are_back w r (law.over w r) (law.there w r) (law.here w r) c.first-inside.inside.0.1.0 c.first-inside.inside.0.1.1.0 c.first-inside.inside.0.1.1.1.0 mine old
+    c.args.clock.now c.in-Some.first.now c.in-Some.others.now c.args.players.now c.args.groups.now one c.in-Some.ensures.cases.0 c.clock.view_is c.args.standings.now
+    c.requires.apart c.requires.lent c.first-inside.invariant.guest c.hand_over.new.from c.hand_over.new.to c.hand_over.ensures
+    after c.with_all-answer.new.clock c.clock-in-Some.view_is c.with_all-answer.result (visit clock.caller clock.now c.hand_over.new.to clock.duties.list clock.fids.names) refl
+    c.with_all-answer.ensures.others c.with_all-answer.ensures.clock c.hand_over-in-Some.new.to c.hand_over-in-Some.new.from c.hand_over-in-Some.ensures
+    had.now c.with_all-answer.new.players
+    (subst (λ (v : Visit). AreBack w v.now c.in-Some.others.now c.with_all-answer.new.players) (sym c.clock-in-Some.view_is) c.with_all-answer.ensures.players) refl
+
+pub returns-in-Some-split_first_mut-clause-others : goal.returns-in-Some-split_first_mut-clause-others
+returns-in-Some-split_first_mut-clause-others g t c =
+    let w = g.J.Placing.world in
+    let r = g.J.Naming.run.roster in
+    let same =
+    group_lists c.args.players.now c.args.groups.now c.in-Some-split_first_mut.group.now c.in-Some-split_first_mut.rest.now c.as_mut_slice-players.result.now
+    (nil_of c.args.players.now c.in-None.ensures.cases) c.in-Some-split_first_mut.ensures.cases.0
+    (c.as_mut_slice-players.ensures.value ∙ ap (λ (x : Grouped g.row.T.Denot). x.players) c.group.view_is) in
+    subst (λ (l : List (Playing g.row.T.Denot)). OthersStay w r (c.args.clock.now.caller ∷ callers_of l) c.args.clock.now.sight c.with_all.new.clock.sight) (sym same)
+    c.with_all.ensures.others
+
+pub returns-in-Some-split_first_mut-clause-clock : goal.returns-in-Some-split_first_mut-clause-clock
+returns-in-Some-split_first_mut-clause-clock g t c =
+    let w = g.J.Placing.world in
+    let r = g.J.Naming.run.roster in
+    let same =
+    group_lists c.args.players.now c.args.groups.now c.in-Some-split_first_mut.group.now c.in-Some-split_first_mut.rest.now c.as_mut_slice-players.result.now
+    (nil_of c.args.players.now c.in-None.ensures.cases) c.in-Some-split_first_mut.ensures.cases.0
+    (c.as_mut_slice-players.ensures.value ∙ ap (λ (x : Grouped g.row.T.Denot). x.players) c.group.view_is) in
+    subst (λ (l : List (Playing g.row.T.Denot)). Advances w r (visits l) c.args.clock.now c.with_all.result c.with_all.new.clock) (sym same) c.with_all.ensures.clock
+
+pub returns-in-None-split_first_mut-clause-others : goal.returns-in-None-split_first_mut-clause-others
+returns-in-None-split_first_mut-clause-others g t c v none is = c.decide.ensures.leaves.others v is none.0
+
+pub returns-in-None-split_first_mut-clause-clock : goal.returns-in-None-split_first_mut-clause-clock
+returns-in-None-split_first_mut-clause-clock g t c =
+    let w = g.J.Placing.world in
+    let r = g.J.Naming.run.roster in
+    let leaves = c.decide.ensures.leaves in
+    let none : c.args.players.now ++ other_players c.args.groups.now ≡ [] =
+    ap (λ (l : List (Playing g.row.T.Denot)). l ++ other_players c.args.groups.now) (nil_of c.args.players.now c.in-None.ensures.cases)
+    ∙ ap other_players (nil_of c.args.groups.now c.in-None-split_first_mut.ensures.cases) in
+    subst (λ (l : List (Playing g.row.T.Denot)). Advances w r (visits l) c.args.clock.now c.decide.result c.decide.new.clock) (sym none)
+    (advances_at w r c.args.clock.now c.decide.result c.decide.new.clock c.decide.ensures.guests leaves.decided leaves.caller leaves.nexts leaves.timely)

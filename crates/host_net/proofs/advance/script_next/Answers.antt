@@ -1,0 +1,40 @@
+use Rattle.std.proofs.Common.{◌≡◌, ℕ, List, Some, None, ap, sym, subst, ◌∙◌}
+use Rattle.net_base.specs.declared.history.Work.{Work}
+use Rattle.net_base.specs.Callers.{caller_of}
+use Rattle.net_base.specs.Next.{next}
+use Rattle.net_base.specs.Steps.{Bound}
+use Rattle.script_task.specs.Requests.{planned}
+use Rattle.guest_laws.specs.Works.{entries}
+use Rattle.host_net.specs.Deciding.{ask_of}
+use Rattle.host_net.specs.Playing.{Playing}
+use Rattle.host_net.specs.Visits.{Visit}
+use Rattle.host_net.proofs.Foreseen.{nothing_next, something_next}
+use Rattle.host_net.proofs.advance.script_next.Goals as goal
+
+pub returns-in_default-clause-next : goal.returns-in_default-clause-next
+returns-in_default-clause-next g c =
+    let w = g.J.Placing.world in
+    let s = c.requires.script.0 in
+    let v = c.player.inside.guest in
+    let seen : v ≡ c.args.player.now.visit = ap (λ (x : Playing g.row.T.Denot). x.visit) c.player.view_is in
+    let script = ap (λ (u : Visit). caller_of w u.caller) seen ∙ c.requires.script.1 in
+    let none = ap (g.T.Task.asks c.player.inside.task) (sym c.fids.ensures) ∙ (sym c.in_ok-request.ensures ∙ c.in_default.is) in
+    subst (λ (u : Visit). None ≡ next w (entries u.sight.seen) u.caller) seen
+    (nothing_next g.T.Task.asks g.T.Task.Stands g.met.T.Task.asks_so w v s c.player.inside.task script
+    (c.player.invariant.goes_on s script c.if-player.false) none)
+
+pub returns-clause-next : goal.returns-clause-next
+returns-clause-next g c =
+    let w = g.J.Placing.world in
+    let s = c.requires.script.0 in
+    let v = c.player.inside.guest in
+    let seen : v ≡ c.args.player.now.visit = ap (λ (x : Playing g.row.T.Denot). x.visit) c.player.view_is in
+    let script = ap (λ (u : Visit). caller_of w u.caller) seen ∙ c.requires.script.1 in
+    let asks = ap (g.T.Task.asks c.player.inside.task) (sym c.fids.ensures) ∙ (sym c.in_ok-request.ensures ∙ c.in-Some.is) in
+    let home = c.guest.invariant.home s (ap (λ (u : Visit). caller_of w u.caller) c.guest.view_is ∙ script) in
+    let plans = ap (λ (l : List Bound). planned c.guest.inside.host l c.in-Some.request) (sym c.fids-2.ensures) ∙ c.in_ok-actor.ensures.event in
+    subst (λ (u : Visit). Some (ask_of (c.in_ok-actor.field-0.actor, c.bare.result)) ≡ next w (entries u.sight.seen) u.caller) seen
+    (ap (λ (x : Work). Some (record { actor = c.in_ok-actor.field-0.actor; event = x.event })) c.bare.ensures
+    ∙ something_next g.T.Task.asks g.T.Task.Stands g.met.T.Task.asks_so w v s c.player.inside.task script
+    (c.player.invariant.goes_on s script c.if-player.false) c.guest.inside.host c.in-Some.request
+    (record { actor = c.in_ok-actor.field-0.actor; event = c.in_ok-actor.field-0.event }) home asks plans)

@@ -1,0 +1,171 @@
+-- The calm clock: how callers stand before it may move, and what became of it.
+--     IsStanding     what is known of a caller by its player
+--     IsHistoryOf    a history that some callers recorded
+--     Advanced       what became of the clock
+--     GroupsAreKept  the players of all groups are as before, but for the moment and what they have seen
+use Rattle.std.specs.Prelude.{◌≡◌, ℕ, ◌<◌, ◌⊎◌, ◌==◌, true, false, not, List, [], ◌∷◌, ◌++◌, length, map, option_map, Option, Some, None, slice_get, slice_set}
+use Rattle.net_base.specs.declared.history.Entry.{Entry}
+use Rattle.net_base.specs.declared.world.World.{World}
+use Rattle.net_base.specs.Calm.{done, limited, movable, stopped, target}
+use Rattle.net_base.specs.Legal.{IsLegal, IsTimed}
+use Rattle.net_base.specs.Net.{Net, after}
+use Rattle.net_base.specs.Next.{next}
+use Rattle.net_base.specs.Stamped.{In, of_caller}
+use Rattle.journal.specs.declared.law.Roster.{Roster}
+use Rattle.journal.specs.declared.tokens.Sight.{Sight}
+use Rattle.journal.specs.Closing.{plain}
+use Rattle.guest_laws.specs.Guests.{IsOfGuests}
+use Rattle.guest_laws.specs.Own.{AreNext, AreTimely}
+use Rattle.guest_laws.specs.Works.{entries}
+use Rattle.host_net.specs.declared.clock.Advance.{Advance}
+use Rattle.host_net.specs.declared.clock.Advance.TheVariants as advance
+use Rattle.host_net.specs.declared.clock.Standing.{Standing}
+use Rattle.host_net.specs.Deciding.{Decided, HasStanding, IsBare, IsLeast, ask_of}
+use Rattle.host_net.specs.Groups.{Grouped}
+use Rattle.host_net.specs.Playing.{Playing}
+use Rattle.host_net.specs.Visits.{Gathers, IsWith, Stays, Visit, own}
+
+-- How a caller stands.
+
+-- what is known of a caller: whether it owes a duty, whether it has room, what it records next where it owes none, and
+-- that each of its moves came in time
+pub record IsStanding (w : World) (v : Visit) (s : Standing) : Type 0 where
+  pub caller_is : s.caller ≡ v.caller
+  pub owes_is : s.owes ≡ not (length v.owed == 0)
+  pub full_is : s.full ≡ (length (own v.caller v.sight) == 131072)
+  pub next_is : option_map ask_of s.next ≡ next w (entries v.sight.seen) v.caller
+  pub given : IsBare s.next
+  pub timely : AreTimely w v.caller v.sight.seen
+
+-- of each of these callers, in their order
+abbrev pub AreStandings : World → List Visit → List Standing → Type 0
+AreStandings w [] [] = Unit {0}
+AreStandings w (v ∷ vs) (s ∷ ss) = IsStanding w v s × AreStandings w vs ss
+AreStandings w _ _ = ⊥
+
+-- to the standings so far come those of these callers
+pub record Adds (w : World) (vs : List Visit) (old new : List Standing) : Type 0 where
+  pub added : List Standing
+  pub behind : new ≡ old ++ added
+  pub standings : AreStandings w vs added
+
+-- each of these standings is one of a caller who is with the pass already, or of one of those that are left
+pub record AreLent (w : World) (r : Roster) (left : List Visit) (p : Sight) (ss : List Standing) : Type 0 where
+  pub each : (s : Standing) → In s ss → (v : Visit) × IsStanding w v s × (IsWith w r v p ⊎ In v left)
+  pub all : (c : ℕ) → c < r.callers → HasStanding c ss
+
+-- What became of the clock.
+
+-- a history in which each of these callers has the entries that it knows
+pub record IsHistoryOf (w : World) (vs : List Visit) (h : List Entry) : Type 0 where
+  pub legal : IsLegal w h
+  pub timed : IsTimed w h
+  pub lists : (v : Visit) → In v vs → of_caller v.caller h ≡ map plain (own v.caller v.sight)
+
+-- so stands the net after it
+abbrev pub AfterAll : World → List Visit → (Net → Type 0) → Type 0
+AfterAll w vs K = (h : List Entry) → IsHistoryOf w vs h → K (after w h)
+
+-- the clock might move, had room, and moved to this moment, which is now that of each of these callers
+pub record MovesAll (w : World) (old new : List Visit) (m : ℕ) : Type 0 where
+  pub may : AfterAll w old (λ (net : Net). movable w net ≡ true)
+  pub has_room : AfterAll w old (λ (net : Net). limited w net ≡ false)
+  pub target_is : AfterAll w old (λ (net : Net). m ≡ target w net)
+  pub now_is : (v : Visit) → In v new → v.now ≡ m
+
+-- by the answer
+abbrev pub Advanced : World → List Visit → Advance → List Visit → Type 0
+Advanced w old (advance.Moved m) new = MovesAll w old new m
+Advanced w old advance.Done new = AfterAll w new (λ (net : Net). done w net ≡ true)
+Advanced w old advance.Stopped new = AfterAll w new (λ (net : Net). stopped w net ≡ true)
+Advanced w old (advance.NotCalm c) new = AfterAll w new (λ (net : Net). IsLeast w net c × (limited w net ≡ false))
+Advanced w old advance.Limit new = AfterAll w new (λ (net : Net). limited w net ≡ true)
+Advanced w old advance.Memory new = Unit {0}
+
+-- The players.
+
+-- The numbers of all callers were with the pass of the clock's guest, which decided.
+--     at, to      the guest as it was then, and as it was when it had decided
+pub record Advances (w : World) (r : Roster) (left : List Visit) (old : Visit) (answer : Advance) (new : Visit)
+    : Type 0 where
+  pub at : Visit
+  pub to : Visit
+  pub gathers : Gathers w r old.sight left at.sight
+  pub guests : IsOfGuests w r at.sight.seen
+  pub caller_at : at.caller ≡ old.caller
+  pub now_at : at.now ≡ old.now
+  pub decided : Decided w at answer to
+  pub nexts : AreNext w old.caller at.sight.seen → AreNext w old.caller new.sight.seen
+  pub timely : AreTimely w old.caller at.sight.seen → AreTimely w old.caller new.sight.seen
+  pub caller_is : new.caller ≡ old.caller
+  pub now_is : new.now ≡ to.now
+  pub seen_is : new.sight.seen ≡ to.sight.seen
+
+module _ {T : Type 0} where
+  -- the player is as before, but for the moment and what it has seen of others
+  pub record IsKept (w : World) (old new : Playing T) : Type 0 where
+    pub caller_is : new.visit.caller ≡ old.visit.caller
+    pub owed_is : new.visit.owed ≡ old.visit.owed
+    pub names_are : new.visit.names ≡ old.visit.names
+    pub role_is : new.role ≡ old.role
+    pub task_is : new.task ≡ old.task
+    pub lost_is : new.lost ≡ old.lost
+    pub stays : Stays w old.visit.caller old.visit.sight new.visit.sight
+
+  -- so are these, each in its place
+  abbrev pub AreKept : World → List (Playing T) → List (Playing T) → Type 0
+  AreKept w [] [] = Unit {0}
+  AreKept w (p ∷ ps) (q ∷ qs) = IsKept w p q × AreKept w ps qs
+  AreKept w _ _ = ⊥
+
+  -- and have this moment
+  abbrev pub AreBack : World → ℕ → List (Playing T) → List (Playing T) → Type 0
+  AreBack w now [] [] = Unit {0}
+  AreBack w now (p ∷ ps) (q ∷ qs) = (IsKept w p q × (q.visit.now ≡ now)) × AreBack w now ps qs
+  AreBack w now _ _ = ⊥
+
+  -- the same of each group, whose clock stays
+  pub record IsBack (w : World) (now : ℕ) (old new : Grouped T) : Type 0 where
+    pub players : AreBack w now old.players new.players
+    pub clock_is : new.clock ≡ old.clock
+    pub memory_is : new.memory ≡ old.memory
+
+  abbrev pub GroupsAreBack : World → ℕ → List (Grouped T) → List (Grouped T) → Type 0
+  GroupsAreBack w now [] [] = Unit {0}
+  GroupsAreBack w now (g ∷ gs) (k ∷ ks) = IsBack w now g k × GroupsAreBack w now gs ks
+  GroupsAreBack w now _ _ = ⊥
+
+  -- the players of all groups, the clock's aside
+  abbrev pub other_players : List (Grouped T) → List (Playing T)
+  other_players [] = []
+  other_players (g ∷ gs) = g.players ++ other_players gs
+
+  -- the clock's player was taken out of the group of this place
+  pub record IsTaken (old : List (Grouped T)) (clock : Playing T) (place : ℕ) (new : List (Grouped T)) : Type 0 where
+    pub group : Grouped T
+    pub there : slice_get old place ≡ Some group
+    pub clock_is : group.clock ≡ Some clock
+    pub new_is : new ≡ slice_set old place (record group { clock = None })
+
+  -- the clock's player is the same, and its guest may have moved
+  pub record IsClockKept (old new : Playing T) : Type 0 where
+    pub caller_is : new.visit.caller ≡ old.visit.caller
+    pub role_is : new.role ≡ old.role
+    pub task_is : new.task ≡ old.task
+    pub lost_is : new.lost ≡ old.lost
+
+  abbrev pub ClockStays : Option (Playing T) → Option (Playing T) → Type 0
+  ClockStays None None = Unit {0}
+  ClockStays (Some p) (Some q) = IsClockKept p q
+  ClockStays _ _ = ⊥
+
+  -- each group has its players, each in its place
+  pub record IsGroupKept (w : World) (old new : Grouped T) : Type 0 where
+    pub players : AreKept w old.players new.players
+    pub clock_stays : ClockStays old.clock new.clock
+    pub memory_is : new.memory ≡ old.memory
+
+  abbrev pub GroupsAreKept : World → List (Grouped T) → List (Grouped T) → Type 0
+  GroupsAreKept w [] [] = Unit {0}
+  GroupsAreKept w (g ∷ gs) (k ∷ ks) = IsGroupKept w g k × GroupsAreKept w gs ks
+  GroupsAreKept w _ _ = ⊥

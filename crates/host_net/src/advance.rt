@@ -1,0 +1,315 @@
+//! The calm clock: it may move where no caller can go on, and for that its guest gets the numbers of all callers.
+ghost use Rattle.std.specs.Prelude.{◌≡◌, ◌<◌, ◌++◌, ◌∷◌, ℕ, List, Some, None, length, option_map, slice_get, slice_set, IfOk, IfSome, IsNone, OnOk};
+ghost use Rattle.net_base.specs.declared.noted.Noted.{Noted};
+ghost use Rattle.net_base.specs.declared.world.Script.{Script as AnyScript};
+ghost use Rattle.net_base.specs.Callers.{IsClock, IsScript, caller_of};
+ghost use Rattle.net_base.specs.Next.{next};
+ghost use Rattle.net_base.specs.World.{IsWorld};
+ghost use Rattle.journal.specs.Tokens.{Holds};
+ghost use Rattle.guest_laws.specs.Guests.{HandsOver, IsGuest};
+ghost use Rattle.guest_laws.specs.Works.{entries};
+ghost use Rattle.host_net.specs.Advancing.{Adds, Advanced, Advances, AreBack, AreLent, AreStandings, GroupsAreBack, GroupsAreKept, IsStanding, IsTaken, other_players};
+ghost use Rattle.host_net.specs.Deciding.{IsBare, ask_of};
+ghost use Rattle.host_net.specs.Groups.{Apart, Grouped, IsDealt, NotIn, all_members, all_seats, callers_of, members, visits};
+ghost use Rattle.host_net.specs.Visits as visiting;
+ghost use Rattle.host_net.specs.Visits.{IsWith, Visit};
+
+use crate::clock::{Advance, Standing};
+use crate::guest::Guest;
+use crate::net::Net;
+use crate::player::{Player, Role};
+use crate::players::{Group, Players};
+use actor_machines::{Placing, WorldActor};
+use calm_laws::histories_are_their_callers;
+use guest_laws::{guests_hand_over, histories_of_guests_are_legal};
+use journal::{Journal, Naming, Pass};
+use net_base::{ActorName, Event, With, Work, World};
+use outside::Gate;
+use script_task::{Planned, Task, event_of};
+use std::alloc::{AllocError, Global};
+use std::sync::Wait;
+
+fn bare(event: Event) -> Work
+    ensures { result ≡ visiting.bare event }
+{
+    Work {
+        event,
+        with: With::Nothing,
+    }
+}
+
+// How a player's caller stands. A player whose last reply was lost can't tell.
+fn standing_of<J: Naming + Placing, T: Task>(
+    alloc: Global,
+    player: &Player<J, T>,
+) -> Result<Standing, AllocError>
+    ensures { IfOk result (IsStanding J.world player.now.visit) }
+{
+    let guest = &player.guest;
+    Ok(Standing {
+        caller: guest.caller,
+        owes: guest.owes(),
+        full: guest.pass.room(guest.caller) == 0,
+        next: next_of(alloc, player)?,
+    })
+}
+
+// What a player's caller records next, where it owes nothing.
+fn next_of<J: Naming + Placing, T: Task>(
+    alloc: Global,
+    player: &Player<J, T>,
+) -> Result<Option<(ActorName, Work)>, AllocError>
+    ensures next { IfOk result (λ n. option_map ask_of n
+        ≡ next J.world (entries player.now.visit.sight.seen) player.now.visit.caller) }
+    ensures bare { IfOk result (λ n. IsBare n) }
+{
+    match player.role {
+        Role::Script => script_next(alloc, player),
+        Role::Courier(medium) => Ok(Some((ActorName::Medium(medium), bare(Event::Take)))),
+        Role::Clock => Ok(None),
+    }
+}
+
+// The next event of a script.
+fn script_next<J: Naming + Placing, T: Task>(
+    alloc: Global,
+    player: &Player<J, T>,
+) -> Result<Option<(ActorName, Work)>, AllocError>
+    requires script { (s : AnyScript) × (caller_of J.world player.now.visit.caller ≡ IsScript s) }
+    ensures next { IfOk result (λ n. option_map ask_of n
+        ≡ next J.world (entries player.now.visit.sight.seen) player.now.visit.caller) }
+    ensures bare { IfOk result (λ n. IsBare n) }
+{
+    if player.lost {
+        return Err(AllocError);
+    }
+    let guest = &player.guest;
+    let Some(request) = player.task.next(alloc, guest.fids())? else {
+        return Ok(None);
+    };
+    let Planned {
+        actor,
+        event,
+        effect: _,
+    } = event_of(guest.host, guest.fids(), &request)?;
+    Ok(Some((actor, bare(event))))
+}
+
+// How all callers stand.
+fn standings_of<J: Naming + Placing, T: Task + Drop>(
+    alloc: Global,
+    players: &Players<J, T>,
+) -> Result<Vec<Standing>, AllocError>
+    ensures { IfOk result (λ ss. AreStandings J.world (visits (all_members players.now.groups)) ss.items) }
+{
+    let mut standings = Vec::with_capacity(alloc, players.callers as usize)?;
+    for group in &players.groups {
+        add_standings(alloc, group, &mut standings)?;
+    }
+    Ok(standings)
+}
+
+// How the callers of a group stand.
+fn add_standings<J: Naming + Placing, T: Task + Drop>(
+    alloc: Global,
+    group: &Group<J, T>,
+    standings: &mut Vec<Standing>,
+) -> Result<(), AllocError>
+    ensures { OnOk result (Adds J.world (visits (members group.now)) standings.old.items standings.new.items) }
+{
+    for player in &group.players {
+        standings.push(standing_of(alloc, player)?)?;
+    }
+    if let Some(player) = &group.clock {
+        standings.push(standing_of(alloc, player)?)?;
+    }
+    Ok(())
+}
+
+// What is known of a guest by itself.
+fn guest_keeps<J: Naming + Placing>(guest: &Guest<J>)
+    ensures { IsGuest J.world J.run.roster guest.entry.now.caller guest.entry.now.sight guest.entry.now.owed }
+{
+    let _caller = guest.caller;
+}
+
+// A caller's number goes from one pass to another.
+fn hand_over<J: Naming>(journal: &Journal<J>, from: &mut Pass<J>, to: &mut Pass<J>, caller: u32)
+    requires { (es : List (ℕ × Noted)) × Holds from.old caller es }
+    ensures { HandsOver J.run.roster caller from.old to.old from.new to.new }
+{
+    let moved = journal.split_pass(from, caller);
+    journal.meet(to, moved);
+}
+
+impl<J: Naming + Placing> Net<J, WorldActor<J>> {
+    /// The clock moves to the next moment, in ms, where no caller can go on and some script isn't through, and then that is
+    /// the moment of each player. Else it tells why it didn't. A player whose last reply was lost for want of memory can't
+    /// tell what comes next: then this finds no memory either. It records nothing but the move.
+    pub fn advance<R: Wait, G: Gate, T: Task + Drop>(
+        &self,
+        rt: &R,
+        alloc: Global,
+        gate: &G,
+        world: &World,
+        players: &mut Players<J, T>,
+    ) -> Advance
+        requires world { J.world ≡ world.now }
+        requires is { IsWorld world.now }
+        requires all { players.old.callers ≡ J.run.roster.callers }
+        ensures callers { players.new.callers ≡ players.old.callers }
+        ensures seats { all_seats players.new.groups ≡ all_seats players.old.groups }
+        ensures kept { GroupsAreKept J.world players.old.groups players.new.groups }
+        ensures answer { Advanced J.world (visits (all_members players.old.groups)) result
+            (visits (all_members players.new.groups)) }
+    {
+        let Ok(standings) = standings_of(alloc, players) else {
+            return Advance::Memory;
+        };
+        let groups = players.groups.as_mut_slice();
+        self.advance_groups(rt, alloc, gate, world, standings.as_slice(), groups)
+    }
+
+    // The same, where all callers stand so.
+    fn advance_groups<R: Wait, G: Gate, T: Task + Drop>(
+        &self,
+        rt: &R,
+        alloc: Global,
+        gate: &G,
+        world: &World,
+        standings: &[Standing],
+        groups: &mut [Group<J, T>],
+    ) -> Advance
+        requires world { J.world ≡ world.now }
+        requires is { IsWorld world.now }
+        requires dealt { IsDealt J.world J.run.roster.callers (all_seats groups.old) }
+        requires standings { AreStandings J.world (visits (all_members groups.old)) standings.now }
+        ensures seats { all_seats groups.new ≡ all_seats groups.old }
+        ensures kept { GroupsAreKept J.world groups.old groups.new }
+        ensures answer { Advanced J.world (visits (all_members groups.old)) result (visits (all_members groups.new)) }
+    {
+        histories_are_their_callers();
+        histories_of_guests_are_legal();
+        let Some((mut clock, place)) = take_clock(groups) else {
+            return Advance::Memory;
+        };
+        guest_keeps(&clock.guest);
+        let answer = self.with_all(
+            rt,
+            alloc,
+            gate,
+            world,
+            standings,
+            &mut [],
+            groups,
+            &mut clock.guest,
+        );
+        put_clock(groups, place, clock);
+        answer
+    }
+
+    // The numbers of these players, and of those in the groups, go to the clock's guest, and back when it has decided. Each
+    // player keeps its number in its pass, so that none may be left without it between two calls: one is opened, and the
+    // others are seen to before it closes. That is at most 37 calls deep.
+    fn with_all<'a, R: Wait, G: Gate, T: Task + Drop>(
+        &self,
+        rt: &R,
+        alloc: Global,
+        gate: &G,
+        world: &World,
+        standings: &[Standing],
+        players: &'a mut [Player<J, T>],
+        groups: &'a mut [Group<J, T>],
+        clock: &mut Guest<J>,
+    ) -> Advance
+        requires world { J.world ≡ world.now }
+        requires is { IsWorld world.now }
+        requires clock { caller_of J.world clock.old.caller ≡ IsClock }
+        requires apart { Apart (clock.old.caller ∷ callers_of (players.old ++ other_players groups.old)) }
+        requires lent { AreLent J.world J.run.roster (visits (players.old ++ other_players groups.old))
+            clock.old.sight standings.now }
+        ensures others { (v : Visit)
+            → NotIn v.caller (clock.old.caller ∷ callers_of (players.old ++ other_players groups.old))
+            → IsWith J.world J.run.roster v clock.old.sight → IsWith J.world J.run.roster v clock.new.sight }
+        ensures clock { Advances J.world J.run.roster (visits (players.old ++ other_players groups.old))
+            clock.old result clock.new }
+        ensures players { AreBack J.world clock.new.now players.old players.new }
+        ensures groups { GroupsAreBack J.world clock.new.now groups.old groups.new }
+    {
+        guests_hand_over();
+        match players.split_first_mut() {
+            Some((first, others)) => {
+                let caller = first.guest.caller;
+                hand_over(
+                    &self.journal,
+                    &mut first.guest.pass,
+                    &mut clock.pass,
+                    caller,
+                );
+                let answer = self.with_all(
+                    rt, alloc, gate, world, standings, others, groups, clock,
+                );
+                hand_over(
+                    &self.journal,
+                    &mut clock.pass,
+                    &mut first.guest.pass,
+                    caller,
+                );
+                first.guest.now = clock.now;
+                answer
+            }
+            None => match groups.split_first_mut() {
+                Some((group, rest)) => {
+                    let players = group.players.as_mut_slice();
+                    self.with_all(rt, alloc, gate, world, standings, players, rest, clock)
+                }
+                None => self.decide(rt, alloc, gate, world, standings, clock),
+            },
+        }
+    }
+}
+
+// The clock's player, taken out of its group, and the number of that.
+fn take_clock<J: Naming + Placing, T: Task + Drop>(
+    groups: &mut [Group<J, T>],
+) -> Option<(Player<J, T>, usize)>
+    ensures some { IfSome result (λ found. IsTaken groups.old found.0 found.1 groups.new) }
+    ensures none { IsNone result → groups.new ≡ groups.old }
+{
+    let mut place = 0;
+    while place < groups.len() {
+        if let Some(clock) = take_from(&mut groups[place]) {
+            return Some((clock, place));
+        }
+        place += 1;
+    }
+    None
+}
+
+// The clock's player, taken out of this group, where it has it.
+fn take_from<J: Naming + Placing, T: Task + Drop>(group: &mut Group<J, T>) -> Option<Player<J, T>>
+    ensures taken { result ≡ group.old.clock }
+    ensures left { group.new ≡ record group.old { clock = None } }
+{
+    group.clock.take()
+}
+
+// The clock's player is in the group of this place again.
+fn put_clock<J: Naming + Placing, T: Task + Drop>(
+    groups: &mut [Group<J, T>],
+    place: usize,
+    clock: Player<J, T>,
+)
+    requires { place < length groups.old }
+    ensures { (g : Grouped T) → slice_get groups.old place ≡ Some g
+        → groups.new ≡ slice_set groups.old place (record g { clock = Some clock }) }
+{
+    put_into(&mut groups[place], clock);
+}
+
+// The clock's player is in this group.
+fn put_into<J: Naming + Placing, T: Task + Drop>(group: &mut Group<J, T>, clock: Player<J, T>)
+    ensures { group.new ≡ record group.old { clock = Some clock } }
+{
+    group.clock = Some(clock);
+}
