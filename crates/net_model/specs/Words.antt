@@ -23,12 +23,16 @@ is_word (byte ∷ bytes) = true
 unfoldable pub messages_in : List ℕ → Option ℕ
 messages_in word = number_in 1 9000 word
 
--- the command that words give, where they are in a row: `cs SYS QUERY`, `query ATTR VALUE`, `query ATTR VALUE RATTR`, `run 1`,
--- or `make N`
+-- the number of workers that a word says: 1 to 16, without leading zeros
+unfoldable pub workers_in : List ℕ → Option ℕ
+workers_in word = number_in 1 16 word
+
+-- the command that words give, where they are in a row: `cs SYS QUERY`, `query ATTR VALUE`, `query ATTR VALUE RATTR`,
+-- `run WORKERS`, or `make N`
 abbrev pub command_of : List (List ℕ) → Option Command
 command_of (name ∷ number ∷ []) =
-    if bytes_eq name (codes "run") && bytes_eq number (codes "1")
-    then Some (Run 1)
+    if bytes_eq name (codes "run")
+    then option_map Run (workers_in number)
     else (if bytes_eq name (codes "make") then option_map Make (messages_in number) else None)
 command_of (name ∷ sys ∷ query ∷ []) =
     if is_word sys && is_word query

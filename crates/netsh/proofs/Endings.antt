@@ -1,22 +1,25 @@
 -- How the parts of a call make its end.
-use Rattle.std.proofs.Common.{◌≡◌, ◌≢◌, ◌&&◌, [], ◌∷◌, ℕ, ◌+◌, ◌<◌, ◌≤◌, ◌⊎◌, Bool, true, false, nat_lt, List, ◌++◌, length, Option, Some, None, Result, Err, Ok, if◌then◌else◌, refl, sym, ◌∙◌, ap, subst, inr, rules, arith}
-use Rattle.std.specs.Prelude.{bytes_eq, codes}
-use Rattle.std.specs.Option.{option_map}
-use Rattle.std.proofs.lemmas.Bool.{false≢true}
+use Rattle.std.proofs.Common.{◌≡◌, ◌≢◌, ◌&&◌, ℕ, ◌+◌, ◌<◌, ◌≤◌, Bool, true, false, nat_lt, List, ◌++◌, length, Option, Some, None, Result, Err, if◌then◌else◌, refl, sym, ◌∙◌, ap, subst, inr, arith}
+use Rattle.std.proofs.lemmas.Bool.{true≢false}
 use Rattle.std.proofs.lemmas.Bool.Decides.{nat_tests}
 use Rattle.std.proofs.lemmas.List.{length-append}
+use Rattle.std.specs.Fmt.{digits}
 use Rattle.std.specs.Io.KnownBytes.{Consumes}
+use Rattle.std.specs.Prelude.{codes}
 use Rattle.outside.specs.Streams.{ConsumedToEnd, Rose}
 use Rattle.outside.specs.declared.fault.TakeError.{TakeError}
 use Rattle.outside.specs.declared.fault.TakeError.TheVariants as error
 use Rattle.net_model.specs.Answers.{Answer, bad_input, read_fault, input_limit}
-use Rattle.net_base.specs.Addresses.{number_in}
-use Rattle.net_model.specs.Words.{Command, Cs, Query, Run, Make, is_word, messages_in, command_of, words_wait, reads}
+use Rattle.net_model.specs.Words.{Command, may_wait, reads, words_wait}
 use Rattle.net_base.specs.declared.world.World.{World}
 use Rattle.made_world.specs.Made.{made_world}
 use Rattle.world_writer.specs.Written.{file_text}
-use Rattle.netsh.specs.Built.{bad_line, first_bad, made, IsGiven, IsAnswer}
-use Rattle.netsh.specs.Ends.{Intake, Output, Told, Took, TookSome, IsInput, IsRead, IsUnread, Answers, Ends, answered, unread, no_memory}
+use Rattle.netsh.specs.declared.command.Question.{Question}
+use Rattle.netsh.specs.declared.command.Question.TheVariants as question
+use Rattle.netsh.specs.declared.top.Asked.TheVariants as asks
+use Rattle.netsh.specs.Built.{bad_line, first_bad, made, IsGiven}
+use Rattle.netsh.specs.Commands.{question_read}
+use Rattle.netsh.specs.Ends.{Intake, Output, Told, Took, TookSome, IsInput, IsRead, IsUnread, IsAnswered, Answers, Ends, answered, unread}
 
 -- an input over the limit is bad
 pub too_long_is_bad : (asked : Command) (input : List ℕ) → reads asked ≡ true → input_limit < length input → first_bad asked input ≡ Some (0, 9)
@@ -49,70 +52,96 @@ input_too_long (Some left) None bytes taken long = absurd taken
 input_too_long (Some left) (Some rest) bytes taken long =
     (bytes ++ rest, sym taken, omega (arith, length-append bytes rest, long))
 
--- the answer to an input of which more was taken than the limit
-pub answers_too_long :
-    (asked : Command) (answer : Answer) (intake : Intake) (fault : TakeError) → reads asked ≡ true →
-    ConsumedToEnd intake.left intake.rest input_limit (Err fault) → fault ≡ error.TooLarge →
-    intake.after ≡ intake.before → answer ≡ bad_input 0 9 →
-    Answers asked answer intake
-answers_too_long asked answer intake fault has taken same kept right =
-    let input = input_too_long intake.left intake.rest taken.bytes taken.consumed (taken.too_large.0 (ap Err same))
+-- an input of which more was taken than the limit
+answers_too_long :
+    (asked : Command) (intake : Intake) → reads asked ≡ true → ConsumedToEnd intake.left intake.rest input_limit (Err error.TooLarge) →
+    intake.after ≡ intake.before → Answers asked (bad_input 0 9) intake
+answers_too_long asked intake has taken same =
+    let input = input_too_long intake.left intake.rest taken.bytes taken.consumed (taken.too_large.0 refl)
     in record {
       input = input.0;
       read = took_input asked intake input.0 has (input.1, inr input.2);
-      same = kept;
-      right = subst (λ (bad : Option (ℕ × ℕ)). IsGiven bad asked input.0 answer) (sym (too_long_is_bad asked input.0 has input.2)) right;
+      same = same;
+      right = subst (λ (bad : Option (ℕ × ℕ)). IsGiven bad asked input.0 (bad_input 0 9)) (sym (too_long_is_bad asked input.0 has input.2)) refl;
     }
 
--- want of memory is told as no other error
-abbrev failing : (A : Type 0) → TakeError → Result A TakeError
-failing A fault = Err fault
+-- what reading gave, where it failed
+abbrev pub failing : TakeError → Result (List ℕ) TakeError
+failing fault = Err fault
 
-pub memory_is_no_fault : (A : Type 0) (fault : TakeError) → fault ≡ error.Memory → failing A fault ≢ failing A error.Failed
-memory_is_no_fault A fault is same = apart (ap (failing A) (sym is) ∙ same)
-  where
-    apart : failing A error.Memory ≡ failing A error.Failed → ⊥
-    apart both = cc
+large_is_no_fault : failing error.TooLarge ≡ failing error.Failed → ⊥
+large_is_no_fault same = cc
+
+memory_is_no_fault : failing error.Memory ≡ failing error.Failed → ⊥
+memory_is_no_fault same = cc
+
+-- so the command is answered
+reading_failed :
+    (asked : Command) (intake : Intake) (fault : TakeError) → reads asked ≡ true → ConsumedToEnd intake.left intake.rest input_limit (failing fault) →
+    (failing fault ≡ failing error.Failed → Rose intake.before intake.after) → (failing fault ≢ failing error.Failed → intake.after ≡ intake.before) →
+    IsAnswered asked intake (Err fault)
+reading_failed asked intake error.TooLarge has taken failed same = answers_too_long asked intake has taken (same large_is_no_fault)
+reading_failed asked intake error.Failed has taken failed same = (has, failed refl)
+reading_failed asked intake error.Memory has taken failed same = took_some asked intake (λ none. absurd (true≢false (sym has ∙ none))) (same memory_is_no_fault)
+
+pub answered_failed :
+    (asked : Command) (intake : Intake) (fault : TakeError) (result : Result Answer TakeError) → result ≡ Err fault → reads asked ≡ true →
+    ConsumedToEnd intake.left intake.rest input_limit (failing fault) →
+    (failing fault ≡ failing error.Failed → Rose intake.before intake.after) → (failing fault ≢ failing error.Failed → intake.after ≡ intake.before) →
+    IsAnswered asked intake result
+answered_failed asked intake fault result is has taken failed same =
+    subst (λ (r : Result Answer TakeError). IsAnswered asked intake r) (sym is) (reading_failed asked intake fault has taken failed same)
 
 -- the text of a made world
 pub made_answer : (messages : ℕ) (w : World) (text : List ℕ) (answer : Answer) → w ≡ made_world messages → text ≡ file_text w → answer ≡ record { status = 0; text = text } → answer ≡ made messages
 unfolding made
 made_answer messages w text answer is_made is_text is = is ∙ ap (λ (t : List ℕ). record { status = 0; text = t }) (is_text ∙ ap file_text is_made)
 
--- an answer that was told
-pub ends_answered : (asked : Command) (answer : Answer) (status : ℕ) (text : List ℕ) (result : ℕ) (intake : Intake) (output : Output) → Answers asked answer intake → status ≡ answer.status → text ≡ answer.text → Told (record { status = status; text = text }) result output → Ends (Some asked) result intake output
-ends_answered asked answer status text result intake output answers same_status same_text told =
-    let by_status : ℕ → Type 0 = λ s. Told (record { status = s; text = text }) result output
-    in let by_text : List ℕ → Type 0 = λ t. Told (record { status = answer.status; text = t }) result output
-    in answered asked answer refl answers (subst by_text same_text (subst by_status same_status told))
+-- the text of an input over the limit
+pub too_long_text : codes "! line 0 cause 9\n" ≡ (bad_input 0 9).text
+unfolding digits
+too_long_text = refl
 
--- a fault of the source that was told
-pub ends_unread : (asked : Command) (text : List ℕ) (result : ℕ) (intake : Intake) (output : Output) → reads asked ≡ true → Rose intake.before intake.after → text ≡ read_fault.text → Told (record { status = 6; text = text }) result output → Ends (Some asked) result intake output
-ends_unread asked text result intake output has rose same_text told =
-    let by_text : List ℕ → Type 0 = λ t. Told (record { status = 6; text = t }) result output
-    in unread asked refl has rose (subst by_text same_text told)
+-- what a call told of what became of its command
+module _ (asked : Command) (intake : Intake) (output : Output) (result : ℕ) where
+  same_answer : (answer : Answer) (status : ℕ) (text : List ℕ) → status ≡ answer.status → text ≡ answer.text → Told (record { status = status; text = text }) result output → Told answer result output
+  same_answer answer status text same_status same_text told =
+      let by_status : ℕ → Type 0 = λ s. Told (record { status = s; text = text }) result output
+      in let by_text : List ℕ → Type 0 = λ t. Told (record { status = answer.status; text = t }) result output
+      in subst by_text same_text (subst by_status same_status told)
 
--- the words that wait are those of a run on one worker
-pub waits_run : (words : List (List ℕ)) → words_wait (command_of words) ≡ true → command_of words ≡ Some (Run 1)
-waits_run [] waits = absurd (false≢true waits)
-waits_run (name ∷ []) waits = absurd (false≢true waits)
-waits_run (name ∷ number ∷ []) waits = by (bytes_eq name (codes "run") && bytes_eq number (codes "1")) (bytes_eq name (codes "make")) (messages_in number) waits
-  where
-    by : (b c : Bool) (n : Option ℕ) → words_wait (if b then Some (Run 1) else (if c then option_map Make n else None)) ≡ true → (if b then Some (Run 1) else (if c then option_map Make n else None)) ≡ Some (Run 1)
-    by true c n waits = refl
-    by false true (Some n) waits = absurd (false≢true waits)
-    by false true None waits = absurd (false≢true waits)
-    by false false n waits = absurd (false≢true waits)
-waits_run (name ∷ sys ∷ query ∷ []) waits = absurd (by (is_word sys && is_word query) (bytes_eq name (codes "cs")) (bytes_eq name (codes "query")) waits)
-  where
-    by : (b c d : Bool) → words_wait (if b then (if c then Some (Cs sys query) else (if d then Some (Query sys query None) else None)) else None) ≡ true → ⊥
-    by true true d waits = false≢true waits
-    by true false true waits = false≢true waits
-    by true false false waits = false≢true waits
-    by false c d waits = false≢true waits
-waits_run (name ∷ attr ∷ value ∷ other ∷ []) waits = absurd (by (bytes_eq name (codes "query") && is_word attr && is_word value && is_word other) waits)
-  where
-    by : (b : Bool) → words_wait (if b then Some (Query attr value (Some other)) else None) ≡ true → ⊥
-    by true waits = false≢true waits
-    by false waits = false≢true waits
-waits_run (name ∷ attr ∷ value ∷ other ∷ more ∷ words) waits = absurd (false≢true waits)
+  -- an answer
+  pub ends_answered : (answer : Answer) (status : ℕ) (text : List ℕ) → Answers asked answer intake → status ≡ answer.status → text ≡ answer.text → Told (record { status = status; text = text }) result output → Ends (Some asked) result intake output
+  ends_answered answer status text answers same_status same_text told = answered asked answer refl answers (same_answer answer status text same_status same_text told)
+
+  -- a fault of the source
+  pub ends_unread : (text : List ℕ) → reads asked ≡ true → Rose intake.before intake.after → text ≡ read_fault.text → Told (record { status = 6; text = text }) result output → Ends (Some asked) result intake output
+  ends_unread text has rose same_text told = unread asked refl has rose (same_answer read_fault 6 text refl same_text told)
+
+-- what became of a command and its input, by the same
+module _ (asked : Command) (intake : Intake) where
+  pub so : (one other : Result Answer TakeError) → one ≡ other → IsAnswered asked intake one → IsAnswered asked intake other
+  so one other same is = subst (λ (x : Result Answer TakeError). IsAnswered asked intake x) same is
+
+  pub so_failed : (one other : TakeError) → one ≡ other → IsAnswered asked intake (Err one) → IsAnswered asked intake (Err other)
+  so_failed one other same is = subst (λ (x : TakeError). IsAnswered asked intake (Err x)) same is
+
+-- Words.
+
+same_status : (s t : ℕ) → asks.Answered s ≡ asks.Answered t → s ≡ t
+same_status s t same = cc
+
+never_waits : (question : Question) → may_wait (question_read question) ≡ false
+never_waits (question.Cs sys query) = refl
+never_waits (question.Tuples attr value) = refl
+never_waits (question.Beside attr value other) = refl
+never_waits (question.Make messages) = refl
+
+-- words that were answered
+pub words_answered :
+    (question : Question) (command : Option Command) (status result : ℕ) (intake : Intake) (output : Output) → Some (question_read question) ≡ command →
+    asks.Answered result ≡ asks.Answered status → Ends (Some (question_read question)) result intake output →
+    Ends command status intake output × words_wait command ≡ false
+words_answered question command status result intake output is same ends =
+    let kept : Ends (Some (question_read question)) status intake output = subst (λ (s : ℕ). Ends (Some (question_read question)) s intake output) (same_status result status same) ends in
+    (subst (λ (k : Option Command). Ends k status intake output) is kept, subst (λ (k : Option Command). words_wait k ≡ false) is (never_waits question))

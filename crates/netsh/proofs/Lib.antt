@@ -3,3 +3,4 @@ pub mod Endings
 pub mod Statuses
 pub mod OneHistory
 pub mod RunEnds
+pub mod RunWords

@@ -1,5 +1,5 @@
 -- A run ends in one way, and so has one status.
-use Rattle.std.proofs.Common.{◌≡◌, ◌==◌, ◌&&◌, not, Bool, true, false, refl, sym, ◌∙◌, inl, inr, arith}
+use Rattle.std.proofs.Common.{◌≡◌, ◌==◌, ◌&&◌, not, Bool, true, false, refl, sym, inl, inr, arith}
 use Rattle.std.proofs.lemmas.Bool.{and_parts, true≢false}
 use Rattle.net_base.specs.declared.world.World.{World}
 use Rattle.net_base.specs.Calm.{calm, unfinished, limited, done, stopped}

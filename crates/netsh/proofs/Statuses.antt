@@ -1,9 +1,9 @@
 -- What the statuses say, from how a call ends.
-use Rattle.std.proofs.Common.{◌≡◌, ◌≢◌, ℕ, ◌<◌, ◌⊎◌, Bool, true, false, List, [], ◌∷◌, length, Option, Some, None, Ok, unwrap_or, IsSome, IfSome, refl, sym, ◌∙◌, ap, subst, inl, inr, rules, arith}
+use Rattle.std.proofs.Common.{◌≡◌, ◌≢◌, ℕ, ◌⊎◌, Bool, true, false, List, [], ◌∷◌, Option, Some, None, Ok, unwrap_or, refl, sym, ◌∙◌, ap, subst, inl, inr, arith}
 use Rattle.std.specs.Io.KnownBytes.{IsAtEnd}
 use Rattle.outside.specs.Streams.{Rose}
 use Rattle.net_base.specs.declared.world.World.{World}
-use Rattle.net_model.specs.Answers.{Answer, bad_input, lines_answer, cs_answer, usage, read_fault, input_limit}
+use Rattle.net_model.specs.Answers.{Answer, lines_answer, cs_answer, usage, read_fault}
 use Rattle.net_base.specs.Calm as calm
 use Rattle.net_base.specs.Cs.{CsAnswer, Lines, Refused}
 use Rattle.net_base.specs.Net.{Net, after}
@@ -374,7 +374,3 @@ module _ (command : Option Command) (status : ℕ) (intake : Intake) (output : O
     tells_bad = tells_bad command status intake output ends;
     runs = runs command status intake output ends;
   }
-
-pub causes_if : (command : Option Command) (answer : Option ℕ) (intake : Intake) (output : Output) → IfSome answer (λ status. Ends command status intake output) → IfSome answer (λ status. Causes command status intake output)
-causes_if command None intake output ends = tt
-causes_if command (Some status) intake output ends = causes_of command status intake output ends

@@ -2,12 +2,18 @@
 use Rattle.std.specs.Prelude.{Some, None}
 use Rattle.net_model.specs.Words as words
 use Rattle.netsh.specs.declared.command.Command.{Command}
-use Rattle.netsh.specs.declared.command.Command.TheVariants.{Cs, Tuples, Beside, Run, Make}
+use Rattle.netsh.specs.declared.command.Command.TheVariants as command
+use Rattle.netsh.specs.declared.command.Question.{Question}
+use Rattle.netsh.specs.declared.command.Question.TheVariants.{Cs, Tuples, Beside, Make}
+
+-- the command that never waits that was read
+abbrev pub question_read : Question → words.Command
+question_read (Cs sys query) = words.Cs sys.now query.now
+question_read (Tuples attr value) = words.Query attr.now value.now None
+question_read (Beside attr value other) = words.Query attr.now value.now (Some other.now)
+question_read (Make messages) = words.Make messages
 
 -- the command that was read
 abbrev pub command_read : Command → words.Command
-command_read (Cs sys query) = words.Cs sys.now query.now
-command_read (Tuples attr value) = words.Query attr.now value.now None
-command_read (Beside attr value other) = words.Query attr.now value.now (Some other.now)
-command_read (Run workers) = words.Run workers
-command_read (Make messages) = words.Make messages
+command_read (command.Question question) = question_read question
+command_read (command.Run workers) = words.Run workers

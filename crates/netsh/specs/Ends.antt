@@ -1,15 +1,17 @@
 -- How a call of the program ends: its status, what it took from the source and what the sink gained.
-use Rattle.std.specs.Prelude.{◌≡◌, ◌≢◌, ℕ, ◌<◌, ◌⊎◌, Bool, true, false, List, length, Option, Some, None, Ok, ⊤}
+use Rattle.std.specs.Prelude.{◌≡◌, ◌≢◌, ℕ, ◌<◌, ◌⊎◌, Bool, true, false, List, length, Option, Some, None, Result, Ok, Err, ⊤}
 use Rattle.std.specs.Io.KnownBytes.{Appends, IsAtEnd}
 use Rattle.net_base.specs.declared.history.Entry.{Entry}
 use Rattle.net_base.specs.declared.world.World.{World}
-use Rattle.net_model.specs.Answers.{Answer, usage, read_fault, input_limit}
+use Rattle.net_model.specs.Answers.{Answer, bad_input, usage, read_fault, input_limit}
 use Rattle.net_base.specs.Calm as calm
 use Rattle.net_base.specs.Legal.{IsLegal, IsTimed}
 use Rattle.net_base.specs.Net.{Net, after}
 use Rattle.net_model.specs.Words.{Command, Run, Make, reads, words_read}
 use Rattle.world_text.specs.WorldText.{world_reading}
 use Rattle.outside.specs.Streams.{Rose, AppendsPart}
+use Rattle.outside.specs.declared.fault.TakeError.{TakeError}
+use Rattle.outside.specs.declared.fault.TakeError.TheVariants as error
 use Rattle.netsh.specs.Built.{first_bad, IsAnswer}
 
 -- what a source had left and has left, where it tells that, and its count of faults before and after
@@ -65,6 +67,14 @@ pub record Answers (asked : Command) (answer : Answer) (intake : Intake) : Type 
   pub read : Took (reads asked) intake input
   pub same : intake.after ≡ intake.before
   pub right : IsAnswer asked input answer
+
+-- what became of a command and its input before anything was written: an answer to the input, or why there is none; an input
+-- over the limit is answered as a bad one
+abbrev pub IsAnswered : Command → Intake → Result Answer TakeError → Type 0
+IsAnswered asked intake (Ok answer) = Answers asked answer intake
+IsAnswered asked intake (Err error.TooLarge) = Answers asked (bad_input 0 9) intake
+IsAnswered asked intake (Err error.Failed) = (reads asked ≡ true) × Rose intake.before intake.after
+IsAnswered asked intake (Err error.Memory) = TookSome (reads asked) intake
 
 -- how a call with a command, or with words in no row, may end: with the usage, and nothing was read; with an answer to the
 -- input, if there is one; with a fault of the source; or without memory, and then there was no fault and nothing was written

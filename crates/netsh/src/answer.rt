@@ -5,22 +5,26 @@ ghost use Rattle.net_base.specs.Cs.{Lines as ListOf, Refused};
 ghost use Rattle.cs_resolver.specs.Errors.{number_of};
 ghost use Rattle.net_base.specs.Legal.{IsLegal, IsTimed};
 ghost use Rattle.net_base.specs.Net.{after};
-ghost use Rattle.net_base.specs.Summary.{answered_steps};
+ghost use Rattle.net_base.specs.Summary.{answered_steps, summary};
 ghost use Rattle.net_base.specs.World.{IsWorld};
 ghost use Rattle.netsh.specs.Built.{IsRun};
 ghost use Rattle.netsh.specs.Runs.{end_of, status_of};
 ghost use Rattle.plain_runner.specs.Rounds.{EndsSo};
 
+use agenda::Run;
 use cs_resolver::CsError;
-use net_base::{Lines, Octets, World};
+use net_base::{History, Lines, Octets, World};
 use net_model::{legal_histories_are_plain, legal_histories_keep_it};
-use plain_runner::{Ran, RunEnd};
+use plain_runner::{Ran, RunEnd, summary_of};
 use std::alloc::{AllocError, Global};
 use std::marker::Model;
 use transcript::{End, RunStatus, printed_runs_tell, summary_by, text_of};
 
 /// The words give no command.
 pub const USAGE: &str = "! usage\n";
+
+/// The input is over the limit.
+pub const TOO_LONG: &str = "! line 0 cause 9\n";
 
 /// The input couldn't be read.
 pub const READ_FAULT: &str = "! read fault\n";
@@ -96,7 +100,7 @@ impl Answer {
         Answer { status: 0, text }
     }
 
-    /// The text of a run's history with its summary.
+    /// The text of a run on one worker: its history with its summary.
     pub fn run(alloc: Global, world: &World, ran: &Ran) -> Result<Answer, AllocError>
         requires world { IsWorld world.now }
         requires legal { IsLegal world.now ran.now.history }
@@ -105,15 +109,44 @@ impl Answer {
         requires end { EndsSo world.now (after world.now ran.now.history) ran.now.end }
         ensures { IfOk result (λ answer. IsRun world.now answer) }
     {
+        let lines = summary_by(alloc, world, &ran.history, status_in_summary(ran))?;
+        Answer::of_history(alloc, world, &ran.history, &lines, ran.end)
+    }
+
+    /// The text of a run on many workers: its history with its summary.
+    pub fn run_on_workers(alloc: Global, world: &World, run: &Run) -> Result<Answer, AllocError>
+        requires world { IsWorld world.now }
+        requires legal { IsLegal world.now run.now.history }
+        requires timed { IsTimed world.now run.now.history }
+        requires end { EndsSo world.now (after world.now run.now.history) run.now.end }
+        ensures { IfOk result (λ answer. IsRun world.now answer) }
+    {
+        let lines = summary_of(alloc, world, &run.history)?;
+        Answer::of_history(alloc, world, &run.history, &lines, run.end)
+    }
+
+    // The text of a history with the lines of its summary.
+    fn of_history(
+        alloc: Global,
+        world: &World,
+        history: &History,
+        lines: &Octets,
+        end: RunEnd,
+    ) -> Result<Answer, AllocError>
+        requires world { IsWorld world.now }
+        requires legal { IsLegal world.now history.now }
+        requires timed { IsTimed world.now history.now }
+        requires lines { lines.now ≡ summary world.now history.now }
+        requires end { EndsSo world.now (after world.now history.now) end }
+        ensures { IfOk result (λ answer. IsRun world.now answer) }
+    {
         legal_histories_keep_it();
         legal_histories_are_plain();
         printed_runs_tell();
-        let mut text = text_of(alloc, &ran.history)?;
-        let status = status_in_summary(ran);
-        let summary = summary_by(alloc, world, &ran.history, status)?;
-        text.append(summary.as_slice())?;
+        let mut text = text_of(alloc, history)?;
+        text.append(lines.as_slice())?;
         Ok(Answer {
-            status: run_status(ran.end),
+            status: run_status(end),
             text,
         })
     }

@@ -7,7 +7,7 @@ use std::test::Fail;
 use std::thread::Threads;
 
 /// The worked hosts, and their database.
-const HOSTS: &str = "host anna il udp\nif ether0 135.104.9.6 255.255.255.0\n\
+pub(crate) const HOSTS: &str = "host anna il udp\nif ether0 135.104.9.6 255.255.255.0\n\
 host helix il udp\nif ether0 135.104.9.31 255.255.255.0\n";
 
 const LOCAL: &str = "ndb\nipnet=astro ip=135.104.0.0 ipmask=255.255.0.0\n\tauth=bootes\n\
@@ -30,7 +30,12 @@ const TAKE: &str =
     "script helix\nannounce a net!*!9fs\nlisten c a\naccept e c\nread e 8192\nread e 8192\nclose e\n";
 
 /// A worked world between its lines of media and its scripts.
-fn world(alloc: Global, media: &str, hosts: &str, scripts: &[&str]) -> Result<String, AllocError> {
+pub(crate) fn world(
+    alloc: Global,
+    media: &str,
+    hosts: &str,
+    scripts: &[&str],
+) -> Result<String, AllocError> {
     let mut text = String::from_str(alloc, "networld 1\nend 60000\nseed 7\nmedium ether0 1500\n")?;
     text.push_str(media)?;
     text.push_str(hosts)?;

@@ -1,35 +1,41 @@
 //! The words of the command line.
 ghost use Rattle.std.specs.Prelude.{◌≡◌, ◌∷◌, [], map, option_map, string_bytes};
-ghost use Rattle.net_model.specs.Words.{command_of, is_word, messages_in, reads};
-ghost use Rattle.netsh.specs.Commands.{command_read};
+ghost use Rattle.net_model.specs.Words.{command_of, is_word, messages_in, reads, workers_in};
+ghost use Rattle.netsh.specs.Commands.{command_read, question_read};
 
 use words::number_in;
 
-/// A command with the words that it needs.
+/// A command that never waits, with the words that it needs.
 #[derive(Clone, Copy)]
-pub enum Command<'a> {
+pub enum Question<'a> {
     /// `cs SYS QUERY`
     Cs(&'a [u8], &'a [u8]),
     /// `query ATTR VALUE`
     Tuples(&'a [u8], &'a [u8]),
     /// `query ATTR VALUE RATTR`
     Beside(&'a [u8], &'a [u8], &'a [u8]),
-    /// `run WORKERS`
-    Run(u32),
     /// `make N`
     Make(u32),
 }
 
-/// Whether a command has an input.
-pub fn has_input(command: Command<'_>) -> bool
-    ensures { result ≡ reads (command_read command.entry) }
+/// A command.
+#[derive(Clone, Copy)]
+pub enum Command<'a> {
+    /// One that never waits.
+    Question(Question<'a>),
+    /// `run WORKERS`
+    Run(u32),
+}
+
+/// Whether a command that never waits has an input.
+pub fn has_input(question: Question<'_>) -> bool
+    ensures { result ≡ reads (question_read question.entry) }
 {
-    match command {
-        Command::Cs(_, _) => true,
-        Command::Tuples(_, _) => true,
-        Command::Beside(_, _, _) => true,
-        Command::Run(_) => true,
-        Command::Make(_) => false,
+    match question {
+        Question::Cs(_, _) => true,
+        Question::Tuples(_, _) => true,
+        Question::Beside(_, _, _) => true,
+        Question::Make(_) => false,
     }
 }
 
@@ -54,13 +60,22 @@ pub fn read_words(words: &[String]) -> Option<Command<'_>>
 fn read_two<'a>(name: &[u8], number: &'a [u8]) -> Option<Command<'a>>
     ensures { option_map command_read result ≡ command_of (name.now ∷ number.now ∷ []) }
 {
-    if name == b"run".as_slice() && number == b"1".as_slice() {
-        return Some(Command::Run(1));
+    if name == b"run".as_slice() {
+        return Some(Command::Run(read_workers(number)?));
     }
     if name == b"make".as_slice() {
-        return Some(Command::Make(read_messages(number)?));
+        return Some(Command::Question(Question::Make(read_messages(number)?)));
     }
     None
+}
+
+/// The number of workers that a word says, 1 to 16.
+#[tactic(auto, unfolding(net_model::specs::Words::workers_in))]
+fn read_workers(word: &[u8]) -> Option<u32>
+    ensures { result ≡ workers_in word.now }
+{
+    let workers = number_in(1, 16, word)?;
+    Some(workers as u32)
 }
 
 /// The number of messages that a word says, 1 to 9000.
@@ -80,10 +95,10 @@ fn read_three<'a>(name: &[u8], first: &'a [u8], second: &'a [u8]) -> Option<Comm
         return None;
     }
     if name == b"cs".as_slice() {
-        return Some(Command::Cs(first, second));
+        return Some(Command::Question(Question::Cs(first, second)));
     }
     if name == b"query".as_slice() {
-        return Some(Command::Tuples(first, second));
+        return Some(Command::Question(Question::Tuples(first, second)));
     }
     None
 }
@@ -98,7 +113,7 @@ fn read_four<'a>(
     ensures { option_map command_read result ≡ command_of (name.now ∷ attr.now ∷ value.now ∷ other.now ∷ []) }
 {
     if name == b"query".as_slice() && is_word(attr) && is_word(value) && is_word(other) {
-        Some(Command::Beside(attr, value, other))
+        Some(Command::Question(Question::Beside(attr, value, other)))
     } else {
         None
     }

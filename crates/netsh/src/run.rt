@@ -1,24 +1,59 @@
 //! The command `run`.
-ghost use Rattle.std.specs.Prelude.{ℕ, ◌≤◌, length, IfOk};
+ghost use Rattle.std.specs.Prelude.{◌<◌, ◌≤◌, length, IfOk};
+ghost use Rattle.net_base.specs.World.{IsWorld};
 ghost use Rattle.net_model.specs.Answers.{input_limit};
 ghost use Rattle.net_model.specs.Words.{Run};
-ghost use Rattle.netsh.specs.Built.{IsAnswer};
+ghost use Rattle.netsh.specs.Built.{IsAnswer, IsRun};
 
 use crate::answer::Answer;
-use plain_runner::run;
+use agenda::RunError;
+use net_base::World;
+use outside::Gate;
 use std::alloc::{AllocError, Global};
+use std::sync::Wait;
+use std::thread::Threads;
 use world_file::{WorldError, read_world};
 
-/// What a run over the world that an input is prints. The text is whole before any of it is written.
-pub fn run_over(alloc: Global, input: &[u8]) -> Result<Answer, AllocError>
-    requires { length input.now ≤ input_limit }
-    ensures { IfOk result (λ answer. (workers : ℕ) → IsAnswer (Run workers) input.now answer) }
+/// What a run on so many workers over the world that an input is prints. The text is whole before any of it is written.
+pub fn run_over<R: Threads + Wait + Sync, G: Gate + Sync>(
+    rt: &R,
+    alloc: Global,
+    workers: u32,
+    input: &[u8],
+    gate: &G,
+) -> Result<Answer, AllocError>
+    requires limit { length input.now ≤ input_limit }
+    requires some { 0 < workers }
+    requires few { workers ≤ 16 }
+    ensures { IfOk result (λ answer. IsAnswer (Run workers) input.now answer) }
 {
     let world = match read_world(alloc, input) {
         Ok(world) => world,
         Err(WorldError::Bad { line, cause }) => return Answer::bad_input(alloc, line, cause),
         Err(WorldError::Memory) => return Err(AllocError),
     };
-    let ran = run(alloc, &world)?;
-    Answer::run(alloc, &world, &ran)
+    run_world(rt, alloc, workers, &world, gate)
+}
+
+// On one worker the callers have their turns in a fixed order, and no thread is started.
+fn run_world<R: Threads + Wait + Sync, G: Gate + Sync>(
+    rt: &R,
+    alloc: Global,
+    workers: u32,
+    world: &World,
+    gate: &G,
+) -> Result<Answer, AllocError>
+    requires world { IsWorld world.now }
+    requires some { 0 < workers }
+    requires few { workers ≤ 16 }
+    ensures { IfOk result (λ answer. IsRun world.now answer) }
+{
+    if workers == 1 {
+        let ran = plain_runner::run(alloc, world)?;
+        return Answer::run(alloc, world, &ran);
+    }
+    match agenda::run(rt, alloc, world, workers, gate) {
+        Ok(run) => Answer::run_on_workers(alloc, world, &run),
+        Err(RunError::Memory) => Err(AllocError),
+    }
 }

@@ -70,13 +70,31 @@ fn a_read_of_two_bytes_loses_the_rest(rt: HostRuntime) -> Result<(), Fail> {
     Ok(())
 }
 
+// How a run on so many workers ends, and whether its text ends so.
+fn ends<R: Threads + Wait + Sync>(
+    rt: &R,
+    alloc: Global,
+    workers: &str,
+    end: &str,
+) -> Result<(u8, bool), Fail> {
+    let (status, held) = run(rt, alloc, &["run", workers], DATAGRAM.as_bytes(), &[], &[])?;
+    Ok((status, held.ends_with(end)))
+}
+
 #[test]
-fn workers_that_are_not_built(rt: HostRuntime) -> Result<(), Fail> {
+fn a_datagram_on_many_workers(rt: HostRuntime) -> Result<(), Fail> {
+    let end = "steps 8 of 8\nmessages 1 1\nbytes 2 2\nend done 0\n";
+    let two = ends(&rt, rt.alloc(), "2", end)?;
+    let sixteen = ends(&rt, rt.alloc(), "16", end)?;
+    assert!(rt; two == (0, true) && sixteen == (0, true));
+    Ok(())
+}
+
+#[test]
+fn words_that_give_no_run(rt: HostRuntime) -> Result<(), Fail> {
     let rows = [
         ["run", "0"].as_slice(),
         ["run", "01"].as_slice(),
-        ["run", "2"].as_slice(),
-        ["run", "16"].as_slice(),
         ["run", "17"].as_slice(),
         ["run", "1", "1"].as_slice(),
         ["run"].as_slice(),

@@ -1,14 +1,13 @@
 //! The top call: words and an input in, a status and a text out.
-ghost use Rattle.std.specs.Prelude.{◌≡◌, ◌≢◌, ◌≤◌, ◌↔◌, map, string_bytes, length, IsNone, IfNone, IfSome, IfOk, IsErrOf, IsTrue, Some, None, Err, true, false};
-ghost use Rattle.net_model.specs.Words.{command_of, reads, words_wait};
-ghost use Rattle.netsh.specs.Ends.{Ends, Causes, Told, Answers};
+ghost use Rattle.std.specs.Prelude.{◌≡◌, ◌≢◌, ◌<◌, ◌≤◌, ◌↔◌, ℕ, map, string_bytes, length, IsNone, IfNone, IfSome, IfOk, IsTrue, Some, None, Err, false};
+ghost use Rattle.net_model.specs.Words.{Command as AnyCommand, Run as AnyRun, command_of, words_wait};
+ghost use Rattle.netsh.specs.Ends.{Ends, Causes, Intake, IsAnswered, Told};
 ghost use Rattle.net_model.specs.Answers.{input_limit};
 ghost use Rattle.netsh.specs.Built.{IsAnswer};
-ghost use Rattle.netsh.specs.Commands.{command_read};
-ghost use Rattle.outside.specs.Streams.{Rose};
+ghost use Rattle.netsh.specs.Commands.{question_read};
 
-use crate::answer::{Answer, READ_FAULT, USAGE};
-use crate::command::{Command, has_input, read_words};
+use crate::answer::{Answer, READ_FAULT, TOO_LONG, USAGE};
+use crate::command::{Command, Question, has_input, read_words};
 use crate::cs::cs;
 use crate::make::make;
 use crate::query::{query_beside, query_tuples};
@@ -34,79 +33,103 @@ fn tell<K: Sink>(sink: &mut K, status: u8, text: &[u8]) -> u8
     }
 }
 
-/// The answer to a command and its input, if it has one, which is within the limit.
-fn answer_over(alloc: Global, command: Command<'_>, input: &[u8]) -> Result<Answer, AllocError>
-    requires { length input.now ≤ input_limit }
-    ensures { IfOk result (λ answer. IsAnswer (command_read command.entry) input.now answer) }
-{
-    match command {
-        Command::Cs(sys, query) => cs(alloc, sys, query, input),
-        Command::Tuples(attr, value) => query_tuples(alloc, attr, value, input),
-        Command::Beside(attr, value, other) => query_beside(alloc, attr, value, other, input),
-        Command::Run(_) => run_over(alloc, input),
-        Command::Make(messages) => make(alloc, messages),
-    }
-}
-
-/// Reads the input of a command, where it has one, and makes the answer.
-fn read_and_answer<S: Source>(
-    alloc: Global,
-    command: Command<'_>,
-    source: &mut S,
-) -> Result<Answer, TakeError>
-    ensures ok { IfOk result (λ answer. Answers (command_read command.entry) answer
-        (record { left = S.left source.old; rest = S.left source.new; before = S.faults source.old; after = S.faults source.new })) }
-    ensures failed { IsErrOf result TakeError.Failed → (reads (command_read command.entry) ≡ true) × Rose (S.faults source.old) (S.faults source.new) }
-    ensures same { result ≢ Err TakeError.Failed → S.faults source.new ≡ S.faults source.old }
-    ensures within { IsErrOf result TakeError.TooLarge → ⊥ }
-    ensures untouched { reads (command_read command.entry) ≡ false → source.new ≡ source.old }
-{
-    if !has_input(command) {
-        return Ok(answer_over(alloc, command, b"")?);
-    }
-    match read_to_end(alloc, source, INPUT_LIMIT) {
-        Ok(input) => Ok(answer_over(alloc, command, input.as_slice())?),
-        Err(TakeError::TooLarge) => Ok(Answer::bad_input(alloc, 0, 9)?),
-        Err(error) => Err(error),
-    }
-}
-
-/// Reads the input of a command, where it has one, and makes the answer before a byte of it is written.
-fn ask_reading<S: Source, K: Sink>(
-    alloc: Global,
-    command: Command<'_>,
-    source: &mut S,
-    sink: &mut K,
-) -> u8
-    ensures { Ends (Some (command_read command.entry)) result
-        (record { left = S.left source.old; rest = S.left source.new; before = S.faults source.old; after = S.faults source.new })
+/// Tells why there is no answer to a command and its input. One over the limit is answered as a bad one.
+fn tell_error<K: Sink>(sink: &mut K, error: TakeError) -> u8
+    ensures { (asked : AnyCommand) (intake : Intake) → IsAnswered asked intake (Err error) → Ends (Some asked) result intake
         (record { held = K.held sink.old; holds = K.held sink.new; before = K.faults sink.old; after = K.faults sink.new }) }
 {
-    match read_and_answer(alloc, command, source) {
-        Ok(answer) => tell(sink, answer.status(), answer.text()),
-        Err(TakeError::Failed) => tell(sink, 6, READ_FAULT.as_bytes()),
-        Err(TakeError::Memory) => 8,
-        Err(TakeError::TooLarge) => unreachable!(),
+    match error {
+        TakeError::TooLarge => tell(sink, 2, TOO_LONG.as_bytes()),
+        TakeError::Failed => tell(sink, 6, READ_FAULT.as_bytes()),
+        TakeError::Memory => 8,
     }
 }
 
-/// Does the command of these words, or tells the usage.
-fn answer_words<S: Source, K: Sink>(
+/// Tells what became of a command and its input.
+fn tell_answer<K: Sink>(sink: &mut K, answered: Result<Answer, TakeError>) -> u8
+    ensures { (asked : AnyCommand) (intake : Intake) → IsAnswered asked intake answered → Ends (Some asked) result intake
+        (record { held = K.held sink.old; holds = K.held sink.new; before = K.faults sink.old; after = K.faults sink.new }) }
+{
+    match answered {
+        Ok(answer) => tell(sink, answer.status(), answer.text()),
+        Err(error) => tell_error(sink, error),
+    }
+}
+
+/// The answer to a command that never waits and to its input, if it has one, which is within the limit.
+fn answer_over(alloc: Global, question: Question<'_>, input: &[u8]) -> Result<Answer, AllocError>
+    requires { length input.now ≤ input_limit }
+    ensures { IfOk result (λ answer. IsAnswer (question_read question.entry) input.now answer) }
+{
+    match question {
+        Question::Cs(sys, query) => cs(alloc, sys, query, input),
+        Question::Tuples(attr, value) => query_tuples(alloc, attr, value, input),
+        Question::Beside(attr, value, other) => query_beside(alloc, attr, value, other, input),
+        Question::Make(messages) => make(alloc, messages),
+    }
+}
+
+/// Reads the input of a command that never waits, where it has one, and makes the answer.
+fn read_and_answer<S: Source>(
+    alloc: Global,
+    question: Question<'_>,
+    source: &mut S,
+) -> Result<Answer, TakeError>
+    ensures { IsAnswered (question_read question.entry)
+        (record { left = S.left source.old; rest = S.left source.new; before = S.faults source.old; after = S.faults source.new }) result }
+{
+    if !has_input(question) {
+        return Ok(answer_over(alloc, question, b"")?);
+    }
+    let input = read_to_end(alloc, source, INPUT_LIMIT)?;
+    Ok(answer_over(alloc, question, input.as_slice())?)
+}
+
+/// Reads a world, and runs it.
+fn read_and_run<R: Threads + Wait + Sync, S: Source, G: Gate + Sync>(
+    rt: &R,
+    alloc: Global,
+    workers: u32,
+    source: &mut S,
+    gate: &G,
+) -> Result<Answer, TakeError>
+    requires some { 0 < workers }
+    requires few { workers ≤ 16 }
+    ensures { IsAnswered (AnyRun workers)
+        (record { left = S.left source.old; rest = S.left source.new; before = S.faults source.old; after = S.faults source.new }) result }
+{
+    let input = read_to_end(alloc, source, INPUT_LIMIT)?;
+    Ok(run_over(rt, alloc, workers, input.as_slice(), gate)?)
+}
+
+/// What became of words.
+enum Asked {
+    /// They were answered, with this status.
+    Answered(u8),
+    /// They ask for a run on so many workers, which is still to do.
+    Run(u32),
+}
+
+/// Does the command of these words, unless it is a run, or tells the usage.
+fn ask_words<S: Source, K: Sink>(
     alloc: Global,
     words: &[String],
     source: &mut S,
     sink: &mut K,
-) -> Option<u8>
-    ensures waits { IsNone result ↔ IsTrue (words_wait (command_of (map string_bytes words.now))) }
-    ensures untouched { IfNone result ((source.new ≡ source.old) × (sink.new ≡ sink.old)) }
-    ensures ends { IfSome result (λ status. Ends (command_of (map string_bytes words.now)) status
+) -> Asked
+    ensures answered { (status : ℕ) → result ≡ Asked.Answered status → Ends (command_of (map string_bytes words.now)) status
         (record { left = S.left source.old; rest = S.left source.new; before = S.faults source.old; after = S.faults source.new })
-        (record { held = K.held sink.old; holds = K.held sink.new; before = K.faults sink.old; after = K.faults sink.new })) }
+        (record { held = K.held sink.old; holds = K.held sink.new; before = K.faults sink.old; after = K.faults sink.new })
+        × (words_wait (command_of (map string_bytes words.now)) ≡ false) }
+    ensures run { (workers : ℕ) → result ≡ Asked.Run workers → (command_of (map string_bytes words.now) ≡ Some (AnyRun workers))
+        × (source.new ≡ source.old) × (sink.new ≡ sink.old) }
 {
     match read_words(words) {
-        Some(Command::Run(_)) => None,
-        Some(command) => Some(ask_reading(alloc, command, source, sink)),
-        None => Some(tell(sink, 1, USAGE.as_bytes())),
+        Some(Command::Question(question)) => {
+            Asked::Answered(tell_answer(sink, read_and_answer(alloc, question, source)))
+        }
+        Some(Command::Run(workers)) => Asked::Run(workers),
+        None => Asked::Answered(tell(sink, 1, USAGE.as_bytes())),
     }
 }
 
@@ -126,17 +149,20 @@ pub fn ask<S: Source, K: Sink>(
         (record { left = S.left source.old; rest = S.left source.new; before = S.faults source.old; after = S.faults source.new })
         (record { held = K.held sink.old; holds = K.held sink.new; before = K.faults sink.old; after = K.faults sink.new })) }
 {
-    answer_words(alloc, words, source, sink)
+    match ask_words(alloc, words, source, sink) {
+        Asked::Answered(status) => Some(status),
+        Asked::Run(_) => None,
+    }
 }
 
 /// Does the command of these words. It waits only where the command runs hosts.
 pub fn netsh<R: Threads + Wait + Sync, S: Source, K: Sink, G: Gate + Sync>(
-    _rt: &R,
+    rt: &R,
     alloc: Global,
     words: &[String],
     source: &mut S,
     sink: &mut K,
-    _gate: &G,
+    gate: &G,
 ) -> u8
     ensures ends { Ends (command_of (map string_bytes words.now)) result
         (record { left = S.left source.old; rest = S.left source.new; before = S.faults source.old; after = S.faults source.new })
@@ -145,9 +171,9 @@ pub fn netsh<R: Threads + Wait + Sync, S: Source, K: Sink, G: Gate + Sync>(
         (record { left = S.left source.old; rest = S.left source.new; before = S.faults source.old; after = S.faults source.new })
         (record { held = K.held sink.old; holds = K.held sink.new; before = K.faults sink.old; after = K.faults sink.new }) }
 {
-    match ask(alloc, words, source, sink) {
-        Some(status) => status,
-        None => ask_reading(alloc, Command::Run(1), source, sink),
+    match ask_words(alloc, words, source, sink) {
+        Asked::Answered(status) => status,
+        Asked::Run(workers) => tell_answer(sink, read_and_run(rt, alloc, workers, source, gate)),
     }
 }
 

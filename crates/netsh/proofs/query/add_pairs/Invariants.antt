@@ -1,4 +1,4 @@
-use Rattle.std.proofs.Common.{◌≡◌, ◌++◌, take, drop, Some, None}
+use Rattle.std.proofs.Common.{◌≡◌, ◌++◌, take}
 use Rattle.netsh.proofs.query.add_pairs.Given as goal
 
 abbrev pub invariant-loop-pair : goal.invariant-loop-pair

@@ -1,11 +1,24 @@
-use Rattle.std.proofs.Common.{refl, sym}
-use Rattle.netsh.proofs.Endings.{waits_run}
+use Rattle.std.proofs.Common.{map, refl, string_bytes, sym}
+use Rattle.netsh.proofs.RunWords.{workers_within}
 use Rattle.netsh.proofs.Statuses.{causes_of}
 use Rattle.netsh.proofs.top.netsh.Goals as goal
 
-pub returns-in-None-clause-ends : goal.returns-in-None-clause-ends
-returns-in-None-clause-ends g c =
-    rw (waits_run _ (c.in-None.ensures.waits.0 refl)) (rw (sym c.in-None.ensures.untouched.0, sym c.in-None.ensures.untouched.1) c.ask_reading.ensures)
+pub read_and_run-requires-clause-some : goal.read_and_run-requires-clause-some
+read_and_run-requires-clause-some g c κs within = (workers_within (map string_bytes c.args.words.now) c.in-Run.workers (c.in-Run.ensures.run c.in-Run.workers refl).0).0
 
-pub returns-in-None-clause-causes : goal.returns-in-None-clause-causes
-returns-in-None-clause-causes g c = causes_of _ _ _ _ (returns-in-None-clause-ends g c)
+pub read_and_run-requires-clause-few : goal.read_and_run-requires-clause-few
+read_and_run-requires-clause-few g c κs within = (workers_within (map string_bytes c.args.words.now) c.in-Run.workers (c.in-Run.ensures.run c.in-Run.workers refl).0).1
+
+pub returns-in-Answered-clause-ends : goal.returns-in-Answered-clause-ends
+returns-in-Answered-clause-ends g c = (c.in-Answered.ensures.answered c.in-Answered.status refl).0
+
+pub returns-in-Answered-clause-causes : goal.returns-in-Answered-clause-causes
+returns-in-Answered-clause-causes g c = causes_of _ _ _ _ (returns-in-Answered-clause-ends g c)
+
+pub returns-in-Run-clause-ends : goal.returns-in-Run-clause-ends
+returns-in-Run-clause-ends g c =
+    let run = c.in-Run.ensures.run c.in-Run.workers refl in
+    rw (run.0) (rw (sym run.1, sym run.2) (c.tell_answer.ensures _ _ c.read_and_run.ensures))
+
+pub returns-in-Run-clause-causes : goal.returns-in-Run-clause-causes
+returns-in-Run-clause-causes g c = causes_of _ _ _ _ (returns-in-Run-clause-ends g c)

@@ -1,9 +1,10 @@
-use Rattle.std.proofs.Common.{sym, ◌∙◌}
-use Rattle.netsh.proofs.Endings.{answers_too_long}
+use Rattle.std.proofs.Common.{Err, ap, sym, ◌∙◌}
+use Rattle.std.proofs.lemmas.Result.{err_from_is_err_and}
+use Rattle.netsh.proofs.Endings.{answered_failed}
 use Rattle.netsh.proofs.top.read_and_answer.Goals as goal
 
-pub returns-in_ok-bad_input-in-Err-TooLarge-clause-ok :
-    goal.returns-in_ok-bad_input-in-Err-TooLarge-clause-ok
-returns-in_ok-bad_input-in-Err-TooLarge-clause-ok g c =
-    answers_too_long _ _ _ _ (sym c.has_input.ensures ∙ c.if-not-has_input.false) c.in-Err-TooLarge.ensures.bytes c.in-Err-TooLarge.field-0-is
-    (c.in-Err-TooLarge.ensures.same (λ h. cc)) c.in_ok-bad_input-in-Err-TooLarge.ensures
+pub returns-in_err-input : goal.returns-in_err-input
+returns-in_err-input g c =
+    let p = err_from_is_err_and c.from_residual-in_err-input.result c.from_residual-in_err-input.ensures.1 in
+    answered_failed _ _ _ _ (p.1 ∙ ap Err p.2) (sym c.has_input.ensures ∙ c.if-not-has_input.false) c.in_err-input.ensures.bytes
+    c.in_err-input.ensures.failed c.in_err-input.ensures.same

@@ -3,12 +3,12 @@ use Rattle.net_base.specs.Net.{after}
 use Rattle.netsh.specs.Built.{IsStatus}
 use Rattle.netsh.proofs.OneHistory.{only_one}
 use Rattle.netsh.proofs.RunEnds.{status_is}
-use Rattle.netsh.proofs.answer.Answer.run.Goals as goal
+use Rattle.netsh.proofs.answer.Answer.of_history.Goals as goal
 
 pub returns : goal.returns
 returns c =
     let w = c.args.world.now in
-    let h = c.args.ran.now.history in
+    let h = c.args.history.now in
     let plain = c.legal_histories_are_plain.ensures w c.requires.world h c.requires.legal in
     record {
       history = h;
@@ -17,5 +17,5 @@ returns c =
       headline = c.legal_histories_keep_it.ensures w h c.requires.world c.requires.legal;
       text = search (rules);
       one = only_one c.printed_runs_tell.ensures w h _ plain (search (rules));
-      status = subst (IsStatus w (after w h)) (sym c.run_status.ensures) (status_is w (after w h) c.args.ran.now.end c.requires.end);
+      status = subst (IsStatus w (after w h)) (sym c.run_status.ensures) (status_is w (after w h) c.args.end c.requires.end);
     }

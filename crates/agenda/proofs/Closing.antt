@@ -1,0 +1,20 @@
+-- What the history of players is.
+use Rattle.std.proofs.Common.{◌≡◌, List, subst}
+use Rattle.net_base.specs.declared.history.Entry.{Entry}
+use Rattle.net_base.specs.declared.world.World.{World}
+use Rattle.net_base.specs.Legal.{IsLegal, IsTimed}
+use Rattle.host_net.specs.Advancing.{IsHistoryOf}
+use Rattle.host_net.specs.Playing.{ArePlayed}
+use Rattle.host_net.specs.Visits.{Finished, Visit}
+
+module _ (w : World) (vs : List Visit) (h : List Entry) (finished : Finished w vs h) (plays : ArePlayed w vs) where
+  pub closed_legal : IsLegal w h
+  closed_legal = finished.legal (λ v in_it. (plays v in_it).nexts)
+
+  pub closed_timed : IsTimed w h
+  closed_timed = finished.timed (λ v in_it. (plays v in_it).timely)
+
+  pub closed_history : (players : List Visit) → vs ≡ players → IsHistoryOf w players h
+  closed_history players same =
+      let of_these : IsHistoryOf w vs h = record { legal = closed_legal; timed = closed_timed; lists = finished.lists } in
+      subst (λ (us : List Visit). IsHistoryOf w us h) same of_these

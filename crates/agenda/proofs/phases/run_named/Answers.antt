@@ -1,0 +1,15 @@
+use Rattle.agenda.proofs.Closing.{closed_history, closed_legal, closed_timed}
+use Rattle.agenda.proofs.phases.run_named.Goals as goal
+
+pub returns-clause-legal : goal.returns-clause-legal
+returns-clause-legal g c =
+    closed_legal g.J.Placing.world c.in_ok-played.played.items c.in_ok-history.history c.in_ok-history.ensures c.in_ok-played.ensures.plays
+
+pub returns-clause-timed : goal.returns-clause-timed
+returns-clause-timed g c =
+    closed_timed g.J.Placing.world c.in_ok-played.played.items c.in_ok-history.history c.in_ok-history.ensures c.in_ok-played.ensures.plays
+
+pub returns-clause-end : goal.returns-clause-end
+returns-clause-end g c =
+    c.in_ok-end.ensures.ended c.in_ok-history.history
+    (closed_history g.J.Placing.world c.in_ok-played.played.items c.in_ok-history.history c.in_ok-history.ensures c.in_ok-played.ensures.plays _ c.in_ok-played.ensures.same)

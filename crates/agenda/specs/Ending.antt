@@ -1,0 +1,12 @@
+-- How a run ends.
+use Rattle.std.specs.Prelude.{List}
+use Rattle.net_base.specs.declared.world.World.{World}
+use Rattle.net_base.specs.Net.{Net}
+use Rattle.plain_runner.specs.declared.rounds.RunEnd.{RunEnd}
+use Rattle.plain_runner.specs.Rounds.{EndsSo}
+use Rattle.host_net.specs.Advancing.{AfterAll}
+use Rattle.host_net.specs.Visits.{Visit}
+
+-- the net ends so after each history in which these callers have the entries that they know
+abbrev pub EndAllSo : World → List Visit → RunEnd → Type 0
+EndAllSo w vs end = AfterAll w vs (λ (net : Net). EndsSo w net end)

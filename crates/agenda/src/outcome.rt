@@ -1,0 +1,24 @@
+//! What a run leaves.
+
+use net_base::History;
+use plain_runner::RunEnd;
+use std::alloc::AllocError;
+
+/// A history, and how it ends.
+#[derive(Debug, Drop)]
+pub struct Run {
+    pub history: History,
+    pub end: RunEnd,
+}
+
+/// Why there is no run.
+#[derive(Clone, Copy, Debug, PartialEq, Eq)]
+pub enum RunError {
+    Memory,
+}
+
+impl From<AllocError> for RunError {
+    fn from(_error: AllocError) -> RunError {
+        RunError::Memory
+    }
+}

@@ -1,0 +1,134 @@
+//! A run: phases of players on workers, and the clock between them.
+ghost use Rattle.std.specs.Prelude.{◌≡◌, ◌<◌, ◌≤◌, [], length, IfOk, OnOk};
+ghost use Rattle.net_base.specs.declared.world.Script.{Script as AnyScript};
+ghost use Rattle.net_base.specs.Callers.{IsScript, caller_of};
+ghost use Rattle.net_base.specs.Legal.{IsLegal, IsTimed};
+ghost use Rattle.net_base.specs.Net.{after};
+ghost use Rattle.net_base.specs.World.{IsWorld};
+ghost use Rattle.plain_runner.specs.Rounds.{EndsSo};
+ghost use Rattle.whole_script.specs.ScriptTasks.{Plays};
+ghost use Rattle.host_net.specs.Groups.{all_members, visits};
+ghost use Rattle.host_net.specs.Rosters.{IsRosterOf};
+ghost use Rattle.host_net.specs.Visits.{AreFresh};
+ghost use Rattle.agenda.specs.Ending.{EndAllSo};
+
+use crate::outcome::{Run, RunError};
+use actor_machines::{Placing, WorldActor};
+use host_net::{Advance, Guest, Net, NetOpened, Player, Players};
+use journal::Naming;
+use net_base::World;
+use outside::Gate;
+use plain_runner::RunEnd;
+use std::alloc::{AllocError, Global};
+use std::marker::Brand;
+use std::sync::Wait;
+use std::thread::Threads;
+use whole_script::ScriptTask;
+
+/// Runs the scripts of a world on so many workers. Where a thread can't be had, the caller does its work.
+pub fn run<R: Threads + Wait + Sync, G: Gate + Sync>(
+    rt: &R,
+    alloc: Global,
+    world: &World,
+    workers: u32,
+    gate: &G,
+) -> Result<Run, RunError>
+    requires world { IsWorld world.now }
+    requires some { 0 < workers }
+    requires few { workers ≤ 16 }
+    ensures legal { IfOk result (λ run. IsLegal world.now run.history) }
+    ensures timed { IfOk result (λ run. IsTimed world.now run.history) }
+    ensures end { IfOk result (λ run. EndsSo world.now (after world.now run.history) run.end) }
+{
+    let opened = NetOpened::new(alloc, world)?;
+    Ok(run_named::<Brand, R, G>(rt, alloc, world, workers, gate, opened)?)
+}
+
+// The run, which has a name.
+fn run_named<J: Naming + Placing + Send + Sync, R: Threads + Wait + Sync, G: Gate + Sync>(
+    rt: &R,
+    alloc: Global,
+    world: &World,
+    workers: u32,
+    gate: &G,
+    opened: NetOpened,
+) -> Result<Run, AllocError>
+    requires name { opened ≡ J.run }
+    requires world { J.world ≡ world.now }
+    requires is { IsWorld world.now }
+    requires roster { IsRosterOf J.world J.run.roster }
+    requires some { 0 < workers }
+    ensures legal { IfOk result (λ run. IsLegal J.world run.history) }
+    ensures timed { IfOk result (λ run. IsTimed J.world run.history) }
+    ensures end { IfOk result (λ run. EndsSo J.world (after J.world run.history) run.end) }
+{
+    let (net, guests) = Net::<J, WorldActor<J>>::named(alloc, world, opened)?;
+    let mut players = players_of(alloc, world, guests, workers)?;
+    let end = phases(rt, alloc, world, gate, &net, &mut players)?;
+    let played = players.into_guests(alloc)?;
+    let history = net.finish(alloc, played)?;
+    Ok(Run { history, end })
+}
+
+// A player for each guest, in so many groups.
+fn players_of<'a, J: Naming + Placing>(
+    alloc: Global,
+    world: &'a World,
+    guests: Vec<Guest<J>>,
+    workers: u32,
+) -> Result<Players<J, ScriptTask<'a>>, AllocError>
+    requires world { J.world ≡ world.now }
+    requires is { IsWorld world.now }
+    requires roster { IsRosterOf J.world J.run.roster }
+    requires some { 0 < workers }
+    requires fresh { AreFresh 0 guests.items }
+    ensures { IfOk result (λ players. players.callers ≡ length guests.items) }
+{
+    let mut players = Players::new(alloc, workers)?;
+    for guest in guests {
+        let task = task_of(world, guest.caller());
+        players.add(Player::new(world, guest, task))?;
+    }
+    Ok(players)
+}
+
+// The task of a script, or one without steps for another caller.
+fn task_of<'a>(world: &'a World, caller: u32) -> ScriptTask<'a>
+    ensures { (s : AnyScript) → caller_of world.now caller ≡ IsScript s → Plays s [] [] result }
+{
+    match world.scripts.as_slice().get(caller as usize) {
+        Some(script) => ScriptTask::new(script),
+        None => ScriptTask::idle(),
+    }
+}
+
+// The players go on until each of them waits, and then the clock moves, until the run ends.
+fn phases<'a, J: Naming + Placing + Send + Sync, R: Threads + Wait + Sync, G: Gate + Sync>(
+    rt: &R,
+    alloc: Global,
+    world: &World,
+    gate: &G,
+    net: &Net<J, WorldActor<J>>,
+    players: &mut Players<J, ScriptTask<'a>>,
+) -> Result<RunEnd, AllocError>
+    requires world { J.world ≡ world.now }
+    requires is { IsWorld world.now }
+    requires all { players.old.callers ≡ J.run.roster.callers }
+    ensures all { OnOk result (players.new.callers ≡ J.run.roster.callers) }
+    ensures ended { IfOk result (EndAllSo J.world (visits (all_members players.new.groups))) }
+{
+    for _ in rt.forever() {
+        net.play_phase(rt, alloc, gate, players);
+        if players.is_short() {
+            return Err(AllocError);
+        }
+        match net.advance(rt, alloc, gate, world, players) {
+            Advance::Moved(_) | Advance::NotCalm(_) => {}
+            Advance::Done => return Ok(RunEnd::Done),
+            Advance::Stopped => return Ok(RunEnd::Stopped),
+            Advance::Limit => return Ok(RunEnd::Limit),
+            Advance::Memory => return Err(AllocError),
+        }
+    }
+    unreachable!()
+}

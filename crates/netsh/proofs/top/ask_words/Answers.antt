@@ -1,0 +1,11 @@
+use Rattle.std.proofs.Common.{Some, ap, sym, ◌∙◌}
+use Rattle.netsh.specs.Commands.{command_read}
+use Rattle.netsh.specs.declared.command.Command.{Command}
+use Rattle.netsh.proofs.Endings.{words_answered}
+use Rattle.netsh.proofs.top.ask_words.Goals as goal
+
+pub returns-in-Some-Question-clause-answered : goal.returns-in-Some-Question-clause-answered
+returns-in-Some-Question-clause-answered g c status same =
+    words_answered c.in-Some-Question.question _ status _ _ _
+    (ap (λ (k : Command). Some (command_read k)) (sym c.in-Some-Question.field-0-is) ∙ c.in-Some-Question.ensures) same
+    (c.tell_answer.ensures _ _ c.read_and_answer.ensures)
