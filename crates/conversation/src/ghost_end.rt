@@ -16,6 +16,9 @@ impl Model for GhostEnd {
     ghost also_owns = { λ _. ftrue };
 }
 
+// There are no bytes that a thread could share with another.
+unsafe impl Send for GhostEnd {}
+
 /// What happens to an end.
 pub trait Change {
     // the end that it leaves

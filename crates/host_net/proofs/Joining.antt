@@ -1,9 +1,9 @@
 -- The next caller's player joins its group.
-use Rattle.std.proofs.Common.{◌≡◌, ℕ, zero, suc, ◌+◌, ◌<◌, ◌%◌, Result, Ok, Err, OnErr, List, [], ◌∷◌, ◌++◌, append_assoc, length, Option, None, Some, slice_get, slice_set, slice_index_or, refl, ap, sym, subst, ◌∙◌, arith}
+use Rattle.std.proofs.Common.{◌≡◌, ℕ, zero, suc, ◌+◌, ◌<◌, ◌%◌, Result, Ok, Err, OnErr, List, [], ◌∷◌, ◌++◌, append_assoc, length, Option, None, Some, slice_get, slice_set, slice_index_or, take, drop, refl, ap, sym, subst, ◌∙◌, arith}
 use Rattle.net_base.specs.declared.world.World.{World}
 use Rattle.net_base.specs.Callers.{IsClock, caller_of}
 use Rattle.host_net.specs.declared.player.Role.TheVariants as role
-use Rattle.host_net.specs.Groups.{Grouped, Grouping, IsDealt, all_seats, caller, joined, joined_at, visits, with_last}
+use Rattle.host_net.specs.Groups.{Grouped, Grouping, IsDealt, all_seats, caller, callers_of, joined, joined_at, visits, with_last}
 use Rattle.host_net.specs.Playing.{HasRole, Playing}
 use Rattle.host_net.proofs.Naming.{one_clock}
 use Rattle.host_net.proofs.Seating.{alone_at, dealt_more, set_joined, visits_more}
@@ -42,3 +42,21 @@ module _ {T : Type 0} (w : World) (n : ℕ) (gs : List (Grouped T)) (dealt : IsD
 pub group_visits : {T : Type 0} (vs : List Visit) (ps : List (Playing T)) (o : Option (Playing T)) → (vs ++ visits ps) ++ visits (with_last [] o) ≡ vs ++ visits (with_last ps o)
 group_visits vs ps None = append-nil (vs ++ visits ps)
 group_visits vs ps (Some p) = append_assoc vs (visits ps) (p.visit ∷ []) ∙ ap (λ (l : List Visit). vs ++ l) (sym (visits_more ps (p ∷ [])))
+
+-- What a call wrote to all elements of a vector.
+
+take_first : {A : Type 0} (xs ys : List A) (n : ℕ) → n ≡ length xs → take n (xs ++ ys) ≡ xs
+take_first [] ys zero is = refl
+take_first [] ys (suc n) is = absurd (omega (arith, is))
+take_first (x ∷ xs) ys zero is = absurd (omega (arith, is))
+take_first (x ∷ xs) ys (suc n) is = ap (λ (l : _). x ∷ l) (take_first xs ys n (omega (arith, is)))
+
+pub written : {A : Type 0} (xs ys : List A) (n : ℕ) → n ≡ length ys → length xs ≡ length ys → take n (xs ++ drop (length xs) ys) ≡ xs
+written xs ys n long same = take_first xs (drop (length xs) ys) n (long ∙ sym same)
+
+callers_long : {T : Type 0} (ps : List (Playing T)) → length (callers_of ps) ≡ length ps
+callers_long [] = refl
+callers_long (p ∷ ps) = ap suc (callers_long ps)
+
+pub same_long : {T : Type 0} (ps qs : List (Playing T)) → callers_of ps ≡ callers_of qs → length ps ≡ length qs
+same_long ps qs is = sym (callers_long ps) ∙ (ap length is ∙ callers_long qs)

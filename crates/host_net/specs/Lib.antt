@@ -2,6 +2,7 @@ pub mod Visits
 pub mod Rosters
 pub mod Facts
 pub mod Worked
+pub mod Deciding
 pub mod Playing
 pub mod Groups
 pub mod Deciding
