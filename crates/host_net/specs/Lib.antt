@@ -5,7 +5,6 @@ pub mod Worked
 pub mod Deciding
 pub mod Playing
 pub mod Groups
-pub mod Deciding
 pub mod Advancing
 pub use Rattle.guest_laws.specs.Guests
 pub use Rattle.script_task.specs.Requests
