@@ -5,16 +5,17 @@ ghost use Rattle.std.specs.Cmp.Rules.{comparing};
 ghost use Rattle.std.proofs.Common.{rules};
 
 use crate::sequence::Sequence;
+use smallvec::SmallVec;
 use std::alloc::{AllocError, Global};
 use std::marker::Model;
 
 /// Texts in order, which contracts see as a list of lists of bytes.
 pub type Lines = Sequence<Octets>;
 
-/// Bytes, which contracts see as a list.
+/// Bytes, which contracts see as a list. Up to sixteen of them take no memory of their own.
 #[derive(Debug, Drop)]
 pub struct Octets {
-    bytes: Vec<u8>,
+    bytes: SmallVec<u8, 16>,
 }
 
 impl Model for Octets {
@@ -31,7 +32,7 @@ impl Octets {
         ensures { result ≡ [] }
     {
         Octets {
-            bytes: Vec::new(alloc),
+            bytes: SmallVec::new(alloc),
         }
     }
 
@@ -39,15 +40,17 @@ impl Octets {
     pub fn from_vec(bytes: Vec<u8>) -> Octets
         ensures { result ≡ bytes.items }
     {
-        Octets { bytes }
+        Octets {
+            bytes: SmallVec::from_vec(bytes),
+        }
     }
 
-    /// Its bytes. It takes no memory.
-    pub fn into_vec(self) -> Vec<u8>
-        ensures { result.items ≡ self }
+    /// Its bytes. It takes memory only where they have none of their own.
+    pub fn into_vec(self) -> Result<Vec<u8>, AllocError>
+        ensures { IfOk result (λ v. v.items ≡ self) }
     {
         let Octets { bytes } = self;
-        bytes
+        Ok(bytes.into_vec()?)
     }
 
     /// A copy of these bytes.
@@ -55,7 +58,7 @@ impl Octets {
         ensures { IfOk result (λ o. o ≡ bytes.now) }
     {
         Ok(Octets {
-            bytes: Vec::from_slice(alloc, bytes)?,
+            bytes: SmallVec::from_slice(alloc, bytes)?,
         })
     }
 
@@ -107,7 +110,7 @@ impl PartialEq for Octets {
     ghost laws = { Prim.search (comparing, rules) };
 
     fn eq(&self, other: &Octets) -> bool {
-        self.bytes == other.bytes
+        self.as_slice() == other.as_slice()
     }
 }
 
