@@ -5,20 +5,20 @@ ghost use Rattle.net_base.specs.Cs.{Lines as ListOf, Refused};
 ghost use Rattle.cs_resolver.specs.Errors.{number_of};
 ghost use Rattle.net_base.specs.Legal.{IsLegal, IsTimed};
 ghost use Rattle.net_base.specs.Net.{after};
-ghost use Rattle.net_base.specs.Summary.{answered_steps, summary};
+ghost use Rattle.net_base.specs.Summary.{summary};
 ghost use Rattle.net_base.specs.World.{IsWorld};
-ghost use Rattle.netsh.specs.Built.{IsRun};
-ghost use Rattle.netsh.specs.Runs.{end_of, status_of};
+ghost use Rattle.netsh.specs.Built.{IsRun, IsSummed};
+ghost use Rattle.netsh.specs.Runs.{status_of};
 ghost use Rattle.plain_runner.specs.Rounds.{EndsSo};
 
 use agenda::Run;
 use cs_resolver::CsError;
 use net_base::{History, Lines, Octets, World};
 use net_model::{legal_histories_are_plain, legal_histories_keep_it};
-use plain_runner::{Ran, RunEnd, summary_of};
+use plain_runner::{RunEnd, summary_of};
 use std::alloc::{AllocError, Global};
 use std::marker::Model;
-use transcript::{End, RunStatus, printed_runs_tell, summary_by, text_of};
+use transcript::{printed_runs_tell, text_of};
 
 /// The words give no command.
 pub const USAGE: &str = "! usage\n";
@@ -100,21 +100,8 @@ impl Answer {
         Answer { status: 0, text }
     }
 
-    /// The text of a run on one worker: its history with its summary.
-    pub fn run(alloc: Global, world: &World, ran: &Ran) -> Result<Answer, AllocError>
-        requires world { IsWorld world.now }
-        requires legal { IsLegal world.now ran.now.history }
-        requires timed { IsTimed world.now ran.now.history }
-        requires answered { ran.now.answered ≡ answered_steps world.now ran.now.history }
-        requires end { EndsSo world.now (after world.now ran.now.history) ran.now.end }
-        ensures { IfOk result (λ answer. IsRun world.now answer) }
-    {
-        let lines = summary_by(alloc, world, &ran.history, status_in_summary(ran))?;
-        Answer::of_history(alloc, world, &ran.history, &lines, ran.end)
-    }
-
-    /// The text of a run on many workers: its history with its summary.
-    pub fn run_on_workers(alloc: Global, world: &World, run: &Run) -> Result<Answer, AllocError>
+    /// The text of a run: its history with its summary.
+    pub fn run(alloc: Global, world: &World, run: &Run) -> Result<Answer, AllocError>
         requires world { IsWorld world.now }
         requires legal { IsLegal world.now run.now.history }
         requires timed { IsTimed world.now run.now.history }
@@ -123,6 +110,22 @@ impl Answer {
     {
         let lines = summary_of(alloc, world, &run.history)?;
         Answer::of_history(alloc, world, &run.history, &lines, run.end)
+    }
+
+    /// The summary of a run alone.
+    pub fn big(alloc: Global, world: &World, run: &Run) -> Result<Answer, AllocError>
+        requires world { IsWorld world.now }
+        requires legal { IsLegal world.now run.now.history }
+        requires timed { IsTimed world.now run.now.history }
+        requires end { EndsSo world.now (after world.now run.now.history) run.now.end }
+        ensures { IfOk result (λ answer. IsSummed world.now answer) }
+    {
+        legal_histories_keep_it();
+        let text = summary_of(alloc, world, &run.history)?;
+        Ok(Answer {
+            status: run_status(run.end),
+            text,
+        })
     }
 
     // The text of a history with the lines of its summary.
@@ -176,21 +179,6 @@ fn text_of_lines(alloc: Global, lines: &Lines) -> Result<Octets, AllocError>
         text.push(b'\n')?;
     }
     Ok(text)
-}
-
-/// How many steps are answered, and how the run stands.
-fn status_in_summary(ran: &Ran) -> RunStatus
-    ensures answered { result.answered ≡ ran.now.answered }
-    ensures end { result.end ≡ end_of ran.now.end }
-{
-    RunStatus {
-        answered: ran.answered,
-        end: match ran.end {
-            RunEnd::Done => End::Done,
-            RunEnd::Stopped => End::Stopped,
-            RunEnd::Limit => End::Limit,
-        },
-    }
 }
 
 /// The status by how a run ends.
