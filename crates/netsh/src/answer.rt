@@ -1,11 +1,13 @@
 //! The answers: a status, and the text that is written, made whole.
-ghost use Rattle.std.specs.Prelude.{◌≡◌, ◌≢◌, flat_map, IfOk, OnOk};
+ghost use Rattle.std.specs.Prelude.{◌≡◌, ◌≢◌, flat_map, true, IfOk, OnOk};
 ghost use Rattle.net_model.specs.Answers as spec;
 ghost use Rattle.net_base.specs.Cs.{Lines as ListOf, Refused};
 ghost use Rattle.cs_resolver.specs.Errors.{number_of};
 ghost use Rattle.net_base.specs.Legal.{IsLegal, IsTimed};
 ghost use Rattle.net_base.specs.Net.{after};
+ghost use Rattle.net_base.specs.Calm.{done};
 ghost use Rattle.net_base.specs.Summary.{summary};
+ghost use Rattle.net_base.specs.Summary.{all_steps as spec_steps};
 ghost use Rattle.net_base.specs.World.{IsWorld};
 ghost use Rattle.netsh.specs.Built.{IsRun, IsSummed};
 ghost use Rattle.netsh.specs.Runs.{status_of};
@@ -14,11 +16,11 @@ ghost use Rattle.plain_runner.specs.Rounds.{EndsSo};
 use agenda::Run;
 use cs_resolver::CsError;
 use net_base::{History, Lines, Octets, World};
-use net_model::{legal_histories_are_plain, legal_histories_keep_it};
+use net_model::{histories_grow, legal_histories_are_plain, legal_histories_keep_it};
 use plain_runner::{RunEnd, summary_of};
 use std::alloc::{AllocError, Global};
 use std::marker::Model;
-use transcript::{printed_runs_tell, text_of};
+use transcript::{End, RunStatus, printed_runs_tell, summary_by, text_of};
 
 /// The words give no command.
 pub const USAGE: &str = "! usage\n";
@@ -108,7 +110,7 @@ impl Answer {
         requires end { EndsSo world.now (after world.now run.now.history) run.now.end }
         ensures { IfOk result (λ answer. IsRun world.now answer) }
     {
-        let lines = summary_of(alloc, world, &run.history)?;
+        let lines = summary_of_run(alloc, world, run)?;
         Answer::of_history(alloc, world, &run.history, &lines, run.end)
     }
 
@@ -121,7 +123,7 @@ impl Answer {
         ensures { IfOk result (λ answer. IsSummed world.now answer) }
     {
         legal_histories_keep_it();
-        let text = summary_of(alloc, world, &run.history)?;
+        let text = summary_of_run(alloc, world, run)?;
         Ok(Answer {
             status: run_status(run.end),
             text,
@@ -179,6 +181,44 @@ fn text_of_lines(alloc: Global, lines: &Lines) -> Result<Octets, AllocError>
         text.push(b'\n')?;
     }
     Ok(text)
+}
+
+/// The summary of a run. Of one that is done all steps are answered, so only another is replayed.
+fn summary_of_run(alloc: Global, world: &World, run: &Run) -> Result<Octets, AllocError>
+    requires world { IsWorld world.now }
+    requires legal { IsLegal world.now run.now.history }
+    requires timed { IsTimed world.now run.now.history }
+    requires end { EndsSo world.now (after world.now run.now.history) run.now.end }
+    ensures { IfOk result (λ text. text ≡ summary world.now run.now.history) }
+{
+    match run.end {
+        RunEnd::Done => summary_of_done(alloc, world, &run.history),
+        RunEnd::Stopped | RunEnd::Limit => summary_of(alloc, world, &run.history),
+    }
+}
+
+/// The summary of a history that is done.
+#[tactic(auto, using(crate::proofs::Answered::done_stands))]
+fn summary_of_done(alloc: Global, world: &World, history: &History) -> Result<Octets, AllocError>
+    requires legal { IsLegal world.now history.now }
+    requires done { done world.now (after world.now history.now) ≡ true }
+    ensures { IfOk result (λ text. text ≡ summary world.now history.now) }
+{
+    histories_grow();
+    let answered = all_steps(world);
+    let end = End::Done;
+    summary_by(alloc, world, history, RunStatus { answered, end })
+}
+
+/// How many steps all scripts have.
+fn all_steps(world: &World) -> u128
+    ensures { result ≡ spec_steps world.now }
+{
+    let mut steps = 0;
+    for script in world.scripts.as_slice() {
+        steps += script.steps.len() as u128;
+    }
+    steps
 }
 
 /// The status by how a run ends.

@@ -34,7 +34,7 @@ pub(crate) fn run<R: Threads + Wait + Sync>(
     let reads = FailList::from_vec(Vec::from_slice(alloc, reads)?);
     let writes = FailList::from_vec(Vec::from_slice(alloc, writes)?);
     let mut source = MemSource::new(Octets::from_slice(alloc, input)?, reads);
-    let mut sink = MemSink::new(alloc, 20000, writes)?;
+    let mut sink = MemSink::new(alloc, 200000, writes)?;
     let status = netsh(rt, alloc, &words, &mut source, &mut sink, &OpenGate);
     let held = String::from_utf8(Vec::from_slice(alloc, sink.held())?)?;
     Ok((status, held))
@@ -99,6 +99,11 @@ fn words_that_give_no_run(rt: HostRuntime) -> Result<(), Fail> {
         ["run", "1", "1"].as_slice(),
         ["run"].as_slice(),
         ["run", ""].as_slice(),
+        ["big", "0"].as_slice(),
+        ["big", "01"].as_slice(),
+        ["big", "9001"].as_slice(),
+        ["big", "1", "1"].as_slice(),
+        ["big"].as_slice(),
     ];
     for words in rows {
         let (status, held) = run(&rt, rt.alloc(), words, DATAGRAM.as_bytes(), &[], &[])?;
