@@ -1,10 +1,12 @@
-//! Over random worlds a run on one worker prints what the plain runner prints.
-use crate::run_tests::run;
-use plain_runner::summary_of;
+//! Over random worlds a run on one worker records what the plain runner records.
+
+use outside::OpenGate;
 use rand_core::utils::NextWord;
 use rand_pcg::Lcg64Xsh32;
 use std::alloc::Global;
+use std::sync::Wait;
 use std::test::Fail;
+use std::thread::Threads;
 use transcript::text_of;
 use world_file::read_world;
 
@@ -18,18 +20,23 @@ const FATES: [&str; 6] = [
     "fate ether0 1-3 later\n",
 ];
 
-/// How scripts begin.
-const CALLS: [&str; 10] = [
-    "script anna\nuntil 10\ndial d net!helix!9fs\nwrite d hello\n",
-    "script helix\nannounce a net!*!9fs\nlisten c a\naccept d c\n",
-    "script bootes\nuntil 10\ndial d il!helix!9fs\nwrite d one\nwrite d two\nread d 8192\n",
-    "script helix\nannounce a il!*!7777\nlisten c a\nlisten d a\nreject c\naccept d d\n",
-    "script anna\nuntil 700\ndial d il!helix!7777\nread d 8192\n",
-    "script bootes\ndial d il!135.104.9.99!9fs\n",
+/// How scripts that call begin.
+const CALLERS: [&str; 6] = [
+    "script anna\nuntil 10\ndial d net!helix!9fs\nwrite d hello\nread d 8192\n",
+    "script anna\nuntil 10\ndial d il!helix!9fs\nwrite d one\nwrite d two\n",
+    "script anna\nuntil 700\ndial d il!helix!9fs\nread d 8192\n",
+    "script helix\ndial d il!135.104.9.99!9fs\n",
+    "script anna\nuntil 10\ndial d udp!helix!echo\nwrite d hi\nread d 3\n",
     "script anna\nopen c /net/udp/clone\nwrite c connect 135.104.9.31!7 5000\nopen d /net/udp/0/data\nwrite d hi\n",
-    "script helix\nopen c /net/udp/clone\nwrite c announce 7\nopen d /net/udp/0/listen\nopen d /net/udp/0/data\n",
-    "script helix\nopen c /net/il/clone\nwrite c announce 9fs\nwrite c announce 17008\nopen d /net/il/0/listen\n",
-    "script bootes\nannounce a net!*!9fs\nuntil 20\ndial d net!bootes!9fs\n",
+];
+
+/// How scripts that are called begin.
+const LISTENERS: [&str; 5] = [
+    "script helix\nannounce a net!*!9fs\nlisten c a\naccept d c\nread d 8192\nwrite d olleh\n",
+    "script helix\nannounce a il!*!9fs\nlisten b a\nreject b\nlisten c a\naccept d c\n",
+    "script helix\nannounce a udp!*!echo\nlisten c a\naccept d c\nread d 8192\nwrite d ih\n",
+    "script helix\nopen c /net/il/clone\nwrite c announce 17008\nopen l /net/il/0/listen\nopen d /net/il/1/data\n",
+    "script helix\nannounce a net!*!9fs\nuntil 20\ndial d net!anna!9fs\n",
 ];
 
 /// How they go on.
@@ -52,12 +59,10 @@ const STEPS: [&str; 15] = [
 ];
 
 const HOSTS: &str = "host anna il udp\nif ether0 135.104.9.6 255.255.255.0\n\
-host helix udp il\nif ether0 135.104.9.31 255.255.255.0\nstart 4294967290\n\
-host bootes il udp\nif ether0 135.104.9.2 255.255.255.0\n";
+host helix udp il\nif ether0 135.104.9.31 255.255.255.0\nstart 4294967290\n";
 
 const DATABASE: &str =
-    "ndb\nsys=anna ip=135.104.9.6\nsys=helix ip=135.104.9.31\nsys=bootes ip=135.104.9.2\n\
-il=9fs port=17008\nudp=echo port=7\n";
+    "ndb\nsys=anna ip=135.104.9.6\nsys=helix ip=135.104.9.31\nil=9fs port=17008\nudp=echo port=7\n";
 
 /// One of these.
 fn one_of<'a>(words: &mut Lcg64Xsh32, rows: &[&'a str]) -> Result<&'a str, Fail> {
@@ -66,36 +71,45 @@ fn one_of<'a>(words: &mut Lcg64Xsh32, rows: &[&'a str]) -> Result<&'a str, Fail>
 }
 
 /// Adds a script.
-fn add_script(words: &mut Lcg64Xsh32, text: &mut String) -> Result<(), Fail> {
-    text.push_str(one_of(words, &CALLS)?)?;
-    for _ in 0..words.next_word() % 7 {
+fn add_script(words: &mut Lcg64Xsh32, begins: &[&str], text: &mut String) -> Result<(), Fail> {
+    text.push_str(one_of(words, begins)?)?;
+    for _ in 0..words.next_word() % 4 {
         text.push_str(one_of(words, &STEPS)?)?;
     }
     Ok(())
 }
 
-/// A world of three hosts on a medium.
+/// A world of two hosts on a medium.
 fn random_world(alloc: Global, words: &mut Lcg64Xsh32) -> Result<String, Fail> {
     let seed = words.next_word();
-    let mut text = format!(in alloc; "networld 1\nend 40000\nseed {seed}\nmedium ether0 1500\n")?;
+    let mut text = format!(in alloc; "networld 1\nend 9000\nseed {seed}\nmedium ether0 1500\n")?;
     text.push_str(one_of(words, &FATES)?)?;
     text.push_str(HOSTS)?;
-    for _ in 0..2 + words.next_word() % 4 {
-        add_script(words, &mut text)?;
+    add_script(words, &CALLERS, &mut text)?;
+    add_script(words, &LISTENERS, &mut text)?;
+    for _ in 0..words.next_word() % 2 {
+        add_script(words, &CALLERS, &mut text)?;
     }
     text.push_str(DATABASE)?;
     Ok(text)
 }
 
-/// What the plain runner prints.
-fn plain(alloc: Global, input: &str) -> Result<String, Fail> {
+/// Whether the plain runner and a run on one worker record the same text of a world, and end alike.
+fn record_the_same<R: Threads + Wait + Sync>(
+    rt: &R,
+    alloc: Global,
+    input: &str,
+) -> Result<bool, Fail> {
     let Ok(world) = read_world(alloc, input.as_bytes()) else {
         return Err("no world".into());
     };
-    let ran = plain_runner::run(alloc, &world)?;
-    let mut text = text_of(alloc, &ran.history)?;
-    text.append(summary_of(alloc, &world, &ran.history)?.as_slice())?;
-    Ok(String::from_utf8(Vec::from_slice(alloc, text.as_slice())?)?)
+    let Ok(run) = agenda::run(rt, alloc, &world, 1, &OpenGate) else {
+        return Err("no run".into());
+    };
+    let plain = plain_runner::run(alloc, &world)?;
+    let text = text_of(alloc, &run.history)?;
+    let wanted = text_of(alloc, &plain.history)?;
+    Ok(run.end == plain.end && text.as_slice() == wanted.as_slice())
 }
 
 #[test]
@@ -103,8 +117,7 @@ fn one_worker_keeps_the_fixed_order(rt: HostRuntime) -> Result<(), Fail> {
     let mut words = Lcg64Xsh32::new(30, 1);
     for _ in 0..300 {
         let input = random_world(rt.alloc(), &mut words)?;
-        let (_, held) = run(&rt, rt.alloc(), &["run", "1"], input.as_bytes(), &[], &[])?;
-        let same = held == plain(rt.alloc(), &input)?;
+        let same = record_the_same(&rt, rt.alloc(), &input)?;
         assert!(rt; same, "{input}");
     }
     Ok(())

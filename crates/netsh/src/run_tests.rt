@@ -34,7 +34,7 @@ pub(crate) fn run<R: Threads + Wait + Sync>(
     let reads = FailList::from_vec(Vec::from_slice(alloc, reads)?);
     let writes = FailList::from_vec(Vec::from_slice(alloc, writes)?);
     let mut source = MemSource::new(Octets::from_slice(alloc, input)?, reads);
-    let mut sink = MemSink::new(alloc, 200000, writes)?;
+    let mut sink = MemSink::new(alloc, 20000, writes)?;
     let status = netsh(rt, alloc, &words, &mut source, &mut sink, &OpenGate);
     let held = String::from_utf8(Vec::from_slice(alloc, sink.held())?)?;
     Ok((status, held))
