@@ -1,7 +1,6 @@
 -- A run that is done has answered all steps.
-use Rattle.std.proofs.Common.{◌≡◌, ℕ, ◌+◌, ◌-◌, ◌<◌, ◌≤◌, ◌&&◌, ◌||◌, Bool, true, false, not, nat_lt, List, [], ◌∷◌, length, sum_by, refl, sym, ap, ◌∙◌, arith}
+use Rattle.std.proofs.Common.{◌≡◌, ℕ, ◌+◌, ◌<◌, ◌&&◌, Bool, true, false, not, nat_lt, List, [], ◌∷◌, length, sum_by, refl, sym, ap, ◌∙◌, arith}
 use Rattle.std.specs.List.{enumerate_from, list_all, list_any, range_with_len}
-use Rattle.std.specs.Prelude.{codes}
 use Rattle.std.proofs.lemmas.Bool.{and_parts, false≢true, true≢false}
 use Rattle.std.proofs.lemmas.Bool.Decides.{nat_tests}
 use Rattle.std.proofs.lemmas.List.Sums.{sum_by-cons}
@@ -13,9 +12,9 @@ use Rattle.net_base.specs.Calm.{calm, callers, done, limited, nothing_owed, noth
 use Rattle.net_base.specs.Legal.{IsLegal}
 use Rattle.net_base.specs.Net.{Net, after}
 use Rattle.net_base.specs.Next.{finished_by, is_unfinished, own_replies, standing}
-use Rattle.net_base.specs.Summary.{all_steps, answered_by, answered_steps, end_word}
+use Rattle.net_base.specs.Summary.{all_steps, answered_by, answered_steps}
 use Rattle.plain_runner.proofs.Ranges.{fails_range, or_false}
-use Rattle.transcript.specs.RunStatus.{IsStatusOf, word_of}
+use Rattle.transcript.specs.RunStatus.{IsStatusOf}
 use Rattle.transcript.specs.declared.summary.End.TheVariants as told
 use Rattle.transcript.specs.declared.summary.RunStatus.{RunStatus}
 

@@ -48,13 +48,13 @@ no_wait : (asked : Command) → may_wait asked ≡ false → may_wait asked ≡ 
 no_wait asked not waits = false≢true (sym not ∙ waits)
 
 -- a run over the world of the command ended so
-record Ran (asked : Command) (input : List ℕ) (answer : Answer) : Type 0 where
-  world : World
-  history : List Entry
-  is_world : IsWorldOf asked input world
-  legal : IsLegal world history
-  timed : IsTimed world history
-  status : IsStatus world (after world history) answer.status
+pub record Ran (asked : Command) (input : List ℕ) (answer : Answer) : Type 0 where
+  pub world : World
+  pub history : List Entry
+  pub is_world : IsWorldOf asked input world
+  pub legal : IsLegal world history
+  pub timed : IsTimed world history
+  pub status : IsStatus world (after world history) answer.status
 
 -- what a status says of the command and its input, and the status that it is
 pub data Of (asked : Command) (input : List ℕ) (answer : Answer) : Type 0 where
@@ -302,7 +302,7 @@ module _ (command : Option Command) (status : ℕ) (intake : Intake) (output : O
   runs ends no_read no_write workers input is left good =
       elim (complete_without_faults ends no_read no_write (λ none. some_none (Run workers) (sym is ∙ none))) [
         | inl eight ↦ inr (inr (inr eight))
-        | inr of ↦ good_runs of (ap may_wait (sym (same_command (Run workers) of.asked is of.is_asked))) (same_bad of (Run workers) input is refl left ∙ good) (of_answer of.asked of.answers.input of.answer of.answers.right)
+        | inr of ↦ good_runs of (ap may_wait (same_command (Run workers) of.asked is of.is_asked)) (same_bad of (Run workers) input is refl left ∙ good) (of_answer of.asked of.answers.input of.answer of.answers.right)
       ]
 
   -- how a call of `big` ends

@@ -198,7 +198,6 @@ fn summary_of_run(alloc: Global, world: &World, run: &Run) -> Result<Octets, All
 }
 
 /// The summary of a history that is done.
-#[tactic(auto, using(crate::proofs::Answered::done_stands))]
 fn summary_of_done(alloc: Global, world: &World, history: &History) -> Result<Octets, AllocError>
     requires legal { IsLegal world.now history.now }
     requires done { done world.now (after world.now history.now) ≡ true }
