@@ -1,2 +1,3 @@
 mod Puts
 mod Ordered
+mod Covering

@@ -1,8 +1,10 @@
-//! When the conversations of a world are due, kept from one look at some of them to the next.
+//! What is kept from one move of the clock to the next: when conversations are due, and at which something was recorded.
 #![tactic(auto)]
 
 mod law;
 mod moments;
+mod touched;
 
 pub use law::puts_keep_the_dues;
 pub use moments::DueMoments;
+pub use touched::Touched;
