@@ -89,20 +89,20 @@ same_rank proto.Udp proto.Udp is = refl
 same_rank proto.Il proto.Udp is = absurd (true≢false (sym is))
 same_rank proto.Udp proto.Il is = absurd (true≢false (sym is))
 
-same_place : (b : ActorName) (h : ℕ) (p : Proto) (n : ℕ) → same_actor b (name.Conv h p n) ≡ true → number b ≡ place h p n
+same_place : (b : ActorName) (h : ℕ) (p : Proto) (n : ℕ) → same_actor (name.Conv h p n) b ≡ true → place h p n ≡ number b
 same_place (name.Conv i q m) h p n is =
-    let outer = and_parts ((i == h) && same_proto q p) (m == n) is in
-    let inner = and_parts (i == h) (same_proto q p) outer.0 in
-    omega (arith, eqb-true i h inner.0, same_rank q p inner.1, eqb-true m n outer.1)
+    let outer = and_parts ((h == i) && same_proto p q) (n == m) is in
+    let inner = and_parts (h == i) (same_proto p q) outer.0 in
+    omega (arith, eqb-true h i inner.0, same_rank p q inner.1, eqb-true n m outer.1)
 same_place (name.Desk i) h p n is = absurd (true≢false (sym is))
 same_place (name.Dir i q) h p n is = absurd (true≢false (sym is))
 same_place (name.Medium i) h p n is = absurd (true≢false (sym is))
 same_place name.Clock h p n is = absurd (true≢false (sym is))
 
-apart : (b : ActorName) (h : ℕ) (p : Proto) (n : ℕ) → (number b ≡ place h p n → ⊥) → same_actor b (name.Conv h p n) ≡ false
-apart b h p n other = by_test (same_actor b (name.Conv h p n)) refl
+apart : (b : ActorName) (h : ℕ) (p : Proto) (n : ℕ) → (place h p n ≡ number b → ⊥) → same_actor (name.Conv h p n) b ≡ false
+apart b h p n other = by_test (same_actor (name.Conv h p n) b) refl
   where
-    by_test : (t : Bool) → same_actor b (name.Conv h p n) ≡ t → same_actor b (name.Conv h p n) ≡ false
+    by_test : (t : Bool) → same_actor (name.Conv h p n) b ≡ t → same_actor (name.Conv h p n) b ≡ false
     by_test true is = absurd (other (same_place b h p n is))
     by_test false is = is
 
@@ -111,7 +111,7 @@ cons_is None ds = refl
 cons_is (Some d) ds = refl
 
 module _ (h : ℕ) (p : Proto) (n : ℕ) (before after : ActorName → Option Due) (own : AreOwn before)
-    (same : (b : ActorName) → same_actor b (name.Conv h p n) ≡ false → after b ≡ before b) where
+    (same : (b : ActorName) → same_actor (name.Conv h p n) b ≡ false → after b ≡ before b) where
   abbrev k : ℕ
   k = place h p n
 
@@ -202,6 +202,6 @@ module _ (h : ℕ) (p : Proto) (n : ℕ) (before after : ActorName → Option Du
   puts_in (b ∷ bs) asc (inr there) = put_later b bs (asc.0 (name.Conv h p n) there) (puts_in bs asc.1 there)
 
 pub puts : (w : World) (h : ℕ) (p : Proto) (n : ℕ) (before after : ActorName → Option Due) → In (name.Conv h p n) (conversations w) → AreOwn before
-    → ((b : ActorName) → same_actor b (name.Conv h p n) ≡ false → after b ≡ before b)
+    → ((b : ActorName) → same_actor (name.Conv h p n) b ≡ false → after b ≡ before b)
     → filter_map after (conversations w) ≡ put_at (place h p n) (after (name.Conv h p n)) (filter_map before (conversations w))
 puts w h p n before after there own same = puts_in h p n before after own same (conversations w) (hosts_ascend 0 (length w.hosts)) there

@@ -14,7 +14,7 @@ ghost use Rattle.due_moments.specs.Places.{AreOwn, place, put_at};
 pub fn puts_keep_the_dues()
     ensures { (w : World) (h : ℕ) (p : Proto) (n : ℕ) (before after : ActorName → Option Due)
         → In (name.Conv h p n) (conversations w) → AreOwn before
-        → ((b : ActorName) → same_actor b (name.Conv h p n) ≡ false → after b ≡ before b)
+        → ((b : ActorName) → same_actor (name.Conv h p n) b ≡ false → after b ≡ before b)
         → filter_map after (conversations w)
         ≡ put_at (place h p n) (after (name.Conv h p n)) (filter_map before (conversations w)) }
 {}
