@@ -1,3 +1,3 @@
 mod Puts
 mod Ordered
-mod Covering
+pub mod Covering

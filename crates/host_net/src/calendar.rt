@@ -176,7 +176,9 @@ fn due_from(host: u32, proto: Proto, slot: u32, view: &View) -> Option<Due>
 fn is_told(standings: &[Standing], at: u64) -> bool
     ensures { result ≡ is_told at standings.now }
 {
-    standings.iter().all(|standing| standing.touched.since() <= at)
+    standings
+        .iter()
+        .all(|standing| standing.touched.since() <= at)
 }
 
 // How many conversations all callers touched, each counted for itself.

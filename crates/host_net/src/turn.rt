@@ -88,8 +88,8 @@ pub(crate) fn own_at<J: Naming + Placing, R: Wait, G: Gate>(
     }
     match lock.act(rt, journal, gate, pass, caller, now, &work, None) {
         Answer::Done { stamp, outcome } => {
-            touched.note(lock.actor(), stamp);
             let shown = ways.owe(lock.actor(), stamp, work, outcome, duties);
+            touched.note(lock.actor(), stamp);
             Turn::Recorded {
                 stamp,
                 reply: shown.reply,
@@ -144,8 +144,8 @@ pub(crate) fn serve_at<J: Naming + Placing, R: Wait, G: Gate>(
     }
     match act_first(rt, journal, gate, lock, pass, duties, caller, now) {
         Answer::Done { stamp, outcome } => {
-            touched.note(lock.actor(), stamp);
             let reply = owe_first(ways, stamp, outcome, duties);
+            touched.note(lock.actor(), stamp);
             Turn::Recorded { stamp, reply }
         }
         Answer::NotReady { .. } => Turn::NotReady,
