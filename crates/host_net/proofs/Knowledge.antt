@@ -1,10 +1,10 @@
 -- When conversations are due, from what was known of it before and a view of those at which something was recorded since.
-use Rattle.std.proofs.Common.{◌≡◌, ℕ, zero, suc, ◌+◌, ◌<◌, ◌≤◌, ◌==◌, ◌&&◌, ◌||◌, ◌⊎◌, inl, inr, Bool, true, false, List, [], ◌∷◌, ◌++◌, filter_map, length, take, drop, nat_le, Option, Some, None, if◌then◌else◌, refl, ap, sym, subst, ◌∙◌, arith, append_assoc, append-nil}
+use Rattle.std.proofs.Common.{◌≡◌, ℕ, zero, suc, ◌+◌, ◌<◌, ◌≤◌, ◌==◌, ◌&&◌, ◌||◌, ◌⊎◌, inl, inr, Bool, true, false, List, [], ◌∷◌, ◌++◌, filter_map, length, take, drop, get_or, nat_le, Option, Some, None, if◌then◌else◌, refl, ap, sym, subst, ◌∙◌, arith, append_assoc, append-nil}
 use Rattle.std.specs.List.{cons_option, list_all, list_any}
 use Rattle.std.specs.Option.{option_map}
 use Rattle.std.proofs.lemmas.Bool.{true≢false}
 use Rattle.std.proofs.lemmas.Bool.Decides.{nat_tests}
-use Rattle.std.proofs.lemmas.List.{length-append, take-append-drop, take-append-le, take_all}
+use Rattle.std.proofs.lemmas.List.{at_drop_more, length-append, take_more, take-append-drop, take-append-le, take_all}
 use mathlib.Core.List.{IsPrefix}
 use Rattle.net_base.specs.declared.actor.ActorName.{ActorName}
 use Rattle.net_base.specs.declared.actor.ActorName.TheVariants as name
@@ -27,7 +27,7 @@ use Rattle.journal.specs.declared.law.Roster.{Roster}
 use Rattle.journal.specs.Rule.{Lawful}
 use Rattle.host_net.specs.declared.calendar.Calendar.{Calendar}
 use Rattle.host_net.specs.declared.clock.Standing.{Standing}
-use Rattle.host_net.specs.Knowing.{AreMixed, IsKnown, all_touched, due_from, is_told, mixed}
+use Rattle.host_net.specs.Knowing.{AreMixed, IsKnown, all_touched, due_from, is_told, mixed, touched_count}
 
 -- Lists.
 
@@ -172,6 +172,37 @@ module _ (w : World) (now old : ActorName → Actor) (as' : List ActorName) wher
 
       here : mixed now old (as' ++ name.Conv h p n ∷ []) (name.Conv h p n) ≡ due_at now (name.Conv h p n)
       here = ap (λ (b : Bool). if b then due_at now (name.Conv h p n) else due_at old (name.Conv h p n)) (among_last as' (name.Conv h p n) itself)
+
+-- an actor that the world hasn't is none of them
+pub none_there : (w : World) (now old : ActorName → Actor) (as' : List ActorName) → AreEqual → (a : ActorName) → has_actor w a ≡ false
+    → ((b : ActorName) → In b (conversations w) → (h : ℕ) × (p : Proto) × (n : ℕ) × (b ≡ name.Conv h p n) × (has_actor w b ≡ true))
+    → (ds : List Due) → AreMixed w now old as' ds → AreMixed w now old (as' ++ a ∷ []) ds
+none_there w now old as' equal a none only ds are =
+    none_more w now old as' a
+    (λ b there. apart equal a b (λ same. true≢false (sym (only b there).4 ∙ (ap (has_actor w) (sym same) ∙ none)))) ds are
+
+-- what a view says of a conversation
+pub told_due : (actors : ActorName → Actor) (h : ℕ) (p : Proto) (n g : ℕ) (due : Option ℕ) → due ≡ due_of (actors (name.Conv h p n))
+    → g ≡ generation_of (actors (name.Conv h p n)) → option_map (due_from h p n g) due ≡ due_at actors (name.Conv h p n)
+told_due actors h p n g due is gen =
+    ap (λ (o : Option ℕ). option_map (due_from h p n g) o) is
+    ∙ ap (λ (k : ℕ). option_map (due_from h p n k) (due_of (actors (name.Conv h p n)))) gen
+
+-- one caller more
+touched_parts : (xs : List Standing) (s : Standing) → all_touched (xs ++ s ∷ []) ≡ all_touched xs ++ s.touched.actors
+touched_parts [] s = append-nil s.touched.actors
+touched_parts (x ∷ xs) s =
+    ap (λ (l : List ActorName). x.touched.actors ++ l) (touched_parts xs s) ∙ sym (append_assoc x.touched.actors (all_touched xs) s.touched.actors)
+
+pub touched_next : (ss : List Standing) (i : ℕ) (s : Standing) → i < length ss → s ≡ get_or ss i s
+    → all_touched (take (i + 1) ss) ≡ all_touched (take i ss) ++ s.touched.actors
+touched_next ss i s lt is =
+    ap all_touched (take_more ss i s lt) ∙ (touched_parts (take i ss) (get_or ss i s) ∙ ap (λ (x : Standing). all_touched (take i ss) ++ x.touched.actors) (sym is))
+
+pub count_next : (ss : List Standing) (i : ℕ) (s : Standing) → i < length ss → s ≡ get_or ss i s
+    → touched_count (drop i ss) ≡ length s.touched.actors + touched_count (drop (i + 1) ss)
+count_next ss i s lt is =
+    at_drop_more touched_count ss i s lt ∙ ap (λ (x : Standing). length x.touched.actors + touched_count (drop (i + 1) ss)) (sym is)
 
 -- What didn't change.
 

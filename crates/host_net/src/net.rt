@@ -1,5 +1,5 @@
 //! The actors of a world behind their locks.
-ghost use Rattle.std.specs.Prelude.{◌≡◌, ◌≢◌, ◌<◌, ℕ, ◌^◌, List, [], Option, None, Some, map, true, false, IfOk, IfSome, IsNone, OnOk, slice_get, length};
+ghost use Rattle.std.specs.Prelude.{◌≡◌, ◌≢◌, ◌<◌, ℕ, ◌^◌, List, [], Option, None, Some, map, true, false, IfOk, IfSome, IsNone, IsSome, OnOk, slice_get, length};
 ghost use Rattle.net_base.specs.declared.actor.ActorName.{ActorName as Name};
 ghost use Rattle.net_base.specs.declared.history.Work.{Work as AnyWork};
 ghost use Rattle.net_base.specs.declared.reply.Reply.{Reply as AnyReply};
@@ -83,6 +83,7 @@ impl<J: Naming + Placing> Net<J, WorldActor<J>> {
     // The lock of an actor, where the world has it.
     pub(crate) fn lock_of(&self, actor: ActorName) -> Option<&Locked<J, WorldActor<J>>>
         ensures some { IfSome result (λ l. l.now.actor ≡ actor) }
+        ensures has { IsSome result → has_actor J.world actor ≡ true }
         ensures none { IsNone result → has_actor J.world actor ≡ false }
     {
         numbers_are_apart();

@@ -84,7 +84,7 @@ returns-in-NotReady-clause-turn g c =
 pub returns-in-Done-clause-covers : goal.returns-in-Done-clause-covers
 returns-in-Done-clause-covers g c =
     covers_noted g.J.Placing.world g.J.Naming.run.roster c.args.caller c.args.now c.args.lock.now.actor c.args.work None c.args.pass.now c.act.new.pass c.args.duties.now.list
-    c.requires.guest c.in-Done.stamp c.in-Done.outcome c.in-Done.ensures c.actor-2.result c.actor-2.ensures c.reserve-2.new.self c.note.new.self c.note.ensures.covers
+    c.requires.guest c.in-Done.stamp c.in-Done.outcome c.in-Done.ensures c.actor-in-Done.result c.actor-in-Done.ensures c.reserve-2.new.self c.note.new.self c.note.ensures.covers
     (c.reserve-2.ensures.covers (own c.args.caller c.args.pass.now) c.requires.covers)
 
 pub returns-in-NotReady-clause-covers : goal.returns-in-NotReady-clause-covers
