@@ -12,7 +12,7 @@ use Rattle.net_base.specs.declared.noted.Number.TheVariants as number
 use Rattle.net_base.specs.declared.reply.Reply.{Reply}
 use Rattle.net_base.specs.declared.world.World.{World}
 use Rattle.net_base.specs.Duties.{Duty}
-use Rattle.net_base.specs.Stamped.{at, at_from}
+use Rattle.net_base.specs.Stamped.{at, at_from, moment}
 use Rattle.journal.proofs.Lists.{prefix_trans}
 use Rattle.journal.specs.declared.law.Roster.{Roster}
 use Rattle.journal.specs.declared.tokens.Sight.{Sight}
@@ -22,7 +22,9 @@ use Rattle.due_moments.specs.Marks.{Covers, Marks}
 use Rattle.guest_laws.specs.Guests.{IsGuest, Records}
 use Rattle.host_net.specs.declared.turn.Turn.{Turn}
 use Rattle.host_net.specs.declared.turn.Turn.TheVariants as turn
-use Rattle.host_net.specs.Visits.{Recorded, Turned, own}
+use Rattle.host_net.specs.declared.calendar.Calendar.{Calendar}
+use Rattle.host_net.specs.Visits.{IsVisit, Recorded, Turned, own}
+use Rattle.host_net.proofs.Knowledge.{known_on}
 
 same_caller : (c : ℕ) → (c == c) ≡ true
 same_caller c = grind (arith, nat_tests)
@@ -95,3 +97,10 @@ turned_grows w c now a work cites p p' ds ds' turn.NotReady turned = turned.0.st
 turned_grows w c now a work cites p p' ds ds' turn.Owes turned = absurd turned
 turned_grows w c now a work cites p p' ds ds' turn.Limit turned = same_grows p p' turned.1
 turned_grows w c now a work cites p p' ds ds' turn.Memory turned = same_grows p p' turned.1
+
+-- A guest after its turn.
+pub visit_on : (w : World) (r : Roster) (c now : ℕ) (p p' : Sight) (ds ds' : List Duty) (host : ℕ) (m m' : Marks) (k : Calendar)
+    → IsVisit w r c now p ds host m k → IsGuest w r c p' ds' → now ≡ moment p'.seen → Covers (own c p') m' → IsPrefix p.seen p'.seen
+    → IsVisit w r c now p' ds' host m' k
+visit_on w r c now p p' ds ds' host m m' k is guest here covers grows =
+    record { guest = guest; here = here; early = is.early; home = is.home; covers = covers; known = known_on w p.seen p'.seen k grows is.known }

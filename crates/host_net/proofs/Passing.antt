@@ -176,11 +176,11 @@ module _ {T : Type 0} (w : World) (r : Roster) (over : Overs w r) (there : There
 
         -- the first player's guest
         pub me_visits : (ds : List Duty) (host : ℕ) (m : Marks) (k : Calendar) → IsVisit w r had.caller had.now had.sight ds host m k
-            → (home : ℕ) (touched left : Marks) (kept : Calendar)
+            → (home : ℕ) (touched forgotten : Marks) (kept : Calendar)
             → ((s : Script) → caller_of w me.caller ≡ IsScript s → s.host ≡ home)
-            → Covers (own me.caller me.sight) touched → ((es : List (ℕ × Noted)) → Covers es touched → Covers es left)
-            → IsKnown w me.sight.seen kept → IsVisit w r me.caller had.now p2 me.owed home left kept
-        me_visits ds host m k is home touched left kept at_home covers forgets known =
+            → Covers (own me.caller me.sight) touched → ((es : List (ℕ × Noted)) → Covers es touched → Covers es forgotten)
+            → IsKnown w me.sight.seen kept → IsVisit w r me.caller had.now p2 me.owed home forgotten kept
+        me_visits ds host m k is home touched forgotten kept at_home covers forgets known =
             record {
               guest = me_back.guest;
               here = is.here ∙ sym (returned_moment w r over there here me clock.caller (callers_of left) apart_here mine clock.sight p1 q1 h had.sight stay_here p2 s2 b);

@@ -1,15 +1,19 @@
-use Rattle.std.proofs.Common.{◌≡◌, ℕ, Option, refl, ap, sym, subst, ◌∙◌}
+use Rattle.std.proofs.Common.{◌≡◌, ℕ, Option, None, refl, ap, sym, subst, ◌∙◌, arith}
+use Rattle.net_base.specs.declared.event.Event.TheVariants as event
+use Rattle.net_base.specs.declared.world.World.{World}
 use Rattle.net_base.specs.Callers.{caller_of}
 use Rattle.net_base.specs.Stamped.{moment as moment_of}
 use Rattle.journal.specs.declared.tokens.Sight.{Sight}
+use Rattle.due_moments.specs.Marks.{Covers}
 use Rattle.guest_laws.specs.Guests.{IsGuest}
 use Rattle.host_net.specs.declared.clock.Advance.{Advance}
 use Rattle.host_net.specs.declared.clock.Advance.TheVariants as advance
 use Rattle.host_net.specs.Deciding.{AllStand, Halts, Leaves, MayGo, MayMove}
 use Rattle.host_net.specs.Knowing.{IsKnown}
-use Rattle.host_net.specs.Visits.{Visit}
+use Rattle.host_net.specs.Visits.{Visit, bare, own}
 use Rattle.host_net.proofs.Concluding.{free_of}
-use Rattle.host_net.proofs.Halting.{guests_seen, leaves_gone, leaves_kept, leaves_none, visit_same}
+use Rattle.host_net.proofs.Covered.{covers_move}
+use Rattle.host_net.proofs.Halting.{early_end, guests_seen, leaves_gone, leaves_kept, leaves_none, visit_same}
 use Rattle.host_net.proofs.Operating.{visit}
 use Rattle.host_net.proofs.Sighted.{holds_all, looked_same}
 use Rattle.host_net.proofs.clock.Net+J+WorldActor+J.decide.Goals as goal
@@ -176,3 +180,27 @@ try_move-moved-requires-clause-known g c =
     let stand = subst (λ (v : Visit). AllStand w r v.sight c.args.standings.now) (sym c.clock.view_is) c.requires.all in
     let same = looked_same r p c.look.result c.look.new.pass (holds_all w r p c.args.standings.now stand) c.look.ensures in
     subst (λ (q : Sight). IsKnown w q.seen c.clock.inside.calendar) (sym (c.halt-halt.ensures.same ∙ same)) c.clock.invariant.known
+
+pub invariant_of-clock-2 : goal.invariant_of-clock-2
+invariant_of-clock-2 g c =
+    let w = g.J.Placing.world in
+    let r = g.J.Naming.run.roster in
+    let me = c.clock.inside in
+    let h = c.halt-halt.new.pass in
+    let p' = c.try_move-moved.new.pass in
+    let ds' = c.try_move-moved.new.duties.list in
+    let m = c.in-Some-moved.moment in
+    let stand = subst (λ (v : Visit). AllStand w r v.sight c.args.standings.now) (sym c.clock.view_is) c.requires.all in
+    let same = looked_same r me.pass c.look.result c.look.new.pass (holds_all w r me.pass c.args.standings.now stand) c.look.ensures in
+    let still : h ≡ me.pass = c.halt-halt.ensures.same ∙ same in
+    let gone = subst (λ (o : Option ℕ). MayGo w r me.caller me.now h me.duties.list o p' ds') c.in-Some-moved.is c.try_move-moved.ensures.go in
+    record {
+      guest = gone.0.guest;
+      here = gone.0.here;
+      early = early_end m c.args.world.now.end c.requires.is.end (omega (arith, gone.2, ap (λ (v : World). v.end) c.requires.world));
+      home = c.clock.invariant.home;
+      covers = c.forget.ensures.covers (own me.caller p')
+          (covers_move w me.caller me.now (bare (event.Move m)) None h p' me.duties.list ds' gone.0.entry.stamp gone.0.entry.reply me.touched gone.0.entry.turn
+          (subst (λ (q : Sight). Covers (own me.caller q) me.touched) (sym still) c.clock.invariant.covers));
+      known = c.try_move-moved.ensures.known;
+    }

@@ -51,8 +51,7 @@ record_move-moved-requires-clause-dues g c =
 
 pub record_move-moved-requires-clause-reserved : goal.record_move-moved-requires-clause-reserved
 record_move-moved-requires-clause-reserved g c =
-    let room = on_ok (c.len.result ≤ c.reserve.new.self.room) c.reserve.result (sym c.is_err.ensures.value ∙ c.if-is_err.false) c.reserve.ensures.ok in
-    omega (arith, room, c.len.ensures)
+    on_ok (length c.as_slice-dues.result.now ≤ c.reserve.new.self.room) c.reserve.result (sym c.is_err.ensures.value ∙ c.if-is_err.false) c.reserve.ensures.ok
 
 pub record_move-moved-requires-clause-in_time : goal.record_move-moved-requires-clause-in_time
 record_move-moved-requires-clause-in_time g c =
