@@ -12,7 +12,7 @@ use Rattle.net_base.specs.Duties.{Duty}
 use Rattle.net_base.specs.Legal.{IsAsked}
 use Rattle.net_base.specs.Net.{Net}
 use Rattle.net_base.specs.Next.{by}
-use Rattle.net_base.specs.Stamped.{at}
+use Rattle.net_base.specs.Stamped.{at, moment}
 use Rattle.net_base.specs.Steps.{Ask, Bound}
 use Rattle.net_base.specs.World.{is_moment}
 use Rattle.calm_laws.specs.Could.{is_full}
@@ -21,13 +21,16 @@ use Rattle.journal.specs.declared.tokens.Sight.{Sight}
 use Rattle.journal.specs.Rule.{Lawful}
 use Rattle.journal.specs.Tokens.{Holds, Looked}
 use Rattle.net_actors.specs.Numbers.{count_in}
-use Rattle.guest_laws.specs.Guests.{IsOfGuests}
+use Rattle.due_moments.specs.Marks.{Covers, Marks}
+use Rattle.guest_laws.specs.Guests.{IsGuest, IsOfGuests}
 use Rattle.host_net.specs.Rosters.{IsRosterOf}
 use Rattle.guest_laws.specs.Own.{AreNext, AreTimely}
 use Rattle.guest_laws.specs.Works.{entries, noted_net}
 use Rattle.host_net.specs.declared.clock.Advance.{Advance}
 use Rattle.host_net.specs.declared.clock.Advance.TheVariants as advance
+use Rattle.host_net.specs.declared.calendar.Calendar.{Calendar}
 use Rattle.host_net.specs.declared.clock.Standing.{Standing}
+use Rattle.host_net.specs.Knowing.{IsKnown}
 use Rattle.host_net.specs.Deciding.{AllStand, Decided, Keeps, Leaves, LeavesMoved, MayMove, Moves, net_of}
 use Rattle.host_net.specs.Visits.{HasRoom, IsVisit, IsWith, Visit, own}
 use Rattle.host_net.proofs.Concluding.{of_guests}
@@ -196,10 +199,18 @@ module _ (w : World) (r : Roster) (c now : ℕ) (p q : Sight) (ds : List Duty) (
             now_is = refl;
           })
 
--- a guest as it was
-pub visit_same : (w : World) (r : Roster) (c now : ℕ) (p p' : Sight) (ds ds' : List Duty) (host : ℕ) → p' ≡ p → ds' ≡ ds → IsVisit w r c now p ds host → IsVisit w r c now p' ds' host
-visit_same w r c now p p' ds ds' host sight owed is =
-    subst (λ (l : List Duty). IsVisit w r c now p' l host) (sym owed) (subst (λ (s : Sight). IsVisit w r c now s ds host) (sym sight) is)
+-- a guest as it was, but for what it knows of due moments
+pub visit_same : (w : World) (r : Roster) (c now : ℕ) (p p' : Sight) (ds ds' : List Duty) (host : ℕ) (m : Marks) (k k' : Calendar) → p' ≡ p → ds' ≡ ds
+    → IsKnown w p'.seen k' → IsVisit w r c now p ds host m k → IsVisit w r c now p' ds' host m k'
+visit_same w r c now p p' ds ds' host m k k' sight owed known is =
+    record {
+      guest = subst (λ (l : List Duty). IsGuest w r c p' l) (sym owed) (subst (λ (s : Sight). IsGuest w r c s ds) (sym sight) is.guest);
+      here = is.here ∙ ap (λ (s : Sight). moment s.seen) (sym sight);
+      early = is.early;
+      home = is.home;
+      covers = subst (λ (s : Sight). Covers (own c s) m) (sym sight) is.covers;
+      known = known;
+    }
 
 -- the moment of a world's end is early
 pub early_end : (m end : ℕ) → is_moment end ≡ true → m ≤ end → m < 2 ^ 63

@@ -6,6 +6,7 @@ use Rattle.net_base.specs.Next.{next}
 use Rattle.net_base.specs.Stamped.{In}
 use Rattle.journal.specs.declared.law.Roster.{Roster}
 use Rattle.journal.specs.declared.tokens.Sight.{Sight}
+use Rattle.due_moments.specs.Marks.{Covers}
 use Rattle.guest_laws.specs.Guests.{IsGuest, IsOfGuests}
 use Rattle.guest_laws.specs.Own.{AreNext, AreTimely}
 use Rattle.guest_laws.specs.Works.{entries}
@@ -29,6 +30,8 @@ module _ (w : World) (r : Roster) where
         next_is = stands.next_is ∙ (sym is.stays.stands.comes_next ∙ ap (λ (c : ℕ). next w (entries p.seen) c) (sym stands.caller_is));
         given = stands.given;
         timely = subst (λ (c : ℕ). AreTimely w c p.seen) (sym stands.caller_is) (is.stays.stands.timely stands.timely);
+        covers = subst (λ (c : ℕ). Covers (own c p) s.touched) (sym stands.caller_is)
+            (subst (λ (l : List (ℕ × Noted)). Covers l s.touched) (sym is.stays.alone) stands.covers);
       }
 
   -- nobody is left

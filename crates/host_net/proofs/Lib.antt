@@ -16,6 +16,8 @@ pub mod Sighted
 pub mod Found
 pub mod Leasts
 pub mod Slots
+pub mod Knowledge
+pub mod Covered
 pub mod Through
 pub mod Moved
 pub mod Concluding

@@ -133,6 +133,10 @@ module _ (w : World) (r : Roster) (hosts media : ℕ) (ways : List HostWays) (na
   pub absent_at : is_among hosts media a ≡ false → has_actor w a ≡ false
   absent_at is = sym among_is ∙ is
 
+  -- one that is, is
+  pub present_at : is_among hosts media a ≡ true → has_actor w a ≡ true
+  present_at is = sym among_is ∙ is
+
   -- its lock stands at its number
   pub within_at : ((b : ActorName) → has_actor w b ≡ true → number_in w b < count_in w) → is_among hosts media a ≡ true → number_of hosts media a < length names
   within_at below is = omega (arith, below a (sym among_is ∙ is), number_is, ap (λ (l : List ActorName). length l) net.actors_are, net.roster.actors_are.many)

@@ -14,6 +14,7 @@ use Rattle.net_base.specs.Stamped.{In, of_caller}
 use Rattle.journal.specs.declared.law.Roster.{Roster}
 use Rattle.journal.specs.declared.tokens.Sight.{Sight}
 use Rattle.journal.specs.Closing.{plain}
+use Rattle.due_moments.specs.Marks.{Covers}
 use Rattle.guest_laws.specs.Guests.{IsOfGuests}
 use Rattle.guest_laws.specs.Own.{AreNext, AreTimely}
 use Rattle.guest_laws.specs.Works.{entries}
@@ -27,8 +28,8 @@ use Rattle.host_net.specs.Visits.{Gathers, IsWith, Stays, Visit, own}
 
 -- How a caller stands.
 
--- what is known of a caller: whether it owes a duty, whether it has room, what it records next where it owes none, and
--- that each of its moves came in time
+-- what is known of a caller: whether it owes a duty, whether it has room, what it records next where it owes none, that
+-- each of its moves came in time, and at which conversations it recorded something
 pub record IsStanding (w : World) (v : Visit) (s : Standing) : Type 0 where
   pub caller_is : s.caller ≡ v.caller
   pub owes_is : s.owes ≡ not (length v.owed == 0)
@@ -36,6 +37,7 @@ pub record IsStanding (w : World) (v : Visit) (s : Standing) : Type 0 where
   pub next_is : option_map ask_of s.next ≡ next w (entries v.sight.seen) v.caller
   pub given : IsBare s.next
   pub timely : AreTimely w v.caller v.sight.seen
+  pub covers : Covers (own v.caller v.sight) s.touched
 
 -- of each of these callers, in their order
 abbrev pub AreStandings : World → List Visit → List Standing → Type 0

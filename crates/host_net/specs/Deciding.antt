@@ -20,6 +20,7 @@ use Rattle.calm_laws.specs.Could.{could}
 use Rattle.journal.specs.declared.law.Roster.{Roster}
 use Rattle.journal.specs.declared.tokens.Sight.{Sight}
 use Rattle.duties.specs.declared.due.Due.{Due}
+use Rattle.due_moments.specs.Marks.{Covers}
 use Rattle.guest_laws.specs.Guests.{IsGuest}
 use Rattle.guest_laws.specs.Own.{AreNext, AreTimely}
 use Rattle.guest_laws.specs.Works.{entries, noted_net}
@@ -40,8 +41,8 @@ abbrev pub IsBare : Option (ActorName × Work) → Type 0
 IsBare None = Unit {0}
 IsBare (Some x) = x.1 ≡ bare x.1.event
 
--- a caller is a guest of the pass: whether it owes a duty, whether it has recorded as much as it may, and what it records
--- next where it owes nothing
+-- a caller is a guest of the pass: whether it owes a duty, whether it has recorded as much as it may, what it records
+-- next where it owes nothing, and at which conversations it recorded something
 pub record StandsAt (w : World) (r : Roster) (p : Sight) (s : Standing) : Type 0 where
   pub owed : List Duty
   pub guest : IsGuest w r s.caller p owed
@@ -50,6 +51,7 @@ pub record StandsAt (w : World) (r : Roster) (p : Sight) (s : Standing) : Type 0
   pub next_is : option_map ask_of s.next ≡ next w (entries p.seen) s.caller
   pub given : IsBare s.next
   pub timely : AreTimely w s.caller p.seen
+  pub covers : Covers (own s.caller p) s.touched
 
 abbrev pub HasStanding : ℕ → List Standing → Type 0
 HasStanding c ss = (s : Standing) × In s ss × (s.caller ≡ c)

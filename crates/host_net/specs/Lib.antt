@@ -3,6 +3,7 @@ pub mod Rosters
 pub mod Facts
 pub mod Worked
 pub mod Deciding
+pub mod Knowing
 pub mod Playing
 pub mod Groups
 pub mod Advancing

@@ -35,8 +35,11 @@ use Rattle.guest_laws.specs.Works.{entries, noted_net}
 use Rattle.guest_laws.specs.Own.{AreNext, AreTimely, IsLegalButScripts, StandsStill}
 use Rattle.guest_laws.specs.Guests.{IsGuest}
 use Rattle.guest_laws.specs.Named.{answer_in, opening}
+use Rattle.due_moments.specs.Marks.{Covers, Marks}
+use Rattle.host_net.specs.declared.calendar.Calendar.{Calendar}
 use Rattle.host_net.specs.declared.turn.Turn.{Turn}
 use Rattle.host_net.specs.declared.turn.Turn.TheVariants as turn
+use Rattle.host_net.specs.Knowing.{IsKnown}
 
 -- a caller, the moment, its pass, what it owes, and the names that it has bound
 pub record Visit : Type 0 where
@@ -46,18 +49,22 @@ pub record Visit : Type 0 where
   pub owed : List Duty
   pub names : List Bound
 
--- a guest knows its duties and the moment, and a script's the host on which it runs
-pub record IsVisit (w : World) (r : Roster) (c now : ℕ) (p : Sight) (ds : List Duty) (host : ℕ) : Type 0 where
+-- the caller's entries, of all that was seen
+abbrev pub own : ℕ → Sight → List (ℕ × Noted)
+own c p = at (number.Caller c) p.seen
+
+-- a guest knows its duties and the moment, a script's the host on which it runs, at which conversations it recorded
+-- something, and when conversations were due
+pub record IsVisit (w : World) (r : Roster) (c now : ℕ) (p : Sight) (ds : List Duty) (host : ℕ) (m : Marks) (k : Calendar)
+    : Type 0 where
   pub guest : IsGuest w r c p ds
   pub here : now ≡ moment p.seen
   pub early : now < 2 ^ 63
   pub home : (s : Script) → caller_of w c ≡ IsScript s → s.host ≡ host
+  pub covers : Covers (own c p) m
+  pub known : IsKnown w p.seen k
 
 -- Turns.
-
--- the caller's entries, of all that was seen
-abbrev pub own : ℕ → Sight → List (ℕ × Noted)
-own c p = at (number.Caller c) p.seen
 
 abbrev pub HasRoom : ℕ → Sight → Type 0
 HasRoom c p = length (own c p) < 131072

@@ -51,6 +51,7 @@ fn standing_of<J: Naming + Placing, T: Task>(
         owes: guest.owes(),
         full: guest.pass.room(guest.caller) == 0,
         next: next_of(alloc, player)?,
+        touched: guest.touched(alloc)?,
     })
 }
 
@@ -167,14 +168,13 @@ impl<J: Naming + Placing> Net<J, WorldActor<J>> {
             return Advance::Memory;
         };
         let groups = players.groups.as_mut_slice();
-        self.advance_groups(rt, alloc, gate, world, standings.as_slice(), groups)
+        self.advance_groups(rt, gate, world, standings.as_slice(), groups)
     }
 
     // The same, where all callers stand so.
     fn advance_groups<R: Wait, G: Gate, T: Task + Drop>(
         &self,
         rt: &R,
-        alloc: Global,
         gate: &G,
         world: &World,
         standings: &[Standing],
@@ -196,7 +196,6 @@ impl<J: Naming + Placing> Net<J, WorldActor<J>> {
         guest_keeps(&clock.guest);
         let answer = self.with_all(
             rt,
-            alloc,
             gate,
             world,
             standings,
@@ -214,7 +213,6 @@ impl<J: Naming + Placing> Net<J, WorldActor<J>> {
     fn with_all<'a, R: Wait, G: Gate, T: Task + Drop>(
         &self,
         rt: &R,
-        alloc: Global,
         gate: &G,
         world: &World,
         standings: &[Standing],
@@ -246,9 +244,7 @@ impl<J: Naming + Placing> Net<J, WorldActor<J>> {
                     &mut clock.pass,
                     caller,
                 );
-                let answer = self.with_all(
-                    rt, alloc, gate, world, standings, others, groups, clock,
-                );
+                let answer = self.with_all(rt, gate, world, standings, others, groups, clock);
                 hand_over(
                     &self.journal,
                     &mut clock.pass,
@@ -256,14 +252,15 @@ impl<J: Naming + Placing> Net<J, WorldActor<J>> {
                     caller,
                 );
                 first.guest.now = clock.now;
+                first.guest.touched.forget(clock.calendar.at);
                 answer
             }
             None => match groups.split_first_mut() {
                 Some((group, rest)) => {
                     let players = group.players.as_mut_slice();
-                    self.with_all(rt, alloc, gate, world, standings, players, rest, clock)
+                    self.with_all(rt, gate, world, standings, players, rest, clock)
                 }
-                None => self.decide(rt, alloc, gate, world, standings, clock),
+                None => self.decide(rt, gate, world, standings, clock),
             },
         }
     }

@@ -7,19 +7,20 @@ ghost use Rattle.net_base.specs.declared.event.Event.TheVariants as event;
 ghost use Rattle.net_base.specs.Actors.{actor_step};
 ghost use Rattle.net_base.specs.Callers.{IsClock, caller_of};
 ghost use Rattle.net_base.specs.Calm as calm;
-ghost use Rattle.net_base.specs.Duties.{slots_of};
 ghost use Rattle.net_base.specs.Legal.{IsInTime};
 ghost use Rattle.net_base.specs.Stamped.{moment as moment_of};
 ghost use Rattle.net_base.specs.World.{IsWorld};
 ghost use Rattle.calm_laws.specs.Could.{could, is_full};
 ghost use Rattle.journal.specs.Rule.{Lawful};
 ghost use Rattle.journal.specs.Tokens.{HoldsAll};
-ghost use Rattle.duties.specs.Ticking.{due_at, dues_of};
+ghost use Rattle.duties.specs.Ticking.{dues_of};
 ghost use Rattle.guest_laws.specs.Guests.{IsGuest, IsOfGuests};
 ghost use Rattle.guest_laws.specs.Works.{noted_net};
 ghost use Rattle.host_net.specs.Deciding.{AllStand, Finds, Halts, Leaves, MayGo, MayLeave, MayMove, StandsAt, awaited_moments, awaited_of, callers_of, due_moments, has_left};
+ghost use Rattle.host_net.specs.Knowing.{IsKnown};
 ghost use Rattle.host_net.specs.Visits.{HasRoom};
 
+use crate::calendar::Calendar;
 use crate::guest::Guest;
 use crate::net::Net;
 use actor_machines::{Placing, WorldActor};
@@ -27,15 +28,15 @@ use calm_laws::{
     calm_is_that_nobody_could, conversations_are_these, nobody_is_limited, somebody_is_limited,
     targets_are_least,
 };
+use due_moments::Touched;
 use duties::{Due, Duties, a_move_owes_its_ticks};
 use guest_laws::{
     guests_record, guests_stay_by_others, locks_keep_actors, nets_of_works_grow, turns_are_these,
 };
 use journal::{Naming, Pass};
 use locked::Answer;
-use net_base::{ActorName, Event, Proto, With, Work, World};
+use net_base::{ActorName, Event, With, Work, World};
 use outside::Gate;
-use std::alloc::{AllocError, Global};
 use std::sync::Wait;
 
 /// What became of the clock.
@@ -64,6 +65,8 @@ pub(crate) struct Standing {
     pub(crate) full: bool,
     /// What it records next where it owes nothing. A script has this until it is through, a courier always, the clock never.
     pub(crate) next: Option<(ActorName, Work)>,
+    /// The conversations at which it recorded something since the clock last moved.
+    pub(crate) touched: Touched,
 }
 
 /// Who could record.
@@ -80,7 +83,6 @@ impl<J: Naming + Placing> Net<J, WorldActor<J>> {
     pub(crate) fn decide<R: Wait, G: Gate>(
         &self,
         rt: &R,
-        alloc: Global,
         gate: &G,
         world: &World,
         standings: &[Standing],
@@ -107,12 +109,12 @@ impl<J: Naming + Placing> Net<J, WorldActor<J>> {
         }
         let moved = self.try_move(
             rt,
-            alloc,
             gate,
             world,
             standings,
             &mut clock.pass,
             &mut clock.duties,
+            &mut clock.calendar,
             clock.caller,
             clock.now,
         );
@@ -120,6 +122,7 @@ impl<J: Naming + Placing> Net<J, WorldActor<J>> {
             return Advance::Memory;
         };
         clock.now = moment;
+        clock.touched.forget(clock.calendar.at);
         Advance::Moved(moment)
     }
 
@@ -231,12 +234,12 @@ impl<J: Naming + Placing> Net<J, WorldActor<J>> {
     fn try_move<R: Wait, G: Gate>(
         &self,
         rt: &R,
-        alloc: Global,
         gate: &G,
         world: &World,
         standings: &[Standing],
         pass: &mut Pass<J>,
         duties: &mut Duties,
+        calendar: &mut Calendar,
         caller: u32,
         now: u64,
     ) -> Option<u64>
@@ -247,20 +250,23 @@ impl<J: Naming + Placing> Net<J, WorldActor<J>> {
         requires early { now < 2 ^ 63 }
         requires all { AllStand J.world J.run.roster pass.old standings.now }
         requires may { MayMove J.world caller pass.old }
-        ensures { MayGo J.world J.run.roster caller now pass.old duties.old.list result pass.new duties.new.list }
+        requires known { IsKnown J.world pass.old.seen calendar.old }
+        ensures known { IsKnown J.world pass.new.seen calendar.new }
+        ensures go { MayGo J.world J.run.roster caller now pass.old duties.old.list result pass.new duties.new.list }
     {
         conversations_are_these();
         nets_of_works_grow();
         targets_are_least();
-        let Ok(dues) = self.dues(rt, alloc, pass, now) else {
+        if !self.catch_up(rt, standings, pass, calendar, now) {
             return None;
-        };
+        }
+        let dues = calendar.dues.as_slice();
         if duties.reserve(dues.len()).is_err() {
             return None;
         }
         let awaited = least_awaited(standings, world.end);
-        let moment = least_due(dues.as_slice(), awaited);
-        let moved = self.record_move(rt, gate, dues.as_slice(), moment, pass, duties, caller, now);
+        let moment = least_due(dues, awaited);
+        let moved = self.record_move(rt, gate, dues, moment, pass, duties, caller, now);
         if !moved {
             return None;
         }
@@ -312,82 +318,6 @@ impl<J: Naming + Placing> Net<J, WorldActor<J>> {
             Answer::NotReady { front: _ } => false,
             Answer::Memory => false,
         }
-    }
-
-    // When conversations are due, in the order of host, protocol and slot.
-    fn dues<R: Wait>(
-        &self,
-        rt: &R,
-        alloc: Global,
-        pass: &mut Pass<J>,
-        now: u64,
-    ) -> Result<Vec<Due>, AllocError>
-        requires { HoldsAll J.run.roster pass.old }
-        ensures same { pass.new ≡ pass.old }
-        ensures dues { IfOk result (λ dues. dues.items ≡ dues_of J.world (noted_net J.world pass.old.seen).actors) }
-    {
-        let mut dues = Vec::new(alloc);
-        for host in 0..self.hosts {
-            self.add_dues(rt, host, Proto::Il, &mut dues, pass, now)?;
-            self.add_dues(rt, host, Proto::Udp, &mut dues, pass, now)?;
-        }
-        Ok(dues)
-    }
-
-    // Adds when those of a host and protocol are due.
-    fn add_dues<R: Wait>(
-        &self,
-        rt: &R,
-        host: u32,
-        proto: Proto,
-        dues: &mut Vec<Due>,
-        pass: &mut Pass<J>,
-        now: u64,
-    ) -> Result<(), AllocError>
-        requires numbers { HoldsAll J.run.roster pass.old }
-        requires host { host < length J.world.hosts }
-        ensures same { pass.new ≡ pass.old }
-        ensures dues { OnOk result (dues.new.items
-            ≡ dues.old.items ++ filter_map (due_at (noted_net J.world pass.old.seen).actors) (slots_of host proto)) }
-    {
-        for slot in 0..32_u32 {
-            let Some(due) = self.due_of(rt, host, proto, slot, pass, now) else {
-                continue;
-            };
-            dues.push(due)?;
-        }
-        Ok(())
-    }
-
-    // When a conversation is due, if it is.
-    fn due_of<R: Wait>(
-        &self,
-        rt: &R,
-        host: u32,
-        proto: Proto,
-        slot: u32,
-        pass: &mut Pass<J>,
-        now: u64,
-    ) -> Option<Due>
-        requires numbers { HoldsAll J.run.roster pass.old }
-        requires host { host < length J.world.hosts }
-        requires slot { slot < 32 }
-        ensures same { pass.new ≡ pass.old }
-        ensures due { result ≡ due_at (noted_net J.world pass.old.seen).actors (name.Conv host proto slot) }
-    {
-        locks_keep_actors();
-        let lock = self.lock_of(ActorName::Conv(host, proto, slot))?;
-        let view = lock.view(rt, &self.journal, pass, now, None);
-        let Some(due) = view.due else {
-            return None;
-        };
-        Some(Due {
-            host,
-            proto,
-            slot,
-            generation: view.generation,
-            due,
-        })
     }
 }
 

@@ -1,18 +1,21 @@
 //! A guest: what a caller keeps.
-ghost use Rattle.std.specs.Prelude.{◌≡◌, ◌∷◌, ◌<◌, [], not, length, ◌==◌};
+ghost use Rattle.std.specs.Prelude.{◌≡◌, ◌∷◌, ◌<◌, [], not, length, ◌==◌, IfOk};
 ghost use Rattle.net_base.specs.declared.noted.Number.TheVariants.{Caller};
 ghost use Rattle.net_base.specs.declared.world.Script.{Script};
 ghost use Rattle.net_base.specs.Callers.{IsScript, caller_of};
 ghost use Rattle.net_base.specs.Stamped.{In};
 ghost use Rattle.guest_laws.specs.Guests.{IsGuest};
-ghost use Rattle.host_net.specs.Visits.{IsFresh};
+ghost use Rattle.due_moments.specs.Marks.{Covers};
+ghost use Rattle.host_net.specs.Visits.{IsFresh, own};
 
+use crate::calendar::Calendar;
 use actor_machines::Placing;
+use due_moments::Touched;
 use duties::Duties;
 use guest_laws::guests_begin;
 use journal::{Naming, Pass};
 use net_tree::Fids;
-use std::alloc::Global;
+use std::alloc::{AllocError, Global};
 use std::marker::Model;
 
 /// A caller's pass, what it owes, and the names that it has bound. Clauses see these, its number and the moment.
@@ -24,6 +27,10 @@ pub struct Guest<J: Naming + Placing> {
     pub(crate) caller: u32,
     pub(crate) host: u32,
     pub(crate) now: u64,
+    // at which conversations something was recorded since the clock last moved
+    pub(crate) touched: Touched,
+    // when conversations are due, which the clock's guest alone keeps
+    pub(crate) calendar: Calendar,
 }
 
 impl<J: Naming + Placing> Model for Guest<J> {
@@ -33,7 +40,7 @@ impl<J: Naming + Placing> Model for Guest<J> {
 
     ghost view = { λ g. record { caller = g.caller; now = g.now; sight = g.pass; owed = g.duties.list; names = g.fids.names } };
 
-    ghost invariant = { λ g. IsVisit J.world J.run.roster g.caller g.now g.pass g.duties.list g.host };
+    ghost invariant = { λ g. IsVisit J.world J.run.roster g.caller g.now g.pass g.duties.list g.host g.touched g.calendar };
 }
 
 impl<J: Naming + Placing> Guest<J> {
@@ -53,6 +60,8 @@ impl<J: Naming + Placing> Guest<J> {
             caller,
             host,
             now: 0,
+            touched: Touched::new(alloc),
+            calendar: Calendar::new(alloc),
         }
     }
 
@@ -68,8 +77,17 @@ impl<J: Naming + Placing> Guest<J> {
             caller: _,
             host: _,
             now: _,
+            touched: _,
+            calendar: _,
         } = self;
         pass
+    }
+
+    // The conversations at which something was recorded since the clock last moved.
+    pub(crate) fn touched(&self, alloc: Global) -> Result<Touched, AllocError>
+        ensures { IfOk result (Covers (own self.entry.now.caller self.entry.now.sight)) }
+    {
+        self.touched.copy(alloc)
     }
 
     /// Which caller.

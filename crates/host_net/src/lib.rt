@@ -2,6 +2,7 @@
 #![tactic(auto)]
 
 mod advance;
+mod calendar;
 mod clock;
 mod finishing;
 mod guest;

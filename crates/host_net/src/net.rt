@@ -1,5 +1,5 @@
 //! The actors of a world behind their locks.
-ghost use Rattle.std.specs.Prelude.{◌≡◌, ◌≢◌, ◌<◌, ℕ, ◌^◌, List, [], Option, None, Some, map, true, false, IfOk, IfSome, IsNone, OnOk, slice_get, length};
+ghost use Rattle.std.specs.Prelude.{◌≡◌, ◌≢◌, ◌<◌, ℕ, ◌^◌, List, [], Option, None, Some, map, true, false, IfOk, IfSome, IsNone, IsSome, OnOk, slice_get, length};
 ghost use Rattle.net_base.specs.declared.actor.ActorName.{ActorName as Name};
 ghost use Rattle.net_base.specs.declared.history.Work.{Work as AnyWork};
 ghost use Rattle.net_base.specs.declared.reply.Reply.{Reply as AnyReply};
@@ -18,13 +18,15 @@ ghost use Rattle.script_task.specs.Requests.{HasRoom as HasRoomFor, newly_bound}
 ghost use Rattle.duties.specs.Queue.{work_of_duty};
 ghost use Rattle.host_net.specs.Rosters.{AreUnused, IsNetOf, IsRosterOf};
 ghost use Rattle.host_net.specs.Facts.{net_prop};
-ghost use Rattle.host_net.specs.Visits.{AreFresh, Finished, HasGuest, IsSame, Operated, Takes, Turned, bare, names_after};
+ghost use Rattle.host_net.specs.Visits.{AreFresh, Finished, HasGuest, IsSame, Operated, Takes, Turned, bare, names_after, own};
+ghost use Rattle.due_moments.specs.Marks.{Covers};
 
 use crate::finishing::{books_of, gather};
 use crate::guest::Guest;
 use crate::opening::{NetOpened, caller_count};
 use crate::turn::{Turn, own_at, serve_at};
 use actor_machines::{Placing, WorldActor, locked};
+use due_moments::Touched;
 use duties::{Duties, WorldWays};
 use guest_laws::{histories_of_guests_are_legal, no_duty_is_the_clocks, turns_are_these};
 use journal::{Book, Journal, Naming, Pass};
@@ -81,6 +83,7 @@ impl<J: Naming + Placing> Net<J, WorldActor<J>> {
     // The lock of an actor, where the world has it.
     pub(crate) fn lock_of(&self, actor: ActorName) -> Option<&Locked<J, WorldActor<J>>>
         ensures some { IfSome result (λ l. l.now.actor ≡ actor) }
+        ensures has { IsSome result → has_actor J.world actor ≡ true }
         ensures none { IsNone result → has_actor J.world actor ≡ false }
     {
         numbers_are_apart();
@@ -109,6 +112,7 @@ impl<J: Naming + Placing> Net<J, WorldActor<J>> {
                 lock,
                 &mut guest.pass,
                 &mut guest.duties,
+                &mut guest.touched,
                 guest.caller,
                 guest.now,
             ),
@@ -123,6 +127,7 @@ impl<J: Naming + Placing> Net<J, WorldActor<J>> {
         gate: &G,
         pass: &mut Pass<J>,
         duties: &mut Duties,
+        touched: &mut Touched,
         caller: u32,
         now: u64,
         actor: ActorName,
@@ -134,8 +139,10 @@ impl<J: Naming + Placing> Net<J, WorldActor<J>> {
         requires moment { now ≡ moment pass.old.seen }
         requires early { now < 2 ^ 63 }
         requires other { same_actor actor name.Clock ≡ false }
+        requires covers { Covers (own caller pass.old) touched.old }
         ensures guest { IsGuest J.world J.run.roster caller pass.new duties.new.list }
         ensures moment { now ≡ moment pass.new.seen }
+        ensures covers { Covers (own caller pass.new) touched.new }
         ensures turn { Turned J.world caller now actor (bare event) None pass.old duties.old.list
             result pass.new duties.new.list }
     {
@@ -152,6 +159,7 @@ impl<J: Naming + Placing> Net<J, WorldActor<J>> {
                 lock,
                 pass,
                 duties,
+                touched,
                 caller,
                 now,
                 work,
@@ -185,6 +193,7 @@ impl<J: Naming + Placing> Net<J, WorldActor<J>> {
             gate,
             &mut guest.pass,
             &mut guest.duties,
+            &mut guest.touched,
             guest.caller,
             guest.now,
             ActorName::Medium(medium),
@@ -223,6 +232,7 @@ impl<J: Naming + Placing> Net<J, WorldActor<J>> {
             gate,
             &mut guest.pass,
             &mut guest.duties,
+            &mut guest.touched,
             guest.caller,
             guest.now,
             planned.actor,

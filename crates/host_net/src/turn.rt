@@ -11,9 +11,11 @@ ghost use Rattle.duties.specs.Queue.{work_of_duty};
 ghost use Rattle.duties.specs.WaysOf.{AreWaysOfWorld};
 ghost use Rattle.guest_laws.specs.Guests.{IsGuest, IsTurn};
 ghost use Rattle.guest_laws.specs.Named.{answer_in, opening};
-ghost use Rattle.host_net.specs.Visits.{OwesLeft, Turned};
+ghost use Rattle.due_moments.specs.Marks.{Covers};
+ghost use Rattle.host_net.specs.Visits.{OwesLeft, Turned, own};
 
 use actor_machines::{Placing, WorldActor};
+use due_moments::Touched;
 use duties::{Duties, Duty, WorldWays};
 use guest_laws::{
     few_calls_wait, guests_look, guests_record, locks_keep_actors, moves_are_the_clocks,
@@ -51,6 +53,7 @@ pub(crate) fn own_at<J: Naming + Placing, R: Wait, G: Gate>(
     lock: &Locked<J, WorldActor<J>>,
     pass: &mut Pass<J>,
     duties: &mut Duties,
+    touched: &mut Touched,
     caller: u32,
     now: u64,
     work: Work,
@@ -62,8 +65,10 @@ pub(crate) fn own_at<J: Naming + Placing, R: Wait, G: Gate>(
     requires early { now < 2 ^ 63 }
     requires ways { AreWaysOfWorld J.world ways.now }
     requires other { same_actor lock.now.actor Clock ≡ false }
+    requires covers { Covers (own caller pass.old) touched.old }
     ensures guest { IsGuest J.world J.run.roster caller pass.new duties.new.list }
     ensures moment { now ≡ moment pass.new.seen }
+    ensures covers { Covers (own caller pass.new) touched.new }
     ensures turn { Turned J.world caller now lock.now.actor work None pass.old duties.old.list
         result pass.new duties.new.list }
 {
@@ -78,9 +83,13 @@ pub(crate) fn own_at<J: Naming + Placing, R: Wait, G: Gate>(
     if duties.reserve(MOST_OWED).is_err() {
         return Turn::Memory;
     }
+    if touched.reserve().is_err() {
+        return Turn::Memory;
+    }
     match lock.act(rt, journal, gate, pass, caller, now, &work, None) {
         Answer::Done { stamp, outcome } => {
             let shown = ways.owe(lock.actor(), stamp, work, outcome, duties);
+            touched.note(lock.actor(), stamp);
             Turn::Recorded {
                 stamp,
                 reply: shown.reply,
@@ -100,6 +109,7 @@ pub(crate) fn serve_at<J: Naming + Placing, R: Wait, G: Gate>(
     lock: &Locked<J, WorldActor<J>>,
     pass: &mut Pass<J>,
     duties: &mut Duties,
+    touched: &mut Touched,
     caller: u32,
     now: u64,
 ) -> Turn
@@ -109,8 +119,10 @@ pub(crate) fn serve_at<J: Naming + Placing, R: Wait, G: Gate>(
     requires early { now < 2 ^ 63 }
     requires ways { AreWaysOfWorld J.world ways.now }
     requires other { same_actor lock.now.actor Clock ≡ false }
+    requires covers { Covers (own caller pass.old) touched.old }
     ensures guest { IsGuest J.world J.run.roster caller pass.new duties.new.list }
     ensures moment { now ≡ moment pass.new.seen }
+    ensures covers { Covers (own caller pass.new) touched.new }
     ensures turn { (d : AnyDuty) → slice_get duties.old.list 0 ≡ Some d
         → Turned J.world caller now d.actor (work_of_duty d) (Some d.cites) pass.old duties.old.list
         result pass.new duties.new.list }
@@ -127,9 +139,13 @@ pub(crate) fn serve_at<J: Naming + Placing, R: Wait, G: Gate>(
     if duties.reserve(MOST_OWED).is_err() {
         return Turn::Memory;
     }
+    if touched.reserve().is_err() {
+        return Turn::Memory;
+    }
     match act_first(rt, journal, gate, lock, pass, duties, caller, now) {
         Answer::Done { stamp, outcome } => {
             let reply = owe_first(ways, stamp, outcome, duties);
+            touched.note(lock.actor(), stamp);
             Turn::Recorded { stamp, reply }
         }
         Answer::NotReady { .. } => Turn::NotReady,

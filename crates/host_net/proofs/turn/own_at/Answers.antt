@@ -5,6 +5,8 @@ use Rattle.guest_laws.specs.Guests.{IsGuest, IsTurn}
 use Rattle.guest_laws.specs.Works.{noted_net}
 use Rattle.duties.specs.Owing.{Owes}
 use Rattle.host_net.proofs.Turning.{adds, has_number, has_room, is_full, on_ok, owed_few, recorded, unready}
+use Rattle.host_net.specs.Visits.{own}
+use Rattle.host_net.proofs.Covered.{covers_noted, covers_still}
 use Rattle.host_net.proofs.turn.own_at.Goals as goal
 
 pub owe-shown-requires : goal.owe-shown-requires
@@ -78,3 +80,15 @@ returns-in-NotReady-clause-turn g c =
           (c.locks_keep_actors.ensures.ready w c.act.new.pass.seen a c.args.now c.args.work),
       c.reserve.ensures.list,
     )
+
+pub returns-in-Done-clause-covers : goal.returns-in-Done-clause-covers
+returns-in-Done-clause-covers g c =
+    covers_noted g.J.Placing.world g.J.Naming.run.roster c.args.caller c.args.now c.args.lock.now.actor c.args.work None c.args.pass.now c.act.new.pass c.args.duties.now.list
+    c.requires.guest c.in-Done.stamp c.in-Done.outcome c.in-Done.ensures c.actor-in-Done.result c.actor-in-Done.ensures c.reserve-2.new.self c.note.new.self c.note.ensures.covers
+    (c.reserve-2.ensures.covers (own c.args.caller c.args.pass.now) c.requires.covers)
+
+pub returns-in-NotReady-clause-covers : goal.returns-in-NotReady-clause-covers
+returns-in-NotReady-clause-covers g c =
+    covers_still c.args.caller c.args.pass.now c.act.new.pass c.reserve-2.new.self
+    (c.in-NotReady.ensures.look.lists _ c.requires.guest.list c.requires.guest.held ∙ sym c.requires.guest.all)
+    (c.reserve-2.ensures.covers (own c.args.caller c.args.pass.now) c.requires.covers)

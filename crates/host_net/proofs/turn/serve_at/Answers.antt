@@ -10,6 +10,8 @@ use Rattle.guest_laws.specs.Works.{noted_net}
 use Rattle.host_net.specs.Visits.{Recorded, Unready}
 use Rattle.host_net.proofs.Firsts.{first_turn}
 use Rattle.host_net.proofs.Turning.{adds, has_number, has_room, on_ok, owed_few, recorded, unready}
+use Rattle.host_net.specs.Visits.{own}
+use Rattle.host_net.proofs.Covered.{covers_noted, covers_still}
 use Rattle.host_net.proofs.turn.serve_at.Goals as goal
 
 pub act_first-requires-clause-room : goal.act_first-requires-clause-room
@@ -109,3 +111,19 @@ returns-in-NotReady-clause-turn g c e is =
           (c.locks_keep_actors.ensures.ready w c.act_first.new.pass.seen a c.args.now (work_of_duty e))),
       c.reserve.ensures.list,
     )
+
+pub returns-in-Done-clause-covers : goal.returns-in-Done-clause-covers
+returns-in-Done-clause-covers g c =
+    let f = c.requires.first in
+    let d = c.in-Done.ensures f.0 (ap (λ (l : List Duty). slice_get l 0) c.reserve.ensures.list ∙ f.1) in
+    covers_noted g.J.Placing.world g.J.Naming.run.roster c.args.caller c.args.now c.args.lock.now.actor (work_of_duty f.0) (Some f.0.cites) c.args.pass.now c.act_first.new.pass
+    c.args.duties.now.list c.requires.guest c.in-Done.stamp c.in-Done.outcome d c.actor.result c.actor.ensures c.reserve-2.new.self c.note.new.self c.note.ensures.covers
+    (c.reserve-2.ensures.covers (own c.args.caller c.args.pass.now) c.requires.covers)
+
+pub returns-in-NotReady-clause-covers : goal.returns-in-NotReady-clause-covers
+returns-in-NotReady-clause-covers g c =
+    let f = c.requires.first in
+    let n = c.in-NotReady.ensures f.0 (ap (λ (l : List Duty). slice_get l 0) c.reserve.ensures.list ∙ f.1) in
+    covers_still c.args.caller c.args.pass.now c.act_first.new.pass c.reserve-2.new.self
+    (n.look.lists _ c.requires.guest.list c.requires.guest.held ∙ sym c.requires.guest.all)
+    (c.reserve-2.ensures.covers (own c.args.caller c.args.pass.now) c.requires.covers)

@@ -26,7 +26,7 @@ invariant_of-clock g t c =
     clock_with w r (law.over w r) (law.there w r) (law.here w r) c.first-inside.inside.0.1.0 c.first-inside.inside.0.1.1.0 c.first-inside.inside.0.1.1.1.0 mine old
     c.args.clock.now c.in-Some.first.now c.in-Some.others.now c.args.players.now c.args.groups.now one c.in-Some.ensures.cases.0 c.clock.view_is c.args.standings.now
     c.requires.apart c.requires.lent c.first-inside.invariant.guest c.hand_over.new.from c.hand_over.new.to c.hand_over.ensures
-    clock.duties.list clock.host c.clock.invariant
+    clock.duties.list clock.host clock.touched clock.calendar c.clock.invariant
 
 pub with_all-answer-requires : goal.with_all-answer-requires
 with_all-answer-requires g t c κs within =
@@ -103,7 +103,8 @@ invariant_of-first-inside g t c =
     c.requires.apart c.requires.lent c.first-inside.invariant.guest c.hand_over.new.from c.hand_over.new.to c.hand_over.ensures
     after c.with_all-answer.new.clock c.clock-in-Some.view_is c.with_all-answer.result (visit clock.caller clock.now c.hand_over.new.to clock.duties.list clock.fids.names) refl
     c.with_all-answer.ensures.others c.with_all-answer.ensures.clock c.hand_over-in-Some.new.to c.hand_over-in-Some.new.from c.hand_over-in-Some.ensures
-    had.duties.list had.host c.clock-in-Some.invariant me.host c.first-inside.invariant.home
+    had.duties.list had.host had.touched had.calendar c.clock-in-Some.invariant me.host me.touched c.forget.new.self me.calendar c.first-inside.invariant.home
+    c.first-inside.invariant.covers c.forget.ensures.covers c.first-inside.invariant.known
 
 pub invariant_of-first : goal.invariant_of-first
 invariant_of-first g t c =
@@ -147,7 +148,7 @@ invariant_of-clock-in-Some g t c =
     c.requires.apart c.requires.lent c.first-inside.invariant.guest c.hand_over.new.from c.hand_over.new.to c.hand_over.ensures
     after c.with_all-answer.new.clock c.clock-in-Some.view_is c.with_all-answer.result (visit clock.caller clock.now c.hand_over.new.to clock.duties.list clock.fids.names) refl
     c.with_all-answer.ensures.others c.with_all-answer.ensures.clock c.hand_over-in-Some.new.to c.hand_over-in-Some.new.from c.hand_over-in-Some.ensures
-    had.duties.list had.host c.clock-in-Some.invariant
+    had.duties.list had.host had.touched had.calendar c.clock-in-Some.invariant
 
 pub decide-requires-clause-all : goal.decide-requires-clause-all
 decide-requires-clause-all g t c =
@@ -252,3 +253,7 @@ returns-in-None-split_first_mut-clause-clock g t c =
     ∙ ap other_players (nil_of c.args.groups.now c.in-None-split_first_mut.ensures.cases) in
     subst (λ (l : List (Playing g.row.T.Denot)). Advances w r (visits l) c.args.clock.now c.decide.result c.decide.new.clock) (sym none)
     (advances_at w r c.args.clock.now c.decide.result c.decide.new.clock c.decide.ensures.guests leaves.decided leaves.caller leaves.nexts leaves.timely)
+
+pub returns-in-None-split_first_mut-clause-players : goal.returns-in-None-split_first_mut-clause-players
+returns-in-None-split_first_mut-clause-players g t c =
+    subst (λ (l : List (Playing g.row.T.Denot)). AreBack g.J.Placing.world c.decide.new.clock.now l l) (sym (nil_of c.args.players.now c.in-None.ensures.cases)) tt

@@ -1,4 +1,5 @@
-use Rattle.std.proofs.Common.{◌≤◌, List, length, ap, sym, subst, ◌∙◌, arith}
+use Rattle.std.proofs.Common.{◌≡◌, ◌≤◌, List, length, ap, sym, subst, ◌∙◌, arith}
+use Rattle.net_base.specs.declared.actor.ActorName.TheVariants as name
 use Rattle.net_base.specs.declared.event.Event.TheVariants as event
 use Rattle.net_base.specs.declared.world.World.{World}
 use Rattle.net_base.specs.Calm.{least}
@@ -7,76 +8,95 @@ use Rattle.net_base.specs.Legal.{IsInTime}
 use Rattle.net_base.specs.Stamped.{moment as moment_of}
 use Rattle.journal.specs.declared.tokens.Sight.{Sight}
 use Rattle.journal.specs.Tokens.{HoldsAll}
-use Rattle.duties.specs.declared.due.Due.{Due}
 use Rattle.duties.specs.Ticking.{dues_of}
 use Rattle.guest_laws.specs.Guests.{IsGuest}
 use Rattle.guest_laws.specs.Works.{noted_net}
-use Rattle.host_net.specs.Deciding.{awaited_moments, due_moments}
-use Rattle.host_net.specs.Visits.{HasRoom}
+use Rattle.host_net.specs.Deciding.{awaited_moments}
+use Rattle.host_net.specs.Knowing.{IsKnown}
+use Rattle.host_net.specs.Visits.{HasRoom, bare}
 use Rattle.host_net.proofs.Concluding.{free_of}
+use Rattle.host_net.proofs.Covered.{recorded_grows}
+use Rattle.host_net.proofs.Knowledge.{known_on}
 use Rattle.host_net.proofs.Leasts.{target_is}
 use Rattle.host_net.proofs.Moved.{moved_so, unmoved_so}
 use Rattle.host_net.proofs.Sighted.{holds_all}
 use Rattle.host_net.proofs.Turning.{on_ok}
 use Rattle.host_net.proofs.clock.Net+J+WorldActor+J.try_move.Goals as goal
 
-pub dues-requires : goal.dues-requires
-dues-requires g c = holds_all g.J.Placing.world g.J.Naming.run.roster c.args.pass.now c.args.standings.now c.requires.all
-
 pub record_move-moved-requires-clause-guest : goal.record_move-moved-requires-clause-guest
 record_move-moved-requires-clause-guest g c =
-    subst (λ (l : List Duty). IsGuest g.J.Placing.world g.J.Naming.run.roster c.args.caller c.dues.new.pass l) (sym c.reserve.ensures.list)
-    (subst (λ (q : Sight). IsGuest g.J.Placing.world g.J.Naming.run.roster c.args.caller q c.args.duties.now.list) (sym c.in-Ok.ensures.same) c.requires.guest)
+    subst (λ (l : List Duty). IsGuest g.J.Placing.world g.J.Naming.run.roster c.args.caller c.catch_up.new.pass l) (sym c.reserve.ensures.list)
+    (subst (λ (q : Sight). IsGuest g.J.Placing.world g.J.Naming.run.roster c.args.caller q c.args.duties.now.list) (sym c.catch_up.ensures.same) c.requires.guest)
 
 pub record_move-moved-requires-clause-free : goal.record_move-moved-requires-clause-free
 record_move-moved-requires-clause-free g c =
     c.reserve.ensures.list ∙ free_of g.J.Placing.world g.J.Naming.run.roster c.args.caller c.args.pass.now c.args.duties.now.list c.requires.guest c.requires.may.free
 
 pub record_move-moved-requires-clause-moment : goal.record_move-moved-requires-clause-moment
-record_move-moved-requires-clause-moment g c = c.requires.moment ∙ ap (λ (q : Sight). moment_of q.seen) (sym c.in-Ok.ensures.same)
+record_move-moved-requires-clause-moment g c = c.requires.moment ∙ ap (λ (q : Sight). moment_of q.seen) (sym c.catch_up.ensures.same)
 
 pub record_move-moved-requires-clause-numbers : goal.record_move-moved-requires-clause-numbers
 record_move-moved-requires-clause-numbers g c =
-    subst (λ (q : Sight). HoldsAll g.J.Naming.run.roster q) (sym c.in-Ok.ensures.same)
+    subst (λ (q : Sight). HoldsAll g.J.Naming.run.roster q) (sym c.catch_up.ensures.same)
     (holds_all g.J.Placing.world g.J.Naming.run.roster c.args.pass.now c.args.standings.now c.requires.all)
 
 pub record_move-moved-requires-clause-room : goal.record_move-moved-requires-clause-room
-record_move-moved-requires-clause-room g c = subst (λ (q : Sight). HasRoom c.args.caller q) (sym c.in-Ok.ensures.same) c.requires.may.room
+record_move-moved-requires-clause-room g c = subst (λ (q : Sight). HasRoom c.args.caller q) (sym c.catch_up.ensures.same) c.requires.may.room
 
 pub record_move-moved-requires-clause-dues : goal.record_move-moved-requires-clause-dues
 record_move-moved-requires-clause-dues g c =
-    c.as_slice-2.ensures.value ∙ (c.in-Ok.ensures.dues ∙ ap (λ (q : Sight). dues_of g.J.Placing.world (noted_net g.J.Placing.world q.seen).actors) (sym c.in-Ok.ensures.same))
+    c.as_slice-dues.ensures
+    ∙ (c.catch_up.ensures.dues c.if-not-catch_up.false
+    ∙ ap (λ (q : Sight). dues_of g.J.Placing.world (noted_net g.J.Placing.world q.seen).actors) (sym c.catch_up.ensures.same))
 
 pub record_move-moved-requires-clause-reserved : goal.record_move-moved-requires-clause-reserved
 record_move-moved-requires-clause-reserved g c =
-    let room = on_ok (c.len.result ≤ c.reserve.new.self.room) c.reserve.result (sym c.is_err.ensures.value ∙ c.if-is_err.false) c.reserve.ensures.ok in
-    omega (arith, room, c.len.ensures, c.in-Ok.dues.ok.0, ap length c.as_slice-2.ensures.value)
+    on_ok (length c.as_slice-dues.result.now ≤ c.reserve.new.self.room) c.reserve.result (sym c.is_err.ensures.value ∙ c.if-is_err.false) c.reserve.ensures.ok
 
 pub record_move-moved-requires-clause-in_time : goal.record_move-moved-requires-clause-in_time
 record_move-moved-requires-clause-in_time g c =
     let w = g.J.Placing.world in
     let p = c.args.pass.now in
     let t = target_is w g.J.Naming.run.roster p c.args.standings.now c.requires.all c.args.self.now.of.roster.callers_are (c.nets_of_works_grow.ensures.past w p.seen)
-    (c.conversations_are_these.ensures.only w) (c.targets_are_least.ensures w (noted_net w p.seen)) c.in-Ok.dues.items c.least_awaited-awaited.result c.least_due-moment.result
-    c.in-Ok.ensures.dues (c.least_awaited-awaited.ensures ∙ ap (λ (v : World). least v.end (awaited_moments c.args.standings.now)) (sym c.requires.world))
-    (c.least_due-moment.ensures ∙ ap (λ (ds : List Due). least c.least_awaited-awaited.result (due_moments ds)) c.as_slice.ensures.value) in
-    subst (λ (q : Sight). IsInTime (noted_net w q.seen) w (event.Move c.least_due-moment.result)) (sym c.in-Ok.ensures.same) (c.requires.may.may, t.0)
+    (c.conversations_are_these.ensures.only w) (c.targets_are_least.ensures w (noted_net w p.seen)) c.as_slice-dues.result.now c.least_awaited-awaited.result
+    c.least_due-moment.result (c.as_slice-dues.ensures ∙ c.catch_up.ensures.dues c.if-not-catch_up.false)
+    (c.least_awaited-awaited.ensures ∙ ap (λ (v : World). least v.end (awaited_moments c.args.standings.now)) (sym c.requires.world)) c.least_due-moment.ensures in
+    subst (λ (q : Sight). IsInTime (noted_net w q.seen) w (event.Move c.least_due-moment.result)) (sym c.catch_up.ensures.same) (c.requires.may.may, t.0)
 
-pub returns-then-not-moved : goal.returns-then-not-moved
-returns-then-not-moved g c =
-    unmoved_so g.J.Placing.world g.J.Naming.run.roster c.args.caller c.args.now c.least_due-moment.result c.args.pass.now c.dues.new.pass c.record_move-moved.new.pass c.args.duties.now.list
-    c.reserve.new.self.list c.record_move-moved.new.duties.list c.in-Ok.ensures.same c.reserve.ensures.list c.record_move-moved.result c.record_move-moved.ensures c.if-not-moved.true
+pub returns-then-not-moved-clause-go : goal.returns-then-not-moved-clause-go
+returns-then-not-moved-clause-go g c =
+    unmoved_so g.J.Placing.world g.J.Naming.run.roster c.args.caller c.args.now c.least_due-moment.result c.args.pass.now c.catch_up.new.pass c.record_move-moved.new.pass
+    c.args.duties.now.list c.reserve.new.self.list c.record_move-moved.new.duties.list c.catch_up.ensures.same c.reserve.ensures.list c.record_move-moved.result
+    c.record_move-moved.ensures c.if-not-moved.true
 
-pub returns : goal.returns
-returns g c =
+pub returns-then-not-moved-clause-known : goal.returns-then-not-moved-clause-known
+returns-then-not-moved-clause-known g c =
+    let still = unmoved_so g.J.Placing.world g.J.Naming.run.roster c.args.caller c.args.now c.least_due-moment.result c.args.pass.now c.catch_up.new.pass
+    c.record_move-moved.new.pass c.args.duties.now.list c.reserve.new.self.list c.record_move-moved.new.duties.list c.catch_up.ensures.same c.reserve.ensures.list
+    c.record_move-moved.result c.record_move-moved.ensures c.if-not-moved.true in
+    subst (λ (q : Sight). IsKnown g.J.Placing.world q.seen c.catch_up.new.calendar) (sym still.0) c.catch_up.ensures.known
+
+pub returns-clause-go : goal.returns-clause-go
+returns-clause-go g c =
     let w = g.J.Placing.world in
     let p = c.args.pass.now in
     let t = target_is w g.J.Naming.run.roster p c.args.standings.now c.requires.all c.args.self.now.of.roster.callers_are (c.nets_of_works_grow.ensures.past w p.seen)
-    (c.conversations_are_these.ensures.only w) (c.targets_are_least.ensures w (noted_net w p.seen)) c.in-Ok.dues.items c.least_awaited-awaited.result c.least_due-moment.result
-    c.in-Ok.ensures.dues (c.least_awaited-awaited.ensures ∙ ap (λ (v : World). least v.end (awaited_moments c.args.standings.now)) (sym c.requires.world))
-    (c.least_due-moment.ensures ∙ ap (λ (ds : List Due). least c.least_awaited-awaited.result (due_moments ds)) c.as_slice.ensures.value) in (
-      moved_so w g.J.Naming.run.roster c.args.caller c.args.now c.least_due-moment.result p c.dues.new.pass c.record_move-moved.new.pass c.args.duties.now.list
-          c.reserve.new.self.list c.record_move-moved.new.duties.list c.in-Ok.ensures.same c.reserve.ensures.list c.record_move-moved.result c.record_move-moved.ensures c.if-not-moved.false,
+    (c.conversations_are_these.ensures.only w) (c.targets_are_least.ensures w (noted_net w p.seen)) c.as_slice-dues.result.now c.least_awaited-awaited.result
+    c.least_due-moment.result (c.as_slice-dues.ensures ∙ c.catch_up.ensures.dues c.if-not-catch_up.false)
+    (c.least_awaited-awaited.ensures ∙ ap (λ (v : World). least v.end (awaited_moments c.args.standings.now)) (sym c.requires.world)) c.least_due-moment.ensures in (
+      moved_so w g.J.Naming.run.roster c.args.caller c.args.now c.least_due-moment.result p c.catch_up.new.pass c.record_move-moved.new.pass c.args.duties.now.list
+          c.reserve.new.self.list c.record_move-moved.new.duties.list c.catch_up.ensures.same c.reserve.ensures.list c.record_move-moved.result c.record_move-moved.ensures c.if-not-moved.false,
       t.0,
       t.1,
     )
+
+pub returns-clause-known : goal.returns-clause-known
+returns-clause-known g c =
+    let w = g.J.Placing.world in
+    let p = c.args.pass.now in
+    let m = c.least_due-moment.result in
+    let moved = moved_so w g.J.Naming.run.roster c.args.caller c.args.now m p c.catch_up.new.pass c.record_move-moved.new.pass c.args.duties.now.list
+    c.reserve.new.self.list c.record_move-moved.new.duties.list c.catch_up.ensures.same c.reserve.ensures.list c.record_move-moved.result c.record_move-moved.ensures c.if-not-moved.false in
+    known_on w p.seen c.record_move-moved.new.pass.seen c.catch_up.new.calendar
+    (recorded_grows w c.args.caller c.args.now name.Clock (bare (event.Move m)) _ p c.record_move-moved.new.pass c.args.duties.now.list c.record_move-moved.new.duties.list
+    moved.entry.stamp moved.entry.reply moved.entry.turn) c.catch_up.ensures.known

@@ -8,6 +8,7 @@ use Rattle.net_base.specs.Duties.{Duty}
 use Rattle.net_base.specs.Stamped.{In, same_actor}
 use Rattle.duties.specs.Queue.{work_of_duty}
 use Rattle.host_net.specs.Visits.{Takes, Visit}
+use Rattle.host_net.proofs.Covered.{turned_grows, visit_on}
 use Rattle.host_net.proofs.Firsts.{first_in, some_first}
 use Rattle.host_net.proofs.Operating.{visit}
 use Rattle.host_net.proofs.net.Net+J+WorldActor+J.serve.Goals as goal
@@ -40,3 +41,14 @@ returns-in-None-clause-turn g c d is =
     let none : has_actor w d.actor ≡ false = ap (has_actor w) (sym at) ∙ c.in-None.ensures.none refl in
     subst (λ (v : Visit). Takes w d.actor (work_of_duty d) (Some d.cites) v c.absent.result v) c.guest.view_is
     (c.absent.ensures c.guest.inside.now d.actor (work_of_duty d) (Some d.cites) c.guest.inside.duties.list none)
+
+pub invariant_of-guest : goal.invariant_of-guest
+invariant_of-guest g c =
+    let w = g.J.Placing.world in
+    let me = c.guest.inside in
+    let d = c.unwrap.result.now in
+    let is : slice_get me.duties.list 0 ≡ Some d = sym c.first.ensures ∙ ap option_copied c.unwrap.ensures in
+    visit_on w g.J.Naming.run.roster me.caller me.now me.pass c.serve_at.new.pass me.duties.list c.serve_at.new.duties.list me.host me.touched c.serve_at.new.touched
+    me.calendar c.guest.invariant c.serve_at.ensures.guest c.serve_at.ensures.moment c.serve_at.ensures.covers
+    (turned_grows w me.caller me.now d.actor (work_of_duty d) (Some d.cites) me.pass c.serve_at.new.pass me.duties.list c.serve_at.new.duties.list c.serve_at.result
+    (c.serve_at.ensures.turn d is))

@@ -1,0 +1,3 @@
+mod Puts
+mod Ordered
+pub mod Covering
