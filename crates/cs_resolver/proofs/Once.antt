@@ -65,3 +65,9 @@ once_more ns keys after i within kept put =
     ∙ ap (λ had. cond had keys (keys ++ n ∷ [])) (same_any (nat_eq n) (λ m. m == n) keys (λ m. turned m n (m == n) refl))
     ∙ ap (λ (those : List ℕ). cond (among n those) those (those ++ n ∷ [])) kept
     ∙ sym (ap once_each (take_more ns i 0 within) ∙ once_push (take i ns) n)
+
+-- fewer than two numbers stand once
+pub few_once : (ns : List ℕ) → length ns < 2 → once_each ns ≡ ns
+few_once [] few = refl
+few_once (n ∷ []) few = refl
+few_once (n ∷ m ∷ ns) few = absurd (omega (arith, few))

@@ -33,9 +33,13 @@ pub fn one_word(alloc: Global, word: &[u8]) -> Result<Lines, AllocError>
 }
 
 /// Each number once, where it stands first.
+#[tactic(auto, using(crate::proofs::Once::few_once))]
 pub fn once_each(alloc: Global, numbers: &[u32]) -> Result<Vec<u32>, AllocError>
     ensures { IfOk result (λ once. once.items ≡ spec.once_each numbers.now) }
 {
+    if numbers.len() < 2 {
+        return Vec::from_slice(alloc, numbers);
+    }
     let mut once = IndexSet::new(alloc);
     for number in numbers {
         once.insert(*number)?;

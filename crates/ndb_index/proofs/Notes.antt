@@ -11,14 +11,13 @@ use Rattle.std.proofs.lemmas.List.{take_more, at_drop_more}
 use Rattle.net_base.specs.declared.ndb.NdbPair.{NdbPair}
 use Rattle.net_base.specs.Search.{is_pair, line_has}
 use Rattle.ndb_index.specs.declared.spot.Spot.{Spot}
-use Rattle.ndb_index.specs.declared.key.Key.{Key}
 use Rattle.ndb_index.specs.Keys.{same_pair}
 use Rattle.ndb_index.specs.Kept.{spot_at, spot_in, spots_from, spots_found, spots_kept, ends_at, with_spot, noted, lines_noted}
 
 -- A pair.
 
 abbrev pub Kept : Type 0
-Kept = List (Key × List Spot)
+Kept = List (NdbPair × List Spot)
 
 same_is : (a v attr value : List ℕ) → same_pair a v attr value ≡ true → (a ≡ attr) × (v ≡ value)
 same_is a v attr value e =
@@ -26,7 +25,7 @@ same_is a v attr value e =
 
 -- the map after these spots are put by a pair
 abbrev pub Puts : List ℕ → List ℕ → List Spot → Kept → Kept → Type 0
-Puts a v spots old new = (q : Key) → spots_found q.attr q.value new ≡ cond (same_pair a v q.attr q.value) (Some spots) (spots_found q.attr q.value old)
+Puts a v spots old new = (q : NdbPair) → spots_found q.attr q.value new ≡ cond (same_pair a v q.attr q.value) (Some spots) (spots_found q.attr q.value old)
 
 -- the pair had these spots, and has one more
 put_noted : (a v : List ℕ) (before : Option (List Spot)) (after : List Spot) (spot : Spot) (old new : Kept) → spots_found a v old ≡ before → after ≡ with_spot spot (unwrap_or before []) → Puts a v after old new → (attr value : List ℕ) → spots_kept attr value new ≡ noted (same_pair a v attr value) spot (spots_kept attr value old)
@@ -42,7 +41,7 @@ put_noted a v before after spot old new had is put attr value =
     at false e = refl
 
 -- a pair's key has one more spot, or its first
-pub pair_noted : (pair : NdbPair) (key : Key) (before : Option (List Spot)) (after : List Spot) (spot : Spot) (old made new : Kept) → key.attr ≡ pair.attr → key.value ≡ pair.value → spots_found key.attr key.value old ≡ before → after ≡ with_spot spot (unwrap_or before []) → Puts key.attr key.value after old made → new ≡ made → (attr value : List ℕ) → spots_kept attr value new ≡ noted (is_pair attr value pair) spot (spots_kept attr value old)
+pub pair_noted : (pair : NdbPair) (key : NdbPair) (before : Option (List Spot)) (after : List Spot) (spot : Spot) (old made new : Kept) → key.attr ≡ pair.attr → key.value ≡ pair.value → spots_found key.attr key.value old ≡ before → after ≡ with_spot spot (unwrap_or before []) → Puts key.attr key.value after old made → new ≡ made → (attr value : List ℕ) → spots_kept attr value new ≡ noted (is_pair attr value pair) spot (spots_kept attr value old)
 pair_noted pair key before after spot old made new attr_is value_is had is put same attr value =
     ap (spots_kept attr value) same
     ∙ put_noted key.attr key.value before after spot old made had is put attr value

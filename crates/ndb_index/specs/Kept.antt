@@ -6,7 +6,6 @@ use Rattle.std.specs.Map.{lookup}
 use Rattle.net_base.specs.declared.ndb.NdbPair.{NdbPair}
 use Rattle.net_base.specs.Search.{line_has}
 use Rattle.ndb_index.specs.declared.spot.Spot.{Spot}
-use Rattle.ndb_index.specs.declared.key.Key.{Key}
 use Rattle.ndb_index.specs.Keys.{same_pair}
 
 -- A pair's spots.
@@ -31,15 +30,15 @@ spots_with attr value db = spots_from 0 attr value db
 -- What is kept.
 
 -- the key is this pair
-abbrev pub is_key : List ℕ → List ℕ → Key → Bool
+abbrev pub is_key : List ℕ → List ℕ → NdbPair → Bool
 is_key attr value key = same_pair attr value key.attr key.value
 
 -- the spots by a pair, if any were kept
-abbrev pub spots_found : List ℕ → List ℕ → List (Key × List Spot) → Option (List Spot)
+abbrev pub spots_found : List ℕ → List ℕ → List (NdbPair × List Spot) → Option (List Spot)
 spots_found attr value pairs = lookup (is_key attr value) pairs
 
 -- the spots by a pair
-abbrev pub spots_kept : List ℕ → List ℕ → List (Key × List Spot) → List Spot
+abbrev pub spots_kept : List ℕ → List ℕ → List (NdbPair × List Spot) → List Spot
 spots_kept attr value pairs = unwrap_or (spots_found attr value pairs) []
 
 -- the last spot is in the tuple at this place

@@ -1,8 +1,13 @@
 -- Pairs as keys: which are the same, and what is fed to the hash of one.
-use Rattle.std.specs.Prelude.{◌≡◌, ℕ, Bool, true, ◌&&◌, List, [], ◌∷◌, bytes_eq}
+use Rattle.std.specs.Prelude.{◌≡◌, ℕ, Bool, true, ◌&&◌, List, [], ◌∷◌, take, drop, bytes_eq}
 use Rattle.std.specs.Cmp.{first_so, second_so}
 use Rattle.std.specs.Cmp.Lexicographic.{bytes_decides, nat_list_eq_equiv}
+use Rattle.net_base.specs.declared.ndb.NdbPair.{NdbPair}
 use mathlib.Core.Path.{ap, ◌∙◌}
+
+-- a text as a pair: its attribute has so many bytes, and its value stands behind
+abbrev pub parted : ℕ → List ℕ → NdbPair
+parted end text = record { attr = take end text; value = drop end text }
 
 -- the attributes are the same, and the values are, byte for byte
 abbrev pub same_pair : List ℕ → List ℕ → List ℕ → List ℕ → Bool

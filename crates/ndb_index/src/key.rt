@@ -4,29 +4,60 @@ ghost use Rattle.std.specs.Cmp.Rules.{comparing};
 ghost use Rattle.std.proofs.Common.{rules};
 ghost use Rattle.ndb_index.specs.Keys.{same_pair, fed_alike, found_alike};
 
-use crate::text::Text;
 use indexmap::Equivalent;
 use net_base::NdbPair;
+use smallvec::SmallVec;
 use std::alloc::{AllocError, Global};
 use std::hash::{Hash, Hasher};
+use std::marker::Model;
 
-/// A pair, by its attribute and its value.
+/// A pair, its value right behind its attribute. Up to 24 bytes lie in the key itself.
+///
+/// Clauses see the pair.
 #[derive(Drop)]
 pub struct Key {
-    pub attr: Text,
-    pub value: Text,
+    bytes: SmallVec<u8, 24>,
+    end: usize,
+}
+
+impl Model for Key {
+    ghost use Rattle.std.specs.Prelude.{◌≤◌, length};
+    ghost use Rattle.net_base.specs.declared.ndb.NdbPair.{NdbPair};
+    ghost use Rattle.ndb_index.specs.Keys.{parted};
+
+    ghost Value = { NdbPair };
+
+    ghost view = { λ k. parted k.end k.bytes.items };
+
+    ghost invariant = { λ k. k.end ≤ length k.bytes.items };
 }
 
 impl Key {
     /// A copy of a pair.
+    #[tactic(auto, using(crate::proofs::Joined::parted_is))]
     pub fn of(alloc: Global, pair: &NdbPair) -> Result<Key, AllocError>
-        ensures attr { IfOk result (λ key. key.attr ≡ pair.now.attr) }
-        ensures value { IfOk result (λ key. key.value ≡ pair.now.value) }
+        ensures { IfOk result (λ key. key ≡ pair.now) }
     {
+        let mut bytes = SmallVec::from_slice(alloc, pair.attr.as_slice())?;
+        bytes.extend_from_slice(pair.value.as_slice())?;
         Ok(Key {
-            attr: Text::of(alloc, pair.attr.as_slice())?,
-            value: Text::of(alloc, pair.value.as_slice())?,
+            bytes,
+            end: pair.attr.len(),
         })
+    }
+
+    /// Its attribute, lent.
+    fn attr(&self) -> &[u8]
+        ensures { result.now ≡ self.now.attr }
+    {
+        &self.bytes.as_slice()[..self.end]
+    }
+
+    /// Its value, lent.
+    fn value(&self) -> &[u8]
+        ensures { result.now ≡ self.now.value }
+    {
+        &self.bytes.as_slice()[self.end..]
     }
 }
 
@@ -36,8 +67,7 @@ impl PartialEq for Key {
     ghost laws = { Prim.search (comparing, rules) };
 
     fn eq(&self, other: &Key) -> bool {
-        self.attr.as_slice() == other.attr.as_slice()
-            && self.value.as_slice() == other.value.as_slice()
+        self.attr() == other.attr() && self.value() == other.value()
     }
 }
 
@@ -51,8 +81,8 @@ impl Hash for Key {
     ghost respects_eq = { λ a b. fed_alike a.attr a.value b.attr b.value };
 
     fn hash<H: Hasher>(&self, state: &mut H) {
-        state.write(self.attr.as_slice());
-        state.write(self.value.as_slice());
+        state.write(self.attr());
+        state.write(self.value());
     }
 }
 
@@ -96,6 +126,6 @@ impl Equivalent<Key> for Asked<'_> {
     ghost respects_eq = { λ q x y. found_alike q.attr.now q.value.now x.attr x.value y.attr y.value };
 
     fn equivalent(&self, key: &Key) -> bool {
-        self.attr == key.attr.as_slice() && self.value == key.value.as_slice()
+        self.attr == key.attr() && self.value == key.value()
     }
 }

@@ -10,7 +10,6 @@ mod spot;
 mod spots;
 #[cfg(test)]
 mod tests;
-mod text;
 
 pub use index::Index;
 pub use ndb_reader::{Steps, Tuples};

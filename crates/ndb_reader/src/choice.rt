@@ -120,7 +120,7 @@ fn add_file(file: File, groups: &mut Groups) -> Result<(), AllocError>
         → AreGrouped (files ++ file_seen file ∷ []) groups.new.entries) }
 {
     let File { name, tuples } = file;
-    let name = name.into_vec()?;
+    let name = name.into_vec();
     let group = with_more(groups.swap_remove(&name), tuples)?;
     groups.insert(name, group)?;
     Ok(())

@@ -80,11 +80,11 @@ impl Words {
     }
 }
 
-/// How many words a line seems to have, by its `=`, or 4 where there are more.
+/// How many words a line seems to have, one for each sixteen bytes, or 4 where there are more.
 fn likely_count(line: &[u8]) -> usize
     ensures { result ≤ 4 }
 {
-    line.iter().filter(|byte| **byte == b'=').count().min(4)
+    (line.len().min(64) + 15) / 16
 }
 
 /// The words of a line that doesn't begin with `%`, up to one that begins with `#`.

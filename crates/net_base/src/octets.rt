@@ -5,17 +5,16 @@ ghost use Rattle.std.specs.Cmp.Rules.{comparing};
 ghost use Rattle.std.proofs.Common.{rules};
 
 use crate::sequence::Sequence;
-use smallvec::SmallVec;
 use std::alloc::{AllocError, Global};
 use std::marker::Model;
 
 /// Texts in order, which contracts see as a list of lists of bytes.
 pub type Lines = Sequence<Octets>;
 
-/// Bytes, which contracts see as a list. Up to sixteen of them take no memory of their own.
+/// Bytes, which contracts see as a list.
 #[derive(Debug, Drop)]
 pub struct Octets {
-    bytes: SmallVec<u8, 16>,
+    bytes: Vec<u8>,
 }
 
 impl Model for Octets {
@@ -32,7 +31,7 @@ impl Octets {
         ensures { result ≡ [] }
     {
         Octets {
-            bytes: SmallVec::new(alloc),
+            bytes: Vec::new(alloc),
         }
     }
 
@@ -40,17 +39,15 @@ impl Octets {
     pub fn from_vec(bytes: Vec<u8>) -> Octets
         ensures { result ≡ bytes.items }
     {
-        Octets {
-            bytes: SmallVec::from_vec(bytes),
-        }
+        Octets { bytes }
     }
 
-    /// Its bytes. It takes memory only where they have none of their own.
-    pub fn into_vec(self) -> Result<Vec<u8>, AllocError>
-        ensures { IfOk result (λ v. v.items ≡ self) }
+    /// Its bytes. It takes no memory.
+    pub fn into_vec(self) -> Vec<u8>
+        ensures { result.items ≡ self }
     {
         let Octets { bytes } = self;
-        Ok(bytes.into_vec()?)
+        bytes
     }
 
     /// A copy of these bytes.
@@ -58,7 +55,7 @@ impl Octets {
         ensures { IfOk result (λ o. o ≡ bytes.now) }
     {
         Ok(Octets {
-            bytes: SmallVec::from_slice(alloc, bytes)?,
+            bytes: Vec::from_slice(alloc, bytes)?,
         })
     }
 
@@ -110,7 +107,7 @@ impl PartialEq for Octets {
     ghost laws = { Prim.search (comparing, rules) };
 
     fn eq(&self, other: &Octets) -> bool {
-        self.as_slice() == other.as_slice()
+        self.bytes == other.bytes
     }
 }
 

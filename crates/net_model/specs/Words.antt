@@ -13,6 +13,8 @@ pub data Command : Type 0 where
   Run : ℕ → Command
   -- the text of the made world of so many messages
   Make : ℕ → Command
+  -- the summary of a run of the made world of so many messages
+  Big : ℕ → Command
 
 -- a word that has bytes
 abbrev pub is_word : List ℕ → Bool
@@ -28,12 +30,14 @@ unfoldable pub workers_in : List ℕ → Option ℕ
 workers_in word = number_in 1 16 word
 
 -- the command that words give, where they are in a row: `cs SYS QUERY`, `query ATTR VALUE`, `query ATTR VALUE RATTR`,
--- `run WORKERS`, or `make N`
+-- `run WORKERS`, `make N`, or `big N`
 abbrev pub command_of : List (List ℕ) → Option Command
 command_of (name ∷ number ∷ []) =
     if bytes_eq name (codes "run")
     then option_map Run (workers_in number)
-    else (if bytes_eq name (codes "make") then option_map Make (messages_in number) else None)
+    else (if bytes_eq name (codes "make")
+    then option_map Make (messages_in number)
+    else (if bytes_eq name (codes "big") then option_map Big (messages_in number) else None))
 command_of (name ∷ sys ∷ query ∷ []) =
     if is_word sys && is_word query
     then (if bytes_eq name (codes "cs") then Some (Cs sys query) else (if bytes_eq name (codes "query") then Some (Query sys query None) else None))
@@ -48,6 +52,7 @@ may_wait (Cs sys query) = false
 may_wait (Query attr value other) = false
 may_wait (Run workers) = true
 may_wait (Make messages) = false
+may_wait (Big messages) = true
 
 -- whether words give a command that may wait
 abbrev pub words_wait : Option Command → Bool
@@ -60,6 +65,7 @@ reads (Cs sys query) = true
 reads (Query attr value other) = true
 reads (Run workers) = true
 reads (Make messages) = false
+reads (Big messages) = false
 
 -- whether words give a command that has an input
 abbrev pub words_read : Option Command → Bool

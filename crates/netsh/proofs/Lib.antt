@@ -1,3 +1,4 @@
+pub mod Answered
 pub mod CsAnswers
 pub mod Endings
 pub mod Statuses

@@ -2,15 +2,16 @@
 use Rattle.std.proofs.Common.{◌≡◌, ◌≢◌, ℕ, ◌⊎◌, Bool, true, false, List, [], ◌∷◌, Option, Some, None, Ok, unwrap_or, refl, sym, ◌∙◌, ap, subst, inl, inr, arith}
 use Rattle.std.specs.Io.KnownBytes.{IsAtEnd}
 use Rattle.outside.specs.Streams.{Rose}
+use Rattle.net_base.specs.declared.history.Entry.{Entry}
 use Rattle.net_base.specs.declared.world.World.{World}
 use Rattle.net_model.specs.Answers.{Answer, lines_answer, cs_answer, usage, read_fault}
 use Rattle.net_base.specs.Calm as calm
 use Rattle.net_base.specs.Cs.{CsAnswer, Lines, Refused}
+use Rattle.net_base.specs.Legal.{IsLegal, IsTimed}
 use Rattle.net_base.specs.Net.{Net, after}
-use Rattle.net_model.specs.Words.{Command, Cs, Query, Run, Make, reads, words_read}
-use Rattle.world_text.specs.WorldText.{world_reading}
-use Rattle.netsh.specs.Built.{first_bad, made, IsStatus, IsRun, IsFound, IsGiven, IsAnswer}
-use Rattle.netsh.specs.Ends.{Intake, Output, Told, Took, TookSome, IsUnwritten, IsInput, IsRead, IsUnread, Answers, IsStatusOf, IsBad, HasRun, Ends, no_row, answered, unread, no_memory, Causes}
+use Rattle.net_model.specs.Words.{Command, Cs, Query, Run, Make, Big, may_wait, reads, words_read, words_wait}
+use Rattle.netsh.specs.Built.{first_bad, made, IsStatus, IsWorldOf, IsFound, IsGiven, IsAnswer}
+use Rattle.netsh.specs.Ends.{Intake, Output, Told, Took, TookAll, TookSome, IsUnwritten, IsInput, IsRead, IsUnread, Answers, IsStatusOf, IsBad, HasRun, Ends, no_row, answered, unread, no_memory, Causes}
 use Rattle.std.proofs.lemmas.Bool.{false≢true}
 use Rattle.netsh.proofs.Endings.{too_long_is_bad}
 
@@ -26,6 +27,7 @@ bad_reads (Cs sys query) input bad is = refl
 bad_reads (Query attr value other) input bad is = refl
 bad_reads (Run workers) input bad is = refl
 bad_reads (Make messages) input bad is = absurd (none_some bad is)
+bad_reads (Big messages) input bad is = absurd (none_some bad is)
 
 -- what a command took, by whether it has an input
 read_input : (asked : Command) (intake : Intake) (input : List ℕ) → reads asked ≡ true → Took (reads asked) intake input → IsRead intake input
@@ -38,29 +40,36 @@ read_nothing asked intake input none took = subst (λ (b : Bool). Took b intake 
 asked_reads : (command : Option Command) (asked : Command) (b : Bool) → command ≡ Some asked → words_read command ≡ b → reads asked ≡ b
 asked_reads command asked b is has = ap words_read (sym is) ∙ has
 
+-- whether it may wait
+asked_waits : (command : Option Command) (asked : Command) (b : Bool) → command ≡ Some asked → words_wait command ≡ b → may_wait asked ≡ b
+asked_waits command asked b is waits = ap words_wait (sym is) ∙ waits
+
+no_wait : (asked : Command) → may_wait asked ≡ false → may_wait asked ≡ true → ⊥
+no_wait asked not waits = false≢true (sym not ∙ waits)
+
+-- a run over the world of the command ended so
+pub record Ran (asked : Command) (input : List ℕ) (answer : Answer) : Type 0 where
+  pub world : World
+  pub history : List Entry
+  pub is_world : IsWorldOf asked input world
+  pub legal : IsLegal world history
+  pub timed : IsTimed world history
+  pub status : IsStatus world (after world history) answer.status
+
 -- what a status says of the command and its input, and the status that it is
 pub data Of (asked : Command) (input : List ℕ) (answer : Answer) : Type 0 where
   of_bad : (bad : ℕ × ℕ) → first_bad asked input ≡ Some bad → answer.status ≡ 2 → Of asked input answer
-  of_lines : first_bad asked input ≡ None → answer.status ≡ 0 → ((workers : ℕ) → asked ≡ Run workers → ⊥) → Of asked input answer
-  of_refusal : first_bad asked input ≡ None → answer.status ≡ 5 → ((workers : ℕ) → asked ≡ Run workers → ⊥) → Of asked input answer
-  of_run : first_bad asked input ≡ None → (workers : ℕ) → asked ≡ Run workers → (w : World) → world_reading input ≡ Ok w → IsRun w answer → Of asked input answer
-
-cs_or_run : (sys query : List ℕ) (workers : ℕ) → Cs sys query ≡ Run workers → ⊥
-cs_or_run sys query workers same = cc
-
-query_or_run : (attr value : List ℕ) (other : Option (List ℕ)) (workers : ℕ) → Query attr value other ≡ Run workers → ⊥
-query_or_run attr value other workers same = cc
-
-make_or_run : (messages workers : ℕ) → Make messages ≡ Run workers → ⊥
-make_or_run messages workers same = cc
+  of_lines : first_bad asked input ≡ None → answer.status ≡ 0 → may_wait asked ≡ false → Of asked input answer
+  of_refusal : first_bad asked input ≡ None → answer.status ≡ 5 → may_wait asked ≡ false → Of asked input answer
+  of_run : first_bad asked input ≡ None → Ran asked input answer → Of asked input answer
 
 of_cs : (sys query input : List ℕ) (answer : Answer) (found : CsAnswer) → first_bad (Cs sys query) input ≡ None → answer ≡ cs_answer found → Of (Cs sys query) input answer
-of_cs sys query input answer (Lines lines) good is = of_lines good (ap (λ (a : Answer). a.status) is) (cs_or_run sys query)
-of_cs sys query input answer (Refused number) good is = of_refusal good (ap (λ (a : Answer). a.status) is) (cs_or_run sys query)
+of_cs sys query input answer (Lines lines) good is = of_lines good (ap (λ (a : Answer). a.status) is) refl
+of_cs sys query input answer (Refused number) good is = of_refusal good (ap (λ (a : Answer). a.status) is) refl
 
 of_query : (attr value : List ℕ) (other : Option (List ℕ)) (input : List ℕ) (answer : Answer) (lines : List (List ℕ)) → first_bad (Query attr value other) input ≡ None → answer ≡ lines_answer lines → Of (Query attr value other) input answer
-of_query attr value other input answer [] good is = of_refusal good (ap (λ (a : Answer). a.status) is) (query_or_run attr value other)
-of_query attr value other input answer (line ∷ lines) good is = of_lines good (ap (λ (a : Answer). a.status) is) (query_or_run attr value other)
+of_query attr value other input answer [] good is = of_refusal good (ap (λ (a : Answer). a.status) is) refl
+of_query attr value other input answer (line ∷ lines) good is = of_lines good (ap (λ (a : Answer). a.status) is) refl
 
 made_status : (messages : ℕ) (answer : Answer) → answer ≡ made messages → answer.status ≡ 0
 unfolding made
@@ -69,8 +78,25 @@ made_status messages answer is = ap (λ (a : Answer). a.status) is
 of_found : (asked : Command) (input : List ℕ) (answer : Answer) → first_bad asked input ≡ None → IsFound asked input answer → Of asked input answer
 of_found (Cs sys query) input answer good found = of_cs sys query input answer _ good found
 of_found (Query attr value other) input answer good found = of_query attr value other input answer _ good found
-of_found (Run workers) input answer good found = of_run good workers refl found.0 found.1 found.2
-of_found (Make messages) input answer good found = of_lines good (made_status messages answer found) (make_or_run messages)
+of_found (Run workers) input answer good found =
+    of_run good (record {
+      world = found.0;
+      history = found.2.history;
+      is_world = found.1;
+      legal = found.2.legal;
+      timed = found.2.timed;
+      status = found.2.status;
+    })
+of_found (Make messages) input answer good found = of_lines good (made_status messages answer found) refl
+of_found (Big messages) input answer good found =
+    of_run good (record {
+      world = found.0;
+      history = found.2.history;
+      is_world = found.1;
+      legal = found.2.legal;
+      timed = found.2.timed;
+      status = found.2.status;
+    })
 
 of_given : (asked : Command) (input : List ℕ) (answer : Answer) (bad : Option (ℕ × ℕ)) → first_bad asked input ≡ bad → IsGiven bad asked input answer → Of asked input answer
 of_given asked input answer None is given = of_found asked input answer is given
@@ -93,9 +119,9 @@ no_run_status w net status n is same apart = elim is.ended [
 
 no_answer : (asked : Command) (input : List ℕ) (answer : Answer) (n : ℕ) → Of asked input answer → answer.status ≡ n → Apart n → ⊥
 no_answer asked input answer n (of_bad bad is two) same apart = apart.1 (sym same ∙ two)
-no_answer asked input answer n (of_lines good zero no_run) same apart = apart.0 (sym same ∙ zero)
-no_answer asked input answer n (of_refusal good five no_run) same apart = apart.4 (sym same ∙ five)
-no_answer asked input answer n (of_run good workers is w says run) same apart = no_run_status w (after w run.history) answer.status n run.status same apart
+no_answer asked input answer n (of_lines good zero not) same apart = apart.0 (sym same ∙ zero)
+no_answer asked input answer n (of_refusal good five not) same apart = apart.4 (sym same ∙ five)
+no_answer asked input answer n (of_run good ran) same apart = no_run_status ran.world (after ran.world ran.history) answer.status n ran.status same apart
 
 apart_1 : Apart 1
 apart_1 = (λ e. omega (arith, e), λ e. omega (arith, e), λ e. omega (arith, e), λ e. omega (arith, e), λ e. omega (arith, e))
@@ -120,6 +146,15 @@ read_whole asked input intake has took good = by (read_input asked intake input 
     by : IsRead intake input → IsAtEnd intake.rest
     by (is, inl end) = end
     by (is, inr long) = absurd (none_some (0, 9) (sym good ∙ too_long_is_bad asked input has long))
+
+-- so was that of a run, where it has one
+took_all : (asked : Command) (input : List ℕ) (intake : Intake) → Took (reads asked) intake input → first_bad asked input ≡ None → TookAll (reads asked) intake input
+took_all asked input intake took good = by (reads asked) refl took
+  where
+    by : (has : Bool) → reads asked ≡ has → Took has intake input → TookAll has intake input
+    by true has (is, inl end) = (is, end)
+    by true has (is, inr long) = absurd (none_some (0, 9) (sym good ∙ too_long_is_bad asked input has long))
+    by false has none = none
 
 module _ (command : Option Command) (status : ℕ) (intake : Intake) (output : Output) where
   usage_only : Ends command status intake output → status ≡ 1 → command ≡ None
@@ -239,9 +274,9 @@ module _ (command : Option Command) (status : ℕ) (intake : Intake) (output : O
 
   bad_two : (of : IsStatusOf command status intake) (bad : ℕ × ℕ) → first_bad of.asked of.answers.input ≡ Some bad → Of of.asked of.answers.input of.answer → status ≡ 2
   bad_two of bad is (of_bad found same two) = of.right ∙ two
-  bad_two of bad is (of_lines good zero no_run) = absurd (none_some bad (sym good ∙ is))
-  bad_two of bad is (of_refusal good five no_run) = absurd (none_some bad (sym good ∙ is))
-  bad_two of bad is (of_run good workers same w says run) = absurd (none_some bad (sym good ∙ is))
+  bad_two of bad is (of_lines good zero not) = absurd (none_some bad (sym good ∙ is))
+  bad_two of bad is (of_refusal good five not) = absurd (none_some bad (sym good ∙ is))
+  bad_two of bad is (of_run good ran) = absurd (none_some bad (sym good ∙ is))
 
   tells_bad : Ends command status intake output → ¬ Rose intake.before intake.after → ¬ Rose output.before output.after → (asked : Command) (input : List ℕ) (bad : ℕ × ℕ) → command ≡ Some asked → intake.left ≡ Some input → first_bad asked input ≡ Some bad → (status ≡ 2) ⊎ (status ≡ 8)
   tells_bad ends no_read no_write asked input bad is left is_bad =
@@ -257,27 +292,46 @@ module _ (command : Option Command) (status : ℕ) (intake : Intake) (output : O
     | inr (inr four) ↦ inr (inr (inl (same ∙ four)))
   ]
 
-  good_runs : (of : IsStatusOf command status intake) (workers : ℕ) → of.asked ≡ Run workers → first_bad of.asked of.answers.input ≡ None → Of of.asked of.answers.input of.answer → (status ≡ 0) ⊎ (status ≡ 3) ⊎ (status ≡ 4) ⊎ (status ≡ 8)
-  good_runs of workers ran good (of_bad bad same two) = absurd (none_some bad (sym good ∙ same))
-  good_runs of workers ran good (of_lines same zero no_run) = absurd (no_run workers ran)
-  good_runs of workers ran good (of_refusal same five no_run) = absurd (no_run workers ran)
-  good_runs of workers ran good (of_run same n is w says run) = run_ends w (after w run.history) of.answer.status of.right run.status
+  good_runs : (of : IsStatusOf command status intake) → may_wait of.asked ≡ true → first_bad of.asked of.answers.input ≡ None → Of of.asked of.answers.input of.answer → (status ≡ 0) ⊎ (status ≡ 3) ⊎ (status ≡ 4) ⊎ (status ≡ 8)
+  good_runs of waits good (of_bad bad same two) = absurd (none_some bad (sym good ∙ same))
+  good_runs of waits good (of_lines same zero not) = absurd (no_wait of.asked not waits)
+  good_runs of waits good (of_refusal same five not) = absurd (no_wait of.asked not waits)
+  good_runs of waits good (of_run same ran) = run_ends ran.world (after ran.world ran.history) of.answer.status of.right ran.status
 
   runs : Ends command status intake output → ¬ Rose intake.before intake.after → ¬ Rose output.before output.after → (workers : ℕ) (input : List ℕ) → command ≡ Some (Run workers) → intake.left ≡ Some input → first_bad (Run workers) input ≡ None → (status ≡ 0) ⊎ (status ≡ 3) ⊎ (status ≡ 4) ⊎ (status ≡ 8)
   runs ends no_read no_write workers input is left good =
       elim (complete_without_faults ends no_read no_write (λ none. some_none (Run workers) (sym is ∙ none))) [
         | inl eight ↦ inr (inr (inr eight))
-        | inr of ↦ good_runs of workers (same_command (Run workers) of.asked is of.is_asked) (same_bad of (Run workers) input is refl left ∙ good) (of_answer of.asked of.answers.input of.answer of.answers.right)
+        | inr of ↦ good_runs of (ap may_wait (same_command (Run workers) of.asked is of.is_asked)) (same_bad of (Run workers) input is refl left ∙ good) (of_answer of.asked of.answers.input of.answer of.answers.right)
       ]
+
+  -- how a call of `big` ends
+  big_ends : (status ≡ 0) ⊎ (status ≡ 3) ⊎ (status ≡ 4) ⊎ (status ≡ 8) → (status ≡ 0) ⊎ (status ≡ 3) ⊎ (status ≡ 4) ⊎ (status ≡ 7) ⊎ (status ≡ 8)
+  big_ends (inl zero) = inl zero
+  big_ends (inr (inl three)) = inr (inl three)
+  big_ends (inr (inr (inl four))) = inr (inr (inl four))
+  big_ends (inr (inr (inr eight))) = inr (inr (inr (inr eight)))
+
+  big_by : (messages : ℕ) (of : IsStatusOf command status intake) → of.asked ≡ Big messages → (status ≡ 0) ⊎ (status ≡ 3) ⊎ (status ≡ 4) ⊎ (status ≡ 8)
+  big_by messages of is =
+      good_runs of (ap may_wait is) (ap (λ (c : Command). first_bad c of.answers.input) is) (of_answer of.asked of.answers.input of.answer of.answers.right)
+
+  bigs : Ends command status intake output → (messages : ℕ) → command ≡ Some (Big messages) → (status ≡ 0) ⊎ (status ≡ 3) ⊎ (status ≡ 4) ⊎ (status ≡ 7) ⊎ (status ≡ 8)
+  bigs (no_row none unread_source told) messages is_big = absurd (some_none (Big messages) (sym is_big ∙ none))
+  bigs (answered asked answer is answers (inl t)) messages is_big =
+      big_ends (big_by messages (record { asked = asked; answer = answer; is_asked = is; answers = answers; right = t.0 }) (same_command (Big messages) asked is_big is))
+  bigs (answered asked answer is answers (inr t)) messages is_big = inr (inr (inr (inl t.0)))
+  bigs (unread asked is has rose told) messages is_big = absurd (false≢true (ap words_read (sym is_big ∙ is) ∙ has))
+  bigs (no_memory asked is eight took kept) messages is_big = inr (inr (inr (inr eight)))
 
 -- What the status of an answer says.
 
 module _ (command : Option Command) (intake : Intake) where
   bad_of : (of : IsStatusOf command 2 intake) → Of of.asked of.answers.input of.answer → IsBad command intake
   bad_of of (of_bad bad is two) = record { asked = of.asked; input = of.answers.input; bad = bad; is_asked = of.is_asked; read = read_input of.asked intake of.answers.input (bad_reads of.asked of.answers.input bad is) of.answers.read; is_bad = is }
-  bad_of of (of_lines good zero no_run) = absurd (omega (arith, of.right, zero))
-  bad_of of (of_refusal good five no_run) = absurd (omega (arith, of.right, five))
-  bad_of of (of_run good workers is w says run) = elim run.status.ended [
+  bad_of of (of_lines good zero not) = absurd (omega (arith, of.right, zero))
+  bad_of of (of_refusal good five not) = absurd (omega (arith, of.right, five))
+  bad_of of (of_run good ran) = elim ran.status.ended [
     | inl zero ↦ absurd (omega (arith, of.right, zero))
     | inr (inl three) ↦ absurd (omega (arith, of.right, three))
     | inr (inr four) ↦ absurd (omega (arith, of.right, four))
@@ -286,42 +340,41 @@ module _ (command : Option Command) (intake : Intake) where
   -- another status than 2 is of a whole input, where the command has one
   end_of : (n : ℕ) → (n ≡ 2 → ⊥) → words_read command ≡ true → (of : IsStatusOf command n intake) → Of of.asked of.answers.input of.answer → IsAtEnd intake.rest
   end_of n no_two has of (of_bad bad is two) = absurd (no_two (of.right ∙ two))
-  end_of n no_two has of (of_lines good zero no_run) = read_whole of.asked of.answers.input intake (asked_reads command of.asked true of.is_asked has) of.answers.read good
-  end_of n no_two has of (of_refusal good five no_run) = read_whole of.asked of.answers.input intake (asked_reads command of.asked true of.is_asked has) of.answers.read good
-  end_of n no_two has of (of_run good workers is w says run) = read_whole of.asked of.answers.input intake (asked_reads command of.asked true of.is_asked has) of.answers.read good
+  end_of n no_two has of (of_lines good zero not) = read_whole of.asked of.answers.input intake (asked_reads command of.asked true of.is_asked has) of.answers.read good
+  end_of n no_two has of (of_refusal good five not) = read_whole of.asked of.answers.input intake (asked_reads command of.asked true of.is_asked has) of.answers.read good
+  end_of n no_two has of (of_run good ran) = read_whole of.asked of.answers.input intake (asked_reads command of.asked true of.is_asked has) of.answers.read good
 
-  ran_of : (so : World → Net → Bool) (n : ℕ) (of : IsStatusOf command n intake) (workers : ℕ) → of.asked ≡ Run workers → (w : World) → world_reading of.answers.input ≡ Ok w → (run : IsRun w of.answer) → first_bad of.asked of.answers.input ≡ None → so w (after w run.history) ≡ true → HasRun command so intake
-  ran_of so n of workers is w says run good right = record {
-    workers = workers;
+  ran_of : (so : World → Net → Bool) (n : ℕ) (of : IsStatusOf command n intake) (ran : Ran of.asked of.answers.input of.answer) → first_bad of.asked of.answers.input ≡ None → so ran.world (after ran.world ran.history) ≡ true → HasRun command so intake
+  ran_of so n of ran good right = record {
+    asked = of.asked;
     input = of.answers.input;
-    world = w;
-    history = run.history;
-    is_asked = of.is_asked ∙ ap (λ (c : Command). Some c) is;
-    is_input = (read_input of.asked intake of.answers.input (ap reads is) of.answers.read).0;
-    to_end = read_whole of.asked of.answers.input intake (ap reads is) of.answers.read good;
-    reads = says;
-    legal = run.legal;
-    timed = run.timed;
+    world = ran.world;
+    history = ran.history;
+    is_asked = of.is_asked;
+    took = took_all of.asked of.answers.input intake of.answers.read good;
+    is_world = ran.is_world;
+    legal = ran.legal;
+    timed = ran.timed;
     right = right;
   }
 
   stopped_of : (of : IsStatusOf command 3 intake) → Of of.asked of.answers.input of.answer → HasRun command calm.stopped intake
   stopped_of of (of_bad bad is two) = absurd (omega (arith, of.right, two))
-  stopped_of of (of_lines good zero no_run) = absurd (omega (arith, of.right, zero))
-  stopped_of of (of_refusal good five no_run) = absurd (omega (arith, of.right, five))
-  stopped_of of (of_run good workers is w says run) = ran_of calm.stopped 3 of workers is w says run good (run.status.stopped.0 (sym of.right))
+  stopped_of of (of_lines good zero not) = absurd (omega (arith, of.right, zero))
+  stopped_of of (of_refusal good five not) = absurd (omega (arith, of.right, five))
+  stopped_of of (of_run good ran) = ran_of calm.stopped 3 of ran good (ran.status.stopped.0 (sym of.right))
 
   limited_of : (of : IsStatusOf command 4 intake) → Of of.asked of.answers.input of.answer → HasRun command calm.limited intake
   limited_of of (of_bad bad is two) = absurd (omega (arith, of.right, two))
-  limited_of of (of_lines good zero no_run) = absurd (omega (arith, of.right, zero))
-  limited_of of (of_refusal good five no_run) = absurd (omega (arith, of.right, five))
-  limited_of of (of_run good workers is w says run) = ran_of calm.limited 4 of workers is w says run good (run.status.limited.0 (sym of.right))
+  limited_of of (of_lines good zero not) = absurd (omega (arith, of.right, zero))
+  limited_of of (of_refusal good five not) = absurd (omega (arith, of.right, five))
+  limited_of of (of_run good ran) = ran_of calm.limited 4 of ran good (ran.status.limited.0 (sym of.right))
 
-  done_of : (workers : ℕ) → command ≡ Some (Run workers) → (of : IsStatusOf command 0 intake) → Of of.asked of.answers.input of.answer → HasRun command calm.done intake
-  done_of workers ran of (of_bad bad is two) = absurd (omega (arith, of.right, two))
-  done_of workers ran of (of_lines good zero no_run) = absurd (no_run workers (ap (λ (o : Option Command). unwrap_or o of.asked) (sym of.is_asked ∙ ran)))
-  done_of workers ran of (of_refusal good five no_run) = absurd (omega (arith, of.right, five))
-  done_of workers ran of (of_run good n is w says run) = ran_of calm.done 0 of n is w says run good (run.status.done.0 (sym of.right))
+  done_of : words_wait command ≡ true → (of : IsStatusOf command 0 intake) → Of of.asked of.answers.input of.answer → HasRun command calm.done intake
+  done_of waits of (of_bad bad is two) = absurd (omega (arith, of.right, two))
+  done_of waits of (of_lines good zero not) = absurd (no_wait of.asked not (asked_waits command of.asked true of.is_asked waits))
+  done_of waits of (of_refusal good five not) = absurd (omega (arith, of.right, five))
+  done_of waits of (of_run good ran) = ran_of calm.done 0 of ran good (ran.status.done.0 (sym of.right))
 
   of_it : (n : ℕ) (of : IsStatusOf command n intake) → Of of.asked of.answers.input of.answer
   of_it n of = of_answer of.asked of.answers.input of.answer of.answers.right
@@ -359,11 +412,12 @@ module _ (command : Option Command) (status : ℕ) (intake : Intake) (output : O
     done = as_0;
     bad_input = λ is. bad_of command intake (as_2 is) (of_it command intake 2 (as_2 is));
     refused = as_5;
-    run_done = λ workers ran is. done_of command intake workers ran (as_0 is) (of_it command intake 0 (as_0 is));
+    run_done = λ waits is. done_of command intake waits (as_0 is) (of_it command intake 0 (as_0 is));
     stopped = λ is. stopped_of command intake (as_3 is) (of_it command intake 3 (as_3 is));
     limited = λ is. limited_of command intake (as_4 is) (of_it command intake 4 (as_4 is));
     reads_nothing = reads_nothing command status intake output ends;
     makes = makes command status intake output ends;
+    bigs = bigs command status intake output ends;
     read_fault = only_read_fault command status intake output ends;
     write_fault = only_write_fault command status intake output ends;
     memory = only_memory command status intake output ends;

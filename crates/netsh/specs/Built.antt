@@ -1,6 +1,8 @@
 -- The answers in the forms that are built.
 --     first_bad     the first bad line of an input, for a command
 --     IsRun         what a run over a world prints, and its status
+--     IsSummed      the summary of such a run alone
+--     IsWorldOf     the world that a command runs
 --     IsAnswer      an answer to a command and its input
 use Rattle.std.specs.Prelude.{◌≡◌, ◌↔◌, ◌⊎◌, ◌&&◌, ℕ, true, List, [], ◌∷◌, ◌++◌, length, map, flat_map, nat_lt, Option, Some, None, Result, Ok, Err, if◌then◌else◌}
 use Rattle.net_base.specs.declared.address.Proto.TheVariants.{Il, Udp}
@@ -23,7 +25,7 @@ use Rattle.made_world.specs.Made.{made_world}
 use Rattle.world_text.specs.WorldText.{world_reading}
 use Rattle.world_writer.specs.Written.{file_text}
 use Rattle.net_model.specs.Answers.{Answer, bad_input, lines_answer, cs_answer, input_limit}
-use Rattle.net_model.specs.Words.{Command, Cs, Query, Run, Make, reads}
+use Rattle.net_model.specs.Words.{Command, Cs, Query, Run, Make, Big, reads}
 
 -- Bad lines.
 
@@ -38,6 +40,7 @@ bad_line (Cs sys query) input = bundle.bad_line input
 bad_line (Query attr value other) input = bundle.bad_line input
 bad_line (Run workers) input = bad_world (world_reading input)
 bad_line (Make messages) input = None
+bad_line (Big messages) input = None
 
 -- the same of any input: one over the limit has cause 9 at line 0, where the command has an input
 abbrev pub first_bad : Command → List ℕ → Option (ℕ × ℕ)
@@ -98,6 +101,24 @@ pub record IsRun (w : World) (answer : Answer) : Type 0 where
   pub one : (v : World) (k : List Entry) → IsPlain k → answer.text ≡ history_text k ++ summary v k → k ≡ history
   pub status : IsStatus w (after w history) answer.status
 
+-- Answers of big.
+
+-- the summary of one legal and timed history of the world, and the status by how it ends; the history has what each legal
+-- one keeps, and isn't written itself
+pub record IsSummed (w : World) (answer : Answer) : Type 0 where
+  pub history : List Entry
+  pub legal : IsLegal w history
+  pub timed : IsTimed w history
+  pub headline : Headline w history
+  pub text : answer.text ≡ summary w history
+  pub status : IsStatus w (after w history) answer.status
+
+-- the world that a command runs: the one that its input is, or the made one
+abbrev pub IsWorldOf : Command → List ℕ → World → Type 0
+IsWorldOf (Run workers) input w = world_reading input ≡ Ok w
+IsWorldOf (Big messages) input w = w ≡ made_world messages
+IsWorldOf _ input w = ⊥
+
 -- Answers of make.
 
 -- the text of the made world
@@ -110,8 +131,9 @@ made messages = record { status = 0; text = file_text (made_world messages) }
 abbrev pub IsFound : Command → List ℕ → Answer → Type 0
 IsFound (Cs sys query) input answer = answer ≡ cs_found sys query input
 IsFound (Query attr value other) input answer = answer ≡ query_found attr value other input
-IsFound (Run workers) input answer = (w : World) × (world_reading input ≡ Ok w) × IsRun w answer
+IsFound (Run workers) input answer = (w : World) × IsWorldOf (Run workers) input w × IsRun w answer
 IsFound (Make messages) input answer = answer ≡ made messages
+IsFound (Big messages) input answer = (w : World) × IsWorldOf (Big messages) input w × IsSummed w answer
 
 -- an answer to an input with this first bad line, if any
 abbrev pub IsGiven : Option (ℕ × ℕ) → Command → List ℕ → Answer → Type 0

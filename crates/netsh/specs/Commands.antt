@@ -17,3 +17,4 @@ question_read (Make messages) = words.Make messages
 abbrev pub command_read : Command → words.Command
 command_read (command.Question question) = question_read question
 command_read (command.Run workers) = words.Run workers
+command_read (command.Big messages) = words.Big messages

@@ -7,12 +7,11 @@ use Rattle.net_model.specs.Answers.{Answer, bad_input, usage, read_fault, input_
 use Rattle.net_base.specs.Calm as calm
 use Rattle.net_base.specs.Legal.{IsLegal, IsTimed}
 use Rattle.net_base.specs.Net.{Net, after}
-use Rattle.net_model.specs.Words.{Command, Run, Make, reads, words_read}
-use Rattle.world_text.specs.WorldText.{world_reading}
+use Rattle.net_model.specs.Words.{Command, Run, Make, Big, reads, words_read, words_wait}
 use Rattle.outside.specs.Streams.{Rose, AppendsPart}
 use Rattle.outside.specs.declared.fault.TakeError.{TakeError}
 use Rattle.outside.specs.declared.fault.TakeError.TheVariants as error
-use Rattle.netsh.specs.Built.{first_bad, IsAnswer}
+use Rattle.netsh.specs.Built.{first_bad, IsAnswer, IsWorldOf}
 
 -- what a source had left and has left, where it tells that, and its count of faults before and after
 pub record Intake : Type 0 where
@@ -55,6 +54,11 @@ IsUnread intake = (intake.rest ≡ intake.left) × (intake.after ≡ intake.befo
 abbrev pub Took : Bool → Intake → List ℕ → Type 0
 Took true intake input = IsRead intake input
 Took false intake input = IsUnread intake
+
+-- the same, where the input was read to its end
+abbrev pub TookAll : Bool → Intake → List ℕ → Type 0
+TookAll true intake input = IsInput intake.left input × IsAtEnd intake.rest
+TookAll false intake input = IsUnread intake
 
 -- there was no fault of the source, and a command without an input took nothing
 abbrev pub TookSome : Bool → Intake → Type 0
@@ -101,16 +105,15 @@ pub record IsBad (command : Option Command) (intake : Intake) : Type 0 where
   pub read : IsRead intake input
   pub is_bad : first_bad asked input ≡ Some bad
 
--- a run over the world that the input is, which was read to its end, left the net so
+-- a run over the world of the command and its input, which was read to its end, where it has one, left the net so
 pub record HasRun (command : Option Command) (so : World → Net → Bool) (intake : Intake) : Type 0 where
-  pub workers : ℕ
+  pub asked : Command
   pub input : List ℕ
   pub world : World
   pub history : List Entry
-  pub is_asked : command ≡ Some (Run workers)
-  pub is_input : IsInput intake.left input
-  pub to_end : IsAtEnd intake.rest
-  pub reads : world_reading input ≡ Ok world
+  pub is_asked : command ≡ Some asked
+  pub took : TookAll (reads asked) intake input
+  pub is_world : IsWorldOf asked input world
   pub legal : IsLegal world history
   pub timed : IsTimed world history
   pub right : so world (after world history) ≡ true
@@ -124,13 +127,16 @@ pub record Causes (command : Option Command) (status : ℕ) (intake : Intake) (o
   pub done : status ≡ 0 → IsStatusOf command 0 intake
   pub bad_input : status ≡ 2 → IsBad command intake
   pub refused : status ≡ 5 → IsStatusOf command 5 intake
-  -- a history of the world that was read ends so where a run gives 0, 3 and 4, and no other command gives 3 and 4
-  pub run_done : (workers : ℕ) → command ≡ Some (Run workers) → status ≡ 0 → HasRun command calm.done intake
+  -- a history of its world ends so where a run gives 0, 3 and 4, and no other command gives 3 and 4
+  pub run_done : words_wait command ≡ true → status ≡ 0 → HasRun command calm.done intake
   pub stopped : status ≡ 3 → HasRun command calm.stopped intake
   pub limited : status ≡ 4 → HasRun command calm.limited intake
-  -- nothing is read for words in no row, nor for a command without an input, and `make` always has its text
+  -- nothing is read for words in no row, nor for a command without an input; `make` always has its text, and `big` runs
+  -- until it ends
   pub reads_nothing : words_read command ≡ false → IsUnread intake
   pub makes : (messages : ℕ) → command ≡ Some (Make messages) → (status ≡ 0) ⊎ (status ≡ 7) ⊎ (status ≡ 8)
+  pub bigs : (messages : ℕ) → command ≡ Some (Big messages)
+      → (status ≡ 0) ⊎ (status ≡ 3) ⊎ (status ≡ 4) ⊎ (status ≡ 7) ⊎ (status ≡ 8)
   -- the faults and the memory
   pub read_fault : status ≡ 6 → (words_read command ≡ true) × Rose intake.before intake.after
   pub write_fault : status ≡ 7 → Rose output.before output.after

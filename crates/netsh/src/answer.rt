@@ -1,21 +1,23 @@
 //! The answers: a status, and the text that is written, made whole.
-ghost use Rattle.std.specs.Prelude.{◌≡◌, ◌≢◌, flat_map, IfOk, OnOk};
+ghost use Rattle.std.specs.Prelude.{◌≡◌, ◌≢◌, flat_map, true, IfOk, OnOk};
 ghost use Rattle.net_model.specs.Answers as spec;
 ghost use Rattle.net_base.specs.Cs.{Lines as ListOf, Refused};
 ghost use Rattle.cs_resolver.specs.Errors.{number_of};
 ghost use Rattle.net_base.specs.Legal.{IsLegal, IsTimed};
 ghost use Rattle.net_base.specs.Net.{after};
-ghost use Rattle.net_base.specs.Summary.{answered_steps, summary};
+ghost use Rattle.net_base.specs.Calm.{done};
+ghost use Rattle.net_base.specs.Summary.{summary};
+ghost use Rattle.net_base.specs.Summary.{all_steps as spec_steps};
 ghost use Rattle.net_base.specs.World.{IsWorld};
-ghost use Rattle.netsh.specs.Built.{IsRun};
-ghost use Rattle.netsh.specs.Runs.{end_of, status_of};
+ghost use Rattle.netsh.specs.Built.{IsRun, IsSummed};
+ghost use Rattle.netsh.specs.Runs.{status_of};
 ghost use Rattle.plain_runner.specs.Rounds.{EndsSo};
 
 use agenda::Run;
 use cs_resolver::CsError;
 use net_base::{History, Lines, Octets, World};
-use net_model::{legal_histories_are_plain, legal_histories_keep_it};
-use plain_runner::{Ran, RunEnd, summary_of};
+use net_model::{histories_grow, legal_histories_are_plain, legal_histories_keep_it};
+use plain_runner::{RunEnd, summary_of};
 use std::alloc::{AllocError, Global};
 use std::marker::Model;
 use transcript::{End, RunStatus, printed_runs_tell, summary_by, text_of};
@@ -100,29 +102,32 @@ impl Answer {
         Answer { status: 0, text }
     }
 
-    /// The text of a run on one worker: its history with its summary.
-    pub fn run(alloc: Global, world: &World, ran: &Ran) -> Result<Answer, AllocError>
-        requires world { IsWorld world.now }
-        requires legal { IsLegal world.now ran.now.history }
-        requires timed { IsTimed world.now ran.now.history }
-        requires answered { ran.now.answered ≡ answered_steps world.now ran.now.history }
-        requires end { EndsSo world.now (after world.now ran.now.history) ran.now.end }
-        ensures { IfOk result (λ answer. IsRun world.now answer) }
-    {
-        let lines = summary_by(alloc, world, &ran.history, status_in_summary(ran))?;
-        Answer::of_history(alloc, world, &ran.history, &lines, ran.end)
-    }
-
-    /// The text of a run on many workers: its history with its summary.
-    pub fn run_on_workers(alloc: Global, world: &World, run: &Run) -> Result<Answer, AllocError>
+    /// The text of a run: its history with its summary.
+    pub fn run(alloc: Global, world: &World, run: &Run) -> Result<Answer, AllocError>
         requires world { IsWorld world.now }
         requires legal { IsLegal world.now run.now.history }
         requires timed { IsTimed world.now run.now.history }
         requires end { EndsSo world.now (after world.now run.now.history) run.now.end }
         ensures { IfOk result (λ answer. IsRun world.now answer) }
     {
-        let lines = summary_of(alloc, world, &run.history)?;
+        let lines = summary_of_run(alloc, world, run)?;
         Answer::of_history(alloc, world, &run.history, &lines, run.end)
+    }
+
+    /// The summary of a run alone.
+    pub fn big(alloc: Global, world: &World, run: &Run) -> Result<Answer, AllocError>
+        requires world { IsWorld world.now }
+        requires legal { IsLegal world.now run.now.history }
+        requires timed { IsTimed world.now run.now.history }
+        requires end { EndsSo world.now (after world.now run.now.history) run.now.end }
+        ensures { IfOk result (λ answer. IsSummed world.now answer) }
+    {
+        legal_histories_keep_it();
+        let text = summary_of_run(alloc, world, run)?;
+        Ok(Answer {
+            status: run_status(run.end),
+            text,
+        })
     }
 
     // The text of a history with the lines of its summary.
@@ -178,19 +183,41 @@ fn text_of_lines(alloc: Global, lines: &Lines) -> Result<Octets, AllocError>
     Ok(text)
 }
 
-/// How many steps are answered, and how the run stands.
-fn status_in_summary(ran: &Ran) -> RunStatus
-    ensures answered { result.answered ≡ ran.now.answered }
-    ensures end { result.end ≡ end_of ran.now.end }
+/// The summary of a run. Of one that is done all steps are answered, so only another is replayed.
+fn summary_of_run(alloc: Global, world: &World, run: &Run) -> Result<Octets, AllocError>
+    requires world { IsWorld world.now }
+    requires legal { IsLegal world.now run.now.history }
+    requires timed { IsTimed world.now run.now.history }
+    requires end { EndsSo world.now (after world.now run.now.history) run.now.end }
+    ensures { IfOk result (λ text. text ≡ summary world.now run.now.history) }
 {
-    RunStatus {
-        answered: ran.answered,
-        end: match ran.end {
-            RunEnd::Done => End::Done,
-            RunEnd::Stopped => End::Stopped,
-            RunEnd::Limit => End::Limit,
-        },
+    match run.end {
+        RunEnd::Done => summary_of_done(alloc, world, &run.history),
+        RunEnd::Stopped | RunEnd::Limit => summary_of(alloc, world, &run.history),
     }
+}
+
+/// The summary of a history that is done.
+fn summary_of_done(alloc: Global, world: &World, history: &History) -> Result<Octets, AllocError>
+    requires legal { IsLegal world.now history.now }
+    requires done { done world.now (after world.now history.now) ≡ true }
+    ensures { IfOk result (λ text. text ≡ summary world.now history.now) }
+{
+    histories_grow();
+    let answered = all_steps(world);
+    let end = End::Done;
+    summary_by(alloc, world, history, RunStatus { answered, end })
+}
+
+/// How many steps all scripts have.
+fn all_steps(world: &World) -> u128
+    ensures { result ≡ spec_steps world.now }
+{
+    let mut steps = 0;
+    for script in world.scripts.as_slice() {
+        steps += script.steps.len() as u128;
+    }
+    steps
 }
 
 /// The status by how a run ends.

@@ -25,6 +25,8 @@ pub enum Command<'a> {
     Question(Question<'a>),
     /// `run WORKERS`
     Run(u32),
+    /// `big N`
+    Big(u32),
 }
 
 /// Whether a command that never waits has an input.
@@ -65,6 +67,9 @@ fn read_two<'a>(name: &[u8], number: &'a [u8]) -> Option<Command<'a>>
     }
     if name == b"make".as_slice() {
         return Some(Command::Question(Question::Make(read_messages(number)?)));
+    }
+    if name == b"big".as_slice() {
+        return Some(Command::Big(read_messages(number)?));
     }
     None
 }

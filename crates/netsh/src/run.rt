@@ -1,13 +1,11 @@
 //! The command `run`.
 ghost use Rattle.std.specs.Prelude.{◌<◌, ◌≤◌, length, IfOk};
-ghost use Rattle.net_base.specs.World.{IsWorld};
 ghost use Rattle.net_model.specs.Answers.{input_limit};
 ghost use Rattle.net_model.specs.Words.{Run};
-ghost use Rattle.netsh.specs.Built.{IsAnswer, IsRun};
+ghost use Rattle.netsh.specs.Built.{IsAnswer};
 
 use crate::answer::Answer;
 use agenda::RunError;
-use net_base::World;
 use outside::Gate;
 use std::alloc::{AllocError, Global};
 use std::sync::Wait;
@@ -32,28 +30,8 @@ pub fn run_over<R: Threads + Wait + Sync, G: Gate + Sync>(
         Err(WorldError::Bad { line, cause }) => return Answer::bad_input(alloc, line, cause),
         Err(WorldError::Memory) => return Err(AllocError),
     };
-    run_world(rt, alloc, workers, &world, gate)
-}
-
-// On one worker the callers have their turns in a fixed order, and no thread is started.
-fn run_world<R: Threads + Wait + Sync, G: Gate + Sync>(
-    rt: &R,
-    alloc: Global,
-    workers: u32,
-    world: &World,
-    gate: &G,
-) -> Result<Answer, AllocError>
-    requires world { IsWorld world.now }
-    requires some { 0 < workers }
-    requires few { workers ≤ 16 }
-    ensures { IfOk result (λ answer. IsRun world.now answer) }
-{
-    if workers == 1 {
-        let ran = plain_runner::run(alloc, world)?;
-        return Answer::run(alloc, world, &ran);
-    }
-    match agenda::run(rt, alloc, world, workers, gate) {
-        Ok(run) => Answer::run_on_workers(alloc, world, &run),
+    match agenda::run(rt, alloc, &world, workers, gate) {
+        Ok(run) => Answer::run(alloc, &world, &run),
         Err(RunError::Memory) => Err(AllocError),
     }
 }

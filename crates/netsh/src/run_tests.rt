@@ -99,6 +99,11 @@ fn words_that_give_no_run(rt: HostRuntime) -> Result<(), Fail> {
         ["run", "1", "1"].as_slice(),
         ["run"].as_slice(),
         ["run", ""].as_slice(),
+        ["big", "0"].as_slice(),
+        ["big", "01"].as_slice(),
+        ["big", "9001"].as_slice(),
+        ["big", "1", "1"].as_slice(),
+        ["big"].as_slice(),
     ];
     for words in rows {
         let (status, held) = run(&rt, rt.alloc(), words, DATAGRAM.as_bytes(), &[], &[])?;

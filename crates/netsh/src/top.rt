@@ -1,12 +1,13 @@
 //! The top call: words and an input in, a status and a text out.
 ghost use Rattle.std.specs.Prelude.{◌≡◌, ◌≢◌, ◌<◌, ◌≤◌, ◌↔◌, ℕ, map, string_bytes, length, IsNone, IfNone, IfSome, IfOk, IsTrue, Some, None, Err, false};
-ghost use Rattle.net_model.specs.Words.{Command as AnyCommand, Run as AnyRun, command_of, words_wait};
-ghost use Rattle.netsh.specs.Ends.{Ends, Causes, Intake, IsAnswered, Told};
+ghost use Rattle.net_model.specs.Words.{Big as AnyBig, Command as AnyCommand, Run as AnyRun, command_of, words_wait};
+ghost use Rattle.netsh.specs.Ends.{Ends, Causes, Intake, IsAnswered, IsUnread, Told};
 ghost use Rattle.net_model.specs.Answers.{input_limit};
 ghost use Rattle.netsh.specs.Built.{IsAnswer};
 ghost use Rattle.netsh.specs.Commands.{question_read};
 
 use crate::answer::{Answer, READ_FAULT, TOO_LONG, USAGE};
+use crate::big::big;
 use crate::command::{Command, Question, has_input, read_words};
 use crate::cs::cs;
 use crate::make::make;
@@ -102,15 +103,29 @@ fn read_and_run<R: Threads + Wait + Sync, S: Source, G: Gate + Sync>(
     Ok(run_over(rt, alloc, workers, input.as_slice(), gate)?)
 }
 
+/// Runs the made world of so many messages. Nothing is read.
+fn run_made<R: Threads + Wait + Sync, G: Gate + Sync>(
+    rt: &R,
+    alloc: Global,
+    messages: u32,
+    gate: &G,
+) -> Result<Answer, TakeError>
+    ensures { (intake : Intake) → IsUnread intake → IsAnswered (AnyBig messages) intake result }
+{
+    Ok(big(rt, alloc, messages, gate)?)
+}
+
 /// What became of words.
 enum Asked {
     /// They were answered, with this status.
     Answered(u8),
     /// They ask for a run on so many workers, which is still to do.
     Run(u32),
+    /// They ask for a run of the made world of so many messages, which is still to do.
+    Big(u32),
 }
 
-/// Does the command of these words, unless it is a run, or tells the usage.
+/// Does the command of these words, unless it may wait, or tells the usage.
 fn ask_words<S: Source, K: Sink>(
     alloc: Global,
     words: &[String],
@@ -123,12 +138,15 @@ fn ask_words<S: Source, K: Sink>(
         × (words_wait (command_of (map string_bytes words.now)) ≡ false) }
     ensures run { (workers : ℕ) → result ≡ Asked.Run workers → (command_of (map string_bytes words.now) ≡ Some (AnyRun workers))
         × (source.new ≡ source.old) × (sink.new ≡ sink.old) }
+    ensures big { (messages : ℕ) → result ≡ Asked.Big messages → (command_of (map string_bytes words.now) ≡ Some (AnyBig messages))
+        × (source.new ≡ source.old) × (sink.new ≡ sink.old) }
 {
     match read_words(words) {
         Some(Command::Question(question)) => {
             Asked::Answered(tell_answer(sink, read_and_answer(alloc, question, source)))
         }
         Some(Command::Run(workers)) => Asked::Run(workers),
+        Some(Command::Big(messages)) => Asked::Big(messages),
         None => Asked::Answered(tell(sink, 1, USAGE.as_bytes())),
     }
 }
@@ -151,7 +169,7 @@ pub fn ask<S: Source, K: Sink>(
 {
     match ask_words(alloc, words, source, sink) {
         Asked::Answered(status) => Some(status),
-        Asked::Run(_) => None,
+        Asked::Run(_) | Asked::Big(_) => None,
     }
 }
 
@@ -174,6 +192,7 @@ pub fn netsh<R: Threads + Wait + Sync, S: Source, K: Sink, G: Gate + Sync>(
     match ask_words(alloc, words, source, sink) {
         Asked::Answered(status) => status,
         Asked::Run(workers) => tell_answer(sink, read_and_run(rt, alloc, workers, source, gate)),
+        Asked::Big(messages) => tell_answer(sink, run_made(rt, alloc, messages, gate)),
     }
 }
 

@@ -1,4 +1,4 @@
-//! The worked runs of two calls on many workers, and gates that hold one call until the other went on.
+//! The worked runs on many workers, and gates that hold one call until the other went on.
 use crate::call_tests::{HOSTS, world};
 use crate::tests::words_of;
 use crate::top::netsh;
@@ -74,6 +74,36 @@ impl Gate for Hold {
     }
 }
 
+/// Counts its calls, and those at the medium of a made world.
+#[derive(Drop)]
+struct Count {
+    calls: AtomicU64,
+    medium: AtomicU64,
+}
+
+impl Count {
+    fn new() -> Count {
+        Count {
+            calls: AtomicU64::new(0),
+            medium: AtomicU64::new(0),
+        }
+    }
+
+    // Whether it was called so often, and so often at the medium.
+    fn is_called(&self, calls: u64, medium: u64) -> bool {
+        self.calls.load(Ordering::SeqCst) >= calls && self.medium.load(Ordering::SeqCst) >= medium
+    }
+}
+
+impl Gate for Count {
+    fn at(&self, place: u32) {
+        self.calls.fetch_add(1, Ordering::SeqCst);
+        if place == 268 {
+            self.medium.fetch_add(1, Ordering::SeqCst);
+        }
+    }
+}
+
 /// What a run of the two calls answers and writes.
 fn run<R: Threads + Wait + Sync, G: Gate + Sync>(
     rt: &R,
@@ -81,8 +111,19 @@ fn run<R: Threads + Wait + Sync, G: Gate + Sync>(
     workers: &str,
     gate: &G,
 ) -> Result<(u8, String), Fail> {
-    let words = words_of(alloc, &["run", workers])?;
     let input = world(alloc, "", HOSTS, &SCRIPTS)?;
+    call(rt, alloc, &["run", workers], &input, gate)
+}
+
+/// What a call answers and writes.
+fn call<R: Threads + Wait + Sync, G: Gate + Sync>(
+    rt: &R,
+    alloc: Global,
+    words: &[&str],
+    input: &str,
+    gate: &G,
+) -> Result<(u8, String), Fail> {
+    let words = words_of(alloc, words)?;
     let mut source = SureSource::new(Octets::from_slice(alloc, input.as_bytes())?);
     let mut sink = MemSink::new(alloc, 40000, FailList::from_vec(Vec::new(alloc)))?;
     let status = netsh(rt, alloc, &words, &mut source, &mut sink, gate);
@@ -144,5 +185,50 @@ fn a_gate_lets_the_first_call_go_first(rt: HostRuntime) -> Result<(), Fail> {
         status == 0 && gate.held_well() && ordered && held.ends_with(SUMMARY),
         "{held}"
     );
+    Ok(())
+}
+
+#[test]
+fn calls_that_fail_on_four_workers(rt: HostRuntime) -> Result<(), Fail> {
+    let rows = [
+        (
+            "script anna\nuntil 10\ndial d il!135.104.9.31!9fs\n",
+            "steps 2 of 2\nmessages 0 0\nbytes 0 0\nend done 10\n",
+        ),
+        (
+            "script anna\nuntil 10\ndial d il!135.104.9.99!9fs\n",
+            "steps 2 of 2\nmessages 0 0\nbytes 0 0\nend done 30010\n",
+        ),
+    ];
+    for (script, summary) in rows {
+        let input = world(rt.alloc(), "", HOSTS, &[script])?;
+        let (status, held) = call(&rt, rt.alloc(), &["run", "4"], &input, &OpenGate)?;
+        assert!(rt; status == 0 && held.ends_with(summary), "{held}");
+    }
+    Ok(())
+}
+
+#[test]
+fn made_worlds_on_two_workers(rt: HostRuntime) -> Result<(), Fail> {
+    let rows = [
+        (
+            "1",
+            26,
+            10,
+            "steps 13 of 13\nmessages 2 2\nbytes 2 2\nend done 10\n",
+        ),
+        (
+            "1000",
+            20000,
+            4000,
+            "steps 4009 of 4009\nmessages 2000 2000\nbytes 5786 5786\nend done 10\n",
+        ),
+    ];
+    for (number, calls, medium, summary) in rows {
+        let count = Count::new();
+        let (status, held) = call(&rt, rt.alloc(), &["big", number], "", &count)?;
+        let all = count.is_called(calls, medium);
+        assert!(rt; status == 0 && all && held.as_str() == summary, "{held}");
+    }
     Ok(())
 }

@@ -1,4 +1,5 @@
 use Rattle.std.proofs.Common.{rules, List, [], Option, ap, ◌∙◌, unwrap_or, refl}
+use Rattle.net_base.specs.declared.ndb.NdbPair.{NdbPair}
 use Rattle.indexmap.specs.Entry.{entry_value, map_with_value}
 use Rattle.ndb_index.specs.declared.spot.Spot.{Spot}
 use Rattle.ndb_index.specs.Kept.{with_spot}
@@ -9,7 +10,7 @@ pub returns : goal.returns
 returns c =
     pair_noted c.args.pair.now c.in_ok-of.field-0 _ c.add_spot.new.spots c.args.spot
     c.args.pairs.now.entries (map_with_value c.in_ok-pairs.field-0 c.add_spot.new.spots).entries _
-    c.in_ok-of.ensures.attr c.in_ok-of.ensures.value refl
+    (ap (λ (p : NdbPair). p.attr) c.in_ok-of.ensures) (ap (λ (p : NdbPair). p.value) c.in_ok-of.ensures) refl
     (c.in_ok-add_spot.ensures
     ∙ ap (with_spot c.args.spot) (c.or_insert-spots.ensures.value
     ∙ ap (unwrap_or (entry_value c.in_ok-pairs.field-0)) c.new.ensures

@@ -22,3 +22,11 @@ returns-in-Run-clause-ends g c =
 
 pub returns-in-Run-clause-causes : goal.returns-in-Run-clause-causes
 returns-in-Run-clause-causes g c = causes_of _ _ _ _ (returns-in-Run-clause-ends g c)
+
+pub returns-in-Big-clause-ends : goal.returns-in-Big-clause-ends
+returns-in-Big-clause-ends g c =
+    let big = c.in-Big.ensures.big c.in-Big.messages refl in
+    rw (big.0) (rw (sym big.1, sym big.2) (c.tell_answer-in-Big.ensures _ _ (c.run_made.ensures _ (refl, refl))))
+
+pub returns-in-Big-clause-causes : goal.returns-in-Big-clause-causes
+returns-in-Big-clause-causes g c = causes_of _ _ _ _ (returns-in-Big-clause-ends g c)

@@ -1,0 +1,124 @@
+//! Over random worlds a run on one worker records what the plain runner records.
+
+use outside::OpenGate;
+use rand_core::utils::NextWord;
+use rand_pcg::Lcg64Xsh32;
+use std::alloc::Global;
+use std::sync::Wait;
+use std::test::Fail;
+use std::thread::Threads;
+use transcript::text_of;
+use world_file::read_world;
+
+/// What becomes of frames.
+const FATES: [&str; 6] = [
+    "",
+    "rates ether0 150 0 0\n",
+    "rates ether0 100 200 200\n",
+    "rates ether0 0 100 500\n",
+    "fate ether0 2 lose\nfate ether0 4-5 twice\n",
+    "fate ether0 1-3 later\n",
+];
+
+/// How scripts that call begin.
+const CALLERS: [&str; 6] = [
+    "script anna\nuntil 10\ndial d net!helix!9fs\nwrite d hello\nread d 8192\n",
+    "script anna\nuntil 10\ndial d il!helix!9fs\nwrite d one\nwrite d two\n",
+    "script anna\nuntil 700\ndial d il!helix!9fs\nread d 8192\n",
+    "script helix\ndial d il!135.104.9.99!9fs\n",
+    "script anna\nuntil 10\ndial d udp!helix!echo\nwrite d hi\nread d 3\n",
+    "script anna\nopen c /net/udp/clone\nwrite c connect 135.104.9.31!7 5000\nopen d /net/udp/0/data\nwrite d hi\n",
+];
+
+/// How scripts that are called begin.
+const LISTENERS: [&str; 5] = [
+    "script helix\nannounce a net!*!9fs\nlisten c a\naccept d c\nread d 8192\nwrite d olleh\n",
+    "script helix\nannounce a il!*!9fs\nlisten b a\nreject b\nlisten c a\naccept d c\n",
+    "script helix\nannounce a udp!*!echo\nlisten c a\naccept d c\nread d 8192\nwrite d ih\n",
+    "script helix\nopen c /net/il/clone\nwrite c announce 17008\nopen l /net/il/0/listen\nopen d /net/il/1/data\n",
+    "script helix\nannounce a net!*!9fs\nuntil 20\ndial d net!anna!9fs\n",
+];
+
+/// How they go on.
+const STEPS: [&str; 15] = [
+    "write d hi\n",
+    "read d 8192\n",
+    "read d 3\n",
+    "writex d 0001ff\n",
+    "hangup d\n",
+    "close d\n",
+    "until 900\n",
+    "cs net!helix!9fs\n",
+    "ls /net/il\n",
+    "open f /net/il/0/status\n",
+    "read f 100\n",
+    "close c\n",
+    "close a\n",
+    "listen g a\nread g 9\n",
+    "dial h udp!helix!echo\nwrite h x\n",
+];
+
+const HOSTS: &str = "host anna il udp\nif ether0 135.104.9.6 255.255.255.0\n\
+host helix udp il\nif ether0 135.104.9.31 255.255.255.0\nstart 4294967290\n";
+
+const DATABASE: &str =
+    "ndb\nsys=anna ip=135.104.9.6\nsys=helix ip=135.104.9.31\nil=9fs port=17008\nudp=echo port=7\n";
+
+/// One of these.
+fn one_of<'a>(words: &mut Lcg64Xsh32, rows: &[&'a str]) -> Result<&'a str, Fail> {
+    let row = words.next_word() as usize % rows.len().max(1);
+    Ok(*rows.get(row).ok_or("no rows")?)
+}
+
+/// Adds a script.
+fn add_script(words: &mut Lcg64Xsh32, begins: &[&str], text: &mut String) -> Result<(), Fail> {
+    text.push_str(one_of(words, begins)?)?;
+    for _ in 0..words.next_word() % 4 {
+        text.push_str(one_of(words, &STEPS)?)?;
+    }
+    Ok(())
+}
+
+/// A world of two hosts on a medium.
+fn random_world(alloc: Global, words: &mut Lcg64Xsh32) -> Result<String, Fail> {
+    let seed = words.next_word();
+    let mut text = format!(in alloc; "networld 1\nend 9000\nseed {seed}\nmedium ether0 1500\n")?;
+    text.push_str(one_of(words, &FATES)?)?;
+    text.push_str(HOSTS)?;
+    add_script(words, &CALLERS, &mut text)?;
+    add_script(words, &LISTENERS, &mut text)?;
+    for _ in 0..words.next_word() % 2 {
+        add_script(words, &CALLERS, &mut text)?;
+    }
+    text.push_str(DATABASE)?;
+    Ok(text)
+}
+
+/// Whether the plain runner and a run on one worker record the same text of a world, and end alike.
+fn record_the_same<R: Threads + Wait + Sync>(
+    rt: &R,
+    alloc: Global,
+    input: &str,
+) -> Result<bool, Fail> {
+    let Ok(world) = read_world(alloc, input.as_bytes()) else {
+        return Err("no world".into());
+    };
+    let Ok(run) = agenda::run(rt, alloc, &world, 1, &OpenGate) else {
+        return Err("no run".into());
+    };
+    let plain = plain_runner::run(alloc, &world)?;
+    let text = text_of(alloc, &run.history)?;
+    let wanted = text_of(alloc, &plain.history)?;
+    Ok(run.end == plain.end && text.as_slice() == wanted.as_slice())
+}
+
+#[test]
+fn one_worker_keeps_the_fixed_order(rt: HostRuntime) -> Result<(), Fail> {
+    let mut words = Lcg64Xsh32::new(30, 1);
+    for _ in 0..300 {
+        let input = random_world(rt.alloc(), &mut words)?;
+        let same = record_the_same(&rt, rt.alloc(), &input)?;
+        assert!(rt; same, "{input}");
+    }
+    Ok(())
+}
