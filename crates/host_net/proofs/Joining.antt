@@ -1,9 +1,10 @@
 -- The next caller's player joins its group.
-use Rattle.std.proofs.Common.{◌≡◌, ℕ, zero, suc, ◌+◌, ◌<◌, ◌%◌, Result, Ok, Err, OnErr, List, [], ◌∷◌, ◌++◌, append_assoc, length, Option, None, Some, slice_get, slice_set, slice_index_or, take, drop, refl, ap, sym, subst, ◌∙◌, arith}
+use Rattle.std.proofs.Common.{◌≡◌, ℕ, zero, suc, ◌+◌, ◌<◌, ◌%◌, Result, Ok, Err, OnErr, List, [], ◌∷◌, ◌++◌, append_assoc, length, Option, None, Some, ◌⊎◌, inl, inr, slice_get, slice_set, slice_index_or, take, drop, refl, ap, sym, subst, ◌∙◌, arith}
 use Rattle.net_base.specs.declared.world.World.{World}
 use Rattle.net_base.specs.Callers.{IsClock, caller_of}
+use Rattle.host_net.specs.declared.player.Role.{Role}
 use Rattle.host_net.specs.declared.player.Role.TheVariants as role
-use Rattle.host_net.specs.Groups.{Grouped, Grouping, IsDealt, all_seats, caller, callers_of, joined, joined_at, visits, with_last}
+use Rattle.host_net.specs.Groups.{Grouped, Grouping, IsDealt, all_seats, caller, callers_of, joined, joined_as, joined_at, visits, with_last}
 use Rattle.host_net.specs.Playing.{HasRole, Playing}
 use Rattle.host_net.proofs.Naming.{one_clock}
 use Rattle.host_net.proofs.Seating.{alone_at, dealt_more, set_joined, visits_more}
@@ -60,3 +61,17 @@ callers_long (p ∷ ps) = ap suc (callers_long ps)
 
 pub same_long : {T : Type 0} (ps qs : List (Playing T)) → callers_of ps ≡ callers_of qs → length ps ≡ length qs
 same_long ps qs is = sym (callers_long ps) ∙ (ap length is ∙ callers_long qs)
+
+-- a player that isn't the clock's joins the others
+abbrev pub IsOther : {T : Type 0} → Playing T → Type 0
+IsOther p = (p.role ≡ role.Script) ⊎ ((m : ℕ) × (p.role ≡ role.Courier m))
+
+pub joins_others : {T : Type 0} (inside g : Grouped T) (p : Playing T) (ps : List (Playing T)) → inside ≡ g → IsOther p → ps ≡ inside.players ++ p ∷ []
+    → record { players = ps; clock = inside.clock; memory = inside.memory } ≡ joined g p
+joins_others {T = T} inside g p ps same other adds =
+    let with_players : List (Playing T) → Grouped T = λ l. record { players = l; clock = inside.clock; memory = inside.memory } in
+    ap with_players adds ∙ (ap (λ (x : Grouped T). record x { players = x.players ++ p ∷ [] }) same ∙ by_role other)
+  where
+    by_role : IsOther p → record g { players = g.players ++ p ∷ [] } ≡ joined g p
+    by_role (inl is) = ap (λ (r : Role). joined_as r g p) (sym is)
+    by_role (inr is) = ap (λ (r : Role). joined_as r g p) (sym is.1)
