@@ -124,3 +124,8 @@ any_text host e = sym (grind (arith, bytes_eq-Decides host (codes "*"), e))
 pub some_texts : (targets : List Target) → 0 < length targets → 0 < length (target_texts targets)
 some_texts [] some = absurd (omega arith)
 some_texts (target ∷ targets) some = omega arith
+
+-- where there is no target, there is no text
+pub no_texts : (targets : List Target) → length targets ≡ 0 → length (target_texts targets) ≡ 0
+no_texts [] none = refl
+no_texts (target ∷ targets) none = absurd (omega arith)

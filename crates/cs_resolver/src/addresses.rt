@@ -24,7 +24,7 @@ pub fn host_words(alloc: Global, db: &Db, me: &[u8], host: &[u8]) -> Result<Line
 }
 
 /// One word alone.
-pub fn one_word(alloc: Global, word: &[u8]) -> Result<Lines, AllocError>
+fn one_word(alloc: Global, word: &[u8]) -> Result<Lines, AllocError>
     ensures { IfOk result (λ words. words ≡ word.now ∷ []) }
 {
     let mut words = Lines::new(alloc);
@@ -32,14 +32,21 @@ pub fn one_word(alloc: Global, word: &[u8]) -> Result<Lines, AllocError>
     Ok(words)
 }
 
-/// Each number once, where it stands first.
+/// Each number once, where it stands first. Fewer than two stay as they are.
 #[tactic(auto, using(crate::proofs::Once::few_once))]
-pub fn once_each(alloc: Global, numbers: &[u32]) -> Result<Vec<u32>, AllocError>
-    ensures { IfOk result (λ once. once.items ≡ spec.once_each numbers.now) }
+pub fn once_each(alloc: Global, numbers: Vec<u32>) -> Result<Vec<u32>, AllocError>
+    ensures { IfOk result (λ once. once.items ≡ spec.once_each numbers.items) }
 {
     if numbers.len() < 2 {
-        return Vec::from_slice(alloc, numbers);
+        return Ok(numbers);
     }
+    many_once(alloc, &numbers)
+}
+
+/// The same of many numbers.
+fn many_once(alloc: Global, numbers: &[u32]) -> Result<Vec<u32>, AllocError>
+    ensures { IfOk result (λ once. once.items ≡ spec.once_each numbers.now) }
+{
     let mut once = IndexSet::new(alloc);
     for number in numbers {
         once.insert(*number)?;
@@ -108,7 +115,7 @@ fn found_addresses(
     let networks = own_networks(alloc, me, db)?;
     let prefixes = Prefixes::of(alloc, &networks)?;
     let found = all_addresses(alloc, db, words)?;
-    let once = once_each(alloc, &found)?;
+    let once = once_each(alloc, found)?;
     let sorted = covered_first(alloc, &prefixes, &once)?;
     Ok(sorted)
 }

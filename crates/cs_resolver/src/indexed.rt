@@ -1,18 +1,20 @@
 //! The list of a query by an index, with a bound on how many tuples are looked at.
-ghost use Rattle.std.specs.Prelude.{◌≡◌, ◌≢◌, ◌+◌, ◌<◌, ◌≤◌, ◌++◌, length, flat_map, AllPairs, IfOk, IfErr, OnOk};
+ghost use Rattle.std.specs.Prelude.{◌≡◌, ◌≢◌, ◌+◌, ◌<◌, ◌≤◌, ◌++◌, [], length, flat_map, AllPairs, MatchOption, IfOk, IfErr, OnOk};
 ghost use Rattle.std.specs.List.{sum_by};
 ghost use Rattle.net_base.specs.Cs as spec;
 ghost use Rattle.ndb_index.specs.Index.{tuples_of, near_count};
 ghost use Rattle.cs_resolver.specs.Errors.{Tells};
 ghost use Rattle.cs_resolver.specs.Probes.{word_found, host_found, service_found, most_probes};
-ghost use Rattle.cs_resolver.specs.Targets.{target_texts};
+ghost use Rattle.cs_resolver.specs.Targets.{NamesHost, target_texts};
 
-use crate::addresses::{covered_first, ip_targets, once_each, one_word};
+use crate::addresses::{covered_first, ip_targets, once_each};
 use crate::error::CsError;
 use crate::line::Target;
 use crate::named::words_addresses;
 use crate::numbers::numbers_beside;
-use crate::query::{is_any, is_attribute, is_numeric, name_attr, nets_of, read_query};
+use crate::query::{
+    Query, is_any, is_attribute, is_named, is_numeric, name_attr, names_some, read_query,
+};
 use crate::resolve::add_lines_of;
 use ndb_index::{Index, Steps};
 use ndb_tuple::Kind;
@@ -21,23 +23,6 @@ use std::alloc::{AllocError, Global};
 use std::marker::Brand;
 use std::sync::ledger::{Blank, Ledger};
 use words::{proto_name, read_address, read_port};
-
-/// The words that name the host: for `$attr` the values closest to the asker, else the host itself.
-fn host_words<L: Ledger>(
-    alloc: Global,
-    index: &Index,
-    me: &[u8],
-    host: &[u8],
-    steps: &mut Steps<L>,
-) -> Result<Lines, AllocError>
-    ensures words { IfOk result (λ words. words ≡ spec.host_words index.now me.now host.now) }
-    ensures cost { steps.new ≤ steps.old + near_count me.now index.now }
-{
-    if is_attribute(host) {
-        return index.closest_counted(alloc, me, &host[1..], steps);
-    }
-    one_word(alloc, host)
-}
 
 /// The addresses of a word: the one that it spells, or those beside it in the database.
 fn word_addresses<L: Ledger>(
@@ -77,62 +62,78 @@ fn some_addresses<L: Ledger>(
     words_addresses(alloc, index, words, steps)
 }
 
-/// The addresses of the words, each once.
-fn all_addresses<L: Ledger>(
-    alloc: Global,
-    index: &Index,
-    words: &[Octets],
-    steps: &mut Steps<L>,
-) -> Result<Vec<u32>, AllocError>
-    ensures ips { IfOk result (λ ips. ips.items
-        ≡ spec.once_each (flat_map (spec.word_addresses index.now) words.now)) }
-    ensures cost { steps.new ≤ steps.old + sum_by (word_found index.now) words.now }
-{
-    let found = some_addresses(alloc, index, words, steps)?;
-    let once = once_each(alloc, &found)?;
-    Ok(once)
-}
-
-/// The addresses of the words, each once, those on the asker's own networks first.
-fn found_addresses<L: Ledger>(
+/// The addresses of the words that name a host, some of which may stand again; nothing where no word does.
+fn host_addresses<L: Ledger>(
     alloc: Global,
     index: &Index,
     me: &[u8],
-    words: &[Octets],
+    host: &[u8],
+    steps: &mut Steps<L>,
+) -> Result<Option<Vec<u32>>, AllocError>
+    ensures ips { IfOk result (λ found. MatchOption found
+        (spec.host_words index.now me.now host.now ≡ [])
+        (λ ips. NamesHost index.now me.now host.now ips.items)) }
+    ensures cost { steps.new ≤ steps.old + near_count me.now index.now
+        + sum_by (word_found index.now) (spec.host_words index.now me.now host.now) }
+{
+    if !is_attribute(host) {
+        let ips = word_addresses(alloc, index, host, steps)?;
+        return Ok(Some(ips));
+    }
+    let words = index.closest_counted(alloc, me, &host[1..], steps)?;
+    if words.len() == 0 {
+        return Ok(None);
+    }
+    let ips = some_addresses(alloc, index, words.as_slice(), steps)?;
+    Ok(Some(ips))
+}
+
+/// Addresses each once, those on the asker's own networks first.
+fn own_first<L: Ledger>(
+    alloc: Global,
+    index: &Index,
+    me: &[u8],
+    ips: Vec<u32>,
     steps: &mut Steps<L>,
 ) -> Result<Vec<u32>, AllocError>
-    ensures ips { IfOk result (λ ips. ips.items
-        ≡ spec.own_first me.now index.now (spec.once_each (flat_map (spec.word_addresses index.now) words.now))) }
-    ensures cost { steps.new ≤ steps.old + tuples_of me.now index.now + sum_by (word_found index.now) words.now }
+    ensures ips { IfOk result (λ sorted. sorted.items
+        ≡ spec.own_first me.now index.now (spec.once_each ips.items)) }
+    ensures cost { steps.new ≤ steps.old + tuples_of me.now index.now }
 {
-    let ips = all_addresses(alloc, index, words, steps)?;
-    if ips.len() < 2 {
-        return Ok(ips);
+    let once = once_each(alloc, ips)?;
+    if once.len() < 2 {
+        return Ok(once);
     }
     let prefixes = index.own_prefixes_counted(alloc, me, steps)?;
-    let sorted = covered_first(alloc, &prefixes, &ips)?;
+    let sorted = covered_first(alloc, &prefixes, &once)?;
     Ok(sorted)
 }
 
-/// What a host stands for, by the words that name it: any address, or theirs.
+/// What a host stands for: any address, or those of the words that name it; nothing where no word does.
 fn targets<L: Ledger>(
     alloc: Global,
     index: &Index,
     me: &[u8],
     host: &[u8],
-    words: &[Octets],
     steps: &mut Steps<L>,
-) -> Result<Vec<Target>, AllocError>
-    requires { words.now ≡ spec.host_words index.now me.now host.now }
-    ensures targets { IfOk result (λ targets. target_texts targets.items
-        ≡ spec.address_texts index.now me.now host.now) }
-    ensures cost { steps.new ≤ steps.old + tuples_of me.now index.now + host_found index.now me.now host.now }
+) -> Result<Option<Vec<Target>>, AllocError>
+    ensures targets { IfOk result (λ found. MatchOption found
+        (spec.host_words index.now me.now host.now ≡ [])
+        (λ targets. (0 < length (spec.host_words index.now me.now host.now))
+        × (target_texts targets.items ≡ spec.address_texts index.now me.now host.now))) }
+    ensures cost { steps.new ≤ steps.old + near_count me.now index.now + tuples_of me.now index.now
+        + host_found index.now me.now host.now }
 {
     if is_any(host) {
-        return Ok(vec![in alloc; Target::Any]?);
+        let any = vec![in alloc; Target::Any]?;
+        return Ok(Some(any));
     }
-    let ips = found_addresses(alloc, index, me, words, steps)?;
-    ip_targets(alloc, &ips)
+    let Some(ips) = host_addresses(alloc, index, me, host, steps)? else {
+        return Ok(None);
+    };
+    let sorted = own_first(alloc, index, me, ips, steps)?;
+    let targets = ip_targets(alloc, &sorted)?;
+    Ok(Some(targets))
 }
 
 /// The ports of a service on a net.
@@ -150,7 +151,7 @@ fn ports_of<L: Ledger>(
         return Ok(vec![in alloc; u32::from(port)]?);
     }
     let found = numbers_beside(alloc, index, proto_name(net), service, Kind::Port, steps)?;
-    once_each(alloc, &found)
+    once_each(alloc, found)
 }
 
 /// Adds the lines of a net.
@@ -172,22 +173,34 @@ fn add_lines<L: Ledger>(
     Ok(())
 }
 
-/// The lines of all nets.
+/// The lines of the nets that a query names.
 fn all_lines<L: Ledger>(
     alloc: Global,
     index: &Index,
     nets: &[Proto],
+    query: Query<'_>,
     targets: &[Target],
-    service: &[u8],
     steps: &mut Steps<L>,
 ) -> Result<Lines, AllocError>
     ensures lines { IfOk result (λ lines. lines
-        ≡ flat_map (spec.lines_of index.now service.now (target_texts targets.now)) nets.now) }
-    ensures cost { steps.new ≤ steps.old + sum_by (service_found index.now service.now) nets.now }
+        ≡ flat_map (spec.lines_of index.now query.entry.service.now (target_texts targets.now))
+        (spec.nets_of nets.now query.entry.net.now)) }
+    ensures cost { steps.new ≤ steps.old
+        + sum_by (service_found index.now query.entry.service.now) (spec.nets_of nets.now query.entry.net.now) }
 {
     let mut lines = Lines::new(alloc);
     for net in nets {
-        add_lines(alloc, index, *net, targets, service, &mut lines, steps)?;
+        if is_named(query.net, *net) {
+            add_lines(
+                alloc,
+                index,
+                *net,
+                targets,
+                query.service,
+                &mut lines,
+                steps,
+            )?;
+        }
     }
     Ok(lines)
 }
@@ -211,19 +224,16 @@ pub fn answer_counted<L: Ledger>(
     let Some(query) = read_query(query) else {
         return Err(CsError::BadQuery);
     };
-    let nets = nets_of(alloc, nets, query.net)?;
-    if nets.is_empty() {
+    if !names_some(nets, query.net) {
         return Err(CsError::NoNet);
     }
-    let words = host_words(alloc, index, me, query.host, steps)?;
-    if words.len() == 0 {
+    let Some(targets) = targets(alloc, index, me, query.host, steps)? else {
         return Err(CsError::NoValue);
-    }
-    let targets = targets(alloc, index, me, query.host, words.as_slice(), steps)?;
+    };
     if targets.is_empty() {
         return Err(CsError::NoHost);
     }
-    let lines = all_lines(alloc, index, &nets, &targets, query.service, steps)?;
+    let lines = all_lines(alloc, index, nets, query, &targets, steps)?;
     if lines.len() == 0 {
         return Err(CsError::NoService);
     }

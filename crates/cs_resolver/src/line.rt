@@ -1,11 +1,11 @@
 //! A line of an answer.
-ghost use Rattle.std.specs.Prelude.{◌≡◌, ◌++◌, OnOk, IfOk};
+ghost use Rattle.std.specs.Prelude.{◌≡◌, ◌++◌, codes, OnOk, IfOk};
 ghost use Rattle.net_base.specs.Cs as spec;
 ghost use Rattle.cs_resolver.specs.Targets.{target_text};
 
 use net_base::{Octets, Proto};
 use std::alloc::{AllocError, Global};
-use words::{proto_name, put_address, put_decimal};
+use words::{put_address, put_decimal};
 
 /// Where a line connects to.
 #[derive(Clone, Copy)]
@@ -15,6 +15,19 @@ pub enum Target {
     /// An address.
     Ip(u32),
 }
+
+/// The clone file of a net, and the blank behind it.
+fn clone_of(net: Proto) -> &'static [u8]
+    ensures { result.now ≡ codes "/net/" ++ spec.proto_name net ++ codes "/clone " }
+{
+    match net {
+        Proto::Il => b"/net/il/clone ",
+        Proto::Udp => b"/net/udp/clone ",
+    }
+}
+
+/// How long a line mostly gets: a net of three letters, twelve digits and three dots, and five digits more.
+const MOST: usize = 36;
 
 /// Adds an address as it is written.
 fn put_target(out: &mut Octets, target: Target) -> Result<(), AllocError>
@@ -30,10 +43,8 @@ fn put_target(out: &mut Octets, target: Target) -> Result<(), AllocError>
 pub fn line_of(alloc: Global, net: Proto, target: Target, port: u32) -> Result<Octets, AllocError>
     ensures { IfOk result (λ line. line ≡ spec.cs_line net (target_text target) port) }
 {
-    let mut line = Octets::new(alloc);
-    line.append(b"/net/")?;
-    line.append(proto_name(net))?;
-    line.append(b"/clone ")?;
+    let mut line = Octets::from_vec(Vec::with_capacity(alloc, MOST)?);
+    line.append(clone_of(net))?;
     put_target(&mut line, target)?;
     line.append(b"!")?;
     put_decimal(&mut line, u64::from(port))?;

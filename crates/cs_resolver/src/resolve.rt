@@ -22,7 +22,7 @@ fn ports_of(alloc: Global, db: &Db, service: &[u8], net: Proto) -> Result<Vec<u3
         return Ok(vec![in alloc; u32::from(port)]?);
     }
     let found = numbers_found(alloc, proto_name(net), service, Kind::Port, db)?;
-    once_each(alloc, &found)
+    once_each(alloc, found)
 }
 
 /// Adds the lines of a net at an address.

@@ -4,8 +4,10 @@
 mod advance;
 mod calendar;
 mod clock;
+mod crew;
 mod finishing;
 mod guest;
+mod marks;
 mod net;
 mod opening;
 mod player;

@@ -23,6 +23,7 @@ ghost use Rattle.due_moments.specs.Marks.{Covers};
 
 use crate::finishing::{books_of, gather};
 use crate::guest::Guest;
+use crate::marks::{Marks, Spot};
 use crate::opening::{NetOpened, caller_count};
 use crate::turn::{Turn, own_at, serve_at};
 use actor_machines::{Placing, WorldActor, locked};
@@ -46,6 +47,8 @@ pub struct Net<J: Naming + Placing, M: Machine> {
     pub(crate) journal: Journal<J>,
     locks: Vec<Locked<J, M>>,
     ways: WorldWays,
+    // who waits for an actor sees here whether it has had an entry
+    marks: Marks,
     pub(crate) hosts: u32,
     media: u32,
     ghost of: { IsNetOf J.world J.run.roster hosts media ways (map (λ l. l.actor) locks.items) } by { net_prop },
@@ -69,11 +72,13 @@ impl<J: Naming + Placing> Net<J, WorldActor<J>> {
         let (journal, pass, books) = opened.named::<J>(alloc)?;
         let ways = WorldWays::new(alloc, world)?;
         let locks = locks_of(alloc, world, books)?;
+        let marks = Marks::new(alloc, locks.len())?;
         let guests = guests_of(alloc, world, &journal, pass)?;
         let net = Net {
             journal,
             locks,
             ways,
+            marks,
             hosts: world.hosts.len() as u32,
             media: world.media.len() as u32,
         };
@@ -93,6 +98,31 @@ impl<J: Naming + Placing> Net<J, WorldActor<J>> {
         Some(&self.locks[number_of(self.hosts, self.media, actor)])
     }
 
+    // Where the actor's entries are counted.
+    pub(crate) fn spot_of(&self, actor: ActorName) -> Spot {
+        self.marks.spot(number_of(self.hosts, self.media, actor))
+    }
+
+    // That of a guest's first duty.
+    pub(crate) fn first_spot(&self, guest: &Guest<J>) -> Spot {
+        match guest.duties.first() {
+            Some(duty) => self.spot_of(duty.actor),
+            None => Spot::nowhere(),
+        }
+    }
+
+    // Whether the actor has had no entry since.
+    pub(crate) fn stands(&self, spot: Spot) -> bool {
+        self.marks.stands(spot)
+    }
+
+    // Counts an entry of the actor, where the turn recorded one.
+    fn count(&self, actor: ActorName, turn: &Turn) {
+        if let Turn::Recorded { .. } = turn {
+            self.marks.add(number_of(self.hosts, self.media, actor));
+        }
+    }
+
     /// The first duty of a guest is recorded.
     pub fn serve<R: Wait, G: Gate>(&self, rt: &R, gate: &G, guest: &mut Guest<J>) -> Turn
         requires owes { guest.old.owed ≢ [] }
@@ -104,18 +134,22 @@ impl<J: Naming + Placing> Net<J, WorldActor<J>> {
         no_duty_is_the_clocks();
         let actor = guest.duties.first().unwrap().actor;
         match self.lock_of(actor) {
-            Some(lock) => serve_at(
-                rt,
-                &self.journal,
-                gate,
-                &self.ways,
-                lock,
-                &mut guest.pass,
-                &mut guest.duties,
-                &mut guest.touched,
-                guest.caller,
-                guest.now,
-            ),
+            Some(lock) => {
+                let turn = serve_at(
+                    rt,
+                    &self.journal,
+                    gate,
+                    &self.ways,
+                    lock,
+                    &mut guest.pass,
+                    &mut guest.duties,
+                    &mut guest.touched,
+                    guest.caller,
+                    guest.now,
+                );
+                self.count(actor, &turn);
+                turn
+            }
             None => absent(&guest.pass, guest.caller),
         }
     }
@@ -151,19 +185,23 @@ impl<J: Naming + Placing> Net<J, WorldActor<J>> {
             with: With::Nothing,
         };
         match self.lock_of(actor) {
-            Some(lock) => own_at(
-                rt,
-                &self.journal,
-                gate,
-                &self.ways,
-                lock,
-                pass,
-                duties,
-                touched,
-                caller,
-                now,
-                work,
-            ),
+            Some(lock) => {
+                let turn = own_at(
+                    rt,
+                    &self.journal,
+                    gate,
+                    &self.ways,
+                    lock,
+                    pass,
+                    duties,
+                    touched,
+                    caller,
+                    now,
+                    work,
+                );
+                self.count(actor, &turn);
+                turn
+            }
             None => absent(pass, caller),
         }
     }
@@ -214,6 +252,23 @@ impl<J: Naming + Placing> Net<J, WorldActor<J>> {
         ensures turn { (s : AnyScript) → caller_of J.world guest.old.caller ≡ IsScript s
             → Operated J.world s.host request.now guest.old result guest.new }
     {
+        self.operate_at(rt, gate, guest, request, &mut Spot::nowhere())
+    }
+
+    // The same. The spot is then that of the actor, where the turn came so far.
+    pub(crate) fn operate_at<R: Wait, G: Gate>(
+        &self,
+        rt: &R,
+        gate: &G,
+        guest: &mut Guest<J>,
+        request: &Request,
+        spot: &mut Spot,
+    ) -> Turn
+        requires script { (s : AnyScript) × (caller_of J.world guest.old.caller ≡ IsScript s) }
+        ensures same { IsSame guest.old guest.new }
+        ensures turn { (s : AnyScript) → caller_of J.world guest.old.caller ≡ IsScript s
+            → Operated J.world s.host request.now guest.old result guest.new }
+    {
         turns_are_these();
         if guest.owes() {
             return Turn::Owes;
@@ -227,6 +282,7 @@ impl<J: Naming + Placing> Net<J, WorldActor<J>> {
         if reserve(&mut guest.fids, request).is_err() {
             return Turn::Memory;
         }
+        *spot = self.spot_of(planned.actor);
         let turn = self.own(
             rt,
             gate,
@@ -253,6 +309,7 @@ impl<J: Naming + Placing> Net<J, WorldActor<J>> {
             journal,
             locks,
             ways: _,
+            marks: _,
             hosts: _,
             media: _,
         } = self;

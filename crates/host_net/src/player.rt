@@ -11,12 +11,13 @@ ghost use Rattle.host_net.specs.Visits.{IsFresh};
 ghost use Rattle.host_net.specs.declared.player.Role.TheVariants as role;
 
 use crate::guest::Guest;
+use crate::marks::Spot;
 use crate::net::Net;
 use crate::turn::Turn;
 use actor_machines::{Placing, WorldActor};
 use guest_laws::{guests_begin, locks_keep_actors};
 use journal::Naming;
-use net_base::{Reply, World};
+use net_base::{ActorName, Reply, World};
 use outside::Gate;
 use script_task::{Task, replies_fit};
 use std::alloc::Global;
@@ -40,6 +41,8 @@ pub struct Player<J: Naming + Placing, T: Task> {
     pub(crate) task: T,
     // the task wasn't told its last reply, for want of memory
     pub(crate) lost: bool,
+    // where it waits since its last turn, if it recorded nothing
+    spot: Spot,
 }
 
 impl<J: Naming + Placing, T: Task> Model for Player<J, T> {
@@ -72,6 +75,7 @@ impl<J: Naming + Placing, T: Task> Player<J, T> {
             guest,
             task,
             lost: false,
+            spot: Spot::nowhere(),
         }
     }
 
@@ -109,6 +113,7 @@ impl<J: Naming + Placing, T: Task + Drop> Player<J, T> {
             role: _,
             task: _,
             lost: _,
+            spot: _,
         } = self;
         guest
     }
@@ -200,6 +205,14 @@ impl<J: Naming + Placing> Net<J, WorldActor<J>> {
         }
     }
 
+    // Whether it waited at its last turn and its actor has had no entry since. Then it waits still.
+    pub(crate) fn stands_still<T: Task>(&self, player: &Player<J, T>) -> bool {
+        if player.role == Role::Clock && !player.guest.owes() {
+            return true;
+        }
+        self.stands(player.spot)
+    }
+
     // The first duty.
     fn play_duty<R: Wait, G: Gate, T: Task>(
         &self,
@@ -211,6 +224,7 @@ impl<J: Naming + Placing> Net<J, WorldActor<J>> {
         ensures same { IsSamePlayer player.old player.new }
         ensures turn { PlaysOn J.world player.old result player.new }
     {
+        player.spot = self.first_spot(&player.guest);
         played_of(&self.serve(rt, gate, &mut player.guest))
     }
 
@@ -227,16 +241,37 @@ impl<J: Naming + Placing> Net<J, WorldActor<J>> {
         ensures same { IsSamePlayer player.old player.new }
         ensures turn { PlaysOn J.world player.old result player.new }
     {
+        player.spot = self.spot_of(ActorName::Medium(medium));
         played_of(&self.courier_turn(rt, gate, &mut player.guest, medium))
     }
 
-    // The next event of a script that owes nothing.
+    // The next event of a script that owes nothing. Its spot is then that of the event's actor, where it has an event.
     fn play_script<R: Wait, G: Gate, T: Task>(
         &self,
         rt: &R,
         alloc: Global,
         gate: &G,
         player: &mut Player<J, T>,
+    ) -> Played
+        requires script { player.old.role ≡ role.Script }
+        requires free { player.old.visit.owed ≡ [] }
+        ensures same { IsSamePlayer player.old player.new }
+        ensures turn { PlaysOn J.world player.old result player.new }
+    {
+        let mut spot = Spot::nowhere();
+        let played = self.play_task(rt, alloc, gate, player, &mut spot);
+        player.spot = spot;
+        played
+    }
+
+    // The same, with the spot beside the player.
+    fn play_task<R: Wait, G: Gate, T: Task>(
+        &self,
+        rt: &R,
+        alloc: Global,
+        gate: &G,
+        player: &mut Player<J, T>,
+        spot: &mut Spot,
     ) -> Played
         requires script { player.old.role ≡ role.Script }
         requires free { player.old.visit.owed ≡ [] }
@@ -253,7 +288,7 @@ impl<J: Naming + Placing> Net<J, WorldActor<J>> {
             Ok(None) => return Played::Waits,
             Err(_) => return Played::Memory,
         };
-        let turn = self.operate(rt, gate, &mut player.guest, &request);
+        let turn = self.operate_at(rt, gate, &mut player.guest, &request, spot);
         hear(&mut player.task, &mut player.lost, alloc, turn)
     }
 }

@@ -2,11 +2,12 @@
 ghost use Rattle.std.specs.Prelude.{◌≡◌, ℕ, ◌<◌, ◌++◌, [], length, true, false, None, option_map, IfOk, IfSome, OnErr, OnOk, slice_index_or};
 ghost use Rattle.std.specs.List.{list_any};
 ghost use Rattle.host_net.specs.Groups.{AreWaiting, all_members, all_seats, caller, callers_of, dealt, joined, members, no_players, seats, visits, with_last};
-ghost use Rattle.host_net.specs.Playing.{ArePlayed, IsWaiting};
+ghost use Rattle.host_net.specs.Playing.{ArePlayed, IsSamePlayer, IsWaiting};
 ghost use Rattle.host_net.specs.Visits.{HasGuest};
 ghost use Rattle.host_net.specs.declared.player.Played.TheVariants as played;
 ghost use Rattle.host_net.specs.declared.player.Role.TheVariants as role;
 
+use crate::crew::{Crew, MANY_ROUNDS};
 use crate::guest::Guest;
 use crate::net::Net;
 use crate::player::{Played, Player, Role};
@@ -15,10 +16,11 @@ use journal::Naming;
 use outside::Gate;
 use script_task::Task;
 use std::alloc::{AllocError, Global};
+use std::hint::spin_loop;
 use std::marker::Model;
 use std::sync::Wait;
 use std::thread;
-use std::thread::Threads;
+use std::thread::{Threads, yield_now};
 
 /// The players of one worker. The clock's stands by itself, in one of the groups.
 #[derive(Drop)]
@@ -215,7 +217,8 @@ impl<J: Naming + Placing> Net<J, WorldActor<J>> {
         ensures rest { list_any (λ g. g.memory) players.new.groups ≡ false
             → AreWaiting J.world (all_members players.new.groups) }
     {
-        self.play_groups(rt, alloc, gate, &mut players.groups);
+        let crew = Crew::new(players.groups.len());
+        self.play_groups(rt, alloc, gate, &crew, &mut players.groups);
     }
 
     fn play_groups<R: Threads + Wait + Sync, G: Gate + Sync, T: Task + Drop + Send>(
@@ -223,6 +226,7 @@ impl<J: Naming + Placing> Net<J, WorldActor<J>> {
         rt: &R,
         alloc: Global,
         gate: &G,
+        crew: &Crew,
         groups: &mut [Group<J, T>],
     )
     where
@@ -237,7 +241,7 @@ impl<J: Naming + Placing> Net<J, WorldActor<J>> {
             rt,
             groups,
             16,
-            &|_, group| self.play_group(rt, alloc, gate, group),
+            &|_, group| self.play_beside(rt, alloc, gate, crew, group),
         );
     }
 
@@ -253,12 +257,179 @@ impl<J: Naming + Placing> Net<J, WorldActor<J>> {
         ensures seats { seats group.new ≡ seats group.old }
         ensures rest { group.new.memory ≡ false → AreWaiting J.world (members group.new) }
     {
+        let crew = Crew::new(0);
+        self.play_beside(rt, alloc, gate, &crew, group);
+    }
+
+    // The same by a worker of a crew. It goes on as long as another may record something.
+    fn play_beside<R: Wait, G: Gate, T: Task + Drop>(
+        &self,
+        rt: &R,
+        alloc: Global,
+        gate: &G,
+        crew: &Crew,
+        group: &mut Group<J, T>,
+    )
+        ensures seats { seats group.new ≡ seats group.old }
+        ensures rest { group.new.memory ≡ false → AreWaiting J.world (members group.new) }
+    {
+        crew.begin(rt);
+        // All have a turn, since the moment may be another than that at which they waited.
+        self.play_round(rt, alloc, gate, group);
+        self.play_out(rt, alloc, gate, crew, group);
+        crew.leave(rt);
+    }
+
+    // Rounds until one of all players in which none recorded anything while all workers rest, or memory ran out.
+    fn play_out<R: Wait, G: Gate, T: Task + Drop>(
+        &self,
+        rt: &R,
+        alloc: Global,
+        gate: &G,
+        crew: &Crew,
+        group: &mut Group<J, T>,
+    )
+        ensures seats { seats group.new ≡ seats group.old }
+        ensures rest { group.new.memory ≡ false → AreWaiting J.world (members group.new) }
+    {
         for _ in rt.forever() {
+            self.play_on(rt, alloc, gate, crew, group);
             match self.play_round(rt, alloc, gate, group) {
                 Played::Recorded => {}
                 Played::Waits | Played::Memory => return,
             }
         }
+    }
+
+    // Rounds over those that may go on, with rests between, until all workers rest or memory runs out.
+    fn play_on<R: Wait, G: Gate, T: Task + Drop>(
+        &self,
+        rt: &R,
+        alloc: Global,
+        gate: &G,
+        crew: &Crew,
+        group: &mut Group<J, T>,
+    )
+        ensures seats { seats group.new ≡ seats group.old }
+    {
+        let mut rounds: u32 = 1;
+        for _ in rt.forever() {
+            match self.play_some(rt, alloc, gate, group) {
+                Played::Recorded => rounds = crew.tell(rt, rounds.saturating_add(1), MANY_ROUNDS),
+                Played::Waits => {
+                    rounds = crew.tell(rt, rounds, 1);
+                    if !self.rest(rt, crew, group) {
+                        return;
+                    }
+                }
+                Played::Memory => return,
+            }
+        }
+    }
+
+    // A turn of each that may go on.
+    fn play_some<R: Wait, G: Gate, T: Task + Drop>(
+        &self,
+        rt: &R,
+        alloc: Global,
+        gate: &G,
+        group: &mut Group<J, T>,
+    ) -> Played
+        ensures seats { seats group.new ≡ seats group.old }
+    {
+        let others = self.play_others(rt, alloc, gate, &mut group.players);
+        let clock = self.play_clock_again(rt, alloc, gate, &mut group.clock);
+        let round = both(others, clock);
+        if round == Played::Memory {
+            group.memory = true;
+        }
+        round
+    }
+
+    fn play_others<R: Wait, G: Gate, T: Task + Drop>(
+        &self,
+        rt: &R,
+        alloc: Global,
+        gate: &G,
+        players: &mut [Player<J, T>],
+    ) -> Played
+        ensures callers { callers_of players.new ≡ callers_of players.old }
+    {
+        let mut turns = Played::Waits;
+        let mut i = 0;
+        while i < players.len() {
+            turns = both(turns, self.play_again(rt, alloc, gate, &mut players[i]));
+            i += 1;
+        }
+        turns
+    }
+
+    fn play_clock_again<R: Wait, G: Gate, T: Task + Drop>(
+        &self,
+        rt: &R,
+        alloc: Global,
+        gate: &G,
+        clock: &mut Option<Player<J, T>>,
+    ) -> Played
+        ensures caller { option_map caller clock.new ≡ option_map caller clock.old }
+    {
+        match clock {
+            Some(player) => self.play_again(rt, alloc, gate, player),
+            None => Played::Waits,
+        }
+    }
+
+    // A turn, where it isn't sure that the player waits still.
+    fn play_again<R: Wait, G: Gate, T: Task>(
+        &self,
+        rt: &R,
+        alloc: Global,
+        gate: &G,
+        player: &mut Player<J, T>,
+    ) -> Played
+        ensures same { IsSamePlayer player.old player.new }
+    {
+        if self.stands_still(player) {
+            return Played::Waits;
+        }
+        self.play(rt, alloc, gate, player)
+    }
+
+    // Waits until a player may go on, or all workers rest. The answer is whether one may.
+    fn rest<R: Wait, T: Task + Drop>(&self, rt: &R, crew: &Crew, group: &Group<J, T>) -> bool {
+        for _ in rt.forever() {
+            let (changes, looks) = crew.look(rt);
+            if self.goes_on_soon(group, looks) {
+                return true;
+            }
+            if crew.rest(rt, changes) {
+                return false;
+            }
+        }
+        unreachable!()
+    }
+
+    // Whether a player may go on, by so many looks.
+    fn goes_on_soon<T: Task + Drop>(&self, group: &Group<J, T>, looks: u32) -> bool {
+        for _ in 0..looks {
+            if self.may_go_on(group) {
+                return true;
+            }
+            spin_loop();
+        }
+        false
+    }
+
+    fn may_go_on<T: Task + Drop>(&self, group: &Group<J, T>) -> bool {
+        let clock = match &group.clock {
+            Some(player) => !self.stands_still(player),
+            None => false,
+        };
+        clock
+            || group
+                .players
+                .iter()
+                .any(|player| !self.stands_still(player))
     }
 
     // A turn of each.

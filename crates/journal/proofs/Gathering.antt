@@ -1,10 +1,10 @@
 -- The history from the books.
-use Rattle.std.proofs.Common.{◌≡◌, ℕ, zero, suc, ◌+◌, ◌≢◌, ◌⊎◌, inl, inr, ⊎_elim, Bool, true, false, List, [], ◌∷◌, ◌++◌, length, map, set, replicate, Option, Some, None, if◌then◌else◌, refl, ap, sym, subst, ◌∙◌, arith, length-set}
+use Rattle.std.proofs.Common.{◌≡◌, ℕ, zero, suc, ◌+◌, ◌⊎◌, inl, inr, ⊎_elim, Bool, true, false, List, [], ◌∷◌, ◌++◌, length, map, set, take, Option, Some, None, ◌≤◌, ◌<◌, if◌then◌else◌, refl, ap, sym, subst, ◌∙◌, arith}
+use Rattle.std.specs.Prelude.{IfSome, slice_index_or}
+use Rattle.std.specs.Option.{option_to_list}
 use mathlib.Core.Option.{some, some-injective, some-ne-none}
-use mathlib.Core.Logic.{dite}
-use native.Mathlib.Decide.{ℕ_discrete}
 use lib.ListN.{get_elem?}
-use Rattle.atomic_table.proofs.Lists.{at_map, set_here, set_else}
+use Rattle.atomic_table.proofs.Lists.{at_map}
 use Rattle.net_base.specs.declared.actor.ActorName.{ActorName}
 use Rattle.net_base.specs.declared.history.Entry.{Entry}
 use Rattle.net_base.specs.declared.noted.Noted.{Noted}
@@ -20,8 +20,8 @@ use Rattle.journal.specs.Rule.{Held, Lawful, Knows, Looks}
 use Rattle.journal.specs.Tokens.{stamped, sight, Agrees, HoldsAll}
 use Rattle.std.proofs.lemmas.List.{length-map}
 use Rattle.journal.proofs.After.{all_seen}
-use Rattle.journal.specs.Closing.{plain, Taken, Gathered, IsWhole, IsCover, IsPlaced}
-use Rattle.journal.proofs.Lists.{prefix_self, prefix_trans, in-append, in-left, in-right, get_within}
+use Rattle.journal.specs.Closing.{plain, Taken, Gathered, IsWhole, IsCover, IsLeft, AreOf, AreAt}
+use Rattle.journal.proofs.Lists.{prefix_self, prefix_trans, in-append, in-left, in-right}
 use Rattle.journal.proofs.Names.{same_actor_refl}
 
 in-map : (l : List (ℕ × Noted)) (y : ℕ × Noted) → In y l → In (stamped y) (map stamped l)
@@ -117,63 +117,76 @@ covers r log v0 v books es g lists lawful actors = record {
       subst (λ (q : Entry). In record { stamp = n; entry = q } es) z.2 whole;
 }
 
-nones_long : (n : ℕ) → length (replicate {A = Option Entry} n None) ≡ n
-nones_long zero = refl
-nones_long (suc n) = let r = nones_long n in ap suc r
+-- Lists of entries.
 
-pub placed_none : (ps : List (Option Entry)) → IsPlaced [] ps ps
-placed_none ps = record { long = refl; put = λ log len stand n x h i. ⊎_elim (λ j. absurd j) (λ t. t) i }
+pub of_none : AreOf [] []
+of_none e i = absurd i
 
-pub placed_next : (es : List Stamped) (e : Stamped) (ps qs : List (Option Entry)) → IsPlaced es ps qs → IsPlaced (e ∷ es) ps (set qs e.stamp (Some e.entry))
-placed_next es e ps qs p = record {
-  long = length-set qs e.stamp (Some e.entry) ∙ p.long;
-  put = λ log len stand n x h i.
-      let mine = stand e (inl refl) in
-      dite (ℕ_discrete n e.stamp)
-      (λ (same : n ≡ e.stamp).
-      let one : e.entry ≡ x = some-injective e.entry x (sym mine ∙ (ap (get_elem? log) (sym same) ∙ h)) in
-      let within = get_within log e.entry e.stamp mine in
-      let long = p.long in
-      ap (get_elem? (set qs e.stamp (Some e.entry))) same ∙ (set_here qs e.stamp (Some e.entry) (omega arith) ∙ ap (λ (q : Entry). some (Some q)) one))
-      (λ (other : n ≢ e.stamp). set_else qs e.stamp n (Some e.entry) other ∙ p.put log len (λ f j. stand f (inr j)) n x h (rest n x other i));
-}
-  where
-    rest : (n : ℕ) (x : Entry) → n ≢ e.stamp → In record { stamp = n; entry = x } (e ∷ es) ⊎ (get_elem? ps n ≡ some (Some x)) → In record { stamp = n; entry = x } es ⊎ (get_elem? ps n ≡ some (Some x))
-    rest n x other (inl (inl s)) = absurd (other (ap (λ (z : Stamped). z.stamp) s))
-    rest n x other (inl (inr j)) = inl j
-    rest n x other (inr t) = inr t
+left_append : (e : Stamped) (ls : List (List Stamped)) (l : List Stamped) → IsLeft e (ls ++ l ∷ []) → IsLeft e ls ⊎ In e l
+left_append e [] l (inl i) = inr i
+left_append e [] l (inr i) = absurd i
+left_append e (k ∷ ls) l (inl i) = inl (inl i)
+left_append e (k ∷ ls) l (inr i) = ⊎_elim (λ j. inl (inr j)) (λ j. inr j) (left_append e ls l i)
 
-pub placed_more : (es fs : List Stamped) (ps qs rs : List (Option Entry)) → IsPlaced es ps qs → IsPlaced fs qs rs → IsPlaced (es ++ fs) ps rs
-placed_more es fs ps qs rs p q = record {
-  long = q.long ∙ p.long;
-  put = λ log len stand n x h i.
-      q.put log (len ∙ sym p.long) (λ e j. stand e (in-right e es fs j)) n x h
-      (⊎_elim
-      (λ j. ⊎_elim (λ k. inr (p.put log len (λ e l. stand e (in-left e es fs l)) n x h (inl k))) (λ k. inl k) (in-append record { stamp = n; entry = x } es fs j))
-      (λ t. inr (p.put log len (λ e l. stand e (in-left e es fs l)) n x h (inr t)))
-      i);
-}
+pub of_more : (es fs : List Stamped) (ls : List (List Stamped)) → AreOf es ls → AreOf (es ++ fs) (ls ++ fs ∷ [])
+of_more es fs ls are e i = ⊎_elim (λ j. in-left e es fs (are e j)) (λ j. in-right e es fs j) (left_append e ls fs i)
 
-same_by_get : (ps : List (Option Entry)) (log : List Entry) → length ps ≡ length log → ((n : ℕ) (x : Entry) → get_elem? log n ≡ some x → get_elem? ps n ≡ some (Some x)) → ps ≡ map Some log
-same_by_get [] [] l f = refl
-same_by_get [] (x ∷ log) l f = absurd (omega arith)
-same_by_get (p ∷ ps) [] l f = absurd (omega arith)
-same_by_get (p ∷ ps) (x ∷ log) l f =
-    let head : p ≡ Some x = some-injective p (Some x) (f 0 x refl) in
-    let rest = same_by_get ps log (omega arith) (λ n y h. f (suc n) y h) in
+module _ {A : Type 0} (f : A → List Stamped) where
+  -- a list of which the first entries are gone
+  pub kept_left : (hs : List A) (k : ℕ) (d a : A) (xs : List Stamped) → f (slice_index_or hs k d) ≡ xs ++ f a → k < length hs → (e : Stamped) → IsLeft e (map f (set hs k a)) → IsLeft e (map f hs)
+  kept_left [] k d a xs is lt e i = absurd (omega arith)
+  kept_left (h ∷ hs) zero d a xs is lt e (inl i) = inl (subst (λ (l : List Stamped). In e l) (sym is) (in-right e xs (f a) i))
+  kept_left (h ∷ hs) zero d a xs is lt e (inr i) = inr i
+  kept_left (h ∷ hs) (suc k) d a xs is lt e (inl i) = inl i
+  kept_left (h ∷ hs) (suc k) d a xs is lt e (inr i) = inr (kept_left hs k d a xs is (omega arith) e i)
+
+  -- the first entry of a list is in it
+  pub first_left : (hs : List A) (k : ℕ) (d : A) (e : Stamped) (ys : List Stamped) → f (slice_index_or hs k d) ≡ e ∷ ys → k < length hs → IsLeft e (map f hs)
+  first_left [] k d e ys is lt = absurd (omega arith)
+  first_left (h ∷ hs) zero d e ys is lt = inl (subst (λ (l : List Stamped). In e l) (sym is) (inl refl))
+  first_left (h ∷ hs) (suc k) d e ys is lt = inr (first_left hs k d e ys is (omega arith))
+
+  pub found_left : (hs : List A) (k : ℕ) (d : A) (o : Option Stamped) (ys : List Stamped) → f (slice_index_or hs k d) ≡ option_to_list o ++ ys → k < length hs → IfSome o (λ (e : Stamped). IsLeft e (map f hs))
+  found_left hs k d None ys is lt = tt
+  found_left hs k d (Some e) ys is lt = first_left hs k d e ys is lt
+
+-- one entry more of the history
+pub taken_more : (log h : List Entry) (x : Entry) → h ≡ take (length h) log → get_elem? log (length h) ≡ some x → h ++ x ∷ [] ≡ take (length (h ++ x ∷ [])) log
+taken_more [] [] x is at = absurd (some-ne-none x (sym at))
+taken_more (y ∷ log) [] x is at = ap (λ (z : Entry). z ∷ []) (sym (some-injective y x at))
+taken_more [] (z ∷ h) x is at = absurd (omega (arith, ap length is))
+taken_more (y ∷ log) (z ∷ h) x is at =
+    let head : z ≡ y = cc is in
+    let tail : h ≡ take (length h) log = cc is in
+    let rest = taken_more log h x tail at in
     λ i. head i ∷ rest i
 
-pub placed_all : (log : List Entry) (es : List Stamped) (n : ℕ) (ps : List (Option Entry)) → IsCover log es → length log ≡ n → IsPlaced es (replicate n None) ps → ps ≡ map Some log
-placed_all log es n ps c len p =
-    let long = nones_long n in
-    same_by_get ps log (p.long ∙ (long ∙ sym len)) (λ m x h. p.put log (len ∙ sym long) c.sound m x h (inl (c.all m x h)))
+-- a beginning of that length is all
+pub taken_all : (log h : List Entry) → h ≡ take (length h) log → length log ≤ length h → h ≡ log
+taken_all [] [] is le = refl
+taken_all (y ∷ log) [] is le = absurd (omega arith)
+taken_all [] (z ∷ h) is le = absurd (omega (arith, ap length is))
+taken_all (y ∷ log) (z ∷ h) is le =
+    let head : z ≡ y = cc is in
+    let tail : h ≡ take (length h) log = cc is in
+    let rest = taken_all log h tail (omega arith) in
+    λ i. head i ∷ rest i
 
--- what stands in a list of Some is Some
-pub there_is : (xs ys : List (Option Entry)) (o : Option Entry) (log : List Entry) → xs ++ o ∷ ys ≡ map Some log → (x : Entry) × (o ≡ Some x)
-there_is [] ys o [] e = absurd (omega (arith, ap length e))
-there_is [] ys o (x ∷ log) e = (x, cc e)
-there_is (p ∷ xs) ys o [] e = absurd (omega (arith, ap length e))
-there_is (p ∷ xs) ys o (x ∷ log) e = there_is xs ys o log (cc e)
+-- an empty history is a beginning of each
+pub begins : (log h : List Entry) → h ≡ [] → h ≡ take (length h) log
+begins log h none = subst (λ (l : List Entry). l ≡ take (length l) log) (sym none) refl
+
+-- the next entry of a merge, where it has the stamp that comes next
+pub merged_more : (log h h' : List Entry) (ls ks : List (List Stamped)) (e : Stamped) (n : ℕ) (x : Entry) → h ≡ take (length h) log → AreAt log ls → ((f : Stamped) → IsLeft f ks → IsLeft f ls) → IsLeft e ls
+    → e ≡ record { stamp = n; entry = x } → n ≡ length h → h' ≡ h ++ x ∷ [] → (h' ≡ take (length h') log) × AreAt log ks
+merged_more log h h' ls ks e n x is at rest there own next pushed =
+    let here : get_elem? log n ≡ some x = subst (λ (f : Stamped). get_elem? log f.stamp ≡ some f.entry) own (at e there) in (
+      subst (λ (l : List Entry). l ≡ take (length l) log) (sym pushed) (taken_more log h x is (subst (λ (m : ℕ). get_elem? log m ≡ some x) next here)),
+      λ f i. at f (rest f i),
+    )
+
+pub at_stamps : (log : List Entry) (es : List Stamped) (ls : List (List Stamped)) → IsCover log es → AreOf es ls → AreAt log ls
+at_stamps log es ls c are e i = c.sound e (are e i)
 
 -- the entries of a number, with and without their works
 plain_from : (k : Number) (n : ℕ) (log : List Noted) → entries_from k n (map (λ (x : Noted). x.entry) log) ≡ map plain (at_from k n log)
@@ -186,28 +199,18 @@ plain_from k n (x ∷ log) = next (matches k x) (plain_from k (n + 1) log)
     next true e = ap (λ (l : List (ℕ × Entry)). (n, x.entry) ∷ l) e
     next false e = e
 
-pub somes : (xs ys : List Entry) → map Some xs ≡ map Some ys → xs ≡ ys
-somes [] [] e = refl
-somes [] (y ∷ ys) e = absurd (omega (arith, ap length e))
-somes (x ∷ xs) [] e = absurd (omega (arith, ap length e))
-somes (x ∷ xs) (y ∷ ys) e =
-    let heads : Some x ≡ Some y = cc e in
-    let tails : map Some xs ≡ map Some ys = cc e in
-    let head : x ≡ y = cc heads in
-    let rest = somes xs ys tails in
-    λ i. head i ∷ rest i
-
--- at the end the history is what the pass has seen, and all places are filled with it
-pub closes : (r : Roster) (v w0 w : View) (n : ℕ) (books : List Volume) (es : List Stamped) (log : List Noted) (ps : List (Option Entry)) → Agrees v → Looks r v n w0 → Gathered w0 books w es → Knows r log w → Lawful r log
-    → HoldsAll r (sight v) → map (λ (b : Volume). b.actor) books ≡ r.actors → IsPlaced es (replicate n None) ps → (log ≡ v.seen) × (ps ≡ map Some (map (λ (z : Noted). z.entry) log))
-closes r v w0 w n books es log ps agrees d g known lawful holds actors placed =
+-- at the end the history is what the pass has seen, and the lists have its entries
+pub closes : (r : Roster) (v w0 w : View) (n : ℕ) (books : List Volume) (es : List Stamped) (log : List Noted) (ls : List (List Stamped)) → Agrees v → Looks r v n w0 → Gathered w0 books w es
+    → Knows r log w → Lawful r log → HoldsAll r (sight v) → map (λ (b : Volume). b.actor) books ≡ r.actors → AreOf es ls
+    → (log ≡ v.seen) × (length (map (λ (z : Noted). z.entry) log) ≡ n) × AreAt (map (λ (z : Noted). z.entry) log) ls
+closes r v w0 w n books es log ls agrees d g known lawful holds actors are =
     let lists : (k : Number) (l : List (ℕ × Noted)) → In (k, l) w.held → l ≡ at k log = λ k l i. (known.lists k l i).1.0 in
     let stays : (k : Number) (l : List (ℕ × Noted)) → In (k, l) v.held → In (k, l) w0.held = λ k l i. subst (λ (hs : List Held). In (k, l) hs) (sym d.held) i in
     let there : log ≡ v.seen = all_seen r v log agrees lawful (prefix_trans v.seen w0.seen log d.before (prefix_trans w0.seen w.seen log g.before known.seen)) (λ k l i. sym (lists k l (g.kept k l (stays k l i)))) holds in
     let before : w0.seen ≡ v.seen = all_seen r v w0.seen agrees d.lawful d.before (λ k l i. d.lists k l (stays k l i)) holds in
     let cover = covers r log w0 w books es g lists lawful actors in
     let long : length (map (λ (z : Noted). z.entry) log) ≡ n = length-map log (λ (z : Noted). z.entry) ∙ (ap length (there ∙ sym before) ∙ d.front) in
-    (there, placed_all (map (λ (z : Noted). z.entry) log) es n ps cover long placed)
+    (there, long, at_stamps (map (λ (z : Noted). z.entry) log) es ls cover are)
 
 -- put together at the answer
 pub whole : (r : Roster) (p : Sight) (books : List Volume) (h : List Entry) (log : List Noted) → log ≡ p.seen → h ≡ map (λ (z : Noted). z.entry) log

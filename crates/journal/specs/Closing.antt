@@ -1,5 +1,5 @@
 -- What the whole history says of the pass and the books that it was made from.
-use Rattle.std.specs.Prelude.{◌≡◌, ℕ, ◌⊎◌, List, length, map, Option, Some}
+use Rattle.std.specs.Prelude.{◌≡◌, ℕ, ◌⊎◌, List, [], ◌∷◌, map}
 use mathlib.Core.Option.{some}
 use mathlib.Core.List.{IsPrefix}
 use lib.ListN.{get_elem?}
@@ -50,12 +50,15 @@ pub record IsCover (log : List Entry) (entries : List Stamped) : Type 0 where
   pub sound : (e : Stamped) → In e entries → get_elem? log e.stamp ≡ some e.entry
   pub all : (n : ℕ) (x : Entry) → get_elem? log n ≡ some x → In record { stamp = n; entry = x } entries
 
--- where a list of that length has these entries at their stamps, they are put in their places, and what was in its place
--- stays
-pub record IsPlaced (entries : List Stamped) (before after : List (Option Entry)) : Type 0 where
-  pub long : length after ≡ length before
-  pub put : (log : List Entry) → length log ≡ length before →
-      ((e : Stamped) → In e entries → get_elem? log e.stamp ≡ some e.entry) →
-      (n : ℕ) (x : Entry) → get_elem? log n ≡ some x →
-      In record { stamp = n; entry = x } entries ⊎ (get_elem? before n ≡ some (Some x)) →
-      get_elem? after n ≡ some (Some x)
+-- the entry is in one of these lists
+abbrev pub IsLeft : Stamped → List (List Stamped) → Type 0
+IsLeft e [] = ⊥
+IsLeft e (l ∷ ls) = In e l ⊎ IsLeft e ls
+
+-- these lists have none but those entries
+abbrev pub AreOf : List Stamped → List (List Stamped) → Type 0
+AreOf es ls = (e : Stamped) → IsLeft e ls → In e es
+
+-- what is in these lists stands at its stamp
+abbrev pub AreAt : List Entry → List (List Stamped) → Type 0
+AreAt log ls = (e : Stamped) → IsLeft e ls → get_elem? log e.stamp ≡ some e.entry

@@ -1,16 +1,18 @@
 // The end: the history from the books.
-ghost use Rattle.std.specs.Prelude.{◌≡◌, ◌≤◌, List, [], map, length, vec_capacity, replicate, slice_set, Some, None, IfOk};
+ghost use Rattle.std.specs.Prelude.{◌≡◌, ◌++◌, List, [], ◌∷◌, map, length, IfOk, IfSome, OnOk};
+ghost use Rattle.std.specs.Vec.Iter.{into_iter_items};
 ghost use Rattle.net_base.specs.declared.history.Entry.{Entry};
 ghost use Rattle.journal.specs.declared.tokens.Stamped.{Stamped};
 ghost use Rattle.journal.specs.Rule.{IsSeat};
 ghost use Rattle.journal.specs.Tokens.{HoldsAll, stamped};
-ghost use Rattle.journal.specs.Closing.{Taken, Gathered, IsPlaced, IsWhole};
+ghost use Rattle.journal.specs.Closing.{Taken, Gathered, IsWhole, IsLeft, AreOf, AreAt};
 
 use crate::law::Naming;
 use crate::tokens::{Book, Pass, Stamped};
 use crate::word::{Journal, Token};
 use net_base::{Entry, History};
 use std::alloc::{AllocError, Global};
+use std::vec::IntoIter;
 
 impl<J: Naming> Journal<J> {
     /// The whole history by stamp. It needs the pass of all callers and the books of all actors, in their order.
@@ -30,33 +32,51 @@ impl<J: Naming> Journal<J> {
             of: _,
         } = pass;
         let count = self.watch(&mut all) as usize;
-        let mut places = nothing(alloc, count)?;
+        let mut order = zeros(alloc, count)?;
+        let mut lists = Vec::with_capacity(alloc, books.len())?;
         let mut history = Vec::with_capacity(alloc, count)?;
-        self.gather(&mut all, books, &mut places);
+        self.gather(&mut all, books, &mut order, &mut lists)?;
         let Journal { table, of: _ } = self;
         table.close_with(all).free();
-        in_order(places, &mut history);
+        merge(lists, &order, &mut history)?;
         Ok(History::from_vec(history))
     }
 
-    // Puts the entries of all books at their stamps, and takes the books' seats in.
-    fn gather(&self, all: &mut Token, mut books: Vec<Book<J>>, places: &mut Vec<Option<Entry>>)
-        requires { IsSeat J.run.table all.old }
+    // Takes the books' seats in. Their entries are in the lists, and the order has at each stamp the place of its list.
+    fn gather(
+        &self,
+        all: &mut Token,
+        mut books: Vec<Book<J>>,
+        order: &mut Vec<usize>,
+        lists: &mut Vec<IntoIter<Stamped, Global>>,
+    ) -> Result<(), AllocError>
+        requires seat { IsSeat J.run.table all.old }
+        requires none { lists.old.items ≡ [] }
         ensures seat { IsSeat J.run.table all.new }
-        ensures gathered { (es : List Stamped) × Gathered all.old.me.0 books.items all.new.me.0 es
-            × IsPlaced es places.old.items places.new.items }
+        ensures long { length order.new.items ≡ length order.old.items }
+        ensures gathered { OnOk result ((es : List Stamped) × Gathered all.old.me.0 books.items all.new.me.0 es
+            × AreOf es (map into_iter_items lists.new.items)) }
     {
         while let Some(book) = books.pop() {
-            self.gather_one(all, book, places);
+            self.gather_one(all, book, order, lists)?;
         }
+        Ok(())
     }
 
     // The same for one book.
-    fn gather_one(&self, all: &mut Token, book: Book<J>, places: &mut Vec<Option<Entry>>)
+    fn gather_one(
+        &self,
+        all: &mut Token,
+        book: Book<J>,
+        order: &mut Vec<usize>,
+        lists: &mut Vec<IntoIter<Stamped, Global>>,
+    ) -> Result<(), AllocError>
         requires { IsSeat J.run.table all.old }
         ensures seat { IsSeat J.run.table all.new }
-        ensures taken { Taken all.old.me.0 book all.new.me.0 }
-        ensures placed { IsPlaced (map stamped book.list) places.old.items places.new.items }
+        ensures long { length order.new.items ≡ length order.old.items }
+        ensures taken { OnOk result (Taken all.old.me.0 book all.new.me.0) }
+        ensures list { OnOk result (map into_iter_items lists.new.items
+            ≡ map into_iter_items lists.old.items ++ map stamped book.list ∷ []) }
     {
         let Book {
             badge,
@@ -67,53 +87,71 @@ impl<J: Naming> Journal<J> {
         } = book;
         self.take_in(all, badge.into_seat());
         self.watch(all);
-        put_all(entries, places);
+        note(&entries, lists.len(), order);
+        Ok(lists.push(entries.into_iter())?)
     }
 }
 
-// Puts the entries at their stamps.
-fn put_all(mut entries: Vec<Stamped>, places: &mut Vec<Option<Entry>>)
-    ensures { IsPlaced entries.items places.old.items places.new.items }
+// Notes the place of the list at each of its stamps.
+fn note(entries: &[Stamped], place: usize, order: &mut Vec<usize>)
+    ensures { length order.new.items ≡ length order.old.items }
 {
-    while let Some(next) = entries.pop() {
-        put(next, places);
+    for entry in entries {
+        let stamp = entry.stamp as usize;
+        if stamp < order.len() {
+            order[stamp] = place;
+        }
     }
 }
 
-// Puts an entry at its stamp.
-fn put(next: Stamped, places: &mut Vec<Option<Entry>>)
-    ensures { places.new.items ≡ slice_set places.old.items next.stamp (Some next.entry) }
-{
-    let Stamped { stamp, entry } = next;
-    let stamp = stamp as usize;
-    if stamp < places.len() {
-        places[stamp] = Some(entry);
-    }
-}
-
-// What is in the places, in their order.
-fn in_order(mut places: Vec<Option<Entry>>, history: &mut Vec<Entry>)
+// The entries of all lists by stamp, where the order has at each stamp the place of its list.
+fn merge(
+    mut lists: Vec<IntoIter<Stamped, Global>>,
+    order: &[usize],
+    history: &mut Vec<Entry>,
+) -> Result<(), AllocError>
     requires empty { history.old.items ≡ [] }
-    requires room { length places.items ≤ vec_capacity history.old }
-    requires full { (log : List Entry) × (places.items ≡ map Some log) }
-    ensures { (log : List Entry) → places.items ≡ map Some log → history.new.items ≡ log }
+    ensures { OnOk result ((log : List Entry) → length log ≡ length order.now
+        → AreAt log (map into_iter_items lists.items) → history.new.items ≡ log) }
 {
-    while let Some(place) = places.pop() {
-        let Some(entry) = place else { unreachable!() };
-        history.push_reserved(entry);
+    while history.len() < order.len() {
+        let stamp = history.len();
+        let Some(next) = next_of(&mut lists, order[stamp]) else {
+            return Err(AllocError);
+        };
+        history.push(entry_of(next, stamp)?)?;
     }
-    history.reverse();
+    Ok(())
 }
 
-// So many empty places.
-fn nothing(alloc: Global, count: usize) -> Result<Vec<Option<Entry>>, AllocError>
-    ensures { IfOk result (λ v. v.items ≡ replicate count None) }
+// The first entry that is left in the list of this place.
+fn next_of(lists: &mut Vec<IntoIter<Stamped, Global>>, place: usize) -> Option<Stamped>
+    ensures rest { (e : Stamped) → IsLeft e (map into_iter_items lists.new.items)
+        → IsLeft e (map into_iter_items lists.old.items) }
+    ensures found { IfSome result (λ e. IsLeft e (map into_iter_items lists.old.items)) }
 {
-    let mut places = Vec::with_capacity(alloc, count)?;
-    let mut i = 0;
-    while i < count {
-        places.push(None)?;
-        i += 1;
+    if place >= lists.len() {
+        return None;
     }
-    Ok(places)
+    lists[place].next()
+}
+
+// The entry, which always has this stamp: that is seen here.
+fn entry_of(next: Stamped, stamp: usize) -> Result<Entry, AllocError>
+    ensures { IfOk result (λ x. next ≡ record { stamp = stamp; entry = x }) }
+{
+    let Stamped { stamp: own, entry } = next;
+    if own != stamp as u64 {
+        return Err(AllocError);
+    }
+    Ok(entry)
+}
+
+// So many zeros.
+fn zeros(alloc: Global, count: usize) -> Result<Vec<usize>, AllocError>
+    ensures { IfOk result (λ v. length v.items ≡ count) }
+{
+    let mut zeros = Vec::new(alloc);
+    zeros.resize(count, 0)?;
+    Ok(zeros)
 }

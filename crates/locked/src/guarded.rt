@@ -8,7 +8,7 @@ ghost use Rattle.locked.specs.Acts.{Acted, Leaves, Stands, state_at, made, witho
 
 use crate::machine::Machine;
 use journal::{Book, Journal, Naming, Pass};
-use net_base::{ActorName, Entry, Outcome, Work};
+use net_base::{ActorName, Entry, Event, Outcome, Work};
 use outside::Gate;
 use std::alloc::AllocError;
 use std::marker::Model;
@@ -64,7 +64,7 @@ impl<J: Naming, M: Machine> Guarded<J, M> {
         self.book.actor()
     }
 
-    /// One event at the actor by the caller. The gate is called before the record.
+    /// One event at the actor by the caller, with a copy of it that the entry keeps. The gate is called before the record.
     pub fn act<G: Gate>(
         &mut self,
         journal: &Journal<J>,
@@ -73,8 +73,10 @@ impl<J: Naming, M: Machine> Guarded<J, M> {
         caller: u32,
         now: u64,
         work: &Work,
+        event: Event,
         cites: Option<u64>,
     ) -> Answer
+        requires copy { event ≡ work.now.event }
         requires room { (es : List (ℕ × Noted)) × Holds pass.old caller es × (length es < 131072) }
         requires moment { now ≡ moment pass.old.seen }
         requires now { now < 2 ^ 63 }
@@ -88,7 +90,15 @@ impl<J: Naming, M: Machine> Guarded<J, M> {
             let front = journal.look_with(&mut self.book, pass);
             return Answer::NotReady { front };
         }
-        match prepare(&mut self.machine, &mut self.book, caller, now, work, cites) {
+        match prepare(
+            &mut self.machine,
+            &mut self.book,
+            caller,
+            now,
+            work,
+            event,
+            cites,
+        ) {
             Ok((entry, outcome)) => {
                 gate.at(2 * self.book.number());
                 let stamp = journal.record(&mut self.book, pass, entry, work);
@@ -107,8 +117,10 @@ impl<J: Naming, M: Machine> Guarded<J, M> {
         caller: u32,
         now: u64,
         work: &Work,
+        event: Event,
         cites: Option<u64>,
     ) -> Answer
+        requires copy { event ≡ work.now.event }
         requires room { (es : List (ℕ × Noted)) × Holds pass.old caller es × (length es < 131072) }
         requires moment { now ≡ moment pass.old.seen }
         requires now { now < 2 ^ 63 }
@@ -122,7 +134,15 @@ impl<J: Naming, M: Machine> Guarded<J, M> {
             let front = journal.look_with(&mut self.book, pass);
             return Answer::NotReady { front };
         }
-        match prepare(&mut self.machine, &mut self.book, caller, now, work, cites) {
+        match prepare(
+            &mut self.machine,
+            &mut self.book,
+            caller,
+            now,
+            work,
+            event,
+            cites,
+        ) {
             Ok((entry, outcome)) => {
                 gate.at(2 * self.book.number());
                 let stamp = journal.record_clock(&mut self.book, pass, entry, work);
@@ -178,8 +198,10 @@ fn prepare<J: Naming, M: Machine>(
     caller: u32,
     now: u64,
     work: &Work,
+    event: Event,
     cites: Option<u64>,
 ) -> Result<(Entry, Outcome), AllocError>
+    requires copy { event ≡ work.now.event }
     requires stands { Stands M.begin M.answer machine.old book.old }
     requires ready { is_some (M.answer machine.old now work.now) ≡ true }
     requires now { now < 2 ^ 63 }
@@ -190,7 +212,6 @@ fn prepare<J: Naming, M: Machine>(
         × (r.1 ≡ without_copy o) × (r.0 ≡ (made book.old.actor caller now work.now cites o).entry)) }
     ensures err { OnErr result (machine.new ≡ machine.old) }
 {
-    let event = work.event.clone()?;
     book.reserve()?;
     let Outcome {
         reply,

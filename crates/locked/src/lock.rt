@@ -11,7 +11,11 @@ use crate::machine::Machine;
 use journal::{Book, Journal, Naming, Pass};
 use net_base::{ActorName, Work, same_actor};
 use outside::Gate;
-use std::sync::{Mutex, Wait};
+use std::hint::spin_loop;
+use std::sync::{Mutex, MutexGuard, Wait};
+
+/// How often a lock that is held is looked at before its thread sleeps.
+const MOST_LOOKS: u32 = 200;
 
 /// An actor behind its lock.
 #[derive(Drop)]
@@ -63,12 +67,16 @@ impl<J: Naming, M: Machine> Locked<J, M> {
         ensures { Acted M.begin M.answer J.run.roster self.now.actor caller now work.now cites
             pass.old result pass.new }
     {
+        // The copy that the entry keeps is made before the lock is taken.
+        let Ok(event) = work.event.clone() else {
+            return Answer::Memory;
+        };
         let answer = {
-            let mut guard = self.guarded.lock(rt);
+            let mut guard = self.take(rt);
             let guarded = &mut *guard;
             // Nothing is known of what lies behind a lock but its type, so the actor is compared here. It is always this one.
             if same_actor(guarded.actor(), self.actor) {
-                guarded.act(journal, gate, pass, caller, now, work, cites)
+                guarded.act(journal, gate, pass, caller, now, work, event, cites)
             } else {
                 Answer::Memory
             }
@@ -96,17 +104,32 @@ impl<J: Naming, M: Machine> Locked<J, M> {
         ensures { Acted M.begin M.answer J.run.roster self.now.actor caller now work.now cites
             pass.old result pass.new }
     {
+        // The copy that the entry keeps is made before the lock is taken.
+        let Ok(event) = work.event.clone() else {
+            return Answer::Memory;
+        };
         let answer = {
-            let mut guard = self.guarded.lock(rt);
+            let mut guard = self.take(rt);
             let guarded = &mut *guard;
             if same_actor(guarded.actor(), self.actor) {
-                guarded.act_clock(journal, gate, pass, caller, now, work, cites)
+                guarded.act_clock(journal, gate, pass, caller, now, work, event, cites)
             } else {
                 Answer::Memory
             }
         };
         self.leave(gate, &answer);
         answer
+    }
+
+    // The lock. It is held for one step of the actor, so that a thread that sleeps for it mostly loses more than it waits.
+    fn take<R: Wait>(&self, rt: &R) -> MutexGuard<'_, Guarded<J, M>> {
+        for _ in 0..MOST_LOOKS {
+            if let Some(guard) = self.guarded.try_lock() {
+                return guard;
+            }
+            spin_loop();
+        }
+        self.guarded.lock(rt)
     }
 
     // Says to the gate that the lock is released, where an entry was recorded.
@@ -133,7 +156,7 @@ impl<J: Naming, M: Machine> Locked<J, M> {
     {
         // The first round ends it, since the lock has this actor.
         for _ in rt.forever() {
-            let mut guard = self.guarded.lock(rt);
+            let mut guard = self.take(rt);
             let guarded = &mut *guard;
             if same_actor(guarded.actor(), self.actor) {
                 return guarded.view(journal, pass, now, work);

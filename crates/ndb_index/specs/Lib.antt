@@ -2,6 +2,7 @@ pub use Rattle.net_base.specs.Networks
 pub use Rattle.net_base.specs.Search
 pub use Rattle.ndb_tuple.specs.Places
 pub use Rattle.ndb_tuple.specs.Prefixes
+pub mod Hashing
 pub mod Index
 pub mod Keys
 pub mod Kept

@@ -15,6 +15,7 @@ use ndb_reader::{Steps, Tuples};
 use ndb_tuple::{Places, add_beside};
 use net_base::{Db, Lines, Tuple};
 use std::alloc::{AllocError, Global};
+use std::hash::BuildHasherDefault;
 use std::marker::{Brand, Model};
 use std::sync::ledger::{Blank, Ledger};
 
@@ -49,7 +50,8 @@ const TUPLES: usize = 16384;
 fn pairs_of(alloc: Global, db: &Db) -> Result<Pairs, AllocError>
     ensures { IfOk result (λ pairs. HasSpots db.now pairs.entries) }
 {
-    let mut pairs = IndexMap::with_capacity(alloc, db.len().min(TUPLES) * PAIRS)?;
+    let room = db.len().min(TUPLES) * PAIRS;
+    let mut pairs = IndexMap::with_capacity_and_hasher(alloc, room, BuildHasherDefault::new())?;
     for (place, tuple) in db.as_slice().iter().enumerate() {
         pairs::add_tuple(alloc, &mut pairs, tuple, place as u64)?;
     }

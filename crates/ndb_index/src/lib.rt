@@ -1,6 +1,7 @@
 //! An index of a network database: searches that look at few of its tuples, with a bound on how many.
 #![tactic(auto)]
 
+mod hasher;
 mod index;
 mod key;
 mod near;

@@ -3,15 +3,17 @@ ghost use Rattle.std.specs.Prelude.{◌≡◌, ℕ, List, OnOk};
 ghost use Rattle.net_base.specs.Search.{is_pair, line_has};
 ghost use Rattle.ndb_index.specs.Kept as spec;
 
+use crate::hasher::ShortHasher;
 use crate::key::{Asked, Key};
 use crate::spot::Spot;
 use crate::spots::Spots;
 use indexmap::IndexMap;
 use net_base::{Line, NdbPair, Tuple};
 use std::alloc::{AllocError, Global};
+use std::hash::BuildHasherDefault;
 
 /// The spots of each pair.
-pub type Pairs = IndexMap<Key, Spots>;
+pub type Pairs = IndexMap<Key, Spots, BuildHasherDefault<ShortHasher>>;
 
 /// The spots of a pair.
 pub fn spots_of<'a>(pairs: &'a Pairs, attr: &[u8], value: &[u8]) -> &'a [Spot]

@@ -22,13 +22,12 @@ fn chooses(tuple: &Tuple) -> bool
     tuple.as_slice().iter().any(|line| has_database(line))
 }
 
-/// Whether a line has the attribute `database`.
+/// Whether a line has the attribute `database`, which has eight bytes.
 fn has_database(line: &Line) -> bool
     ensures { result ≡ list_any (λ pair. bytes_eq pair.attr (codes "database")) line.now }
 {
-    line.as_slice()
-        .iter()
-        .any(|pair| pair.attr.as_slice() == b"database".as_slice())
+    line.as_slice().iter().any(|pair| pair.attr.len() == 8
+        && pair.attr.as_slice() == b"database".as_slice())
 }
 
 /// Adds the names of files on a line to those so far, each once.

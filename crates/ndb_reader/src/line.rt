@@ -1,8 +1,9 @@
 //! A line of a text: its pairs, or the least cause for which it is bad.
-ghost use Rattle.std.specs.Prelude.{◌≡◌, ℕ, not, ◌&&◌, MatchOption, true, false, None, IfOk, IfErr};
+ghost use Rattle.std.specs.Prelude.{◌≡◌, ℕ, not, ◌&&◌, MatchOption, true, false, codes, None, IfOk, IfErr};
 ghost use Rattle.std.specs.List.{list_any};
 ghost use Rattle.std.specs.Option.{option_map};
 ghost use Rattle.net_base.specs.NdbText as spec;
+ghost use Rattle.net_base.specs.NdbText.{begins_with};
 ghost use Rattle.net_base.specs.NdbBundle.{causes_of, is_file_line, file_name, least};
 ghost use Rattle.ndb_reader.specs.Told.{Tells, AreWords};
 
@@ -31,7 +32,7 @@ pub(crate) fn begun_file(line: &[u8]) -> Option<&[u8]>
         (is_file_line line.now ≡ false)
         (λ name. (is_file_line line.now ≡ true) × (name.now ≡ file_name line.now)) }
 {
-    if !line.starts_with(b"%file ") {
+    if !is_headed(line) {
         return None;
     }
     let name = &line[6..];
@@ -41,6 +42,13 @@ pub(crate) fn begun_file(line: &[u8]) -> Option<&[u8]>
     Some(name)
 }
 
+/// Whether a line begins as one that begins a file. Few lines have even its first byte.
+fn is_headed(line: &[u8]) -> bool
+    ensures { result ≡ begins_with (codes "%file ") line.now }
+{
+    is_percent(line) && line.starts_with(b"%file ")
+}
+
 /// Whether there is white space among bytes.
 fn has_white(bytes: &[u8]) -> bool
     ensures { result ≡ list_any spec.is_white bytes.now }
@@ -48,19 +56,22 @@ fn has_white(bytes: &[u8]) -> bool
     bytes.iter().any(|byte| is_white(*byte))
 }
 
-/// The pairs of the line with this number, in a file that has a tuple before it or has none.
+/// The pairs of the line with this number, in a file that has a tuple before it or has none, of a text that has
+/// zero bytes or has none.
 pub(crate) fn read_line(
     alloc: Global,
     line: &[u8],
     number: u64,
     has_tuple: bool,
+    zeros: bool,
 ) -> Result<Vec<NdbPair>, NdbError>
+    requires { list_any spec.is_zero line.now ≡ true → zeros ≡ true }
     ensures good { IfOk result (λ pairs. least (causes_of has_tuple line.now) ≡ None) }
     ensures pairs { IfOk result (λ pairs. pairs.items ≡ spec.pairs_of line.now) }
     ensures bad { IfErr result (λ e. Tells e (option_map (λ (c : ℕ). (number, c)) (least (causes_of has_tuple line.now)))) }
 {
     let words = words_of(alloc, line)?;
-    match least_cause(line, &words, has_tuple) {
+    match least_cause(line, &words, has_tuple, zeros) {
         Some(cause) => Err(NdbError::Bad {
             line: number,
             cause,
@@ -80,8 +91,9 @@ fn words_of(alloc: Global, line: &[u8]) -> Result<Words, AllocError>
 }
 
 /// The least cause for which a line with these words is bad.
-fn least_cause(line: &[u8], words: &Words, has_tuple: bool) -> Option<u32>
-    requires { AreWords words.now (spec.words_of line.now) }
+fn least_cause(line: &[u8], words: &Words, has_tuple: bool, zeros: bool) -> Option<u32>
+    requires words { AreWords words.now (spec.words_of line.now) }
+    requires zeros { list_any spec.is_zero line.now ≡ true → zeros ≡ true }
     ensures { result ≡ least (causes_of has_tuple line.now) }
 {
     if goes_on_alone(line, words, has_tuple) {
@@ -92,7 +104,7 @@ fn least_cause(line: &[u8], words: &Words, has_tuple: bool) -> Option<u32>
         Some(3)
     } else if words.followed {
         Some(4)
-    } else if line.contains(&0) {
+    } else if is_zeroed(line, zeros) {
         Some(5)
     } else if is_directive(line) {
         Some(6)
@@ -113,6 +125,21 @@ fn is_directive(line: &[u8]) -> bool
     ensures { result ≡ (spec.begins spec.is_percent line.now && not (is_file_line line.now)) }
 {
     is_percent(line) && begun_file(line).is_none()
+}
+
+/// Whether there is a zero byte among bytes.
+pub(crate) fn has_zero(bytes: &[u8]) -> bool
+    ensures { result ≡ list_any spec.is_zero bytes.now }
+{
+    bytes.contains(&0)
+}
+
+/// The same of a line, of a text that has zero bytes or has none: mostly the text was looked through once for all lines.
+fn is_zeroed(line: &[u8], zeros: bool) -> bool
+    requires { list_any spec.is_zero line.now ≡ true → zeros ≡ true }
+    ensures { result ≡ list_any spec.is_zero line.now }
+{
+    zeros && has_zero(line)
 }
 
 fn is_percent(line: &[u8]) -> bool

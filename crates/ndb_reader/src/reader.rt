@@ -8,7 +8,7 @@ ghost use Rattle.ndb_reader.specs.Told.{Tells};
 use crate::choice::choose;
 use crate::fault::NdbError;
 use crate::files::Files;
-use crate::line::{begun_file, is_blank, is_indented, read_line};
+use crate::line::{begun_file, has_zero, is_blank, is_indented, read_line};
 use net_base::Db;
 use std::alloc::Global;
 
@@ -20,10 +20,11 @@ pub fn read_ndb(alloc: Global, bytes: &[u8]) -> Result<Db, NdbError>
     ensures bad { IfErr result (λ e. Tells e (bad_line bytes.now)) }
 {
     let mut files = Files::new(alloc)?;
+    let zeros = has_zero(bytes);
     let mut number: u64 = 0;
     for line in bytes.split(|byte| *byte == b'\n') {
         number += 1;
-        let pairs = read_line(alloc, line, number, !files.is_empty())?;
+        let pairs = read_line(alloc, line, number, !files.is_empty(), zeros)?;
         if let Some(name) = begun_file(line) {
             files.begin(alloc, name)?;
             continue;

@@ -6,11 +6,11 @@ ghost use Rattle.net_base.specs.Networks.{tuple_names};
 
 use net_base::{Line, NdbPair, Tuple};
 
-/// Whether the pair has this attribute.
+/// Whether the pair has this attribute. Most attributes differ in length.
 pub fn has_attr(attr: &[u8], pair: &NdbPair) -> bool
     ensures { result ≡ spec.has_attr attr.now pair.now }
 {
-    pair.attr.as_slice() == attr
+    pair.attr.len() == attr.len() && pair.attr.as_slice() == attr
 }
 
 /// Whether the pair has this attribute and this value.

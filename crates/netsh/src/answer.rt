@@ -8,6 +8,7 @@ ghost use Rattle.net_base.specs.Net.{after};
 ghost use Rattle.net_base.specs.Calm.{done};
 ghost use Rattle.net_base.specs.Summary.{summary};
 ghost use Rattle.net_base.specs.Summary.{all_steps as spec_steps};
+ghost use Rattle.net_base.specs.Transcript.{history_text};
 ghost use Rattle.net_base.specs.World.{IsWorld};
 ghost use Rattle.netsh.specs.Built.{IsRun, IsSummed};
 ghost use Rattle.netsh.specs.Runs.{status_of};
@@ -20,7 +21,8 @@ use net_model::{histories_grow, legal_histories_are_plain, legal_histories_keep_
 use plain_runner::{RunEnd, summary_of};
 use std::alloc::{AllocError, Global};
 use std::marker::Model;
-use transcript::{End, RunStatus, printed_runs_tell, summary_by, text_of};
+use std::thread::Threads;
+use transcript::{End, RunStatus, printed_runs_tell, summary_by, text_by};
 
 /// The words give no command.
 pub const USAGE: &str = "! usage\n";
@@ -102,8 +104,14 @@ impl Answer {
         Answer { status: 0, text }
     }
 
-    /// The text of a run: its history with its summary.
-    pub fn run(alloc: Global, world: &World, run: &Run) -> Result<Answer, AllocError>
+    /// The text of a run: its history, made by so many workers, with its summary.
+    pub fn run<R: Threads + Sync>(
+        rt: &R,
+        alloc: Global,
+        workers: u32,
+        world: &World,
+        run: &Run,
+    ) -> Result<Answer, AllocError>
         requires world { IsWorld world.now }
         requires legal { IsLegal world.now run.now.history }
         requires timed { IsTimed world.now run.now.history }
@@ -111,7 +119,8 @@ impl Answer {
         ensures { IfOk result (λ answer. IsRun world.now answer) }
     {
         let lines = summary_of_run(alloc, world, run)?;
-        Answer::of_history(alloc, world, &run.history, &lines, run.end)
+        let text = text_by(rt, alloc, workers, &run.history)?;
+        Answer::of_history(world, &run.history, text, &lines, run.end)
     }
 
     /// The summary of a run alone.
@@ -132,15 +141,16 @@ impl Answer {
 
     // The text of a history with the lines of its summary.
     fn of_history(
-        alloc: Global,
         world: &World,
         history: &History,
+        mut text: Octets,
         lines: &Octets,
         end: RunEnd,
     ) -> Result<Answer, AllocError>
         requires world { IsWorld world.now }
         requires legal { IsLegal world.now history.now }
         requires timed { IsTimed world.now history.now }
+        requires text { text ≡ history_text history.now }
         requires lines { lines.now ≡ summary world.now history.now }
         requires end { EndsSo world.now (after world.now history.now) end }
         ensures { IfOk result (λ answer. IsRun world.now answer) }
@@ -148,7 +158,6 @@ impl Answer {
         legal_histories_keep_it();
         legal_histories_are_plain();
         printed_runs_tell();
-        let mut text = text_of(alloc, history)?;
         text.append(lines.as_slice())?;
         Ok(Answer {
             status: run_status(end),

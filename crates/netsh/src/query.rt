@@ -8,6 +8,7 @@ use ndb_index::{Index, Spot};
 use ndb_reader::{NdbError, put_pairs, read_ndb};
 use net_base::{Db, Lines, NdbPair, Octets, Tuple};
 use std::alloc::{AllocError, Global};
+use std::mem;
 
 /// The pairs of a tuple in order, as the text of a database spells them, with a blank between them.
 fn tuple_line(alloc: Global, tuple: &Tuple) -> Result<Octets, AllocError>
@@ -44,13 +45,23 @@ fn spot_lines(alloc: Global, index: &Index, spots: &[Spot]) -> Result<Lines, All
     Ok(lines)
 }
 
+/// The tuples of an index with the pair, a line each.
+fn lines_with(alloc: Global, index: &Index, attr: &[u8], value: &[u8]) -> Result<Lines, AllocError>
+    ensures { IfOk result (λ lines. lines ≡ query_lines attr.now value.now None index.now) }
+{
+    let lines = spot_lines(alloc, index, index.spots(attr, value))?;
+    Ok(lines)
+}
+
 /// The tuples with the pair, a line each, by an index.
 fn tuple_lines(alloc: Global, db: Db, attr: &[u8], value: &[u8]) -> Result<Lines, AllocError>
     ensures { IfOk result (λ lines. lines ≡ query_lines attr.now value.now None db) }
 {
     let index = Index::new(alloc, db)?;
-    let lines = spot_lines(alloc, &index, index.spots(attr, value))?;
-    Ok(lines)
+    let lines = lines_with(alloc, &index, attr, value);
+    // the program ends behind its one answer, and gives back all memory at once
+    mem::forget(index);
+    lines
 }
 
 /// The values beside the pair in all tuples, by an index.
@@ -64,7 +75,10 @@ fn beside_lines(
     ensures { IfOk result (λ lines. lines ≡ query_lines attr.now value.now (Some other.now) db) }
 {
     let index = Index::new(alloc, db)?;
-    index.all_beside(alloc, attr, value, other)
+    let lines = index.all_beside(alloc, attr, value, other);
+    // the same as above
+    mem::forget(index);
+    lines
 }
 
 /// The tuples with a pair in the database that an input is.

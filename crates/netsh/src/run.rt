@@ -31,7 +31,7 @@ pub fn run_over<R: Threads + Wait + Sync, G: Gate + Sync>(
         Err(WorldError::Memory) => return Err(AllocError),
     };
     match agenda::run(rt, alloc, &world, workers, gate) {
-        Ok(run) => Answer::run(alloc, &world, &run),
+        Ok(run) => Answer::run(rt, alloc, workers, &world, &run),
         Err(RunError::Memory) => Err(AllocError),
     }
 }

@@ -70,20 +70,25 @@ fn a_read_of_two_bytes_loses_the_rest(rt: HostRuntime) -> Result<(), Fail> {
     Ok(())
 }
 
-// How a run on so many workers ends, and whether its text ends so.
+// How a run on so many workers ends, and whether its text ends so, where anna sends only when helix already waits: a
+// datagram that came before would be dropped.
 fn ends<R: Threads + Wait + Sync>(
     rt: &R,
     alloc: Global,
     workers: &str,
     end: &str,
 ) -> Result<(u8, bool), Fail> {
-    let (status, held) = run(rt, alloc, &["run", workers], DATAGRAM.as_bytes(), &[], &[])?;
+    let (before, after) = DATAGRAM.split_once("open c").ok_or("no such line")?;
+    let mut input = String::from_str(alloc, before)?;
+    input.push_str("until 10\nopen c")?;
+    input.push_str(after)?;
+    let (status, held) = run(rt, alloc, &["run", workers], input.as_bytes(), &[], &[])?;
     Ok((status, held.ends_with(end)))
 }
 
 #[test]
 fn a_datagram_on_many_workers(rt: HostRuntime) -> Result<(), Fail> {
-    let end = "steps 8 of 8\nmessages 1 1\nbytes 2 2\nend done 0\n";
+    let end = "steps 9 of 9\nmessages 1 1\nbytes 2 2\nend done 10\n";
     let two = ends(&rt, rt.alloc(), "2", end)?;
     let sixteen = ends(&rt, rt.alloc(), "16", end)?;
     assert!(rt; two == (0, true) && sixteen == (0, true));

@@ -6,6 +6,7 @@ mod LineDigits
 mod Numbers
 mod Readers
 mod Replies
+mod Runs
 mod Spacing
 mod Summing
 mod Telling

@@ -1,5 +1,5 @@
 //! Entries as lines, and histories as texts.
-ghost use Rattle.std.specs.Prelude.{◌≡◌, ◌++◌, OnOk, IfOk};
+ghost use Rattle.std.specs.Prelude.{◌≡◌, ◌+◌, ◌<◌, ◌^◌, ◌++◌, length, OnOk, IfOk};
 ghost use Rattle.net_base.specs.Transcript as spec;
 ghost use Rattle.net_base.specs.Transcript.{spaced, line_of, lines_from, history_text, header_words, way_words, body_words, entry_words, who_words, outcome_words, emitted_words, ended_words};
 
@@ -11,20 +11,32 @@ use net_base::{BodyHeader, Entry, Header, History, Octets};
 use std::alloc::{AllocError, Global};
 use words::{kind_word, put_decimal};
 
+// The room that is taken for a line at first: most are shorter.
+const LINE: usize = 64;
+
 /// The text of a history, made in one pass.
 pub fn text_of(alloc: Global, history: &History) -> Result<Octets, AllocError>
     ensures { IfOk result (λ text. text ≡ history_text history.now) }
 {
-    let mut out = Octets::new(alloc);
-    put_lines(&mut out, history.as_slice())?;
+    text_from(alloc, 0, history.as_slice())
+}
+
+/// The text of entries, the first of which has this stamp.
+pub fn text_from(alloc: Global, first: usize, entries: &[Entry]) -> Result<Octets, AllocError>
+    requires { first + length entries.now < 2 ^ 64 }
+    ensures { IfOk result (λ text. text ≡ lines_from first entries.now) }
+{
+    let mut out = Octets::from_vec(Vec::with_capacity(alloc, entries.len().saturating_mul(LINE))?);
+    put_lines(&mut out, first, entries)?;
     Ok(out)
 }
 
-fn put_lines(out: &mut Octets, entries: &[Entry]) -> Result<(), AllocError>
-    ensures { OnOk result (out.new ≡ out.old ++ lines_from 0 entries.now) }
+fn put_lines(out: &mut Octets, first: usize, entries: &[Entry]) -> Result<(), AllocError>
+    requires { first + length entries.now < 2 ^ 64 }
+    ensures { OnOk result (out.new ≡ out.old ++ lines_from first entries.now) }
 {
-    for (stamp, entry) in entries.iter().enumerate() {
-        put_line(out, stamp as u64, entry)?;
+    for (place, entry) in entries.iter().enumerate() {
+        put_line(out, (first + place) as u64, entry)?;
     }
     Ok(())
 }

@@ -3,6 +3,7 @@
 
 mod entry;
 mod event;
+mod halves;
 mod law;
 mod line;
 mod names;
@@ -13,6 +14,7 @@ mod tests;
 mod totals;
 
 pub use entry::text_of;
+pub use halves::text_by;
 pub use law::{plain_texts_tell, printed_runs_tell, texts_tell_words};
 pub use summary::{End, RunStatus, summary_by};
 pub use totals::{Totals, totals_of};

@@ -11,9 +11,9 @@ returns c =
     let me = c.args.me.now in
     let db = c.args.db.now in
     c.in_ok-sorted.ensures
-    ∙ covered_first_is c.in_ok-prefixes.prefixes me db c.deref-3.result.now
+    ∙ covered_first_is c.in_ok-prefixes.prefixes me db c.deref-2.result.now
     (λ ip. c.in_ok-prefixes.ensures ip
     ∙ ap (λ (networks : List Network). is_on networks ip) (ap (map network_seen) c.deref.ensures.value ∙ c.in_ok-networks.ensures)
     ∙ own_on me db ip)
-    ∙ ap (own_first me db) (c.deref-3.ensures.value ∙ c.in_ok-once.ensures)
-    ∙ ap (λ (ips : List ℕ). own_first me db (once_each ips)) (c.deref-2.ensures.value ∙ c.in_ok-found.ensures)
+    ∙ ap (own_first me db) (c.deref-2.ensures.value ∙ c.in_ok-once.ensures)
+    ∙ ap (λ (ips : List ℕ). own_first me db (once_each ips)) c.in_ok-found.ensures

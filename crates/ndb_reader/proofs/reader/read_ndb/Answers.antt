@@ -1,16 +1,19 @@
-use Rattle.std.proofs.Common.{subst, ◌≡◌, ℕ, ◌+◌, length, map, arith, rules, List, None, Some, Bool, true, false, not, [], ◌∷◌, ◌++◌, refl, sym, ap, ◌∙◌}
+use Rattle.std.proofs.Common.{subst, ◌≡◌, ℕ, ◌+◌, length, map, get_or, arith, rules, List, None, Some, Bool, true, false, not, [], ◌∷◌, ◌++◌, refl, sym, ap, ◌∙◌}
 use Rattle.std.specs.Prelude.{is_none}
+use Rattle.std.specs.List.{list_any}
 use Rattle.std.proofs.lemmas.Iterator.Splits.{YieldsList-from_slice_split}
 use Rattle.std.proofs.lemmas.Iterator.Consumers.{YieldsList-turn, YieldsList-end}
 use Rattle.std.proofs.lemmas.List.Splits.{length-slice_split}
 use Rattle.std.proofs.lemmas.List.Sums.{count_by-le-length}
 use Rattle.std.proofs.lemmas.List.{length_push}
+use Rattle.std.proofs.lemmas.List.Folds.{list_any_at}
 use Rattle.std.proofs.lemmas.Result.{err_from_is_err_and}
 use borrow.Author.Tests.{tests}
 use Rattle.net_base.specs.declared.ndb.NdbPair.{NdbPair}
-use Rattle.net_base.specs.NdbText.{is_newline, is_empty, lines_of, pairs_of}
+use Rattle.net_base.specs.NdbText.{is_newline, is_zero, is_empty, lines_of, pairs_of}
 use Rattle.net_base.specs.NdbBundle.{least, causes_of, bad_line, reading, is_file_line, local_file, named_files}
 use Rattle.ndb_reader.specs.Told.{file_seen}
+use Rattle.ndb_reader.proofs.Headed.{any_part}
 use Rattle.ndb_reader.proofs.Reading.{Next, read-none, read-bad, read-blank, read-on, read-start, read-file, read-all, reading-is, tells-of, moved}
 use Rattle.net_base.specs.NdbSpelling.{ReadsBundle}
 use Rattle.ndb_reader.proofs.Bundles.{bundle-is-spelled}
@@ -19,6 +22,12 @@ use Rattle.ndb_reader.proofs.reader.read_ndb.Goals as goal
 pub loop-line-init : goal.loop-line-init
 loop-line-init c =
     record { number = refl; read = moved (lines_of c.args.bytes.now) 0 0 [] _ _ _ [] _ [] _ (read-none (lines_of c.args.bytes.now)) refl (ap (map file_seen) c.in_ok-files.ensures.closed) c.in_ok-files.ensures.name c.in_ok-files.ensures.whole c.in_ok-files.ensures.last }
+
+pub read_line-requires : goal.read_line-requires
+read_line-requires c = λ zero.
+    let t = YieldsList-turn (YieldsList-from_slice_split {s = c.into_iter-line-iterator.result} _ is_newline c.args.bytes.now (cc) (cc) (cc) (λ x r q k. search (rules, tests))) c.loop-line.yielded _ c.loop-line.yielded_by _ _ c.in-Some.line c.in-Some.is c.next.ensures.steps in
+    let here : list_any is_zero (get_or (lines_of c.args.bytes.now) (length c.loop-line.yielded) c.in-Some.line.now) ≡ true = ap (list_any is_zero) (sym t.1) ∙ zero in
+    c.has_zero-zeros.ensures ∙ any_part is_newline is_zero c.args.bytes.now (list_any_at (list_any is_zero) (lines_of c.args.bytes.now) (length c.loop-line.yielded) c.in-Some.line.now t.0 here)
 
 pub overflow_add-number : goal.overflow_add-number
 overflow_add-number c =

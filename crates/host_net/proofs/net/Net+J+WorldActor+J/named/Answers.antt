@@ -32,8 +32,8 @@ locks_of-requires-clause-blank g c = (blank_names 0 g.J.Naming.run.roster.actors
 pub invariant_of-net : goal.invariant_of-net
 invariant_of-net g c = record {
   of = record {
-    hosts_are = c.len.ensures ∙ ap (λ (w : World). length w.hosts) (sym c.requires.world);
-    media_are = c.len-2.ensures ∙ ap (λ (w : World). length w.media) (sym c.requires.world);
+    hosts_are = c.len-2.ensures ∙ ap (λ (w : World). length w.hosts) (sym c.requires.world);
+    media_are = c.len-3.ensures ∙ ap (λ (w : World). length w.media) (sym c.requires.world);
     ways_are = subst (λ (w : World). AreWaysOfWorld w c.in_ok-ways.ways) (sym c.requires.world) c.in_ok-ways.ensures;
     roster = c.requires.roster;
     actors_are = c.in_ok-locks.ensures ∙ (blank_names 0 g.J.Naming.run.roster.actors c.in_ok-journal.books.items c.in_ok-journal.ensures.books).0;

@@ -17,8 +17,8 @@ pub unwrap-requires : goal.unwrap-requires
 unwrap-requires g c =
     some_first c.first.result c.args.guest.now.owed (c.first.ensures ∙ ap (λ (v : Visit). slice_get v.owed 0) c.guest.view_is) c.requires.owes
 
-pub serve_at-requires-clause-other : goal.serve_at-requires-clause-other
-serve_at-requires-clause-other g c =
+pub serve_at-turn-requires-clause-other : goal.serve_at-turn-requires-clause-other
+serve_at-turn-requires-clause-other g c =
     let w = g.J.Placing.world in
     let ds = c.guest.inside.duties.list in
     let d = c.unwrap.result.now in
@@ -29,9 +29,9 @@ serve_at-requires-clause-other g c =
 
 pub returns-in-Some-clause-turn : goal.returns-in-Some-clause-turn
 returns-in-Some-clause-turn g c d is =
-    let new = visit c.guest.inside.caller c.guest.inside.now c.serve_at.new.pass c.serve_at.new.duties.list c.guest.inside.fids.names in
-    subst (λ (v : Visit). Takes g.J.Placing.world d.actor (work_of_duty d) (Some d.cites) v c.serve_at.result new) c.guest.view_is
-    (c.serve_at.ensures.turn d (ap (λ (v : Visit). slice_get v.owed 0) c.guest.view_is ∙ is))
+    let new = visit c.guest.inside.caller c.guest.inside.now c.serve_at-turn.new.pass c.serve_at-turn.new.duties.list c.guest.inside.fids.names in
+    subst (λ (v : Visit). Takes g.J.Placing.world d.actor (work_of_duty d) (Some d.cites) v c.serve_at-turn.result new) c.guest.view_is
+    (c.serve_at-turn.ensures.turn d (ap (λ (v : Visit). slice_get v.owed 0) c.guest.view_is ∙ is))
 
 pub returns-in-None-clause-turn : goal.returns-in-None-clause-turn
 returns-in-None-clause-turn g c d is =
@@ -48,7 +48,7 @@ invariant_of-guest g c =
     let me = c.guest.inside in
     let d = c.unwrap.result.now in
     let is : slice_get me.duties.list 0 ≡ Some d = sym c.first.ensures ∙ ap option_copied c.unwrap.ensures in
-    visit_on w g.J.Naming.run.roster me.caller me.now me.pass c.serve_at.new.pass me.duties.list c.serve_at.new.duties.list me.host me.touched c.serve_at.new.touched
-    me.calendar c.guest.invariant c.serve_at.ensures.guest c.serve_at.ensures.moment c.serve_at.ensures.covers
-    (turned_grows w me.caller me.now d.actor (work_of_duty d) (Some d.cites) me.pass c.serve_at.new.pass me.duties.list c.serve_at.new.duties.list c.serve_at.result
-    (c.serve_at.ensures.turn d is))
+    visit_on w g.J.Naming.run.roster me.caller me.now me.pass c.serve_at-turn.new.pass me.duties.list c.serve_at-turn.new.duties.list me.host me.touched c.serve_at-turn.new.touched
+    me.calendar c.guest.invariant c.serve_at-turn.ensures.guest c.serve_at-turn.ensures.moment c.serve_at-turn.ensures.covers
+    (turned_grows w me.caller me.now d.actor (work_of_duty d) (Some d.cites) me.pass c.serve_at-turn.new.pass me.duties.list c.serve_at-turn.new.duties.list c.serve_at-turn.result
+    (c.serve_at-turn.ensures.turn d is))

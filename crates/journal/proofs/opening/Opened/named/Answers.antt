@@ -1,10 +1,13 @@
-use Rattle.std.proofs.Common.{◌+◌, ◌<◌, ◌≤◌, [], ◌∷◌, length, refl, ap, sym, subst, ◌∙◌, arith, rules}
+use Rattle.std.proofs.Common.{ℕ, ◌+◌, ◌<◌, ◌≤◌, List, [], ◌∷◌, ◌++◌, length, refl, ap, sym, subst, ◌∙◌, arith, rules}
+use Rattle.atomic_table.specs.Seated.{TableId}
+use Rattle.net_base.specs.declared.actor.ActorName.{ActorName}
 use Rattle.net_base.specs.declared.noted.Number.TheVariants as number
 use Rattle.net_base.specs.Stamped.{at}
 use Rattle.journal.specs.declared.law.View.{View}
-use Rattle.journal.specs.Rule.{Run, only}
-use Rattle.journal.specs.Tokens.{Distinct}
-use Rattle.journal.proofs.Dealing.{dealt_given, dealt_next, first_pass}
+use Rattle.journal.specs.declared.tokens.Volume.{Volume}
+use Rattle.journal.specs.Rule.{IsSeat, Run, actor_numbers, caller_numbers, only}
+use Rattle.journal.specs.Tokens.{AreBlank, Distinct}
+use Rattle.journal.proofs.Dealing.{all_dealt, dealt_given, dealt_next, first_pass}
 use Rattle.journal.proofs.After.{volume_is}
 use Rattle.journal.proofs.opening.Opened.named.Goals as goal
 
@@ -26,6 +29,32 @@ invariant_of-push_reserved g c =
       entries = c.new.ensures.items;
       short = omega arith;
     }
+
+pub loop-i-init : goal.loop-i-init
+loop-i-init g c =
+    let o = c.self.inside in
+    let n = c.self.invariant in
+    let callers_are = ap (λ (q : Run). q.roster.callers) c.self.view_is in (
+      subst (λ (t : TableId). IsSeat t o.seat) (ap (λ (q : Run). q.table) (c.self.view_is ∙ c.requires.name)) n.seat,
+      record {
+        within = omega arith;
+        seen = ap (λ (v : View). v.seen) n.view_is;
+        clock_is = ap (λ (v : View). v.clock) n.view_is;
+        held = ap (λ (v : View). v.held) n.view_is
+            ∙ ap (λ (k : ℕ). caller_numbers k ++ actor_numbers o.table.shared.key.actors) callers_are
+            ∙ ap (λ (as' : List ActorName). caller_numbers c.args.self.roster.callers ++ actor_numbers as') (sym n.actors_are);
+        books_are = subst (λ (books : List Volume). AreBlank 0 [] books) (sym c.in_ok-books.ensures.items) _;
+      },
+      refl,
+      c.in_ok-books.ensures.len,
+      omega (arith, c.in_ok-books.ensures.capacity, c.len.ensures),
+    )
+
+pub returns-clause-held : goal.returns-clause-held
+returns-clause-held g c =
+    let o = c.self.inside in
+    all_dealt c.args.self.roster.callers o.actors.items c.loop-i.i c.loop-i.all.me.0 c.loop-i.books.items c.loop-i.invariant.1 (search rules)
+    ∙ ap (λ (q : Run). caller_numbers q.roster.callers) c.requires.name
 
 pub loop-i-preserved : goal.loop-i-preserved
 loop-i-preserved g c =

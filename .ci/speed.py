@@ -1,0 +1,87 @@
+#!/usr/bin/env python3
+"""How long runs of the program take, on inputs of known size: a benchmark, and no part of the gate.
+
+.ci/speed.py [BINARY [RUNS]]: of each command the least and the middle of RUNS (7), as milliseconds of wall and of
+processor time. BINARY is crates/netsh/out/netsh, the proved one, unless another is named. Measure on a quiet machine.
+"""
+
+import os
+import resource
+import subprocess
+import sys
+import tempfile
+import time
+
+TOP = os.path.join(os.path.dirname(os.path.abspath(__file__)), "..")
+TUPLES = 10000
+PAIRS = 4
+MESSAGES = 2000
+
+
+def database():
+    """TUPLES tuples of three pairs each."""
+    systems = (
+        f"sys=h{i} ip=10.{i >> 16 & 255}.{i >> 8 & 255}.{i & 255}\n\tdom=h{i}.example.com\n" for i in range(TUPLES - 2)
+    )
+    return "ipnet=all ip=10.0.0.0 ipmask=255.0.0.0\n\tauth=h5\n" + "".join(systems) + "il=9fs port=17008\n"
+
+
+def asking(queries):
+    """A world whose script asks the desk of its host so many queries."""
+    head = "networld 1\nend 60000\nseed 7\nmedium ether0 1500\nhost h5 il udp\nif ether0 10.0.0.5 255.0.0.0\nscript h5\n"
+    return head + "".join(f"cs net!h{7919 * i % (TUPLES - 2)}!9fs\n" for i in range(queries)) + "ndb\n" + database()
+
+
+def pairs():
+    """A world of PAIRS pairs of hosts, each pair on a medium of its own; each end writes MESSAGES messages in turn."""
+    head = "networld 1\nend 1000000000\nseed 3\n"
+    media = "".join(f"medium ether{p} 1500\n" for p in range(PAIRS))
+    hosts = "".join(
+        f"host {name}{p} il udp\nif ether{p} 10.{p}.0.{last} 255.255.255.0\n"
+        for p in range(PAIRS)
+        for name, last in (("a", 1), ("b", 2))
+    )
+    scripts = "".join(caller(p) + listener(p) for p in range(PAIRS))
+    return head + media + hosts + scripts + "ndb\n"
+
+
+def caller(pair):
+    turns = "".join(f"write d {n}\nread d 8192\n" for n in range(MESSAGES))
+    return f"script a{pair}\nuntil 10\ndial d net!10.{pair}.0.2!17008\n{turns}close d\n"
+
+
+def listener(pair):
+    turns = "".join(f"read e 8192\nwrite e {n}\n" for n in range(MESSAGES))
+    return f"script b{pair}\nannounce a net!*!17008\nlisten c a\naccept e c\n{turns}read e 8192\nclose e\nclose c\n"
+
+
+def measure(words, text, runs):
+    """The wall and the processor time of each run, in milliseconds."""
+    walls, processors = [], []
+    with tempfile.TemporaryFile() as data:
+        data.write(text.encode())
+        for _ in range(runs):
+            data.seek(0)
+            before, began = resource.getrusage(resource.RUSAGE_CHILDREN), time.monotonic()
+            subprocess.run(words, stdin=data, stdout=subprocess.DEVNULL, check=False)
+            walls.append(1000 * (time.monotonic() - began))
+            after = resource.getrusage(resource.RUSAGE_CHILDREN)
+            processors.append(1000 * (after.ru_utime + after.ru_stime - before.ru_utime - before.ru_stime))
+    return sorted(walls), sorted(processors)
+
+
+def main():
+    binary = sys.argv[1] if len(sys.argv) > 1 else os.path.join(TOP, "crates", "netsh", "out", "netsh")
+    runs = int(sys.argv[2]) if len(sys.argv) > 2 else 7
+    cases = [("cs", ["cs", "h5", "net!h9990!9fs"], database()), ("query", ["query", "dom", "h99.example.com"], database())]
+    cases += [(f"{n} queries", ["run", "1"], asking(n)) for n in (1, TUPLES)]
+    cases += [(f"{PAIRS} pairs, run {n}", ["run", str(n)], pairs()) for n in (1, 2, 4, 16)]
+    cases += [(f"big {n}", ["big", str(n)], "") for n in (1000, 9000)]
+    for name, words, text in cases:
+        walls, processors = measure([binary, *words], text, runs)
+        middle = runs // 2
+        print(f"{name:16} wall {walls[0]:7.1f} {walls[middle]:7.1f}   processor {processors[0]:7.1f} {processors[middle]:7.1f}")
+
+
+if __name__ == "__main__":
+    main()
