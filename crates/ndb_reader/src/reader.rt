@@ -12,7 +12,8 @@ use crate::line::{begun_file, has_zero, is_blank, is_indented, read_line};
 use net_base::Db;
 use std::alloc::Global;
 
-/// The tuples of a text, or its first bad line. It goes once through the bytes, and copies each at most twice.
+/// The tuples of a text, or its first bad line: in one pass over its lines, after a look for zero bytes. Each byte is
+/// copied at most twice.
 pub fn read_ndb(alloc: Global, bytes: &[u8]) -> Result<Db, NdbError>
     ensures ok { IfOk result (λ db. reading bytes.now ≡ Some db) }
     ensures spelled { IfOk result (λ db. ReadsBundle (lines_of bytes.now) db) }
