@@ -32,8 +32,12 @@ def asking(queries):
     return head + "".join(f"cs net!h{7919 * i % (TUPLES - 2)}!9fs\n" for i in range(queries)) + "ndb\n" + database()
 
 
-def pairs():
-    """A world of PAIRS pairs of hosts, each pair on a medium of its own; each end writes MESSAGES messages in turn."""
+def pairs(crossed):
+    """A world of PAIRS pairs of hosts, each pair on a medium of its own; each end writes MESSAGES messages in turn.
+
+    All callers come before all listeners, and so PAIRS workers have a pair each; crossed, each caller before its listener,
+    and so the ends of a pair go to two workers.
+    """
     head = "networld 1\nend 1000000000\nseed 3\n"
     media = "".join(f"medium ether{p} 1500\n" for p in range(PAIRS))
     hosts = "".join(
@@ -41,8 +45,9 @@ def pairs():
         for p in range(PAIRS)
         for name, last in (("a", 1), ("b", 2))
     )
-    scripts = "".join(caller(p) + listener(p) for p in range(PAIRS))
-    return head + media + hosts + scripts + "ndb\n"
+    ends = [(caller(p), listener(p)) for p in range(PAIRS)]
+    scripts = [end for pair in (ends if crossed else zip(*ends)) for end in pair]
+    return head + media + hosts + "".join(scripts) + "ndb\n"
 
 
 def caller(pair):
@@ -75,12 +80,14 @@ def main():
     runs = int(sys.argv[2]) if len(sys.argv) > 2 else 7
     cases = [("cs", ["cs", "h5", "net!h9990!9fs"], database()), ("query", ["query", "dom", "h99.example.com"], database())]
     cases += [(f"{n} queries", ["run", "1"], asking(n)) for n in (1, TUPLES)]
-    cases += [(f"{PAIRS} pairs, run {n}", ["run", str(n)], pairs()) for n in (1, 2, 4, 16)]
+    for crossed in (False, True):
+        name, text = f"{PAIRS} {'crossed' if crossed else 'pairs'}", pairs(crossed)
+        cases += [(f"{name}, run {n}", ["run", str(n)], text) for n in (1, 2, 4, 16)]
     cases += [(f"big {n}", ["big", str(n)], "") for n in (1000, 9000)]
     for name, words, text in cases:
         walls, processors = measure([binary, *words], text, runs)
         middle = runs // 2
-        print(f"{name:16} wall {walls[0]:7.1f} {walls[middle]:7.1f}   processor {processors[0]:7.1f} {processors[middle]:7.1f}")
+        print(f"{name:18} wall {walls[0]:7.1f} {walls[middle]:7.1f}   processor {processors[0]:7.1f} {processors[middle]:7.1f}")
 
 
 if __name__ == "__main__":

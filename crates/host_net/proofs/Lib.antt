@@ -15,7 +15,6 @@ pub mod Outcomes
 pub mod Sighted
 pub mod Found
 pub mod Leasts
-pub mod Slots
 pub mod Knowledge
 pub mod Covered
 pub mod Through

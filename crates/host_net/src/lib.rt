@@ -23,4 +23,6 @@ pub use players::{Group, Players};
 pub use turn::Turn;
 
 #[cfg(test)]
+mod crew_tests;
+#[cfg(test)]
 mod tests;

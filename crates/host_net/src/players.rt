@@ -6,6 +6,7 @@ ghost use Rattle.host_net.specs.Playing.{ArePlayed, IsSamePlayer, IsWaiting};
 ghost use Rattle.host_net.specs.Visits.{HasGuest};
 ghost use Rattle.host_net.specs.declared.player.Played.TheVariants as played;
 ghost use Rattle.host_net.specs.declared.player.Role.TheVariants as role;
+ghost use Rattle.host_net.specs.declared.players.Round.TheVariants.{Whole};
 
 use crate::crew::{Crew, MANY_ROUNDS};
 use crate::guest::Guest;
@@ -186,6 +187,15 @@ fn add_clock<J: Naming + Placing, T: Task + Drop>(
     }
 }
 
+// Who has a turn in a round.
+#[derive(Clone, Copy, Debug, PartialEq, Eq)]
+enum Round {
+    // Each player.
+    Whole,
+    // Those that aren't sure to wait still.
+    Brief,
+}
+
 // What two turns, or more, came to.
 fn both(one: Played, other: Played) -> Played
     ensures waits { result ≡ played.Waits → (one ≡ played.Waits) × (other ≡ played.Waits) }
@@ -275,7 +285,7 @@ impl<J: Naming + Placing> Net<J, WorldActor<J>> {
     {
         crew.begin(rt);
         // All have a turn, since the moment may be another than that at which they waited.
-        self.play_round(rt, alloc, gate, group);
+        self.play_round(rt, alloc, gate, Round::Whole, group);
         self.play_out(rt, alloc, gate, crew, group);
         crew.leave(rt);
     }
@@ -294,7 +304,7 @@ impl<J: Naming + Placing> Net<J, WorldActor<J>> {
     {
         for _ in rt.forever() {
             self.play_on(rt, alloc, gate, crew, group);
-            match self.play_round(rt, alloc, gate, group) {
+            match self.play_round(rt, alloc, gate, Round::Whole, group) {
                 Played::Recorded => {}
                 Played::Waits | Played::Memory => return,
             }
@@ -314,7 +324,7 @@ impl<J: Naming + Placing> Net<J, WorldActor<J>> {
     {
         let mut rounds: u32 = 1;
         for _ in rt.forever() {
-            match self.play_some(rt, alloc, gate, group) {
+            match self.play_round(rt, alloc, gate, Round::Brief, group) {
                 Played::Recorded => rounds = crew.tell(rt, rounds.saturating_add(1), MANY_ROUNDS),
                 Played::Waits => {
                     rounds = crew.tell(rt, rounds, 1);
@@ -325,74 +335,6 @@ impl<J: Naming + Placing> Net<J, WorldActor<J>> {
                 Played::Memory => return,
             }
         }
-    }
-
-    // A turn of each that may go on.
-    fn play_some<R: Wait, G: Gate, T: Task + Drop>(
-        &self,
-        rt: &R,
-        alloc: Global,
-        gate: &G,
-        group: &mut Group<J, T>,
-    ) -> Played
-        ensures seats { seats group.new ≡ seats group.old }
-    {
-        let others = self.play_others(rt, alloc, gate, &mut group.players);
-        let clock = self.play_clock_again(rt, alloc, gate, &mut group.clock);
-        let round = both(others, clock);
-        if round == Played::Memory {
-            group.memory = true;
-        }
-        round
-    }
-
-    fn play_others<R: Wait, G: Gate, T: Task + Drop>(
-        &self,
-        rt: &R,
-        alloc: Global,
-        gate: &G,
-        players: &mut [Player<J, T>],
-    ) -> Played
-        ensures callers { callers_of players.new ≡ callers_of players.old }
-    {
-        let mut turns = Played::Waits;
-        let mut i = 0;
-        while i < players.len() {
-            turns = both(turns, self.play_again(rt, alloc, gate, &mut players[i]));
-            i += 1;
-        }
-        turns
-    }
-
-    fn play_clock_again<R: Wait, G: Gate, T: Task + Drop>(
-        &self,
-        rt: &R,
-        alloc: Global,
-        gate: &G,
-        clock: &mut Option<Player<J, T>>,
-    ) -> Played
-        ensures caller { option_map caller clock.new ≡ option_map caller clock.old }
-    {
-        match clock {
-            Some(player) => self.play_again(rt, alloc, gate, player),
-            None => Played::Waits,
-        }
-    }
-
-    // A turn, where it isn't sure that the player waits still.
-    fn play_again<R: Wait, G: Gate, T: Task>(
-        &self,
-        rt: &R,
-        alloc: Global,
-        gate: &G,
-        player: &mut Player<J, T>,
-    ) -> Played
-        ensures same { IsSamePlayer player.old player.new }
-    {
-        if self.stands_still(player) {
-            return Played::Waits;
-        }
-        self.play(rt, alloc, gate, player)
     }
 
     // Waits until a player may go on, or all workers rest. The answer is whether one may.
@@ -432,25 +374,26 @@ impl<J: Naming + Placing> Net<J, WorldActor<J>> {
                 .any(|player| !self.stands_still(player))
     }
 
-    // A turn of each.
+    // A turn of each that the round asks.
     fn play_round<R: Wait, G: Gate, T: Task + Drop>(
         &self,
         rt: &R,
         alloc: Global,
         gate: &G,
+        round: Round,
         group: &mut Group<J, T>,
     ) -> Played
         ensures seats { seats group.new ≡ seats group.old }
-        ensures rest { result ≡ played.Waits → AreWaiting J.world (members group.new) }
+        ensures rest { round ≡ Whole → result ≡ played.Waits → AreWaiting J.world (members group.new) }
         ensures short { result ≡ played.Memory → group.new.memory ≡ true }
     {
-        let others = self.play_each(rt, alloc, gate, &mut group.players);
-        let clock = self.play_clock(rt, alloc, gate, &mut group.clock);
-        let round = both(others, clock);
-        if round == Played::Memory {
+        let others = self.play_each(rt, alloc, gate, round, &mut group.players);
+        let clock = self.play_clock(rt, alloc, gate, round, &mut group.clock);
+        let turns = both(others, clock);
+        if turns == Played::Memory {
             group.memory = true;
         }
-        round
+        turns
     }
 
     fn play_each<R: Wait, G: Gate, T: Task + Drop>(
@@ -458,15 +401,19 @@ impl<J: Naming + Placing> Net<J, WorldActor<J>> {
         rt: &R,
         alloc: Global,
         gate: &G,
+        round: Round,
         players: &mut [Player<J, T>],
     ) -> Played
         ensures callers { callers_of players.new ≡ callers_of players.old }
-        ensures rest { result ≡ played.Waits → AreWaiting J.world players.new }
+        ensures rest { round ≡ Whole → result ≡ played.Waits → AreWaiting J.world players.new }
     {
         let mut turns = Played::Waits;
         let mut i = 0;
         while i < players.len() {
-            turns = both(turns, self.play(rt, alloc, gate, &mut players[i]));
+            turns = both(
+                turns,
+                self.play_one(rt, alloc, gate, round, &mut players[i]),
+            );
             i += 1;
         }
         turns
@@ -477,14 +424,34 @@ impl<J: Naming + Placing> Net<J, WorldActor<J>> {
         rt: &R,
         alloc: Global,
         gate: &G,
+        round: Round,
         clock: &mut Option<Player<J, T>>,
     ) -> Played
         ensures caller { option_map caller clock.new ≡ option_map caller clock.old }
-        ensures rest { result ≡ played.Waits → IfSome clock.new (λ p. IsWaiting J.world p.visit) }
+        ensures rest { round ≡ Whole → result ≡ played.Waits
+            → IfSome clock.new (λ p. IsWaiting J.world p.visit) }
     {
         match clock {
-            Some(player) => self.play(rt, alloc, gate, player),
+            Some(player) => self.play_one(rt, alloc, gate, round, player),
             None => Played::Waits,
         }
+    }
+
+    // A turn, unless the round passes over those that wait still.
+    fn play_one<R: Wait, G: Gate, T: Task>(
+        &self,
+        rt: &R,
+        alloc: Global,
+        gate: &G,
+        round: Round,
+        player: &mut Player<J, T>,
+    ) -> Played
+        ensures same { IsSamePlayer player.old player.new }
+        ensures rest { round ≡ Whole → result ≡ played.Waits → IsWaiting J.world player.new.visit }
+    {
+        if round == Round::Brief && self.stands_still(player) {
+            return Played::Waits;
+        }
+        self.play(rt, alloc, gate, player)
     }
 }

@@ -8,6 +8,7 @@ use crate::answer::Answer;
 use agenda::RunError;
 use outside::Gate;
 use std::alloc::{AllocError, Global};
+use std::mem;
 use std::sync::Wait;
 use std::thread::Threads;
 use world_file::{WorldError, read_world};
@@ -31,7 +32,13 @@ pub fn run_over<R: Threads + Wait + Sync, G: Gate + Sync>(
         Err(WorldError::Memory) => return Err(AllocError),
     };
     match agenda::run(rt, alloc, &world, workers, gate) {
-        Ok(run) => Answer::run(rt, alloc, workers, &world, &run),
+        Ok(run) => {
+            let answer = Answer::run(rt, alloc, workers, &world, &run);
+            // the program ends behind its one answer, and gives back all memory at once
+            mem::forget(run);
+            mem::forget(world);
+            answer
+        }
         Err(RunError::Memory) => Err(AllocError),
     }
 }
