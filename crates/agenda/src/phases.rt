@@ -8,7 +8,7 @@ ghost use Rattle.net_base.specs.World.{IsWorld};
 ghost use Rattle.plain_runner.specs.Rounds.{EndsSo};
 ghost use Rattle.whole_script.specs.ScriptTasks.{Plays};
 ghost use Rattle.host_net.specs.Groups.{all_members, visits};
-ghost use Rattle.host_net.specs.Rosters.{IsRosterOf};
+ghost use Rattle.net_locks.specs.Rosters.{IsRosterOf};
 ghost use Rattle.host_net.specs.Visits.{AreFresh};
 ghost use Rattle.agenda.specs.Ending.{EndAllSo};
 

@@ -1,5 +1,5 @@
 -- What the clock's guest has seen, when it has the numbers of all callers, is the one history that they can have recorded.
-use Rattle.std.proofs.Common.{◌≡◌, ℕ, ◌+◌, ◌<◌, ◌==◌, ◌⊎◌, inl, inr, Bool, true, false, List, [], ◌∷◌, map, if◌then◌else◌, Some, slice_get, refl, ap, sym, subst, ◌∙◌}
+use Rattle.std.proofs.Common.{◌≡◌, ℕ, ◌+◌, ◌<◌, ◌==◌, Bool, true, false, List, [], ◌∷◌, map, if◌then◌else◌, Some, slice_get, refl, ap, sym, subst, ◌∙◌}
 use Rattle.net_base.specs.declared.history.Entry.{Entry}
 use Rattle.net_base.specs.declared.noted.Noted.{Noted}
 use Rattle.net_base.specs.declared.noted.Number.TheVariants as number
@@ -14,7 +14,8 @@ use Rattle.guest_laws.specs.Guests.{IsOfGuests}
 use Rattle.guest_laws.specs.Own.{IsLegalButScripts}
 use Rattle.guest_laws.specs.Works.{entries, noted_net}
 use Rattle.host_net.specs.Advancing.{AfterAll, IsHistoryOf}
-use Rattle.host_net.specs.Visits.{HasGuest, Visit, own}
+use Rattle.host_net.specs.Visits.{HasGuest, Visit}
+use Rattle.net_locks.specs.Turns.{own}
 
 lists_from : (c n : ℕ) (log : List Noted) → entries_from (number.Caller c) n (entries log) ≡ map plain (at_from (number.Caller c) n log)
 lists_from c n [] = refl

@@ -1,5 +1,5 @@
 -- What a turn leaves of a player.
-use Rattle.std.proofs.Common.{◌≡◌, ◌≢◌, ℕ, ◌⊎◌, inl, inr, Bool, true, false, List, [], ◌∷◌, ◌++◌, Option, Some, None, refl, ap, sym, subst, ◌∙◌}
+use Rattle.std.proofs.Common.{◌≡◌, ◌≢◌, ℕ, inl, inr, Bool, true, false, List, [], ◌∷◌, ◌++◌, Option, Some, None, refl, ap, sym, subst, ◌∙◌}
 use Rattle.std.proofs.lemmas.Bool.{true≢false}
 use Rattle.std.proofs.lemmas.Option.{none-some, same_Some}
 use Rattle.net_base.specs.declared.actor.ActorName.{ActorName}
@@ -22,20 +22,18 @@ use Rattle.net_base.specs.Steps.{Ask, Bound, Play}
 use Rattle.duties.specs.Queue.{work_of_duty}
 use Rattle.journal.specs.declared.tokens.Sight.{Sight}
 use Rattle.locked.specs.Acts.{made, without_copy}
-use Rattle.script_task.specs.declared.request.Request.{Request}
-use Rattle.script_task.specs.Requests.{head, planned, settled}
 use Rattle.script_task.specs.Rest.{Continues}
-use Rattle.script_task.specs.Task.{Heads, AsksSo, MovesSo, follow, fits_play}
 use Rattle.guest_laws.specs.Own.{AreNext, AreTimely, StandsStill}
 use Rattle.guest_laws.specs.Works.{entries, noted_net}
 use Rattle.host_net.specs.declared.player.Played.{Played}
 use Rattle.host_net.specs.declared.player.Played.TheVariants as played
 use Rattle.host_net.specs.declared.player.Role.{Role}
-use Rattle.host_net.specs.declared.turn.Turn.{Turn}
-use Rattle.host_net.specs.declared.turn.Turn.TheVariants as turn
-use Rattle.host_net.specs.Playing.{GoesOn, HasMore, HasRole, IsPlayed, IsPlayer, IsSamePlayer, IsUnmoved, IsUnready, IsWaiting, Playing, PlaysOn, Told, played_by}
-use Rattle.host_net.specs.Visits.{Asked, IsFull, IsSame, Operated, Recorded, Stays, Takes, Unready, Visit, bare, own}
-use Rattle.host_net.proofs.Continuing.{FitWorks, KeepsActors, continues_on, duty_replies, fits_there, own_push, own_reply, own_stays, play_fits, script_next}
+use Rattle.net_locks.specs.declared.turn.Turn.{Turn}
+use Rattle.net_locks.specs.declared.turn.Turn.TheVariants as turn
+use Rattle.host_net.specs.Playing.{GoesOn, HasMore, HasRole, IsPlayed, IsPlayer, IsUnmoved, IsUnready, IsWaiting, Playing, PlaysOn, played_by}
+use Rattle.host_net.specs.Visits.{IsSame, Takes, Visit}
+use Rattle.net_locks.specs.Turns.{IsFull, Recorded, Stays, Unready, bare, own}
+use Rattle.host_net.proofs.Continuing.{duty_replies, own_push, own_stays}
 
 abbrev pub playing : {T : Type 0} → Visit → Role → T → Bool → Playing T
 playing v who t lost = record { visit = v; role = who; task = t; lost = lost }

@@ -1,5 +1,5 @@
 -- The numbers of all callers come to the clock's guest one after another, and go back.
-use Rattle.std.proofs.Common.{◌≡◌, ℕ, suc, ◌+◌, ◌<◌, ◌==◌, ◌⊎◌, inl, inr, Bool, true, false, List, [], ◌∷◌, ◌++◌, length, map, refl, ap, sym, subst, ◌∙◌}
+use Rattle.std.proofs.Common.{◌≡◌, ℕ, suc, ◌+◌, ◌==◌, ◌⊎◌, inl, inr, List, [], ◌∷◌, length, refl, ap, sym, subst, ◌∙◌}
 use Rattle.net_base.specs.declared.noted.Noted.{Noted}
 use Rattle.net_base.specs.declared.world.World.{World}
 use Rattle.net_base.specs.Next.{next}
@@ -10,12 +10,14 @@ use Rattle.due_moments.specs.Marks.{Covers}
 use Rattle.guest_laws.specs.Guests.{IsGuest, IsOfGuests}
 use Rattle.guest_laws.specs.Own.{AreNext, AreTimely}
 use Rattle.guest_laws.specs.Works.{entries}
-use Rattle.host_net.specs.declared.clock.Advance.{Advance}
-use Rattle.host_net.specs.declared.clock.Standing.{Standing}
+use Rattle.net_locks.specs.declared.clock.Advance.{Advance}
+use Rattle.net_locks.specs.declared.clock.Standing.{Standing}
 use Rattle.host_net.specs.Advancing.{Advances, AreLent, IsStanding}
-use Rattle.host_net.specs.Deciding.{AllStand, Decided, StandsAt}
+use Rattle.net_locks.specs.Standings.{AllStand, StandsAt}
+use Rattle.host_net.specs.Deciding.{Decided}
 use Rattle.host_net.specs.Groups.{Grouped}
-use Rattle.host_net.specs.Visits.{Gathers, IsWith, Visit, own}
+use Rattle.host_net.specs.Visits.{IsWith, Visit}
+use Rattle.net_locks.specs.Turns.{own}
 
 module _ (w : World) (r : Roster) where
   -- a standing holds after all that the pass has seen with which its caller is

@@ -1,7 +1,5 @@
-pub mod Turning
 pub mod Asking
 pub mod Freshly
-pub mod Rows
 pub mod Passes
 pub mod Firsts
 pub mod Operating
@@ -12,14 +10,6 @@ pub mod Histories
 pub mod Taking
 pub mod Standings
 pub mod Outcomes
-pub mod Sighted
-pub mod Found
-pub mod Leasts
-pub mod Knowledge
-pub mod Covered
-pub mod Through
-pub mod Moved
-pub mod Concluding
 pub mod Passing
 pub mod Foreseen
 pub mod Replacing
@@ -28,5 +18,5 @@ pub mod Keeping
 pub mod Telling
 pub mod Seating
 pub mod Naming
-pub mod Halting
+pub mod Decided
 pub mod Joining

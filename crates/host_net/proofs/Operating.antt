@@ -1,37 +1,23 @@
--- What a turn at an actor that isn't there does, and what a request did.
-use Rattle.std.proofs.Common.{◌≡◌, ℕ, ◌<◌, Bool, true, false, List, [], Option, Some, None, is_some, refl, ap, sym, subst, ◌∙◌}
-use Rattle.std.proofs.lemmas.List.{append-nil}
-use Rattle.net_base.specs.declared.actor.ActorName.{ActorName}
-use Rattle.net_base.specs.declared.history.Work.{Work}
+-- A guest after its turn, and what a request did.
+use Rattle.std.proofs.Common.{◌≡◌, ℕ, List, [], Some, None, ap, ◌∙◌}
 use Rattle.net_base.specs.declared.world.World.{World}
-use Rattle.net_base.specs.ActorStep.{when}
-use Rattle.net_base.specs.Actors.{Actor, actor_step, has_actor, table_step}
 use Rattle.net_base.specs.Duties.{Duty}
 use Rattle.net_base.specs.Steps.{Ask, Bound}
 use Rattle.journal.specs.declared.tokens.Sight.{Sight}
 use Rattle.script_task.specs.declared.request.Request.{Request}
 use Rattle.script_task.specs.Requests.{planned}
-use Rattle.guest_laws.specs.Works.{noted_net}
-use Rattle.host_net.specs.declared.turn.Turn.{Turn}
-use Rattle.host_net.specs.declared.turn.Turn.TheVariants as turn
-use Rattle.host_net.specs.Visits.{HasRoom, Operated, Stays, Turned, Unready, Visit, bare, names_after}
-
--- nothing more was seen
-stays_there : (w : World) (c : ℕ) (p : Sight) → Stays w c p p
-stays_there w c p =
-    record {
-      before = ([], append-nil p.seen);
-      alone = refl;
-      stands = record { owes = refl; comes_next = refl; turns = λ t. t; nexts = λ t. t; timely = λ t. t };
-    }
-
--- an actor that the world hasn't is never ready
-absent_unready : (w : World) (a : ActorName) (s : Actor) (now : ℕ) (work : Work) → has_actor w a ≡ false → actor_step w a s now work ≡ None
-absent_unready w a s now work none = ap (λ (b : Bool). when b (table_step w a s now work)) none
-
-pub unready_there : (w : World) (c now : ℕ) (a : ActorName) (work : Work) (p : Sight) → HasRoom c p → has_actor w a ≡ false → Unready w c now a work p p
-unready_there w c now a work p room none =
-    record { room = room; stays = stays_there w c p; unready = absent_unready w a ((noted_net w p.seen).actors a) now work none }
+use Rattle.net_locks.specs.declared.turn.Turn.{Turn}
+use Rattle.net_locks.specs.declared.turn.Turn.TheVariants as turn
+use mathlib.Core.List.{IsPrefix}
+use Rattle.net_base.specs.declared.noted.Noted.{Noted}
+use Rattle.net_base.specs.Stamped.{moment}
+use Rattle.journal.specs.declared.law.Roster.{Roster}
+use Rattle.due_moments.specs.Marks.{Covers, Marks}
+use Rattle.guest_laws.specs.Guests.{IsGuest}
+use Rattle.net_locks.specs.declared.calendar.Calendar.{Calendar}
+use Rattle.net_locks.specs.Knowing.{IsKnown}
+use Rattle.net_locks.specs.Turns.{Turned, bare, own}
+use Rattle.host_net.specs.Visits.{IsVisit, Operated, Visit, names_after}
 
 abbrev pub visit : ℕ → ℕ → Sight → List Duty → List Bound → Visit
 visit c now p ds names = record { caller = c; now = now; sight = p; owed = ds; names = names }
@@ -40,6 +26,16 @@ same_visit : (c now : ℕ) (p p' : Sight) (ds ds' : List Duty) (names names' : L
 same_visit c now p p' ds ds' names names' sight owed called =
     ap (λ (q : Sight). visit c now q ds' names') sight
     ∙ (ap (λ (l : List Duty). visit c now p l names') owed ∙ ap (λ (l : List Bound). visit c now p ds l) called)
+
+-- what is known of due moments is known after more entries
+abbrev pub StaysKnown : World → Type 0
+StaysKnown w = (log log' : List Noted) (k : Calendar) → IsPrefix log log' → IsKnown w log k → IsKnown w log' k
+
+pub visit_on : (w : World) (r : Roster) (c now : ℕ) (p p' : Sight) (ds ds' : List Duty) (host : ℕ) (m m' : Marks) (k : Calendar)
+    → StaysKnown w → IsVisit w r c now p ds host m k → IsGuest w r c p' ds' → now ≡ moment p'.seen → Covers (own c p') m' → IsPrefix p.seen p'.seen
+    → IsVisit w r c now p' ds' host m' k
+visit_on w r c now p p' ds ds' host m m' k stays is guest here covers grows =
+    record { guest = guest; here = here; early = is.early; home = is.home; covers = covers; known = stays p.seen p'.seen k grows is.known }
 
 -- the turn of a request that was planned
 pub operated : (w : World) (h : ℕ) (q : Request) (c now : ℕ) (p p' : Sight) (ds ds' : List Duty) (names names' : List Bound) (ask : Ask) (t : Turn) → ds ≡ []

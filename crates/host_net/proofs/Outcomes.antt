@@ -6,7 +6,7 @@ use Rattle.net_base.specs.declared.noted.Number.TheVariants as number
 use Rattle.net_base.specs.declared.reply.Reply.{Reply}
 use Rattle.net_base.specs.declared.world.Script.{Script}
 use Rattle.net_base.specs.declared.world.World.{World}
-use Rattle.net_base.specs.Callers.{IsClock, IsScript, caller_of}
+use Rattle.net_base.specs.Callers.{IsClock, caller_of}
 use Rattle.net_base.specs.Calm.{done, limited, movable, stopped, target}
 use Rattle.net_base.specs.Net.{Net, after}
 use Rattle.net_base.specs.Next.{by, own_replies}
@@ -16,17 +16,19 @@ use Rattle.journal.specs.declared.law.Roster.{Roster}
 use Rattle.script_task.specs.Rest.{Continues}
 use Rattle.guest_laws.specs.Own.{AreNext, AreTimely, IsLegalButScripts}
 use Rattle.guest_laws.specs.Works.{entries, noted_net}
-use Rattle.host_net.specs.declared.clock.Advance.{Advance}
-use Rattle.host_net.specs.declared.clock.Advance.TheVariants as advance
+use Rattle.net_locks.specs.declared.clock.Advance.{Advance}
+use Rattle.net_locks.specs.declared.clock.Advance.TheVariants as advance
 use Rattle.host_net.specs.declared.player.Role.{Role}
 use Rattle.host_net.proofs.Standings.{no_script}
 use Rattle.host_net.proofs.Taking.{all_lent, in_visits, visit_in}
 use Rattle.host_net.proofs.Histories.{AreOne, after_all}
 use Rattle.host_net.specs.Advancing.{Advanced, Advances, AfterAll, GroupsAreBack, other_players}
-use Rattle.host_net.specs.Deciding.{Decided, IsLeast}
+use Rattle.host_net.specs.Deciding.{Decided}
+use Rattle.net_locks.specs.Moving.{IsLeast}
 use Rattle.host_net.specs.Groups.{Grouped, all_members, visits}
 use Rattle.host_net.specs.Playing.{GoesOn, HasRole, IsPlayed, IsPlayer, Playing}
-use Rattle.host_net.specs.Visits.{HasGuest, IsWith, Stays, Visit, own}
+use Rattle.host_net.specs.Visits.{HasGuest, IsWith, Visit}
+use Rattle.net_locks.specs.Turns.{Stays, own}
 
 -- A player stays one where its caller recorded nothing.
 

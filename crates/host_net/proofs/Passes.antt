@@ -17,13 +17,13 @@ use Rattle.journal.specs.Closing.{IsWhole, plain}
 use Rattle.journal.specs.Rule.{Held}
 use Rattle.journal.specs.Tokens.{Holds, HoldsAll, Met}
 use Rattle.journal.proofs.Lists.{in-left, in-right, prefix_trans}
-use Rattle.net_actors.specs.Numbers.{count_in}
 use Rattle.guest_laws.specs.Guests.{IsGuest, IsOfGuests, StaysGuest}
 use Rattle.guest_laws.specs.Own.{AreNext, AreTimely, AreTurns, IsLegalButScripts, StandsStill}
 use Rattle.guest_laws.specs.Works.{entries}
-use Rattle.host_net.proofs.Rows.{in_books, in_get}
-use Rattle.host_net.specs.Rosters.{AreNumbered, IsRosterOf}
-use Rattle.host_net.specs.Visits.{AreReplayed, Finished, Gathering, Gathers, HasBook, HasGuest, IsReplayed, IsWith, Stays, Visit, own}
+use Rattle.net_base.specs.Callers.{caller_count}
+use Rattle.net_locks.specs.Rosters.{AreReplayed, IsReplayed}
+use Rattle.host_net.specs.Visits.{Finished, Gathering, Gathers, HasBook, HasGuest, IsWith, Visit}
+use Rattle.net_locks.specs.Turns.{Stays, own}
 
 -- Guests that stay.
 
@@ -136,25 +136,13 @@ module _ (w : World) (r : Roster) (vs : List Visit) (p' : Sight) where
 
 -- The end.
 
--- one book more
-pub replayed_on : (w : World) (bs : List Volume) (b : Volume) → AreReplayed w bs → IsReplayed w b.actor b.list → AreReplayed w (bs ++ b ∷ [])
-replayed_on w bs b all is d i = place (last_or d bs b i)
-  where
-    place : In d bs ⊎ (d ≡ b) → IsReplayed w d.actor d.list
-    place (inl there) = all d there
-    place (inr e) = subst (λ (x : Volume). IsReplayed w x.actor x.list) (sym e) is
-
--- each actor of the roster is the world's
-pub known : (w : World) (n : ℕ) (actors : List ActorName) → AreNumbered w n actors → (a : ActorName) → In a actors → has_actor w a ≡ true
-known w n actors are a i = let at_k = in_get actors a i in (are.each at_k.0 a at_k.1).0
-
-module _ (w : World) (r : Roster) (roster : IsRosterOf w r) (vs : List Visit) (p : Sight) (books : List Volume) (h : List Entry)
+module _ (w : World) (r : Roster) (actors : (a : ActorName) → In a r.actors → has_actor w a ≡ true) (callers : r.callers ≡ caller_count w) (vs : List Visit) (p : Sight) (books : List Volume) (h : List Entry)
     (all : (c : ℕ) → c < r.callers → HasGuest c vs) (here : (v : Visit) → In v vs → IsWith w r v p) (whole : IsWhole r p books h) where
   of_guests : IsOfGuests w r p.seen
   of_guests =
       record {
-        actors_are = known w (count_in w) r.actors roster.actors_are;
-        callers_are = roster.callers_are;
+        actors_are = actors;
+        callers_are = callers;
         lawful = whole.lawful;
         turns = λ c lt. let v = all c lt in subst (λ (k : ℕ). AreTurns w k p.seen) v.2 (here v.0 v.1).guest.turns;
       }
@@ -164,10 +152,10 @@ module _ (w : World) (r : Roster) (roster : IsRosterOf w r) (vs : List Visit) (p
       let with = here v i in
       whole.callers v.caller with.guest.list with.guest.held ∙ ap (map plain) (sym with.guest.all ∙ with.stays.alone)
 
-  pub kept : map (λ (b : Volume). b.actor) books ≡ r.actors → AreReplayed w books → ((a : ActorName) → has_actor w a ≡ true → In a r.actors)
+  pub kept : AreReplayed w books → ((a : ActorName) → has_actor w a ≡ true → (b : Volume) × In b books × (b.actor ≡ a))
       → (a : ActorName) → has_actor w a ≡ true → HasBook w a h
-  kept names replayed has a is =
-      let b = in_books books a (subst (λ (l : List ActorName). In a l) (sym names) (has a is)) in
+  kept replayed each a is =
+      let b = each a is in
       record {
         list = b.0.list;
         all = subst (λ (d : ActorName). of_actor d h ≡ map plain b.0.list) b.2 (whole.actors b.0 b.1);

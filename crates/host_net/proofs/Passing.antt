@@ -6,25 +6,25 @@ use Rattle.net_base.specs.declared.world.Script.{Script}
 use Rattle.net_base.specs.declared.world.World.{World}
 use Rattle.net_base.specs.Callers.{IsScript, caller_of}
 use Rattle.net_base.specs.Duties.{Duty}
-use Rattle.net_base.specs.Stamped.{In, moment}
+use Rattle.net_base.specs.Stamped.{moment}
 use Rattle.journal.specs.declared.law.Roster.{Roster}
 use Rattle.journal.specs.declared.tokens.Sight.{Sight}
 use Rattle.due_moments.specs.Marks.{Covers, Marks}
 use Rattle.guest_laws.specs.Guests.{HandsOver, IsGuest, StaysGuest}
-use Rattle.host_net.specs.declared.clock.Advance.{Advance}
-use Rattle.host_net.specs.declared.calendar.Calendar.{Calendar}
-use Rattle.host_net.specs.declared.clock.Standing.{Standing}
+use Rattle.net_locks.specs.declared.clock.Advance.{Advance}
+use Rattle.net_locks.specs.declared.calendar.Calendar.{Calendar}
+use Rattle.net_locks.specs.declared.clock.Standing.{Standing}
 use Rattle.host_net.proofs.Handing.{goes_over, moment_here, moment_over, moment_there, stays_here, stays_there}
-use Rattle.host_net.proofs.Knowledge.{known_on}
-use Rattle.host_net.proofs.Covered.{covers_still}
+use Rattle.host_net.proofs.Operating.{StaysKnown}
 use Rattle.host_net.proofs.Lending.{advances_on, lent_on}
 use Rattle.host_net.specs.declared.player.Role.{Role}
 use Rattle.host_net.proofs.Passes.{itself}
 use Rattle.host_net.specs.Advancing.{Advances, AreBack, AreLent, other_players}
 use Rattle.host_net.specs.Groups.{Apart, Grouped, NotIn, callers_of, visits}
 use Rattle.host_net.specs.Playing.{Playing}
-use Rattle.host_net.specs.Knowing.{IsKnown}
-use Rattle.host_net.specs.Visits.{IsVisit, IsWith, Stays, Visit, own}
+use Rattle.net_locks.specs.Knowing.{IsKnown}
+use Rattle.host_net.specs.Visits.{IsVisit, IsWith, Visit}
+use Rattle.net_locks.specs.Turns.{Stays, own}
 
 pub test_turned : (a b : ℕ) → (a == b) ≡ false → (b == a) ≡ false
 test_turned a b other = grind (arith, nat_tests, other)
@@ -143,9 +143,9 @@ module _ {T : Type 0} (w : World) (r : Roster) (over : Overs w r) (there : There
   next_lent = lent_more w r over there here me clock.caller (callers_of left) apart_here mine clock.sight p1 q1 h (visits left) ss lent_here
 
   -- the clock's guest with one number more
-  pub clock_with : (ds : List Duty) (host : ℕ) (m : Marks) (k : Calendar) → IsVisit w r clock.caller clock.now clock.sight ds host m k
+  pub clock_with : StaysKnown w → (ds : List Duty) (host : ℕ) (m : Marks) (k : Calendar) → IsVisit w r clock.caller clock.now clock.sight ds host m k
       → IsVisit w r clock.caller clock.now q1 ds host m k
-  clock_with ds host m k is =
+  clock_with stays_known ds host m k is =
       let stays : Stays w clock.caller clock.sight q1 =
       clock_stays w r over there here me clock.caller (callers_of left) apart_here mine clock.sight p1 q1 h ds is.guest in
       record {
@@ -153,8 +153,8 @@ module _ {T : Type 0} (w : World) (r : Roster) (over : Overs w r) (there : There
         here = is.here ∙ sym (clock_moment w r over there here me clock.caller (callers_of left) apart_here mine clock.sight p1 q1 h ds is.guest);
         early = is.early;
         home = is.home;
-        covers = covers_still clock.caller clock.sight q1 m stays.alone is.covers;
-        known = known_on w clock.sight.seen q1.seen k stays.before is.known;
+        covers = subst (λ (l : List (ℕ × Noted)). Covers l m) (sym stays.alone) is.covers;
+        known = stays_known clock.sight.seen q1.seen k stays.before is.known;
       }
 
   -- `had` is the clock's guest after the others, and `had_now` as it was left
@@ -175,25 +175,25 @@ module _ {T : Type 0} (w : World) (r : Roster) (over : Overs w r) (there : There
         me_back = returned w r over there here me clock.caller (callers_of left) apart_here mine clock.sight p1 q1 h had.sight stay_here p2 s2 b
 
         -- the first player's guest
-        pub me_visits : (ds : List Duty) (host : ℕ) (m : Marks) (k : Calendar) → IsVisit w r had.caller had.now had.sight ds host m k
+        pub me_visits : StaysKnown w → (ds : List Duty) (host : ℕ) (m : Marks) (k : Calendar) → IsVisit w r had.caller had.now had.sight ds host m k
             → (home : ℕ) (touched forgotten : Marks) (kept : Calendar)
             → ((s : Script) → caller_of w me.caller ≡ IsScript s → s.host ≡ home)
             → Covers (own me.caller me.sight) touched → ((es : List (ℕ × Noted)) → Covers es touched → Covers es forgotten)
             → IsKnown w me.sight.seen kept → IsVisit w r me.caller had.now p2 me.owed home forgotten kept
-        me_visits ds host m k is home touched forgotten kept at_home covers forgets known =
+        me_visits stays_known ds host m k is home touched forgotten kept at_home covers forgets known =
             record {
               guest = me_back.guest;
               here = is.here ∙ sym (returned_moment w r over there here me clock.caller (callers_of left) apart_here mine clock.sight p1 q1 h had.sight stay_here p2 s2 b);
               early = is.early;
               home = at_home;
-              covers = forgets (own me.caller p2) (covers_still me.caller me.sight p2 touched me_back.stays.alone covers);
-              known = known_on w me.sight.seen p2.seen kept me_back.stays.before known;
+              covers = forgets (own me.caller p2) (subst (λ (l : List (ℕ × Noted)). Covers l touched) (sym me_back.stays.alone) covers);
+              known = stays_known me.sight.seen p2.seen kept me_back.stays.before known;
             }
 
         -- the clock's guest
-        pub clock_visits : (ds : List Duty) (host : ℕ) (m : Marks) (k : Calendar) → IsVisit w r had.caller had.now had.sight ds host m k
+        pub clock_visits : StaysKnown w → (ds : List Duty) (host : ℕ) (m : Marks) (k : Calendar) → IsVisit w r had.caller had.now had.sight ds host m k
             → IsVisit w r had.caller had.now s2 ds host m k
-        clock_visits ds host m k is =
+        clock_visits stays_known ds host m k is =
             let stays : Stays w had.caller had.sight s2 =
             subst (λ (c : ℕ). Stays w c had.sight s2) (sym had_caller)
             (clock_stays_after w r over there here me clock.caller (callers_of left) apart_here mine clock.sight p1 q1 h had.sight stay_here p2 s2 b ds
@@ -205,8 +205,8 @@ module _ {T : Type 0} (w : World) (r : Roster) (over : Overs w r) (there : There
               here = is.here ∙ sym (clock_moment_after w r over there here me clock.caller (callers_of left) apart_here mine clock.sight p1 q1 h had.sight stay_here p2 s2 b);
               early = is.early;
               home = is.home;
-              covers = covers_still had.caller had.sight s2 m stays.alone is.covers;
-              known = known_on w had.sight.seen s2.seen k stays.before is.known;
+              covers = subst (λ (l : List (ℕ × Noted)). Covers l m) (sym stays.alone) is.covers;
+              known = stays_known had.sight.seen s2.seen k stays.before is.known;
             }
 
         pub others_stay_here : OthersStay w r (now_clock.caller ∷ callers_of (ps ++ other_players gs)) now_clock.sight s2

@@ -9,8 +9,8 @@ use Rattle.journal.specs.declared.law.Roster.{Roster}
 use Rattle.guest_laws.specs.Guests.{IsOfGuests}
 use Rattle.guest_laws.specs.Own.{IsLegalButScripts}
 use Rattle.guest_laws.specs.Works.{entries, noted_net}
-use Rattle.host_net.specs.declared.clock.Advance.{Advance}
-use Rattle.host_net.specs.declared.clock.Standing.{Standing}
+use Rattle.net_locks.specs.declared.clock.Advance.{Advance}
+use Rattle.net_locks.specs.declared.clock.Standing.{Standing}
 use Rattle.net_base.specs.declared.noted.Noted.{Noted}
 use Rattle.host_net.proofs.Histories.{AreOne}
 use Rattle.host_net.proofs.Outcomes.{advanced}

@@ -1,5 +1,5 @@
 -- The clock's player is taken out of its group, and put back: no other group has one, and the other players stay.
-use Rattle.std.proofs.Common.{◌≡◌, ℕ, zero, suc, ◌<◌, ◌==◌, ◌⊎◌, inl, inr, Bool, true, false, List, [], ◌∷◌, ◌++◌, drop, length, map, take, Option, Some, None, slice_get, slice_set, refl, ap, sym, subst, ◌∙◌, arith}
+use Rattle.std.proofs.Common.{◌≡◌, ℕ, zero, suc, ◌==◌, ◌⊎◌, inl, inr, true, false, List, [], ◌∷◌, ◌++◌, drop, length, map, take, Option, Some, None, slice_get, slice_set, refl, ap, sym, subst, ◌∙◌, arith}
 use Rattle.std.specs.Option.{option_map}
 use Rattle.std.proofs.lemmas.Bool.{true≢false}
 use Rattle.std.proofs.lemmas.List.{append-nil, drop_all, map-append, take_all}
@@ -11,7 +11,8 @@ use Rattle.host_net.proofs.Passes.{last_or}
 use Rattle.host_net.specs.Advancing.{AreBack, AreKept, ClockStays, GroupsAreBack, GroupsAreKept, IsBack, IsClockKept, IsGroupKept, IsKept, other_players}
 use Rattle.host_net.specs.Groups.{Apart, Grouped, NotIn, all_callers, all_members, all_seats, caller, callers_in, callers_of, members, seats, visits, with_last}
 use Rattle.host_net.specs.Playing.{Playing}
-use Rattle.host_net.specs.Visits.{Stays, Visit}
+use Rattle.net_locks.specs.Turns.{Stays}
+use Rattle.host_net.specs.Visits.{Visit}
 
 -- Numbers.
 

@@ -1,7 +1,7 @@
 -- What a script's request leaves of a player.
-use Rattle.std.proofs.Common.{◌≡◌, ◌≢◌, ℕ, ◌⊎◌, inl, inr, Bool, true, false, List, [], ◌∷◌, ◌++◌, Option, Some, None, refl, ap, sym, subst, ◌∙◌}
+use Rattle.std.proofs.Common.{◌≡◌, ◌≢◌, ℕ, inl, inr, Bool, true, false, List, [], ◌∷◌, ◌++◌, Option, Some, None, refl, ap, sym, subst, ◌∙◌}
 use Rattle.std.proofs.lemmas.Bool.{true≢false}
-use Rattle.std.proofs.lemmas.Option.{none-some, same_Some}
+use Rattle.std.proofs.lemmas.Option.{none-some}
 use Rattle.net_base.specs.declared.history.Outcome.{Outcome}
 use Rattle.net_base.specs.declared.noted.Noted.{Noted}
 use Rattle.net_base.specs.declared.reply.Reply.{Reply}
@@ -23,12 +23,13 @@ use Rattle.host_net.specs.declared.player.Played.{Played}
 use Rattle.host_net.specs.declared.player.Played.TheVariants as played
 use Rattle.host_net.specs.declared.player.Role.{Role}
 use Rattle.host_net.specs.declared.player.Role.TheVariants as role
-use Rattle.host_net.specs.declared.turn.Turn.{Turn}
-use Rattle.host_net.specs.declared.turn.Turn.TheVariants as turn
-use Rattle.host_net.specs.Playing.{GoesOn, HasMore, HasRole, Heard, IsPlayed, IsPlayer, IsUnmoved, IsUnready, IsWaiting, PlaysOn, Told, played_by}
-use Rattle.host_net.specs.Visits.{Asked, IsSame, Operated, Visit, bare}
+use Rattle.net_locks.specs.declared.turn.Turn.{Turn}
+use Rattle.net_locks.specs.declared.turn.Turn.TheVariants as turn
+use Rattle.host_net.specs.Playing.{GoesOn, HasMore, HasRole, Heard, IsPlayed, IsPlayer, IsUnmoved, IsUnready, IsWaiting, PlaysOn, Told}
+use Rattle.host_net.specs.Visits.{Asked, IsSame, Operated, Visit}
+use Rattle.net_locks.specs.Turns.{bare}
 use Rattle.host_net.proofs.Continuing.{FitWorks, KeepsActors, continues_on, fits_there, own_reply, own_stays, play_fits, script_next}
-use Rattle.host_net.proofs.Keeping.{by_record, goes_stay, more, playing, still_player, turn_played, turn_plays, unready_next}
+use Rattle.host_net.proofs.Keeping.{goes_stay, more, playing, still_player, turn_played, turn_plays, unready_next}
 
 -- the entry of a script that owes nothing is its next event
 next_asked : (w : World) (old : Visit) (s : Script) (ask : Ask) → caller_of w old.caller ≡ IsScript s → old.owed ≡ [] → next w (entries old.sight.seen) old.caller ≡ Some ask

@@ -18,13 +18,16 @@ use Rattle.due_moments.specs.Marks.{Covers}
 use Rattle.guest_laws.specs.Guests.{IsOfGuests}
 use Rattle.guest_laws.specs.Own.{AreNext, AreTimely}
 use Rattle.guest_laws.specs.Works.{entries}
-use Rattle.host_net.specs.declared.clock.Advance.{Advance}
-use Rattle.host_net.specs.declared.clock.Advance.TheVariants as advance
-use Rattle.host_net.specs.declared.clock.Standing.{Standing}
-use Rattle.host_net.specs.Deciding.{Decided, HasStanding, IsBare, IsLeast, ask_of}
+use Rattle.net_locks.specs.declared.clock.Advance.{Advance}
+use Rattle.net_locks.specs.declared.clock.Advance.TheVariants as advance
+use Rattle.net_locks.specs.declared.clock.Standing.{Standing}
+use Rattle.host_net.specs.Deciding.{Decided}
+use Rattle.net_locks.specs.Standings.{HasStanding, IsBare, ask_of}
+use Rattle.net_locks.specs.Moving.{IsLeast}
 use Rattle.host_net.specs.Groups.{Grouped}
 use Rattle.host_net.specs.Playing.{Playing}
-use Rattle.host_net.specs.Visits.{Gathers, IsWith, Stays, Visit, own}
+use Rattle.host_net.specs.Visits.{Gathers, IsWith, Visit}
+use Rattle.net_locks.specs.Turns.{Stays, own}
 
 -- How a caller stands.
 

@@ -1,9 +1,6 @@
 pub mod Visits
-pub mod Rosters
-pub mod Facts
 pub mod Worked
 pub mod Deciding
-pub mod Knowing
 pub mod Playing
 pub mod Groups
 pub mod Advancing

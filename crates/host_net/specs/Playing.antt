@@ -1,7 +1,7 @@
 -- Callers that are played.
 --     IsPlayer      what a player keeps
 --     PlaysOn       what its turn did
-use Rattle.std.specs.Prelude.{◌≡◌, ℕ, ◌⊎◌, Bool, true, false, List, [], ◌∷◌, ◌++◌, Option, Some, None}
+use Rattle.std.specs.Prelude.{◌≡◌, ℕ, ◌⊎◌, Bool, true, false, List, [], ◌∷◌, ◌++◌, Some, None}
 use Rattle.net_base.specs.declared.noted.Noted.{Noted}
 use Rattle.net_base.specs.declared.reply.Reply.{Reply}
 use Rattle.net_base.specs.declared.world.Script.{Script}
@@ -20,9 +20,10 @@ use Rattle.host_net.specs.declared.player.Played.{Played}
 use Rattle.host_net.specs.declared.player.Played.TheVariants as played
 use Rattle.host_net.specs.declared.player.Role.{Role}
 use Rattle.host_net.specs.declared.player.Role.TheVariants as role
-use Rattle.host_net.specs.declared.turn.Turn.{Turn}
-use Rattle.host_net.specs.declared.turn.Turn.TheVariants as turn
-use Rattle.host_net.specs.Visits.{IsFull, Visit, bare, own}
+use Rattle.net_locks.specs.declared.turn.Turn.{Turn}
+use Rattle.net_locks.specs.declared.turn.Turn.TheVariants as turn
+use Rattle.net_locks.specs.Turns.{IsFull, bare, own}
+use Rattle.host_net.specs.Visits.{Visit}
 
 -- who a caller is
 abbrev pub HasRole : World → ℕ → Role → Type 0

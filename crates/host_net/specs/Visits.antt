@@ -1,45 +1,31 @@
 -- What contracts see of a guest, and what its turns do.
-use Rattle.std.specs.Prelude.{◌≡◌, ◌≢◌, ℕ, true, ◌+◌, ◌<◌, ◌^◌, ◌⊎◌, List, [], ◌∷◌, ◌++◌, length, map, drop, Option, Some, None, slice_get}
-use mathlib.Core.List.{IsPrefix}
+use Rattle.std.specs.Prelude.{◌≡◌, ◌≢◌, ℕ, true, ◌+◌, ◌<◌, ◌^◌, ◌⊎◌, List, [], ◌∷◌, map, Option, Some, None}
 use Rattle.net_base.specs.declared.actor.ActorName.{ActorName}
-use Rattle.net_base.specs.declared.event.Event.{Event}
 use Rattle.net_base.specs.declared.history.Entry.{Entry}
-use Rattle.net_base.specs.declared.history.Outcome.{Outcome}
-use Rattle.net_base.specs.declared.history.With.TheVariants as given
 use Rattle.net_base.specs.declared.history.Work.{Work}
 use Rattle.net_base.specs.declared.noted.Noted.{Noted}
-use Rattle.net_base.specs.declared.noted.Number.TheVariants as number
-use Rattle.net_base.specs.declared.reply.Reply.{Reply}
 use Rattle.net_base.specs.declared.world.Script.{Script}
 use Rattle.net_base.specs.declared.world.World.{World}
-use Rattle.net_base.specs.ActorStep.{Step}
-use Rattle.net_base.specs.Actors.{Actor, actor_step, has_actor}
+use Rattle.net_base.specs.Actors.{has_actor}
 use Rattle.net_base.specs.Callers.{IsScript, caller_of}
-use Rattle.net_base.specs.Duties.{Duty, duties}
-use Rattle.net_base.specs.Legal.{IsAsked, IsLegal, IsTimed}
-use Rattle.net_base.specs.Net.{after}
-use Rattle.net_base.specs.Next.{next}
-use Rattle.net_base.specs.Stamped.{In, at, moment, of_actor, of_caller}
+use Rattle.net_base.specs.Duties.{Duty}
+use Rattle.net_base.specs.Legal.{IsLegal, IsTimed}
+use Rattle.net_base.specs.Stamped.{In, moment, of_actor, of_caller}
 use Rattle.net_base.specs.Steps.{Ask, Bound}
 use Rattle.journal.specs.declared.law.Roster.{Roster}
 use Rattle.journal.specs.declared.tokens.Sight.{Sight}
-use Rattle.journal.specs.declared.tokens.Volume.{Volume}
 use Rattle.journal.specs.Closing.{plain}
-use Rattle.locked.specs.Acts.{Replays, made, without_copy}
-use Rattle.ip_route.specs.Kept.{HostWays}
-use Rattle.duties.specs.Owing.{Owes}
-use Rattle.duties.specs.Queue.{Queue}
 use Rattle.script_task.specs.declared.request.Request.{Request}
 use Rattle.script_task.specs.Requests.{planned, settled}
-use Rattle.guest_laws.specs.Works.{entries, noted_net}
-use Rattle.guest_laws.specs.Own.{AreNext, AreTimely, IsLegalButScripts, StandsStill}
+use Rattle.guest_laws.specs.Own.{AreNext, AreTimely, IsLegalButScripts}
 use Rattle.guest_laws.specs.Guests.{IsGuest}
-use Rattle.guest_laws.specs.Named.{answer_in, opening}
 use Rattle.due_moments.specs.Marks.{Covers, Marks}
-use Rattle.host_net.specs.declared.calendar.Calendar.{Calendar}
-use Rattle.host_net.specs.declared.turn.Turn.{Turn}
-use Rattle.host_net.specs.declared.turn.Turn.TheVariants as turn
-use Rattle.host_net.specs.Knowing.{IsKnown}
+use Rattle.net_locks.specs.declared.calendar.Calendar.{Calendar}
+use Rattle.net_locks.specs.declared.turn.Turn.{Turn}
+use Rattle.net_locks.specs.declared.turn.Turn.TheVariants as turn
+use Rattle.net_locks.specs.Knowing.{IsKnown}
+use Rattle.net_locks.specs.Rosters.{IsReplayed}
+use Rattle.net_locks.specs.Turns.{HasRoom, IsFull, Stays, Turned, bare, own}
 
 -- a caller, the moment, its pass, what it owes, and the names that it has bound
 pub record Visit : Type 0 where
@@ -48,10 +34,6 @@ pub record Visit : Type 0 where
   pub sight : Sight
   pub owed : List Duty
   pub names : List Bound
-
--- the caller's entries, of all that was seen
-abbrev pub own : ℕ → Sight → List (ℕ × Noted)
-own c p = at (number.Caller c) p.seen
 
 -- a guest knows its duties and the moment, a script's the host on which it runs, at which conversations it recorded
 -- something, and when conversations were due
@@ -66,66 +48,10 @@ pub record IsVisit (w : World) (r : Roster) (c now : ℕ) (p : Sight) (ds : List
 
 -- Turns.
 
-abbrev pub HasRoom : ℕ → Sight → Type 0
-HasRoom c p = length (own c p) < 131072
-
-abbrev pub IsFull : ℕ → Sight → Type 0
-IsFull c p = length (own c p) ≡ 131072
-
--- one entry of the caller was recorded: its actor's step in the net of the past, and its first duty is done
-pub record Recorded (w : World) (c now : ℕ) (a : ActorName) (work : Work) (cites : Option ℕ) (p : Sight)
-    (ds : List Duty) (stamp : ℕ) (answer : Reply) (p' : Sight) (ds' : List Duty) : Type 0 where
-  pub room : HasRoom c p
-  pub past : List Noted
-  pub stamp_is : length past ≡ stamp
-  pub before : IsPrefix p.seen past
-  pub alone : at (number.Caller c) past ≡ own c p
-  pub step : Step Actor
-  pub stepped : actor_step w a ((noted_net w past).actors a) now work ≡ Some step
-  pub reply : answer ≡ step.outcome.reply
-  pub seen : p'.seen ≡ past ++ made a c now work cites (without_copy step.outcome) ∷ []
-  pub owed : ds' ≡ drop 1 ds ++ duties w (noted_net w past).actors a stamp work step
-  pub nexts : IsAsked ds (caller_of w c) (next w (entries p.seen) c)
-      (made a c now work cites (without_copy step.outcome)).entry
-      → AreNext w c p.seen → AreNext w c p'.seen
-  pub timely : AreTimely w c p.seen → AreTimely w c p'.seen
-
--- more was seen, but no entry of the caller
-pub record Stays (w : World) (c : ℕ) (p p' : Sight) : Type 0 where
-  pub before : IsPrefix p.seen p'.seen
-  pub alone : own c p' ≡ own c p
-  pub stands : StandsStill w c p.seen p'.seen
-
--- after all that was seen the work isn't ready
-pub record Unready (w : World) (c now : ℕ) (a : ActorName) (work : Work) (p : Sight) (p' : Sight) : Type 0 where
-  pub room : HasRoom c p
-  pub stays : Stays w c p p'
-  pub unready : actor_step w a ((noted_net w p'.seen).actors a) now work ≡ None
-
--- what a turn with this work at this actor did, by its answer
-abbrev pub Turned : World → ℕ → ℕ → ActorName → Work → Option ℕ → Sight → List Duty → Turn → Sight → List Duty
-    → Type 0
-Turned w c now a work cites p ds (turn.Recorded stamp answer) p' ds' =
-    Recorded w c now a work cites p ds stamp answer p' ds'
-Turned w c now a work cites p ds turn.NotReady p' ds' = Unready w c now a work p p' × (ds' ≡ ds)
-Turned w c now a work cites p ds turn.Owes p' ds' = ⊥
-Turned w c now a work cites p ds turn.Limit p' ds' = IsFull c p × (p' ≡ p) × (ds' ≡ ds)
-Turned w c now a work cites p ds turn.Memory p' ds' = HasRoom c p × (p' ≡ p) × (ds' ≡ ds)
-
 -- a guest's turn with this work at this actor
 abbrev pub Takes : World → ActorName → Work → Option ℕ → Visit → Turn → Visit → Type 0
 Takes w a work cites old answer new =
     Turned w old.caller old.now a work cites old.sight old.owed answer new.sight new.owed
-
--- the first duty is done, and what its entry owes stands after those that are left
-pub record OwesLeft (ks : List HostWays) (a : ActorName) (stamp : ℕ) (work : Work) (o : Outcome) (old new : Queue) : Type 0 where
-  pub left : Queue
-  pub rest : left.list ≡ drop 1 old.list
-  pub owes : Owes ks a stamp work o left new
-
--- with nothing given
-abbrev pub bare : Event → Work
-bare e = record { event = e; with = given.Nothing }
 
 -- the names after a turn with a request
 abbrev pub names_after : List Bound → Request → Turn → List Bound
@@ -161,14 +87,6 @@ HasGuest c vs = (v : Visit) × In v vs × (v.caller ≡ c)
 pub record IsWith (w : World) (r : Roster) (v : Visit) (p : Sight) : Type 0 where
   pub guest : IsGuest w r v.caller p v.owed
   pub stays : Stays w v.caller v.sight p
-
--- each of these entries was a step of the actor, in the state to which those before it led
-abbrev pub IsReplayed : World → ActorName → List (ℕ × Noted) → Type 0
-IsReplayed w a list = Replays opening (answer_in w) (opening a) list
-
--- each of these books is so
-abbrev pub AreReplayed : World → List Volume → Type 0
-AreReplayed w bs = (b : Volume) → In b bs → IsReplayed w b.actor b.list
 
 -- the actor's entries in the history are those of its book
 pub record HasBook (w : World) (a : ActorName) (h : List Entry) : Type 0 where

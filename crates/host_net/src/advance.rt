@@ -9,12 +9,11 @@ ghost use Rattle.journal.specs.Tokens.{Holds};
 ghost use Rattle.guest_laws.specs.Guests.{HandsOver, IsGuest};
 ghost use Rattle.guest_laws.specs.Works.{entries};
 ghost use Rattle.host_net.specs.Advancing.{Adds, Advanced, Advances, AreBack, AreLent, AreStandings, GroupsAreBack, GroupsAreKept, IsStanding, IsTaken, other_players};
-ghost use Rattle.host_net.specs.Deciding.{IsBare, ask_of};
+ghost use Rattle.net_locks.specs.Standings.{IsBare, ask_of};
 ghost use Rattle.host_net.specs.Groups.{Apart, Grouped, IsDealt, NotIn, all_members, all_seats, callers_of, members, visits};
 ghost use Rattle.host_net.specs.Visits as visiting;
 ghost use Rattle.host_net.specs.Visits.{IsWith, Visit};
 
-use crate::clock::{Advance, Standing};
 use crate::guest::Guest;
 use crate::net::Net;
 use crate::player::{Player, Role};
@@ -24,6 +23,7 @@ use calm_laws::histories_are_their_callers;
 use guest_laws::{guests_hand_over, histories_of_guests_are_legal};
 use journal::{Journal, Naming, Pass};
 use net_base::{ActorName, Event, With, Work, World};
+use net_locks::{Advance, Standing, calendars_stay_known};
 use outside::Gate;
 use script_task::{Planned, Task, event_of};
 use std::alloc::{AllocError, Global};
@@ -234,19 +234,20 @@ impl<J: Naming + Placing> Net<J, WorldActor<J>> {
         ensures players { AreBack J.world clock.new.now players.old players.new }
         ensures groups { GroupsAreBack J.world clock.new.now groups.old groups.new }
     {
+        calendars_stay_known();
         guests_hand_over();
         match players.split_first_mut() {
             Some((first, others)) => {
                 let caller = first.guest.caller;
                 hand_over(
-                    &self.journal,
+                    self.locks.journal(),
                     &mut first.guest.pass,
                     &mut clock.pass,
                     caller,
                 );
                 let answer = self.with_all(rt, gate, world, standings, others, groups, clock);
                 hand_over(
-                    &self.journal,
+                    self.locks.journal(),
                     &mut clock.pass,
                     &mut first.guest.pass,
                     caller,

@@ -1,6 +1,5 @@
-//! What the workers of a phase know of one another, and what is known of actors.
+//! What the workers of a phase know of one another.
 use crate::crew::Crew;
-use crate::marks::{Marks, Spot};
 use std::process::Abort;
 use std::sync::Wait;
 use std::test::Fail;
@@ -50,16 +49,5 @@ fn two_workers_rest_until_both_do(rt: HostRuntime) -> Result<(), Fail> {
     let (one, two) = join(&rt, || work(&rt, &crew), || work(&rt, &crew));
     assert!(rt; one == 2 || two == 2);
     assert_eq!(rt; crew.look(&rt).0, 2);
-    Ok(())
-}
-
-#[test]
-fn an_entry_is_seen_at_its_actor_alone(rt: HostRuntime) -> Result<(), Fail> {
-    let marks = Marks::new(rt.alloc(), 2)?;
-    let (one, two) = (marks.spot(0), marks.spot(1));
-    marks.add(1);
-    assert!(rt; marks.stands(one) && !marks.stands(two));
-    marks.add(2);
-    assert!(rt; marks.stands(one) && marks.stands(marks.spot(2)) && marks.stands(Spot::nowhere()));
     Ok(())
 }

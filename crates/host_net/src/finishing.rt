@@ -1,14 +1,10 @@
-//! The end: the passes of all guests and the books behind all locks.
-ghost use Rattle.std.specs.Prelude.{◌≡◌, map, IfOk};
-ghost use Rattle.host_net.specs.Visits.{AreReplayed, Gathers, IsReplayed, IsWith, Visit};
+//! The end: the passes of all guests.
+ghost use Rattle.host_net.specs.Visits.{Gathers, IsWith, Visit};
 
 use crate::guest::Guest;
-use actor_machines::{Placing, WorldActor};
+use actor_machines::Placing;
 use guest_laws::guests_meet;
-use journal::{Book, Journal, Naming, Pass};
-use locked::Locked;
-use net_base::same_actor;
-use std::alloc::{AllocError, Global};
+use journal::{Journal, Naming, Pass};
 
 // Takes the passes of the guests in.
 pub(crate) fn gather<J: Naming + Placing>(
@@ -30,35 +26,4 @@ fn take_in<J: Naming + Placing>(journal: &Journal<J>, all: &mut Pass<J>, guest: 
 {
     guests_meet();
     journal.meet(all, guest.into_pass());
-}
-
-// The books behind the locks, in the order of these. Each entry was a step of its actor.
-pub(crate) fn books_of<J: Naming + Placing>(
-    alloc: Global,
-    mut locks: Vec<Locked<J, WorldActor<J>>>,
-) -> Result<Vec<Book<J>>, AllocError>
-    ensures actors { IfOk result (λ books. map (λ b. b.actor) books.items ≡ map (λ l. l.actor) locks.items) }
-    ensures replayed { IfOk result (λ books. AreReplayed J.world books.items) }
-{
-    let mut books = Vec::with_capacity(alloc, locks.len())?;
-    locks.reverse();
-    while let Some(lock) = locks.pop() {
-        let book = book_of(lock)?;
-        books.push(book)?;
-    }
-    Ok(books)
-}
-
-// The book behind a lock. Nothing is known of what lies behind a lock but its type, so that it is this actor's is seen
-// here. It always is.
-fn book_of<J: Naming + Placing>(lock: Locked<J, WorldActor<J>>) -> Result<Book<J>, AllocError>
-    ensures actor { IfOk result (λ b. b.actor ≡ lock.actor) }
-    ensures replayed { IfOk result (λ b. IsReplayed J.world b.actor b.list) }
-{
-    let actor = lock.actor();
-    let (_, book) = lock.into_parts();
-    if !same_actor(book.actor(), actor) {
-        return Err(AllocError);
-    }
-    Ok(book)
 }

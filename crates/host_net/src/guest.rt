@@ -1,19 +1,20 @@
 //! A guest: what a caller keeps.
-ghost use Rattle.std.specs.Prelude.{◌≡◌, ◌∷◌, ◌<◌, [], not, length, ◌==◌, IfOk};
+ghost use Rattle.std.specs.Prelude.{◌≡◌, ◌<◌, [], not, length, ◌==◌, IfOk};
 ghost use Rattle.net_base.specs.declared.noted.Number.TheVariants.{Caller};
 ghost use Rattle.net_base.specs.declared.world.Script.{Script};
 ghost use Rattle.net_base.specs.Callers.{IsScript, caller_of};
 ghost use Rattle.net_base.specs.Stamped.{In};
 ghost use Rattle.guest_laws.specs.Guests.{IsGuest};
 ghost use Rattle.due_moments.specs.Marks.{Covers};
-ghost use Rattle.host_net.specs.Visits.{IsFresh, own};
+ghost use Rattle.host_net.specs.Visits.{IsFresh};
+ghost use Rattle.net_locks.specs.Turns.{own};
 
-use crate::calendar::Calendar;
 use actor_machines::Placing;
 use due_moments::Touched;
 use duties::Duties;
 use guest_laws::guests_begin;
 use journal::{Naming, Pass};
+use net_locks::Calendar;
 use net_tree::Fids;
 use std::alloc::{AllocError, Global};
 use std::marker::Model;

@@ -6,18 +6,17 @@ ghost use Rattle.net_base.specs.Steps.{Play};
 ghost use Rattle.net_base.specs.World.{IsWorld};
 ghost use Rattle.script_task.specs.Rest.{Continues};
 ghost use Rattle.host_net.specs.Playing.{HasRole, IsPlayed, IsSamePlayer, PlaysOn, Heard, Told, played_by};
-ghost use Rattle.host_net.specs.Rosters.{IsRosterOf};
+ghost use Rattle.net_locks.specs.Rosters.{IsRosterOf};
 ghost use Rattle.host_net.specs.Visits.{IsFresh};
 ghost use Rattle.host_net.specs.declared.player.Role.TheVariants as role;
 
 use crate::guest::Guest;
-use crate::marks::Spot;
 use crate::net::Net;
-use crate::turn::Turn;
 use actor_machines::{Placing, WorldActor};
 use guest_laws::{guests_begin, locks_keep_actors};
 use journal::Naming;
 use net_base::{ActorName, Reply, World};
+use net_locks::{Spot, Turn};
 use outside::Gate;
 use script_task::{Task, replies_fit};
 use std::alloc::Global;
@@ -210,7 +209,7 @@ impl<J: Naming + Placing> Net<J, WorldActor<J>> {
         if player.role == Role::Clock && !player.guest.owes() {
             return true;
         }
-        self.stands(player.spot)
+        self.locks.stands(player.spot)
     }
 
     // The first duty.
@@ -241,7 +240,7 @@ impl<J: Naming + Placing> Net<J, WorldActor<J>> {
         ensures same { IsSamePlayer player.old player.new }
         ensures turn { PlaysOn J.world player.old result player.new }
     {
-        player.spot = self.spot_of(ActorName::Medium(medium));
+        player.spot = self.locks.spot_of(ActorName::Medium(medium));
         played_of(&self.courier_turn(rt, gate, &mut player.guest, medium))
     }
 

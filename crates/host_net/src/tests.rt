@@ -3,7 +3,7 @@ ghost use Rattle.std.specs.Prelude.{◌≡◌, ◌∷◌, [], IfOk, map};
 ghost use Rattle.net_base.specs.declared.world.Script.{Script as AnyScript};
 ghost use Rattle.net_base.specs.Callers.{IsCourier, IsScript, caller_of};
 ghost use Rattle.net_base.specs.World.{IsWorld};
-ghost use Rattle.host_net.specs.Rosters.{IsRosterOf};
+ghost use Rattle.net_locks.specs.Rosters.{IsRosterOf};
 ghost use Rattle.host_net.specs.Worked as worked;
 
 use super::*;

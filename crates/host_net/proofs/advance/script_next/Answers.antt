@@ -1,11 +1,11 @@
-use Rattle.std.proofs.Common.{◌≡◌, ℕ, List, Some, None, ap, sym, subst, ◌∙◌}
+use Rattle.std.proofs.Common.{◌≡◌, List, Some, None, ap, sym, subst, ◌∙◌}
 use Rattle.net_base.specs.declared.history.Work.{Work}
 use Rattle.net_base.specs.Callers.{caller_of}
 use Rattle.net_base.specs.Next.{next}
 use Rattle.net_base.specs.Steps.{Bound}
 use Rattle.script_task.specs.Requests.{planned}
 use Rattle.guest_laws.specs.Works.{entries}
-use Rattle.host_net.specs.Deciding.{ask_of}
+use Rattle.net_locks.specs.Standings.{ask_of}
 use Rattle.host_net.specs.Playing.{Playing}
 use Rattle.host_net.specs.Visits.{Visit}
 use Rattle.host_net.proofs.Foreseen.{nothing_next, something_next}

@@ -1,4 +1,4 @@
-use Rattle.std.proofs.Common.{◌≡◌, ◌++◌, ◌∷◌, ◌+◌, ◌<◌, [], length, ℕ, List, refl, ap, sym, subst, ◌∙◌, arith}
+use Rattle.std.proofs.Common.{◌≡◌, ◌++◌, ◌∷◌, ◌+◌, ◌<◌, [], length, List, refl, ap, sym, subst, ◌∙◌, arith}
 use Rattle.net_base.specs.Callers.{caller_of}
 use Rattle.host_net.specs.declared.player.Player.TheInside.{Inside}
 use Rattle.host_net.proofs.Lending.{advances_at, all_stand, players_left}
@@ -26,7 +26,7 @@ invariant_of-clock g t c =
     clock_with w r (law.over w r) (law.there w r) (law.here w r) c.first-inside.inside.0.1.0 c.first-inside.inside.0.1.1.0 c.first-inside.inside.0.1.1.1.0 mine old
     c.args.clock.now c.in-Some.first.now c.in-Some.others.now c.args.players.now c.args.groups.now one c.in-Some.ensures.cases.0 c.clock.view_is c.args.standings.now
     c.requires.apart c.requires.lent c.first-inside.invariant.guest c.hand_over.new.from c.hand_over.new.to c.hand_over.ensures
-    clock.duties.list clock.host clock.touched clock.calendar c.clock.invariant
+    (c.calendars_stay_known.ensures w) clock.duties.list clock.host clock.touched clock.calendar c.clock.invariant
 
 pub with_all-answer-requires : goal.with_all-answer-requires
 with_all-answer-requires g t c κs within =
@@ -103,7 +103,7 @@ invariant_of-first-inside g t c =
     c.requires.apart c.requires.lent c.first-inside.invariant.guest c.hand_over.new.from c.hand_over.new.to c.hand_over.ensures
     after c.with_all-answer.new.clock c.clock-in-Some.view_is c.with_all-answer.result (visit clock.caller clock.now c.hand_over.new.to clock.duties.list clock.fids.names) refl
     c.with_all-answer.ensures.others c.with_all-answer.ensures.clock c.hand_over-in-Some.new.to c.hand_over-in-Some.new.from c.hand_over-in-Some.ensures
-    had.duties.list had.host had.touched had.calendar c.clock-in-Some.invariant me.host me.touched c.forget.new.self me.calendar c.first-inside.invariant.home
+    (c.calendars_stay_known.ensures w) had.duties.list had.host had.touched had.calendar c.clock-in-Some.invariant me.host me.touched c.forget.new.self me.calendar c.first-inside.invariant.home
     c.first-inside.invariant.covers c.forget.ensures.covers c.first-inside.invariant.known
 
 pub invariant_of-first : goal.invariant_of-first
@@ -148,7 +148,7 @@ invariant_of-clock-in-Some g t c =
     c.requires.apart c.requires.lent c.first-inside.invariant.guest c.hand_over.new.from c.hand_over.new.to c.hand_over.ensures
     after c.with_all-answer.new.clock c.clock-in-Some.view_is c.with_all-answer.result (visit clock.caller clock.now c.hand_over.new.to clock.duties.list clock.fids.names) refl
     c.with_all-answer.ensures.others c.with_all-answer.ensures.clock c.hand_over-in-Some.new.to c.hand_over-in-Some.new.from c.hand_over-in-Some.ensures
-    had.duties.list had.host had.touched had.calendar c.clock-in-Some.invariant
+    (c.calendars_stay_known.ensures w) had.duties.list had.host had.touched had.calendar c.clock-in-Some.invariant
 
 pub decide-requires-clause-all : goal.decide-requires-clause-all
 decide-requires-clause-all g t c =

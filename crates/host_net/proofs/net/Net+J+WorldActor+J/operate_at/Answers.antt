@@ -1,13 +1,12 @@
-use Rattle.std.proofs.Common.{◌≡◌, ℕ, not, ◌==◌, false, List, [], length, Some, None, ap, sym, subst, ◌∙◌}
+use Rattle.std.proofs.Common.{◌≡◌, ℕ, not, ◌==◌, false, List, length, ap, subst, ◌∙◌}
 use Rattle.net_base.specs.Callers.{caller_of}
 use Rattle.net_base.specs.Steps.{Bound}
 use Rattle.script_task.specs.Planning.{ask_of}
 use Rattle.script_task.specs.Requests.{planned}
 use Rattle.host_net.specs.Visits.{Operated, Visit, names_after}
 use Rattle.host_net.proofs.Asking.{planned_away}
-use Rattle.host_net.proofs.Covered.{turned_grows, visit_on}
+use Rattle.host_net.proofs.Operating.{visit_on, operated, visit}
 use Rattle.host_net.proofs.Firsts.{free_none}
-use Rattle.host_net.proofs.Operating.{operated, visit}
 use Rattle.host_net.proofs.net.Net+J+WorldActor+J.operate_at.Goals as goal
 
 pub own-turn-requires-clause-other : goal.own-turn-requires-clause-other
@@ -33,5 +32,4 @@ invariant_of-guest-2 g c =
     let w = g.J.Placing.world in
     let me = c.guest.inside in
     visit_on w g.J.Naming.run.roster me.caller me.now me.pass c.own-turn.new.pass me.duties.list c.own-turn.new.duties.list me.host me.touched c.own-turn.new.touched
-    me.calendar c.guest.invariant c.own-turn.ensures.guest c.own-turn.ensures.moment c.own-turn.ensures.covers
-    (turned_grows w me.caller me.now _ _ None me.pass c.own-turn.new.pass me.duties.list c.own-turn.new.duties.list c.own-turn.result c.own-turn.ensures.turn)
+    me.calendar (c.calendars_stay_known.ensures w) c.guest.invariant c.own-turn.ensures.guest c.own-turn.ensures.moment c.own-turn.ensures.covers c.own-turn.ensures.grows

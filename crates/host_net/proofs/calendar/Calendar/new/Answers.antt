@@ -1,6 +1,0 @@
-use Rattle.std.proofs.Common.{refl}
-use Rattle.host_net.proofs.Knowledge.{known_first}
-use Rattle.host_net.proofs.calendar.Calendar.new.Goals as goal
-
-pub returns : goal.returns
-returns c w log = known_first w log (record { dues = c.new.result; at = 0 }) refl c.new.ensures

@@ -1,8 +1,0 @@
-use Rattle.std.proofs.Common.{◌≡◌, false, take}
-use Rattle.std.specs.List.{list_any}
-use Rattle.host_net.specs.Deciding.{has_left}
-use Rattle.host_net.proofs.clock.is_through.Given as goal
-
--- none so far
-abbrev pub invariant-loop-standing : goal.invariant-loop-standing
-invariant-loop-standing l = list_any (has_left l.scripts) (take l.standing-index l.standings) ≡ false

@@ -1,7 +1,0 @@
-use Rattle.std.proofs.Common.{◌≡◌, drop}
-use Rattle.net_base.specs.Calm.{least}
-use Rattle.host_net.specs.Deciding.{due_moments}
-use Rattle.host_net.proofs.clock.least_due.Given as goal
-
-abbrev pub invariant-loop-due : goal.invariant-loop-due
-invariant-loop-due l = least l.least (due_moments (drop l.due-index l.dues)) ≡ least l.last (due_moments l.dues)

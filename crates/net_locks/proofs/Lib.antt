@@ -1,0 +1,12 @@
+pub mod Turning
+pub mod Firsts
+pub mod Rows
+pub mod Sighted
+pub mod Found
+pub mod Leasts
+pub mod Knowledge
+pub mod Covered
+pub mod Through
+pub mod Moved
+pub mod Concluding
+pub mod Halting

@@ -1,0 +1,88 @@
+-- What a caller does at an actor's lock, by what its pass has seen.
+use Rattle.std.specs.Prelude.{◌≡◌, ℕ, ◌+◌, ◌<◌, List, [], ◌∷◌, ◌++◌, length, drop, Option, Some, None}
+use mathlib.Core.List.{IsPrefix}
+use Rattle.net_base.specs.declared.actor.ActorName.{ActorName}
+use Rattle.net_base.specs.declared.event.Event.{Event}
+use Rattle.net_base.specs.declared.history.Outcome.{Outcome}
+use Rattle.net_base.specs.declared.history.With.TheVariants as given
+use Rattle.net_base.specs.declared.history.Work.{Work}
+use Rattle.net_base.specs.declared.noted.Noted.{Noted}
+use Rattle.net_base.specs.declared.noted.Number.TheVariants as number
+use Rattle.net_base.specs.declared.reply.Reply.{Reply}
+use Rattle.net_base.specs.declared.world.World.{World}
+use Rattle.net_base.specs.ActorStep.{Step}
+use Rattle.net_base.specs.Actors.{Actor, actor_step}
+use Rattle.net_base.specs.Callers.{caller_of}
+use Rattle.net_base.specs.Duties.{Duty, duties}
+use Rattle.net_base.specs.Legal.{IsAsked}
+use Rattle.net_base.specs.Next.{next}
+use Rattle.net_base.specs.Stamped.{at}
+use Rattle.journal.specs.declared.tokens.Sight.{Sight}
+use Rattle.locked.specs.Acts.{made, without_copy}
+use Rattle.ip_route.specs.Kept.{HostWays}
+use Rattle.duties.specs.Owing.{Owes}
+use Rattle.duties.specs.Queue.{Queue}
+use Rattle.guest_laws.specs.Works.{entries, noted_net}
+use Rattle.guest_laws.specs.Own.{AreNext, AreTimely, StandsStill}
+use Rattle.net_locks.specs.declared.turn.Turn.{Turn}
+use Rattle.net_locks.specs.declared.turn.Turn.TheVariants as turn
+
+-- the caller's entries, of all that was seen
+abbrev pub own : ℕ → Sight → List (ℕ × Noted)
+own c p = at (number.Caller c) p.seen
+
+abbrev pub HasRoom : ℕ → Sight → Type 0
+HasRoom c p = length (own c p) < 131072
+
+abbrev pub IsFull : ℕ → Sight → Type 0
+IsFull c p = length (own c p) ≡ 131072
+
+-- one entry of the caller was recorded: its actor's step in the net of the past, and its first duty is done
+pub record Recorded (w : World) (c now : ℕ) (a : ActorName) (work : Work) (cites : Option ℕ) (p : Sight)
+    (ds : List Duty) (stamp : ℕ) (answer : Reply) (p' : Sight) (ds' : List Duty) : Type 0 where
+  pub room : HasRoom c p
+  pub past : List Noted
+  pub stamp_is : length past ≡ stamp
+  pub before : IsPrefix p.seen past
+  pub alone : at (number.Caller c) past ≡ own c p
+  pub step : Step Actor
+  pub stepped : actor_step w a ((noted_net w past).actors a) now work ≡ Some step
+  pub reply : answer ≡ step.outcome.reply
+  pub seen : p'.seen ≡ past ++ made a c now work cites (without_copy step.outcome) ∷ []
+  pub owed : ds' ≡ drop 1 ds ++ duties w (noted_net w past).actors a stamp work step
+  pub nexts : IsAsked ds (caller_of w c) (next w (entries p.seen) c)
+      (made a c now work cites (without_copy step.outcome)).entry
+      → AreNext w c p.seen → AreNext w c p'.seen
+  pub timely : AreTimely w c p.seen → AreTimely w c p'.seen
+
+-- more was seen, but no entry of the caller
+pub record Stays (w : World) (c : ℕ) (p p' : Sight) : Type 0 where
+  pub before : IsPrefix p.seen p'.seen
+  pub alone : own c p' ≡ own c p
+  pub stands : StandsStill w c p.seen p'.seen
+
+-- after all that was seen the work isn't ready
+pub record Unready (w : World) (c now : ℕ) (a : ActorName) (work : Work) (p : Sight) (p' : Sight) : Type 0 where
+  pub room : HasRoom c p
+  pub stays : Stays w c p p'
+  pub unready : actor_step w a ((noted_net w p'.seen).actors a) now work ≡ None
+
+-- what a turn with this work at this actor did, by its answer
+abbrev pub Turned : World → ℕ → ℕ → ActorName → Work → Option ℕ → Sight → List Duty → Turn → Sight → List Duty
+    → Type 0
+Turned w c now a work cites p ds (turn.Recorded stamp answer) p' ds' =
+    Recorded w c now a work cites p ds stamp answer p' ds'
+Turned w c now a work cites p ds turn.NotReady p' ds' = Unready w c now a work p p' × (ds' ≡ ds)
+Turned w c now a work cites p ds turn.Owes p' ds' = ⊥
+Turned w c now a work cites p ds turn.Limit p' ds' = IsFull c p × (p' ≡ p) × (ds' ≡ ds)
+Turned w c now a work cites p ds turn.Memory p' ds' = HasRoom c p × (p' ≡ p) × (ds' ≡ ds)
+
+-- the first duty is done, and what its entry owes stands after those that are left
+pub record OwesLeft (ks : List HostWays) (a : ActorName) (stamp : ℕ) (work : Work) (o : Outcome) (old new : Queue) : Type 0 where
+  pub left : Queue
+  pub rest : left.list ≡ drop 1 old.list
+  pub owes : Owes ks a stamp work o left new
+
+-- with nothing given
+abbrev pub bare : Event → Work
+bare e = record { event = e; with = given.Nothing }

@@ -1,0 +1,22 @@
+//! Every actor of a world behind its own lock: the turns of callers at these, and what the clock sees and does there.
+#![tactic(auto)]
+
+mod calendar;
+mod clock;
+mod finishing;
+mod law;
+mod locks;
+mod marks;
+mod opening;
+mod turn;
+
+pub use calendar::Calendar;
+pub use clock::{Advance, Standing};
+pub use law::calendars_stay_known;
+pub use locks::Locks;
+pub use marks::Spot;
+pub use opening::{NetOpened, caller_count};
+pub use turn::Turn;
+
+#[cfg(test)]
+mod tests;
