@@ -11,7 +11,7 @@ ghost use Rattle.guest_laws.specs.Works.{entries};
 ghost use Rattle.host_net.specs.Advancing.{Adds, Advanced, Advances, AreBack, AreLent, AreStandings, GroupsAreBack, GroupsAreKept, IsStanding, IsTaken, other_players};
 ghost use Rattle.net_locks.specs.Standings.{IsBare, ask_of};
 ghost use Rattle.host_net.specs.Groups.{Apart, Grouped, IsDealt, NotIn, all_members, all_seats, callers_of, members, visits};
-ghost use Rattle.host_net.specs.Visits as visiting;
+ghost use Rattle.net_locks.specs.Turns as turns;
 ghost use Rattle.host_net.specs.Visits.{IsWith, Visit};
 
 use crate::guest::Guest;
@@ -30,7 +30,7 @@ use std::alloc::{AllocError, Global};
 use std::sync::Wait;
 
 fn bare(event: Event) -> Work
-    ensures { result ≡ visiting.bare event }
+    ensures { result ≡ turns.bare event }
 {
     Work {
         event,
