@@ -8,8 +8,6 @@ mod ghost_end;
 mod il;
 mod parts;
 mod reply_and_copy;
-#[cfg(test)]
-mod tests;
 mod texts;
 
 pub use conv::Conv;

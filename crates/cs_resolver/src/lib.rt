@@ -2,8 +2,6 @@
 #![tactic(auto)]
 
 mod addresses;
-#[cfg(test)]
-mod compared;
 mod error;
 mod indexed;
 mod law;
@@ -17,6 +15,3 @@ pub use error::CsError;
 pub use indexed::{answer_counted, answer_indexed};
 pub use law::worked_bounds;
 pub use resolve::answer;
-
-#[cfg(test)]
-mod tests;

@@ -6,8 +6,6 @@ mod fault;
 mod numbers;
 mod parts;
 mod spelled;
-#[cfg(test)]
-mod tests;
 
 pub use controls::read_ctl;
 pub use fault::CtlError;

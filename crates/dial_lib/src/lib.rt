@@ -10,8 +10,6 @@ mod one_request;
 mod reject;
 mod reply;
 mod step;
-#[cfg(test)]
-mod tests;
 mod write_text;
 
 pub use address::netmkaddr;

@@ -9,8 +9,6 @@ mod owing;
 mod queue;
 mod release;
 mod shown;
-#[cfg(test)]
-mod tests;
 mod world_ways;
 
 pub use due::Due;

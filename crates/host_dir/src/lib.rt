@@ -8,7 +8,5 @@ mod ports;
 mod slot;
 mod slots;
 mod starts;
-#[cfg(test)]
-mod tests;
 
 pub use dir::Dir;

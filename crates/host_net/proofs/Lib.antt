@@ -3,7 +3,6 @@ pub mod Freshly
 pub mod Passes
 pub mod Firsts
 pub mod Operating
-pub mod Staying
 pub mod Handing
 pub mod Lending
 pub mod Histories

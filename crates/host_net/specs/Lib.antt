@@ -1,5 +1,4 @@
 pub mod Visits
-pub mod Worked
 pub mod Deciding
 pub mod Playing
 pub mod Groups

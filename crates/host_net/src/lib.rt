@@ -3,7 +3,6 @@
 
 mod advance;
 mod clock;
-mod crew;
 mod finishing;
 mod guest;
 mod net;
@@ -15,8 +14,3 @@ pub use net::Net;
 pub use net_locks::{Advance, NetOpened, Turn};
 pub use player::{Played, Player, Role};
 pub use players::{Group, Players};
-
-#[cfg(test)]
-mod crew_tests;
-#[cfg(test)]
-mod tests;

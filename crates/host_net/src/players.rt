@@ -8,7 +8,6 @@ ghost use Rattle.host_net.specs.declared.player.Played.TheVariants as played;
 ghost use Rattle.host_net.specs.declared.player.Role.TheVariants as role;
 ghost use Rattle.host_net.specs.declared.players.Round.TheVariants.{Whole};
 
-use crate::crew::{Crew, MANY_ROUNDS};
 use crate::guest::Guest;
 use crate::net::Net;
 use crate::player::{Played, Player, Role};
@@ -22,6 +21,7 @@ use std::marker::Model;
 use std::sync::Wait;
 use std::thread;
 use std::thread::{Threads, yield_now};
+use workers::{Crew, MANY_ROUNDS};
 
 /// The players of one worker. The clock's stands by itself, in one of the groups.
 #[derive(Drop)]

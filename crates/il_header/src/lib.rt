@@ -6,6 +6,3 @@ mod message;
 
 pub use fault::IlError;
 pub use message::{IlView, decode_il, encode_il};
-
-#[cfg(test)]
-mod tests;

@@ -5,8 +5,6 @@ mod ask;
 mod end;
 mod fault;
 mod in_turn;
-#[cfg(test)]
-mod tests;
 
 pub use ask::Ask;
 pub use end::IlEnd;

@@ -2,8 +2,6 @@
 #![tactic(auto)]
 
 mod early;
-#[cfg(test)]
-mod tests;
 mod timer;
 mod unacked;
 mod unread;

@@ -4,8 +4,6 @@
 mod error;
 mod mask;
 mod routes;
-#[cfg(test)]
-mod tests;
 mod ways;
 
 pub use error::RouteError;

@@ -12,6 +12,3 @@ pub use fault::WireError;
 pub use field::{long, word};
 pub use ip::{IpHeader, IpView, decode_ip, encode_ip, encode_ip_header};
 pub use udp::{UdpView, decode_udp, encode_udp};
-
-#[cfg(test)]
-mod tests;

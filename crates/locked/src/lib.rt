@@ -8,6 +8,3 @@ mod machine;
 pub use guarded::{Answer, Guarded, View};
 pub use lock::Locked;
 pub use machine::Machine;
-
-#[cfg(test)]
-mod tests;

@@ -3,8 +3,6 @@
 
 mod law;
 mod steps;
-#[cfg(test)]
-mod tests;
 mod world;
 
 pub use law::{made_worlds_are_worlds, worked_made_world};

@@ -7,6 +7,3 @@ mod frame;
 mod medium;
 
 pub use medium::{Laid, Medium};
-
-#[cfg(test)]
-mod tests;

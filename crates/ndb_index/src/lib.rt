@@ -9,8 +9,6 @@ mod networks;
 mod pairs;
 mod spot;
 mod spots;
-#[cfg(test)]
-mod tests;
 
 pub use index::Index;
 pub use ndb_reader::{Steps, Tuples};

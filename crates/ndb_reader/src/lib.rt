@@ -9,8 +9,6 @@ mod growing;
 mod line;
 mod reader;
 mod steps;
-#[cfg(test)]
-mod tests;
 mod tuples;
 mod words;
 mod writer;

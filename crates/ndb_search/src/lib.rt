@@ -6,8 +6,6 @@ mod near;
 mod networks;
 mod numbers;
 mod places;
-#[cfg(test)]
-mod tests;
 
 pub use beside::value_beside;
 pub use ndb_tuple::Places;

@@ -5,4 +5,3 @@ pub mod FewWorks
 pub mod Numbering
 pub mod Placed
 pub mod Said
-pub mod Trying

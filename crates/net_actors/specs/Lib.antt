@@ -4,7 +4,6 @@ pub mod Numbers
 pub mod Small
 pub mod Stepping
 pub mod Together
-pub mod Tried
 pub use Rattle.net_base.specs.Actors
 pub use Rattle.net_base.specs.Desk
 pub use Rattle.net_base.specs.Duties

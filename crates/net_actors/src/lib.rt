@@ -9,8 +9,6 @@ mod law;
 mod media;
 mod number;
 mod outcome;
-#[cfg(test)]
-mod tests;
 
 pub use actor::Actor;
 pub use actors::Actors;

@@ -6,7 +6,6 @@ mod clock;
 mod finishing;
 mod law;
 mod locks;
-mod marks;
 mod opening;
 mod turn;
 
@@ -14,9 +13,6 @@ pub use calendar::Calendar;
 pub use clock::{Advance, Standing};
 pub use law::calendars_stay_known;
 pub use locks::Locks;
-pub use marks::Spot;
 pub use opening::{NetOpened, caller_count};
 pub use turn::Turn;
-
-#[cfg(test)]
-mod tests;
+pub use workers::Spot;

@@ -20,7 +20,6 @@ ghost use Rattle.net_locks.specs.Turns.{Turned, bare, own};
 ghost use Rattle.due_moments.specs.Marks.{Covers};
 
 use crate::finishing::books_of;
-use crate::marks::{Marks, Spot};
 use crate::opening::NetOpened;
 use crate::turn::{Turn, own_at, serve_at};
 use actor_machines::{Placing, WorldActor, locked};
@@ -35,6 +34,7 @@ use net_base::{ActorName, Db, Event, With, Work, World};
 use outside::Gate;
 use std::alloc::{AllocError, Global};
 use std::sync::{Arc, Wait};
+use workers::{Marks, Spot};
 
 /// Every actor of a world behind its lock, each at its number, with the journal of the run.
 #[derive(Drop)]

@@ -5,8 +5,6 @@ mod directory;
 mod fault;
 mod fids;
 mod path;
-#[cfg(test)]
-mod tests;
 
 pub use directory::{may_open, names};
 pub use fault::TreeError;

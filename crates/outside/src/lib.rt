@@ -8,8 +8,6 @@ mod reader;
 mod sink;
 mod source;
 mod sure;
-#[cfg(test)]
-mod tests;
 mod writer;
 
 pub use fault::{Failed, TakeError};

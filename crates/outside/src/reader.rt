@@ -4,9 +4,6 @@ ghost use Rattle.std.specs.Io.{ReadsAtMost};
 ghost use Rattle.std.specs.Io.KnownBytes.{Consumes, IsAtEnd, Keeps};
 ghost use Rattle.std.specs.IoError.{error_kind};
 
-#[cfg(test)]
-mod tests;
-
 use crate::fault::Failed;
 use crate::source::Source;
 use std::io;

@@ -4,9 +4,6 @@ ghost use Rattle.std.specs.Io.{WritesAtMost};
 ghost use Rattle.std.specs.Io.KnownBytes.{Appends, Keeps};
 ghost use Rattle.std.specs.IoError.{error_kind};
 
-#[cfg(test)]
-mod tests;
-
 use crate::fault::Failed;
 use crate::sink::Sink;
 use std::io;

@@ -2,7 +2,5 @@
 #![tactic(auto)]
 
 mod player;
-#[cfg(test)]
-mod tests;
 
 pub use player::Player;

@@ -8,8 +8,6 @@ mod paths;
 mod planned;
 mod request;
 mod task;
-#[cfg(test)]
-mod tests;
 
 pub use effect::Effect;
 pub use law::{effects_settle, replies_fit};

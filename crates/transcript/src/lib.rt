@@ -9,8 +9,6 @@ mod line;
 mod names;
 mod reply;
 mod summary;
-#[cfg(test)]
-mod tests;
 mod totals;
 
 pub use entry::text_of;

@@ -2,7 +2,5 @@
 #![tactic(auto)]
 
 mod end;
-#[cfg(test)]
-mod tests;
 
 pub use end::{HungupError, MOST_UNREAD, UdpEnd};

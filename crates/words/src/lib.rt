@@ -7,8 +7,6 @@ mod mask;
 mod names;
 mod number;
 mod parts;
-#[cfg(test)]
-mod tests;
 
 pub use address::{address_in, put_address, put_place, read_address};
 pub use hexadecimal::{put_hex_digits, put_hex_word, read_hex_word};

@@ -10,8 +10,6 @@ mod host;
 mod lines;
 mod medium;
 mod reader;
-#[cfg(test)]
-mod tests;
 
 pub use fault::WorldError;
 pub use net_base::World;

@@ -8,8 +8,6 @@ mod lines;
 mod media;
 mod names;
 mod steps;
-#[cfg(test)]
-mod tests;
 
 pub use fault::LineFault;
 pub use lines::read_line;

@@ -5,8 +5,6 @@ mod hosts;
 mod line;
 mod media;
 mod scripts;
-#[cfg(test)]
-mod tests;
 mod writer;
 
 pub use writer::write_world;

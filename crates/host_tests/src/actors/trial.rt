@@ -1,0 +1,213 @@
+//! The actors of a small world, and what they answer.
+ghost use Rattle.std.specs.Prelude.{◌≡◌, ◌∷◌, ◌^◌, ◌<◌, [], IfOk, codes, true};
+ghost use Rattle.net_base.specs.World.{IsWorld};
+ghost use Rattle.net_actors.specs.Numbers.{is_among};
+ghost use Rattle.host_tests.specs.Tried.{tried_host, tried_medium, tried_world};
+
+use net_actors::{Actors, Due};
+use net_base::{
+    ActorName, Db, Event, Fates, HostSpec, Hosts, Iface, Ifaces, Media, MediumSpec, Nets, Octets,
+    Proto, Reply, RouteLines, Scripts, Starts, With, Work, World,
+};
+use std::alloc::{AllocError, Global};
+use std::marker::Model;
+
+pub const ANNA: u32 = 0x8768_0906;
+
+pub const HELIX: u32 = 0x8768_091f;
+
+/// What is read of a reply.
+#[derive(Clone, Copy, Debug, PartialEq, Eq)]
+pub enum Told {
+    NotReady,
+    Ok,
+    NoFile,
+    BadMode,
+    BadFid,
+    Lines(usize),
+    CsRefused(u32),
+    Names(usize),
+    Slot(u32, u64),
+    Granted(u32),
+    Call(u32, u64),
+    Calls(usize),
+    To(u32, u64),
+    Born(u32, u64),
+    Opened(u64),
+    Bytes(usize),
+    Count(u32),
+    Took,
+    NotDue,
+    Stale,
+    Laid(u64),
+    Copy(u64),
+    Other,
+}
+
+fn read_reply(reply: &Reply) -> Told {
+    match reply {
+        Reply::Ok => Told::Ok,
+        Reply::NoFile => Told::NoFile,
+        Reply::BadMode => Told::BadMode,
+        Reply::BadFid => Told::BadFid,
+        Reply::Lines { lines } => Told::Lines(lines.len()),
+        Reply::CsRefused { number } => Told::CsRefused(*number),
+        Reply::Names { names } => Told::Names(names.len()),
+        Reply::Slot { slot, generation } => Told::Slot(*slot, *generation),
+        Reply::Granted { limit, .. } => Told::Granted(*limit),
+        Reply::Call { slot, generation } => Told::Call(*slot, *generation),
+        Reply::Calls { calls } => Told::Calls(calls.len()),
+        Reply::To { slot, generation } => Told::To(*slot, *generation),
+        Reply::Born {
+            slot,
+            generation,
+            ..
+        } => Told::Born(*slot, *generation),
+        Reply::Opened { generation } => Told::Opened(*generation),
+        Reply::Bytes { bytes } => Told::Bytes(bytes.len()),
+        Reply::Count { count } => Told::Count(*count),
+        Reply::Took => Told::Took,
+        Reply::NotDue => Told::NotDue,
+        Reply::Stale => Told::Stale,
+        Reply::Laid { frame } => Told::Laid(*frame),
+        Reply::Copy { frame } => Told::Copy(*frame),
+        _ => Told::Other,
+    }
+}
+
+fn media(alloc: Global) -> Result<Media, AllocError>
+    ensures { IfOk result (λ ms. ms ≡ tried_medium ∷ []) }
+{
+    let mut media = Media::new(alloc);
+    media.push(MediumSpec {
+        number: 0,
+        name: Octets::from_slice(alloc, b"ether0")?,
+        mtu: 1500,
+        loss: 0,
+        twice: 0,
+        later: 0,
+        fates: Fates::new(alloc),
+    })?;
+    Ok(media)
+}
+
+fn host(alloc: Global, name: &[u8], ip: u32) -> Result<HostSpec, AllocError>
+    ensures { IfOk result (λ h. h ≡ tried_host name.now ip) }
+{
+    let mut nets = Nets::new(alloc);
+    nets.push(Proto::Il)?;
+    nets.push(Proto::Udp)?;
+    let mut ifaces = Ifaces::new(alloc);
+    ifaces.push(Iface {
+        medium: 0,
+        ip,
+        mask: 0xffff_ff00,
+    })?;
+    Ok(HostSpec {
+        name: Octets::from_slice(alloc, name)?,
+        nets,
+        ifaces,
+        routes: RouteLines::new(alloc),
+        starts: Starts::new(alloc),
+    })
+}
+
+fn hosts(alloc: Global) -> Result<Hosts, AllocError>
+    ensures { IfOk result (λ hs. hs
+        ≡ tried_host (codes "anna") 2271742214 ∷ tried_host (codes "helix") 2271742239 ∷ []) }
+{
+    let mut hosts = Hosts::new(alloc);
+    hosts.push(host(alloc, b"anna", ANNA)?)?;
+    hosts.push(host(alloc, b"helix", HELIX)?)?;
+    Ok(hosts)
+}
+
+fn world(alloc: Global) -> Result<World, AllocError>
+    ensures { IfOk result (λ w. w ≡ tried_world) }
+{
+    Ok(World {
+        end: 60000,
+        seed: 7,
+        media: media(alloc)?,
+        hosts: hosts(alloc)?,
+        scripts: Scripts::new(alloc),
+        db: Db::new(alloc),
+    })
+}
+
+/// The actors of the small world, which have answered so many works.
+#[derive(Drop)]
+pub struct Trial {
+    actors: Actors,
+    works: u32,
+}
+
+impl Model for Trial {
+    ghost use Rattle.host_tests.specs.Tried.{AreLedTo, tried_world};
+    ghost use Rattle.std.specs.Prelude.{ℕ};
+
+    ghost Value = { ℕ };
+
+    ghost view = { λ t. t.works };
+
+    ghost invariant = { λ t. AreLedTo tried_world t.actors t.works };
+}
+
+impl Trial {
+    #[tactic(auto, using(net_actors::proofs::Trying::none_led, net_actors::proofs::Trying::tried_is_world))]
+    pub fn new(alloc: Global) -> Result<Trial, AllocError> {
+        let world = world(alloc)?;
+        let actors = Actors::new(alloc, &world)?;
+        Ok(Trial { actors, works: 0 })
+    }
+
+    /// What the actor answers.
+    pub fn answer(&mut self, name: ActorName, now: u64, work: &Work) -> Result<Told, AllocError>
+        requires among { is_among 2 1 name ≡ true }
+        requires now { now < 2 ^ 63 }
+    {
+        if self.works >= 1000 {
+            return Ok(Told::NotReady);
+        }
+        if !self.actors.ready(name, now, work) {
+            return Ok(Told::NotReady);
+        }
+        let outcome = self.actors.step(name, now, work)?;
+        self.works += 1;
+        Ok(read_reply(&outcome.reply))
+    }
+
+    /// What it answers to an event to which nothing is given, at moment 9.
+    pub fn ask(&mut self, name: ActorName, event: Event) -> Result<Told, AllocError>
+        requires { is_among 2 1 name ≡ true }
+    {
+        self.give(name, event, With::Nothing)
+    }
+
+    /// What it answers to an event with what is given, at moment 9.
+    pub fn give(&mut self, name: ActorName, event: Event, with: With) -> Result<Told, AllocError>
+        requires { is_among 2 1 name ≡ true }
+    {
+        let work = Work { event, with };
+        self.answer(name, 9, &work)
+    }
+
+    /// When the actor is due.
+    pub fn due(&self, name: ActorName) -> Option<u64>
+        requires { is_among 2 1 name ≡ true }
+    {
+        self.actors.due(name)
+    }
+
+    /// The generation of a conversation.
+    pub fn generation(&self, name: ActorName) -> u64
+        requires { is_among 2 1 name ≡ true }
+    {
+        self.actors.generation(name)
+    }
+
+    /// The due moments of all conversations.
+    pub fn dues(&self, alloc: Global) -> Result<Vec<Due>, AllocError> {
+        self.actors.dues(alloc)
+    }
+}

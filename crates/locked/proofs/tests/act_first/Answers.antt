@@ -1,9 +1,0 @@
-use Rattle.std.proofs.Common.{[], ap, arith}
-use Rattle.net_base.specs.Stamped.{moment}
-use Rattle.locked.proofs.tests.act_first.Goals as goal
-
-pub act_once-requires-clause-held : goal.act_once-requires-clause-held
-act_once-requires-clause-held g c = ([], c.requires.held, omega arith)
-
-pub act_once-requires-clause-moment : goal.act_once-requires-clause-moment
-act_once-requires-clause-moment g c = ap moment c.requires.seen

@@ -1,5 +1,0 @@
-use Rattle.locked.proofs.tests.the_gate_is_called_round_each_record.Given as goal
-
--- the journal that was just opened
-abbrev pub ghosts-watched : goal.ghosts-watched
-ghosts-watched g a = record { run = a.opened }

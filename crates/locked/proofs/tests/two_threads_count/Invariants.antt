@@ -1,5 +1,0 @@
-use Rattle.locked.proofs.tests.two_threads_count.Given as goal
-
--- the journal that was just opened
-abbrev pub ghosts-counted_by_two : goal.ghosts-counted_by_two
-ghosts-counted_by_two g a = record { run = a.opened }

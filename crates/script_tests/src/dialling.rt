@@ -1,0 +1,378 @@
+//! Steps along their accepted and their refused replies, and completed addresses.
+use dial_lib::{Accept, Announce, Dial, Listen, Reject, StepTask, netmkaddr};
+use net_base::{Addr, FileName, Lines, Mode, Octets, Pair, Proto, Reply, Step};
+use net_tree::{Fid, Fids};
+use script_task::{Request, Task, settle};
+use std::alloc::{AllocError, Global};
+use std::test::*;
+use words::split_first;
+
+// Rows of tests: a step, the letters of its replies, and its requests, with `end` where it is through then.
+
+const STEPS: &[u8] = b"open f /net/il/clone|s|open f /net/il/clone;end
+open f /net/il/clone|n|open f /net/il/clone;end
+open f /net/udp/5/listen|c|open f /net/udp/5/listen;end
+open f /net/udp/5/status|o|read-only open f /net/udp/5/status;end
+open f /net/udp/32/status|n|open f /net/udp/32/status;end
+open d /net/il/clone|n|open d /net/il/clone;end
+read d 100|k|read d;end
+read x 100|n|read x;end
+write d hello|k|write d hello;end
+write d hello|n|write d hello;end
+write s hello|n|write s hello;end
+write c connect 1.2.3.4!5|gk|write c connect 1.2.3.4!5;wait c;end
+write c connect 1.2.3.4!5|gn|write c connect 1.2.3.4!5;wait c;end
+write c connect 1.2.3.4!5|n|write c connect 1.2.3.4!5;end
+writex c ttl 9|k|write c ttl 9;end
+close c|k|close c;end
+close c|n|close c;end
+ls /net|k|ls /net;end
+ls /net/x|n|ls /net/x;end
+cs net!helix!9fs|l|cs net!helix!9fs;end
+cs x|n|cs x;end
+until|k|until;end
+hangup c|k|write c hangup;end
+hangup d|n|write d hangup;end
+hangup x|n|write x hangup;end";
+
+// These have a task of their own, too.
+const LONG_STEPS: &[u8] = b"dial f helix|n|cs net!helix!9fs;end
+dial f helix|e|cs net!helix!9fs;end
+dial f il!helix|lsgkok|cs il!helix!9fs;open .f /net/il/clone;write .f connect 1.2.3.4!5;wait .f;open f /net/il/3/data;close .f;end
+dial f il!helix!echo|lsgkon|cs il!helix!echo;open .f /net/il/clone;write .f connect 1.2.3.4!5;wait .f;open f /net/il/3/data;close .f;end
+dial f x!y!z|lsgknk|cs x!y!z;open .f /net/il/clone;write .f connect 1.2.3.4!5;wait .f;open f /net/il/3/data;close .f;end
+dial f x!y!z|lnn|cs x!y!z;open .f /net/il/clone;open .f /net/udp/clone;end
+dial f x!y!z|lnsgkok|cs x!y!z;open .f /net/il/clone;open .f /net/udp/clone;write .f connect 1.2.3.4!7;wait .f;open f /net/udp/3/data;close .f;end
+dial f x!y!z|lsnkn|cs x!y!z;open .f /net/il/clone;write .f connect 1.2.3.4!5;close .f;open .f /net/udp/clone;end
+dial f x!y!z|lsgnkn|cs x!y!z;open .f /net/il/clone;write .f connect 1.2.3.4!5;wait .f;close .f;open .f /net/udp/clone;end
+dial f x!y!z|lsnn|cs x!y!z;open .f /net/il/clone;write .f connect 1.2.3.4!5;close .f;end
+dial f x!y!z|ls|cs x!y!z;open .f /net/il/clone;
+dial c x!y!z|n|use c;end
+dial g x!y!z|n|use .g;end
+announce f udp!*|n|cs udp!*!9fs;end
+announce f udp!*|e|cs udp!*!9fs;end
+announce f udp!*|ln|cs udp!*!9fs;open f /net/il/clone;end
+announce f udp!*|lsk|cs udp!*!9fs;open f /net/il/clone;write f announce 1.2.3.4!5;end
+announce f udp!*|lsnk|cs udp!*!9fs;open f /net/il/clone;write f announce 1.2.3.4!5;close f;end
+announce f udp!*|lsnn|cs udp!*!9fs;open f /net/il/clone;write f announce 1.2.3.4!5;close f;end
+announce c udp!*|n|use c;end
+listen f c|c|open f /net/udp/5/listen;end
+listen f c|n|open f /net/udp/5/listen;end
+listen c x|n|use x;end
+listen d c|n|use d;end
+accept f c|o|open f /net/udp/5/data;end
+accept f c|n|open f /net/udp/5/data;end
+accept c x|n|use x;end
+accept d c|n|use d;end
+reject c|kk|write c hangup;close c;end
+reject c|kn|write c hangup;close c;end
+reject d|kk|write d hangup;close d;end
+reject d|n|write d hangup;end
+reject s|n|write s hangup;end
+reject x|n|write x hangup;end";
+
+// Names and replies.
+
+// Names that are bound: `c` and `.g` to ctl files, `d` to a data file and `s` to a status file.
+fn bind_all(fids: &mut Fids) -> Result<(), AllocError> {
+    bind(fids, b"c", FileName::Ctl, Mode::Both)?;
+    bind(fids, b".g", FileName::Ctl, Mode::Both)?;
+    bind(fids, b"d", FileName::Data, Mode::Both)?;
+    bind(fids, b"s", FileName::Status, Mode::Read)
+}
+
+fn names(alloc: Global) -> Result<Fids, AllocError> {
+    let mut fids = Fids::new(alloc);
+    bind_all(&mut fids)?;
+    Ok(fids)
+}
+
+fn bind(fids: &mut Fids, name: &[u8], file: FileName, mode: Mode) -> Result<(), AllocError> {
+    let fid = Fid {
+        proto: Proto::Udp,
+        slot: 5,
+        generation: 2,
+        file,
+        mode,
+    };
+    match fids.bind(name, fid) {
+        Ok(()) => Ok(()),
+        Err(_) => Err(AllocError),
+    }
+}
+
+// A reply by its letter. Another letter is a refusal.
+fn reply(alloc: Global, letter: u8) -> Result<Reply, AllocError> {
+    match letter {
+        b'l' => lines(alloc),
+        b'e' => Ok(Reply::Lines {
+            lines: Lines::new(alloc),
+        }),
+        b's' => Ok(Reply::Slot {
+            slot: 3,
+            generation: 7,
+        }),
+        b'c' => Ok(Reply::Call {
+            slot: 4,
+            generation: 8,
+        }),
+        b'g' => Ok(granted()),
+        b'o' => Ok(Reply::Opened { generation: 7 }),
+        b'k' => Ok(Reply::Ok),
+        _ => Ok(Reply::NoFile),
+    }
+}
+
+fn put_lines(alloc: Global, lines: &mut Lines) -> Result<(), AllocError> {
+    lines.push(Octets::from_slice(alloc, b"/net/il/clone 1.2.3.4!5")?)?;
+    lines.push(Octets::from_slice(alloc, b"/net/udp/clone 1.2.3.4!7")?)
+}
+
+fn lines(alloc: Global) -> Result<Reply, AllocError> {
+    let mut lines = Lines::new(alloc);
+    put_lines(alloc, &mut lines)?;
+    Ok(Reply::Lines { lines })
+}
+
+fn granted() -> Reply {
+    let local = Addr { ip: 1, port: 5000 };
+    let remote = Addr { ip: 2, port: 5 };
+    Reply::Granted {
+        pair: Pair { local, remote },
+        start: 1,
+        limit: 20,
+    }
+}
+
+// Requests as text.
+
+fn put(out: &mut Octets, request: &Request) -> Result<(), AllocError> {
+    match request {
+        Request::Open { name, path, mode } => put_open(out, name, path, *mode),
+        Request::Read { name, .. } => put_words(out, b"read ", name, b""),
+        Request::Write { name, text } => put_words(out, b"write ", name, text.as_slice()),
+        Request::Close { name } => put_words(out, b"close ", name, b""),
+        Request::Cs { query } => put_words(out, b"cs ", query, b""),
+        Request::Ls { path } => put_words(out, b"ls ", path, b""),
+        Request::Until { .. } => out.append(b"until;"),
+        Request::Wait { name } => put_words(out, b"wait ", name, b""),
+        Request::Unbound { name } => put_words(out, b"use ", name, b""),
+        Request::Misuse { name } => put_words(out, b"misuse ", name, b""),
+    }
+}
+
+fn put_open(out: &mut Octets, name: &Octets, path: &Octets, mode: Mode) -> Result<(), AllocError> {
+    if mode == Mode::Read {
+        out.append(b"read-only ")?;
+    }
+    put_words(out, b"open ", name, path.as_slice())
+}
+
+fn put_words(out: &mut Octets, word: &[u8], name: &Octets, rest: &[u8]) -> Result<(), AllocError> {
+    out.append(word)?;
+    out.append(name.as_slice())?;
+    if !rest.is_empty() {
+        out.append(b" ")?;
+        out.append(rest)?;
+    }
+    out.append(b";")
+}
+
+// Plays.
+
+// The reply by a letter to a request, which is put down and settled.
+fn answer(
+    alloc: Global,
+    fids: &mut Fids,
+    out: &mut Octets,
+    request: &Request,
+    letter: u8,
+) -> Result<Reply, AllocError> {
+    put(out, request)?;
+    let reply = reply(alloc, letter)?;
+    settle(fids, request, &reply)?;
+    Ok(reply)
+}
+
+fn turn<T: Task>(
+    alloc: Global,
+    task: &mut T,
+    fids: &mut Fids,
+    out: &mut Octets,
+    letter: u8,
+) -> Result<(), AllocError> {
+    let Some(request) = task.next(alloc, fids)? else {
+        return Ok(());
+    };
+    let reply = answer(alloc, fids, out, &request, letter)?;
+    task.told(alloc, reply)
+}
+
+fn turns<T: Task>(
+    alloc: Global,
+    task: &mut T,
+    fids: &mut Fids,
+    out: &mut Octets,
+    letters: &[u8],
+) -> Result<(), AllocError> {
+    for letter in letters {
+        turn(alloc, task, fids, out, *letter)?;
+    }
+    if task.is_through() {
+        out.append(b"end")?;
+    }
+    Ok(())
+}
+
+// Whether these are the requests of a task whose replies have these letters.
+fn plays<T: Task>(
+    alloc: Global,
+    task: &mut T,
+    letters: &[u8],
+    wanted: &[u8],
+) -> Result<bool, AllocError> {
+    let mut fids = names(alloc)?;
+    let mut out = Octets::new(alloc);
+    turns(alloc, task, &mut fids, &mut out, letters)?;
+    Ok(out.as_slice() == wanted)
+}
+
+// What stands before the first separator, and behind it.
+fn cut(text: &[u8], separator: u8) -> (&[u8], &[u8]) {
+    match split_first(text, separator) {
+        (first, Some(rest)) => (first, rest),
+        (first, None) => (first, &[]),
+    }
+}
+
+fn pair(alloc: Global, first: &[u8], last: &[u8]) -> Result<(Octets, Octets), AllocError> {
+    let name = Octets::from_slice(alloc, first)?;
+    let other = Octets::from_slice(alloc, last)?;
+    Ok((name, other))
+}
+
+// A step of two words behind its own.
+fn step_of_two(alloc: Global, word: &[u8], first: &[u8], last: &[u8]) -> Result<Step, AllocError> {
+    let (name, other) = pair(alloc, first, last)?;
+    match word {
+        b"open" => Ok(Step::Open {
+            name,
+            path: other,
+            mode: None,
+        }),
+        b"write" => Ok(Step::Write { name, text: other }),
+        b"writex" => Ok(Step::Writex { name, text: other }),
+        b"dial" => Ok(Step::Dial {
+            name,
+            address: other,
+        }),
+        b"announce" => Ok(Step::Announce {
+            name,
+            address: other,
+        }),
+        b"listen" => Ok(Step::Listen { name, from: other }),
+        _ => Ok(Step::Accept { name, from: other }),
+    }
+}
+
+// A step of one word behind its own.
+fn step_of_one(alloc: Global, word: &[u8], first: &[u8]) -> Result<Step, AllocError> {
+    let name = Octets::from_slice(alloc, first)?;
+    match word {
+        b"read" => Ok(Step::Read { name, count: 100 }),
+        b"close" => Ok(Step::Close { name }),
+        b"ls" => Ok(Step::Ls { path: name }),
+        b"cs" => Ok(Step::Cs { query: name }),
+        b"hangup" => Ok(Step::Hangup { name }),
+        _ => Ok(Step::Reject { name }),
+    }
+}
+
+// A step by its words.
+fn step(alloc: Global, words: &[u8]) -> Result<Step, AllocError> {
+    let (word, rest) = cut(words, b' ');
+    let (first, last) = cut(rest, b' ');
+    match word {
+        b"until" => Ok(Step::Until { moment: 9 }),
+        b"read" | b"close" | b"ls" | b"cs" | b"hangup" | b"reject" => {
+            step_of_one(alloc, word, first)
+        }
+        _ => step_of_two(alloc, word, first, last),
+    }
+}
+
+fn task_of(alloc: Global, words: &[u8]) -> Result<StepTask, AllocError> {
+    let step = step(alloc, words)?;
+    StepTask::new(alloc, &step)
+}
+
+// Whether the step of a row makes its requests.
+fn is_met(alloc: Global, row: &[u8]) -> Result<bool, AllocError> {
+    let (words, rest) = cut(row, b'|');
+    let (letters, wanted) = cut(rest, b'|');
+    let mut task = task_of(alloc, words)?;
+    plays(alloc, &mut task, letters, wanted)
+}
+
+// Whether the step's own task makes them.
+fn is_met_alone(alloc: Global, row: &[u8]) -> Result<bool, AllocError> {
+    let (words, rest) = cut(row, b'|');
+    let (letters, wanted) = cut(rest, b'|');
+    let (word, rest) = cut(words, b' ');
+    let (name, other) = cut(rest, b' ');
+    match word {
+        b"dial" => plays(alloc, &mut Dial::new(alloc, name, other)?, letters, wanted),
+        b"announce" => plays(
+            alloc,
+            &mut Announce::new(alloc, name, other)?,
+            letters,
+            wanted,
+        ),
+        b"listen" => plays(
+            alloc,
+            &mut Listen::new(alloc, name, other)?,
+            letters,
+            wanted,
+        ),
+        b"accept" => plays(
+            alloc,
+            &mut Accept::new(alloc, name, other)?,
+            letters,
+            wanted,
+        ),
+        _ => plays(alloc, &mut Reject::new(alloc, name)?, letters, wanted),
+    }
+}
+
+#[test]
+fn steps_are_played(rt: HostRuntime) {
+    for (i, row) in STEPS.split(|byte| *byte == b'\n').enumerate() {
+        assert_eq!(rt; is_met(rt.alloc(), row), Ok(true), "row {i}");
+    }
+}
+
+#[test]
+fn long_steps_are_played(rt: HostRuntime) {
+    for (i, row) in LONG_STEPS.split(|byte| *byte == b'\n').enumerate() {
+        let met = (is_met(rt.alloc(), row), is_met_alone(rt.alloc(), row));
+        assert_eq!(rt; met, (Ok(true), Ok(true)), "row {i}");
+    }
+}
+
+#[test]
+fn addresses_are_completed(rt: HostRuntime) {
+    let rows: [(&[u8], &[u8]); 6] = [
+        (b"helix", b"net!helix!9fs"),
+        (b"il!helix", b"il!helix!9fs"),
+        (b"il!helix!echo", b"il!helix!echo"),
+        (b"a!b!c!d", b"a!b!c!d"),
+        (b"", b"net!!9fs"),
+        (b"!", b"!!9fs"),
+    ];
+    for (address, wanted) in rows {
+        let mut out = [b'#'; 16];
+        let length = netmkaddr(address, b"net", b"9fs", &mut out);
+        assert_eq!(rt; &out[..length], wanted);
+        assert!(rt; out[length..].iter().all(|byte| *byte == b'#'));
+    }
+}

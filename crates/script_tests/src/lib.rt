@@ -1,0 +1,15 @@
+//! Tests.
+#![tactic(auto)]
+
+#[cfg(test)]
+mod controls;
+#[cfg(test)]
+mod dialling;
+#[cfg(test)]
+mod players;
+#[cfg(test)]
+mod requests;
+#[cfg(test)]
+mod scripts;
+#[cfg(test)]
+mod trees;

@@ -1,0 +1,114 @@
+//! Paths, modes, directories and bound names.
+use net_base::{FileName, Lines, Mode, Node, Proto};
+use net_tree::{Fid, Fids, TreeError, may_open, names, walk};
+use std::test::*;
+
+fn fid(slot: u32) -> Fid {
+    Fid {
+        proto: Proto::Il,
+        slot,
+        generation: 7,
+        file: FileName::Data,
+        mode: Mode::Both,
+    }
+}
+
+#[test]
+fn paths_name_nodes(rt: HostRuntime) -> Result<(), Fail> {
+    let rows: [(&[u8], Node); 9] = [
+        (b"/net", Node::Root),
+        (b"/net/cs", Node::Cs),
+        (b"/net/il", Node::Proto(Proto::Il)),
+        (b"/net/udp/clone", Node::Clone(Proto::Udp)),
+        (b"/net/il/0", Node::Dir(Proto::Il, 0)),
+        (b"/net/udp/31", Node::Dir(Proto::Udp, 31)),
+        (b"/net/il/7/ctl", Node::File(Proto::Il, 7, FileName::Ctl)),
+        (
+            b"/net/udp/30/status",
+            Node::File(Proto::Udp, 30, FileName::Status),
+        ),
+        (
+            b"/net/udp/10/listen",
+            Node::File(Proto::Udp, 10, FileName::Listen),
+        ),
+    ];
+    for (path, node) in rows {
+        assert_eq!(rt; walk(path), Ok(node));
+    }
+    Ok(())
+}
+
+#[test]
+fn other_paths_name_nothing(rt: HostRuntime) -> Result<(), Fail> {
+    let paths: [&[u8]; 14] = [
+        b"",
+        b"/",
+        b"net",
+        b"/net/",
+        b"//net",
+        b"/net/tcp",
+        b"/net/il/32",
+        b"/net/il/07",
+        b"/net/il/00",
+        b"/net/il/",
+        b"/net/cs/0",
+        b"/net/il/clone/ctl",
+        b"/net/il/0/Data",
+        b"/net/il/0/data/",
+    ];
+    for path in paths {
+        assert_eq!(rt; walk(path), Err(TreeError::NoFile));
+    }
+    assert_eq!(rt; TreeError::NoFile.number(), 1);
+    assert_eq!(rt; TreeError::BadMode.number(), 2);
+    assert_eq!(rt; TreeError::BadFid.number(), 3);
+    Ok(())
+}
+
+#[test]
+fn directories_have_names(rt: HostRuntime) -> Result<(), Fail> {
+    let alloc = rt.alloc();
+    let root = names(alloc, Node::Root, 0)?;
+    assert!(rt; is_list(&root, &[b"cs", b"il", b"udp"]));
+    let proto = names(alloc, Node::Proto(Proto::Il), 0x8000_0005)?;
+    assert!(rt; is_list(&proto, &[b"clone", b"0", b"2", b"31"]));
+    let dir = names(alloc, Node::Dir(Proto::Udp, 3), 8)?;
+    let files: [&[u8]; 7] = [
+        b"ctl", b"data", b"err", b"listen", b"local", b"remote", b"status",
+    ];
+    assert!(rt; is_list(&dir, &files));
+    assert!(rt; is_list(&names(alloc, Node::Cs, 1)?, &[]));
+    Ok(())
+}
+
+fn is_list(lines: &Lines, words: &[&[u8]]) -> bool {
+    let lines = lines.as_slice();
+    lines.len() == words.len()
+        && lines
+            .iter()
+            .zip(words.iter())
+            .all(|(line, word)| line.as_slice() == *word)
+}
+
+#[test]
+fn names_are_bound_and_unbound(rt: HostRuntime) -> Result<(), Fail> {
+    let mut fids = Fids::new(rt.alloc());
+    assert_eq!(rt; fids.bind(b"a", fid(1)), Ok(()));
+    assert_eq!(rt; fids.bind(b"b", fid(2)), Ok(()));
+    assert_eq!(rt; fids.bind(b"a", fid(3)), Err(TreeError::BadFid));
+    assert_eq!(rt; fids.get(b"a"), Some(fid(1)));
+    assert_eq!(rt; fids.unbind(b"a"), Some(fid(1)));
+    assert_eq!(rt; fids.unbind(b"a"), None);
+    assert_eq!(rt; fids.get(b"b"), Some(fid(2)));
+    Ok(())
+}
+
+// Run it with each allocation failing in turn: where there was memory for the room, there is none that the binding wants.
+#[test]
+fn a_reserved_name_is_bound(rt: HostRuntime) {
+    let mut fids = Fids::new(rt.alloc());
+    if fids.reserve(b"conversation").is_ok() {
+        assert_eq!(rt; fids.bind(b"conversation", fid(1)), Ok(()));
+        assert_eq!(rt; fids.get(b"conversation"), Some(fid(1)));
+    }
+}

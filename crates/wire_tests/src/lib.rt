@@ -1,0 +1,15 @@
+//! Tests.
+#![tactic(auto)]
+
+#[cfg(test)]
+mod headers;
+#[cfg(test)]
+mod il_messages;
+#[cfg(test)]
+mod media;
+#[cfg(test)]
+mod routing;
+#[cfg(test)]
+mod spelling;
+#[cfg(test)]
+mod streams;

@@ -1,0 +1,292 @@
+ghost use Rattle.std.specs.Prelude.{◌≡◌, ◌+◌, ◌≤◌, length, IfOk};
+ghost use Rattle.net_base.specs.Medium.{datagram_length};
+ghost use Rattle.medium.specs.OnFates.{AreLines};
+
+use medium::datagram::datagram_of;
+use medium::{Laid, Medium};
+use net_base::{
+    Addr, Body, Fate, FateRange, Fates, IlKind, IlMsg, MediumSpec, Octets, Packet, Proto, Sequence,
+    Taken,
+};
+use std::alloc::{AllocError, Global};
+use std::process::Abort;
+use std::test::Fail;
+
+const ANNA: Addr = Addr {
+    ip: 0x8768_0906,
+    port: 5000,
+};
+
+const HELIX: Addr = Addr {
+    ip: 0x8768_091f,
+    port: 7,
+};
+
+/// From 135.104.9.6!5000 to 135.104.9.31!7: `hi`.
+const FRAME: [u8; 30] = [
+    0x45, 0, 0, 0x1e, 0, 0, 0, 0, 0xff, 0x11, 0x9a, 0xd9, 0x87, 0x68, 9, 6, 0x87, 0x68, 9, 0x1f,
+    0x13, 0x88, 0, 7, 0, 0x0a, 0x62, 0xec, 0x68, 0x69,
+];
+
+fn ether(alloc: Global) -> Result<Medium, AllocError> {
+    fated(alloc, 0, 0, 0, Sequence::new(alloc))
+}
+
+/// A medium under seed 1, with these rates and lines.
+fn fated(
+    alloc: Global,
+    loss: u32,
+    twice: u32,
+    later: u32,
+    fates: Fates,
+) -> Result<Medium, AllocError>
+    requires rates { loss + twice + later ≤ 1000 }
+    requires lines { AreLines fates }
+{
+    let spec = MediumSpec {
+        number: 0,
+        name: Octets::from_slice(alloc, b"ether0")?,
+        mtu: 576,
+        loss,
+        twice,
+        later,
+        fates,
+    };
+    Medium::new(alloc, &spec, 1)
+}
+
+/// Lays so many frames.
+fn lay(alloc: Global, medium: &mut Medium, frames: usize) -> Result<(), AllocError> {
+    let packet = udp(alloc, b"hi")?;
+    for _ in 0..frames {
+        medium.put(Some(1), &packet)?;
+    }
+    Ok(())
+}
+
+/// Whether the copies of these frames come, and no others.
+fn come(medium: &mut Medium, expected: &[u64]) -> Result<bool, AllocError> {
+    for frame in expected {
+        if !medium.pending() {
+            return Ok(false);
+        }
+        let taken = medium.take()?;
+        if taken.frame != *frame {
+            return Ok(false);
+        }
+    }
+    Ok(!medium.pending())
+}
+
+/// Whether these copies come of so many frames on a medium with these lines.
+fn lines_give(
+    alloc: Global,
+    loss: u32,
+    lines: &[FateRange],
+    frames: usize,
+    expected: &[u64],
+) -> Result<bool, AllocError>
+    requires rates { loss ≤ 1000 }
+    requires lines { AreLines lines.now }
+{
+    let lines = Sequence::from_vec(Vec::from_slice(alloc, lines)?);
+    let mut medium = fated(alloc, loss, 0, 0, lines)?;
+    lay(alloc, &mut medium, frames)?;
+    come(&mut medium, expected)
+}
+
+/// Whether these copies come of two frames under these rates. The first words, modulo 1000, are 86 and 797.
+fn rates_give(
+    alloc: Global,
+    loss: u32,
+    twice: u32,
+    later: u32,
+    expected: &[u64],
+) -> Result<bool, AllocError>
+    requires { loss + twice + later ≤ 1000 }
+{
+    let mut medium = fated(alloc, loss, twice, later, Sequence::new(alloc))?;
+    lay(alloc, &mut medium, 2)?;
+    come(&mut medium, expected)
+}
+
+const LINES: [FateRange; 3] = [
+    FateRange {
+        first: 4,
+        last: 5,
+        fate: Fate::Twice,
+    },
+    FateRange {
+        first: 1,
+        last: 1,
+        fate: Fate::Lose,
+    },
+    FateRange {
+        first: 2,
+        last: 3,
+        fate: Fate::Later,
+    },
+];
+
+fn udp(alloc: Global, text: &[u8]) -> Result<Packet, AllocError>
+    ensures { IfOk result (λ p. datagram_length p.body ≡ length text.now + 28) }
+{
+    Ok(Packet {
+        src: ANNA,
+        dst: HELIX,
+        ttl: 255,
+        tos: 0,
+        body: Body::Udp(Octets::from_slice(alloc, text)?),
+    })
+}
+
+fn il(alloc: Global, text: &[u8]) -> Result<Packet, AllocError> {
+    Ok(Packet {
+        src: ANNA,
+        dst: HELIX,
+        ttl: 9,
+        tos: 3,
+        body: Body::Il(IlMsg {
+            kind: IlKind::Data,
+            spec: 0,
+            id: 2,
+            ack: 101,
+            text: Octets::from_slice(alloc, text)?,
+        }),
+    })
+}
+
+#[test]
+fn a_packet_as_bytes(rt: HostRuntime) -> Result<(), Fail> {
+    assert_eq!(rt;
+        datagram_of(rt.alloc(), &udp(rt.alloc(), b"hi")?)?.as_slice(),
+        FRAME.as_slice()
+    );
+    Ok(())
+}
+
+/// What becomes of a packet of a protocol that is put for a station.
+fn lays(
+    alloc: Global,
+    medium: &mut Medium,
+    to: Option<u32>,
+    proto: Proto,
+    text: &[u8],
+) -> Result<Laid, AllocError> {
+    let packet = match proto {
+        Proto::Udp => udp(alloc, text)?,
+        Proto::Il => il(alloc, text)?,
+    };
+    medium.put(to, &packet)
+}
+
+/// Takes a copy, which must be there.
+fn taken(rt: &impl Abort, medium: &mut Medium) -> Result<Taken, AllocError> {
+    assert!(rt; medium.pending());
+    medium.take()
+}
+
+/// Whether it is the datagram `hi`, of the first frame to station 1.
+fn is_first(taken: &Taken) -> bool {
+    let packet = &taken.packet;
+    let head = (taken.frame, taken.to, packet.src, packet.dst) == (1, 1, ANNA, HELIX);
+    match &packet.body {
+        Body::Udp(text) => {
+            head && (packet.ttl, packet.tos) == (255, 0) && text.as_slice() == b"hi".as_slice()
+        }
+        Body::Il(_) => false,
+    }
+}
+
+/// Whether it is the message `hello`, of the second frame to station 0.
+fn is_second(taken: &Taken) -> bool {
+    let packet = &taken.packet;
+    let head = (taken.frame, taken.to, packet.ttl, packet.tos) == (2, 0, 9, 3);
+    match &packet.body {
+        Body::Il(message) => {
+            let told = (message.kind, message.spec, message.id, message.ack);
+            head && told == (IlKind::Data, 0, 2, 101)
+                && message.text.as_slice() == b"hello".as_slice()
+        }
+        Body::Udp(_) => false,
+    }
+}
+
+#[test]
+fn packets_come_in_their_order(rt: HostRuntime) -> Result<(), Fail> {
+    let mut medium = ether(rt.alloc())?;
+    let before = medium.pending();
+    let rows = [
+        (Some(1), Proto::Udp, b"hi".as_slice(), Laid::Frame(1)),
+        (None, Proto::Udp, b"hi", Laid::NoStation),
+        (Some(0), Proto::Il, b"hello", Laid::Frame(2)),
+    ];
+    for (to, proto, text, laid) in rows {
+        assert_eq!(rt; lays(rt.alloc(), &mut medium, to, proto, text), Ok(laid));
+    }
+    let first = taken(&rt, &mut medium)?;
+    let second = taken(&rt, &mut medium)?;
+    assert_eq!(rt; (before, medium.pending()), (false, false));
+    assert_eq!(rt; (is_first(&first), is_second(&second)), (true, true));
+    Ok(())
+}
+
+#[test]
+fn packets_up_to_the_mtu(rt: HostRuntime) -> Result<(), Fail> {
+    let text = [b'x'; 549];
+    let mut medium = ether(rt.alloc())?;
+    let rows = [
+        (Some(0), Proto::Udp, &text[..548], Laid::Frame(1)),
+        (Some(0), Proto::Udp, &text[..549], Laid::TooBig),
+        (None, Proto::Udp, &text[..549], Laid::NoStation),
+        (Some(0), Proto::Il, &text[..538], Laid::Frame(2)),
+        (Some(0), Proto::Il, &text[..539], Laid::TooBig),
+    ];
+    for (i, (to, proto, text, laid)) in rows.iter().enumerate() {
+        assert_eq!(rt;
+            lays(rt.alloc(), &mut medium, *to, *proto, text),
+            Ok(*laid),
+            "row {i}"
+        );
+    }
+    Ok(())
+}
+
+#[test]
+fn fates_by_lines(rt: HostRuntime) -> Result<(), Fail> {
+    assert!(rt; lines_give(rt.alloc(), 0, &LINES, 6, &[2, 4, 4, 3, 5, 5, 6])?);
+    Ok(())
+}
+
+#[test]
+fn fates_by_rates(rt: HostRuntime) -> Result<(), Fail> {
+    let alloc = rt.alloc();
+    let rows = [
+        // 86 below the loss of 87, and at the loss of 86
+        rates_give(alloc, 87, 0, 0, &[2])?,
+        rates_give(alloc, 86, 0, 0, &[1, 2])?,
+        // 86 below loss and twice
+        rates_give(alloc, 80, 7, 0, &[1, 1, 2])?,
+        // 86 at loss and twice, below all three
+        rates_give(alloc, 80, 6, 1, &[2, 1])?,
+        // 86 at all three
+        rates_give(alloc, 40, 40, 6, &[1, 2])?,
+    ];
+    assert_eq!(rt; rows, [true; 5]);
+    Ok(())
+}
+
+#[test]
+fn words_are_drawn_for_all_frames(rt: HostRuntime) -> Result<(), Fail> {
+    // 86, 797, 970, 809, 448, 80, 103, 790, 936 and 677
+    let lost = lines_give(rt.alloc(), 500, &[], 10, &[2, 3, 4, 8, 9, 10])?;
+    let lined = lines_give(rt.alloc(), 500, &LINES, 10, &[2, 4, 4, 3, 5, 5, 8, 9, 10])?;
+    assert_eq!(rt; (lost, lined), (true, true));
+    Ok(())
+}
+
+#[test]
+fn the_last_held_copy_of_an_idle_medium(rt: HostRuntime) -> Result<(), Fail> {
+    assert!(rt; rates_give(rt.alloc(), 0, 0, 1000, &[1, 2])?);
+    Ok(())
+}

@@ -1,0 +1,35 @@
+//! What no clause says: that an interrupted call is tried again and is no fault, and that a fault is told once.
+use outside::{Failed, ReadSource, Source};
+use std::io;
+use std::io::{Error, ErrorKind, Read};
+
+/// Is interrupted twice, passes three bytes, fails once, and passes nothing from then on.
+#[derive(Drop)]
+struct Shaky {
+    calls: u32,
+}
+
+impl Read for Shaky {
+    fn read(&mut self, buf: &mut [u8]) -> io::Result<usize> {
+        self.calls = self.calls.saturating_add(1);
+        match self.calls {
+            1 | 2 => Err(Error::from(ErrorKind::Interrupted)),
+            3 => Ok(copy_front(b"abc", buf)),
+            4 => Err(Error::from(ErrorKind::BrokenPipe)),
+            _ => Ok(0),
+        }
+    }
+}
+
+#[test]
+fn a_reader_that_is_interrupted_and_fails(rt: HostRuntime) {
+    let mut source = ReadSource::new(Shaky { calls: 0 });
+    let mut into = [0u8; 8];
+    assert_eq!(rt; source.read(&mut into), Ok(3));
+    assert_eq!(rt; &into[..3], b"abc".as_slice());
+    assert_eq!(rt; source.faults, 0);
+    assert_eq!(rt; source.read(&mut into), Err(Failed));
+    assert_eq!(rt; source.faults, 1);
+    assert_eq!(rt; source.read(&mut into), Ok(0));
+    assert_eq!(rt; source.faults, 1);
+}

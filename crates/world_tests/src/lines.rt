@@ -1,0 +1,203 @@
+//! Worked lines, and those that are refused.
+use net_base::{Fate, Proto, Step};
+use std::alloc::Global;
+use std::process::Abort;
+use world_text::{Frames, HostLine, MediumLine, WorldLine};
+use world_words::{LineFault, is_name, read_line};
+
+const NAMES: &[(&[u8], bool)] = &[
+    (b"a", true),
+    (b"ether0", true),
+    (b"a-z", true),
+    (b"abcdefghijklmnopqrstuvwxyz0", true),
+    (b"abcdefghijklmnopqrstuvwxyz01", false),
+    (b"", false),
+    (b"0a", false),
+    (b"-a", false),
+    (b"aB", false),
+    (b"a_b", false),
+];
+
+#[test]
+fn names_are_told(rt: HostRuntime) {
+    for (i, (word, want)) in NAMES.iter().enumerate() {
+        assert_eq!(rt; is_name(word), *want, "row {i}");
+    }
+}
+
+/// The cause of a line, 0 where it is read.
+fn cause_of(alloc: Global, line: &[u8]) -> u32 {
+    match read_line(alloc, line) {
+        Ok(_) => 0,
+        Err(LineFault::Cause(cause)) => cause.number(),
+        Err(LineFault::Memory) => 1,
+    }
+}
+
+fn all_have(rt: &impl Abort, alloc: Global, lines: &[&[u8]], cause: u32) {
+    for (i, line) in lines.iter().enumerate() {
+        assert_eq!(rt; cause_of(alloc, line), cause, "line {i}");
+    }
+}
+
+const LINES: &[&[u8]] = &[
+    b"networld 1",
+    b"end 1000000000",
+    b"seed 18446744073709551615",
+    b"medium ether0 16384",
+    b"rates ether0 1001 0 4294967295",
+    b"fate ether0 1 deliver",
+    b"fate ether0 4-4 lose",
+    b"fate ether0 2-18446744073709551615 later",
+    b"host anna il",
+    b"host anna udp il",
+    b"if ether0 10.0.0.255 255.0.255.0",
+    b"route 0.0.0.0 0.0.0.0 10.0.0.1",
+    b"start 4294967295",
+    b"script anna",
+    b"ndb",
+];
+
+#[test]
+fn lines_are_read(rt: HostRuntime) {
+    all_have(&rt, rt.alloc(), LINES, 0);
+}
+
+const STEPS: &[&[u8]] = &[
+    b"open c /net/udp/clone",
+    b"open c /net/cs rw",
+    b"read c 65536",
+    b"write c ",
+    b"write c two  words",
+    b"writex c -",
+    b"writex c 00ff0a",
+    b"close c",
+    b"ls /net",
+    b"cs ",
+    b"until 1000000000",
+    b"dial c il!anna!9fs",
+    b"announce a udp!*!7",
+    b"listen l a",
+    b"accept c l",
+    b"reject l",
+    b"hangup c",
+];
+
+#[test]
+fn steps_are_read(rt: HostRuntime) {
+    all_have(&rt, rt.alloc(), STEPS, 0);
+}
+
+const UNKNOWN: &[&[u8]] = &[b" end 1", b"opens c /net", b"ENDS", b"", b"ndbs"];
+
+#[test]
+fn unknown_words_are_told(rt: HostRuntime) {
+    all_have(&rt, rt.alloc(), UNKNOWN, 12);
+}
+
+const WRONG_LINES: &[&[u8]] = &[
+    b"networld 2",
+    b"end 0",
+    b"end 01",
+    b"seed 18446744073709551616",
+    b"medium ether0 575",
+    b"medium ether0 1500 ",
+    b"rates ether0 1 2",
+    b"rates ether0 1 2 4294967296",
+    b"fate ether0 0 lose",
+    b"fate ether0 2-1 lose",
+    b"fate ether0 1-2-3 lose",
+    b"fate ether0 1 never",
+    b"host anna",
+    b"host anna il il",
+    b"host anna il udp il",
+    b"if ether0 1.2.3 255.0.0.0",
+    b"route 1.2.3.4 255.0.0.0",
+    b"start 0",
+    b"script",
+    b"ndb ",
+];
+
+#[test]
+fn wrong_lines_are_told(rt: HostRuntime) {
+    all_have(&rt, rt.alloc(), WRONG_LINES, 13);
+}
+
+const WRONG_STEPS: &[&[u8]] = &[
+    b"open c",
+    b"open c ",
+    b"open c /net/cs x",
+    b"open c /net/cs r w",
+    b"read c 0",
+    b"read c 65537",
+    b"write c",
+    b"write C hi",
+    b"writex c 0",
+    b"writex c 0A",
+    b"writex c ",
+    b"close",
+    b"close c d",
+    b"ls ",
+    b"cs",
+    b"until 0",
+    b"dial c",
+    b"announce a b c",
+    b"listen l A",
+    b"hangup C",
+];
+
+#[test]
+fn wrong_steps_are_told(rt: HostRuntime) {
+    all_have(&rt, rt.alloc(), WRONG_STEPS, 13);
+}
+
+/// Whether a line is the fate of these frames.
+fn is_fate_of(alloc: Global, line: &[u8], want: Frames) -> bool {
+    match read_line(alloc, line) {
+        Ok(
+            WorldLine::OfMedium(
+                MediumLine::Fate {
+                    frames,
+                    fate: Fate::Lose,
+                    ..
+                },
+            ),
+        ) => frames == want,
+        _ => false,
+    }
+}
+
+/// Whether a line is a host with both networks, UDP first.
+fn is_host_of_both(alloc: Global, line: &[u8]) -> bool {
+    match read_line(alloc, line) {
+        Ok(WorldLine::Host { nets, .. }) => { matches!(nets.as_slice(), [Proto::Udp, Proto::Il]) }
+        _ => false,
+    }
+}
+
+/// Whether a line is an interface with this address.
+fn is_iface_of(alloc: Global, line: &[u8], want: u32) -> bool {
+    match read_line(alloc, line) {
+        Ok(WorldLine::OfHost(HostLine::If { ip, .. })) => ip == want,
+        _ => false,
+    }
+}
+
+/// Whether a line is a write of this text.
+fn is_write_of(alloc: Global, line: &[u8], want: &[u8]) -> bool {
+    match read_line(alloc, line) {
+        Ok(WorldLine::OfScript(Step::Write { text, .. })) => text.as_slice() == want,
+        _ => false,
+    }
+}
+
+#[test]
+fn lines_say_what_they_spell(rt: HostRuntime) {
+    let alloc = rt.alloc();
+    let one = is_fate_of(alloc, b"fate a 4 lose", Frames::One(4));
+    let range = is_fate_of(alloc, b"fate a 4-4 lose", Frames::Range(4, 4));
+    let host = is_host_of_both(alloc, b"host anna udp il");
+    let iface = is_iface_of(alloc, b"if ether0 10.0.0.1 255.0.0.0", 167_772_161);
+    let write = is_write_of(alloc, b"write c two  words", b"two  words");
+    assert_eq!(rt; [one, range, host, iface, write], [true; 5]);
+}
