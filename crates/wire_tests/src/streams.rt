@@ -1,12 +1,12 @@
-//! What no clamod readers;
+//! What no clause says: that the calls succeed with ample memory, and what the standard streams do.
+mod readers;
 mod writers;
 
-use says: that the calls succeed with ample memory, and what the standard streams do.
+use net_base::Octets;
 use outside::{
     FailList, Failed, MemSink, MemSource, Sink, Source, StdSink, StdSource, SureSink, SureSource,
     TakeError, read_to_end, write_all,
 };
-use net_base::Octets;
 use std::alloc::{AllocError, Global};
 use std::test::Fail;
 
