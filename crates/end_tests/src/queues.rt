@@ -88,7 +88,7 @@ fn first_is_acknowledged(
     let before = unacked.first().is_none();
     let first = wait_for_ack(alloc, unacked, b"a")?;
     let second = wait_for_ack(alloc, unacked, b"b")?;
-    if (first, second, unacked.len()) != (Fate::Kept, Fate::Kept, 2) {
+    if first != Fate::Kept || second != Fate::Kept || unacked.len() != 2 {
         return Ok(None);
     }
     unacked.drop_first(1);

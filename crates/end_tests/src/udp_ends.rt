@@ -52,7 +52,8 @@ fn reads(end: &mut UdpEnd, count: usize, bytes: Option<&[u8]>) -> Result<bool, A
     if !end.ready_read() {
         return Ok(false);
     }
-    match (end.read(count), bytes) {
+    let read = end.read(count);
+    match (&read, bytes) {
         (Ok(text), Some(bytes)) => Ok(text.as_slice() == bytes),
         (Err(HungupError::Hungup), None) => Ok(true),
         (Err(HungupError::Memory), _) => Err(AllocError),

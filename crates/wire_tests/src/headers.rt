@@ -262,7 +262,7 @@ fn sums_of_user_datagrams(rt: HostRuntime) {
 
 /// Whether the greatest text is written with this user datagram's sum and this header's, and read again.
 fn is_greatest(text: &[u8], datagram: &mut [u8], out: &mut [u8]) -> bool {
-    if (text.len(), datagram.len(), out.len()) != (65507, 65515, 65535) {
+    if text.len() != 65507 || datagram.len() != 65515 || out.len() != 65535 {
         return false;
     }
     let counts = (

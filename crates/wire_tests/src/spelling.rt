@@ -124,7 +124,7 @@ fn is_hex(alloc: Global, bytes: &[u8], word: &[u8]) -> Result<bool, AllocError> 
 /// Whether these bytes are read of a word in hexadecimal, or none.
 fn is_hex_of(alloc: Global, word: &[u8], bytes: Option<&[u8]>) -> Result<bool, AllocError> {
     let read = read_hex_word(alloc, word)?;
-    match (read, bytes) {
+    match (&read, bytes) {
         (Some(read), Some(bytes)) => Ok(read.as_slice() == bytes),
         (None, None) => Ok(true),
         _ => Ok(false),
