@@ -262,7 +262,7 @@ fn ticks(timer: &mut Timer, now: u64, says: Tick, due: Option<u64>) -> bool {
 }
 
 /// Ticks of a timer that starts at 10: moments, and what they say and leave due.
-const TICKS: &[(u64, Tick, Option<u64>)] = &[
+const SILENT_TICKS: &[(u64, Tick, Option<u64>)] = &[
     (10, Tick::NotDue, Some(510)),
     (509, Tick::NotDue, Some(510)),
     (510, Tick::Again, Some(1510)),
@@ -281,7 +281,7 @@ fn a_timer_runs_out(rt: HostRuntime) {
     let mut timer = Timer::idle();
     assert!(rt; ticks(&mut timer, 5, Tick::NotDue, None));
     timer.start(10);
-    for (now, says, due) in TICKS {
+    for (now, says, due) in SILENT_TICKS {
         assert!(rt; ticks(&mut timer, *now, *says, *due), "at {now}");
     }
 }

@@ -35,7 +35,7 @@ const FROM: Addr = Addr {
 
 const TO: Addr = Addr { ip: HELIX, port: 7 };
 
-const SUMS: &[(&[u8], u16)] = &[
+const WORKED_SUMS: &[(&[u8], u16)] = &[
     // nothing, zero, all ones
     (&[], 0xffff),
     (&[0, 0], 0xffff),
@@ -59,7 +59,7 @@ fn sum_of(bytes: &[u8]) -> Option<u16> {
 
 #[test]
 fn sums(rt: HostRuntime) {
-    for (i, row) in SUMS.iter().enumerate() {
+    for (i, row) in WORKED_SUMS.iter().enumerate() {
         assert_eq!(rt; sum_of(row.0), Some(row.1), "row {i}");
     }
 }

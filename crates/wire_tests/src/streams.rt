@@ -39,7 +39,7 @@ enum Taken {
     Fault(TakeError),
 }
 
-fn taken<S: Source>(alloc: Global, source: &mut S, text: &[u8], limit: usize) -> Taken {
+fn take_all<S: Source>(alloc: Global, source: &mut S, text: &[u8], limit: usize) -> Taken {
     match read_to_end(alloc, source, limit) {
         Ok(bytes) => {
             if text.ends_with(bytes.as_slice()) {
@@ -55,7 +55,7 @@ fn taken<S: Source>(alloc: Global, source: &mut S, text: &[u8], limit: usize) ->
 /// What a source of the text gives under a limit.
 fn taken_under(alloc: Global, text: &[u8], limit: usize) -> Result<Taken, AllocError> {
     let mut source = SureSource::new(Octets::from_slice(alloc, text)?);
-    Ok(taken(alloc, &mut source, text, limit))
+    Ok(take_all(alloc, &mut source, text, limit))
 }
 
 /// The same under four limits.
@@ -84,19 +84,19 @@ fn taken_in_parts(alloc: Global, text: &[u8]) -> Result<[Taken; 3], AllocError> 
     let calls = fails(alloc, &[2, 4])?;
     let mut source = MemSource::new(Octets::from_slice(alloc, text)?, calls);
     Ok([
-        taken(alloc, &mut source, text, COUNT),
-        taken(alloc, &mut source, text, COUNT),
-        taken(alloc, &mut source, text, COUNT),
+        take_all(alloc, &mut source, text, COUNT),
+        take_all(alloc, &mut source, text, COUNT),
+        take_all(alloc, &mut source, text, COUNT),
     ])
 }
 
-const FAILED: Taken = Taken::Fault(TakeError::Failed);
+const CALL_FAILED: Taken = Taken::Fault(TakeError::Failed);
 
 #[test]
 fn a_read_that_fails_in_between(rt: HostRuntime) -> Result<(), Fail> {
     let text = text(rt.alloc())?;
     let told = taken_in_parts(rt.alloc(), text.as_slice());
-    assert_eq!(rt; told, Ok([FAILED, FAILED, Taken::Last(1808)]));
+    assert_eq!(rt; told, Ok([CALL_FAILED, CALL_FAILED, Taken::Last(1808)]));
     Ok(())
 }
 
@@ -128,7 +128,10 @@ fn a_sink_that_never_fails(rt: HostRuntime) {
 #[test]
 fn standard_input(rt: HostRuntime) {
     let mut source = StdSource::new(rt.stdin());
-    assert_eq!(rt; taken(rt.alloc(), &mut source, b"", 1000), Taken::Last(0));
+    assert_eq!(rt;
+        take_all(rt.alloc(), &mut source, b"", 1000),
+        Taken::Last(0)
+    );
 }
 
 #[test]
