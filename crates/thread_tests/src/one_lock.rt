@@ -1,3 +1,4 @@
+//! One machine that counts behind its lock, by two threads and past a gate that watches.
 ghost use Rattle.std.specs.Prelude.{◌≡◌, ℕ, ◌+◌, ◌<◌, ◌≤◌, List, [], ◌∷◌, length};
 ghost use Rattle.net_base.specs.declared.noted.Noted.{Noted};
 ghost use Rattle.net_base.specs.declared.actor.ActorName.TheVariants.{Desk as DeskName, Clock as ClockName};
