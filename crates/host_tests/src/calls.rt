@@ -14,45 +14,45 @@ fn call(slot: u32) -> Call {
 
 /// What a queue does with the call of a slot.
 #[derive(Clone, Copy)]
-enum Does {
-    Queue(u32),
-    Refuse(u32),
-    Give(u32),
-    GiveNone,
+enum Row {
+    Queues(u32),
+    Refuses(u32),
+    Gives(u32),
+    GivesNone,
 }
 
-fn does(queue: &mut CallQueue, what: Does) -> bool {
-    match what {
-        Does::Queue(slot) => queue.queue(call(slot)) == Ok(()),
-        Does::Refuse(slot) => queue.queue(call(slot)) == Err(call(slot)),
-        Does::Give(slot) => queue.take() == Some(call(slot)),
-        Does::GiveNone => queue.take().is_none(),
+fn does(queue: &mut CallQueue, row: Row) -> bool {
+    match row {
+        Row::Queues(slot) => queue.queue(call(slot)) == Ok(()),
+        Row::Refuses(slot) => queue.queue(call(slot)) == Err(call(slot)),
+        Row::Gives(slot) => queue.take() == Some(call(slot)),
+        Row::GivesNone => queue.take().is_none(),
     }
 }
 
-fn play(rt: &impl Abort, queue: &mut CallQueue, rows: &[Does]) {
+fn play(rt: &impl Abort, queue: &mut CallQueue, rows: &[Row]) {
     for (i, row) in rows.iter().enumerate() {
         assert!(rt; does(queue, *row), "row {i}");
     }
 }
 
-const TEN: &[Does] = &[
-    Does::Queue(0),
-    Does::Queue(1),
-    Does::Queue(2),
-    Does::Queue(3),
-    Does::Queue(4),
-    Does::Queue(5),
-    Does::Queue(6),
-    Does::Queue(7),
-    Does::Queue(8),
-    Does::Queue(9),
+const TEN: &[Row] = &[
+    Row::Queues(0),
+    Row::Queues(1),
+    Row::Queues(2),
+    Row::Queues(3),
+    Row::Queues(4),
+    Row::Queues(5),
+    Row::Queues(6),
+    Row::Queues(7),
+    Row::Queues(8),
+    Row::Queues(9),
     // the eleventh
-    Does::Refuse(10),
+    Row::Refuses(10),
     // the oldest
-    Does::Give(0),
+    Row::Gives(0),
     // there is room again
-    Does::Queue(11),
+    Row::Queues(11),
 ];
 
 #[test]
@@ -63,7 +63,7 @@ fn ten_calls_wait(rt: HostRuntime) -> Result<(), Fail> {
     Ok(())
 }
 
-const TWO: &[Does] = &[Does::GiveNone, Does::Queue(3), Does::Queue(1)];
+const TWO: &[Row] = &[Row::GivesNone, Row::Queues(3), Row::Queues(1)];
 
 fn has_two(alloc: Global, queue: &CallQueue) -> Result<bool, AllocError> {
     let list = queue.list(alloc)?;
