@@ -188,7 +188,7 @@ fn said_of_text(text: &[u8]) -> Said {
     }
 }
 
-fn said(line: &WorldLine) -> Said {
+fn said_of(line: &WorldLine) -> Said {
     match line {
         WorldLine::OfMedium(
             MediumLine::Fate {
@@ -206,7 +206,7 @@ fn said(line: &WorldLine) -> Said {
 
 fn said_by(alloc: Global, line: &[u8]) -> Said {
     match read_line(alloc, line) {
-        Ok(line) => said(&line),
+        Ok(line) => said_of(&line),
         Err(_) => Said::Other,
     }
 }
