@@ -82,8 +82,9 @@ fn a_frame_is_written(rt: HostRuntime) {
     let carried = encode_udp(FROM, TO, b"hi", &mut datagram);
     let mut out = [9; 32];
     let whole = encode_ip(&HEADER, &datagram[..10], &mut out);
-    assert_eq!(rt; (carried, &datagram[10..]), (10, [7, 7].as_slice()));
-    assert_eq!(rt; (whole, &out[..30]), (30, FRAME.as_slice()));
+    assert_eq!(rt; (carried, whole), (10, 30));
+    assert_eq!(rt; &datagram[10..], [7, 7].as_slice());
+    assert_eq!(rt; &out[..30], FRAME.as_slice());
     assert_eq!(rt; &out[30..], [9, 9].as_slice());
 }
 
