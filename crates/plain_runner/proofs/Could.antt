@@ -8,7 +8,7 @@ use Rattle.net_base.specs.declared.reply.Reply.{Reply}
 use Rattle.net_base.specs.declared.world.Script.{Script}
 use Rattle.net_base.specs.declared.world.World.{World}
 use Rattle.net_base.specs.Callers.{caller_count, clock_number}
-use Rattle.net_base.specs.Calm.{calm, callers, most_entries, unfinished}
+use Rattle.net_base.specs.Calm.{calm, callers, most_entries, movable, unfinished}
 use Rattle.net_base.specs.Duties.{Duty}
 use Rattle.net_base.specs.Net.{after, opening_net}
 use Rattle.net_base.specs.Next.{by, finished_by, is_unfinished, own_replies}
@@ -24,8 +24,8 @@ use Rattle.plain_runner.specs.declared.caller.Role.{Role}
 use Rattle.plain_runner.specs.declared.caller.Role.TheVariants as role
 use Rattle.plain_runner.specs.declared.runner.Runner.{Runner}
 use Rattle.plain_runner.proofs.Calming.{is_busy}
-use Rattle.plain_runner.proofs.Halting.{NobodyCould, busy_unfinished, done_word, full_word, limit_word, moment_within, other_word, stopped_word}
-use Rattle.plain_runner.proofs.Ranges.{passed_range, unpassed}
+use Rattle.plain_runner.proofs.Halting.{NobodyCould, busy_unfinished, done_word, full_word, idle_calm, limit_word, moment_within, other_word, stopped_word}
+use Rattle.plain_runner.proofs.Ranges.{and_left, and_right, passed_range, unpassed}
 use Rattle.plain_runner.proofs.Standing.{script_at, script_role, unfinished_from, unfinished_more, unfinished_none}
 
 pub past_is : (w : World) (h : List Entry) → (after w h).past ≡ h
@@ -106,6 +106,25 @@ pub other_told : (w : World) (r : Runner) (goes more full : Bool) (n : ℕ) → 
 other_told w r goes more full n s goes_so idle more_so some apart at full_so few =
     other_word w (after w r.history) (idle_so w r goes goes_so idle) (sym more_so ∙ some) (λ e. apart (s.moment_is ∙ e))
     (subst (λ (k : ℕ). (length (by (after w r.history).past k) == most_entries) ≡ false) at (full_is w r.history n full full_so ∙ few))
+
+-- Whether the clock may move.
+
+pub moves_busy : (w : World) (r : Runner) (goes : Bool) → goes ≡ list_any (could w r.history) (callers w) → goes ≡ true → false ≡ movable w (after w r.history)
+moves_busy w r goes goes_so busy = sym (and_left (calm w (after w r.history)) _ (busy_so w r goes goes_so busy))
+
+pub moves_finished : (w : World) (r : Runner) (more : Bool) → more ≡ unfinished w (after w r.history) → more ≡ false → false ≡ movable w (after w r.history)
+moves_finished w r more more_so none =
+    sym (and_right (calm w (after w r.history)) _ (and_left (unfinished w (after w r.history)) _ (sym more_so ∙ none)))
+
+pub moves_told : (w : World) (r : Runner) (goes more : Bool) → Tracks w r → goes ≡ list_any (could w r.history) (callers w) → goes ≡ false
+    → more ≡ unfinished w (after w r.history) → more ≡ true → nat_lt r.moment w.end ≡ movable w (after w r.history)
+moves_told w r goes more s goes_so idle more_so some =
+    ap (λ (m : ℕ). nat_lt m w.end) s.moment_is
+    ∙ sym (by_both (calm w (after w r.history)) (unfinished w (after w r.history)) (nat_lt (after w r.history).moment w.end)
+    (idle_calm w (after w r.history) (idle_so w r goes goes_so idle)) (sym more_so ∙ some))
+  where
+    by_both : (a b c : Bool) → a ≡ true → b ≡ true → (a && (b && c)) ≡ c
+    by_both a b c first second = rw (first, second) refl
 
 -- Scripts.
 

@@ -1,5 +1,6 @@
 -- A run that follows a history.
-use Rattle.std.specs.Prelude.{◌≡◌, List, [], ◌∷◌, ◌++◌}
+use Rattle.std.specs.Prelude.{◌≡◌, ℕ, List, [], ◌∷◌, ◌++◌}
+use Rattle.net_base.specs.declared.event.Event.{Event}
 use Rattle.net_base.specs.declared.history.Entry.{Entry}
 use Rattle.net_base.specs.declared.world.World.{World}
 use Rattle.net_base.specs.Legal.{IsInTime, MayFollow}
@@ -18,10 +19,18 @@ pub record Follows (w : World) (r : Runner) (x : Entry) : Type 0 where
   pub may : MayFollow w r.history x
   pub in_time : IsInTime (after w r.history) w x.event
 
--- so in some world
-abbrev pub MayFollowOn : Runner → Entry → Type 0
-MayFollowOn r x = (w : World) × Follows w r x
+-- an entry with this event of this caller
+pub record IsOf (x : Entry) (c : ℕ) (e : Event) : Type 0 where
+  pub caller_is : x.caller ≡ c
+  pub event_is : x.event ≡ e
 
--- it recorded this entry too
-abbrev pub FollowedBy : Runner → Runner → Entry → Type 0
-FollowedBy old new x = (w : World) → Follows w old x → Followed w (old.history ++ x ∷ []) new
+-- such an entry may come next in some world
+pub record MayFollowOn (r : Runner) (c : ℕ) (e : Event) : Type 0 where
+  pub world : World
+  pub entry : Entry
+  pub is : IsOf entry c e
+  pub follows : Follows world r entry
+
+-- it recorded the entry, too, with this event of this caller, that may come next
+abbrev pub FollowedBy : Runner → Runner → ℕ → Event → Type 0
+FollowedBy old new c e = (w : World) (x : Entry) → IsOf x c e → Follows w old x → Followed w (old.history ++ x ∷ []) new

@@ -41,6 +41,20 @@ impl<'a> Runner<'a> {
         End::Unfinished
     }
 
+    /// Whether the clock may move: nobody could record, a step of some script isn't finished, and the end moment isn't reached.
+    pub fn is_movable(&self, world: &World) -> bool
+        requires { Tracks world.now self.now }
+        ensures { result ≡ calm.movable world.now (after world.now self.now.history) }
+    {
+        if self.goes_on() {
+            return false;
+        }
+        if !self.is_unfinished(world) {
+            return false;
+        }
+        self.moment < world.end
+    }
+
     // How it stands where a caller owes a duty or its next event is ready.
     fn busy_end(&self) -> End
         ensures { (w : AnyWorld) → Tracks w self.now → calm.calm w (after w self.now.history) ≡ false

@@ -12,5 +12,9 @@ mod runner;
 mod tests;
 mod turn;
 
+pub use caller::{Caller, Role};
+pub use law::histories_are_short;
 pub use replay::summary_of;
 pub use rounds::{Ran, RunEnd, run};
+pub use runner::Runner;
+pub use turn::Turn;

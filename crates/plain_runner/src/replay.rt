@@ -7,7 +7,7 @@ ghost use Rattle.plain_runner.specs.Followed.{Followed, FollowedBy, MayFollowOn}
 
 use crate::rounds::moving;
 use crate::runner::Runner;
-use net_base::{Entry, Event, History, Octets, World};
+use net_base::{Event, History, Octets, World};
 use std::alloc::{AllocError, Global};
 use transcript::{RunStatus, summary_by};
 
@@ -37,21 +37,20 @@ pub fn replayed<'a>(
 {
     let mut runner = Runner::new(alloc, world)?;
     for entry in history.as_slice() {
-        runner.follow(entry)?;
+        runner.follow(entry.caller, &entry.event)?;
     }
     Ok(runner)
 }
 
 impl<'a> Runner<'a> {
-    // Records an entry that may follow.
-    fn follow(&mut self, entry: &Entry) -> Result<(), AllocError>
-        requires { MayFollowOn self.old entry.now }
-        ensures { OnOk result (FollowedBy self.old self.new entry.now) }
+    /// Records an event of a caller, which may come next.
+    pub fn follow(&mut self, caller: u32, event: &Event) -> Result<(), AllocError>
+        requires { MayFollowOn self.old caller event.now }
+        ensures { OnOk result (FollowedBy self.old self.new caller event.now) }
     {
-        let caller = entry.caller as usize;
-        match &entry.event {
-            Event::Move { moment } => self.record(caller, moving(*moment)),
-            _ => self.record_next(caller),
+        match event {
+            Event::Move { moment } => self.record(caller as usize, moving(*moment)),
+            _ => self.record_next(caller as usize),
         }
     }
 }
