@@ -1,13 +1,13 @@
 //! A run that follows a history: each entry is recorded again by its caller.
-ghost use Rattle.std.specs.Prelude.{◌≡◌, IfOk, OnOk};
+ghost use Rattle.std.specs.Prelude.{◌≡◌, IfOk};
 ghost use Rattle.net_base.specs.Legal.{IsLegal, IsTimed};
 ghost use Rattle.net_base.specs.Summary.{summary};
 ghost use Rattle.net_base.specs.World.{IsWorld};
 ghost use Rattle.plain_runner.specs.Followed.{Followed, FollowedBy, MayFollowOn};
 
-use crate::rounds::moving;
 use crate::runner::Runner;
-use net_base::{Event, History, Octets, World};
+use crate::turn::moving;
+use net_base::{Entry, Event, History, Octets, World};
 use std::alloc::{AllocError, Global};
 use transcript::{RunStatus, summary_by};
 
@@ -43,10 +43,10 @@ pub fn replayed<'a>(
 }
 
 impl<'a> Runner<'a> {
-    /// Records an event of a caller, which may come next.
-    pub fn follow(&mut self, caller: u32, event: &Event) -> Result<(), AllocError>
+    /// Records an event of a caller, which may come next, and gives the entry.
+    pub fn follow(&mut self, caller: u32, event: &Event) -> Result<Entry, AllocError>
         requires { MayFollowOn self.old caller event.now }
-        ensures { OnOk result (FollowedBy self.old self.new caller event.now) }
+        ensures { IfOk result (FollowedBy self.old self.new caller event.now) }
     {
         match event {
             Event::Move { moment } => self.record(caller as usize, moving(*moment)),

@@ -19,7 +19,7 @@ loop-entry-preserved c =
     c.entry-item.is l.invariant.history_is
     (c.in_ok-follow.ensures c.args.world.now c.entry-item.result (record { caller_is = refl; event_is = refl })
     (may_next c.args.world.now c.args.history.now c.as_slice-entry-items.result.now l.runner l.entry-index c.entry-item.result c.requires.legal
-    c.requires.timed c.as_slice-entry-items.ensures c.loop-entry-test.true c.entry-item.is l.invariant))
+    c.requires.timed c.as_slice-entry-items.ensures c.loop-entry-test.true c.entry-item.is l.invariant)).followed
 
 pub returns : goal.returns
 returns c =
