@@ -189,7 +189,10 @@ fn a_changed_entry_of_a_datagram_is_told(rt: HostRuntime) -> Result<(), Fail> {
     ]?;
     for (stamp, change, rule) in table {
         let wanted = Told::Fault(stamp as u64, rule);
-        assert!(rt; changed(&rt, alloc, DATAGRAM, stamp, change)? == wanted, "stamp {stamp} rule {rule}");
+        assert!(rt;
+            changed(&rt, alloc, DATAGRAM, stamp, change)? == wanted,
+            "stamp {stamp} rule {rule}"
+        );
     }
     Ok(())
 }
@@ -214,7 +217,10 @@ fn a_changed_move_is_told(rt: HostRuntime) -> Result<(), Fail> {
     ]?;
     for (change, rule) in table {
         let wanted = Told::Fault(stamp as u64, rule);
-        assert!(rt; changed(&rt, alloc, CALL, stamp, change)? == wanted, "rule {rule}");
+        assert!(rt;
+            changed(&rt, alloc, CALL, stamp, change)? == wanted,
+            "rule {rule}"
+        );
     }
     Ok(())
 }
