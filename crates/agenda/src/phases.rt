@@ -5,6 +5,11 @@ ghost use Rattle.net_base.specs.Callers.{IsScript, caller_of};
 ghost use Rattle.net_base.specs.Legal.{IsLegal, IsTimed};
 ghost use Rattle.net_base.specs.Net.{after};
 ghost use Rattle.net_base.specs.World.{IsWorld};
+<<<<<<< HEAD
+=======
+ghost use Rattle.plain_runner.specs.Rounds.{EndsSo};
+ghost use Rattle.net_model.specs.Headline.{Headline};
+>>>>>>> advance
 ghost use Rattle.whole_script.specs.ScriptTasks.{Plays};
 ghost use Rattle.host_net.specs.Groups.{all_members, visits};
 ghost use Rattle.net_locks.specs.Rosters.{IsRosterOf};
@@ -16,6 +21,7 @@ use actor_machines::{Placing, WorldActor};
 use host_net::{Advance, Guest, Net, NetOpened, Player, Players};
 use journal::Naming;
 use net_base::World;
+use net_model::legal_histories_keep_it;
 use outside::Gate;
 use std::alloc::{AllocError, Global};
 use std::marker::Brand;
@@ -37,6 +43,7 @@ pub fn run<R: Threads + Wait + Sync, G: Gate + Sync>(
     ensures legal { IfOk result (λ run. IsLegal world.now run.history) }
     ensures timed { IfOk result (λ run. IsTimed world.now run.history) }
     ensures end { IfOk result (λ run. EndsSo world.now (after world.now run.history) run.end) }
+    ensures headline { IfOk result (λ run. Headline world.now run.history) }
 {
     let opened = NetOpened::new(alloc, world)?;
     Ok(run_named::<Brand, R, G>(rt, alloc, world, workers, gate, opened)?)
@@ -59,7 +66,9 @@ fn run_named<J: Naming + Placing + Send + Sync, R: Threads + Wait + Sync, G: Gat
     ensures legal { IfOk result (λ run. IsLegal J.world run.history) }
     ensures timed { IfOk result (λ run. IsTimed J.world run.history) }
     ensures end { IfOk result (λ run. EndsSo J.world (after J.world run.history) run.end) }
+    ensures headline { IfOk result (λ run. Headline J.world run.history) }
 {
+    legal_histories_keep_it();
     let (net, guests) = Net::<J, WorldActor<J>>::named(alloc, world, opened)?;
     let mut players = players_of(alloc, world, guests, workers)?;
     let end = phases(rt, alloc, world, gate, &net, &mut players)?;

@@ -1,3 +1,6 @@
+use Rattle.std.proofs.Common.{sym, subst}
+use Rattle.net_base.specs.declared.world.World.{World}
+use Rattle.net_base.specs.World.{IsWorld}
 use Rattle.agenda.proofs.Closing.{closed_history, closed_legal, closed_timed}
 use Rattle.agenda.proofs.phases.run_named.Goals as goal
 
@@ -13,3 +16,8 @@ pub returns-clause-end : goal.returns-clause-end
 returns-clause-end g c =
     c.in_ok-end.ensures.ended c.in_ok-history.history
     (closed_history g.J.Placing.world c.in_ok-played.played.items c.in_ok-history.history c.in_ok-history.ensures c.in_ok-played.ensures.plays _ c.in_ok-played.ensures.same)
+
+pub returns-clause-headline : goal.returns-clause-headline
+returns-clause-headline g c =
+    let is = subst (λ (w : World). IsWorld w) (sym c.requires.world) c.requires.is in
+    c.legal_histories_keep_it.ensures g.J.Placing.world c.in_ok-history.history is (returns-clause-legal g c)
