@@ -5,11 +5,7 @@ ghost use Rattle.net_base.specs.Callers.{IsScript, caller_of};
 ghost use Rattle.net_base.specs.Legal.{IsLegal, IsTimed};
 ghost use Rattle.net_base.specs.Net.{after};
 ghost use Rattle.net_base.specs.World.{IsWorld};
-<<<<<<< HEAD
-=======
-ghost use Rattle.plain_runner.specs.Rounds.{EndsSo};
 ghost use Rattle.net_model.specs.Headline.{Headline};
->>>>>>> advance
 ghost use Rattle.whole_script.specs.ScriptTasks.{Plays};
 ghost use Rattle.host_net.specs.Groups.{all_members, visits};
 ghost use Rattle.net_locks.specs.Rosters.{IsRosterOf};

@@ -1,4 +1,4 @@
-//! Tests of runs: on one worker what the plain runner records.
+//! Tests of runs: legal on any number of workers, and in a fixed order on one.
 #![tactic(auto)]
 
 #[cfg(test)]

