@@ -1,0 +1,11 @@
+pub mod Fields
+pub mod EventRows
+pub mod ReplyRows
+pub mod EntryReading
+pub mod Wide
+pub mod SummaryText
+pub mod Spelling
+pub mod Told
+pub use Rattle.net_base.specs.Plain
+pub use Rattle.net_base.specs.Summary
+pub use Rattle.net_base.specs.Transcript
