@@ -67,10 +67,10 @@ to_who f = (f.0, f.1.0, f.1.1.0, f.1.1.1)
 abbrev pub who : Reader Who
 who = made (both long (both narrow (both actor long_or_dash))) to_who
 
--- what stands behind the `=`
-abbrev pub behind_equals : Words → Option Words
-behind_equals [] = None
-behind_equals (word ∷ words) = if bytes_eq word (codes "=") then Some words else None
+-- what stands behind a word
+abbrev pub behind_word : List ℕ → Words → Option Words
+behind_word first [] = None
+behind_word first (word ∷ words) = if bytes_eq word first then Some words else None
 
 abbrev pub to_entry : Who → Event → Reply → Option Header → Bool → Entry
 to_entry w e r h end =
@@ -86,4 +86,4 @@ answer_of w e (Some words) = behind (reply_of words) (λ r rest. tail_of w e r r
 
 -- an entry by the words behind its stamp
 abbrev pub entry_of : Words → Option Entry
-entry_of words = behind (who words) (λ w rest. behind (event_of rest) (λ e last. answer_of w e (behind_equals last)))
+entry_of words = behind (who words) (λ w rest. behind (event_of rest) (λ e last. answer_of w e (behind_word (codes "=") last)))

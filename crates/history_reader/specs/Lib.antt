@@ -4,6 +4,7 @@ pub mod ReplyRows
 pub mod EntryReading
 pub mod Wide
 pub mod SummaryText
+pub mod LineReading
 pub mod Spelling
 pub mod Told
 pub use Rattle.net_base.specs.Plain

@@ -61,3 +61,15 @@ impl<'a> Words<'a> {
         self.rest.is_none()
     }
 }
+
+/// The first line of a text, and what stands behind its newline.
+pub(crate) fn cut_line(text: &[u8]) -> Option<(&[u8], &[u8])>
+    ensures cut { MatchOption result
+        (parts_at 10 text.now ≡ text.now ∷ [])
+        (λ read. parts_at 10 text.now ≡ read.0.now ∷ parts_at 10 read.1.now) }
+{
+    match split_first(text, b'\n') {
+        (line, Some(rest)) => Some((line, rest)),
+        (_, None) => None,
+    }
+}

@@ -22,7 +22,7 @@ pub(crate) fn read_entry(alloc: Global, words: &Words<'_>) -> Result<Option<Entr
     let Some((event, words)) = read_event(alloc, &words)? else {
         return Ok(None);
     };
-    let Some(words) = behind_equals(&words) else {
+    let Some(words) = behind_word(b"=", &words) else {
         return Ok(None);
     };
     let Some((reply, words)) = read_reply(alloc, &words)? else {
@@ -41,16 +41,12 @@ fn who<'a>(words: &Words<'a>) -> Option<(Who, Words<'a>)>
     Some(((moment, caller, actor, cites), words))
 }
 
-/// The words behind a `=`.
-fn behind_equals<'a>(words: &Words<'a>) -> Option<Words<'a>>
-    ensures { result ≡ spec.behind_equals words.now }
+/// The words behind this one, where it comes first.
+pub(crate) fn behind_word<'a>(first: &[u8], words: &Words<'a>) -> Option<Words<'a>>
+    ensures { result ≡ spec.behind_word first.now words.now }
 {
     let (word, words) = words.next()?;
-    if word == b"=".as_slice() {
-        Some(words)
-    } else {
-        None
-    }
+    if word == first { Some(words) } else { None }
 }
 
 /// What follows the reply, and so the entry.

@@ -9,6 +9,7 @@ mod fault;
 mod fields;
 mod reader;
 mod replies;
+mod summary;
 mod texts;
 
 pub use fault::LineError;
