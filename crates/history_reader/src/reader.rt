@@ -91,7 +91,10 @@ fn stamped(stamp: u64, word: &[u8], entry: Entry) -> Result<Entry, LineError>
 fn is_stamp(stamp: u64, word: &[u8]) -> bool
     ensures { result ≡ spec.is_stamp stamp word.now }
 {
-    number_in(stamp, stamp, word).is_some()
+    match number_in(0, u64::MAX, word) {
+        Some(number) => number == stamp,
+        None => false,
+    }
 }
 
 /// The cause of a line that is bad by the word of its stamp alone.
