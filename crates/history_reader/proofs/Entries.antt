@@ -303,7 +303,7 @@ who_exact = exact_made (both long (both narrow (both actor long_or_dash))) momen
 
 -- An entry.
 
-word_sound : (first : List ℕ) (words rest : Words) → spec.behind_word first words ≡ Some rest → words ≡ first ∷ rest
+pub word_sound : (first : List ℕ) (words rest : Words) → spec.behind_word first words ≡ Some rest → words ≡ first ∷ rest
 word_sound first [] rest e = absurd (none-some rest e)
 word_sound first (word ∷ words) rest e = by (bytes_eq word first) refl e
   where

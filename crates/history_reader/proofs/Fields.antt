@@ -140,6 +140,15 @@ no_mark n rest mark low =
     (λ m ds ten told others. ap (λ ws. bytes_eq ws (mark ∷ [])) (append_assoc ds ((48 + m % 10) ∷ []) others) ∙ told (((48 + m % 10) ∷ []) ++ others))
     n rest
 
+-- and no letter
+pub no_word : (n b : ℕ) (word : List ℕ) → 57 < b → bytes_eq (numeral n) (b ∷ word) ≡ false
+no_word n b word high =
+    ap (λ ws. bytes_eq ws (b ∷ word)) (sym (append-nil (numeral n)))
+    ∙ numeral_by_steps (λ m ds. (others : List ℕ) → bytes_eq (ds ++ others) (b ∷ word) ≡ false)
+    (λ m lt others. ap (λ v. v && bytes_eq others word) (ne_eqb (48 + m) b (λ is. omega (arith, is, high, lt))))
+    (λ m ds ten told others. ap (λ ws. bytes_eq ws (b ∷ word)) (append_assoc ds ((48 + m % 10) ∷ []) others) ∙ told (((48 + m % 10) ∷ []) ++ others))
+    n []
+
 pub no_mark_alone : (n mark : ℕ) → mark < 48 → bytes_eq (numeral n) (mark ∷ []) ≡ false
 no_mark_alone n mark low = ap (λ ws. bytes_eq ws (mark ∷ [])) (sym (append-nil (numeral n))) ∙ no_mark n [] mark low
 

@@ -27,11 +27,11 @@ pub whole_line : (stamp : ℕ) (x : Entry) → line_of stamp x ≡ body_of stamp
 unfolding line_of
 whole_line stamp x = refl
 
-joined_spaced : (word : List ℕ) (words : Words) → join_with_byte 32 (word ∷ words) ≡ word ++ spaced words
+pub joined_spaced : (word : List ℕ) (words : Words) → join_with_byte 32 (word ∷ words) ≡ word ++ spaced words
 joined_spaced word [] = sym (append-nil word)
 joined_spaced word (next ∷ words) = ap (λ ws. word ++ 32 ∷ ws) (joined_spaced next words)
 
-bare_free : (s : ℕ) (words : Words) → AreBare words → (AreFree 32 words) × (AreFree 10 words)
+pub bare_free : (s : ℕ) (words : Words) → AreBare words → (AreFree 32 words) × (AreFree 10 words)
 bare_free s [] all = (tt, tt)
 bare_free s (word ∷ words) all =
     let rest = bare_free s words all.1 in
@@ -42,7 +42,7 @@ pub words_back : (word : List ℕ) (words : Words) → IsBare word → AreBare w
 words_back word words bare all =
     ap words_of (sym (joined_spaced word words)) ∙ parts_back 32 word words (bare.0, (bare_free 0 words all).0)
 
-spaced_free : (words : Words) → AreFree 10 words → IsFree 10 (spaced words)
+pub spaced_free : (words : Words) → AreFree 10 words → IsFree 10 (spaced words)
 spaced_free [] all = tt
 spaced_free (word ∷ words) all = (refl, free_both 10 word (spaced words) all.0 (spaced_free words all.1))
 
