@@ -265,14 +265,18 @@ place_exact =
 
 -- Names.
 
--- the first test of a chain, and the others
-pick : {X : Type 0} (word lit : List ℕ) (x : X) (other : Option X) (spell : X → List ℕ) (m : X) → (if bytes_eq word lit then Some x else other) ≡ Some m → lit ≡ spell x
-    → (other ≡ Some m → word ≡ spell m) → word ≡ spell m
-pick {X} word lit x other spell m e is go = by (bytes_eq word lit) refl e
+-- each word of a table is that of its value
+abbrev AreNamed : {X : Type 0} → (X → List ℕ) → List (List ℕ × X) → Type 0
+AreNamed spell [] = Unit {0}
+AreNamed spell (row ∷ rows) = (row.0 ≡ spell row.1) × AreNamed spell rows
+
+named_sound : {X : Type 0} (spell : X → List ℕ) (rows : List (List ℕ × X)) → AreNamed spell rows → (word : List ℕ) (x : X) → spec.named rows word ≡ Some x → word ≡ spell x
+named_sound spell [] are word x e = absurd (none-some x e)
+named_sound {X} spell (row ∷ rows) are word x e = by (bytes_eq word row.0) refl e
   where
-    by : (v : Bool) → bytes_eq word lit ≡ v → (if v then Some x else other) ≡ Some m → word ≡ spell m
-    by true same f = (bytes_eq-Decides word lit).0 same ∙ is ∙ ap spell (same_Some x m f)
-    by false same f = go f
+    by : (v : Bool) → bytes_eq word row.0 ≡ v → (if v then Some row.1 else spec.named rows word) ≡ Some x → word ≡ spell x
+    by true is f = (bytes_eq-Decides word row.0).0 is ∙ are.0 ∙ ap spell (same_Some row.1 x f)
+    by false is f = named_sound spell rows are.1 word x f
 
 mode_told : (m : Mode) → spec.mode_in (mode_word m) ≡ Some m
 mode_told mode.Read = refl
@@ -284,10 +288,8 @@ mode_bare mode.Read = bare (codes "r") refl refl
 mode_bare mode.Write = bare (codes "w") refl refl
 mode_bare mode.Both = bare (codes "rw") refl refl
 
-mode_sound : (word : List ℕ) (m : Mode) → spec.mode_in word ≡ Some m → word ≡ mode_word m
-mode_sound word m e =
-    pick word (codes "r") mode.Read _ mode_word m e refl
-    (λ f. pick word (codes "w") mode.Write _ mode_word m f refl (λ g. pick word (codes "rw") mode.Both None mode_word m g refl (λ h. absurd (none-some m h))))
+mode_sound : (word : List ℕ) (x : Mode) → spec.mode_in word ≡ Some x → word ≡ mode_word x
+mode_sound = named_sound (λ (y : Mode). mode_word y) spec.mode_names (refl, (refl, (refl, tt)))
 
 abbrev pub modes : Mode → Words
 modes m = mode_word m ∷ []
@@ -316,15 +318,7 @@ kind_bare kind.State = bare (codes "state") refl refl
 kind_bare kind.Close = bare (codes "close") refl refl
 
 kind_sound : (word : List ℕ) (x : IlKind) → spec.kind_in word ≡ Some x → word ≡ kind_word x
-kind_sound word x e =
-    pick word (codes "sync") kind.Sync _ (λ y. kind_word y) x e refl
-    (λ e1. pick word (codes "data") kind.Data _ (λ y. kind_word y) x e1 refl
-    (λ e2. pick word (codes "dataquery") kind.DataQuery _ (λ y. kind_word y) x e2 refl
-    (λ e3. pick word (codes "ack") kind.Ack _ (λ y. kind_word y) x e3 refl
-    (λ e4. pick word (codes "query") kind.Query _ (λ y. kind_word y) x e4 refl
-    (λ e5. pick word (codes "state") kind.State _ (λ y. kind_word y) x e5 refl
-    (λ e6. pick word (codes "close") kind.Close None (λ y. kind_word y) x e6 refl
-    (λ e7. absurd (none-some x e7))))))))
+kind_sound = named_sound (λ (y : IlKind). kind_word y) spec.kind_names (refl, (refl, (refl, (refl, (refl, (refl, (refl, tt)))))))
 
 abbrev pub kinds : IlKind → Words
 kinds x = kind_word x ∷ []
@@ -363,20 +357,7 @@ state_bare state.Closing = bare (codes "Closing") refl refl
 state_bare state.Open = bare (codes "Open") refl refl
 
 state_sound : (word : List ℕ) (x : StateName) → spec.state_in word ≡ Some x → word ≡ state_word x
-state_sound word x e =
-    pick word (codes "Free") state.Free _ (λ y. state_word y) x e refl
-    (λ e1. pick word (codes "Reserved") state.Reserved _ (λ y. state_word y) x e1 refl
-    (λ e2. pick word (codes "Announced") state.Announced _ (λ y. state_word y) x e2 refl
-    (λ e3. pick word (codes "Granted") state.Granted _ (λ y. state_word y) x e3 refl
-    (λ e4. pick word (codes "Withdrawn") state.Withdrawn _ (λ y. state_word y) x e4 refl
-    (λ e5. pick word (codes "Closed") state.Closed _ (λ y. state_word y) x e5 refl
-    (λ e6. pick word (codes "Syncer") state.Syncer _ (λ y. state_word y) x e6 refl
-    (λ e7. pick word (codes "Syncee") state.Syncee _ (λ y. state_word y) x e7 refl
-    (λ e8. pick word (codes "Established") state.Established _ (λ y. state_word y) x e8 refl
-    (λ e9. pick word (codes "Listening") state.Listening _ (λ y. state_word y) x e9 refl
-    (λ e10. pick word (codes "Closing") state.Closing _ (λ y. state_word y) x e10 refl
-    (λ e11. pick word (codes "Open") state.Open None (λ y. state_word y) x e11 refl
-    (λ e12. absurd (none-some x e12)))))))))))))
+state_sound = named_sound (λ (y : StateName). state_word y) spec.state_names (refl, (refl, (refl, (refl, (refl, (refl, (refl, (refl, (refl, (refl, (refl, (refl, tt))))))))))))
 
 abbrev pub states : StateName → Words
 states x = state_word x ∷ []
@@ -412,12 +393,7 @@ cause_bare cause.Hungup = bare (codes "3") refl refl
 cause_bare cause.ByPeer = bare (codes "4") refl refl
 
 cause_sound : (word : List ℕ) (x : Cause) → spec.cause_in word ≡ Some x → word ≡ cause_digit x
-cause_sound word x e =
-    pick word (codes "1") cause.Refused _ (λ y. cause_digit y) x e refl
-    (λ e1. pick word (codes "2") cause.TimedOut _ (λ y. cause_digit y) x e1 refl
-    (λ e2. pick word (codes "3") cause.Hungup _ (λ y. cause_digit y) x e2 refl
-    (λ e3. pick word (codes "4") cause.ByPeer None (λ y. cause_digit y) x e3 refl
-    (λ e4. absurd (none-some x e4)))))
+cause_sound = named_sound (λ (y : Cause). cause_digit y) spec.cause_names (refl, (refl, (refl, (refl, tt))))
 
 abbrev pub causes : Cause → Words
 causes c = numeral (cause_number c) ∷ []
@@ -436,11 +412,11 @@ proto_bare : (x : Proto) → IsBare (proto_name x)
 proto_bare proto.Il = bare (codes "il") refl refl
 proto_bare proto.Udp = bare (codes "udp") refl refl
 
+abbrev proto_names : List (List ℕ × Proto)
+proto_names = (codes "il", proto.Il) ∷ (codes "udp", proto.Udp) ∷ []
+
 proto_sound : (word : List ℕ) (x : Proto) → proto_named word ≡ Some x → word ≡ proto_name x
-proto_sound word x e =
-    pick word (codes "il") proto.Il _ (λ y. proto_name y) x e refl
-    (λ e1. pick word (codes "udp") proto.Udp None (λ y. proto_name y) x e1 refl
-    (λ e2. absurd (none-some x e2)))
+proto_sound = named_sound (λ (y : Proto). proto_name y) proto_names (refl, (refl, tt))
 
 abbrev pub protos : Proto → Words
 protos x = proto_name x ∷ []
