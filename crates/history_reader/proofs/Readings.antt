@@ -390,22 +390,22 @@ abbrev is_whole_reading : Reading → Bool
 is_whole_reading (Whole h summary) = true
 is_whole_reading (Bad line cause) = false
 
-bad_whole : (line cause : ℕ) (h : List Entry) (summary : Option (List ℕ)) → Bad line cause ≡ Whole h summary → ⊥
+pub bad_whole : (line cause : ℕ) (h : List Entry) (summary : Option (List ℕ)) → Bad line cause ≡ Whole h summary → ⊥
 bad_whole line cause h summary e = false≢true (ap is_whole_reading e)
 
-abbrev entries_in : Reading → List Entry
+abbrev pub entries_in : Reading → List Entry
 entries_in (Whole h summary) = h
 entries_in (Bad line cause) = []
 
-abbrev summary_in : Reading → Option (List ℕ)
+abbrev pub summary_in : Reading → Option (List ℕ)
 summary_in (Whole h summary) = summary
 summary_in (Bad line cause) = None
 
-abbrev line_in : Reading → ℕ
+abbrev pub line_in : Reading → ℕ
 line_in (Whole h summary) = 0
 line_in (Bad line cause) = line
 
-abbrev cause_in : Reading → ℕ
+abbrev pub cause_in : Reading → ℕ
 cause_in (Whole h summary) = 0
 cause_in (Bad line cause) = cause
 

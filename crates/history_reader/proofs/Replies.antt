@@ -86,22 +86,22 @@ born_exact = exact_both narrow (both long (both narrow narrow)) numbers of_long_
 
 -- Calls.
 
-abbrev of_call : Call → ℕ × ℕ
+abbrev pub of_call : Call → ℕ × ℕ
 of_call c = (c.slot, c.generation)
 
-abbrev call_spelled : Call → Words
+abbrev pub call_spelled : Call → Words
 call_spelled c = numeral c.slot ∷ numeral c.generation ∷ []
 
-abbrev IsWideCall : Call → Type 0
+abbrev pub IsWideCall : Call → Type 0
 IsWideCall c = IsNarrow c.slot × IsLong c.generation
 
-call_sound : (words : Words) (c : Call) (rest : Words) → spec.call words ≡ Some (c, rest) → (words ≡ call_spelled c ++ rest) × IsWideCall c
+pub call_sound : (words : Words) (c : Call) (rest : Words) → spec.call words ≡ Some (c, rest) → (words ≡ call_spelled c ++ rest) × IsWideCall c
 call_sound = made_sound (both narrow long) slot_words slot_fits slot_exact spec.to_call call_spelled IsWideCall (λ f. refl) (λ f h. h)
 
-call_told : (c : Call) → IsWideCall c → (rest : Words) → spec.call (call_spelled c ++ rest) ≡ Some (c, rest)
+pub call_told : (c : Call) → IsWideCall c → (rest : Words) → spec.call (call_spelled c ++ rest) ≡ Some (c, rest)
 call_told c h rest = made_told (both narrow long) slot_words slot_fits slot_exact spec.to_call (of_call c) h rest
 
-abbrev at : Words → ℕ → List ℕ
+abbrev pub at : Words → ℕ → List ℕ
 at words k = get_or words k []
 
 abbrev AreCalls : spec.Calls → Words → Type 0

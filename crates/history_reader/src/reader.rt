@@ -16,6 +16,7 @@ use words::number_in;
 
 /// The history that a text spells, with the summary behind it, if there is one, or the first bad line. It goes once
 /// through the bytes.
+#[tactic(auto, using(crate::proofs::Told::found_by, crate::proofs::Told::only_by, crate::proofs::Told::refused_by, crate::proofs::Told::bad_by))]
 pub fn read_transcript(alloc: Global, bytes: &[u8]) -> Result<(History, Option<Octets>), LineError>
     ensures found { IfOk result (λ read. Spells bytes.now read.0 read.1) }
     ensures only { (h : List Entry) (summary : Option (List ℕ)) → Spells bytes.now h summary → Tells h summary result }
