@@ -170,7 +170,7 @@ announce_exact = exact_both narrow (both long (both ip_or_star port_or_star)) nu
 
 -- What is read of an event: it is wide, and a name isn't empty.
 
-abbrev HasName : Event → Type 0
+abbrev pub HasName : Event → Type 0
 HasName (event.Use n) = IsNamed n
 HasName (event.Misuse n) = IsNamed n
 HasName _ = Unit {0}

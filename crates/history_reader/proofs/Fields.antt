@@ -39,7 +39,7 @@ use Rattle.history_reader.proofs.Numbers.{number_in-spelled, number-back, within
 pub bare_numeral : (n : ℕ) → IsBare (numeral n)
 bare_numeral n = (free_numeral 32 n (omega arith), free_numeral 10 n (omega arith))
 
-number_exact : (most : ℕ) → most < 2 ^ 64 → ExactWord ℕ (number_in 0 most) numeral (λ n. n ≤ most)
+pub number_exact : (most : ℕ) → most < 2 ^ 64 → ExactWord ℕ (number_in 0 most) numeral (λ n. n ≤ most)
 number_exact most fits =
     record {
       sound = λ word n e.

@@ -30,7 +30,7 @@ shorter s text line rest e =
 
 -- Lines that are cut out of a text.
 
-abbrev Lines : Type 0
+abbrev pub Lines : Type 0
 Lines = List (List ℕ)
 
 cut_cons : (text : List ℕ) (parts : Lines) → (parts ≡ [] → ⊥) → cut_texts (text ∷ parts) ≡ option_map (λ (ts : Lines). text ∷ ts) (cut_texts parts)

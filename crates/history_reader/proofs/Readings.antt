@@ -150,13 +150,16 @@ entry_first n x rest lt good =
     ∙ ap (λ v. judged n v (reading_from (n + 1) (lines_at rest))) (line_told n x lt good)
 
 entries_on : (h : List Entry) (n : ℕ) (rest : List ℕ) → n + length h < 2 ^ 64 → AllGood h → reading_from n (lines_at (lines_from n h ++ rest)) ≡ onto h (reading_from (n + length h) (lines_at rest))
-entries_on [] n rest lt all = ap (λ k. reading_from k (lines_at rest)) (omega arith) ∙ sym (onto_none (reading_from (n + 0) (lines_at rest)))
+entries_on [] n rest lt all =
+    let same : n ≡ n + 0 = omega arith in
+    ap (λ k. reading_from k (lines_at rest)) same ∙ sym (onto_none (reading_from (n + 0) (lines_at rest)))
 entries_on (x ∷ xs) n rest lt all =
+    let same : n + 1 + length xs ≡ n + length (x ∷ xs) = omega arith in
     ap (λ ws. reading_from n (lines_at ws)) (append_assoc (line_of n x) (lines_from (n + 1) xs) rest)
     ∙ entry_first n x (lines_from (n + 1) xs ++ rest) (omega (arith, lt)) all.0
     ∙ ap (onto (x ∷ [])) (entries_on xs (n + 1) rest (omega (arith, lt)) all.1)
     ∙ onto_more x xs (reading_from (n + 1 + length xs) (lines_at rest))
-    ∙ ap (λ k. onto (x ∷ xs) (reading_from k (lines_at rest))) (omega arith)
+    ∙ ap (λ k. onto (x ∷ xs) (reading_from k (lines_at rest))) same
 
 -- every entry has a byte
 lines_long : (h : List Entry) (n : ℕ) → length h ≤ length (lines_from n h)
@@ -191,13 +194,18 @@ form_on (suc (suc (suc zero))) n line rest is = ap (λ o. goes_on n o (fault_fro
 form_on (suc (suc (suc (suc k)))) n line rest is = absurd is
 
 forms_on : (lines : List (List ℕ)) (k n : ℕ) (rest : List ℕ) → AreLinesFrom k lines → fault_from (forms_from k) n (lines_at (concat lines ++ rest)) ≡ fault_from (forms_from (length lines + k)) (n + length lines) (lines_at rest)
-forms_on [] k n rest are = ap (λ m. fault_from (forms_from k) m (lines_at rest)) (omega arith) ∙ ap (λ j. fault_from (forms_from j) (n + 0) (lines_at rest)) (omega arith)
+forms_on [] k n rest are =
+    let same : n ≡ n + 0 = omega arith in
+    let form : k ≡ 0 + k = omega arith in
+    ap (λ m. fault_from (forms_from k) m (lines_at rest)) same ∙ ap (λ j. fault_from (forms_from j) (n + 0) (lines_at rest)) form
 forms_on (line ∷ lines) k n rest are =
+    let same : n + 1 + length lines ≡ n + length (line ∷ lines) = omega arith in
+    let form : length lines + suc k ≡ length (line ∷ lines) + k = omega arith in
     ap (λ ws. fault_from (forms_from k) n (lines_at ws)) (append_assoc line (concat lines) rest)
     ∙ form_on k n line (concat lines ++ rest) are.0
     ∙ forms_on lines (suc k) (n + 1) rest are.1
-    ∙ ap (λ m. fault_from (forms_from (length lines + suc k)) m (lines_at rest)) (omega arith)
-    ∙ ap (λ j. fault_from (forms_from j) (n + length (line ∷ lines)) (lines_at rest)) (omega arith)
+    ∙ ap (λ m. fault_from (forms_from (length lines + suc k)) m (lines_at rest)) same
+    ∙ ap (λ j. fault_from (forms_from j) (n + length (line ∷ lines)) (lines_at rest)) form
 
 steps_first : (n : ℕ) (line : List ℕ) (parts : Parts) → is_steps line ≡ true → stepped n line parts ≡ summed (line ∷ parts) (fault_from summary_tests n (line ∷ parts))
 steps_first n line parts e = ap (λ v. if v then summed (line ∷ parts) (fault_from summary_tests n (line ∷ parts)) else judged n (line_verdict n line) (reading_from (n + 1) parts)) e
@@ -268,14 +276,15 @@ record View (n : ℕ) (whole : Parts) : Type 0 where
 
 at_once : (n : ℕ) (whole : Parts) → AreFree 10 whole → Stops n whole → View n whole
 at_once n whole free stops =
+    let same : n ≡ n + 0 = omega arith in
     record {
       before = [];
       rest = whole;
       all = tt;
       free = free;
       joins = refl;
-      reads = sym (onto_none (reading_from n whole)) ∙ ap (λ k. onto [] (reading_from k whole)) (omega arith);
-      stops = subst (λ k. Stops k whole) (omega arith) stops;
+      reads = sym (onto_none (reading_from n whole)) ∙ ap (λ k. onto [] (reading_from k whole)) same;
+      stops = subst (λ k. Stops k whole) same stops;
     }
 
 entry_before : (n : ℕ) (line part : List ℕ) (parts : Parts) (x : Entry) → Told n line x → reading_from n (line ∷ part ∷ parts) ≡ onto (x ∷ []) (reading_from (n + 1) (part ∷ parts)) → View (n + 1) (part ∷ parts)
@@ -359,7 +368,11 @@ one_fault k n text test exact few is later = by (passed test (lines_at text)) re
         more p.0 p.1 p.2 p.3 (is ∙ ap (λ o. goes_on n o (fault_from (forms_from (suc k)) (n + 1))) e ∙ ap (fault_from (forms_from (suc k)) (n + 1)) p.4) (later p.1)
 
 -- behind the four lines
-last_parts : (n : ℕ) (text : List ℕ) (parts : Parts) → lines_at text ≡ parts → (text ≡ []) × (fault_from [] n parts ≡ None) ⊎ (fault_from [] n parts ≡ Some (n + 1)) × (text ≢ [])
+
+abbrev LastParts : ℕ → List ℕ → Parts → Type 0
+LastParts n text parts = ((text ≡ []) × (fault_from [] n parts ≡ None)) ⊎ ((fault_from [] n parts ≡ Some (n + 1)) × (text ≢ []))
+
+last_parts : (n : ℕ) (text : List ℕ) (parts : Parts) → lines_at text ≡ parts → LastParts n text parts
 last_parts n text [] e = absurd (some_word 10 text e)
 last_parts n text ([] ∷ []) e = inl (sym (join_with_byte-slice_split 10 text) ∙ ap (join_with_byte 10) e, refl)
 last_parts n text ((b ∷ part) ∷ []) e = inr (refl, λ none. other_head b part (sym (ap head_of e) ∙ ap (λ ws. head_of (lines_at ws)) none))
@@ -368,7 +381,7 @@ last_parts n text (part ∷ next ∷ parts) e = inr (refl, λ none. no_part next
 behind_all : (text : List ℕ) (n : ℕ) → Fault (suc (suc (suc (suc zero)))) text n
 behind_all text n = by (last_parts n text (lines_at text) refl)
   where
-    by : (text ≡ []) × (fault_from [] n (lines_at text) ≡ None) ⊎ (fault_from [] n (lines_at text) ≡ Some (n + 1)) × (text ≢ []) → Fault (suc (suc (suc (suc zero)))) text n
+    by : LastParts n text (lines_at text) → Fault (suc (suc (suc (suc zero)))) text n
     by (inl t) = record { lines = []; rest = text; are = tt; joins = refl; told = inl (t.0, omega arith, t.1); }
     by (inr t) = record { lines = []; rest = text; are = tt; joins = refl; told = inr (t.0 ∙ ap (λ (m : ℕ). Some m) (omega arith), inl t.1, λ begins. begins.2); }
 
@@ -417,6 +430,9 @@ spells bytes before rest summary h t is all behind same =
     subst (λ (xs : List Entry). Spells bytes xs t) entries
     (subst (λ (u : Option (List ℕ)). Spells bytes before u) (ap summary_in same) (record { plain = good_plain before all; wide = good_wide before all; spelled = (rest, is, behind); }))
 
+count : (lines : List (List ℕ)) → length lines + zero ≡ 4 → length lines ≡ 4
+count lines e = omega (arith, e)
+
 -- a summary's text, whose first line is one of steps
 summary_is : (n : ℕ) (text : List ℕ) → fault_from summary_tests n (lines_at text) ≡ None → IsSummary text
 summary_is n text none = by (steps_fault text n)
@@ -424,7 +440,7 @@ summary_is n text none = by (steps_fault text n)
     by : Fault zero text n → IsSummary text
     by f =
         elim f.told as (λ t. IsSummary text) [
-          inl t ↦ (f.lines, sym (omega arith) ∙ t.1, f.are, f.joins ∙ ap (λ ws. concat f.lines ++ ws) t.0 ∙ append-nil (concat f.lines))
+          inl t ↦ (f.lines, count f.lines t.1, f.are, f.joins ∙ ap (λ ws. concat f.lines ++ ws) t.0 ∙ append-nil (concat f.lines))
           | inr t ↦ absurd (none-some (n + length f.lines + 1) (sym none ∙ t.0))
         ]
 
@@ -539,6 +555,7 @@ bad_summary bytes before text line is all begins some = by (steps_fault text (le
   where
     at : (f : Fault zero text (length before)) → fault_from summary_tests (length before) (lines_at text) ≡ Some (length before + length f.lines + 1) → IsBadSummary (length f.lines + zero) f.rest → IsBad bytes line 41
     at f told bad =
+        let same : length f.lines + zero ≡ length f.lines = omega arith in
         record {
           before = before;
           lines = f.lines;
@@ -548,7 +565,7 @@ bad_summary bytes before text line is all begins some = by (steps_fault text (le
           summary = f.are;
           spelled = is ∙ ap (λ ws. history before ++ ws) f.joins ∙ sym (append_assoc (history before) (concat f.lines) f.rest);
           place = same_Some line (length before + length f.lines + 1) (sym some ∙ told);
-          bad = inr (some_lines f.lines text f.rest f.joins bad begins, refl, subst (λ k. IsBadSummary k f.rest) (omega arith) bad);
+          bad = inr (some_lines f.lines text f.rest f.joins bad begins, refl, subst (λ k. IsBadSummary k f.rest) same bad);
         }
 
     by : Fault zero text (length before) → IsBad bytes line 41
@@ -615,7 +632,7 @@ summary_bad (suc (suc zero)) n text few bad =
 summary_bad (suc (suc (suc zero))) n text few bad = ap (λ o. goes_on n o (fault_from [] (n + 1))) (begins_none is_end (IsLineOf (suc (suc (suc zero)))) end_exact text bad.1)
 summary_bad (suc (suc (suc (suc k)))) n text few bad = by bad.0 (last_parts n text (lines_at text) refl)
   where
-    by : (text ≢ [] ⊎ (suc (suc (suc (suc k))) < 4)) → (text ≡ []) × (fault_from [] n (lines_at text) ≡ None) ⊎ (fault_from [] n (lines_at text) ≡ Some (n + 1)) × (text ≢ []) → fault_from [] n (lines_at text) ≡ Some (n + 1)
+    by : ((text ≢ []) ⊎ (suc (suc (suc (suc k))) < 4)) → LastParts n text (lines_at text) → fault_from [] n (lines_at text) ≡ Some (n + 1)
     by (inl some) (inl t) = absurd (some t.0)
     by (inl some) (inr t) = t.0
     by (inr lt) t = absurd (omega (arith, lt))
@@ -669,9 +686,10 @@ bad_lines : (m : ℕ) (lines : List (List ℕ)) (behind : List ℕ) → AreLines
 bad_lines m [] behind are some bad = absurd (some refl)
 bad_lines m (line ∷ lines) behind are some bad =
     let few = few_lines (line ∷ lines) zero (omega arith) are in
+    let same : length (line ∷ lines) ≡ length (line ∷ lines) + zero = omega arith in
     let fault =
     forms_on (line ∷ lines) zero m behind are
-    ∙ summary_bad (length (line ∷ lines) + zero) (m + length (line ∷ lines)) behind few (subst (λ k. IsBadSummary k behind) (omega arith) bad) in
+    ∙ summary_bad (length (line ∷ lines) + zero) (m + length (line ∷ lines)) behind few (subst (λ k. IsBadSummary k behind) same bad) in
     ap (λ ws. reading_from m (lines_at ws)) (append_assoc line (concat lines) behind)
     ∙ steps_read m line (concat lines ++ behind) are.0
     ∙ ap (λ ws. summed (lines_at ws) (fault_from summary_tests m (lines_at ws))) (sym (append_assoc line (concat lines) behind))
@@ -685,9 +703,10 @@ bad_read bytes line cause lt b =
     let whole = ap (λ (ws : List ℕ). length ws) is in
     let both = length-append (history b.before) rest in
     let few : 0 + length b.before < 2 ^ 64 = omega (arith, lt, long, whole, both) in
+    let same : 0 + length b.before ≡ length b.before = omega arith in
     ap reading is
     ∙ entries_on b.before 0 rest few (goods b.before b.plain b.wide)
-    ∙ ap (λ k. onto b.before (reading_from k (lines_at rest))) (omega arith)
+    ∙ ap (λ k. onto b.before (reading_from k (lines_at rest))) same
     ∙ ap (onto b.before) (told few)
   where
     told : 0 + length b.before < 2 ^ 64 → reading_from (length b.before) (lines_at (concat b.lines ++ b.behind)) ≡ Bad line cause
@@ -696,11 +715,14 @@ bad_read bytes line cause lt b =
         small : length b.before < 2 ^ 64
         small = omega (arith, few)
 
+        none : length b.before + 0 + 1 ≡ length b.before + 1
+        none = omega arith
+
         by : at_bad b.before b.lines b.behind cause → reading_from (length b.before) (lines_at (concat b.lines ++ b.behind)) ≡ Bad line cause
         by (inl t) =
             ap (λ ls. reading_from (length b.before) (lines_at (concat ls ++ b.behind))) t.0
             ∙ bad_line (length b.before) b.behind cause small t.1 t.2
-            ∙ ap (λ k. Bad k cause) (sym (b.place ∙ ap (λ (ls : List (List ℕ)). length b.before + length ls + 1) t.0 ∙ omega arith))
+            ∙ ap (λ k. Bad k cause) (sym (b.place ∙ ap (λ (ls : List (List ℕ)). length b.before + length ls + 1) t.0 ∙ none))
         by (inr t) =
             bad_lines (length b.before) b.lines b.behind b.summary t.0 t.2
             ∙ ap (λ k. Bad k 41) (sym b.place) ∙ ap (λ c. Bad line c) (sym t.1)

@@ -48,7 +48,7 @@ IsBadLine stamp text cause =
 
 -- behind so many lines of a summary: not the next one, which may be missing; behind all of them anything
 abbrev pub IsBadSummary : ℕ → List ℕ → Type 0
-IsBadSummary count text = (text ≢ [] ⊎ (count < 4)) × (Begins (IsLineOf count) text → ⊥)
+IsBadSummary count text = ((text ≢ []) ⊎ (count < 4)) × (Begins (IsLineOf count) text → ⊥)
 
 -- the entries before, the lines of a summary behind them, and what follows
 pub record IsBad (bytes : List ℕ) (line cause : ℕ) : Type 0 where
