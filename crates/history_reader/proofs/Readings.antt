@@ -637,6 +637,14 @@ summary_bad (suc (suc (suc (suc k)))) n text few bad = by bad.0 (last_parts n te
     by (inl some) (inr t) = t.0
     by (inr lt) t = absurd (omega (arith, lt))
 
+-- a line that is refused where none of an entry may stand
+by_refused : (m : ℕ) (text line rest : List ℕ) (c cause : ℕ) → text ≡ line ++ 10 ∷ rest → IsRefused m line c → (cause ≡ 41) × ((other : ℕ) → Begins (IsEntryLine other) text → ⊥) × (Begins (IsLineOf zero) text → ⊥)
+    → Refused c ≡ Refused cause
+by_refused m text line rest c cause is (inr r) t = ap (λ k. Refused k) (r.0 ∙ sym t.0)
+by_refused m text line rest c cause is (inl r) t =
+    let o = r.1 in
+    absurd (t.1 o.other (line_of o.other o.x, rest, (o.x, o.good, refl), is ∙ ap (λ ws. ws ++ 10 ∷ rest) o.line_is ∙ sym (append_assoc (body_of o.other o.x) (10 ∷ []) rest) ∙ ap (λ ws. ws ++ rest) (sym (whole_line o.other o.x))))
+
 -- behind entries, a line that is bad
 bad_line : (m : ℕ) (text : List ℕ) (cause : ℕ) → m < 2 ^ 64 → text ≢ [] → IsBadLine m text cause → reading_from m (lines_at text) ≡ Bad (m + 1) cause
 bad_line m text cause lt some bad = by (cut text)
@@ -655,13 +663,7 @@ bad_line m text cause lt some bad = by (cut text)
     refused line rest free is (Good x) e (inl t) =
         let told = line_sound m line x free e in
         absurd (t.1 m (line_of m x, rest, (x, told.good, refl), is ∙ ap (λ ws. ws ++ 10 ∷ rest) told.line_is ∙ sym (append_assoc (body_of m x) (10 ∷ []) rest) ∙ ap (λ ws. ws ++ rest) (sym (whole_line m x))))
-    refused line rest free is (Refused c) e (inl t) = by_refused (line_refused m line c lt free e)
-      where
-        by_refused : IsRefused m line c → Refused c ≡ Refused cause
-        by_refused (inr r) = ap (λ k. Refused k) (r.0 ∙ sym t.0)
-        by_refused (inl r) =
-            let o = r.1 in
-            absurd (t.1 o.other (line_of o.other o.x, rest, (o.x, o.good, refl), is ∙ ap (λ ws. ws ++ 10 ∷ rest) o.line_is ∙ sym (append_assoc (body_of o.other o.x) (10 ∷ []) rest) ∙ ap (λ ws. ws ++ rest) (sym (whole_line o.other o.x))))
+    refused line rest free is (Refused c) e (inl t) = by_refused m text line rest c cause is (line_refused m line c lt free e) t
     refused line rest free is v e (inr t) =
         let begins = t.1.2 in let entry = begins.2 in
         let at = entry_line text line rest free is t.1.0 entry.0 entry.1 begins.1 (begins.3 ∙ ap (λ ws. ws ++ begins.1) entry.2) in
@@ -695,6 +697,17 @@ bad_lines m (line ∷ lines) behind are some bad =
     ∙ ap (λ ws. summed (lines_at ws) (fault_from summary_tests m (lines_at ws))) (sym (append_assoc line (concat lines) behind))
     ∙ ap (summed (lines_at (concat (line ∷ lines) ++ behind))) fault
 
+-- behind the entries before it
+bad_behind : (before : List Entry) (lines : List (List ℕ)) (behind : List ℕ) (line cause : ℕ) → length before < 2 ^ 64 → AreLinesFrom zero lines → line ≡ length before + length lines + 1 → at_bad before lines behind cause
+    → reading_from (length before) (lines_at (concat lines ++ behind)) ≡ Bad line cause
+bad_behind before lines behind line cause lt are place (inl t) =
+    let none : length before + 0 + 1 ≡ length before + 1 = omega arith in
+    ap (λ ls. reading_from (length before) (lines_at (concat ls ++ behind))) t.0
+    ∙ bad_line (length before) behind cause lt t.1 t.2
+    ∙ ap (λ k. Bad k cause) (sym (place ∙ ap (λ (ls : List (List ℕ)). length before + length ls + 1) t.0 ∙ none))
+bad_behind before lines behind line cause lt are place (inr t) =
+    bad_lines (length before) lines behind are t.0 t.2 ∙ ap (λ k. Bad k 41) (sym place) ∙ ap (λ c. Bad line c) (sym t.1)
+
 pub bad_read : (bytes : List ℕ) (line cause : ℕ) → length bytes < 2 ^ 64 → IsBad bytes line cause → reading bytes ≡ Bad line cause
 bad_read bytes line cause lt b =
     let rest = concat b.lines ++ b.behind in
@@ -703,26 +716,9 @@ bad_read bytes line cause lt b =
     let whole = ap (λ (ws : List ℕ). length ws) is in
     let both = length-append (history b.before) rest in
     let few : 0 + length b.before < 2 ^ 64 = omega (arith, lt, long, whole, both) in
+    let small : length b.before < 2 ^ 64 = omega (arith, few) in
     let same : 0 + length b.before ≡ length b.before = omega arith in
     ap reading is
     ∙ entries_on b.before 0 rest few (goods b.before b.plain b.wide)
     ∙ ap (λ k. onto b.before (reading_from k (lines_at rest))) same
-    ∙ ap (onto b.before) (told few)
-  where
-    told : 0 + length b.before < 2 ^ 64 → reading_from (length b.before) (lines_at (concat b.lines ++ b.behind)) ≡ Bad line cause
-    told few = by b.bad
-      where
-        small : length b.before < 2 ^ 64
-        small = omega (arith, few)
-
-        none : length b.before + 0 + 1 ≡ length b.before + 1
-        none = omega arith
-
-        by : at_bad b.before b.lines b.behind cause → reading_from (length b.before) (lines_at (concat b.lines ++ b.behind)) ≡ Bad line cause
-        by (inl t) =
-            ap (λ ls. reading_from (length b.before) (lines_at (concat ls ++ b.behind))) t.0
-            ∙ bad_line (length b.before) b.behind cause small t.1 t.2
-            ∙ ap (λ k. Bad k cause) (sym (b.place ∙ ap (λ (ls : List (List ℕ)). length b.before + length ls + 1) t.0 ∙ none))
-        by (inr t) =
-            bad_lines (length b.before) b.lines b.behind b.summary t.0 t.2
-            ∙ ap (λ k. Bad k 41) (sym b.place) ∙ ap (λ c. Bad line c) (sym t.1)
+    ∙ ap (onto b.before) (bad_behind b.before b.lines b.behind line cause small b.summary b.place b.bad)
