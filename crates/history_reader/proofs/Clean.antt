@@ -89,20 +89,20 @@ free_onto s b (part ∷ parts) e all = ((e, all.0), all.1)
 
 pub parts_free : (s : ℕ) (text : List ℕ) → AreFree s (parts_at s text)
 parts_free s [] = (tt, tt)
-parts_free s (b ∷ text) = by (b == s) refl
+parts_free s (b ∷ text) = by (b == s) refl (parts_free s text)
   where
-    by : (v : Bool) → (b == s) ≡ v → AreFree s (cond v ([] ∷ parts_at s text) (onto_first b (parts_at s text)))
-    by true e = (tt, parts_free s text)
-    by false e = free_onto s b (parts_at s text) e (parts_free s text)
+    by : (v : Bool) → (b == s) ≡ v → AreFree s (parts_at s text) → AreFree s (cond v ([] ∷ parts_at s text) (onto_first b (parts_at s text)))
+    by true e later = (tt, later)
+    by false e later = free_onto s b (parts_at s text) e later
 
 -- a part of a text without another byte has none
 pub parts_keep : (s t : ℕ) (text : List ℕ) → IsFree t text → AreFree t (parts_at s text)
 parts_keep s t [] free = (tt, tt)
-parts_keep s t (b ∷ text) free = by (b == s)
+parts_keep s t (b ∷ text) free = by (b == s) (parts_keep s t text free.1)
   where
-    by : (v : Bool) → AreFree t (cond v ([] ∷ parts_at s text) (onto_first b (parts_at s text)))
-    by true = (tt, parts_keep s t text free.1)
-    by false = free_onto t b (parts_at s text) free.0 (parts_keep s t text free.1)
+    by : (v : Bool) → AreFree t (parts_at s text) → AreFree t (cond v ([] ∷ parts_at s text) (onto_first b (parts_at s text)))
+    by true later = (tt, later)
+    by false later = free_onto t b (parts_at s text) free.0 later
 
 pub one_part : (s : ℕ) (word : List ℕ) → IsFree s word → parts_at s word ≡ word ∷ []
 one_part s [] free = refl

@@ -22,7 +22,7 @@ use Rattle.history_reader.specs.ReplyRows.{reply_of}
 use Rattle.history_reader.specs.Spelling.{IsGood}
 use Rattle.history_reader.specs.Wide.{IfAny, IsLong, IsNarrow, IsOctet, IsPlace, IsWideActor, IsWideBody, IsWideEntry, IsWideHeader}
 use Rattle.history_reader.proofs.Events.{FitsEvent, equals, event_back, event_sound, plain_event}
-use Rattle.history_reader.proofs.Exact.{AreBare, AreRows, Exact, IsRow, bare_both, exact_both, exact_made, made_sound, made_told, row, rows_sound}
+use Rattle.history_reader.proofs.Exact.{AreBare, AreRows, Exact, IsRow, bare_both, exact_both, exact_made, made_of, made_sound, made_told, row, rows_sound}
 use Rattle.history_reader.proofs.Fields.{actor_exact, actors, bare, dashes, kind_exact, kinds, long_exact, long_or_dash_exact, narrow_exact, numbers, octet_exact, place_exact, places}
 use Rattle.history_reader.proofs.Replies.{Ends, FitsReply, reply_back, reply_sound}
 
@@ -183,11 +183,15 @@ udp_spelled w (body.Il k special id ack length) is = absurd is
 udp_spelled w (body.Udp length) is = refl
 
 header_rows_are : AreRows header_words IsWideHead spec.header_rows
-header_rows_are =
-    (row (both spec.way spec.il_body) il_head_words il_head_fits il_head_exact spec.to_header header_words IsWideHead (codes "il") (λ f h. il_spelled f.0 f.1 h.1.1)
-    (λ f h. (h.0.0, h.0.1.0, h.0.1.1.0, h.0.1.1.1, h.1.0)),
-    (row (both spec.way spec.udp_body) udp_head_words udp_head_fits udp_head_exact spec.to_header header_words IsWideHead (codes "udp") (λ f h. udp_spelled f.0 f.1 h.1.1)
-    (λ f h. (h.0.0, h.0.1.0, h.0.1.1.0, h.0.1.1.1, h.1.0)), tt))
+header_rows_are = (
+  row (both spec.way spec.il_body) il_head_words il_head_fits il_head_exact spec.to_header header_words IsWideHead (codes "il") (λ f h. il_spelled f.0 f.1 h.1.1)
+      (λ f h. (h.0.0, h.0.1.0, h.0.1.1.0, h.0.1.1.1, h.1.0)),
+  (
+    row (both spec.way spec.udp_body) udp_head_words udp_head_fits udp_head_exact spec.to_header header_words IsWideHead (codes "udp") (λ f h. udp_spelled f.0 f.1 h.1.1)
+        (λ f h. (h.0.0, h.0.1.0, h.0.1.1.0, h.0.1.1.1, h.1.0)),
+    tt,
+  ),
+)
 
 header_sound : (words : Words) (h : Header) (rest : Words) → spec.header_of words ≡ Some (h, rest) → (words ≡ header_words h ++ rest) × IsWideHead h
 header_sound [] h rest e = absurd (none-some (h, rest) e)
@@ -213,13 +217,14 @@ emitted_sound [] h rest e =
     (ap (λ (r : Option Header × Words). emitted_words r.0 ++ r.1) same, subst (λ (r : Option Header × Words). IsWideHeader r.0) same tt)
 emitted_sound (word ∷ words) h rest e = by (bytes_eq word (codes "+")) refl e
   where
-    some : (o : Read Header) → spec.header_of words ≡ o → word ≡ codes "+" → behind o (λ x last. Some (Some x, last)) ≡ Some (h, rest) → (word ∷ words ≡ emitted_words h ++ rest) × IsWideHeader h
+    some : (o : Read Header) → spec.header_of words ≡ o → word ≡ codes "+" → behind o (made_of (λ (x : Header). Some x)) ≡ Some (h, rest) → (word ∷ words ≡ emitted_words h ++ rest) × IsWideHeader h
     some None q plus f = absurd (none-some (h, rest) f)
     some (Some (x, last)) q plus f =
         let is = header_sound words x last q in
-        let same = same_Some (Some x, last) (h, rest) f in
-        (ap (λ (w : List ℕ). w ∷ words) plus ∙ ap (λ (ws : Words). codes "+" ∷ ws) is.0 ∙ ap (λ (r : Option Header × Words). emitted_words r.0 ++ r.1) same,
-        subst (λ (r : Option Header × Words). IsWideHeader r.0) same is.1)
+        let same = same_Some (Some x, last) (h, rest) f in (
+          ap (λ (w : List ℕ). w ∷ words) plus ∙ ap (λ (ws : Words). codes "+" ∷ ws) is.0 ∙ ap (λ (r : Option Header × Words). emitted_words r.0 ++ r.1) same,
+          subst (λ (r : Option Header × Words). IsWideHeader r.0) same is.1,
+        )
 
     by : (v : Bool) → bytes_eq word (codes "+") ≡ v → (if v then made spec.header_of (λ x. Some x) words else Some (None, word ∷ words)) ≡ Some (h, rest)
         → (word ∷ words ≡ emitted_words h ++ rest) × IsWideHeader h
@@ -232,7 +237,7 @@ emitted_told : (h : Option Header) → IsWideHeader h → (end : Bool) → spec.
 emitted_told None wide false = refl
 emitted_told None wide true = refl
 emitted_told (Some h) wide end =
-    ap (λ (o : Read Header). behind o (λ x last. Some (Some x, last))) (head_told (h.src, h.dst, h.ttl, h.tos) h.body (wide.0, (wide.1, (wide.2, wide.3))) wide.4 (ended_words end))
+    ap (λ (o : Read Header). behind o (made_of (λ (x : Header). Some x))) (head_told (h.src, h.dst, h.ttl, h.tos) h.body (wide.0, (wide.1, (wide.2, wide.3))) wide.4 (ended_words end))
 
 emitted_bare : (h : Option Header) → IsWideHeader h → AreBare (emitted_words h)
 emitted_bare None wide = tt
@@ -326,13 +331,14 @@ entry_is words r1 r2 r3 r4 r5 w e r h end pw pe ps pr ph pd =
     let tail : r3 ≡ (reply_words r ++ emitted_words h) ++ ended_words end =
     pr.0 ∙ ap (λ (ws : Words). reply_words r ++ ws) (ph.0 ∙ ap (λ (ws : Words). emitted_words h ++ ws) pd) ∙ sym (append_assoc (reply_words r) (emitted_words h) (ended_words end)) in
     let rest : r1 ≡ event_words e ++ (equals ∷ ((reply_words r ++ emitted_words h) ++ ended_words end)) =
-    pe.0 ∙ ap (λ (ws : Words). event_words e ++ ws) (ps ∙ ap (λ (ws : Words). equals ∷ ws) tail) in
-    (pw.0 ∙ ap (λ (ws : Words). who_spelled w ++ ws) rest,
-    record {
-      wide = record { moment = pw.1.0; caller = pw.1.1.0; actor = pw.1.1.1.0; cites = pw.1.1.1.1; event = pe.1.0; reply = pr.1.0; emits = ph.1; };
-      event = pe.1;
-      reply = pr.1;
-    })
+    pe.0 ∙ ap (λ (ws : Words). event_words e ++ ws) (ps ∙ ap (λ (ws : Words). equals ∷ ws) tail) in (
+      pw.0 ∙ ap (λ (ws : Words). who_spelled w ++ ws) rest,
+      record {
+        wide = record { moment = pw.1.0; caller = pw.1.1.0; actor = pw.1.1.1.0; cites = pw.1.1.1.1; event = pe.1.0; reply = pr.1.0; emits = ph.1 };
+        event = pe.1;
+        reply = pr.1;
+      },
+    )
 
 same_entry : (words : Words) (x y : Entry) → x ≡ y → IsEntry words x → IsEntry words y
 same_entry words x y same is = subst (IsEntry words) same is

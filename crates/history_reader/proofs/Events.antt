@@ -7,12 +7,13 @@ use Rattle.net_base.specs.declared.event.Event.TheVariants as event
 use Rattle.net_base.specs.declared.names.FileName.{FileName}
 use Rattle.net_base.specs.declared.names.Mode.{Mode}
 use Rattle.net_base.specs.Plain.{AreBytes, IsClean, IsPlainEvent, IsWord}
-use Rattle.net_base.specs.Transcript.{event_words, file_name, hex_word, mode_word}
+use Rattle.net_base.specs.Paths.{file_name}
+use Rattle.net_base.specs.Transcript.{event_words, hex_word, mode_word}
 use Rattle.history_reader.specs.EventRows as spec
 use Rattle.history_reader.specs.Fields.{Words, Read, Reader, both, called, file, ip_or_star, long, made, mode_of, narrow, narrow_or_dash, octet, place, port, port_or_dash, port_or_star, row_of, text, with_rest, behind}
 use Rattle.history_reader.specs.Wide.{IfAny, IsLong, IsNarrow, IsOctet, IsPlace, IsPort, IsWideEvent}
 use Rattle.history_reader.proofs.Clean.{clean_free, free_clean}
-use Rattle.history_reader.proofs.Exact.{AreBare, AreRows, Back, Exact, IsBare, IsRow, back, bare_row, either_row, exact_both, made_told, row, rows_sound}
+use Rattle.history_reader.proofs.Exact.{AreBare, AreRows, Back, Exact, IsBare, IsRow, back, bare_row, either_row, exact_both, made_of, made_told, paired, row, rows_sound}
 use Rattle.history_reader.proofs.Fields.{IsNamed, bare, dashes, file_exact, files, ip_or_star_exact, ip_stars, long_exact, mode_exact, modes, narrow_exact, narrow_or_dash_exact, numbers, octet_exact, place_exact, places, port_exact, port_or_dash_exact, port_or_star_exact, stars}
 use Rattle.history_reader.proofs.Texts.{hexes, no_file, text_exact}
 
@@ -189,23 +190,43 @@ of_slot : (make : ℕ × ℕ → Event) (word : List ℕ) → ((f : ℕ × ℕ) 
 of_slot make word spelled fits = row (both narrow long) slot_words slot_fits slot_exact make event_words FitsEvent word (λ f h. spelled f) fits
 
 other_rows_are : AreRows event_words FitsEvent spec.other_rows
-other_rows_are =
-    (bare_row event.Reserve event_words FitsEvent (codes "reserve") refl (tt, tt),
-    (bare_row event.Take event_words FitsEvent (codes "take") refl (tt, tt),
-    (row narrow_or_dash dashes (IfAny IsNarrow) narrow_or_dash_exact (λ to. event.Put to) event_words FitsEvent (codes "put") (λ to h. refl) (λ to h. (h, tt)),
-    (of_long (λ m. event.Move m) (codes "move") (λ m. refl) (λ m h. (h, tt)),
-    (of_long (λ m. event.Until m) (codes "until") (λ m. refl) (λ m h. (h, tt)), tt)))))
+other_rows_are = (
+  bare_row event.Reserve event_words FitsEvent (codes "reserve") refl (tt, tt),
+  (
+    bare_row event.Take event_words FitsEvent (codes "take") refl (tt, tt),
+    (
+      row narrow_or_dash dashes (IfAny IsNarrow) narrow_or_dash_exact (λ to. event.Put to) event_words FitsEvent (codes "put") (λ to h. refl) (λ to h. (h, tt)),
+      (
+        of_long (λ m. event.Move m) (codes "move") (λ m. refl) (λ m h. (h, tt)),
+        (of_long (λ m. event.Until m) (codes "until") (λ m. refl) (λ m h. (h, tt)), tt),
+      ),
+    ),
+  ),
+)
 
 slot_rows_are : AreRows event_words FitsEvent spec.slot_rows
-slot_rows_are =
-    (row (both narrow (both long (both place port_or_dash))) grant_words grant_fits grant_exact spec.to_grant event_words FitsEvent (codes "grant") (λ f h. refl) (λ f h. ((h.0, h.1.0, h.1.1.0, h.1.1.1), tt)),
-    (row (both narrow (both long (both ip_or_star port_or_star))) announce_words announce_fits announce_exact spec.to_announce event_words FitsEvent (codes "announce") (λ f h. refl) (λ f h. ((h.0, h.1.0, h.1.1.0, h.1.1.1), tt)),
-    (row (both narrow (both long port)) bound_words bound_fits bound_exact spec.to_bind event_words FitsEvent (codes "bind") (λ f h. refl) (λ f h. ((h.0, h.1.0, h.1.1), tt)),
-    (row narrow numbers IsNarrow narrow_exact (λ n. event.Listen n) event_words FitsEvent (codes "listen") (λ n h. refl) (λ n h. (h, tt)),
-    (of_slot (λ f. event.Withdraw f.0 f.1) (codes "withdraw") (λ f. refl) (λ f h. (h, tt)),
-    (of_slot (λ f. event.Release f.0 f.1) (codes "release") (λ f. refl) (λ f h. (h, tt)),
-    (row (both long (both file narrow)) filed_words filed_fits filed_exact spec.to_file event_words FitsEvent (codes "file") (λ f h. refl) (λ f h. ((h.0, h.1.1), tt)),
-    other_rows_are)))))))
+slot_rows_are = (
+  row (both narrow (both long (both place port_or_dash))) grant_words grant_fits grant_exact spec.to_grant event_words FitsEvent (codes "grant") (λ f h. refl) (λ f h. ((h.0, h.1.0, h.1.1.0, h.1.1.1), tt)),
+  (
+    row (both narrow (both long (both ip_or_star port_or_star))) announce_words announce_fits announce_exact spec.to_announce event_words FitsEvent (codes "announce") (λ f h. refl) (λ f h. ((h.0, h.1.0, h.1.1.0, h.1.1.1), tt)),
+    (
+      row (both narrow (both long port)) bound_words bound_fits bound_exact spec.to_bind event_words FitsEvent (codes "bind") (λ f h. refl) (λ f h. ((h.0, h.1.0, h.1.1), tt)),
+      (
+        row narrow numbers IsNarrow narrow_exact (λ n. event.Listen n) event_words FitsEvent (codes "listen") (λ n h. refl) (λ n h. (h, tt)),
+        (
+          of_slot (λ f. event.Withdraw f.0 f.1) (codes "withdraw") (λ f. refl) (λ f h. (h, tt)),
+          (
+            of_slot (λ f. event.Release f.0 f.1) (codes "release") (λ f. refl) (λ f h. (h, tt)),
+            (
+              row (both long (both file narrow)) filed_words filed_fits filed_exact spec.to_file event_words FitsEvent (codes "file") (λ f h. refl) (λ f h. ((h.0, h.1.1), tt)),
+              other_rows_are,
+            ),
+          ),
+        ),
+      ),
+    ),
+  ),
+)
 
 arrive_is : Row (codes "arrive") spec.arrive
 arrive_is =
@@ -213,26 +234,52 @@ arrive_is =
     (of_long (λ g. event.ArriveAt g) (codes "arrive") (λ g. refl) (λ g h. (h, tt))) (bare_row event.Arrive event_words FitsEvent (codes "arrive") refl (tt, tt))
 
 end_rows_are : AreRows event_words FitsEvent spec.end_rows
-end_rows_are =
-    (of_long (λ g. event.Hangup g) (codes "hangup") (λ g. refl) (λ g h. (h, tt)),
-    (of_long (λ g. event.Close g) (codes "close") (λ g. refl) (λ g h. (h, tt)),
-    (of_long (λ g. event.Tick g) (codes "tick") (λ g. refl) (λ g h. (h, tt)),
-    (arrive_is,
-    (row (both long narrow) counted_words counted_fits counted_exact (λ f. event.Read f.0 f.1) event_words FitsEvent (codes "read") (λ f h. refl) (λ f h. (h, tt)),
-    (row (both long octet) short_words short_fits short_exact (λ f. event.Ttl f.0 f.1) event_words FitsEvent (codes "ttl") (λ f h. refl) (λ f h. (h, tt)),
-    (row (both long octet) short_words short_fits short_exact (λ f. event.Tos f.0 f.1) event_words FitsEvent (codes "tos") (λ f h. refl) (λ f h. (h, tt)),
-    slot_rows_are)))))))
+end_rows_are = (
+  of_long (λ g. event.Hangup g) (codes "hangup") (λ g. refl) (λ g h. (h, tt)),
+  (
+    of_long (λ g. event.Close g) (codes "close") (λ g. refl) (λ g h. (h, tt)),
+    (
+      of_long (λ g. event.Tick g) (codes "tick") (λ g. refl) (λ g h. (h, tt)),
+      (
+        arrive_is,
+        (
+          row (both long narrow) counted_words counted_fits counted_exact (λ f. event.Read f.0 f.1) event_words FitsEvent (codes "read") (λ f h. refl) (λ f h. (h, tt)),
+          (
+            row (both long octet) short_words short_fits short_exact (λ f. event.Ttl f.0 f.1) event_words FitsEvent (codes "ttl") (λ f h. refl) (λ f h. (h, tt)),
+            (
+              row (both long octet) short_words short_fits short_exact (λ f. event.Tos f.0 f.1) event_words FitsEvent (codes "tos") (λ f h. refl) (λ f h. (h, tt)),
+              slot_rows_are,
+            ),
+          ),
+        ),
+      ),
+    ),
+  ),
+)
 
 generation_rows_are : AreRows event_words FitsEvent spec.generation_rows
-generation_rows_are =
-    (of_long (λ g. event.Begin g) (codes "begin") (λ g. refl) (λ g h. (h, tt)),
-    (of_long (λ g. event.Born g) (codes "born") (λ g. refl) (λ g h. (h, tt)),
-    (of_long (λ g. event.Claim g) (codes "claim") (λ g. refl) (λ g h. (h, tt)),
-    (of_long (λ g. event.Connect g) (codes "connect") (λ g. refl) (λ g h. (h, tt)),
-    (of_long (λ g. event.Announced g) (codes "announced") (λ g. refl) (λ g h. (h, tt)),
-    (of_long (λ g. event.Bound g) (codes "bound") (λ g. refl) (λ g h. (h, tt)),
-    (of_long (λ g. event.Await g) (codes "await") (λ g. refl) (λ g h. (h, tt)),
-    end_rows_are)))))))
+generation_rows_are = (
+  of_long (λ g. event.Begin g) (codes "begin") (λ g. refl) (λ g h. (h, tt)),
+  (
+    of_long (λ g. event.Born g) (codes "born") (λ g. refl) (λ g h. (h, tt)),
+    (
+      of_long (λ g. event.Claim g) (codes "claim") (λ g. refl) (λ g h. (h, tt)),
+      (
+        of_long (λ g. event.Connect g) (codes "connect") (λ g. refl) (λ g h. (h, tt)),
+        (
+          of_long (λ g. event.Announced g) (codes "announced") (λ g. refl) (λ g h. (h, tt)),
+          (
+            of_long (λ g. event.Bound g) (codes "bound") (λ g. refl) (λ g h. (h, tt)),
+            (
+              of_long (λ g. event.Await g) (codes "await") (λ g. refl) (λ g h. (h, tt)),
+              end_rows_are,
+            ),
+          ),
+        ),
+      ),
+    ),
+  ),
+)
 
 ls_is : Row (codes "ls") spec.ls
 ls_is =
@@ -255,15 +302,28 @@ named_row make word spelled fits ((b ∷ n) ∷ words) y rest e =
     (ap (λ (ws : Words). ws ++ words) (sym (spelled (b ∷ n))) ∙ ap (λ (r : Event × Words). event_words r.0 ++ r.1) same, subst (λ (r : Event × Words). FitsEvent r.0) same (fits b n))
 
 event_rows_are : AreRows event_words FitsEvent spec.event_rows
-event_rows_are =
-    (row text hexes AreBytes text_exact (λ query. event.Cs query) event_words FitsEvent (codes "cs") (λ query h. refl) (λ query h. (h, tt)),
-    (ls_is,
-    (open_is,
-    (named_row (λ n. event.Use n) (codes "use") (λ n. refl) (λ b n. (tt, tt)),
-    (named_row (λ n. event.Misuse n) (codes "misuse") (λ n. refl) (λ b n. (tt, tt)),
-    (row (both long text) written_words written_fits written_exact (λ f. event.Write f.0 f.1) event_words FitsEvent (codes "write") (λ f h. refl) (λ f h. (h, tt)),
-    (row (both long text) written_words written_fits written_exact (λ f. event.Ctl f.0 f.1) event_words FitsEvent (codes "ctl") (λ f h. refl) (λ f h. (h, tt)),
-    generation_rows_are)))))))
+event_rows_are = (
+  row text hexes AreBytes text_exact (λ query. event.Cs query) event_words FitsEvent (codes "cs") (λ query h. refl) (λ query h. (h, tt)),
+  (
+    ls_is,
+    (
+      open_is,
+      (
+        named_row (λ n. event.Use n) (codes "use") (λ n. refl) (λ b n. (tt, tt)),
+        (
+          named_row (λ n. event.Misuse n) (codes "misuse") (λ n. refl) (λ b n. (tt, tt)),
+          (
+            row (both long text) written_words written_fits written_exact (λ f. event.Write f.0 f.1) event_words FitsEvent (codes "write") (λ f h. refl) (λ f h. (h, tt)),
+            (
+              row (both long text) written_words written_fits written_exact (λ f. event.Ctl f.0 f.1) event_words FitsEvent (codes "ctl") (λ f h. refl) (λ f h. (h, tt)),
+              generation_rows_are,
+            ),
+          ),
+        ),
+      ),
+    ),
+  ),
+)
 
 pub event_sound : (words : Words) (e : Event) (rest : Words) → spec.event_of words ≡ Some (e, rest) → (words ≡ event_words e ++ rest) × FitsEvent e
 event_sound [] e rest is = absurd (none-some (e, rest) is)
@@ -285,7 +345,7 @@ of_pair make word clean f h = back (both narrow long) slot_words slot_fits slot_
 
 -- an `open` by what its word is as a file's name
 abbrev file_read : Option FileName → Words → Read Event
-file_read o words = behind (behind (with_rest o words) (λ f rest. behind (mode_of rest) (λ m last. Some ((f, m), last)))) (λ f rest. Some (event.Open f.0 f.1, rest))
+file_read o words = behind (behind (with_rest o words) (λ f rest. behind (mode_of rest) (paired f))) (made_of (λ (f : FileName × Mode). event.Open f.0 f.1))
 
 pub event_back : (e : Event) → IsWideEvent e → IsPlainEvent e → EventBack e
 event_back (event.Cs query) w p = let b = back text hexes AreBytes text_exact (λ q. event.Cs q) (codes "cs") (bare (codes "cs") refl refl) query w in (λ rest. b.0 (equals ∷ rest), b.1)

@@ -22,6 +22,13 @@ pub bare_both : (xs ys : Words) → AreBare xs → AreBare ys → AreBare (xs ++
 bare_both [] ys bx by' = by'
 bare_both (x ∷ xs) ys bx by' = (bx.0, bare_both xs ys bx.1 by')
 
+-- what is made of what was read, and of what was read before
+abbrev pub made_of : {X Y : Type 0} → (X → Y) → X → Words → Read Y
+made_of make x rest = Some (make x, rest)
+
+abbrev pub paired : {X Y : Type 0} → X → Y → Words → Read (X × Y)
+paired x y rest = Some ((x, y), rest)
+
 -- a word is read exactly where it is a value's
 pub record ExactWord (X : Type 0) (read : List ℕ → Option X) (spell : X → List ℕ) (Fits : X → Type 0) : Type 0 where
   pub sound : (word : List ℕ) (x : X) → read word ≡ Some x → (word ≡ spell x) × Fits x
@@ -62,17 +69,18 @@ both_sound : {X Y : Type 0} (p : Reader X) (q : Reader Y) (sp : X → Words) (sq
     → (words : Words) (f : X × Y) (rest : Words) → both p q words ≡ Some (f, rest) → (words ≡ (sp f.0 ++ sq f.1) ++ rest) × (P f.0 × Q f.1)
 both_sound {X} {Y} p q sp sq P Q ep eq words f rest e = first (p words) refl e
   where
-    second : (x : X) (middle : Words) → p words ≡ Some (x, middle) → (o : Read Y) → q middle ≡ o → behind o (λ y last. Some ((x, y), last)) ≡ Some (f, rest)
+    second : (x : X) (middle : Words) → p words ≡ Some (x, middle) → (o : Read Y) → q middle ≡ o → behind o (paired x) ≡ Some (f, rest)
         → (words ≡ (sp f.0 ++ sq f.1) ++ rest) × (P f.0 × Q f.1)
     second x middle ex None ey g = absurd (none-some (f, rest) g)
     second x middle ex (Some (y, last)) ey g =
         let front = ep.sound words x middle ex in
         let back = eq.sound middle y last ey in
-        let same = same_Some ((x, y), last) (f, rest) g in
-        (front.0 ∙ ap (λ (ws : Words). sp x ++ ws) back.0 ∙ sym (append_assoc (sp x) (sq y) last) ∙ ap (λ (r : (X × Y) × Words). (sp r.0.0 ++ sq r.0.1) ++ r.1) same,
-        subst (λ (r : (X × Y) × Words). P r.0.0 × Q r.0.1) same (front.1, back.1))
+        let same = same_Some ((x, y), last) (f, rest) g in (
+          front.0 ∙ ap (λ (ws : Words). sp x ++ ws) back.0 ∙ sym (append_assoc (sp x) (sq y) last) ∙ ap (λ (r : (X × Y) × Words). (sp r.0.0 ++ sq r.0.1) ++ r.1) same,
+          subst (λ (r : (X × Y) × Words). P r.0.0 × Q r.0.1) same (front.1, back.1),
+        )
 
-    first : (o : Read X) → p words ≡ o → behind o (λ x middle. behind (q middle) (λ y last. Some ((x, y), last))) ≡ Some (f, rest) → (words ≡ (sp f.0 ++ sq f.1) ++ rest) × (P f.0 × Q f.1)
+    first : (o : Read X) → p words ≡ o → behind o (λ x middle. behind (q middle) (paired x)) ≡ Some (f, rest) → (words ≡ (sp f.0 ++ sq f.1) ++ rest) × (P f.0 × Q f.1)
     first None ex g = absurd (none-some (f, rest) g)
     first (Some (x, middle)) ex g = second x middle ex (q middle) refl g
 
@@ -80,8 +88,8 @@ both_told : {X Y : Type 0} (p : Reader X) (q : Reader Y) (sp : X → Words) (sq 
     → (f : X × Y) → P f.0 × Q f.1 → (rest : Words) → both p q ((sp f.0 ++ sq f.1) ++ rest) ≡ Some (f, rest)
 both_told {X} {Y} p q sp sq P Q ep eq f fits rest =
     ap (both p q) (append_assoc (sp f.0) (sq f.1) rest)
-    ∙ ap (λ (o : Read X). behind o (λ x middle. behind (q middle) (λ y last. Some ((x, y), last)))) (ep.told f.0 fits.0 (sq f.1 ++ rest))
-    ∙ ap (λ (o : Read Y). behind o (λ y last. Some ((f.0, y), last))) (eq.told f.1 fits.1 rest)
+    ∙ ap (λ (o : Read X). behind o (λ x middle. behind (q middle) (paired x))) (ep.told f.0 fits.0 (sq f.1 ++ rest))
+    ∙ ap (λ (o : Read Y). behind o (paired f.0)) (eq.told f.1 fits.1 rest)
 
 pub exact_both : {X Y : Type 0} (p : Reader X) (q : Reader Y) (sp : X → Words) (sq : Y → Words) (P : X → Type 0) (Q : Y → Type 0) → Exact X p sp P → Exact Y q sq Q
     → Exact (X × Y) (both p q) (λ f. sp f.0 ++ sq f.1) (λ f. P f.0 × Q f.1)
@@ -99,7 +107,7 @@ pub made_sound : {X Y : Type 0} (p : Reader X) (sp : X → Words) (P : X → Typ
     → (words : Words) (y : Y) (rest : Words) → made p make words ≡ Some (y, rest) → (words ≡ sy y ++ rest) × Q y
 made_sound {X} {Y} p sp P exact make sy Q spelled fits words y rest e = by (p words) refl e
   where
-    by : (o : Read X) → p words ≡ o → behind o (λ x last. Some (make x, last)) ≡ Some (y, rest) → (words ≡ sy y ++ rest) × Q y
+    by : (o : Read X) → p words ≡ o → behind o (made_of make) ≡ Some (y, rest) → (words ≡ sy y ++ rest) × Q y
     by None q f = absurd (none-some (y, rest) f)
     by (Some (x, last)) q f =
         let is = exact.sound words x last q in
@@ -107,7 +115,7 @@ made_sound {X} {Y} p sp P exact make sy Q spelled fits words y rest e = by (p wo
         (is.0 ∙ ap (λ (ws : Words). ws ++ last) (sym (spelled x)) ∙ ap (λ (r : Y × Words). sy r.0 ++ r.1) same, subst (λ (r : Y × Words). Q r.0) same (fits x is.1))
 
 pub made_told : {X Y : Type 0} (p : Reader X) (sp : X → Words) (P : X → Type 0) → Exact X p sp P → (make : X → Y) (x : X) → P x → (rest : Words) → made p make (sp x ++ rest) ≡ Some (make x, rest)
-made_told {X} {Y} p sp P exact make x fits rest = ap (λ (o : Read X). behind o (λ x last. Some (make x, last))) (exact.told x fits rest)
+made_told {X} {Y} p sp P exact make x fits rest = ap (λ (o : Read X). behind o (made_of make)) (exact.told x fits rest)
 
 -- what is made, and can be taken apart again
 pub exact_made : {X Y : Type 0} (p : Reader X) (sp : X → Words) (P : X → Type 0) → Exact X p sp P → (make : X → Y) (apart : Y → X)
@@ -150,12 +158,12 @@ pub exact_parts : {X : Type 0} (s : ℕ) (p : Reader X) (pieces : X → Words) (
 exact_parts s p pieces P exact spell joined parts bare =
     record {
       sound = λ word x e.
-        let is = exact.sound (parts_at s word) x [] (whole_is (p (parts_at s word)) x e) in
-        (sym (join_with_byte-slice_split s word) ∙ ap (join_with_byte s) (is.0 ∙ append-nil (pieces x)) ∙ sym (joined x), is.1);
+          let is = exact.sound (parts_at s word) x [] (whole_is (p (parts_at s word)) x e) in
+          (sym (join_with_byte-slice_split s word) ∙ ap (join_with_byte s) (is.0 ∙ append-nil (pieces x)) ∙ sym (joined x), is.1);
       told = λ x fits.
-        ap (λ w. whole (p (parts_at s w))) (joined x)
-        ∙ ap (λ (ws : Words). whole (p ws)) (parts x ∙ sym (append-nil (pieces x)))
-        ∙ ap whole (exact.told x fits []);
+          ap (λ w. whole (p (parts_at s w))) (joined x)
+          ∙ ap (λ (ws : Words). whole (p ws)) (parts x ∙ sym (append-nil (pieces x)))
+          ∙ ap whole (exact.told x fits []);
       bare = λ x fits. bare x;
     }
 
@@ -172,20 +180,20 @@ AreRows spell Fits (row ∷ rows) = IsRow spell Fits row.0 row.1 × AreRows spel
 pub rows_sound : {Y : Type 0} (spell : Y → Words) (Fits : Y → Type 0) (rows : List (List ℕ × Reader Y)) → AreRows spell Fits rows
     → (word : List ℕ) (words : Words) (y : Y) (rest : Words) → row_of rows word words ≡ Some (y, rest) → (word ∷ words ≡ spell y ++ rest) × Fits y
 rows_sound spell Fits [] are word words y rest e = absurd (none-some (y, rest) e)
-rows_sound spell Fits (row ∷ rows) are word words y rest e = by (bytes_eq word row.0) refl e
+rows_sound spell Fits (row ∷ rows) are word words y rest e = by (bytes_eq word row.0) refl e (rows_sound spell Fits rows are.1 word words y rest)
   where
-    by : (v : Bool) → bytes_eq word row.0 ≡ v → (if v then row.1 words else row_of rows word words) ≡ Some (y, rest) → (word ∷ words ≡ spell y ++ rest) × Fits y
-    by true is f =
+    by : (v : Bool) → bytes_eq word row.0 ≡ v → (if v then row.1 words else row_of rows word words) ≡ Some (y, rest) → (row_of rows word words ≡ Some (y, rest) → (word ∷ words ≡ spell y ++ rest) × Fits y) → (word ∷ words ≡ spell y ++ rest) × Fits y
+    by true is f later =
         let told = are.0 words y rest f in
         (ap (λ (w : List ℕ). w ∷ words) ((bytes_eq-Decides word row.0).0 is) ∙ told.0, told.1)
-    by false is f = rows_sound spell Fits rows are.1 word words y rest f
+    by false is f later = later f
 
 -- a row whose value is made of its fields
 pub row : {X Y : Type 0} (p : Reader X) (sp : X → Words) (P : X → Type 0) → Exact X p sp P → (make : X → Y) (spell : Y → Words) (Fits : Y → Type 0) (word : List ℕ)
     → ((x : X) → P x → spell (make x) ≡ word ∷ sp x) → ((x : X) → P x → Fits (make x)) → IsRow spell Fits word (made p make)
 row {X} {Y} p sp P exact make spell Fits word spelled fits words y rest e = by (p words) refl e
   where
-    by : (o : Read X) → p words ≡ o → behind o (λ x last. Some (make x, last)) ≡ Some (y, rest) → (word ∷ words ≡ spell y ++ rest) × Fits y
+    by : (o : Read X) → p words ≡ o → behind o (made_of make) ≡ Some (y, rest) → (word ∷ words ≡ spell y ++ rest) × Fits y
     by None q f = absurd (none-some (y, rest) f)
     by (Some (x, last)) q f =
         let is = exact.sound words x last q in

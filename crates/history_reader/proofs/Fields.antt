@@ -43,11 +43,11 @@ pub number_exact : (most : ℕ) → most < 2 ^ 64 → ExactWord ℕ (number_in 0
 number_exact most fits =
     record {
       sound = λ word n e.
-        let is = number_in-spelled 0 most word n fits e in
-        let within = is.within in
-        (is.is ∙ decimal_is_numeral n (omega (arith, within, fits)), is.within);
+          let is = number_in-spelled 0 most word n fits e in
+          let within = is.within in
+          (is.is ∙ decimal_is_numeral n (omega (arith, within, fits)), is.within);
       told = λ n within.
-        ap (number_in 0 most) (sym (decimal_is_numeral n (omega (arith, within, fits)))) ∙ number-back 0 most n fits (within-is 0 most n (omega arith) within);
+          ap (number_in 0 most) (sym (decimal_is_numeral n (omega (arith, within, fits)))) ∙ number-back 0 most n fits (within-is 0 most n (omega arith) within);
       bare = λ n within. bare_numeral n;
     }
 
@@ -80,11 +80,11 @@ is_free s (b ∷ word) = if b == s then false else is_free s word
 
 pub free : (s : ℕ) (word : List ℕ) → is_free s word ≡ true → IsFree s word
 free s [] e = tt
-free s (b ∷ word) e = by (b == s) refl e
+free s (b ∷ word) e = by (b == s) refl e (free s word)
   where
-    by : (v : Bool) → (b == s) ≡ v → (if v then false else is_free s word) ≡ true → ((b == s) ≡ false) × IsFree s word
-    by true is f = absurd (cc)
-    by false is f = (is, free s word f)
+    by : (v : Bool) → (b == s) ≡ v → (if v then false else is_free s word) ≡ true → (is_free s word ≡ true → IsFree s word) → ((b == s) ≡ false) × IsFree s word
+    by true is f later = absurd (cc)
+    by false is f later = (is, later f)
 
 pub bare : (word : List ℕ) → is_free 32 word ≡ true → is_free 10 word ≡ true → IsBare word
 bare word e f = (free 32 word e, free 10 word f)
@@ -204,8 +204,8 @@ address_exact : ExactWord ℕ address_in ip_word IsNarrow
 address_exact =
     record {
       sound = λ word ip e.
-        let is = address-dotted word ip e in
-        (is.is ∙ sym (addresses_alike ip is.fits), is.fits);
+          let is = address-dotted word ip e in
+          (is.is ∙ sym (addresses_alike ip is.fits), is.fits);
       told = λ ip fits. ap address_in (addresses_alike ip fits) ∙ address-back ip fits;
       bare = λ ip fits. (free_address 32 ip (omega arith), free_address 10 ip (omega arith));
     }
@@ -250,9 +250,10 @@ place_is a = append_assoc (ip_word a.ip) (codes "!") (numeral a.port)
 
 place_bare : (a : Addr) → IsBare (addr_word a)
 unfolding addr_word
-place_bare a =
-    (free_both 32 (ip_word a.ip ++ codes "!") (numeral a.port) (free_both 32 (ip_word a.ip) (codes "!") (free_address 32 a.ip (omega arith)) (free 32 (codes "!") refl)) (free_numeral 32 a.port (omega arith)),
-    free_both 10 (ip_word a.ip ++ codes "!") (numeral a.port) (free_both 10 (ip_word a.ip) (codes "!") (free_address 10 a.ip (omega arith)) (free 10 (codes "!") refl)) (free_numeral 10 a.port (omega arith)))
+place_bare a = (
+  free_both 32 (ip_word a.ip ++ codes "!") (numeral a.port) (free_both 32 (ip_word a.ip) (codes "!") (free_address 32 a.ip (omega arith)) (free 32 (codes "!") refl)) (free_numeral 32 a.port (omega arith)),
+  free_both 10 (ip_word a.ip ++ codes "!") (numeral a.port) (free_both 10 (ip_word a.ip) (codes "!") (free_address 10 a.ip (omega arith)) (free 10 (codes "!") refl)) (free_numeral 10 a.port (omega arith)),
+)
 
 abbrev pub places : Addr → Words
 places a = addr_word a ∷ []
@@ -272,11 +273,11 @@ AreNamed spell (row ∷ rows) = (row.0 ≡ spell row.1) × AreNamed spell rows
 
 named_sound : {X : Type 0} (spell : X → List ℕ) (rows : List (List ℕ × X)) → AreNamed spell rows → (word : List ℕ) (x : X) → spec.named rows word ≡ Some x → word ≡ spell x
 named_sound spell [] are word x e = absurd (none-some x e)
-named_sound {X} spell (row ∷ rows) are word x e = by (bytes_eq word row.0) refl e
+named_sound {X} spell (row ∷ rows) are word x e = by (bytes_eq word row.0) refl e (named_sound spell rows are.1 word x)
   where
-    by : (v : Bool) → bytes_eq word row.0 ≡ v → (if v then Some row.1 else spec.named rows word) ≡ Some x → word ≡ spell x
-    by true is f = (bytes_eq-Decides word row.0).0 is ∙ are.0 ∙ ap spell (same_Some row.1 x f)
-    by false is f = named_sound spell rows are.1 word x f
+    by : (v : Bool) → bytes_eq word row.0 ≡ v → (if v then Some row.1 else spec.named rows word) ≡ Some x → (spec.named rows word ≡ Some x → word ≡ spell x) → word ≡ spell x
+    by true is f later = (bytes_eq-Decides word row.0).0 is ∙ are.0 ∙ ap spell (same_Some row.1 x f)
+    by false is f later = later f
 
 mode_told : (m : Mode) → spec.mode_in (mode_word m) ≡ Some m
 mode_told mode.Read = refl
@@ -297,7 +298,7 @@ modes m = mode_word m ∷ []
 pub mode_exact : Exact Mode spec.mode_of modes (λ m. Unit {0})
 mode_exact =
     exact_one spec.mode_in mode_word (λ m. Unit {0})
-    (record { sound = λ word m e. (mode_sound word m e, tt); told = λ m fits. mode_told m; bare = λ m fits. mode_bare m; })
+    (record { sound = λ word m e. (mode_sound word m e, tt); told = λ m fits. mode_told m; bare = λ m fits. mode_bare m })
 
 kind_told : (x : IlKind) → spec.kind_in (kind_word x) ≡ Some x
 kind_told kind.Sync = refl
@@ -326,7 +327,7 @@ kinds x = kind_word x ∷ []
 pub kind_exact : Exact IlKind spec.kind_of kinds (λ x. Unit {0})
 kind_exact =
     exact_one spec.kind_in kind_word (λ x. Unit {0})
-    (record { sound = λ word x e. (kind_sound word x e, tt); told = λ x fits. kind_told x; bare = λ x fits. kind_bare x; })
+    (record { sound = λ word x e. (kind_sound word x e, tt); told = λ x fits. kind_told x; bare = λ x fits. kind_bare x })
 
 state_told : (x : StateName) → spec.state_in (state_word x) ≡ Some x
 state_told state.Free = refl
@@ -365,7 +366,7 @@ states x = state_word x ∷ []
 pub state_exact : Exact StateName spec.state_of states (λ x. Unit {0})
 state_exact =
     exact_one spec.state_in state_word (λ x. Unit {0})
-    (record { sound = λ word x e. (state_sound word x e, tt); told = λ x fits. state_told x; bare = λ x fits. state_bare x; })
+    (record { sound = λ word x e. (state_sound word x e, tt); told = λ x fits. state_told x; bare = λ x fits. state_bare x })
 
 abbrev cause_digit : Cause → List ℕ
 cause_digit cause.Refused = codes "1"
@@ -402,7 +403,7 @@ pub cause_exact : Exact Cause spec.cause_of causes (λ c. Unit {0})
 cause_exact =
     exact_spelled spec.cause_of (λ c. cause_digit c ∷ []) causes (λ c. Unit {0})
     (exact_one spec.cause_in (λ c. cause_digit c) (λ c. Unit {0})
-    (record { sound = λ word c e. (cause_sound word c e, tt); told = λ c fits. cause_told c; bare = λ c fits. cause_bare c; })) digit_is
+    (record { sound = λ word c e. (cause_sound word c e, tt); told = λ c fits. cause_told c; bare = λ c fits. cause_bare c })) digit_is
 
 proto_told : (x : Proto) → proto_named (proto_name x) ≡ Some x
 proto_told proto.Il = refl
@@ -424,7 +425,7 @@ protos x = proto_name x ∷ []
 pub proto_exact : Exact Proto spec.proto protos (λ x. Unit {0})
 proto_exact =
     exact_one proto_named proto_name (λ x. Unit {0})
-    (record { sound = λ word x e. (proto_sound word x e, tt); told = λ x fits. proto_told x; bare = λ x fits. proto_bare x; })
+    (record { sound = λ word x e. (proto_sound word x e, tt); told = λ x fits. proto_told x; bare = λ x fits. proto_bare x })
 
 file_told : (x : FileName) → file_named (file_name x) ≡ Some x
 file_told file.Ctl = refl
@@ -446,11 +447,11 @@ file_bare file.Status = bare (codes "status") refl refl
 
 filter_first : {X : Type 0} (p : X → Bool) (xs : List X) (x : X) → slice_get (filter p xs) 0 ≡ Some x → p x ≡ true
 filter_first p [] x e = absurd (none-some x e)
-filter_first {X} p (y ∷ ys) x e = by (p y) refl e
+filter_first {X} p (y ∷ ys) x e = by (p y) refl e (filter_first p ys x)
   where
-    by : (v : Bool) → p y ≡ v → slice_get (cond v (y ∷ filter p ys) (filter p ys)) 0 ≡ Some x → p x ≡ true
-    by true is f = ap p (sym (same_Some y x f)) ∙ is
-    by false is f = filter_first p ys x f
+    by : (v : Bool) → p y ≡ v → slice_get (cond v (y ∷ filter p ys) (filter p ys)) 0 ≡ Some x → (slice_get (filter p ys) 0 ≡ Some x → p x ≡ true) → p x ≡ true
+    by true is f later = ap p (sym (same_Some y x f)) ∙ is
+    by false is f later = later f
 
 pub file_sound : (word : List ℕ) (x : FileName) → file_named word ≡ Some x → word ≡ file_name x
 file_sound word x e = (bytes_eq-Decides word (file_name x)).0 (filter_first (λ (f : FileName). bytes_eq word (file_name f)) all_files x e)
@@ -461,7 +462,7 @@ files x = file_name x ∷ []
 pub file_exact : Exact FileName spec.file files (λ x. Unit {0})
 file_exact =
     exact_one file_named file_name (λ x. Unit {0})
-    (record { sound = λ word x e. (file_sound word x e, tt); told = λ x fits. file_told x; bare = λ x fits. file_bare x; })
+    (record { sound = λ word x e. (file_sound word x e, tt); told = λ x fits. file_told x; bare = λ x fits. file_bare x })
 
 -- a name is any word that isn't empty
 
@@ -495,12 +496,19 @@ conv_exact =
     exact_both spec.narrow (both spec.proto spec.narrow) numbers (λ f. protos f.0 ++ numbers f.1) IsNarrow (λ f. Unit {0} × IsNarrow f.1) narrow_exact conv_tail_exact
 
 actor_rows_are : AreRows actor_pieces IsWideActor spec.actor_rows
-actor_rows_are =
-    (row spec.narrow numbers IsNarrow narrow_exact (λ h. name.Desk h) actor_pieces IsWideActor (codes "desk") (λ h fits. refl) (λ h fits. fits),
-    (row (both spec.narrow spec.proto) (λ f. numbers f.0 ++ protos f.1) (λ f. IsNarrow f.0 × Unit {0}) dir_exact spec.to_dir actor_pieces IsWideActor (codes "dir") (λ f fits. refl) (λ f fits. fits.0),
-    (row (both spec.narrow (both spec.proto spec.narrow)) conv_words conv_fits conv_exact spec.to_conv actor_pieces IsWideActor (codes "conv") (λ f fits. refl) (λ f fits. (fits.0, fits.1.1)),
-    (row spec.narrow numbers IsNarrow narrow_exact (λ m. name.Medium m) actor_pieces IsWideActor (codes "medium") (λ m fits. refl) (λ m fits. fits),
-    (bare_row name.Clock actor_pieces IsWideActor (codes "clock") refl tt, tt)))))
+actor_rows_are = (
+  row spec.narrow numbers IsNarrow narrow_exact (λ h. name.Desk h) actor_pieces IsWideActor (codes "desk") (λ h fits. refl) (λ h fits. fits),
+  (
+    row (both spec.narrow spec.proto) (λ f. numbers f.0 ++ protos f.1) (λ f. IsNarrow f.0 × Unit {0}) dir_exact spec.to_dir actor_pieces IsWideActor (codes "dir") (λ f fits. refl) (λ f fits. fits.0),
+    (
+      row (both spec.narrow (both spec.proto spec.narrow)) conv_words conv_fits conv_exact spec.to_conv actor_pieces IsWideActor (codes "conv") (λ f fits. refl) (λ f fits. (fits.0, fits.1.1)),
+      (
+        row spec.narrow numbers IsNarrow narrow_exact (λ m. name.Medium m) actor_pieces IsWideActor (codes "medium") (λ m fits. refl) (λ m fits. fits),
+        (bare_row name.Clock actor_pieces IsWideActor (codes "clock") refl tt, tt),
+      ),
+    ),
+  ),
+)
 
 actor_sound : (words : Words) (a : ActorName) (rest : Words) → spec.actor_words words ≡ Some (a, rest) → (words ≡ actor_pieces a ++ rest) × IsWideActor a
 actor_sound [] a rest e = absurd (none-some (a, rest) e)
@@ -523,14 +531,14 @@ are_letters (b ∷ word) = if nat_lt b 46 then false else are_letters word
 
 letters_free : (s : ℕ) (word : List ℕ) → s < 46 → are_letters word ≡ true → IsFree s word
 letters_free s [] low e = tt
-letters_free s (b ∷ word) low e = by (nat_lt b 46) refl e
+letters_free s (b ∷ word) low e = by (nat_lt b 46) refl e (letters_free s word low)
   where
     apart : (c : ℕ) → nat_lt c 46 ≡ false → c ≡ s → ⊥
     apart c is same = grind (arith, nat_tests, low, is, same)
 
-    by : (v : Bool) → nat_lt b 46 ≡ v → (if v then false else are_letters word) ≡ true → ((b == s) ≡ false) × IsFree s word
-    by true is f = absurd (cc)
-    by false is f = (ne_eqb b s (apart b is), letters_free s word low f)
+    by : (v : Bool) → nat_lt b 46 ≡ v → (if v then false else are_letters word) ≡ true → (are_letters word ≡ true → IsFree s word) → ((b == s) ≡ false) × IsFree s word
+    by true is f later = absurd (cc)
+    by false is f later = (ne_eqb b s (apart b is), later f)
 
 all_bare : (words : Words) → AreFree 32 words → AreFree 10 words → AreBare words
 all_bare [] f g = tt
@@ -586,5 +594,5 @@ pub actor_exact : Exact ActorName spec.actor actors IsWideActor
 actor_exact =
     exact_one spec.actor_in actor_word IsWideActor
     (exact_parts 46 spec.actor_words actor_pieces IsWideActor
-    (record { sound = actor_sound; told = actor_told; bare = λ a fits. all_bare (actor_pieces a) (pieces_free 32 a (omega arith)) (pieces_free 10 a (omega arith)); })
+    (record { sound = actor_sound; told = actor_told; bare = λ a fits. all_bare (actor_pieces a) (pieces_free 32 a (omega arith)) (pieces_free 10 a (omega arith)) })
     actor_word actor_is actor_parts actor_bare)

@@ -156,7 +156,7 @@ line_sound stamp line x free e = by (words_of line) refl e
     at word words are y q true s f =
         let is = entry_sound words y q in
         let same = good_is y x f in
-        subst (Told stamp line) same (record { line_is = line_by line word words y stamp are is.0 (stamp_sound stamp word s); good = good_of line word words y free are is.0 is.1; })
+        subst (Told stamp line) same (record { line_is = line_by line word words y stamp are is.0 (stamp_sound stamp word s); good = good_of line word words y free are is.0 is.1 })
     at word words are y q false s f = absurd (refused_good (stamp_cause word) x f)
 
     stamped_by : (word : List ℕ) (words : Words) → words_of line ≡ word ∷ words → (o : Option Entry) → entry_of words ≡ o → stamped stamp word o ≡ Good x → Told stamp line x
@@ -200,13 +200,16 @@ line_refused stamp line cause lt free e = by (words_of line) refl e
     at_numeral word words are y q s true n f =
         let is = entry_sound words y q in
         let at = numeral_spelled word n in
-        inl (sym (cause_is 42 cause f), record {
-          other = value 0 word;
-          x = y;
-          apart = λ same. false≢true (sym s ∙ ap (is_stamp stamp) (at ∙ ap (λ k. numeral k) same) ∙ stamp_told stamp lt);
-          line_is = line_by line word words y (value 0 word) are is.0 at;
-          good = good_of line word words y free are is.0 is.1;
-        })
+        inl (
+          sym (cause_is 42 cause f),
+          record {
+            other = value 0 word;
+            x = y;
+            apart = λ same. false≢true (sym s ∙ ap (is_stamp stamp) (at ∙ ap (λ k. numeral k) same) ∙ stamp_told stamp lt);
+            line_is = line_by line word words y (value 0 word) are is.0 at;
+            good = good_of line word words y free are is.0 is.1;
+          },
+        )
     at_numeral word words are y q s false n f = none (cause_is 41 cause f) (no_numeral word words are n)
 
     at_stamp : (word : List ℕ) (words : Words) → words_of line ≡ word ∷ words → (y : Entry) → entry_of words ≡ Some y → (v : Bool) → is_stamp stamp word ≡ v

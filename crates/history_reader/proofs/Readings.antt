@@ -112,7 +112,7 @@ AllGood (x ∷ xs) = IsGood x × AllGood xs
 
 goods : (h : List Entry) → IsPlain h → IsWide h → AllGood h
 goods [] plain wide = tt
-goods (x ∷ xs) plain wide = (record { event = plain.0; reply = plain.1; wide = wide.0; }, goods xs plain.2 wide.1)
+goods (x ∷ xs) plain wide = (record { event = plain.0; reply = plain.1; wide = wide.0 }, goods xs plain.2 wide.1)
 
 good_plain : (h : List Entry) → AllGood h → IsPlain h
 good_plain [] all = tt
@@ -297,14 +297,14 @@ entry_before n line part parts x told reads v =
       all = (told.good, v.all);
       free = v.free;
       joins =
-      ap (λ ws. ws ++ 10 ∷ join_with_byte 10 (part ∷ parts)) told.line_is
-      ∙ sym (append_assoc (body_of n x) (10 ∷ []) (join_with_byte 10 (part ∷ parts)))
-      ∙ ap (λ ws. ws ++ join_with_byte 10 (part ∷ parts)) (sym (whole_line n x))
-      ∙ ap (λ ws. line_of n x ++ ws) v.joins
-      ∙ sym (append_assoc (line_of n x) (lines_from (n + 1) v.before) (join_with_byte 10 v.rest));
+          ap (λ ws. ws ++ 10 ∷ join_with_byte 10 (part ∷ parts)) told.line_is
+          ∙ sym (append_assoc (body_of n x) (10 ∷ []) (join_with_byte 10 (part ∷ parts)))
+          ∙ ap (λ ws. ws ++ join_with_byte 10 (part ∷ parts)) (sym (whole_line n x))
+          ∙ ap (λ ws. line_of n x ++ ws) v.joins
+          ∙ sym (append_assoc (line_of n x) (lines_from (n + 1) v.before) (join_with_byte 10 v.rest));
       reads =
-      reads ∙ ap (onto (x ∷ [])) v.reads ∙ onto_more x v.before (reading_from (n + 1 + length v.before) v.rest)
-      ∙ ap (λ k. onto (x ∷ v.before) (reading_from k v.rest)) same;
+          reads ∙ ap (onto (x ∷ [])) v.reads ∙ onto_more x v.before (reading_from (n + 1 + length v.before) v.rest)
+          ∙ ap (λ k. onto (x ∷ v.before) (reading_from k v.rest)) same;
       stops = subst (λ k. Stops k v.rest) same v.stops;
     }
 
@@ -332,8 +332,8 @@ record Fault (k : ℕ) (text : List ℕ) (n : ℕ) : Type 0 where
   are : AreLinesFrom k lines
   joins : text ≡ concat lines ++ rest
   told :
-    ((rest ≡ []) × (length lines + k ≡ 4) × (fault_from (forms_from k) n (lines_at text) ≡ None))
-    ⊎ ((fault_from (forms_from k) n (lines_at text) ≡ Some (n + length lines + 1)) × IsBadSummary (length lines + k) rest)
+      ((rest ≡ []) × (length lines + k ≡ 4) × (fault_from (forms_from k) n (lines_at text) ≡ None))
+      ⊎ ((fault_from (forms_from k) n (lines_at text) ≡ Some (n + length lines + 1)) × IsBadSummary (length lines + k) rest)
 
 one_fault : (k n : ℕ) (text : List ℕ) (test : List ℕ → Bool) → FormExact test (IsLineOf k) → k < 4
     → fault_from (forms_from k) n (lines_at text) ≡ goes_on n (passed test (lines_at text)) (fault_from (forms_from (suc k)) (n + 1))
@@ -349,19 +349,21 @@ one_fault k n text test exact few is later = by (passed test (lines_at text)) re
           are = (line_is, f.are);
           joins = at ∙ ap (λ ws. line ++ ws) f.joins ∙ sym (append_assoc line (concat f.lines) f.rest);
           told = elim f.told as (λ t. ((f.rest ≡ []) × (length (line ∷ f.lines) + k ≡ 4) × (fault_from (forms_from k) n (lines_at text) ≡ None)) ⊎ ((fault_from (forms_from k) n (lines_at text) ≡ Some (n + length (line ∷ f.lines) + 1)) × IsBadSummary (length (line ∷ f.lines) + k) f.rest)) [
-            inl t ↦ inl (t.0, sym longer ∙ t.1, same ∙ t.2)
+            | inl t ↦ inl (t.0, sym longer ∙ t.1, same ∙ t.2)
             | inr t ↦ inr (same ∙ t.0 ∙ ap (λ (m : ℕ). Some m) (omega arith), subst (λ j. IsBadSummary j f.rest) longer t.1)
           ];
         }
 
     by : (o : Option Parts) → passed test (lines_at text) ≡ o → Fault k text n
     by None e =
+        let same : k ≡ 0 + k = omega arith in
+        let bad : IsBadSummary k text = (inr few, none_begins test (IsLineOf k) exact text e) in
         record {
           lines = [];
           rest = text;
           are = tt;
           joins = refl;
-          told = inr (is ∙ ap (λ o. goes_on n o (fault_from (forms_from (suc k)) (n + 1))) e ∙ ap (λ (m : ℕ). Some m) (omega arith), inr few, none_begins test (IsLineOf k) exact text e);
+          told = inr (is ∙ ap (λ o. goes_on n o (fault_from (forms_from (suc k)) (n + 1))) e ∙ ap (λ (m : ℕ). Some m) (omega arith), subst (λ j. IsBadSummary j text) same bad);
         }
     by (Some parts) e =
         let p = pass_sound test (IsLineOf k) exact text parts e in
@@ -382,8 +384,8 @@ behind_all : (text : List ℕ) (n : ℕ) → Fault (suc (suc (suc (suc zero)))) 
 behind_all text n = by (last_parts n text (lines_at text) refl)
   where
     by : LastParts n text (lines_at text) → Fault (suc (suc (suc (suc zero)))) text n
-    by (inl t) = record { lines = []; rest = text; are = tt; joins = refl; told = inl (t.0, omega arith, t.1); }
-    by (inr t) = record { lines = []; rest = text; are = tt; joins = refl; told = inr (t.0 ∙ ap (λ (m : ℕ). Some m) (omega arith), inl t.1, λ begins. begins.2); }
+    by (inl t) = record { lines = []; rest = text; are = tt; joins = refl; told = inl (t.0, omega arith, t.1) }
+    by (inr t) = record { lines = []; rest = text; are = tt; joins = refl; told = inr (t.0 ∙ ap (λ (m : ℕ). Some m) (omega arith), (inl t.1, λ begins. begins.2)) }
 
 end_fault : (text : List ℕ) (n : ℕ) → Fault (suc (suc (suc zero))) text n
 end_fault text n = one_fault (suc (suc (suc zero))) n text is_end end_exact (omega arith) refl (λ rest. behind_all rest (n + 1))
@@ -428,7 +430,7 @@ spells : (bytes : List ℕ) (before : List Entry) (rest : List ℕ) (summary : O
 spells bytes before rest summary h t is all behind same =
     let entries : before ≡ h = sym (append-nil before) ∙ ap entries_in same in
     subst (λ (xs : List Entry). Spells bytes xs t) entries
-    (subst (λ (u : Option (List ℕ)). Spells bytes before u) (ap summary_in same) (record { plain = good_plain before all; wide = good_wide before all; spelled = (rest, is, behind); }))
+    (subst (λ (u : Option (List ℕ)). Spells bytes before u) (ap summary_in same) (record { plain = good_plain before all; wide = good_wide before all; spelled = (rest, is, behind) }))
 
 count : (lines : List (List ℕ)) → length lines + zero ≡ 4 → length lines ≡ 4
 count lines e = omega (arith, e)
@@ -440,7 +442,7 @@ summary_is n text none = by (steps_fault text n)
     by : Fault zero text n → IsSummary text
     by f =
         elim f.told as (λ t. IsSummary text) [
-          inl t ↦ (f.lines, count f.lines t.1, f.are, f.joins ∙ ap (λ ws. concat f.lines ++ ws) t.0 ∙ append-nil (concat f.lines))
+          | inl t ↦ (f.lines, count f.lines t.1, f.are, f.joins ∙ ap (λ ws. concat f.lines ++ ws) t.0 ∙ append-nil (concat f.lines))
           | inr t ↦ absurd (none-some (n + length f.lines + 1) (sym none ∙ t.0))
         ]
 
@@ -498,10 +500,12 @@ refused_bad m text line rest c is free none (inl r) =
     let o = r.1 in
     inr (r.0, (o.other, o.apart, (line_of o.other o.x, rest, (o.x, o.good, refl), is ∙ ap (λ ws. ws ++ 10 ∷ rest) o.line_is ∙ sym (append_assoc (body_of o.other o.x) (10 ∷ []) rest) ∙ ap (λ ws. ws ++ rest) (sym (whole_line o.other o.x)))))
 refused_bad m text line rest c is free none (inr r) =
-    inl (r.0,
-    (λ other begins. let entry = begins.2 in
-    r.1 other entry.0 entry.1 (entry_line text line rest free is other entry.0 entry.1 begins.1 (begins.3 ∙ ap (λ ws. ws ++ begins.1) entry.2))),
-    never_steps text line rest is none free)
+    inl (
+      r.0,
+      (λ other begins. let entry = begins.2 in
+          r.1 other entry.0 entry.1 (entry_line text line rest free is other entry.0 entry.1 begins.1 (begins.3 ∙ ap (λ ws. ws ++ begins.1) entry.2))),
+      never_steps text line rest is none free,
+    )
 
 abbrev history : List Entry → List ℕ
 history h = lines_from 0 h
@@ -521,9 +525,15 @@ unended bytes before b last is all free =
       summary = tt;
       spelled = no_lines bytes before (b ∷ last) is;
       place = omega arith;
-      bad = inl (refl, other_head b last, inl (refl,
-      (λ other begins. let entry = begins.2 in no_entry (b ∷ last) free other entry.0 entry.1 begins.1 (begins.3 ∙ ap (λ ws. ws ++ begins.1) entry.2)),
-      none_begins is_steps (IsLineOf zero) steps_exact (b ∷ last) (ap (passed is_steps) (one_part 10 (b ∷ last) free))));
+      bad = inl (
+        refl,
+        other_head b last,
+        inl (
+          refl,
+          (λ other begins. let entry = begins.2 in no_entry (b ∷ last) free other entry.0 entry.1 begins.1 (begins.3 ∙ ap (λ ws. ws ++ begins.1) entry.2)),
+          none_begins is_steps (IsLineOf zero) steps_exact (b ∷ last) (ap (passed is_steps) (one_part 10 (b ∷ last) free)),
+        ),
+      );
     }
 
 refused_line : (bytes : List ℕ) (before : List Entry) (line rest : List ℕ) (c : ℕ) → bytes ≡ history before ++ (line ++ 10 ∷ rest) → AllGood before → IsFree 10 line → is_steps line ≡ false
@@ -571,7 +581,7 @@ bad_summary bytes before text line is all begins some = by (steps_fault text (le
     by : Fault zero text (length before) → IsBad bytes line 41
     by f =
         elim f.told as (λ t. IsBad bytes line 41) [
-          inl t ↦ absurd (none-some line (sym t.2 ∙ some))
+          | inl t ↦ absurd (none-some line (sym t.2 ∙ some))
           | inr t ↦ at f t.0 t.1
         ]
 
@@ -617,7 +627,7 @@ read_bad bytes line cause lt e =
 -- A bad line is told.
 
 few_lines : (lines : List (List ℕ)) (k : ℕ) → k ≤ 4 → AreLinesFrom k lines → length lines + k ≤ 4
-few_lines [] k few are = few
+few_lines [] k few are = omega (arith, few)
 few_lines (line ∷ lines) zero few are = let more = few_lines lines (suc zero) (omega arith) are.1 in omega (arith, more)
 few_lines (line ∷ lines) (suc zero) few are = let more = few_lines lines (suc (suc zero)) (omega arith) are.1 in omega (arith, more)
 few_lines (line ∷ lines) (suc (suc zero)) few are = let more = few_lines lines (suc (suc (suc zero))) (omega arith) are.1 in omega (arith, more)

@@ -15,7 +15,7 @@ use Rattle.net_base.specs.Transcript.{call_words, calls_of, reply_words}
 use Rattle.history_reader.specs.Fields.{Words, Read, Reader, behind, both, cause_of, long, made, narrow, place, row_of, state_of, text, texts}
 use Rattle.history_reader.specs.ReplyRows as spec
 use Rattle.history_reader.specs.Wide.{AreWideCalls, IsLong, IsNarrow, IsPlace, IsWideReply}
-use Rattle.history_reader.proofs.Exact.{AreBare, AreRows, Back, Exact, IsBare, IsRow, back, bare_row, exact_both, made_sound, made_told, row, rows_sound}
+use Rattle.history_reader.proofs.Exact.{AreBare, AreRows, Back, Exact, IsBare, IsRow, back, bare_row, exact_both, made_of, made_sound, made_told, row, rows_sound}
 use Rattle.history_reader.proofs.Fields.{bare, bare_numeral, cause_exact, causes, long_exact, narrow_exact, no_mark_alone, numbers, place_exact, places, state_exact, states}
 use Rattle.history_reader.proofs.Texts.{AreTexts, hexes, line_hexes, text_exact, texts_exact}
 
@@ -118,9 +118,10 @@ each_sound (slot ∷ generation ∷ words) = by (spec.call (slot ∷ generation 
     by (Some (first, rest)) e read later =
         let is = call_sound (slot ∷ generation ∷ []) first rest e in
         let one : slot ≡ numeral first.slot = ap (λ (ws : Words). at ws 0) is.0 in
-        let two : generation ≡ numeral first.generation = ap (λ (ws : Words). at ws 1) is.0 in
-        (ap (λ (w : List ℕ). w ∷ generation ∷ words) one ∙ ap (λ (w : List ℕ). numeral first.slot ∷ w ∷ words) two ∙ ap (λ (ws : Words). numeral first.slot ∷ numeral first.generation ∷ ws) later.0,
-        (is.1.0, is.1.1, later.1))
+        let two : generation ≡ numeral first.generation = ap (λ (ws : Words). at ws 1) is.0 in (
+          ap (λ (w : List ℕ). w ∷ generation ∷ words) one ∙ ap (λ (w : List ℕ). numeral first.slot ∷ w ∷ words) two ∙ ap (λ (ws : Words). numeral first.slot ∷ numeral first.generation ∷ ws) later.0,
+          (is.1.0, is.1.1, later.1),
+        )
 
 -- no call follows
 abbrev pub Ends : Words → Type 0
@@ -187,62 +188,123 @@ bare_is : (value : Reply) (word : List ℕ) → reply_words value ≡ word ∷ [
 bare_is value word spelled fits = bare_row value reply_words FitsReply word spelled fits
 
 last_rows_are : AreRows reply_words FitsReply spec.last_rows
-last_rows_are =
-    (bare_is reply.Took (codes "took") refl (tt, tt),
-    (bare_is reply.Full (codes "full") refl (tt, tt),
-    (bare_is reply.Ticked (codes "ticked") refl (tt, tt),
-    (bare_is reply.NotDue (codes "notdue") refl (tt, tt),
-    (bare_is reply.TooBig (codes "toobig") refl (tt, tt),
-    (bare_is reply.NoStation (codes "nostation") refl (tt, tt),
-    tt))))))
+last_rows_are = (
+  bare_is reply.Took (codes "took") refl (tt, tt),
+  (
+    bare_is reply.Full (codes "full") refl (tt, tt),
+    (
+      bare_is reply.Ticked (codes "ticked") refl (tt, tt),
+      (
+        bare_is reply.NotDue (codes "notdue") refl (tt, tt),
+        (
+          bare_is reply.TooBig (codes "toobig") refl (tt, tt),
+          (
+            bare_is reply.NoStation (codes "nostation") refl (tt, tt),
+            tt,
+          ),
+        ),
+      ),
+    ),
+  ),
+)
 
 refused_rows_are : AreRows reply_words FitsReply spec.refused_rows
-refused_rows_are =
-    (bare_is reply.Refused (codes "refused") refl (tt, tt),
-    (bare_is reply.Dropped (codes "dropped") refl (tt, tt),
-    (bare_is reply.Stale (codes "stale") refl (tt, tt),
-    (bare_is reply.NotOpen (codes "notopen") refl (tt, tt),
-    (bare_is reply.ZeroWrite (codes "zerowrite") refl (tt, tt),
-    (bare_is reply.Left (codes "left") refl (tt, tt),
-    last_rows_are))))))
+refused_rows_are = (
+  bare_is reply.Refused (codes "refused") refl (tt, tt),
+  (
+    bare_is reply.Dropped (codes "dropped") refl (tt, tt),
+    (
+      bare_is reply.Stale (codes "stale") refl (tt, tt),
+      (
+        bare_is reply.NotOpen (codes "notopen") refl (tt, tt),
+        (
+          bare_is reply.ZeroWrite (codes "zerowrite") refl (tt, tt),
+          (
+            bare_is reply.Left (codes "left") refl (tt, tt),
+            last_rows_are,
+          ),
+        ),
+      ),
+    ),
+  ),
+)
 
 bare_rows_are : AreRows reply_words FitsReply spec.bare_rows
-bare_rows_are =
-    (bare_is reply.NoFile (codes "nofile") refl (tt, tt),
-    (bare_is reply.BadMode (codes "badmode") refl (tt, tt),
-    (bare_is reply.BadFid (codes "badfid") refl (tt, tt),
-    (bare_is reply.NoSlot (codes "noslot") refl (tt, tt),
-    (bare_is reply.NoRoute (codes "noroute") refl (tt, tt),
-    (bare_is reply.NoPort (codes "noport") refl (tt, tt),
-    (bare_is reply.SelfPair (codes "selfpair") refl (tt, tt),
-    refused_rows_are)))))))
+bare_rows_are = (
+  bare_is reply.NoFile (codes "nofile") refl (tt, tt),
+  (
+    bare_is reply.BadMode (codes "badmode") refl (tt, tt),
+    (
+      bare_is reply.BadFid (codes "badfid") refl (tt, tt),
+      (
+        bare_is reply.NoSlot (codes "noslot") refl (tt, tt),
+        (
+          bare_is reply.NoRoute (codes "noroute") refl (tt, tt),
+          (
+            bare_is reply.NoPort (codes "noport") refl (tt, tt),
+            (
+              bare_is reply.SelfPair (codes "selfpair") refl (tt, tt),
+              refused_rows_are,
+            ),
+          ),
+        ),
+      ),
+    ),
+  ),
+)
 
 several_rows_are : AreRows reply_words FitsReply spec.several_rows
-several_rows_are =
-    (of_slot (λ f. reply.Call f.0 f.1) (codes "call") (λ f. refl) (λ f h. (h, tt)),
-    (of_slot (λ f. reply.To f.0 f.1) (codes "to") (λ f. refl) (λ f h. (h, tt)),
-    (row (both long narrow) long_limit_words long_limit_fits long_limit_exact (λ f. reply.TooLong f.0 f.1) reply_words FitsReply (codes "toolong") (λ f h. refl) (λ f h. (h, tt)),
-    (row (both place (both place (both narrow narrow))) granted_words granted_fits granted_exact spec.to_granted reply_words FitsReply (codes "granted") (λ f h. refl) (λ f h. ((h.0, h.1.0, h.1.1.0, h.1.1.1), tt)),
-    (row (both narrow (both long (both narrow narrow))) born_words born_fits born_exact spec.to_born reply_words FitsReply (codes "born") (λ f h. refl) (λ f h. ((h.0, h.1.0, h.1.1.0, h.1.1.1), tt)),
-    (row state_of states (λ s. Unit {0}) state_exact (λ s. reply.WrongState s) reply_words FitsReply (codes "wrong") (λ s h. refl) (λ s h. (tt, tt)),
-    (row cause_of causes (λ c. Unit {0}) cause_exact (λ c. reply.Hungup c) reply_words FitsReply (codes "hungup") (λ c h. refl) (λ c h. (tt, tt)),
-    bare_rows_are)))))))
+several_rows_are = (
+  of_slot (λ f. reply.Call f.0 f.1) (codes "call") (λ f. refl) (λ f h. (h, tt)),
+  (
+    of_slot (λ f. reply.To f.0 f.1) (codes "to") (λ f. refl) (λ f h. (h, tt)),
+    (
+      row (both long narrow) long_limit_words long_limit_fits long_limit_exact (λ f. reply.TooLong f.0 f.1) reply_words FitsReply (codes "toolong") (λ f h. refl) (λ f h. (h, tt)),
+      (
+        row (both place (both place (both narrow narrow))) granted_words granted_fits granted_exact spec.to_granted reply_words FitsReply (codes "granted") (λ f h. refl) (λ f h. ((h.0, h.1.0, h.1.1.0, h.1.1.1), tt)),
+        (
+          row (both narrow (both long (both narrow narrow))) born_words born_fits born_exact spec.to_born reply_words FitsReply (codes "born") (λ f h. refl) (λ f h. ((h.0, h.1.0, h.1.1.0, h.1.1.1), tt)),
+          (
+            row state_of states (λ s. Unit {0}) state_exact (λ s. reply.WrongState s) reply_words FitsReply (codes "wrong") (λ s h. refl) (λ s h. (tt, tt)),
+            (
+              row cause_of causes (λ c. Unit {0}) cause_exact (λ c. reply.Hungup c) reply_words FitsReply (codes "hungup") (λ c h. refl) (λ c h. (tt, tt)),
+              bare_rows_are,
+            ),
+          ),
+        ),
+      ),
+    ),
+  ),
+)
 
 number_rows_are : AreRows reply_words FitsReply spec.number_rows
-number_rows_are =
-    (of_narrow (λ n. reply.CsRefused n) (codes "csrefused") (λ n. refl) (λ n h. (h, tt)),
-    (of_wide (λ n. reply.PairUsed n) (codes "pairused") (λ n. refl) (λ n h. (h, tt)),
-    (of_narrow (λ n. reply.PortTaken n) (codes "taken") (λ n. refl) (λ n h. (h, tt)),
-    (of_wide (λ n. reply.Opened n) (codes "opened") (λ n. refl) (λ n h. (h, tt)),
-    (of_narrow (λ n. reply.BadCtl n) (codes "badctl") (λ n. refl) (λ n h. (h, tt)),
-    (of_wide (λ n. reply.Laid n) (codes "laid") (λ n. refl) (λ n h. (h, tt)),
-    (of_wide (λ n. reply.Copy n) (codes "copy") (λ n. refl) (λ n h. (h, tt)),
-    several_rows_are)))))))
+number_rows_are = (
+  of_narrow (λ n. reply.CsRefused n) (codes "csrefused") (λ n. refl) (λ n h. (h, tt)),
+  (
+    of_wide (λ n. reply.PairUsed n) (codes "pairused") (λ n. refl) (λ n h. (h, tt)),
+    (
+      of_narrow (λ n. reply.PortTaken n) (codes "taken") (λ n. refl) (λ n h. (h, tt)),
+      (
+        of_wide (λ n. reply.Opened n) (codes "opened") (λ n. refl) (λ n h. (h, tt)),
+        (
+          of_narrow (λ n. reply.BadCtl n) (codes "badctl") (λ n. refl) (λ n h. (h, tt)),
+          (
+            of_wide (λ n. reply.Laid n) (codes "laid") (λ n. refl) (λ n h. (h, tt)),
+            (
+              of_wide (λ n. reply.Copy n) (codes "copy") (λ n. refl) (λ n h. (h, tt)),
+              several_rows_are,
+            ),
+          ),
+        ),
+      ),
+    ),
+  ),
+)
 
 calls_are : Row (codes "calls") spec.waited
 calls_are words y rest e = by (spec.calls words) refl e
   where
-    by : (o : Read (List Call)) → spec.calls words ≡ o → behind o (λ cs last. Some (reply.Calls cs, last)) ≡ Some (y, rest) → (codes "calls" ∷ words ≡ reply_words y ++ rest) × FitsReply y
+    by : (o : Read (List Call)) → spec.calls words ≡ o → behind o (made_of (λ (c : List Call). reply.Calls c)) ≡ Some (y, rest) → (codes "calls" ∷ words ≡ reply_words y ++ rest) × FitsReply y
     by None q f = absurd (none-some (y, rest) f)
     by (Some (cs, last)) q f =
         let is = calls_sound words cs last q in
@@ -250,15 +312,28 @@ calls_are words y rest e = by (spec.calls words) refl e
         (ap (λ (ws : Words). codes "calls" ∷ ws) is.0 ∙ ap (λ (r : Reply × Words). reply_words r.0 ++ r.1) same, subst (λ (r : Reply × Words). FitsReply r.0) same (is.1, tt))
 
 reply_rows_are : AreRows reply_words FitsReply spec.reply_rows
-reply_rows_are =
-    (bare_is reply.Ok (codes "ok") refl (tt, tt),
-    (of_narrow (λ n. reply.Count n) (codes "count") (λ n. refl) (λ n h. (h, tt)),
-    (of_slot (λ f. reply.Slot f.0 f.1) (codes "slot") (λ f. refl) (λ f h. (h, tt)),
-    (row text hexes AreBytes text_exact (λ b. reply.Bytes b) reply_words FitsReply (codes "bytes") (λ b h. refl) (λ b h. (h, tt)),
-    (of_texts (λ l. reply.Lines l) (codes "lines") (λ l. refl) (λ l h. h),
-    (of_texts (λ l. reply.Names l) (codes "names") (λ l. refl) (λ l h. h),
-    (calls_are,
-    number_rows_are)))))))
+reply_rows_are = (
+  bare_is reply.Ok (codes "ok") refl (tt, tt),
+  (
+    of_narrow (λ n. reply.Count n) (codes "count") (λ n. refl) (λ n h. (h, tt)),
+    (
+      of_slot (λ f. reply.Slot f.0 f.1) (codes "slot") (λ f. refl) (λ f h. (h, tt)),
+      (
+        row text hexes AreBytes text_exact (λ b. reply.Bytes b) reply_words FitsReply (codes "bytes") (λ b h. refl) (λ b h. (h, tt)),
+        (
+          of_texts (λ l. reply.Lines l) (codes "lines") (λ l. refl) (λ l h. h),
+          (
+            of_texts (λ l. reply.Names l) (codes "names") (λ l. refl) (λ l h. h),
+            (
+              calls_are,
+              number_rows_are,
+            ),
+          ),
+        ),
+      ),
+    ),
+  ),
+)
 
 pub reply_sound : (words : Words) (r : Reply) (rest : Words) → spec.reply_of words ≡ Some (r, rest) → (words ≡ reply_words r ++ rest) × FitsReply r
 reply_sound [] r rest e = absurd (none-some (r, rest) e)
@@ -297,7 +372,7 @@ reply_back (reply.PairUsed n) w p = let b = at_wide (λ n. reply.PairUsed n) (co
 reply_back (reply.PortTaken n) w p = let b = at_narrow (λ n. reply.PortTaken n) (codes "taken") (bare (codes "taken") refl refl) n w in (λ rest ends. b.0 rest, b.1)
 reply_back (reply.Call n g) w p = let b = at_slot (λ f. reply.Call f.0 f.1) (codes "call") (bare (codes "call") refl refl) (n, g) w in (λ rest ends. b.0 rest, b.1)
 reply_back (reply.Calls cs) w p =
-    (λ rest ends. ap (λ (o : Read (List Call)). behind o (λ c last. Some (reply.Calls c, last))) (calls_told cs w rest ends), (bare (codes "calls") refl refl, calls_bare cs))
+    (λ rest ends. ap (λ (o : Read (List Call)). behind o (made_of (λ (c : List Call). reply.Calls c))) (calls_told cs w rest ends), (bare (codes "calls") refl refl, calls_bare cs))
 reply_back (reply.To n g) w p = let b = at_slot (λ f. reply.To f.0 f.1) (codes "to") (bare (codes "to") refl refl) (n, g) w in (λ rest ends. b.0 rest, b.1)
 reply_back (reply.Born n g start limit) w p = let b = back (both narrow (both long (both narrow narrow))) born_words born_fits born_exact spec.to_born (codes "born") (bare (codes "born") refl refl) (n, (g, (start, limit))) (w.0, (w.1, (w.2, w.3))) in (λ rest ends. b.0 rest, b.1)
 reply_back reply.Refused w p = (λ rest ends. refl, (bare (codes "refused") refl refl, tt))

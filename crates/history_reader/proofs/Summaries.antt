@@ -67,10 +67,12 @@ steps_sound words e =
     let second = then_is (behind_word (codes "of")) (option_and_then behind_number (behind_word (codes "steps") words)) third.0 third.1 in
     let first = then_is behind_number (behind_word (codes "steps") words) second.0 second.1 in
     let b = number_sound third.0 [] third.2 in
-    let a = number_sound first.0 second.0 first.2 in
-    (a.0, b.0,
-    word_sound (codes "steps") words first.0 first.1
-    ∙ ap (λ (ws : Words). codes "steps" ∷ ws) (a.1 ∙ ap (λ (ws : Words). numeral a.0 ∷ ws) (word_sound (codes "of") second.0 third.0 second.2 ∙ ap (λ (ws : Words). codes "of" ∷ ws) b.1)))
+    let a = number_sound first.0 second.0 first.2 in (
+      a.0,
+      b.0,
+      word_sound (codes "steps") words first.0 first.1
+          ∙ ap (λ (ws : Words). codes "steps" ∷ ws) (a.1 ∙ ap (λ (ws : Words). numeral a.0 ∷ ws) (word_sound (codes "of") second.0 third.0 second.2 ∙ ap (λ (ws : Words). codes "of" ∷ ws) b.1)),
+    )
 
 steps_told : (a b : ℕ) → steps_passed (codes "steps" ∷ numeral a ∷ codes "of" ∷ numeral b ∷ []) ≡ Some []
 steps_told a b =
@@ -86,12 +88,15 @@ pub steps_exact : FormExact is_steps IsStepsLine
 steps_exact =
     record {
       sound = λ line e.
-        let is = steps_sound (words_of line) (whole_is (steps_passed (words_of line)) e) in
-        (is.0, is.1, ap (λ (ws : List ℕ). ws ++ 10 ∷ []) (line_joined line (codes "steps") (numeral is.0 ∷ codes "of" ∷ numeral is.1 ∷ []) is.2) ∙ steps_is is.0 is.1);
-      told = λ line is.
-        (steps_body is.0 is.1, is.2 ∙ sym (steps_is is.0 is.1), body_back (codes "steps") (numeral is.0 ∷ codes "of" ∷ numeral is.1 ∷ []) (bare (codes "steps") refl refl) (steps_bare is.0 is.1),
+          let is = steps_sound (words_of line) (whole_is (steps_passed (words_of line)) e) in
+          (is.0, is.1, ap (λ (ws : List ℕ). ws ++ 10 ∷ []) (line_joined line (codes "steps") (numeral is.0 ∷ codes "of" ∷ numeral is.1 ∷ []) is.2) ∙ steps_is is.0 is.1);
+      told = λ line is. (
+        steps_body is.0 is.1,
+        is.2 ∙ sym (steps_is is.0 is.1),
+        body_back (codes "steps") (numeral is.0 ∷ codes "of" ∷ numeral is.1 ∷ []) (bare (codes "steps") refl refl) (steps_bare is.0 is.1),
         ap (λ (ws : Words). is_whole (steps_passed ws)) (words_back (codes "steps") (numeral is.0 ∷ codes "of" ∷ numeral is.1 ∷ []) (bare (codes "steps") refl refl) (steps_bare is.0 is.1))
-        ∙ ap is_whole (steps_told is.0 is.1));
+            ∙ ap is_whole (steps_told is.0 is.1),
+      );
     }
 
 -- A line of a word and two numbers.
@@ -122,12 +127,15 @@ pub both_exact : (word : List ℕ) → IsBare word → FormExact (is_both word) 
 both_exact word clean =
     record {
       sound = λ line e.
-        let is = both_sound word (words_of line) (whole_is (both_passed word (words_of line)) e) in
-        (is.0, is.1, ap (λ (ws : List ℕ). ws ++ 10 ∷ []) (line_joined line word (numeral is.0 ∷ numeral is.1 ∷ []) is.2) ∙ both_is word is.0 is.1);
+          let is = both_sound word (words_of line) (whole_is (both_passed word (words_of line)) e) in
+          (is.0, is.1, ap (λ (ws : List ℕ). ws ++ 10 ∷ []) (line_joined line word (numeral is.0 ∷ numeral is.1 ∷ []) is.2) ∙ both_is word is.0 is.1);
       told = λ line is.
-        let all : AreBare (numeral is.0 ∷ numeral is.1 ∷ []) = (bare_numeral is.0, (bare_numeral is.1, tt)) in
-        (both_body word is.0 is.1, is.2 ∙ sym (both_is word is.0 is.1), body_back word (numeral is.0 ∷ numeral is.1 ∷ []) clean all,
-        ap (λ (ws : Words). is_whole (both_passed word ws)) (words_back word (numeral is.0 ∷ numeral is.1 ∷ []) clean all) ∙ ap is_whole (both_told word is.0 is.1));
+          let all : AreBare (numeral is.0 ∷ numeral is.1 ∷ []) = (bare_numeral is.0, (bare_numeral is.1, tt)) in (
+            both_body word is.0 is.1,
+            is.2 ∙ sym (both_is word is.0 is.1),
+            body_back word (numeral is.0 ∷ numeral is.1 ∷ []) clean all,
+            ap (λ (ws : Words). is_whole (both_passed word ws)) (words_back word (numeral is.0 ∷ numeral is.1 ∷ []) clean all) ∙ ap is_whole (both_told word is.0 is.1),
+          );
     }
 
 -- The line of the end.
@@ -186,13 +194,16 @@ pub end_exact : FormExact is_end IsEndLine
 end_exact =
     record {
       sound = λ line e.
-        let is = end_sound (words_of line) (whole_is (end_passed (words_of line)) e) in
-        (is.0, is.1, is.2, ap (λ (ws : List ℕ). ws ++ 10 ∷ []) (line_joined line (codes "end") (is.0 ∷ numeral is.1 ∷ []) is.3) ∙ end_is is.0 is.1);
+          let is = end_sound (words_of line) (whole_is (end_passed (words_of line)) e) in
+          (is.0, is.1, is.2, ap (λ (ws : List ℕ). ws ++ 10 ∷ []) (line_joined line (codes "end") (is.0 ∷ numeral is.1 ∷ []) is.3) ∙ end_is is.0 is.1);
       told = λ line is.
-        let word = end_word_told is.0 is.2 in
-        let all : AreBare (is.0 ∷ numeral is.1 ∷ []) = (word.1, (bare_numeral is.1, tt)) in
-        (end_body is.0 is.1, is.3 ∙ sym (end_is is.0 is.1), body_back (codes "end") (is.0 ∷ numeral is.1 ∷ []) (bare (codes "end") refl refl) all,
-        ap (λ (ws : Words). is_whole (end_passed ws)) (words_back (codes "end") (is.0 ∷ numeral is.1 ∷ []) (bare (codes "end") refl refl) all) ∙ ap is_whole (end_told is.0 is.1 word.0));
+          let word = end_word_told is.0 is.2 in
+          let all : AreBare (is.0 ∷ numeral is.1 ∷ []) = (word.1, (bare_numeral is.1, tt)) in (
+            end_body is.0 is.1,
+            is.3 ∙ sym (end_is is.0 is.1),
+            body_back (codes "end") (is.0 ∷ numeral is.1 ∷ []) (bare (codes "end") refl refl) all,
+            ap (λ (ws : Words). is_whole (end_passed ws)) (words_back (codes "end") (is.0 ∷ numeral is.1 ∷ []) (bare (codes "end") refl refl) all) ∙ ap is_whole (end_told is.0 is.1 word.0),
+          );
     }
 
 -- A line of an entry is none of steps.
