@@ -97,3 +97,24 @@ no_calls (c ∷ calls, words) none = absurd (omega (arith, none))
 pub any_calls : (read : spec.Calls) → length read.0 ≢ 0 → spec.some_calls read ≡ Some (read.0, read.1)
 any_calls ([], words) some = absurd (some refl)
 any_calls (c ∷ calls, words) some = refl
+
+-- the same by the answer that was given
+
+abbrev pub added : List Call → spec.Calls → spec.Calls
+added calls read = (calls ++ read.0, read.1)
+
+abbrev pub with_words : Words → List Call → spec.Calls
+with_words words calls = (calls, words)
+
+pub calls_on : (whole : spec.Calls) (calls : List Call) (rest : Words) (o : Read Call) (c : Call) (behind : Words) → whole ≡ added calls (spec.each_call rest) → o ≡ spec.call rest → o ≡ Some (c, behind)
+    → whole ≡ added (calls ++ c ∷ []) (spec.each_call behind)
+calls_on whole calls rest o c behind is told at =
+    is ∙ ap (added calls) (each_step rest c behind (sym told ∙ at))
+    ∙ ap (with_words (spec.each_call behind).1) (sym (append_assoc calls (c ∷ []) (spec.each_call behind).0))
+
+pub calls_end : (whole : spec.Calls) (calls : List Call) (rest : Words) (o : Read Call) → whole ≡ added calls (spec.each_call rest) → o ≡ spec.call rest → o ≡ None → with_words rest calls ≡ whole
+calls_end whole calls rest o is told at =
+    sym (is ∙ ap (added calls) (each_end rest (sym told ∙ at)) ∙ ap (with_words rest) (append-nil calls))
+
+pub calls_shorter : (rest : Words) (o : Read Call) (c : Call) (behind : Words) → o ≡ spec.call rest → o ≡ Some (c, behind) → length behind < length rest
+calls_shorter rest o c behind told at = each_shorter rest c behind (sym told ∙ at)

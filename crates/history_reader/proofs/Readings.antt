@@ -130,6 +130,10 @@ onto_more : (x : Entry) (xs : List Entry) (r : Reading) → onto (x ∷ []) (ont
 onto_more x xs (Whole h summary) = refl
 onto_more x xs (Bad line cause) = refl
 
+onto_both : (h k : List Entry) (r : Reading) → onto h (onto k r) ≡ onto (h ++ k) r
+onto_both h k (Whole xs summary) = ap (λ (ys : List Entry). Whole ys summary) (sym (append_assoc h k xs))
+onto_both h k (Bad line cause) = refl
+
 -- a first line with others behind it
 abbrev stepped : ℕ → List ℕ → Parts → Reading
 stepped n line parts =
@@ -732,3 +736,47 @@ bad_read bytes line cause lt b =
     ∙ entries_on b.before 0 rest few (goods b.before b.plain b.wide)
     ∙ ap (λ k. onto b.before (reading_from k (lines_at rest))) same
     ∙ ap (onto b.before) (bad_behind b.before b.lines b.behind line cause small b.summary b.place b.bad)
+
+-- Steps of the loop over lines.
+
+pub entry_on : (bytes : List ℕ) (h : List Entry) (rest line behind : List ℕ) (x : Entry) → reading bytes ≡ onto h (reading_from (length h) (lines_at rest)) → lines_at rest ≡ line ∷ lines_at behind → is_steps line ≡ false
+    → line_verdict (length h) line ≡ Good x → reading bytes ≡ onto (h ++ x ∷ []) (reading_from (length (h ++ x ∷ [])) (lines_at behind))
+entry_on bytes h rest line behind x is at none good =
+    let count : length h + 1 ≡ length (h ++ x ∷ []) = sym (length-append h (x ∷ [])) in
+    is ∙ ap (λ ps. onto h (reading_from (length h) ps)) at
+    ∙ ap (onto h) (line_first (length h) line (lines_at behind) (some_word 10 behind)
+    ∙ ap (λ v. if v then summed (line ∷ lines_at behind) (fault_from summary_tests (length h) (line ∷ lines_at behind)) else judged (length h) (line_verdict (length h) line) (reading_from (length h + 1) (lines_at behind))) none
+    ∙ ap (λ v. judged (length h) v (reading_from (length h + 1) (lines_at behind))) good)
+    ∙ onto_both h (x ∷ []) (reading_from (length h + 1) (lines_at behind))
+    ∙ ap (λ k. onto (h ++ x ∷ []) (reading_from k (lines_at behind))) count
+
+pub refused_on : (bytes : List ℕ) (h : List Entry) (rest line behind : List ℕ) (c l : ℕ) → reading bytes ≡ onto h (reading_from (length h) (lines_at rest)) → lines_at rest ≡ line ∷ lines_at behind → is_steps line ≡ false
+    → line_verdict (length h) line ≡ Refused c → l ≡ length h + 1 → reading bytes ≡ Bad l c
+refused_on bytes h rest line behind c l is at none bad place =
+    is ∙ ap (λ ps. onto h (reading_from (length h) ps)) at
+    ∙ ap (onto h) (line_first (length h) line (lines_at behind) (some_word 10 behind) ∙ refused_read (length h) line (lines_at behind) none c bad)
+    ∙ ap (λ k. Bad k c) (sym place)
+
+summed_on : (bytes : List ℕ) (h : List Entry) (rest line behind : List ℕ) → reading bytes ≡ onto h (reading_from (length h) (lines_at rest)) → lines_at rest ≡ line ∷ lines_at behind → is_steps line ≡ true
+    → reading bytes ≡ onto h (summed (lines_at rest) (fault_from summary_tests (length h) (lines_at rest)))
+summed_on bytes h rest line behind is at steps =
+    is ∙ ap (λ ps. onto h (reading_from (length h) ps)) at
+    ∙ ap (onto h) (line_first (length h) line (lines_at behind) (some_word 10 behind) ∙ steps_first (length h) line (lines_at behind) steps)
+    ∙ ap (λ ps. onto h (summed ps (fault_from summary_tests (length h) ps))) (sym at)
+
+pub summary_on : (bytes : List ℕ) (h : List Entry) (rest line behind : List ℕ) → reading bytes ≡ onto h (reading_from (length h) (lines_at rest)) → lines_at rest ≡ line ∷ lines_at behind → is_steps line ≡ true
+    → fault_from summary_tests (length h) (lines_at rest) ≡ None → reading bytes ≡ Whole h (Some rest)
+summary_on bytes h rest line behind is at steps none =
+    summed_on bytes h rest line behind is at steps ∙ ap (λ o. onto h (summed (lines_at rest) o)) none
+    ∙ ap (λ (xs : List Entry). Whole xs (Some (join_with_byte 10 (lines_at rest)))) (append-nil h) ∙ ap (λ ws. Whole h (Some ws)) (join_with_byte-slice_split 10 rest)
+
+pub fault_on : (bytes : List ℕ) (h : List Entry) (rest line behind : List ℕ) (l : ℕ) → reading bytes ≡ onto h (reading_from (length h) (lines_at rest)) → lines_at rest ≡ line ∷ lines_at behind → is_steps line ≡ true
+    → fault_from summary_tests (length h) (lines_at rest) ≡ Some l → reading bytes ≡ Bad l 41
+fault_on bytes h rest line behind l is at steps some = summed_on bytes h rest line behind is at steps ∙ ap (λ o. onto h (summed (lines_at rest) o)) some
+
+pub end_on : (bytes : List ℕ) (h : List Entry) (rest : List ℕ) → reading bytes ≡ onto h (reading_from (length h) (lines_at rest)) → rest ≡ [] → reading bytes ≡ Whole h None
+end_on bytes h rest is none = is ∙ ap (λ ws. onto h (reading_from (length h) (lines_at ws))) none ∙ ap (λ (xs : List Entry). Whole xs None) (append-nil h)
+
+pub unended_on : (bytes : List ℕ) (h : List Entry) (rest : List ℕ) → reading bytes ≡ onto h (reading_from (length h) (lines_at rest)) → lines_at rest ≡ rest ∷ [] → rest ≢ [] → reading bytes ≡ Bad (length h + 1) 41
+unended_on bytes h [] is at some = absurd (some refl)
+unended_on bytes h (b ∷ rest) is at some = is ∙ ap (λ ps. onto h (reading_from (length h) ps)) at
