@@ -7,7 +7,7 @@ use Rattle.std.proofs.lemmas.Option.{none-some, same_Some}
 use Rattle.net_base.specs.declared.history.Entry.{Entry}
 use Rattle.net_base.specs.Addresses.{parts_at}
 use Rattle.net_base.specs.Plain.{IsPlain}
-use Rattle.net_base.specs.Transcript.{line_of, lines_from}
+use Rattle.net_base.specs.Transcript.{entry_words, line_of, lines_from}
 use Rattle.history_reader.specs.LineReading.{Bad, Good, Parts, Reading, Refused, Verdict, Whole, ending, fault_from, goes_on, is_both, is_end, is_steps, judged, line_verdict, onto, passed, reading, reading_from, summary_tests, summed}
 use Rattle.history_reader.specs.Spelling.{Begins, IsBad, IsBadLine, IsBadSummary, IsBehind, IsEntryLine, IsGood, IsSummary, Spells}
 use Rattle.history_reader.specs.SummaryText.{AreLinesFrom, IsLineOf}
@@ -144,7 +144,7 @@ line_first n line [] some = absurd (some refl)
 line_first n line (part ∷ parts) some = refl
 
 entry_steps : (n : ℕ) (x : Entry) → IsGood x → is_steps (body_of n x) ≡ false
-entry_steps n x good = no_steps n _ (bare_numeral n) (entry_bare x good)
+entry_steps n x good = no_steps n (entry_words x) (bare_numeral n) (entry_bare x good)
 
 entry_first : (n : ℕ) (x : Entry) (rest : List ℕ) → n < 2 ^ 64 → IsGood x → reading_from n (lines_at (line_of n x ++ rest)) ≡ onto (x ∷ []) (reading_from (n + 1) (lines_at rest))
 entry_first n x rest lt good =
@@ -322,7 +322,7 @@ view (line ∷ part ∷ parts) n free some = by (is_steps line) refl (view (part
         entry_before n line part parts x (line_sound n line x free.0 e)
         (ap (λ v. if v then summed (line ∷ part ∷ parts) (fault_from summary_tests n (line ∷ part ∷ parts)) else judged n (line_verdict n line) (reading_from (n + 1) (part ∷ parts))) none
         ∙ ap (λ v. judged n v (reading_from (n + 1) (part ∷ parts))) e) later
-    at (Refused c) e none later = at_once n (line ∷ part ∷ parts) free (inr (none, c, e))
+    at (Refused c) e none later = at_once n (line ∷ part ∷ parts) free (inr (none, (c, e)))
 
     by : (v : Bool) → is_steps line ≡ v → View (n + 1) (part ∷ parts) → View n (line ∷ part ∷ parts)
     by true e later = at_once n (line ∷ part ∷ parts) free (inl e)
