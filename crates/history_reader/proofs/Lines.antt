@@ -14,9 +14,9 @@ use Rattle.history_reader.specs.LineReading as spec
 use Rattle.history_reader.specs.LineReading.{Verdict, Good, Refused, words_of, line_verdict, words_verdict, stamped, is_stamp, is_same, is_numeral, stamp_cause}
 use Rattle.history_reader.specs.Spelling.{IsGood, IsEntryLine}
 use Rattle.history_reader.proofs.Clean.{IsFree, AreFree, free_both, free_numeral, parts_back, parts_free, parts_keep}
-use Rattle.history_reader.proofs.Entries.{FitsEntry, entry_bare, entry_good, entry_sound, entry_told}
+use Rattle.history_reader.proofs.EntryWords.{FitsEntry, entry_bare, entry_good, entry_sound, entry_told}
 use Rattle.history_reader.proofs.Exact.{AreBare, IsBare}
-use Rattle.history_reader.proofs.Fields.{number_exact, bare_numeral}
+use Rattle.history_reader.proofs.FieldWords.{number_exact, bare_numeral}
 use Rattle.history_reader.proofs.Values.{numeral_is, numeral_spelled, same_numeral, value}
 
 -- a line without its newline

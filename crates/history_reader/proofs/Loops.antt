@@ -10,7 +10,7 @@ use Rattle.net_base.specs.Numeral.{numeral}
 use Rattle.history_reader.specs.Fields.{Words, Read, cut_texts}
 use Rattle.history_reader.specs.ReplyRows as spec
 use Rattle.history_reader.proofs.Parts.{some_word}
-use Rattle.history_reader.proofs.Replies.{call_sound, call_spelled, call_told, at}
+use Rattle.history_reader.proofs.ReplyWords.{call_sound, call_spelled, call_told, at}
 
 -- Lines of a text.
 

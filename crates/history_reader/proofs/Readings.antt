@@ -13,8 +13,8 @@ use Rattle.history_reader.specs.Spelling.{Begins, IsBad, IsBadLine, IsBadSummary
 use Rattle.history_reader.specs.SummaryText.{AreLinesFrom, IsLineOf}
 use Rattle.history_reader.specs.Wide.{IsWide}
 use Rattle.history_reader.proofs.Clean.{IsFree, AreFree, first_part, one_part, parts_back, parts_free}
-use Rattle.history_reader.proofs.Entries.{entry_bare}
-use Rattle.history_reader.proofs.Fields.{bare, bare_numeral}
+use Rattle.history_reader.proofs.EntryWords.{entry_bare}
+use Rattle.history_reader.proofs.FieldWords.{bare, bare_numeral}
 use Rattle.history_reader.proofs.Lines.{IsRefused, Other, Told, body_free, body_of, line_other, line_refused, line_sound, line_told, whole_line}
 use Rattle.history_reader.proofs.Parts.{some_word}
 use Rattle.history_reader.proofs.Summaries.{FormExact, both_exact, end_exact, no_steps, steps_exact}

@@ -16,9 +16,9 @@ use Rattle.history_reader.specs.Fields.{Words}
 use Rattle.history_reader.specs.LineReading.{behind_end, behind_number, both_passed, end_passed, is_both, is_end, is_end_word, is_numeral, is_steps, is_whole, steps_passed, words_of}
 use Rattle.history_reader.specs.SummaryText.{IsBothLine, IsEndLine, IsEndWord, IsStepsLine}
 use Rattle.history_reader.proofs.Clean.{IsFree, free_both, free_numeral}
-use Rattle.history_reader.proofs.Entries.{word_sound}
+use Rattle.history_reader.proofs.EntryWords.{word_sound}
 use Rattle.history_reader.proofs.Exact.{AreBare, IsBare}
-use Rattle.history_reader.proofs.Fields.{bare, bare_numeral, free, no_word}
+use Rattle.history_reader.proofs.FieldWords.{bare, bare_numeral, free, no_word}
 use Rattle.history_reader.proofs.Lines.{joined_spaced, spaced_free, bare_free, words_back}
 use Rattle.history_reader.proofs.Values.{numeral_is, numeral_spelled, value}
 

@@ -21,10 +21,10 @@ use Rattle.history_reader.specs.Fields.{Words, Read, Reader, actor, behind, both
 use Rattle.history_reader.specs.ReplyRows.{reply_of}
 use Rattle.history_reader.specs.Spelling.{IsGood}
 use Rattle.history_reader.specs.Wide.{IfAny, IsLong, IsNarrow, IsOctet, IsPlace, IsWideActor, IsWideBody, IsWideEntry, IsWideHeader}
-use Rattle.history_reader.proofs.Events.{FitsEvent, equals, event_back, event_sound, plain_event}
+use Rattle.history_reader.proofs.EventWords.{FitsEvent, equals, event_back, event_sound, plain_event}
 use Rattle.history_reader.proofs.Exact.{AreBare, AreRows, Exact, IsRow, bare_both, exact_both, exact_made, made_of, made_sound, made_told, row, rows_sound}
-use Rattle.history_reader.proofs.Fields.{actor_exact, actors, bare, dashes, kind_exact, kinds, long_exact, long_or_dash_exact, narrow_exact, numbers, octet_exact, place_exact, places}
-use Rattle.history_reader.proofs.Replies.{Ends, FitsReply, reply_back, reply_sound}
+use Rattle.history_reader.proofs.FieldWords.{actor_exact, actors, bare, dashes, kind_exact, kinds, long_exact, long_or_dash_exact, narrow_exact, numbers, octet_exact, place_exact, places}
+use Rattle.history_reader.proofs.ReplyWords.{Ends, FitsReply, reply_back, reply_sound}
 
 -- Headers.
 

@@ -14,8 +14,8 @@ use Rattle.history_reader.specs.Fields.{Words, Read, Reader, both, called, file,
 use Rattle.history_reader.specs.Wide.{IfAny, IsLong, IsNarrow, IsOctet, IsPlace, IsPort, IsWideEvent}
 use Rattle.history_reader.proofs.Clean.{clean_free, free_clean}
 use Rattle.history_reader.proofs.Exact.{AreBare, AreRows, Back, Exact, IsBare, IsRow, back, bare_row, either_row, exact_both, made_of, made_told, paired, row, rows_sound}
-use Rattle.history_reader.proofs.Fields.{IsNamed, bare, dashes, file_exact, files, ip_or_star_exact, ip_stars, long_exact, mode_exact, modes, narrow_exact, narrow_or_dash_exact, numbers, octet_exact, place_exact, places, port_exact, port_or_dash_exact, port_or_star_exact, stars}
-use Rattle.history_reader.proofs.Texts.{hexes, no_file, text_exact}
+use Rattle.history_reader.proofs.FieldWords.{IsNamed, bare, dashes, file_exact, files, ip_or_star_exact, ip_stars, long_exact, mode_exact, modes, narrow_exact, narrow_or_dash_exact, numbers, octet_exact, place_exact, places, port_exact, port_or_dash_exact, port_or_star_exact, stars}
+use Rattle.history_reader.proofs.TextWords.{hexes, no_file, text_exact}
 
 -- Fields of rows.
 

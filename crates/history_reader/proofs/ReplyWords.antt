@@ -16,8 +16,8 @@ use Rattle.history_reader.specs.Fields.{Words, Read, Reader, behind, both, cause
 use Rattle.history_reader.specs.ReplyRows as spec
 use Rattle.history_reader.specs.Wide.{AreWideCalls, IsLong, IsNarrow, IsPlace, IsWideReply}
 use Rattle.history_reader.proofs.Exact.{AreBare, AreRows, Back, Exact, IsBare, IsRow, back, bare_row, exact_both, made_of, made_sound, made_told, row, rows_sound}
-use Rattle.history_reader.proofs.Fields.{bare, bare_numeral, cause_exact, causes, long_exact, narrow_exact, no_mark_alone, numbers, place_exact, places, state_exact, states}
-use Rattle.history_reader.proofs.Texts.{AreTexts, hexes, line_hexes, text_exact, texts_exact}
+use Rattle.history_reader.proofs.FieldWords.{bare, bare_numeral, cause_exact, causes, long_exact, narrow_exact, no_mark_alone, numbers, place_exact, places, state_exact, states}
+use Rattle.history_reader.proofs.TextWords.{AreTexts, hexes, line_hexes, text_exact, texts_exact}
 
 -- Fields of rows.
 
