@@ -780,3 +780,25 @@ end_on bytes h rest is none = is ∙ ap (λ ws. onto h (reading_from (length h) 
 pub unended_on : (bytes : List ℕ) (h : List Entry) (rest : List ℕ) → reading bytes ≡ onto h (reading_from (length h) (lines_at rest)) → lines_at rest ≡ rest ∷ [] → rest ≢ [] → reading bytes ≡ Bad (length h + 1) 41
 unended_on bytes h [] is at some = absurd (some refl)
 unended_on bytes h (b ∷ rest) is at some = is ∙ ap (λ ps. onto h (reading_from (length h) ps)) at
+
+-- Steps of the reading of a summary.
+
+pub passed_on : (test : List ℕ → Bool) (text line rest : List ℕ) → lines_at text ≡ line ∷ lines_at rest → test line ≡ true → passed test (lines_at text) ≡ Some (lines_at rest)
+passed_on test text line rest at is = ap (passed test) at ∙ cond_line test line (lines_at rest) (some_word 10 rest) ∙ ap (λ v. if v then Some (lines_at rest) else None) is
+
+more_lines : (n : ℕ) (text : List ℕ) → text ≢ [] → fault_from [] n (lines_at text) ≡ Some (n + 1)
+more_lines n text some = by (last_parts n text (lines_at text) refl)
+  where
+    by : LastParts n text (lines_at text) → fault_from [] n (lines_at text) ≡ Some (n + 1)
+    by (inl t) = absurd (some t.0)
+    by (inr t) = t.0
+
+pub four_passed : (n : ℕ) (text one two three four : List ℕ) → passed is_steps (lines_at text) ≡ Some (lines_at one) → passed (is_both (codes "messages")) (lines_at one) ≡ Some (lines_at two)
+    → passed (is_both (codes "bytes")) (lines_at two) ≡ Some (lines_at three) → passed is_end (lines_at three) ≡ Some (lines_at four) → four ≢ [] → fault_from summary_tests n (lines_at text) ≡ Some (n + 4 + 1)
+four_passed n text one two three four a b c d some =
+    let same : n + 1 + 1 + 1 + 1 + 1 ≡ n + 4 + 1 = omega arith in
+    ap (λ o. goes_on n o (fault_from (forms_from (suc zero)) (n + 1))) a
+    ∙ ap (λ o. goes_on (n + 1) o (fault_from (forms_from (suc (suc zero))) (n + 1 + 1))) b
+    ∙ ap (λ o. goes_on (n + 1 + 1) o (fault_from (forms_from (suc (suc (suc zero)))) (n + 1 + 1 + 1))) c
+    ∙ ap (λ o. goes_on (n + 1 + 1 + 1) o (fault_from [] (n + 1 + 1 + 1 + 1))) d
+    ∙ more_lines (n + 1 + 1 + 1 + 1) four some ∙ ap (λ (m : ℕ). Some m) same
