@@ -8,7 +8,10 @@ use Rattle.net_base.specs.declared.history.Entry.{Entry}
 use Rattle.net_base.specs.Addresses.{parts_at}
 use Rattle.net_base.specs.Plain.{IsPlain}
 use Rattle.net_base.specs.Transcript.{entry_words, line_of, lines_from}
-use Rattle.history_reader.specs.LineReading.{Bad, Good, Parts, Reading, Refused, Verdict, Whole, ending, fault_from, goes_on, is_both, is_end, is_steps, judged, line_verdict, onto, passed, reading, reading_from, summary_tests, summed}
+use Rattle.std.specs.Prelude.{Result, IfErr}
+use Rattle.history_reader.specs.declared.fault.LineError.{LineError}
+use Rattle.history_reader.specs.declared.fault.LineError.TheVariants as error
+use Rattle.history_reader.specs.LineReading.{TellsFault, TellsReading, TellsVerdict, Bad, Good, Parts, Reading, Refused, Verdict, Whole, ending, fault_from, goes_on, is_both, is_end, is_steps, judged, line_verdict, onto, passed, reading, reading_from, summary_tests, summed}
 use Rattle.history_reader.specs.Spelling.{Begins, IsBad, IsBadLine, IsBadSummary, IsBehind, IsEntryLine, IsGood, IsSummary, Spells}
 use Rattle.history_reader.specs.SummaryText.{AreLinesFrom, IsLineOf}
 use Rattle.history_reader.specs.Wide.{IsWide}
@@ -802,3 +805,14 @@ four_passed n text one two three four a b c d some =
     ∙ ap (λ o. goes_on (n + 1 + 1) o (fault_from (forms_from (suc (suc (suc zero)))) (n + 1 + 1 + 1))) c
     ∙ ap (λ o. goes_on (n + 1 + 1 + 1) o (fault_from [] (n + 1 + 1 + 1 + 1))) d
     ∙ more_lines (n + 1 + 1 + 1 + 1) four some ∙ ap (λ (m : ℕ). Some m) same
+
+-- text behind a summary
+pub fifth_bad : {A : Type 0} (r : Result A LineError) (n : ℕ) (text one two three four : List ℕ) → passed is_steps (lines_at text) ≡ Some (lines_at one) → passed (is_both (codes "messages")) (lines_at one) ≡ Some (lines_at two)
+    → passed (is_both (codes "bytes")) (lines_at two) ≡ Some (lines_at three) → passed is_end (lines_at three) ≡ Some (lines_at four) → four ≢ [] → IfErr r (λ e. TellsFault e (Some (n + 4 + 1)))
+    → IfErr r (λ e. TellsFault e (fault_from summary_tests n (lines_at text)))
+fifth_bad r n text one two three four a b c d some bad = subst (λ o. IfErr r (λ e. TellsFault e o)) (sym (four_passed n text one two three four a b c d some)) bad
+
+pub refused_tells : (error : LineError) (bytes : List ℕ) (h : List Entry) (rest line behind : List ℕ) → reading bytes ≡ onto h (reading_from (length h) (lines_at rest)) → lines_at rest ≡ line ∷ lines_at behind → is_steps line ≡ false
+    → TellsVerdict error (length h) (line_verdict (length h) line) → TellsReading error (reading bytes)
+refused_tells error.Memory bytes h rest line behind is at none bad = tt
+refused_tells (error.Bad l c) bytes h rest line behind is at none bad = refused_on bytes h rest line behind c l is at none bad.1 bad.0
