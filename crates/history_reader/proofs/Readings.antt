@@ -816,3 +816,6 @@ pub refused_tells : (error : LineError) (bytes : List ℕ) (h : List Entry) (res
     → TellsVerdict error (length h) (line_verdict (length h) line) → TellsReading error (reading bytes)
 refused_tells error.Memory bytes h rest line behind is at none bad = tt
 refused_tells (error.Bad l c) bytes h rest line behind is at none bad = refused_on bytes h rest line behind c l is at none bad.1 bad.0
+
+pub no_text : (text : List ℕ) (v : Bool) → v ≡ (length text == 0) → v ≡ false → text ≢ []
+no_text text v told none is = false≢true (sym none ∙ told ∙ ap (λ (ws : List ℕ). length ws == 0) is)
