@@ -21,7 +21,7 @@ pub fn run_over<R: Threads + Wait + Sync, G: Gate + Sync>(
     input: &[u8],
     gate: &G,
 ) -> Result<Answer, AllocError>
-    requires limit { length input.now ≤ input_limit }
+    requires limit { length input.now ≤ input_limit (Run workers) }
     requires some { 0 < workers }
     requires few { workers ≤ 16 }
     ensures { IfOk result (λ answer. IsAnswer (Run workers) input.now answer) }
