@@ -2,8 +2,8 @@
 use Rattle.std.proofs.Common.{◌≡◌, ℕ, suc, ◌+◌, ◌*◌, ◌-◌, ◌^◌, ◌<◌, List, [], ◌∷◌, sum, refl, sym, ap, ◌∙◌, arith}
 use Rattle.std.proofs.lemmas.Bool.Decides.{nat_tests}
 use Rattle.std.proofs.lemmas.List.Sums.{sum_by-cons}
-use Rattle.net_base.specs.Sum.{words, add_around, total_of, sum_of}
-use Rattle.net_base.proofs.WireNumbers.{IsBytes}
+use Rattle.wire_text.specs.Sum.{words, add_around, total_of, sum_of}
+use Rattle.wire_text.proofs.WireNumbers.{IsBytes}
 use Rattle.ip_wire.specs.Carries.{around}
 
 -- one more word in front

@@ -1,11 +1,11 @@
 -- The sum of a header by its parts before and after the sum field.
 use Rattle.std.proofs.Common.{◌≡◌, ℕ, ◌+◌, ◌-◌, ◌≤◌, List, length, take, drop, sum, ap, ◌∙◌, arith}
 use Rattle.std.proofs.lemmas.List.{length-take, take-take, drop-take}
-use Rattle.net_base.specs.Bytes.{blanked}
-use Rattle.net_base.specs.Sum.{words}
-use Rattle.net_base.specs.Ipv4.{header_sum}
-use Rattle.net_base.proofs.WireNumbers.{IsBytes}
-use Rattle.net_base.proofs.WireSums.{IsBytes-blanked, IsBytes-take, sum-words-blanked}
+use Rattle.wire_text.specs.Bytes.{blanked}
+use Rattle.wire_text.specs.Sum.{words}
+use Rattle.wire_text.specs.Ipv4.{header_sum}
+use Rattle.wire_text.proofs.WireNumbers.{IsBytes}
+use Rattle.wire_text.proofs.WireSums.{IsBytes-blanked, IsBytes-take, sum-words-blanked}
 use Rattle.ip_wire.specs.Carries.{around}
 use Rattle.ip_wire.proofs.Carrying.{sum_of-words}
 

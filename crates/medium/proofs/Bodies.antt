@@ -6,14 +6,14 @@ use Rattle.net_base.specs.declared.il.IlMsg.{IlMsg}
 use Rattle.net_base.specs.declared.packet.Body.{Body}
 use Rattle.net_base.specs.declared.packet.Body.TheVariants as body
 use Rattle.net_base.specs.declared.packet.Packet.{Packet}
-use Rattle.net_base.specs.Ipv4.{Ipv4, IsHeader, SpellsIpv4, header_of, payload_of}
-use Rattle.net_base.specs.UdpWire.{SpellsUdp, address, dport_of, udp_text}
-use Rattle.net_base.specs.IlWire.{SpellsIl, il_dport, message_of}
-use Rattle.net_base.specs.Datagram.{IsPacket, between, il_packet, udp_packet, packet_in, header_for, body_bytes, protocol, packet_of}
-use Rattle.net_base.proofs.Ipv4Laws.{spells_header, spells_payload}
-use Rattle.net_base.proofs.IlLaws.{spells_sport, spells_dport, spells_message}
-use Rattle.net_base.proofs.UdpLaws.{spells_fields}
-use Rattle.net_base.proofs.DatagramLaws.{spells_datagram, spells_il_body, spells_udp_body}
+use Rattle.wire_text.specs.Ipv4.{Ipv4, IsHeader, SpellsIpv4, header_of, payload_of}
+use Rattle.wire_text.specs.UdpWire.{SpellsUdp, address, dport_of, udp_text}
+use Rattle.wire_text.specs.IlWire.{SpellsIl, il_dport, message_of}
+use Rattle.wire_text.specs.Datagram.{IsPacket, between, il_packet, udp_packet, packet_in, header_for, body_bytes, protocol, packet_of}
+use Rattle.wire_text.proofs.Ipv4Laws.{spells_header, spells_payload}
+use Rattle.wire_text.proofs.IlLaws.{spells_sport, spells_dport, spells_message}
+use Rattle.wire_text.proofs.UdpLaws.{spells_fields}
+use Rattle.wire_text.proofs.DatagramLaws.{spells_datagram, spells_il_body, spells_udp_body}
 use Rattle.medium.specs.Spelled.{HasBody, IsSpelled}
 
 -- the header and the body of a packet make it one that has a spelling

@@ -11,10 +11,10 @@ use Rattle.net_base.specs.declared.packet.Packet.{Packet}
 use Rattle.net_base.specs.declared.reply.Reply.TheVariants as reply
 use Rattle.net_base.specs.declared.world.Fate.{Fate}
 use Rattle.net_base.specs.declared.world.Fate.TheVariants.{Deliver, Lose, Twice, Later}
-use Rattle.net_base.specs.Datagram.{IsPacket, body_bytes, header_for, packet_of, spelling}
-use Rattle.net_base.specs.Ipv4.{Ipv4, flagged_bytes, summed}
+use Rattle.wire_text.specs.Datagram.{IsPacket, body_bytes, header_for, packet_of, spelling}
+use Rattle.wire_text.specs.Ipv4.{Ipv4, flagged_bytes, summed}
 use Rattle.net_base.specs.Medium.{Medium, datagram_length, fate_of, held_of, lays, now_of, puts}
-use Rattle.net_base.proofs.DatagramLaws.{packet_again}
+use Rattle.wire_text.proofs.DatagramLaws.{packet_again}
 use Rattle.medium.specs.declared.frame.Frame.{Frame}
 use Rattle.medium.specs.OnMedium.{OnMedium, AllSpelled, copies_now, copy_held, medium_of, taken_of, with_frame}
 use Rattle.medium.specs.Spelled.{IsSpelled}

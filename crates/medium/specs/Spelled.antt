@@ -1,7 +1,7 @@
 -- Bytes that a packet spells.
 use Rattle.std.specs.Prelude.{◌≡◌, ◌<◌, ◌^◌, ℕ, List}
 use Rattle.net_base.specs.declared.packet.Packet.{Packet}
-use Rattle.net_base.specs.Datagram.{IsBody, IsPacket, packet_of, spelling}
+use Rattle.wire_text.specs.Datagram.{IsBody, IsPacket, packet_of, spelling}
 
 -- these are the bytes of the packet that they read as
 abbrev pub IsSpelled : List ℕ → Type 0

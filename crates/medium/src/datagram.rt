@@ -1,6 +1,6 @@
 //! Packets as bytes and back.
 ghost use Rattle.std.specs.Prelude.{◌≡◌, ◌+◌, ◌^◌, ◌<◌, length, IfOk, OnOk};
-ghost use Rattle.net_base.specs.Datagram.{IsPacket, body_bytes, header_for, packet_of, spelling};
+ghost use Rattle.wire_text.specs.Datagram.{IsPacket, body_bytes, header_for, packet_of, spelling};
 ghost use Rattle.net_base.specs.Medium.{datagram_length};
 ghost use Rattle.ip_wire.specs.Headers.{view};
 ghost use Rattle.medium.specs.Spelled.{HasBody, IsSpelled};

@@ -3,7 +3,7 @@ ghost use Rattle.std.specs.Prelude.{◌≡◌, ℕ, ◌+◌, ◌^◌, ◌<◌, �
 ghost use Rattle.std.specs.VecDeque.{deque_capacity, deque_len};
 ghost use Rattle.medium.specs.OnFates.{next_number};
 ghost use Rattle.net_base.specs.declared.reply.Reply.TheVariants as reply;
-ghost use Rattle.net_base.specs.Datagram.{spelling};
+ghost use Rattle.wire_text.specs.Datagram.{spelling};
 ghost use Rattle.net_base.specs.Medium.{datagram_length, medium_leaves, puts, takes};
 ghost use Rattle.net_base.specs.World.{is_medium};
 ghost use Rattle.medium.specs.OnMedium.{IsPending, medium_of, taken_of, with_frame};

@@ -4,7 +4,7 @@ use Rattle.std.specs.List.{list_any}
 use Rattle.net_base.specs.declared.ndb.NdbPair.{NdbPair}
 use Rattle.net_base.specs.NdbText.{is_white, is_percent, is_zero, begins, is_empty, Word, words_of, pair_of, goes_on}
 use Rattle.net_base.specs.NdbBundle.{cause, causes_of, least, is_nameless, is_file_line}
-use Rattle.net_base.proofs.NdbFiles.{is_empty-map}
+use Rattle.ndb_text.proofs.NdbFiles.{is_empty-map}
 use Rattle.ndb_reader.specs.declared.words.Words.{Words}
 use Rattle.ndb_reader.specs.Told.{AreWords}
 

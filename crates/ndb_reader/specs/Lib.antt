@@ -3,4 +3,4 @@ pub mod Told
 pub mod Written
 pub use Rattle.net_base.specs.NdbText
 pub use Rattle.net_base.specs.NdbBundle
-pub use Rattle.net_base.specs.NdbSpelling
+pub use Rattle.ndb_text.specs.NdbSpelling

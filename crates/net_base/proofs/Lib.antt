@@ -1,13 +1,2 @@
-pub mod DatagramLaws
-pub mod IlLaws
-pub mod Ipv4Laws
 pub mod Laid
-pub mod WireNumbers
-pub mod WireSums
-pub mod UdpLaws
-pub mod NdbLists
-pub mod NdbPlain
-pub mod NdbComplete
-pub mod NdbSound
-pub mod NdbFiles
 pub mod Texts

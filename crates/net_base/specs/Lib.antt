@@ -18,12 +18,6 @@ pub mod Addresses
 pub mod Cs
 pub mod Networks
 pub mod Search
-pub mod Bytes
-pub mod Datagram
-pub mod IlWire
-pub mod Ipv4
-pub mod Sum
-pub mod UdpWire
 pub mod Draws
 pub mod Same
 pub mod Routes
@@ -44,4 +38,3 @@ pub mod World
 pub mod Written
 pub mod Transcript
 pub mod Summary
-pub mod NdbSpelling

@@ -4,7 +4,6 @@
 mod cs_law;
 mod law;
 mod ndb_law;
-mod wire_law;
 mod world_law;
 
 pub use cs_law::no_line_stands_twice;
@@ -100,7 +99,7 @@ pub use net_base::same_actor;
 pub use prefix_law::a_pair_has_one_holder;
 pub use prefix_law::moments_rise;
 pub use prefix_law::prefix_law;
-pub use wire_law::packets_are_read;
+pub use wire_text::packets_are_read;
 pub use worked_cases::a_call_has_two_ends;
 pub use worked_cases::a_call_is_refused;
 pub use worked_cases::a_datagram_goes;

@@ -1,5 +1,5 @@
 use Rattle.std.proofs.Common.{◌∙◌, arith}
-use Rattle.net_base.proofs.IlLaws.{IsSound, spells_sound, spells_message, spells_sport, spells_dport, spells_read}
+use Rattle.wire_text.proofs.IlLaws.{IsSound, spells_sound, spells_message, spells_sport, spells_dport, spells_read}
 use Rattle.il_header.proofs.message.decode_il.Goals as goal
 
 pub returns-then-bytes-lt-HEADER-clause-only : goal.returns-then-bytes-lt-HEADER-clause-only

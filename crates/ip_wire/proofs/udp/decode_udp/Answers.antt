@@ -1,6 +1,6 @@
 use Rattle.std.proofs.Common.{◌≡◌, ◌⊎◌, arith, sym, ◌∙◌, inl, inr}
-use Rattle.net_base.specs.UdpWire.{address, sum_field, received_sum}
-use Rattle.net_base.proofs.UdpLaws.{IsSound, spells_sound, spells_fields, spells_read}
+use Rattle.wire_text.specs.UdpWire.{address, sum_field, received_sum}
+use Rattle.wire_text.proofs.UdpLaws.{IsSound, spells_sound, spells_fields, spells_read}
 use Rattle.ip_wire.proofs.udp.decode_udp.Goals as goal
 use Rattle.ip_wire.proofs.udp.decode_udp.Goals.{else-field-ne0-via-then-field-ne0+else-field-sum_between, else-field-ne0-via-else-field-ne0}
 

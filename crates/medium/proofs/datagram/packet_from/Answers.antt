@@ -1,7 +1,7 @@
 use Rattle.ip_wire.specs.Headers.{view}
 use Rattle.il_header.specs.Views.{message_in}
-use Rattle.net_base.specs.Ipv4.{SpellsIpv4}
-use Rattle.net_base.specs.Datagram.{header_for, body_bytes, packet_of}
+use Rattle.wire_text.specs.Ipv4.{SpellsIpv4}
+use Rattle.wire_text.specs.Datagram.{header_for, body_bytes, packet_of}
 use Rattle.medium.proofs.Bodies.{HoldsIl, HoldsUdp, ipv4_in, il_in, udp_in, ok_of, il_read, udp_read}
 use Rattle.medium.proofs.datagram.packet_from.Goals as goal
 use Rattle.medium.proofs.datagram.packet_from.Goals.{then-ip-eq-IL+in_ok-text, else-ip-eq-IL+in_ok-from_slice}

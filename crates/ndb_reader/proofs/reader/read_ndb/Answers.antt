@@ -15,7 +15,7 @@ use Rattle.net_base.specs.NdbBundle.{least, causes_of, bad_line, reading, is_fil
 use Rattle.ndb_reader.specs.Told.{file_seen}
 use Rattle.ndb_reader.proofs.Headed.{any_part}
 use Rattle.ndb_reader.proofs.Reading.{Next, read-none, read-bad, read-blank, read-on, read-start, read-file, read-all, reading-is, tells-of, moved}
-use Rattle.net_base.specs.NdbSpelling.{ReadsBundle}
+use Rattle.ndb_text.specs.NdbSpelling.{ReadsBundle}
 use Rattle.ndb_reader.proofs.Bundles.{bundle-is-spelled}
 use Rattle.ndb_reader.proofs.reader.read_ndb.Goals as goal
 

@@ -8,11 +8,11 @@ use Rattle.std.proofs.lemmas.List.Folds.{list_any-append}
 use Rattle.net_base.specs.declared.ndb.NdbPair.{NdbPair}
 use Rattle.net_base.specs.NdbText.{is_white, is_percent, begins, begins_with, is_empty, lines_of, Word, words_behind, words_of, pair_of, pairs_of, starts, goes_on, going_on, tuples_of}
 use Rattle.net_base.specs.NdbBundle.{is_file_line, is_nameless, has_tuple, cause, causes_of, least, told, first_bad, bad_line}
-use Rattle.net_base.specs.NdbSpelling.{ReadsWords, ReadsLine, ReadsTuples, ReadsFile}
-use Rattle.net_base.proofs.NdbPlain.{or_false, or_false_first, or_false_rest}
-use Rattle.net_base.proofs.NdbLists.{after_last-none, some_none}
-use Rattle.net_base.proofs.NdbSound.{Faultless, or_true, sound, line_reads}
-use Rattle.net_base.proofs.NdbComplete.{complete, cons_none, false_true}
+use Rattle.ndb_text.specs.NdbSpelling.{ReadsWords, ReadsLine, ReadsTuples, ReadsFile}
+use Rattle.ndb_text.proofs.NdbPlain.{or_false, or_false_first, or_false_rest}
+use Rattle.ndb_text.proofs.NdbLists.{after_last-none, some_none}
+use Rattle.ndb_text.proofs.NdbSound.{Faultless, or_true, sound, line_reads}
+use Rattle.ndb_text.proofs.NdbComplete.{complete, cons_none, false_true}
 
 -- Lines.
 

@@ -4,9 +4,9 @@ use Rattle.net_base.specs.declared.address.Addr.{Addr}
 use Rattle.net_base.specs.declared.packet.Body.{Body}
 use Rattle.net_base.specs.declared.packet.Body.TheVariants as body
 use Rattle.net_base.specs.declared.packet.Packet.{Packet}
-use Rattle.net_base.specs.Ipv4.{Ipv4, ipv4_bytes, header_of, payload_of}
-use Rattle.net_base.specs.UdpWire.{udp_bytes, sport_of, dport_of, udp_text}
-use Rattle.net_base.specs.IlWire.{IsMessage, il_bytes, il_sport, il_dport, message_of}
+use Rattle.wire_text.specs.Ipv4.{Ipv4, ipv4_bytes, header_of, payload_of}
+use Rattle.wire_text.specs.UdpWire.{udp_bytes, sport_of, dport_of, udp_text}
+use Rattle.wire_text.specs.IlWire.{IsMessage, il_bytes, il_sport, il_dport, message_of}
 
 -- the protocol's number
 abbrev pub protocol : Body → ℕ

@@ -6,10 +6,10 @@ use Rattle.std.proofs.lemmas.Bool.Decides.{nat_tests}
 use Rattle.net_base.specs.declared.ndb.NdbPair.{NdbPair}
 use Rattle.net_base.specs.NdbText.{is_white, is_hash, is_equals, is_quote, begins, is_empty, Word, plain_word, quoted_word, word_of, words_behind, pair_of}
 use Rattle.net_base.specs.NdbBundle.{is_nameless}
-use Rattle.net_base.proofs.NdbPlain.{or_false, or_false_first, or_false_rest, one_add, none-take, none-drop, before_first-cons, words-white, words-word, words-hash}
-use Rattle.net_base.proofs.NdbLists.{before_first-none}
-use Rattle.net_base.specs.NdbSpelling.{None_of, IsAttr, alone, plain, quoted, IsWord, ReadsWords}
-use Rattle.net_base.proofs.NdbSound.{Stops, after-none, after-cons, drop-two, words-passed, Faultless, first-way}
+use Rattle.ndb_text.proofs.NdbPlain.{or_false, or_false_first, or_false_rest, one_add, none-take, none-drop, before_first-cons, words-white, words-word, words-hash}
+use Rattle.ndb_text.proofs.NdbLists.{before_first-none}
+use Rattle.ndb_text.specs.NdbSpelling.{None_of, IsAttr, alone, plain, quoted, IsWord, ReadsWords}
+use Rattle.ndb_text.proofs.NdbSound.{Stops, after-none, after-cons, drop-two, words-passed, Faultless, first-way}
 
 -- Parts of bytes.
 

@@ -2,7 +2,7 @@
 use Rattle.std.proofs.Common.{◌≡◌, ℕ, zero, suc, ◌+◌, ◌-◌, ◌<◌, Bool, false, not, ◌||◌, List, [], ◌∷◌, length, drop, get_or, ap, arith, Some, None, refl}
 use Rattle.std.specs.List.{list_any, before_first, after_last, suffix_len}
 use Rattle.std.proofs.lemmas.List.Sums.{suffix_len_is}
-use Rattle.net_base.proofs.NdbPlain.{or_false, or_false_first, or_false_rest, one_add}
+use Rattle.ndb_text.proofs.NdbPlain.{or_false, or_false_first, or_false_rest, one_add}
 
 pub none-weaker : {X : Type 0} (p q : X → Bool) (xs : List X) → ((x : X) → p x ≡ false → q x ≡ false) → list_any p xs ≡ false → list_any q xs ≡ false
 none-weaker p q [] f h = refl

@@ -1,7 +1,7 @@
 //! A law of packets as bytes.
 ghost use Rattle.std.specs.Prelude.{◌≡◌};
 ghost use Rattle.net_base.specs.declared.packet.Packet.{Packet};
-ghost use Rattle.net_base.specs.Datagram.{IsPacket, packet_of, spelling};
+ghost use Rattle.wire_text.specs.Datagram.{IsPacket, packet_of, spelling};
 
 /// The bytes of a packet read back as the packet.
 pub fn packets_are_read()

@@ -6,9 +6,9 @@ use Rattle.std.proofs.lemmas.Bool.Decides.{nat_tests}
 use Rattle.net_base.specs.declared.ndb.NdbPair.{NdbPair}
 use Rattle.net_base.specs.NdbText.{is_white, is_hash, is_equals, is_quote, begins, is_empty, Word, plain_word, quoted_word, word_of, words_behind, pair_of, pairs_of}
 use Rattle.net_base.specs.NdbBundle.{is_nameless}
-use Rattle.net_base.proofs.NdbPlain.{or_false, or_false_first, or_false_rest, before_first-cons, words-white, words-word, words-hash}
-use Rattle.net_base.proofs.NdbLists.{before_first-none}
-use Rattle.net_base.specs.NdbSpelling.{None_of, IsAttr, Way, alone, plain, quoted, spelled, Suits, EndsWord, IsWord, IsWhite, IsComment, ReadsWords, ReadsLine}
+use Rattle.ndb_text.proofs.NdbPlain.{or_false, or_false_first, or_false_rest, before_first-cons, words-white, words-word, words-hash}
+use Rattle.ndb_text.proofs.NdbLists.{before_first-none}
+use Rattle.ndb_text.specs.NdbSpelling.{None_of, IsAttr, Way, alone, plain, quoted, spelled, Suits, EndsWord, IsWord, IsWhite, IsComment, ReadsWords, ReadsLine}
 
 -- Parts of bytes.
 

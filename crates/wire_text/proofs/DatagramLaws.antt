@@ -5,13 +5,13 @@ use Rattle.net_base.specs.declared.il.IlMsg.{IlMsg}
 use Rattle.net_base.specs.declared.packet.Body.{Body}
 use Rattle.net_base.specs.declared.packet.Body.TheVariants as body
 use Rattle.net_base.specs.declared.packet.Packet.{Packet}
-use Rattle.net_base.specs.Ipv4.{Ipv4, IsHeader, SpellsIpv4, flagged_bytes, payload_of}
-use Rattle.net_base.specs.UdpWire.{SpellsUdp, udp_bytes, dport_of, udp_text}
-use Rattle.net_base.specs.IlWire.{SpellsIl, il_bytes, il_dport, message_of}
-use Rattle.net_base.specs.Datagram.{IsBody, IsPacket, header_for, body_bytes, spelling, between, packet_in, packet_of}
-use Rattle.net_base.proofs.Ipv4Laws.{header_again, payload_again}
-use Rattle.net_base.proofs.UdpLaws.{spells_fields}
-use Rattle.net_base.proofs.IlLaws.{message_again, sport_again, dport_again}
+use Rattle.wire_text.specs.Ipv4.{Ipv4, IsHeader, SpellsIpv4, flagged_bytes, payload_of}
+use Rattle.wire_text.specs.UdpWire.{SpellsUdp, udp_bytes, dport_of, udp_text}
+use Rattle.wire_text.specs.IlWire.{SpellsIl, il_bytes, il_dport, message_of}
+use Rattle.wire_text.specs.Datagram.{IsBody, IsPacket, header_for, body_bytes, spelling, between, packet_in, packet_of}
+use Rattle.wire_text.proofs.Ipv4Laws.{header_again, payload_again}
+use Rattle.wire_text.proofs.UdpLaws.{spells_fields}
+use Rattle.wire_text.proofs.IlLaws.{message_again, sport_again, dport_again}
 
 -- the packet with these parts
 abbrev made : Addr → Addr → ℕ → ℕ → Body → Packet

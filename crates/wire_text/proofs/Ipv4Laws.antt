@@ -2,11 +2,11 @@
 use Rattle.std.proofs.Common.{◌≡◌, ℕ, ◌+◌, ◌*◌, ◌/◌, ◌%◌, ◌^◌, ◌<◌, ◌≤◌, Bool, true, false, List, ◌∷◌, ◌++◌, length, take, drop, get_or, ◌==◌, slice_index, refl, sym, ap, ◌∙◌, arith}
 use Rattle.std.proofs.lemmas.Bool.Decides.{nat_tests}
 use Rattle.std.proofs.lemmas.List.{length-drop}
-use Rattle.net_base.specs.Bytes.{word_at, blanked}
-use Rattle.net_base.specs.Sum.{sum_of}
-use Rattle.net_base.specs.Ipv4.{Ipv4, IsHeader, SpellsIpv4, flags, header_with, flagged_bytes, total_length, fragment, header_sum, header_of, payload_of}
-use Rattle.net_base.proofs.WireSums.{sum_of-fits}
-use Rattle.net_base.proofs.WireNumbers.{IsBytes, word_again, long_again, word_high, word_low, long_0, long_1, long_2, long_3, items, by_items}
+use Rattle.wire_text.specs.Bytes.{word_at, blanked}
+use Rattle.wire_text.specs.Sum.{sum_of}
+use Rattle.wire_text.specs.Ipv4.{Ipv4, IsHeader, SpellsIpv4, flags, header_with, flagged_bytes, total_length, fragment, header_sum, header_of, payload_of}
+use Rattle.wire_text.proofs.WireSums.{sum_of-fits}
+use Rattle.wire_text.proofs.WireNumbers.{IsBytes, word_again, long_again, word_high, word_low, long_0, long_1, long_2, long_3, items, by_items}
 
 -- ---- what was spelled is read
 

@@ -1,0 +1,81 @@
+"""Measures the gate: runs a command, `rt ci --anew` where none is given, and writes a table of the processor seconds that the prover took for
+each crate: its own proof, the proof of its tests, and its must-fail edits (with the check of the crate that they begin with).
+
+    python3 .ci/costs.py [COMMAND WORD..] > table.md
+
+It looks at /proc five times a second, so a row may lack a fifth of a second for each check. On a busy machine every check takes longer."""
+import os
+import subprocess
+import sys
+import time
+
+TICKS = os.sysconf("SC_CLK_TCK")
+KINDS = ("own", "tests", "edits")
+
+
+def read(path):
+    try:
+        with open(path, "rb") as file:
+            return file.read()
+    except OSError:
+        return b""
+
+
+def stat_of(pid):
+    """Name, parent, start and processor ticks of a process and of its children that have ended, or nothing."""
+    name, _, rest = read(f"/proc/{pid}/stat").rpartition(b")")
+    words = rest.split()
+    return (name.partition(b"(")[2], int(words[1]), words[19], sum(map(int, words[11:15]))) if len(words) > 19 else None
+
+
+def kind_of(words, folder):
+    """What a check of the prover is for."""
+    if "/rt-edit-" in folder:
+        return "edits"
+    return "tests" if "--test" in words else "own"
+
+
+def look(seen):
+    for pid in filter(str.isdigit, os.listdir("/proc")):
+        found = stat_of(pid)
+        above = found and found[0] == b"rattle" and stat_of(found[1])
+        if not above or above[0] == b"rattle":
+            continue
+        key = pid, found[2]
+        if key not in seen:
+            words = read(f"/proc/{pid}/cmdline").decode(errors="replace").split("\0")
+            try:
+                folder = os.readlink(f"/proc/{pid}/cwd")
+            except OSError:
+                continue
+            if "--crate-name" not in words:
+                continue
+            seen[key] = [words[words.index("--crate-name") + 1], kind_of(words, folder), 0]
+        seen[key][2] = found[3]
+
+
+def table(seen):
+    crates = {}
+    for name, kind, ticks in seen.values():
+        row = crates.setdefault(name, dict.fromkeys(KINDS, 0))
+        row[kind] += ticks / TICKS
+    total = {kind: sum(row[kind] for row in crates.values()) for kind in KINDS}
+    print("| Crate | Own proof | Its tests | Its edits | Together |\n|---|---|---|---|---|")
+    for name, row in sorted(crates.items(), key=lambda it: -sum(it[1].values())):
+        print(f"| {name} | " + " | ".join(f"{row[kind]:.0f}" if row[kind] else "" for kind in KINDS) + f" | {sum(row.values()):.0f} |")
+    minutes = [total[kind] / 60 for kind in KINDS]
+    print("| all, in minutes | " + " | ".join(f"{it:.0f}" for it in minutes) + f" | {sum(minutes):.0f} |")
+
+
+def main():
+    seen = {}
+    gate = subprocess.Popen(sys.argv[1:] or ["rt", "ci", "--anew"], stdout=sys.stderr)
+    while gate.poll() is None:
+        look(seen)
+        time.sleep(0.2)
+    table(seen)
+    sys.exit(gate.returncode)
+
+
+if __name__ == "__main__":
+    main()

@@ -1,0 +1,5 @@
+pub mod NdbComplete
+pub mod NdbFiles
+pub mod NdbLists
+pub mod NdbPlain
+pub mod NdbSound

@@ -1,0 +1,6 @@
+pub mod Bytes
+pub mod Datagram
+pub mod IlWire
+pub mod Ipv4
+pub mod Sum
+pub mod UdpWire
