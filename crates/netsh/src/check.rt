@@ -27,6 +27,7 @@ const MARK: &str = "%history";
 const SUMMARY_RULE: u32 = 9;
 
 /// The parts of an input that has a history.
+#[derive(Clone, Copy)]
 struct Parts<'a> {
     /// The text of the world.
     world: &'a [u8],
