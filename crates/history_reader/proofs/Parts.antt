@@ -1,0 +1,14 @@
+-- Parts of a text between the occurrences of a byte.
+use Rattle.std.proofs.Common.{◌≡◌, ℕ, ◌<◌, ◌==◌, List, [], ap, arith, length}
+use Rattle.std.proofs.lemmas.List.Splits.{length-slice_split}
+use Rattle.net_base.specs.Addresses.{parts_at}
+
+-- there is always a part
+some_part : (separator : ℕ) (text : List ℕ) → 0 < length (parts_at separator text)
+some_part separator text = let len = length-slice_split (λ byte. byte == separator) text in omega (arith, len)
+
+pub some_word : (separator : ℕ) (text : List ℕ) → parts_at separator text ≡ [] → ⊥
+some_word separator text e =
+    let some = some_part separator text in
+    let n = ap (λ (ws : List (List ℕ)). length ws) e in
+    absurd (omega (arith, some, n))

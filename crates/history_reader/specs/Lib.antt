@@ -1,0 +1,12 @@
+pub mod Fields
+pub mod EventRows
+pub mod ReplyRows
+pub mod EntryReading
+pub mod Wide
+pub mod SummaryText
+pub mod LineReading
+pub mod Spelling
+pub mod Told
+pub use Rattle.net_base.specs.Plain
+pub use Rattle.net_base.specs.Summary
+pub use Rattle.net_base.specs.Transcript
