@@ -4,6 +4,5 @@
 mod outcome;
 mod phases;
 
-pub use outcome::{Run, RunError};
+pub use outcome::{Run, RunEnd, RunError};
 pub use phases::run;
-pub use plain_runner::RunEnd;

@@ -1,8 +1,15 @@
 //! What a run leaves.
 
 use net_base::History;
-use plain_runner::RunEnd;
 use std::alloc::AllocError;
+
+/// How a run ends.
+#[derive(Clone, Copy, Debug, PartialEq, Eq)]
+pub enum RunEnd {
+    Done,
+    Stopped,
+    Limit,
+}
 
 /// A history, and how it ends.
 #[derive(Debug, Drop)]

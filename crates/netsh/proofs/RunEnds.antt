@@ -4,9 +4,9 @@ use Rattle.std.proofs.lemmas.Bool.{and_parts, true≢false}
 use Rattle.net_base.specs.declared.world.World.{World}
 use Rattle.net_base.specs.Calm.{calm, unfinished, limited, done, stopped}
 use Rattle.net_base.specs.Net.{Net}
-use Rattle.plain_runner.specs.Rounds.{EndsSo}
-use Rattle.plain_runner.specs.declared.rounds.RunEnd.{RunEnd}
-use Rattle.plain_runner.specs.declared.rounds.RunEnd.TheVariants as ended
+use Rattle.agenda.specs.Ending.{EndsSo}
+use Rattle.agenda.specs.declared.outcome.RunEnd.{RunEnd}
+use Rattle.agenda.specs.declared.outcome.RunEnd.TheVariants as ended
 use Rattle.netsh.specs.Built.{IsStatus}
 use Rattle.netsh.specs.Runs.{status_of}
 

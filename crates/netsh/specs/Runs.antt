@@ -1,7 +1,7 @@
 -- The status by how a run ends.
 use Rattle.std.specs.Prelude.{ℕ}
-use Rattle.plain_runner.specs.declared.rounds.RunEnd.{RunEnd}
-use Rattle.plain_runner.specs.declared.rounds.RunEnd.TheVariants as ended
+use Rattle.agenda.specs.declared.outcome.RunEnd.{RunEnd}
+use Rattle.agenda.specs.declared.outcome.RunEnd.TheVariants as ended
 
 abbrev pub status_of : RunEnd → ℕ
 status_of ended.Done = 0

@@ -12,13 +12,13 @@ ghost use Rattle.net_base.specs.Transcript.{history_text};
 ghost use Rattle.net_base.specs.World.{IsWorld};
 ghost use Rattle.netsh.specs.Built.{IsRun, IsSummed};
 ghost use Rattle.netsh.specs.Runs.{status_of};
-ghost use Rattle.plain_runner.specs.Rounds.{EndsSo};
+ghost use Rattle.agenda.specs.Ending.{EndsSo};
 
-use agenda::Run;
+use agenda::{Run, RunEnd};
 use cs_resolver::CsError;
 use net_base::{History, Lines, Octets, World};
 use net_model::{histories_grow, legal_histories_are_plain, legal_histories_keep_it};
-use plain_runner::{RunEnd, summary_of};
+use plain_runner::summary_of;
 use std::alloc::{AllocError, Global};
 use std::marker::Model;
 use std::thread::Threads;

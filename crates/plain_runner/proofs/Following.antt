@@ -16,7 +16,7 @@ use Rattle.net_base.specs.declared.reply.Reply.{Reply}
 use Rattle.net_base.specs.declared.world.World.{World}
 use Rattle.net_base.specs.ActorStep.{Step}
 use Rattle.net_base.specs.Actors.{Actor, actor_step}
-use Rattle.net_base.specs.Callers.{Caller as AnyCaller, IsScript, IsCourier, IsClock, IsNobody, caller_of, clock_number}
+use Rattle.net_base.specs.Callers.{Caller as AnyCaller, IsScript, IsCourier, IsClock, IsNobody, caller_of, caller_count, clock_number}
 use Rattle.net_base.specs.Calm.{is_ready}
 use Rattle.net_base.specs.Duties.{Duty}
 use Rattle.net_base.specs.Legal.{Follows, IsAsked, IsInTime, IsLegal, IsMove, IsNext, IsTimed, MayFollow, Shown, Shows, asked_by, cites_of, shown_by}
@@ -27,7 +27,7 @@ use Rattle.history_laws.proofs.Histories.{at_push, one_more}
 use Rattle.history_laws.proofs.Ordered.{Each}
 use Rattle.progress_law.proofs.Always.{steady_after}
 use Rattle.progress_law.proofs.Duties.{OfKind}
-use Rattle.plain_runner.specs.Followed.{Followed, Follows as FollowsOn}
+use Rattle.plain_runner.specs.Followed.{Followed, Follows as FollowsOn, GoesOnWith, IsOf}
 use Rattle.plain_runner.specs.Recording.{IsHistory}
 use Rattle.plain_runner.specs.Tracks.{Grows, IsBefore, IsReady, RecordedSo, Tracks}
 use Rattle.plain_runner.specs.Turns.{IsMoving, may_turn_by}
@@ -45,7 +45,7 @@ shown_in : (o : Option Outcome) (x y : Entry) → Shows o x → Shows o y → Is
 shown_in (Some o) x y left right is = left ∙ sym right
 shown_in None x y left right is = absurd (false≢true is)
 
-same_fields : (x y : Entry) → x.actor ≡ y.actor → x.caller ≡ y.caller → x.moment ≡ y.moment → x.event ≡ y.event → x.cites ≡ y.cites → shown_by x ≡ shown_by y
+pub same_fields : (x y : Entry) → x.actor ≡ y.actor → x.caller ≡ y.caller → x.moment ≡ y.moment → x.event ≡ y.event → x.cites ≡ y.cites → shown_by x ≡ shown_by y
     → x ≡ y
 same_fields x y actor caller moment e cites shown =
     let answer : x.reply ≡ y.reply = ap (λ (s : Shown). s.reply) shown in
@@ -93,14 +93,17 @@ last_follows : (w : World) (h : List Entry) (y : Entry) → IsLegal w (h ++ y �
 last_follows w h y legal = subst (λ (p : List Entry). MayFollow w p y) (take-append_seam h (y ∷ [])) (legal (length h) y (at_push h y))
 
 -- what was recorded is the entry
-followed_so : (w : World) (r new : Runner) (x y : Entry) → FollowsOn w r x → Tracks w new → new.history ≡ r.history ++ y ∷ [] → y.caller ≡ x.caller
-    → asked_by y ≡ asked_by x → Followed w (r.history ++ x ∷ []) new
+followed_so : (w : World) (r new : Runner) (x y : Entry) → FollowsOn w r x → Tracks w new → new.history.entries ≡ r.history.entries ++ y ∷ []
+    → y.caller ≡ x.caller → asked_by y ≡ asked_by x → GoesOnWith w r new x y
 followed_so w r new x y f tracks history caller asked = record {
-  tracks = tracks;
-  history_is = history
-      ∙ ap (λ (z : Entry). r.history ++ z ∷ [])
-      (same_ask w r.history (after w r.history) y x (last_follows w r.history y (subst (IsLegal w) history tracks.history.legal)) f.may caller asked);
+  followed = record { tracks = tracks; history_is = history ∙ ap (λ (z : Entry). r.history.entries ++ z ∷ []) same };
+  same = same;
 }
+  where
+    same : y ≡ x
+    same =
+        same_ask w r.history.entries (after w r.history.entries) y x
+        (last_follows w r.history.entries y (subst (IsLegal w) history tracks.history.legal)) f.may caller asked
 
 -- No move.
 
@@ -111,15 +114,15 @@ no_move x other = by_event x.actor x.event refl
     by_event name.Clock (event.Move m) is move = other m is
     by_event _ _ is move = move
 
-pub grown_follows : (w : World) (r new : Runner) (x : Entry) → FollowsOn w r x → ((m : ℕ) → x.event ≡ event.Move m → ⊥) → Grows w r new x.caller
-    → Followed w (r.history ++ x ∷ []) new
-grown_follows w r new x f other g =
-    followed_so w r new x g.entry f g.tracks g.history_is g.caller_is
-    (one_ask (caller_of w x.caller) (owed w r.history x.caller) (next w r.history x.caller) x g.entry (no_move x other)
-    (subst (λ (c : ℕ). IsAsked (owed w r.history c) (caller_of w c) (next w r.history c) g.entry) g.caller_is may.is_asked) f.may.is_asked)
+grown_follows : (w : World) (r new : Runner) (x y : Entry) → FollowsOn w r x → ((m : ℕ) → x.event ≡ event.Move m → ⊥) → Grows w r new x.caller y
+    → GoesOnWith w r new x y
+grown_follows w r new x y f other g =
+    followed_so w r new x y f g.tracks g.history_is g.caller_is
+    (one_ask (caller_of w x.caller) (owed w r.history.entries x.caller) (next w r.history.entries x.caller) x y (no_move x other)
+    (subst (λ (c : ℕ). IsAsked (owed w r.history.entries c) (caller_of w c) (next w r.history.entries c) y) g.caller_is may.is_asked) f.may.is_asked)
   where
-    may : MayFollow w r.history g.entry
-    may = last_follows w r.history g.entry (subst (IsLegal w) g.history_is g.tracks.history.legal)
+    may : MayFollow w r.history.entries y
+    may = last_follows w r.history.entries y (subst (IsLegal w) g.history_is g.tracks.history.legal)
 
 some_step : (o : Option (Step Actor)) → IsSome (option_map (λ (s : Step Actor). s.outcome) o) → is_some o ≡ true
 some_step (Some s) is = refl
@@ -141,12 +144,12 @@ turn_of w net h k c [] x past is other asked ready =
     by_kind (IsCourier m) asked = subst (λ (o : Option Ask). is_ready w net o ≡ true) (sym asked) ready
     by_kind IsNobody asked = subst (λ (o : Option Ask). is_ready w net o ≡ true) (sym asked) ready
 
-pub ready_to_follow : (w : World) (r : Runner) (x : Entry) → FollowsOn w r x → ((m : ℕ) → x.event ≡ event.Move m → ⊥) → IsReady w r x.caller
+ready_to_follow : (w : World) (r : Runner) (x : Entry) → FollowsOn w r x → ((m : ℕ) → x.event ≡ event.Move m → ⊥) → IsReady w r x.caller
 ready_to_follow w r x f other = record {
   room = f.may.has_room;
-  ready = turn_of w (after w r.history) r.history (caller_of w x.caller) x.caller (owed w r.history x.caller) x (past_is w r.history) refl
+  ready = turn_of w (after w r.history.entries) r.history.entries (caller_of w x.caller) x.caller (owed w r.history.entries x.caller) x (past_is w r.history.entries) refl
       (no_move x other) f.may.is_asked
-      (some_step (step_of w (after w r.history) x) f.may.is_ready);
+      (some_step (step_of w (after w r.history.entries) x) f.may.is_ready);
 }
 
 -- A move.
@@ -164,8 +167,9 @@ move_at : (a : ActorName) (e : Event) → IsMove a e → a ≡ name.Clock
 move_at name.Clock (event.Move m) is = refl
 move_at _ _ is = absurd is
 
-is_clock_move : (w : World) (h : List Entry) (x : Entry) (m : ℕ) → IsHistory w h → MayFollow w h x → x.event ≡ event.Move m → IsClockMove w h x
-is_clock_move w h x m history may is = by_owed (owed w h x.caller) refl may.is_asked
+pub clock_moves : (w : World) (h : List Entry) (x : Entry) (m : ℕ) → IsHistory w h → x.caller < caller_count w
+    → IsAsked (owed w h x.caller) (caller_of w x.caller) (next w h x.caller) x → x.event ≡ event.Move m → IsClockMove w h x
+clock_moves w h x m history known asked is = by_owed (owed w h x.caller) refl asked
   where
     kinds : Each (OfKind w) (owed w h x.caller)
     kinds = (steady_after w h history.world history.legal).kinds x.caller
@@ -185,26 +189,51 @@ is_clock_move w h x m history may is = by_owed (owed w h x.caller) refl may.is_a
         not_next (caller_of w x.caller) (subst (λ (k : AnyCaller). IsNext k (next w h x.caller) x) (courier_is w n x.caller at lt) asked)
 
     by_owed : (ds : List Duty) → owed w h x.caller ≡ ds → IsAsked ds (caller_of w x.caller) (next w h x.caller) x → IsClockMove w h x
-    by_owed [] none asked = by_kind none (kind_of w x.caller may.is_known.1) asked
+    by_owed [] none asked = by_kind none (kind_of w x.caller known) asked
     by_owed (d ∷ ds) some asked =
         let kind = (subst (Each (OfKind w)) some kinds).0 in
         absurd (still_not d.event m (ap (λ (a : Ask). a.event) asked ∙ is) (duty_still w d.actor d.event d.with kind))
 
-pub move_before : (w : World) (r : Runner) (x : Entry) (m : ℕ) (t : Turn) → FollowsOn w r x → x.event ≡ event.Move m → IsMoving t m → IsBefore w r x.caller t
+is_clock_move : (w : World) (h : List Entry) (x : Entry) (m : ℕ) → IsHistory w h → MayFollow w h x → x.event ≡ event.Move m → IsClockMove w h x
+is_clock_move w h x m history may is = clock_moves w h x m history may.is_known.1 may.is_asked is
+
+move_before : (w : World) (r : Runner) (x : Entry) (m : ℕ) (t : Turn) → FollowsOn w r x → x.event ≡ event.Move m → IsMoving t m → IsBefore w r x.caller t
 move_before w r x m t f is moves =
-    let clock = is_clock_move w r.history x m f.tracks.history f.may is in
-    let time : IsInTime (after w r.history) w (event.Move m) = subst (IsInTime (after w r.history) w) is f.in_time in
+    let clock = is_clock_move w r.history.entries x m f.tracks.history f.may is in
+    let time : IsInTime (after w r.history.entries) w (event.Move m) = subst (IsInTime (after w r.history.entries) w) is f.in_time in
     clock_before w r x.caller t m f.tracks clock.clock clock.nothing moves time.0 time.1 f.may.has_room
 
-pub move_follows : (w : World) (r new : Runner) (x : Entry) (m : ℕ) (t : Turn) → FollowsOn w r x → x.event ≡ event.Move m → IsMoving t m
-    → RecordedSo w r new x.caller t → Followed w (r.history ++ x ∷ []) new
-move_follows w r new x m t f is moves rec =
-    let clock = is_clock_move w r.history x m f.tracks.history f.may is in
-    followed_so w r new x rec.entry f rec.tracks rec.history_is rec.caller_is
+move_follows : (w : World) (r new : Runner) (x y : Entry) (m : ℕ) (t : Turn) → FollowsOn w r x → x.event ≡ event.Move m → IsMoving t m
+    → RecordedSo w r new x.caller t y → GoesOnWith w r new x y
+move_follows w r new x y m t f is moves rec =
+    let clock = is_clock_move w r.history.entries x m f.tracks.history f.may is in
+    followed_so w r new x y f rec.tracks rec.history_is rec.caller_is
     (same_asks (rec.actor_is ∙ moves.actor ∙ sym clock.at_clock) (rec.event_is ∙ moves.event ∙ sym is))
   where
     same_asks : {a b : ActorName} {d e : Event} → a ≡ b → d ≡ e → ◌≡◌ {A = Ask} (record { actor = a; event = d }) (record { actor = b; event = e })
     same_asks one two = rw (one, two) refl
+
+-- By caller and event.
+
+pub move_of : (w : World) (r : Runner) (x : Entry) (c m : ℕ) (e : Event) (t : Turn) → IsOf x c e → FollowsOn w r x → e ≡ event.Move m → IsMoving t m
+    → IsBefore w r c t
+move_of w r x c m e t of f is moves = subst (λ (k : ℕ). IsBefore w r k t) of.caller_is (move_before w r x m t f (of.event_is ∙ is) moves)
+
+pub moved_of : (w : World) (r new : Runner) (x y : Entry) (c m : ℕ) (e : Event) (t : Turn) → IsOf x c e → FollowsOn w r x → e ≡ event.Move m
+    → IsMoving t m → RecordedSo w r new c t y → GoesOnWith w r new x y
+moved_of w r new x y c m e t of f is moves rec =
+    move_follows w r new x y m t f (of.event_is ∙ is) moves (subst (λ (k : ℕ). RecordedSo w r new k t y) (sym of.caller_is) rec)
+
+pub ready_of : (w : World) (r : Runner) (x : Entry) (c : ℕ) (e : Event) → IsOf x c e → FollowsOn w r x → ((m : ℕ) → e ≡ event.Move m → ⊥) → IsReady w r c
+ready_of w r x c e of f other = subst (λ (k : ℕ). IsReady w r k) of.caller_is (ready_to_follow w r x f (λ m is. other m (sym of.event_is ∙ is)))
+
+pub grown_of : (w : World) (r new : Runner) (x y : Entry) (c : ℕ) (e : Event) → IsOf x c e → FollowsOn w r x → ((m : ℕ) → e ≡ event.Move m → ⊥)
+    → Grows w r new c y → GoesOnWith w r new x y
+grown_of w r new x y c e of f other g =
+    grown_follows w r new x y f (λ m is. other m (sym of.event_is ∙ is)) (subst (λ (k : ℕ). Grows w r new k y) (sym of.caller_is) g)
+
+pub known_of : (w : World) (r : Runner) (x : Entry) (c : ℕ) (e : Event) → IsOf x c e → FollowsOn w r x → c < length r.callers.items
+known_of w r x c e of f = omega (arith, of.caller_is, f.may.is_known.1, f.tracks.callers_are.count)
 
 -- A history.
 
@@ -216,14 +245,14 @@ may_next w h items r n x legal timed same lt is f = record {
   in_time = subst (λ (p : List Entry). IsInTime (after w p) w x.event) (sym before) (timed n x at);
 }
   where
-    before : r.history ≡ take n h
+    before : r.history.entries ≡ take n h
     before = f.history_is ∙ ap (take n) same
 
     at : slice_get h n ≡ Some x
     at = subst (λ (p : List Entry). slice_get p n ≡ Some x) same (got items n x lt is)
 
 pub followed_more : (w : World) (items : List Entry) (r new : Runner) (n : ℕ) (x : Entry) → n < length items → x ≡ get_or items n x
-    → r.history ≡ take n items → Followed w (r.history ++ x ∷ []) new → Followed w (take (n + 1) items) new
+    → r.history.entries ≡ take n items → Followed w (r.history.entries ++ x ∷ []) new → Followed w (take (n + 1) items) new
 followed_more w items r new n x lt is before next = record {
   tracks = next.tracks;
   history_is = next.history_is ∙ ap (λ (p : List Entry). p ++ x ∷ []) before ∙ more;

@@ -20,51 +20,6 @@ use Rattle.plain_runner.proofs.Calming.{Kind, OfScript, OfCourier, OfClock, cloc
 use Rattle.plain_runner.proofs.Ranges.{and_both, and_left, and_right, none_range, not_below, some_range}
 use Rattle.plain_runner.proofs.Recorded.{step_moment}
 
--- Words.
-
-abbrev word : Bool → Bool → Bool → List ℕ
-word d s l = if d then codes "done" else (if s then codes "stopped" else (if l then codes "limit" else codes "unfinished"))
-
-abbrev letter : List ℕ → ℕ
-letter [] = 0
-letter (x ∷ xs) = x
-
-done_by : (d s l : Bool) → codes "done" ≡ word d s l → d ≡ true
-done_by true s l is = refl
-done_by false true l is = let e : 100 ≡ 115 = ap letter is in absurd (omega (arith, e))
-done_by false false true is = let e : 100 ≡ 108 = ap letter is in absurd (omega (arith, e))
-done_by false false false is = let e : 100 ≡ 117 = ap letter is in absurd (omega (arith, e))
-
-stopped_by : (d s l : Bool) → codes "stopped" ≡ word d s l → s ≡ true
-stopped_by true s l is = let e : 115 ≡ 100 = ap letter is in absurd (omega (arith, e))
-stopped_by false true l is = refl
-stopped_by false false true is = let e : 115 ≡ 108 = ap letter is in absurd (omega (arith, e))
-stopped_by false false false is = let e : 115 ≡ 117 = ap letter is in absurd (omega (arith, e))
-
-limit_by : (d s l : Bool) → codes "limit" ≡ word d s l → l ≡ true
-limit_by true s l is = let e : 108 ≡ 100 = ap letter is in absurd (omega (arith, e))
-limit_by false true l is = let e : 108 ≡ 115 = ap letter is in absurd (omega (arith, e))
-limit_by false false true is = refl
-limit_by false false false is = let e : 108 ≡ 117 = ap letter is in absurd (omega (arith, e))
-
-none_by : (d s l : Bool) → codes "unfinished" ≡ word d s l → (d ≡ false) × (s ≡ false) × (l ≡ false)
-none_by true s l is = let e : 117 ≡ 100 = ap letter is in absurd (omega (arith, e))
-none_by false true l is = let e : 117 ≡ 115 = ap letter is in absurd (omega (arith, e))
-none_by false false true is = let e : 117 ≡ 108 = ap letter is in absurd (omega (arith, e))
-none_by false false false is = (refl, refl, refl)
-
-pub done_so : (w : World) (net : Net) → codes "done" ≡ end_word w net → done w net ≡ true
-done_so w net is = done_by (done w net) (stopped w net) (limited w net) is
-
-pub stopped_so : (w : World) (net : Net) → codes "stopped" ≡ end_word w net → stopped w net ≡ true
-stopped_so w net is = stopped_by (done w net) (stopped w net) (limited w net) is
-
-pub limit_so : (w : World) (net : Net) → codes "limit" ≡ end_word w net → limited w net ≡ true
-limit_so w net is = limit_by (done w net) (stopped w net) (limited w net) is
-
-pub none_so : (w : World) (net : Net) → codes "unfinished" ≡ end_word w net → (done w net ≡ false) × (stopped w net ≡ false) × (limited w net ≡ false)
-none_so w net is = none_by (done w net) (stopped w net) (limited w net) is
-
 -- The moment is never past the end.
 
 least_within : (last : ℕ) (ms : List ℕ) → least last ms ≤ last

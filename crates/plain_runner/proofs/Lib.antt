@@ -1,6 +1,6 @@
 pub mod Unmoved
 pub mod Recorded
-pub mod Rounding
+pub mod Taking
 pub mod Ranges
 pub mod Calming
 pub mod Opening
@@ -13,5 +13,6 @@ pub mod Following
 mod Bounds
 mod CallerLaws
 mod Growing
+mod NoBytes
 mod Replies
 mod Ticks

@@ -1,5 +1,5 @@
 -- What the entry of a turn leaves of a run.
-use Rattle.std.proofs.Common.{◌≡◌, ℕ, zero, suc, ◌-◌, ◌<◌, ◌==◌, Bool, true, false, List, [], ◌∷◌, ◌++◌, length, map, filter, take, Option, Some, None, is_none, get_or, Result, Ok, Err, OnOk, slice_get, slice_set, refl, sym, ap, subst, ◌∙◌, arith}
+use Rattle.std.proofs.Common.{◌≡◌, ℕ, zero, suc, ◌+◌, ◌-◌, ◌<◌, ◌==◌, Bool, true, false, List, [], ◌∷◌, ◌++◌, length, map, filter, take, Option, Some, None, is_none, get_or, Result, Ok, Err, IfOk, slice_get, slice_set, refl, sym, ap, subst, ◌∙◌, arith, length-append}
 use Rattle.std.specs.Prelude.{IsSome}
 use Rattle.std.specs.Option.{option_map}
 use Rattle.std.proofs.lemmas.Bool.{eqb-true, eqb-false, false≢true, ne_eqb}
@@ -81,29 +81,29 @@ step_moment w net x None is = absurd (false≢true is)
 
 -- The run.
 
-pub come : (w : World) (r : Runner) (c : ℕ) (t : Turn) (k : Caller) (stamp : ℕ) → IsBefore w r c t → slice_get r.callers.items c ≡ Some k
-    → stamp ≡ length r.history
-    → Comes w r.history c t k r.net r.ways stamp r.moment
-come w r c t k stamp b at stamp_is = record {
+pub come : (w : World) (r : Runner) (c : ℕ) (t : Turn) (k : Caller) → IsBefore w r c t → slice_get r.callers.items c ≡ Some k
+    → Comes w r.history.entries c t k r.net r.ways r.count r.moment
+come w r c t k b at = record {
   history = b.history;
   turning = b.turning k at;
   ready = b.ready;
   are = b.are;
   ways_are = b.ways_are;
-  stamp_is = stamp_is;
+  stamp_is = b.count_is;
   now_is = b.moment_is;
 }
 
 pub recorded_so : (w : World) (old new : Runner) (c : ℕ) (t : Turn) (k : Caller) (x : Entry) → c < length old.callers.items → IsBefore w old c t
-    → Recorded w old.history c t k new.net x → new.history ≡ old.history ++ x ∷ [] → new.callers.items ≡ slice_set old.callers.items c k → new.ways ≡ old.ways
-    → new.moment ≡ moment_after old.moment x.event → RecordedSo w old new c t
-recorded_so w old new c t k x lt b rec history callers ways now = record {
+    → Recorded w old.history.entries c t k new.net x → new.history.entries ≡ old.history.entries ++ x ∷ [] → new.count ≡ old.count + 1 → new.callers.items ≡ slice_set old.callers.items c k → new.ways ≡ old.ways
+    → new.moment ≡ moment_after old.moment x.event → RecordedSo w old new c t x
+recorded_so w old new c t k x lt b rec history count callers ways now = record {
   tracks = record {
     history = subst (IsHistory w) (sym history) record {
       world = b.history.world;
-      legal = legal_push w old.history x b.history.legal rec.follows;
-      timed = timed_push w old.history x b.history.timed (subst (IsInTime (after w old.history) w) (sym rec.event_is) b.ready.in_time);
+      legal = legal_push w old.history.entries x b.history.legal rec.follows;
+      timed = timed_push w old.history.entries x b.history.timed (subst (IsInTime (after w old.history.entries) w) (sym rec.event_is) b.ready.in_time);
     };
+    count_is = omega (arith, count, b.count_is, ap length history, length-append old.history.entries (x ∷ []));
     callers_are = record {
       count = ap length callers ∙ length-set old.callers.items c k ∙ b.count;
       each = λ d e at. subst (λ (h : List Entry). IsCaller w h d e) (sym history) (kept d e (c == d) refl (sym (ap (λ ks. slice_get ks d) callers) ∙ at));
@@ -111,10 +111,9 @@ recorded_so w old new c t k x lt b rec history callers ways now = record {
     are = subst (λ (h : List Entry). AreActors w new.net (after w h).actors) (sym history) rec.are;
     ways_are = subst (AreWaysOfWorld w) (sym ways) b.ways_are;
     moment_is = now ∙ ap (λ (m : ℕ). moment_after m x.event) b.moment_is
-        ∙ sym (step_moment w (after w old.history) x (step_of w (after w old.history) x) rec.follows.is_ready)
-        ∙ ap (λ (net : Net). net.moment) (sym (after_push w old.history x)) ∙ ap (λ (h : List Entry). moment w h) (sym history);
+        ∙ sym (step_moment w (after w old.history.entries) x (step_of w (after w old.history.entries) x) rec.follows.is_ready)
+        ∙ ap (λ (net : Net). net.moment) (sym (after_push w old.history.entries x)) ∙ ap (λ (h : List Entry). moment w h) (sym history);
   };
-  entry = x;
   history_is = history;
   caller_is = rec.caller_is;
   actor_is = rec.actor_is;
@@ -122,20 +121,20 @@ recorded_so w old new c t k x lt b rec history callers ways now = record {
 }
   where
     kept : (d : ℕ) (e : Caller) (same : Bool) → (c == d) ≡ same → slice_get (slice_set old.callers.items c k) d ≡ Some e
-        → IsCaller w (old.history ++ x ∷ []) d e
+        → IsCaller w (old.history.entries ++ x ∷ []) d e
     kept d e true is at =
         let here : k ≡ e = same_Some k e (sym (set_here old.callers.items c k lt) ∙ ap (slice_get (slice_set old.callers.items c k)) (eqb-true c d is)
         ∙ at) in
-        subst (λ (n : ℕ). IsCaller w (old.history ++ x ∷ []) n e) (eqb-true c d is) (subst (IsCaller w (old.history ++ x ∷ []) c) here rec.kept)
+        subst (λ (n : ℕ). IsCaller w (old.history.entries ++ x ∷ []) n e) (eqb-true c d is) (subst (IsCaller w (old.history.entries ++ x ∷ []) c) here rec.kept)
     kept d e false is at =
         let other : c ≡ d → ⊥ = eqb-false c d is in
-        caller_stays w old.history d e x (λ s. other (sym rec.caller_is ∙ s)) (b.others d e other (sym (set_there old.callers.items c d k other) ∙ at))
+        caller_stays w old.history.entries d e x (λ s. other (sym rec.caller_is ∙ s)) (b.others d e other (sym (set_there old.callers.items c d k other) ∙ at))
 
 -- Results.
 
-pub on_ok : {A E : Type 0} {P Q : Type 0} (r : Result A E) → (P → Q) → OnOk r P → OnOk r Q
-on_ok (Ok x) f is = f is
-on_ok (Err e) f is = tt
+pub if_ok : {A E : Type 0} {P Q : A → Type 0} (r : Result A E) → ((x : A) → P x → Q x) → IfOk r P → IfOk r Q
+if_ok (Ok x) f is = f x is
+if_ok (Err e) f is = tt
 
 -- what stands at a place
 pub got : {A : Type 0} (xs : List A) (i : ℕ) (x : A) → i < length xs → x ≡ get_or xs i x → slice_get xs i ≡ Some x

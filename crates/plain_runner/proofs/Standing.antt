@@ -30,12 +30,12 @@ is_script _ = false
 -- the caller of a script is one
 pub script_role : (w : World) (r : Runner) (c : ℕ) (k : Caller) (s : Script) → Tracks w r → slice_get r.callers.items c ≡ Some k
     → slice_get w.scripts c ≡ Some s
-    → (t : Bor Script) × (p : Playing) × (k.role ≡ role.Script t p) × IsScriptAt w r.history c s p k.before
+    → (t : Bor Script) × (p : Playing) × (k.role ≡ role.Script t p) × IsScriptAt w r.history.entries c s p k.before
 script_role w r c k s st at is = by_role k.role refl (st.callers_are.each c k at).stands.role_is
   where
-    by_role : (x : Role) → k.role ≡ x → HasRole w r.history c x k.before
-        → (t : Bor Script) × (p : Playing) × (k.role ≡ role.Script t p) × IsScriptAt w r.history c s p k.before
-    by_role (role.Script t p) same has = (t, p, same, subst (λ (u : Script). IsScriptAt w r.history c u p k.before) (same_Some t.now s (sym has.is ∙ is)) has)
+    by_role : (x : Role) → k.role ≡ x → HasRole w r.history.entries c x k.before
+        → (t : Bor Script) × (p : Playing) × (k.role ≡ role.Script t p) × IsScriptAt w r.history.entries c s p k.before
+    by_role (role.Script t p) same has = (t, p, same, subst (λ (u : Script). IsScriptAt w r.history.entries c u p k.before) (same_Some t.now s (sym has.is ∙ is)) has)
     by_role (role.Courier m) same has = let e : true ≡ false = ap is_script (sym (script_is w c s is) ∙ has) in absurd (true≢false e)
     by_role role.Clock same has = let e : true ≡ false = ap is_script (sym (script_is w c s is) ∙ has) in absurd (true≢false e)
 
@@ -96,23 +96,23 @@ answered_all w h n a v le all =
 
 pub answered_owing : (w : World) (r : Runner) (c : ℕ) (s : Script) (k : Caller) (b : Bool) → Tracks w r → slice_get r.callers.items c ≡ Some k
     → slice_get w.scripts c ≡ Some s
-    → b ≡ (length k.owed.list == 0) → b ≡ false → k.before ≡ answered_by w r.history (c, s)
+    → b ≡ (length k.owed.list == 0) → b ≡ false → k.before ≡ answered_by w r.history.entries (c, s)
 answered_owing w r c s k b st at is empty some = by_owed (k.owed.list) refl (st.callers_are.each c k at).owes (sym empty ∙ some)
   where
-    script : (t : Bor Script) × (p : Playing) × (k.role ≡ role.Script t p) × IsScriptAt w r.history c s p k.before
+    script : (t : Bor Script) × (p : Playing) × (k.role ≡ role.Script t p) × IsScriptAt w r.history.entries c s p k.before
     script = script_role w r c k s st at is
 
-    by_owed : (ds : List Duty) → k.owed.list ≡ ds → k.owed.list ≡ (after w r.history).owed c → (length k.owed.list == 0) ≡ false
-        → k.before ≡ answered_by w r.history (c, s)
+    by_owed : (ds : List Duty) → k.owed.list ≡ ds → k.owed.list ≡ (after w r.history.entries).owed c → (length k.owed.list == 0) ≡ false
+        → k.before ≡ answered_by w r.history.entries (c, s)
     by_owed [] same owed some = let e : true ≡ false = sym (ap (λ (ds : List Duty). length ds == 0) same) ∙ some in absurd (true≢false e)
     by_owed (d ∷ ds) same owed some = rw (sym owed ∙ same, lt-ltb 0 (length (d ∷ ds)) (omega arith)) script.3.before_is
 
 pub answered_free : (w : World) (r : Runner) (c n : ℕ) (s : Script) (k : Caller) (b : Bool) → Tracks w r → slice_get r.callers.items c ≡ Some k
     → slice_get w.scripts c ≡ Some s
-    → b ≡ (length k.owed.list == 0) → b ≡ true → n ≡ finished_by (own_replies r.history c) s → n ≡ answered_by w r.history (c, s)
+    → b ≡ (length k.owed.list == 0) → b ≡ true → n ≡ finished_by (own_replies r.history.entries c) s → n ≡ answered_by w r.history.entries (c, s)
 answered_free w r c n s k b st at is empty none fin = by_owed (k.owed.list) refl (st.callers_are.each c k at).owes (sym empty ∙ none)
   where
-    by_owed : (ds : List Duty) → k.owed.list ≡ ds → k.owed.list ≡ (after w r.history).owed c → (length k.owed.list == 0) ≡ true
-        → n ≡ answered_by w r.history (c, s)
+    by_owed : (ds : List Duty) → k.owed.list ≡ ds → k.owed.list ≡ (after w r.history.entries).owed c → (length k.owed.list == 0) ≡ true
+        → n ≡ answered_by w r.history.entries (c, s)
     by_owed [] same owed none = rw (sym owed ∙ same) fin
     by_owed (d ∷ ds) same owed none = absurd (omega (arith, ap (λ (ds : List Duty). length ds) same, eqb-true (length k.owed.list) 0 none))

@@ -19,7 +19,7 @@ use Rattle.net_base.specs.Net.{after}
 use Rattle.net_base.specs.Next.{next, next_of}
 use Rattle.duties.specs.declared.due.Due.{Due}
 use Rattle.duties.specs.Ticking.{due_at, dues_of}
-use Rattle.plain_runner.specs.Rounds.{awaited_moments, due_moments}
+use Rattle.plain_runner.specs.Waiting.{awaited_moments, due_moments}
 use Rattle.plain_runner.specs.Tracks.{Tracks}
 use Rattle.plain_runner.specs.Turns.{asks_of}
 use Rattle.plain_runner.specs.declared.caller.Caller.{Caller}
@@ -100,32 +100,32 @@ awaited_one f n k now (Some m) is = rw is (least_min now m (filter_map f (range_
 pub awaited_next : (w : World) (r : Runner) (n now earlier last : ℕ) (k : Caller) → Tracks w r → slice_get r.callers.items n ≡ Some k
     → n < length r.callers.items
     → earlier ≡ least now (option_to_list (awaited_moment (asks_of k.next)))
-    → least now (awaited_from w r.history n) ≡ least last (awaited_moments w r.history)
-    → least earlier (awaited_from w r.history (n + 1)) ≡ least last (awaited_moments w r.history)
+    → least now (awaited_from w r.history.entries n) ≡ least last (awaited_moments w r.history.entries)
+    → least earlier (awaited_from w r.history.entries (n + 1)) ≡ least last (awaited_moments w r.history.entries)
 awaited_next w r n now earlier last k s at lt is all =
-    ap (λ (m : ℕ). least m (awaited_from w r.history (n + 1))) is
-    ∙ awaited_one (λ (c : ℕ). awaited_moment (next w r.history c)) n (caller_count w - (n + 1)) now (awaited_moment (asks_of k.next))
+    ap (λ (m : ℕ). least m (awaited_from w r.history.entries (n + 1))) is
+    ∙ awaited_one (λ (c : ℕ). awaited_moment (next w r.history.entries c)) n (caller_count w - (n + 1)) now (awaited_moment (asks_of k.next))
     (ap awaited_moment (sym (s.callers_are.each n k at).stands.next_is))
-    ∙ ap (λ (i : ℕ). least now (filter_map (λ (c : ℕ). awaited_moment (next w r.history c)) (range_with_len n i))) (sym more) ∙ all
+    ∙ ap (λ (i : ℕ). least now (filter_map (λ (c : ℕ). awaited_moment (next w r.history.entries c)) (range_with_len n i))) (sym more) ∙ all
   where
     more : caller_count w - n ≡ suc (caller_count w - (n + 1))
     more = omega (arith, lt, s.callers_are.count)
 
 pub awaited_all : (w : World) (r : Runner) (n now last : ℕ) → Tracks w r → length r.callers.items ≤ n
-    → least now (awaited_from w r.history n) ≡ least last (awaited_moments w r.history)
-    → now ≡ least last (awaited_moments w r.history)
+    → least now (awaited_from w r.history.entries n) ≡ least last (awaited_moments w r.history.entries)
+    → now ≡ least last (awaited_moments w r.history.entries)
 awaited_all w r n now last s le all =
     let none : caller_count w - n ≡ 0 = omega (arith, le, s.callers_are.count) in
-    ap (λ (i : ℕ). least now (filter_map (λ (c : ℕ). awaited_moment (next w r.history c)) (range_with_len n i))) (sym none) ∙ all
+    ap (λ (i : ℕ). least now (filter_map (λ (c : ℕ). awaited_moment (next w r.history.entries c)) (range_with_len n i))) (sym none) ∙ all
 
 -- The target.
 
-pub target_is : (w : World) (r : Runner) (dues : List Due) (awaited moment : ℕ) → Tracks w r → dues ≡ dues_of w (after w r.history).actors
-    → awaited ≡ least w.end (awaited_moments w r.history)
-    → moment ≡ least awaited (due_moments dues) → moment ≡ target w (after w r.history)
+pub target_is : (w : World) (r : Runner) (dues : List Due) (awaited moment : ℕ) → Tracks w r → dues ≡ dues_of w (after w r.history.entries).actors
+    → awaited ≡ least w.end (awaited_moments w r.history.entries)
+    → moment ≡ least awaited (due_moments dues) → moment ≡ target w (after w r.history.entries)
 target_is w r dues awaited moment s dues_are awaited_is is =
     is ∙ ap (λ (m : ℕ). least m (due_moments dues)) awaited_is
-    ∙ ap (λ (ms : List ℕ). least (least w.end (awaited_moments w r.history)) ms) (ap due_moments dues_are ∙ dues_agree w (after w r.history).actors)
-    ∙ sym (least_more w.end (filter_map (λ (a : ActorName). due_of ((after w r.history).actors a)) (conversations w)) (awaited_moments w r.history))
-    ∙ ap (λ (p : List Entry). least w.end (filter_map (λ (a : ActorName). due_of ((after w r.history).actors a)) (conversations w) ++ filter_map
-    (λ (c : ℕ). awaited_moment (next_of (caller_of w c) p c)) (callers w))) (sym (past_is w r.history))
+    ∙ ap (λ (ms : List ℕ). least (least w.end (awaited_moments w r.history.entries)) ms) (ap due_moments dues_are ∙ dues_agree w (after w r.history.entries).actors)
+    ∙ sym (least_more w.end (filter_map (λ (a : ActorName). due_of ((after w r.history.entries).actors a)) (conversations w)) (awaited_moments w r.history.entries))
+    ∙ ap (λ (p : List Entry). least w.end (filter_map (λ (a : ActorName). due_of ((after w r.history.entries).actors a)) (conversations w) ++ filter_map
+    (λ (c : ℕ). awaited_moment (next_of (caller_of w c) p c)) (callers w))) (sym (past_is w r.history.entries))

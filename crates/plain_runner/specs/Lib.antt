@@ -2,8 +2,7 @@ pub mod Turns
 pub mod Callers
 pub mod Recording
 pub mod Tracks
-pub mod Rounds
+pub mod Waiting
 pub mod Followed
-pub mod Worked
 pub use Rattle.net_base.specs.Net
 pub use Rattle.net_base.specs.Next

@@ -22,36 +22,35 @@ pub record AreCallers (w : World) (h : List Entry) (ks : List Caller) : Type 0 w
 
 -- a run of this world
 pub record Tracks (w : World) (r : Runner) : Type 0 where
-  pub history : IsHistory w r.history
-  pub callers_are : AreCallers w r.history r.callers.items
-  pub are : AreActors w r.net (after w r.history).actors
+  pub history : IsHistory w r.history.entries
+  pub count_is : r.count ≡ length r.history.entries
+  pub callers_are : AreCallers w r.history.entries r.callers.items
+  pub are : AreActors w r.net (after w r.history.entries).actors
   pub ways_are : AreWaysOfWorld w r.ways
-  pub moment_is : r.moment ≡ moment w r.history
+  pub moment_is : r.moment ≡ moment w r.history.entries
 
 -- a run of some world
 abbrev pub IsRun : Runner → Type 0
 IsRun r = (w : World) × Tracks w r
 
--- an entry of this turn was recorded
-pub record RecordedSo (w : World) (old new : Runner) (c : ℕ) (t : Turn) : Type 0 where
+-- this entry of the turn was recorded
+pub record RecordedSo (w : World) (old new : Runner) (c : ℕ) (t : Turn) (x : Entry) : Type 0 where
   pub tracks : Tracks w new
-  pub entry : Entry
-  pub history_is : new.history ≡ old.history ++ entry ∷ []
-  pub caller_is : entry.caller ≡ c
-  pub actor_is : entry.actor ≡ t.actor
-  pub event_is : entry.event ≡ t.work.event
+  pub history_is : new.history.entries ≡ old.history.entries ++ x ∷ []
+  pub caller_is : x.caller ≡ c
+  pub actor_is : x.actor ≡ t.actor
+  pub event_is : x.event ≡ t.work.event
 
--- an entry of this caller was recorded
-pub record Grows (w : World) (old new : Runner) (c : ℕ) : Type 0 where
+-- this entry of the caller was recorded
+pub record Grows (w : World) (old new : Runner) (c : ℕ) (x : Entry) : Type 0 where
   pub tracks : Tracks w new
-  pub entry : Entry
-  pub history_is : new.history ≡ old.history ++ entry ∷ []
-  pub caller_is : entry.caller ≡ c
+  pub history_is : new.history.entries ≡ old.history.entries ++ x ∷ []
+  pub caller_is : x.caller ≡ c
 
 -- the caller has room, and what it owes first is ready, or its next event
 pub record IsReady (w : World) (r : Runner) (c : ℕ) : Type 0 where
-  pub room : length (by r.history c) < most_entries
-  pub ready : may_turn w r.history c ≡ true
+  pub room : length (by r.history.entries c) < most_entries
+  pub ready : may_turn w r.history.entries c ≡ true
 
 -- so in some world
 abbrev pub IsReadyRun : Runner → ℕ → Type 0
@@ -59,19 +58,20 @@ IsReadyRun r c = (w : World) × Tracks w r × IsReady w r c
 
 -- a run of this world while the turn of a caller, which is ready, is recorded: it was taken from what is kept of it
 pub record IsBefore (w : World) (r : Runner) (c : ℕ) (t : Turn) : Type 0 where
-  pub history : IsHistory w r.history
+  pub history : IsHistory w r.history.entries
+  pub count_is : r.count ≡ length r.history.entries
   pub count : length r.callers.items ≡ caller_count w
-  pub others : (d : ℕ) (k : Caller) → (c ≡ d → ⊥) → slice_get r.callers.items d ≡ Some k → IsCaller w r.history d k
-  pub turning : (k : Caller) → slice_get r.callers.items c ≡ Some k → IsTurning w r.history c t.cites k
-  pub ready : IsReadyTurn w r.history c t
-  pub are : AreActors w r.net (after w r.history).actors
+  pub others : (d : ℕ) (k : Caller) → (c ≡ d → ⊥) → slice_get r.callers.items d ≡ Some k → IsCaller w r.history.entries d k
+  pub turning : (k : Caller) → slice_get r.callers.items c ≡ Some k → IsTurning w r.history.entries c t.cites k
+  pub ready : IsReadyTurn w r.history.entries c t
+  pub are : AreActors w r.net (after w r.history.entries).actors
   pub ways_are : AreWaysOfWorld w r.ways
-  pub moment_is : r.moment ≡ moment w r.history
+  pub moment_is : r.moment ≡ moment w r.history.entries
 
 -- so of some world
 abbrev pub MayRecord : Runner → ℕ → Turn → Type 0
 MayRecord r c t = (w : World) × IsBefore w r c t
 
 -- the entry of the turn was recorded
-abbrev pub Recording : Runner → Runner → ℕ → Turn → Type 0
-Recording old new c t = (w : World) → IsBefore w old c t → RecordedSo w old new c t
+abbrev pub Recording : Runner → Runner → ℕ → Turn → Entry → Type 0
+Recording old new c t x = (w : World) → IsBefore w old c t → RecordedSo w old new c t x

@@ -8,7 +8,7 @@ ghost use Rattle.net_base.specs.Net.{after};
 ghost use Rattle.net_base.specs.Next.{finished_by, is_unfinished, own_replies};
 ghost use Rattle.net_base.specs.Summary.{answered_by, answered_steps, end_word};
 ghost use Rattle.transcript.specs.RunStatus.{word_of};
-ghost use Rattle.plain_runner.specs.Rounds.{awaited_moments, could, due_moments};
+ghost use Rattle.plain_runner.specs.Waiting.{awaited_moments, could, due_moments};
 ghost use Rattle.plain_runner.specs.Tracks.{Tracks};
 ghost use Rattle.plain_runner.specs.Turns.{asks_of};
 
@@ -24,7 +24,7 @@ impl<'a> Runner<'a> {
     /// How the run stands.
     pub fn end(&self, world: &World) -> End
         requires { Tracks world.now self.now }
-        ensures { word_of result ≡ end_word world.now (after world.now self.now.history) }
+        ensures { word_of result ≡ end_word world.now (after world.now self.now.history.entries) }
     {
         if self.goes_on() {
             return self.busy_end();
@@ -41,10 +41,24 @@ impl<'a> Runner<'a> {
         End::Unfinished
     }
 
+    /// Whether the clock may move: nobody could record, a step of some script isn't finished, and the end moment isn't reached.
+    pub fn is_movable(&self, world: &World) -> bool
+        requires { Tracks world.now self.now }
+        ensures { result ≡ calm.movable world.now (after world.now self.now.history.entries) }
+    {
+        if self.goes_on() {
+            return false;
+        }
+        if !self.is_unfinished(world) {
+            return false;
+        }
+        self.moment < world.end
+    }
+
     // How it stands where a caller owes a duty or its next event is ready.
     fn busy_end(&self) -> End
-        ensures { (w : AnyWorld) → Tracks w self.now → calm.calm w (after w self.now.history) ≡ false
-            → word_of result ≡ end_word w (after w self.now.history) }
+        ensures { (w : AnyWorld) → Tracks w self.now → calm.calm w (after w self.now.history.entries) ≡ false
+            → word_of result ≡ end_word w (after w self.now.history.entries) }
     {
         for caller in 0..self.callers.len() {
             if self.is_full(caller) && self.could(caller) {
@@ -57,14 +71,14 @@ impl<'a> Runner<'a> {
     // Whether a caller owes a duty, or its next event is ready.
     fn could(&self, caller: usize) -> bool
         requires { caller < length self.now.callers.items }
-        ensures { (w : AnyWorld) → Tracks w self.now → result ≡ could w self.now.history caller }
+        ensures { (w : AnyWorld) → Tracks w self.now → result ≡ could w self.now.history.entries caller }
     {
         !self.callers[caller].owed.is_empty() || self.may_turn(caller)
     }
 
     // Whether some caller could record.
     fn goes_on(&self) -> bool
-        ensures { (w : AnyWorld) → Tracks w self.now → result ≡ list_any (could w self.now.history) (calm.callers w) }
+        ensures { (w : AnyWorld) → Tracks w self.now → result ≡ list_any (could w self.now.history.entries) (calm.callers w) }
     {
         for caller in 0..self.callers.len() {
             if self.could(caller) {
@@ -77,7 +91,7 @@ impl<'a> Runner<'a> {
     // Whether a step of some script isn't finished.
     fn is_unfinished(&self, world: &World) -> bool
         requires { Tracks world.now self.now }
-        ensures { result ≡ calm.unfinished world.now (after world.now self.now.history) }
+        ensures { result ≡ calm.unfinished world.now (after world.now self.now.history.entries) }
     {
         for caller in 0..world.scripts.len() {
             if self.has_left(caller) {
@@ -91,7 +105,7 @@ impl<'a> Runner<'a> {
     fn has_left(&self, caller: usize) -> bool
         requires { caller < length self.now.callers.items }
         ensures { (w : AnyWorld) (s : AnyScript) → Tracks w self.now → slice_get w.scripts caller ≡ Some s
-            → result ≡ is_unfinished self.now.history caller s }
+            → result ≡ is_unfinished self.now.history.entries caller s }
     {
         match &self.callers[caller].role {
             Role::Script(script, player) => player.is_unfinished(script),
@@ -104,7 +118,7 @@ impl<'a> Runner<'a> {
     fn finished(&self, caller: usize) -> usize
         requires { caller < length self.now.callers.items }
         ensures { (w : AnyWorld) (s : AnyScript) → Tracks w self.now → slice_get w.scripts caller ≡ Some s
-            → result ≡ finished_by (own_replies self.now.history caller) s }
+            → result ≡ finished_by (own_replies self.now.history.entries caller) s }
     {
         match &self.callers[caller].role {
             Role::Script(_, player) => player.finished(),
@@ -117,7 +131,7 @@ impl<'a> Runner<'a> {
     fn answered_of(&self, caller: usize) -> usize
         requires { caller < length self.now.callers.items }
         ensures { (w : AnyWorld) (s : AnyScript) → Tracks w self.now → slice_get w.scripts caller ≡ Some s
-            → result ≡ answered_by w self.now.history (caller, s) }
+            → result ≡ answered_by w self.now.history.entries (caller, s) }
     {
         let kept = &self.callers[caller];
         if kept.owed.is_empty() {
@@ -129,7 +143,7 @@ impl<'a> Runner<'a> {
     /// How many steps of all scripts are answered.
     pub fn answered(&self, world: &World) -> u128
         requires { Tracks world.now self.now }
-        ensures { result ≡ answered_steps world.now self.now.history }
+        ensures { result ≡ answered_steps world.now self.now.history.entries }
     {
         let mut answered: u128 = 0;
         for caller in 0..world.scripts.len() {
@@ -142,7 +156,7 @@ impl<'a> Runner<'a> {
     /// the end moment where that is not later.
     pub fn target(&self, world: &World) -> Result<u64, AllocError>
         requires { Tracks world.now self.now }
-        ensures { IfOk result (λ moment. moment ≡ calm.target world.now (after world.now self.now.history)) }
+        ensures { IfOk result (λ moment. moment ≡ calm.target world.now (after world.now self.now.history.entries)) }
     {
         let dues = self.net.dues(self.alloc)?;
         let awaited = self.least_awaited(world.end);
@@ -151,7 +165,7 @@ impl<'a> Runner<'a> {
 
     // The least of a moment and those for which callers wait.
     fn least_awaited(&self, last: u64) -> u64
-        ensures { (w : AnyWorld) → Tracks w self.now → result ≡ calm.least last (awaited_moments w self.now.history) }
+        ensures { (w : AnyWorld) → Tracks w self.now → result ≡ calm.least last (awaited_moments w self.now.history.entries) }
     {
         let mut least = last;
         for caller in &self.callers {

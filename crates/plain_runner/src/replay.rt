@@ -1,12 +1,12 @@
 //! A run that follows a history: each entry is recorded again by its caller.
-ghost use Rattle.std.specs.Prelude.{◌≡◌, IfOk, OnOk};
+ghost use Rattle.std.specs.Prelude.{◌≡◌, IfOk};
 ghost use Rattle.net_base.specs.Legal.{IsLegal, IsTimed};
 ghost use Rattle.net_base.specs.Summary.{summary};
 ghost use Rattle.net_base.specs.World.{IsWorld};
 ghost use Rattle.plain_runner.specs.Followed.{Followed, FollowedBy, MayFollowOn};
 
-use crate::rounds::moving;
 use crate::runner::Runner;
+use crate::turn::moving;
 use net_base::{Entry, Event, History, Octets, World};
 use std::alloc::{AllocError, Global};
 use transcript::{RunStatus, summary_by};
@@ -37,21 +37,20 @@ pub fn replayed<'a>(
 {
     let mut runner = Runner::new(alloc, world)?;
     for entry in history.as_slice() {
-        runner.follow(entry)?;
+        runner.follow(entry.caller, &entry.event)?;
     }
     Ok(runner)
 }
 
 impl<'a> Runner<'a> {
-    // Records an entry that may follow.
-    fn follow(&mut self, entry: &Entry) -> Result<(), AllocError>
-        requires { MayFollowOn self.old entry.now }
-        ensures { OnOk result (FollowedBy self.old self.new entry.now) }
+    /// Records an event of a caller, which may come next, and gives the entry.
+    pub fn follow(&mut self, caller: u32, event: &Event) -> Result<Entry, AllocError>
+        requires { MayFollowOn self.old caller event.now }
+        ensures { IfOk result (FollowedBy self.old self.new caller event.now) }
     {
-        let caller = entry.caller as usize;
-        match &entry.event {
-            Event::Move { moment } => self.record(caller, moving(*moment)),
-            _ => self.record_next(caller),
+        match event {
+            Event::Move { moment } => self.record(caller as usize, moving(*moment)),
+            _ => self.record_next(caller as usize),
         }
     }
 }

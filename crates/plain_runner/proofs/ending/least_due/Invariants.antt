@@ -1,6 +1,6 @@
 use Rattle.std.proofs.Common.{◌≡◌, drop}
 use Rattle.net_base.specs.Calm.{least}
-use Rattle.plain_runner.specs.Rounds.{due_moments}
+use Rattle.plain_runner.specs.Waiting.{due_moments}
 use Rattle.plain_runner.proofs.ending.least_due.Given as goal
 
 abbrev pub invariant-loop-due : goal.invariant-loop-due

@@ -6,7 +6,7 @@ use Rattle.plain_runner.proofs.runner.Runner.answered.Goals as goal
 pub loop-caller-preserved : goal.loop-caller-preserved
 loop-caller-preserved c =
     let w = c.args.world.now in
-    let h = c.args.self.now.history in (
+    let h = c.args.self.now.history.entries in (
       answered_next w h c.loop-caller.caller c.loop-caller.answered c.answered_of.result (answered_steps w h)
           (omega (arith, c.loop-caller-test.true, c.len-caller-end.ensures)) (λ s is. c.answered_of.ensures w s c.requires is) c.loop-caller.invariant.0,
       omega (arith, c.loop-caller.invariant.1, c.answered_of.type_inv),
@@ -15,6 +15,6 @@ loop-caller-preserved c =
 pub returns : goal.returns
 returns c =
     let w = c.args.world.now in
-    let h = c.args.self.now.history in
+    let h = c.args.self.now.history.entries in
     answered_all w h c.loop-caller.caller c.loop-caller.answered (answered_steps w h)
     (omega (arith, c.loop-caller-test.false, c.len-caller-end.ensures)) c.loop-caller.invariant.0

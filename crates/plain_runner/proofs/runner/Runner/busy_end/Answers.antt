@@ -1,7 +1,7 @@
 use Rattle.std.proofs.Common.{◌≡◌, ◌==◌, ◌&&◌, ℕ, false, length, refl, sym, ◌∙◌, arith}
 use Rattle.net_base.specs.Calm.{most_entries}
 use Rattle.net_base.specs.Next.{by}
-use Rattle.plain_runner.specs.Rounds.{could}
+use Rattle.plain_runner.specs.Waiting.{could}
 use Rattle.plain_runner.proofs.Could.{limit_told, none_told}
 use Rattle.plain_runner.proofs.Ranges.{and_left, and_right, none_more}
 use Rattle.plain_runner.proofs.runner.Runner.busy_end.Goals as goal
@@ -15,7 +15,7 @@ returns-then-could c = λ w s busy.
 
 pub loop-caller-preserved : goal.loop-caller-preserved
 loop-caller-preserved c = λ w s.
-    let h = c.args.self.now.history in
+    let h = c.args.self.now.history.entries in
     let n = c.loop-caller.caller in
     let none : ((length (by h n) == most_entries) && could w h n) ≡ false =
     elim c.else-is_full.branch [

@@ -3,7 +3,7 @@ use Rattle.plain_runner.proofs.Opening.{opening_tracks}
 use Rattle.plain_runner.proofs.runner.Runner.new.Goals as goal
 
 pub returns-clause-tracks : goal.returns-clause-tracks
-returns-clause-tracks c = opening_tracks c.args.world.now _ c.requires c.new-3.ensures refl c.in_ok-callers.ensures c.in_ok-net.ensures c.in_ok-ways.ensures
+returns-clause-tracks c = opening_tracks c.args.world.now _ c.requires c.fresh.ensures refl refl c.in_ok-callers.ensures c.in_ok-net.ensures c.in_ok-ways.ensures
 
 pub returns-clause-empty : goal.returns-clause-empty
-returns-clause-empty c = c.new-3.ensures
+returns-clause-empty c = c.fresh.ensures

@@ -1,5 +1,5 @@
 use Rattle.std.proofs.Common.{refl}
-use Rattle.plain_runner.proofs.Recorded.{come, got, on_ok, recorded_so}
+use Rattle.plain_runner.proofs.Recorded.{come, got, recorded_so}
 use Rattle.plain_runner.proofs.runner.Runner.record.Goals as goal
 
 pub record-requires : goal.record-requires
@@ -8,18 +8,17 @@ record-requires c =
     let k = c.index_mut.result.now in
     record {
       world = c.requires.ready.0;
-      past = r.history;
-      comes = come c.requires.ready.0 r c.args.caller c.args.turn k c.len-stamp.result c.requires.ready.1
-          (got r.callers.items c.args.caller k c.requires.caller c.index_mut.ensures.value) c.len-stamp.ensures;
+      past = r.history.entries;
+      comes = come c.requires.ready.0 r c.args.caller c.args.turn k c.requires.ready.1
+          (got r.callers.items c.args.caller k c.requires.caller c.index_mut.ensures.value);
     }
 
 pub returns : goal.returns
 returns c =
     let r = c.args.self.now in
     let k = c.index_mut.result.now in
-    on_ok c.push.result (λ pushed w before.
+    λ w before.
     recorded_so w r _ c.args.caller c.args.turn c.record.new.caller c.in_ok-entry.entry c.requires.caller before
-    (c.in_ok-entry.ensures w r.history
-    (come w r c.args.caller c.args.turn k c.len-stamp.result before
-    (got r.callers.items c.args.caller k c.requires.caller c.index_mut.ensures.value) c.len-stamp.ensures))
-    pushed refl refl c.moment_after-self.ensures) c.push.ensures.ok
+    (c.in_ok-entry.ensures w r.history.entries
+    (come w r c.args.caller c.args.turn k before (got r.callers.items c.args.caller k c.requires.caller c.index_mut.ensures.value)))
+    c.with.ensures refl refl refl c.moment_after-self.ensures
