@@ -153,5 +153,9 @@ IsGiven None asked input answer = IsFound asked input answer
 IsGiven (Some bad) asked input answer = answer ≡ bad_input bad.0 bad.1
 
 -- an answer to a command and its input
-abbrev pub IsAnswer : Command → List ℕ → Answer → Type 0
-IsAnswer asked input answer = (found : Option (ℕ × ℕ)) × IsFirstBad asked input found × IsGiven found asked input answer
+pub record IsAnswer (asked : Command) (input : List ℕ) (answer : Answer) : Type 0 where
+  pub found : Option (ℕ × ℕ)
+  pub first : IsFirstBad asked input found
+  -- and no other line is the first bad one
+  pub only : (other : Option (ℕ × ℕ)) → IsFirstBad asked input other → other ≡ found
+  pub given : IsGiven found asked input answer
