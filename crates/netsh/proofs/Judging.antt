@@ -19,7 +19,7 @@ use Rattle.netcheck.specs.declared.checking.CheckError.TheVariants as error
 use Rattle.netcheck.specs.Judged.{HasFault}
 use Rattle.world_text.specs.WorldText.{world_reading}
 use Rattle.netsh.specs.Built.{IsAnswer, IsBadLine, IsFirstBad, IsGiven, IsJudged}
-use Rattle.netsh.specs.Checked.{bad_world, no_history, parts_of, Handed, IsBadFrom, IsBadHanded, IsBadHistory, IsBroken, IsChecked, IsEntryFault, IsOwn, IsSummaryFault, KeepsAll, Parts}
+use Rattle.netsh.specs.Checked.{bad_world, no_history, parts_of, Handed, IsBadFrom, IsBadHanded, IsBadHistory, IsBroken, IsChecked, IsEntryFault, IsOwn, IsSummaryFault, KeepsAll, Parts, TellsFault}
 use Rattle.netsh.proofs.Endings.{answer_within, within_limit}
 
 -- The rules.
@@ -93,6 +93,15 @@ module _ (w : World) (h : List Entry) (told : Option (List ℕ)) (answer : Answe
         | inl e ↦ ap (λ (k : ℕ). rule_broken k rule) (stamps s (rule_number f.broken) e) ∙ ap (rule_broken s) (rules_are s (rule_number f.broken) e ∙ sym f.number)
         | inr e ↦ absurd (not_memory e)
       ]
+
+  -- so the checker says, by its error
+  pub error_breaks : (result : Result Unit CheckError) (fault : CheckError) → result ≡ Err fault
+      → ((stamp rule : ℕ) → result ≡ Err (error.Fault stamp rule) → HasFault w h stamp rule)
+      → (IsLegal w h → IsTimed w h → IsOkUnless result error.Memory)
+      → ((s : ℕ) (r : Rule) → IsFault w h s r → IsErrAnd result (λ e. (e ≡ error.Fault s (rule_number r)) ⊎ (e ≡ error.Memory)))
+      → TellsFault fault answer → IsChecked w h told answer
+  error_breaks result error.Memory is has passes tells given = absurd given
+  error_breaks result (error.Fault stamp rule) is has passes tells given = entry_breaks result stamp rule is (has stamp rule is) passes tells given
 
 -- The input.
 

@@ -12,6 +12,8 @@ use Rattle.net_base.specs.Legal.{IsFault, IsLegal, IsTimed, Rule, rule_number}
 use Rattle.net_base.specs.Summary.{summary}
 use Rattle.net_model.specs.Answers.{Answer, all_kept, rule_broken}
 use Rattle.history_reader.specs.Spelling as printed
+use Rattle.netcheck.specs.declared.checking.CheckError.{CheckError}
+use Rattle.netcheck.specs.declared.checking.CheckError.TheVariants as error
 use Rattle.world_text.specs.declared.line.LineCause.TheVariants as cause
 use Rattle.world_text.specs.LineCauses.{number_of}
 use Rattle.world_text.specs.WorldSpelling.{laid}
@@ -126,3 +128,8 @@ pub record IsChecked (w : World) (h : List Entry) (told : Option (List ℕ)) (an
   pub broken : (stamp rule : ℕ) → IsBroken w h told stamp rule → answer ≡ rule_broken stamp rule
   -- and one of both it is
   pub judged : KeepsAll w h told ⊎ BreaksOne w h told
+
+-- so answers an error of the checker that isn't want of memory
+abbrev pub TellsFault : CheckError → Answer → Type 0
+TellsFault error.Memory answer = ⊥
+TellsFault (error.Fault stamp rule) answer = answer ≡ rule_broken stamp rule

@@ -8,7 +8,7 @@ ghost use Rattle.net_model.specs.Answers.{input_limit};
 ghost use Rattle.net_model.specs.Words.{Check as AnyCheck};
 ghost use Rattle.world_text.specs.WorldText.{cuts_of, world_reading};
 ghost use Rattle.netsh.specs.Built.{IsAnswer};
-ghost use Rattle.netsh.specs.Checked.{IsChecked, IsOwn, parts_of};
+ghost use Rattle.netsh.specs.Checked.{IsChecked, IsOwn, TellsFault, parts_of};
 
 use crate::answer::Answer;
 use history_reader::{LineError, read_transcript};
@@ -173,8 +173,17 @@ fn judge(
 {
     match netcheck::check(alloc, world, history) {
         Ok(()) => judge_summary(alloc, world, history, told),
-        Err(CheckError::Fault { stamp, rule }) => Answer::rule_broken(alloc, stamp, rule),
-        Err(CheckError::Memory) => Err(AllocError),
+        Err(error) => tell_fault(alloc, error),
+    }
+}
+
+/// The stamp and the rule of a history that breaks one, unless there was no memory to see it.
+fn tell_fault(alloc: Global, error: CheckError) -> Result<Answer, AllocError>
+    ensures { IfOk result (TellsFault error) }
+{
+    match error {
+        CheckError::Fault { stamp, rule } => Answer::rule_broken(alloc, stamp, rule),
+        CheckError::Memory => Err(AllocError),
     }
 }
 
