@@ -7,9 +7,6 @@ use Rattle.world_text.specs.WorldSpelling.{laid}
 use Rattle.world_text.specs.WorldText.{Cut, cuts_of, with_first}
 use Rattle.netsh.specs.Checked.{Parts, is_mark, lines_before, mark_of, parts_at, parts_of}
 
-line_of : Cut → List ℕ
-line_of cut = cut.line
-
 -- The first line.
 
 none_there : (c : Cut) (cs : List Cut) → [] ≡ c ∷ cs → ⊥
@@ -19,14 +16,13 @@ first_of : (c d : Cut) (cs ds : List Cut) → c ∷ cs ≡ d ∷ ds → c ≡ d
 first_of c d cs ds is = cc
 
 -- a line, its newline and what stands behind it, or nothing stands behind it
-EndsSo : List ℕ → Cut → Type 0
+abbrev EndsSo : List ℕ → Cut → Type 0
 EndsSo text c = (text ≡ c.line ++ 10 ∷ c.behind) ⊎ (c.behind ≡ [])
 
 is_newline_byte : (b : ℕ) → is_newline b ≡ true → b ≡ 10
 is_newline_byte b is = grind (arith, nat_tests)
 
 ends_first : (text : List ℕ) (c : Cut) (cs : List Cut) → cuts_of text ≡ c ∷ cs → EndsSo text c
-unfolding EndsSo
 ends_first [] c cs is = absurd (none_there c cs is)
 ends_first (b ∷ bytes) c cs is = by (is_newline b) refl (cuts_of bytes) refl (ends_first bytes) is
   where
@@ -68,9 +64,6 @@ before_true : (line : List ℕ) (lines : List (List ℕ)) → before_by true lin
 unfolding before_by
 before_true line lines = refl
 
-lines_in : List Cut → List (List ℕ)
-lines_in cuts = map (λ (c : Cut). c.line) cuts
-
 passed_before : (rest : List ℕ) (c : Cut) (cs : List Cut) → cuts_of rest ≡ c ∷ cs → is_mark c.line ≡ false
     → lines_before rest ≡ c.line ∷ before_first is_mark (map (λ (d : Cut). d.line) cs)
 passed_before rest c cs is not_it =
@@ -96,14 +89,13 @@ at_front (x ∷ xs) ys = ap (λ (zs : List ℕ). x ∷ zs) (at_front xs ys)
 pub record Passed (text rest : List ℕ) (n : ℕ) : Type 0 where
   pub lines : List (List ℕ)
   pub count : n ≡ length lines
-  pub room : n + length rest ≤ length text
   pub marks : mark_of text ≡ mark_of rest
   pub before : lines_before text ≡ lines ++ lines_before rest
   pub parts : (text ≡ laid lines ++ rest) ⊎ (rest ≡ [])
   pub all : length (cuts_of text) ≡ n + length (cuts_of rest)
 
 pub passed_none : (text : List ℕ) → Passed text text 0
-passed_none text = record { lines = []; count = refl; room = omega arith; marks = refl; before = refl; parts = inl refl; all = refl }
+passed_none text = record { lines = []; count = refl; marks = refl; before = refl; parts = inl refl; all = refl }
 
 -- one line more
 pub passed_more : (text rest line behind : List ℕ) (n : ℕ) → Passed text rest n → cuts_of rest ≡ record { line = line; behind = behind } ∷ cuts_of behind
@@ -113,7 +105,6 @@ passed_more text rest line behind n p is less not_it =
     record {
       lines = p.lines ++ line ∷ [];
       count = omega (arith, p.count, length-append p.lines (line ∷ []));
-      room = omega (arith, p.room, less);
       marks = p.marks ∙ passed_mark rest c (cuts_of behind) is not_it;
       before = p.before ∙ (ap (λ (ls : List (List ℕ)). p.lines ++ ls) (passed_before rest c (cuts_of behind) is not_it) ∙ sym (append_assoc p.lines (line ∷ []) (lines_before behind)));
       parts = by p.parts (ends_first rest c (cuts_of behind) is);
@@ -121,7 +112,6 @@ passed_more text rest line behind n p is less not_it =
     }
   where
     by : (text ≡ laid p.lines ++ rest) ⊎ (rest ≡ []) → EndsSo rest (record { line = line; behind = behind }) → (text ≡ laid (p.lines ++ line ∷ []) ++ behind) ⊎ (behind ≡ [])
-    unfolding EndsSo
     by _ (inr none) = inr none
     by (inr none) (inl ends) = absurd (omega (arith, less, ap (λ (xs : List ℕ). length xs) none))
     by (inl so) (inl ends) =
@@ -156,3 +146,13 @@ parts_found text rest line behind n p is less it =
     by (inl so) =
         let long : length text - length rest ≡ length (laid p.lines) = omega (arith, ap (λ (xs : List ℕ). length xs) so, length-append (laid p.lines) rest) in
         ap (λ (k : ℕ). take k text) long ∙ (ap (λ (xs : List ℕ). take (length (laid p.lines)) xs) so ∙ at_front (laid p.lines) rest)
+
+-- lines are no more than bytes
+pub cuts_few : (text : List ℕ) → length (cuts_of text) ≤ length text
+cuts_few [] = omega arith
+cuts_few (b ∷ bytes) = by (is_newline b) (cuts_of bytes) (cuts_few bytes)
+  where
+    by : (v : Bool) (more : List Cut) → length more ≤ length bytes → length (cond v (record { line = []; behind = bytes } ∷ more) (with_first b more)) ≤ length (b ∷ bytes)
+    by true more few = omega (arith, few)
+    by false [] few = omega arith
+    by false (c ∷ cs) few = omega (arith, few)

@@ -17,7 +17,9 @@ use Rattle.history_reader.specs.declared.fault.LineError.TheVariants as refused
 use Rattle.netcheck.specs.declared.checking.CheckError.{CheckError}
 use Rattle.netcheck.specs.declared.checking.CheckError.TheVariants as error
 use Rattle.netcheck.specs.Judged.{HasFault}
-use Rattle.world_text.specs.WorldText.{world_reading}
+use Rattle.world_text.specs.declared.line.LineCause.TheVariants as cause
+use Rattle.world_text.specs.LineCauses.{number_of}
+use Rattle.world_text.specs.WorldText.{cuts_of, world_reading}
 use Rattle.netsh.specs.Built.{IsAnswer, IsBadLine, IsFirstBad, IsGiven, IsJudged}
 use Rattle.netsh.specs.Checked.{bad_world, no_history, parts_of, Handed, IsBadFrom, IsBadHanded, IsBadHistory, IsBroken, IsChecked, IsEntryFault, IsOwn, IsSummaryFault, KeepsAll, Parts, TellsFault}
 use Rattle.netsh.proofs.Endings.{answer_within, within_limit}
@@ -63,11 +65,11 @@ module _ (w : World) (h : List Entry) (told : Option (List ℕ)) (answer : Answe
   }
 
   -- one of the first eight is broken
-  pub entry_breaks : (result : Result Unit CheckError) (stamp rule : ℕ) → result ≡ Err (error.Fault stamp rule) → HasFault w h stamp rule
+  pub entry_breaks : {T : Type 0} (result : Result T CheckError) (stamp rule : ℕ) → result ≡ Err (error.Fault stamp rule) → HasFault w h stamp rule
       → (IsLegal w h → IsTimed w h → IsOkUnless result error.Memory)
       → ((s : ℕ) (r : Rule) → IsFault w h s r → IsErrAnd result (λ e. (e ≡ error.Fault s (rule_number r)) ⊎ (e ≡ error.Memory)))
       → answer ≡ rule_broken stamp rule → IsChecked w h told answer
-  entry_breaks result stamp rule is fault passes tells given = record {
+  entry_breaks {T = T} result stamp rule is fault passes tells given = record {
     kept = λ keeps. absurd (not_passed keeps.legal keeps.timed);
     broken = λ s r broken. elim broken [
       | inl f ↦ given ∙ same s r f
@@ -80,7 +82,7 @@ module _ (w : World) (h : List Entry) (told : Option (List ℕ)) (answer : Answe
       not_memory e = cc
 
       not_passed : IsLegal w h → IsTimed w h → ⊥
-      not_passed legal timed = not_memory (subst (λ (r : Result Unit CheckError). IsOkUnless r error.Memory) is (passes legal timed))
+      not_passed legal timed = not_memory (subst (λ (r : Result T CheckError). IsOkUnless r error.Memory) is (passes legal timed))
 
       stamps : (s r : ℕ) → error.Fault stamp rule ≡ error.Fault s r → stamp ≡ s
       stamps s r e = cc
@@ -89,13 +91,13 @@ module _ (w : World) (h : List Entry) (told : Option (List ℕ)) (answer : Answe
       rules_are s r e = cc
 
       same : (s r : ℕ) → IsEntryFault w h s r → rule_broken stamp rule ≡ rule_broken s r
-      same s r f = elim (subst (λ (q : Result Unit CheckError). IsErrAnd q (λ e. (e ≡ error.Fault s (rule_number f.broken)) ⊎ (e ≡ error.Memory))) is (tells s f.broken f.fault)) [
+      same s r f = elim (subst (λ (q : Result T CheckError). IsErrAnd q (λ e. (e ≡ error.Fault s (rule_number f.broken)) ⊎ (e ≡ error.Memory))) is (tells s f.broken f.fault)) [
         | inl e ↦ ap (λ (k : ℕ). rule_broken k rule) (stamps s (rule_number f.broken) e) ∙ ap (rule_broken s) (rules_are s (rule_number f.broken) e ∙ sym f.number)
         | inr e ↦ absurd (not_memory e)
       ]
 
   -- so the checker says, by its error
-  pub error_breaks : (result : Result Unit CheckError) (fault : CheckError) → result ≡ Err fault
+  pub error_breaks : {T : Type 0} (result : Result T CheckError) (fault : CheckError) → result ≡ Err fault
       → ((stamp rule : ℕ) → result ≡ Err (error.Fault stamp rule) → HasFault w h stamp rule)
       → (IsLegal w h → IsTimed w h → IsOkUnless result error.Memory)
       → ((s : ℕ) (r : Rule) → IsFault w h s r → IsErrAnd result (λ e. (e ≡ error.Fault s (rule_number r)) ⊎ (e ≡ error.Memory)))
@@ -133,12 +135,14 @@ world_good IsBehind read w is found = (
 abbrev lacks : List ℕ → Option (ℕ × ℕ) → Type 0
 lacks input found = found ≡ Some (no_history input)
 
-pub lacks_history : (input : List ℕ) (w : World) (answer : Answer) → length input ≤ input_limit Check → parts_of input ≡ None → world_reading input ≡ Ok w
-    → answer ≡ bad_input (no_history input).0 (no_history input).1 → IsAnswer Check input answer
-lacks_history input w answer fits none is given =
+pub lacks_history : (input : List ℕ) (w : World) (lines number : ℕ) (answer : Answer) → length input ≤ input_limit Check → parts_of input ≡ None
+    → world_reading input ≡ Ok w → lines ≡ length (cuts_of input) → number ≡ number_of cause.MissingPart → answer ≡ bad_input (lines + 1) number
+    → IsAnswer Check input answer
+lacks_history input w lines number answer fits none is count missing given =
     by_parts input answer None (Some (no_history input)) fits none
     ((world_good (lacks input) (world_reading input) w is (Some (no_history input))).1 refl)
-    (λ other told. (world_good (lacks input) (world_reading input) w is other).0 told) given
+    (λ other told. (world_good (lacks input) (world_reading input) w is other).0 told)
+    (given ∙ (ap (λ (k : ℕ). bad_input (k + 1) number) count ∙ ap (bad_input (length (cuts_of input) + 1)) missing))
 
 pub lacks_world : (input : List ℕ) (line cause : ℕ) (answer : Answer) → length input ≤ input_limit Check → parts_of input ≡ None
     → world_reading input ≡ Err (line, cause) → answer ≡ bad_input line cause → IsAnswer Check input answer
@@ -164,9 +168,6 @@ module _ (input : List ℕ) (parts : Parts) (w : World) (answer : Answer) (read 
     (are : parts_of input ≡ Some parts) (is_world : world_reading parts.world ≡ Ok w)
     (only : (h : List Entry) (told : Option (List ℕ)) → printed.Spells parts.history h told → Tells h told read)
     (bad : (line cause : ℕ) → printed.IsBad parts.history line cause → TellsBad line cause read) where
-  behind_it : Option (ℕ × ℕ) → Type 0
-  behind_it found = IsBadHistory (parts.lines + 1) parts.history found
-
   by_history : (found : Option (ℕ × ℕ)) → IsBadHistory (parts.lines + 1) parts.history found
       → ((other : Option (ℕ × ℕ)) → IsBadHistory (parts.lines + 1) parts.history other → other ≡ found) → IsGiven found Check input answer → IsAnswer Check input answer
   by_history found told one given =
@@ -189,9 +190,9 @@ module _ (input : List ℕ) (parts : Parts) (w : World) (answer : Answer) (read 
           both (a, b) (c, d) first second = rw (first, second) refl
 
   -- it is a history, which is judged
-  pub history_judged : (h : List Entry) (told : Option (List ℕ)) → read ≡ Ok (h, told) → printed.Spells parts.history h told → IsChecked w h told answer
+  pub history_judged : (r : List Entry × Option (List ℕ)) → read ≡ Ok r → printed.Spells parts.history r.0 r.1 → IsChecked w r.0 r.1 answer
       → IsAnswer Check input answer
-  history_judged h told is spells checked = by_history None (h, told, spells) one given
+  history_judged r is spells checked = by_history None (r.0, r.1, spells) one given
     where
       one : (other : Option (ℕ × ℕ)) → IsBadHistory (parts.lines + 1) parts.history other → other ≡ None
       one None _ = refl
@@ -204,7 +205,7 @@ module _ (input : List ℕ) (parts : Parts) (w : World) (answer : Answer) (read 
           let told_is = subst (Tells handed.history handed.told) is (only handed.history handed.told (subst (λ (p : Parts). printed.Spells p.history handed.history handed.told) (sym parts_are) handed.spelled)) in
           subst (λ (v : World). IsChecked v handed.history handed.told answer) world_is
           (subst (λ (k : List Entry). IsChecked w k handed.told answer) told_is.0
-          (subst (λ (s : Option (List ℕ)). IsChecked w h s answer) told_is.1 checked))
+          (subst (λ (s : Option (List ℕ)). IsChecked w r.0 s answer) told_is.1 checked))
         where
           same_some : {p q : Parts} → Some p ≡ Some q → p ≡ q
           same_some e = cc
@@ -214,6 +215,11 @@ module _ (input : List ℕ) (parts : Parts) (w : World) (answer : Answer) (read 
 
 -- Lines.
 
+long_line : (stamp : ℕ) (x : Entry) → 1 ≤ length (line_of stamp x)
+unfolding line_of
+long_line stamp x =
+    omega (arith, length-append (numeral stamp) (spaced (entry_words x) ++ 10 ∷ []), length-append (spaced (entry_words x)) (10 ∷ []))
+
 -- a history has a line an entry
 long_text : (stamp : ℕ) (h : List Entry) → length h ≤ length (lines_from stamp h)
 long_text stamp [] = omega arith
@@ -221,11 +227,6 @@ long_text stamp (x ∷ h) =
     let more = long_text (stamp + 1) h in
     let line = long_line stamp x in
     omega (arith, more, line, length-append (line_of stamp x) (lines_from (stamp + 1) h))
-  where
-    long_line : (stamp : ℕ) (x : Entry) → 1 ≤ length (line_of stamp x)
-    unfolding line_of
-    long_line stamp x =
-        omega (arith, length-append (numeral stamp) (spaced (entry_words x) ++ 10 ∷ []), length-append (spaced (entry_words x)) (10 ∷ []))
 
 -- a summary has four lines at most
 few_lines : (lines : List (List ℕ)) → AreLinesFrom 0 lines → length lines ≤ 4

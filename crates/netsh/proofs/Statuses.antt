@@ -275,9 +275,13 @@ module _ (command : Option Command) (status : ℕ) (intake : Intake) (output : O
   same_command : (asked other : Command) → command ≡ Some asked → command ≡ Some other → other ≡ asked
   same_command asked other one two = ap (λ (o : Option Command). unwrap_or o other) (sym two ∙ one)
 
+  -- what is answered to `make`
+  made_given : (messages : ℕ) (input : List ℕ) (answer : Answer) → IsAnswer (Make messages) input answer → answer ≡ made messages
+  made_given messages input answer is = subst (λ (found : Option (ℕ × ℕ)). IsGiven found (Make messages) input answer) is.first is.given
+
   -- how a call of `make` ends
   made_by : (messages : ℕ) (asked : Command) (answer : Answer) → Make messages ≡ asked → Answers asked answer intake → answer.status ≡ 0
-  made_by messages asked answer is answers = made_status messages answer (subst (λ (c : Command). IsAnswer c answers.input answer) (sym is) answers.right)
+  made_by messages asked answer is answers = made_status messages answer (made_given messages answers.input answer (subst (λ (c : Command). IsAnswer c answers.input answer) (sym is) answers.right))
 
   makes : Ends command status intake output → (messages : ℕ) → command ≡ Some (Make messages) → (status ≡ 0) ⊎ (status ≡ 7) ⊎ (status ≡ 8)
   makes (no_row none unread_source told) messages is_make = absurd (some_none (Make messages) (sym is_make ∙ none))

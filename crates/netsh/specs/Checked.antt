@@ -4,7 +4,7 @@
 --     Handed                the world, the history and the summary that it says
 --     KeepsAll, IsBroken    whether all nine rules hold, or which one is broken first
 --     IsChecked             the answer
-use Rattle.std.specs.Prelude.{◌≡◌, ℕ, ◌+◌, ◌⊎◌, Bool, List, [], ◌∷◌, length, map, find, bytes_eq, codes, Option, Some, None, Result, Ok, Err, ⊤, ⊥}
+use Rattle.std.specs.Prelude.{◌≡◌, ℕ, ◌+◌, ◌⊎◌, Bool, List, [], ◌∷◌, length, map, find, bytes_eq, codes, Option, Some, None, Result, Ok, Err, ⊤}
 use Rattle.std.specs.List.{before_first}
 use Rattle.net_base.specs.declared.history.Entry.{Entry}
 use Rattle.net_base.specs.declared.world.World.{World}

@@ -8,7 +8,7 @@ ghost use Rattle.net_model.specs.Answers.{input_limit};
 ghost use Rattle.net_model.specs.Words.{Check as AnyCheck};
 ghost use Rattle.world_text.specs.WorldText.{cuts_of, world_reading};
 ghost use Rattle.netsh.specs.Built.{IsAnswer};
-ghost use Rattle.netsh.specs.Checked.{IsChecked, IsOwn, TellsFault, parts_of};
+ghost use Rattle.netsh.specs.Checked.{IsChecked, IsOwn, TellsFault, is_mark, parts_of};
 
 use crate::answer::Answer;
 use history_reader::{LineError, read_transcript};
@@ -19,9 +19,6 @@ use std::alloc::{AllocError, Global};
 use std::mem;
 use world_file::{WorldError, read_world};
 use world_text::LineCause;
-
-/// The line that stands between a world and a history.
-const MARK: &str = "%history";
 
 /// The number of the rule that a summary is the history's.
 const SUMMARY_RULE: u32 = 9;
@@ -60,7 +57,7 @@ fn split(input: &[u8]) -> Result<Parts<'_>, u64>
     let mut lines: u64 = 0;
     while !rest.is_empty() {
         let (line, behind) = cut(rest);
-        if line == MARK.as_bytes() {
+        if is_mark(line) {
             return Ok(Parts {
                 world: &input[..input.len() - rest.len()],
                 lines,
@@ -71,6 +68,13 @@ fn split(input: &[u8]) -> Result<Parts<'_>, u64>
         rest = behind;
     }
     Err(lines)
+}
+
+/// Whether a line is the one between.
+fn is_mark(line: &[u8]) -> bool
+    ensures { result ≡ is_mark line.now }
+{
+    line == b"%history".as_slice()
 }
 
 /// The first line of a text, and what stands behind its newline.
@@ -200,7 +204,8 @@ fn judge_summary(
     ensures { IfOk result (λ answer. IsChecked world.now history.now told.now answer) }
 {
     let entries = history.len() as u64;
-    if is_own(alloc, world, history, told)? {
+    let own = is_own(alloc, world, history, told)?;
+    if own {
         return Answer::all_kept(alloc, entries);
     }
     Answer::rule_broken(alloc, entries, SUMMARY_RULE)

@@ -63,7 +63,7 @@ fn tell_answer<K: Sink>(sink: &mut K, answered: Result<Answer, TakeError>) -> u8
 
 /// The answer to a command that never waits and to its input, if it has one, which is within the limit.
 fn answer_over(alloc: Global, question: Question<'_>, input: &[u8]) -> Result<Answer, AllocError>
-    requires { length input.now ≤ input_limit (question_read question.entry) }
+    requires { length input.now ≤ input_limit (question_read question) }
     ensures { IfOk result (λ answer. IsAnswer (question_read question.entry) input.now answer) }
 {
     match question {
