@@ -112,12 +112,13 @@ reading_failed asked intake error.Failed has taken failed same = (has, failed re
 reading_failed asked intake error.Memory has taken failed same = took_some asked intake (λ none. absurd (true≢false (sym has ∙ none))) (same memory_is_no_fault)
 
 pub answered_failed :
-    (asked : Command) (intake : Intake) (fault : TakeError) (result : Result Answer TakeError) → result ≡ Err fault → reads asked ≡ true →
-    ConsumedToEnd intake.left intake.rest (input_limit asked) (failing fault) →
+    (asked : Command) (intake : Intake) (limit : ℕ) (fault : TakeError) (result : Result Answer TakeError) → limit ≡ input_limit asked → result ≡ Err fault → reads asked ≡ true →
+    ConsumedToEnd intake.left intake.rest limit (failing fault) →
     (failing fault ≡ failing error.Failed → Rose intake.before intake.after) → (failing fault ≢ failing error.Failed → intake.after ≡ intake.before) →
     IsAnswered asked intake result
-answered_failed asked intake fault result is has taken failed same =
-    subst (λ (r : Result Answer TakeError). IsAnswered asked intake r) (sym is) (reading_failed asked intake fault has taken failed same)
+answered_failed asked intake limit fault result limit_is is has taken failed same =
+    subst (λ (r : Result Answer TakeError). IsAnswered asked intake r) (sym is)
+    (reading_failed asked intake fault has (subst (λ (n : ℕ). ConsumedToEnd intake.left intake.rest n (failing fault)) limit_is taken) failed same)
 
 -- the text of a made world
 pub made_answer : (messages : ℕ) (w : World) (text : List ℕ) (answer : Answer) → w ≡ made_world messages → text ≡ file_text w → answer ≡ record { status = 0; text = text } → answer ≡ made messages

@@ -1,5 +1,5 @@
 -- What each command gives is an answer to its input.
-use Rattle.std.proofs.Common.{◌≡◌, ℕ, ◌≤◌, List, length, Option, Some, None, Result, Ok, Err, IfOk, refl, sym, ◌∙◌, ap}
+use Rattle.std.proofs.Common.{◌≡◌, ℕ, ◌≤◌, List, length, Option, Some, None, Result, Ok, Err, IfOk, refl, sym, ◌∙◌, ap, subst}
 use Rattle.std.proofs.lemmas.Result.{IfOk-weaker}
 use Rattle.net_base.specs.declared.world.World.{World}
 use Rattle.net_base.specs.NdbBundle as bundle
@@ -8,6 +8,8 @@ use Rattle.net_model.specs.Words.{Command, Cs, Query, Run, Make, Big}
 use Rattle.world_text.specs.WorldText.{world_reading}
 use Rattle.netsh.specs.Built.{cs_found, cs_over, made, query_found, query_over, unless_bad, IsAnswer, IsFound, IsGiven, IsRun, IsSummed, IsWorldOf}
 use Rattle.netsh.specs.Checked.{bad_world}
+use Rattle.netsh.specs.Commands.{question_read}
+use Rattle.netsh.specs.declared.command.Question.{Question}
 use Rattle.netsh.proofs.Endings.{answer_within, within_limit}
 
 -- what was found, unless a line is bad
@@ -49,3 +51,11 @@ pub gives_bad_run : (workers : ℕ) (input : List ℕ) (line cause : ℕ) (answe
 gives_bad_run workers input line cause answer fits is bad =
     let found : bad_world (world_reading input) ≡ Some (line, cause) = ap bad_world is in
     answer_within (Run workers) input answer (Some (line, cause)) (within_limit (Run workers) input fits) (sym found) (λ other told. told ∙ found) bad
+
+-- by the command that never waits
+pub by_question : (q r : Question) → q ≡ r → (input : List ℕ) (answer : Answer)
+    → (length input ≤ input_limit (question_read r) → IsAnswer (question_read r) input answer)
+    → length input ≤ input_limit (question_read q) → IsAnswer (question_read q) input answer
+by_question q r is input answer given fits =
+    subst (λ (k : Question). IsAnswer (question_read k) input answer) (sym is)
+    (given (subst (λ (k : Question). length input ≤ input_limit (question_read k)) is fits))

@@ -95,7 +95,7 @@ pub record Passed (text rest : List ℕ) (n : ℕ) : Type 0 where
   pub all : length (cuts_of text) ≡ n + length (cuts_of rest)
 
 pub passed_none : (text : List ℕ) → Passed text text 0
-passed_none text = record { lines = []; count = refl; marks = refl; before = refl; parts = inl refl; all = refl }
+passed_none text = record { lines = []; count = refl; marks = refl; before = refl; parts = inl refl; all = omega arith }
 
 -- one line more
 pub passed_more : (text rest line behind : List ℕ) (n : ℕ) → Passed text rest n → cuts_of rest ≡ record { line = line; behind = behind } ∷ cuts_of behind
@@ -121,12 +121,17 @@ passed_more text rest line behind n p is less not_it =
         ∙ (sym (append_assoc (laid p.lines) (line ++ 10 ∷ []) behind)
         ∙ ap (λ (xs : List ℕ). xs ++ behind) (sym (laid_more p.lines line))))))
 
+nothing_left : (rest : List ℕ) → length rest ≡ 0 → rest ≡ []
+nothing_left [] none = refl
+nothing_left (x ∷ rest) none = absurd (omega (arith, none))
+
 -- no line is the one between
-pub passed_all : (text rest : List ℕ) (n : ℕ) → Passed text rest n → rest ≡ [] → (parts_of text ≡ None) × (n ≡ length (cuts_of text))
-passed_all text rest n p none = (
-  ap (parts_at (lines_before text)) (p.marks ∙ ap mark_of none),
-  omega (arith, p.all, ap (λ (xs : List ℕ). length (cuts_of xs)) none),
-)
+pub passed_all : (text rest : List ℕ) (n : ℕ) → Passed text rest n → length rest ≡ 0 → (parts_of text ≡ None) × (n ≡ length (cuts_of text))
+passed_all text rest n p zero =
+    let none = nothing_left rest zero in (
+      ap (parts_at (lines_before text)) (p.marks ∙ ap mark_of none),
+      omega (arith, p.all, ap (λ (xs : List ℕ). length (cuts_of xs)) none),
+    )
 
 -- the next is
 pub parts_found : (text rest line behind : List ℕ) (n : ℕ) → Passed text rest n → cuts_of rest ≡ record { line = line; behind = behind } ∷ cuts_of behind

@@ -215,10 +215,14 @@ module _ (input : List ℕ) (parts : Parts) (w : World) (answer : Answer) (read 
 
 -- Lines.
 
-long_line : (stamp : ℕ) (x : Entry) → 1 ≤ length (line_of stamp x)
+line_is : (stamp : ℕ) (x : Entry) → line_of stamp x ≡ numeral stamp ++ (spaced (entry_words x) ++ 10 ∷ [])
 unfolding line_of
+line_is stamp x = refl
+
+long_line : (stamp : ℕ) (x : Entry) → 1 ≤ length (line_of stamp x)
 long_line stamp x =
-    omega (arith, length-append (numeral stamp) (spaced (entry_words x) ++ 10 ∷ []), length-append (spaced (entry_words x)) (10 ∷ []))
+    let is : length (line_of stamp x) ≡ length (numeral stamp ++ (spaced (entry_words x) ++ 10 ∷ [])) = ap (λ (xs : List ℕ). length xs) (line_is stamp x) in
+    omega (arith, is, length-append (numeral stamp) (spaced (entry_words x) ++ 10 ∷ []), length-append (spaced (entry_words x)) (10 ∷ []))
 
 -- a history has a line an entry
 long_text : (stamp : ℕ) (h : List Entry) → length h ≤ length (lines_from stamp h)
@@ -235,7 +239,7 @@ few_lines (a ∷ []) are = omega arith
 few_lines (a ∷ b ∷ []) are = omega arith
 few_lines (a ∷ b ∷ c ∷ []) are = omega arith
 few_lines (a ∷ b ∷ c ∷ d ∷ []) are = omega arith
-few_lines (a ∷ b ∷ c ∷ d ∷ e ∷ lines) are = absurd are.4
+few_lines (a ∷ b ∷ c ∷ d ∷ e ∷ lines) are = absurd are.1.1.1.1.0
 
 -- so the number of a bad line is about as small as the text
 pub bad_within : (bytes : List ℕ) (line cause : ℕ) → printed.IsBad bytes line cause → line ≤ length bytes + 5

@@ -7,7 +7,7 @@ ghost use Rattle.net_base.specs.World.{IsWorld};
 ghost use Rattle.net_model.specs.Answers.{input_limit};
 ghost use Rattle.net_model.specs.Words.{Check as AnyCheck};
 ghost use Rattle.world_text.specs.WorldText.{cuts_of, world_reading};
-ghost use Rattle.netsh.specs.Built.{IsAnswer};
+ghost use Rattle.netsh.specs.Built.{IsAnswer, IsAnswerTo};
 ghost use Rattle.netsh.specs.Checked.{IsChecked, IsOwn, TellsFault, is_mark, parts_of};
 
 use crate::answer::Answer;
@@ -127,9 +127,7 @@ fn refuse(alloc: Global, input: &[u8], lines: u64) -> Result<Answer, AllocError>
 /// What is answered to an input with these parts.
 fn check_parts(alloc: Global, parts: &Parts<'_>) -> Result<Answer, AllocError>
     requires { parts.now.lines + length parts.now.history.now < 2 ^ 32 }
-    ensures { IfOk result (λ answer. (input : List ℕ) → length input ≤ input_limit AnyCheck
-        → parts_of input ≡ Some (record { world = parts.now.world.now; lines = parts.now.lines; history = parts.now.history.now })
-        → IsAnswer AnyCheck input answer) }
+    ensures { IfOk result (IsAnswerTo (record { world = parts.now.world.now; lines = parts.now.lines; history = parts.now.history.now })) }
 {
     let world = match read_world(alloc, parts.world) {
         Ok(world) => world,
@@ -147,9 +145,7 @@ fn check_history(alloc: Global, world: &World, parts: &Parts<'_>) -> Result<Answ
     requires world { IsWorld world.now }
     requires read { world_reading parts.now.world.now ≡ Ok world.now }
     requires room { parts.now.lines + length parts.now.history.now < 2 ^ 32 }
-    ensures { IfOk result (λ answer. (input : List ℕ) → length input ≤ input_limit AnyCheck
-        → parts_of input ≡ Some (record { world = parts.now.world.now; lines = parts.now.lines; history = parts.now.history.now })
-        → IsAnswer AnyCheck input answer) }
+    ensures { IfOk result (IsAnswerTo (record { world = parts.now.world.now; lines = parts.now.lines; history = parts.now.history.now })) }
 {
     let (history, told) = match read_transcript(alloc, parts.history) {
         Ok(read) => read,

@@ -1,5 +1,6 @@
 use Rattle.std.proofs.Common.{arith, sym, ◌∙◌}
-use Rattle.netsh.proofs.Halves.{passed_more, passed_none}
+use Rattle.std.proofs.lemmas.Bool.Decides.{nat_tests}
+use Rattle.netsh.proofs.Halves.{parts_found, passed_all, passed_more, passed_none}
 use Rattle.netsh.proofs.check.split.Goals as goal
 
 pub loop-rest-init : goal.loop-rest-init
@@ -14,3 +15,14 @@ loop-rest-preserved c =
           (sym c.is_mark.ensures ∙ c.if-is_mark.false);
       room = omega (arith, room, less);
     }
+
+pub returns-then-is_mark-clause-ok : goal.returns-then-is_mark-clause-ok
+returns-then-is_mark-clause-ok c =
+    parts_found c.args.input.now c.loop-rest.rest.now c.cut.result.0.now c.cut.result.1.now c.loop-rest.lines c.loop-rest.invariant.passed c.cut.ensures.cut
+    c.cut.ensures.less (sym c.is_mark.ensures ∙ c.if-is_mark.true)
+
+pub returns-clause-err : goal.returns-clause-err
+returns-clause-err c = (passed_all c.args.input.now c.loop-rest.rest.now c.loop-rest.lines c.loop-rest.invariant.passed (grind (arith, nat_tests))).0
+
+pub returns-clause-count : goal.returns-clause-count
+returns-clause-count c = (passed_all c.args.input.now c.loop-rest.rest.now c.loop-rest.lines c.loop-rest.invariant.passed (grind (arith, nat_tests))).1
