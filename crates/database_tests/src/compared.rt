@@ -1,9 +1,10 @@
 //! The plain program and the index over many databases.
-use cs_resolver::tests::{self, WORKED};
+use crate::answers::WORKED;
+use crate::reading::{database, put_lines};
 use cs_resolver::{CsError, answer, answer_indexed};
 use ndb_index::Index;
 use ndb_search::{closest, search};
-use net_base::{Db, Line, Lines, NdbPair, Octets, Proto, Tuple};
+use net_base::{Db, Lines, Proto};
 use std::alloc::{AllocError, Global};
 use std::test::Fail;
 
@@ -55,89 +56,130 @@ fn one_of<'a>(words: &'a [&'a str], seed: &mut u32) -> &'a str {
     }
 }
 
-fn pair_of(alloc: Global, seed: &mut u32) -> Result<NdbPair, AllocError> {
-    let attr = Octets::from_slice(alloc, one_of(ATTRS, seed).as_bytes())?;
-    let value = Octets::from_slice(alloc, one_of(VALUES, seed).as_bytes())?;
-    Ok(NdbPair { attr, value })
+fn put_pair(seed: &mut u32, text: &mut Vec<u8>) -> Result<(), AllocError> {
+    text.extend_from_slice(one_of(ATTRS, seed).as_bytes())?;
+    text.push(b'=')?;
+    text.extend_from_slice(one_of(VALUES, seed).as_bytes())?;
+    text.push(b' ')?;
+    Ok(())
 }
 
-fn line_of(alloc: Global, seed: &mut u32) -> Result<Line, AllocError> {
-    let mut line = Line::new(alloc);
+fn put_line(seed: &mut u32, text: &mut Vec<u8>) -> Result<(), AllocError> {
     for _ in 0..1 + next(seed) % 4 {
-        line.push(pair_of(alloc, seed)?)?;
+        put_pair(seed, text)?;
     }
-    Ok(line)
+    text.push(b'\n')?;
+    Ok(())
 }
 
-fn tuple_of(alloc: Global, seed: &mut u32) -> Result<Tuple, AllocError> {
-    let mut tuple = Tuple::new(alloc);
-    for _ in 0..1 + next(seed) % 3 {
-        tuple.push(line_of(alloc, seed)?)?;
+fn put_tuple(seed: &mut u32, text: &mut Vec<u8>) -> Result<(), AllocError> {
+    let more = next(seed) % 3;
+    put_line(seed, text)?;
+    for _ in 0..more {
+        text.push(b'\t')?;
+        put_line(seed, text)?;
     }
-    Ok(tuple)
+    Ok(())
 }
 
-fn db_of(alloc: Global, seed: u32) -> Result<Db, AllocError> {
+/// Adds the text of the database of a seed.
+fn put_tuples(seed: u32, text: &mut Vec<u8>) -> Result<(), AllocError> {
     let mut seed = seed;
-    let mut db = Db::new(alloc);
     for _ in 0..next(&mut seed) % 12 {
-        db.push(tuple_of(alloc, &mut seed)?)?;
+        put_tuple(&mut seed, text)?;
     }
-    Ok(db)
+    Ok(())
 }
 
-/// The lines with a newline after each, or the error's number.
-fn told(alloc: Global, answer: Result<Lines, CsError>) -> Result<Vec<u8>, AllocError> {
-    let mut text = Vec::new(alloc);
+/// Adds the lines with a newline after each, or the error's number.
+fn put_answer(answer: Result<Lines, CsError>, text: &mut Vec<u8>) -> Result<(), AllocError> {
     match answer {
-        Ok(lines) => add_lines(&lines, &mut text)?,
-        Err(error) => text.push(error.number() as u8)?,
+        Ok(lines) => put_lines(&lines, text),
+        Err(error) => {
+            text.push(error.number() as u8)?;
+            Ok(())
+        }
     }
-    Ok(text)
 }
 
-fn add_lines(lines: &Lines, text: &mut Vec<u8>) -> Result<(), AllocError> {
-    for line in lines.as_slice() {
-        text.extend_from_slice(line.as_slice())?;
+fn put_plain(alloc: Global, db: &Db, query: &str, text: &mut Vec<u8>) -> Result<(), AllocError> {
+    let nets = [Proto::Il, Proto::Udp];
+    put_answer(answer(alloc, db, b"a", &nets, query.as_bytes()), text)
+}
+
+fn put_indexed(
+    alloc: Global,
+    index: &Index,
+    me: &str,
+    query: &str,
+    text: &mut Vec<u8>,
+) -> Result<(), AllocError> {
+    let nets = [Proto::Il, Proto::Udp];
+    put_answer(
+        answer_indexed(alloc, index, me.as_bytes(), &nets, query.as_bytes()),
+        text,
+    )
+}
+
+fn put_closest(alloc: Global, db: &Db, attr: &str, text: &mut Vec<u8>) -> Result<(), AllocError> {
+    let values = closest(alloc, db, b"a", attr.as_bytes())?;
+    put_lines(&values, text)
+}
+
+fn put_closest_indexed(
+    alloc: Global,
+    index: &Index,
+    me: &str,
+    attr: &str,
+    text: &mut Vec<u8>,
+) -> Result<(), AllocError> {
+    let values = index.closest(alloc, me.as_bytes(), attr.as_bytes())?;
+    put_lines(&values, text)
+}
+
+/// Whether both find a pair in the same tuples.
+fn finds_alike(alloc: Global, db: &Db, index: &Index, attr: &str) -> Result<bool, AllocError> {
+    let places = search(alloc, db, attr.as_bytes(), b"a")?;
+    let same = index.search(alloc, attr.as_bytes(), b"a")?;
+    Ok(places.as_slice() == same.as_slice())
+}
+
+/// Adds what the plain program answers to each query and finds of each attribute, with an empty line behind each.
+fn put_all(alloc: Global, db: &Db, text: &mut Vec<u8>) -> Result<(), AllocError> {
+    for query in QUERIES {
+        put_plain(alloc, db, query, text)?;
+        text.push(b'\n')?;
+    }
+    for attr in ATTRS {
+        put_closest(alloc, db, attr, text)?;
         text.push(b'\n')?;
     }
     Ok(())
 }
 
-/// Whether both answer a query alike.
-fn is_alike(alloc: Global, db: &Db, index: &Index, query: &str) -> Result<bool, AllocError> {
-    let nets = [Proto::Il, Proto::Udp];
-    let plain = told(alloc, answer(alloc, db, b"a", &nets, query.as_bytes()))?;
-    let indexed = told(
-        alloc,
-        answer_indexed(alloc, index, b"a", &nets, query.as_bytes()),
-    )?;
+/// Adds the same by the index.
+fn put_all_indexed(alloc: Global, index: &Index, text: &mut Vec<u8>) -> Result<(), AllocError> {
+    for query in QUERIES {
+        put_indexed(alloc, index, "a", query, text)?;
+        text.push(b'\n')?;
+    }
+    for attr in ATTRS {
+        put_closest_indexed(alloc, index, "a", attr, text)?;
+        text.push(b'\n')?;
+    }
+    Ok(())
+}
+
+/// Whether both give the same text.
+fn tells_alike(alloc: Global, db: &Db, index: &Index) -> Result<bool, AllocError> {
+    let mut plain = Vec::new(alloc);
+    let mut indexed = Vec::new(alloc);
+    put_all(alloc, db, &mut plain)?;
+    put_all_indexed(alloc, index, &mut indexed)?;
     Ok(plain == indexed)
 }
 
-/// Whether both find the same of an attribute.
-fn finds_alike(alloc: Global, db: &Db, index: &Index, attr: &str) -> Result<bool, AllocError> {
-    let attr = attr.as_bytes();
-    let mut plain = Vec::new(alloc);
-    let mut indexed = Vec::new(alloc);
-    add_lines(&closest(alloc, db, b"a", attr)?, &mut plain)?;
-    add_lines(&index.closest(alloc, b"a", attr)?, &mut indexed)?;
-    let places = search(alloc, db, attr, b"a")?;
-    let same = index.search(alloc, attr, b"a")?;
-    Ok(plain == indexed && places.as_slice() == same.as_slice())
-}
-
-/// Whether both answer all queries alike.
-fn answers_alike(alloc: Global, db: &Db, index: &Index) -> Result<bool, AllocError> {
-    for query in QUERIES {
-        if !is_alike(alloc, db, index, query)? {
-            return Ok(false);
-        }
-    }
-    Ok(true)
-}
-
-/// Whether both find the same of all attributes.
+/// Whether both find the pairs of all attributes in the same tuples.
 fn all_found_alike(alloc: Global, db: &Db, index: &Index) -> Result<bool, AllocError> {
     for attr in ATTRS {
         if !finds_alike(alloc, db, index, attr)? {
@@ -147,54 +189,64 @@ fn all_found_alike(alloc: Global, db: &Db, index: &Index) -> Result<bool, AllocE
     Ok(true)
 }
 
+/// Whether both are alike over the database of a text.
+fn are_alike(alloc: Global, text: &[u8]) -> Result<bool, AllocError> {
+    let db = database(alloc, text)?;
+    let index = Index::new(alloc, database(alloc, text)?)?;
+    let told = tells_alike(alloc, &db, &index)?;
+    let found = all_found_alike(alloc, &db, &index)?;
+    Ok(told && found)
+}
+
 /// Whether both are alike over the database of a seed.
-fn are_alike(alloc: Global, seed: u32) -> Result<bool, AllocError> {
-    let db = db_of(alloc, seed)?;
-    let index = Index::new(alloc, db_of(alloc, seed)?)?;
-    Ok(answers_alike(alloc, &db, &index)? && all_found_alike(alloc, &db, &index)?)
+fn are_alike_over(alloc: Global, seed: u32) -> Result<bool, AllocError> {
+    let mut text = Vec::new(alloc);
+    put_tuples(seed, &mut text)?;
+    are_alike(alloc, text.as_slice())
 }
 
 #[test]
 fn both_answer_alike(rt: HostRuntime) -> Result<(), Fail> {
-    let alloc = rt.alloc();
     for seed in 0..40_u32 {
-        assert!(rt; are_alike(alloc, seed)?, "{seed}");
+        let alike = are_alike_over(rt.alloc(), seed)?;
+        assert!(rt; alike, "{seed}");
     }
     Ok(())
 }
 
-/// Adds ten thousand systems.
-fn add_systems(alloc: Global, db: &mut Db) -> Result<(), AllocError> {
+/// Adds ten thousand systems to the text of a database.
+fn put_systems(text: &mut String) -> Result<(), AllocError> {
     for number in 1..10_001_u32 {
-        let name = format!(in alloc; "h{number}")?;
-        db.push(tests::tuple_of(alloc, &[&[("sys", name.as_str()), ("ip", "10.1.0.1")]])?)?;
+        write!(text, "sys=h{number} ip=10.1.0.1\n")?;
     }
     Ok(())
+}
+
+/// The text of the worked database with ten thousand systems more.
+fn text_of_many(alloc: Global) -> Result<String, AllocError> {
+    let mut text = String::from_str(alloc, WORKED)?;
+    put_systems(&mut text)?;
+    Ok(text)
 }
 
 /// The index of the worked database with ten thousand systems more.
 fn index_of_many(alloc: Global) -> Result<Index, AllocError> {
-    let mut db = tests::db_of(alloc, WORKED)?;
-    add_systems(alloc, &mut db)?;
-    Index::new(alloc, db)
+    let text = text_of_many(alloc)?;
+    Index::new(alloc, database(alloc, text.as_bytes())?)
 }
 
-/// The answer to a query of anna, and the `auth` values that are closest to it.
-fn told_anna(alloc: Global, index: &Index, query: &[u8]) -> Result<Vec<u8>, AllocError> {
-    let nets = [Proto::Il, Proto::Udp];
-    let mut text = told(alloc, answer_indexed(alloc, index, b"anna", &nets, query))?;
-    add_lines(&index.closest(alloc, b"anna", b"auth")?, &mut text)?;
-    Ok(text)
+/// Adds what anna is answered among many systems, and the `auth` value that is closest to it.
+fn put_among_many(alloc: Global, text: &mut Vec<u8>) -> Result<(), AllocError> {
+    let index = index_of_many(alloc)?;
+    put_indexed(alloc, &index, "anna", "net!helix!9fs", text)?;
+    put_closest_indexed(alloc, &index, "anna", "auth", text)
 }
 
 #[test]
 fn the_worked_query_beside_ten_thousand_systems(rt: HostRuntime) -> Result<(), Fail> {
-    let alloc = rt.alloc();
-    let index = index_of_many(alloc)?;
-    let text = told_anna(alloc, &index, b"net!helix!9fs")?;
-    assert_eq!(rt;
-        text.as_slice(),
-        b"/net/il/clone 135.104.9.31!17008\n/net/il/clone 10.0.0.31!17008\nhelix\n".as_slice()
-    );
+    let mut text = Vec::new(rt.alloc());
+    put_among_many(rt.alloc(), &mut text)?;
+    let wanted = b"/net/il/clone 135.104.9.31!17008\n/net/il/clone 10.0.0.31!17008\nhelix\n";
+    assert_eq!(rt; text.as_slice(), wanted.as_slice());
     Ok(())
 }

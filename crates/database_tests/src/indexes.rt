@@ -1,9 +1,8 @@
-//! Worked searches.
+//! Worked searches by an index.
 ghost use Rattle.std.specs.Prelude.{◌<◌, length};
 
-use ndb_index::index::Index;
-use ndb_reader::read_ndb;
-use net_base::Lines;
+use crate::reading::{database, put_lines};
+use ndb_index::Index;
 use std::alloc::{AllocError, Global};
 use std::test::Fail;
 
@@ -14,25 +13,8 @@ const WORKED: &[u8] = b"ipnet=astro9 ip=135.104.9.0 ipmask=255.255.255.0 auth=he
     dom=two\n\tsys=helix\n\tip=7.7.7.7\n\
     dom=five\n";
 
-fn index_of(alloc: Global) -> Result<Index, AllocError> {
-    match read_ndb(alloc, WORKED) {
-        Ok(db) => Index::new(alloc, db),
-        Err(_) => Err(AllocError),
-    }
-}
-
-/// Texts with a blank behind each.
-fn joined(alloc: Global, texts: &Lines) -> Result<Vec<u8>, AllocError> {
-    let mut all = Vec::new(alloc);
-    for text in texts.as_slice() {
-        all.extend_from_slice(text.as_slice())?;
-        all.push(b' ')?;
-    }
-    Ok(all)
-}
-
 /// Whether a pair is found in each of its tuples.
-fn finds_all(alloc: Global, index: &Index) -> Result<bool, AllocError> {
+fn finds_places(alloc: Global, index: &Index) -> Result<bool, AllocError> {
     let places = index.search(alloc, b"sys", b"helix")?;
     Ok(places.as_slice() == [2, 3].as_slice())
 }
@@ -42,17 +24,29 @@ fn finds_beside(alloc: Global, index: &Index) -> Result<bool, AllocError>
     requires { 3 < length index.now }
 {
     let values = index.value_beside(alloc, 2, b"sys", b"helix", b"ip")?;
-    let texts = joined(alloc, &values)?;
-    Ok(texts.as_slice() == b"10.0.0.31 135.104.9.31 ".as_slice())
+    let mut text = Vec::new(alloc);
+    put_lines(&values, &mut text)?;
+    Ok(text.as_slice() == b"10.0.0.31\n135.104.9.31\n".as_slice())
+}
+
+/// Whether both are found, where there are all five tuples.
+fn finds_both(alloc: Global, index: &Index) -> Result<bool, AllocError> {
+    if index.len() != 5 {
+        return Ok(false);
+    }
+    let places = finds_places(alloc, index)?;
+    let beside = finds_beside(alloc, index)?;
+    Ok(places && beside)
+}
+
+fn finds_all(alloc: Global) -> Result<bool, AllocError> {
+    let index = Index::new(alloc, database(alloc, WORKED)?)?;
+    finds_both(alloc, &index)
 }
 
 #[test]
 fn pairs_are_found(rt: HostRuntime) -> Result<(), Fail> {
-    let alloc = rt.alloc();
-    let index = index_of(alloc)?;
-    assert_eq!(rt; index.len(), 5);
-    let all = finds_all(alloc, &index)?;
-    let beside = finds_beside(alloc, &index)?;
-    assert!(rt; all && beside);
+    let all = finds_all(rt.alloc())?;
+    assert!(rt; all);
     Ok(())
 }

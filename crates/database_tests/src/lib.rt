@@ -1,4 +1,4 @@
-//! Tests.
+//! Tests of databases: their texts, what is found in them, and the answers to queries, by scan and by an index.
 #![tactic(auto)]
 
 #[cfg(test)]
@@ -7,6 +7,8 @@ mod answers;
 mod compared;
 #[cfg(test)]
 mod indexes;
+#[cfg(test)]
+mod reading;
 #[cfg(test)]
 mod searches;
 #[cfg(test)]

@@ -1,118 +1,100 @@
-//! Worked searches.
-use ndb_search::beside::value_beside;
-use ndb_search::near::closest;
-use ndb_search::places::search;
-use net_base::{Db, Line, Lines, NdbPair, Octets, Tuple};
+//! Worked searches by scan.
+ghost use Rattle.std.specs.Prelude.{◌<◌, length};
+
+use crate::reading::{database, put_lines};
+use ndb_search::{closest, search, value_beside};
+use net_base::Db;
 use std::alloc::{AllocError, Global};
 use std::test::Fail;
 
-/// Lines of pairs, with a blank between pairs and `=` between attribute and value.
-type Text<'a> = &'a [&'a [(&'a str, &'a str)]];
-
 /// Two networks, a system of one of them, and a system with two addresses.
-const WORKED: &[Text<'static>] = &[
-    &[
-        &[
-            ("ipnet", "astro"),
-            ("ip", "135.104.0.0"),
-            ("ipmask", "255.255.0.0"),
-        ],
-        &[("auth", "bootes")],
-    ],
-    &[
-        &[
-            ("ipnet", "astro9"),
-            ("ip", "135.104.9.0"),
-            ("ipmask", "255.255.255.0"),
-        ],
-        &[("auth", ""), ("auth", "helix"), ("auth", "helix")],
-    ],
-    &[
-        &[("sys", "anna"), ("ip", "135.104.9.6")],
-        &[("dom", "anna.example.com")],
-    ],
-    &[
-        &[("sys", "helix"), ("dom", "helix.example.com")],
-        &[("ip", "10.0.0.31")],
-        &[("ip", "135.104.9.31")],
-    ],
-];
+const WORKED: &[u8] = b"ipnet=astro ip=135.104.0.0 ipmask=255.255.0.0\n\tauth=bootes\n\
+ipnet=astro9 ip=135.104.9.0 ipmask=255.255.255.0\n\tauth= auth=helix auth=helix\n\
+sys=anna ip=135.104.9.6\n\tdom=anna.example.com\n\
+sys=helix dom=helix.example.com\n\tip=10.0.0.31\n\tip=135.104.9.31\n";
 
-fn line_of(alloc: Global, pairs: &[(&str, &str)]) -> Result<Line, AllocError> {
-    let mut line = Line::new(alloc);
-    for (attr, value) in pairs {
-        line.push(NdbPair {
-            attr: Octets::from_slice(alloc, attr.as_bytes())?,
-            value: Octets::from_slice(alloc, value.as_bytes())?,
-        })?;
-    }
-    Ok(line)
+fn finds_place(alloc: Global, db: &Db) -> Result<bool, AllocError> {
+    let places = search(alloc, db, b"sys", b"helix")?;
+    Ok(places.as_slice() == [3].as_slice())
 }
 
-fn tuple_of(alloc: Global, lines: Text<'_>) -> Result<Tuple, AllocError> {
-    let mut tuple = Tuple::new(alloc);
-    for line in lines {
-        tuple.push(line_of(alloc, line)?)?;
-    }
-    Ok(tuple)
+/// Whether the addresses beside a pair of the last tuple are these.
+fn are_beside(
+    alloc: Global,
+    db: &Db,
+    attr: &str,
+    value: &str,
+    wanted: &[u8],
+) -> Result<bool, AllocError>
+    requires { 3 < length db.now }
+{
+    let values = value_beside(alloc, db, 3, attr.as_bytes(), value.as_bytes(), b"ip")?;
+    let mut text = Vec::new(alloc);
+    put_lines(&values, &mut text)?;
+    Ok(text.as_slice() == wanted)
 }
 
-fn db_of(alloc: Global) -> Result<Db, AllocError> {
-    let mut db = Db::new(alloc);
-    for tuple in WORKED {
-        db.push(tuple_of(alloc, tuple)?)?;
+/// Whether the addresses of a system are found, where there are all four tuples.
+fn finds_addresses(alloc: Global, db: &Db) -> Result<bool, AllocError> {
+    if db.len() != 4 {
+        return Ok(false);
     }
-    Ok(db)
+    let of_system = are_beside(alloc, db, "sys", "helix", b"10.0.0.31\n135.104.9.31\n")?;
+    let of_address = are_beside(alloc, db, "ip", "10.0.0.31", b"10.0.0.31\n")?;
+    Ok(of_system && of_address)
 }
 
-/// Texts with a blank behind each.
-fn joined(alloc: Global, texts: &Lines) -> Result<Vec<u8>, AllocError> {
-    let mut all = Vec::new(alloc);
-    for text in texts.as_slice() {
-        all.extend_from_slice(text.as_slice())?;
-        all.push(b' ')?;
-    }
-    Ok(all)
+fn finds_all(alloc: Global) -> Result<bool, AllocError> {
+    let db = database(alloc, WORKED)?;
+    let place = finds_place(alloc, &db)?;
+    let addresses = finds_addresses(alloc, &db)?;
+    Ok(place && addresses)
 }
 
 #[test]
 fn addresses_stand_beside_a_system(rt: HostRuntime) -> Result<(), Fail> {
-    let alloc = rt.alloc();
-    let db = db_of(alloc)?;
-    assert_eq!(rt; db.len(), 4);
-    let places = search(alloc, &db, b"sys", b"helix")?;
-    assert_eq!(rt; places.as_slice(), [3u64].as_slice());
-    let values = value_beside(alloc, &db, 3, b"sys", b"helix", b"ip")?;
-    assert_eq!(rt;
-        joined(alloc, &values)?.as_slice(),
-        b"10.0.0.31 135.104.9.31 ".as_slice()
-    );
-    let values = value_beside(alloc, &db, 3, b"ip", b"10.0.0.31", b"ip")?;
-    assert_eq!(rt;
-        joined(alloc, &values)?.as_slice(),
-        b"10.0.0.31 ".as_slice()
-    );
+    let all = finds_all(rt.alloc())?;
+    assert!(rt; all);
     Ok(())
+}
+
+/// A system, an attribute, and its values that are closest to the system.
+const CLOSEST: &[(&str, &str, &str)] = &[
+    ("anna", "auth", "helix\nhelix\n"),
+    ("anna", "dom", "anna.example.com\n"),
+    ("helix", "ipmask", "255.255.255.0\n"),
+];
+
+fn is_closest(
+    alloc: Global,
+    db: &Db,
+    me: &str,
+    attr: &str,
+    wanted: &str,
+) -> Result<bool, AllocError> {
+    let values = closest(alloc, db, me.as_bytes(), attr.as_bytes())?;
+    let mut text = Vec::new(alloc);
+    put_lines(&values, &mut text)?;
+    Ok(text.as_slice() == wanted.as_bytes())
+}
+
+fn are_closest(alloc: Global, db: &Db) -> Result<bool, AllocError> {
+    for (me, attr, wanted) in CLOSEST {
+        if !is_closest(alloc, db, me, attr, wanted)? {
+            return Ok(false);
+        }
+    }
+    Ok(true)
+}
+
+fn finds_closest(alloc: Global) -> Result<bool, AllocError> {
+    let db = database(alloc, WORKED)?;
+    are_closest(alloc, &db)
 }
 
 #[test]
 fn the_longest_mask_is_closest(rt: HostRuntime) -> Result<(), Fail> {
-    let alloc = rt.alloc();
-    let db = db_of(alloc)?;
-    let values = closest(alloc, &db, b"anna", b"auth")?;
-    assert_eq!(rt;
-        joined(alloc, &values)?.as_slice(),
-        b"helix helix ".as_slice()
-    );
-    let values = closest(alloc, &db, b"anna", b"dom")?;
-    assert_eq!(rt;
-        joined(alloc, &values)?.as_slice(),
-        b"anna.example.com ".as_slice()
-    );
-    let values = closest(alloc, &db, b"helix", b"ipmask")?;
-    assert_eq!(rt;
-        joined(alloc, &values)?.as_slice(),
-        b"255.255.255.0 ".as_slice()
-    );
+    let all = finds_closest(rt.alloc())?;
+    assert!(rt; all);
     Ok(())
 }

@@ -1,7 +1,7 @@
-//! Worked texts, and calls that run out of memory.
-use ndb_reader::fault::NdbError;
-use ndb_reader::reader::read_ndb;
-use ndb_reader::writer::write_ndb;
+//! Worked texts, read and written.
+use crate::reading::database;
+use ndb_reader::{NdbError, read_ndb, write_ndb};
+use net_base::{Db, Line, Tuple};
 use std::alloc::{AllocError, Global};
 use std::test::Fail;
 
@@ -20,29 +20,42 @@ sys=bootes\n\
 il=9fs port=17008\n\
 udp=echo port=7\n";
 
-/// The text of a database with a line for each line and `;` behind each pair.
-fn shown(alloc: Global, text: &[u8]) -> Result<Vec<u8>, Fail> {
-    let mut out = Vec::new(alloc);
-    for tuple in read_ndb(alloc, text)?.as_slice() {
+/// Adds the pairs of a line with `;` behind each.
+fn put_line(line: &Line, out: &mut Vec<u8>) -> Result<(), AllocError> {
+    for pair in line.as_slice() {
+        out.extend_from_slice(pair.attr.as_slice())?;
+        out.push(b'=')?;
+        out.extend_from_slice(pair.value.as_slice())?;
+        out.push(b';')?;
+    }
+    Ok(())
+}
+
+/// Adds the lines of a tuple in brackets.
+fn put_tuple(tuple: &Tuple, out: &mut Vec<u8>) -> Result<(), AllocError> {
+    for line in tuple.as_slice() {
+        out.push(b'[')?;
+        put_line(line, out)?;
+        out.push(b']')?;
+    }
+    Ok(())
+}
+
+fn put_tuples(db: &Db, out: &mut Vec<u8>) -> Result<(), AllocError> {
+    for tuple in db.as_slice() {
         out.push(b'<')?;
-        for line in tuple.as_slice() {
-            out.push(b'[')?;
-            for pair in line.as_slice() {
-                out.extend_from_slice(pair.attr.as_slice())?;
-                out.push(b'=')?;
-                out.extend_from_slice(pair.value.as_slice())?;
-                out.push(b';')?;
-            }
-            out.push(b']')?;
-        }
+        put_tuple(tuple, out)?;
         out.push(b'>')?;
     }
-    Ok(out)
+    Ok(())
 }
 
 /// Whether a text is shown so.
-fn is_shown(alloc: Global, text: &[u8], want: &[u8]) -> Result<bool, Fail> {
-    Ok(shown(alloc, text)?.as_slice() == want)
+fn is_shown(alloc: Global, text: &[u8], want: &[u8]) -> Result<bool, AllocError> {
+    let db = database(alloc, text)?;
+    let mut shown = Vec::new(alloc);
+    put_tuples(&db, &mut shown)?;
+    Ok(shown.as_slice() == want)
 }
 
 const SHOWN: &[u8] = b"<[ipnet=astro;ip=135.104.0.0;ipmask=255.255.0.0;][auth=bootes;]>\
@@ -55,7 +68,8 @@ const SHOWN: &[u8] = b"<[ipnet=astro;ip=135.104.0.0;ipmask=255.255.0.0;][auth=bo
 
 #[test]
 fn the_worked_text_is_read(rt: HostRuntime) -> Result<(), Fail> {
-    assert!(rt; is_shown(rt.alloc(), LOCAL, SHOWN)?);
+    let shown = is_shown(rt.alloc(), LOCAL, SHOWN)?;
+    assert!(rt; shown);
     Ok(())
 }
 
@@ -77,7 +91,8 @@ const WORDS: &[(&[u8], &[u8])] = &[
 #[test]
 fn words_are_split(rt: HostRuntime) -> Result<(), Fail> {
     for (i, (text, want)) in WORDS.iter().enumerate() {
-        assert!(rt; is_shown(rt.alloc(), text, want)?, "row {i}");
+        let shown = is_shown(rt.alloc(), text, want)?;
+        assert!(rt; shown, "row {i}");
     }
     Ok(())
 }
@@ -106,27 +121,34 @@ fn put_files(text: &mut Vec<u8>, want: &mut Vec<u8>) -> Result<(), AllocError> {
     Ok(())
 }
 
+/// Whether seventy files are shown in the order in which they are named.
+fn are_chosen(alloc: Global) -> Result<bool, AllocError> {
+    let mut text = Vec::new(alloc);
+    let mut want = Vec::new(alloc);
+    put_files(&mut text, &mut want)?;
+    is_shown(alloc, text.as_slice(), want.as_slice())
+}
+
 #[test]
 fn seventy_files_are_chosen(rt: HostRuntime) -> Result<(), Fail> {
-    let mut text = Vec::new(rt.alloc());
-    let mut want = Vec::new(rt.alloc());
-    put_files(&mut text, &mut want)?;
-    let shown = is_shown(rt.alloc(), text.as_slice(), want.as_slice())?;
-    assert!(rt; shown);
+    let chosen = are_chosen(rt.alloc())?;
+    assert!(rt; chosen);
     Ok(())
 }
 
 /// Whether a database is written so.
-fn is_written(alloc: Global, text: &[u8], want: &[u8]) -> Result<bool, Fail> {
-    let db = read_ndb(alloc, text)?;
-    Ok(write_ndb(alloc, &db)?.as_slice() == want)
+fn is_written(alloc: Global, text: &[u8], want: &[u8]) -> Result<bool, AllocError> {
+    let db = database(alloc, text)?;
+    let written = write_ndb(alloc, &db)?;
+    Ok(written.as_slice() == want)
 }
 
 #[test]
 fn values_with_white_space_are_quoted(rt: HostRuntime) -> Result<(), Fail> {
     let text = b"a=\"b c\"  d\n e=\"f\" #\n g=\"#\"\nh=";
     let want = b"a=\"b c\" d=\n\te=f\n\tg=#\nh=\n";
-    assert!(rt; is_written(rt.alloc(), text, want)?);
+    let written = is_written(rt.alloc(), text, want)?;
+    assert!(rt; written);
     Ok(())
 }
 
@@ -156,7 +178,8 @@ fn told(alloc: Global, text: &[u8]) -> Option<(u64, u32)> {
 
 #[test]
 fn the_first_bad_line_is_told(rt: HostRuntime) {
-    for (text, line, cause) in BAD {
-        assert_eq!(rt; told(rt.alloc(), text), Some((*line, *cause)));
+    for (i, (text, line, cause)) in BAD.iter().enumerate() {
+        let told = told(rt.alloc(), text) == Some((*line, *cause));
+        assert!(rt; told, "row {i}");
     }
 }

@@ -1,4 +1,4 @@
-//! Tests.
+//! Worked calls of the ends of connections: their queues, UDP ends, IL ends and conversations, told by public calls alone.
 #![tactic(auto)]
 
 #[cfg(test)]

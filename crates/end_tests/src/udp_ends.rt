@@ -4,65 +4,190 @@ use std::alloc::{AllocError, Global};
 use std::test::*;
 use udp_core::{HungupError, MOST_UNREAD, UdpEnd};
 
-fn text(alloc: Global, bytes: &[u8]) -> Result<Octets, AllocError> {
-    Octets::from_slice(alloc, bytes)
+/// How an end begins.
+#[derive(Clone, Copy)]
+enum Begin {
+    Fresh,
+    Connected,
+    Announced,
 }
+
+fn begun(alloc: Global, how: Begin) -> Result<UdpEnd, AllocError> {
+    let mut end = UdpEnd::fresh(alloc)?;
+    match how {
+        Begin::Fresh => {}
+        Begin::Connected => end.connect(),
+        Begin::Announced => end.announced(),
+    }
+    Ok(end)
+}
+
+/// A call at an end, and what it must come to.
+#[derive(Clone, Copy)]
+enum Deed {
+    Hangup,
+    Look(StateName),
+    /// A datagram that is kept.
+    Kept(&'static [u8]),
+    /// One that comes back.
+    Back(&'static [u8]),
+    /// Whether a read has an answer.
+    Ready(bool),
+    /// A look at so many bytes.
+    Peek(usize, &'static [u8]),
+    Read(usize, &'static [u8]),
+    ReadHungup,
+}
+
+/// Whether a datagram is kept, or comes back as it was.
+fn keeps(alloc: Global, end: &mut UdpEnd, bytes: &[u8], kept: bool) -> Result<bool, AllocError> {
+    match end.arrive(Octets::from_slice(alloc, bytes)?) {
+        Ok(()) => Ok(kept),
+        Err(text) => Ok(!kept && text.as_slice() == bytes),
+    }
+}
+
+/// Whether a read gives these bytes, or is refused for a hangup where there are none.
+fn reads(end: &mut UdpEnd, count: usize, bytes: Option<&[u8]>) -> Result<bool, AllocError> {
+    if !end.ready_read() {
+        return Ok(false);
+    }
+    let read = end.read(count);
+    match (&read, bytes) {
+        (Ok(text), Some(bytes)) => Ok(text.as_slice() == bytes),
+        (Err(HungupError::Hungup), None) => Ok(true),
+        (Err(HungupError::Memory), _) => Err(AllocError),
+        _ => Ok(false),
+    }
+}
+
+/// Makes the call. The answer is whether it comes to what it says.
+fn is_met(alloc: Global, end: &mut UdpEnd, deed: Deed) -> Result<bool, AllocError> {
+    match deed {
+        Deed::Hangup => {
+            end.hangup();
+            Ok(true)
+        }
+        Deed::Look(state) => Ok(end.state() == state),
+        Deed::Kept(bytes) => keeps(alloc, end, bytes, true),
+        Deed::Back(bytes) => keeps(alloc, end, bytes, false),
+        Deed::Ready(ready) => Ok(end.ready_read() == ready),
+        Deed::Peek(count, bytes) => Ok(end.peek(count) == bytes),
+        Deed::Read(count, bytes) => reads(end, count, Some(bytes)),
+        Deed::ReadHungup => reads(end, 1, None),
+    }
+}
+
+/// The first call that comes to something else.
+fn first_wrong(
+    alloc: Global,
+    end: &mut UdpEnd,
+    deeds: &[Deed],
+) -> Result<Option<usize>, AllocError> {
+    for (i, deed) in deeds.iter().enumerate() {
+        if !is_met(alloc, end, *deed)? {
+            return Ok(Some(i));
+        }
+    }
+    Ok(None)
+}
+
+/// The same at an end that begins so.
+fn wrong_at(alloc: Global, how: Begin, deeds: &[Deed]) -> Result<Option<usize>, AllocError> {
+    let mut end = begun(alloc, how)?;
+    first_wrong(alloc, &mut end, deeds)
+}
+
+const READ_ONCE: &[Deed] = &[
+    Deed::Look(StateName::Closed),
+    Deed::Ready(false),
+    Deed::Peek(2, b""),
+    // before it is connected
+    Deed::Kept(b"hello"),
+    Deed::Hangup,
+    // it was never connected
+    Deed::Kept(b"again"),
+    Deed::Ready(true),
+    Deed::Peek(2, b"he"),
+    Deed::Read(2, b"he"),
+    Deed::Ready(true),
+    Deed::Read(8192, b"again"),
+    // the rest of the first is lost
+    Deed::Ready(false),
+];
 
 #[test]
 fn a_datagram_is_read_once(rt: HostRuntime) -> Result<(), Fail> {
-    let mut end = UdpEnd::fresh(rt.alloc())?;
-    assert_eq!(rt; end.state(), StateName::Closed);
-    assert!(rt; !end.ready_read());
-    assert_eq!(rt; end.peek(2), [].as_slice());
-    assert_eq!(rt;
-        end.arrive(text(rt.alloc(), b"hello")?),
-        Ok(()),
-        "before it is connected"
-    );
-    end.hangup();
-    assert_eq!(rt;
-        end.arrive(text(rt.alloc(), b"again")?),
-        Ok(()),
-        "it was never connected"
-    );
-    assert!(rt; end.ready_read());
-    assert_eq!(rt; end.peek(2), b"he".as_slice());
-    assert_eq!(rt; end.read(2), Ok(text(rt.alloc(), b"he")?));
-    assert!(rt; end.ready_read());
-    assert_eq!(rt; end.read(8192), Ok(text(rt.alloc(), b"again")?));
-    assert!(rt; !end.ready_read(), "the rest of the first is lost");
+    let wrong = wrong_at(rt.alloc(), Begin::Fresh, READ_ONCE)?;
+    assert_eq!(rt; wrong, None);
     Ok(())
+}
+
+const FULL: &[Deed] = &[
+    // 64 are unread
+    Deed::Back(b"more"),
+    Deed::Hangup,
+    Deed::Look(StateName::Closed),
+];
+
+const DRAINED: &[Deed] = &[
+    // it is hung up
+    Deed::Back(b"late"),
+    Deed::Ready(true),
+    Deed::ReadHungup,
+];
+
+/// How many datagrams of one byte are kept, each another.
+fn fill(alloc: Global, end: &mut UdpEnd) -> Result<usize, AllocError> {
+    for n in 0..MOST_UNREAD {
+        if !keeps(alloc, end, &[n as u8], true)? {
+            return Ok(n);
+        }
+    }
+    Ok(MOST_UNREAD)
+}
+
+/// How many of them are read.
+fn drain(end: &mut UdpEnd) -> Result<usize, AllocError> {
+    for n in 0..MOST_UNREAD {
+        if !reads(end, 1, Some(&[n as u8]))? {
+            return Ok(n);
+        }
+    }
+    Ok(MOST_UNREAD)
+}
+
+/// How many datagrams are kept and read, and the first wrong call before and after they are read.
+fn filled(alloc: Global, end: &mut UdpEnd) -> Result<[Option<usize>; 4], AllocError> {
+    let kept = fill(alloc, end)?;
+    let full = first_wrong(alloc, end, FULL)?;
+    let read = drain(end)?;
+    let drained = first_wrong(alloc, end, DRAINED)?;
+    Ok([Some(kept), full, Some(read), drained])
+}
+
+fn filled_one(alloc: Global) -> Result<[Option<usize>; 4], AllocError> {
+    let mut end = begun(alloc, Begin::Connected)?;
+    filled(alloc, &mut end)
 }
 
 #[test]
 fn a_hung_up_end_takes_no_more(rt: HostRuntime) -> Result<(), Fail> {
-    let mut end = UdpEnd::fresh(rt.alloc())?;
-    end.connect();
-    assert_eq!(rt; end.state(), StateName::Open);
-    for n in 0..MOST_UNREAD {
-        assert_eq!(rt; end.arrive(text(rt.alloc(), &[n as u8])?), Ok(()), "at {n}");
-    }
-    let back = end.arrive(text(rt.alloc(), b"more")?);
-    assert_eq!(rt; back, Err(text(rt.alloc(), b"more")?), "64 are unread");
-    end.hangup();
-    assert_eq!(rt; end.state(), StateName::Closed);
-    for n in 0..MOST_UNREAD {
-        assert!(rt; end.ready_read(), "at {n}");
-        assert_eq!(rt; end.read(1), Ok(text(rt.alloc(), &[n as u8])?), "at {n}");
-    }
-    let back = end.arrive(text(rt.alloc(), b"late")?);
-    assert_eq!(rt; back, Err(text(rt.alloc(), b"late")?), "it is hung up");
-    assert!(rt; end.ready_read());
-    assert_eq!(rt; end.read(1), Err(HungupError::Hungup));
+    let open = wrong_at(rt.alloc(), Begin::Connected, &[Deed::Look(StateName::Open)])?;
+    let told = filled_one(rt.alloc())?;
+    assert_eq!(rt; (open, told), (None, [Some(64), None, Some(64), None]));
     Ok(())
 }
 
+const ANNOUNCED: &[Deed] = &[
+    Deed::Look(StateName::Listening),
+    Deed::Hangup,
+    Deed::Look(StateName::Closed),
+];
+
 #[test]
 fn an_announced_end_listens(rt: HostRuntime) -> Result<(), Fail> {
-    let mut end = UdpEnd::fresh(rt.alloc())?;
-    end.announced();
-    assert_eq!(rt; end.state(), StateName::Listening);
-    end.hangup();
-    assert_eq!(rt; end.state(), StateName::Closed);
+    let wrong = wrong_at(rt.alloc(), Begin::Announced, ANNOUNCED)?;
+    assert_eq!(rt; wrong, None);
     Ok(())
 }

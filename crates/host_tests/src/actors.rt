@@ -1,13 +1,28 @@
 //! Each kind of actor, with each group of its events, in a world of two hosts on one medium.
+ghost use Rattle.std.specs.Prelude.{◌≡◌, true};
+ghost use Rattle.net_actors.specs.Numbers.{is_among};
+
+mod asked;
 mod trial;
 
+use asked::{Ask, AtConv, AtDesk, AtDir, work_of};
 use net_actors::{Due, actor_at, actor_count, number_of};
-use net_base::{
-    ActorName, Addr, Body, Event, FileName, IlKind, IlMsg, Mode, Octets, Packet, Pair, Proto, With,
-};
+use net_base::{ActorName, Addr, Mode, Proto};
 use std::alloc::{AllocError, Global};
+use std::process::Abort;
 use std::test::*;
 use trial::{ANNA, HELIX, Told, Trial};
+
+/// The actors that are asked.
+#[derive(Clone, Copy)]
+enum Who {
+    Desk,
+    Clock,
+    Medium,
+    Dir,
+    Udp,
+    Il,
+}
 
 const DESK: ActorName = ActorName::Desk(0);
 
@@ -15,277 +30,223 @@ const CLOCK: ActorName = ActorName::Clock;
 
 const MEDIUM: ActorName = ActorName::Medium(0);
 
+const DIR: ActorName = ActorName::Dir(0, Proto::Udp);
+
 const UDP: ActorName = ActorName::Conv(0, Proto::Udp, 0);
 
 const IL: ActorName = ActorName::Conv(1, Proto::Il, 31);
 
-fn text(alloc: Global, bytes: &[u8]) -> Result<Octets, AllocError> {
-    Octets::from_slice(alloc, bytes)
+fn name_of(who: Who) -> ActorName
+    ensures { is_among 2 1 result ≡ true }
+{
+    match who {
+        Who::Desk => DESK,
+        Who::Clock => CLOCK,
+        Who::Medium => MEDIUM,
+        Who::Dir => DIR,
+        Who::Udp => UDP,
+        Who::Il => IL,
+    }
 }
 
-fn ls(alloc: Global, path: &[u8]) -> Result<Event, AllocError> {
-    Ok(Event::LsPath {
-        path: text(alloc, path)?,
-    })
+/// An actor, what it is asked at moment 9, and what it tells.
+type Row = (Who, Ask, Told);
+
+fn told(alloc: Global, trial: &mut Trial, who: Who, ask: Ask) -> Result<Told, AllocError> {
+    let work = work_of(alloc, ask)?;
+    trial.answer(name_of(who), 9, &work)
 }
 
-fn cs(alloc: Global, query: &[u8]) -> Result<Event, AllocError> {
-    Ok(Event::Cs {
-        query: text(alloc, query)?,
-    })
+/// Asks what stands in a table, and compares what is told.
+fn play(rt: &impl Abort, alloc: Global, trial: &mut Trial, rows: &[Row]) {
+    for (i, (who, ask, want)) in rows.iter().enumerate() {
+        let got = told(alloc, trial, *who, *ask);
+        assert!(rt; got == Ok(*want), "row {i}");
+    }
 }
 
-fn open(alloc: Global, path: &[u8], mode: Mode) -> Result<Event, AllocError> {
-    Ok(Event::OpenPath {
-        path: text(alloc, path)?,
-        mode,
-    })
+/// The same of fresh actors.
+fn plays(rt: &impl Abort, alloc: Global, rows: &[Row]) -> Result<(), AllocError> {
+    let mut trial = Trial::new(alloc)?;
+    play(rt, alloc, &mut trial, rows);
+    Ok(())
 }
+
+// The desk, the clock and the medium.
+
+const NAMES: &[Row] = &[
+    (
+        Who::Desk,
+        Ask::Desk(AtDesk::Cs(b"net!135.104.9.31!7")),
+        Told::Lines(2),
+    ),
+    (
+        Who::Desk,
+        Ask::Desk(AtDesk::Cs(b"tcp!135.104.9.31!7")),
+        Told::CsRefused(2),
+    ),
+    (Who::Desk, Ask::Desk(AtDesk::Ls(b"/net")), Told::Names(3)),
+    (Who::Desk, Ask::Desk(AtDesk::Ls(b"/net/il")), Told::NoFile),
+];
 
 #[test]
 fn a_desk_lists_and_resolves(rt: HostRuntime) -> Result<(), Fail> {
-    let alloc = rt.alloc();
-    let mut trial = Trial::new(alloc)?;
-    let lines = trial.ask(DESK, cs(alloc, b"net!135.104.9.31!7")?)?;
-    assert!(rt; lines == Told::Lines(2));
-    let refused = trial.ask(DESK, cs(alloc, b"tcp!135.104.9.31!7")?)?;
-    assert!(rt; refused == Told::CsRefused(2));
-    let names = trial.ask(DESK, ls(alloc, b"/net")?)?;
-    assert!(rt; names == Told::Names(3));
-    let none = trial.ask(DESK, ls(alloc, b"/net/il")?)?;
-    assert!(rt; none == Told::NoFile);
+    plays(&rt, rt.alloc(), NAMES)?;
     Ok(())
 }
+
+const REFUSALS: &[Row] = &[
+    (
+        Who::Desk,
+        Ask::Desk(AtDesk::Open(b"/net/tcp", Mode::Read)),
+        Told::NoFile,
+    ),
+    (
+        Who::Desk,
+        Ask::Desk(AtDesk::Open(b"/net", Mode::Read)),
+        Told::BadMode,
+    ),
+    // it is allowed
+    (
+        Who::Desk,
+        Ask::Desk(AtDesk::Open(b"/net/il/clone", Mode::Both)),
+        Told::NotReady,
+    ),
+    (Who::Desk, Ask::Desk(AtDesk::Use(b"d")), Told::BadFid),
+    (Who::Desk, Ask::Desk(AtDesk::Misuse(b"d")), Told::BadMode),
+    (Who::Desk, Ask::Desk(AtDesk::Until(10)), Told::NotReady),
+    (Who::Desk, Ask::Desk(AtDesk::Until(9)), Told::Ok),
+];
 
 #[test]
 fn a_desk_refuses_and_waits(rt: HostRuntime) -> Result<(), Fail> {
-    let alloc = rt.alloc();
-    let mut trial = Trial::new(alloc)?;
-    let none = trial.ask(DESK, open(alloc, b"/net/tcp", Mode::Read)?)?;
-    assert!(rt; none == Told::NoFile);
-    let root = trial.ask(DESK, open(alloc, b"/net", Mode::Read)?)?;
-    assert!(rt; root == Told::BadMode);
-    let allowed = trial.ask(DESK, open(alloc, b"/net/il/clone", Mode::Both)?)?;
-    assert!(rt; allowed == Told::NotReady);
-    let used = trial.ask(
-        DESK,
-        Event::Use {
-            name: text(alloc, b"d")?,
-        },
-    )?;
-    assert!(rt; used == Told::BadFid);
-    let misused = trial.ask(
-        DESK,
-        Event::Misuse {
-            name: text(alloc, b"d")?,
-        },
-    )?;
-    assert!(rt; misused == Told::BadMode);
-    let early = trial.ask(DESK, Event::Until { moment: 10 })?;
-    assert!(rt; early == Told::NotReady);
-    let come = trial.ask(DESK, Event::Until { moment: 9 })?;
-    assert!(rt; come == Told::Ok);
+    plays(&rt, rt.alloc(), REFUSALS)?;
     Ok(())
 }
+
+const MOVES: &[Row] = &[
+    (Who::Clock, Ask::Move(12), Told::Ok),
+    (Who::Clock, Ask::Take, Told::NotReady),
+];
 
 #[test]
 fn a_clock_moves(rt: HostRuntime) -> Result<(), Fail> {
-    let mut trial = Trial::new(rt.alloc())?;
-    let moved = trial.ask(CLOCK, Event::Move { moment: 12 })?;
-    assert!(rt; moved == Told::Ok);
-    let taken = trial.ask(CLOCK, Event::Take)?;
-    assert!(rt; taken == Told::NotReady);
+    plays(&rt, rt.alloc(), MOVES)?;
     Ok(())
 }
 
-fn at(ip: u32, port: u16) -> Addr {
-    Addr { ip, port }
-}
-
-/// A datagram of two bytes from helix to anna.
-fn packet(alloc: Global) -> Result<Packet, AllocError> {
-    Ok(Packet {
-        src: at(HELIX, 5000),
-        dst: at(ANNA, 7),
-        ttl: 255,
-        tos: 0,
-        body: Body::Udp(text(alloc, b"hi")?),
-    })
-}
-
-/// A packet is given.
-fn with_packet(alloc: Global) -> Result<With, AllocError> {
-    Ok(With::Packet(packet(alloc)?))
-}
+const CARRIES: &[Row] = &[
+    (Who::Medium, Ask::Take, Told::NotReady),
+    (Who::Medium, Ask::PutNothing, Told::NotReady),
+    (Who::Medium, Ask::Put, Told::Laid(1)),
+    (Who::Medium, Ask::Take, Told::Copy(1)),
+];
 
 #[test]
 fn a_medium_carries(rt: HostRuntime) -> Result<(), Fail> {
-    let alloc = rt.alloc();
-    let mut trial = Trial::new(alloc)?;
-    let nothing = trial.ask(MEDIUM, Event::Take)?;
-    assert!(rt; nothing == Told::NotReady);
-    let empty = trial.ask(MEDIUM, Event::Put { to: Some(0) })?;
-    assert!(rt; empty == Told::NotReady);
-    let laid = trial.give(MEDIUM, Event::Put { to: Some(0) }, with_packet(alloc)?)?;
-    assert!(rt; laid == Told::Laid(1));
-    let taken = trial.ask(MEDIUM, Event::Take)?;
-    assert!(rt; taken == Told::Copy(1));
+    plays(&rt, rt.alloc(), CARRIES)?;
     Ok(())
 }
 
-const DIR: ActorName = ActorName::Dir(0, Proto::Udp);
+// A directory.
 
-const ANNOUNCE: Event = Event::Announce {
-    slot: 0,
-    generation: 1,
-    ip: None,
-    port: Some(7),
-};
+const ANNOUNCES: &[Row] = &[
+    (Who::Dir, Ask::Dir(AtDir::Reserve), Told::Slot(0, 1)),
+    (Who::Dir, Ask::Dir(AtDir::Announce), Told::Ok),
+    (Who::Dir, Ask::Dir(AtDir::Listen), Told::NotReady),
+    (Who::Dir, Ask::Dir(AtDir::Arrive), Told::Born(1, 1)),
+    (Who::Dir, Ask::Dir(AtDir::Arrive), Told::To(1, 1)),
+    (Who::Dir, Ask::Dir(AtDir::Listen), Told::Call(1, 1)),
+    (Who::Dir, Ask::Dir(AtDir::Ls), Told::Names(3)),
+];
 
 #[test]
 fn a_directory_announces(rt: HostRuntime) -> Result<(), Fail> {
-    let alloc = rt.alloc();
-    let mut trial = Trial::new(alloc)?;
-    let reserved = trial.ask(DIR, Event::Reserve)?;
-    assert!(rt; reserved == Told::Slot(0, 1));
-    let announced = trial.ask(DIR, ANNOUNCE)?;
-    assert!(rt; announced == Told::Ok);
-    let waits = trial.ask(DIR, Event::Listen { slot: 0 })?;
-    assert!(rt; waits == Told::NotReady);
-    let born = trial.give(DIR, Event::Arrive, with_packet(alloc)?)?;
-    assert!(rt; born == Told::Born(1, 1));
-    let again = trial.give(DIR, Event::Arrive, with_packet(alloc)?)?;
-    assert!(rt; again == Told::To(1, 1));
-    let call = trial.ask(DIR, Event::Listen { slot: 0 })?;
-    assert!(rt; call == Told::Call(1, 1));
-    let names = trial.ask(DIR, Event::Ls)?;
-    assert!(rt; names == Told::Names(3));
+    plays(&rt, rt.alloc(), ANNOUNCES)?;
     Ok(())
 }
+
+const GRANTS: &[Row] = &[
+    (Who::Dir, Ask::Dir(AtDir::Reserve), Told::Slot(0, 1)),
+    (Who::Dir, Ask::Dir(AtDir::Bind(53)), Told::Ok),
+    (Who::Dir, Ask::Dir(AtDir::Grant), Told::Granted(1472)),
+    (Who::Dir, Ask::Dir(AtDir::Release), Told::Calls(0)),
+    (Who::Dir, Ask::Dir(AtDir::Withdraw(0)), Told::Stale),
+];
 
 #[test]
 fn a_directory_grants(rt: HostRuntime) -> Result<(), Fail> {
-    let mut trial = Trial::new(rt.alloc())?;
-    let reserved = trial.ask(DIR, Event::Reserve)?;
-    assert!(rt; reserved == Told::Slot(0, 1));
-    let bind = Event::Bind {
-        slot: 0,
-        generation: 1,
-        port: 53,
-    };
-    let bound = trial.ask(DIR, bind)?;
-    assert!(rt; bound == Told::Ok);
-    let grant = Event::Grant {
-        slot: 0,
-        generation: 1,
-        remote: at(HELIX, 7),
-        lport: None,
-    };
-    let granted = trial.ask(DIR, grant)?;
-    assert!(rt; granted == Told::Granted(1472));
-    let release = Event::Release {
-        slot: 0,
-        generation: 1,
-    };
-    let released = trial.ask(DIR, release)?;
-    assert!(rt; released == Told::Calls(0));
-    let stale = Event::Withdraw {
-        slot: 0,
-        generation: 0,
-    };
-    let refused = trial.ask(DIR, stale)?;
-    assert!(rt; refused == Told::Stale);
+    plays(&rt, rt.alloc(), GRANTS)?;
     Ok(())
 }
 
-/// A grant from this host to the other.
-fn with_grant(local: Addr, remote: Addr, start: u32) -> With {
-    With::Grant {
-        pair: Pair { local, remote },
-        start,
-        limit: 1472,
-    }
-}
+// Conversations.
+
+/// A grant from anna to helix.
+const BY_UDP: AtConv = AtConv::Connect {
+    local: Addr { ip: ANNA, port: 7 },
+    remote: Addr {
+        ip: HELIX,
+        port: 5000,
+    },
+    start: 0,
+};
+
+/// A grant from helix to anna.
+const BY_IL: AtConv = AtConv::Connect {
+    local: Addr {
+        ip: HELIX,
+        port: 5000,
+    },
+    remote: Addr {
+        ip: ANNA,
+        port: 17008,
+    },
+    start: 1,
+};
+
+const TALKS: &[Row] = &[
+    (Who::Udp, Ask::Conv(AtConv::Begin), Told::Ok),
+    (Who::Udp, Ask::Conv(BY_UDP), Told::Ok),
+    (Who::Udp, Ask::Conv(AtConv::Write(b"hi")), Told::Count(2)),
+    (Who::Udp, Ask::Conv(AtConv::ArriveAt), Told::Took),
+    (Who::Udp, Ask::Conv(AtConv::Read), Told::Bytes(1)),
+    (Who::Udp, Ask::Conv(AtConv::Read), Told::NotReady),
+];
 
 #[test]
 fn a_conversation_talks(rt: HostRuntime) -> Result<(), Fail> {
     let alloc = rt.alloc();
     let mut trial = Trial::new(alloc)?;
-    let begun = trial.ask(UDP, Event::Begin { generation: 1 })?;
-    assert!(rt; begun == Told::Ok);
-    let with = with_grant(at(ANNA, 7), at(HELIX, 5000), 0);
-    let connected = trial.give(UDP, Event::Connect { generation: 1 }, with)?;
-    assert!(rt; connected == Told::Ok);
-    let write = Event::Write {
-        generation: 1,
-        text: text(alloc, b"hi")?,
-    };
-    let written = trial.ask(UDP, write)?;
-    assert!(rt; written == Told::Count(2));
-    let took = trial.give(UDP, Event::ArriveAt { generation: 1 }, with_packet(alloc)?)?;
-    assert!(rt; took == Told::Took);
-    let read = trial.ask(
-        UDP,
-        Event::Read {
-            generation: 1,
-            count: 1,
-        },
-    )?;
-    assert!(rt; read == Told::Bytes(1));
-    let early = trial.ask(
-        UDP,
-        Event::Read {
-            generation: 1,
-            count: 1,
-        },
-    )?;
-    assert!(rt; early == Told::NotReady);
+    play(&rt, alloc, &mut trial, TALKS);
     assert!(rt; trial.generation(UDP) == 1);
     Ok(())
 }
 
+const FILES: &[Row] = &[
+    (Who::Udp, Ask::Conv(AtConv::Begin), Told::Ok),
+    (Who::Udp, Ask::Conv(AtConv::OpenCtl), Told::Opened(1)),
+    // its number
+    (Who::Udp, Ask::Conv(AtConv::ReadCtl), Told::Bytes(1)),
+    (Who::Udp, Ask::Conv(AtConv::Ls), Told::Names(7)),
+    (Who::Udp, Ask::Conv(AtConv::Tick), Told::NotDue),
+    (Who::Udp, Ask::Conv(AtConv::Close), Told::Ok),
+    (Who::Udp, Ask::Conv(AtConv::Hangup(0)), Told::Stale),
+];
+
 #[test]
 fn a_conversation_has_files(rt: HostRuntime) -> Result<(), Fail> {
-    let mut trial = Trial::new(rt.alloc())?;
-    let begun = trial.ask(UDP, Event::Begin { generation: 1 })?;
-    assert!(rt; begun == Told::Ok);
-    let open = Event::Open {
-        file: FileName::Ctl,
-        mode: Mode::Both,
-    };
-    let opened = trial.ask(UDP, open)?;
-    assert!(rt; opened == Told::Opened(1));
-    let file = Event::File {
-        generation: 1,
-        file: FileName::Ctl,
-        count: 8192,
-    };
-    let number = trial.ask(UDP, file)?;
-    assert!(rt; number == Told::Bytes(1));
-    let names = trial.ask(UDP, Event::Ls)?;
-    assert!(rt; names == Told::Names(7));
-    let tick = trial.ask(UDP, Event::Tick { generation: 1 })?;
-    assert!(rt; tick == Told::NotDue);
-    let closed = trial.ask(UDP, Event::Close { generation: 1 })?;
-    assert!(rt; closed == Told::Ok);
-    let stale = trial.ask(UDP, Event::Hangup { generation: 0 })?;
-    assert!(rt; stale == Told::Stale);
+    plays(&rt, rt.alloc(), FILES)?;
     Ok(())
 }
 
-#[test]
-fn an_end_that_connects_is_due(rt: HostRuntime) -> Result<(), Fail> {
-    let alloc = rt.alloc();
-    let mut trial = Trial::new(alloc)?;
-    let begun = trial.ask(IL, Event::Begin { generation: 1 })?;
-    assert!(rt; begun == Told::Ok);
-    assert!(rt; trial.due(IL) == None);
-    let with = with_grant(at(HELIX, 5000), at(ANNA, 17008), 1);
-    let connected = trial.give(IL, Event::Connect { generation: 1 }, with)?;
-    assert!(rt; connected == Told::Ok);
+const BEGINS: &[Row] = &[(Who::Il, Ask::Conv(AtConv::Begin), Told::Ok)];
+
+const CONNECTS: &[Row] = &[(Who::Il, Ask::Conv(BY_IL), Told::Ok)];
+
+/// Whether the IL end is due later than now, and no other end.
+fn is_due(alloc: Global, trial: &Trial) -> Result<bool, AllocError> {
     let due = trial.due(IL).unwrap_or(0);
-    assert!(rt; due > 9);
-    let dues = trial.dues(alloc)?;
     let wanted = Due {
         host: 1,
         proto: Proto::Il,
@@ -293,54 +254,48 @@ fn an_end_that_connects_is_due(rt: HostRuntime) -> Result<(), Fail> {
         generation: 1,
         due,
     };
-    assert!(rt; dues.as_slice() == [wanted].as_slice());
+    let dues = trial.dues(alloc)?;
+    Ok(due > 9 && dues.as_slice() == [wanted].as_slice())
+}
+
+#[test]
+fn an_end_that_connects_is_due(rt: HostRuntime) -> Result<(), Fail> {
+    let alloc = rt.alloc();
+    let mut trial = Trial::new(alloc)?;
+    play(&rt, alloc, &mut trial, BEGINS);
+    assert!(rt; trial.due(IL).is_none());
+    play(&rt, alloc, &mut trial, CONNECTS);
+    assert!(rt; is_due(alloc, &trial) == Ok(true));
     Ok(())
 }
+
+const BIRTH: &[Row] = &[
+    (Who::Il, Ask::Conv(AtConv::Born), Told::Ok),
+    (Who::Il, Ask::Conv(AtConv::Read), Told::NotReady),
+];
 
 #[test]
 fn a_birth_is_answered(rt: HostRuntime) -> Result<(), Fail> {
-    let alloc = rt.alloc();
-    let mut trial = Trial::new(alloc)?;
-    let packet = Packet {
-        src: at(ANNA, 5000),
-        dst: at(HELIX, 17008),
-        ttl: 255,
-        tos: 0,
-        body: Body::Il(IlMsg {
-            kind: IlKind::Sync,
-            spec: 0,
-            id: 5,
-            ack: 0,
-            text: Octets::new(alloc),
-        }),
-    };
-    let with = With::Birth {
-        packet,
-        start: 1,
-        limit: 1462,
-    };
-    let born = trial.give(IL, Event::Born { generation: 1 }, with)?;
-    assert!(rt; born == Told::Ok);
-    let waits = trial.ask(
-        IL,
-        Event::Read {
-            generation: 1,
-            count: 1,
-        },
-    )?;
-    assert!(rt; waits == Told::NotReady);
+    plays(&rt, rt.alloc(), BIRTH)?;
     Ok(())
 }
 
+// Numbers.
+
+const NUMBERS: &[(ActorName, usize)] = &[
+    (DESK, 0),
+    (ActorName::Dir(1, Proto::Il), 4),
+    (UDP, 38),
+    (IL, 101),
+    (MEDIUM, 134),
+    (CLOCK, 135),
+];
+
 #[test]
 fn numbers_follow_the_table(rt: HostRuntime) -> Result<(), Fail> {
-    assert!(rt; number_of(2, 1, DESK) == 0);
-    assert!(rt; number_of(2, 1, ActorName::Dir(1, Proto::Il)) == 4);
-    assert!(rt; number_of(2, 1, UDP) == 38);
-    assert!(rt; number_of(2, 1, IL) == 101);
-    assert!(rt; number_of(2, 1, MEDIUM) == 134);
-    assert!(rt; number_of(2, 1, CLOCK) == 135);
-    assert!(rt; actor_count(2, 1) == 136);
-    assert!(rt; actor_at(2, 1, 101) == IL);
+    for (i, (name, number)) in NUMBERS.iter().enumerate() {
+        assert!(rt; number_of(2, 1, *name) == *number, "row {i}");
+    }
+    assert!(rt; actor_count(2, 1) == 136 && actor_at(2, 1, 101) == IL);
     Ok(())
 }

@@ -1,4 +1,4 @@
-//! Tests.
+//! Tests of calls that wait, of directories, of what entries owe, and of each kind of actor.
 #![tactic(auto)]
 
 #[cfg(test)]

@@ -83,7 +83,7 @@ fn ways(alloc: Global) -> Result<WorldWays, AllocError> {
 
 // What is owed, as values that can be compared.
 
-#[derive(Clone, Copy, Debug, PartialEq, Eq)]
+#[derive(Clone, Copy, PartialEq, Eq)]
 enum Asked {
     Begin(u64),
     Connect(u64),
@@ -101,7 +101,7 @@ enum Asked {
     Other,
 }
 
-#[derive(Clone, Copy, Debug, PartialEq, Eq)]
+#[derive(Clone, Copy, PartialEq, Eq)]
 enum Given {
     Nothing,
     /// The ttl and the destination of a packet.
@@ -163,7 +163,7 @@ fn next(owed: &mut Duties) -> Option<Owed> {
 /// What is owed is this, in this order, and nothing else.
 fn is_owed(rt: &impl Abort, owed: &mut Duties, all: &[Owed]) {
     for (i, want) in all.iter().enumerate() {
-        assert_eq!(rt; next(owed), Some(*want), "duty {i}");
+        assert!(rt; next(owed) == Some(*want), "duty {i}");
     }
     assert!(rt; owed.is_empty());
 }
@@ -452,7 +452,7 @@ fn copies_arrive_or_go_on(rt: HostRuntime) -> Result<(), Fail> {
         (1, NOWHERE, 9, None),
     ];
     for (to, ip, ttl, owed) in rows {
-        assert_eq!(rt; carries(rt.alloc(), to, ip, ttl), Ok(owed), "{ip}, {ttl}");
+        assert!(rt; carries(rt.alloc(), to, ip, ttl) == Ok(owed), "{ip}, {ttl}");
     }
     Ok(())
 }

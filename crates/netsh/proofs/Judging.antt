@@ -215,14 +215,14 @@ module _ (input : List ℕ) (parts : Parts) (w : World) (answer : Answer) (read 
 
 -- Lines.
 
-line_is : (stamp : ℕ) (x : Entry) → line_of stamp x ≡ numeral stamp ++ (spaced (entry_words x) ++ 10 ∷ [])
+line_is : (stamp : ℕ) (x : Entry) → line_of stamp x ≡ (numeral stamp ++ spaced (entry_words x)) ++ 10 ∷ []
 unfolding line_of
 line_is stamp x = refl
 
 long_line : (stamp : ℕ) (x : Entry) → 1 ≤ length (line_of stamp x)
 long_line stamp x =
-    let is : length (line_of stamp x) ≡ length (numeral stamp ++ (spaced (entry_words x) ++ 10 ∷ [])) = ap (λ (xs : List ℕ). length xs) (line_is stamp x) in
-    omega (arith, is, length-append (numeral stamp) (spaced (entry_words x) ++ 10 ∷ []), length-append (spaced (entry_words x)) (10 ∷ []))
+    let is : length (line_of stamp x) ≡ length ((numeral stamp ++ spaced (entry_words x)) ++ 10 ∷ []) = ap (λ (xs : List ℕ). length xs) (line_is stamp x) in
+    omega (arith, is, length-append (numeral stamp ++ spaced (entry_words x)) (10 ∷ []))
 
 -- a history has a line an entry
 long_text : (stamp : ℕ) (h : List Entry) → length h ≤ length (lines_from stamp h)
@@ -246,5 +246,5 @@ pub bad_within : (bytes : List ℕ) (line cause : ℕ) → printed.IsBad bytes l
 bad_within bytes line cause bad =
     let long = long_text 0 bad.before in
     let few = few_lines bad.lines bad.summary in
-    let whole = ap (λ (xs : List ℕ). length xs) bad.spelled ∙ length-append (history_text bad.before) (printed.joined bad.lines ++ bad.behind) in
-    omega (arith, long, few, whole, bad.place)
+    let whole = ap (λ (xs : List ℕ). length xs) bad.spelled ∙ length-append (history_text bad.before ++ printed.joined bad.lines) bad.behind in
+    omega (arith, long, few, whole, length-append (history_text bad.before) (printed.joined bad.lines), bad.place)

@@ -1,23 +1,60 @@
-//! The worked runs on many workers, and gates that hold one call until the other went on.
-use crate::call_tests::{HOSTS, world};
-use crate::tests::words_of;
+//! Runs on many workers, with gates that hold one call until the other went on, or count.
+use crate::tests::{sink_of, words_of};
 use crate::top::netsh;
 use net_base::Octets;
-use outside::{FailList, Gate, MemSink, OpenGate, SureSource};
+use outside::{Gate, MemSink, SureSource};
 use std::alloc::{AllocError, Global};
-use std::process::Abort;
+use std::str;
 use std::sync::Wait;
 use std::sync::atomic::{AtomicU64, Ordering};
 use std::test::Fail;
 use std::thread::{Threads, yield_now};
 
 /// Two calls of anna to helix, who answers each at a service of its own.
-const SCRIPTS: [&str; 4] = [
-    "script anna\nuntil 10\ndial d il!helix!9fs\nwrite d one\nread d 8192\n",
-    "script anna\nuntil 10\ndial d il!helix!7777\nwrite d two\nread d 8192\n",
-    "script helix\nannounce a il!*!9fs\nlisten c a\naccept e c\nread e 8192\nwrite e eno\n",
-    "script helix\nannounce a il!*!7777\nlisten c a\naccept e c\nread e 8192\nwrite e owt\n",
-];
+const TWO_CALLS: &str = "networld 1\n\
+end 60000\n\
+seed 7\n\
+medium ether0 1500\n\
+host anna il udp\n\
+if ether0 135.104.9.6 255.255.255.0\n\
+host helix il udp\n\
+if ether0 135.104.9.31 255.255.255.0\n\
+script anna\n\
+until 10\n\
+dial d il!helix!9fs\n\
+write d one\n\
+read d 8192\n\
+script anna\n\
+until 10\n\
+dial d il!helix!7777\n\
+write d two\n\
+read d 8192\n\
+script helix\n\
+announce a il!*!9fs\n\
+listen c a\n\
+accept e c\n\
+read e 8192\n\
+write e eno\n\
+script helix\n\
+announce a il!*!7777\n\
+listen c a\n\
+accept e c\n\
+read e 8192\n\
+write e owt\n\
+ndb\n\
+ipnet=astro ip=135.104.0.0 ipmask=255.255.0.0\n\
+\tauth=bootes\n\
+ipnet=astro9 ip=135.104.9.0 ipmask=255.255.255.0\n\
+\tauth=helix\n\
+sys=anna ip=135.104.9.6\n\
+\tdom=anna.example.com\n\
+sys=helix dom=helix.example.com\n\
+\tip=10.0.0.31\n\
+\tip=135.104.9.31\n\
+sys=bootes\n\
+\tip=135.104.50.2\n\
+il=9fs port=17008\n\
+udp=echo port=7\n";
 
 /// The summary of their run, whatever the order.
 const SUMMARY: &str = "steps 18 of 18\nmessages 4 4\nbytes 12 12\nend done 10\n";
@@ -104,43 +141,21 @@ impl Gate for Count {
     }
 }
 
-/// What a run of the two calls answers and writes.
-fn run<R: Threads + Wait + Sync, G: Gate + Sync>(
-    rt: &R,
-    alloc: Global,
-    workers: &str,
-    gate: &G,
-) -> Result<(u8, String), Fail> {
-    let input = world(alloc, "", HOSTS, &SCRIPTS)?;
-    call(rt, alloc, &["run", workers], &input, gate)
-}
-
-/// What a call answers and writes.
+/// The status of a call.
 fn call<R: Threads + Wait + Sync, G: Gate + Sync>(
     rt: &R,
     alloc: Global,
     words: &[&str],
     input: &str,
     gate: &G,
-) -> Result<(u8, String), Fail> {
+    sink: &mut MemSink,
+) -> Result<u8, AllocError> {
     let words = words_of(alloc, words)?;
     let mut source = SureSource::new(Octets::from_slice(alloc, input.as_bytes())?);
-    let mut sink = MemSink::new(alloc, 40000, FailList::from_vec(Vec::new(alloc)))?;
-    let status = netsh(rt, alloc, &words, &mut source, &mut sink, gate);
-    Ok((
-        status,
-        String::from_utf8(Vec::from_slice(alloc, sink.held())?)?,
-    ))
+    Ok(netsh(rt, alloc, &words, &mut source, sink, gate))
 }
 
-// Whether a text has each of these reads.
-fn reads(text: &str, replies: &[&str]) -> bool {
-    replies
-        .iter()
-        .all(|reply| text.split_once(*reply).is_some())
-}
-
-// Whether the one piece stands in the text before the first of the other.
+/// Whether the one piece stands in a text before the first of the other.
 fn stands_before(text: &str, first: &str, second: &str) -> bool {
     match text.split_once(second) {
         Some((before, _)) => before.split_once(first).is_some(),
@@ -148,87 +163,80 @@ fn stands_before(text: &str, first: &str, second: &str) -> bool {
     }
 }
 
-#[test]
-fn two_calls_on_four_workers(rt: HostRuntime) -> Result<(), Fail> {
-    let (status, held) = run(&rt, rt.alloc(), "4", &OpenGate)?;
-    let all = reads(
-        &held,
-        &[
-            "= bytes 6f6e65\n",
-            "= bytes 74776f\n",
-            "= bytes 656e6f\n",
-            "= bytes 6f7774\n",
-        ],
-    );
-    assert!(rt; status == 0 && all && held.ends_with(SUMMARY), "{held}");
-    Ok(())
+/// Whether the calls are told in this order, and all of them.
+fn is_told(text: &[u8], first: &str, second: &str) -> bool {
+    match str::from_utf8(text) {
+        Ok(text) => stands_before(text, first, second) && text.ends_with(SUMMARY),
+        Err(_) => false,
+    }
+}
+
+/// A gate's two places, and the call that goes first before the other.
+type Row = (u32, u32, &'static str, &'static str);
+
+const ORDERS: &[Row] = &[
+    (12, 15, " conv.0.il.1 ", " conv.0.il.0 "),
+    (14, 13, " conv.0.il.0 ", " conv.0.il.1 "),
+];
+
+/// Whether a gate orders the two calls so.
+fn is_ordered<R: Threads + Wait + Sync>(
+    rt: &R,
+    alloc: Global,
+    row: Row,
+) -> Result<bool, AllocError> {
+    let (held, until, first, second) = row;
+    let gate = Hold::new(held, until);
+    let mut sink = sink_of(alloc, &[])?;
+    let status = call(rt, alloc, &["run", "2"], TWO_CALLS, &gate, &mut sink)?;
+    Ok(status == 0 && gate.held_well() && is_told(sink.held(), first, second))
 }
 
 #[test]
-fn a_gate_lets_the_second_call_go_first(rt: HostRuntime) -> Result<(), Fail> {
-    let gate = Hold::new(12, 15);
-    let (status, held) = run(&rt, rt.alloc(), "2", &gate)?;
-    let ordered = stands_before(&held, " conv.0.il.1 ", " conv.0.il.0 ");
-    assert!(rt;
-        status == 0 && gate.held_well() && ordered && held.ends_with(SUMMARY),
-        "{held}"
-    );
-    Ok(())
-}
-
-#[test]
-fn a_gate_lets_the_first_call_go_first(rt: HostRuntime) -> Result<(), Fail> {
-    let gate = Hold::new(14, 13);
-    let (status, held) = run(&rt, rt.alloc(), "2", &gate)?;
-    let ordered = stands_before(&held, " conv.0.il.0 ", " conv.0.il.1 ");
-    assert!(rt;
-        status == 0 && gate.held_well() && ordered && held.ends_with(SUMMARY),
-        "{held}"
-    );
-    Ok(())
-}
-
-#[test]
-fn calls_that_fail_on_four_workers(rt: HostRuntime) -> Result<(), Fail> {
-    let rows = [
-        (
-            "script anna\nuntil 10\ndial d il!135.104.9.31!9fs\n",
-            "steps 2 of 2\nmessages 0 0\nbytes 0 0\nend done 10\n",
-        ),
-        (
-            "script anna\nuntil 10\ndial d il!135.104.9.99!9fs\n",
-            "steps 2 of 2\nmessages 0 0\nbytes 0 0\nend done 30010\n",
-        ),
-    ];
-    for (script, summary) in rows {
-        let input = world(rt.alloc(), "", HOSTS, &[script])?;
-        let (status, held) = call(&rt, rt.alloc(), &["run", "4"], &input, &OpenGate)?;
-        assert!(rt; status == 0 && held.ends_with(summary), "{held}");
+fn a_gate_lets_either_call_go_first(rt: HostRuntime) -> Result<(), Fail> {
+    for (i, row) in ORDERS.iter().enumerate() {
+        let ordered = is_ordered(&rt, rt.alloc(), *row)?;
+        assert!(rt; ordered, "row {i}");
     }
     Ok(())
 }
 
+/// How many messages are made, the least calls of the gate and those at the medium, and what is written.
+type Made = (&'static str, u64, u64, &'static str);
+
+const MADE: &[Made] = &[
+    (
+        "1",
+        26,
+        10,
+        "steps 13 of 13\nmessages 2 2\nbytes 2 2\nend done 10\n",
+    ),
+    (
+        "1000",
+        20000,
+        4000,
+        "steps 4009 of 4009\nmessages 2000 2000\nbytes 5786 5786\nend done 10\n",
+    ),
+];
+
+/// Whether a gate is called so often at the run of a made world.
+fn is_counted<R: Threads + Wait + Sync>(
+    rt: &R,
+    alloc: Global,
+    row: Made,
+) -> Result<bool, AllocError> {
+    let (messages, calls, medium, text) = row;
+    let count = Count::new();
+    let mut sink = sink_of(alloc, &[])?;
+    let status = call(rt, alloc, &["big", messages], "", &count, &mut sink)?;
+    Ok(status == 0 && count.is_called(calls, medium) && sink.held() == text.as_bytes())
+}
+
 #[test]
 fn made_worlds_on_two_workers(rt: HostRuntime) -> Result<(), Fail> {
-    let rows = [
-        (
-            "1",
-            26,
-            10,
-            "steps 13 of 13\nmessages 2 2\nbytes 2 2\nend done 10\n",
-        ),
-        (
-            "1000",
-            20000,
-            4000,
-            "steps 4009 of 4009\nmessages 2000 2000\nbytes 5786 5786\nend done 10\n",
-        ),
-    ];
-    for (number, calls, medium, summary) in rows {
-        let count = Count::new();
-        let (status, held) = call(&rt, rt.alloc(), &["big", number], "", &count)?;
-        let all = count.is_called(calls, medium);
-        assert!(rt; status == 0 && all && held.as_str() == summary, "{held}");
+    for (i, row) in MADE.iter().enumerate() {
+        let counted = is_counted(&rt, rt.alloc(), *row)?;
+        assert!(rt; counted, "row {i}");
     }
     Ok(())
 }

@@ -11,98 +11,102 @@ const HELIX: Addr = Addr {
     port: 17008,
 };
 
-#[test]
-fn controls_are_read(rt: HostRuntime) -> Result<(), Fail> {
-    let rows: [(&[u8], Ctl); 11] = [
-        (
-            b"connect 135.104.9.31!17008",
-            Ctl::Connect {
-                remote: HELIX,
-                lport: None,
-            },
-        ),
-        (
-            b"connect 135.104.9.31!17008 7\n",
-            Ctl::Connect {
-                remote: HELIX,
-                lport: Some(7),
-            },
-        ),
-        (
-            b"announce *!17008",
-            Ctl::Announce {
-                ip: None,
-                port: Some(17008),
-            },
-        ),
-        (
-            b"announce 17008",
-            Ctl::Announce {
-                ip: None,
-                port: Some(17008),
-            },
-        ),
-        (
-            b"announce *",
-            Ctl::Announce {
-                ip: None,
-                port: None,
-            },
-        ),
-        (
-            b"announce 135.104.9.31!17008",
-            Ctl::Announce {
-                ip: Some(HELIX.ip),
-                port: Some(17008),
-            },
-        ),
-        (b"bind 65535", Ctl::Bind { port: 65535 }),
-        (b"hangup\n", Ctl::Hangup),
-        (b"ttl 255", Ctl::Ttl { n: 255 }),
-        (b"tos 0", Ctl::Tos { n: 0 }),
-        (
-            b"connect 0.0.0.0!1",
-            Ctl::Connect {
-                remote: Addr { ip: 0, port: 1 },
-                lport: None,
-            },
-        ),
-    ];
-    for (text, control) in rows {
-        assert_eq!(rt; read_ctl(text), Ok(control));
-    }
-    Ok(())
-}
+const CONTROLS: &[(&[u8], Ctl)] = &[
+    (
+        b"connect 135.104.9.31!17008",
+        Ctl::Connect {
+            remote: HELIX,
+            lport: None,
+        },
+    ),
+    (
+        b"connect 135.104.9.31!17008 7\n",
+        Ctl::Connect {
+            remote: HELIX,
+            lport: Some(7),
+        },
+    ),
+    (
+        b"announce *!17008",
+        Ctl::Announce {
+            ip: None,
+            port: Some(17008),
+        },
+    ),
+    (
+        b"announce 17008",
+        Ctl::Announce {
+            ip: None,
+            port: Some(17008),
+        },
+    ),
+    (
+        b"announce *",
+        Ctl::Announce {
+            ip: None,
+            port: None,
+        },
+    ),
+    (
+        b"announce 135.104.9.31!17008",
+        Ctl::Announce {
+            ip: Some(HELIX.ip),
+            port: Some(17008),
+        },
+    ),
+    (b"bind 65535", Ctl::Bind { port: 65535 }),
+    (b"hangup\n", Ctl::Hangup),
+    (b"ttl 255", Ctl::Ttl { n: 255 }),
+    (b"tos 0", Ctl::Tos { n: 0 }),
+    (
+        b"connect 0.0.0.0!1",
+        Ctl::Connect {
+            remote: Addr { ip: 0, port: 1 },
+            lport: None,
+        },
+    ),
+];
 
 #[test]
-fn other_texts_are_refused(rt: HostRuntime) -> Result<(), Fail> {
-    let words: [&[u8]; 5] = [b"", b"connec 1", b"Hangup", b" hangup", b"accept 1"];
-    for text in words {
-        assert_eq!(rt; read_ctl(text), Err(CtlError::BadWord));
+fn controls_are_read(rt: HostRuntime) {
+    for (i, (text, control)) in CONTROLS.iter().enumerate() {
+        assert!(rt; read_ctl(text) == Ok(*control), "row {i}");
     }
-    let arguments: [&[u8]; 15] = [
-        b"hangup ",
-        b"hangup\n\n",
-        b"connect",
-        b"connect *!1",
-        b"connect 1.2.3.4!0",
-        b"connect 1.2.3.4!65536",
-        b"connect 1.2.3.256!1",
-        b"connect 01.2.3.4!1",
-        b"connect 1.2.3.4!1 ",
-        b"connect 1.2.3.4!1 2 3",
-        b"announce *!0",
-        b"announce 99999999999999999999999999999",
-        b"bind +1",
-        b"ttl 0",
-        b"tos 256",
-    ];
-    for text in arguments {
-        assert_eq!(rt; read_ctl(text), Err(CtlError::BadArgument));
+}
+
+const OTHER_WORDS: &[&[u8]] = &[b"", b"connec 1", b"Hangup", b" hangup", b"accept 1"];
+
+const OTHER_ARGUMENTS: &[&[u8]] = &[
+    b"hangup ",
+    b"hangup\n\n",
+    b"connect",
+    b"connect *!1",
+    b"connect 1.2.3.4!0",
+    b"connect 1.2.3.4!65536",
+    b"connect 1.2.3.256!1",
+    b"connect 01.2.3.4!1",
+    b"connect 1.2.3.4!1 ",
+    b"connect 1.2.3.4!1 2 3",
+    b"announce *!0",
+    b"announce 99999999999999999999999999999",
+    b"bind +1",
+    b"ttl 0",
+    b"tos 256",
+];
+
+#[test]
+fn other_texts_are_refused(rt: HostRuntime) {
+    for (i, text) in OTHER_WORDS.iter().enumerate() {
+        assert!(rt; read_ctl(text) == Err(CtlError::BadWord), "word {i}");
     }
-    assert_eq!(rt; CtlError::BadWord.number(), 1);
-    assert_eq!(rt; CtlError::BadArgument.number(), 2);
-    Ok(())
+    for (i, text) in OTHER_ARGUMENTS.iter().enumerate() {
+        assert!(rt;
+            read_ctl(text) == Err(CtlError::BadArgument),
+            "argument {i}"
+        );
+    }
+    let numbers = (CtlError::BadWord.number(), CtlError::BadArgument.number());
+    assert!(rt; numbers == (1, 2));
 }
 
 // Whether what is written of a control reads so.
@@ -114,42 +118,41 @@ fn is_read_back(control: Ctl) -> bool
     read_ctl(&out[..len]) == Ok(control)
 }
 
+fn connects_are_read_back() -> bool {
+    is_read_back(Ctl::Connect {
+        remote: HELIX,
+        lport: None,
+    }) && is_read_back(Ctl::Connect {
+        remote: HELIX,
+        lport: Some(7),
+    })
+}
+
+fn announces_are_read_back() -> bool {
+    is_read_back(Ctl::Announce {
+        ip: None,
+        port: None,
+    }) && is_read_back(Ctl::Announce {
+        ip: None,
+        port: Some(17008),
+    }) && is_read_back(Ctl::Announce {
+        ip: Some(HELIX.ip),
+        port: Some(1),
+    })
+}
+
+fn others_are_read_back() -> bool {
+    is_read_back(Ctl::Bind { port: 65535 })
+        && is_read_back(Ctl::Hangup)
+        && is_read_back(Ctl::Ttl { n: 255 })
+        && is_read_back(Ctl::Tos { n: 0 })
+}
+
 #[test]
 fn written_controls_are_read_back(rt: HostRuntime) {
-    assert!(rt;
-        is_read_back(Ctl::Connect {
-            remote: HELIX,
-            lport: None
-        })
-    );
-    assert!(rt;
-        is_read_back(Ctl::Connect {
-            remote: HELIX,
-            lport: Some(7)
-        })
-    );
-    assert!(rt;
-        is_read_back(Ctl::Announce {
-            ip: None,
-            port: None
-        })
-    );
-    assert!(rt;
-        is_read_back(Ctl::Announce {
-            ip: None,
-            port: Some(17008)
-        })
-    );
-    assert!(rt;
-        is_read_back(Ctl::Announce {
-            ip: Some(HELIX.ip),
-            port: Some(1)
-        })
-    );
-    assert!(rt; is_read_back(Ctl::Bind { port: 65535 }));
-    assert!(rt; is_read_back(Ctl::Hangup));
-    assert!(rt; is_read_back(Ctl::Ttl { n: 255 }));
-    assert!(rt; is_read_back(Ctl::Tos { n: 0 }));
+    assert!(rt; connects_are_read_back());
+    assert!(rt; announces_are_read_back());
+    assert!(rt; others_are_read_back());
 }
 
 #[test]

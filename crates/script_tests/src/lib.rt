@@ -1,4 +1,4 @@
-//! Tests.
+//! Tests of paths and names, of control words, and of requests, steps and scripts.
 #![tactic(auto)]
 
 #[cfg(test)]

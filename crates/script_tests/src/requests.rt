@@ -263,7 +263,7 @@ fn asked(alloc: Global) -> Result<ActorName, AllocError> {
 
 #[test]
 fn a_request_may_be_kept(rt: HostRuntime) {
-    assert_eq!(rt; asked(rt.alloc()), Ok(DESK));
+    assert!(rt; asked(rt.alloc()) == Ok(DESK));
 }
 
 // What the name `n` is bound to after a reply to the open of a path.
@@ -303,7 +303,10 @@ fn opens_bind_what_is_opened(rt: HostRuntime) {
         (b"/net/il/3/status", both, &Reply::BadMode, None),
     ];
     for (i, (path, mode, reply, fid)) in rows.iter().enumerate() {
-        assert_eq!(rt; opened(rt.alloc(), path, *mode, reply), Ok(*fid), "row {i}");
+        assert!(rt;
+            opened(rt.alloc(), path, *mode, reply) == Ok(*fid),
+            "row {i}"
+        );
     }
 }
 
@@ -326,9 +329,8 @@ fn closes_unbind_whatever_the_reply(rt: HostRuntime) {
         (again, &Reply::BadFid, ctl),
     ];
     for (i, (ask, reply, left)) in rows.iter().enumerate() {
-        assert_eq!(rt;
-            after(rt.alloc(), *ask, reply),
-            Ok((*left, data)),
+        assert!(rt;
+            after(rt.alloc(), *ask, reply) == Ok((*left, data)),
             "row {i}"
         );
     }
@@ -347,7 +349,7 @@ fn an_open_of_a_reserved_name_wants_no_memory(rt: HostRuntime) -> Result<(), Fai
     if fids.reserve(b"n").is_ok() {
         let fid = effect.opened(&SLOT);
         let settled = effect.settle(&mut fids, fid).is_ok();
-        assert_eq!(rt; (settled, fids.get(b"n")), (true, fid));
+        assert!(rt; settled && fids.get(b"n") == fid);
     }
     Ok(())
 }

@@ -13,56 +13,59 @@ fn fid(slot: u32) -> Fid {
     }
 }
 
-#[test]
-fn paths_name_nodes(rt: HostRuntime) -> Result<(), Fail> {
-    let rows: [(&[u8], Node); 9] = [
-        (b"/net", Node::Root),
-        (b"/net/cs", Node::Cs),
-        (b"/net/il", Node::Proto(Proto::Il)),
-        (b"/net/udp/clone", Node::Clone(Proto::Udp)),
-        (b"/net/il/0", Node::Dir(Proto::Il, 0)),
-        (b"/net/udp/31", Node::Dir(Proto::Udp, 31)),
-        (b"/net/il/7/ctl", Node::File(Proto::Il, 7, FileName::Ctl)),
-        (
-            b"/net/udp/30/status",
-            Node::File(Proto::Udp, 30, FileName::Status),
-        ),
-        (
-            b"/net/udp/10/listen",
-            Node::File(Proto::Udp, 10, FileName::Listen),
-        ),
-    ];
-    for (path, node) in rows {
-        assert_eq!(rt; walk(path), Ok(node));
-    }
-    Ok(())
-}
+const PATHS: &[(&[u8], Node)] = &[
+    (b"/net", Node::Root),
+    (b"/net/cs", Node::Cs),
+    (b"/net/il", Node::Proto(Proto::Il)),
+    (b"/net/udp/clone", Node::Clone(Proto::Udp)),
+    (b"/net/il/0", Node::Dir(Proto::Il, 0)),
+    (b"/net/udp/31", Node::Dir(Proto::Udp, 31)),
+    (b"/net/il/7/ctl", Node::File(Proto::Il, 7, FileName::Ctl)),
+    (
+        b"/net/udp/30/status",
+        Node::File(Proto::Udp, 30, FileName::Status),
+    ),
+    (
+        b"/net/udp/10/listen",
+        Node::File(Proto::Udp, 10, FileName::Listen),
+    ),
+];
 
 #[test]
-fn other_paths_name_nothing(rt: HostRuntime) -> Result<(), Fail> {
-    let paths: [&[u8]; 14] = [
-        b"",
-        b"/",
-        b"net",
-        b"/net/",
-        b"//net",
-        b"/net/tcp",
-        b"/net/il/32",
-        b"/net/il/07",
-        b"/net/il/00",
-        b"/net/il/",
-        b"/net/cs/0",
-        b"/net/il/clone/ctl",
-        b"/net/il/0/Data",
-        b"/net/il/0/data/",
-    ];
-    for path in paths {
-        assert_eq!(rt; walk(path), Err(TreeError::NoFile));
+fn paths_name_nodes(rt: HostRuntime) {
+    for (i, (path, node)) in PATHS.iter().enumerate() {
+        assert!(rt; walk(path) == Ok(*node), "row {i}");
     }
-    assert_eq!(rt; TreeError::NoFile.number(), 1);
-    assert_eq!(rt; TreeError::BadMode.number(), 2);
-    assert_eq!(rt; TreeError::BadFid.number(), 3);
-    Ok(())
+}
+
+const NO_PATHS: &[&[u8]] = &[
+    b"",
+    b"/",
+    b"net",
+    b"/net/",
+    b"//net",
+    b"/net/tcp",
+    b"/net/il/32",
+    b"/net/il/07",
+    b"/net/il/00",
+    b"/net/il/",
+    b"/net/cs/0",
+    b"/net/il/clone/ctl",
+    b"/net/il/0/Data",
+    b"/net/il/0/data/",
+];
+
+#[test]
+fn other_paths_name_nothing(rt: HostRuntime) {
+    for (i, path) in NO_PATHS.iter().enumerate() {
+        assert!(rt; walk(path) == Err(TreeError::NoFile), "row {i}");
+    }
+    let numbers = (
+        TreeError::NoFile.number(),
+        TreeError::BadMode.number(),
+        TreeError::BadFid.number(),
+    );
+    assert!(rt; numbers == (1, 2, 3));
 }
 
 #[test]
@@ -90,17 +93,42 @@ fn is_list(lines: &Lines, words: &[&[u8]]) -> bool {
             .all(|(line, word)| line.as_slice() == *word)
 }
 
+/// What a name does, with the slot of its file.
+#[derive(Clone, Copy)]
+enum Ask {
+    IsBound(u32),
+    IsRefused(u32),
+    Has(u32),
+    Loses(u32),
+    HasNothing,
+}
+
+fn does(fids: &mut Fids, name: &[u8], ask: Ask) -> bool {
+    match ask {
+        Ask::IsBound(slot) => fids.bind(name, fid(slot)) == Ok(()),
+        Ask::IsRefused(slot) => fids.bind(name, fid(slot)) == Err(TreeError::BadFid),
+        Ask::Has(slot) => fids.get(name) == Some(fid(slot)),
+        Ask::Loses(slot) => fids.unbind(name) == Some(fid(slot)),
+        Ask::HasNothing => fids.unbind(name).is_none(),
+    }
+}
+
+const BINDINGS: &[(&[u8], Ask)] = &[
+    (b"a", Ask::IsBound(1)),
+    (b"b", Ask::IsBound(2)),
+    (b"a", Ask::IsRefused(3)),
+    (b"a", Ask::Has(1)),
+    (b"a", Ask::Loses(1)),
+    (b"a", Ask::HasNothing),
+    (b"b", Ask::Has(2)),
+];
+
 #[test]
-fn names_are_bound_and_unbound(rt: HostRuntime) -> Result<(), Fail> {
+fn names_are_bound_and_unbound(rt: HostRuntime) {
     let mut fids = Fids::new(rt.alloc());
-    assert_eq!(rt; fids.bind(b"a", fid(1)), Ok(()));
-    assert_eq!(rt; fids.bind(b"b", fid(2)), Ok(()));
-    assert_eq!(rt; fids.bind(b"a", fid(3)), Err(TreeError::BadFid));
-    assert_eq!(rt; fids.get(b"a"), Some(fid(1)));
-    assert_eq!(rt; fids.unbind(b"a"), Some(fid(1)));
-    assert_eq!(rt; fids.unbind(b"a"), None);
-    assert_eq!(rt; fids.get(b"b"), Some(fid(2)));
-    Ok(())
+    for (i, (name, ask)) in BINDINGS.iter().enumerate() {
+        assert!(rt; does(&mut fids, name, *ask), "row {i}");
+    }
 }
 
 // Run it with each allocation failing in turn: where there was memory for the room, there is none that the binding wants.

@@ -1,3 +1,4 @@
+//! One machine that counts behind its lock, by two threads and past a gate that watches.
 ghost use Rattle.std.specs.Prelude.{◌≡◌, ℕ, ◌+◌, ◌<◌, ◌≤◌, List, [], ◌∷◌, length};
 ghost use Rattle.net_base.specs.declared.noted.Noted.{Noted};
 ghost use Rattle.net_base.specs.declared.actor.ActorName.TheVariants.{Desk as DeskName, Clock as ClockName};
@@ -11,7 +12,7 @@ use counter::Counter;
 use gates::Watch;
 use journal::{Journal, Naming, Opened, Pass};
 use locked::*;
-use net_base::{ActorList, ActorName, Event, Outcome, Reply, With, Work, same_actor};
+use net_base::{ActorList, ActorName, Entry, Event, Outcome, Reply, With, Work, same_actor};
 use outside::{Gate, OpenGate};
 use std::alloc::Global;
 use std::marker::Brand;
@@ -104,6 +105,22 @@ fn await_count(generation: u64) -> Work {
     }
 }
 
+// Whether the entries are those of two callers, in the order in which these were told of them.
+fn are_counted(history: &[Entry], a: Told, b: Told) -> bool {
+    if history.len() != 2 {
+        return false;
+    }
+    let (first, second) = (&history[0], &history[1]);
+    let (one, two) = if first.caller == 0 { (a, b) } else { (b, a) };
+    first.moment == 0
+        && second.moment == 0
+        && first.caller != second.caller
+        && matches!(&first.reply, Reply::Count { count: 1 })
+        && matches!(&second.reply, Reply::Count { count: 2 })
+        && one == Told::Counted(0, 1)
+        && two == Told::Counted(1, 2)
+}
+
 fn counted_by_two<J: Naming + Send + Sync, R: Threads + Wait + Abort + Sync>(
     rt: &R,
     alloc: Global,
@@ -143,15 +160,7 @@ fn counted_by_two<J: Naming + Send + Sync, R: Threads + Wait + Abort + Sync>(
     let mut books = Vec::new(alloc);
     books.push(book)?;
     let history = journal.close(alloc, one, books)?.into_vec();
-    assert_eq!(rt; history.len(), 2);
-    assert!(rt; history[0].moment == 0 && history[1].moment == 0);
-    assert!(rt; history[0].caller != history[1].caller);
-    assert!(rt; matches!(&history[0].reply, Reply::Count { count: 1 }));
-    assert!(rt; matches!(&history[1].reply, Reply::Count { count: 2 }));
-    let first = if history[0].caller == 0 { a } else { b };
-    let second = if history[0].caller == 0 { b } else { a };
-    assert_eq!(rt; first, Told::Counted(0, 1));
-    assert_eq!(rt; second, Told::Counted(1, 2));
+    assert!(rt; are_counted(&history, a, b));
     Ok(())
 }
 

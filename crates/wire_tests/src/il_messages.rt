@@ -1,5 +1,10 @@
+//! Worked IL messages, and those that are refused.
+ghost use Rattle.std.specs.Prelude.{◌≤◌, length};
+
+use crate::headers::{Edits, edit};
 use il_header::*;
 use net_base::{IlKind, IlMsg, Octets};
+use std::alloc::{AllocError, Global};
 use std::test::Fail;
 
 /// The first message from port 5000 to port 17008.
@@ -13,137 +18,174 @@ const HELLO: [u8; 23] = [
     0x6c, 0x6f,
 ];
 
+/// A message by its kind, spec, id and ack.
+type Parts = (IlKind, u8, u32, u32);
+
+fn message(parts: Parts, text: Octets) -> IlMsg {
+    let (kind, spec, id, ack) = parts;
+    IlMsg {
+        kind,
+        spec,
+        id,
+        ack,
+        text,
+    }
+}
+
+/// Writes a message between the two ports, and answers how many bytes it takes, if it fits.
+fn encoded(message: &IlMsg, out: &mut [u8]) -> Option<usize> {
+    let count = message.text.len();
+    if count <= 65517 && 18 + count <= out.len() {
+        Some(encode_il(5000, 17008, message, out))
+    } else {
+        None
+    }
+}
+
+/// The same of parts and a text.
+fn written(
+    alloc: Global,
+    parts: Parts,
+    text: &[u8],
+    out: &mut [u8],
+) -> Result<Option<usize>, AllocError> {
+    let message = message(parts, Octets::from_slice(alloc, text)?);
+    Ok(encoded(&message, out))
+}
+
 #[test]
 fn messages_are_written(rt: HostRuntime) -> Result<(), Fail> {
-    let sync = IlMsg {
-        kind: IlKind::Sync,
-        spec: 0,
-        id: 1,
-        ack: 0,
-        text: Octets::new(rt.alloc()),
-    };
     let mut out = [7; 20];
-    assert_eq!(rt; encode_il(5000, 17008, &sync, &mut out), 18);
-    assert_eq!(rt; &out[..18], SYNC.as_slice());
+    let count = written(rt.alloc(), (IlKind::Sync, 0, 1, 0), b"", &mut out)?;
+    assert_eq!(rt; (count, &out[..18]), (Some(18), SYNC.as_slice()));
     assert_eq!(rt; &out[18..], [7, 7].as_slice());
-    let data = IlMsg {
-        kind: IlKind::Data,
-        spec: 0,
-        id: 2,
-        ack: 101,
-        text: Octets::from_slice(rt.alloc(), b"hello")?,
-    };
-    assert_eq!(rt; data.text.len(), 5);
     let mut out = [0; 23];
-    assert_eq!(rt; encode_il(5000, 17008, &data, &mut out), 23);
-    assert_eq!(rt; out, HELLO);
+    let count = written(rt.alloc(), (IlKind::Data, 0, 2, 101), b"hello", &mut out)?;
+    assert_eq!(rt; (count, out), (Some(23), HELLO));
     Ok(())
 }
 
-#[test]
-fn messages_are_read(rt: HostRuntime) -> Result<(), Fail> {
-    let sync = decode_il(&SYNC)?;
-    assert_eq!(rt; (sync.sport, sync.dport), (5000, 17008));
-    assert_eq!(rt;
-        (sync.kind, sync.spec, sync.id, sync.ack),
-        (IlKind::Sync, 0, 1, 0)
-    );
-    assert_eq!(rt; sync.text.len(), 0);
-    let hello = decode_il(&HELLO)?;
-    assert_eq!(rt;
-        (hello.kind, hello.spec, hello.id, hello.ack),
-        (IlKind::Data, 0, 2, 101)
-    );
-    assert_eq!(rt; hello.text, b"hello".as_slice());
-    Ok(())
-}
-
-#[test]
-fn each_type_is_its_number(rt: HostRuntime) -> Result<(), Fail> {
-    let kinds = [
-        IlKind::Sync,
-        IlKind::Data,
-        IlKind::DataQuery,
-        IlKind::Ack,
-        IlKind::Query,
-        IlKind::State,
-        IlKind::Close,
-    ];
-    for (i, kind) in kinds.iter().enumerate() {
-        let message = IlMsg {
-            kind: *kind,
-            spec: 1,
-            id: 0xffff_ffff,
-            ack: 0x8000_0000,
-            text: Octets::new(rt.alloc()),
-        };
-        let mut out = [0; 18];
-        assert_eq!(rt; encode_il(5000, 17008, &message, &mut out), 18);
-        assert_eq!(rt; usize::from(out[4]), i);
-        let view = decode_il(&out)?;
-        assert_eq!(rt; (view.kind, view.spec), (*kind, 1));
-        assert_eq!(rt; (view.id, view.ack), (0xffff_ffff, 0x8000_0000));
+/// Whether a message between the two ports is read so.
+fn reads(bytes: &[u8], parts: Parts, text: &[u8]) -> bool
+    requires { length bytes.now ≤ 65535 }
+{
+    match decode_il(bytes) {
+        Ok(view) => {
+            (view.sport, view.dport) == (5000, 17008)
+                && (view.kind, view.spec, view.id, view.ack) == parts
+                && view.text == text
+        }
+        Err(_) => false,
     }
-    Ok(())
 }
+
+#[test]
+fn messages_are_read(rt: HostRuntime) {
+    let read = (
+        reads(&SYNC, (IlKind::Sync, 0, 1, 0), b""),
+        reads(&HELLO, (IlKind::Data, 0, 2, 101), b"hello"),
+    );
+    assert_eq!(rt; read, (true, true));
+}
+
+const KINDS: &[(IlKind, u8)] = &[
+    (IlKind::Sync, 0),
+    (IlKind::Data, 1),
+    (IlKind::DataQuery, 2),
+    (IlKind::Ack, 3),
+    (IlKind::Query, 4),
+    (IlKind::State, 5),
+    (IlKind::Close, 6),
+];
+
+/// The number that a kind is written as, if it is read again.
+fn number_of(alloc: Global, kind: IlKind) -> Option<u8> {
+    let parts = (kind, 1, 0xffff_ffff, 0x8000_0000);
+    let message = message(parts, Octets::new(alloc));
+    let mut out = [0; 18];
+    let count = encoded(&message, &mut out)?;
+    if count == 18 && reads(&out, parts, b"") {
+        Some(out[4])
+    } else {
+        None
+    }
+}
+
+#[test]
+fn each_type_is_its_number(rt: HostRuntime) {
+    for (kind, number) in KINDS {
+        assert_eq!(rt; number_of(rt.alloc(), *kind), Some(*number));
+    }
+}
+
+/// The fault of the sync with these edits.
+fn fault_of(edits: Edits) -> Option<IlError> {
+    let mut bytes = SYNC;
+    edit(&mut bytes, edits);
+    decode_il(&bytes).err()
+}
+
+/// Several faults tell the first.
+const REFUSED: &[(Edits, IlError)] = &[
+    (&[(17, 1)], IlError::Sum),
+    (&[(1, 0xf5)], IlError::Sum),
+    (&[(3, 0x11), (4, 7)], IlError::Sum),
+    (&[(1, 0xf5), (3, 0x11)], IlError::Length),
+    (&[(0, 0xa2), (1, 0xf5), (3, 0x11), (4, 7)], IlError::Length),
+    (&[(0, 0xa2), (4, 7)], IlError::BadType),
+    // a sum of 0 is a sum
+    (&[(0, 0), (1, 0)], IlError::Sum),
+    (
+        &[(0, 0xff), (1, 0xff), (16, 0xa9), (17, 0xf4)],
+        IlError::Sum,
+    ),
+];
 
 #[test]
 fn refused_messages(rt: HostRuntime) {
-    // what stands at which place, and the fault; several faults tell the first
-    let cases: [(&[(usize, u8)], IlError); 6] = [
-        (&[(17, 1)], IlError::Sum),
-        (&[(1, 0xf5)], IlError::Sum),
-        (&[(3, 0x11), (4, 7)], IlError::Sum),
-        (&[(1, 0xf5), (3, 0x11)], IlError::Length),
-        (&[(0, 0xa2), (1, 0xf5), (3, 0x11), (4, 7)], IlError::Length),
-        (&[(0, 0xa2), (4, 7)], IlError::BadType),
-    ];
-    for (edits, fault) in cases {
-        let mut bytes = SYNC;
-        for (at, byte) in edits {
-            if *at < bytes.len() {
-                bytes[*at] = *byte;
-            }
-        }
-        assert_eq!(rt; decode_il(&bytes).err(), Some(fault), "{edits:?}");
+    for (i, row) in REFUSED.iter().enumerate() {
+        assert_eq!(rt; fault_of(row.0), Some(row.1), "row {i}");
     }
-    assert_eq!(rt; decode_il(&[]).err(), Some(IlError::Short));
-    assert_eq!(rt; decode_il(&SYNC[..17]).err(), Some(IlError::Short));
-    assert_eq!(rt; decode_il(&HELLO[..22]).err(), Some(IlError::Sum));
 }
 
 #[test]
-fn a_sum_of_zero_is_a_sum(rt: HostRuntime) -> Result<(), Fail> {
+fn refused_pieces(rt: HostRuntime) {
+    let faults = (
+        decode_il(&[]).err(),
+        decode_il(&SYNC[..17]).err(),
+        decode_il(&HELLO[..22]).err(),
+    );
+    let wanted = (
+        Some(IlError::Short),
+        Some(IlError::Short),
+        Some(IlError::Sum),
+    );
+    assert_eq!(rt; faults, wanted);
+}
+
+#[test]
+fn a_sum_of_zero_is_a_sum(rt: HostRuntime) {
     let mut bytes = SYNC;
     bytes[0] = 0;
     bytes[1] = 0;
-    assert_eq!(rt; decode_il(&bytes).err(), Some(IlError::Sum));
     bytes[16] = 0xa9;
     bytes[17] = 0xf4;
-    assert_eq!(rt; decode_il(&bytes)?.ack, 0xa9f4);
-    bytes[0] = 0xff;
-    bytes[1] = 0xff;
-    assert_eq!(rt; decode_il(&bytes).err(), Some(IlError::Sum));
-    Ok(())
+    assert!(rt; reads(&bytes, (IlKind::Sync, 0, 1, 0xa9f4), b""));
+}
+
+/// Whether the longest message is written with this sum, and read again.
+fn is_longest(message: &IlMsg, out: &mut [u8]) -> bool {
+    encoded(message, out) == Some(65535)
+        && out.len() == 65535
+        && out[..2] == [0xa9, 0x9f]
+        && reads(out, (IlKind::Data, 0, 2, 101), message.text.as_slice())
 }
 
 #[test]
 fn the_longest_message(rt: HostRuntime) -> Result<(), Fail> {
-    let text = vec![in rt.alloc(); 0xffu8; 65517]?;
     let mut out = vec![in rt.alloc(); 0u8; 65535]?;
-    assert_eq!(rt; (text.len(), out.len()), (65517, 65535));
-    let data = IlMsg {
-        kind: IlKind::Data,
-        spec: 0,
-        id: 2,
-        ack: 101,
-        text: Octets::from_vec(text),
-    };
-    assert_eq!(rt; encode_il(5000, 17008, &data, &mut out), 65535);
-    assert_eq!(rt;
-        (out.first().copied(), out.get(1).copied()),
-        (Some(0xa9), Some(0x9f))
-    );
-    assert_eq!(rt; decode_il(&out)?.text, data.text.as_slice());
+    let text = Octets::from_vec(vec![in rt.alloc(); 0xffu8; 65517]?);
+    let data = message((IlKind::Data, 0, 2, 101), text);
+    assert!(rt; is_longest(&data, &mut out));
     Ok(())
 }

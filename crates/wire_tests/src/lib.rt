@@ -1,4 +1,4 @@
-//! Tests.
+//! Worked bytes and words: datagrams, IL messages, media, routes, texts and streams, told by public calls alone.
 #![tactic(auto)]
 
 #[cfg(test)]

@@ -1,8 +1,6 @@
-ghost use Rattle.std.specs.Prelude.{◌≡◌, ◌+◌, ◌≤◌, length, IfOk};
-ghost use Rattle.net_base.specs.Medium.{datagram_length};
+ghost use Rattle.std.specs.Prelude.{◌+◌, ◌≤◌};
 ghost use Rattle.medium.specs.OnFates.{AreLines};
 
-use medium::datagram::datagram_of;
 use medium::{Laid, Medium};
 use net_base::{
     Addr, Body, Fate, FateRange, Fates, IlKind, IlMsg, MediumSpec, Octets, Packet, Proto, Sequence,
@@ -21,12 +19,6 @@ const HELIX: Addr = Addr {
     ip: 0x8768_091f,
     port: 7,
 };
-
-/// From 135.104.9.6!5000 to 135.104.9.31!7: `hi`.
-const FRAME: [u8; 30] = [
-    0x45, 0, 0, 0x1e, 0, 0, 0, 0, 0xff, 0x11, 0x9a, 0xd9, 0x87, 0x68, 9, 6, 0x87, 0x68, 9, 0x1f,
-    0x13, 0x88, 0, 7, 0, 0x0a, 0x62, 0xec, 0x68, 0x69,
-];
 
 fn ether(alloc: Global) -> Result<Medium, AllocError> {
     fated(alloc, 0, 0, 0, Sequence::new(alloc))
@@ -128,9 +120,7 @@ const LINES: [FateRange; 3] = [
     },
 ];
 
-fn udp(alloc: Global, text: &[u8]) -> Result<Packet, AllocError>
-    ensures { IfOk result (λ p. datagram_length p.body ≡ length text.now + 28) }
-{
+fn udp(alloc: Global, text: &[u8]) -> Result<Packet, AllocError> {
     Ok(Packet {
         src: ANNA,
         dst: HELIX,
@@ -154,15 +144,6 @@ fn il(alloc: Global, text: &[u8]) -> Result<Packet, AllocError> {
             text: Octets::from_slice(alloc, text)?,
         }),
     })
-}
-
-#[test]
-fn a_packet_as_bytes(rt: HostRuntime) -> Result<(), Fail> {
-    assert_eq!(rt;
-        datagram_of(rt.alloc(), &udp(rt.alloc(), b"hi")?)?.as_slice(),
-        FRAME.as_slice()
-    );
-    Ok(())
 }
 
 /// What becomes of a packet of a protocol that is put for a station.

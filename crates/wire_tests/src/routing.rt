@@ -1,6 +1,6 @@
 //! Which route an address takes.
 use ip_route::{Hop, RouteError, Routes};
-use std::alloc::{AllocError, Global};
+use std::alloc::Global;
 use std::test::*;
 
 /// 255.255.255.0
@@ -18,73 +18,85 @@ const HELIX: u32 = 0x8768_091f;
 /// 10.0.0.1
 const FAR: u32 = 0x0a00_0001;
 
-fn hop(iface: u32, next: Option<u32>) -> Hop {
-    Hop { iface, next }
+/// A call at a table of routes.
+#[derive(Clone, Copy)]
+enum Deed {
+    /// A route to a network under a mask by an interface and a gateway, and whether it is refused.
+    Add(u32, u32, u32, Option<u32>, Option<RouteError>),
+    /// An address, and the interface and address of its next hop.
+    LookUp(u32, Option<(u32, u32)>),
 }
 
-/// By a gateway to all networks, and then by interface 0 to its own.
-fn by_gate(alloc: Global) -> Result<Routes, AllocError> {
-    let mut routes = Routes::new(alloc);
-    let all = routes.add(0, 0, hop(0, Some(GATE)));
-    let own = routes.add(ETHER, MASK_24, hop(0, None));
-    match (all, own) {
-        (Ok(()), Ok(())) => Ok(routes),
-        _ => Err(AllocError),
+/// Makes the call. The answer is whether it comes to what it says.
+fn is_met(routes: &mut Routes, deed: Deed) -> bool {
+    match deed {
+        Deed::Add(net, mask, iface, next, refused) => {
+            routes.add(net, mask, Hop { iface, next }).err() == refused
+        }
+        Deed::LookUp(ip, hop) => match (routes.lookup(ip), hop) {
+            (Some(found), Some((iface, next))) => {
+                (found.iface, found.next) == (iface, Some(next))
+            }
+            (None, None) => true,
+            _ => false,
+        },
     }
 }
 
-#[test]
-fn the_longest_mask_is_taken(rt: HostRuntime) -> Result<(), Fail> {
-    let routes = by_gate(rt.alloc())?;
-    assert_eq!(rt;
-        routes.lookup(HELIX),
-        Some(hop(0, Some(HELIX))),
-        "its own network"
-    );
-    assert_eq!(rt;
-        routes.lookup(FAR),
-        Some(hop(0, Some(GATE))),
-        "by the gateway"
-    );
-    let none = Routes::new(rt.alloc());
-    assert_eq!(rt; none.lookup(HELIX), None);
-    Ok(())
+/// The first call that comes to something else.
+fn first_wrong(routes: &mut Routes, deeds: &[Deed]) -> Option<usize> {
+    for (i, deed) in deeds.iter().enumerate() {
+        if !is_met(routes, *deed) {
+            return Some(i);
+        }
+    }
+    None
+}
+
+/// By a gateway to all networks, and then by interface 0 to its own.
+const BY_GATE: &[Deed] = &[
+    Deed::LookUp(HELIX, None),
+    Deed::Add(0, 0, 0, Some(GATE), None),
+    Deed::Add(ETHER, MASK_24, 0, None, None),
+    // its own network, and by the gateway
+    Deed::LookUp(HELIX, Some((0, HELIX))),
+    Deed::LookUp(FAR, Some((0, GATE))),
+];
+
+const REFUSED: &[Deed] = &[
+    Deed::Add(ETHER, MASK_24, 1, Some(GATE), Some(RouteError::Twice(1))),
+    // 255.0.255.0, bits outside the mask, and a mask with a gap over no network
+    Deed::Add(ETHER, 0xff00_ff00, 0, None, Some(RouteError::BadMask)),
+    Deed::Add(HELIX, MASK_24, 0, None, Some(RouteError::BadMask)),
+    Deed::Add(0, 0xff00_ff00, 0, None, Some(RouteError::BadMask)),
+    // nothing was added
+    Deed::LookUp(HELIX, Some((0, HELIX))),
+];
+
+const HOST_ROUTE: &[Deed] = &[
+    Deed::Add(HELIX, 0xffff_ffff, 1, Some(GATE), None),
+    Deed::LookUp(HELIX, Some((1, GATE))),
+    Deed::LookUp(0x8768_0920, Some((0, 0x8768_0920))),
+];
+
+/// The first wrong call of `BY_GATE` at a fresh table, and then of these.
+fn wrong_after_gate(alloc: Global, deeds: &[Deed]) -> (Option<usize>, Option<usize>) {
+    let mut routes = Routes::new(alloc);
+    let gate = first_wrong(&mut routes, BY_GATE);
+    (gate, first_wrong(&mut routes, deeds))
 }
 
 #[test]
-fn a_host_route_is_longer_than_its_network(rt: HostRuntime) -> Result<(), Fail> {
-    let mut routes = by_gate(rt.alloc())?;
-    assert_eq!(rt; routes.add(HELIX, 0xffff_ffff, hop(1, Some(GATE))), Ok(()));
-    assert_eq!(rt; routes.lookup(HELIX), Some(hop(1, Some(GATE))));
-    assert_eq!(rt; routes.lookup(HELIX + 1), Some(hop(0, Some(HELIX + 1))));
-    Ok(())
+fn the_longest_mask_is_taken(rt: HostRuntime) {
+    assert_eq!(rt; wrong_after_gate(rt.alloc(), &[]), (None, None));
 }
 
 #[test]
-fn routes_are_refused(rt: HostRuntime) -> Result<(), Fail> {
-    let mut routes = by_gate(rt.alloc())?;
-    assert_eq!(rt;
-        routes.add(ETHER, MASK_24, hop(1, Some(GATE))),
-        Err(RouteError::Twice(1))
-    );
-    assert_eq!(rt;
-        routes.add(ETHER, 0xff00_ff00, hop(0, None)),
-        Err(RouteError::BadMask),
-        "255.0.255.0"
-    );
-    assert_eq!(rt;
-        routes.add(HELIX, MASK_24, hop(0, None)),
-        Err(RouteError::BadMask),
-        "bits outside the mask"
-    );
-    assert_eq!(rt;
-        routes.add(0, 0xff00_ff00, hop(0, None)),
-        Err(RouteError::BadMask)
-    );
-    assert_eq!(rt;
-        routes.lookup(HELIX),
-        Some(hop(0, Some(HELIX))),
-        "nothing was added"
-    );
-    Ok(())
+fn a_host_route_is_longer_than_its_network(rt: HostRuntime) {
+    assert_eq!(rt; wrong_after_gate(rt.alloc(), HOST_ROUTE), (None, None));
+}
+
+#[test]
+fn routes_are_refused(rt: HostRuntime) {
+    assert_eq!(rt; wrong_after_gate(rt.alloc(), REFUSED), (None, None));
 }

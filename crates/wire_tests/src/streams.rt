@@ -10,65 +10,113 @@ use outside::{
 use std::alloc::{AllocError, Global};
 use std::test::Fail;
 
-/// A text of so many bytes, in which each byte differs from the one before.
-fn bytes_of(alloc: Global, length: usize) -> Result<Vec<u8>, AllocError> {
-    let mut bytes = Vec::new(alloc);
-    for i in 0..length {
-        bytes.push((i % 251) as u8)?;
+/// How many bytes the text has.
+const COUNT: usize = 10000;
+
+/// Makes each byte differ from the one before.
+fn vary(bytes: &mut [u8]) {
+    for i in 0..bytes.len() {
+        bytes[i] = (i % 251) as u8;
     }
-    Ok(bytes)
+}
+
+fn text(alloc: Global) -> Result<Octets, AllocError> {
+    let mut bytes = vec![in alloc; 0u8; COUNT]?;
+    vary(&mut bytes);
+    Ok(Octets::from_vec(bytes))
 }
 
 fn fails(alloc: Global, calls: &[u64]) -> Result<FailList, AllocError> {
     Ok(FailList::from_vec(Vec::from_slice(alloc, calls)?))
 }
 
-#[test]
-fn a_source_is_read_to_its_end(rt: HostRuntime) -> Result<(), Fail> {
-    let bytes = bytes_of(rt.alloc(), 10000)?;
-    for (limit, is_read) in [(10001, true), (10000, true), (9999, false), (0, false)] {
-        let mut source = SureSource::new(Octets::from_slice(rt.alloc(), &bytes)?);
-        let taken = read_to_end(rt.alloc(), &mut source, limit);
-        match taken {
-            Ok(taken) => {
-                assert!(rt; is_read, "at {limit}");
-                assert_eq!(rt; taken.as_slice(), bytes.as_slice());
-            }
-            Err(error) => {
-                assert!(rt; !is_read, "at {limit}");
-                assert_eq!(rt; error, TakeError::TooLarge);
+/// What reading to the end gives.
+#[derive(Clone, Copy, Debug, PartialEq, Eq)]
+enum Taken {
+    /// So many last bytes of the text.
+    Last(usize),
+    Other,
+    Fault(TakeError),
+}
+
+fn take_all<S: Source>(alloc: Global, source: &mut S, text: &[u8], limit: usize) -> Taken {
+    match read_to_end(alloc, source, limit) {
+        Ok(bytes) => {
+            if text.ends_with(bytes.as_slice()) {
+                Taken::Last(bytes.len())
+            } else {
+                Taken::Other
             }
         }
+        Err(error) => Taken::Fault(error),
     }
+}
+
+/// What a source of the text gives under a limit.
+fn taken_under(alloc: Global, text: &[u8], limit: usize) -> Result<Taken, AllocError> {
+    let mut source = SureSource::new(Octets::from_slice(alloc, text)?);
+    Ok(take_all(alloc, &mut source, text, limit))
+}
+
+/// The same under four limits.
+fn taken_under_limits(alloc: Global, text: &[u8]) -> Result<[Taken; 4], AllocError> {
+    Ok([
+        taken_under(alloc, text, 10001)?,
+        taken_under(alloc, text, 10000)?,
+        taken_under(alloc, text, 9999)?,
+        taken_under(alloc, text, 0)?,
+    ])
+}
+
+const TOO_LARGE: Taken = Taken::Fault(TakeError::TooLarge);
+
+#[test]
+fn a_source_is_read_to_its_end(rt: HostRuntime) -> Result<(), Fail> {
+    let text = text(rt.alloc())?;
+    let told = taken_under_limits(rt.alloc(), text.as_slice());
+    let whole = Taken::Last(COUNT);
+    assert_eq!(rt; told, Ok([whole, whole, TOO_LARGE, TOO_LARGE]));
     Ok(())
 }
 
+/// What three readings of a source give whose second and fourth calls fail.
+fn taken_in_parts(alloc: Global, text: &[u8]) -> Result<[Taken; 3], AllocError> {
+    let calls = fails(alloc, &[2, 4])?;
+    let mut source = MemSource::new(Octets::from_slice(alloc, text)?, calls);
+    Ok([
+        take_all(alloc, &mut source, text, COUNT),
+        take_all(alloc, &mut source, text, COUNT),
+        take_all(alloc, &mut source, text, COUNT),
+    ])
+}
+
+const CALL_FAILED: Taken = Taken::Fault(TakeError::Failed);
+
 #[test]
 fn a_read_that_fails_in_between(rt: HostRuntime) -> Result<(), Fail> {
-    let bytes = bytes_of(rt.alloc(), 10000)?;
-    let text = Octets::from_slice(rt.alloc(), &bytes)?;
-    let mut source = MemSource::new(text, fails(rt.alloc(), &[2, 4])?);
-    let first = read_to_end(rt.alloc(), &mut source, 10000);
-    assert!(rt; matches!(first, Err(TakeError::Failed)));
-    let second = read_to_end(rt.alloc(), &mut source, 10000);
-    assert!(rt; matches!(second, Err(TakeError::Failed)));
-    let rest = read_to_end(rt.alloc(), &mut source, 10000)
-        .ok()
-        .ok_or("third")?;
-    assert_eq!(rt; rest.len(), 1808);
-    assert!(rt; bytes.ends_with(rest.as_slice()));
+    let text = text(rt.alloc())?;
+    let told = taken_in_parts(rt.alloc(), text.as_slice());
+    assert_eq!(rt; told, Ok([CALL_FAILED, CALL_FAILED, Taken::Last(1808)]));
     Ok(())
+}
+
+/// What is written to a sink with room for five bytes whose second call fails.
+fn written(sink: &mut MemSink) -> [Result<(), Failed>; 3] {
+    [
+        write_all(sink, b"abc"),
+        write_all(sink, b"de"),
+        write_all(sink, b"defg"),
+    ]
 }
 
 #[test]
 fn a_sink_whose_room_is_used_up(rt: HostRuntime) -> Result<(), Fail> {
     let mut sink = MemSink::new(rt.alloc(), 5, fails(rt.alloc(), &[2])?)?;
-    assert_eq!(rt; write_all(&mut sink, b"abc"), Ok(()));
-    assert_eq!(rt; write_all(&mut sink, b"de"), Err(Failed));
-    assert_eq!(rt; write_all(&mut sink, b"defg"), Err(Failed));
+    let told = written(&mut sink);
+    let more = (sink.write(b""), sink.write(b"f"));
+    assert_eq!(rt; told, [Ok(()), Err(Failed), Err(Failed)]);
+    assert_eq!(rt; more, (Ok(0), Err(Failed)));
     assert_eq!(rt; sink.held(), b"abcde".as_slice());
-    assert_eq!(rt; sink.write(b""), Ok(0));
-    assert_eq!(rt; sink.write(b"f"), Err(Failed));
     Ok(())
 }
 
@@ -78,13 +126,12 @@ fn a_sink_that_never_fails(rt: HostRuntime) {
 }
 
 #[test]
-fn standard_input(rt: HostRuntime) -> Result<(), Fail> {
+fn standard_input(rt: HostRuntime) {
     let mut source = StdSource::new(rt.stdin());
-    let taken = read_to_end(rt.alloc(), &mut source, 1000)
-        .ok()
-        .ok_or("a fault")?;
-    assert_eq!(rt; taken.as_slice(), [].as_slice());
-    Ok(())
+    assert_eq!(rt;
+        take_all(rt.alloc(), &mut source, b"", 1000),
+        Taken::Last(0)
+    );
 }
 
 #[test]

@@ -1,4 +1,4 @@
-//! Tests.
+//! Tests of texts: lines of a world, worlds as they are read, written and made, and histories with their summaries.
 #![tactic(auto)]
 
 #[cfg(test)]

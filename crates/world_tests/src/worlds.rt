@@ -1,11 +1,13 @@
 //! Worked worlds, and the causes of bad lines.
-use net_base::Step;
-use std::alloc::Global;
+use net_base::{HostSpec, MediumSpec, Script, Step, World};
+use std::alloc::{AllocError, Global};
 use std::test::Fail;
-use world_file::fault::WorldError;
-use world_file::reader::read_world;
+use world_file::{WorldError, read_world};
 
-const WORLD: &[u8] = b"networld 1\n\
+/// The lines that a world begins with, those behind them, and the bad line of both with its cause.
+type Row = (&'static [u8], &'static [u8], u64, u32);
+
+pub(crate) const WORLD: &[u8] = b"networld 1\n\
 end 60000\n\
 seed 7\n\
 medium ether0 1500\n\
@@ -75,274 +77,326 @@ writex d -\n\
 until 5\n\
 ndb";
 
-/// Whether the lines behind a beginning are bad at this line for this cause.
-fn is_bad(alloc: Global, front: &[u8], lines: &[u8], at: u64, least: u32) -> Result<bool, Fail> {
-    let mut text = Vec::from_slice(alloc, front)?;
-    text.extend_from_slice(lines)?;
-    match read_world(alloc, text.as_slice()) {
-        Err(WorldError::Bad { line, cause }) => Ok(line == at && cause == least),
-        _ => Ok(false),
+/// The bad line and the cause that are told of a text, where it is bad.
+fn told(alloc: Global, text: &[u8]) -> Option<(u64, u32)> {
+    match read_world(alloc, text) {
+        Err(WorldError::Bad { line, cause }) => Some((line, cause)),
+        _ => None,
     }
 }
 
-#[test]
-fn the_worked_world_is_read(rt: HostRuntime) -> Result<(), Fail> {
-    let Ok(world) = read_world(rt.alloc(), WORLD) else {
-        assert!(rt; false, "the world is read");
-        return Ok(());
-    };
-    assert_eq!(rt; world.end, 60000);
-    assert_eq!(rt; world.seed, 7);
-    assert_eq!(rt; world.media.len(), 1);
-    assert_eq!(rt; world.hosts.len(), 2);
-    assert_eq!(rt; world.scripts.len(), 2);
-    assert_eq!(rt; world.db.len(), 3);
-    match world.hosts.as_slice() {
-        [_, host] => {
-            assert_eq!(rt; host.name.as_slice(), b"helix".as_slice());
-            match host.ifaces.as_slice() {
-                [iface] => {
-                    assert_eq!(rt; iface.ip, 0x8768_091f);
-                    assert_eq!(rt; iface.mask, 0xffff_ff00);
-                }
-                _ => assert!(rt; false, "one interface"),
-            }
+/// What is told of these lines behind a beginning.
+fn told_behind(
+    alloc: Global,
+    front: &[u8],
+    lines: &[u8],
+) -> Result<Option<(u64, u32)>, AllocError> {
+    let mut text = Vec::new(alloc);
+    text.extend_from_slice(front)?;
+    text.extend_from_slice(lines)?;
+    Ok(told(alloc, text.as_slice()))
+}
+
+/// The first row whose line isn't told so.
+fn first_wrong(alloc: Global, rows: &[Row]) -> Result<Option<usize>, AllocError> {
+    for (i, (front, lines, line, cause)) in rows.iter().enumerate() {
+        if told_behind(alloc, front, lines)? != Some((*line, *cause)) {
+            return Ok(Some(i));
         }
-        _ => assert!(rt; false, "two hosts"),
     }
+    Ok(None)
+}
+
+/// Whether a host is helix at its one address.
+fn is_helix(host: &HostSpec) -> bool {
+    match host.ifaces.as_slice() {
+        [iface] => {
+            host.name.as_slice() == b"helix".as_slice()
+                && iface.ip == 0x8768_091f
+                && iface.mask == 0xffff_ff00
+        }
+        _ => false,
+    }
+}
+
+/// Whether the last of four steps writes `hi`.
+fn ends_with_a_write(script: &Script) -> bool {
+    match script.steps.as_slice() {
+        [_, _, _, Step::Write { name, text }] => {
+            name.as_slice() == b"d".as_slice() && text.as_slice() == b"hi".as_slice()
+        }
+        _ => false,
+    }
+}
+
+fn has_two_hosts(world: &World) -> bool {
+    match world.hosts.as_slice() {
+        [_, host] => is_helix(host),
+        _ => false,
+    }
+}
+
+fn has_two_scripts(world: &World) -> bool {
     match world.scripts.as_slice() {
-        [script, _] => match script.steps.as_slice() {
-            [_, _, _, Step::Write { name, text }] => {
-                assert_eq!(rt; name.as_slice(), b"d".as_slice());
-                assert_eq!(rt; text.as_slice(), b"hi".as_slice());
-            }
-            _ => assert!(rt; false, "four steps"),
-        },
-        _ => assert!(rt; false, "two scripts"),
+        [script, _] => ends_with_a_write(script),
+        _ => false,
     }
-    Ok(())
+}
+
+/// Whether the worked world is read as its lines say.
+fn worked_is_read(alloc: Global) -> bool {
+    let Ok(world) = read_world(alloc, WORLD) else {
+        return false;
+    };
+    let head = world.end == 60000 && world.seed == 7;
+    let counts = world.media.len() == 1 && world.db.len() == 3;
+    head && counts && has_two_hosts(&world) && has_two_scripts(&world)
+}
+
+#[test]
+fn the_worked_world_is_read(rt: HostRuntime) {
+    let read = worked_is_read(rt.alloc());
+    assert!(rt; read);
+}
+
+/// Whether medium `a` has its rates and its three fates in their order.
+fn is_lossy(medium: &MediumSpec) -> bool {
+    match medium.fates.as_slice() {
+        [_, second, third] => {
+            medium.loss == 600 && medium.later == 100 && second.last == 3 && third.first == 4
+        }
+        _ => false,
+    }
+}
+
+/// Whether the media are `a` with its fates and `b` with one.
+fn has_fates(world: &World) -> bool {
+    match world.media.as_slice() {
+        [a, b] => is_lossy(a) && b.loss == 0 && b.fates.len() == 1,
+        _ => false,
+    }
+}
+
+fn is_between(host: &HostSpec) -> bool {
+    match (
+        host.ifaces.as_slice(),
+        host.routes.as_slice(),
+        host.starts.as_slice(),
+    ) {
+        ([first, ..], [_, route], [_, start]) => {
+            first.medium == 1 && route.gateway == 0x0a00_0009 && *start == 4_294_967_295
+        }
+        _ => false,
+    }
+}
+
+fn has_free_hosts(world: &World) -> bool {
+    match world.hosts.as_slice() {
+        [host, _] => is_between(host),
+        _ => false,
+    }
+}
+
+fn has_free_scripts(world: &World) -> bool {
+    match world.scripts.as_slice() {
+        [_, second, third] => second.host == 1 && third.steps.len() == 2,
+        _ => false,
+    }
 }
 
 /// Whether the world of lines in another order is what its lines say.
-#[test]
-fn lines_stand_in_any_order(rt: HostRuntime) -> Result<(), Fail> {
-    let Ok(world) = read_world(rt.alloc(), FREE) else {
-        assert!(rt; false, "the world is read");
-        return Ok(());
+fn free_is_read(alloc: Global) -> bool {
+    let Ok(world) = read_world(alloc, FREE) else {
+        return false;
     };
-    assert_eq!(rt; world.media.len(), 2);
-    for medium in world.media.as_slice() {
-        let fates = medium.fates.as_slice();
-        if medium.number == 0 {
-            assert_eq!(rt; medium.loss, 600);
-            assert_eq!(rt; medium.later, 100);
-            assert_eq!(rt; fates.len(), 3);
-            assert_eq!(rt; fates[1].last, 3);
-            assert_eq!(rt; fates[2].first, 4);
-        } else {
-            assert_eq!(rt; medium.loss, 0);
-            assert_eq!(rt; fates.len(), 1);
-        }
-    }
-    let hosts = world.hosts.as_slice();
-    assert_eq!(rt; hosts.len(), 2);
-    assert_eq!(rt; hosts[0].ifaces.as_slice()[0].medium, 1);
-    assert_eq!(rt; hosts[0].routes.as_slice()[1].gateway, 0x0a00_0009);
-    assert_eq!(rt; hosts[0].starts.as_slice()[1], 4_294_967_295);
-    let scripts = world.scripts.as_slice();
-    assert_eq!(rt; scripts.len(), 3);
-    assert_eq!(rt; scripts[1].host, 1);
-    assert_eq!(rt; scripts[2].steps.len(), 2);
-    Ok(())
+    has_fates(&world) && has_free_hosts(&world) && has_free_scripts(&world)
 }
+
+#[test]
+fn lines_stand_in_any_order(rt: HostRuntime) {
+    let read = free_is_read(rt.alloc());
+    assert!(rt; read);
+}
+
+const FIRST_LINES: &[Row] = &[
+    (b"", b"", 1, 11),
+    (b"", b"#a\n\nnetworld 2\n", 3, 11),
+    (b"", b"networld 1 ", 1, 11),
+    (START, b" end 1", 2, 12),
+    (START, b"#end\n\nends", 4, 12),
+    (START, b"networld 2", 2, 13),
+    (START, b"end 1\nend 0", 3, 13),
+    (START, b"networld 1", 2, 18),
+    (START, b"end 1\nend 1", 3, 18),
+    (START, b"end 1\nseed 1\nseed 1", 4, 18),
+    (SCRIPT, b"seed 1", 9, 18),
+    (START, b"seed 1", 2, 19),
+    (START, b"medium a 576", 2, 19),
+    (START, b"", 2, 19),
+];
 
 #[test]
 fn first_lines_are_judged(rt: HostRuntime) -> Result<(), Fail> {
-    let rows = [
-        (b"".as_slice(), b"".as_slice(), 1, 11),
-        (b"", b"#a\n\nnetworld 2\n", 3, 11),
-        (b"", b"networld 1 ", 1, 11),
-        (START, b" end 1", 2, 12),
-        (START, b"#end\n\nends", 4, 12),
-        (START, b"networld 2", 2, 13),
-        (START, b"end 1\nend 0", 3, 13),
-        (START, b"networld 1", 2, 18),
-        (START, b"end 1\nend 1", 3, 18),
-        (START, b"end 1\nseed 1\nseed 1", 4, 18),
-        (SCRIPT, b"seed 1", 9, 18),
-        (START, b"seed 1", 2, 19),
-        (START, b"medium a 576", 2, 19),
-        (START, b"", 2, 19),
-    ];
-    for (front, lines, line, cause) in rows {
-        assert!(rt;
-            is_bad(rt.alloc(), front, lines, line, cause)?,
-            "{line} is bad for {cause}"
-        );
-    }
+    let wrong = first_wrong(rt.alloc(), FIRST_LINES)?;
+    assert_eq!(rt; wrong, None);
     Ok(())
 }
+
+const OF_MEDIA: &[Row] = &[
+    (MEDIA, b"medium a 576", 5, 14),
+    (
+        MEDIA,
+        b"medium b 576\nmedium c 576\nmedium d 576\nmedium e 576",
+        8,
+        17,
+    ),
+    (HOSTS, b"medium b 576", 9, 18),
+    (START, b"end 1\nmedium a 576", 3, 19),
+    (MEDIA, b"rates a 4294967296 0 0", 5, 13),
+    (MEDIA, b"rates b 1001 0 0", 5, 15),
+    (MEDIA, b"rates a 0 0 0\nrates a 1001 0 0", 6, 18),
+    (SCRIPT, b"rates a 1001 0 0", 9, 18),
+    (MEDIA, b"rates a 600 400 1", 5, 23),
+    (MEDIA, b"fate a 2-1 lose", 5, 13),
+    (START, b"fate a 1 lose", 2, 15),
+    (HOSTS, b"fate a 1 lose", 9, 18),
+    (MEDIA, b"fate a 5-9 lose\nfate a 9-12 lose", 6, 23),
+    (
+        MEDIA,
+        b"fate a 5-9 lose\nfate a 20 lose\nfate a 1-5 lose",
+        7,
+        23,
+    ),
+    (
+        MEDIA,
+        b"fate a 5-9 lose\nfate a 1-18446744073709551615 lose",
+        6,
+        23,
+    ),
+];
 
 #[test]
 fn media_are_judged(rt: HostRuntime) -> Result<(), Fail> {
-    let rows = [
-        (MEDIA, b"medium a 576".as_slice(), 5, 14),
-        (
-            MEDIA,
-            b"medium b 576\nmedium c 576\nmedium d 576\nmedium e 576",
-            8,
-            17,
-        ),
-        (HOSTS, b"medium b 576", 9, 18),
-        (START, b"end 1\nmedium a 576", 3, 19),
-        (MEDIA, b"rates a 4294967296 0 0", 5, 13),
-        (MEDIA, b"rates b 1001 0 0", 5, 15),
-        (MEDIA, b"rates a 0 0 0\nrates a 1001 0 0", 6, 18),
-        (SCRIPT, b"rates a 1001 0 0", 9, 18),
-        (MEDIA, b"rates a 600 400 1", 5, 23),
-        (MEDIA, b"fate a 2-1 lose", 5, 13),
-        (START, b"fate a 1 lose", 2, 15),
-        (HOSTS, b"fate a 1 lose", 9, 18),
-        (MEDIA, b"fate a 5-9 lose\nfate a 9-12 lose", 6, 23),
-        (
-            MEDIA,
-            b"fate a 5-9 lose\nfate a 20 lose\nfate a 1-5 lose",
-            7,
-            23,
-        ),
-        (
-            MEDIA,
-            b"fate a 5-9 lose\nfate a 1-18446744073709551615 lose",
-            6,
-            23,
-        ),
-    ];
-    for (front, lines, line, cause) in rows {
-        assert!(rt;
-            is_bad(rt.alloc(), front, lines, line, cause)?,
-            "{line} is bad for {cause}"
-        );
-    }
+    let wrong = first_wrong(rt.alloc(), OF_MEDIA)?;
+    assert_eq!(rt; wrong, None);
     Ok(())
 }
+
+const OF_HOSTS: &[Row] = &[
+    (MEDIA, b"host h tcp", 5, 13),
+    (HOSTS, b"host h udp", 9, 14),
+    (EIGHT, b"host i udp", 13, 17),
+    (SCRIPT, b"host g udp", 9, 18),
+    (START, b"end 1\nseed 1\nhost h udp", 4, 19),
+    (HOSTS, b"if a 10.0.0.3 255.0.1.0", 9, 14),
+    (HOST, b"if b 1.2.3.4 255.0.1.0", 6, 15),
+    (HOSTS, b"host f udp\nif a 10.0.0.1 0.0.1.0", 10, 16),
+    (MEDIA, b"if a 1.2.3.4 255.0.1.0", 5, 18),
+    (SCRIPT, b"if a 10.0.0.9 255.0.0.0", 9, 18),
+    (HOST, b"if a 1.2.3.4 255.0.1.0", 6, 20),
+    (SCRIPT, b"start 1", 9, 18),
+];
 
 #[test]
 fn hosts_are_judged(rt: HostRuntime) -> Result<(), Fail> {
-    let rows = [
-        (MEDIA, b"host h tcp".as_slice(), 5, 13),
-        (HOSTS, b"host h udp", 9, 14),
-        (EIGHT, b"host i udp", 13, 17),
-        (SCRIPT, b"host g udp", 9, 18),
-        (START, b"end 1\nseed 1\nhost h udp", 4, 19),
-        (HOSTS, b"if a 10.0.0.3 255.0.1.0", 9, 14),
-        (HOST, b"if b 1.2.3.4 255.0.1.0", 6, 15),
-        (HOSTS, b"host f udp\nif a 10.0.0.1 0.0.1.0", 10, 16),
-        (MEDIA, b"if a 1.2.3.4 255.0.1.0", 5, 18),
-        (SCRIPT, b"if a 10.0.0.9 255.0.0.0", 9, 18),
-        (HOST, b"if a 1.2.3.4 255.0.1.0", 6, 20),
-        (SCRIPT, b"start 1", 9, 18),
-    ];
-    for (front, lines, line, cause) in rows {
-        assert!(rt;
-            is_bad(rt.alloc(), front, lines, line, cause)?,
-            "{line} is bad for {cause}"
-        );
-    }
+    let wrong = first_wrong(rt.alloc(), OF_HOSTS)?;
+    assert_eq!(rt; wrong, None);
     Ok(())
 }
+
+const ROUTES: &[Row] = &[
+    (SCRIPT, b"route 1.0.0.1 255.0.0.0 11.0.0.9", 9, 18),
+    (HOSTS, b"route 1.0.0.0 255.0.1.0 10.0.0.9", 9, 20),
+    (HOSTS, b"route 1.0.0.1 255.0.0.0 10.0.0.9", 9, 20),
+    (HOSTS, b"route 10.0.0.0 255.0.0.0 11.0.0.9", 9, 21),
+    (
+        HOSTS,
+        b"route 1.0.0.0 255.0.0.0 10.0.0.9\nroute 1.0.0.0 255.0.0.0 10.0.0.8",
+        10,
+        21,
+    ),
+    (HOSTS, b"route 1.0.0.0 255.0.0.0 11.0.0.9", 9, 22),
+    (
+        HOST,
+        b"route 1.0.0.0 255.0.0.0 10.0.0.9\nif a 10.0.0.1 255.0.0.0",
+        6,
+        22,
+    ),
+    (
+        MEDIA,
+        b"medium b 576\nhost h il\nif a 10.0.0.1 255.0.0.0\nroute 11.0.0.0 255.0.0.0 10.0.0.9\nif b 11.0.0.1 255.0.0.0",
+        9,
+        21,
+    ),
+];
 
 #[test]
 fn routes_are_judged(rt: HostRuntime) -> Result<(), Fail> {
-    let rows = [
-        (
-            SCRIPT,
-            b"route 1.0.0.1 255.0.0.0 11.0.0.9".as_slice(),
-            9,
-            18,
-        ),
-        (HOSTS, b"route 1.0.0.0 255.0.1.0 10.0.0.9", 9, 20),
-        (HOSTS, b"route 1.0.0.1 255.0.0.0 10.0.0.9", 9, 20),
-        (HOSTS, b"route 10.0.0.0 255.0.0.0 11.0.0.9", 9, 21),
-        (
-            HOSTS,
-            b"route 1.0.0.0 255.0.0.0 10.0.0.9\nroute 1.0.0.0 255.0.0.0 10.0.0.8",
-            10,
-            21,
-        ),
-        (HOSTS, b"route 1.0.0.0 255.0.0.0 11.0.0.9", 9, 22),
-        (
-            HOST,
-            b"route 1.0.0.0 255.0.0.0 10.0.0.9\nif a 10.0.0.1 255.0.0.0",
-            6,
-            22,
-        ),
-    ];
-    for (front, lines, line, cause) in rows {
-        assert!(rt;
-            is_bad(rt.alloc(), front, lines, line, cause)?,
-            "{line} is bad for {cause}"
-        );
-    }
-    let twice =
-        b"medium b 576\nhost h il\nif a 10.0.0.1 255.0.0.0\nroute 11.0.0.0 255.0.0.0 10.0.0.9\nif b 11.0.0.1 255.0.0.0";
-    assert!(rt; is_bad(rt.alloc(), MEDIA, twice.as_slice(), 9, 21)?);
+    let wrong = first_wrong(rt.alloc(), ROUTES)?;
+    assert_eq!(rt; wrong, None);
     Ok(())
 }
 
+const SCRIPTS: &[Row] = &[
+    (HOSTS, b"script H", 9, 13),
+    (MEDIA, b"script h", 5, 15),
+    (HOSTS, b"script f", 9, 15),
+    (HOSTS, b"until 1", 9, 18),
+    (HOSTS, b"until 0", 9, 13),
+    (SCRIPT, b"read d 65537", 9, 13),
+    (HOSTS, b"ndb x", 9, 13),
+    (MEDIA, b"ndb", 5, 19),
+    (HOSTS, b"ndb\n\ta=b\n", 10, 1),
+    (HOSTS, b"ndb\na=\"b\n", 10, 2),
+    (SCRIPT, b"ndb\na=b\n\n\n=c", 13, 3),
+    (HOSTS, b"ndb\na=b\n%file x\n\tc=d\n", 12, 1),
+];
+
 #[test]
 fn scripts_are_judged(rt: HostRuntime) -> Result<(), Fail> {
-    let rows = [
-        (HOSTS, b"script H".as_slice(), 9, 13),
-        (MEDIA, b"script h", 5, 15),
-        (HOSTS, b"script f", 9, 15),
-        (HOSTS, b"until 1", 9, 18),
-        (HOSTS, b"until 0", 9, 13),
-        (SCRIPT, b"read d 65537", 9, 13),
-        (HOSTS, b"ndb x", 9, 13),
-        (MEDIA, b"ndb", 5, 19),
-        (HOSTS, b"ndb\n\ta=b\n", 10, 1),
-        (HOSTS, b"ndb\na=\"b\n", 10, 2),
-        (SCRIPT, b"ndb\na=b\n\n\n=c", 13, 3),
-        (HOSTS, b"ndb\na=b\n%file x\n\tc=d\n", 12, 1),
-    ];
-    for (front, lines, line, cause) in rows {
-        assert!(rt;
-            is_bad(rt.alloc(), front, lines, line, cause)?,
-            "{line} is bad for {cause}"
-        );
-    }
+    let wrong = first_wrong(rt.alloc(), SCRIPTS)?;
+    assert_eq!(rt; wrong, None);
     Ok(())
+}
+
+/// What is told of this many scripts more than none.
+fn told_of_scripts(alloc: Global, many: u32) -> Result<Option<(u64, u32)>, AllocError> {
+    let mut lines = Vec::new(alloc);
+    for _ in 0..many {
+        lines.extend_from_slice(b"script g\n")?;
+    }
+    told_behind(alloc, HOSTS, lines.as_slice())
 }
 
 #[test]
 fn a_script_too_many_is_told(rt: HostRuntime) -> Result<(), Fail> {
-    let mut lines = Vec::new(rt.alloc());
-    for _ in 0..33 {
-        lines.extend_from_slice(b"script g\n")?;
-    }
-    assert!(rt; is_bad(rt.alloc(), HOSTS, lines.as_slice(), 41, 17)?);
+    let told = told_of_scripts(rt.alloc(), 33)?;
+    assert_eq!(rt; told, Some((41, 17)));
     Ok(())
 }
 
-#[test]
-fn a_text_that_is_cut_lacks_a_part(rt: HostRuntime) -> Result<(), Fail> {
+/// The first line of these behind which the worked world can be cut, with its newline or without, and isn't told to lack
+/// a part.
+fn first_whole(alloc: Global, lines: u64) -> Option<u64> {
     let mut number = 1;
     for (i, byte) in WORLD.iter().enumerate() {
         if *byte != b'\n' {
             continue;
         }
-        if 18 < number {
+        if lines <= number {
             break;
         }
         number += 1;
-        assert!(rt;
-            is_bad(rt.alloc(), &WORLD[..i + 1], b"", number, 19)?,
-            "cut before {number}"
-        );
-        assert!(rt;
-            is_bad(rt.alloc(), &WORLD[..i], b"", number, 19)?,
-            "cut before the newline of the line before {number}"
-        );
+        let lacks = Some((number, 19));
+        if told(alloc, &WORLD[..i + 1]) != lacks || told(alloc, &WORLD[..i]) != lacks {
+            return Some(number);
+        }
     }
-    Ok(())
+    None
+}
+
+#[test]
+fn a_text_that_is_cut_lacks_a_part(rt: HostRuntime) {
+    let first = first_whole(rt.alloc(), 19);
+    assert_eq!(rt; first, None);
 }

@@ -6,8 +6,8 @@ ghost use Rattle.host_tests.specs.Tried.{tried_host, tried_medium, tried_world};
 
 use net_actors::{Actors, Due};
 use net_base::{
-    ActorName, Db, Event, Fates, HostSpec, Hosts, Iface, Ifaces, Media, MediumSpec, Nets, Octets,
-    Proto, Reply, RouteLines, Scripts, Starts, With, Work, World,
+    ActorName, Db, Fates, HostSpec, Hosts, Iface, Ifaces, Media, MediumSpec, Nets, Octets, Proto,
+    Reply, RouteLines, Scripts, Starts, Work, World,
 };
 use std::alloc::{AllocError, Global};
 use std::marker::Model;
@@ -17,7 +17,7 @@ pub const ANNA: u32 = 0x8768_0906;
 pub const HELIX: u32 = 0x8768_091f;
 
 /// What is read of a reply.
-#[derive(Clone, Copy, Debug, PartialEq, Eq)]
+#[derive(Clone, Copy, PartialEq, Eq)]
 pub enum Told {
     NotReady,
     Ok,
@@ -154,7 +154,7 @@ impl Model for Trial {
 }
 
 impl Trial {
-    #[tactic(auto, using(net_actors::proofs::Trying::none_led, net_actors::proofs::Trying::tried_is_world))]
+    #[tactic(auto, using(crate::proofs::Trying::none_led, crate::proofs::Trying::tried_is_world))]
     pub fn new(alloc: Global) -> Result<Trial, AllocError> {
         let world = world(alloc)?;
         let actors = Actors::new(alloc, &world)?;
@@ -175,21 +175,6 @@ impl Trial {
         let outcome = self.actors.step(name, now, work)?;
         self.works += 1;
         Ok(read_reply(&outcome.reply))
-    }
-
-    /// What it answers to an event to which nothing is given, at moment 9.
-    pub fn ask(&mut self, name: ActorName, event: Event) -> Result<Told, AllocError>
-        requires { is_among 2 1 name ≡ true }
-    {
-        self.give(name, event, With::Nothing)
-    }
-
-    /// What it answers to an event with what is given, at moment 9.
-    pub fn give(&mut self, name: ActorName, event: Event, with: With) -> Result<Told, AllocError>
-        requires { is_among 2 1 name ≡ true }
-    {
-        let work = Work { event, with };
-        self.answer(name, 9, &work)
     }
 
     /// When the actor is due.

@@ -1,7 +1,7 @@
 use Rattle.std.proofs.Common.{◌≡◌, true, arith}
 use Rattle.host_tests.specs.Tried.{tried_world}
 use Rattle.host_tests.proofs.Trying.{can_step, led_more, tried_has}
-use Rattle.net_actors.proofs.tests.trial.Trial.answer.Goals as goal
+use Rattle.host_tests.proofs.actors.trial.Trial.answer.Goals as goal
 
 pub step-requires-clause-ready : goal.step-requires-clause-ready
 step-requires-clause-ready c =

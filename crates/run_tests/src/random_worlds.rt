@@ -1,9 +1,11 @@
 //! Over random worlds a run on one worker records what the plain runner records.
+ghost use Rattle.net_base.specs.World.{IsWorld};
 
+use net_base::{History, World};
 use outside::OpenGate;
 use rand_core::utils::NextWord;
 use rand_pcg::Lcg64Xsh32;
-use std::alloc::Global;
+use std::alloc::{AllocError, Global};
 use std::sync::Wait;
 use std::test::Fail;
 use std::thread::Threads;
@@ -65,60 +67,102 @@ const DATABASE: &str =
     "ndb\nsys=anna ip=135.104.9.6\nsys=helix ip=135.104.9.31\nil=9fs port=17008\nudp=echo port=7\n";
 
 /// One of these.
-fn one_of<'a>(words: &mut Lcg64Xsh32, rows: &[&'a str]) -> Result<&'a str, Fail> {
+fn one_of<'a>(words: &mut Lcg64Xsh32, rows: &[&'a str]) -> &'a str {
     let row = words.next_word() as usize % rows.len().max(1);
-    Ok(*rows.get(row).ok_or("no rows")?)
+    match rows.get(row) {
+        Some(text) => *text,
+        None => "",
+    }
 }
 
-/// Adds a script.
-fn add_script(words: &mut Lcg64Xsh32, begins: &[&str], text: &mut String) -> Result<(), Fail> {
-    text.push_str(one_of(words, begins)?)?;
+fn put_script(
+    words: &mut Lcg64Xsh32,
+    begins: &[&str],
+    text: &mut String,
+) -> Result<(), AllocError> {
+    text.push_str(one_of(words, begins))?;
     for _ in 0..words.next_word() % 4 {
-        text.push_str(one_of(words, &STEPS)?)?;
+        text.push_str(one_of(words, &STEPS))?;
     }
     Ok(())
 }
 
-/// A world of two hosts on a medium.
-fn random_world(alloc: Global, words: &mut Lcg64Xsh32) -> Result<String, Fail> {
-    let seed = words.next_word();
-    let mut text = format!(in alloc; "networld 1\nend 9000\nseed {seed}\nmedium ether0 1500\n")?;
-    text.push_str(one_of(words, &FATES)?)?;
-    text.push_str(HOSTS)?;
-    add_script(words, &CALLERS, &mut text)?;
-    add_script(words, &LISTENERS, &mut text)?;
+fn put_scripts(words: &mut Lcg64Xsh32, text: &mut String) -> Result<(), AllocError> {
+    put_script(words, &CALLERS, text)?;
+    put_script(words, &LISTENERS, text)?;
     for _ in 0..words.next_word() % 2 {
-        add_script(words, &CALLERS, &mut text)?;
+        put_script(words, &CALLERS, text)?;
     }
-    text.push_str(DATABASE)?;
-    Ok(text)
+    Ok(())
+}
+
+/// Adds a world of two hosts on a medium.
+fn put_world(words: &mut Lcg64Xsh32, text: &mut String) -> Result<(), AllocError> {
+    let seed = words.next_word();
+    write!(
+        text,
+        "networld 1\nend 9000\nseed {seed}\nmedium ether0 1500\n"
+    )?;
+    text.push_str(one_of(words, &FATES))?;
+    text.push_str(HOSTS)?;
+    put_scripts(words, text)?;
+    text.push_str(DATABASE)
+}
+
+fn have_the_same_text(
+    alloc: Global,
+    history: &History,
+    other: &History,
+) -> Result<bool, AllocError> {
+    let text = text_of(alloc, history)?;
+    let wanted = text_of(alloc, other)?;
+    Ok(text.as_slice() == wanted.as_slice())
 }
 
 /// Whether the plain runner and a run on one worker record the same text of a world, and end alike.
 fn record_the_same<R: Threads + Wait + Sync>(
     rt: &R,
     alloc: Global,
-    input: &str,
-) -> Result<bool, Fail> {
-    let Ok(world) = read_world(alloc, input.as_bytes()) else {
-        return Err("no world".into());
+    world: &World,
+) -> Result<bool, AllocError>
+    requires { IsWorld world.now }
+{
+    let Ok(run) = agenda::run(rt, alloc, world, 1, &OpenGate) else {
+        return Err(AllocError);
     };
-    let Ok(run) = agenda::run(rt, alloc, &world, 1, &OpenGate) else {
-        return Err("no run".into());
+    let plain = plain_runner::run(alloc, world)?;
+    let same = have_the_same_text(alloc, &run.history, &plain.history)?;
+    Ok(run.end == plain.end && same)
+}
+
+fn record_the_same_of<R: Threads + Wait + Sync>(
+    rt: &R,
+    alloc: Global,
+    text: &str,
+) -> Result<bool, AllocError> {
+    let Ok(world) = read_world(alloc, text.as_bytes()) else {
+        return Ok(false);
     };
-    let plain = plain_runner::run(alloc, &world)?;
-    let text = text_of(alloc, &run.history)?;
-    let wanted = text_of(alloc, &plain.history)?;
-    Ok(run.end == plain.end && text.as_slice() == wanted.as_slice())
+    record_the_same(rt, alloc, &world)
+}
+
+/// Whether they record the same of the next world.
+fn record_the_same_next<R: Threads + Wait + Sync>(
+    rt: &R,
+    alloc: Global,
+    words: &mut Lcg64Xsh32,
+) -> Result<bool, AllocError> {
+    let mut text = String::new(alloc);
+    put_world(words, &mut text)?;
+    record_the_same_of(rt, alloc, &text)
 }
 
 #[test]
 fn one_worker_keeps_the_fixed_order(rt: HostRuntime) -> Result<(), Fail> {
     let mut words = Lcg64Xsh32::new(30, 1);
-    for _ in 0..300 {
-        let input = random_world(rt.alloc(), &mut words)?;
-        let same = record_the_same(&rt, rt.alloc(), &input)?;
-        assert!(rt; same, "{input}");
+    for i in 0..300_u32 {
+        let same = record_the_same_next(&rt, rt.alloc(), &mut words)?;
+        assert!(rt; same, "world {i}");
     }
     Ok(())
 }
