@@ -63,6 +63,11 @@ abbrev pub row_of : {X : Type 0} → List (List ℕ × Reader X) → List ℕ �
 row_of [] word words = None
 row_of (row ∷ rows) word words = if bytes_eq word row.0 then row.1 words else row_of rows word words
 
+-- the value of the row with this word
+abbrev pub named : {X : Type 0} → List (List ℕ × X) → List ℕ → Option X
+named [] word = None
+named (row ∷ rows) word = if bytes_eq word row.0 then Some row.1 else named rows word
+
 -- Numbers.
 
 abbrev pub long : Reader ℕ
@@ -117,69 +122,45 @@ proto = one proto_named
 abbrev pub file : Reader FileName
 file = one file_named
 
+abbrev pub mode_names : List (List ℕ × Mode)
+mode_names = (codes "r", mode.Read) ∷ (codes "w", mode.Write) ∷ (codes "rw", mode.Both) ∷ []
+
 abbrev pub mode_in : List ℕ → Option Mode
-mode_in word =
-    if bytes_eq word (codes "r")
-    then Some mode.Read
-    else (if bytes_eq word (codes "w") then Some mode.Write else (if bytes_eq word (codes "rw") then Some mode.Both else None))
+mode_in = named mode_names
 
 abbrev pub mode_of : Reader Mode
 mode_of = one mode_in
 
+abbrev pub kind_names : List (List ℕ × IlKind)
+kind_names = (codes "sync", kind.Sync) ∷ (codes "data", kind.Data) ∷ (codes "dataquery", kind.DataQuery) ∷ (codes "ack", kind.Ack) ∷ (codes "query", kind.Query) ∷ (codes "state", kind.State) ∷ (codes "close", kind.Close) ∷ []
+
 abbrev pub kind_in : List ℕ → Option IlKind
-kind_in word =
-    if bytes_eq word (codes "sync")
-    then Some kind.Sync
-    else (if bytes_eq word (codes "data")
-    then Some kind.Data
-    else (if bytes_eq word (codes "dataquery")
-    then Some kind.DataQuery
-    else (if bytes_eq word (codes "ack")
-    then Some kind.Ack
-    else (if bytes_eq word (codes "query")
-    then Some kind.Query
-    else (if bytes_eq word (codes "state") then Some kind.State else (if bytes_eq word (codes "close") then Some kind.Close else None))))))
+kind_in = named kind_names
 
 abbrev pub kind_of : Reader IlKind
 kind_of = one kind_in
 
 -- the states of a conversation's end
+abbrev pub end_state_names : List (List ℕ × StateName)
+end_state_names = (codes "Syncer", state.Syncer) ∷ (codes "Syncee", state.Syncee) ∷ (codes "Established", state.Established) ∷ (codes "Listening", state.Listening) ∷ (codes "Closing", state.Closing) ∷ (codes "Open", state.Open) ∷ []
+
 abbrev pub end_state_in : List ℕ → Option StateName
-end_state_in word =
-    if bytes_eq word (codes "Syncer")
-    then Some state.Syncer
-    else (if bytes_eq word (codes "Syncee")
-    then Some state.Syncee
-    else (if bytes_eq word (codes "Established")
-    then Some state.Established
-    else (if bytes_eq word (codes "Listening")
-    then Some state.Listening
-    else (if bytes_eq word (codes "Closing") then Some state.Closing else (if bytes_eq word (codes "Open") then Some state.Open else None)))))
+end_state_in = named end_state_names
+
+abbrev pub state_names : List (List ℕ × StateName)
+state_names = (codes "Free", state.Free) ∷ (codes "Reserved", state.Reserved) ∷ (codes "Announced", state.Announced) ∷ (codes "Granted", state.Granted) ∷ (codes "Withdrawn", state.Withdrawn) ∷ (codes "Closed", state.Closed) ∷ end_state_names
 
 abbrev pub state_in : List ℕ → Option StateName
-state_in word =
-    if bytes_eq word (codes "Free")
-    then Some state.Free
-    else (if bytes_eq word (codes "Reserved")
-    then Some state.Reserved
-    else (if bytes_eq word (codes "Announced")
-    then Some state.Announced
-    else (if bytes_eq word (codes "Granted")
-    then Some state.Granted
-    else (if bytes_eq word (codes "Withdrawn")
-    then Some state.Withdrawn
-    else (if bytes_eq word (codes "Closed") then Some state.Closed else end_state_in word)))))
+state_in = named state_names
 
 abbrev pub state_of : Reader StateName
 state_of = one state_in
 
+abbrev pub cause_names : List (List ℕ × Cause)
+cause_names = (codes "1", cause.Refused) ∷ (codes "2", cause.TimedOut) ∷ (codes "3", cause.Hungup) ∷ (codes "4", cause.ByPeer) ∷ []
+
 abbrev pub cause_in : List ℕ → Option Cause
-cause_in word =
-    if bytes_eq word (codes "1")
-    then Some cause.Refused
-    else (if bytes_eq word (codes "2")
-    then Some cause.TimedOut
-    else (if bytes_eq word (codes "3") then Some cause.Hungup else (if bytes_eq word (codes "4") then Some cause.ByPeer else None)))
+cause_in = named cause_names
 
 abbrev pub cause_of : Reader Cause
 cause_of = one cause_in

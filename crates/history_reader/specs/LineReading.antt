@@ -1,5 +1,5 @@
 -- A printed history as it is read: line by line, with a summary behind the last entry or none.
-use Rattle.std.specs.Prelude.{◌≡◌, ℕ, ◌+◌, Bool, true, false, not, ◌&&◌, List, [], ◌∷◌, ◌++◌, length, nat_lt, Option, Some, None, is_some, codes, bytes_eq, if◌then◌else◌}
+use Rattle.std.specs.Prelude.{◌≡◌, ℕ, ◌+◌, ◌==◌, Bool, true, false, not, ◌&&◌, List, [], ◌∷◌, ◌++◌, length, nat_lt, Option, Some, None, codes, bytes_eq, if◌then◌else◌}
 pub use Rattle.std.specs.Char.{is_ascii_digit}
 pub use Rattle.std.specs.List.{list_all, join_with_byte}
 use Rattle.std.specs.Option.{option_and_then}
@@ -70,16 +70,18 @@ passed test [] = None
 passed test (last ∷ []) = None
 passed test (line ∷ part ∷ parts) = if test line then Some (part ∷ parts) else None
 
+-- what stands behind a line, if it is good, is looked at further
+abbrev pub goes_on : ℕ → Option Parts → (Parts → Option ℕ) → Option ℕ
+goes_on before None go = Some (before + 1)
+goes_on before (Some rest) go = go rest
+
 -- the first line of these that is bad, behind so many lines
 abbrev pub fault_from : List (List ℕ → Bool) → ℕ → Parts → Option ℕ
-fault_from [] before [] = None
+fault_from [] before [] = Some (before + 1)
 fault_from [] before ([] ∷ []) = None
-fault_from [] before parts = Some (before + 1)
-fault_from (test ∷ tests) before parts = goes_on (passed test parts)
-  where
-    goes_on : Option Parts → Option ℕ
-    goes_on None = Some (before + 1)
-    goes_on (Some rest) = fault_from tests (before + 1) rest
+fault_from [] before ((b ∷ part) ∷ []) = Some (before + 1)
+fault_from [] before (part ∷ next ∷ parts) = Some (before + 1)
+fault_from (test ∷ tests) before parts = goes_on before (passed test parts) (fault_from tests (before + 1))
 
 abbrev pub summary_tests : List (List ℕ → Bool)
 summary_tests = is_steps ∷ is_both (codes "messages") ∷ is_both (codes "bytes") ∷ is_end ∷ []
@@ -90,9 +92,13 @@ pub data Verdict : Type 0 where
   Good : Entry → Verdict
   Refused : ℕ → Verdict
 
+abbrev pub is_same : ℕ → Option ℕ → Bool
+is_same n None = false
+is_same n (Some m) = m == n
+
 -- the word of a stamp
 abbrev pub is_stamp : ℕ → List ℕ → Bool
-is_stamp stamp word = is_some (number_in stamp stamp word)
+is_stamp stamp word = is_same stamp (number_in 0 18446744073709551615 word)
 
 -- why a line is bad by this word alone
 abbrev pub stamp_cause : List ℕ → ℕ

@@ -1,5 +1,6 @@
 -- What a printed history says, and where it is bad.
-use Rattle.std.specs.Prelude.{◌≡◌, ◌≢◌, ℕ, ◌+◌, ◌<◌, List, [], ◌∷◌, ◌++◌, ◌⊎◌, length, flat_map, Option, Some, None}
+use Rattle.std.specs.Prelude.{◌≡◌, ◌≢◌, ℕ, ◌+◌, ◌<◌, List, [], ◌∷◌, ◌++◌, ◌⊎◌, length, Option, Some, None}
+use Rattle.std.specs.List.{concat}
 use Rattle.net_base.specs.declared.history.Entry.{Entry}
 use Rattle.net_base.specs.Plain.{IsPlain, IsPlainEvent, IsPlainReply}
 use Rattle.net_base.specs.Transcript.{history_text, line_of}
@@ -8,13 +9,9 @@ use Rattle.history_reader.specs.Wide.{IsWide, IsWideEntry}
 
 -- What is spelled.
 
--- lines, one behind the other
-abbrev pub joined : List (List ℕ) → List ℕ
-joined lines = flat_map (λ line. line) lines
-
 -- four lines, one of each form
 abbrev pub IsSummary : List ℕ → Type 0
-IsSummary text = (lines : List (List ℕ)) × (length lines ≡ 4) × AreLinesFrom 0 lines × (text ≡ joined lines)
+IsSummary text = (lines : List (List ℕ)) × (length lines ≡ 4) × AreLinesFrom 0 lines × (text ≡ concat lines)
 
 -- what stands behind the entries: nothing, or a summary
 abbrev pub IsBehind : Option (List ℕ) → List ℕ → Type 0
@@ -51,7 +48,7 @@ IsBadLine stamp text cause =
 
 -- behind so many lines of a summary: not the next one, which may be missing; behind all of them anything
 abbrev pub IsBadSummary : ℕ → List ℕ → Type 0
-IsBadSummary count text = (text ≢ [] ⊎ (count < 4)) × (Begins (IsLineOf count) text → ⊥)
+IsBadSummary count text = ((text ≢ []) ⊎ (count < 4)) × (Begins (IsLineOf count) text → ⊥)
 
 -- the entries before, the lines of a summary behind them, and what follows
 pub record IsBad (bytes : List ℕ) (line cause : ℕ) : Type 0 where
@@ -61,6 +58,6 @@ pub record IsBad (bytes : List ℕ) (line cause : ℕ) : Type 0 where
   pub plain : IsPlain before
   pub wide : IsWide before
   pub summary : AreLinesFrom 0 lines
-  pub spelled : bytes ≡ history_text before ++ joined lines ++ behind
+  pub spelled : bytes ≡ history_text before ++ concat lines ++ behind
   pub place : line ≡ length before + length lines + 1
   pub bad : ((lines ≡ []) × (behind ≢ []) × IsBadLine (length before) behind cause) ⊎ ((lines ≢ []) × (cause ≡ 41) × IsBadSummary (length lines) behind)

@@ -8,6 +8,7 @@ use net_base::{Call, CallList};
 use std::alloc::{AllocError, Global};
 
 /// The calls that waited, or a dash for none.
+#[tactic(auto, using(crate::proofs::Loops::no_calls, crate::proofs::Loops::any_calls))]
 pub(crate) fn calls<'a>(
     alloc: Global,
     words: &Words<'a>,
@@ -28,6 +29,7 @@ pub(crate) fn calls<'a>(
 }
 
 /// Calls as long as two numbers come.
+#[tactic(auto, using(crate::proofs::Loops::calls_on, crate::proofs::Loops::calls_end, crate::proofs::Loops::calls_shorter))]
 fn each_call<'a>(alloc: Global, words: &Words<'a>) -> Result<(CallList, Words<'a>), AllocError>
     ensures { IfOk result (λ read. read ≡ spec.each_call words.now) }
 {

@@ -63,13 +63,12 @@ impl<'a> Words<'a> {
 }
 
 /// The first line of a text, and what stands behind its newline.
+#[tactic(auto, using(crate::proofs::Parts::only_part))]
 pub(crate) fn cut_line(text: &[u8]) -> Option<(&[u8], &[u8])>
     ensures cut { MatchOption result
         (parts_at 10 text.now ≡ text.now ∷ [])
         (λ read. parts_at 10 text.now ≡ read.0.now ∷ parts_at 10 read.1.now) }
 {
-    match split_first(text, b'\n') {
-        (line, Some(rest)) => Some((line, rest)),
-        (_, None) => None,
-    }
+    let (line, rest) = split_first(text, b'\n');
+    Some((line, rest?))
 }

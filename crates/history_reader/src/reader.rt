@@ -16,6 +16,7 @@ use words::number_in;
 
 /// The history that a text spells, with the summary behind it, if there is one, or the first bad line. It goes once
 /// through the bytes.
+#[tactic(auto, using(crate::proofs::Told::found_by, crate::proofs::Told::only_by, crate::proofs::Told::refused_by, crate::proofs::Told::bad_by))]
 pub fn read_transcript(alloc: Global, bytes: &[u8]) -> Result<(History, Option<Octets>), LineError>
     ensures found { IfOk result (λ read. Spells bytes.now read.0 read.1) }
     ensures only { (h : List Entry) (summary : Option (List ℕ)) → Spells bytes.now h summary → Tells h summary result }
@@ -25,6 +26,7 @@ pub fn read_transcript(alloc: Global, bytes: &[u8]) -> Result<(History, Option<O
     read_lines(alloc, bytes)
 }
 
+#[tactic(auto, using(crate::proofs::Readings::entry_on, crate::proofs::Readings::refused_on, crate::proofs::Readings::summary_on, crate::proofs::Readings::fault_on, crate::proofs::Readings::end_on, crate::proofs::Readings::unended_on, crate::proofs::Loops::shorter))]
 fn read_lines(alloc: Global, bytes: &[u8]) -> Result<(History, Option<Octets>), LineError>
     ensures ok { IfOk result (λ read. spec.reading bytes.now ≡ spec.Whole read.0 read.1) }
     ensures bad { IfErr result (λ e. spec.TellsReading e (spec.reading bytes.now)) }
@@ -91,7 +93,10 @@ fn stamped(stamp: u64, word: &[u8], entry: Entry) -> Result<Entry, LineError>
 fn is_stamp(stamp: u64, word: &[u8]) -> bool
     ensures { result ≡ spec.is_stamp stamp word.now }
 {
-    number_in(stamp, stamp, word).is_some()
+    match number_in(0, u64::MAX, word) {
+        Some(number) => number == stamp,
+        None => false,
+    }
 }
 
 /// The cause of a line that is bad by the word of its stamp alone.

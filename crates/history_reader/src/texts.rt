@@ -3,10 +3,10 @@ ghost use Rattle.std.specs.Prelude.{◌≡◌, IfOk};
 ghost use Rattle.net_base.specs.Addresses.{parts_at};
 ghost use Rattle.history_reader.specs.Fields as spec;
 
-use crate::cursor::Words;
+use crate::cursor::{Words, cut_line};
 use net_base::{Lines, Octets};
 use std::alloc::{AllocError, Global};
-use words::{read_hex_word, split_first};
+use words::read_hex_word;
 
 /// Bytes in hexadecimal.
 pub(crate) fn text<'a>(
@@ -66,13 +66,14 @@ fn texts_in(alloc: Global, word: &[u8]) -> Result<Option<Lines>, AllocError>
 }
 
 /// Lines, each cut before its newline.
+#[tactic(auto, using(crate::proofs::Loops::cut_on, crate::proofs::Loops::cut_none, crate::proofs::Loops::cut_end, crate::proofs::Loops::shorter))]
 fn cut_texts(alloc: Global, bytes: &[u8]) -> Result<Option<Lines>, AllocError>
     ensures { IfOk result (λ texts. texts ≡ spec.cut_texts (parts_at 10 bytes.now)) }
 {
     let mut texts = Lines::new(alloc);
     let mut rest = bytes;
     while !rest.is_empty() {
-        let (text, Some(behind)) = split_first(rest, b'\n') else {
+        let Some((text, behind)) = cut_line(rest) else {
             return Ok(None);
         };
         texts.push(Octets::from_slice(alloc, text)?)?;
