@@ -54,6 +54,7 @@ pub clock_before : (w : World) (r : Runner) (c : ℕ) (t : Turn) (m : ℕ) → T
     → movable w (after w r.history.entries) ≡ true → m ≡ target w (after w r.history.entries) → length (by r.history.entries c) < most_entries → IsBefore w r c t
 clock_before w r c t m s at nothing moves may to room = record {
   history = s.history;
+  count_is = s.count_is;
   count = s.callers_are.count;
   others = λ d k apart there. s.callers_are.each d k there;
   turning = λ k there. turning k (s.callers_are.each c k there);

@@ -18,6 +18,10 @@ pub or_false : (a b : Bool) → (a || b) ≡ false → (a ≡ false) × (b ≡ f
 or_false true b is = absurd (true≢false is)
 or_false false b is = (refl, is)
 
+pub not_true : (a : Bool) → (a ≡ true → ⊥) → a ≡ false
+not_true true never = absurd (never refl)
+not_true false never = refl
+
 pub not_below : (n : ℕ) → nat_lt n n ≡ false
 not_below n = grind (arith, nat_tests)
 

@@ -21,4 +21,4 @@ returns c =
     recorded_so w r _ c.args.caller c.args.turn c.record.new.caller c.in_ok-entry.entry c.requires.caller before
     (c.in_ok-entry.ensures w r.history.entries
     (come w r c.args.caller c.args.turn k before (got r.callers.items c.args.caller k c.requires.caller c.index_mut.ensures.value)))
-    c.with.ensures refl refl refl c.moment_after-self.ensures
+    c.with-self.ensures refl refl refl c.moment_after-self.ensures
