@@ -1,6 +1,7 @@
 -- What check answers, from what the calls that it makes say.
 use Rattle.std.proofs.Common.{◌≡◌, ℕ, ◌+◌, ◌<◌, ◌≤◌, ◌⊎◌, List, [], ◌∷◌, length, take, Option, Some, None, Result, Ok, Err, refl, sym, ap, subst, ◌∙◌, inl, inr, arith, ◌++◌, length-append}
 use Rattle.std.specs.Prelude.{IsErrAnd, IsOkUnless}
+use Rattle.std.specs.List.{concat}
 use Rattle.net_base.specs.declared.history.Entry.{Entry}
 use Rattle.net_base.specs.declared.world.World.{World}
 use Rattle.net_base.specs.Legal.{Answers, Asked, AtMoment, Cites, HasRoom, InTime, IsFault, IsInTime, IsLegal, IsTimed, Keeps, Known, MayFollow, Ready, Rule, rule_number}
@@ -246,5 +247,5 @@ pub bad_within : (bytes : List ℕ) (line cause : ℕ) → printed.IsBad bytes l
 bad_within bytes line cause bad =
     let long = long_text 0 bad.before in
     let few = few_lines bad.lines bad.summary in
-    let whole = ap (λ (xs : List ℕ). length xs) bad.spelled ∙ length-append (history_text bad.before ++ printed.joined bad.lines) bad.behind in
-    omega (arith, long, few, whole, length-append (history_text bad.before) (printed.joined bad.lines), bad.place)
+    let whole = ap (λ (xs : List ℕ). length xs) bad.spelled ∙ length-append (history_text bad.before ++ concat bad.lines) bad.behind in
+    omega (arith, long, few, whole, length-append (history_text bad.before) (concat bad.lines), bad.place)
