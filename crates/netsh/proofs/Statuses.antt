@@ -103,7 +103,6 @@ of_found (Big messages) input answer good found =
       timed = found.2.timed;
       status = found.2.status;
     })
-
 of_found Check input answer good found = of_checked (handed_in input good) (found (handed_in input good))
   where
     of_checked : (handed : Handed input) → IsChecked handed.world handed.history handed.told answer → Of Check input answer
