@@ -8,7 +8,10 @@ use Rattle.net_base.specs.declared.history.Entry.{Entry}
 use Rattle.net_base.specs.Addresses.{parts_at}
 use Rattle.net_base.specs.Plain.{IsPlain}
 use Rattle.net_base.specs.Transcript.{entry_words, line_of, lines_from}
-use Rattle.history_reader.specs.LineReading.{Bad, Good, Parts, Reading, Refused, Verdict, Whole, ending, fault_from, goes_on, is_both, is_end, is_steps, judged, line_verdict, onto, passed, reading, reading_from, summary_tests, summed}
+use Rattle.std.specs.Prelude.{Result, IfErr}
+use Rattle.history_reader.specs.declared.fault.LineError.{LineError}
+use Rattle.history_reader.specs.declared.fault.LineError.TheVariants as error
+use Rattle.history_reader.specs.LineReading.{TellsFault, TellsReading, TellsVerdict, Bad, Good, Parts, Reading, Refused, Verdict, Whole, ending, fault_from, goes_on, is_both, is_end, is_steps, judged, line_verdict, onto, passed, reading, reading_from, summary_tests, summed}
 use Rattle.history_reader.specs.Spelling.{Begins, IsBad, IsBadLine, IsBadSummary, IsBehind, IsEntryLine, IsGood, IsSummary, Spells}
 use Rattle.history_reader.specs.SummaryText.{AreLinesFrom, IsLineOf}
 use Rattle.history_reader.specs.Wide.{IsWide}
@@ -780,3 +783,39 @@ end_on bytes h rest is none = is ∙ ap (λ ws. onto h (reading_from (length h) 
 pub unended_on : (bytes : List ℕ) (h : List Entry) (rest : List ℕ) → reading bytes ≡ onto h (reading_from (length h) (lines_at rest)) → lines_at rest ≡ rest ∷ [] → rest ≢ [] → reading bytes ≡ Bad (length h + 1) 41
 unended_on bytes h [] is at some = absurd (some refl)
 unended_on bytes h (b ∷ rest) is at some = is ∙ ap (λ ps. onto h (reading_from (length h) ps)) at
+
+-- Steps of the reading of a summary.
+
+pub passed_on : (test : List ℕ → Bool) (text line rest : List ℕ) → lines_at text ≡ line ∷ lines_at rest → test line ≡ true → passed test (lines_at text) ≡ Some (lines_at rest)
+passed_on test text line rest at is = ap (passed test) at ∙ cond_line test line (lines_at rest) (some_word 10 rest) ∙ ap (λ v. if v then Some (lines_at rest) else None) is
+
+more_lines : (n : ℕ) (text : List ℕ) → text ≢ [] → fault_from [] n (lines_at text) ≡ Some (n + 1)
+more_lines n text some = by (last_parts n text (lines_at text) refl)
+  where
+    by : LastParts n text (lines_at text) → fault_from [] n (lines_at text) ≡ Some (n + 1)
+    by (inl t) = absurd (some t.0)
+    by (inr t) = t.0
+
+pub four_passed : (n : ℕ) (text one two three four : List ℕ) → passed is_steps (lines_at text) ≡ Some (lines_at one) → passed (is_both (codes "messages")) (lines_at one) ≡ Some (lines_at two)
+    → passed (is_both (codes "bytes")) (lines_at two) ≡ Some (lines_at three) → passed is_end (lines_at three) ≡ Some (lines_at four) → four ≢ [] → fault_from summary_tests n (lines_at text) ≡ Some (n + 4 + 1)
+four_passed n text one two three four a b c d some =
+    let same : n + 1 + 1 + 1 + 1 + 1 ≡ n + 4 + 1 = omega arith in
+    ap (λ o. goes_on n o (fault_from (forms_from (suc zero)) (n + 1))) a
+    ∙ ap (λ o. goes_on (n + 1) o (fault_from (forms_from (suc (suc zero))) (n + 1 + 1))) b
+    ∙ ap (λ o. goes_on (n + 1 + 1) o (fault_from (forms_from (suc (suc (suc zero)))) (n + 1 + 1 + 1))) c
+    ∙ ap (λ o. goes_on (n + 1 + 1 + 1) o (fault_from [] (n + 1 + 1 + 1 + 1))) d
+    ∙ more_lines (n + 1 + 1 + 1 + 1) four some ∙ ap (λ (m : ℕ). Some m) same
+
+-- text behind a summary
+pub fifth_bad : {A : Type 0} (r : Result A LineError) (n : ℕ) (text one two three four : List ℕ) → passed is_steps (lines_at text) ≡ Some (lines_at one) → passed (is_both (codes "messages")) (lines_at one) ≡ Some (lines_at two)
+    → passed (is_both (codes "bytes")) (lines_at two) ≡ Some (lines_at three) → passed is_end (lines_at three) ≡ Some (lines_at four) → four ≢ [] → IfErr r (λ e. TellsFault e (Some (n + 4 + 1)))
+    → IfErr r (λ e. TellsFault e (fault_from summary_tests n (lines_at text)))
+fifth_bad r n text one two three four a b c d some bad = subst (λ o. IfErr r (λ e. TellsFault e o)) (sym (four_passed n text one two three four a b c d some)) bad
+
+pub refused_tells : (error : LineError) (bytes : List ℕ) (h : List Entry) (rest line behind : List ℕ) → reading bytes ≡ onto h (reading_from (length h) (lines_at rest)) → lines_at rest ≡ line ∷ lines_at behind → is_steps line ≡ false
+    → TellsVerdict error (length h) (line_verdict (length h) line) → TellsReading error (reading bytes)
+refused_tells error.Memory bytes h rest line behind is at none bad = tt
+refused_tells (error.Bad l c) bytes h rest line behind is at none bad = refused_on bytes h rest line behind c l is at none bad.1 bad.0
+
+pub no_text : (text : List ℕ) (v : Bool) → v ≡ (length text == 0) → v ≡ false → text ≢ []
+no_text text v told none is = false≢true (sym none ∙ told ∙ ap (λ (ws : List ℕ). length ws == 0) is)

@@ -26,7 +26,7 @@ pub fn read_transcript(alloc: Global, bytes: &[u8]) -> Result<(History, Option<O
     read_lines(alloc, bytes)
 }
 
-#[tactic(auto, using(crate::proofs::Readings::entry_on, crate::proofs::Readings::refused_on, crate::proofs::Readings::summary_on, crate::proofs::Readings::fault_on, crate::proofs::Readings::end_on, crate::proofs::Readings::unended_on, crate::proofs::Loops::shorter))]
+#[tactic(auto, using(crate::proofs::Readings::entry_on, crate::proofs::Readings::refused_tells, crate::proofs::Readings::summary_on, crate::proofs::Readings::fault_on, crate::proofs::Readings::end_on, crate::proofs::Readings::unended_on, crate::proofs::Loops::shorter))]
 fn read_lines(alloc: Global, bytes: &[u8]) -> Result<(History, Option<Octets>), LineError>
     ensures ok { IfOk result (λ read. spec.reading bytes.now ≡ spec.Whole read.0 read.1) }
     ensures bad { IfErr result (λ e. spec.TellsReading e (spec.reading bytes.now)) }
@@ -39,8 +39,10 @@ fn read_lines(alloc: Global, bytes: &[u8]) -> Result<(History, Option<Octets>), 
             let summary = Octets::from_slice(alloc, rest)?;
             return Ok((history, Some(summary)));
         }
-        let entry = read_line(alloc, history.len() as u64, line)?;
-        history.push(entry)?;
+        match read_line(alloc, history.len() as u64, line) {
+            Ok(entry) => history.push(entry)?,
+            Err(error) => return Err(error),
+        }
         rest = behind;
     }
     if rest.is_empty() {

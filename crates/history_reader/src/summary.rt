@@ -8,6 +8,7 @@ use crate::entries::behind_word;
 use crate::fault::LineError;
 
 /// The lines of a summary and nothing behind them, which follow so many lines.
+#[tactic(auto, using(crate::proofs::Readings::fifth_bad))]
 pub(crate) fn read_summary(before: u64, text: &[u8]) -> Result<(), LineError>
     requires room { before + 5 < 2 ^ 64 }
     ensures ok { IfOk result (λ _. spec.fault_from spec.summary_tests before (parts_at 10 text.now) ≡ None) }
