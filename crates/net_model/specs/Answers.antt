@@ -1,6 +1,7 @@
 -- The answers of the program: the status that it ends with and the text that it writes.
 use Rattle.std.specs.Prelude.{ℕ, ◌==◌, List, [], ◌∷◌, ◌++◌, flat_map, if◌then◌else◌, codes, decimal}
 use Rattle.net_base.specs.Cs.{CsAnswer, Lines, Refused}
+use Rattle.net_model.specs.Words.{Command, Check}
 
 -- a status and a text
 pub record Answer : Type 0 where
@@ -56,6 +57,18 @@ cs_answer (Refused number) = record {
 abbrev pub read_fault : Answer
 read_fault = record { status = 6; text = ended (codes "! read fault") }
 
--- the most bytes that an input may have, 4 MiB
-abbrev pub input_limit : ℕ
-input_limit = 4194304
+-- all entries of a history, of which there are so many, keep the rules
+abbrev pub all_kept : ℕ → Answer
+all_kept entries = record { status = 0; text = ended (codes "ok " ++ decimal entries) }
+
+-- a rule is broken: the first stamp that breaks one, and the number of the least one there
+abbrev pub rule_broken : ℕ → ℕ → Answer
+rule_broken stamp rule = record {
+  status = 5;
+  text = ended (codes "! stamp " ++ decimal stamp ++ codes " rule " ++ decimal rule);
+}
+
+-- the most bytes that an input may have: 64 MiB where it has a run's output in it, else 4 MiB
+abbrev pub input_limit : Command → ℕ
+input_limit Check = 67108864
+input_limit _ = 4194304

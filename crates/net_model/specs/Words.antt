@@ -15,6 +15,8 @@ pub data Command : Type 0 where
   Make : ℕ → Command
   -- the summary of a run of the made world of so many messages
   Big : ℕ → Command
+  -- the judgement of a history that is handed in with its world
+  Check : Command
 
 -- a word that has bytes
 abbrev pub is_word : List ℕ → Bool
@@ -29,9 +31,10 @@ messages_in word = number_in 1 9000 word
 unfoldable pub workers_in : List ℕ → Option ℕ
 workers_in word = number_in 1 16 word
 
--- the command that words give, where they are in a row: `cs SYS QUERY`, `query ATTR VALUE`, `query ATTR VALUE RATTR`,
--- `run WORKERS`, `make N`, or `big N`
+-- the command that words give, where they are in a row: `check`, `run WORKERS`, `make N`, `big N`, `cs SYS QUERY`,
+-- `query ATTR VALUE`, or `query ATTR VALUE RATTR`
 abbrev pub command_of : List (List ℕ) → Option Command
+command_of (name ∷ []) = if bytes_eq name (codes "check") then Some Check else None
 command_of (name ∷ number ∷ []) =
     if bytes_eq name (codes "run")
     then option_map Run (workers_in number)
@@ -53,6 +56,7 @@ may_wait (Query attr value other) = false
 may_wait (Run workers) = true
 may_wait (Make messages) = false
 may_wait (Big messages) = true
+may_wait Check = false
 
 -- whether words give a command that may wait
 abbrev pub words_wait : Option Command → Bool
@@ -66,6 +70,7 @@ reads (Query attr value other) = true
 reads (Run workers) = true
 reads (Make messages) = false
 reads (Big messages) = false
+reads Check = true
 
 -- whether words give a command that has an input
 abbrev pub words_read : Option Command → Bool

@@ -1,5 +1,5 @@
 -- How the parts of a call make its end.
-use Rattle.std.proofs.Common.{◌≡◌, ◌≢◌, ◌&&◌, ℕ, ◌+◌, ◌<◌, ◌≤◌, Bool, true, false, nat_lt, List, ◌++◌, length, Option, Some, None, Result, Err, if◌then◌else◌, refl, sym, ◌∙◌, ap, subst, inr, arith}
+use Rattle.std.proofs.Common.{◌≡◌, ◌≢◌, ◌&&◌, ℕ, ◌+◌, ◌<◌, ◌≤◌, Bool, true, false, nat_lt, List, ◌++◌, length, Option, Some, None, Result, Err, refl, sym, ◌∙◌, ap, subst, inr, arith}
 use Rattle.std.proofs.lemmas.Bool.{true≢false}
 use Rattle.std.proofs.lemmas.Bool.Decides.{nat_tests}
 use Rattle.std.proofs.lemmas.List.{length-append}
@@ -17,24 +17,51 @@ use Rattle.world_writer.specs.Written.{file_text}
 use Rattle.netsh.specs.declared.command.Question.{Question}
 use Rattle.netsh.specs.declared.command.Question.TheVariants as question
 use Rattle.netsh.specs.declared.top.Asked.TheVariants as asks
-use Rattle.netsh.specs.Built.{bad_line, first_bad, made, IsGiven}
+use Rattle.netsh.specs.Built.{is_over, made, IsAnswer, IsBadLine, IsBadOf, IsFirstBad, IsGiven}
 use Rattle.netsh.specs.Commands.{question_read}
 use Rattle.netsh.specs.Ends.{Intake, Output, Told, Took, TookSome, IsInput, IsRead, IsUnread, IsAnswered, Answers, Ends, answered, unread}
 
 -- an input over the limit is bad
-pub too_long_is_bad : (asked : Command) (input : List ℕ) → reads asked ≡ true → input_limit < length input → first_bad asked input ≡ Some (0, 9)
-too_long_is_bad asked input has long = let over : nat_lt input_limit (length input) ≡ true = grind (arith, nat_tests) in rw (has, over) refl
+pub too_long_is_over : (asked : Command) (input : List ℕ) → reads asked ≡ true → input_limit asked < length input → is_over asked input ≡ true
+too_long_is_over asked input has long = let over : nat_lt (input_limit asked) (length input) ≡ true = grind (arith, nat_tests) in rw (has, over) refl
+
+-- what is told of an input, by whether it is over the limit
+pub told_by : (asked : Command) (input : List ℕ) (over : Bool) → is_over asked input ≡ over → (found : Option (ℕ × ℕ)) → IsBadOf over asked input found → IsFirstBad asked input found
+told_by asked input over is found told = subst (λ (b : Bool). IsBadOf b asked input found) (sym is) told
+
+pub told_of : (asked : Command) (input : List ℕ) (over : Bool) → is_over asked input ≡ over → (found : Option (ℕ × ℕ)) → IsFirstBad asked input found → IsBadOf over asked input found
+told_of asked input over is found told = subst (λ (b : Bool). IsBadOf b asked input found) is told
+
+-- an answer to an input over the limit
+pub answer_too_long : (asked : Command) (input : List ℕ) → is_over asked input ≡ true → IsAnswer asked input (bad_input 0 9)
+answer_too_long asked input is = record {
+  found = Some (0, 9);
+  first = told_by asked input true is (Some (0, 9)) refl;
+  only = λ other told. told_of asked input true is other told;
+  given = refl;
+}
 
 -- an input within the limit is judged by its lines
-pub within_limit : (asked : Command) (input : List ℕ) → length input ≤ input_limit → first_bad asked input ≡ bad_line asked input
-within_limit asked input fits = by (reads asked) (nat_lt input_limit (length input)) (grind (arith, nat_tests))
+pub within_limit : (asked : Command) (input : List ℕ) → length input ≤ input_limit asked → is_over asked input ≡ false
+within_limit asked input fits = by (reads asked) (nat_lt (input_limit asked) (length input)) (grind (arith, nat_tests))
   where
-    by : (has over : Bool) → over ≡ false → (if has && over then Some (0, 9) else bad_line asked input) ≡ bad_line asked input
-    by true over none = rw none refl
+    by : (has over : Bool) → over ≡ false → (has && over) ≡ false
+    by true over none = none
     by false over none = refl
 
+-- an answer by the bad line that an input within the limit has, or has not
+pub answer_within :
+    (asked : Command) (input : List ℕ) (answer : Answer) (found : Option (ℕ × ℕ)) → is_over asked input ≡ false → IsBadLine asked input found →
+    ((other : Option (ℕ × ℕ)) → IsBadLine asked input other → other ≡ found) → IsGiven found asked input answer → IsAnswer asked input answer
+answer_within asked input answer found fits told one given = record {
+  found = found;
+  first = told_by asked input false fits found told;
+  only = λ other is. one other (told_of asked input false fits other is);
+  given = given;
+}
+
 -- what a command with an input took
-pub took_input : (asked : Command) (intake : Intake) (input : List ℕ) → reads asked ≡ true → IsRead intake input → Took (reads asked) intake input
+pub took_input : (asked : Command) (intake : Intake) (input : List ℕ) → reads asked ≡ true → IsRead asked intake input → Took (reads asked) asked intake input
 took_input asked intake input has read = rw has read
 
 -- want of memory of a command with an input
@@ -45,24 +72,24 @@ took_some asked intake unread_source same = by (reads asked) unread_source
     by true none = same
     by false none = none refl
 
--- what was taken past the limit begins an input that is over it
-pub input_too_long : (left rest : Option (List ℕ)) (bytes : List ℕ) → Consumes left rest bytes → length bytes ≡ input_limit + 1 → (input : List ℕ) × IsInput left input × (input_limit < length input)
-input_too_long None rest bytes taken long = (bytes, tt, omega (arith, long))
-input_too_long (Some left) None bytes taken long = absurd taken
-input_too_long (Some left) (Some rest) bytes taken long =
+-- what was taken past a limit begins an input that is over it
+pub input_too_long : (limit : ℕ) (left rest : Option (List ℕ)) (bytes : List ℕ) → Consumes left rest bytes → length bytes ≡ limit + 1 → (input : List ℕ) × IsInput left input × (limit < length input)
+input_too_long limit None rest bytes taken long = (bytes, tt, omega (arith, long))
+input_too_long limit (Some left) None bytes taken long = absurd taken
+input_too_long limit (Some left) (Some rest) bytes taken long =
     (bytes ++ rest, sym taken, omega (arith, length-append bytes rest, long))
 
 -- an input of which more was taken than the limit
 answers_too_long :
-    (asked : Command) (intake : Intake) → reads asked ≡ true → ConsumedToEnd intake.left intake.rest input_limit (Err error.TooLarge) →
+    (asked : Command) (intake : Intake) → reads asked ≡ true → ConsumedToEnd intake.left intake.rest (input_limit asked) (Err error.TooLarge) →
     intake.after ≡ intake.before → Answers asked (bad_input 0 9) intake
 answers_too_long asked intake has taken same =
-    let input = input_too_long intake.left intake.rest taken.bytes taken.consumed (taken.too_large.0 refl)
+    let input = input_too_long (input_limit asked) intake.left intake.rest taken.bytes taken.consumed (taken.too_large.0 refl)
     in record {
       input = input.0;
       read = took_input asked intake input.0 has (input.1, inr input.2);
       same = same;
-      right = subst (λ (bad : Option (ℕ × ℕ)). IsGiven bad asked input.0 (bad_input 0 9)) (sym (too_long_is_bad asked input.0 has input.2)) refl;
+      right = answer_too_long asked input.0 (too_long_is_over asked input.0 has input.2);
     }
 
 -- what reading gave, where it failed
@@ -77,7 +104,7 @@ memory_is_no_fault same = cc
 
 -- so the command is answered
 reading_failed :
-    (asked : Command) (intake : Intake) (fault : TakeError) → reads asked ≡ true → ConsumedToEnd intake.left intake.rest input_limit (failing fault) →
+    (asked : Command) (intake : Intake) (fault : TakeError) → reads asked ≡ true → ConsumedToEnd intake.left intake.rest (input_limit asked) (failing fault) →
     (failing fault ≡ failing error.Failed → Rose intake.before intake.after) → (failing fault ≢ failing error.Failed → intake.after ≡ intake.before) →
     IsAnswered asked intake (Err fault)
 reading_failed asked intake error.TooLarge has taken failed same = answers_too_long asked intake has taken (same large_is_no_fault)
@@ -85,12 +112,13 @@ reading_failed asked intake error.Failed has taken failed same = (has, failed re
 reading_failed asked intake error.Memory has taken failed same = took_some asked intake (λ none. absurd (true≢false (sym has ∙ none))) (same memory_is_no_fault)
 
 pub answered_failed :
-    (asked : Command) (intake : Intake) (fault : TakeError) (result : Result Answer TakeError) → result ≡ Err fault → reads asked ≡ true →
-    ConsumedToEnd intake.left intake.rest input_limit (failing fault) →
+    (asked : Command) (intake : Intake) (limit : ℕ) (fault : TakeError) (result : Result Answer TakeError) → limit ≡ input_limit asked → result ≡ Err fault → reads asked ≡ true →
+    ConsumedToEnd intake.left intake.rest limit (failing fault) →
     (failing fault ≡ failing error.Failed → Rose intake.before intake.after) → (failing fault ≢ failing error.Failed → intake.after ≡ intake.before) →
     IsAnswered asked intake result
-answered_failed asked intake fault result is has taken failed same =
-    subst (λ (r : Result Answer TakeError). IsAnswered asked intake r) (sym is) (reading_failed asked intake fault has taken failed same)
+answered_failed asked intake limit fault result limit_is is has taken failed same =
+    subst (λ (r : Result Answer TakeError). IsAnswered asked intake r) (sym is)
+    (reading_failed asked intake fault has (subst (λ (n : ℕ). ConsumedToEnd intake.left intake.rest n (failing fault)) limit_is taken) failed same)
 
 -- the text of a made world
 pub made_answer : (messages : ℕ) (w : World) (text : List ℕ) (answer : Answer) → w ≡ made_world messages → text ≡ file_text w → answer ≡ record { status = 0; text = text } → answer ≡ made messages
@@ -136,6 +164,7 @@ never_waits (question.Cs sys query) = refl
 never_waits (question.Tuples attr value) = refl
 never_waits (question.Beside attr value other) = refl
 never_waits (question.Make messages) = refl
+never_waits question.Check = refl
 
 -- words that were answered
 pub words_answered :

@@ -1,6 +1,10 @@
 pub mod Answered
+pub mod Checks
 pub mod CsAnswers
 pub mod Endings
+pub mod Given
+pub mod Halves
+pub mod Judging
 pub mod Statuses
 pub mod OneHistory
 pub mod RunEnds

@@ -4,7 +4,7 @@ use Rattle.std.specs.Prelude.{bytes_eq, codes}
 use Rattle.std.specs.Option.{option_and_then, option_map}
 use Rattle.std.proofs.lemmas.Bool.Decides.{nat_tests}
 use Rattle.net_base.specs.Addresses.{is_padded, read_digits, within}
-use Rattle.net_model.specs.Words.{Cs, Query, Run, Make, Big, is_word, messages_in, workers_in, command_of}
+use Rattle.net_model.specs.Words.{Check, Cs, Query, Run, Make, Big, is_word, messages_in, workers_in, command_of}
 
 -- What a chain of tests gives.
 
@@ -38,6 +38,10 @@ four_run : (b : Bool) (attr value other : List ℕ) (workers : ℕ) → (if b th
 four_run true attr value other workers is = cc
 four_run false attr value other workers is = none_run workers is
 
+one_run : (b : Bool) (workers : ℕ) → (if b then Some Check else None) ≡ Some (Run workers) → ⊥
+one_run true workers is = cc
+one_run false workers is = none_run workers is
+
 nothing : (n : ℕ) → None ≡ Some n → ⊥
 nothing n same = cc
 
@@ -63,7 +67,7 @@ said_within word workers is = by (is_padded word) (read_digits 20 word) is
 -- the number of workers that words say
 pub workers_within : (words : List (List ℕ)) (workers : ℕ) → command_of words ≡ Some (Run workers) → (1 ≤ workers) × (workers ≤ 16)
 workers_within [] workers is = absurd (none_run workers is)
-workers_within (name ∷ []) workers is = absurd (none_run workers is)
+workers_within (name ∷ []) workers is = absurd (one_run (bytes_eq name (codes "check")) workers is)
 workers_within (name ∷ number ∷ []) workers is =
     said_within number workers
     (two_run (bytes_eq name (codes "run")) (bytes_eq name (codes "make")) (bytes_eq name (codes "big")) (workers_in number)

@@ -1,19 +1,21 @@
 -- What the statuses say, from how a call ends.
-use Rattle.std.proofs.Common.{◌≡◌, ◌≢◌, ℕ, ◌⊎◌, Bool, true, false, List, [], ◌∷◌, Option, Some, None, Ok, unwrap_or, refl, sym, ◌∙◌, ap, subst, inl, inr, arith}
+use Rattle.std.proofs.Common.{◌≡◌, ◌≢◌, ℕ, ◌<◌, ◌⊎◌, Bool, true, false, List, [], ◌∷◌, length, Option, Some, None, Ok, unwrap_or, refl, sym, ◌∙◌, ap, subst, inl, inr, arith}
 use Rattle.std.specs.Io.KnownBytes.{IsAtEnd}
 use Rattle.outside.specs.Streams.{Rose}
 use Rattle.net_base.specs.declared.history.Entry.{Entry}
 use Rattle.net_base.specs.declared.world.World.{World}
-use Rattle.net_model.specs.Answers.{Answer, lines_answer, cs_answer, usage, read_fault}
+use Rattle.net_model.specs.Answers.{Answer, lines_answer, cs_answer, input_limit, usage, read_fault}
 use Rattle.net_base.specs.Calm as calm
 use Rattle.net_base.specs.Cs.{CsAnswer, Lines, Refused}
 use Rattle.net_base.specs.Legal.{IsLegal, IsTimed}
 use Rattle.net_base.specs.Net.{Net, after}
-use Rattle.net_model.specs.Words.{Command, Cs, Query, Run, Make, Big, may_wait, reads, words_read, words_wait}
-use Rattle.netsh.specs.Built.{first_bad, made, IsStatus, IsWorldOf, IsFound, IsGiven, IsAnswer}
-use Rattle.netsh.specs.Ends.{Intake, Output, Told, Took, TookAll, TookSome, IsUnwritten, IsInput, IsRead, IsUnread, Answers, IsStatusOf, IsBad, HasRun, Ends, no_row, answered, unread, no_memory, Causes}
+use Rattle.net_model.specs.Words.{Command, Cs, Query, Run, Make, Big, Check, may_wait, reads, words_read, words_wait}
+use Rattle.netsh.specs.Built.{made, IsStatus, IsWorldOf, IsFound, IsFirstBad, IsGiven, IsAnswer}
+use Rattle.netsh.specs.Checked.{BreaksOne, Handed, IsChecked, KeepsAll}
+use Rattle.netsh.specs.Ends.{Intake, Output, Told, Took, TookAll, TookSome, IsUnwritten, IsInput, IsRead, IsUnread, Answers, IsStatusOf, IsBad, IsHanded, HasChecked, HasRun, Ends, no_row, answered, unread, no_memory, Causes}
 use Rattle.std.proofs.lemmas.Bool.{false≢true}
-use Rattle.netsh.proofs.Endings.{too_long_is_bad}
+use Rattle.netsh.proofs.Checks.{broken_so, checked_0, checked_5, ends_so, handed_in, judges, kept_so}
+use Rattle.netsh.proofs.Endings.{told_of, too_long_is_over}
 
 some_none : (asked : Command) → Some asked ≡ None → ⊥
 some_none asked h = cc
@@ -21,20 +23,24 @@ some_none asked h = cc
 none_some : (bad : ℕ × ℕ) → None ≡ Some bad → ⊥
 none_some bad h = cc
 
+some_not_none : (bad : ℕ × ℕ) → Some bad ≡ None → ⊥
+some_not_none bad h = cc
+
 -- a command with a bad line has an input
-bad_reads : (asked : Command) (input : List ℕ) (bad : ℕ × ℕ) → first_bad asked input ≡ Some bad → reads asked ≡ true
+bad_reads : (asked : Command) (input : List ℕ) (bad : ℕ × ℕ) → IsFirstBad asked input (Some bad) → reads asked ≡ true
 bad_reads (Cs sys query) input bad is = refl
 bad_reads (Query attr value other) input bad is = refl
 bad_reads (Run workers) input bad is = refl
-bad_reads (Make messages) input bad is = absurd (none_some bad is)
-bad_reads (Big messages) input bad is = absurd (none_some bad is)
+bad_reads (Make messages) input bad is = absurd (some_not_none bad is)
+bad_reads (Big messages) input bad is = absurd (some_not_none bad is)
+bad_reads Check input bad is = refl
 
 -- what a command took, by whether it has an input
-read_input : (asked : Command) (intake : Intake) (input : List ℕ) → reads asked ≡ true → Took (reads asked) intake input → IsRead intake input
-read_input asked intake input has took = subst (λ (b : Bool). Took b intake input) has took
+read_input : (asked : Command) (intake : Intake) (input : List ℕ) → reads asked ≡ true → Took (reads asked) asked intake input → IsRead asked intake input
+read_input asked intake input has took = subst (λ (b : Bool). Took b asked intake input) has took
 
-read_nothing : (asked : Command) (intake : Intake) (input : List ℕ) → reads asked ≡ false → Took (reads asked) intake input → IsUnread intake
-read_nothing asked intake input none took = subst (λ (b : Bool). Took b intake input) none took
+read_nothing : (asked : Command) (intake : Intake) (input : List ℕ) → reads asked ≡ false → Took (reads asked) asked intake input → IsUnread intake
+read_nothing asked intake input none took = subst (λ (b : Bool). Took b asked intake input) none took
 
 -- whether the command that words gave has an input
 asked_reads : (command : Option Command) (asked : Command) (b : Bool) → command ≡ Some asked → words_read command ≡ b → reads asked ≡ b
@@ -58,16 +64,16 @@ pub record Ran (asked : Command) (input : List ℕ) (answer : Answer) : Type 0 w
 
 -- what a status says of the command and its input, and the status that it is
 pub data Of (asked : Command) (input : List ℕ) (answer : Answer) : Type 0 where
-  of_bad : (bad : ℕ × ℕ) → first_bad asked input ≡ Some bad → answer.status ≡ 2 → Of asked input answer
-  of_lines : first_bad asked input ≡ None → answer.status ≡ 0 → may_wait asked ≡ false → Of asked input answer
-  of_refusal : first_bad asked input ≡ None → answer.status ≡ 5 → may_wait asked ≡ false → Of asked input answer
-  of_run : first_bad asked input ≡ None → Ran asked input answer → Of asked input answer
+  of_bad : (bad : ℕ × ℕ) → IsFirstBad asked input (Some bad) → answer.status ≡ 2 → Of asked input answer
+  of_lines : IsFirstBad asked input None → answer.status ≡ 0 → may_wait asked ≡ false → Of asked input answer
+  of_refusal : IsFirstBad asked input None → answer.status ≡ 5 → may_wait asked ≡ false → Of asked input answer
+  of_run : IsFirstBad asked input None → Ran asked input answer → Of asked input answer
 
-of_cs : (sys query input : List ℕ) (answer : Answer) (found : CsAnswer) → first_bad (Cs sys query) input ≡ None → answer ≡ cs_answer found → Of (Cs sys query) input answer
+of_cs : (sys query input : List ℕ) (answer : Answer) (found : CsAnswer) → IsFirstBad (Cs sys query) input None → answer ≡ cs_answer found → Of (Cs sys query) input answer
 of_cs sys query input answer (Lines lines) good is = of_lines good (ap (λ (a : Answer). a.status) is) refl
 of_cs sys query input answer (Refused number) good is = of_refusal good (ap (λ (a : Answer). a.status) is) refl
 
-of_query : (attr value : List ℕ) (other : Option (List ℕ)) (input : List ℕ) (answer : Answer) (lines : List (List ℕ)) → first_bad (Query attr value other) input ≡ None → answer ≡ lines_answer lines → Of (Query attr value other) input answer
+of_query : (attr value : List ℕ) (other : Option (List ℕ)) (input : List ℕ) (answer : Answer) (lines : List (List ℕ)) → IsFirstBad (Query attr value other) input None → answer ≡ lines_answer lines → Of (Query attr value other) input answer
 of_query attr value other input answer [] good is = of_refusal good (ap (λ (a : Answer). a.status) is) refl
 of_query attr value other input answer (line ∷ lines) good is = of_lines good (ap (λ (a : Answer). a.status) is) refl
 
@@ -75,7 +81,7 @@ made_status : (messages : ℕ) (answer : Answer) → answer ≡ made messages �
 unfolding made
 made_status messages answer is = ap (λ (a : Answer). a.status) is
 
-of_found : (asked : Command) (input : List ℕ) (answer : Answer) → first_bad asked input ≡ None → IsFound asked input answer → Of asked input answer
+of_found : (asked : Command) (input : List ℕ) (answer : Answer) → IsFirstBad asked input None → IsFound asked input answer → Of asked input answer
 of_found (Cs sys query) input answer good found = of_cs sys query input answer _ good found
 of_found (Query attr value other) input answer good found = of_query attr value other input answer _ good found
 of_found (Run workers) input answer good found =
@@ -97,14 +103,29 @@ of_found (Big messages) input answer good found =
       timed = found.2.timed;
       status = found.2.status;
     })
+of_found Check input answer good found = of_checked (handed_in input good) (found (handed_in input good))
+  where
+    of_checked : (handed : Handed input) → IsChecked handed.world handed.history handed.told answer → Of Check input answer
+    of_checked handed checked = elim checked.judged [
+      | inl keeps ↦ of_lines good (ap (λ (a : Answer). a.status) (checked.kept keeps)) refl
+      | inr (stamp, rule, broken) ↦ of_refusal good (ap (λ (a : Answer). a.status) (checked.broken stamp rule broken)) refl
+    ]
 
-of_given : (asked : Command) (input : List ℕ) (answer : Answer) (bad : Option (ℕ × ℕ)) → first_bad asked input ≡ bad → IsGiven bad asked input answer → Of asked input answer
+of_given : (asked : Command) (input : List ℕ) (answer : Answer) (bad : Option (ℕ × ℕ)) → IsFirstBad asked input bad → IsGiven bad asked input answer → Of asked input answer
 of_given asked input answer None is given = of_found asked input answer is given
 of_given asked input answer (Some bad) is given = of_bad bad is (ap (λ (a : Answer). a.status) given)
 
 -- what an answer says
 of_answer : (asked : Command) (input : List ℕ) (answer : Answer) → IsAnswer asked input answer → Of asked input answer
-of_answer asked input answer is = of_given asked input answer (first_bad asked input) refl is
+of_answer asked input answer is = of_given asked input answer is.found is.first is.given
+
+-- an input has a bad line or it has none
+not_both : (asked : Command) (input : List ℕ) (answer : Answer) (bad : ℕ × ℕ) → IsAnswer asked input answer → IsFirstBad asked input None → IsFirstBad asked input (Some bad) → ⊥
+not_both asked input answer bad is good found = none_some bad (is.only None good ∙ sym (is.only (Some bad) found))
+
+-- nor is one over the limit without a bad line
+not_too_long : (asked : Command) (input : List ℕ) → reads asked ≡ true → input_limit asked < length input → IsFirstBad asked input None → ⊥
+not_too_long asked input has long good = none_some (0, 9) (told_of asked input true (too_long_is_over asked input has long) None good)
 
 -- an answer's status is none of the others
 abbrev Apart : ℕ → Type 0
@@ -140,20 +161,20 @@ not_of : (asked : Command) (answer : Answer) (intake : Intake) (status n : ℕ) 
 not_of asked answer intake status n answers same is apart = no_answer asked answers.input answer n (of_answer asked answers.input answer answers.right) (sym same ∙ is) apart
 
 -- a good input was read to its end
-read_whole : (asked : Command) (input : List ℕ) (intake : Intake) → reads asked ≡ true → Took (reads asked) intake input → first_bad asked input ≡ None → IsAtEnd intake.rest
+read_whole : (asked : Command) (input : List ℕ) (intake : Intake) → reads asked ≡ true → Took (reads asked) asked intake input → IsFirstBad asked input None → IsAtEnd intake.rest
 read_whole asked input intake has took good = by (read_input asked intake input has took)
   where
-    by : IsRead intake input → IsAtEnd intake.rest
+    by : IsRead asked intake input → IsAtEnd intake.rest
     by (is, inl end) = end
-    by (is, inr long) = absurd (none_some (0, 9) (sym good ∙ too_long_is_bad asked input has long))
+    by (is, inr long) = absurd (not_too_long asked input has long good)
 
 -- so was that of a run, where it has one
-took_all : (asked : Command) (input : List ℕ) (intake : Intake) → Took (reads asked) intake input → first_bad asked input ≡ None → TookAll (reads asked) intake input
+took_all : (asked : Command) (input : List ℕ) (intake : Intake) → Took (reads asked) asked intake input → IsFirstBad asked input None → TookAll (reads asked) intake input
 took_all asked input intake took good = by (reads asked) refl took
   where
-    by : (has : Bool) → reads asked ≡ has → Took has intake input → TookAll has intake input
+    by : (has : Bool) → reads asked ≡ has → Took has asked intake input → TookAll has intake input
     by true has (is, inl end) = (is, end)
-    by true has (is, inr long) = absurd (none_some (0, 9) (sym good ∙ too_long_is_bad asked input has long))
+    by true has (is, inr long) = absurd (not_too_long asked input has long good)
     by false has none = none
 
 module _ (command : Option Command) (status : ℕ) (intake : Intake) (output : Output) where
@@ -253,9 +274,13 @@ module _ (command : Option Command) (status : ℕ) (intake : Intake) (output : O
   same_command : (asked other : Command) → command ≡ Some asked → command ≡ Some other → other ≡ asked
   same_command asked other one two = ap (λ (o : Option Command). unwrap_or o other) (sym two ∙ one)
 
+  -- what is answered to `make`
+  made_given : (messages : ℕ) (input : List ℕ) (answer : Answer) → IsAnswer (Make messages) input answer → answer ≡ made messages
+  made_given messages input answer is = subst (λ (found : Option (ℕ × ℕ)). IsGiven found (Make messages) input answer) is.first is.given
+
   -- how a call of `make` ends
   made_by : (messages : ℕ) (asked : Command) (answer : Answer) → Make messages ≡ asked → Answers asked answer intake → answer.status ≡ 0
-  made_by messages asked answer is answers = made_status messages answer (subst (λ (c : Command). IsAnswer c answers.input answer) (sym is) answers.right)
+  made_by messages asked answer is answers = made_status messages answer (made_given messages answers.input answer (subst (λ (c : Command). IsAnswer c answers.input answer) (sym is) answers.right))
 
   makes : Ends command status intake output → (messages : ℕ) → command ≡ Some (Make messages) → (status ≡ 0) ⊎ (status ≡ 7) ⊎ (status ≡ 8)
   makes (no_row none unread_source told) messages is_make = absurd (some_none (Make messages) (sym is_make ∙ none))
@@ -265,24 +290,25 @@ module _ (command : Option Command) (status : ℕ) (intake : Intake) (output : O
   makes (no_memory asked is eight took kept) messages is_make = inr (inr eight)
 
   -- an answer that a call without a fault gave is to what the source had left
-  same_bad : (of : IsStatusOf command status intake) (asked : Command) (input : List ℕ) → command ≡ Some asked → reads asked ≡ true → intake.left ≡ Some input → first_bad of.asked of.answers.input ≡ first_bad asked input
-  same_bad of asked input is has left =
+  same_bad : (of : IsStatusOf command status intake) (asked : Command) (input : List ℕ) → command ≡ Some asked → reads asked ≡ true → intake.left ≡ Some input → (found : Option (ℕ × ℕ)) → IsFirstBad asked input found → IsFirstBad of.asked of.answers.input found
+  same_bad of asked input is has left found told =
       let has_too : reads of.asked ≡ true = ap reads (same_command asked of.asked is of.is_asked) ∙ has in
       let read = read_input of.asked intake of.answers.input has_too of.answers.read in
       let same_input : of.answers.input ≡ input = subst (λ (o : Option (List ℕ)). IsInput o of.answers.input) left read.0 in
-      ap (λ (c : Command). first_bad c of.answers.input) (same_command asked of.asked is of.is_asked) ∙ ap (first_bad asked) same_input
+      subst (λ (c : Command). IsFirstBad c of.answers.input found) (sym (same_command asked of.asked is of.is_asked))
+      (subst (λ (i : List ℕ). IsFirstBad asked i found) (sym same_input) told)
 
-  bad_two : (of : IsStatusOf command status intake) (bad : ℕ × ℕ) → first_bad of.asked of.answers.input ≡ Some bad → Of of.asked of.answers.input of.answer → status ≡ 2
+  bad_two : (of : IsStatusOf command status intake) (bad : ℕ × ℕ) → IsFirstBad of.asked of.answers.input (Some bad) → Of of.asked of.answers.input of.answer → status ≡ 2
   bad_two of bad is (of_bad found same two) = of.right ∙ two
-  bad_two of bad is (of_lines good zero not) = absurd (none_some bad (sym good ∙ is))
-  bad_two of bad is (of_refusal good five not) = absurd (none_some bad (sym good ∙ is))
-  bad_two of bad is (of_run good ran) = absurd (none_some bad (sym good ∙ is))
+  bad_two of bad is (of_lines good zero not) = absurd (not_both of.asked of.answers.input of.answer bad of.answers.right good is)
+  bad_two of bad is (of_refusal good five not) = absurd (not_both of.asked of.answers.input of.answer bad of.answers.right good is)
+  bad_two of bad is (of_run good ran) = absurd (not_both of.asked of.answers.input of.answer bad of.answers.right good is)
 
-  tells_bad : Ends command status intake output → ¬ Rose intake.before intake.after → ¬ Rose output.before output.after → (asked : Command) (input : List ℕ) (bad : ℕ × ℕ) → command ≡ Some asked → intake.left ≡ Some input → first_bad asked input ≡ Some bad → (status ≡ 2) ⊎ (status ≡ 8)
+  tells_bad : Ends command status intake output → ¬ Rose intake.before intake.after → ¬ Rose output.before output.after → (asked : Command) (input : List ℕ) (bad : ℕ × ℕ) → command ≡ Some asked → intake.left ≡ Some input → IsFirstBad asked input (Some bad) → (status ≡ 2) ⊎ (status ≡ 8)
   tells_bad ends no_read no_write asked input bad is left is_bad =
       elim (complete_without_faults ends no_read no_write (λ none. some_none asked (sym is ∙ none))) [
         | inl eight ↦ inr eight
-        | inr of ↦ inl (bad_two of bad (same_bad of asked input is (bad_reads asked input bad is_bad) left ∙ is_bad) (of_answer of.asked of.answers.input of.answer of.answers.right))
+        | inr of ↦ inl (bad_two of bad (same_bad of asked input is (bad_reads asked input bad is_bad) left (Some bad) is_bad) (of_answer of.asked of.answers.input of.answer of.answers.right))
       ]
 
   run_ends : (w : World) (net : Net) (n : ℕ) → status ≡ n → IsStatus w net n → (status ≡ 0) ⊎ (status ≡ 3) ⊎ (status ≡ 4) ⊎ (status ≡ 8)
@@ -292,17 +318,17 @@ module _ (command : Option Command) (status : ℕ) (intake : Intake) (output : O
     | inr (inr four) ↦ inr (inr (inl (same ∙ four)))
   ]
 
-  good_runs : (of : IsStatusOf command status intake) → may_wait of.asked ≡ true → first_bad of.asked of.answers.input ≡ None → Of of.asked of.answers.input of.answer → (status ≡ 0) ⊎ (status ≡ 3) ⊎ (status ≡ 4) ⊎ (status ≡ 8)
-  good_runs of waits good (of_bad bad same two) = absurd (none_some bad (sym good ∙ same))
+  good_runs : (of : IsStatusOf command status intake) → may_wait of.asked ≡ true → IsFirstBad of.asked of.answers.input None → Of of.asked of.answers.input of.answer → (status ≡ 0) ⊎ (status ≡ 3) ⊎ (status ≡ 4) ⊎ (status ≡ 8)
+  good_runs of waits good (of_bad bad same two) = absurd (not_both of.asked of.answers.input of.answer bad of.answers.right good same)
   good_runs of waits good (of_lines same zero not) = absurd (no_wait of.asked not waits)
   good_runs of waits good (of_refusal same five not) = absurd (no_wait of.asked not waits)
   good_runs of waits good (of_run same ran) = run_ends ran.world (after ran.world ran.history) of.answer.status of.right ran.status
 
-  runs : Ends command status intake output → ¬ Rose intake.before intake.after → ¬ Rose output.before output.after → (workers : ℕ) (input : List ℕ) → command ≡ Some (Run workers) → intake.left ≡ Some input → first_bad (Run workers) input ≡ None → (status ≡ 0) ⊎ (status ≡ 3) ⊎ (status ≡ 4) ⊎ (status ≡ 8)
+  runs : Ends command status intake output → ¬ Rose intake.before intake.after → ¬ Rose output.before output.after → (workers : ℕ) (input : List ℕ) → command ≡ Some (Run workers) → intake.left ≡ Some input → IsFirstBad (Run workers) input None → (status ≡ 0) ⊎ (status ≡ 3) ⊎ (status ≡ 4) ⊎ (status ≡ 8)
   runs ends no_read no_write workers input is left good =
       elim (complete_without_faults ends no_read no_write (λ none. some_none (Run workers) (sym is ∙ none))) [
         | inl eight ↦ inr (inr (inr eight))
-        | inr of ↦ good_runs of (ap may_wait (same_command (Run workers) of.asked is of.is_asked)) (same_bad of (Run workers) input is refl left ∙ good) (of_answer of.asked of.answers.input of.answer of.answers.right)
+        | inr of ↦ good_runs of (ap may_wait (same_command (Run workers) of.asked is of.is_asked)) (same_bad of (Run workers) input is refl left None good) (of_answer of.asked of.answers.input of.answer of.answers.right)
       ]
 
   -- how a call of `big` ends
@@ -314,7 +340,7 @@ module _ (command : Option Command) (status : ℕ) (intake : Intake) (output : O
 
   big_by : (messages : ℕ) (of : IsStatusOf command status intake) → of.asked ≡ Big messages → (status ≡ 0) ⊎ (status ≡ 3) ⊎ (status ≡ 4) ⊎ (status ≡ 8)
   big_by messages of is =
-      good_runs of (ap may_wait is) (ap (λ (c : Command). first_bad c of.answers.input) is) (of_answer of.asked of.answers.input of.answer of.answers.right)
+      good_runs of (ap may_wait is) (subst (λ (c : Command). IsFirstBad c of.answers.input None) (sym is) refl) (of_answer of.asked of.answers.input of.answer of.answers.right)
 
   bigs : Ends command status intake output → (messages : ℕ) → command ≡ Some (Big messages) → (status ≡ 0) ⊎ (status ≡ 3) ⊎ (status ≡ 4) ⊎ (status ≡ 7) ⊎ (status ≡ 8)
   bigs (no_row none unread_source told) messages is_big = absurd (some_none (Big messages) (sym is_big ∙ none))
@@ -323,6 +349,62 @@ module _ (command : Option Command) (status : ℕ) (intake : Intake) (output : O
   bigs (answered asked answer is answers (inr t)) messages is_big = inr (inr (inr (inl t.0)))
   bigs (unread asked is has rose told) messages is_big = absurd (false≢true (ap words_read (sym is_big ∙ is) ∙ has))
   bigs (no_memory asked is eight took kept) messages is_big = inr (inr (inr (inr eight)))
+
+  -- an answer of check
+  check_answer : (n : ℕ) (of : IsStatusOf command n intake) → command ≡ Some Check → Answers Check of.answer intake
+  check_answer n of is = subst (λ (c : Command). Answers c of.answer intake) (same_command Check of.asked is of.is_asked) of.answers
+
+  -- which judged what was handed in, from a source that was read to its end
+  has_checked : (So : World → List Entry → Option (List ℕ) → Type 0) (n : ℕ) → (n ≡ 2 → ⊥) → command ≡ Some Check → (answer : Answer) (answers : Answers Check answer intake) → n ≡ answer.status
+      → ((handed : Handed answers.input) → So handed.world handed.history handed.told) → HasChecked command So intake
+  has_checked So n no_two is answer answers right so =
+      let good = (judges answers.input answer n no_two answers.right (sym right)).0 in
+      let read = read_input Check intake answers.input refl answers.read in
+      let handed = handed_in answers.input good in
+      record {
+        input = answers.input;
+        is_asked = is;
+        took = (read.0, read_whole Check answers.input intake refl answers.read good);
+        handed = handed;
+        right = so handed;
+      }
+
+  -- an answer of check to an input that the source told
+  check_input : (input : List ℕ) (answer : Answer) → intake.left ≡ Some input → Answers Check answer intake → IsAnswer Check input answer
+  check_input input answer left answers =
+      let read = read_input Check intake answers.input refl answers.read in
+      let same_input : answers.input ≡ input = subst (λ (o : Option (List ℕ)). IsInput o answers.input) left read.0 in
+      subst (λ (i : List ℕ). IsAnswer Check i answer) same_input answers.right
+
+  -- so without a fault it is told, or memory ran out
+  told_input : Ends command status intake output → (input : List ℕ) → IsHanded command intake output input → (status ≡ 8) ⊎ ((answer : Answer) × IsAnswer Check input answer × (status ≡ answer.status))
+  told_input ends input is =
+      elim (complete_without_faults ends is.no_read_fault is.no_write_fault (λ none. some_none Check (sym is.is_asked ∙ none))) [
+        | inl eight ↦ inl eight
+        | inr of ↦ inr (of.answer, check_input input of.answer is.left (check_answer status of is.is_asked), of.right)
+      ]
+
+  keeps : Ends command status intake output → (input : List ℕ) → IsHanded command intake output input → (handed : Handed input) → KeepsAll handed.world handed.history handed.told → (status ≡ 0) ⊎ (status ≡ 8)
+  keeps ends input is handed kept = elim (told_input ends input is) [
+    | inl eight ↦ inr eight
+    | inr (answer, right, same) ↦ inl (same ∙ kept_so input answer right is.good handed kept)
+  ]
+
+  breaks : Ends command status intake output → (input : List ℕ) → IsHanded command intake output input → (handed : Handed input) → BreaksOne handed.world handed.history handed.told → (status ≡ 5) ⊎ (status ≡ 8)
+  breaks ends input is handed broken = elim (told_input ends input is) [
+    | inl eight ↦ inr eight
+    | inr (answer, right, same) ↦ inl (same ∙ broken_so input answer right is.good handed broken)
+  ]
+
+  checks : Ends command status intake output → (input : List ℕ) → IsHanded command intake output input → (status ≡ 0) ⊎ (status ≡ 5) ⊎ (status ≡ 8)
+  checks ends input is = by (told_input ends input is)
+    where
+      by : (status ≡ 8) ⊎ ((answer : Answer) × IsAnswer Check input answer × (status ≡ answer.status)) → (status ≡ 0) ⊎ (status ≡ 5) ⊎ (status ≡ 8)
+      by (inl eight) = inr (inr eight)
+      by (inr (answer, right, same)) = elim (ends_so input answer right is.good) [
+        | inl zero ↦ inl (same ∙ zero)
+        | inr five ↦ inr (inl (same ∙ five))
+      ]
 
 -- What the status of an answer says.
 
@@ -344,7 +426,7 @@ module _ (command : Option Command) (intake : Intake) where
   end_of n no_two has of (of_refusal good five not) = read_whole of.asked of.answers.input intake (asked_reads command of.asked true of.is_asked has) of.answers.read good
   end_of n no_two has of (of_run good ran) = read_whole of.asked of.answers.input intake (asked_reads command of.asked true of.is_asked has) of.answers.read good
 
-  ran_of : (so : World → Net → Bool) (n : ℕ) (of : IsStatusOf command n intake) (ran : Ran of.asked of.answers.input of.answer) → first_bad of.asked of.answers.input ≡ None → so ran.world (after ran.world ran.history) ≡ true → HasRun command so intake
+  ran_of : (so : World → Net → Bool) (n : ℕ) (of : IsStatusOf command n intake) (ran : Ran of.asked of.answers.input of.answer) → IsFirstBad of.asked of.answers.input None → so ran.world (after ran.world ran.history) ≡ true → HasRun command so intake
   ran_of so n of ran good right = record {
     asked = of.asked;
     input = of.answers.input;
@@ -404,6 +486,20 @@ module _ (command : Option Command) (status : ℕ) (intake : Intake) (output : O
   whole_at_end has (inr (inr (inl is))) = whole 4 (λ e. omega (arith, e)) has (as_4 is)
   whole_at_end has (inr (inr (inr is))) = whole 5 (λ e. omega (arith, e)) has (as_5 is)
 
+  check_kept : command ≡ Some Check → status ≡ 0 → HasChecked command KeepsAll intake
+  check_kept is zero =
+      let of = as_0 zero in
+      let answers = check_answer command status intake output 0 of is in
+      has_checked command status intake output KeepsAll 0 (λ e. omega (arith, e)) is of.answer answers of.right
+      (checked_0 answers.input of.answer answers.right (sym of.right))
+
+  check_broken : command ≡ Some Check → status ≡ 5 → HasChecked command BreaksOne intake
+  check_broken is five =
+      let of = as_5 five in
+      let answers = check_answer command status intake output 5 of is in
+      has_checked command status intake output BreaksOne 5 (λ e. omega (arith, e)) is of.answer answers of.right
+      (checked_5 answers.input of.answer answers.right (sym of.right))
+
   -- what the statuses say
   pub causes_of : Causes command status intake output
   causes_of = record {
@@ -415,6 +511,8 @@ module _ (command : Option Command) (status : ℕ) (intake : Intake) (output : O
     run_done = λ waits is. done_of command intake waits (as_0 is) (of_it command intake 0 (as_0 is));
     stopped = λ is. stopped_of command intake (as_3 is) (of_it command intake 3 (as_3 is));
     limited = λ is. limited_of command intake (as_4 is) (of_it command intake 4 (as_4 is));
+    check_kept = check_kept;
+    check_broken = check_broken;
     reads_nothing = reads_nothing command status intake output ends;
     makes = makes command status intake output ends;
     bigs = bigs command status intake output ends;
@@ -427,4 +525,7 @@ module _ (command : Option Command) (status : ℕ) (intake : Intake) (output : O
     complete = complete_without_faults command status intake output ends;
     tells_bad = tells_bad command status intake output ends;
     runs = runs command status intake output ends;
+    keeps = keeps command status intake output ends;
+    breaks = breaks command status intake output ends;
+    checks = checks command status intake output ends;
   }

@@ -1,10 +1,10 @@
 -- The answers in the forms that are built.
---     first_bad     the first bad line of an input, for a command
+--     IsFirstBad    the first bad line of an input, for a command
 --     IsRun         what a run over a world prints, and its status
 --     IsSummed      the summary of such a run alone
 --     IsWorldOf     the world that a command runs
 --     IsAnswer      an answer to a command and its input
-use Rattle.std.specs.Prelude.{◌≡◌, ◌↔◌, ◌⊎◌, ◌&&◌, ℕ, true, List, [], ◌∷◌, ◌++◌, length, map, flat_map, nat_lt, Option, Some, None, Result, Ok, Err, if◌then◌else◌}
+use Rattle.std.specs.Prelude.{◌≡◌, ◌↔◌, ◌⊎◌, ◌&&◌, ℕ, Bool, true, false, List, [], ◌∷◌, ◌++◌, length, map, flat_map, nat_lt, Option, Some, None, Ok, ◌≤◌}
 use Rattle.net_base.specs.declared.address.Proto.TheVariants.{Il, Udp}
 use Rattle.net_base.specs.declared.history.Entry.{Entry}
 use Rattle.net_base.specs.declared.world.World.{World}
@@ -25,26 +25,31 @@ use Rattle.made_world.specs.Made.{made_world}
 use Rattle.world_text.specs.WorldText.{world_reading}
 use Rattle.world_writer.specs.Written.{file_text}
 use Rattle.net_model.specs.Answers.{Answer, bad_input, lines_answer, cs_answer, input_limit}
-use Rattle.net_model.specs.Words.{Command, Cs, Query, Run, Make, Big, reads}
+use Rattle.net_model.specs.Words.{Command, Cs, Query, Run, Make, Big, Check, reads}
+use Rattle.netsh.specs.Checked.{Handed, IsBadHanded, IsChecked, Parts, bad_world, parts_of}
 
 -- Bad lines.
 
--- the bad line of a text that isn't a world's
-abbrev pub bad_world : Result World (ℕ × ℕ) → Option (ℕ × ℕ)
-bad_world (Ok w) = None
-bad_world (Err bad) = Some bad
+-- whether a command has an input that is over its limit
+abbrev pub is_over : Command → List ℕ → Bool
+is_over asked input = reads asked && nat_lt (input_limit asked) (length input)
 
--- the first bad line of an input within the limit, and its least cause
-abbrev pub bad_line : Command → List ℕ → Option (ℕ × ℕ)
-bad_line (Cs sys query) input = bundle.bad_line input
-bad_line (Query attr value other) input = bundle.bad_line input
-bad_line (Run workers) input = bad_world (world_reading input)
-bad_line (Make messages) input = None
-bad_line (Big messages) input = None
+-- the first bad line of an input within the limit, and its least cause, if a line is bad
+abbrev pub IsBadLine : Command → List ℕ → Option (ℕ × ℕ) → Type 0
+IsBadLine (Cs sys query) input found = found ≡ bundle.bad_line input
+IsBadLine (Query attr value other) input found = found ≡ bundle.bad_line input
+IsBadLine (Run workers) input found = found ≡ bad_world (world_reading input)
+IsBadLine (Make messages) input found = found ≡ None
+IsBadLine (Big messages) input found = found ≡ None
+IsBadLine Check input found = IsBadHanded (parts_of input) input found
 
--- the same of any input: one over the limit has cause 9 at line 0, where the command has an input
-abbrev pub first_bad : Command → List ℕ → Option (ℕ × ℕ)
-first_bad asked input = if reads asked && nat_lt input_limit (length input) then Some (0, 9) else bad_line asked input
+-- the same of any input: one over the limit has cause 9 at line 0
+abbrev pub IsBadOf : Bool → Command → List ℕ → Option (ℕ × ℕ) → Type 0
+IsBadOf true asked input found = found ≡ Some (0, 9)
+IsBadOf false asked input found = IsBadLine asked input found
+
+abbrev pub IsFirstBad : Command → List ℕ → Option (ℕ × ℕ) → Type 0
+IsFirstBad asked input found = IsBadOf (is_over asked input) asked input found
 
 -- an answer to an input without a bad line, or the first bad line and its least cause
 abbrev pub unless_bad : Option (ℕ × ℕ) → Answer → Answer
@@ -125,6 +130,12 @@ IsWorldOf _ input w = ⊥
 unfoldable pub made : ℕ → Answer
 made messages = record { status = 0; text = file_text (made_world messages) }
 
+-- Answers of check.
+
+-- the judgement of the history that the input hands in
+abbrev pub IsJudged : List ℕ → Answer → Type 0
+IsJudged input answer = (handed : Handed input) → IsChecked handed.world handed.history handed.told answer
+
 -- Answers.
 
 -- an answer to an input without a bad line
@@ -134,6 +145,7 @@ IsFound (Query attr value other) input answer = answer ≡ query_found attr valu
 IsFound (Run workers) input answer = (w : World) × IsWorldOf (Run workers) input w × IsRun w answer
 IsFound (Make messages) input answer = answer ≡ made messages
 IsFound (Big messages) input answer = (w : World) × IsWorldOf (Big messages) input w × IsSummed w answer
+IsFound Check input answer = IsJudged input answer
 
 -- an answer to an input with this first bad line, if any
 abbrev pub IsGiven : Option (ℕ × ℕ) → Command → List ℕ → Answer → Type 0
@@ -141,5 +153,13 @@ IsGiven None asked input answer = IsFound asked input answer
 IsGiven (Some bad) asked input answer = answer ≡ bad_input bad.0 bad.1
 
 -- an answer to a command and its input
-abbrev pub IsAnswer : Command → List ℕ → Answer → Type 0
-IsAnswer asked input answer = IsGiven (first_bad asked input) asked input answer
+pub record IsAnswer (asked : Command) (input : List ℕ) (answer : Answer) : Type 0 where
+  pub found : Option (ℕ × ℕ)
+  pub first : IsFirstBad asked input found
+  -- and no other line is the first bad one
+  pub only : (other : Option (ℕ × ℕ)) → IsFirstBad asked input other → other ≡ found
+  pub given : IsGiven found asked input answer
+
+-- an answer of check to each input with these parts
+abbrev pub IsAnswerTo : Parts → Answer → Type 0
+IsAnswerTo parts answer = (input : List ℕ) → length input ≤ input_limit Check → parts_of input ≡ Some parts → IsAnswer Check input answer

@@ -7,11 +7,12 @@ use Rattle.net_model.specs.Answers.{Answer, bad_input, usage, read_fault, input_
 use Rattle.net_base.specs.Calm as calm
 use Rattle.net_base.specs.Legal.{IsLegal, IsTimed}
 use Rattle.net_base.specs.Net.{Net, after}
-use Rattle.net_model.specs.Words.{Command, Run, Make, Big, reads, words_read, words_wait}
+use Rattle.net_model.specs.Words.{Command, Run, Make, Big, Check, reads, words_read, words_wait}
 use Rattle.outside.specs.Streams.{Rose, AppendsPart}
 use Rattle.outside.specs.declared.fault.TakeError.{TakeError}
 use Rattle.outside.specs.declared.fault.TakeError.TheVariants as error
-use Rattle.netsh.specs.Built.{first_bad, IsAnswer, IsWorldOf}
+use Rattle.netsh.specs.Built.{IsFirstBad, IsAnswer, IsWorldOf}
+use Rattle.netsh.specs.Checked.{BreaksOne, Handed, KeepsAll}
 
 -- what a source had left and has left, where it tells that, and its count of faults before and after
 pub record Intake : Type 0 where
@@ -42,18 +43,18 @@ abbrev pub IsInput : Option (List ℕ) → List ℕ → Type 0
 IsInput None input = ⊤
 IsInput (Some left) input = input ≡ left
 
--- the input was read to its end, or is over the limit
-abbrev pub IsRead : Intake → List ℕ → Type 0
-IsRead intake input = IsInput intake.left input × (IsAtEnd intake.rest ⊎ (input_limit < length input))
+-- the input was read to its end, or is over the limit of the command
+abbrev pub IsRead : Command → Intake → List ℕ → Type 0
+IsRead asked intake input = IsInput intake.left input × (IsAtEnd intake.rest ⊎ (input_limit asked < length input))
 
 -- nothing was read
 abbrev pub IsUnread : Intake → Type 0
 IsUnread intake = (intake.rest ≡ intake.left) × (intake.after ≡ intake.before)
 
 -- what a command took: its input where it has one, or else nothing
-abbrev pub Took : Bool → Intake → List ℕ → Type 0
-Took true intake input = IsRead intake input
-Took false intake input = IsUnread intake
+abbrev pub Took : Bool → Command → Intake → List ℕ → Type 0
+Took true asked intake input = IsRead asked intake input
+Took false asked intake input = IsUnread intake
 
 -- the same, where the input was read to its end
 abbrev pub TookAll : Bool → Intake → List ℕ → Type 0
@@ -68,7 +69,7 @@ TookSome false intake = IsUnread intake
 -- the answer is one to an input, where the command has one, which was read without a fault
 pub record Answers (asked : Command) (answer : Answer) (intake : Intake) : Type 0 where
   pub input : List ℕ
-  pub read : Took (reads asked) intake input
+  pub read : Took (reads asked) asked intake input
   pub same : intake.after ≡ intake.before
   pub right : IsAnswer asked input answer
 
@@ -102,8 +103,8 @@ pub record IsBad (command : Option Command) (intake : Intake) : Type 0 where
   pub input : List ℕ
   pub bad : ℕ × ℕ
   pub is_asked : command ≡ Some asked
-  pub read : IsRead intake input
-  pub is_bad : first_bad asked input ≡ Some bad
+  pub read : IsRead asked intake input
+  pub is_bad : IsFirstBad asked input (Some bad)
 
 -- a run over the world of the command and its input, which was read to its end, where it has one, left the net so
 pub record HasRun (command : Option Command) (so : World → Net → Bool) (intake : Intake) : Type 0 where
@@ -118,6 +119,22 @@ pub record HasRun (command : Option Command) (so : World → Net → Bool) (inta
   pub timed : IsTimed world history
   pub right : so world (after world history) ≡ true
 
+-- so judges check what the input, which was read to its end, handed in
+pub record HasChecked (command : Option Command) (So : World → List Entry → Option (List ℕ) → Type 0) (intake : Intake) : Type 0 where
+  pub input : List ℕ
+  pub is_asked : command ≡ Some Check
+  pub took : IsInput intake.left input × IsAtEnd intake.rest
+  pub handed : Handed input
+  pub right : So handed.world handed.history handed.told
+
+-- check was asked, there was no fault, and the source told what it had left: an input of which no line is bad
+pub record IsHanded (command : Option Command) (intake : Intake) (output : Output) (input : List ℕ) : Type 0 where
+  pub is_asked : command ≡ Some Check
+  pub no_read_fault : ¬ Rose intake.before intake.after
+  pub no_write_fault : ¬ Rose output.before output.after
+  pub left : intake.left ≡ Some input
+  pub good : IsFirstBad Check input None
+
 -- when each status comes, and what it leaves
 pub record Causes (command : Option Command) (status : ℕ) (intake : Intake) (output : Output) : Type 0 where
   -- the words are in no row where the status is 1, and only then is it 1, a fault of the sink aside
@@ -131,6 +148,9 @@ pub record Causes (command : Option Command) (status : ℕ) (intake : Intake) (o
   pub run_done : words_wait command ≡ true → status ≡ 0 → HasRun command calm.done intake
   pub stopped : status ≡ 3 → HasRun command calm.stopped intake
   pub limited : status ≡ 4 → HasRun command calm.limited intake
+  -- of check 0 comes only where all rules hold of what was handed in, and 5 only where one is broken
+  pub check_kept : command ≡ Some Check → status ≡ 0 → HasChecked command KeepsAll intake
+  pub check_broken : command ≡ Some Check → status ≡ 5 → HasChecked command BreaksOne intake
   -- nothing is read for words in no row, nor for a command without an input; `make` always has its text, and `big` runs
   -- until it ends
   pub reads_nothing : words_read command ≡ false → IsUnread intake
@@ -149,5 +169,11 @@ pub record Causes (command : Option Command) (status : ℕ) (intake : Intake) (o
   -- without a fault, words in a row have an answer's status, or memory ran out
   pub complete : ¬ Rose intake.before intake.after → ¬ Rose output.before output.after → command ≢ None → (status ≡ 8) ⊎ IsStatusOf command status intake
   -- and where the source told what it had left, a bad input is told of, and a good world runs until it ends
-  pub tells_bad : ¬ Rose intake.before intake.after → ¬ Rose output.before output.after → (asked : Command) (input : List ℕ) (bad : ℕ × ℕ) → command ≡ Some asked → intake.left ≡ Some input → first_bad asked input ≡ Some bad → (status ≡ 2) ⊎ (status ≡ 8)
-  pub runs : ¬ Rose intake.before intake.after → ¬ Rose output.before output.after → (workers : ℕ) (input : List ℕ) → command ≡ Some (Run workers) → intake.left ≡ Some input → first_bad (Run workers) input ≡ None → (status ≡ 0) ⊎ (status ≡ 3) ⊎ (status ≡ 4) ⊎ (status ≡ 8)
+  pub tells_bad : ¬ Rose intake.before intake.after → ¬ Rose output.before output.after → (asked : Command) (input : List ℕ) (bad : ℕ × ℕ) → command ≡ Some asked → intake.left ≡ Some input → IsFirstBad asked input (Some bad) → (status ≡ 2) ⊎ (status ≡ 8)
+  pub runs : ¬ Rose intake.before intake.after → ¬ Rose output.before output.after → (workers : ℕ) (input : List ℕ) → command ≡ Some (Run workers) → intake.left ≡ Some input → IsFirstBad (Run workers) input None → (status ≡ 0) ⊎ (status ≡ 3) ⊎ (status ≡ 4) ⊎ (status ≡ 8)
+  -- so of check: 0 wherever all rules hold, 5 wherever one is broken, and always one of them
+  pub keeps : (input : List ℕ) → IsHanded command intake output input → (handed : Handed input) → KeepsAll handed.world handed.history handed.told
+      → (status ≡ 0) ⊎ (status ≡ 8)
+  pub breaks : (input : List ℕ) → IsHanded command intake output input → (handed : Handed input) → BreaksOne handed.world handed.history handed.told
+      → (status ≡ 5) ⊎ (status ≡ 8)
+  pub checks : (input : List ℕ) → IsHanded command intake output input → (status ≡ 0) ⊎ (status ≡ 5) ⊎ (status ≡ 8)

@@ -1,4 +1,5 @@
 pub mod Built
+pub mod Checked
 pub mod Commands
 pub mod Ends
 pub mod Runs

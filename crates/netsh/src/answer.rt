@@ -97,6 +97,28 @@ impl Answer {
         })
     }
 
+    /// A history of so many entries keeps all rules.
+    pub fn all_kept(alloc: Global, entries: u64) -> Result<Answer, AllocError>
+        ensures { IfOk result (λ answer. answer ≡ spec.all_kept entries) }
+    {
+        let text = format!(in alloc; "ok {entries}\n")?;
+        Ok(Answer {
+            status: 0,
+            text: Octets::from_vec(text.into_bytes()),
+        })
+    }
+
+    /// A rule is broken at a stamp.
+    pub fn rule_broken(alloc: Global, stamp: u64, rule: u32) -> Result<Answer, AllocError>
+        ensures { IfOk result (λ answer. answer ≡ spec.rule_broken stamp rule) }
+    {
+        let text = format!(in alloc; "! stamp {stamp} rule {rule}\n")?;
+        Ok(Answer {
+            status: 5,
+            text: Octets::from_vec(text.into_bytes()),
+        })
+    }
+
     /// A text that is the defined answer.
     pub fn whole(text: Octets) -> Answer
         ensures { result ≡ record { status = 0; text = text } }

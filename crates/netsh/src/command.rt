@@ -16,6 +16,8 @@ pub enum Question<'a> {
     Beside(&'a [u8], &'a [u8], &'a [u8]),
     /// `make N`
     Make(u32),
+    /// `check`
+    Check,
 }
 
 /// A command.
@@ -38,6 +40,7 @@ pub fn has_input(question: Question<'_>) -> bool
         Question::Tuples(_, _) => true,
         Question::Beside(_, _, _) => true,
         Question::Make(_) => false,
+        Question::Check => true,
     }
 }
 
@@ -46,6 +49,7 @@ pub fn read_words(words: &[String]) -> Option<Command<'_>>
     ensures { option_map command_read result ≡ command_of (map string_bytes words.now) }
 {
     match words {
+        [name] => read_one(name.as_bytes()),
         [name, number] => read_two(name.as_bytes(), number.as_bytes()),
         [name, first, second] => read_three(name.as_bytes(), first.as_bytes(), second.as_bytes()),
         [name, attr, value, other] => read_four(
@@ -56,6 +60,16 @@ pub fn read_words(words: &[String]) -> Option<Command<'_>>
         ),
         _ => None,
     }
+}
+
+/// The command of one word.
+fn read_one(name: &[u8]) -> Option<Command<'_>>
+    ensures { option_map command_read result ≡ command_of (name.now ∷ []) }
+{
+    if name == b"check".as_slice() {
+        return Some(Command::Question(Question::Check));
+    }
+    None
 }
 
 /// The command of two words.

@@ -2,10 +2,12 @@
 ghost use Rattle.std.specs.Prelude.{◌<◌, ◌≤◌, length, IfOk};
 ghost use Rattle.net_model.specs.Answers.{input_limit};
 ghost use Rattle.net_model.specs.Words.{Run};
-ghost use Rattle.netsh.specs.Built.{IsAnswer};
+ghost use Rattle.net_base.specs.World.{IsWorld};
+ghost use Rattle.netsh.specs.Built.{IsAnswer, IsRun};
 
 use crate::answer::Answer;
 use agenda::RunError;
+use net_base::World;
 use outside::Gate;
 use std::alloc::{AllocError, Global};
 use std::mem;
@@ -21,7 +23,7 @@ pub fn run_over<R: Threads + Wait + Sync, G: Gate + Sync>(
     input: &[u8],
     gate: &G,
 ) -> Result<Answer, AllocError>
-    requires limit { length input.now ≤ input_limit }
+    requires limit { length input.now ≤ input_limit (Run workers) }
     requires some { 0 < workers }
     requires few { workers ≤ 16 }
     ensures { IfOk result (λ answer. IsAnswer (Run workers) input.now answer) }
@@ -31,12 +33,30 @@ pub fn run_over<R: Threads + Wait + Sync, G: Gate + Sync>(
         Err(WorldError::Bad { line, cause }) => return Answer::bad_input(alloc, line, cause),
         Err(WorldError::Memory) => return Err(AllocError),
     };
-    match agenda::run(rt, alloc, &world, workers, gate) {
+    let answer = run_world(rt, alloc, workers, &world, gate);
+    // the program ends behind its one answer, and gives back all memory at once
+    mem::forget(world);
+    answer
+}
+
+/// What a run of a world on so many workers prints.
+fn run_world<R: Threads + Wait + Sync, G: Gate + Sync>(
+    rt: &R,
+    alloc: Global,
+    workers: u32,
+    world: &World,
+    gate: &G,
+) -> Result<Answer, AllocError>
+    requires world { IsWorld world.now }
+    requires some { 0 < workers }
+    requires few { workers ≤ 16 }
+    ensures { IfOk result (λ answer. IsRun world.now answer) }
+{
+    match agenda::run(rt, alloc, world, workers, gate) {
         Ok(run) => {
-            let answer = Answer::run(rt, alloc, workers, &world, &run);
-            // the program ends behind its one answer, and gives back all memory at once
+            let answer = Answer::run(rt, alloc, workers, world, &run);
+            // the same as above
             mem::forget(run);
-            mem::forget(world);
             answer
         }
         Err(RunError::Memory) => Err(AllocError),

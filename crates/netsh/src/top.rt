@@ -8,6 +8,7 @@ ghost use Rattle.netsh.specs.Commands.{question_read};
 
 use crate::answer::{Answer, READ_FAULT, TOO_LONG, USAGE};
 use crate::big::big;
+use crate::check::check;
 use crate::command::{Command, Question, has_input, read_words};
 use crate::cs::cs;
 use crate::make::make;
@@ -22,6 +23,9 @@ use std::thread::Threads;
 
 /// The most bytes of an input, 4 MiB.
 const INPUT_LIMIT: usize = 4194304;
+
+/// The most bytes of an input that has a run's output in it, 64 MiB.
+const HISTORY_LIMIT: usize = 67108864;
 
 /// Writes the text of an answer, and gives the status that the call ends with.
 fn tell<K: Sink>(sink: &mut K, status: u8, text: &[u8]) -> u8
@@ -59,7 +63,7 @@ fn tell_answer<K: Sink>(sink: &mut K, answered: Result<Answer, TakeError>) -> u8
 
 /// The answer to a command that never waits and to its input, if it has one, which is within the limit.
 fn answer_over(alloc: Global, question: Question<'_>, input: &[u8]) -> Result<Answer, AllocError>
-    requires { length input.now ≤ input_limit }
+    requires { length input.now ≤ input_limit (question_read question) }
     ensures { IfOk result (λ answer. IsAnswer (question_read question.entry) input.now answer) }
 {
     match question {
@@ -67,6 +71,20 @@ fn answer_over(alloc: Global, question: Question<'_>, input: &[u8]) -> Result<An
         Question::Tuples(attr, value) => query_tuples(alloc, attr, value, input),
         Question::Beside(attr, value, other) => query_beside(alloc, attr, value, other, input),
         Question::Make(messages) => make(alloc, messages),
+        Question::Check => check(alloc, input),
+    }
+}
+
+/// The most bytes that the input of a command that never waits may have.
+fn limit_of(question: Question<'_>) -> usize
+    ensures { result ≡ input_limit (question_read question.entry) }
+{
+    match question {
+        Question::Cs(_, _) => INPUT_LIMIT,
+        Question::Tuples(_, _) => INPUT_LIMIT,
+        Question::Beside(_, _, _) => INPUT_LIMIT,
+        Question::Make(_) => INPUT_LIMIT,
+        Question::Check => HISTORY_LIMIT,
     }
 }
 
@@ -82,7 +100,7 @@ fn read_and_answer<S: Source>(
     if !has_input(question) {
         return Ok(answer_over(alloc, question, b"")?);
     }
-    let input = read_to_end(alloc, source, INPUT_LIMIT)?;
+    let input = read_to_end(alloc, source, limit_of(question))?;
     Ok(answer_over(alloc, question, input.as_slice())?)
 }
 
