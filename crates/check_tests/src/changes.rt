@@ -73,7 +73,7 @@ enum Told {
     Memory,
 }
 
-fn told(alloc: Global, world: &World, history: &History) -> Told
+fn answer_of(alloc: Global, world: &World, history: &History) -> Told
     requires { IsWorld world.now }
 {
     match check(alloc, world, history) {
@@ -151,7 +151,7 @@ fn changed<R: Threads + Wait + Sync>(
     if stamp < entries.len() {
         make(alloc, &mut entries[stamp], change)?;
     }
-    Ok(told(alloc, &world, &History::from_vec(entries)))
+    Ok(answer_of(alloc, &world, &History::from_vec(entries)))
 }
 
 #[test]
