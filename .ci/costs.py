@@ -35,11 +35,19 @@ def kind_of(words, folder):
     return "tests" if "--test" in words else "own"
 
 
-def look(seen):
+def is_below(pid, gate):
+    """Whether a process was started by the gate, or by one that it started."""
+    while pid > 1 and pid != gate:
+        found = stat_of(pid)
+        pid = found[1] if found else 0
+    return pid == gate
+
+
+def look(seen, gate):
     for pid in filter(str.isdigit, os.listdir("/proc")):
         found = stat_of(pid)
         above = found and found[0] == b"rattle" and stat_of(found[1])
-        if not above or above[0] == b"rattle":
+        if not above or above[0] == b"rattle" or not is_below(found[1], gate):
             continue
         key = pid, found[2]
         if key not in seen:
@@ -71,7 +79,7 @@ def main():
     seen = {}
     gate = subprocess.Popen(sys.argv[1:] or ["rt", "ci", "--anew"], stdout=sys.stderr)
     while gate.poll() is None:
-        look(seen)
+        look(seen, gate.pid)
         time.sleep(0.2)
     table(seen)
     sys.exit(gate.returncode)
