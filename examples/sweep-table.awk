@@ -1,13 +1,15 @@
-# The lines of many runs of examples/sweep.sh as a table, a row a loss: how many runs there are, how many of them are
-# done, and the least, the middle and the greatest moment of their ends. The lines stand sorted: sort -n -k 1 -k 5.
+# The lines of many runs of examples/sweep.sh as a table, a row a loss: how many runs there are, how many of them are done, in
+# how many every message was read, and the middle and the last moment at which those that are done end.
+#     sort -n -k 1 -k 5 LINES | awk -v messages=20 -f examples/sweep-table.awk
 function row() {
-    if (runs) print "| " loss " | " runs " | " finished " | " all " | " ends[1] " | " ends[int((runs + 1) / 2)] " | " ends[runs] " |"
-    runs = finished = all = 0
+    if (runs) print "| " loss " | " runs " | " done " | " all " | " ends[int((done + 1) / 2)] " | " ends[done] " |"
+    runs = done = all = 0
 }
 BEGIN {
-    print "| Loss in 1,000 | Runs | Done | All read | First end, ms | Middle end | Last end |"
-    print "|---|---|---|---|---|---|---|"
+    print "| Lost of 1,000 packets | Runs | Done | All messages read | Middle end, ms | Last end, ms |"
+    print "|---|---|---|---|---|---|"
 }
 !runs || $1 != loss { row(); loss = $1 }
-{ ends[++runs] = $5; finished += $4 == "done"; all += $6 == messages }
+{ runs++; all += $6 == messages }
+$4 == "done" { ends[++done] = $5 }
 END { row() }
