@@ -6,6 +6,7 @@
 here=$(cd "$(dirname "$0")/.." && pwd) || exit 1
 netsh=${NETSH:-$here/netsh}
 [ -x "$netsh" ] || netsh=netsh
+command -v "$netsh" >/dev/null || { echo "sweep.sh: netsh isn't on the path; NETSH may name it" >&2; exit 1; }
 
 world() {
     awk -v seed="$2" -v loss="$3" '
