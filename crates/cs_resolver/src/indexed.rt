@@ -2,7 +2,7 @@
 ghost use Rattle.std.specs.Prelude.{◌≡◌, ◌≢◌, ◌+◌, ◌<◌, ◌≤◌, ◌++◌, [], length, flat_map, AllPairs, MatchOption, IfOk, IfErr, OnOk};
 ghost use Rattle.std.specs.List.{sum_by};
 ghost use Rattle.net_base.specs.Cs as spec;
-ghost use Rattle.ndb_index.specs.Index.{tuples_of, near_count};
+ghost use Rattle.ndb_index.specs.Index.{own_count, near_count};
 ghost use Rattle.cs_resolver.specs.Errors.{Tells};
 ghost use Rattle.cs_resolver.specs.Probes.{word_found, host_found, service_found, most_probes};
 ghost use Rattle.cs_resolver.specs.Targets.{NamesHost, target_texts};
@@ -98,7 +98,7 @@ fn own_first<L: Ledger>(
 ) -> Result<Vec<u32>, AllocError>
     ensures ips { IfOk result (λ sorted. sorted.items
         ≡ spec.own_first me.now index.now (spec.once_each ips.items)) }
-    ensures cost { steps.new ≤ steps.old + tuples_of me.now index.now }
+    ensures cost { steps.new ≤ steps.old + own_count me.now index.now }
 {
     let once = once_each(alloc, ips)?;
     if once.len() < 2 {
@@ -121,7 +121,7 @@ fn targets<L: Ledger>(
         (spec.host_words index.now me.now host.now ≡ [])
         (λ targets. (0 < length (spec.host_words index.now me.now host.now))
         × (target_texts targets.items ≡ spec.address_texts index.now me.now host.now))) }
-    ensures cost { steps.new ≤ steps.old + near_count me.now index.now + tuples_of me.now index.now
+    ensures cost { steps.new ≤ steps.old + near_count me.now index.now + own_count me.now index.now
         + host_found index.now me.now host.now }
 {
     if is_any(host) {

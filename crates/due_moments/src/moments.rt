@@ -1,5 +1,5 @@
 //! When conversations are due, in the order of these.
-ghost use Rattle.std.specs.Prelude.{◌≡◌, ℕ, ◌+◌, ◌<◌, ◌≤◌, ◌++◌, ◌∷◌, ◌==◌, [], Option, List, length, take, drop, slice_get, option_to_list, nat_lt, OnOk};
+ghost use Rattle.std.specs.Prelude.{◌≡◌, ℕ, ◌+◌, ◌<◌, ◌≤◌, ◌++◌, ◌∷◌, ◌==◌, [], Option, List, length, take, drop, slice_get, option_to_list, nat_lt, OnErr, OnOk};
 ghost use Rattle.std.specs.Option.{option_map_or};
 ghost use Rattle.duties.specs.declared.due.Due.{Due as AnyDue};
 ghost use Rattle.due_moments.specs.Places as spec;
@@ -47,6 +47,7 @@ impl DueMoments {
     pub fn reserve(&mut self, count: usize) -> Result<(), AllocError>
         ensures list { self.new.list ≡ self.old.list }
         ensures ok { OnOk result (count ≤ self.new.room) }
+        ensures err { OnErr result (self.old.room < count) }
     {
         self.dues.reserve(count)
     }

@@ -1,5 +1,5 @@
 //! At which conversations a caller recorded something.
-ghost use Rattle.std.specs.Prelude.{◌≡◌, ℕ, ◌<◌, ◌++◌, ◌∷◌, [], List, IfOk, OnOk};
+ghost use Rattle.std.specs.Prelude.{◌≡◌, ℕ, ◌<◌, ◌++◌, ◌∷◌, [], List, IfOk, OnErr, OnOk};
 ghost use Rattle.net_base.specs.declared.noted.Noted.{Noted};
 ghost use Rattle.due_moments.specs.Marks.{AreAlike, Covers, forgot, is_among, is_conversation, noted};
 
@@ -57,6 +57,7 @@ impl Touched {
         ensures same { AreAlike self.old self.new }
         ensures covers { (own : List (ℕ × Noted)) → Covers own self.old → Covers own self.new }
         ensures room { OnOk result (0 < self.new.room) }
+        ensures err { OnErr result (self.old.room < 1) }
     {
         self.actors.reserve(1)
     }

@@ -1,5 +1,5 @@
 -- Beginnings of one list, the lists of a number, and entries at the end.
-use Rattle.std.proofs.Common.{◌≡◌, ℕ, zero, suc, ◌+◌, ◌<◌, ◌≤◌, ◌⊎◌, inl, inr, ⊎_elim, Bool, true, false, nat_lt, List, [], ◌∷◌, ◌++◌, length, map, set, if◌then◌else◌, refl, ap, sym, subst, ◌∙◌, arith, append_assoc, length-append}
+use Rattle.std.proofs.Common.{◌≡◌, ℕ, zero, suc, ◌+◌, ◌<◌, ◌≤◌, ◌⊎◌, inl, inr, ⊎_elim, Bool, true, false, nat_lt, List, [], ◌∷◌, ◌++◌, length, map, set, slice_set, if◌then◌else◌, refl, ap, sym, subst, ◌∙◌, arith, append_assoc, length-append}
 use Rattle.std.proofs.lemmas.List.{append-nil}
 use Rattle.std.proofs.lemmas.Bool.Decides.{nat_tests}
 use mathlib.Core.Option.{some, some-injective, some-ne-none}
@@ -150,3 +150,9 @@ pub set_past : {A : Type 0} (l : List A) (n : ℕ) (x : A) → length l ≤ n �
 set_past [] n x le = refl
 set_past (y ∷ l) zero x le = absurd (omega arith)
 set_past (y ∷ l) (suc n) x le = let r = set_past l n x (omega arith) in ap (λ t. y ∷ t) r
+
+-- what is set beyond the end changes nothing
+pub set_outside : {A : Type 0} (xs : List A) (n : ℕ) (x : A) → length xs ≤ n → slice_set xs n x ≡ xs
+set_outside [] n x le = refl
+set_outside (y ∷ ys) zero x le = absurd (omega (arith, le))
+set_outside (y ∷ ys) (suc n) x le = ap (λ zs. y ∷ zs) (set_outside ys n x (omega (arith, le)))

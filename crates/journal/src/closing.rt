@@ -1,11 +1,11 @@
 // The end: the history from the books.
-ghost use Rattle.std.specs.Prelude.{◌≡◌, ◌++◌, List, [], ◌∷◌, map, length, IfOk, IfSome, OnOk};
+ghost use Rattle.std.specs.Prelude.{◌≡◌, ◌++◌, List, [], ◌∷◌, map, length, IfOk, IfSome, OnOk, slice_set};
 ghost use Rattle.std.specs.Vec.Iter.{into_iter_items};
 ghost use Rattle.net_base.specs.declared.history.Entry.{Entry};
 ghost use Rattle.journal.specs.declared.tokens.Stamped.{Stamped};
 ghost use Rattle.journal.specs.Rule.{IsSeat};
 ghost use Rattle.journal.specs.Tokens.{HoldsAll, stamped};
-ghost use Rattle.journal.specs.Closing.{Taken, Gathered, IsWhole, IsLeft, AreOf, AreAt};
+ghost use Rattle.journal.specs.Closing.{Taken, Gathered, IsWhole, IsLeft, AreOf, AreAt, with_place};
 
 use crate::law::Naming;
 use crate::tokens::{Book, Pass, Stamped};
@@ -94,14 +94,24 @@ impl<J: Naming> Journal<J> {
 
 // Notes the place of the list at each of its stamps.
 fn note(entries: &[Stamped], place: usize, order: &mut Vec<usize>)
-    ensures { length order.new.items ≡ length order.old.items }
+    ensures long { length order.new.items ≡ length order.old.items }
+    ensures place { order.new.items ≡ with_place place entries.now order.old.items }
 {
     for entry in entries {
-        let stamp = entry.stamp as usize;
-        if stamp < order.len() {
-            order[stamp] = place;
-        }
+        note_at(entry.stamp as usize, place, order);
     }
+}
+
+// Notes a place at one stamp, where the order reaches so far.
+#[tactic(auto, using(crate::proofs::Lists::set_outside))]
+fn note_at(stamp: usize, place: usize, order: &mut Vec<usize>)
+    ensures long { length order.new.items ≡ length order.old.items }
+    ensures place { order.new.items ≡ slice_set order.old.items stamp place }
+{
+    if stamp >= order.len() {
+        return;
+    }
+    order[stamp] = place;
 }
 
 // The entries of all lists by stamp, where the order has at each stamp the place of its list.

@@ -102,6 +102,7 @@ impl<J: Naming> Book<J> {
         ensures same { (self.new.actor ≡ self.old.actor) × (self.new.number ≡ self.old.number)
             × (self.new.seen ≡ self.old.seen) × (self.new.list ≡ self.old.list) }
         ensures room { OnOk result (0 < self.new.room) }
+        ensures err { OnErr result (self.old.room < 1) }
         ensures short { length self.new.list ≤ 4849664 }
     {
         self.entries.reserve(1)

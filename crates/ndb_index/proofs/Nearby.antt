@@ -22,7 +22,7 @@ use Rattle.ndb_index.specs.declared.spot.Spot.{Spot}
 use Rattle.ndb_index.specs.Kept.{spot_at, spot_in, spots_from, spots_with}
 use Rattle.ndb_index.specs.Nets.{is_own, own_places, longest_places}
 use Rattle.ndb_index.specs.Index.{near_count}
-use Rattle.ndb_index.specs.Near.{AreWithin, SpotsWithin, tuples_at, spot_tuples, numbers_of}
+use Rattle.ndb_index.specs.Near.{AreWithin, Finds, SpotsWithin, tuples_at, spot_tuples, numbers_of}
 
 abbrev pub Db : Type 0
 Db = List (List (List NdbPair))
@@ -248,6 +248,16 @@ length-map f (x ∷ xs) = ap (λ n. suc n) (length-map f xs)
 pub spots_count : (attr value : List ℕ) (db : Db) → length (spots_with attr value db) ≡ length (tuples_with attr value db)
 spots_count attr value db =
     sym (length-map (λ spot. get_or db spot.place []) (spots_with attr value db)) ∙ ap (λ (ts : Db). length ts) (spots_found attr value db)
+
+-- places of the tuples that contain a pair find these
+pub all_found : (attr value : List ℕ) (db : Db) (found : List ℕ) → found ≡ places_with attr value db → Finds db attr value found
+all_found attr value db found are =
+    let tuples = ap (tuples_at db) are ∙ tuples_found (tuple_has attr value) db in
+    record {
+      within = subst (AreWithin db) (sym are) (places_within (tuple_has attr value) db);
+      tuples = tuples;
+      count = sym (length-map (λ place. get_or db place []) found) ∙ ap (λ (ts : Db). length ts) tuples;
+    }
 
 pub places_count : (me : List ℕ) (db : Db) → length (longest_places (addresses_of me db) db) ≤ length (own_networks me db)
 places_count me db =

@@ -23,9 +23,9 @@ abbrev pub found : List ℕ → List ℕ → List (List (List NdbPair)) → ℕ
 found attr value db = length (tuples_with attr value db)
 
 -- how many tuples a system has
-abbrev pub tuples_of : List ℕ → List (List (List NdbPair)) → ℕ
-tuples_of me db = found (codes "sys") me db
+abbrev pub own_count : List ℕ → List (List (List NdbPair)) → ℕ
+own_count me db = found (codes "sys") me db
 
 -- how many tuples are near a system: its own, and those of its networks
 abbrev pub near_count : List ℕ → List (List (List NdbPair)) → ℕ
-near_count me db = tuples_of me db + length (own_networks me db)
+near_count me db = own_count me db + length (own_networks me db)

@@ -1,6 +1,7 @@
 -- Tuples near a system, by their places.
-use Rattle.std.specs.Prelude.{ℕ, ◌<◌, List, [], length, map, flat_map, get_or}
+use Rattle.std.specs.Prelude.{◌≡◌, ℕ, ◌<◌, List, [], length, map, flat_map, get_or}
 use Rattle.net_base.specs.declared.ndb.NdbPair.{NdbPair}
+use Rattle.net_base.specs.Search.{tuples_with}
 use Rattle.ndb_tuple.specs.declared.numbers.Kind.TheVariants.{Address}
 use Rattle.ndb_tuple.specs.Numbers.{numbers_in}
 use Rattle.ndb_index.specs.declared.spot.Spot.{Spot}
@@ -15,6 +16,12 @@ SpotsWithin db spots = (i : ℕ) (d : Spot) → i < length spots → (get_or spo
 -- the tuples at places
 abbrev pub tuples_at : List (List (List NdbPair)) → List ℕ → List (List (List NdbPair))
 tuples_at db places = map (λ place. get_or db place []) places
+
+-- the places are those of the tuples that contain a pair, in order, one for each
+pub record Finds (db : List (List (List NdbPair))) (attr value places : List ℕ) : Type 0 where
+  pub within : AreWithin db places
+  pub tuples : tuples_at db places ≡ tuples_with attr value db
+  pub count : length places ≡ length (tuples_with attr value db)
 
 -- the tuples at spots
 abbrev pub spot_tuples : List (List (List NdbPair)) → List Spot → List (List (List NdbPair))

@@ -1,10 +1,10 @@
 //! The index of a database.
-ghost use Rattle.std.specs.Prelude.{◌≡◌, ◌+◌, ◌<◌, ◌≤◌, ◌++◌, [], filter_map, flat_map, get_or, length, slice_get, IfOk, OnOk};
+ghost use Rattle.std.specs.Prelude.{◌≡◌, ◌+◌, ◌<◌, ◌≤◌, [], filter_map, get_or, length, slice_get, IfOk};
 ghost use Rattle.net_base.specs.Search as spec;
 ghost use Rattle.ndb_tuple.specs.Places.{places_with};
 ghost use Rattle.ndb_index.specs.Kept.{spots_with};
-ghost use Rattle.ndb_index.specs.Index.{HasSpots, found};
-ghost use Rattle.ndb_index.specs.Near.{SpotsWithin, spot_tuples};
+ghost use Rattle.ndb_index.specs.Index.{HasSpots};
+ghost use Rattle.ndb_index.specs.Near.{Finds};
 ghost use Rattle.ndb_index.specs.Nets.{HasPlaces, HasAllLengths};
 
 use crate::networks::{self, Networks};
@@ -113,6 +113,7 @@ impl Index {
         ensures places { IfOk result (λ places. places ≡ places_with attr.now value.now self.now) }
         ensures tuples { IfOk result (λ places. filter_map (slice_get self.now) places
             ≡ spec.tuples_with attr.now value.now self.now) }
+        ensures found { IfOk result (Finds self.now attr.now value.now) }
     {
         let mut places = Places::new(alloc);
         for spot in self.spots(attr, value) {
@@ -132,6 +133,7 @@ impl Index {
         ensures places { IfOk result (λ places. places ≡ places_with attr.now value.now self.now) }
         ensures tuples { IfOk result (λ places. filter_map (slice_get self.now) places
             ≡ spec.tuples_with attr.now value.now self.now) }
+        ensures found { IfOk result (Finds self.now attr.now value.now) }
         ensures cost { steps.new ≤ steps.old + 0 }
     {
         self.search(alloc, attr, value)
@@ -192,101 +194,5 @@ impl Index {
     {
         let mut steps = Steps::<L>::new(blank);
         self.value_beside_counted(alloc, place, attr, value, other, &mut steps)
-    }
-
-    /// The tuple at a place.
-    pub fn tuple(&self, place: u64) -> &Tuple
-        requires { place < length self.now }
-        ensures { result.now ≡ get_or self.now place [] }
-    {
-        self.tuple_by::<Brand>(place, Blank::new(1))
-    }
-
-    /// The same by a counter of its own.
-    fn tuple_by<L: Ledger>(&self, place: u64, blank: Blank) -> &Tuple
-        requires place { place < length self.now }
-        requires name { blank.name ≡ L.name }
-        requires parts { blank.parts ≡ L.parts }
-        requires some { 0 < blank.parts }
-        ensures { result.now ≡ get_or self.now place [] }
-    {
-        let mut steps = Steps::<L>::new(blank);
-        self.at(place, &mut steps)
-    }
-
-    /// Adds the values of an attribute beside the pair that stands at these spots, for a step each.
-    fn add_all_beside<L: Ledger>(
-        &self,
-        spots: &[Spot],
-        attr: &[u8],
-        value: &[u8],
-        other: &[u8],
-        values: &mut Lines,
-        steps: &mut Steps<L>,
-    ) -> Result<(), AllocError>
-        requires { SpotsWithin self.now spots.now }
-        ensures values { OnOk result (values.new
-            ≡ values.old ++ flat_map (spec.beside attr.now value.now other.now) (spot_tuples self.now spots.now)) }
-        ensures cost { steps.new ≤ steps.old + length spots.now }
-    {
-        for spot in spots {
-            add_beside(attr, value, other, self.at(spot.place, steps), values)?;
-        }
-        Ok(())
-    }
-
-    /// The values of an attribute beside the pair in all tuples that contain it, for a step each.
-    pub fn all_beside_counted<L: Ledger>(
-        &self,
-        alloc: Global,
-        attr: &[u8],
-        value: &[u8],
-        other: &[u8],
-        steps: &mut Steps<L>,
-    ) -> Result<Lines, AllocError>
-        ensures values { IfOk result (λ values. values ≡ spec.all_beside attr.now value.now other.now self.now) }
-        ensures cost { steps.new ≤ steps.old + found attr.now value.now self.now }
-    {
-        let mut values = Lines::new(alloc);
-        self.add_all_beside(
-            self.spots(attr, value),
-            attr,
-            value,
-            other,
-            &mut values,
-            steps,
-        )?;
-        Ok(values)
-    }
-
-    /// The values of an attribute beside the pair in all tuples that contain it.
-    pub fn all_beside(
-        &self,
-        alloc: Global,
-        attr: &[u8],
-        value: &[u8],
-        other: &[u8],
-    ) -> Result<Lines, AllocError>
-        ensures { IfOk result (λ values. values ≡ spec.all_beside attr.now value.now other.now self.now) }
-    {
-        self.all_beside_by::<Brand>(alloc, attr, value, other, Blank::new(1))
-    }
-
-    /// The same by a counter of its own.
-    fn all_beside_by<L: Ledger>(
-        &self,
-        alloc: Global,
-        attr: &[u8],
-        value: &[u8],
-        other: &[u8],
-        blank: Blank,
-    ) -> Result<Lines, AllocError>
-        requires name { blank.name ≡ L.name }
-        requires parts { blank.parts ≡ L.parts }
-        requires some { 0 < blank.parts }
-        ensures { IfOk result (λ values. values ≡ spec.all_beside attr.now value.now other.now self.now) }
-    {
-        let mut steps = Steps::<L>::new(blank);
-        self.all_beside_counted(alloc, attr, value, other, &mut steps)
     }
 }

@@ -3,7 +3,7 @@ ghost use Rattle.std.specs.Prelude.{◌≡◌, ℕ, ◌+◌, ◌<◌, ◌≤◌,
 ghost use Rattle.net_base.specs.Networks as spec;
 ghost use Rattle.ndb_tuple.specs.Closest.{first_filled};
 ghost use Rattle.ndb_tuple.specs.Prefixes.{covers};
-ghost use Rattle.ndb_index.specs.Index.{tuples_of, near_count};
+ghost use Rattle.ndb_index.specs.Index.{own_count, near_count};
 ghost use Rattle.ndb_index.specs.Near.{AreWithin, SpotsWithin, tuples_at, spot_tuples, numbers_of};
 ghost use Rattle.ndb_index.specs.Nets.{longest_places};
 
@@ -123,7 +123,7 @@ impl Index {
         steps: &mut Steps<L>,
     ) -> Result<Vec<u32>, AllocError>
         ensures ips { IfOk result (λ ips. ips.items ≡ spec.addresses_of me.now self.now) }
-        ensures cost { steps.new ≤ steps.old + tuples_of me.now self.now }
+        ensures cost { steps.new ≤ steps.old + own_count me.now self.now }
     {
         let mut ips = Vec::new(alloc);
         self.add_addresses(self.spots(b"sys", me), &mut ips, steps)?;
@@ -139,7 +139,7 @@ impl Index {
     ) -> Result<Prefixes, AllocError>
         ensures prefixes { IfOk result (λ prefixes. (ip : ℕ) → covers prefixes ip
             ≡ spec.is_on (spec.own_networks me.now self.now) ip) }
-        ensures cost { steps.new ≤ steps.old + tuples_of me.now self.now }
+        ensures cost { steps.new ≤ steps.old + own_count me.now self.now }
     {
         let ips = self.addresses_of(alloc, me, steps)?;
         let prefixes = prefixes_of(alloc, &self.networks, &self.lengths, &ips)?;

@@ -1,4 +1,5 @@
 pub mod Answered
+pub mod Appended
 pub mod Checks
 pub mod CsAnswers
 pub mod Endings

@@ -121,7 +121,7 @@ many zero = []
 many (suc n) = write (codes "x") ∷ many n
 
 abbrev pub lost_world : World
-lost_world = two_hosts 20000 (record { first = 4; last = 100000; fate = Lose } ∷ []) [] (many 21) []
+lost_world = two_hosts 20000 (record { first = 4; last = 100000; fate = Lose } ∷ []) [] (many 21) (read 8192 ∷ [])
 
 -- A datagram is read in part, and what is left of it is gone.
 

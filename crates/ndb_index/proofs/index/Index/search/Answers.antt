@@ -5,7 +5,7 @@ use Rattle.net_base.specs.Search.{tuple_has}
 use Rattle.ndb_tuple.proofs.Found.{places_found}
 use Rattle.ndb_tuple.specs.Places.{places_with}
 use Rattle.ndb_index.specs.declared.spot.Spot.{Spot}
-use Rattle.ndb_index.proofs.Nearby.{spots_are_places}
+use Rattle.ndb_index.proofs.Nearby.{spots_are_places, all_found}
 use Rattle.ndb_index.proofs.index.Index.search.Goals as goal
 
 pub returns-clause-places : goal.returns-clause-places
@@ -25,3 +25,12 @@ returns-clause-tuples c =
     ∙ ap (map place) c.spots-spot-items.ensures
     ∙ spots_are_places c.args.attr.now c.args.value.now c.args.self.now)
     ∙ places_found (tuple_has c.args.attr.now c.args.value.now) c.args.self.now
+
+pub returns-clause-found : goal.returns-clause-found
+returns-clause-found c =
+    let place = λ (spot : Spot). spot.place in
+    all_found c.args.attr.now c.args.value.now c.args.self.now _
+    (c.loop-spot.invariant
+    ∙ ap (map place) (take_all c.loop-spot.spot-index c.spots-spot-items.result.now (omega arith))
+    ∙ ap (map place) c.spots-spot-items.ensures
+    ∙ spots_are_places c.args.attr.now c.args.value.now c.args.self.now)
