@@ -76,17 +76,6 @@ module _ (input : List ℕ) (answer : Answer) where
       by None same given = given
       by (Some bad) same given = absurd (none_some bad same)
 
-  pub ends_so : IsAnswer Check input answer → IsFirstBad Check input None → (answer.status ≡ 0) ⊎ (answer.status ≡ 5)
-  ends_so is good =
-      let handed = handed_in input good in
-      let checked = judged is good handed in
-      by handed checked checked.judged
-    where
-      by : (handed : Handed input) → IsChecked handed.world handed.history handed.told answer
-          → KeepsAll handed.world handed.history handed.told ⊎ BreaksOne handed.world handed.history handed.told → (answer.status ≡ 0) ⊎ (answer.status ≡ 5)
-      by handed checked (inl keeps) = inl (ap (λ (a : Answer). a.status) (checked.kept keeps))
-      by handed checked (inr (stamp, rule, broken)) = inr (ap (λ (a : Answer). a.status) (checked.broken stamp rule broken))
-
   pub kept_so : IsAnswer Check input answer → IsFirstBad Check input None → (handed : Handed input) → KeepsAll handed.world handed.history handed.told → answer.status ≡ 0
   kept_so is good handed keeps = ap (λ (a : Answer). a.status) ((judged is good handed).kept keeps)
 
