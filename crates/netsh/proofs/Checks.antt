@@ -1,7 +1,7 @@
 -- What an answer of check says.
 use Rattle.std.proofs.Common.{◌≡◌, ℕ, ◌+◌, ◌⊎◌, Bool, true, false, List, length, Option, Some, None, Ok, Err, Result, refl, sym, ◌∙◌, ap, inl, inr, arith}
 use Rattle.net_base.specs.declared.world.World.{World}
-use Rattle.net_model.specs.Answers.{Answer, all_kept, bad_input, rule_broken}
+use Rattle.net_model.specs.Answers.{Answer, all_kept, rule_broken}
 use Rattle.net_model.specs.Words.{Check}
 use Rattle.world_text.specs.WorldText.{world_reading}
 use Rattle.netsh.specs.Built.{is_over, IsAnswer, IsFirstBad, IsGiven, IsJudged}
