@@ -217,7 +217,7 @@ fn a_made_world_whatever_the_source_does(rt: HostRuntime) -> Result<(), Fail> {
 fn long_database(alloc: Global) -> Result<Octets, AllocError> {
     let mut text = Octets::from_slice(alloc, LOCAL.as_bytes())?;
     for _ in 0..200_u32 {
-        text.append(b"# a comment of forty-one bytes, all told.\n")?;
+        text.append(b"# a comment of forty-two bytes, all told.\n")?;
     }
     Ok(text)
 }
