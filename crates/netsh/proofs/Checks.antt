@@ -1,7 +1,7 @@
 -- What an answer of check says.
 use Rattle.std.proofs.Common.{◌≡◌, ℕ, ◌+◌, ◌⊎◌, Bool, true, false, List, length, Option, Some, None, Ok, Err, Result, refl, sym, ◌∙◌, ap, inl, inr, arith}
 use Rattle.net_base.specs.declared.world.World.{World}
-use Rattle.net_model.specs.Answers.{Answer, all_kept, bad_input, rule_broken}
+use Rattle.net_model.specs.Answers.{Answer, all_kept, rule_broken}
 use Rattle.net_model.specs.Words.{Check}
 use Rattle.world_text.specs.WorldText.{world_reading}
 use Rattle.netsh.specs.Built.{is_over, IsAnswer, IsFirstBad, IsGiven, IsJudged}
@@ -75,17 +75,6 @@ module _ (input : List ℕ) (answer : Answer) where
       by : (found : Option (ℕ × ℕ)) → None ≡ found → IsGiven found Check input answer → IsJudged input answer
       by None same given = given
       by (Some bad) same given = absurd (none_some bad same)
-
-  pub ends_so : IsAnswer Check input answer → IsFirstBad Check input None → (answer.status ≡ 0) ⊎ (answer.status ≡ 5)
-  ends_so is good =
-      let handed = handed_in input good in
-      let checked = judged is good handed in
-      by handed checked checked.judged
-    where
-      by : (handed : Handed input) → IsChecked handed.world handed.history handed.told answer
-          → KeepsAll handed.world handed.history handed.told ⊎ BreaksOne handed.world handed.history handed.told → (answer.status ≡ 0) ⊎ (answer.status ≡ 5)
-      by handed checked (inl keeps) = inl (ap (λ (a : Answer). a.status) (checked.kept keeps))
-      by handed checked (inr (stamp, rule, broken)) = inr (ap (λ (a : Answer). a.status) (checked.broken stamp rule broken))
 
   pub kept_so : IsAnswer Check input answer → IsFirstBad Check input None → (handed : Handed input) → KeepsAll handed.world handed.history handed.told → answer.status ≡ 0
   kept_so is good handed keeps = ap (λ (a : Answer). a.status) ((judged is good handed).kept keeps)

@@ -1,5 +1,5 @@
 -- What the statuses say, from how a call ends.
-use Rattle.std.proofs.Common.{◌≡◌, ◌≢◌, ℕ, ◌<◌, ◌⊎◌, Bool, true, false, List, [], ◌∷◌, length, Option, Some, None, Ok, unwrap_or, refl, sym, ◌∙◌, ap, subst, inl, inr, arith}
+use Rattle.std.proofs.Common.{◌≡◌, ◌≢◌, ℕ, ◌<◌, ◌⊎◌, Bool, true, false, List, [], ◌∷◌, length, Option, Some, None, unwrap_or, refl, sym, ◌∙◌, ap, subst, inl, inr, arith}
 use Rattle.std.specs.Io.KnownBytes.{IsAtEnd}
 use Rattle.outside.specs.Streams.{Rose}
 use Rattle.net_base.specs.declared.history.Entry.{Entry}
@@ -12,9 +12,9 @@ use Rattle.net_base.specs.Net.{Net, after}
 use Rattle.net_model.specs.Words.{Command, Cs, Query, Run, Make, Big, Check, may_wait, reads, words_read, words_wait}
 use Rattle.netsh.specs.Built.{made, IsStatus, IsWorldOf, IsFound, IsFirstBad, IsGiven, IsAnswer}
 use Rattle.netsh.specs.Checked.{BreaksOne, Handed, IsChecked, KeepsAll}
-use Rattle.netsh.specs.Ends.{Intake, Output, Told, Took, TookAll, TookSome, IsUnwritten, IsInput, IsRead, IsUnread, Answers, IsStatusOf, IsBad, IsHanded, HasChecked, HasRun, Ends, no_row, answered, unread, no_memory, Causes}
+use Rattle.netsh.specs.Ends.{Intake, Output, Told, Took, TookAll, TookSome, IsUnwritten, IsInput, IsRead, IsUnread, Answers, IsStatusOf, IsBad, IsHanded, HasChecked, HasGood, HasRun, Ends, EndsIll, EndsWell, no_row, answered, unread, no_memory, Causes}
 use Rattle.std.proofs.lemmas.Bool.{false≢true}
-use Rattle.netsh.proofs.Checks.{broken_so, checked_0, checked_5, ends_so, handed_in, judges, kept_so}
+use Rattle.netsh.proofs.Checks.{broken_so, checked_0, checked_5, handed_in, judges, kept_so}
 use Rattle.netsh.proofs.Endings.{told_of, too_long_is_over}
 
 some_none : (asked : Command) → Some asked ≡ None → ⊥
@@ -126,6 +126,75 @@ not_both asked input answer bad is good found = none_some bad (is.only None good
 -- nor is one over the limit without a bad line
 not_too_long : (asked : Command) (input : List ℕ) → reads asked ≡ true → input_limit asked < length input → IsFirstBad asked input None → ⊥
 not_too_long asked input has long good = none_some (0, 9) (told_of asked input true (too_long_is_over asked input has long) None good)
+
+-- How a command ends.
+
+cs_well : (answer : Answer) (found : CsAnswer) → answer ≡ cs_answer found → (answer.status ≡ 0) ⊎ (answer.status ≡ 5)
+cs_well answer (Lines lines) is = inl (ap (λ (a : Answer). a.status) is)
+cs_well answer (Refused number) is = inr (ap (λ (a : Answer). a.status) is)
+
+query_well : (answer : Answer) (lines : List (List ℕ)) → answer ≡ lines_answer lines → (answer.status ≡ 0) ⊎ (answer.status ≡ 5)
+query_well answer [] is = inr (ap (λ (a : Answer). a.status) is)
+query_well answer (line ∷ lines) is = inl (ap (λ (a : Answer). a.status) is)
+
+check_well : (w : World) (h : List Entry) (told : Option (List ℕ)) (answer : Answer) → IsChecked w h told answer → (answer.status ≡ 0) ⊎ (answer.status ≡ 5)
+check_well w h told answer checked = elim checked.judged [
+  | inl keeps ↦ inl (ap (λ (a : Answer). a.status) (checked.kept keeps))
+  | inr (stamp, rule, broken) ↦ inr (ap (λ (a : Answer). a.status) (checked.broken stamp rule broken))
+]
+
+-- with what is found in a good input
+found_well : (asked : Command) (input : List ℕ) (answer : Answer) → IsFirstBad asked input None → IsFound asked input answer → EndsWell asked answer.status
+found_well (Cs sys query) input answer good found = cs_well answer _ found
+found_well (Query attr value other) input answer good found = query_well answer _ found
+found_well (Run workers) input answer good found = found.2.status.ended
+found_well (Make messages) input answer good found = made_status messages answer found
+found_well (Big messages) input answer good found = found.2.status.ended
+found_well Check input answer good found =
+    let handed = handed_in input good in check_well handed.world handed.history handed.told answer (found handed)
+
+two_ill : (has : Bool) (n : ℕ) → has ≡ true → n ≡ 2 → EndsIll has n
+two_ill true n is two = inl two
+two_ill false n is two = absurd (false≢true is)
+
+six_ill : (has : Bool) (n : ℕ) → has ≡ true → n ≡ 6 → EndsIll has n
+six_ill true n is six = inr (inl six)
+six_ill false n is six = absurd (false≢true is)
+
+seven_ill : (has : Bool) (n : ℕ) → n ≡ 7 → EndsIll has n
+seven_ill true n seven = inr (inr (inl seven))
+seven_ill false n seven = inl seven
+
+eight_ill : (has : Bool) (n : ℕ) → n ≡ 8 → EndsIll has n
+eight_ill true n eight = inr (inr (inr eight))
+eight_ill false n eight = inr eight
+
+-- or with its first bad line
+given_ends : (asked : Command) (input : List ℕ) (answer : Answer) (bad : Option (ℕ × ℕ)) → IsFirstBad asked input bad → IsGiven bad asked input answer
+    → EndsWell asked answer.status ⊎ EndsIll (reads asked) answer.status
+given_ends asked input answer None is given = inl (found_well asked input answer is given)
+given_ends asked input answer (Some bad) is given =
+    inr (two_ill (reads asked) answer.status (bad_reads asked input bad is) (ap (λ (a : Answer). a.status) given))
+
+answer_ends : (asked : Command) (input : List ℕ) (answer : Answer) → IsAnswer asked input answer → EndsWell asked answer.status ⊎ EndsIll (reads asked) answer.status
+answer_ends asked input answer is = given_ends asked input answer is.found is.first is.given
+
+-- of a good input no line is the first bad one
+no_bad : (asked : Command) (answer : Answer) (intake : Intake) (answers : Answers asked answer intake) (bad : ℕ × ℕ) → HasGood (reads asked) asked intake
+    → IsFirstBad asked answers.input (Some bad) → ⊥
+no_bad asked answer intake answers bad good is =
+    let has : reads asked ≡ true = bad_reads asked answers.input bad is in
+    let told : HasGood true asked intake = subst (λ (b : Bool). HasGood b asked intake) has good in
+    let read = read_input asked intake answers.input has answers.read in
+    let same : answers.input ≡ told.0 = subst (λ (o : Option (List ℕ)). IsInput o answers.input) told.1 read.0 in
+    not_both asked answers.input answer bad answers.right (subst (λ (i : List ℕ). IsFirstBad asked i None) (sym same) told.2) is
+
+good_well : (asked : Command) (answer : Answer) (intake : Intake) (answers : Answers asked answer intake) → HasGood (reads asked) asked intake → EndsWell asked answer.status
+good_well asked answer intake answers good = by answers.right.found answers.right.first answers.right.given
+  where
+    by : (bad : Option (ℕ × ℕ)) → IsFirstBad asked answers.input bad → IsGiven bad asked answers.input answer → EndsWell asked answer.status
+    by None is given = found_well asked answers.input answer is given
+    by (Some bad) is given = absurd (no_bad asked answer intake answers bad good is)
 
 -- an answer's status is none of the others
 abbrev Apart : ℕ → Type 0
@@ -274,20 +343,29 @@ module _ (command : Option Command) (status : ℕ) (intake : Intake) (output : O
   same_command : (asked other : Command) → command ≡ Some asked → command ≡ Some other → other ≡ asked
   same_command asked other one two = ap (λ (o : Option Command). unwrap_or o other) (sym two ∙ one)
 
-  -- what is answered to `make`
-  made_given : (messages : ℕ) (input : List ℕ) (answer : Answer) → IsAnswer (Make messages) input answer → answer ≡ made messages
-  made_given messages input answer is = subst (λ (found : Option (ℕ × ℕ)). IsGiven found (Make messages) input answer) is.first is.given
+  -- how a call with a command ends
+  each : Ends command status intake output → (asked : Command) → command ≡ Some asked → EndsWell asked status ⊎ EndsIll (reads asked) status
+  each (no_row none unread_source told) asked is = absurd (some_none asked (sym is ∙ none))
+  each (answered other answer is_other answers (inl t)) asked is =
+      subst (λ (c : Command). EndsWell c status ⊎ EndsIll (reads c) status) (same_command asked other is is_other)
+      (subst (λ (n : ℕ). EndsWell other n ⊎ EndsIll (reads other) n) (sym t.0) (answer_ends other answers.input answer answers.right))
+  each (answered other answer is_other answers (inr t)) asked is = inr (seven_ill (reads asked) status t.0)
+  each (unread other is_other has rose (inl t)) asked is = inr (six_ill (reads asked) status (ap words_read (sym is ∙ is_other) ∙ has) t.0)
+  each (unread other is_other has rose (inr t)) asked is = inr (seven_ill (reads asked) status t.0)
+  each (no_memory other is_other eight took kept) asked is = inr (eight_ill (reads asked) status eight)
 
-  -- how a call of `make` ends
-  made_by : (messages : ℕ) (asked : Command) (answer : Answer) → Make messages ≡ asked → Answers asked answer intake → answer.status ≡ 0
-  made_by messages asked answer is answers = made_status messages answer (made_given messages answers.input answer (subst (λ (c : Command). IsAnswer c answers.input answer) (sym is) answers.right))
-
-  makes : Ends command status intake output → (messages : ℕ) → command ≡ Some (Make messages) → (status ≡ 0) ⊎ (status ≡ 7) ⊎ (status ≡ 8)
-  makes (no_row none unread_source told) messages is_make = absurd (some_none (Make messages) (sym is_make ∙ none))
-  makes (answered asked answer is answers (inl t)) messages is_make = inl (t.0 ∙ made_by messages asked answer (same_command asked (Make messages) is is_make) answers)
-  makes (answered asked answer is answers (inr t)) messages is_make = inr (inl t.0)
-  makes (unread asked is has rose told) messages is_make = absurd (false≢true (ap words_read (sym is_make ∙ is) ∙ has))
-  makes (no_memory asked is eight took kept) messages is_make = inr (inr eight)
+  -- and without a fault, where its input is good
+  well : Ends command status intake output → ¬ Rose intake.before intake.after → ¬ Rose output.before output.after → (asked : Command) → command ≡ Some asked
+      → HasGood (reads asked) asked intake → EndsWell asked status ⊎ (status ≡ 8)
+  well ends no_read no_write asked is good = elim (complete_without_faults ends no_read no_write (λ none. some_none asked (sym is ∙ none))) [
+    | inl eight ↦ inr eight
+    | inr of ↦ inl (by of)
+  ]
+    where
+      by : IsStatusOf command status intake → EndsWell asked status
+      by of =
+          let answers : Answers asked of.answer intake = subst (λ (c : Command). Answers c of.answer intake) (same_command asked of.asked is of.is_asked) of.answers in
+          subst (EndsWell asked) (sym of.right) (good_well asked of.answer intake answers good)
 
   -- an answer that a call without a fault gave is to what the source had left
   same_bad : (of : IsStatusOf command status intake) (asked : Command) (input : List ℕ) → command ≡ Some asked → reads asked ≡ true → intake.left ≡ Some input → (found : Option (ℕ × ℕ)) → IsFirstBad asked input found → IsFirstBad of.asked of.answers.input found
@@ -310,45 +388,6 @@ module _ (command : Option Command) (status : ℕ) (intake : Intake) (output : O
         | inl eight ↦ inr eight
         | inr of ↦ inl (bad_two of bad (same_bad of asked input is (bad_reads asked input bad is_bad) left (Some bad) is_bad) (of_answer of.asked of.answers.input of.answer of.answers.right))
       ]
-
-  run_ends : (w : World) (net : Net) (n : ℕ) → status ≡ n → IsStatus w net n → (status ≡ 0) ⊎ (status ≡ 3) ⊎ (status ≡ 4) ⊎ (status ≡ 8)
-  run_ends w net n same is = elim is.ended [
-    | inl zero ↦ inl (same ∙ zero)
-    | inr (inl three) ↦ inr (inl (same ∙ three))
-    | inr (inr four) ↦ inr (inr (inl (same ∙ four)))
-  ]
-
-  good_runs : (of : IsStatusOf command status intake) → may_wait of.asked ≡ true → IsFirstBad of.asked of.answers.input None → Of of.asked of.answers.input of.answer → (status ≡ 0) ⊎ (status ≡ 3) ⊎ (status ≡ 4) ⊎ (status ≡ 8)
-  good_runs of waits good (of_bad bad same two) = absurd (not_both of.asked of.answers.input of.answer bad of.answers.right good same)
-  good_runs of waits good (of_lines same zero not) = absurd (no_wait of.asked not waits)
-  good_runs of waits good (of_refusal same five not) = absurd (no_wait of.asked not waits)
-  good_runs of waits good (of_run same ran) = run_ends ran.world (after ran.world ran.history) of.answer.status of.right ran.status
-
-  runs : Ends command status intake output → ¬ Rose intake.before intake.after → ¬ Rose output.before output.after → (workers : ℕ) (input : List ℕ) → command ≡ Some (Run workers) → intake.left ≡ Some input → IsFirstBad (Run workers) input None → (status ≡ 0) ⊎ (status ≡ 3) ⊎ (status ≡ 4) ⊎ (status ≡ 8)
-  runs ends no_read no_write workers input is left good =
-      elim (complete_without_faults ends no_read no_write (λ none. some_none (Run workers) (sym is ∙ none))) [
-        | inl eight ↦ inr (inr (inr eight))
-        | inr of ↦ good_runs of (ap may_wait (same_command (Run workers) of.asked is of.is_asked)) (same_bad of (Run workers) input is refl left None good) (of_answer of.asked of.answers.input of.answer of.answers.right)
-      ]
-
-  -- how a call of `big` ends
-  big_ends : (status ≡ 0) ⊎ (status ≡ 3) ⊎ (status ≡ 4) ⊎ (status ≡ 8) → (status ≡ 0) ⊎ (status ≡ 3) ⊎ (status ≡ 4) ⊎ (status ≡ 7) ⊎ (status ≡ 8)
-  big_ends (inl zero) = inl zero
-  big_ends (inr (inl three)) = inr (inl three)
-  big_ends (inr (inr (inl four))) = inr (inr (inl four))
-  big_ends (inr (inr (inr eight))) = inr (inr (inr (inr eight)))
-
-  big_by : (messages : ℕ) (of : IsStatusOf command status intake) → of.asked ≡ Big messages → (status ≡ 0) ⊎ (status ≡ 3) ⊎ (status ≡ 4) ⊎ (status ≡ 8)
-  big_by messages of is =
-      good_runs of (ap may_wait is) (subst (λ (c : Command). IsFirstBad c of.answers.input None) (sym is) refl) (of_answer of.asked of.answers.input of.answer of.answers.right)
-
-  bigs : Ends command status intake output → (messages : ℕ) → command ≡ Some (Big messages) → (status ≡ 0) ⊎ (status ≡ 3) ⊎ (status ≡ 4) ⊎ (status ≡ 7) ⊎ (status ≡ 8)
-  bigs (no_row none unread_source told) messages is_big = absurd (some_none (Big messages) (sym is_big ∙ none))
-  bigs (answered asked answer is answers (inl t)) messages is_big =
-      big_ends (big_by messages (record { asked = asked; answer = answer; is_asked = is; answers = answers; right = t.0 }) (same_command (Big messages) asked is_big is))
-  bigs (answered asked answer is answers (inr t)) messages is_big = inr (inr (inr (inl t.0)))
-  bigs (unread asked is has rose told) messages is_big = absurd (false≢true (ap words_read (sym is_big ∙ is) ∙ has))
-  bigs (no_memory asked is eight took kept) messages is_big = inr (inr (inr (inr eight)))
 
   -- an answer of check
   check_answer : (n : ℕ) (of : IsStatusOf command n intake) → command ≡ Some Check → Answers Check of.answer intake
@@ -395,16 +434,6 @@ module _ (command : Option Command) (status : ℕ) (intake : Intake) (output : O
     | inl eight ↦ inr eight
     | inr (answer, right, same) ↦ inl (same ∙ broken_so input answer right is.good handed broken)
   ]
-
-  checks : Ends command status intake output → (input : List ℕ) → IsHanded command intake output input → (status ≡ 0) ⊎ (status ≡ 5) ⊎ (status ≡ 8)
-  checks ends input is = by (told_input ends input is)
-    where
-      by : (status ≡ 8) ⊎ ((answer : Answer) × IsAnswer Check input answer × (status ≡ answer.status)) → (status ≡ 0) ⊎ (status ≡ 5) ⊎ (status ≡ 8)
-      by (inl eight) = inr (inr eight)
-      by (inr (answer, right, same)) = elim (ends_so input answer right is.good) [
-        | inl zero ↦ inl (same ∙ zero)
-        | inr five ↦ inr (inl (same ∙ five))
-      ]
 
 -- What the status of an answer says.
 
@@ -514,8 +543,7 @@ module _ (command : Option Command) (status : ℕ) (intake : Intake) (output : O
     check_kept = check_kept;
     check_broken = check_broken;
     reads_nothing = reads_nothing command status intake output ends;
-    makes = makes command status intake output ends;
-    bigs = bigs command status intake output ends;
+    each = each command status intake output ends;
     read_fault = only_read_fault command status intake output ends;
     write_fault = only_write_fault command status intake output ends;
     memory = only_memory command status intake output ends;
@@ -524,8 +552,7 @@ module _ (command : Option Command) (status : ℕ) (intake : Intake) (output : O
     end = whole_at_end;
     complete = complete_without_faults command status intake output ends;
     tells_bad = tells_bad command status intake output ends;
-    runs = runs command status intake output ends;
+    well = well command status intake output ends;
     keeps = keeps command status intake output ends;
     breaks = breaks command status intake output ends;
-    checks = checks command status intake output ends;
   }

@@ -1,5 +1,5 @@
 -- How a call of the program ends: its status, what it took from the source and what the sink gained.
-use Rattle.std.specs.Prelude.{◌≡◌, ◌≢◌, ℕ, ◌<◌, ◌⊎◌, Bool, true, false, List, length, Option, Some, None, Result, Ok, Err, ⊤}
+use Rattle.std.specs.Prelude.{◌≡◌, ◌≢◌, ℕ, ◌+◌, ◌<◌, ◌⊎◌, Bool, true, false, List, length, Option, Some, None, Result, Ok, Err, ⊤, if◌then◌else◌}
 use Rattle.std.specs.Io.KnownBytes.{Appends, IsAtEnd}
 use Rattle.net_base.specs.declared.history.Entry.{Entry}
 use Rattle.net_base.specs.declared.world.World.{World}
@@ -7,7 +7,7 @@ use Rattle.net_model.specs.Answers.{Answer, bad_input, usage, read_fault, input_
 use Rattle.net_base.specs.Calm as calm
 use Rattle.net_base.specs.Legal.{IsLegal, IsTimed}
 use Rattle.net_base.specs.Net.{Net, after}
-use Rattle.net_model.specs.Words.{Command, Run, Make, Big, Check, reads, words_read, words_wait}
+use Rattle.net_model.specs.Words.{Command, Cs, Query, Run, Make, Big, Check, reads, words_read, words_wait}
 use Rattle.outside.specs.Streams.{Rose, AppendsPart}
 use Rattle.outside.specs.declared.fault.TakeError.{TakeError}
 use Rattle.outside.specs.declared.fault.TakeError.TheVariants as error
@@ -135,6 +135,31 @@ pub record IsHanded (command : Option Command) (intake : Intake) (output : Outpu
   pub left : intake.left ≡ Some input
   pub good : IsFirstBad Check input None
 
+-- how a command ends whose answer is written and whose input, where it has one, has no bad line: cs and query have lines or none,
+-- a run is done, stopped or limited, `make` has its text, and what check is handed keeps all rules or breaks one
+abbrev pub EndsWell : Command → ℕ → Type 0
+EndsWell (Cs sys query) status = (status ≡ 0) ⊎ (status ≡ 5)
+EndsWell (Query attr value other) status = (status ≡ 0) ⊎ (status ≡ 5)
+EndsWell (Run workers) status = (status ≡ 0) ⊎ (status ≡ 3) ⊎ (status ≡ 4)
+EndsWell (Make messages) status = status ≡ 0
+EndsWell (Big messages) status = (status ≡ 0) ⊎ (status ≡ 3) ⊎ (status ≡ 4)
+EndsWell Check status = (status ≡ 0) ⊎ (status ≡ 5)
+
+-- how else it may end: with a bad line or a fault of the source, where it has an input, with a fault of the sink, or without memory
+abbrev pub EndsIll : Bool → ℕ → Type 0
+EndsIll true status = (status ≡ 2) ⊎ (status ≡ 6) ⊎ (status ≡ 7) ⊎ (status ≡ 8)
+EndsIll false status = (status ≡ 7) ⊎ (status ≡ 8)
+
+-- the source told what it had left, where the command has an input, and no line of that is bad
+abbrev pub HasGood : Bool → Command → Intake → Type 0
+HasGood true asked intake = (input : List ℕ) × (intake.left ≡ Some input) × IsFirstBad asked input None
+HasGood false asked intake = ⊤
+
+-- the most reads of a source by words: none where they have no input, and else two more than its limit has bytes
+abbrev pub most_reads : Option Command → ℕ
+most_reads None = 0
+most_reads (Some asked) = if reads asked then input_limit asked + 2 else 0
+
 -- when each status comes, and what it leaves
 pub record Causes (command : Option Command) (status : ℕ) (intake : Intake) (output : Output) : Type 0 where
   -- the words are in no row where the status is 1, and only then is it 1, a fault of the sink aside
@@ -151,12 +176,10 @@ pub record Causes (command : Option Command) (status : ℕ) (intake : Intake) (o
   -- of check 0 comes only where all rules hold of what was handed in, and 5 only where one is broken
   pub check_kept : command ≡ Some Check → status ≡ 0 → HasChecked command KeepsAll intake
   pub check_broken : command ≡ Some Check → status ≡ 5 → HasChecked command BreaksOne intake
-  -- nothing is read for words in no row, nor for a command without an input; `make` always has its text, and `big` runs
-  -- until it ends
+  -- nothing is read for words in no row, nor for a command without an input
   pub reads_nothing : words_read command ≡ false → IsUnread intake
-  pub makes : (messages : ℕ) → command ≡ Some (Make messages) → (status ≡ 0) ⊎ (status ≡ 7) ⊎ (status ≡ 8)
-  pub bigs : (messages : ℕ) → command ≡ Some (Big messages)
-      → (status ≡ 0) ⊎ (status ≡ 3) ⊎ (status ≡ 4) ⊎ (status ≡ 7) ⊎ (status ≡ 8)
+  -- each command has its own statuses, whatever fails
+  pub each : (asked : Command) → command ≡ Some asked → EndsWell asked status ⊎ EndsIll (reads asked) status
   -- the faults and the memory
   pub read_fault : status ≡ 6 → (words_read command ≡ true) × Rose intake.before intake.after
   pub write_fault : status ≡ 7 → Rose output.before output.after
@@ -168,12 +191,12 @@ pub record Causes (command : Option Command) (status : ℕ) (intake : Intake) (o
   pub end : words_read command ≡ true → (status ≡ 0) ⊎ (status ≡ 3) ⊎ (status ≡ 4) ⊎ (status ≡ 5) → IsAtEnd intake.rest
   -- without a fault, words in a row have an answer's status, or memory ran out
   pub complete : ¬ Rose intake.before intake.after → ¬ Rose output.before output.after → command ≢ None → (status ≡ 8) ⊎ IsStatusOf command status intake
-  -- and where the source told what it had left, a bad input is told of, and a good world runs until it ends
+  -- so each command ends well where its input, if it has one, is good
+  pub well : ¬ Rose intake.before intake.after → ¬ Rose output.before output.after → (asked : Command) → command ≡ Some asked → HasGood (reads asked) asked intake → EndsWell asked status ⊎ (status ≡ 8)
+  -- and where the source told what it had left, a bad input is told of
   pub tells_bad : ¬ Rose intake.before intake.after → ¬ Rose output.before output.after → (asked : Command) (input : List ℕ) (bad : ℕ × ℕ) → command ≡ Some asked → intake.left ≡ Some input → IsFirstBad asked input (Some bad) → (status ≡ 2) ⊎ (status ≡ 8)
-  pub runs : ¬ Rose intake.before intake.after → ¬ Rose output.before output.after → (workers : ℕ) (input : List ℕ) → command ≡ Some (Run workers) → intake.left ≡ Some input → IsFirstBad (Run workers) input None → (status ≡ 0) ⊎ (status ≡ 3) ⊎ (status ≡ 4) ⊎ (status ≡ 8)
-  -- so of check: 0 wherever all rules hold, 5 wherever one is broken, and always one of them
+  -- of check 0 comes wherever all rules hold, and 5 wherever one is broken
   pub keeps : (input : List ℕ) → IsHanded command intake output input → (handed : Handed input) → KeepsAll handed.world handed.history handed.told
       → (status ≡ 0) ⊎ (status ≡ 8)
   pub breaks : (input : List ℕ) → IsHanded command intake output input → (handed : Handed input) → BreaksOne handed.world handed.history handed.told
       → (status ≡ 5) ⊎ (status ≡ 8)
-  pub checks : (input : List ℕ) → IsHanded command intake output input → (status ≡ 0) ⊎ (status ≡ 5) ⊎ (status ≡ 8)

@@ -1,5 +1,5 @@
 //! Calls over sources and sinks in memory, which may fail. `.ci/cases.txt` has what is written of other command lines.
-use crate::top::{ask, ask_surely, netsh};
+use crate::top::{ask, ask_surely, netsh, netsh_surely};
 use net_base::Octets;
 use outside::{FailList, MemSink, MemSource, OpenGate, SureSink, SureSource};
 use std::alloc::{AllocError, Global};
@@ -154,13 +154,11 @@ pub(crate) fn sink_of(alloc: Global, writes: &[u64]) -> Result<MemSink, AllocErr
 /// The calls of the source and of the sink that fail, the status, and what is written.
 type Row = (&'static [u64], &'static [u64], u8, &'static str);
 
+/// What anna is answered to `net!helix!9fs`.
+const HELIX: &str = "/net/il/clone 135.104.9.31!17008\n/net/il/clone 10.0.0.31!17008\n";
+
 const CS: &[Row] = &[
-    (
-        &[],
-        &[],
-        0,
-        "/net/il/clone 135.104.9.31!17008\n/net/il/clone 10.0.0.31!17008\n",
-    ),
+    (&[], &[], 0, HELIX),
     (&[1], &[], 6, "! read fault\n"),
     (&[2], &[], 6, "! read fault\n"),
     (&[], &[1], 7, ""),
@@ -170,7 +168,13 @@ const CS: &[Row] = &[
 /// Whatever the source does, a made world is told.
 const MAKE: &[Row] = &[(&[], &[], 0, ONE), (&[1], &[], 0, ONE), (&[1], &[1], 7, "")];
 
-const RUN: &[Row] = &[(&[1], &[], 6, "! read fault\n"), (&[], &[1], 7, "")];
+const RUN: &[Row] = &[
+    (&[1], &[], 6, "! read fault\n"),
+    (&[2], &[], 6, "! read fault\n"),
+    (&[3], &[], 0, DATAGRAM_RUN),
+    (&[], &[1], 7, ""),
+    (&[1], &[1], 7, ""),
+];
 
 fn is_answered(alloc: Global, words: &[String], row: Row) -> Result<bool, AllocError> {
     let (reads, writes, status, text) = row;
@@ -206,6 +210,91 @@ fn a_question_whatever_fails(rt: HostRuntime) -> Result<(), Fail> {
 fn a_made_world_whatever_the_source_does(rt: HostRuntime) -> Result<(), Fail> {
     let answered = answers(rt.alloc(), &["make", "1"], MAKE)?;
     assert!(rt; answered);
+    Ok(())
+}
+
+/// The worked database and lines behind it: four reads take it, the last of which finds its end.
+fn long_database(alloc: Global) -> Result<Octets, AllocError> {
+    let mut text = Octets::from_slice(alloc, LOCAL.as_bytes())?;
+    for _ in 0..200_u32 {
+        text.append(b"# a comment of forty-two bytes, all told.\n")?;
+    }
+    Ok(text)
+}
+
+/// What cs answers where this read of that database fails.
+fn is_told(alloc: Global, words: &[String], call: u64) -> Result<bool, AllocError> {
+    let fails = FailList::from_vec(Vec::from_slice(alloc, &[call])?);
+    let mut source = MemSource::new(long_database(alloc)?, fails);
+    let mut sink = sink_of(alloc, &[])?;
+    let status = ask(alloc, words, &mut source, &mut sink);
+    if call > 4 {
+        return Ok(status == Some(0) && sink.held() == HELIX.as_bytes());
+    }
+    Ok(status == Some(6) && sink.held() == b"! read fault\n".as_slice())
+}
+
+#[test]
+fn a_source_that_fails_at_any_call(rt: HostRuntime) -> Result<(), Fail> {
+    let words = words_of(rt.alloc(), &["cs", "anna", "net!helix!9fs"])?;
+    for call in 1..=5_u64 {
+        let told = is_told(rt.alloc(), &words, call)?;
+        assert!(rt; told, "call {call}");
+    }
+    Ok(())
+}
+
+/// Whether a sink with room for so many bytes, too few, holds the first of the answer.
+fn is_held(alloc: Global, words: &[String], room: usize) -> Result<bool, AllocError> {
+    let mut source = source_of(alloc, LOCAL, &[])?;
+    let mut sink = MemSink::new(alloc, room, FailList::from_vec(Vec::new(alloc)))?;
+    let status = ask(alloc, words, &mut source, &mut sink);
+    let held = sink.held();
+    Ok(status == Some(7) && held.len() == room && HELIX.as_bytes().starts_with(held))
+}
+
+#[test]
+fn a_sink_that_fails_after_any_byte(rt: HostRuntime) -> Result<(), Fail> {
+    let words = words_of(rt.alloc(), &["cs", "anna", "net!helix!9fs"])?;
+    for room in 0..HELIX.len() {
+        let held = is_held(rt.alloc(), &words, room)?;
+        assert!(rt; held, "room for {room}");
+    }
+    Ok(())
+}
+
+/// The beginning of the world, so many bytes.
+fn beginning(alloc: Global, len: usize) -> Result<SureSource, AllocError> {
+    let mut bytes = Vec::from_slice(alloc, DATAGRAM.as_bytes())?;
+    bytes.truncate(len);
+    Ok(SureSource::new(Octets::from_vec(bytes)))
+}
+
+/// Whether a beginning runs as the whole world does where it has the word `ndb`, since no name is looked for in the
+/// database, and is refused otherwise.
+fn is_begun<R: Threads + Wait + Sync>(
+    rt: &R,
+    alloc: Global,
+    words: &[String],
+    len: usize,
+) -> Result<bool, AllocError> {
+    let mut source = beginning(alloc, len)?;
+    let mut sink = sink_of(alloc, &[])?;
+    let status = netsh(rt, alloc, words, &mut source, &mut sink, &OpenGate);
+    let behind = LOCAL.len().saturating_add(1);
+    if len.saturating_add(behind) < DATAGRAM.len() {
+        return Ok(status == 2 && sink.held().starts_with(b"! line "));
+    }
+    Ok(status == 0 && sink.held() == DATAGRAM_RUN.as_bytes())
+}
+
+#[test]
+fn each_beginning_of_a_world(rt: HostRuntime) -> Result<(), Fail> {
+    let words = words_of(rt.alloc(), &["run", "1"])?;
+    for len in 0..=DATAGRAM.len() {
+        let begun = is_begun(&rt, rt.alloc(), &words, len)?;
+        assert!(rt; begun, "the first {len} bytes");
+    }
     Ok(())
 }
 
@@ -282,9 +371,24 @@ fn answers_surely(alloc: Global) -> Result<bool, AllocError> {
     Ok(ask_surely(alloc, &words, &mut source, &mut SureSink::new()) == Some(0))
 }
 
+fn runs_surely<R: Threads + Wait + Sync>(rt: &R, alloc: Global) -> Result<bool, AllocError> {
+    let words = words_of(alloc, &["run", "1"])?;
+    let mut source = beginning(alloc, DATAGRAM.len())?;
+    let status = netsh_surely(
+        rt,
+        alloc,
+        &words,
+        &mut source,
+        &mut SureSink::new(),
+        &OpenGate,
+    );
+    Ok(status == 0)
+}
+
 #[test]
 fn a_source_and_a_sink_that_never_fail(rt: HostRuntime) -> Result<(), Fail> {
     let answered = answers_surely(rt.alloc())?;
-    assert!(rt; answered);
+    let ran = runs_surely(&rt, rt.alloc())?;
+    assert!(rt; answered && ran);
     Ok(())
 }

@@ -1,7 +1,7 @@
 //! The top call: words and an input in, a status and a text out.
-ghost use Rattle.std.specs.Prelude.{◌≡◌, ◌≢◌, ◌<◌, ◌≤◌, ◌↔◌, ℕ, map, string_bytes, length, IsNone, IfNone, IfSome, IfOk, IsTrue, Some, None, Err, false};
-ghost use Rattle.net_model.specs.Words.{Big as AnyBig, Command as AnyCommand, Run as AnyRun, command_of, words_wait};
-ghost use Rattle.netsh.specs.Ends.{Ends, Causes, Intake, IsAnswered, IsUnread, Told};
+ghost use Rattle.std.specs.Prelude.{◌≡◌, ◌≢◌, ◌<◌, ◌≤◌, ◌↔◌, ◌⊎◌, ◌+◌, ℕ, map, string_bytes, length, IsNone, IfNone, IfSome, IfOk, IsTrue, Some, None, Err, false};
+ghost use Rattle.net_model.specs.Words.{Big as AnyBig, Command as AnyCommand, Run as AnyRun, command_of, reads, words_wait};
+ghost use Rattle.netsh.specs.Ends.{Causes, Ends, EndsWell, HasGood, Intake, IsAnswered, IsUnread, Told, most_reads};
 ghost use Rattle.net_model.specs.Answers.{input_limit};
 ghost use Rattle.netsh.specs.Built.{IsAnswer};
 ghost use Rattle.netsh.specs.Commands.{question_read};
@@ -94,8 +94,9 @@ fn read_and_answer<S: Source>(
     question: Question<'_>,
     source: &mut S,
 ) -> Result<Answer, TakeError>
-    ensures { IsAnswered (question_read question.entry)
+    ensures answered { IsAnswered (question_read question.entry)
         (record { left = S.left source.old; rest = S.left source.new; before = S.faults source.old; after = S.faults source.new }) result }
+    ensures reads { S.reads source.new ≤ S.reads source.old + most_reads (Some (question_read question.entry)) }
 {
     if !has_input(question) {
         return Ok(answer_over(alloc, question, b"")?);
@@ -114,8 +115,9 @@ fn read_and_run<R: Threads + Wait + Sync, S: Source, G: Gate + Sync>(
 ) -> Result<Answer, TakeError>
     requires some { 0 < workers }
     requires few { workers ≤ 16 }
-    ensures { IsAnswered (AnyRun workers)
+    ensures answered { IsAnswered (AnyRun workers)
         (record { left = S.left source.old; rest = S.left source.new; before = S.faults source.old; after = S.faults source.new }) result }
+    ensures reads { S.reads source.new ≤ S.reads source.old + most_reads (Some (AnyRun workers)) }
 {
     let input = read_to_end(alloc, source, INPUT_LIMIT)?;
     Ok(run_over(rt, alloc, workers, input.as_slice(), gate)?)
@@ -158,6 +160,7 @@ fn ask_words<S: Source, K: Sink>(
         × (source.new ≡ source.old) × (sink.new ≡ sink.old) }
     ensures big { (messages : ℕ) → result ≡ Asked.Big messages → (command_of (map string_bytes words.now) ≡ Some (AnyBig messages))
         × (source.new ≡ source.old) × (sink.new ≡ sink.old) }
+    ensures reads { S.reads source.new ≤ S.reads source.old + most_reads (command_of (map string_bytes words.now)) }
 {
     match read_words(words) {
         Some(Command::Question(question)) => {
@@ -184,6 +187,7 @@ pub fn ask<S: Source, K: Sink>(
     ensures causes { IfSome result (λ status. Causes (command_of (map string_bytes words.now)) status
         (record { left = S.left source.old; rest = S.left source.new; before = S.faults source.old; after = S.faults source.new })
         (record { held = K.held sink.old; holds = K.held sink.new; before = K.faults sink.old; after = K.faults sink.new })) }
+    ensures reads { S.reads source.new ≤ S.reads source.old + most_reads (command_of (map string_bytes words.now)) }
 {
     match ask_words(alloc, words, source, sink) {
         Asked::Answered(status) => Some(status),
@@ -206,6 +210,7 @@ pub fn netsh<R: Threads + Wait + Sync, S: Source, K: Sink, G: Gate + Sync>(
     ensures causes { Causes (command_of (map string_bytes words.now)) result
         (record { left = S.left source.old; rest = S.left source.new; before = S.faults source.old; after = S.faults source.new })
         (record { held = K.held sink.old; holds = K.held sink.new; before = K.faults sink.old; after = K.faults sink.new }) }
+    ensures reads { S.reads source.new ≤ S.reads source.old + most_reads (command_of (map string_bytes words.now)) }
 {
     match ask_words(alloc, words, source, sink) {
         Asked::Answered(status) => status,
@@ -232,4 +237,27 @@ pub fn ask_surely(
     ensures surely { IfSome result (λ status. (status ≢ 6) × (status ≢ 7)) }
 {
     ask(alloc, words, source, sink)
+}
+
+/// Does the command of these words, whichever it is, over a source and a sink that never fail.
+pub fn netsh_surely<R: Threads + Wait + Sync, G: Gate + Sync>(
+    rt: &R,
+    alloc: Global,
+    words: &[String],
+    source: &mut SureSource,
+    sink: &mut SureSink,
+    gate: &G,
+) -> u8
+    ensures ends { Ends (command_of (map string_bytes words.now)) result
+        (record { left = Some source.old; rest = Some source.new; before = 0; after = 0 })
+        (record { held = None; holds = None; before = 0; after = 0 }) }
+    ensures causes { Causes (command_of (map string_bytes words.now)) result
+        (record { left = Some source.old; rest = Some source.new; before = 0; after = 0 })
+        (record { held = None; holds = None; before = 0; after = 0 }) }
+    ensures surely { (result ≢ 6) × (result ≢ 7) }
+    ensures well { (asked : AnyCommand) → command_of (map string_bytes words.now) ≡ Some asked
+        → HasGood (reads asked) asked (record { left = Some source.old; rest = Some source.new; before = 0; after = 0 })
+        → EndsWell asked result ⊎ (result ≡ 8) }
+{
+    netsh(rt, alloc, words, source, sink, gate)
 }

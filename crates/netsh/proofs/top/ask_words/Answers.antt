@@ -8,4 +8,4 @@ pub returns-in-Some-Question-clause-answered : goal.returns-in-Some-Question-cla
 returns-in-Some-Question-clause-answered g c status same =
     words_answered c.in-Some-Question.question _ status _ _ _
     (ap (λ (k : Command). Some (command_read k)) (sym c.in-Some-Question.field-0-is) ∙ c.in-Some-Question.ensures) same
-    (c.tell_answer.ensures _ _ c.read_and_answer.ensures)
+    (c.tell_answer.ensures _ _ c.read_and_answer.ensures.answered)

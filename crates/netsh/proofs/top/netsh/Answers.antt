@@ -18,7 +18,7 @@ returns-in-Answered-clause-causes g c = causes_of _ _ _ _ (returns-in-Answered-c
 pub returns-in-Run-clause-ends : goal.returns-in-Run-clause-ends
 returns-in-Run-clause-ends g c =
     let run = c.in-Run.ensures.run c.in-Run.workers refl in
-    rw (run.0) (rw (sym run.1, sym run.2) (c.tell_answer.ensures _ _ c.read_and_run.ensures))
+    rw (run.0) (rw (sym run.1, sym run.2) (c.tell_answer.ensures _ _ c.read_and_run.ensures.answered))
 
 pub returns-in-Run-clause-causes : goal.returns-in-Run-clause-causes
 returns-in-Run-clause-causes g c = causes_of _ _ _ _ (returns-in-Run-clause-ends g c)

@@ -3,8 +3,8 @@ use Rattle.std.proofs.lemmas.Result.{err_from_is_err_and}
 use Rattle.netsh.proofs.Endings.{answered_failed}
 use Rattle.netsh.proofs.top.read_and_answer.Goals as goal
 
-pub returns-in_err-input : goal.returns-in_err-input
-returns-in_err-input g c =
+pub returns-in_err-input-clause-answered : goal.returns-in_err-input-clause-answered
+returns-in_err-input-clause-answered g c =
     let p = err_from_is_err_and c.from_residual-in_err-input.result c.from_residual-in_err-input.ensures.1 in
     answered_failed _ _ _ _ _ c.limit_of.ensures (p.1 ∙ ap Err p.2) (sym c.has_input.ensures ∙ c.if-not-has_input.false) c.in_err-input.ensures.bytes
     c.in_err-input.ensures.failed c.in_err-input.ensures.same
