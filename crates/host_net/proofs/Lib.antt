@@ -15,6 +15,8 @@ pub mod Replacing
 pub mod Continuing
 pub mod Keeping
 pub mod Telling
+pub mod Counting
+pub mod Answered
 pub mod Seating
 pub mod Naming
 pub mod Decided

@@ -1,4 +1,3 @@
-pub mod Answered
 pub mod Checks
 pub mod CsAnswers
 pub mod Endings
