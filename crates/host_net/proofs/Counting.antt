@@ -1,6 +1,6 @@
 -- How many steps of its script a player has finished.
 use Rattle.std.proofs.Common.{◌≡◌, ℕ, ◌-◌, Bool, true, false, List, [], ◌∷◌, ◌++◌, length, length-append, take, Option, Some, None, refl, ap, sym, subst, ◌∙◌, arith}
-use Rattle.std.proofs.lemmas.Bool.{true≢false}
+use Rattle.std.proofs.lemmas.Bool.{false≢true, true≢false}
 use Rattle.std.proofs.lemmas.List.{take_at}
 use Rattle.net_base.specs.declared.noted.Noted.{Noted}
 use Rattle.net_base.specs.declared.reply.Reply.{Reply}
@@ -62,6 +62,10 @@ module _ {T : Type 0} (Plays : Script → List Reply → List Bound → T → Ty
             (subst (λ (l : List Bound). Plays s (replies_of old) l t) (sym names) (is.plays s (ap (caller_of w) (sym caller) ∙ script) told));
         before_is = λ s script. is.before_is s (ap (caller_of w) (sym caller) ∙ script) ∙ ap (λ (rs : List Reply). finished_by (before_last rs) s) (sym same);
       }
+
+  -- a player that doesn't count
+  pub counts_nothing : (v : Visit) (t : T) (lost : Bool) (before : ℕ) → false ≡ true → IsCounted Plays w v t lost before
+  counts_nothing v t lost before is = absurd (false≢true is)
 
   -- of a caller that is no script nothing is counted
   pub counts_none : (v : Visit) (t : T) (lost : Bool) (before : ℕ) → ((s : Script) → caller_of w v.caller ≡ IsScript s → ⊥) → IsCounted Plays w v t lost before

@@ -65,6 +65,7 @@ impl<J: Naming + Placing, T: WholeTask> Model for Player<J, T> {
 impl<J: Naming + Placing, T: WholeTask> Player<J, T> {
     /// The player of a caller to whom nothing has happened, with the task of its whole script. It doesn't tell how many steps
     /// are answered.
+    #[tactic(auto, using(crate::proofs::Counting::counts_nothing))]
     pub fn new(world: &World, guest: Guest<J>, task: T) -> Player<J, T>
         requires world { J.world ≡ world.now }
         requires is { IsWorld world.now }

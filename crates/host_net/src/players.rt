@@ -154,7 +154,10 @@ impl<J: Naming + Placing, T: Task + Drop> Players<J, T> {
     {
         let mut answered: u128 = 0;
         for script in 0..world.scripts.len() {
-            answered += self.answered_of(script)? as u128;
+            let Some(steps) = self.answered_of(script) else {
+                return None;
+            };
+            answered += steps as u128;
         }
         Some(answered)
     }
