@@ -1,5 +1,5 @@
 -- How many steps of the scripts are answered.
-use Rattle.std.proofs.Common.{◌≡◌, ℕ, zero, suc, ◌+◌, ◌-◌, ◌<◌, ◌≤◌, ◌%◌, ◌==◌, ◌⊎◌, inl, inr, Bool, true, false, not, List, [], ◌∷◌, ◌++◌, length, drop, filter, map, take, Option, Some, None, IfSome, is_none, nat_lt, slice_get, sum_by, get_or, if◌then◌else◌, zero-add, refl, ap, sym, subst, ◌∙◌, arith}
+use Rattle.std.proofs.Common.{◌≡◌, ℕ, zero, suc, ◌+◌, ◌-◌, ◌<◌, ◌≤◌, ◌%◌, ◌==◌, ◌⊎◌, inl, inr, Bool, true, false, not, List, [], ◌∷◌, ◌++◌, length, drop, filter, map, take, Option, Some, None, IfSome, is_none, nat_lt, slice_get, slice_index_or, sum_by, get_or, if◌then◌else◌, zero-add, refl, ap, sym, subst, ◌∙◌, arith}
 use Rattle.std.specs.List.{enumerate_from}
 use Rattle.std.specs.Option.{option_map, option_map_or}
 use Rattle.std.proofs.lemmas.List.{map-append, take_all, take_more}
@@ -22,6 +22,7 @@ use Rattle.net_base.specs.Summary.{answered_by, answered_steps}
 use Rattle.guest_laws.specs.Works.{entries}
 use Rattle.host_net.proofs.Handing.{apart_test, in_back, in_front}
 use Rattle.host_net.proofs.Histories.{lists_are}
+use Rattle.host_net.proofs.Joining.{get_index}
 use Rattle.host_net.proofs.Passes.{last_or}
 use Rattle.host_net.proofs.Seating.{get_seats, in_parts, seats_long}
 use Rattle.host_net.proofs.Standings.{no_script, seats_in}
@@ -194,12 +195,21 @@ module _ {T : Type 0} where
       by_clock (Some q) clock among = no_clock q clock (last_or c (callers_of g.players) (caller q) among)
 
   -- and one of all
-  pub group_in : (gs : List (Grouped T)) (k : ℕ) (g : Grouped T) (p : Playing T) → slice_get gs k ≡ Some g → In p g.players → In p (all_members gs)
+  group_in : (gs : List (Grouped T)) (k : ℕ) (g : Grouped T) (p : Playing T) → slice_get gs k ≡ Some g → In p g.players → In p (all_members gs)
   group_in [] k g p there among = absurd (none-some g there)
   group_in (x ∷ gs) zero g p there among =
       in_front p (members x) (all_members gs)
       (with_front p x.players x.clock (subst (λ (y : Grouped T). In p y.players) (sym (same_Some x g there)) among))
   group_in (x ∷ gs) (suc k) g p there among = in_back p (members x) (all_members gs) (group_in gs k g p there among)
+
+  pub group_at : (gs : List (Grouped T)) (k : ℕ) (g d : Grouped T) → k < length gs → g ≡ slice_index_or gs k d → slice_get gs k ≡ Some g
+  group_at gs k g d lt is = get_index gs k d lt ∙ ap (λ (x : Grouped T). Some x) (sym is)
+
+  -- what it tells is of the script
+  pub found_in : (w : World) (c : ℕ) (gs : List (Grouped T)) (k : ℕ) (g : Grouped T) (p : Playing T) (o : Option ℕ) → slice_get gs k ≡ Some g → In p g.players
+      → caller p ≡ c → IfSome o (IsAnswered w p.visit) → IfSome o (λ (n : ℕ). IsAnsweredOf w c (all_members gs) n)
+  found_in w c gs k g p None there among is answers = tt
+  found_in w c gs k g p (Some n) there among is answers = (p, group_in gs k g p there among, is, answers)
 
   pub some_groups : (w : World) (n : ℕ) (gs : List (Grouped T)) → IsDealt w n (all_seats gs) → 0 < length gs
   some_groups w n gs dealt = subst (λ (k : ℕ). 0 < k) (seats_long gs) dealt.some

@@ -22,7 +22,7 @@ use Rattle.host_net.specs.declared.player.Role.TheVariants as role
 use Rattle.net_locks.specs.declared.turn.Turn.{Turn}
 use Rattle.net_locks.specs.declared.turn.Turn.TheVariants as turn
 use Rattle.host_net.specs.Playing.{Counts, HasRole, Heard, IsCounted, Told, before_last, replies_of}
-use Rattle.host_net.specs.Visits.{Asked, IsSame, Operated, Visit}
+use Rattle.host_net.specs.Visits.{Asked, IsFresh, IsSame, Operated, Visit}
 use Rattle.net_locks.specs.Turns.{bare}
 use Rattle.host_net.proofs.Continuing.{FitWorks, KeepsActors, fits_there, own_reply, own_stays}
 use Rattle.host_net.proofs.Keeping.{is_script}
@@ -75,7 +75,7 @@ module _ {T : Type 0} (Plays : Script → List Reply → List Bound → T → Ty
   counts_courier m v t lost before courier = counts_none v t lost before (λ s script. true≢false (ap is_script (sym script ∙ courier)))
 
   -- nothing is recorded yet
-  pub counts_first : (v : Visit) (t : T) (before : ℕ) → v.sight.seen ≡ [] → v.names ≡ [] → ((s : Script) → caller_of w v.caller ≡ IsScript s → Plays s [] [] t)
+  counts_first : (v : Visit) (t : T) (before : ℕ) → v.sight.seen ≡ [] → v.names ≡ [] → ((s : Script) → caller_of w v.caller ≡ IsScript s → Plays s [] [] t)
       → ((s : Script) (rs : List Reply) (names : List Bound) → Plays s rs names t → before ≡ finished_by rs s) → IsCounted Plays w v t false before
   counts_first v t before seen names plays counts =
       let none : replies_of v ≡ [] = ap (λ (l : List Noted). own_replies (entries l) v.caller) seen in
@@ -84,6 +84,15 @@ module _ {T : Type 0} (Plays : Script → List Reply → List Bound → T → Ty
             subst (λ (rs : List Reply). Plays s rs v.names t) (sym none) (subst (λ (l : List Bound). Plays s [] l t) (sym names) (plays s script));
         before_is = λ s script. counts s [] [] (plays s script) ∙ ap (λ (rs : List Reply). finished_by (before_last rs) s) (sym none);
       }
+
+  pub counts_fresh : (guest v : Visit) (task t : T) (lost : Bool) (before : ℕ) → v ≡ guest → t ≡ task → lost ≡ false → IsFresh guest.caller guest
+      → ((s : Script) → caller_of w guest.caller ≡ IsScript s → Plays s [] [] task)
+      → ((s : Script) (rs : List Reply) (names : List Bound) → Plays s rs names task → before ≡ finished_by rs s) → IsCounted Plays w v t lost before
+  counts_fresh guest v task t lost before visit same told fresh plays counts =
+      subst (λ (b : Bool). IsCounted Plays w v t b before) (sym told)
+      (subst (λ (x : T). IsCounted Plays w v x false before) (sym same)
+      (subst (λ (u : Visit). IsCounted Plays w u task false before) (sym visit)
+      (counts_first guest task before fresh.seen fresh.names plays counts)))
 
   -- The turn of a script.
 

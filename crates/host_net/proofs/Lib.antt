@@ -16,8 +16,8 @@ pub mod Continuing
 pub mod Keeping
 pub mod Telling
 pub mod Counting
-pub mod Answered
 pub mod Seating
 pub mod Naming
 pub mod Decided
 pub mod Joining
+pub mod Answered

@@ -7,11 +7,11 @@ pub returns-then-owes : goal.returns-then-owes
 returns-then-owes g c =
     let p = c.self.inside in
     subst (λ x. IsAnswered g.J.Placing.world x.visit p.before) c.self.view_is
-    (answered_owing g.T.WholeTask.Plays g.J.Placing.world p.guest p.task p.lost p.before (c.self.invariant.1 c.if-self.true) (sym c.owes.ensures ∙ c.if-owes.true))
+    (answered_owing g.T.WholeTask.Plays g.J.Placing.world p.guest p.task p.lost p.before (c.self.invariant.1 c.if-not-self.false) (sym c.owes.ensures ∙ c.if-owes.true))
 
 pub returns : goal.returns
 returns g c =
     let p = c.self.inside in
     subst (λ x. IsAnswered g.J.Placing.world x.visit c.finished.result) c.self.view_is
-    (answered_free g.T.WholeTask.Plays g.J.Placing.world p.guest p.task p.lost p.before (c.self.invariant.1 c.if-self.true) c.finished.result c.if-self.false
+    (answered_free g.T.WholeTask.Plays g.J.Placing.world p.guest p.task p.lost p.before (c.self.invariant.1 c.if-not-self.false) c.finished.result c.if-self.false
     (sym c.owes.ensures ∙ c.if-owes.false) c.finished.ensures)
