@@ -4,6 +4,7 @@ use Rattle.net_base.specs.declared.history.Entry.{Entry}
 use Rattle.net_base.specs.declared.world.World.{World}
 use Rattle.net_base.specs.Legal.{IsLegal, IsTimed}
 use Rattle.host_net.specs.Advancing.{IsHistoryOf}
+use Rattle.host_net.specs.Answering.{AreAfter}
 use Rattle.host_net.specs.Playing.{ArePlayed}
 use Rattle.host_net.specs.Visits.{Finished, Visit}
 
@@ -13,6 +14,11 @@ module _ (w : World) (vs : List Visit) (h : List Entry) (finished : Finished w v
 
   pub closed_timed : IsTimed w h
   closed_timed = finished.timed (λ v in_it. (plays v in_it).timely)
+
+  pub closed_after : (players : List Visit) → vs ≡ players → AreAfter w players h
+  closed_after players same =
+      let of_these : AreAfter w vs h = record { lists = finished.lists; owes = finished.owes } in
+      subst (λ (us : List Visit). AreAfter w us h) same of_these
 
   pub closed_history : (players : List Visit) → vs ≡ players → IsHistoryOf w players h
   closed_history players same =

@@ -11,10 +11,11 @@ pub enum RunEnd {
     Limit,
 }
 
-/// A history, and how it ends.
+/// A history, how many steps of its scripts are answered, and how it ends.
 #[derive(Debug, Drop)]
 pub struct Run {
     pub history: History,
+    pub answered: u128,
     pub end: RunEnd,
 }
 

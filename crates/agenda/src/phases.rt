@@ -4,6 +4,7 @@ ghost use Rattle.net_base.specs.declared.world.Script.{Script as AnyScript};
 ghost use Rattle.net_base.specs.Callers.{IsScript, caller_of};
 ghost use Rattle.net_base.specs.Legal.{IsLegal, IsTimed};
 ghost use Rattle.net_base.specs.Net.{after};
+ghost use Rattle.net_base.specs.Summary.{answered_steps};
 ghost use Rattle.net_base.specs.World.{IsWorld};
 ghost use Rattle.net_model.specs.Headline.{Headline};
 ghost use Rattle.whole_script.specs.ScriptTasks.{Plays};
@@ -38,6 +39,7 @@ pub fn run<R: Threads + Wait + Sync, G: Gate + Sync>(
     requires few { workers ≤ 16 }
     ensures legal { IfOk result (λ run. IsLegal world.now run.history) }
     ensures timed { IfOk result (λ run. IsTimed world.now run.history) }
+    ensures answered { IfOk result (λ run. run.answered ≡ answered_steps world.now run.history) }
     ensures end { IfOk result (λ run. EndsSo world.now (after world.now run.history) run.end) }
     ensures headline { IfOk result (λ run. Headline world.now run.history) }
 {
@@ -61,6 +63,7 @@ fn run_named<J: Naming + Placing + Send + Sync, R: Threads + Wait + Sync, G: Gat
     requires some { 0 < workers }
     ensures legal { IfOk result (λ run. IsLegal J.world run.history) }
     ensures timed { IfOk result (λ run. IsTimed J.world run.history) }
+    ensures answered { IfOk result (λ run. run.answered ≡ answered_steps J.world run.history) }
     ensures end { IfOk result (λ run. EndsSo J.world (after J.world run.history) run.end) }
     ensures headline { IfOk result (λ run. Headline J.world run.history) }
 {
@@ -68,9 +71,16 @@ fn run_named<J: Naming + Placing + Send + Sync, R: Threads + Wait + Sync, G: Gat
     let (net, guests) = Net::<J, WorldActor<J>>::named(alloc, world, opened)?;
     let mut players = players_of(alloc, world, guests, workers)?;
     let end = phases(rt, alloc, world, gate, &net, &mut players)?;
+    let Some(answered) = players.answered(world) else {
+        return Err(AllocError);
+    };
     let played = players.into_guests(alloc)?;
     let history = net.finish(alloc, played)?;
-    Ok(Run { history, end })
+    Ok(Run {
+        history,
+        answered,
+        end,
+    })
 }
 
 // A player for each guest, in so many groups.
@@ -90,7 +100,7 @@ fn players_of<'a, J: Naming + Placing>(
     let mut players = Players::new(alloc, workers)?;
     for guest in guests {
         let task = task_of(world, guest.caller());
-        players.add(Player::new(world, guest, task))?;
+        players.add(Player::counting(world, guest, task))?;
     }
     Ok(players)
 }

@@ -11,7 +11,7 @@ use Rattle.host_net.proofs.Seating.{alone_at, dealt_more, set_joined, visits_mor
 use Rattle.host_net.specs.Visits.{Visit}
 use Rattle.std.proofs.lemmas.List.{append-nil}
 
-get_index : {A : Type 0} (xs : List A) (k : ℕ) (d : A) → k < length xs → slice_get xs k ≡ Some (slice_index_or xs k d)
+pub get_index : {A : Type 0} (xs : List A) (k : ℕ) (d : A) → k < length xs → slice_get xs k ≡ Some (slice_index_or xs k d)
 get_index [] k d lt = absurd (omega (arith, lt))
 get_index (x ∷ xs) zero d lt = refl
 get_index (x ∷ xs) (suc k) d lt = get_index xs k d (omega (arith, lt))

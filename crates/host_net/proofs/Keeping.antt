@@ -123,7 +123,7 @@ unready_next w old new same ask unready stays is = λ other comes.
     let found : ask ≡ other = same_Some ask other (sym is ∙ (sym stays.stands.comes_next ∙ (ap (next w (entries new.sight.seen)) (sym same.caller) ∙ comes))) in
     subst (λ (x : Ask). actor_step w x.actor ((noted_net w new.sight.seen).actors x.actor) new.now (bare x.event) ≡ None) found unready
 
-abbrev is_script : Caller → Bool
+abbrev pub is_script : Caller → Bool
 is_script (IsScript s) = true
 is_script _ = false
 
@@ -150,7 +150,7 @@ module _ {T : Type 0} (Stands : ℕ → List Bound → T → Play → Type 0) (w
 -- The first duty.
 
 module _ (w : World) (d : Duty) (old new : Visit) (same : IsSame old new) (names : new.names ≡ old.names) where
-  duty_stays : (a : ActorName) (work : Work) (answer : Turn) → Takes w a work (Some d.cites) old answer new
+  pub duty_stays : (a : ActorName) (work : Work) (answer : Turn) → Takes w a work (Some d.cites) old answer new
       → own_replies (entries new.sight.seen) old.caller ≡ own_replies (entries old.sight.seen) old.caller
   duty_stays a work (turn.Recorded stamp r) takes =
       let x = made a old.caller old.now work (Some d.cites) (without_copy takes.step.outcome) in

@@ -15,7 +15,9 @@ pub mod Replacing
 pub mod Continuing
 pub mod Keeping
 pub mod Telling
+pub mod Counting
 pub mod Seating
 pub mod Naming
 pub mod Decided
 pub mod Joining
+pub mod Answered

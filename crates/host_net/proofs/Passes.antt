@@ -9,6 +9,7 @@ use Rattle.net_base.specs.declared.noted.Number.TheVariants as number
 use Rattle.net_base.specs.declared.world.World.{World}
 use Rattle.net_base.specs.Actors.{has_actor}
 use Rattle.net_base.specs.Legal.{IsLegal, IsTimed}
+use Rattle.net_base.specs.Net.{Net, after, owed}
 use Rattle.net_base.specs.Stamped.{In, at, of_actor, of_caller}
 use Rattle.journal.specs.declared.law.Roster.{Roster}
 use Rattle.journal.specs.declared.tokens.Sight.{Sight}
@@ -19,7 +20,7 @@ use Rattle.journal.specs.Tokens.{Holds, HoldsAll, Met}
 use Rattle.journal.proofs.Lists.{in-left, in-right, prefix_trans}
 use Rattle.guest_laws.specs.Guests.{IsGuest, IsOfGuests, StaysGuest}
 use Rattle.guest_laws.specs.Own.{AreNext, AreTimely, AreTurns, IsLegalButScripts, StandsStill}
-use Rattle.guest_laws.specs.Works.{entries}
+use Rattle.guest_laws.specs.Works.{entries, noted_net}
 use Rattle.net_base.specs.Callers.{caller_count}
 use Rattle.net_locks.specs.Rosters.{AreReplayed, IsReplayed}
 use Rattle.host_net.specs.Visits.{Finished, Gathering, Gathers, HasBook, HasGuest, IsWith, Visit}
@@ -162,12 +163,17 @@ module _ (w : World) (r : Roster) (actors : (a : ActorName) → In a r.actors �
         replayed = subst (λ (d : ActorName). IsReplayed w d b.0.list) b.2 (replayed b.0 b.1);
       }
 
-  pub finished : ((a : ActorName) → has_actor w a ≡ true → HasBook w a h) → (IsOfGuests w r p.seen → IsLegalButScripts w (entries p.seen))
+  owes : (IsOfGuests w r p.seen → noted_net w p.seen ≡ after w (entries p.seen)) → (v : Visit) → In v vs → owed w h v.caller ≡ v.owed
+  owes net v i =
+      ap (λ (l : List Entry). owed w l v.caller) whole.entries ∙ (ap (λ (n : Net). n.owed v.caller) (sym (net of_guests)) ∙ (here v i).guest.owed)
+
+  pub finished : ((a : ActorName) → has_actor w a ≡ true → HasBook w a h) → (IsOfGuests w r p.seen → noted_net w p.seen ≡ after w (entries p.seen)) → (IsOfGuests w r p.seen → IsLegalButScripts w (entries p.seen))
       → (IsOfGuests w r p.seen → ((c : ℕ) → c < r.callers → AreNext w c p.seen) → IsLegal w (entries p.seen))
       → (IsOfGuests w r p.seen → ((c : ℕ) → c < r.callers → AreTimely w c p.seen) → IsTimed w (entries p.seen)) → Finished w vs h
-  finished has_books but legal timed =
+  finished has_books net but legal timed =
       record {
         lists = lists;
+        owes = owes net;
         books = has_books;
         but_scripts = subst (λ (l : List Entry). IsLegalButScripts w l) (sym whole.entries) (but of_guests);
         legal = λ each.

@@ -17,7 +17,7 @@ use Rattle.host_net.specs.Visits.{HasGuest, Visit}
 
 -- Members of lists.
 
-in_parts : {A : Type 0} (x : A) (xs ys : List A) → In x (xs ++ ys) → In x xs ⊎ In x ys
+pub in_parts : {A : Type 0} (x : A) (xs ys : List A) → In x (xs ++ ys) → In x xs ⊎ In x ys
 in_parts x [] ys there = inr there
 in_parts x (z ∷ xs) ys (inl here) = inl (inl here)
 in_parts x (z ∷ xs) ys (inr there) = more (in_parts x xs ys there)
@@ -163,7 +163,7 @@ module _ {T : Type 0} where
   joined_long zero (g ∷ gs) p = refl
   joined_long (suc k) (g ∷ gs) p = ap suc (joined_long k gs p)
 
-  seats_long : (gs : List (Grouped T)) → length (all_seats gs) ≡ length gs
+  pub seats_long : (gs : List (Grouped T)) → length (all_seats gs) ≡ length gs
   seats_long [] = refl
   seats_long (g ∷ gs) = ap suc (seats_long gs)
 
@@ -197,7 +197,7 @@ module _ {T : Type 0} where
       shift (inl old) = inl old
       shift (inr new) = inr (record { group = new.group; there = new.there; here = ap suc new.here; is = new.is })
 
-  get_seats : (gs : List (Grouped T)) (j : ℕ) (g : Grouped T) → slice_get gs j ≡ Some g → slice_get (all_seats gs) j ≡ Some (seats g)
+  pub get_seats : (gs : List (Grouped T)) (j : ℕ) (g : Grouped T) → slice_get gs j ≡ Some g → slice_get (all_seats gs) j ≡ Some (seats g)
   get_seats [] j g is = absurd (none-some g is)
   get_seats (x ∷ gs) zero g is = ap (λ (y : Grouped T). Some (seats y)) (same_Some x g is)
   get_seats (x ∷ gs) (suc j) g is = get_seats gs j g is

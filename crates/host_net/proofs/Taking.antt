@@ -29,7 +29,7 @@ not_there c d [] none there = absurd there
 not_there c d (x ∷ xs) none (inl is) = ap (λ (n : ℕ). c == n) is ∙ none.0
 not_there c d (x ∷ xs) none (inr there) = not_there c d xs none.1 there
 
-not_itself : (c : ℕ) (xs : List ℕ) → NotIn c xs → In c xs → ⊥
+pub not_itself : (c : ℕ) (xs : List ℕ) → NotIn c xs → In c xs → ⊥
 not_itself c xs none there = true≢false (sym (same_number_is c) ∙ not_there c c xs none there)
 
 pub all_not : (c : ℕ) (xs : List ℕ) → ((d : ℕ) → In d xs → (c == d) ≡ false) → NotIn c xs

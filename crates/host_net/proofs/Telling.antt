@@ -3,7 +3,6 @@ use Rattle.std.proofs.Common.{◌≡◌, ◌≢◌, ℕ, inl, inr, Bool, true, f
 use Rattle.std.proofs.lemmas.Bool.{true≢false}
 use Rattle.std.proofs.lemmas.Option.{none-some}
 use Rattle.net_base.specs.declared.history.Outcome.{Outcome}
-use Rattle.net_base.specs.declared.noted.Noted.{Noted}
 use Rattle.net_base.specs.declared.reply.Reply.{Reply}
 use Rattle.net_base.specs.declared.world.Script.{Script}
 use Rattle.net_base.specs.declared.world.World.{World}
@@ -12,9 +11,8 @@ use Rattle.net_base.specs.Duties.{Duty}
 use Rattle.net_base.specs.Legal.{IsAsked}
 use Rattle.net_base.specs.Next.{next, own_replies}
 use Rattle.net_base.specs.Steps.{Ask, Bound, Play}
-use Rattle.locked.specs.Acts.{made, without_copy}
+use Rattle.locked.specs.Acts.{made}
 use Rattle.script_task.specs.declared.request.Request.{Request}
-use Rattle.script_task.specs.Fitting.{fits}
 use Rattle.script_task.specs.Requests.{head, planned, settled}
 use Rattle.script_task.specs.Rest.{Continues}
 use Rattle.script_task.specs.Task.{Heads, AsksSo, MovesSo, follow, fits_play}
@@ -28,7 +26,8 @@ use Rattle.net_locks.specs.declared.turn.Turn.TheVariants as turn
 use Rattle.host_net.specs.Playing.{GoesOn, HasMore, HasRole, Heard, IsPlayed, IsPlayer, IsUnmoved, IsUnready, IsWaiting, PlaysOn, Told}
 use Rattle.host_net.specs.Visits.{Asked, IsSame, Operated, Visit}
 use Rattle.net_locks.specs.Turns.{bare}
-use Rattle.host_net.proofs.Continuing.{FitWorks, KeepsActors, continues_on, fits_there, own_reply, own_stays, play_fits, script_next}
+use Rattle.host_net.proofs.Continuing.{FitWorks, KeepsActors, continues_on, own_stays, play_fits, script_next}
+use Rattle.host_net.proofs.Counting.{one_reply_more, reply_fits}
 use Rattle.host_net.proofs.Keeping.{goes_stay, more, playing, still_player, turn_played, turn_plays, unready_next}
 
 -- the entry of a script that owes nothing is its next event
@@ -59,17 +58,9 @@ module _ {T : Type 0} (asks : T → List Bound → Option Request) (after : T �
 
     pub recorded_goes : KeepsActors → FitWorks → (stamp : ℕ) (r : Reply) → Asked w s.host q old (turn.Recorded stamp r) new → GoesOn Stands s new (after t r)
     recorded_goes keeps fit stamp r is =
-        let rec = is.takes in
-        let x = made is.ask.actor old.caller old.now (bare is.ask.event) None (without_copy rec.step.outcome) in
-        let fit_there : fits is.ask.event rec.step.outcome.reply ≡ true = fits_there w is.ask.actor keeps fit rec.past old.now (bare is.ask.event) rec.step rec.stepped in
-        let fit_it : fits_play goes.0 r ≡ true = play_fits goes.0 is.ask r (asked_head is.ask is.asks) (ap (fits is.ask.event) rec.reply ∙ fit_there) in
+        let fit_it : fits_play goes.0 r ≡ true = play_fits goes.0 is.ask r (asked_head is.ask is.asks) (reply_fits w old new same s.host q stamp r is keeps fit) in
         let stands : Stands s.host (settled old.names q r) (after t r) (follow goes.0 r) = moves_so s.host old.names t goes.0 q r goes.1 asks_it fit_it in
-        let replies : own_replies (entries new.sight.seen) new.caller ≡ own_replies (entries old.sight.seen) old.caller ++ r ∷ [] =
-        ap (own_replies (entries new.sight.seen)) same.caller
-        ∙ (ap (λ (l : List Noted). own_replies (entries l) old.caller) rec.seen
-        ∙ (own_reply old.caller rec.past x refl refl
-        ∙ (ap (λ (l : List Reply). l ++ rec.step.outcome.reply ∷ []) (own_stays old.caller old.sight.seen rec.past rec.alone)
-        ∙ ap (λ (y : Reply). own_replies (entries old.sight.seen) old.caller ++ y ∷ []) (sym rec.reply)))) in (
+        let replies = one_reply_more w old new same s.host q stamp r is in (
           follow goes.0 r,
           subst (λ (l : List Bound). Stands s.host l (after t r) (follow goes.0 r)) (sym is.names) stands,
           subst (λ (rs : List Reply). Continues s rs (follow goes.0 r)) (sym replies) (continues_on s (own_replies (entries old.sight.seen) old.caller) goes.0 r goes.2),

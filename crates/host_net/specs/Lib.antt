@@ -3,5 +3,6 @@ pub mod Deciding
 pub mod Playing
 pub mod Groups
 pub mod Advancing
+pub mod Answering
 pub use Rattle.guest_laws.specs.Guests
 pub use Rattle.script_task.specs.Requests

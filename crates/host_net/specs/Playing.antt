@@ -1,7 +1,8 @@
 -- Callers that are played.
 --     IsPlayer      what a player keeps
+--     IsCounted     how many steps of its script are finished
 --     PlaysOn       what its turn did
-use Rattle.std.specs.Prelude.{◌≡◌, ℕ, ◌⊎◌, Bool, true, false, List, [], ◌∷◌, ◌++◌, Some, None}
+use Rattle.std.specs.Prelude.{◌≡◌, ℕ, ◌-◌, ◌⊎◌, Bool, true, false, List, [], ◌∷◌, ◌++◌, length, take, Some, None}
 use Rattle.net_base.specs.declared.noted.Noted.{Noted}
 use Rattle.net_base.specs.declared.reply.Reply.{Reply}
 use Rattle.net_base.specs.declared.world.Script.{Script}
@@ -9,7 +10,7 @@ use Rattle.net_base.specs.declared.world.World.{World}
 use Rattle.net_base.specs.Actors.{actor_step}
 use Rattle.net_base.specs.Callers.{IsScript, IsCourier, IsClock, caller_of}
 use Rattle.net_base.specs.Duties.{Duty}
-use Rattle.net_base.specs.Next.{next, own_replies}
+use Rattle.net_base.specs.Next.{finished_by, next, own_replies}
 use Rattle.net_base.specs.Steps.{Ask, Bound, Play}
 use Rattle.net_base.specs.Stamped.{In}
 use Rattle.duties.specs.Queue.{work_of_duty}
@@ -59,6 +60,29 @@ module _ {T : Type 0} (Stands : ℕ → List Bound → T → Play → Type 0) wh
     pub role_is : HasRole w v.caller who
     pub plays : IsPlayed w v
     pub goes_on : (s : Script) → caller_of w v.caller ≡ IsScript s → lost ≡ false → GoesOn s v t
+
+-- Steps.
+
+-- the replies to the own events of a visit's caller
+abbrev pub replies_of : Visit → List Reply
+replies_of v = own_replies (entries v.sight.seen) v.caller
+
+-- all of these but the last
+abbrev pub before_last : List Reply → List Reply
+before_last rs = take (length rs - 1) rs
+
+-- unless a reply was lost for want of memory, the task of a script plays it after all its own replies; before the last of
+-- them so many of its steps were finished
+pub record IsCounted {T : Type 0} (Plays : Script → List Reply → List Bound → T → Type 0) (w : World) (v : Visit) (t : T) (lost : Bool)
+    (before : ℕ) : Type 0 where
+  pub plays : (s : Script) → caller_of w v.caller ≡ IsScript s → lost ≡ false → Plays s (replies_of v) v.names t
+  pub before_is : (s : Script) → caller_of w v.caller ≡ IsScript s → before ≡ finished_by (before_last (replies_of v)) s
+
+-- what stands for the steps before the last reply after a turn: where that recorded an entry, the steps that were finished
+abbrev pub Counts : {T : Type 0} → (Script → List Reply → List Bound → T → Type 0) → T → ℕ → Turn → ℕ → Type 0
+Counts Plays t before (turn.Recorded stamp answer) before' =
+    (s : Script) (rs : List Reply) (names : List Bound) → Plays s rs names t → before' ≡ finished_by rs s
+Counts Plays t before answer before' = before' ≡ before
 
 -- Turns.
 

@@ -10,6 +10,7 @@ use Rattle.net_base.specs.Actors.{has_actor}
 use Rattle.net_base.specs.Callers.{IsScript, caller_of}
 use Rattle.net_base.specs.Duties.{Duty}
 use Rattle.net_base.specs.Legal.{IsLegal, IsTimed}
+use Rattle.net_base.specs.Net.{owed}
 use Rattle.net_base.specs.Stamped.{In, moment, of_actor, of_caller}
 use Rattle.net_base.specs.Steps.{Ask, Bound}
 use Rattle.journal.specs.declared.law.Roster.{Roster}
@@ -94,11 +95,12 @@ pub record HasBook (w : World) (a : ActorName) (h : List Entry) : Type 0 where
   pub all : of_actor a h ≡ map plain list
   pub replayed : IsReplayed w a list
 
--- the history of these guests: each caller's entries are those that its guest knows, each actor's are those of its book,
--- and it is legal, but that the entries of scripts are their next events; legal where they are, and timed where each
+-- the history of these guests: each caller's entries are those that its guest knows, and it owes after them what that knows;
+-- each actor's are those of its book; and it is legal, but that the entries of scripts are their next events; legal where they are, and timed where each
 -- move comes in time
 pub record Finished (w : World) (vs : List Visit) (h : List Entry) : Type 0 where
   pub lists : (v : Visit) → In v vs → of_caller v.caller h ≡ map plain (own v.caller v.sight)
+  pub owes : (v : Visit) → In v vs → owed w h v.caller ≡ v.owed
   pub books : (a : ActorName) → has_actor w a ≡ true → HasBook w a h
   pub but_scripts : IsLegalButScripts w h
   pub legal : ((v : Visit) → In v vs → AreNext w v.caller v.sight.seen) → IsLegal w h

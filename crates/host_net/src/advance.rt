@@ -25,9 +25,10 @@ use journal::{Journal, Naming, Pass};
 use net_base::{ActorName, Event, With, Work, World};
 use net_locks::{Advance, Standing, calendars_stay_known};
 use outside::Gate;
-use script_task::{Planned, Task, event_of};
+use script_task::{Planned, event_of};
 use std::alloc::{AllocError, Global};
 use std::sync::Wait;
+use whole_script::WholeTask;
 
 fn bare(event: Event) -> Work
     ensures { result ≡ turns.bare event }
@@ -39,7 +40,7 @@ fn bare(event: Event) -> Work
 }
 
 // How a player's caller stands. A player whose last reply was lost can't tell.
-fn standing_of<J: Naming + Placing, T: Task>(
+fn standing_of<J: Naming + Placing, T: WholeTask>(
     alloc: Global,
     player: &Player<J, T>,
 ) -> Result<Standing, AllocError>
@@ -56,7 +57,7 @@ fn standing_of<J: Naming + Placing, T: Task>(
 }
 
 // What a player's caller records next, where it owes nothing.
-fn next_of<J: Naming + Placing, T: Task>(
+fn next_of<J: Naming + Placing, T: WholeTask>(
     alloc: Global,
     player: &Player<J, T>,
 ) -> Result<Option<(ActorName, Work)>, AllocError>
@@ -72,7 +73,7 @@ fn next_of<J: Naming + Placing, T: Task>(
 }
 
 // The next event of a script.
-fn script_next<J: Naming + Placing, T: Task>(
+fn script_next<J: Naming + Placing, T: WholeTask>(
     alloc: Global,
     player: &Player<J, T>,
 ) -> Result<Option<(ActorName, Work)>, AllocError>
@@ -97,7 +98,7 @@ fn script_next<J: Naming + Placing, T: Task>(
 }
 
 // How all callers stand.
-fn standings_of<J: Naming + Placing, T: Task + Drop>(
+fn standings_of<J: Naming + Placing, T: WholeTask + Drop>(
     alloc: Global,
     players: &Players<J, T>,
 ) -> Result<Vec<Standing>, AllocError>
@@ -111,7 +112,7 @@ fn standings_of<J: Naming + Placing, T: Task + Drop>(
 }
 
 // How the callers of a group stand.
-fn add_standings<J: Naming + Placing, T: Task + Drop>(
+fn add_standings<J: Naming + Placing, T: WholeTask + Drop>(
     alloc: Global,
     group: &Group<J, T>,
     standings: &mut Vec<Standing>,
@@ -147,7 +148,7 @@ impl<J: Naming + Placing> Net<J, WorldActor<J>> {
     /// The clock moves to the next moment, in ms, where no caller can go on and some script isn't through, and then that is
     /// the moment of each player. Else it tells why it didn't. A player whose last reply was lost for want of memory can't
     /// tell what comes next: then this finds no memory either. It records nothing but the move.
-    pub fn advance<R: Wait, G: Gate, T: Task + Drop>(
+    pub fn advance<R: Wait, G: Gate, T: WholeTask + Drop>(
         &self,
         rt: &R,
         alloc: Global,
@@ -172,7 +173,7 @@ impl<J: Naming + Placing> Net<J, WorldActor<J>> {
     }
 
     // The same, where all callers stand so.
-    fn advance_groups<R: Wait, G: Gate, T: Task + Drop>(
+    fn advance_groups<R: Wait, G: Gate, T: WholeTask + Drop>(
         &self,
         rt: &R,
         gate: &G,
@@ -210,7 +211,7 @@ impl<J: Naming + Placing> Net<J, WorldActor<J>> {
     // The numbers of these players, and of those in the groups, go to the clock's guest, and back when it has decided. Each
     // player keeps its number in its pass, so that none may be left without it between two calls: one is opened, and the
     // others are seen to before it closes. That is at most 37 calls deep.
-    fn with_all<'a, R: Wait, G: Gate, T: Task + Drop>(
+    fn with_all<'a, R: Wait, G: Gate, T: WholeTask + Drop>(
         &self,
         rt: &R,
         gate: &G,
@@ -268,7 +269,7 @@ impl<J: Naming + Placing> Net<J, WorldActor<J>> {
 }
 
 // The clock's player, taken out of its group, and the number of that.
-fn take_clock<J: Naming + Placing, T: Task + Drop>(
+fn take_clock<J: Naming + Placing, T: WholeTask + Drop>(
     groups: &mut [Group<J, T>],
 ) -> Option<(Player<J, T>, usize)>
     ensures some { IfSome result (λ found. IsTaken groups.old found.0 found.1 groups.new) }
@@ -285,7 +286,9 @@ fn take_clock<J: Naming + Placing, T: Task + Drop>(
 }
 
 // The clock's player, taken out of this group, where it has it.
-fn take_from<J: Naming + Placing, T: Task + Drop>(group: &mut Group<J, T>) -> Option<Player<J, T>>
+fn take_from<J: Naming + Placing, T: WholeTask + Drop>(
+    group: &mut Group<J, T>,
+) -> Option<Player<J, T>>
     ensures taken { result ≡ group.old.clock }
     ensures left { group.new ≡ record group.old { clock = None } }
 {
@@ -293,7 +296,7 @@ fn take_from<J: Naming + Placing, T: Task + Drop>(group: &mut Group<J, T>) -> Op
 }
 
 // The clock's player is in the group of this place again.
-fn put_clock<J: Naming + Placing, T: Task + Drop>(
+fn put_clock<J: Naming + Placing, T: WholeTask + Drop>(
     groups: &mut [Group<J, T>],
     place: usize,
     clock: Player<J, T>,
@@ -306,7 +309,7 @@ fn put_clock<J: Naming + Placing, T: Task + Drop>(
 }
 
 // The clock's player is in this group.
-fn put_into<J: Naming + Placing, T: Task + Drop>(group: &mut Group<J, T>, clock: Player<J, T>)
+fn put_into<J: Naming + Placing, T: WholeTask + Drop>(group: &mut Group<J, T>, clock: Player<J, T>)
     ensures { group.new ≡ record group.old { clock = Some clock } }
 {
     group.clock = Some(clock);

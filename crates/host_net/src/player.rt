@@ -1,11 +1,12 @@
 //! Callers that are played.
-ghost use Rattle.std.specs.Prelude.{◌≡◌, ◌≢◌, ◌<◌, [], false};
+ghost use Rattle.std.specs.Prelude.{◌≡◌, ◌≢◌, ◌<◌, [], false, IfSome};
 ghost use Rattle.net_base.specs.declared.world.Script.{Script as AnyScript};
 ghost use Rattle.net_base.specs.Callers.{IsScript, caller_count, caller_of};
 ghost use Rattle.net_base.specs.Steps.{Play};
 ghost use Rattle.net_base.specs.World.{IsWorld};
 ghost use Rattle.script_task.specs.Rest.{Continues};
-ghost use Rattle.host_net.specs.Playing.{HasRole, IsPlayed, IsSamePlayer, PlaysOn, Heard, Told, played_by};
+ghost use Rattle.host_net.specs.Answering.{IsAnswered};
+ghost use Rattle.host_net.specs.Playing.{Counts, HasRole, IsPlayed, IsSamePlayer, PlaysOn, Heard, Told, played_by};
 ghost use Rattle.net_locks.specs.Rosters.{IsRosterOf};
 ghost use Rattle.host_net.specs.Visits.{IsFresh};
 ghost use Rattle.host_net.specs.declared.player.Role.TheVariants as role;
@@ -18,10 +19,11 @@ use journal::Naming;
 use net_base::{ActorName, Reply, World};
 use net_locks::{Spot, Turn};
 use outside::Gate;
-use script_task::{Task, replies_fit};
+use script_task::replies_fit;
 use std::alloc::Global;
 use std::marker::Model;
 use std::sync::Wait;
+use whole_script::WholeTask;
 
 /// Who a caller is.
 #[derive(Clone, Copy, Debug, PartialEq, Eq)]
@@ -34,28 +36,36 @@ pub enum Role {
 
 /// A caller that is played: its guest, and the task that a script is at. The task of another caller is never asked.
 #[derive(Drop)]
-pub struct Player<J: Naming + Placing, T: Task> {
+pub struct Player<J: Naming + Placing, T: WholeTask> {
     pub(crate) guest: Guest<J>,
     pub(crate) role: Role,
     pub(crate) task: T,
     // the task wasn't told its last reply, for want of memory
     pub(crate) lost: bool,
+    // how many steps were finished before its last own reply
+    before: usize,
+    // its task plays a whole script, and so tells how many are
+    counts: bool,
     // where it waits since its last turn, if it recorded nothing
     spot: Spot,
 }
 
-impl<J: Naming + Placing, T: Task> Model for Player<J, T> {
-    ghost use Rattle.host_net.specs.Playing.{IsPlayer, Playing};
+impl<J: Naming + Placing, T: WholeTask> Model for Player<J, T> {
+    ghost use Rattle.std.specs.Prelude.{◌≡◌, true};
+    ghost use Rattle.host_net.specs.Playing.{IsCounted, IsPlayer, Playing};
 
     ghost Value = { Playing T };
 
     ghost view = { λ p. record { visit = p.guest; role = p.role; task = p.task; lost = p.lost } };
 
-    ghost invariant = { λ p. IsPlayer T.Stands J.world p.guest p.role p.task p.lost };
+    ghost invariant = { λ p. IsPlayer T.Stands J.world p.guest p.role p.task p.lost
+        × (p.counts ≡ true → IsCounted T.Plays J.world p.guest p.task p.lost p.before) };
 }
 
-impl<J: Naming + Placing, T: Task> Player<J, T> {
-    /// The player of a caller to whom nothing has happened, with the task of its whole script.
+impl<J: Naming + Placing, T: WholeTask> Player<J, T> {
+    /// The player of a caller to whom nothing has happened, with the task of its whole script. It doesn't tell how many steps
+    /// are answered.
+    #[tactic(auto, using(crate::proofs::Counting::counts_nothing))]
     pub fn new(world: &World, guest: Guest<J>, task: T) -> Player<J, T>
         requires world { J.world ≡ world.now }
         requires is { IsWorld world.now }
@@ -74,8 +84,29 @@ impl<J: Naming + Placing, T: Task> Player<J, T> {
             guest,
             task,
             lost: false,
+            before: 0,
+            counts: false,
             spot: Spot::nowhere(),
         }
+    }
+
+    /// The same of a task that plays the script from its beginning, which tells that.
+    pub fn counting(world: &World, guest: Guest<J>, task: T) -> Player<J, T>
+        requires world { J.world ≡ world.now }
+        requires is { IsWorld world.now }
+        requires roster { IsRosterOf J.world J.run.roster }
+        requires fresh { IsFresh guest.caller guest }
+        requires plays { (s : AnyScript) → caller_of J.world guest.caller ≡ IsScript s → T.Plays s [] [] task }
+        ensures visit { result.visit ≡ guest }
+        ensures role { HasRole J.world guest.caller result.role }
+        ensures task { result.task ≡ task }
+        ensures told { result.lost ≡ false }
+    {
+        let before = task.finished();
+        let mut player = Player::new(world, guest, task);
+        player.before = before;
+        player.counts = true;
+        player
     }
 
     // Which caller. Its role is who that is.
@@ -99,9 +130,27 @@ impl<J: Naming + Placing, T: Task> Player<J, T> {
     {
         &self.task
     }
+
+    /// How many steps of its script are answered, where it can tell: one that owes nothing, and whose last reply was lost for
+    /// want of memory, can't.
+    pub fn answered(&self) -> Option<usize>
+        ensures { IfSome result (IsAnswered J.world self.now.visit) }
+    {
+        if !self.counts {
+            return None;
+        }
+        // what is owed belongs to the step of its last own event
+        if self.guest.owes() {
+            return Some(self.before);
+        }
+        if self.lost {
+            return None;
+        }
+        Some(self.task.finished())
+    }
 }
 
-impl<J: Naming + Placing, T: Task + Drop> Player<J, T> {
+impl<J: Naming + Placing, T: WholeTask + Drop> Player<J, T> {
     // The guest alone.
     pub(crate) fn into_guest(self) -> Guest<J>
         ensures same { result ≡ self.visit }
@@ -112,6 +161,8 @@ impl<J: Naming + Placing, T: Task + Drop> Player<J, T> {
             role: _,
             task: _,
             lost: _,
+            before: _,
+            counts: _,
             spot: _,
         } = self;
         guest
@@ -159,11 +210,21 @@ fn played_of(turn: &Turn) -> Played
 }
 
 // What a script's turn came to. Its task is told the reply.
-fn hear<T: Task>(task: &mut T, lost: &mut bool, alloc: Global, turn: Turn) -> Played
-    ensures { Heard T.after task.old lost.old turn result task.new lost.new }
+fn hear<T: WholeTask>(
+    task: &mut T,
+    lost: &mut bool,
+    before: &mut usize,
+    alloc: Global,
+    turn: Turn,
+) -> Played
+    ensures heard { Heard T.after task.old lost.old turn result task.new lost.new }
+    ensures counts { Counts T.Plays task.old before.old turn before.new }
 {
     match turn {
-        Turn::Recorded { stamp: _, reply } => tell(task, lost, alloc, reply),
+        Turn::Recorded { stamp: _, reply } => {
+            *before = task.finished();
+            tell(task, lost, alloc, reply)
+        }
         Turn::NotReady => Played::Waits,
         Turn::Owes => Played::Waits,
         Turn::Limit => Played::Waits,
@@ -172,7 +233,7 @@ fn hear<T: Task>(task: &mut T, lost: &mut bool, alloc: Global, turn: Turn) -> Pl
 }
 
 // The task takes the reply to the event that it asked for.
-fn tell<T: Task>(task: &mut T, lost: &mut bool, alloc: Global, reply: Reply) -> Played
+fn tell<T: WholeTask>(task: &mut T, lost: &mut bool, alloc: Global, reply: Reply) -> Played
     ensures { Told T.after task.old lost.old reply result task.new lost.new }
 {
     if task.told(alloc, reply).is_err() {
@@ -184,7 +245,7 @@ fn tell<T: Task>(task: &mut T, lost: &mut bool, alloc: Global, reply: Reply) -> 
 
 impl<J: Naming + Placing> Net<J, WorldActor<J>> {
     /// The turn of a player: its first duty, or, where it owes none, what it records next.
-    pub fn play<R: Wait, G: Gate, T: Task>(
+    pub fn play<R: Wait, G: Gate, T: WholeTask>(
         &self,
         rt: &R,
         alloc: Global,
@@ -205,7 +266,7 @@ impl<J: Naming + Placing> Net<J, WorldActor<J>> {
     }
 
     // Whether it waited at its last turn and its actor has had no entry since. Then it waits still.
-    pub(crate) fn stands_still<T: Task>(&self, player: &Player<J, T>) -> bool {
+    pub(crate) fn stands_still<T: WholeTask>(&self, player: &Player<J, T>) -> bool {
         if player.role == Role::Clock && !player.guest.owes() {
             return true;
         }
@@ -213,7 +274,7 @@ impl<J: Naming + Placing> Net<J, WorldActor<J>> {
     }
 
     // The first duty.
-    fn play_duty<R: Wait, G: Gate, T: Task>(
+    fn play_duty<R: Wait, G: Gate, T: WholeTask>(
         &self,
         rt: &R,
         gate: &G,
@@ -228,7 +289,7 @@ impl<J: Naming + Placing> Net<J, WorldActor<J>> {
     }
 
     // The copy that a courier that owes nothing takes.
-    fn play_courier<R: Wait, G: Gate, T: Task>(
+    fn play_courier<R: Wait, G: Gate, T: WholeTask>(
         &self,
         rt: &R,
         gate: &G,
@@ -245,7 +306,7 @@ impl<J: Naming + Placing> Net<J, WorldActor<J>> {
     }
 
     // The next event of a script that owes nothing. Its spot is then that of the event's actor, where it has an event.
-    fn play_script<R: Wait, G: Gate, T: Task>(
+    fn play_script<R: Wait, G: Gate, T: WholeTask>(
         &self,
         rt: &R,
         alloc: Global,
@@ -264,7 +325,7 @@ impl<J: Naming + Placing> Net<J, WorldActor<J>> {
     }
 
     // The same, with the spot beside the player.
-    fn play_task<R: Wait, G: Gate, T: Task>(
+    fn play_task<R: Wait, G: Gate, T: WholeTask>(
         &self,
         rt: &R,
         alloc: Global,
@@ -288,6 +349,12 @@ impl<J: Naming + Placing> Net<J, WorldActor<J>> {
             Err(_) => return Played::Memory,
         };
         let turn = self.operate_at(rt, gate, &mut player.guest, &request, spot);
-        hear(&mut player.task, &mut player.lost, alloc, turn)
+        hear(
+            &mut player.task,
+            &mut player.lost,
+            &mut player.before,
+            alloc,
+            turn,
+        )
     }
 }

@@ -1,6 +1,12 @@
 //! Players in groups, one for each worker.
-ghost use Rattle.std.specs.Prelude.{◌≡◌, ℕ, ◌<◌, ◌++◌, [], length, true, false, None, option_map, IfOk, IfSome, OnErr, OnOk, slice_index_or};
+ghost use Rattle.std.specs.Prelude.{◌≡◌, ℕ, ◌<◌, ◌≤◌, ◌++◌, List, [], length, true, false, None, option_map, IfOk, IfSome, OnErr, OnOk, slice_index_or};
 ghost use Rattle.std.specs.List.{list_any};
+ghost use Rattle.net_base.specs.declared.history.Entry.{Entry};
+ghost use Rattle.net_base.specs.declared.world.Script.{Script as AnyScript};
+ghost use Rattle.net_base.specs.Callers.{IsScript, caller_of};
+ghost use Rattle.net_base.specs.Stamped.{In};
+ghost use Rattle.net_base.specs.Summary.{answered_steps};
+ghost use Rattle.host_net.specs.Answering.{AreAfter, IsAnsweredOf};
 ghost use Rattle.host_net.specs.Groups.{AreWaiting, all_members, all_seats, caller, callers_of, dealt, joined, members, no_players, seats, visits, with_last};
 ghost use Rattle.host_net.specs.Playing.{ArePlayed, IsSamePlayer, IsWaiting};
 ghost use Rattle.host_net.specs.Visits.{HasGuest};
@@ -13,14 +19,15 @@ use crate::net::Net;
 use crate::player::{Played, Player, Role};
 use actor_machines::{Placing, WorldActor};
 use journal::Naming;
+use net_base::World;
 use outside::Gate;
-use script_task::Task;
 use std::alloc::{AllocError, Global};
 use std::hint::spin_loop;
 use std::marker::Model;
 use std::sync::Wait;
 use std::thread;
 use std::thread::{Threads, yield_now};
+use whole_script::WholeTask as Task;
 use workers::{Crew, MANY_ROUNDS};
 
 /// The players of one worker. The clock's stands by itself, in one of the groups.
@@ -86,6 +93,23 @@ impl<J: Naming + Placing, T: Task + Drop> Group<J, T> {
     }
 }
 
+// The player of this caller, who is one of these.
+fn player_of<J: Naming + Placing, T: Task>(
+    players: &[Player<J, T>],
+    caller: usize,
+) -> &Player<J, T>
+    requires { In caller (callers_of players.now) }
+    ensures there { In result.now players.now }
+    ensures caller { result.now.visit.caller ≡ caller }
+{
+    for player in players {
+        if player.caller() as usize == caller {
+            return player;
+        }
+    }
+    unreachable!()
+}
+
 impl<J: Naming + Placing, T: Task + Drop> Players<J, T> {
     /// So many groups without players.
     pub fn new(alloc: Global, workers: u32) -> Result<Players<J, T>, AllocError>
@@ -118,6 +142,34 @@ impl<J: Naming + Placing, T: Task + Drop> Players<J, T> {
         ensures { result ≡ list_any (λ g. g.memory) self.now.groups }
     {
         self.groups.iter().any(|group| group.memory)
+    }
+
+    /// How many steps of all scripts are answered, where each player can tell, in a history in which the players' callers
+    /// have the entries that they know, and owe what they know.
+    pub fn answered(&self, world: &World) -> Option<u128>
+        requires world { J.world ≡ world.now }
+        requires all { length world.now.scripts ≤ self.now.callers }
+        ensures { IfSome result (λ n. (h : List Entry) → AreAfter J.world (visits (all_members self.now.groups)) h
+            → n ≡ answered_steps J.world h) }
+    {
+        let mut answered: u128 = 0;
+        for script in 0..world.scripts.len() {
+            let Some(steps) = self.answered_of(script) else {
+                return None;
+            };
+            answered += steps as u128;
+        }
+        Some(answered)
+    }
+
+    // How many steps of the script of this number are answered.
+    fn answered_of(&self, script: usize) -> Option<usize>
+        requires known { script < self.now.callers }
+        requires script { (s : AnyScript) × (caller_of J.world script ≡ IsScript s) }
+        ensures { IfSome result (λ n. IsAnsweredOf J.world script (all_members self.now.groups) n) }
+    {
+        let group = &self.groups[script % self.groups.len()];
+        player_of(&group.players, script).answered()
     }
 
     /// The guests of all callers. What each of these recorded was its duties and what came next, and in time.

@@ -4,11 +4,13 @@ use Rattle.std.proofs.lemmas.Bool.{and_parts, true≢false}
 use Rattle.net_base.specs.declared.world.World.{World}
 use Rattle.net_base.specs.Calm.{calm, unfinished, limited, done, stopped}
 use Rattle.net_base.specs.Net.{Net}
+use Rattle.net_base.specs.Summary.{end_word}
 use Rattle.agenda.specs.Ending.{EndsSo}
 use Rattle.agenda.specs.declared.outcome.RunEnd.{RunEnd}
 use Rattle.agenda.specs.declared.outcome.RunEnd.TheVariants as ended
+use Rattle.transcript.specs.RunStatus.{word_of}
 use Rattle.netsh.specs.Built.{IsStatus}
-use Rattle.netsh.specs.Runs.{status_of}
+use Rattle.netsh.specs.Runs.{end_of, status_of}
 
 not_both : (b : Bool) → b ≡ true → not b ≡ true → ⊥
 not_both true is not_so = true≢false (sym not_so)
@@ -55,3 +57,14 @@ module _ (w : World) (net : Net) where
     limited = (λ is. so, λ is. refl);
     ended = inr (inr refl);
   }
+
+  is_false : (b : Bool) → (b ≡ true → ⊥) → b ≡ false
+  is_false true no_ = absurd (no_ refl)
+  is_false false no_ = refl
+
+  -- the word of how a run ended
+  pub word_is : (end : RunEnd) → EndsSo w net end → word_of (end_of end) ≡ end_word w net
+  word_is ended.Done so = rw so refl
+  word_is ended.Stopped so = rw (is_false (done w net) (λ is. done_or_stopped is so), so) refl
+  word_is ended.Limit so =
+      rw (is_false (done w net) (λ is. done_or_limited is so), is_false (stopped w net) (λ is. stopped_or_limited is so), so) refl

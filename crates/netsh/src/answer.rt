@@ -5,20 +5,17 @@ ghost use Rattle.net_base.specs.Cs.{Lines as ListOf, Refused};
 ghost use Rattle.cs_resolver.specs.Errors.{number_of};
 ghost use Rattle.net_base.specs.Legal.{IsLegal, IsTimed};
 ghost use Rattle.net_base.specs.Net.{after};
-ghost use Rattle.net_base.specs.Calm.{done};
-ghost use Rattle.net_base.specs.Summary.{summary};
-ghost use Rattle.net_base.specs.Summary.{all_steps as spec_steps};
+ghost use Rattle.net_base.specs.Summary.{answered_steps, summary};
 ghost use Rattle.net_base.specs.Transcript.{history_text};
 ghost use Rattle.net_base.specs.World.{IsWorld};
 ghost use Rattle.netsh.specs.Built.{IsRun, IsSummed};
-ghost use Rattle.netsh.specs.Runs.{status_of};
+ghost use Rattle.netsh.specs.Runs.{end_of, status_of};
 ghost use Rattle.agenda.specs.Ending.{EndsSo};
 
 use agenda::{Run, RunEnd};
 use cs_resolver::CsError;
 use net_base::{History, Lines, Octets, World};
-use net_model::{histories_grow, legal_histories_are_plain, legal_histories_keep_it};
-use plain_runner::summary_of;
+use net_model::{legal_histories_are_plain, legal_histories_keep_it};
 use std::alloc::{AllocError, Global};
 use std::marker::Model;
 use std::thread::Threads;
@@ -137,6 +134,7 @@ impl Answer {
         requires world { IsWorld world.now }
         requires legal { IsLegal world.now run.now.history }
         requires timed { IsTimed world.now run.now.history }
+        requires answered { run.now.answered ≡ answered_steps world.now run.now.history }
         requires end { EndsSo world.now (after world.now run.now.history) run.now.end }
         ensures { IfOk result (λ answer. IsRun world.now answer) }
     {
@@ -150,6 +148,7 @@ impl Answer {
         requires world { IsWorld world.now }
         requires legal { IsLegal world.now run.now.history }
         requires timed { IsTimed world.now run.now.history }
+        requires answered { run.now.answered ≡ answered_steps world.now run.now.history }
         requires end { EndsSo world.now (after world.now run.now.history) run.now.end }
         ensures { IfOk result (λ answer. IsSummed world.now answer) }
     {
@@ -214,41 +213,29 @@ fn text_of_lines(alloc: Global, lines: &Lines) -> Result<Octets, AllocError>
     Ok(text)
 }
 
-/// The summary of a run. Of one that is done all steps are answered, so only another is replayed.
+/// The summary of a run, by what it knows.
 fn summary_of_run(alloc: Global, world: &World, run: &Run) -> Result<Octets, AllocError>
-    requires world { IsWorld world.now }
     requires legal { IsLegal world.now run.now.history }
-    requires timed { IsTimed world.now run.now.history }
+    requires answered { run.now.answered ≡ answered_steps world.now run.now.history }
     requires end { EndsSo world.now (after world.now run.now.history) run.now.end }
     ensures { IfOk result (λ text. text ≡ summary world.now run.now.history) }
 {
-    match run.end {
-        RunEnd::Done => summary_of_done(alloc, world, &run.history),
-        RunEnd::Stopped | RunEnd::Limit => summary_of(alloc, world, &run.history),
-    }
+    let status = RunStatus {
+        answered: run.answered,
+        end: told_end(run.end),
+    };
+    summary_by(alloc, world, &run.history, status)
 }
 
-/// The summary of a history that is done.
-fn summary_of_done(alloc: Global, world: &World, history: &History) -> Result<Octets, AllocError>
-    requires legal { IsLegal world.now history.now }
-    requires done { done world.now (after world.now history.now) ≡ true }
-    ensures { IfOk result (λ text. text ≡ summary world.now history.now) }
+/// The end that a summary tells.
+fn told_end(end: RunEnd) -> End
+    ensures { result ≡ end_of end }
 {
-    histories_grow();
-    let answered = all_steps(world);
-    let end = End::Done;
-    summary_by(alloc, world, history, RunStatus { answered, end })
-}
-
-/// How many steps all scripts have.
-fn all_steps(world: &World) -> u128
-    ensures { result ≡ spec_steps world.now }
-{
-    let mut steps = 0;
-    for script in world.scripts.as_slice() {
-        steps += script.steps.len() as u128;
+    match end {
+        RunEnd::Done => End::Done,
+        RunEnd::Stopped => End::Stopped,
+        RunEnd::Limit => End::Limit,
     }
-    steps
 }
 
 /// The status by how a run ends.

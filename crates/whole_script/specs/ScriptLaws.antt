@@ -177,3 +177,8 @@ plays_on s rs names t q ask r at asked is fit =
       continues = continues_on s rs at.play r at.continues;
       counts = λ more fit_more. subst (λ (xs : List Reply). finished_in (after_all (after t r) more) ≡ finished_by xs s) (sym (append_one rs r more)) (at.counts (r ∷ more) (fits_it, fit_more));
     }
+
+-- it stands for a play that goes on where the script stands
+pub stands_there : (s : Script) (rs : List Reply) (names : List Bound) (t : Scripting) → Plays s rs names t
+    → (p : Play) × StandsFor s.host names t p × Continues s rs p
+stands_there s rs names t at = (at.play, at.stands_for, at.continues)

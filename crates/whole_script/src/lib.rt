@@ -2,5 +2,7 @@
 #![tactic(auto)]
 
 mod script;
+mod whole;
 
 pub use script::ScriptTask;
+pub use whole::WholeTask;

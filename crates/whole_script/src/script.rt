@@ -7,6 +7,7 @@ ghost use Rattle.net_base.specs.Steps.{Bound, Ends};
 ghost use Rattle.dial_lib.specs.StepTasks.{begun};
 ghost use Rattle.whole_script.specs.ScriptTasks as spec;
 
+use crate::whole::WholeTask;
 use dial_lib::StepTask;
 use net_base::{Reply, Script, Step};
 use net_tree::Fids;
@@ -105,6 +106,20 @@ impl Task for ScriptTask<'_> {
             forget(&mut self.task);
         }
         Ok(())
+    }
+}
+
+impl WholeTask for ScriptTask<'_> {
+    ghost use Rattle.whole_script.specs.ScriptLaws as laws;
+
+    ghost Plays = { spec.Plays };
+
+    ghost stands_there = { laws.stands_there };
+
+    ghost plays_on = { laws.plays_on };
+
+    fn finished(&self) -> usize {
+        ScriptTask::finished(self)
     }
 }
 

@@ -1,7 +1,7 @@
 use Rattle.std.proofs.Common.{sym, subst}
 use Rattle.net_base.specs.declared.world.World.{World}
 use Rattle.net_base.specs.World.{IsWorld}
-use Rattle.agenda.proofs.Closing.{closed_history, closed_legal, closed_timed}
+use Rattle.agenda.proofs.Closing.{closed_after, closed_history, closed_legal, closed_timed}
 use Rattle.agenda.proofs.phases.run_named.Goals as goal
 
 pub returns-clause-legal : goal.returns-clause-legal
@@ -11,6 +11,11 @@ returns-clause-legal g c =
 pub returns-clause-timed : goal.returns-clause-timed
 returns-clause-timed g c =
     closed_timed g.J.Placing.world c.in_ok-played.played.items c.in_ok-history.history c.in_ok-history.ensures c.in_ok-played.ensures.plays
+
+pub returns-clause-answered : goal.returns-clause-answered
+returns-clause-answered g c =
+    c.answered.ensures c.in_ok-history.history
+    (closed_after g.J.Placing.world c.in_ok-played.played.items c.in_ok-history.history c.in_ok-history.ensures c.in_ok-played.ensures.plays _ c.in_ok-played.ensures.same)
 
 pub returns-clause-end : goal.returns-clause-end
 returns-clause-end g c =

@@ -21,7 +21,7 @@ returns-in_default-clause-next g c =
     let none = ap (g.T.Task.asks c.player.inside.task) (sym c.fids.ensures) ∙ (sym c.in_ok-request.ensures ∙ c.in_default.is) in
     subst (λ (u : Visit). None ≡ next w (entries u.sight.seen) u.caller) seen
     (nothing_next g.T.Task.asks g.T.Task.Stands g.met.T.Task.asks_so w v s c.player.inside.task script
-    (c.player.invariant.goes_on s script c.if-player.false) none)
+    (c.player.invariant.0.goes_on s script c.if-player.false) none)
 
 pub returns-clause-next : goal.returns-clause-next
 returns-clause-next g c =
@@ -36,5 +36,5 @@ returns-clause-next g c =
     subst (λ (u : Visit). Some (ask_of (c.in_ok-actor.field-0.actor, c.bare.result)) ≡ next w (entries u.sight.seen) u.caller) seen
     (ap (λ (x : Work). Some (record { actor = c.in_ok-actor.field-0.actor; event = x.event })) c.bare.ensures
     ∙ something_next g.T.Task.asks g.T.Task.Stands g.met.T.Task.asks_so w v s c.player.inside.task script
-    (c.player.invariant.goes_on s script c.if-player.false) c.guest.inside.host c.in-Some.request
+    (c.player.invariant.0.goes_on s script c.if-player.false) c.guest.inside.host c.in-Some.request
     (record { actor = c.in_ok-actor.field-0.actor; event = c.in_ok-actor.field-0.event }) home asks plans)

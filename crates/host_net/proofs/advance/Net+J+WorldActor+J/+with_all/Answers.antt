@@ -1,6 +1,8 @@
-use Rattle.std.proofs.Common.{◌≡◌, ◌++◌, ◌∷◌, ◌+◌, ◌<◌, [], length, List, refl, ap, sym, subst, ◌∙◌, arith}
+use Rattle.std.proofs.Common.{◌≡◌, ◌++◌, ◌∷◌, ◌+◌, ◌<◌, true, [], length, List, refl, ap, sym, subst, ◌∙◌, arith}
 use Rattle.net_base.specs.Callers.{caller_of}
 use Rattle.host_net.specs.declared.player.Player.TheInside.{Inside}
+use Rattle.host_net.proofs.Continuing.{own_stays}
+use Rattle.host_net.proofs.Counting.{counts_stay}
 use Rattle.host_net.proofs.Lending.{advances_at, all_stand, players_left}
 use Rattle.host_net.proofs.Outcomes.{player_stays}
 use Rattle.host_net.proofs.Operating.{visit}
@@ -8,7 +10,7 @@ use Rattle.host_net.proofs.Passes.{nil_of}
 use Rattle.host_net.proofs.Passing.{OthersStay, advances_here, are_back, clock_visits, clock_with, group_lists, me_back, me_visits, next_apart, next_lent, others_stay_here, player, still_with}
 use Rattle.host_net.specs.Advancing.{Advances, AreBack, AreLent, other_players}
 use Rattle.host_net.specs.Groups.{Grouped, callers_of, visits}
-use Rattle.host_net.specs.Playing.{IsPlayer, Playing}
+use Rattle.host_net.specs.Playing.{IsCounted, IsPlayer, Playing}
 use Rattle.host_net.specs.Visits.{Visit}
 use Rattle.host_net.proofs.advance.Net+J+WorldActor+J.+with_all.Goals as goal
 
@@ -126,9 +128,15 @@ invariant_of-first g t c =
     after c.with_all-answer.new.clock c.clock-in-Some.view_is c.with_all-answer.result (visit clock.caller clock.now c.hand_over.new.to clock.duties.list clock.fids.names) refl
     c.with_all-answer.ensures.others c.with_all-answer.ensures.clock c.hand_over-in-Some.new.to c.hand_over-in-Some.new.from c.hand_over-in-Some.ensures in
     let was =
-    subst (λ (i : Inside g.row.J.Denot g.row.T.Denot). IsPlayer g.T.Task.Stands w i.guest i.role i.task i.lost) (sym c.first-inside.view_is) c.first.invariant in
-    player_stays g.T.Task.Stands w mine (visit me.caller had.now c.hand_over-in-Some.new.to me.duties.list me.fids.names)
-    c.first-inside.inside.0.1.0 c.first-inside.inside.0.1.1.0 c.first-inside.inside.0.1.1.1.0 was refl refl back.stays
+    subst (λ (i : Inside g.row.J.Denot g.row.T.Denot). IsPlayer g.T.Task.Stands w i.guest i.role i.task i.lost) (sym c.first-inside.view_is) c.first.invariant.0 in
+    let counted =
+    subst (λ (i : Inside g.row.J.Denot g.row.T.Denot). i.counts ≡ true → IsCounted g.T.WholeTask.Plays w i.guest i.task i.lost i.before) (sym c.first-inside.view_is) c.first.invariant.1 in
+    let later = visit me.caller had.now c.hand_over-in-Some.new.to me.duties.list me.fids.names in (
+      player_stays g.T.Task.Stands w mine later
+          c.first-inside.inside.0.1.0 c.first-inside.inside.0.1.1.0 c.first-inside.inside.0.1.1.1.0 was refl refl back.stays,
+      λ counts. counts_stay g.T.WholeTask.Plays w mine later c.first-inside.inside.0.1.1.0 c.first-inside.inside.0.1.1.1.0 c.first-inside.inside.0.1.1.1.1.0 (counted counts) refl refl
+          (own_stays me.caller mine.sight.seen later.sight.seen back.stays.alone),
+    )
 
 pub invariant_of-clock-in-Some : goal.invariant_of-clock-in-Some
 invariant_of-clock-in-Some g t c =

@@ -1,5 +1,8 @@
 use Rattle.std.proofs.Common.{◌≡◌, List, refl, ap, sym, subst, ◌∙◌}
+use Rattle.net_base.specs.Callers.{caller_of}
+use Rattle.host_net.proofs.Counting.{counts_none}
 use Rattle.host_net.proofs.Outcomes.{clock_played, clock_player}
+use Rattle.host_net.proofs.Standings.{no_script}
 use Rattle.host_net.proofs.Passes.{itself}
 use Rattle.host_net.proofs.Passing.{player}
 use Rattle.host_net.proofs.Replacing.{all_advanced, all_kept, all_lent_first, all_seated, clock_alone, is_clock, place_within}
@@ -60,10 +63,14 @@ invariant_of-clock g c =
     let taken =
     subst (λ (x : Playing g.row.T.Denot). IsTaken c.args.groups.now x c.in-Some.place c.take_clock.new.groups) (sym c.clock.view_is) c.in-Some.ensures.some in
     let mine = itself w r c.clock.inside.guest c.clock.inside.guest.sight refl c.guest_keeps.ensures in
-    clock_player g.T.Task.Stands w c.clock.inside.guest c.with_all-answer.new.clock c.clock.inside.role c.clock.inside.task c.clock.inside.lost c.clock.invariant
-    c.with_all-answer.ensures.clock.caller_is (is_clock w r c.args.groups.now c.take_clock.new.groups c.in-Some.place p taken c.requires.dealt)
-    (clock_played w r (visits (other_players c.take_clock.new.groups)) c.clock.inside.guest c.with_all-answer.result c.with_all-answer.new.clock
-    c.with_all-answer.ensures.clock mine c.clock.invariant.plays)
+    let clock = is_clock w r c.args.groups.now c.take_clock.new.groups c.in-Some.place p taken c.requires.dealt in
+    let caller = c.with_all-answer.ensures.clock.caller_is in (
+      clock_player g.T.Task.Stands w c.clock.inside.guest c.with_all-answer.new.clock c.clock.inside.role c.clock.inside.task c.clock.inside.lost c.clock.invariant.0 caller clock
+          (clock_played w r (visits (other_players c.take_clock.new.groups)) c.clock.inside.guest c.with_all-answer.result c.with_all-answer.new.clock
+          c.with_all-answer.ensures.clock mine c.clock.invariant.0.plays),
+      λ counts. counts_none g.T.WholeTask.Plays w c.with_all-answer.new.clock c.clock.inside.task c.clock.inside.lost c.clock.inside.before
+          (λ s script. no_script w c.clock.inside.guest.caller s clock (ap (caller_of w) (sym caller) ∙ script)),
+    )
 
 pub returns-clause-seats : goal.returns-clause-seats
 returns-clause-seats g c =

@@ -27,6 +27,7 @@ returns g c =
     (λ h whole.
     finished w r actors callers c.args.guests.items c.gather.new.all c.in_ok-journal.books.items h c.requires.all here whole
     (kept w r actors callers c.args.guests.items c.gather.new.all c.in_ok-journal.books.items h c.requires.all here whole c.in_ok-journal.ensures.replayed c.in_ok-journal.ensures.each)
+    (c.histories_of_guests_are_legal.ensures.net w r c.gather.new.all.seen)
     (c.histories_of_guests_are_legal.ensures.but_scripts w r c.gather.new.all.seen)
     (c.histories_of_guests_are_legal.ensures.legal w r c.gather.new.all.seen)
     (c.histories_of_guests_are_legal.ensures.timed w r c.gather.new.all.seen))
