@@ -16,6 +16,9 @@ TOP = os.path.join(os.path.dirname(os.path.abspath(__file__)), "..")
 TUPLES = 10000
 PAIRS = 4
 MESSAGES = 2000
+MOMENTS = 5000
+# bytes of memory in which a run has room, and no stack of a thread
+NO_STACK = 8000 * 1024
 
 
 def database():
@@ -60,15 +63,36 @@ def listener(pair):
     return f"script b{pair}\nannounce a net!*!17008\nlisten c a\naccept e c\n{turns}read e 8192\nclose e\nclose c\n"
 
 
-def measure(words, text, runs):
-    """The wall and the processor time of each run, in milliseconds."""
+def moments(scripts):
+    """A world of one host whose scripts wait for MOMENTS moments each, so that the clock moves as often."""
+    head = "networld 1\nend 1000000000\nseed 7\nmedium ether0 1500\nhost a il udp\nif ether0 10.0.0.1 255.0.0.0\n"
+    script = "script a\n" + "".join(f"until {moment + 1}\n" for moment in range(MOMENTS))
+    return head + scripts * script + "ndb\n"
+
+
+def examples():
+    """The worlds of examples/ by name."""
+    folder = os.path.join(TOP, "examples")
+    for file in sorted(os.listdir(folder)):
+        name, kind = os.path.splitext(file)
+        if kind == ".world":
+            with open(os.path.join(folder, file), encoding="utf-8") as text:
+                yield name, text.read()
+
+
+def measure(words, text, runs, room=resource.RLIM_INFINITY):
+    """The wall and the processor time of each run with so many bytes of memory, in milliseconds."""
     walls, processors = [], []
+
+    def limit():
+        resource.setrlimit(resource.RLIMIT_AS, (room, room))
+
     with tempfile.TemporaryFile() as data:
         data.write(text.encode())
         for _ in range(runs):
             data.seek(0)
             before, began = resource.getrusage(resource.RUSAGE_CHILDREN), time.monotonic()
-            subprocess.run(words, stdin=data, stdout=subprocess.DEVNULL, check=False)
+            subprocess.run(words, stdin=data, stdout=subprocess.DEVNULL, check=False, preexec_fn=limit)
             walls.append(1000 * (time.monotonic() - began))
             after = resource.getrusage(resource.RUSAGE_CHILDREN)
             processors.append(1000 * (after.ru_utime + after.ru_stime - before.ru_utime - before.ru_stime))
@@ -83,11 +107,20 @@ def main():
     for crossed in (False, True):
         name, text = f"{PAIRS} {'crossed' if crossed else 'pairs'}", pairs(crossed)
         cases += [(f"{name}, run {n}", ["run", str(n)], text) for n in (1, 2, 4, 16)]
+    for scripts in (1, 16):
+        text = moments(scripts)
+        cases += [(f"{scripts} x until, run {n}", ["run", str(n)], text) for n in (1, 2, 4, 16)]
+    cases += [(f"{name}, run {n}", ["run", str(n)], text) for name, text in examples() for n in (1, 16)]
     cases += [(f"big {n}", ["big", str(n)], "") for n in (1000, 9000)]
     for name, words, text in cases:
-        walls, processors = measure([binary, *words], text, runs)
-        middle = runs // 2
-        print(f"{name:18} wall {walls[0]:7.1f} {walls[middle]:7.1f}   processor {processors[0]:7.1f} {processors[middle]:7.1f}")
+        show(name, *measure([binary, *words], text, runs))
+    show("no thread, run 4", *measure([binary, "run", "4"], dict(examples())["callers"], runs, NO_STACK))
+
+
+def show(name, walls, processors):
+    """The least and the middle of each."""
+    middle = len(walls) // 2
+    print(f"{name:20} wall {walls[0]:7.1f} {walls[middle]:7.1f}   processor {processors[0]:7.1f} {processors[middle]:7.1f}")
 
 
 if __name__ == "__main__":

@@ -366,6 +366,26 @@ same_seats (g ∷ gs) (g' ∷ gs') long each =
     ap (λ (s : Seats). s ∷ all_seats gs') (each 0 g (omega arith))
     ∙ ap (λ (l : List Seats). seats g ∷ l) (same_seats gs gs' (omega (arith, long)) (λ i d lt. each (suc i) d (omega (arith, lt))))
 
+-- groups whose callers stay are as many
+pub as_many : {T : Type 0} (gs hs : List (Grouped T)) → all_seats gs ≡ all_seats hs → length gs ≡ length hs
+as_many gs hs same = sym (seats_long gs) ∙ (ap length same ∙ seats_long hs)
+
+-- a group that keeps its callers, before others that do
+pub seats_on : {T : Type 0} (gs : List (Grouped T)) (g h : Grouped T) (rest after : List (Grouped T)) → gs ≡ g ∷ rest → seats h ≡ seats g → all_seats after ≡ all_seats rest
+    → all_seats (h ∷ after) ≡ all_seats gs
+seats_on gs g h rest after parts first others =
+    ap (λ (s : Seats). s ∷ all_seats after) first ∙ (ap (λ (l : List Seats). seats g ∷ l) others ∙ sym (ap all_seats parts))
+
+-- memory ran out in the first group, or in another
+pub some_short : {T A B : Type 0} (h : Grouped T) (after : List (Grouped T)) → (A → h.memory ≡ true) → (B → list_any (λ (x : Grouped T). x.memory) after ≡ true) → A ⊎ B
+    → list_any (λ (x : Grouped T). x.memory) (h ∷ after) ≡ true
+some_short {T = T} h after first others (inl here) = ap (λ (b : Bool). b || list_any (λ (x : Grouped T). x.memory) after) (first here)
+some_short {T = T} h after first others (inr there) = or_true h.memory (list_any (λ (x : Grouped T). x.memory) after) (others there)
+  where
+    or_true : (a b : Bool) → b ≡ true → (a || b) ≡ true
+    or_true true b is = refl
+    or_true false b is = is
+
 -- Waiting.
 
 not_either : (a b : Bool) → (a || b) ≡ false → (a ≡ false) × (b ≡ false)
@@ -407,15 +427,6 @@ module _ {T : Type 0} (w : World) where
 
   pub all_waiting : (ps : List (Playing T)) (n : ℕ) → length ps ≤ n → AreWaiting w (take n ps) → AreWaiting w ps
   all_waiting ps n le are = subst (λ (l : List (Playing T)). AreWaiting w l) (take_whole ps n le) are
-
-  -- after a phase
-  pub phase_waits : (gs : List (Grouped T)) → ((i : ℕ) (d : Grouped T) → i < length gs → (slice_index_or gs i d).memory ≡ false → AreWaiting w (members (slice_index_or gs i d)))
-      → list_any (λ (g : Grouped T). g.memory) gs ≡ false → AreWaiting w (all_members gs)
-  phase_waits [] each none = λ p there. absurd there
-  phase_waits (g ∷ gs) each none =
-      let both = not_either g.memory (list_any (λ (x : Grouped T). x.memory) gs) none in
-      waiting_parts (members g) (all_members gs) (each 0 g (omega arith) both.0)
-      (phase_waits gs (λ i d lt. each (suc i) d (omega (arith, lt))) both.1)
 
 -- Guests of all callers.
 

@@ -1,5 +1,5 @@
 //! Players in groups, one for each worker.
-ghost use Rattle.std.specs.Prelude.{◌≡◌, ℕ, ◌<◌, ◌≤◌, ◌++◌, List, [], length, true, false, None, option_map, IfOk, IfSome, OnErr, OnOk, slice_index_or};
+ghost use Rattle.std.specs.Prelude.{◌≡◌, ◌⊎◌, ℕ, ◌<◌, ◌≤◌, ◌++◌, List, [], length, true, false, None, option_map, IfOk, IfSome, OnErr, OnOk, slice_index_or};
 ghost use Rattle.std.specs.List.{list_any};
 ghost use Rattle.net_base.specs.declared.history.Entry.{Entry};
 ghost use Rattle.net_base.specs.declared.world.Script.{Script as AnyScript};
@@ -26,9 +26,9 @@ use std::hint::spin_loop;
 use std::marker::Model;
 use std::sync::Wait;
 use std::thread;
-use std::thread::{Threads, yield_now};
+use std::thread::Threads;
 use whole_script::WholeTask as Task;
-use workers::{Crew, MANY_ROUNDS};
+use workers::{Crew, Pace, Shift};
 
 /// The players of one worker. The clock's stands by itself, in one of the groups.
 #[derive(Drop)]
@@ -53,6 +53,8 @@ impl<J: Naming + Placing, T: Task> Model for Group<J, T> {
 pub struct Players<J: Naming + Placing, T: Task> {
     pub(crate) groups: Vec<Group<J, T>>,
     pub(crate) callers: usize,
+    // how the phases went so far
+    pace: Pace,
 }
 
 impl<J: Naming + Placing, T: Task> Model for Players<J, T> {
@@ -121,7 +123,11 @@ impl<J: Naming + Placing, T: Task + Drop> Players<J, T> {
         for _ in 0..workers {
             groups.push(Group::new(alloc))?;
         }
-        Ok(Players { groups, callers: 0 })
+        Ok(Players {
+            groups,
+            callers: 0,
+            pace: Pace::new(),
+        })
     }
 
     /// The player of the next caller joins its group. Without memory that caller has no player.
@@ -181,6 +187,7 @@ impl<J: Naming + Placing, T: Task + Drop> Players<J, T> {
         let Players {
             mut groups,
             callers,
+            pace: _,
         } = self;
         let mut guests = Vec::with_capacity(alloc, callers)?;
         groups.reverse();
@@ -251,6 +258,7 @@ enum Round {
 // What two turns, or more, came to.
 fn both(one: Played, other: Played) -> Played
     ensures waits { result ≡ played.Waits → (one ≡ played.Waits) × (other ≡ played.Waits) }
+    ensures short { result ≡ played.Memory → (one ≡ played.Memory) ⊎ (other ≡ played.Memory) }
 {
     match one {
         Played::Memory => Played::Memory,
@@ -262,9 +270,16 @@ fn both(one: Played, other: Played) -> Played
     }
 }
 
+// One more goes on, where its turns recorded something.
+fn count(going: &mut usize, turns: Played) {
+    if turns == Played::Recorded {
+        *going = going.saturating_add(1);
+    }
+}
+
 impl<J: Naming + Placing> Net<J, WorldActor<J>> {
-    /// Each group is played by a worker, or by the caller where there is none. Unless memory ran out, each player waits
-    /// then.
+    /// The caller plays all players, and where those of several groups go on for long, each group is played by a worker.
+    /// Unless memory ran out, each player waits then.
     pub fn play_phase<R: Threads + Wait + Sync, G: Gate + Sync, T: Task + Drop + Send>(
         &self,
         rt: &R,
@@ -279,11 +294,127 @@ impl<J: Naming + Placing> Net<J, WorldActor<J>> {
         ensures rest { list_any (λ g. g.memory) players.new.groups ≡ false
             → AreWaiting J.world (all_members players.new.groups) }
     {
-        let crew = Crew::new(players.groups.len());
-        self.play_groups(rt, alloc, gate, &crew, &mut players.groups);
+        self.play_groups(rt, alloc, gate, &mut players.pace, &mut players.groups);
     }
 
+    // Rounds over all players until one in which none recorded anything, or memory ran out.
     fn play_groups<R: Threads + Wait + Sync, G: Gate + Sync, T: Task + Drop + Send>(
+        &self,
+        rt: &R,
+        alloc: Global,
+        gate: &G,
+        pace: &mut Pace,
+        groups: &mut [Group<J, T>],
+    )
+    where
+        J: Send + Sync,
+        ensures seats { all_seats groups.new ≡ all_seats groups.old }
+        ensures rest { list_any (λ g. g.memory) groups.new ≡ false → AreWaiting J.world (all_members groups.new) }
+    {
+        pace.begin();
+        for _ in rt.forever() {
+            // All have a turn, since the moment may be another than that at which they waited.
+            let mut going = 0;
+            match self.play_all(rt, alloc, gate, Round::Whole, groups, &mut going) {
+                Played::Recorded => self.play_more(rt, alloc, gate, pace, going, groups),
+                Played::Waits | Played::Memory => return,
+            }
+        }
+    }
+
+    // Rounds over those that may go on, after one in which players of so many groups recorded something: by the caller, and
+    // then by workers where they are to be called.
+    fn play_more<R: Threads + Wait + Sync, G: Gate + Sync, T: Task + Drop + Send>(
+        &self,
+        rt: &R,
+        alloc: Global,
+        gate: &G,
+        pace: &mut Pace,
+        going: usize,
+        groups: &mut [Group<J, T>],
+    )
+    where
+        J: Send + Sync,
+        ensures seats { all_seats groups.new ≡ all_seats groups.old }
+    {
+        if pace.calls(going) || self.play_alone(rt, alloc, gate, pace, groups) {
+            self.play_beside(rt, alloc, gate, pace, groups);
+        }
+    }
+
+    // Rounds by the caller over those that may go on, until none does, memory runs out, or workers are to be called. The
+    // answer is whether they are.
+    fn play_alone<R: Wait, G: Gate, T: Task + Drop>(
+        &self,
+        rt: &R,
+        alloc: Global,
+        gate: &G,
+        pace: &mut Pace,
+        groups: &mut [Group<J, T>],
+    ) -> bool
+        ensures seats { all_seats groups.new ≡ all_seats groups.old }
+    {
+        for _ in rt.forever() {
+            let mut going = 0;
+            match self.play_all(rt, alloc, gate, Round::Brief, groups, &mut going) {
+                Played::Recorded => {
+                    if pace.calls(going) {
+                        return true;
+                    }
+                }
+                Played::Waits | Played::Memory => return false,
+            }
+        }
+        unreachable!()
+    }
+
+    // A round of all groups by the caller. So many more of them recorded something.
+    fn play_all<R: Wait, G: Gate, T: Task + Drop>(
+        &self,
+        rt: &R,
+        alloc: Global,
+        gate: &G,
+        round: Round,
+        groups: &mut [Group<J, T>],
+        going: &mut usize,
+    ) -> Played
+        ensures seats { all_seats groups.new ≡ all_seats groups.old }
+        ensures rest { round ≡ Whole → result ≡ played.Waits → AreWaiting J.world (all_members groups.new) }
+        ensures short { result ≡ played.Memory → list_any (λ g. g.memory) groups.new ≡ true }
+    {
+        match groups.split_first_mut() {
+            Some((group, others)) => {
+                let first = self.play_round(rt, alloc, gate, round, group);
+                count(going, first);
+                let rest = self.play_all(rt, alloc, gate, round, others, going);
+                both(first, rest)
+            }
+            None => Played::Waits,
+        }
+    }
+
+    // Each group is played by a worker until none can go on, or one alone goes on, where threads can be had.
+    fn play_beside<R: Threads + Wait + Sync, G: Gate + Sync, T: Task + Drop + Send>(
+        &self,
+        rt: &R,
+        alloc: Global,
+        gate: &G,
+        pace: &mut Pace,
+        groups: &mut [Group<J, T>],
+    )
+    where
+        J: Send + Sync,
+        ensures seats { all_seats groups.new ≡ all_seats groups.old }
+    {
+        if !pace.has_threads(rt, groups.len()) {
+            return;
+        }
+        let crew = Crew::new(groups.len());
+        self.play_each_beside(rt, alloc, gate, &crew, groups);
+        pace.learn(crew.has_paid(rt));
+    }
+
+    fn play_each_beside<R: Threads + Wait + Sync, G: Gate + Sync, T: Task + Drop + Send>(
         &self,
         rt: &R,
         alloc: Global,
@@ -296,14 +427,12 @@ impl<J: Naming + Placing> Net<J, WorldActor<J>> {
         ensures many { length groups.new ≡ length groups.old }
         ensures seats { (i : ℕ) (d : _) → i < length groups.old
             → seats (slice_index_or groups.new i d) ≡ seats (slice_index_or groups.old i d) }
-        ensures rest { (i : ℕ) (d : _) → i < length groups.old → (slice_index_or groups.new i d).memory ≡ false
-            → AreWaiting J.world (members (slice_index_or groups.new i d)) }
     {
         thread::for_each_mut(
             rt,
             groups,
             16,
-            &|_, group| self.play_beside(rt, alloc, gate, crew, group),
+            &|_, group| self.play_as_worker(rt, alloc, gate, crew, group),
         );
     }
 
@@ -319,43 +448,7 @@ impl<J: Naming + Placing> Net<J, WorldActor<J>> {
         ensures seats { seats group.new ≡ seats group.old }
         ensures rest { group.new.memory ≡ false → AreWaiting J.world (members group.new) }
     {
-        let crew = Crew::new(0);
-        self.play_beside(rt, alloc, gate, &crew, group);
-    }
-
-    // The same by a worker of a crew. It goes on as long as another may record something.
-    fn play_beside<R: Wait, G: Gate, T: Task + Drop>(
-        &self,
-        rt: &R,
-        alloc: Global,
-        gate: &G,
-        crew: &Crew,
-        group: &mut Group<J, T>,
-    )
-        ensures seats { seats group.new ≡ seats group.old }
-        ensures rest { group.new.memory ≡ false → AreWaiting J.world (members group.new) }
-    {
-        crew.begin(rt);
-        // All have a turn, since the moment may be another than that at which they waited.
-        self.play_round(rt, alloc, gate, Round::Whole, group);
-        self.play_out(rt, alloc, gate, crew, group);
-        crew.leave(rt);
-    }
-
-    // Rounds until one of all players in which none recorded anything while all workers rest, or memory ran out.
-    fn play_out<R: Wait, G: Gate, T: Task + Drop>(
-        &self,
-        rt: &R,
-        alloc: Global,
-        gate: &G,
-        crew: &Crew,
-        group: &mut Group<J, T>,
-    )
-        ensures seats { seats group.new ≡ seats group.old }
-        ensures rest { group.new.memory ≡ false → AreWaiting J.world (members group.new) }
-    {
         for _ in rt.forever() {
-            self.play_on(rt, alloc, gate, crew, group);
             match self.play_round(rt, alloc, gate, Round::Whole, group) {
                 Played::Recorded => {}
                 Played::Waits | Played::Memory => return,
@@ -363,8 +456,7 @@ impl<J: Naming + Placing> Net<J, WorldActor<J>> {
         }
     }
 
-    // Rounds over those that may go on, with rests between, until all workers rest or memory runs out.
-    fn play_on<R: Wait, G: Gate, T: Task + Drop>(
+    fn play_as_worker<R: Wait, G: Gate, T: Task + Drop>(
         &self,
         rt: &R,
         alloc: Global,
@@ -374,23 +466,44 @@ impl<J: Naming + Placing> Net<J, WorldActor<J>> {
     )
         ensures seats { seats group.new ≡ seats group.old }
     {
-        let mut rounds: u32 = 1;
+        let mut shift = crew.begin(rt);
+        self.play_on(rt, alloc, gate, crew, &mut shift, group);
+        crew.leave(rt, shift);
+    }
+
+    // Rounds by a worker of a crew over those that may go on, with rests between, until it leaves.
+    fn play_on<R: Wait, G: Gate, T: Task + Drop>(
+        &self,
+        rt: &R,
+        alloc: Global,
+        gate: &G,
+        crew: &Crew,
+        shift: &mut Shift,
+        group: &mut Group<J, T>,
+    )
+        ensures seats { seats group.new ≡ seats group.old }
+    {
         for _ in rt.forever() {
-            match self.play_round(rt, alloc, gate, Round::Brief, group) {
-                Played::Recorded => rounds = crew.tell(rt, rounds.saturating_add(1), MANY_ROUNDS),
-                Played::Waits => {
-                    rounds = crew.tell(rt, rounds, 1);
-                    if !self.rest(rt, crew, group) {
-                        return;
-                    }
-                }
-                Played::Memory => return,
+            let goes_on = match self.play_round(rt, alloc, gate, Round::Brief, group) {
+                Played::Recorded => crew.record(rt, shift),
+                Played::Waits => self.rest(rt, crew, shift, group),
+                Played::Memory => false,
+            };
+            if !goes_on {
+                return;
             }
         }
     }
 
-    // Waits until a player may go on, or all workers rest. The answer is whether one may.
-    fn rest<R: Wait, T: Task + Drop>(&self, rt: &R, crew: &Crew, group: &Group<J, T>) -> bool {
+    // Waits until a player may go on, or the worker is to leave. The answer is whether one may.
+    fn rest<R: Wait, T: Task + Drop>(
+        &self,
+        rt: &R,
+        crew: &Crew,
+        shift: &mut Shift,
+        group: &Group<J, T>,
+    ) -> bool {
+        crew.tell(rt, shift);
         for _ in rt.forever() {
             let (changes, looks) = crew.look(rt);
             if self.goes_on_soon(group, looks) {

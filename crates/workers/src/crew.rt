@@ -1,40 +1,58 @@
-//! What the workers of a phase know of one another: whether anybody may still record something.
+//! What the workers of a crew know of one another: whether anybody may still record something.
 
-use std::sync::atomic::{AtomicUsize, Ordering};
 use std::sync::{Condvar, Mutex, Wait};
 use std::thread::yield_now;
 
 /// How often a worker looks at what it waits for before its thread sleeps.
 const MOST_LOOKS: u32 = 1000;
 
-/// How often a worker gives way to others that haven't begun.
+/// How often the workers of a crew give way to those that haven't begun.
 const MOST_YIELDS: u32 = 200;
 
 /// After how many rounds a worker that needn't rest has those that rest look again.
-pub const MANY_ROUNDS: u32 = 64;
+pub(crate) const MANY_ROUNDS: u32 = 64;
 
-/// A worker rests while none of its players can go on, until all workers rest.
+/// A worker rests while none of its players can go on, until all workers rest or one of them alone has gone on for long.
 #[derive(Drop)]
 pub struct Crew {
     workers: usize,
-    begun: AtomicUsize,
     rests: Mutex<Rests>,
     changed: Condvar,
 }
 
-/// The workers that are in the phase, how many of them rest, and how often one told that it had recorded something.
+/// How many workers have begun, are still there and rest, how often one told that it had recorded something, how many had
+/// many rounds, and whether all are to leave.
 #[derive(Clone, Copy, Debug, PartialEq, Eq)]
 struct Rests {
+    begun: usize,
     present: usize,
     resting: usize,
     changes: u64,
+    yields: u32,
+    busy: usize,
+    over: bool,
 }
 
 impl Rests {
     // Whether who rests since so many changes is to rest on.
     fn lasts(self, changes: u64) -> bool {
-        self.changes == changes && self.resting < self.present
+        !self.over && self.changes == changes && self.resting < self.present
     }
+
+    // Those that rest are to look again.
+    fn change(&mut self) {
+        self.changes = self.changes.wrapping_add(1);
+        self.resting = 0;
+    }
+}
+
+/// What a worker has done: its rounds that recorded something, in all and since it last told of one, and how many changes
+/// there were then.
+#[derive(Clone, Copy, Debug, PartialEq, Eq)]
+pub struct Shift {
+    all: u32,
+    untold: u32,
+    changes: u64,
 }
 
 impl Crew {
@@ -42,29 +60,61 @@ impl Crew {
     pub fn new(workers: usize) -> Crew {
         Crew {
             workers,
-            begun: AtomicUsize::new(0),
             rests: Mutex::new(Rests {
+                begun: 0,
                 present: 0,
                 resting: 0,
                 changes: 0,
+                yields: 0,
+                busy: 0,
+                over: false,
             }),
             changed: Condvar::new(),
         }
     }
 
-    /// A worker begins, and gives the others some time to begin.
-    pub fn begin<R: Wait>(&self, rt: &R) {
-        {
-            let mut rests = self.rests.lock(rt);
-            rests.present = rests.present.saturating_add(1);
+    /// A worker begins.
+    pub fn begin<R: Wait>(&self, rt: &R) -> Shift {
+        let mut rests = self.rests.lock(rt);
+        rests.begun = rests.begun.saturating_add(1);
+        rests.present = rests.present.saturating_add(1);
+        Shift {
+            all: 0,
+            untold: 0,
+            changes: rests.changes,
         }
-        self.begun.fetch_add(1, Ordering::SeqCst);
-        for _ in 0..MOST_YIELDS {
-            if self.begun.load(Ordering::SeqCst) >= self.workers {
-                return;
-            }
-            yield_now();
+    }
+
+    /// A round recorded something. The others are told where many did. The answer is whether the worker goes on: it
+    /// doesn't where all others have rested meanwhile.
+    pub fn record<R: Wait>(&self, rt: &R, shift: &mut Shift) -> bool {
+        shift.all = shift.all.saturating_add(1);
+        shift.untold = shift.untold.saturating_add(1);
+        if shift.untold < MANY_ROUNDS {
+            return true;
         }
+        let mut rests = self.rests.lock(rt);
+        let others_rest = rests.resting.saturating_add(1) == rests.present;
+        if others_rest && rests.begun >= self.workers && rests.changes == shift.changes {
+            rests.over = true;
+        }
+        rests.change();
+        shift.untold = 0;
+        shift.changes = rests.changes;
+        self.changed.notify_all();
+        !rests.over
+    }
+
+    /// None of the worker's players can go on. The others are told of what it recorded.
+    pub fn tell<R: Wait>(&self, rt: &R, shift: &mut Shift) {
+        if shift.untold == 0 {
+            return;
+        }
+        let mut rests = self.rests.lock(rt);
+        rests.change();
+        shift.untold = 0;
+        shift.changes = rests.changes;
+        self.changed.notify_all();
     }
 
     /// How many changes there were, and how often a worker that isn't resting then looks before it rests: once where all
@@ -75,25 +125,15 @@ impl Crew {
         (rests.changes, if others { MOST_LOOKS } else { 1 })
     }
 
-    /// Has the others look again, where a worker had so many rounds or more that recorded something. How many the others
-    /// weren't told of then.
-    pub fn tell<R: Wait>(&self, rt: &R, rounds: u32, many: u32) -> u32 {
-        if rounds < many {
-            return rounds;
+    /// The worker rests, where there were so many changes before it saw that none of its players can go on, until there
+    /// are more, all workers rest, or all are to leave. The answer is whether it leaves.
+    pub fn rest<R: Wait>(&self, rt: &R, changes: u64) -> bool {
+        if self.gives_way(rt) {
+            return false;
         }
         let mut rests = self.rests.lock(rt);
-        rests.changes = rests.changes.wrapping_add(1);
-        rests.resting = 0;
-        self.changed.notify_all();
-        0
-    }
-
-    /// The worker rests, where there were so many changes before it saw that none of its players can go on, until there
-    /// are more, or all workers rest. The answer is whether all rest.
-    pub fn rest<R: Wait>(&self, rt: &R, changes: u64) -> bool {
-        let mut rests = self.rests.lock(rt);
-        if rests.changes != changes {
-            return false;
+        if rests.over || rests.changes != changes {
+            return rests.over;
         }
         rests.resting = rests.resting.saturating_add(1);
         if !rests.lasts(changes) {
@@ -103,14 +143,35 @@ impl Crew {
         let rests = self
             .changed
             .wait_while(rt, rests, |rests| rests.lasts(changes));
-        rests.changes == changes
+        rests.over || rests.changes == changes
     }
 
-    /// The worker leaves the phase.
-    pub fn leave<R: Wait>(&self, rt: &R) {
+    // Gives way where a worker hasn't begun, a few times: where a thread can't be had, nobody waits for it.
+    fn gives_way<R: Wait>(&self, rt: &R) -> bool {
+        let gives = {
+            let mut rests = self.rests.lock(rt);
+            rests.yields = rests.yields.saturating_add(1);
+            rests.begun < self.workers && rests.yields <= MOST_YIELDS
+        };
+        if gives {
+            yield_now();
+        }
+        gives
+    }
+
+    /// The worker leaves the crew.
+    pub fn leave<R: Wait>(&self, rt: &R, shift: Shift) {
         let mut rests = self.rests.lock(rt);
         rests.present = rests.present.saturating_sub(1);
         rests.resting = rests.resting.min(rests.present);
+        if shift.all >= MANY_ROUNDS {
+            rests.busy = rests.busy.saturating_add(1);
+        }
         self.changed.notify_all();
+    }
+
+    /// Whether several workers had many rounds that recorded something.
+    pub fn has_paid<R: Wait>(&self, rt: &R) -> bool {
+        self.rests.lock(rt).busy > 1
     }
 }

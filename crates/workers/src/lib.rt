@@ -4,8 +4,10 @@
 
 mod crew;
 mod marks;
+mod pace;
 #[cfg(test)]
 mod tests;
 
-pub use crew::{Crew, MANY_ROUNDS};
+pub use crew::{Crew, Shift};
 pub use marks::{Marks, Spot};
+pub use pace::Pace;
