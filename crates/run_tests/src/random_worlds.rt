@@ -149,12 +149,11 @@ fn are_legal<R: Threads + Wait + Sync>(
     Ok(two && four && many)
 }
 
-/// Whether the history on one worker keeps all rules, and where it is asked that on more; with what it tells.
+/// Whether the histories on one worker and on more keep all rules, with what that on one tells.
 fn are_legal_of<R: Threads + Wait + Sync>(
     rt: &R,
     alloc: Global,
     text: &str,
-    more: bool,
     before: u64,
 ) -> Result<(bool, u64), AllocError> {
     let Ok(world) = read_world(alloc, text.as_bytes()) else {
@@ -165,7 +164,7 @@ fn are_legal_of<R: Threads + Wait + Sync>(
     };
     let told = told_of(before, text_of(alloc, &run.history)?.as_slice());
     let alone = check(alloc, &world, &run.history).is_ok();
-    let others = !more || are_legal(rt, alloc, &world)?;
+    let others = are_legal(rt, alloc, &world)?;
     Ok((alone && others, told))
 }
 
@@ -174,12 +173,11 @@ fn are_legal_next<R: Threads + Wait + Sync>(
     rt: &R,
     alloc: Global,
     words: &mut Lcg64Xsh32,
-    more: bool,
     before: u64,
 ) -> Result<(bool, u64), AllocError> {
     let mut text = String::new(alloc);
     put_world(words, &mut text)?;
-    are_legal_of(rt, alloc, &text, more, before)
+    are_legal_of(rt, alloc, &text, before)
 }
 
 /// What the histories of all worlds on one worker told, made once: their order is fixed.
@@ -190,7 +188,7 @@ fn histories_of_random_worlds_are_legal(rt: HostRuntime) -> Result<(), Fail> {
     let mut words = Lcg64Xsh32::new(30, 1);
     let mut told = 0;
     for i in 0..300_u32 {
-        let (legal, next) = are_legal_next(&rt, rt.alloc(), &mut words, i % 10 == 0, told)?;
+        let (legal, next) = are_legal_next(&rt, rt.alloc(), &mut words, told)?;
         assert!(rt; legal, "world {i}");
         told = next;
     }
