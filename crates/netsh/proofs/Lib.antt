@@ -1,4 +1,3 @@
-pub mod Answered
 pub mod Appended
 pub mod Checks
 pub mod CsAnswers
