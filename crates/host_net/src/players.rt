@@ -96,10 +96,7 @@ impl<J: Naming + Placing, T: Task + Drop> Group<J, T> {
 }
 
 // The player of this caller, who is one of these.
-fn player_of<J: Naming + Placing, T: Task>(
-    players: &[Player<J, T>],
-    caller: usize,
-) -> &Player<J, T>
+fn player_of<J: Naming + Placing, T: Task>(players: &[Player<J, T>], caller: usize) -> &Player<J, T>
     requires { In caller (callers_of players.now) }
     ensures there { In result.now players.now }
     ensures caller { result.now.visit.caller ≡ caller }
