@@ -1,5 +1,5 @@
 -- How the parts of a call make its end.
-use Rattle.std.proofs.Common.{◌≡◌, ◌≢◌, ◌&&◌, ℕ, ◌+◌, ◌<◌, ◌≤◌, Bool, true, false, nat_lt, List, ◌++◌, length, Option, Some, None, Result, Err, refl, sym, ◌∙◌, ap, subst, inr, arith}
+use Rattle.std.proofs.Common.{◌≡◌, ◌≢◌, ℕ, ◌+◌, ◌<◌, ◌≤◌, Bool, true, false, nat_lt, List, ◌++◌, length, Option, Some, None, Result, Err, refl, sym, ◌∙◌, subst, inr, arith}
 use Rattle.std.proofs.lemmas.Bool.{true≢false}
 use Rattle.std.proofs.lemmas.Bool.Decides.{nat_tests}
 use Rattle.std.proofs.lemmas.List.{length-append}
@@ -11,13 +11,10 @@ use Rattle.outside.specs.declared.fault.TakeError.{TakeError}
 use Rattle.outside.specs.declared.fault.TakeError.TheVariants as error
 use Rattle.net_model.specs.Answers.{Answer, bad_input, read_fault, input_limit}
 use Rattle.net_model.specs.Words.{Command, may_wait, reads, words_wait}
-use Rattle.net_base.specs.declared.world.World.{World}
-use Rattle.made_world.specs.Made.{made_world}
-use Rattle.world_writer.specs.Written.{file_text}
 use Rattle.netsh.specs.declared.command.Question.{Question}
 use Rattle.netsh.specs.declared.command.Question.TheVariants as question
 use Rattle.netsh.specs.declared.top.Asked.TheVariants as asks
-use Rattle.netsh.specs.Built.{is_over, made, IsAnswer, IsBadLine, IsBadOf, IsFirstBad, IsGiven}
+use Rattle.commands.specs.Built.{is_over, IsAnswer, IsBadOf, IsFirstBad}
 use Rattle.netsh.specs.Commands.{question_read}
 use Rattle.netsh.specs.Ends.{Intake, Output, Told, Took, TookSome, IsInput, IsRead, IsUnread, IsAnswered, Answers, Ends, answered, unread}
 
@@ -39,25 +36,6 @@ answer_too_long asked input is = record {
   first = told_by asked input true is (Some (0, 9)) refl;
   only = λ other told. told_of asked input true is other told;
   given = refl;
-}
-
--- an input within the limit is judged by its lines
-pub within_limit : (asked : Command) (input : List ℕ) → length input ≤ input_limit asked → is_over asked input ≡ false
-within_limit asked input fits = by (reads asked) (nat_lt (input_limit asked) (length input)) (grind (arith, nat_tests))
-  where
-    by : (has over : Bool) → over ≡ false → (has && over) ≡ false
-    by true over none = none
-    by false over none = refl
-
--- an answer by the bad line that an input within the limit has, or has not
-pub answer_within :
-    (asked : Command) (input : List ℕ) (answer : Answer) (found : Option (ℕ × ℕ)) → is_over asked input ≡ false → IsBadLine asked input found →
-    ((other : Option (ℕ × ℕ)) → IsBadLine asked input other → other ≡ found) → IsGiven found asked input answer → IsAnswer asked input answer
-answer_within asked input answer found fits told one given = record {
-  found = found;
-  first = told_by asked input false fits found told;
-  only = λ other is. one other (told_of asked input false fits other is);
-  given = given;
 }
 
 -- what a command with an input took
@@ -120,11 +98,6 @@ answered_failed asked intake limit fault result limit_is is has taken failed sam
     subst (λ (r : Result Answer TakeError). IsAnswered asked intake r) (sym is)
     (reading_failed asked intake fault has (subst (λ (n : ℕ). ConsumedToEnd intake.left intake.rest n (failing fault)) limit_is taken) failed same)
 
--- the text of a made world
-pub made_answer : (messages : ℕ) (w : World) (text : List ℕ) (answer : Answer) → w ≡ made_world messages → text ≡ file_text w → answer ≡ record { status = 0; text = text } → answer ≡ made messages
-unfolding made
-made_answer messages w text answer is_made is_text is = is ∙ ap (λ (t : List ℕ). record { status = 0; text = t }) (is_text ∙ ap file_text is_made)
-
 -- the text of an input over the limit
 pub too_long_text : codes "! line 0 cause 9\n" ≡ (bad_input 0 9).text
 unfolding digits
@@ -174,3 +147,11 @@ pub words_answered :
 words_answered question command status result intake output is same ends =
     let kept : Ends (Some (question_read question)) status intake output = subst (λ (s : ℕ). Ends (Some (question_read question)) s intake output) (same_status result status same) ends in
     (subst (λ (k : Option Command). Ends k status intake output) is kept, subst (λ (k : Option Command). words_wait k ≡ false) is (never_waits question))
+
+-- by the command that never waits
+pub by_question : (q r : Question) → q ≡ r → (input : List ℕ) (answer : Answer)
+    → (length input ≤ input_limit (question_read r) → IsAnswer (question_read r) input answer)
+    → length input ≤ input_limit (question_read q) → IsAnswer (question_read q) input answer
+by_question q r is input answer given fits =
+    subst (λ (k : Question). IsAnswer (question_read k) input answer) (sym is)
+    (given (subst (λ (k : Question). length input ≤ input_limit (question_read k)) is fits))

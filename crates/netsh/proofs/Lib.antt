@@ -1,11 +1,4 @@
-pub mod Appended
 pub mod Checks
-pub mod CsAnswers
 pub mod Endings
-pub mod Given
-pub mod Halves
-pub mod Judging
-pub mod Statuses
-pub mod OneHistory
-pub mod RunEnds
 pub mod RunWords
+pub mod Statuses

@@ -10,8 +10,8 @@ use Rattle.net_base.specs.Cs.{CsAnswer, Lines, Refused}
 use Rattle.net_base.specs.Legal.{IsLegal, IsTimed}
 use Rattle.net_base.specs.Net.{Net, after}
 use Rattle.net_model.specs.Words.{Command, Cs, Query, Run, Make, Big, Check, may_wait, reads, words_read, words_wait}
-use Rattle.netsh.specs.Built.{made, IsStatus, IsWorldOf, IsFound, IsFirstBad, IsGiven, IsAnswer}
-use Rattle.netsh.specs.Checked.{BreaksOne, Handed, IsChecked, KeepsAll}
+use Rattle.commands.specs.Built.{made, IsStatus, IsWorldOf, IsFound, IsFirstBad, IsGiven, IsAnswer}
+use Rattle.commands.specs.Checked.{BreaksOne, Handed, IsChecked, KeepsAll}
 use Rattle.netsh.specs.Ends.{Intake, Output, Told, Took, TookAll, TookSome, IsUnwritten, IsInput, IsRead, IsUnread, Answers, IsStatusOf, IsBad, IsHanded, HasChecked, HasGood, HasRun, Ends, EndsIll, EndsWell, no_row, answered, unread, no_memory, Causes}
 use Rattle.std.proofs.lemmas.Bool.{false≢true}
 use Rattle.netsh.proofs.Checks.{broken_so, checked_0, checked_5, handed_in, judges, kept_so}

@@ -11,8 +11,8 @@ use Rattle.net_model.specs.Words.{Command, Cs, Query, Run, Make, Big, Check, rea
 use Rattle.outside.specs.Streams.{Rose, AppendsPart}
 use Rattle.outside.specs.declared.fault.TakeError.{TakeError}
 use Rattle.outside.specs.declared.fault.TakeError.TheVariants as error
-use Rattle.netsh.specs.Built.{IsFirstBad, IsAnswer, IsWorldOf}
-use Rattle.netsh.specs.Checked.{BreaksOne, Handed, KeepsAll}
+use Rattle.commands.specs.Built.{IsFirstBad, IsAnswer, IsWorldOf}
+use Rattle.commands.specs.Checked.{BreaksOne, Handed, KeepsAll}
 
 -- what a source had left and has left, where it tells that, and its count of faults before and after
 pub record Intake : Type 0 where

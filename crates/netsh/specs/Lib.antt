@@ -1,5 +1,2 @@
-pub mod Built
-pub mod Checked
 pub mod Commands
 pub mod Ends
-pub mod Runs

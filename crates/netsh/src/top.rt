@@ -3,17 +3,14 @@ ghost use Rattle.std.specs.Prelude.{◌≡◌, ◌≢◌, ◌<◌, ◌≤◌, �
 ghost use Rattle.net_model.specs.Words.{Big as AnyBig, Command as AnyCommand, Run as AnyRun, command_of, reads, words_wait};
 ghost use Rattle.netsh.specs.Ends.{Causes, Ends, EndsWell, HasGood, Intake, IsAnswered, IsUnread, Told, most_reads};
 ghost use Rattle.net_model.specs.Answers.{input_limit};
-ghost use Rattle.netsh.specs.Built.{IsAnswer};
+ghost use Rattle.commands.specs.Built.{IsAnswer};
 ghost use Rattle.netsh.specs.Commands.{question_read};
 
-use crate::answer::{Answer, READ_FAULT, TOO_LONG, USAGE};
-use crate::big::big;
-use crate::check::check;
 use crate::command::{Command, Question, has_input, read_words};
-use crate::cs::cs;
-use crate::make::make;
-use crate::query::{query_beside, query_tuples};
-use crate::run::run_over;
+use commands::{
+    Answer, READ_FAULT, TOO_LONG, USAGE, big, check, cs, make, query_beside, query_tuples,
+    run_over, values_are_answers,
+};
 use outside::{
     Failed, Gate, Sink, Source, SureSink, SureSource, TakeError, read_to_end, write_all,
 };
@@ -66,6 +63,7 @@ fn answer_over(alloc: Global, question: Question<'_>, input: &[u8]) -> Result<An
     requires { length input.now ≤ input_limit (question_read question) }
     ensures { IfOk result (λ answer. IsAnswer (question_read question.entry) input.now answer) }
 {
+    values_are_answers();
     match question {
         Question::Cs(sys, query) => cs(alloc, sys, query, input),
         Question::Tuples(attr, value) => query_tuples(alloc, attr, value, input),

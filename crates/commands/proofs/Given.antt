@@ -1,0 +1,50 @@
+-- What each command gives is an answer to its input.
+use Rattle.std.proofs.Common.{◌≡◌, ℕ, ◌≤◌, List, length, Option, Some, None, Result, Ok, Err, IfOk, refl, sym, ◌∙◌, ap, subst}
+use Rattle.net_base.specs.declared.world.World.{World}
+use Rattle.net_base.specs.NdbBundle as bundle
+use Rattle.net_model.specs.Answers.{Answer, bad_input, input_limit}
+use Rattle.net_model.specs.Words.{Command, Cs, Query, Run, Make, Big}
+use Rattle.world_text.specs.WorldText.{world_reading}
+use Rattle.commands.specs.Built.{cs_found, cs_over, made, query_found, query_over, unless_bad, IsAnswer, IsFound, IsGiven, IsRun, IsSummed, IsWorldOf}
+use Rattle.commands.specs.Checked.{bad_world}
+use Rattle.commands.proofs.Within.{answer_within, within_limit}
+
+-- what was found, unless a line is bad
+given_unless : (asked : Command) (input : List ℕ) (answer found : Answer) (bad : Option (ℕ × ℕ)) → (answer ≡ found → IsFound asked input answer)
+    → answer ≡ unless_bad bad found → IsGiven bad asked input answer
+given_unless asked input answer found None so is = so is
+given_unless asked input answer found (Some bad) so is = is
+
+pub gives_cs : (sys query input : List ℕ) (answer : Answer) → length input ≤ input_limit (Cs sys query) → answer ≡ cs_over sys query input
+    → IsAnswer (Cs sys query) input answer
+gives_cs sys query input answer fits is =
+    answer_within (Cs sys query) input answer (bundle.bad_line input) (within_limit (Cs sys query) input fits) refl (λ other told. told)
+    (given_unless (Cs sys query) input answer (cs_found sys query input) (bundle.bad_line input) (λ found. found) is)
+
+pub gives_query : (attr value : List ℕ) (other : Option (List ℕ)) (input : List ℕ) (answer : Answer) → length input ≤ input_limit (Query attr value other)
+    → answer ≡ query_over attr value other input → IsAnswer (Query attr value other) input answer
+gives_query attr value other input answer fits is =
+    answer_within (Query attr value other) input answer (bundle.bad_line input) (within_limit (Query attr value other) input fits) refl (λ found told. told)
+    (given_unless (Query attr value other) input answer (query_found attr value other input) (bundle.bad_line input) (λ found. found) is)
+
+pub gives_made : (messages : ℕ) (input : List ℕ) (answer : Answer) → answer ≡ made messages → IsAnswer (Make messages) input answer
+gives_made messages input answer is = answer_within (Make messages) input answer None refl refl (λ other told. told) is
+
+pub gives_summed : (messages : ℕ) (input : List ℕ) (w : World) (answer : Answer) → IsWorldOf (Big messages) input w → IsSummed w answer
+    → IsAnswer (Big messages) input answer
+gives_summed messages input w answer is summed =
+    answer_within (Big messages) input answer None refl refl (λ other told. told) (w, is, summed)
+
+-- a run's world is that of its input
+pub gives_run : (workers : ℕ) (input : List ℕ) (w : World) (answer : Answer) → length input ≤ input_limit (Run workers) → world_reading input ≡ Ok w
+    → IsRun w answer → IsAnswer (Run workers) input answer
+gives_run workers input w answer fits is ran =
+    let good : bad_world (world_reading input) ≡ None = ap bad_world is in
+    answer_within (Run workers) input answer None (within_limit (Run workers) input fits) (sym good) (λ other told. told ∙ good) (w, is, ran)
+
+-- or the input has a bad line
+pub gives_bad_run : (workers : ℕ) (input : List ℕ) (line cause : ℕ) (answer : Answer) → length input ≤ input_limit (Run workers)
+    → world_reading input ≡ Err (line, cause) → answer ≡ bad_input line cause → IsAnswer (Run workers) input answer
+gives_bad_run workers input line cause answer fits is bad =
+    let found : bad_world (world_reading input) ≡ Some (line, cause) = ap bad_world is in
+    answer_within (Run workers) input answer (Some (line, cause)) (within_limit (Run workers) input fits) (sym found) (λ other told. told ∙ found) bad

@@ -1,0 +1,9 @@
+pub mod Appended
+pub mod CsAnswers
+pub mod Given
+pub mod Halves
+pub mod Judging
+pub mod MadeText
+pub mod OneHistory
+pub mod RunEnds
+pub mod Within

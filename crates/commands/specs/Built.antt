@@ -1,0 +1,165 @@
+-- The answers in the forms that are built.
+--     IsFirstBad    the first bad line of an input, for a command
+--     IsRun         what a run over a world prints, and its status
+--     IsSummed      the summary of such a run alone
+--     IsWorldOf     the world that a command runs
+--     IsAnswer      an answer to a command and its input
+use Rattle.std.specs.Prelude.{◌≡◌, ◌↔◌, ◌⊎◌, ◌&&◌, ℕ, Bool, true, false, List, [], ◌∷◌, ◌++◌, length, map, flat_map, nat_lt, Option, Some, None, Ok, ◌≤◌}
+use Rattle.net_base.specs.declared.address.Proto.TheVariants.{Il, Udp}
+use Rattle.net_base.specs.declared.history.Entry.{Entry}
+use Rattle.net_base.specs.declared.world.World.{World}
+use Rattle.net_base.specs.Calm as calm
+use Rattle.net_base.specs.Legal.{IsLegal, IsTimed}
+use Rattle.net_base.specs.NdbText.{lines_of}
+use Rattle.net_base.specs.NdbBundle as bundle
+use Rattle.net_base.specs.declared.ndb.NdbPair.{NdbPair}
+use Rattle.net_base.specs.Search.{tuples_with, all_beside}
+use Rattle.ndb_reader.specs.Written.{line_text}
+use Rattle.net_base.specs.Cs.{cs_list}
+use Rattle.net_base.specs.Net.{Net, after}
+use Rattle.net_base.specs.Plain.{IsPlain}
+use Rattle.net_base.specs.Summary.{summary}
+use Rattle.net_base.specs.Transcript.{history_text}
+use Rattle.net_model.specs.Headline.{Headline}
+use Rattle.made_world.specs.Made.{made_world}
+use Rattle.world_text.specs.WorldText.{world_reading}
+use Rattle.world_writer.specs.Written.{file_text}
+use Rattle.net_model.specs.Answers.{Answer, bad_input, lines_answer, cs_answer, input_limit}
+use Rattle.net_model.specs.Words.{Command, Cs, Query, Run, Make, Big, Check, reads}
+use Rattle.commands.specs.Checked.{Handed, IsBadHanded, IsChecked, Parts, bad_world, parts_of}
+
+-- Bad lines.
+
+-- whether a command has an input that is over its limit
+abbrev pub is_over : Command → List ℕ → Bool
+is_over asked input = reads asked && nat_lt (input_limit asked) (length input)
+
+-- the first bad line of an input within the limit, and its least cause, if a line is bad
+abbrev pub IsBadLine : Command → List ℕ → Option (ℕ × ℕ) → Type 0
+IsBadLine (Cs sys query) input found = found ≡ bundle.bad_line input
+IsBadLine (Query attr value other) input found = found ≡ bundle.bad_line input
+IsBadLine (Run workers) input found = found ≡ bad_world (world_reading input)
+IsBadLine (Make messages) input found = found ≡ None
+IsBadLine (Big messages) input found = found ≡ None
+IsBadLine Check input found = IsBadHanded (parts_of input) input found
+
+-- the same of any input: one over the limit has cause 9 at line 0
+abbrev pub IsBadOf : Bool → Command → List ℕ → Option (ℕ × ℕ) → Type 0
+IsBadOf true asked input found = found ≡ Some (0, 9)
+IsBadOf false asked input found = IsBadLine asked input found
+
+abbrev pub IsFirstBad : Command → List ℕ → Option (ℕ × ℕ) → Type 0
+IsFirstBad asked input found = IsBadOf (is_over asked input) asked input found
+
+-- an answer to an input without a bad line, or the first bad line and its least cause
+abbrev pub unless_bad : Option (ℕ × ℕ) → Answer → Answer
+unless_bad None answer = answer
+unless_bad (Some bad) answer = bad_input bad.0 bad.1
+
+-- Answers of cs.
+
+-- what a host is answered to a query over the database that an input without a bad line is
+abbrev pub cs_found : List ℕ → List ℕ → List ℕ → Answer
+cs_found sys query input = cs_answer (cs_list (bundle.database (lines_of input)) sys (Il ∷ Udp ∷ []) query)
+
+-- the same over any input within the limit
+abbrev pub cs_over : List ℕ → List ℕ → List ℕ → Answer
+cs_over sys query input = unless_bad (bundle.bad_line input) (cs_found sys query input)
+
+-- Answers of query.
+
+-- the pairs of a tuple in order, as one line
+abbrev pub tuple_text : List (List NdbPair) → List ℕ
+tuple_text tuple = line_text (flat_map (λ line. line) tuple)
+
+-- the lines of a query: the tuples with the pair, each with its pairs in order, or the values beside the pair in all of them
+abbrev pub query_lines : List ℕ → List ℕ → Option (List ℕ) → List (List (List NdbPair)) → List (List ℕ)
+query_lines attr value None db = map tuple_text (tuples_with attr value db)
+query_lines attr value (Some other) db = all_beside attr value other db
+
+-- what is found in the database that an input without a bad line is
+abbrev pub query_found : List ℕ → List ℕ → Option (List ℕ) → List ℕ → Answer
+query_found attr value other input = lines_answer (query_lines attr value other (bundle.database (lines_of input)))
+
+-- the same over any input within the limit
+abbrev pub query_over : List ℕ → List ℕ → Option (List ℕ) → List ℕ → Answer
+query_over attr value other input = unless_bad (bundle.bad_line input) (query_found attr value other input)
+
+-- Answers of run.
+
+-- the status by how the net stands at the end: every step is answered, the end moment came, or a caller has no room
+pub record IsStatus (w : World) (net : Net) (status : ℕ) : Type 0 where
+  pub done : (status ≡ 0) ↔ (calm.done w net ≡ true)
+  pub stopped : (status ≡ 3) ↔ (calm.stopped w net ≡ true)
+  pub limited : (status ≡ 4) ↔ (calm.limited w net ≡ true)
+  pub ended : (status ≡ 0) ⊎ (status ≡ 3) ⊎ (status ≡ 4)
+
+-- the text of one legal and timed history of the world with its summary, and the status by how it ends; the history has what
+-- each legal one keeps
+pub record IsRun (w : World) (answer : Answer) : Type 0 where
+  pub history : List Entry
+  pub legal : IsLegal w history
+  pub timed : IsTimed w history
+  pub headline : Headline w history
+  pub text : answer.text ≡ history_text history ++ summary w history
+  -- and of no other plain history
+  pub one : (v : World) (k : List Entry) → IsPlain k → answer.text ≡ history_text k ++ summary v k → k ≡ history
+  pub status : IsStatus w (after w history) answer.status
+
+-- Answers of big.
+
+-- the summary of one legal and timed history of the world, and the status by how it ends; the history has what each legal
+-- one keeps, and isn't written itself
+pub record IsSummed (w : World) (answer : Answer) : Type 0 where
+  pub history : List Entry
+  pub legal : IsLegal w history
+  pub timed : IsTimed w history
+  pub headline : Headline w history
+  pub text : answer.text ≡ summary w history
+  pub status : IsStatus w (after w history) answer.status
+
+-- the world that a command runs: the one that its input is, or the made one
+abbrev pub IsWorldOf : Command → List ℕ → World → Type 0
+IsWorldOf (Run workers) input w = world_reading input ≡ Ok w
+IsWorldOf (Big messages) input w = w ≡ made_world messages
+IsWorldOf _ input w = ⊥
+
+-- Answers of make.
+
+-- the text of the made world
+unfoldable pub made : ℕ → Answer
+made messages = record { status = 0; text = file_text (made_world messages) }
+
+-- Answers of check.
+
+-- the judgement of the history that the input hands in
+abbrev pub IsJudged : List ℕ → Answer → Type 0
+IsJudged input answer = (handed : Handed input) → IsChecked handed.world handed.history handed.told answer
+
+-- Answers.
+
+-- an answer to an input without a bad line
+abbrev pub IsFound : Command → List ℕ → Answer → Type 0
+IsFound (Cs sys query) input answer = answer ≡ cs_found sys query input
+IsFound (Query attr value other) input answer = answer ≡ query_found attr value other input
+IsFound (Run workers) input answer = (w : World) × IsWorldOf (Run workers) input w × IsRun w answer
+IsFound (Make messages) input answer = answer ≡ made messages
+IsFound (Big messages) input answer = (w : World) × IsWorldOf (Big messages) input w × IsSummed w answer
+IsFound Check input answer = IsJudged input answer
+
+-- an answer to an input with this first bad line, if any
+abbrev pub IsGiven : Option (ℕ × ℕ) → Command → List ℕ → Answer → Type 0
+IsGiven None asked input answer = IsFound asked input answer
+IsGiven (Some bad) asked input answer = answer ≡ bad_input bad.0 bad.1
+
+-- an answer to a command and its input
+pub record IsAnswer (asked : Command) (input : List ℕ) (answer : Answer) : Type 0 where
+  pub found : Option (ℕ × ℕ)
+  pub first : IsFirstBad asked input found
+  -- and no other line is the first bad one
+  pub only : (other : Option (ℕ × ℕ)) → IsFirstBad asked input other → other ≡ found
+  pub given : IsGiven found asked input answer
+
+-- an answer of check to each input with these parts
+abbrev pub IsAnswerTo : Parts → Answer → Type 0
+IsAnswerTo parts answer = (input : List ℕ) → length input ≤ input_limit Check → parts_of input ≡ Some parts → IsAnswer Check input answer

@@ -1,0 +1,265 @@
+//! The answers: a status, and the text that is written, made whole.
+ghost use Rattle.std.specs.Prelude.{◌≡◌, ◌≢◌, flat_map, true, IfOk, OnOk};
+ghost use Rattle.net_model.specs.Answers as spec;
+ghost use Rattle.net_base.specs.Cs.{Lines as ListOf, Refused};
+ghost use Rattle.cs_resolver.specs.Errors.{number_of};
+ghost use Rattle.net_base.specs.Legal.{IsLegal, IsTimed};
+ghost use Rattle.net_base.specs.Net.{after};
+ghost use Rattle.net_base.specs.Summary.{answered_steps, summary};
+ghost use Rattle.net_base.specs.Transcript.{history_text};
+ghost use Rattle.net_base.specs.World.{IsWorld};
+ghost use Rattle.commands.specs.Built.{IsRun, IsSummed};
+ghost use Rattle.commands.specs.Runs.{end_of, status_of};
+ghost use Rattle.agenda.specs.Ending.{EndsSo};
+
+use agenda::{Run, RunEnd};
+use cs_resolver::CsError;
+use net_base::{History, Lines, Octets, World};
+use net_model::{legal_histories_are_plain, legal_histories_keep_it};
+use std::alloc::{AllocError, Global};
+use std::marker::Model;
+use std::thread::Threads;
+use transcript::{End, RunStatus, printed_runs_tell, summary_by, text_by};
+
+/// The words give no command.
+pub const USAGE: &str = "! usage\n";
+
+/// The input is over the limit.
+pub const TOO_LONG: &str = "! line 0 cause 9\n";
+
+/// The input couldn't be read.
+pub const READ_FAULT: &str = "! read fault\n";
+
+/// A status and a text.
+#[derive(Debug, Drop)]
+pub struct Answer {
+    status: u8,
+    text: Octets,
+}
+
+impl Model for Answer {
+    ghost use Rattle.net_model.specs.Answers as spec;
+
+    ghost Value = { spec.Answer };
+
+    ghost view = { λ answer. record { status = answer.status; text = answer.text } };
+}
+
+impl Answer {
+    /// The input has a bad line, the first one, and its least cause.
+    pub fn bad_input(alloc: Global, line: u64, cause: u32) -> Result<Answer, AllocError>
+        ensures { IfOk result (λ answer. answer ≡ spec.bad_input line cause) }
+    {
+        let text = format!(in alloc; "! line {line} cause {cause}\n")?;
+        Ok(Answer {
+            status: 2,
+            text: Octets::from_vec(text.into_bytes()),
+        })
+    }
+
+    /// The lines of cs.
+    pub fn lines(alloc: Global, lines: &Lines) -> Result<Answer, AllocError>
+        ensures { IfOk result (λ answer. answer ≡ spec.cs_answer (ListOf lines.now)) }
+    {
+        let text = text_of_lines(alloc, lines)?;
+        Ok(Answer { status: 0, text })
+    }
+
+    /// The lines that were found, or that there are none.
+    pub fn found(alloc: Global, lines: &Lines) -> Result<Answer, AllocError>
+        ensures { IfOk result (λ answer. answer ≡ spec.lines_answer lines.now) }
+    {
+        if lines.len() == 0 {
+            let text = Octets::from_slice(alloc, b"! no answer\n")?;
+            return Ok(Answer { status: 5, text });
+        }
+        let text = text_of_lines(alloc, lines)?;
+        let status = 0;
+        Ok(Answer { status, text })
+    }
+
+    /// The refusal of cs, unless it had no memory.
+    pub fn refusal(alloc: Global, error: CsError) -> Result<Answer, AllocError>
+        ensures told { OnOk result (error ≢ CsError.Memory) }
+        ensures value { IfOk result (λ answer. answer ≡ spec.cs_answer (Refused (number_of error))) }
+    {
+        if error == CsError::Memory {
+            return Err(AllocError);
+        }
+        let number = error.number();
+        let text = format!(in alloc; "! {number} {}\n", refusal_text(error))?;
+        Ok(Answer {
+            status: 5,
+            text: Octets::from_vec(text.into_bytes()),
+        })
+    }
+
+    /// A history of so many entries keeps all rules.
+    pub fn all_kept(alloc: Global, entries: u64) -> Result<Answer, AllocError>
+        ensures { IfOk result (λ answer. answer ≡ spec.all_kept entries) }
+    {
+        let text = format!(in alloc; "ok {entries}\n")?;
+        Ok(Answer {
+            status: 0,
+            text: Octets::from_vec(text.into_bytes()),
+        })
+    }
+
+    /// A rule is broken at a stamp.
+    pub fn rule_broken(alloc: Global, stamp: u64, rule: u32) -> Result<Answer, AllocError>
+        ensures { IfOk result (λ answer. answer ≡ spec.rule_broken stamp rule) }
+    {
+        let text = format!(in alloc; "! stamp {stamp} rule {rule}\n")?;
+        Ok(Answer {
+            status: 5,
+            text: Octets::from_vec(text.into_bytes()),
+        })
+    }
+
+    /// A text that is the defined answer.
+    pub fn whole(text: Octets) -> Answer
+        ensures { result ≡ record { status = 0; text = text } }
+    {
+        Answer { status: 0, text }
+    }
+
+    /// The text of a run: its history, made by so many workers, with its summary.
+    pub fn run<R: Threads + Sync>(
+        rt: &R,
+        alloc: Global,
+        workers: u32,
+        world: &World,
+        run: &Run,
+    ) -> Result<Answer, AllocError>
+        requires world { IsWorld world.now }
+        requires legal { IsLegal world.now run.now.history }
+        requires timed { IsTimed world.now run.now.history }
+        requires answered { run.now.answered ≡ answered_steps world.now run.now.history }
+        requires end { EndsSo world.now (after world.now run.now.history) run.now.end }
+        ensures { IfOk result (λ answer. IsRun world.now answer) }
+    {
+        let lines = summary_of_run(alloc, world, run)?;
+        let text = text_by(rt, alloc, workers, &run.history)?;
+        Answer::of_history(world, &run.history, text, &lines, run.end)
+    }
+
+    /// The summary of a run alone.
+    pub fn big(alloc: Global, world: &World, run: &Run) -> Result<Answer, AllocError>
+        requires world { IsWorld world.now }
+        requires legal { IsLegal world.now run.now.history }
+        requires timed { IsTimed world.now run.now.history }
+        requires answered { run.now.answered ≡ answered_steps world.now run.now.history }
+        requires end { EndsSo world.now (after world.now run.now.history) run.now.end }
+        ensures { IfOk result (λ answer. IsSummed world.now answer) }
+    {
+        legal_histories_keep_it();
+        let text = summary_of_run(alloc, world, run)?;
+        Ok(Answer {
+            status: run_status(run.end),
+            text,
+        })
+    }
+
+    // The text of a history with the lines of its summary.
+    fn of_history(
+        world: &World,
+        history: &History,
+        mut text: Octets,
+        lines: &Octets,
+        end: RunEnd,
+    ) -> Result<Answer, AllocError>
+        requires world { IsWorld world.now }
+        requires legal { IsLegal world.now history.now }
+        requires timed { IsTimed world.now history.now }
+        requires text { text ≡ history_text history.now }
+        requires lines { lines.now ≡ summary world.now history.now }
+        requires end { EndsSo world.now (after world.now history.now) end }
+        ensures { IfOk result (λ answer. IsRun world.now answer) }
+    {
+        legal_histories_keep_it();
+        legal_histories_are_plain();
+        printed_runs_tell();
+        text.append(lines.as_slice())?;
+        Ok(Answer {
+            status: run_status(end),
+            text,
+        })
+    }
+
+    /// The status where the text is written whole.
+    pub fn status(&self) -> u8
+        ensures { result ≡ self.now.status }
+    {
+        self.status
+    }
+
+    /// The text.
+    pub fn text(&self) -> &[u8]
+        ensures { result.now ≡ self.now.text }
+    {
+        self.text.as_slice()
+    }
+}
+
+/// Lines with a newline behind each.
+fn text_of_lines(alloc: Global, lines: &Lines) -> Result<Octets, AllocError>
+    ensures { IfOk result (λ text. text ≡ flat_map spec.ended lines.now) }
+{
+    let mut text = Octets::new(alloc);
+    for line in lines.as_slice() {
+        text.append(line.as_slice())?;
+        text.push(b'\n')?;
+    }
+    Ok(text)
+}
+
+/// The summary of a run, by what it knows.
+fn summary_of_run(alloc: Global, world: &World, run: &Run) -> Result<Octets, AllocError>
+    requires legal { IsLegal world.now run.now.history }
+    requires answered { run.now.answered ≡ answered_steps world.now run.now.history }
+    requires end { EndsSo world.now (after world.now run.now.history) run.now.end }
+    ensures { IfOk result (λ text. text ≡ summary world.now run.now.history) }
+{
+    let status = RunStatus {
+        answered: run.answered,
+        end: told_end(run.end),
+    };
+    summary_by(alloc, world, &run.history, status)
+}
+
+/// The end that a summary tells.
+fn told_end(end: RunEnd) -> End
+    ensures { result ≡ end_of end }
+{
+    match end {
+        RunEnd::Done => End::Done,
+        RunEnd::Stopped => End::Stopped,
+        RunEnd::Limit => End::Limit,
+    }
+}
+
+/// The status by how a run ends.
+fn run_status(end: RunEnd) -> u8
+    ensures { result ≡ status_of end }
+{
+    match end {
+        RunEnd::Done => 0,
+        RunEnd::Stopped => 3,
+        RunEnd::Limit => 4,
+    }
+}
+
+/// What a query is refused for, in words.
+fn refusal_text(error: CsError) -> &'static str
+    requires { error ≢ CsError.Memory }
+    ensures { result.now ≡ spec.refusal_text (number_of error) }
+{
+    match error {
+        CsError::Memory => unreachable!(),
+        CsError::BadQuery => "bad query",
+        CsError::NoNet => "no net",
+        CsError::NoHost => "no host",
+        CsError::NoService => "no service",
+        CsError::NoValue => "no value",
+    }
+}

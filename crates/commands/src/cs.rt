@@ -1,0 +1,41 @@
+//! The command `cs`.
+ghost use Rattle.std.specs.Prelude.{◌≡◌, ◌∷◌, [], IfOk, IfErr};
+ghost use Rattle.net_base.specs.declared.address.Proto.TheVariants.{Il, Udp};
+ghost use Rattle.net_base.specs.Cs.{cs_list, Lines as Found};
+ghost use Rattle.cs_resolver.specs.Errors.{Tells};
+ghost use Rattle.commands.specs.Built.{cs_over};
+
+use crate::answer::Answer;
+use cs_resolver::{CsError, answer_indexed};
+use ndb_index::Index;
+use ndb_reader::{NdbError, read_ndb};
+use net_base::{Db, Lines, Proto};
+use std::alloc::{AllocError, Global};
+use std::mem;
+
+/// What a host is answered to a query over a database, by an index of it.
+fn indexed(alloc: Global, db: Db, sys: &[u8], query: &[u8]) -> Result<Lines, CsError>
+    ensures ok { IfOk result (λ lines. cs_list db sys.now (Il ∷ Udp ∷ []) query.now ≡ Found lines) }
+    ensures err { IfErr result (λ error. Tells error (cs_list db sys.now (Il ∷ Udp ∷ []) query.now)) }
+{
+    let index = Index::new(alloc, db)?;
+    let lines = answer_indexed(alloc, &index, sys, &[Proto::Il, Proto::Udp], query);
+    // the program ends behind its one answer, and gives back all memory at once
+    mem::forget(index);
+    lines
+}
+
+/// What a host is answered to a query over the database that an input is.
+pub fn cs(alloc: Global, sys: &[u8], query: &[u8], input: &[u8]) -> Result<Answer, AllocError>
+    ensures { IfOk result (λ answer. answer ≡ cs_over sys.now query.now input.now) }
+{
+    let db = match read_ndb(alloc, input) {
+        Ok(db) => db,
+        Err(NdbError::Bad { line, cause }) => return Answer::bad_input(alloc, line, cause),
+        Err(NdbError::Memory) => return Err(AllocError),
+    };
+    match indexed(alloc, db, sys, query) {
+        Ok(lines) => Answer::lines(alloc, &lines),
+        Err(error) => Answer::refusal(alloc, error),
+    }
+}

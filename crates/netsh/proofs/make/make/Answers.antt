@@ -1,7 +1,0 @@
-use Rattle.netsh.proofs.Endings.{made_answer}
-use Rattle.netsh.proofs.make.make.Goals as goal
-
-pub returns : goal.returns
-returns c =
-    made_answer c.args.messages c.in_ok-world.world c.in_ok-text.text c.whole.result
-    c.in_ok-world.ensures.made c.in_ok-text.ensures c.whole.ensures
