@@ -2,19 +2,19 @@
 #![tactic(auto)]
 
 mod answer;
-mod big;
-mod check;
-mod cs;
+mod judgement;
 mod law;
-mod make;
+mod made_run;
+mod making;
 mod query;
+mod resolving;
 mod run;
 
 pub use answer::{Answer, READ_FAULT, TOO_LONG, USAGE};
-pub use big::big;
-pub use check::check;
-pub use cs::cs;
+pub use judgement::check;
 pub use law::values_are_answers;
-pub use make::make;
+pub use made_run::big;
+pub use making::make;
 pub use query::{query_beside, query_tuples};
+pub use resolving::cs;
 pub use run::run_over;

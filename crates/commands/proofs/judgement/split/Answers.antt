@@ -1,7 +1,7 @@
 use Rattle.std.proofs.Common.{arith, sym, ◌∙◌}
 use Rattle.std.proofs.lemmas.Bool.Decides.{nat_tests}
 use Rattle.commands.proofs.Halves.{parts_found, passed_all, passed_more, passed_none}
-use Rattle.commands.proofs.check.split.Goals as goal
+use Rattle.commands.proofs.judgement.split.Goals as goal
 
 pub loop-rest-init : goal.loop-rest-init
 loop-rest-init c = record { passed = passed_none c.args.input.now; room = omega arith }

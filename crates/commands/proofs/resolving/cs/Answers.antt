@@ -1,5 +1,5 @@
 use Rattle.commands.proofs.CsAnswers.{found_over, answers_found, answers_refused}
-use Rattle.commands.proofs.cs.cs.Goals as goal
+use Rattle.commands.proofs.resolving.cs.Goals as goal
 
 pub returns-in-Ok-indexed : goal.returns-in-Ok-indexed
 returns-in-Ok-indexed c =

@@ -6,7 +6,7 @@ use Rattle.std.proofs.lemmas.List.Sums.{prefix_len-le-length}
 use Rattle.std.proofs.lemmas.Bool.Decides.{nat_tests}
 use borrow.Author.Tests.{tests}
 use Rattle.net_base.specs.NdbText as spec
-use Rattle.commands.proofs.check.line_len.Goals as goal
+use Rattle.commands.proofs.judgement.line_len.Goals as goal
 
 at_or_length_if : (i n : ℕ) (b : Bool) → ltb i n ≡ b → i ≤ n → unwrap_or (cond b (Some i) None) n ≡ i
 at_or_length_if i n true e h = refl

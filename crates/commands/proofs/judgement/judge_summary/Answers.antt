@@ -3,7 +3,7 @@ use Rattle.std.proofs.lemmas.Bool.{true≢false}
 use Rattle.std.proofs.lemmas.Result.{IfOk-weaker}
 use Rattle.net_model.specs.Answers.{all_kept, rule_broken}
 use Rattle.commands.proofs.Judging.{all_hold, summary_breaks}
-use Rattle.commands.proofs.check.judge_summary.Goals as goal
+use Rattle.commands.proofs.judgement.judge_summary.Goals as goal
 
 pub returns-then-own : goal.returns-then-own
 returns-then-own c =

@@ -2,7 +2,7 @@ use Rattle.std.proofs.lemmas.Result.{IfOk-weaker}
 use Rattle.commands.specs.Built.{IsAnswerTo}
 use Rattle.commands.specs.Checked.{Parts}
 use Rattle.commands.proofs.Judging.{parts_world}
-use Rattle.commands.proofs.check.check_parts.Goals as goal
+use Rattle.commands.proofs.judgement.check_parts.Goals as goal
 
 pub returns-in-Err-Bad : goal.returns-in-Err-Bad
 returns-in-Err-Bad c =

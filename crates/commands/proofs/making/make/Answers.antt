@@ -1,5 +1,5 @@
 use Rattle.commands.proofs.MadeText.{made_answer}
-use Rattle.commands.proofs.make.make.Goals as goal
+use Rattle.commands.proofs.making.make.Goals as goal
 
 pub returns : goal.returns
 returns c =

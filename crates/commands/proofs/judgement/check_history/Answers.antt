@@ -3,7 +3,7 @@ use Rattle.std.proofs.lemmas.Result.{IfOk-weaker}
 use Rattle.commands.specs.Built.{IsAnswerTo}
 use Rattle.commands.specs.Checked.{Parts}
 use Rattle.commands.proofs.Judging.{bad_within, history_bad, history_judged}
-use Rattle.commands.proofs.check.check_history.Goals as goal
+use Rattle.commands.proofs.judgement.check_history.Goals as goal
 
 pub overflow_add-parts-in-Err-Bad : goal.overflow_add-parts-in-Err-Bad
 overflow_add-parts-in-Err-Bad c =

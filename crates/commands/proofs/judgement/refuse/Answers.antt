@@ -2,7 +2,7 @@ use Rattle.std.proofs.Common.{arith}
 use Rattle.std.proofs.lemmas.Result.{IfOk-weaker}
 use Rattle.commands.proofs.Halves.{cuts_few}
 use Rattle.commands.proofs.Judging.{lacks_history, lacks_world}
-use Rattle.commands.proofs.check.refuse.Goals as goal
+use Rattle.commands.proofs.judgement.refuse.Goals as goal
 
 pub overflow_add-lines : goal.overflow_add-lines
 overflow_add-lines c = omega (arith, c.requires.limit, c.requires.lines, cuts_few c.args.input.now)

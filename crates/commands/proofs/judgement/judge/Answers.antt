@@ -1,7 +1,7 @@
 use Rattle.std.proofs.Common.{refl}
 use Rattle.std.proofs.lemmas.Result.{IfOk-weaker}
 use Rattle.commands.proofs.Judging.{error_breaks}
-use Rattle.commands.proofs.check.judge.Goals as goal
+use Rattle.commands.proofs.judgement.judge.Goals as goal
 
 pub judge_summary-requires-clause-legal : goal.judge_summary-requires-clause-legal
 judge_summary-requires-clause-legal c = c.in-Ok.ensures.legal refl
