@@ -1,12 +1,12 @@
 -- What each command gives is an answer to its input.
-use Rattle.std.proofs.Common.{◌≡◌, ℕ, ◌≤◌, List, length, Option, Some, None, Result, Ok, Err, IfOk, refl, sym, ◌∙◌, ap, subst}
+use Rattle.std.proofs.Common.{◌≡◌, ℕ, ◌≤◌, List, length, Option, Some, None, Ok, Err, refl, sym, ◌∙◌, ap}
 use Rattle.net_base.specs.declared.world.World.{World}
 use Rattle.net_base.specs.NdbBundle as bundle
 use Rattle.net_model.specs.Answers.{Answer, bad_input, input_limit}
 use Rattle.net_model.specs.Words.{Command, Cs, Query, Run, Make, Big}
 use Rattle.world_text.specs.WorldText.{world_reading}
 use Rattle.commands.specs.Built.{cs_found, cs_over, made, query_found, query_over, unless_bad, IsAnswer, IsFound, IsGiven, IsRun, IsSummed, IsWorldOf}
-use Rattle.commands.specs.Checked.{bad_world}
+use Rattle.checked_input.specs.Input.{bad_world}
 use Rattle.commands.proofs.Within.{answer_within, within_limit}
 
 -- what was found, unless a line is bad

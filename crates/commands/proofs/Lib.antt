@@ -1,7 +1,6 @@
 pub mod Appended
 pub mod CsAnswers
 pub mod Given
-pub mod Halves
 pub mod Judging
 pub mod MadeText
 pub mod OneHistory

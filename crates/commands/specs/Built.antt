@@ -4,7 +4,7 @@
 --     IsSummed      the summary of such a run alone
 --     IsWorldOf     the world that a command runs
 --     IsAnswer      an answer to a command and its input
-use Rattle.std.specs.Prelude.{◌≡◌, ◌↔◌, ◌⊎◌, ◌&&◌, ℕ, Bool, true, false, List, [], ◌∷◌, ◌++◌, length, map, flat_map, nat_lt, Option, Some, None, Ok, ◌≤◌}
+use Rattle.std.specs.Prelude.{◌≡◌, ◌↔◌, ◌⊎◌, ◌&&◌, ℕ, Bool, true, false, List, [], ◌∷◌, ◌++◌, length, map, flat_map, nat_lt, Option, Some, None, Ok}
 use Rattle.net_base.specs.declared.address.Proto.TheVariants.{Il, Udp}
 use Rattle.net_base.specs.declared.history.Entry.{Entry}
 use Rattle.net_base.specs.declared.world.World.{World}
@@ -26,7 +26,8 @@ use Rattle.world_text.specs.WorldText.{world_reading}
 use Rattle.world_writer.specs.Written.{file_text}
 use Rattle.net_model.specs.Answers.{Answer, bad_input, lines_answer, cs_answer, input_limit}
 use Rattle.net_model.specs.Words.{Command, Cs, Query, Run, Make, Big, Check, reads}
-use Rattle.commands.specs.Checked.{Handed, IsBadHanded, IsChecked, Parts, bad_world, parts_of}
+use Rattle.checked_input.specs.Input.{Handed, IsBadHanded, bad_world, parts_of}
+use Rattle.commands.specs.Checked.{IsChecked}
 
 -- Bad lines.
 
@@ -159,7 +160,3 @@ pub record IsAnswer (asked : Command) (input : List ℕ) (answer : Answer) : Typ
   -- and no other line is the first bad one
   pub only : (other : Option (ℕ × ℕ)) → IsFirstBad asked input other → other ≡ found
   pub given : IsGiven found asked input answer
-
--- an answer of check to each input with these parts
-abbrev pub IsAnswerTo : Parts → Answer → Type 0
-IsAnswerTo parts answer = (input : List ℕ) → length input ≤ input_limit Check → parts_of input ≡ Some parts → IsAnswer Check input answer

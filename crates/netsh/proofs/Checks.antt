@@ -5,7 +5,8 @@ use Rattle.net_model.specs.Answers.{Answer, all_kept, rule_broken}
 use Rattle.net_model.specs.Words.{Check}
 use Rattle.world_text.specs.WorldText.{world_reading}
 use Rattle.commands.specs.Built.{is_over, IsAnswer, IsFirstBad, IsGiven, IsJudged}
-use Rattle.commands.specs.Checked.{bad_world, no_history, parts_of, BreaksOne, Handed, IsBadFrom, IsBadHanded, IsBadHistory, IsChecked, KeepsAll, Parts}
+use Rattle.checked_input.specs.Input.{bad_world, no_history, parts_of, Handed, IsBadFrom, IsBadHanded, IsBadHistory, Parts}
+use Rattle.commands.specs.Checked.{BreaksOne, IsChecked, KeepsAll}
 use Rattle.netsh.proofs.Endings.{told_of}
 
 none_some : (bad : ℕ × ℕ) → None ≡ Some bad → ⊥

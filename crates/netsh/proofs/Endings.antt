@@ -16,7 +16,8 @@ use Rattle.netsh.specs.declared.command.Question.TheVariants as question
 use Rattle.netsh.specs.declared.top.Asked.TheVariants as asks
 use Rattle.commands.specs.Built.{is_over, IsAnswer, IsBadOf, IsFirstBad}
 use Rattle.netsh.specs.Commands.{question_read}
-use Rattle.netsh.specs.Ends.{Intake, Output, Told, Took, TookSome, IsInput, IsRead, IsUnread, IsAnswered, Answers, Ends, answered, unread}
+use Rattle.command_line.specs.Calls.{Intake, Output, Told, IsInput, IsUnread}
+use Rattle.netsh.specs.Ends.{Took, TookSome, IsRead, IsAnswered, Answers, Ends, answered, unread}
 
 -- an input over the limit is bad
 pub too_long_is_over : (asked : Command) (input : List ℕ) → reads asked ≡ true → input_limit asked < length input → is_over asked input ≡ true

@@ -11,8 +11,10 @@ use Rattle.net_base.specs.Legal.{IsLegal, IsTimed}
 use Rattle.net_base.specs.Net.{Net, after}
 use Rattle.net_model.specs.Words.{Command, Cs, Query, Run, Make, Big, Check, may_wait, reads, words_read, words_wait}
 use Rattle.commands.specs.Built.{made, IsStatus, IsWorldOf, IsFound, IsFirstBad, IsGiven, IsAnswer}
-use Rattle.commands.specs.Checked.{BreaksOne, Handed, IsChecked, KeepsAll}
-use Rattle.netsh.specs.Ends.{Intake, Output, Told, Took, TookAll, TookSome, IsUnwritten, IsInput, IsRead, IsUnread, Answers, IsStatusOf, IsBad, IsHanded, HasChecked, HasGood, HasRun, Ends, EndsIll, EndsWell, no_row, answered, unread, no_memory, Causes}
+use Rattle.checked_input.specs.Input.{Handed}
+use Rattle.commands.specs.Checked.{BreaksOne, IsChecked, KeepsAll}
+use Rattle.command_line.specs.Calls.{Intake, Output, Told, IsUnwritten, IsInput, IsUnread}
+use Rattle.netsh.specs.Ends.{Took, TookAll, TookSome, IsRead, Answers, IsStatusOf, IsBad, IsHanded, HasChecked, HasGood, HasRun, Ends, EndsIll, EndsWell, no_row, answered, unread, no_memory, Causes}
 use Rattle.std.proofs.lemmas.Bool.{false≢true}
 use Rattle.netsh.proofs.Checks.{broken_so, checked_0, checked_5, handed_in, judges, kept_so}
 use Rattle.netsh.proofs.Endings.{told_of, too_long_is_over}

@@ -1,6 +1,6 @@
 -- How a call of the program ends: its status, what it took from the source and what the sink gained.
 use Rattle.std.specs.Prelude.{◌≡◌, ◌≢◌, ℕ, ◌+◌, ◌<◌, ◌⊎◌, Bool, true, false, List, length, Option, Some, None, Result, Ok, Err, ⊤, if◌then◌else◌}
-use Rattle.std.specs.Io.KnownBytes.{Appends, IsAtEnd}
+use Rattle.std.specs.Io.KnownBytes.{IsAtEnd}
 use Rattle.net_base.specs.declared.history.Entry.{Entry}
 use Rattle.net_base.specs.declared.world.World.{World}
 use Rattle.net_model.specs.Answers.{Answer, bad_input, usage, read_fault, input_limit}
@@ -8,48 +8,17 @@ use Rattle.net_base.specs.Calm as calm
 use Rattle.net_base.specs.Legal.{IsLegal, IsTimed}
 use Rattle.net_base.specs.Net.{Net, after}
 use Rattle.net_model.specs.Words.{Command, Cs, Query, Run, Make, Big, Check, reads, words_read, words_wait}
-use Rattle.outside.specs.Streams.{Rose, AppendsPart}
+use Rattle.outside.specs.Streams.{Rose}
 use Rattle.outside.specs.declared.fault.TakeError.{TakeError}
 use Rattle.outside.specs.declared.fault.TakeError.TheVariants as error
 use Rattle.commands.specs.Built.{IsFirstBad, IsAnswer, IsWorldOf}
-use Rattle.commands.specs.Checked.{BreaksOne, Handed, KeepsAll}
-
--- what a source had left and has left, where it tells that, and its count of faults before and after
-pub record Intake : Type 0 where
-  pub left : Option (List ℕ)
-  pub rest : Option (List ℕ)
-  pub before : ℕ
-  pub after : ℕ
-
--- what a sink held and holds, where it tells that, and its count of faults before and after
-pub record Output : Type 0 where
-  pub held : Option (List ℕ)
-  pub holds : Option (List ℕ)
-  pub before : ℕ
-  pub after : ℕ
-
--- the answer was written whole, or the sink failed, which is status 7, and gained a part of its text
-abbrev pub Told : Answer → ℕ → Output → Type 0
-Told answer status output =
-    ((status ≡ answer.status) × Appends output.held output.holds answer.text × (output.after ≡ output.before))
-    ⊎ ((status ≡ 7) × Rose output.before output.after × AppendsPart output.held output.holds answer.text)
-
--- nothing was written
-abbrev pub IsUnwritten : Output → Type 0
-IsUnwritten output = (output.holds ≡ output.held) × (output.after ≡ output.before)
-
--- the input is what the source had left, where it told that
-abbrev pub IsInput : Option (List ℕ) → List ℕ → Type 0
-IsInput None input = ⊤
-IsInput (Some left) input = input ≡ left
+use Rattle.checked_input.specs.Input.{Handed}
+use Rattle.commands.specs.Checked.{BreaksOne, KeepsAll}
+use Rattle.command_line.specs.Calls.{Intake, IsInput, IsUnread, IsUnwritten, Output, Told}
 
 -- the input was read to its end, or is over the limit of the command
 abbrev pub IsRead : Command → Intake → List ℕ → Type 0
 IsRead asked intake input = IsInput intake.left input × (IsAtEnd intake.rest ⊎ (input_limit asked < length input))
-
--- nothing was read
-abbrev pub IsUnread : Intake → Type 0
-IsUnread intake = (intake.rest ≡ intake.left) × (intake.after ≡ intake.before)
 
 -- what a command took: its input where it has one, or else nothing
 abbrev pub Took : Bool → Command → Intake → List ℕ → Type 0

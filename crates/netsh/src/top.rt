@@ -1,19 +1,19 @@
 //! The top call: words and an input in, a status and a text out.
 ghost use Rattle.std.specs.Prelude.{◌≡◌, ◌≢◌, ◌<◌, ◌≤◌, ◌↔◌, ◌⊎◌, ◌+◌, ℕ, map, string_bytes, length, IsNone, IfNone, IfSome, IfOk, IsTrue, Some, None, Err, false};
 ghost use Rattle.net_model.specs.Words.{Big as AnyBig, Command as AnyCommand, Run as AnyRun, command_of, reads, words_wait};
-ghost use Rattle.netsh.specs.Ends.{Causes, Ends, EndsWell, HasGood, Intake, IsAnswered, IsUnread, Told, most_reads};
+ghost use Rattle.command_line.specs.Calls.{Intake, IsUnread};
+ghost use Rattle.netsh.specs.Ends.{Causes, Ends, EndsWell, HasGood, IsAnswered, most_reads};
 ghost use Rattle.net_model.specs.Answers.{input_limit};
 ghost use Rattle.commands.specs.Built.{IsAnswer};
 ghost use Rattle.netsh.specs.Commands.{question_read};
 
 use crate::command::{Command, Question, has_input, read_words};
+use command_line::tell;
 use commands::{
     Answer, READ_FAULT, TOO_LONG, USAGE, big, check, cs, make, query_beside, query_tuples,
     run_over, values_are_answers,
 };
-use outside::{
-    Failed, Gate, Sink, Source, SureSink, SureSource, TakeError, read_to_end, write_all,
-};
+use outside::{Gate, Sink, Source, SureSink, SureSource, TakeError, read_to_end};
 use std::alloc::{AllocError, Global};
 use std::sync::Wait;
 use std::thread::Threads;
@@ -23,17 +23,6 @@ const INPUT_LIMIT: usize = 4194304;
 
 /// The most bytes of an input that has a run's output in it, 64 MiB.
 const HISTORY_LIMIT: usize = 67108864;
-
-/// Writes the text of an answer, and gives the status that the call ends with.
-fn tell<K: Sink>(sink: &mut K, status: u8, text: &[u8]) -> u8
-    ensures told { Told (record { status = status; text = text.now }) result
-        (record { held = K.held sink.old; holds = K.held sink.new; before = K.faults sink.old; after = K.faults sink.new }) }
-{
-    match write_all(sink, text) {
-        Ok(()) => status,
-        Err(Failed) => 7,
-    }
-}
 
 /// Tells why there is no answer to a command and its input. One over the limit is answered as a bad one.
 fn tell_error<K: Sink>(sink: &mut K, error: TakeError) -> u8

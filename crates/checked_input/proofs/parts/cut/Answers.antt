@@ -1,7 +1,7 @@
 use Rattle.std.proofs.Common.{ap, sym, ◌∙◌, ◌∷◌, take, drop, ℕ, List, ◌+◌}
 use Rattle.world_text.specs.WorldText.{cuts_of}
 use Rattle.world_file.proofs.Cuts.{cuts-first}
-use Rattle.commands.proofs.judgement.cut.Goals as goal
+use Rattle.checked_input.proofs.parts.cut.Goals as goal
 
 pub returns-clause-cut : goal.returns-clause-cut
 returns-clause-cut c =

@@ -1,7 +1,7 @@
 use Rattle.std.proofs.Common.{arith, sym, ◌∙◌}
 use Rattle.std.proofs.lemmas.Bool.Decides.{nat_tests}
-use Rattle.commands.proofs.Halves.{parts_found, passed_all, passed_more, passed_none}
-use Rattle.commands.proofs.judgement.split.Goals as goal
+use Rattle.checked_input.proofs.Halves.{parts_found, passed_all, passed_more, passed_none}
+use Rattle.checked_input.proofs.parts.split.Goals as goal
 
 pub loop-rest-init : goal.loop-rest-init
 loop-rest-init c = record { passed = passed_none c.args.input.now; room = omega arith }
@@ -11,7 +11,8 @@ loop-rest-preserved c =
     let less = c.cut.ensures.less in
     let room = c.loop-rest.invariant.room in
     record {
-      passed = passed_more c.args.input.now c.loop-rest.rest.now c.cut.result.0.now c.cut.result.1.now c.loop-rest.lines c.loop-rest.invariant.passed c.cut.ensures.cut less
+      passed = passed_more c.args.input.now c.loop-rest.rest.now c.cut.result.0.now c.cut.result.1.now c.loop-rest.lines c.loop-rest.invariant.passed
+          c.cut.ensures.cut less
           (sym c.is_mark.ensures ∙ c.if-is_mark.false);
       room = omega (arith, room, less);
     }

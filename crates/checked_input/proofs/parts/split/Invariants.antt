@@ -1,6 +1,6 @@
 use Rattle.std.proofs.Common.{◌+◌, ◌≤◌, length}
-use Rattle.commands.proofs.Halves.{Passed}
-use Rattle.commands.proofs.judgement.split.Given as goal
+use Rattle.checked_input.proofs.Halves.{Passed}
+use Rattle.checked_input.proofs.parts.split.Given as goal
 
 abbrev pub invariant-loop-rest : goal.invariant-loop-rest
 invariant-loop-rest l = record {

@@ -1,11 +1,11 @@
 -- An input, line by line, up to the line between its parts.
-use Rattle.std.proofs.Common.{◌≡◌, ℕ, ◌+◌, ◌-◌, ◌<◌, ◌≤◌, ◌⊎◌, suc, Bool, true, false, not, cond, List, [], ◌∷◌, ◌++◌, length, take, map, Option, Some, None, refl, sym, ap, subst, ◌∙◌, inl, inr, arith, length-append, append_assoc, append-nil}
+use Rattle.std.proofs.Common.{◌≡◌, ℕ, ◌+◌, ◌-◌, ◌<◌, ◌≤◌, ◌⊎◌, suc, Bool, true, false, not, cond, List, [], ◌∷◌, ◌++◌, length, take, map, Some, None, refl, sym, ap, subst, ◌∙◌, inl, inr, arith, length-append, append_assoc, append-nil}
 use Rattle.std.proofs.lemmas.Bool.Decides.{nat_tests}
 use Rattle.std.specs.List.{before_first, find, position_or_len}
 use Rattle.net_base.specs.NdbText.{is_newline}
 use Rattle.world_text.specs.WorldSpelling.{laid}
 use Rattle.world_text.specs.WorldText.{Cut, cuts_of, with_first}
-use Rattle.commands.specs.Checked.{Parts, is_mark, lines_before, mark_of, parts_at, parts_of}
+use Rattle.checked_input.specs.Input.{is_mark, lines_before, mark_of, parts_at, parts_of}
 
 -- The first line.
 
@@ -39,7 +39,8 @@ ends_first (b ∷ bytes) c cs is = by (is_newline b) refl (cuts_of bytes) refl (
 -- Lines that aren't the one between.
 
 -- a first line that isn't it
-passed_mark : (rest : List ℕ) (c : Cut) (cs : List Cut) → cuts_of rest ≡ c ∷ cs → is_mark c.line ≡ false → mark_of rest ≡ find (λ (d : Cut). is_mark d.line) cs
+passed_mark : (rest : List ℕ) (c : Cut) (cs : List Cut) → cuts_of rest ≡ c ∷ cs → is_mark c.line ≡ false
+    → mark_of rest ≡ find (λ (d : Cut). is_mark d.line) cs
 passed_mark rest c cs is not_it = ap (find (λ (d : Cut). is_mark d.line)) is ∙ ap (λ (v : Bool). cond v (Some c) (find (λ (d : Cut). is_mark d.line) cs)) not_it
 
 -- or is
@@ -98,7 +99,8 @@ pub passed_none : (text : List ℕ) → Passed text text 0
 passed_none text = record { lines = []; count = refl; marks = refl; before = refl; parts = inl refl; all = omega arith }
 
 -- one line more
-pub passed_more : (text rest line behind : List ℕ) (n : ℕ) → Passed text rest n → cuts_of rest ≡ record { line = line; behind = behind } ∷ cuts_of behind
+pub passed_more : (text rest line behind : List ℕ) (n : ℕ) → Passed text rest n
+    → cuts_of rest ≡ record { line = line; behind = behind } ∷ cuts_of behind
     → length behind < length rest → is_mark line ≡ false → Passed text behind (n + 1)
 passed_more text rest line behind n p is less not_it =
     let c : Cut = record { line = line; behind = behind } in
@@ -111,7 +113,8 @@ passed_more text rest line behind n p is less not_it =
       all = omega (arith, p.all, ap (λ (cs : List Cut). length cs) is);
     }
   where
-    by : (text ≡ laid p.lines ++ rest) ⊎ (rest ≡ []) → EndsSo rest (record { line = line; behind = behind }) → (text ≡ laid (p.lines ++ line ∷ []) ++ behind) ⊎ (behind ≡ [])
+    by : (text ≡ laid p.lines ++ rest) ⊎ (rest ≡ []) → EndsSo rest (record { line = line; behind = behind })
+        → (text ≡ laid (p.lines ++ line ∷ []) ++ behind) ⊎ (behind ≡ [])
     by _ (inr none) = inr none
     by (inr none) (inl ends) = absurd (omega (arith, less, ap (λ (xs : List ℕ). length xs) none))
     by (inl so) (inl ends) =
@@ -134,7 +137,8 @@ passed_all text rest n p zero =
     )
 
 -- the next is
-pub parts_found : (text rest line behind : List ℕ) (n : ℕ) → Passed text rest n → cuts_of rest ≡ record { line = line; behind = behind } ∷ cuts_of behind
+pub parts_found : (text rest line behind : List ℕ) (n : ℕ) → Passed text rest n
+    → cuts_of rest ≡ record { line = line; behind = behind } ∷ cuts_of behind
     → length behind < length rest → is_mark line ≡ true
     → parts_of text ≡ Some (record { world = take (length text - length rest) text; lines = n; history = behind })
 parts_found text rest line behind n p is less it =
@@ -157,7 +161,8 @@ pub cuts_few : (text : List ℕ) → length (cuts_of text) ≤ length text
 cuts_few [] = omega arith
 cuts_few (b ∷ bytes) = by (is_newline b) (cuts_of bytes) (cuts_few bytes)
   where
-    by : (v : Bool) (more : List Cut) → length more ≤ length bytes → length (cond v (record { line = []; behind = bytes } ∷ more) (with_first b more)) ≤ length (b ∷ bytes)
+    by : (v : Bool) (more : List Cut) → length more ≤ length bytes
+        → length (cond v (record { line = []; behind = bytes } ∷ more) (with_first b more)) ≤ length (b ∷ bytes)
     by true more few = omega (arith, few)
     by false [] few = omega arith
     by false (c ∷ cs) few = omega (arith, few)
