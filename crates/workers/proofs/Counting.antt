@@ -2,7 +2,7 @@
 use Rattle.std.proofs.Common.{◌≡◌, ◌≢◌, ◌≤◌, ◌<◌, ◌^◌, ◌*◌, ◌+◌, ◌-◌, ◌%◌, ◌↔◌, ℕ, Bool, true, false, List, [], ◌∷◌, Some, length, min, nat_lt, IsTrue, if◌then◌else◌, refl, ap, sym, subst, ◌∙◌, arith}
 use Rattle.std.proofs.lemmas.Nat.{pow_below, shl_whole}
 use Rattle.workers.specs.declared.pace.Pace.{Pace}
-use Rattle.workers.specs.Calling.{IsPaceOf, IsTime, Story, after_call, after_round, in_a_row, in_vain, patience, rounds_after}
+use Rattle.workers.specs.Calling.{IsPaceOf, IsTime, Story, after_call, after_round, in_a_row, in_vain, rounds_after}
 
 -- a row of one round more, or none
 row_by : (b : Bool) (n m : ℕ) → n ≡ min m 4294967295
@@ -29,12 +29,12 @@ vain_by : (paid : Bool) (calls : List Bool) (n : ℕ) → length (paid ∷ calls
 vain_by true calls n few is = ap (λ (k : ℕ). k - 1) is
 vain_by false calls n few is = omega (arith, few, is, vain_within calls)
 
-pub call_seen : (s : Story) (paid : Bool) (old new : Pace) → new ≡ record old { together = 0; vain = if paid then old.vain - 1 else min (old.vain + 1) 4294967295 } → IsPaceOf s old
-    → IsPaceOf (after_call paid s) new
-call_seen s paid old new is was = record {
-  together = ap (λ (p : Pace). p.together) is;
-  vain = λ few. ap (λ (p : Pace). p.vain) is ∙ vain_by paid s.calls old.vain few (was.vain (omega (arith, few)));
-  asked = ap (λ (p : Pace). p.threads) is ∙ was.asked;
+pub call_seen : (s : Story) (paid : Bool) (old : Pace) (vain : ℕ) → vain ≡ (if paid then old.vain - 1 else min (old.vain + 1) 4294967295) → IsPaceOf s old
+    → IsPaceOf (after_call paid s) (record old { together = 0; vain = vain })
+call_seen s paid old vain is was = record {
+  together = refl;
+  vain = λ few. is ∙ vain_by paid s.calls old.vain few (was.vain (omega (arith, few)));
+  asked = was.asked;
 }
 
 -- two, doubled so often

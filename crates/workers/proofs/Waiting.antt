@@ -1,5 +1,5 @@
 -- How many rounds in a row are waited for, by how many calls were in vain.
-use Rattle.std.proofs.Common.{◌≡◌, ◌≤◌, ◌<◌, ◌^◌, ◌*◌, ◌+◌, ◌-◌, ℕ, Bool, false, List, ◌∷◌, min, refl, ap, sym, ◌∙◌, arith}
+use Rattle.std.proofs.Common.{◌≡◌, ◌≤◌, ◌<◌, ◌^◌, ◌*◌, ◌+◌, ◌-◌, ℕ, Bool, false, List, ◌∷◌, min, ap, ◌∙◌, arith}
 use Rattle.std.proofs.lemmas.Grind.{pow_more}
 use Rattle.workers.specs.Calling.{in_vain, patience, rounds_after}
 

@@ -98,7 +98,6 @@ impl Pace {
     }
 
     /// The workers have played, and it paid or was in vain.
-    #[tactic(auto, using(crate::proofs::Counting::call_seen))]
     pub fn learn(&mut self, paid: bool)
         ensures { (s : Story) → IsPaceOf s self.old → IsPaceOf (after_call paid s) self.new }
     {
