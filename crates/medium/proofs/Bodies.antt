@@ -1,5 +1,5 @@
 -- What stands in the bytes of a packet, by its protocol.
-use Rattle.std.proofs.Common.{◌≡◌, ◌≢◌, false, nat_eq, Result, Ok, Err, IsOk, IsOkAnd, ℕ, List, refl, sym, ap, subst, ◌∙◌, arith}
+use Rattle.std.proofs.Common.{◌≡◌, ◌≢◌, false, nat_eq, Result, Ok, Err, IsOk, IsOkAnd, OnErr, ℕ, List, refl, sym, ap, subst, ◌∙◌, arith}
 use Rattle.std.proofs.lemmas.Bool.Decides.{nat_tests}
 use Rattle.net_base.specs.declared.address.Addr.{Addr}
 use Rattle.net_base.specs.declared.il.IlMsg.{IlMsg}
@@ -83,6 +83,11 @@ udp_in bytes h payload s t ne =
 pub ok_of : {T E : Type 0} (P : T → Type 0) (r : Result T E) → IsOkAnd r P → IsOk r
 ok_of P (Ok x) h = refl
 ok_of P (Err e) h = absurd h
+
+-- what is so is so where there is none
+pub on_err : {T E : Type 0} (P : Type 0) (r : Result T E) → P → OnErr r P
+on_err P (Ok x) so = tt
+on_err P (Err e) so = so
 
 -- ---- a packet by what its decoders found
 

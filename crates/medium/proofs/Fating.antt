@@ -1,5 +1,5 @@
 -- Lines in the order of their frames, and drawn words.
-use Rattle.std.proofs.Common.{◌≡◌, ℕ, zero, suc, ◌+◌, ◌-◌, ◌%◌, ◌<◌, ◌≤◌, ◌==◌, ◌&&◌, ◌||◌, not, length, get_or, Bool, true, false, cond, List, [], ◌∷◌, ◌++◌, Option, Some, None, Contains, IsPermutation, find, is_some, nat_lt, nat_le, option_map, option_to_list, refl, sym, ap, subst, ◌∙◌, inl, inr, ◌⊎◌, arith}
+use Rattle.std.proofs.Common.{◌≡◌, ℕ, zero, suc, ◌+◌, ◌-◌, ◌%◌, ◌<◌, ◌≤◌, ◌==◌, ◌&&◌, ◌||◌, not, length, get_or, Bool, true, false, cond, List, [], ◌∷◌, ◌++◌, Option, Some, None, Contains, IsPermutation, find, is_some, nat_le, option_map, option_to_list, refl, sym, ap, subst, ◌∙◌, arith}
 use Rattle.std.specs.Prelude.{unwrap_or}
 use Rattle.std.specs.List.{AllByRecursion, list_all, list_any}
 use Rattle.std.specs.List.Sorted.{IsNonDecreasingBy}
@@ -14,7 +14,7 @@ use Rattle.net_base.specs.declared.world.Fate.{Fate}
 use Rattle.net_base.specs.declared.world.FateRange.{FateRange}
 use Rattle.net_base.specs.declared.world.MediumSpec.{MediumSpec}
 use Rattle.net_base.specs.Draws.{drawn_word, generator}
-use Rattle.net_base.specs.Medium.{fate_by_rates, fate_in, fate_of}
+use Rattle.net_base.specs.Medium.{fate_by_rates, fate_in}
 use Rattle.net_base.specs.World.{all_apart, is_medium, is_name, is_range, is_within, overlap}
 use Rattle.medium.specs.OnFates.{AreInOrder, FindsAlike, HasMtu, HasRates, IsAhead, begins_past, fate_line, names}
 

@@ -1,5 +1,5 @@
 -- A frame that is laid, as the step of a medium.
-use Rattle.std.proofs.Common.{◌≡◌, ℕ, ◌+◌, ◌-◌, ◌≤◌, length, take, drop, map, false, List, [], ◌∷◌, ◌++◌, Option, Some, None, IsSome, IsTrue, nat_lt, option_map, option_to_list, refl, sym, ap, subst, ◌∙◌, inl, inr, arith}
+use Rattle.std.proofs.Common.{◌≡◌, ℕ, ◌+◌, ◌-◌, ◌≤◌, length, take, drop, map, false, List, [], ◌∷◌, ◌++◌, Option, Some, nat_lt, option_to_list, refl, sym, ap, subst, ◌∙◌, arith}
 use Rattle.std.proofs.lemmas.Bool.{le-ltb}
 use Rattle.std.proofs.lemmas.List.{append-nil, drop_at, drop_all, length-drop, length-take-le, map-append}
 use Rattle.std.proofs.Common.{append_assoc}
@@ -13,7 +13,7 @@ use Rattle.net_base.specs.declared.world.Fate.{Fate}
 use Rattle.net_base.specs.declared.world.Fate.TheVariants.{Deliver, Lose, Twice, Later}
 use Rattle.wire_text.specs.Datagram.{IsPacket, body_bytes, header_for, packet_of, spelling}
 use Rattle.wire_text.specs.Ipv4.{Ipv4, flagged_bytes, summed}
-use Rattle.net_base.specs.Medium.{Medium, datagram_length, fate_of, held_of, lays, now_of, puts}
+use Rattle.net_base.specs.Medium.{datagram_length, fate_of, held_of, lays, now_of, puts}
 use Rattle.wire_text.proofs.DatagramLaws.{packet_again}
 use Rattle.medium.specs.declared.frame.Frame.{Frame}
 use Rattle.medium.specs.OnMedium.{OnMedium, AllSpelled, copies_now, copy_held, medium_of, taken_of, with_frame}

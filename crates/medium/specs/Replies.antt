@@ -1,5 +1,5 @@
 -- What a medium answers.
-use Rattle.std.specs.Prelude.{◌≡◌, ℕ, List, [], ◌∷◌, Option, Some, None}
+use Rattle.std.specs.Prelude.{◌≡◌, ℕ, List, [], ◌∷◌, Option, Some, None, IfSome}
 use Rattle.std.specs.Option.{option_map}
 use Rattle.net_base.specs.declared.history.Taken.{Taken}
 use Rattle.net_base.specs.declared.reply.Reply.{Reply}
@@ -7,7 +7,9 @@ use Rattle.net_base.specs.declared.reply.Reply.TheVariants as reply
 use Rattle.medium.specs.declared.frame.Frame.{Frame}
 use Rattle.medium.specs.declared.medium.Laid.{Laid}
 use Rattle.medium.specs.declared.medium.Laid.TheVariants as laid
+use Rattle.wire_text.specs.Datagram.{packet_of}
 use Rattle.medium.specs.OnMedium.{OnMedium, taken_of, with_frame}
+use Rattle.medium.specs.Spelled.{HasText}
 
 -- the reply that is recorded
 abbrev pub reply_of : Laid → Reply
@@ -25,6 +27,10 @@ PutsBytes old new to bytes _ = new ≡ old
 abbrev pub first_copy : List Frame → Option Frame → Option Frame
 first_copy (f ∷ rest) held = Some f
 first_copy [] held = held
+
+-- its packet carries some bytes, for which a take needs memory
+abbrev pub NextHasText : OnMedium → Type 0
+NextHasText m = IfSome (first_copy m.queue m.held) (λ f. HasText (packet_of f.bytes))
 
 -- the medium without that copy
 abbrev pub without_first : List Frame → OnMedium → OnMedium

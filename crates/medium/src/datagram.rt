@@ -1,9 +1,9 @@
 //! Packets as bytes and back.
-ghost use Rattle.std.specs.Prelude.{◌≡◌, ◌+◌, ◌^◌, ◌<◌, length, IfOk, OnOk};
+ghost use Rattle.std.specs.Prelude.{◌≡◌, ◌+◌, ◌^◌, ◌<◌, length, IfOk, OnErr, OnOk};
 ghost use Rattle.wire_text.specs.Datagram.{IsPacket, body_bytes, header_for, packet_of, spelling};
 ghost use Rattle.net_base.specs.Medium.{datagram_length};
 ghost use Rattle.ip_wire.specs.Headers.{view};
-ghost use Rattle.medium.specs.Spelled.{HasBody, IsSpelled};
+ghost use Rattle.medium.specs.Spelled.{HasBody, HasText, IsSpelled};
 
 use il_header::{decode_il, encode_il};
 use ip_wire::{IpHeader, decode_ip, decode_udp, encode_ip_header, encode_udp};
@@ -89,12 +89,13 @@ fn header_of(packet: &Packet) -> IpHeader
 /// The packet that the bytes spell.
 pub fn packet_from(alloc: Global, bytes: &[u8]) -> Result<Packet, AllocError>
     requires { IsSpelled bytes.now }
-    ensures { IfOk result (λ packet. packet ≡ packet_of bytes.now) }
+    ensures ok { IfOk result (λ packet. packet ≡ packet_of bytes.now) }
+    ensures memory { OnErr result (HasText (packet_of bytes.now)) }
 {
     let ip = decode_ip(bytes).unwrap();
     let (sport, dport, body) = if ip.header.proto == IL {
         let il = decode_il(ip.payload).unwrap();
-        let text = Octets::from_slice(alloc, il.text)?;
+        let text = text_from(alloc, il.text)?;
         let message = IlMsg {
             kind: il.kind,
             spec: il.spec,
@@ -105,11 +106,7 @@ pub fn packet_from(alloc: Global, bytes: &[u8]) -> Result<Packet, AllocError>
         (il.sport, il.dport, Body::Il(message))
     } else {
         let udp = decode_udp(ip.header.src, ip.header.dst, ip.payload).unwrap();
-        (
-            udp.sport,
-            udp.dport,
-            Body::Udp(Octets::from_slice(alloc, udp.text)?),
-        )
+        (udp.sport, udp.dport, Body::Udp(text_from(alloc, udp.text)?))
     };
     Ok(Packet {
         src: Addr {
@@ -124,4 +121,15 @@ pub fn packet_from(alloc: Global, bytes: &[u8]) -> Result<Packet, AllocError>
         tos: ip.header.tos,
         body,
     })
+}
+
+// A copy of a text. One of no bytes takes no memory.
+fn text_from(alloc: Global, bytes: &[u8]) -> Result<Octets, AllocError>
+    ensures ok { IfOk result (λ text. text ≡ bytes.now) }
+    ensures memory { OnErr result (0 < length bytes.now) }
+{
+    if bytes.is_empty() {
+        return Ok(Octets::new(alloc));
+    }
+    Octets::from_slice(alloc, bytes)
 }

@@ -3,12 +3,12 @@ ghost use Rattle.std.specs.Prelude.{◌≡◌, ℕ, ◌+◌, ◌^◌, ◌<◌, �
 ghost use Rattle.std.specs.VecDeque.{deque_capacity, deque_len};
 ghost use Rattle.medium.specs.OnFates.{next_number};
 ghost use Rattle.net_base.specs.declared.reply.Reply.TheVariants as reply;
-ghost use Rattle.wire_text.specs.Datagram.{spelling};
+ghost use Rattle.wire_text.specs.Datagram.{packet_of, spelling};
 ghost use Rattle.net_base.specs.Medium.{datagram_length, medium_leaves, puts, takes};
 ghost use Rattle.net_base.specs.World.{is_medium};
 ghost use Rattle.medium.specs.OnMedium.{IsPending, medium_of, taken_of, with_frame};
-ghost use Rattle.medium.specs.Replies.{PutsBytes, TakesFirst, first_copy, reply_of};
-ghost use Rattle.medium.specs.Spelled.{IsSpelled};
+ghost use Rattle.medium.specs.Replies.{NextHasText, PutsBytes, TakesFirst, first_copy, reply_of};
+ghost use Rattle.medium.specs.Spelled.{HasText, IsSpelled};
 
 use crate::datagram::{datagram_of, packet_from};
 use crate::fates::Fates;
@@ -72,7 +72,9 @@ impl Medium {
         ensures no_station { IfOk result (λ laid. (laid ≡ Laid.NoStation) ↔ (to ≡ None)) }
         ensures too_big { IfOk result (λ laid. (laid ≡ Laid.TooBig) ↔ (IsSome to × (self.old.spec.mtu < datagram_length packet.now.body))) }
         ensures bytes { IfOk result (λ laid. PutsBytes self.old self.new to (spelling packet.now) laid) }
+        // Where memory ran out nothing has changed; it is taken for what is laid alone.
         ensures err { OnErr result (self.new ≡ self.old) }
+        ensures memory { OnErr result (IsSome to × (datagram_length packet.now.body ≤ self.old.spec.mtu)) }
     {
         let Some(to) = to else {
             return Ok(Laid::NoStation);
@@ -114,6 +116,8 @@ impl Medium {
         ensures step { IfOk result (λ taken. takes (medium_of self.old).queue (medium_of self.old).held (medium_of self.old) ≡ Some (medium_leaves (reply.Copy taken.frame) (Some taken) (medium_of self.new))) }
         ensures first { IfOk result (TakesFirst self.old self.new) }
         ensures err { OnErr result (self.new ≡ self.old) }
+        // A packet without a text takes no memory.
+        ensures memory { OnErr result (NextHasText self.old) }
     {
         let alloc = *self.queue.allocator();
         let taken = taken_from(alloc, self.first().unwrap())?;
@@ -168,7 +172,8 @@ fn join(queue: &mut VecDeque<Frame>, copy: Option<Frame>)
 // The frame as the copy that is taken.
 fn taken_from(alloc: Global, frame: &Frame) -> Result<Taken, AllocError>
     requires { IsSpelled frame.now.bytes }
-    ensures { IfOk result (λ taken. taken ≡ taken_of frame.now) }
+    ensures ok { IfOk result (λ taken. taken ≡ taken_of frame.now) }
+    ensures memory { OnErr result (HasText (packet_of frame.now.bytes)) }
 {
     Ok(Taken {
         frame: frame.number,

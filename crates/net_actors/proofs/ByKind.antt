@@ -1,5 +1,5 @@
 -- What an actor keeps answers as the actor of the definitions.
-use Rattle.std.proofs.Common.{◌≡◌, ℕ, Bool, true, List, Option, Some, None, Result, Ok, Err, IfOk, slice_get, is_some, refl, ap, sym, subst, ◌∙◌}
+use Rattle.std.proofs.Common.{◌≡◌, ℕ, Bool, true, List, Option, Some, None, Result, Ok, Err, IfOk, OnErr, slice_get, is_some, refl, ap, sym, subst, ◌∙◌}
 use Rattle.std.specs.Option.{option_map, option_and_then}
 use Rattle.std.proofs.lemmas.Option.{none-some, same_Some}
 use Rattle.net_base.specs.declared.actor.ActorName.{ActorName}
@@ -23,14 +23,14 @@ use Rattle.net_base.specs.Directory.{dir_step}
 use Rattle.net_base.specs.Duties.{due_of_core}
 use Rattle.net_base.specs.Medium.{medium_step}
 use Rattle.conversation.specs.Kept.{Seat}
-use Rattle.conversation.specs.Stands.{StandsFor, StandsForSome, Gives, IsShort, IsReady as IsTalkReady, Says, slot_of, step_at}
-use Rattle.host_dir.specs.Kept.{HostDir, IsDirOf}
+use Rattle.conversation.specs.Memory.{work_takes}
+use Rattle.conversation.specs.Stands.{StandsFor, StandsForSome, Gives, IsShort, IsReady as IsTalkReady, Says, step_at}
 use Rattle.host_dir.specs.Ready.{is_ready}
 use Rattle.host_dir.proofs.Ready.{ready_is}
 use Rattle.medium.specs.OnMedium.{OnMedium, medium_of}
 use Rattle.net_actors.specs.AtDesk.{AtDesk, IsAtHost, IsAtSome, IsDeskOf, Replies, host_of}
 use Rattle.net_actors.specs.Kept.{IsActorOf, IsMediumOf, Keeps, seen, state_of}
-use Rattle.net_actors.specs.Stepping.{ConvSteps, DeskSteps, IsReady, KindSteps, MediumSteps, Steps, kind_ready}
+use Rattle.net_actors.specs.Stepping.{IsReady, KindSteps, Steps, kind_ready}
 use Rattle.net_actors.specs.declared.actor.Actor.{Actor as Kept}
 use Rattle.net_actors.specs.declared.kind.Kind.{Kind}
 use Rattle.net_actors.specs.declared.kind.Kind.TheVariants as kind
@@ -83,6 +83,12 @@ is_short c short = (c.conv, (itself c, short))
 
 pub talk_ready : (c : Seat) (now : ℕ) (work : Work) → is_some (step_at c now work c.conv) ≡ true → IsTalkReady c now work
 talk_ready c now work ready = (c.conv, (itself c, ready))
+
+-- what it says of want of memory, it says of what it keeps
+pub talk_wants : {E : Type 0} (r : Result Outcome E) (c : Seat) (now : ℕ) (work : Work) → OnErr r (Says c true (work_takes now work))
+    → OnErr r (work_takes now work c.conv ≡ true)
+talk_wants (Ok o) c now work says = tt
+talk_wants (Err e) c now work says = sym (says c.conv (itself c))
 
 -- it keeps what it stands for
 pub kept_is : (c : Seat) (s : Conv) → StandsFor c s → c.conv ≡ s

@@ -1,5 +1,5 @@
 -- The due moments of all conversations, host by host.
-use Rattle.std.proofs.Common.{◌≡◌, ℕ, zero, suc, ◌+◌, ◌<◌, ◌≤◌, Bool, true, ◌&&◌, List, [], ◌∷◌, ◌++◌, map, length, Option, Some, None, filter_map, flat_map, nat_lt, slice_get, option_to_list, refl, ap, sym, ◌∙◌, arith, append_assoc, append-nil}
+use Rattle.std.proofs.Common.{◌≡◌, ℕ, zero, suc, ◌+◌, ◌<◌, Bool, true, ◌&&◌, List, [], ◌∷◌, ◌++◌, map, length, Option, Some, None, filter_map, flat_map, nat_lt, slice_get, option_to_list, refl, ap, sym, ◌∙◌, arith, append_assoc, append-nil}
 use Rattle.std.specs.List.{range_with_len, cons_option}
 use Rattle.std.specs.Option.{option_map}
 use Rattle.std.proofs.lemmas.Bool.{lt-ltb}
@@ -11,7 +11,7 @@ use Rattle.net_base.specs.declared.actor.ActorName.TheVariants as name
 use Rattle.net_base.specs.declared.address.Proto.{Proto}
 use Rattle.net_base.specs.declared.address.Proto.TheVariants as proto
 use Rattle.net_base.specs.declared.world.World.{World}
-use Rattle.net_base.specs.Actors.{Actor, has_actor}
+use Rattle.net_base.specs.Actors.{Actor}
 use Rattle.net_base.specs.Duties.{due_of, generation_of, slots_of}
 use Rattle.duties.specs.declared.due.Due.{Due}
 use Rattle.duties.specs.Ticking.{due_at, dues_of}

@@ -1,5 +1,5 @@
 -- An actor has sent, got and laid no more than works led to it.
-use Rattle.std.proofs.Common.{◌≡◌, ℕ, zero, suc, ◌+◌, ◌<◌, ◌≤◌, ◌^◌, ◌==◌, Bool, true, false, nat_lt, nat_le, is_some, not, List, [], ◌∷◌, ◌++◌, length, Option, Some, None, if◌then◌else◌, refl, ap, sym, subst, ◌∙◌, arith, length-append}
+use Rattle.std.proofs.Common.{◌≡◌, ℕ, zero, suc, ◌+◌, ◌<◌, ◌≤◌, ◌^◌, ◌==◌, Bool, true, false, nat_lt, nat_le, is_some, List, [], ◌∷◌, length, Option, Some, None, if◌then◌else◌, refl, sym, subst, ◌∙◌, arith, length-append}
 use Rattle.std.specs.Prelude.{slice_get, ◌&&◌, ◌||◌}
 use Rattle.std.specs.Option.{option_map, option_and_then}
 use Rattle.std.proofs.lemmas.Option.{none-some}
@@ -38,7 +38,7 @@ use Rattle.net_base.specs.Directory.{Dir, dir_step}
 use Rattle.net_base.specs.IlEnd as end
 use Rattle.net_base.specs.IlEnd.{Early, End, Turn}
 use Rattle.net_base.specs.IlTable as table
-use Rattle.net_base.specs.Medium.{Medium, datagram_length, fate_of, lays, medium_leaves, medium_step, puts, takes}
+use Rattle.net_base.specs.Medium.{Medium, datagram_length, medium_step, puts, takes}
 use Rattle.net_base.specs.Net.{Play, play, played, stepped_to}
 use Rattle.net_base.specs.Number.{number}
 use Rattle.net_base.specs.Timer as timer

@@ -1,22 +1,20 @@
 -- All actors of a world, each at its number.
-use Rattle.std.proofs.Common.{◌≡◌, ℕ, zero, suc, ◌+◌, ◌<◌, ◌⊎◌, inl, inr, ◌==◌, Result, Ok, Err, IfOk, MatchResult, Bool, true, false, List, [], ◌∷◌, ◌++◌, length, Option, Some, None, get_or, slice_get, slice_set, is_some, if◌then◌else◌, refl, ap, sym, subst, ◌∙◌, arith, length-append}
+use Rattle.std.proofs.Common.{◌≡◌, ℕ, zero, suc, ◌+◌, ◌<◌, ◌⊎◌, inl, inr, Result, Ok, Err, IfOk, OnErr, IfSome, MatchResult, Bool, true, false, List, [], ◌∷◌, ◌++◌, length, Option, Some, None, slice_get, slice_set, is_some, if◌then◌else◌, refl, ap, sym, subst, ◌∙◌, arith, length-append}
 use Rattle.std.specs.Option.{option_map_or}
 use Rattle.std.proofs.lemmas.Bool.Decides.{eqb_tells}
-use Rattle.std.proofs.lemmas.Option.{none-some, same_Some, slice_get_within, slice_get_past, slice_get-get_or}
-use Rattle.std.proofs.lemmas.List.{length-set}
+use Rattle.std.proofs.lemmas.Option.{none-some, same_Some, slice_get_within}
 use Rattle.net_base.specs.declared.actor.ActorName.{ActorName}
 use Rattle.net_base.specs.declared.history.Outcome.{Outcome}
 use Rattle.net_base.specs.declared.history.Work.{Work}
 use Rattle.net_base.specs.declared.world.World.{World}
-use Rattle.net_base.specs.ActorStep.{Step}
 use Rattle.net_base.specs.Actors.{Actor, IsPlain, actor_step, has_actor, opening_actor}
 use Rattle.net_base.specs.Net.{actors_after}
 use Rattle.net_base.specs.Stamped.{same_actor}
 use Rattle.net_actors.specs.Kept.{IsActorOf, state_of}
 use Rattle.net_actors.specs.Numbers.{actor_count, count_in, is_among, number_in, number_of}
 use Rattle.net_actors.specs.Small.{IsSmall}
-use Rattle.net_actors.specs.Stepping.{IsReady, Steps as StepsOne}
-use Rattle.net_actors.specs.Together.{AreActors, AreFirst, CanStep, IsAt, Numbered, Steps, StepsIn, has_name, state_in}
+use Rattle.net_actors.specs.Stepping.{IsReady, ActorMayWant, Steps as StepsOne}
+use Rattle.net_actors.specs.Together.{AreActors, AreFirst, CanStep, IsAt, MayWantAt, Numbered, Steps, StepsIn, has_name, state_in}
 use Rattle.net_actors.specs.declared.actor.Actor.{Actor as Kept}
 use Rattle.history_laws.proofs.Histories.{same_actor_is}
 use Rattle.history_laws.proofs.PairsOnce.{same_itself}
@@ -159,6 +157,11 @@ steps_at v a x y now work o is steps called w states are has =
 pub within : (v : Numbered) (a : ActorName) (now : ℕ) (work : Work) → CanStep v a now work → length v.actors ≡ actor_count v.hosts v.media → number_of v.hosts v.media a < length v.actors
 within v a now work can count =
     let lt = below v.hosts v.media a (named can.world v can.states a can.are can.has) in omega (arith, lt, count)
+
+pub want_at : {E : Type 0} (r : Result Outcome E) (v : Numbered) (a : ActorName) (now : ℕ) (work : Work) (x : Kept) → slice_get v.actors (number_of v.hosts v.media a) ≡ Some x
+    → OnErr r (ActorMayWant x.kind now work) → OnErr r (MayWantAt v a now work)
+want_at (Ok o) v a now work x is wants = tt
+want_at (Err e) v a now work x is wants = subst (λ (o : Option Kept). IfSome o (λ (y : Kept). ActorMayWant y.kind now work)) (sym is) wants
 
 found_can : (v : Numbered) (a : ActorName) (x : Kept) (now : ℕ) (work : Work) (can : CanStep v a now work) → slice_get v.actors (number_of v.hosts v.media a) ≡ Some x → Found can.world can.states a x
 found_can v a x now work can is = found can.world v can.states a x can.are (named can.world v can.states a can.are can.has) is

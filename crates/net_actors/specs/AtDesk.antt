@@ -1,5 +1,5 @@
 -- What a desk keeps of its world.
-use Rattle.std.specs.Prelude.{◌≡◌, ◌≢◌, ℕ, ◌<◌, List, [], length, map, AllPairs, Option, Some, None, slice_get}
+use Rattle.std.specs.Prelude.{◌≡◌, ◌≢◌, ℕ, ◌<◌, List, [], length, AllPairs, Option, Some, None, slice_get}
 use Rattle.std.specs.Option.{option_map}
 use Rattle.net_base.specs.declared.address.Proto.{Proto}
 use Rattle.net_base.specs.declared.history.Outcome.{Outcome}

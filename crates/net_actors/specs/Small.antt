@@ -1,5 +1,5 @@
 -- States in which the next step can count and number all that it has to.
-use Rattle.std.specs.Prelude.{ℕ, ◌+◌, ◌<◌, ◌^◌}
+use Rattle.std.specs.Prelude.{◌+◌, ◌<◌, ◌^◌}
 use Rattle.net_base.specs.Actors.{Actor, IsConv, IsMedium}
 use Rattle.conversation.specs.Stands.{IsShort}
 

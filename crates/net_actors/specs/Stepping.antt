@@ -1,18 +1,23 @@
 -- What the step of an actor needs, and what it leaves.
-use Rattle.std.specs.Prelude.{◌≡◌, ℕ, Bool, true, Option, Some, None, is_some}
+use Rattle.std.specs.Prelude.{◌≡◌, ◌≤◌, ℕ, Bool, true, false, Some, IsSome, bytes_eq, codes, is_some}
+use Rattle.net_base.specs.declared.event.Event.{Event}
+use Rattle.net_base.specs.declared.event.Event.TheVariants as event
 use Rattle.net_base.specs.declared.history.Outcome.{Outcome}
+use Rattle.net_base.specs.declared.history.With.{With}
+use Rattle.net_base.specs.declared.history.With.TheVariants as given
 use Rattle.net_base.specs.declared.history.Work.{Work}
-use Rattle.net_base.specs.declared.reply.Reply.TheVariants as reply
 use Rattle.net_base.specs.declared.world.World.{World}
-use Rattle.net_base.specs.ActorStep.{replies}
 use Rattle.net_base.specs.Actors.{actor_step}
 use Rattle.net_base.specs.Desk.{clock_reply, desk_reply}
-use Rattle.net_base.specs.Medium.{medium_step, takes}
+use Rattle.net_base.specs.Directory.{dir_step}
+use Rattle.net_base.specs.Medium.{datagram_length, medium_step, takes}
 use Rattle.conversation.specs.Kept.{Seat}
+use Rattle.conversation.specs.Memory.{work_takes}
 use Rattle.conversation.specs.Stands.{Steps as TalkSteps, slot_of, step_at}
-use Rattle.host_dir.specs.Kept.{Steps as DirSteps}
+use Rattle.host_dir.specs.Kept.{Steps as DirSteps, Wants as DirWants}
 use Rattle.host_dir.specs.Ready.{is_ready}
 use Rattle.medium.specs.OnMedium.{OnMedium, medium_of}
+use Rattle.medium.specs.Replies.{NextHasText}
 use Rattle.net_actors.specs.AtDesk.{AtDesk, Replies, host_of}
 use Rattle.net_actors.specs.Kept.{IsActorOf, state_of}
 use Rattle.net_actors.specs.declared.actor.Actor.{Actor as Kept}
@@ -76,3 +81,25 @@ KindSteps (kind.Conv c) (kind.Conv d) now work o = ConvSteps c d now work o
 KindSteps (kind.Medium m) (kind.Medium n) now work o = MediumSteps m n work o
 KindSteps kind.Clock kind.Clock now work o = Replies (clock_reply work.event) o
 KindSteps _ _ now work o = ⊥
+
+-- Want of memory: only there may a step say that there is none.
+
+-- a desk takes memory for an answer of cs, and for the names in /net
+abbrev pub desk_takes : Event → Bool
+desk_takes (event.Cs query) = true
+desk_takes (event.LsPath path) = bytes_eq path (codes "/net")
+desk_takes _ = false
+
+-- a medium does for a frame that is laid, and for a copy with a text that is taken
+abbrev pub MediumMayWant : OnMedium → Event → With → Type 0
+MediumMayWant m (event.Put to) (given.Packet p) = IsSome to × (datagram_length p.body ≤ m.spec.mtu)
+MediumMayWant m event.Take with = NextHasText m
+MediumMayWant m _ _ = ⊥
+
+-- by its kind an actor may want memory for a work; the clock never does
+abbrev pub ActorMayWant : Kind → ℕ → Work → Type 0
+ActorMayWant (kind.Desk d) now work = desk_takes work.event ≡ true
+ActorMayWant (kind.Dir d) now work = DirWants d (λ at. dir_step at.world at.host at.proto work.event work.with d.dir)
+ActorMayWant (kind.Conv c) now work = work_takes now work c.conv ≡ true
+ActorMayWant (kind.Medium m) now work = MediumMayWant m work.event work.with
+ActorMayWant kind.Clock now work = ⊥

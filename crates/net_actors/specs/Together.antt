@@ -1,5 +1,5 @@
 -- All actors of a world, each at its number.
-use Rattle.std.specs.Prelude.{◌≡◌, ℕ, Bool, true, List, length, Option, Some, None, filter_map, option_to_list, slice_get, is_some}
+use Rattle.std.specs.Prelude.{◌≡◌, ℕ, Bool, true, List, length, Option, Some, None, filter_map, option_to_list, slice_get, is_some, IfSome}
 use Rattle.std.specs.Option.{option_map_or}
 use Rattle.net_base.specs.declared.actor.ActorName.{ActorName}
 use Rattle.net_base.specs.declared.actor.ActorName.TheVariants as name
@@ -16,6 +16,7 @@ use Rattle.net_actors.specs.declared.actor.Actor.{Actor as Kept}
 use Rattle.net_actors.specs.Kept.{IsActorOf, state_of}
 use Rattle.net_actors.specs.Numbers.{is_among, number_in, number_of}
 use Rattle.net_actors.specs.Small.{IsSmall}
+use Rattle.net_actors.specs.Stepping.{ActorMayWant}
 
 -- how many hosts and media there are, and the actors in the order of their numbers
 pub record Numbered : Type 0 where
@@ -74,3 +75,7 @@ pub record StepsIn (w : World) (states : ActorName → Actor) (new : Numbered) (
 abbrev pub Steps : Numbered → Numbered → ActorName → ℕ → Work → Outcome → Type 0
 Steps old new a now work o =
     (w : World) (states : ActorName → Actor) → AreActors w old states → has_actor w a ≡ true → StepsIn w states new a now work o
+
+-- by its kind this actor may want memory for the work
+abbrev pub MayWantAt : Numbered → ActorName → ℕ → Work → Type 0
+MayWantAt v a now work = IfSome (slice_get v.actors (number_of v.hosts v.media a)) (λ (x : Kept). ActorMayWant x.kind now work)

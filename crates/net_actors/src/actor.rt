@@ -7,7 +7,7 @@ ghost use Rattle.net_base.specs.Duties as duties;
 ghost use Rattle.net_base.specs.World.{IsWorld};
 ghost use Rattle.net_actors.specs.Kept.{IsActorOf, state_of};
 ghost use Rattle.net_actors.specs.Small.{IsSmall};
-ghost use Rattle.net_actors.specs.Stepping.{IsReady, Steps};
+ghost use Rattle.net_actors.specs.Stepping.{IsReady, ActorMayWant, Steps};
 
 use crate::kind::Kind;
 use ndb_index::Index;
@@ -71,6 +71,7 @@ impl Actor {
         ensures name { self.new.name ≡ self.old.name }
         ensures copy { IfOk result (λ o. o.copy ≡ Some o.reply) }
         ensures err { OnErr result (self.new ≡ self.old) }
+        ensures memory { OnErr result (ActorMayWant self.old.kind now work.now) }
     {
         self.kind.step(now, work)
     }

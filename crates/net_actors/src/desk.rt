@@ -1,5 +1,5 @@
 //! The desk of a host.
-ghost use Rattle.std.specs.Prelude.{◌≡◌, IfOk, IsTrue, is_some, Some, true};
+ghost use Rattle.std.specs.Prelude.{◌≡◌, IfOk, IsTrue, OnErr, bytes_eq, codes, is_some, Some, true};
 ghost use Rattle.std.specs.Arc.{arc_value};
 ghost use Rattle.net_base.specs.declared.reply.Reply.TheVariants as reply;
 ghost use Rattle.net_base.specs.Cs.{cs_list};
@@ -7,6 +7,7 @@ ghost use Rattle.net_base.specs.Desk as spec;
 ghost use Rattle.net_base.specs.Paths.{walk as node_at};
 ghost use Rattle.net_base.specs.World.{is_nets};
 ghost use Rattle.net_actors.specs.AtDesk.{Replies, host_of};
+ghost use Rattle.net_actors.specs.Stepping.{desk_takes};
 
 use crate::outcome::answered;
 use cs_resolver::{CsError, answer_indexed};
@@ -73,7 +74,8 @@ impl Desk {
     /// The answer to an event, where there is one.
     pub fn answer(&self, now: u64, event: &Event) -> Result<Outcome, AllocError>
         requires { IsTrue (is_some (spec.desk_reply self.now.db (host_of self.now) event.now now)) }
-        ensures { IfOk result (Replies (spec.desk_reply self.now.db (host_of self.now) event.now now)) }
+        ensures ok { IfOk result (Replies (spec.desk_reply self.now.db (host_of self.now) event.now now)) }
+        ensures memory { OnErr result (desk_takes event.now ≡ true) }
     {
         match event {
             Event::Cs { query } => self.resolve(query.as_slice()),
@@ -116,7 +118,8 @@ fn refused(number: u32) -> Outcome
 
 /// The names in /net, which is the only directory of a desk.
 fn list(alloc: Global, path: &[u8]) -> Result<Outcome, AllocError>
-    ensures { IfOk result (Replies (Some (spec.ls_reply path.now))) }
+    ensures ok { IfOk result (Replies (Some (spec.ls_reply path.now))) }
+    ensures memory { OnErr result (bytes_eq path.now (codes "/net") ≡ true) }
 {
     if path != b"/net".as_slice() {
         return Ok(answered(Reply::NoFile, Reply::NoFile));

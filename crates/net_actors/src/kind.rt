@@ -7,12 +7,13 @@ ghost use Rattle.net_base.specs.Desk.{clock_reply};
 ghost use Rattle.net_base.specs.Duties as duties;
 ghost use Rattle.net_base.specs.Medium.{quiet_medium};
 ghost use Rattle.net_base.specs.World.{IsWorld};
+ghost use Rattle.conversation.specs.Memory.{work_takes};
 ghost use Rattle.conversation.specs.Stands.{IsShort, slot_of, step_at};
 ghost use Rattle.medium.specs.OnMedium.{medium_of as seen_medium};
 ghost use Rattle.net_actors.specs.AtDesk.{IsDeskOf, Replies};
 ghost use Rattle.net_actors.specs.Kept.{IsMediumOf, Keeps, seen};
 ghost use Rattle.net_actors.specs.Small.{IsSmall};
-ghost use Rattle.net_actors.specs.Stepping.{ConvSteps, KindSteps, kind_ready};
+ghost use Rattle.net_actors.specs.Stepping.{ConvSteps, KindSteps, ActorMayWant, kind_ready};
 
 use crate::desk::Desk;
 use crate::media;
@@ -80,6 +81,7 @@ impl Kind {
         requires ready { IsTrue (kind_ready self.old now work.now) }
         ensures ok { IfOk result (KindSteps self.old self.new now work.now) }
         ensures err { OnErr result (self.new ≡ self.old) }
+        ensures memory { OnErr result (ActorMayWant self.old now work.now) }
     {
         match self {
             Kind::Desk(desk) => desk.answer(now, &work.event),
@@ -161,13 +163,14 @@ fn is_answered(conv: &Conv, now: u64, work: &Work) -> bool
 }
 
 /// The answer of a conversation.
-#[tactic(auto, using(crate::proofs::ByKind::is_short, crate::proofs::ByKind::talk_ready))]
+#[tactic(auto, using(crate::proofs::ByKind::is_short, crate::proofs::ByKind::talk_ready, crate::proofs::ByKind::talk_wants))]
 fn talk(conv: &mut Conv, now: u64, work: &Work) -> Result<Outcome, AllocError>
     requires now { now < 2 ^ 63 }
     requires short { IsShort conv.old.conv }
     requires ready { IsTrue (is_some (step_at conv.old now work.now conv.old.conv)) }
     ensures ok { IfOk result (ConvSteps conv.old conv.new now work.now) }
     ensures err { OnErr result (conv.new ≡ conv.old) }
+    ensures memory { OnErr result (work_takes now work.now conv.old.conv ≡ true) }
 {
     conv.step(now, work)
 }

@@ -3,8 +3,8 @@ ghost use Rattle.std.specs.Prelude.{◌≡◌, ◌+◌, ◌^◌, ◌<◌, is_som
 ghost use Rattle.net_base.specs.ActorStep.{replies};
 ghost use Rattle.net_base.specs.Medium.{medium_step};
 ghost use Rattle.medium.specs.OnMedium.{IsPending, medium_of};
-ghost use Rattle.medium.specs.Replies.{reply_of};
-ghost use Rattle.net_actors.specs.Stepping.{MediumSteps, MediumTakes, medium_ready};
+ghost use Rattle.medium.specs.Replies.{NextHasText, reply_of};
+ghost use Rattle.net_actors.specs.Stepping.{MediumMayWant, MediumSteps, MediumTakes, medium_ready};
 
 use crate::outcome::answered;
 use medium::{Laid, Medium};
@@ -28,6 +28,7 @@ pub fn step(medium: &mut Medium, work: &Work) -> Result<Outcome, AllocError>
     requires ready { IsTrue (medium_ready medium.old work.now) }
     ensures ok { IfOk result (MediumSteps medium.old medium.new work.now) }
     ensures err { OnErr result (medium.new ≡ medium.old) }
+    ensures memory { OnErr result (MediumMayWant medium.old work.now.event work.now.with) }
 {
     match (&work.event, &work.with) {
         (Event::Put { to }, With::Packet(packet)) => Ok(laid_outcome(medium.put(*to, packet)?)),
@@ -40,6 +41,7 @@ fn take(medium: &mut Medium) -> Result<Outcome, AllocError>
     requires { IsPending medium.old }
     ensures ok { IfOk result (MediumTakes medium.old medium.new) }
     ensures err { OnErr result (medium.new ≡ medium.old) }
+    ensures memory { OnErr result (NextHasText medium.old) }
 {
     let taken = medium.take()?;
     let frame = taken.frame;

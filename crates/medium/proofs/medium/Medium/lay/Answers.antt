@@ -1,4 +1,4 @@
-use Rattle.std.proofs.Common.{Option, sym, ap, subst, ◌∙◌, option_to_list}
+use Rattle.std.proofs.Common.{Option, sym, subst, option_to_list}
 use Rattle.medium.specs.declared.frame.Frame.{Frame}
 use Rattle.medium.specs.OnMedium.{AllSpelled}
 use Rattle.medium.proofs.Laying.{AllSpelled-joined, spelled_held}

@@ -1,4 +1,4 @@
-use Rattle.std.proofs.Common.{◌≡◌, ℕ, ap, arith, ◌∙◌}
+use Rattle.std.proofs.Common.{◌≡◌, ap, arith, ◌∙◌}
 use Rattle.net_actors.specs.Together.{Numbered, state_in}
 use Rattle.net_actors.proofs.DuesOf.{dues_are, dues_below, one_host}
 use Rattle.net_actors.proofs.actors.Actors.dues.Goals as goal
