@@ -1,4 +1,6 @@
 //! What the workers of a crew know of one another: whether anybody may still record something.
+ghost use Rattle.std.specs.Prelude.{◌≡◌, ◌≤◌, ◌<◌, ◌⊎◌, true};
+ghost use Rattle.workers.specs.Shifts.{many_rounds, one_more, untold_round};
 
 use std::sync::{Condvar, Mutex, Wait};
 use std::thread::yield_now;
@@ -57,7 +59,9 @@ pub struct Shift {
 
 impl Crew {
     /// So many workers, of which none has begun.
-    pub fn new(workers: usize) -> Crew {
+    pub fn new(workers: usize) -> Crew
+        ensures { result.workers ≡ workers }
+    {
         Crew {
             workers,
             rests: Mutex::new(Rests {
@@ -74,7 +78,10 @@ impl Crew {
     }
 
     /// A worker begins.
-    pub fn begin<R: Wait>(&self, rt: &R) -> Shift {
+    pub fn begin<R: Wait>(&self, rt: &R) -> Shift
+        ensures all { result.all ≡ 0 }
+        ensures untold { result.untold ≡ 0 }
+    {
         let mut rests = self.rests.lock(rt);
         rests.begun = rests.begun.saturating_add(1);
         rests.present = rests.present.saturating_add(1);
@@ -87,7 +94,12 @@ impl Crew {
 
     /// A round recorded something. The others are told where many did. The answer is whether the worker goes on: it
     /// doesn't where all others have rested meanwhile.
-    pub fn record<R: Wait>(&self, rt: &R, shift: &mut Shift) -> bool {
+    pub fn record<R: Wait>(&self, rt: &R, shift: &mut Shift) -> bool
+        ensures all { shift.new.all ≡ one_more shift.old.all }
+        // Few rounds are the worker's own affair; many are told.
+        ensures few { one_more shift.old.untold < many_rounds → (result ≡ true) × (shift.new ≡ untold_round shift.old) }
+        ensures many { many_rounds ≤ one_more shift.old.untold → shift.new.untold ≡ 0 }
+    {
         shift.all = shift.all.saturating_add(1);
         shift.untold = shift.untold.saturating_add(1);
         if shift.untold < MANY_ROUNDS {
@@ -106,7 +118,12 @@ impl Crew {
     }
 
     /// None of the worker's players can go on. The others are told of what it recorded.
-    pub fn tell<R: Wait>(&self, rt: &R, shift: &mut Shift) {
+    pub fn tell<R: Wait>(&self, rt: &R, shift: &mut Shift)
+        ensures all { shift.new.all ≡ shift.old.all }
+        ensures told { shift.new.untold ≡ 0 }
+        // Where there is nothing to tell nothing changes.
+        ensures same { shift.old.untold ≡ 0 → shift.new ≡ shift.old }
+    {
         if shift.untold == 0 {
             return;
         }
@@ -119,7 +136,9 @@ impl Crew {
 
     /// How many changes there were, and how often a worker that isn't resting then looks before it rests: once where all
     /// others rest.
-    pub fn look<R: Wait>(&self, rt: &R) -> (u64, u32) {
+    pub fn look<R: Wait>(&self, rt: &R) -> (u64, u32)
+        ensures looks { (result.1 ≡ 1) ⊎ (result.1 ≡ 1000) }
+    {
         let rests = self.rests.lock(rt);
         let others = rests.resting.saturating_add(1) < rests.present;
         (rests.changes, if others { MOST_LOOKS } else { 1 })
