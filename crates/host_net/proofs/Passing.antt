@@ -221,7 +221,7 @@ module _ {T : Type 0} (w : World) (r : Roster) (over : Overs w r) (there : There
             (subst (λ (v : Visit). Advances w r (me ∷ visits left) v answer (with_sight had s2)) is_clock
             (advances_on w r me (visits left) clock (with_sight clock q1) answer had (with_sight had s2)
             (had_still w r over there here me clock.caller (callers_of left) apart_here mine clock.sight p1 q1 h)
-            (lent_one w r over there here me clock.caller (callers_of left) apart_here mine clock.sight p1 q1 h) refl refl refl refl b.left_seen
+            (lent_one w r over there here me clock.caller (callers_of left) apart_here mine clock.sight p1 q1 h) refl refl refl refl refl refl refl refl b.left_seen
             (subst (λ (v : Visit). Advances w r (visits left) (with_sight clock q1) answer v) (sym is_had)
             (subst (λ (v : Visit). Advances w r (visits left) v answer had_now) with_clock advances))))
 

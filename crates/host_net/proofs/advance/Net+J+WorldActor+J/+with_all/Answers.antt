@@ -260,7 +260,7 @@ returns-in-None-split_first_mut-clause-clock g t c =
     ap (λ (l : List (Playing g.row.T.Denot)). l ++ other_players c.args.groups.now) (nil_of c.args.players.now c.in-None.ensures.cases)
     ∙ ap other_players (nil_of c.args.groups.now c.in-None-split_first_mut.ensures.cases) in
     subst (λ (l : List (Playing g.row.T.Denot)). Advances w r (visits l) c.args.clock.now c.decide.result c.decide.new.clock) (sym none)
-    (advances_at w r c.args.clock.now c.decide.result c.decide.new.clock c.decide.ensures.guests leaves.decided leaves.caller leaves.nexts leaves.timely)
+    (advances_at w r c.args.clock.now c.decide.result c.decide.new.clock c.decide.ensures.guests leaves.decided leaves.caller leaves.names leaves.nexts leaves.timely)
 
 pub returns-in-None-split_first_mut-clause-players : goal.returns-in-None-split_first_mut-clause-players
 returns-in-None-split_first_mut-clause-players g t c =
