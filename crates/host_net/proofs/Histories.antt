@@ -45,7 +45,7 @@ module _ (w : World) (r : Roster) (p : Sight) (guests : IsOfGuests w r p.seen) (
       subst (λ (k : ℕ). of_caller k h ≡ of_caller k (entries p.seen)) v.2
       (is.lists v.0 v.1 ∙ (ap (map plain) (sym (alone v.0 v.1)) ∙ sym (lists_are v.0.caller p.seen)))
 
-  one_history : (h : List Entry) → IsHistoryOf w vs h → h ≡ entries p.seen
+  pub one_history : (h : List Entry) → IsHistoryOf w vs h → h ≡ entries p.seen
   one_history h is =
       one (caller_count w) h (entries p.seen) (λ i x there. (is.legal i x there).is_known.1) (λ i x there. (but i x there).is_known.1)
       (same_lists h is)

@@ -1,6 +1,6 @@
 -- What became of the clock, said of the histories of all callers.
-use Rattle.std.proofs.Common.{◌≡◌, ℕ, ◌+◌, ◌<◌, ◌==◌, ◌⊎◌, inl, inr, Bool, true, false, List, [], ◌∷◌, ◌++◌, drop, length, None, map, filter, is_none, if◌then◌else◌, refl, ap, sym, subst, ◌∙◌, arith}
-use Rattle.std.proofs.lemmas.List.{append-nil}
+use Rattle.std.proofs.Common.{◌≡◌, ℕ, ◌+◌, ◌<◌, ◌==◌, ◌⊎◌, inl, inr, Bool, true, false, List, [], ◌∷◌, ◌++◌, drop, length, Some, None, map, filter, is_none, if◌then◌else◌, refl, ap, sym, subst, ◌∙◌, arith}
+use Rattle.std.proofs.lemmas.List.{append-nil, length-map}
 use Rattle.net_base.specs.declared.actor.ActorName.{ActorName}
 use Rattle.net_base.specs.declared.actor.ActorName.TheVariants as name
 use Rattle.net_base.specs.declared.event.Event.TheVariants as event
@@ -12,7 +12,7 @@ use Rattle.net_base.specs.declared.world.Script.{Script}
 use Rattle.net_base.specs.declared.world.World.{World}
 use Rattle.net_base.specs.Callers.{IsClock, caller_of}
 use Rattle.net_base.specs.ActorStep.{Step}
-use Rattle.net_base.specs.Actors.{Actor}
+use Rattle.net_base.specs.Actors.{Actor, actor_step}
 use Rattle.net_base.specs.Calm.{done, limited, movable, stopped, target}
 use Rattle.net_base.specs.Duties.{Duty, duties, ticks}
 use Rattle.net_base.specs.Net.{Net, after}
@@ -28,8 +28,8 @@ use Rattle.net_locks.specs.declared.clock.Advance.TheVariants as advance
 use Rattle.host_net.specs.declared.player.Role.{Role}
 use Rattle.host_net.proofs.Standings.{no_script}
 use Rattle.host_net.proofs.Taking.{all_lent, in_visits, visit_in}
-use Rattle.host_net.proofs.Histories.{AreOne, after_all}
-use Rattle.host_net.specs.Advancing.{Advanced, Advances, AfterAll, ClockRecords, GroupsAreBack, HasMoved, HasRested, StayAtOnce, other_players}
+use Rattle.host_net.proofs.Histories.{AreOne, after_all, one_history}
+use Rattle.host_net.specs.Advancing.{Advanced, Advances, AfterAll, ClockRecords, GroupsAreBack, HasMoved, HasRested, IsHistoryOf, StayAtOnce, moved, other_players}
 use Rattle.host_net.specs.Deciding.{Decided, Moves}
 use Rattle.net_locks.specs.Moving.{IsLeast}
 use Rattle.host_net.specs.Groups.{Grouped, all_members, visits}
@@ -101,25 +101,40 @@ clock_played w r vs old answer new a mine is =
 -- an entry of a caller more stands behind all
 push_from : (c n : ℕ) (log : List Noted) (x : Noted) → (x.entry.caller == c) ≡ true
     → at_from (number.Caller c) n (log ++ x ∷ []) ≡ at_from (number.Caller c) n log ++ (n + length log, x) ∷ []
-push_from c n [] x is = ap (λ (b : Bool). if b then (n, x) ∷ [] else []) is ∙ ap (λ (k : ℕ). (k, x) ∷ []) (omega arith)
-push_from c n (y ∷ log) x is = by_first (y.entry.caller == c) (push_from c (n + 1) log x is ∙ ap (λ (k : ℕ). at_from (number.Caller c) (n + 1) log ++ (k, x) ∷ []) (omega arith))
+push_from c n [] x is =
+    let last : n ≡ n + 0 = omega arith in
+    ap (λ (b : Bool). if b then (n, x) ∷ [] else []) is ∙ ap (λ (k : ℕ). (k, x) ∷ []) last
+push_from c n (y ∷ log) x is =
+    let last : n + 1 + length log ≡ n + length (y ∷ log) = omega arith in
+    by_first (y.entry.caller == c)
+    (push_from c (n + 1) log x is ∙ ap (λ (k : ℕ). at_from (number.Caller c) (n + 1) log ++ (k, x) ∷ []) last)
   where
-    by_first : (b : Bool) → at_from (number.Caller c) (n + 1) (log ++ x ∷ []) ≡ at_from (number.Caller c) (n + 1) log ++ (n + length (y ∷ log), x) ∷ []
-        → (if b then (n, y) ∷ at_from (number.Caller c) (n + 1) (log ++ x ∷ []) else at_from (number.Caller c) (n + 1) (log ++ x ∷ []))
-        ≡ (if b then (n, y) ∷ at_from (number.Caller c) (n + 1) log else at_from (number.Caller c) (n + 1) log) ++ (n + length (y ∷ log), x) ∷ []
+    old new : List (ℕ × Noted)
+    old = at_from (number.Caller c) (n + 1) log
+    new = at_from (number.Caller c) (n + 1) (log ++ x ∷ [])
+
+    by_first : (b : Bool) → new ≡ old ++ (n + length (y ∷ log), x) ∷ []
+        → (if b then (n, y) ∷ new else new) ≡ (if b then (n, y) ∷ old else old) ++ (n + length (y ∷ log), x) ∷ []
     by_first true rest = ap (λ (l : List (ℕ × Noted)). (n, y) ∷ l) rest
     by_first false rest = rest
 
 pushed : (c stamp : ℕ) (log : List Noted) (x : Noted) → x.entry.caller ≡ c → length log ≡ stamp
     → at (number.Caller c) (log ++ x ∷ []) ≡ at (number.Caller c) log ++ (stamp, x) ∷ []
 pushed c stamp log x is long =
+    let last : 0 + length log ≡ stamp = omega (arith, long) in
     push_from c 0 log x (ap (λ (d : ℕ). d == c) is ∙ same_number_is c)
-    ∙ ap (λ (k : ℕ). at (number.Caller c) log ++ (k, x) ∷ []) (omega (arith, long))
+    ∙ ap (λ (k : ℕ). at (number.Caller c) log ++ (k, x) ∷ []) last
 
 -- a move owes its ticks alone
 move_owes : (w : World) (actors : ActorName → Actor) (stamp m : ℕ) (step : Step Actor)
     → duties w actors name.Clock stamp (bare (event.Move m)) step ≡ ticks w actors name.Clock stamp (event.Move m)
 move_owes w actors stamp m step = append-nil (ticks w actors name.Clock stamp (event.Move m))
+
+-- a move of the same caller at the same moment is one
+same_move : (u v : Visit) (m : ℕ) (step : Step Actor) → u.caller ≡ v.caller → u.now ≡ v.now → moved u m step ≡ moved v m step
+same_move u v m step caller now =
+    ap (λ (c : ℕ). made name.Clock c u.now (bare (event.Move m)) None (without_copy step.outcome)) caller
+    ∙ ap (λ (n : ℕ). made name.Clock v.caller n (bare (event.Move m)) None (without_copy step.outcome)) now
 
 module _ {T : Type 0} (w : World) (r : Roster) (gs lent : List (Grouped T)) (p q : Playing T) (answer : Advance)
     (a : Advances w r (visits (other_players lent)) p.visit answer q.visit)
@@ -139,8 +154,13 @@ module _ {T : Type 0} (w : World) (r : Roster) (gs lent : List (Grouped T)) (p q
   pub clock_told : (K : Net → Type 0) → K (noted_net w a.at.sight.seen) → AfterAll w (visits (all_members gs)) K
   clock_told K holds = after_all w r a.at.sight a.guests one but net (visits (all_members gs)) all alone K holds
 
+  -- the one history is that which the clock's guest has seen
+  history_is : (h : List Entry) → IsHistoryOf w (visits (all_members gs)) h → h ≡ entries a.at.sight.seen
+  history_is h is = one_history w r a.at.sight a.guests one but net (visits (all_members gs)) all alone h is
+
   same_entries : own q.visit.caller q.visit.sight ≡ own p.visit.caller a.to.sight
-  same_entries = ap (λ (c : ℕ). own c q.visit.sight) a.caller_is ∙ ap (at (number.Caller p.visit.caller)) a.seen_is
+  same_entries =
+      ap (λ (c : ℕ). own c q.visit.sight) a.caller_is ∙ ap (at (number.Caller p.visit.caller)) a.seen_is
 
   stays : own p.visit.caller a.at.sight ≡ own p.visit.caller p.visit.sight
   stays = (a.gathers.kept p.visit mine).stays.alone
@@ -153,28 +173,68 @@ module _ {T : Type 0} (w : World) (r : Roster) (gs lent : List (Grouped T)) (p q
         now_is = a.now_is ∙ (ap (λ (v : Visit). v.now) same ∙ a.now_at);
       }
 
-  has_moved : (m : ℕ) → Moves w a.at m a.to → HasMoved w (visits (all_members gs)) m p.visit q.visit
-  has_moved m d =
-      let t = d.entry.turn in
-      let c = p.visit.caller in
-      let x : ℕ → ℕ → Noted = λ k now. made name.Clock k now (bare (event.Move m)) None (without_copy t.step.outcome) in
-      let mine_is : x a.at.caller a.at.now ≡ x c p.visit.now = ap (λ (k : ℕ). x k a.at.now) a.caller_at ∙ ap (x c) a.now_at in
-      record {
-        stamp = d.entry.stamp;
-        outcome = without_copy t.step.outcome;
-        gains =
-            same_entries ∙ (ap (at (number.Caller c)) t.seen
-            ∙ (pushed c d.entry.stamp t.past (x a.at.caller a.at.now) a.caller_at t.stamp_is
-            ∙ (ap (λ (l : List (ℕ × Noted)). l ++ (d.entry.stamp, x a.at.caller a.at.now) ∷ []) (ap (at (number.Caller c)) d.entry.whole ∙ stays)
-            ∙ ap (λ (y : Noted). own c p.visit.sight ++ (d.entry.stamp, y) ∷ []) mine_is)));
-        free = sym a.owed_at ∙ d.free;
-        owes =
-            clock_told (λ (net_ : Net). q.visit.owed ≡ ticks w net_.actors name.Clock d.entry.stamp (event.Move m))
-            (a.owed_is ∙ (t.owed
-            ∙ (ap (λ (ds : List Duty). drop 1 ds ++ duties w (noted_net w t.past).actors name.Clock d.entry.stamp (bare (event.Move m)) t.step) d.free
-            ∙ (move_owes w (noted_net w t.past).actors d.entry.stamp m t.step
-            ∙ ap (λ (l : List Noted). ticks w (noted_net w l).actors name.Clock d.entry.stamp (event.Move m)) d.entry.whole))));
-      }
+  module _ (m : ℕ) (d : Moves w a.at m a.to) where
+    past_is : d.entry.turn.past ≡ a.at.sight.seen
+    past_is = d.entry.whole
+
+    gains : own q.visit.caller q.visit.sight
+        ≡ own p.visit.caller p.visit.sight ++ (d.entry.stamp, moved p.visit m d.entry.turn.step) ∷ []
+    gains =
+        let t = d.entry.turn in
+        let c = p.visit.caller in
+        same_entries
+        ∙ (ap (at (number.Caller c)) t.seen
+        ∙ (pushed c d.entry.stamp t.past (moved a.at m t.step) a.caller_at t.stamp_is
+        ∙ (ap (λ (l : List (ℕ × Noted)). l ++ (d.entry.stamp, moved a.at m t.step) ∷ [])
+            (ap (at (number.Caller c)) past_is ∙ stays)
+        ∙ ap (λ (y : Noted). own c p.visit.sight ++ (d.entry.stamp, y) ∷ []) (same_move a.at p.visit m t.step a.caller_at a.now_at))))
+
+    stamp_is : (h : List Entry) → IsHistoryOf w (visits (all_members gs)) h → d.entry.stamp ≡ length h
+    stamp_is h is =
+        sym d.entry.turn.stamp_is
+        ∙ (ap length past_is
+        ∙ (sym (length-map a.at.sight.seen (λ (x : Noted). x.entry)) ∙ ap length (sym (history_is h is))))
+
+    stepped : AfterAll w (visits (all_members gs)) (λ (net_ : Net).
+        actor_step w name.Clock (net_.actors name.Clock) p.visit.now (bare (event.Move m)) ≡ Some d.entry.turn.step)
+    stepped =
+        let t = d.entry.turn in
+        clock_told
+        (λ (net_ : Net). actor_step w name.Clock (net_.actors name.Clock) p.visit.now (bare (event.Move m)) ≡ Some t.step)
+        (subst (λ (l : List Noted).
+            actor_step w name.Clock ((noted_net w l).actors name.Clock) p.visit.now (bare (event.Move m)) ≡ Some t.step)
+        past_is
+        (subst (λ (now : ℕ).
+            actor_step w name.Clock ((noted_net w t.past).actors name.Clock) now (bare (event.Move m)) ≡ Some t.step)
+        a.now_at t.stepped))
+
+    owed_after : (l : List Noted) → l ≡ a.at.sight.seen → drop 1 a.at.owed ++ duties w (noted_net w l).actors
+        name.Clock d.entry.stamp (bare (event.Move m)) d.entry.turn.step
+        ≡ ticks w (noted_net w a.at.sight.seen).actors name.Clock d.entry.stamp (event.Move m)
+    owed_after l is =
+        let t = d.entry.turn in
+        let s = d.entry.stamp in
+        ap (λ (ds : List Duty). drop 1 ds ++ duties w (noted_net w l).actors name.Clock s (bare (event.Move m)) t.step) d.free
+        ∙ (move_owes w (noted_net w l).actors s m t.step
+        ∙ ap (λ (k : List Noted). ticks w (noted_net w k).actors name.Clock s (event.Move m)) is)
+
+    owes : AfterAll w (visits (all_members gs)) (λ (net_ : Net).
+        q.visit.owed ≡ ticks w net_.actors name.Clock d.entry.stamp (event.Move m))
+    owes =
+        clock_told (λ (net_ : Net). q.visit.owed ≡ ticks w net_.actors name.Clock d.entry.stamp (event.Move m))
+        (a.owed_is ∙ (d.entry.turn.owed ∙ owed_after d.entry.turn.past past_is))
+
+    has_moved : HasMoved w (visits (all_members gs)) m p.visit q.visit
+    has_moved =
+        record {
+          stamp = d.entry.stamp;
+          step = d.entry.turn.step;
+          gains = gains;
+          free = sym a.owed_at ∙ d.free;
+          stamp_is = stamp_is;
+          stepped = stepped;
+          owes = owes;
+        }
 
   records_by : (x : Advance) → Decided w a.at x a.to → ClockRecords w (visits (all_members gs)) p.visit x q.visit
   records_by (advance.Moved m) d = has_moved m d

@@ -8,8 +8,10 @@ use Rattle.std.specs.Prelude.{◌≡◌, ℕ, ◌<◌, ◌⊎◌, ◌==◌, true
 use Rattle.net_base.specs.declared.actor.ActorName.TheVariants as name
 use Rattle.net_base.specs.declared.event.Event.TheVariants as event
 use Rattle.net_base.specs.declared.history.Entry.{Entry}
-use Rattle.net_base.specs.declared.history.Outcome.{Outcome}
+use Rattle.net_base.specs.declared.noted.Noted.{Noted}
 use Rattle.net_base.specs.declared.world.World.{World}
+use Rattle.net_base.specs.ActorStep.{Step}
+use Rattle.net_base.specs.Actors.{Actor, actor_step}
 use Rattle.net_base.specs.Calm.{done, limited, movable, stopped, target}
 use Rattle.net_base.specs.Duties.{ticks}
 use Rattle.net_base.specs.Legal.{IsLegal, IsTimed}
@@ -21,7 +23,7 @@ use Rattle.journal.specs.declared.tokens.Sight.{Sight}
 use Rattle.journal.specs.Closing.{plain}
 use Rattle.due_moments.specs.Marks.{Covers}
 use Rattle.guest_laws.specs.Guests.{IsOfGuests}
-use Rattle.locked.specs.Acts.{made}
+use Rattle.locked.specs.Acts.{made, without_copy}
 use Rattle.guest_laws.specs.Own.{AreNext, AreTimely}
 use Rattle.guest_laws.specs.Works.{entries}
 use Rattle.net_locks.specs.declared.clock.Advance.{Advance}
@@ -104,14 +106,21 @@ StayAtOnce answer old new = (m : ℕ) → AreAt m old → AreAt m new
 
 -- What the clock recorded.
 
--- Its list gained one entry, its move to this moment, where it owed nothing. Now it owes the ticks of that entry: one for
--- each conversation whose due moment has come, in the order of host, protocol and slot.
+-- the entry of its move to this moment, with what its step gives
+abbrev pub moved : Visit → ℕ → Step Actor → Noted
+moved v m step = made name.Clock v.caller v.now (bare (event.Move m)) None (without_copy step.outcome)
+
+-- Its list gained one entry, its move to this moment, after all that the callers had recorded and where it owed nothing.
+-- Now it owes the ticks of that entry: one for each conversation whose due moment has come, in the order of host, protocol
+-- and slot.
 pub record HasMoved (w : World) (all : List Visit) (m : ℕ) (old new : Visit) : Type 0 where
   pub stamp : ℕ
-  pub outcome : Outcome
-  pub gains : own new.caller new.sight
-      ≡ own old.caller old.sight ++ (stamp, made name.Clock old.caller old.now (bare (event.Move m)) None outcome) ∷ []
+  pub step : Step Actor
+  pub gains : own new.caller new.sight ≡ own old.caller old.sight ++ (stamp, moved old m step) ∷ []
   pub free : old.owed ≡ []
+  pub stamp_is : (h : List Entry) → IsHistoryOf w all h → stamp ≡ length h
+  pub stepped : AfterAll w all (λ (net : Net).
+      actor_step w name.Clock (net.actors name.Clock) old.now (bare (event.Move m)) ≡ Some step)
   pub owes : AfterAll w all (λ (net : Net). new.owed ≡ ticks w net.actors name.Clock stamp (event.Move m))
 
 -- it recorded nothing, and has the moment that it had
