@@ -109,12 +109,13 @@ push_from c n (y ∷ log) x is =
     by_first (y.entry.caller == c)
     (push_from c (n + 1) log x is ∙ ap (λ (k : ℕ). at_from (number.Caller c) (n + 1) log ++ (k, x) ∷ []) last)
   where
-    old new : List (ℕ × Noted)
-    old = at_from (number.Caller c) (n + 1) log
-    new = at_from (number.Caller c) (n + 1) (log ++ x ∷ [])
-
-    by_first : (b : Bool) → new ≡ old ++ (n + length (y ∷ log), x) ∷ []
-        → (if b then (n, y) ∷ new else new) ≡ (if b then (n, y) ∷ old else old) ++ (n + length (y ∷ log), x) ∷ []
+    by_first : (b : Bool)
+        → at_from (number.Caller c) (n + 1) (log ++ x ∷ [])
+        ≡ at_from (number.Caller c) (n + 1) log ++ (n + length (y ∷ log), x) ∷ []
+        → (if b then (n, y) ∷ at_from (number.Caller c) (n + 1) (log ++ x ∷ [])
+        else at_from (number.Caller c) (n + 1) (log ++ x ∷ []))
+        ≡ (if b then (n, y) ∷ at_from (number.Caller c) (n + 1) log else at_from (number.Caller c) (n + 1) log)
+        ++ (n + length (y ∷ log), x) ∷ []
     by_first true rest = ap (λ (l : List (ℕ × Noted)). (n, y) ∷ l) rest
     by_first false rest = rest
 
@@ -186,7 +187,7 @@ module _ {T : Type 0} (w : World) (r : Roster) (gs lent : List (Grouped T)) (p q
         ∙ (ap (at (number.Caller c)) t.seen
         ∙ (pushed c d.entry.stamp t.past (moved a.at m t.step) a.caller_at t.stamp_is
         ∙ (ap (λ (l : List (ℕ × Noted)). l ++ (d.entry.stamp, moved a.at m t.step) ∷ [])
-            (ap (at (number.Caller c)) past_is ∙ stays)
+        (ap (at (number.Caller c)) past_is ∙ stays)
         ∙ ap (λ (y : Noted). own c p.visit.sight ++ (d.entry.stamp, y) ∷ []) (same_move a.at p.visit m t.step a.caller_at a.now_at))))
 
     stamp_is : (h : List Entry) → IsHistoryOf w (visits (all_members gs)) h → d.entry.stamp ≡ length h
@@ -202,10 +203,10 @@ module _ {T : Type 0} (w : World) (r : Roster) (gs lent : List (Grouped T)) (p q
         clock_told
         (λ (net_ : Net). actor_step w name.Clock (net_.actors name.Clock) p.visit.now (bare (event.Move m)) ≡ Some t.step)
         (subst (λ (l : List Noted).
-            actor_step w name.Clock ((noted_net w l).actors name.Clock) p.visit.now (bare (event.Move m)) ≡ Some t.step)
+        actor_step w name.Clock ((noted_net w l).actors name.Clock) p.visit.now (bare (event.Move m)) ≡ Some t.step)
         past_is
         (subst (λ (now : ℕ).
-            actor_step w name.Clock ((noted_net w t.past).actors name.Clock) now (bare (event.Move m)) ≡ Some t.step)
+        actor_step w name.Clock ((noted_net w t.past).actors name.Clock) now (bare (event.Move m)) ≡ Some t.step)
         a.now_at t.stepped))
 
     owed_after : (l : List Noted) → l ≡ a.at.sight.seen → drop 1 a.at.owed ++ duties w (noted_net w l).actors
