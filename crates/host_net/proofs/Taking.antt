@@ -1,8 +1,8 @@
 -- The clock's player is taken out of its group, and put back: no other group has one, and the other players stay.
-use Rattle.std.proofs.Common.{◌≡◌, ℕ, zero, suc, ◌==◌, ◌⊎◌, inl, inr, true, false, List, [], ◌∷◌, ◌++◌, drop, length, map, take, Option, Some, None, slice_get, slice_set, refl, ap, sym, subst, ◌∙◌, arith}
+use Rattle.std.proofs.Common.{◌≡◌, ℕ, zero, suc, ◌==◌, ◌⊎◌, inl, inr, true, false, List, [], ◌∷◌, ◌++◌, map, Option, Some, None, slice_get, slice_set, refl, ap, sym, subst, ◌∙◌}
 use Rattle.std.specs.Option.{option_map}
 use Rattle.std.proofs.lemmas.Bool.{true≢false}
-use Rattle.std.proofs.lemmas.List.{append-nil, drop_all, map-append, take_all}
+use Rattle.std.proofs.lemmas.List.{map-append}
 use Rattle.std.proofs.lemmas.Option.{none-some, same_Some}
 use Rattle.net_base.specs.declared.world.World.{World}
 use Rattle.net_base.specs.Stamped.{In}
@@ -370,20 +370,6 @@ module _ {T : Type 0} where
   -- nothing was done, for want of memory
   pub kept_itself : (w : World) (gs : List (Grouped T)) → GroupsAreKept w gs advance.Memory gs
   kept_itself w gs = each_itself w (visits (all_members gs)) gs
-
-  length_kept : (w : World) (all : List Visit) (answer : Advance) (gs ks : List (Grouped T)) → EachIsKept w all answer gs ks → length ks ≡ length gs
-  length_kept w all answer [] [] kept = refl
-  length_kept w all answer [] (k ∷ ks) kept = absurd kept
-  length_kept w all answer (g ∷ gs) [] kept = absurd kept
-  length_kept w all answer (g ∷ gs) (k ∷ ks) kept = ap suc (length_kept w all answer gs ks kept.1)
-
-  -- what a vector has after its elements were written as a slice
-  pub written : (w : World) (all : List Visit) (answer : Advance) (n : ℕ) (gs ks : List (Grouped T)) → length gs ≡ n → EachIsKept w all answer gs ks
-      → take n (ks ++ drop (length ks) gs) ≡ ks
-  written w all answer n gs ks many kept =
-      let same = length_kept w all answer gs ks kept in
-      ap (λ (l : List (Grouped T)). take n (ks ++ l)) (drop_all (length ks) gs (omega (arith, same)))
-      ∙ (ap (take n) (append-nil ks) ∙ take_all n ks (omega (arith, same, many)))
 
   callers_kept : (w : World) (ps qs : List (Playing T)) → AreKept w ps qs → callers_of qs ≡ callers_of ps
   callers_kept w [] [] kept = refl
