@@ -73,6 +73,7 @@ module _ {T : Type 0} (w : World) (r : Roster) (gs lent : List (Grouped T)) (pla
 
     module _ (answer : Advance) (advances : Advances w r (visits (other_players lent)) p.visit answer q.visit) (mine : IsWith w r p.visit p.visit.sight)
         (one : AreOne) (but : ButScripts w r) (net : SameNets w r) (role : q.role ≡ p.role) (task : q.task ≡ p.task) (lost : q.lost ≡ p.lost)
+        (counts : q.counts ≡ p.counts)
         (new : List (Grouped T)) (is : (k : Grouped T) → slice_get ks place ≡ Some k → new ≡ slice_set ks place (filled k q)) where
       clock : IsClockKept w (visits (all_members gs)) answer p q
       clock =
@@ -82,6 +83,7 @@ module _ {T : Type 0} (w : World) (r : Roster) (gs lent : List (Grouped T)) (pla
             role_is = role;
             task_is = task;
             lost_is = lost;
+            counts_is = counts;
             records = clock_records w r gs lent p q answer advances placed mine (has_guest r.callers gs dealt.callers) one
                 (but advances.at.sight.seen advances.guests) (net advances.at.sight.seen advances.guests);
           }

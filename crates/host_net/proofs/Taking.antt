@@ -353,14 +353,14 @@ module _ {T : Type 0} where
   players_itself : (w : World) (ps : List (Playing T)) → AreKept w ps ps
   players_itself w [] = tt
   players_itself w (p ∷ ps) = (
-    record { caller_is = refl; owed_is = refl; names_are = refl; role_is = refl; task_is = refl; lost_is = refl; stays = stays_itself w p.visit },
+    record { caller_is = refl; owed_is = refl; names_are = refl; role_is = refl; task_is = refl; lost_is = refl; counts_is = refl; stays = stays_itself w p.visit },
     players_itself w ps,
   )
 
   clock_itself : (w : World) (all : List Visit) (c : Option (Playing T)) → ClockStays w all advance.Memory c c
   clock_itself w all None = tt
   clock_itself w all (Some q) =
-      record { caller_is = refl; names_are = refl; role_is = refl; task_is = refl; lost_is = refl; records = record { own_is = refl; owed_is = refl; now_is = refl } }
+      record { caller_is = refl; names_are = refl; role_is = refl; task_is = refl; lost_is = refl; counts_is = refl; records = record { own_is = refl; owed_is = refl; now_is = refl } }
 
   each_itself : (w : World) (all : List Visit) (gs : List (Grouped T)) → EachIsKept w all advance.Memory gs gs
   each_itself w all [] = tt

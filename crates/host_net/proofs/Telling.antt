@@ -71,9 +71,9 @@ module _ {T : Type 0} (asks : T → List Bound → Option Request) (after : T �
     asked_played answer is plays =
         turn_played w is.ask.actor (bare is.ask.event) None old new same answer is.takes (next_asked w old s is.ask script is.free (asked_next is.ask is.asks)) plays
 
-    pub asked_plays : (who : Role) (lost : Bool) → Asked w s.host q old turn.NotReady new → PlaysOn w (playing old who t lost) played.Waits (playing new who t lost)
-    asked_plays who lost is =
-        turn_plays w is.ask.actor (bare is.ask.event) None old new same who t lost is.names turn.NotReady is.takes
+    pub asked_plays : (who : Role) (lost counts : Bool) → Asked w s.host q old turn.NotReady new → PlaysOn w (playing old who t lost counts) played.Waits (playing new who t lost counts)
+    asked_plays who lost counts is =
+        turn_plays w is.ask.actor (bare is.ask.event) None old new same who t lost counts is.names turn.NotReady is.takes
         (λ unready stays owed. subst (λ (ds : List Duty). IsUnready w new ds) (sym (owed ∙ is.free)) (unready_next w old new same is.ask unready stays (asked_next is.ask is.asks)))
 
     pub asked_stays : Asked w s.host q old turn.NotReady new → GoesOn Stands s new t
@@ -138,43 +138,43 @@ module _ {T : Type 0} (asks : T → List Bound → Option Request) (after : T �
     script_keeps s script turn.Memory does result t' lost' heard =
         alike t' lost' heard.1 heard.2 (subst (λ (v : Visit). IsPlayer Stands w v who t lost) (sym (does s script).2) player)
 
-    told_plays : (result : Played) (r : Reply) (t' : T) (lost' : Bool) → Told after t lost r result t' lost' → HasMore old new
-        → PlaysOn w (playing old who t lost) result (playing new who t' lost')
-    told_plays played.Recorded r t' lost' told more_it = (more_it, told.1)
-    told_plays played.Waits r t' lost' told more_it = absurd told
-    told_plays played.Memory r t' lost' told more_it = inr (more_it, told.0, told.1)
+    told_plays : (counts : Bool) (result : Played) (r : Reply) (t' : T) (lost' : Bool) → Told after t lost r result t' lost' → HasMore old new
+        → PlaysOn w (playing old who t lost counts) result (playing new who t' lost' counts)
+    told_plays counts played.Recorded r t' lost' told more_it = (more_it, told.1)
+    told_plays counts played.Waits r t' lost' told more_it = absurd told
+    told_plays counts played.Memory r t' lost' told more_it = inr (more_it, told.0, told.1)
 
     -- nothing is recorded
-    unmoved_by : (result is : Played) (t' : T) (lost' : Bool) → result ≡ is → t' ≡ t → lost' ≡ lost → PlaysOn w (playing old who t lost) is (playing new who t lost)
-        → PlaysOn w (playing old who t lost) result (playing new who t' lost')
-    unmoved_by result is t' lost' came task told plays =
-        subst (λ (r : Played). PlaysOn w (playing old who t lost) r (playing new who t' lost')) (sym came)
-        (subst (λ (x : T). PlaysOn w (playing old who t lost) is (playing new who x lost')) (sym task)
-        (subst (λ (b : Bool). PlaysOn w (playing old who t lost) is (playing new who t b)) (sym told) plays))
+    unmoved_by : (counts : Bool) (result is : Played) (t' : T) (lost' : Bool) → result ≡ is → t' ≡ t → lost' ≡ lost → PlaysOn w (playing old who t lost counts) is (playing new who t lost counts)
+        → PlaysOn w (playing old who t lost counts) result (playing new who t' lost' counts)
+    unmoved_by counts result is t' lost' came task told plays =
+        subst (λ (r : Played). PlaysOn w (playing old who t lost counts) r (playing new who t' lost' counts)) (sym came)
+        (subst (λ (x : T). PlaysOn w (playing old who t lost counts) is (playing new who x lost' counts)) (sym task)
+        (subst (λ (b : Bool). PlaysOn w (playing old who t lost counts) is (playing new who t b counts)) (sym told) plays))
 
-    still : IsUnmoved (playing old who t lost) (playing old who t lost)
-    still = record { own_is = refl; owed = refl; names = refl; task = refl; lost = refl }
+    still : (counts : Bool) → IsUnmoved (playing old who t lost counts) (playing old who t lost counts)
+    still counts = record { own_is = refl; owed = refl; names = refl; task = refl; lost = refl }
 
     -- and this is what its turn came to
-    pub script_plays : (s : Script) → caller_of w old.caller ≡ IsScript s → (answer : Turn) → Operates answer → (result : Played) (t' : T) (lost' : Bool)
-        → Heard after t lost answer result t' lost' → PlaysOn w (playing old who t lost) result (playing new who t' lost')
-    script_plays s script (turn.Recorded stamp r) does result t' lost' heard =
-        told_plays result r t' lost' heard (asked_more old new same s script t (goes_from s script) q asks_it stamp r (does s script))
-    script_plays s script turn.NotReady does result t' lost' heard =
-        unmoved_by result played.Waits t' lost' heard.0 heard.1 heard.2
-        (asked_plays old new same s script t (goes_from s script) q asks_it who lost (does s script))
-    script_plays s script turn.Owes does result t' lost' heard = absurd ((does s script).0 free)
-    script_plays s script turn.Limit does result t' lost' heard =
-        unmoved_by result played.Waits t' lost' heard.0 heard.1 heard.2
-        (subst (λ (v : Visit). PlaysOn w (playing old who t lost) played.Waits (playing v who t lost)) (sym (does s script).2) (still, inl (does s script).1))
-    script_plays s script turn.Memory does result t' lost' heard =
-        unmoved_by result played.Memory t' lost' heard.0 heard.1 heard.2
-        (subst (λ (v : Visit). PlaysOn w (playing old who t lost) played.Memory (playing v who t lost)) (sym (does s script).2) (inl still))
+    pub script_plays : (counts : Bool) (s : Script) → caller_of w old.caller ≡ IsScript s → (answer : Turn) → Operates answer → (result : Played) (t' : T) (lost' : Bool)
+        → Heard after t lost answer result t' lost' → PlaysOn w (playing old who t lost counts) result (playing new who t' lost' counts)
+    script_plays counts s script (turn.Recorded stamp r) does result t' lost' heard =
+        told_plays counts result r t' lost' heard (asked_more old new same s script t (goes_from s script) q asks_it stamp r (does s script))
+    script_plays counts s script turn.NotReady does result t' lost' heard =
+        unmoved_by counts result played.Waits t' lost' heard.0 heard.1 heard.2
+        (asked_plays old new same s script t (goes_from s script) q asks_it who lost counts (does s script))
+    script_plays counts s script turn.Owes does result t' lost' heard = absurd ((does s script).0 free)
+    script_plays counts s script turn.Limit does result t' lost' heard =
+        unmoved_by counts result played.Waits t' lost' heard.0 heard.1 heard.2
+        (subst (λ (v : Visit). PlaysOn w (playing old who t lost counts) played.Waits (playing v who t lost counts)) (sym (does s script).2) (still counts, inl (does s script).1))
+    script_plays counts s script turn.Memory does result t' lost' heard =
+        unmoved_by counts result played.Memory t' lost' heard.0 heard.1 heard.2
+        (subst (λ (v : Visit). PlaysOn w (playing old who t lost counts) played.Memory (playing v who t lost counts)) (sym (does s script).2) (inl (still counts)))
 
   -- a script whose task is through, at its turn
-  pub through_plays : (v : Visit) (who : Role) (t : T) (lost : Bool) → who ≡ role.Script → lost ≡ false → IsPlayer Stands w v who t lost → v.owed ≡ [] → asks t v.names ≡ None
-      → PlaysOn w (playing v who t lost) played.Waits (playing v who t lost)
-  through_plays v who t lost script told player free none =
+  pub through_plays : (v : Visit) (who : Role) (t : T) (lost counts : Bool) → who ≡ role.Script → lost ≡ false → IsPlayer Stands w v who t lost → v.owed ≡ [] → asks t v.names ≡ None
+      → PlaysOn w (playing v who t lost counts) played.Waits (playing v who t lost counts)
+  through_plays v who t lost counts script told player free none =
       let s = subst (λ (r : Role). HasRole w v.caller r) script player.role_is in
       (record { own_is = refl; owed = refl; names = refl; task = refl; lost = refl }, through_waits v s.0 t s.1 free (player.goes_on s.0 s.1 told) none)
 
@@ -189,5 +189,5 @@ module _ {T : Type 0} (asks : T → List Bound → Option Request) (after : T �
     pub heard_keeps : IsPlayer Stands w new who t' lost'
     heard_keeps = script_keeps old new same who t lost told player free q (sym asks_it) keeps fit scripted.0 scripted.1 answer does result t' lost' heard
 
-    pub heard_plays : PlaysOn w (playing old who t lost) result (playing new who t' lost')
-    heard_plays = script_plays old new same who t lost told player free q (sym asks_it) keeps fit scripted.0 scripted.1 answer does result t' lost' heard
+    pub heard_plays : (counts : Bool) → PlaysOn w (playing old who t lost counts) result (playing new who t' lost' counts)
+    heard_plays counts = script_plays old new same who t lost told player free q (sym asks_it) keeps fit counts scripted.0 scripted.1 answer does result t' lost' heard

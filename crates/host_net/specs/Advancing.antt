@@ -165,6 +165,7 @@ module _ {T : Type 0} where
     pub role_is : new.role ≡ old.role
     pub task_is : new.task ≡ old.task
     pub lost_is : new.lost ≡ old.lost
+    pub counts_is : new.counts ≡ old.counts
     pub stays : Stays w old.visit.caller old.visit.sight new.visit.sight
 
   -- so are these, each in its place
@@ -209,6 +210,7 @@ module _ {T : Type 0} where
     pub role_is : new.role ≡ old.role
     pub task_is : new.task ≡ old.task
     pub lost_is : new.lost ≡ old.lost
+    pub counts_is : new.counts ≡ old.counts
     pub records : ClockRecords w all old.visit answer new.visit
 
   abbrev pub ClockStays : World → List Visit → Advance → Option (Playing T) → Option (Playing T) → Type 0

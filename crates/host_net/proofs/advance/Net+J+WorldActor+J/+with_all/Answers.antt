@@ -24,8 +24,8 @@ invariant_of-clock g t c =
     let clock = c.clock.inside in
     let old = visit clock.caller clock.now clock.pass clock.duties.list clock.fids.names in
     let one =
-    ap (λ (i : Inside g.row.J.Denot g.row.T.Denot). player i.guest i.role i.task i.lost) c.first-inside.view_is ∙ c.first.view_is in
-    clock_with w r (law.over w r) (law.there w r) (law.here w r) c.first-inside.inside.0.1.0 c.first-inside.inside.0.1.1.0 c.first-inside.inside.0.1.1.1.0 mine old
+    ap (λ (i : Inside g.row.J.Denot g.row.T.Denot). player i.guest i.role i.task i.lost i.counts) c.first-inside.view_is ∙ c.first.view_is in
+    clock_with w r (law.over w r) (law.there w r) (law.here w r) c.first-inside.inside.0.1.0 c.first-inside.inside.0.1.1.0 c.first-inside.inside.0.1.1.1.0 c.first-inside.inside.0.1.1.1.1.1.0 mine old
     c.args.clock.now c.in-Some.first.now c.in-Some.others.now c.args.players.now c.args.groups.now one c.in-Some.ensures.cases.0 c.clock.view_is c.args.standings.now
     c.requires.apart c.requires.lent c.first-inside.invariant.guest c.hand_over.new.from c.hand_over.new.to c.hand_over.ensures
     (c.calendars_stay_known.ensures w) clock.duties.list clock.host clock.touched clock.calendar c.clock.invariant
@@ -40,13 +40,13 @@ with_all-answer-requires g t c κs within =
     let clock = c.clock.inside in
     let old = visit clock.caller clock.now clock.pass clock.duties.list clock.fids.names in
     let one =
-    ap (λ (i : Inside g.row.J.Denot g.row.T.Denot). player i.guest i.role i.task i.lost) c.first-inside.view_is ∙ c.first.view_is in
+    ap (λ (i : Inside g.row.J.Denot g.row.T.Denot). player i.guest i.role i.task i.lost i.counts) c.first-inside.view_is ∙ c.first.view_is in
     let apart =
-    next_apart w r (law.over w r) (law.there w r) (law.here w r) c.first-inside.inside.0.1.0 c.first-inside.inside.0.1.1.0 c.first-inside.inside.0.1.1.1.0 mine old
+    next_apart w r (law.over w r) (law.there w r) (law.here w r) c.first-inside.inside.0.1.0 c.first-inside.inside.0.1.1.0 c.first-inside.inside.0.1.1.1.0 c.first-inside.inside.0.1.1.1.1.1.0 mine old
     c.args.clock.now c.in-Some.first.now c.in-Some.others.now c.args.players.now c.args.groups.now one c.in-Some.ensures.cases.0 c.clock.view_is c.args.standings.now
     c.requires.apart c.requires.lent c.first-inside.invariant.guest c.hand_over.new.from c.hand_over.new.to c.hand_over.ensures in
     let lent =
-    next_lent w r (law.over w r) (law.there w r) (law.here w r) c.first-inside.inside.0.1.0 c.first-inside.inside.0.1.1.0 c.first-inside.inside.0.1.1.1.0 mine old
+    next_lent w r (law.over w r) (law.there w r) (law.here w r) c.first-inside.inside.0.1.0 c.first-inside.inside.0.1.1.0 c.first-inside.inside.0.1.1.1.0 c.first-inside.inside.0.1.1.1.1.1.0 mine old
     c.args.clock.now c.in-Some.first.now c.in-Some.others.now c.args.players.now c.args.groups.now one c.in-Some.ensures.cases.0 c.clock.view_is c.args.standings.now
     c.requires.apart c.requires.lent c.first-inside.invariant.guest c.hand_over.new.from c.hand_over.new.to c.hand_over.ensures in
     let less : length c.in-Some.others.now + players_left c.args.groups.now < t = omega (arith, c.in-Some.ensures.cases.1, c.decreases) in (
@@ -76,11 +76,11 @@ hand_over-requires-in-Some g t c =
     let clock = c.clock.inside in
     let old = visit clock.caller clock.now clock.pass clock.duties.list clock.fids.names in
     let one =
-    ap (λ (i : Inside g.row.J.Denot g.row.T.Denot). player i.guest i.role i.task i.lost) c.first-inside.view_is ∙ c.first.view_is in
+    ap (λ (i : Inside g.row.J.Denot g.row.T.Denot). player i.guest i.role i.task i.lost i.counts) c.first-inside.view_is ∙ c.first.view_is in
     let had = c.clock-in-Some.inside in
     let after = visit had.caller had.now had.pass had.duties.list had.fids.names in
     let is =
-    still_with w r (law.over w r) (law.there w r) (law.here w r) c.first-inside.inside.0.1.0 c.first-inside.inside.0.1.1.0 c.first-inside.inside.0.1.1.1.0 mine old
+    still_with w r (law.over w r) (law.there w r) (law.here w r) c.first-inside.inside.0.1.0 c.first-inside.inside.0.1.1.0 c.first-inside.inside.0.1.1.1.0 c.first-inside.inside.0.1.1.1.1.1.0 mine old
     c.args.clock.now c.in-Some.first.now c.in-Some.others.now c.args.players.now c.args.groups.now one c.in-Some.ensures.cases.0 c.clock.view_is c.args.standings.now
     c.requires.apart c.requires.lent c.first-inside.invariant.guest c.hand_over.new.from c.hand_over.new.to c.hand_over.ensures
     after c.with_all-answer.new.clock c.clock-in-Some.view_is c.with_all-answer.result (visit clock.caller clock.now c.hand_over.new.to clock.duties.list clock.fids.names) refl
@@ -97,10 +97,10 @@ invariant_of-first-inside g t c =
     let clock = c.clock.inside in
     let old = visit clock.caller clock.now clock.pass clock.duties.list clock.fids.names in
     let one =
-    ap (λ (i : Inside g.row.J.Denot g.row.T.Denot). player i.guest i.role i.task i.lost) c.first-inside.view_is ∙ c.first.view_is in
+    ap (λ (i : Inside g.row.J.Denot g.row.T.Denot). player i.guest i.role i.task i.lost i.counts) c.first-inside.view_is ∙ c.first.view_is in
     let had = c.clock-in-Some.inside in
     let after = visit had.caller had.now had.pass had.duties.list had.fids.names in
-    me_visits w r (law.over w r) (law.there w r) (law.here w r) c.first-inside.inside.0.1.0 c.first-inside.inside.0.1.1.0 c.first-inside.inside.0.1.1.1.0 mine old
+    me_visits w r (law.over w r) (law.there w r) (law.here w r) c.first-inside.inside.0.1.0 c.first-inside.inside.0.1.1.0 c.first-inside.inside.0.1.1.1.0 c.first-inside.inside.0.1.1.1.1.1.0 mine old
     c.args.clock.now c.in-Some.first.now c.in-Some.others.now c.args.players.now c.args.groups.now one c.in-Some.ensures.cases.0 c.clock.view_is c.args.standings.now
     c.requires.apart c.requires.lent c.first-inside.invariant.guest c.hand_over.new.from c.hand_over.new.to c.hand_over.ensures
     after c.with_all-answer.new.clock c.clock-in-Some.view_is c.with_all-answer.result (visit clock.caller clock.now c.hand_over.new.to clock.duties.list clock.fids.names) refl
@@ -118,11 +118,11 @@ invariant_of-first g t c =
     let clock = c.clock.inside in
     let old = visit clock.caller clock.now clock.pass clock.duties.list clock.fids.names in
     let one =
-    ap (λ (i : Inside g.row.J.Denot g.row.T.Denot). player i.guest i.role i.task i.lost) c.first-inside.view_is ∙ c.first.view_is in
+    ap (λ (i : Inside g.row.J.Denot g.row.T.Denot). player i.guest i.role i.task i.lost i.counts) c.first-inside.view_is ∙ c.first.view_is in
     let had = c.clock-in-Some.inside in
     let after = visit had.caller had.now had.pass had.duties.list had.fids.names in
     let back =
-    me_back w r (law.over w r) (law.there w r) (law.here w r) c.first-inside.inside.0.1.0 c.first-inside.inside.0.1.1.0 c.first-inside.inside.0.1.1.1.0 mine old
+    me_back w r (law.over w r) (law.there w r) (law.here w r) c.first-inside.inside.0.1.0 c.first-inside.inside.0.1.1.0 c.first-inside.inside.0.1.1.1.0 c.first-inside.inside.0.1.1.1.1.1.0 mine old
     c.args.clock.now c.in-Some.first.now c.in-Some.others.now c.args.players.now c.args.groups.now one c.in-Some.ensures.cases.0 c.clock.view_is c.args.standings.now
     c.requires.apart c.requires.lent c.first-inside.invariant.guest c.hand_over.new.from c.hand_over.new.to c.hand_over.ensures
     after c.with_all-answer.new.clock c.clock-in-Some.view_is c.with_all-answer.result (visit clock.caller clock.now c.hand_over.new.to clock.duties.list clock.fids.names) refl
@@ -148,10 +148,10 @@ invariant_of-clock-in-Some g t c =
     let clock = c.clock.inside in
     let old = visit clock.caller clock.now clock.pass clock.duties.list clock.fids.names in
     let one =
-    ap (λ (i : Inside g.row.J.Denot g.row.T.Denot). player i.guest i.role i.task i.lost) c.first-inside.view_is ∙ c.first.view_is in
+    ap (λ (i : Inside g.row.J.Denot g.row.T.Denot). player i.guest i.role i.task i.lost i.counts) c.first-inside.view_is ∙ c.first.view_is in
     let had = c.clock-in-Some.inside in
     let after = visit had.caller had.now had.pass had.duties.list had.fids.names in
-    clock_visits w r (law.over w r) (law.there w r) (law.here w r) c.first-inside.inside.0.1.0 c.first-inside.inside.0.1.1.0 c.first-inside.inside.0.1.1.1.0 mine old
+    clock_visits w r (law.over w r) (law.there w r) (law.here w r) c.first-inside.inside.0.1.0 c.first-inside.inside.0.1.1.0 c.first-inside.inside.0.1.1.1.0 c.first-inside.inside.0.1.1.1.1.1.0 mine old
     c.args.clock.now c.in-Some.first.now c.in-Some.others.now c.args.players.now c.args.groups.now one c.in-Some.ensures.cases.0 c.clock.view_is c.args.standings.now
     c.requires.apart c.requires.lent c.first-inside.invariant.guest c.hand_over.new.from c.hand_over.new.to c.hand_over.ensures
     after c.with_all-answer.new.clock c.clock-in-Some.view_is c.with_all-answer.result (visit clock.caller clock.now c.hand_over.new.to clock.duties.list clock.fids.names) refl
@@ -178,10 +178,10 @@ returns-in-Some-clause-others g t c =
     let clock = c.clock.inside in
     let old = visit clock.caller clock.now clock.pass clock.duties.list clock.fids.names in
     let one =
-    ap (λ (i : Inside g.row.J.Denot g.row.T.Denot). player i.guest i.role i.task i.lost) c.first-inside.view_is ∙ c.first.view_is in
+    ap (λ (i : Inside g.row.J.Denot g.row.T.Denot). player i.guest i.role i.task i.lost i.counts) c.first-inside.view_is ∙ c.first.view_is in
     let had = c.clock-in-Some.inside in
     let after = visit had.caller had.now had.pass had.duties.list had.fids.names in
-    others_stay_here w r (law.over w r) (law.there w r) (law.here w r) c.first-inside.inside.0.1.0 c.first-inside.inside.0.1.1.0 c.first-inside.inside.0.1.1.1.0 mine old
+    others_stay_here w r (law.over w r) (law.there w r) (law.here w r) c.first-inside.inside.0.1.0 c.first-inside.inside.0.1.1.0 c.first-inside.inside.0.1.1.1.0 c.first-inside.inside.0.1.1.1.1.1.0 mine old
     c.args.clock.now c.in-Some.first.now c.in-Some.others.now c.args.players.now c.args.groups.now one c.in-Some.ensures.cases.0 c.clock.view_is c.args.standings.now
     c.requires.apart c.requires.lent c.first-inside.invariant.guest c.hand_over.new.from c.hand_over.new.to c.hand_over.ensures
     after c.with_all-answer.new.clock c.clock-in-Some.view_is c.with_all-answer.result (visit clock.caller clock.now c.hand_over.new.to clock.duties.list clock.fids.names) refl
@@ -197,10 +197,10 @@ returns-in-Some-clause-clock g t c =
     let clock = c.clock.inside in
     let old = visit clock.caller clock.now clock.pass clock.duties.list clock.fids.names in
     let one =
-    ap (λ (i : Inside g.row.J.Denot g.row.T.Denot). player i.guest i.role i.task i.lost) c.first-inside.view_is ∙ c.first.view_is in
+    ap (λ (i : Inside g.row.J.Denot g.row.T.Denot). player i.guest i.role i.task i.lost i.counts) c.first-inside.view_is ∙ c.first.view_is in
     let had = c.clock-in-Some.inside in
     let after = visit had.caller had.now had.pass had.duties.list had.fids.names in
-    advances_here w r (law.over w r) (law.there w r) (law.here w r) c.first-inside.inside.0.1.0 c.first-inside.inside.0.1.1.0 c.first-inside.inside.0.1.1.1.0 mine old
+    advances_here w r (law.over w r) (law.there w r) (law.here w r) c.first-inside.inside.0.1.0 c.first-inside.inside.0.1.1.0 c.first-inside.inside.0.1.1.1.0 c.first-inside.inside.0.1.1.1.1.1.0 mine old
     c.args.clock.now c.in-Some.first.now c.in-Some.others.now c.args.players.now c.args.groups.now one c.in-Some.ensures.cases.0 c.clock.view_is c.args.standings.now
     c.requires.apart c.requires.lent c.first-inside.invariant.guest c.hand_over.new.from c.hand_over.new.to c.hand_over.ensures
     after c.with_all-answer.new.clock c.clock-in-Some.view_is c.with_all-answer.result (visit clock.caller clock.now c.hand_over.new.to clock.duties.list clock.fids.names) refl
@@ -216,10 +216,10 @@ returns-in-Some-clause-players g t c =
     let clock = c.clock.inside in
     let old = visit clock.caller clock.now clock.pass clock.duties.list clock.fids.names in
     let one =
-    ap (λ (i : Inside g.row.J.Denot g.row.T.Denot). player i.guest i.role i.task i.lost) c.first-inside.view_is ∙ c.first.view_is in
+    ap (λ (i : Inside g.row.J.Denot g.row.T.Denot). player i.guest i.role i.task i.lost i.counts) c.first-inside.view_is ∙ c.first.view_is in
     let had = c.clock-in-Some.inside in
     let after = visit had.caller had.now had.pass had.duties.list had.fids.names in
-    are_back w r (law.over w r) (law.there w r) (law.here w r) c.first-inside.inside.0.1.0 c.first-inside.inside.0.1.1.0 c.first-inside.inside.0.1.1.1.0 mine old
+    are_back w r (law.over w r) (law.there w r) (law.here w r) c.first-inside.inside.0.1.0 c.first-inside.inside.0.1.1.0 c.first-inside.inside.0.1.1.1.0 c.first-inside.inside.0.1.1.1.1.1.0 mine old
     c.args.clock.now c.in-Some.first.now c.in-Some.others.now c.args.players.now c.args.groups.now one c.in-Some.ensures.cases.0 c.clock.view_is c.args.standings.now
     c.requires.apart c.requires.lent c.first-inside.invariant.guest c.hand_over.new.from c.hand_over.new.to c.hand_over.ensures
     after c.with_all-answer.new.clock c.clock-in-Some.view_is c.with_all-answer.result (visit clock.caller clock.now c.hand_over.new.to clock.duties.list clock.fids.names) refl

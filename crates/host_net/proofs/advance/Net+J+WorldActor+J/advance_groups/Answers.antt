@@ -22,7 +22,7 @@ pub with_all-answer-requires-clause-clock : goal.with_all-answer-requires-clause
 with_all-answer-requires-clause-clock g c =
     let w = g.J.Placing.world in
     let r = g.J.Naming.run.roster in
-    let p = player c.clock.inside.guest c.clock.inside.role c.clock.inside.task c.clock.inside.lost in
+    let p = player c.clock.inside.guest c.clock.inside.role c.clock.inside.task c.clock.inside.lost c.clock.inside.counts in
     let taken =
     subst (λ (x : Playing g.row.T.Denot). IsTaken c.args.groups.now x c.in-Some.place c.take_clock.new.groups) (sym c.clock.view_is) c.in-Some.ensures.some in
     is_clock w r c.args.groups.now c.take_clock.new.groups c.in-Some.place p taken c.requires.dealt
@@ -31,7 +31,7 @@ pub with_all-answer-requires-clause-apart : goal.with_all-answer-requires-clause
 with_all-answer-requires-clause-apart g c =
     let w = g.J.Placing.world in
     let r = g.J.Naming.run.roster in
-    let p = player c.clock.inside.guest c.clock.inside.role c.clock.inside.task c.clock.inside.lost in
+    let p = player c.clock.inside.guest c.clock.inside.role c.clock.inside.task c.clock.inside.lost c.clock.inside.counts in
     let taken =
     subst (λ (x : Playing g.row.T.Denot). IsTaken c.args.groups.now x c.in-Some.place c.take_clock.new.groups) (sym c.clock.view_is) c.in-Some.ensures.some in
     clock_alone w r c.args.groups.now c.take_clock.new.groups c.in-Some.place p taken c.requires.dealt
@@ -40,7 +40,7 @@ pub with_all-answer-requires-clause-lent : goal.with_all-answer-requires-clause-
 with_all-answer-requires-clause-lent g c =
     let w = g.J.Placing.world in
     let r = g.J.Naming.run.roster in
-    let p = player c.clock.inside.guest c.clock.inside.role c.clock.inside.task c.clock.inside.lost in
+    let p = player c.clock.inside.guest c.clock.inside.role c.clock.inside.task c.clock.inside.lost c.clock.inside.counts in
     let taken =
     subst (λ (x : Playing g.row.T.Denot). IsTaken c.args.groups.now x c.in-Some.place c.take_clock.new.groups) (sym c.clock.view_is) c.in-Some.ensures.some in
     let mine = itself w r c.clock.inside.guest c.clock.inside.guest.sight refl c.guest_keeps.ensures in
@@ -50,17 +50,17 @@ pub put_clock-requires : goal.put_clock-requires
 put_clock-requires g c =
     let w = g.J.Placing.world in
     let r = g.J.Naming.run.roster in
-    let p = player c.clock.inside.guest c.clock.inside.role c.clock.inside.task c.clock.inside.lost in
+    let p = player c.clock.inside.guest c.clock.inside.role c.clock.inside.task c.clock.inside.lost c.clock.inside.counts in
     let taken =
     subst (λ (x : Playing g.row.T.Denot). IsTaken c.args.groups.now x c.in-Some.place c.take_clock.new.groups) (sym c.clock.view_is) c.in-Some.ensures.some in
-    let q = player c.with_all-answer.new.clock c.clock.inside.role c.clock.inside.task c.clock.inside.lost in
+    let q = player c.with_all-answer.new.clock c.clock.inside.role c.clock.inside.task c.clock.inside.lost c.clock.inside.counts in
     place_within w r c.args.groups.now c.take_clock.new.groups c.in-Some.place p taken c.requires.dealt q c.with_all-answer.new.groups c.with_all-answer.ensures.groups
 
 pub invariant_of-clock : goal.invariant_of-clock
 invariant_of-clock g c =
     let w = g.J.Placing.world in
     let r = g.J.Naming.run.roster in
-    let p = player c.clock.inside.guest c.clock.inside.role c.clock.inside.task c.clock.inside.lost in
+    let p = player c.clock.inside.guest c.clock.inside.role c.clock.inside.task c.clock.inside.lost c.clock.inside.counts in
     let taken =
     subst (λ (x : Playing g.row.T.Denot). IsTaken c.args.groups.now x c.in-Some.place c.take_clock.new.groups) (sym c.clock.view_is) c.in-Some.ensures.some in
     let mine = itself w r c.clock.inside.guest c.clock.inside.guest.sight refl c.guest_keeps.ensures in
@@ -82,50 +82,50 @@ pub returns-clause-seats : goal.returns-clause-seats
 returns-clause-seats g c =
     let w = g.J.Placing.world in
     let r = g.J.Naming.run.roster in
-    let p = player c.clock.inside.guest c.clock.inside.role c.clock.inside.task c.clock.inside.lost in
+    let p = player c.clock.inside.guest c.clock.inside.role c.clock.inside.task c.clock.inside.lost c.clock.inside.counts in
     let taken =
     subst (λ (x : Playing g.row.T.Denot). IsTaken c.args.groups.now x c.in-Some.place c.take_clock.new.groups) (sym c.clock.view_is) c.in-Some.ensures.some in
-    let q = player c.with_all-answer.new.clock c.clock.inside.role c.clock.inside.task c.clock.inside.lost in
+    let q = player c.with_all-answer.new.clock c.clock.inside.role c.clock.inside.task c.clock.inside.lost c.clock.inside.counts in
     let mine = itself w r c.clock.inside.guest c.clock.inside.guest.sight refl c.guest_keeps.ensures in
     all_seated w r c.args.groups.now c.take_clock.new.groups c.in-Some.place p taken c.requires.dealt q c.with_all-answer.new.groups c.with_all-answer.ensures.groups
     c.with_all-answer.result c.with_all-answer.ensures.clock mine c.histories_are_their_callers.ensures (c.histories_of_guests_are_legal.ensures.but_scripts w r)
-    (c.histories_of_guests_are_legal.ensures.net w r) refl refl refl c.put_clock.new.groups c.put_clock.ensures
+    (c.histories_of_guests_are_legal.ensures.net w r) refl refl refl refl c.put_clock.new.groups c.put_clock.ensures
 
 pub returns-clause-kept : goal.returns-clause-kept
 returns-clause-kept g c =
     let w = g.J.Placing.world in
     let r = g.J.Naming.run.roster in
-    let p = player c.clock.inside.guest c.clock.inside.role c.clock.inside.task c.clock.inside.lost in
+    let p = player c.clock.inside.guest c.clock.inside.role c.clock.inside.task c.clock.inside.lost c.clock.inside.counts in
     let taken =
     subst (λ (x : Playing g.row.T.Denot). IsTaken c.args.groups.now x c.in-Some.place c.take_clock.new.groups) (sym c.clock.view_is) c.in-Some.ensures.some in
-    let q = player c.with_all-answer.new.clock c.clock.inside.role c.clock.inside.task c.clock.inside.lost in
+    let q = player c.with_all-answer.new.clock c.clock.inside.role c.clock.inside.task c.clock.inside.lost c.clock.inside.counts in
     let mine = itself w r c.clock.inside.guest c.clock.inside.guest.sight refl c.guest_keeps.ensures in
     all_kept w r c.args.groups.now c.take_clock.new.groups c.in-Some.place p taken c.requires.dealt q c.with_all-answer.new.groups c.with_all-answer.ensures.groups
     c.with_all-answer.result c.with_all-answer.ensures.clock mine c.histories_are_their_callers.ensures (c.histories_of_guests_are_legal.ensures.but_scripts w r)
-    (c.histories_of_guests_are_legal.ensures.net w r) refl refl refl c.put_clock.new.groups c.put_clock.ensures
+    (c.histories_of_guests_are_legal.ensures.net w r) refl refl refl refl c.put_clock.new.groups c.put_clock.ensures
 
 pub returns-clause-moment : goal.returns-clause-moment
 returns-clause-moment g c =
     let w = g.J.Placing.world in
     let r = g.J.Naming.run.roster in
-    let p = player c.clock.inside.guest c.clock.inside.role c.clock.inside.task c.clock.inside.lost in
+    let p = player c.clock.inside.guest c.clock.inside.role c.clock.inside.task c.clock.inside.lost c.clock.inside.counts in
     let taken =
     subst (λ (x : Playing g.row.T.Denot). IsTaken c.args.groups.now x c.in-Some.place c.take_clock.new.groups) (sym c.clock.view_is) c.in-Some.ensures.some in
-    let q = player c.with_all-answer.new.clock c.clock.inside.role c.clock.inside.task c.clock.inside.lost in
+    let q = player c.with_all-answer.new.clock c.clock.inside.role c.clock.inside.task c.clock.inside.lost c.clock.inside.counts in
     let mine = itself w r c.clock.inside.guest c.clock.inside.guest.sight refl c.guest_keeps.ensures in
     all_at_once w r c.args.groups.now c.take_clock.new.groups c.in-Some.place p taken c.requires.dealt q c.with_all-answer.new.groups c.with_all-answer.ensures.groups
     c.with_all-answer.result c.with_all-answer.ensures.clock mine c.histories_are_their_callers.ensures (c.histories_of_guests_are_legal.ensures.but_scripts w r)
-    (c.histories_of_guests_are_legal.ensures.net w r) refl refl refl c.put_clock.new.groups c.put_clock.ensures
+    (c.histories_of_guests_are_legal.ensures.net w r) refl refl refl refl c.put_clock.new.groups c.put_clock.ensures
 
 pub returns-clause-answer : goal.returns-clause-answer
 returns-clause-answer g c =
     let w = g.J.Placing.world in
     let r = g.J.Naming.run.roster in
-    let p = player c.clock.inside.guest c.clock.inside.role c.clock.inside.task c.clock.inside.lost in
+    let p = player c.clock.inside.guest c.clock.inside.role c.clock.inside.task c.clock.inside.lost c.clock.inside.counts in
     let taken =
     subst (λ (x : Playing g.row.T.Denot). IsTaken c.args.groups.now x c.in-Some.place c.take_clock.new.groups) (sym c.clock.view_is) c.in-Some.ensures.some in
-    let q = player c.with_all-answer.new.clock c.clock.inside.role c.clock.inside.task c.clock.inside.lost in
+    let q = player c.with_all-answer.new.clock c.clock.inside.role c.clock.inside.task c.clock.inside.lost c.clock.inside.counts in
     let mine = itself w r c.clock.inside.guest c.clock.inside.guest.sight refl c.guest_keeps.ensures in
     all_advanced w r c.args.groups.now c.take_clock.new.groups c.in-Some.place p taken c.requires.dealt q c.with_all-answer.new.groups c.with_all-answer.ensures.groups
     c.with_all-answer.result c.with_all-answer.ensures.clock mine c.histories_are_their_callers.ensures (c.histories_of_guests_are_legal.ensures.but_scripts w r)
-    (c.histories_of_guests_are_legal.ensures.net w r) refl refl refl c.put_clock.new.groups c.put_clock.ensures
+    (c.histories_of_guests_are_legal.ensures.net w r) refl refl refl refl c.put_clock.new.groups c.put_clock.ensures

@@ -28,8 +28,8 @@ returns-clause-turn g c =
     let p = c.player.inside in
     let some : p.guest.owed ≢ [] = λ none. c.requires.owes (sym (ap (λ x. x.visit.owed) c.player.view_is) ∙ none) in
     let first = first_some p.guest.owed some in
-    let new = playing c.serve.new.guest p.role p.task p.lost in
+    let new = playing c.serve.new.guest p.role p.task p.lost p.counts in
     subst (λ x. PlaysOn w x c.played_of.result new) c.player.view_is
-    (subst (λ (r : Played). PlaysOn w (playing p.guest p.role p.task p.lost) r new) (sym c.played_of.ensures)
+    (subst (λ (r : Played). PlaysOn w (playing p.guest p.role p.task p.lost p.counts) r new) (sym c.played_of.ensures)
     (duty_plays w first.0 p.guest c.serve.new.guest c.serve.ensures.same c.serve.ensures.names _ (first_of p.guest.owed first.0 first.1) c.serve.result
-    (c.serve.ensures.turn first.0 first.1) p.role p.task p.lost))
+    (c.serve.ensures.turn first.0 first.1) p.role p.task p.lost p.counts))
