@@ -1,5 +1,7 @@
 -- How many steps of the scripts are answered.
-use Rattle.std.proofs.Common.{◌≡◌, ℕ, zero, suc, ◌+◌, ◌-◌, ◌<◌, ◌≤◌, ◌≢◌, ◌%◌, ◌==◌, ◌⊎◌, inl, inr, Bool, true, false, not, List, [], ◌∷◌, ◌++◌, length, drop, filter, map, take, Option, Some, None, IfNone, IfSome, is_none, nat_lt, slice_get, slice_index_or, sum_by, get_or, if◌then◌else◌, zero-add, refl, ap, sym, subst, ◌∙◌, arith}
+use Rattle.std.proofs.Common.{◌≡◌, ℕ, zero, suc, ◌+◌, ◌-◌, ◌<◌, ◌≤◌, ◌≢◌, ◌%◌, ◌==◌, ◌⊎◌, inl, inr, Bool, true, false, not, List, [], ◌∷◌}
+use Rattle.std.proofs.Common.{◌++◌, length, drop, filter, map, take, Option, Some, None, IfNone, IfSome, is_none, nat_lt, slice_get}
+use Rattle.std.proofs.Common.{slice_index_or, sum_by, get_or, if◌then◌else◌, zero-add, refl, ap, sym, subst, ◌∙◌, arith}
 use Rattle.std.specs.List.{enumerate_from}
 use Rattle.std.specs.Option.{option_map, option_map_or}
 use Rattle.std.proofs.lemmas.List.{map-append, take_all, take_more}
@@ -28,7 +30,8 @@ use Rattle.host_net.proofs.Seating.{get_seats, in_parts, seats_long}
 use Rattle.host_net.proofs.Standings.{no_script, seats_in}
 use Rattle.host_net.proofs.Taking.{not_itself, visit_in, with_front}
 use Rattle.host_net.specs.Answering.{AreAfter, CannotTell, CannotTellOf, CanTell, IsAnswered, IsAnsweredOf}
-use Rattle.host_net.specs.Groups.{Grouped, IsDealt, NotIn, Seats, all_callers, all_members, all_seats, caller, callers_in, callers_of, members, seats, visits, with_last}
+use Rattle.host_net.specs.Groups.{Grouped, IsDealt, NotIn, Seats, all_callers, all_members, all_seats, caller, callers_in, callers_of}
+use Rattle.host_net.specs.Groups.{members, seats, visits, with_last}
 use Rattle.host_net.specs.Playing.{IsCounted, Playing, replies_of}
 use Rattle.host_net.specs.Visits.{Visit}
 
@@ -98,7 +101,8 @@ answered_in w vs h v n s are there is script =
     ap (λ (es : List Entry). map (λ (x : Entry). x.reply) (filter (λ (x : Entry). is_none x.cites) es)) same in
     is s script ∙ (ap (λ (b : Bool). answered (entries v.sight.seen) v.caller b s) (sym owing) ∙ by_owes replies (owes (after w h) v.caller))
   where
-    by_owes : own_replies h v.caller ≡ own_replies (entries v.sight.seen) v.caller → (b : Bool) → answered (entries v.sight.seen) v.caller b s ≡ answered h v.caller b s
+    by_owes : own_replies h v.caller ≡ own_replies (entries v.sight.seen) v.caller → (b : Bool) → answered (entries v.sight.seen) v.caller b s
+        ≡ answered h v.caller b s
     by_owes replies true = ap (λ (rs : List Reply). finished_by (take (length rs - 1) rs) s) (sym replies)
     by_owes replies false = ap (λ (rs : List Reply). finished_by rs s) (sym replies)
 
@@ -154,7 +158,8 @@ answers_next w ps n a x lt is all = λ h are.
 pub answers_first : (w : World) (vs : List Visit) → AnswersTo w vs 0 0
 answers_first w vs = λ h are. zero-add (answered_steps w h)
 
-pub answers_all : (w : World) (vs : List Visit) (n a : ℕ) → length w.scripts ≤ n → AnswersTo w vs n a → (h : List Entry) → AreAfter w vs h → a ≡ answered_steps w h
+pub answers_all : (w : World) (vs : List Visit) (n a : ℕ) → length w.scripts ≤ n → AnswersTo w vs n a → (h : List Entry) → AreAfter w vs h
+    → a ≡ answered_steps w h
 answers_all w vs n a le all h are =
     let none : answered_from w h n ≡ 0 = ap (λ (xs : List Script). sum_by (answered_by w h) (enumerate_from n xs)) (past_all w.scripts n le) in
     omega (arith, all h are, none)
@@ -188,7 +193,8 @@ module _ {T : Type 0} where
   found_here ps i p lt is = got_in ps i p p lt is
 
   -- it isn't the caller's
-  pub none_yet : (c : ℕ) (ps : List (Playing T)) (i : ℕ) (p : Playing T) → i < length ps → p ≡ get_or ps i p → NotIn c (callers_of (take i ps)) → (caller p ≡ c → ⊥)
+  pub none_yet : (c : ℕ) (ps : List (Playing T)) (i : ℕ) (p : Playing T) → i < length ps → p ≡ get_or ps i p → NotIn c (callers_of (take i ps))
+      → (caller p ≡ c → ⊥)
       → NotIn c (callers_of (take (i + 1) ps))
   none_yet c ps i p lt is none other =
       subst (λ (l : List (Playing T)). NotIn c (callers_of l)) (sym (take_more ps i p lt ∙ ap (λ (x : Playing T). take i ps ++ x ∷ []) (sym is)))

@@ -67,7 +67,8 @@ request_away : (h : ℕ) (names : List Bound) (q : Request) → IsAway (request_
 request_away h names (request.Open called path m) = either (is_bound names called) _ _ refl (open_away h (openable (walk path) m))
 request_away h names (request.Read called count) = bound_away (fid_of called names) _ _ refl (λ f. either (reads f.mode) _ _ refl refl)
 request_away h names (request.Write called text) =
-    bound_away (fid_of called names) _ _ refl (λ f. either (writes f.mode) (puts h f f.file text (Ends names) (Ends names)) _ (puts_away h f f.file text (Ends names) (Ends names)) refl)
+    bound_away (fid_of called names) _ _ refl
+    (λ f. either (writes f.mode) (puts h f f.file text (Ends names) (Ends names)) _ (puts_away h f f.file text (Ends names) (Ends names)) refl)
 request_away h names (request.Close called) = bound_away (fid_of called names) _ _ refl (λ f. refl)
 request_away h names (request.Cs query) = refl
 request_away h names (request.Ls path) = ls_away h (walk path)
@@ -86,7 +87,8 @@ planned_away h names q ask is = head_away (request_play h names q) ask (request_
 
 -- Room.
 
-room_if : (b : Bindings) (called : List ℕ) → b.reserved ≡ Some called → (bound : Bool) (o : Option Fid) → HasRoom b (if bound then None else option_map (λ (f : Fid). called) o)
+room_if : (b : Bindings) (called : List ℕ) → b.reserved ≡ Some called → (bound : Bool) (o : Option Fid)
+    → HasRoom b (if bound then None else option_map (λ (f : Fid). called) o)
 room_if b called is true o = tt
 room_if b called is false None = tt
 room_if b called is false (Some f) = is

@@ -21,7 +21,8 @@ lists_from : (c n : ℕ) (log : List Noted) → entries_from (number.Caller c) n
 lists_from c n [] = refl
 lists_from c n (x ∷ log) = by_test (lists_from c (n + 1) log) (x.entry.caller == c)
   where
-    by_test : entries_from (number.Caller c) (n + 1) (entries log) ≡ map plain (at_from (number.Caller c) (n + 1) log) → (b : Bool) → (if b then (n, x.entry) ∷ entries_from (number.Caller c) (n + 1) (entries log) else entries_from (number.Caller c) (n + 1) (entries log))
+    by_test : entries_from (number.Caller c) (n + 1) (entries log) ≡ map plain (at_from (number.Caller c) (n + 1) log) → (b : Bool)
+        → (if b then (n, x.entry) ∷ entries_from (number.Caller c) (n + 1) (entries log) else entries_from (number.Caller c) (n + 1) (entries log))
         ≡ map plain (if b then (n, x) ∷ at_from (number.Caller c) (n + 1) log else at_from (number.Caller c) (n + 1) log)
     by_test rest true = ap (λ (l : List (ℕ × Entry)). (n, x.entry) ∷ l) rest
     by_test rest false = rest

@@ -1,5 +1,6 @@
 -- What became of the clock, said of the histories of all callers.
-use Rattle.std.proofs.Common.{◌≡◌, ℕ, ◌+◌, ◌<◌, ◌==◌, ◌⊎◌, inl, inr, Bool, true, false, List, [], ◌∷◌, ◌++◌, drop, length, Some, None, map, filter, is_none, if◌then◌else◌, refl, ap, sym, subst, ◌∙◌, arith}
+use Rattle.std.proofs.Common.{◌≡◌, ℕ, ◌+◌, ◌<◌, ◌==◌, ◌⊎◌, inl, inr, Bool, true, false, List, [], ◌∷◌, ◌++◌, drop, length, Some, None, map}
+use Rattle.std.proofs.Common.{filter, is_none, if◌then◌else◌, refl, ap, sym, subst, ◌∙◌, arith}
 use Rattle.std.proofs.lemmas.List.{append-nil, length-map}
 use Rattle.net_base.specs.declared.actor.ActorName.{ActorName}
 use Rattle.net_base.specs.declared.actor.ActorName.TheVariants as name
@@ -29,7 +30,8 @@ use Rattle.host_net.specs.declared.player.Role.{Role}
 use Rattle.host_net.proofs.Standings.{no_script}
 use Rattle.host_net.proofs.Taking.{all_lent, in_visits, visit_in}
 use Rattle.host_net.proofs.Histories.{AreOne, after_all, one_history}
-use Rattle.host_net.specs.Advancing.{Advanced, Advances, AfterAll, ClockRecords, GroupsAreBack, HasMoved, HasRested, IsHistoryOf, StayAtOnce, moved, other_players}
+use Rattle.host_net.specs.Advancing.{Advanced, Advances, AfterAll, ClockRecords, GroupsAreBack, HasMoved, HasRested, IsHistoryOf}
+use Rattle.host_net.specs.Advancing.{StayAtOnce, moved, other_players}
 use Rattle.host_net.specs.Deciding.{Decided, Moves}
 use Rattle.net_locks.specs.Moving.{IsLeast}
 use Rattle.host_net.specs.Groups.{Grouped, all_members, visits}
@@ -45,7 +47,8 @@ by_from : (c n : ℕ) (log : List Noted) → by (entries log) c ≡ map (λ (y :
 by_from c n [] = refl
 by_from c n (x ∷ log) = by_test (by_from c (n + 1) log) (x.entry.caller == c)
   where
-    by_test : by (entries log) c ≡ map (λ (y : ℕ × Noted). y.1.entry) (at_from (number.Caller c) (n + 1) log) → (b : Bool) → (if b then x.entry ∷ by (entries log) c else by (entries log) c)
+    by_test : by (entries log) c ≡ map (λ (y : ℕ × Noted). y.1.entry) (at_from (number.Caller c) (n + 1) log) → (b : Bool)
+        → (if b then x.entry ∷ by (entries log) c else by (entries log) c)
         ≡ map (λ (y : ℕ × Noted). y.1.entry) (if b then (n, x) ∷ at_from (number.Caller c) (n + 1) log else at_from (number.Caller c) (n + 1) log)
     by_test rest true = ap (λ (l : List Entry). x.entry ∷ l) rest
     by_test rest false = rest

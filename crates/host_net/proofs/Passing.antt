@@ -183,7 +183,8 @@ module _ {T : Type 0} (w : World) (r : Roster) (over : Overs w r) (there : There
         me_visits stays_known ds host m k is home touched forgotten kept at_home covers forgets known =
             record {
               guest = me_back.guest;
-              here = is.here ∙ sym (returned_moment w r over there here me clock.caller (callers_of left) apart_here mine clock.sight p1 q1 h had.sight stay_here p2 s2 b);
+              here = is.here ∙ sym (returned_moment w r over there here me clock.caller (callers_of left)
+                  apart_here mine clock.sight p1 q1 h had.sight stay_here p2 s2 b);
               early = is.early;
               home = at_home;
               covers = forgets (own me.caller p2) (subst (λ (l : List (ℕ × Noted)). Covers l touched) (sym me_back.stays.alone) covers);
@@ -202,7 +203,8 @@ module _ {T : Type 0} (w : World) (r : Roster) (over : Overs w r) (there : There
               guest = subst (λ (c : ℕ). IsGuest w r c s2 ds) (sym had_caller)
                   (clock_guest_after w r over there here me clock.caller (callers_of left) apart_here mine clock.sight p1 q1 h had.sight stay_here p2 s2 b ds
                   (subst (λ (c : ℕ). IsGuest w r c had.sight ds) had_caller is.guest));
-              here = is.here ∙ sym (clock_moment_after w r over there here me clock.caller (callers_of left) apart_here mine clock.sight p1 q1 h had.sight stay_here p2 s2 b);
+              here = is.here ∙ sym (clock_moment_after w r over there here me clock.caller (callers_of left)
+                  apart_here mine clock.sight p1 q1 h had.sight stay_here p2 s2 b);
               early = is.early;
               home = is.home;
               covers = subst (λ (l : List (ℕ × Noted)). Covers l m) (sym stays.alone) is.covers;
@@ -221,17 +223,29 @@ module _ {T : Type 0} (w : World) (r : Roster) (over : Overs w r) (there : There
             (subst (λ (v : Visit). Advances w r (me ∷ visits left) v answer (with_sight had s2)) is_clock
             (advances_on w r me (visits left) clock (with_sight clock q1) answer had (with_sight had s2)
             (had_still w r over there here me clock.caller (callers_of left) apart_here mine clock.sight p1 q1 h)
-            (lent_one w r over there here me clock.caller (callers_of left) apart_here mine clock.sight p1 q1 h) refl refl refl refl refl refl refl refl b.left_seen
+            (lent_one w r over there here me clock.caller (callers_of left) apart_here mine clock.sight p1 q1 h)
+            refl refl refl refl refl refl refl refl b.left_seen
             (subst (λ (v : Visit). Advances w r (visits left) (with_sight clock q1) answer v) (sym is_had)
             (subst (λ (v : Visit). Advances w r (visits left) v answer had_now) with_clock advances))))
 
         pub are_back : (now : ℕ) (new : List (Playing T)) → AreBack w now others new → had.now ≡ now
             → AreBack w now ps (player (record { caller = me.caller; now = had.now; sight = p2; owed = me.owed; names = me.names }) who task lost counts ∷ new)
         are_back now new rest is =
-            subst (λ (l : List (Playing T)). AreBack w now l (player (record { caller = me.caller; now = had.now; sight = p2; owed = me.owed; names = me.names }) who task lost counts ∷ new))
+            subst (λ (l : List (Playing T)). AreBack w now l
+            (player (record { caller = me.caller; now = had.now; sight = p2; owed = me.owed; names = me.names }) who task lost counts ∷ new))
             (sym (parts ∙ ap (λ (x : Playing T). x ∷ others) (sym is_one))) (
               (
-                record { caller_is = refl; owed_is = refl; names_are = refl; role_is = refl; task_is = refl; lost_is = refl; counts_is = refl; stays = me_back.stays },
+                record {
+                  caller_is = refl;
+                  owed_is = refl;
+                  names_are = refl;
+                  role_is = refl;
+                  task_is = refl;
+                  lost_is = refl;
+                  counts_is = refl;
+                  stays =
+                      me_back.stays;
+                },
                 is,
               ),
               rest,

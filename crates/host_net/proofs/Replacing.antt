@@ -15,7 +15,8 @@ use Rattle.net_base.specs.declared.noted.Noted.{Noted}
 use Rattle.host_net.proofs.Histories.{AreOne}
 use Rattle.host_net.proofs.Outcomes.{advanced, clock_records, stay_at_once}
 use Rattle.host_net.proofs.Standings.{all_clocks, clock_apart, clock_seated, has_guest, lent_first}
-use Rattle.host_net.proofs.Taking.{NoClocks, all_placed, clock_among, emptied, emptied_again, filled, filled_at, filled_kept, filled_others, none_left, others_stay, place_back, seats_kept, still_none}
+use Rattle.host_net.proofs.Taking.{NoClocks, all_placed, clock_among, emptied, emptied_again, filled, filled_at, filled_kept, filled_others}
+use Rattle.host_net.proofs.Taking.{none_left, others_stay, place_back, seats_kept, still_none}
 use Rattle.host_net.specs.Advancing.{Advanced, Advances, AreLent, AreStandings, GroupsAreBack, GroupsAreKept, IsClockKept, IsTaken, StayAtOnce, other_players}
 use Rattle.host_net.specs.Groups.{Apart, AreUpTo, Grouped, IsDealt, all_callers, all_members, all_seats, caller, callers_of, visits}
 use Rattle.host_net.specs.Playing.{Playing}

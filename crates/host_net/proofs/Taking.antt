@@ -1,5 +1,6 @@
 -- The clock's player is taken out of its group, and put back: no other group has one, and the other players stay.
-use Rattle.std.proofs.Common.{◌≡◌, ℕ, zero, suc, ◌==◌, ◌⊎◌, inl, inr, true, false, List, [], ◌∷◌, ◌++◌, map, Option, Some, None, slice_get, slice_set, refl, ap, sym, subst, ◌∙◌}
+use Rattle.std.proofs.Common.{◌≡◌, ℕ, zero, suc, ◌==◌, ◌⊎◌, inl, inr, true, false, List, [], ◌∷◌, ◌++◌, map, Option, Some, None, slice_get}
+use Rattle.std.proofs.Common.{slice_set, refl, ap, sym, subst, ◌∙◌}
 use Rattle.std.specs.Option.{option_map}
 use Rattle.std.proofs.lemmas.Bool.{true≢false}
 use Rattle.std.proofs.lemmas.List.{map-append}
@@ -10,7 +11,8 @@ use Rattle.host_net.proofs.Handing.{in_back, in_front, none_more, same_number_is
 use Rattle.host_net.proofs.Passes.{last_or}
 use Rattle.net_locks.specs.declared.clock.Advance.{Advance}
 use Rattle.net_locks.specs.declared.clock.Advance.TheVariants as advance
-use Rattle.host_net.specs.Advancing.{AreBack, AreKept, ClockStays, EachIsKept, GroupsAreBack, GroupsAreKept, IsBack, IsClockKept, IsGroupKept, IsKept, other_players}
+use Rattle.host_net.specs.Advancing.{AreBack, AreKept, ClockStays, EachIsKept, GroupsAreBack, GroupsAreKept, IsBack, IsClockKept}
+use Rattle.host_net.specs.Advancing.{IsGroupKept, IsKept, other_players}
 use Rattle.host_net.specs.Groups.{Apart, Grouped, NotIn, all_callers, all_members, all_seats, caller, callers_in, callers_of, members, seats, visits, with_last}
 use Rattle.host_net.specs.Playing.{Playing}
 use Rattle.net_locks.specs.Turns.{Stays}
@@ -254,7 +256,8 @@ module _ {T : Type 0} where
   clock_among [] place g p there is = absurd (none-some g there)
   clock_among (x ∷ gs) zero g p there is =
       in_front p (members x) (all_members gs)
-      (subst (λ (c : Option (Playing T)). In p (with_last x.players c)) (sym (ap (λ (y : Grouped T). y.clock) (same_Some x g there) ∙ is)) (with_clock p x.players))
+      (subst (λ (c : Option (Playing T)). In p (with_last x.players c)) (sym (ap (λ (y : Grouped T). y.clock) (same_Some x g there) ∙ is))
+      (with_clock p x.players))
   clock_among (x ∷ gs) (suc place) g p there is = in_back p (members x) (all_members gs) (clock_among gs place g p there is)
 
   -- the other way
@@ -316,7 +319,8 @@ module _ {T : Type 0} where
         memory_is = back.memory_is;
       }
 
-  groups_kept : (w : World) (all : List Visit) (answer : Advance) (now : ℕ) (gs ks : List (Grouped T)) → GroupsAreBack w now gs ks → NoClocks gs → EachIsKept w all answer gs ks
+  groups_kept : (w : World) (all : List Visit) (answer : Advance) (now : ℕ) (gs ks : List (Grouped T)) → GroupsAreBack w now gs ks → NoClocks gs
+      → EachIsKept w all answer gs ks
   groups_kept w all answer now [] [] back none = tt
   groups_kept w all answer now [] (k ∷ ks) back none = absurd back
   groups_kept w all answer now (g ∷ gs) [] back none = absurd back
@@ -342,7 +346,8 @@ module _ {T : Type 0} where
     record {
       players = subst (λ (z : Grouped T). AreKept w z.players k.players) (sym (same_Some x g there))
           (subst (λ (z : Grouped T). AreKept w g.players z.players) (same_Some y k at) (kept_of w now g.players y.players back.0.players));
-      clock_stays = subst (λ (c : Option (Playing T)). ClockStays w all answer c (Some q)) (sym (ap (λ (z : Grouped T). z.clock) (same_Some x g there) ∙ is)) clock;
+      clock_stays = subst (λ (c : Option (Playing T)). ClockStays w all answer c (Some q))
+          (sym (ap (λ (z : Grouped T). z.clock) (same_Some x g there) ∙ is)) clock;
       memory_is = ap (λ (z : Grouped T). z.memory) (sym (same_Some y k at)) ∙ (back.0.memory_is ∙ ap (λ (z : Grouped T). z.memory) (sym (same_Some x g there)));
     },
     groups_kept w all answer now gs ks back.1 none.1,
@@ -353,14 +358,33 @@ module _ {T : Type 0} where
   players_itself : (w : World) (ps : List (Playing T)) → AreKept w ps ps
   players_itself w [] = tt
   players_itself w (p ∷ ps) = (
-    record { caller_is = refl; owed_is = refl; names_are = refl; role_is = refl; task_is = refl; lost_is = refl; counts_is = refl; stays = stays_itself w p.visit },
+    record {
+      caller_is = refl;
+      owed_is = refl;
+      names_are = refl;
+      role_is = refl;
+      task_is = refl;
+      lost_is = refl;
+      counts_is = refl;
+      stays =
+          stays_itself w p.visit;
+    },
     players_itself w ps,
   )
 
   clock_itself : (w : World) (all : List Visit) (c : Option (Playing T)) → ClockStays w all advance.Memory c c
   clock_itself w all None = tt
   clock_itself w all (Some q) =
-      record { caller_is = refl; names_are = refl; role_is = refl; task_is = refl; lost_is = refl; counts_is = refl; records = record { own_is = refl; owed_is = refl; now_is = refl } }
+      record {
+        caller_is = refl;
+        names_are = refl;
+        role_is = refl;
+        task_is = refl;
+        lost_is = refl;
+        counts_is = refl;
+        records =
+            record { own_is = refl; owed_is = refl; now_is = refl };
+      }
 
   each_itself : (w : World) (all : List Visit) (gs : List (Grouped T)) → EachIsKept w all advance.Memory gs gs
   each_itself w all [] = tt
@@ -378,7 +402,8 @@ module _ {T : Type 0} where
   callers_kept w (p ∷ ps) (q ∷ qs) kept =
       ap (λ (c : ℕ). c ∷ callers_of qs) kept.0.caller_is ∙ ap (λ (l : List ℕ). caller p ∷ l) (callers_kept w ps qs kept.1)
 
-  clock_kept : (w : World) (all : List Visit) (answer : Advance) (c d : Option (Playing T)) → ClockStays w all answer c d → option_map caller d ≡ option_map caller c
+  clock_kept : (w : World) (all : List Visit) (answer : Advance) (c d : Option (Playing T)) → ClockStays w all answer c d
+      → option_map caller d ≡ option_map caller c
   clock_kept w all answer None None stays = refl
   clock_kept w all answer None (Some q) stays = absurd stays
   clock_kept w all answer (Some p) None stays = absurd stays

@@ -16,7 +16,8 @@ use Rattle.host_net.proofs.advance.Net+J+WorldActor+J.advance_groups.Goals as go
 pub returns-in_default-clause-kept : goal.returns-in_default-clause-kept
 returns-in_default-clause-kept g c =
     let w = g.J.Placing.world in
-    subst (λ (l : List (Grouped g.row.T.Denot)). GroupsAreKept w c.args.groups.now advance.Memory l) (sym (c.in_default.ensures.none refl)) (kept_itself w c.args.groups.now)
+    subst (λ (l : List (Grouped g.row.T.Denot)). GroupsAreKept w c.args.groups.now advance.Memory l) (sym (c.in_default.ensures.none refl))
+    (kept_itself w c.args.groups.now)
 
 pub with_all-answer-requires-clause-clock : goal.with_all-answer-requires-clause-clock
 with_all-answer-requires-clause-clock g c =
@@ -54,7 +55,8 @@ put_clock-requires g c =
     let taken =
     subst (λ (x : Playing g.row.T.Denot). IsTaken c.args.groups.now x c.in-Some.place c.take_clock.new.groups) (sym c.clock.view_is) c.in-Some.ensures.some in
     let q = player c.with_all-answer.new.clock c.clock.inside.role c.clock.inside.task c.clock.inside.lost c.clock.inside.counts in
-    place_within w r c.args.groups.now c.take_clock.new.groups c.in-Some.place p taken c.requires.dealt q c.with_all-answer.new.groups c.with_all-answer.ensures.groups
+    place_within w r c.args.groups.now c.take_clock.new.groups c.in-Some.place p taken c.requires.dealt q c.with_all-answer.new.groups
+    c.with_all-answer.ensures.groups
 
 pub invariant_of-clock : goal.invariant_of-clock
 invariant_of-clock g c =
@@ -66,7 +68,8 @@ invariant_of-clock g c =
     let mine = itself w r c.clock.inside.guest c.clock.inside.guest.sight refl c.guest_keeps.ensures in
     let clock = is_clock w r c.args.groups.now c.take_clock.new.groups c.in-Some.place p taken c.requires.dealt in
     let caller = c.with_all-answer.ensures.clock.caller_is in (
-      clock_player g.T.Task.Stands w c.clock.inside.guest c.with_all-answer.new.clock c.clock.inside.role c.clock.inside.task c.clock.inside.lost c.clock.invariant.0 caller clock
+      clock_player g.T.Task.Stands w c.clock.inside.guest c.with_all-answer.new.clock c.clock.inside.role c.clock.inside.task c.clock.inside.lost
+          c.clock.invariant.0 caller clock
           (clock_played w r (visits (other_players c.take_clock.new.groups)) c.clock.inside.guest c.with_all-answer.result c.with_all-answer.new.clock
           c.with_all-answer.ensures.clock mine c.clock.invariant.0.plays),
       λ counts. counts_none g.T.WholeTask.Plays w c.with_all-answer.new.clock c.clock.inside.task c.clock.inside.lost c.clock.inside.before
@@ -87,8 +90,10 @@ returns-clause-seats g c =
     subst (λ (x : Playing g.row.T.Denot). IsTaken c.args.groups.now x c.in-Some.place c.take_clock.new.groups) (sym c.clock.view_is) c.in-Some.ensures.some in
     let q = player c.with_all-answer.new.clock c.clock.inside.role c.clock.inside.task c.clock.inside.lost c.clock.inside.counts in
     let mine = itself w r c.clock.inside.guest c.clock.inside.guest.sight refl c.guest_keeps.ensures in
-    all_seated w r c.args.groups.now c.take_clock.new.groups c.in-Some.place p taken c.requires.dealt q c.with_all-answer.new.groups c.with_all-answer.ensures.groups
-    c.with_all-answer.result c.with_all-answer.ensures.clock mine c.histories_are_their_callers.ensures (c.histories_of_guests_are_legal.ensures.but_scripts w r)
+    all_seated w r c.args.groups.now c.take_clock.new.groups c.in-Some.place p taken c.requires.dealt q c.with_all-answer.new.groups
+    c.with_all-answer.ensures.groups
+    c.with_all-answer.result c.with_all-answer.ensures.clock mine c.histories_are_their_callers.ensures
+    (c.histories_of_guests_are_legal.ensures.but_scripts w r)
     (c.histories_of_guests_are_legal.ensures.net w r) refl refl refl refl c.put_clock.new.groups c.put_clock.ensures
 
 pub returns-clause-kept : goal.returns-clause-kept
@@ -100,8 +105,10 @@ returns-clause-kept g c =
     subst (λ (x : Playing g.row.T.Denot). IsTaken c.args.groups.now x c.in-Some.place c.take_clock.new.groups) (sym c.clock.view_is) c.in-Some.ensures.some in
     let q = player c.with_all-answer.new.clock c.clock.inside.role c.clock.inside.task c.clock.inside.lost c.clock.inside.counts in
     let mine = itself w r c.clock.inside.guest c.clock.inside.guest.sight refl c.guest_keeps.ensures in
-    all_kept w r c.args.groups.now c.take_clock.new.groups c.in-Some.place p taken c.requires.dealt q c.with_all-answer.new.groups c.with_all-answer.ensures.groups
-    c.with_all-answer.result c.with_all-answer.ensures.clock mine c.histories_are_their_callers.ensures (c.histories_of_guests_are_legal.ensures.but_scripts w r)
+    all_kept w r c.args.groups.now c.take_clock.new.groups c.in-Some.place p taken c.requires.dealt q c.with_all-answer.new.groups
+    c.with_all-answer.ensures.groups
+    c.with_all-answer.result c.with_all-answer.ensures.clock mine c.histories_are_their_callers.ensures
+    (c.histories_of_guests_are_legal.ensures.but_scripts w r)
     (c.histories_of_guests_are_legal.ensures.net w r) refl refl refl refl c.put_clock.new.groups c.put_clock.ensures
 
 pub returns-clause-moment : goal.returns-clause-moment
@@ -113,8 +120,10 @@ returns-clause-moment g c =
     subst (λ (x : Playing g.row.T.Denot). IsTaken c.args.groups.now x c.in-Some.place c.take_clock.new.groups) (sym c.clock.view_is) c.in-Some.ensures.some in
     let q = player c.with_all-answer.new.clock c.clock.inside.role c.clock.inside.task c.clock.inside.lost c.clock.inside.counts in
     let mine = itself w r c.clock.inside.guest c.clock.inside.guest.sight refl c.guest_keeps.ensures in
-    all_at_once w r c.args.groups.now c.take_clock.new.groups c.in-Some.place p taken c.requires.dealt q c.with_all-answer.new.groups c.with_all-answer.ensures.groups
-    c.with_all-answer.result c.with_all-answer.ensures.clock mine c.histories_are_their_callers.ensures (c.histories_of_guests_are_legal.ensures.but_scripts w r)
+    all_at_once w r c.args.groups.now c.take_clock.new.groups c.in-Some.place p taken c.requires.dealt q c.with_all-answer.new.groups
+    c.with_all-answer.ensures.groups
+    c.with_all-answer.result c.with_all-answer.ensures.clock mine c.histories_are_their_callers.ensures
+    (c.histories_of_guests_are_legal.ensures.but_scripts w r)
     (c.histories_of_guests_are_legal.ensures.net w r) refl refl refl refl c.put_clock.new.groups c.put_clock.ensures
 
 pub returns-clause-answer : goal.returns-clause-answer
@@ -126,6 +135,8 @@ returns-clause-answer g c =
     subst (λ (x : Playing g.row.T.Denot). IsTaken c.args.groups.now x c.in-Some.place c.take_clock.new.groups) (sym c.clock.view_is) c.in-Some.ensures.some in
     let q = player c.with_all-answer.new.clock c.clock.inside.role c.clock.inside.task c.clock.inside.lost c.clock.inside.counts in
     let mine = itself w r c.clock.inside.guest c.clock.inside.guest.sight refl c.guest_keeps.ensures in
-    all_advanced w r c.args.groups.now c.take_clock.new.groups c.in-Some.place p taken c.requires.dealt q c.with_all-answer.new.groups c.with_all-answer.ensures.groups
-    c.with_all-answer.result c.with_all-answer.ensures.clock mine c.histories_are_their_callers.ensures (c.histories_of_guests_are_legal.ensures.but_scripts w r)
+    all_advanced w r c.args.groups.now c.take_clock.new.groups c.in-Some.place p taken c.requires.dealt q c.with_all-answer.new.groups
+    c.with_all-answer.ensures.groups
+    c.with_all-answer.result c.with_all-answer.ensures.clock mine c.histories_are_their_callers.ensures
+    (c.histories_of_guests_are_legal.ensures.but_scripts w r)
     (c.histories_of_guests_are_legal.ensures.net w r) refl refl refl refl c.put_clock.new.groups c.put_clock.ensures

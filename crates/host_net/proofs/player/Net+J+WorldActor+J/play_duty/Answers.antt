@@ -17,7 +17,8 @@ invariant_of-player g c =
     let new = c.serve.new.guest in
     let same = c.serve.ensures.same in
     let takes = c.serve.ensures.turn first.0 first.1 in (
-      duty_keeps w first.0 p.guest new same c.serve.ensures.names _ (first_of p.guest.owed first.0 first.1) c.serve.result takes g.T.Task.Stands p.role p.task p.lost c.player.invariant.0,
+      duty_keeps w first.0 p.guest new same c.serve.ensures.names _ (first_of p.guest.owed first.0 first.1)
+          c.serve.result takes g.T.Task.Stands p.role p.task p.lost c.player.invariant.0,
       λ counts. counts_stay g.T.WholeTask.Plays w p.guest new p.task p.lost p.before (c.player.invariant.1 counts) same.caller c.serve.ensures.names
           (duty_stays w first.0 p.guest new same c.serve.ensures.names first.0.actor (work_of_duty first.0) c.serve.result takes),
     )

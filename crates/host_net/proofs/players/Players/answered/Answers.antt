@@ -15,7 +15,8 @@ loop-script-preserved g c =
     let w = g.J.Placing.world in
     let many = ap (λ (v : World). length v.scripts) c.requires.world in
     let lt : c.loop-script.script < length w.scripts = omega (arith, many, c.loop-script-test.true, c.len-script-end.ensures) in (
-      answers_next w (all_members c.args.self.now.groups) c.loop-script.script c.loop-script.answered c.in-Some.steps lt c.in-Some.ensures.count c.loop-script.invariant.0,
+      answers_next w (all_members c.args.self.now.groups) c.loop-script.script c.loop-script.answered c.in-Some.steps lt c.in-Some.ensures.count
+          c.loop-script.invariant.0,
       search (rules),
     )
 

@@ -36,7 +36,8 @@ returns-clause-count g c =
     let players = c.deref.ensures.value ∙ ap (λ (x : Grouped g.row.T.Denot). x.players) c.group.view_is in
     let among : In player group.players = subst (λ (l : List (Playing g.row.T.Denot)). In player l) players c.player_of.ensures.there in
     subst (λ (x : Grouping g.row.T.Denot). IfSome c.answered.result (λ (m : ℕ). IsAnsweredOf w script (all_members x.groups) m)) c.self.view_is
-    (found_in w script gs k group player c.answered.result (group_at gs k group group lt c.index-group.ensures) among c.player_of.ensures.caller c.answered.ensures.count)
+    (found_in w script gs k group player c.answered.result (group_at gs k group group lt c.index-group.ensures)
+    among c.player_of.ensures.caller c.answered.ensures.count)
 
 pub returns-clause-none : goal.returns-clause-none
 returns-clause-none g c =
@@ -52,4 +53,5 @@ returns-clause-none g c =
     let players = c.deref.ensures.value ∙ ap (λ (x : Grouped g.row.T.Denot). x.players) c.group.view_is in
     let among : In player group.players = subst (λ (l : List (Playing g.row.T.Denot)). In player l) players c.player_of.ensures.there in
     subst (λ (x : Grouping g.row.T.Denot). IfNone c.answered.result (CannotTellOf script (all_members x.groups))) c.self.view_is
-    (none_in script gs k group player c.answered.result (group_at gs k group group lt c.index-group.ensures) among c.player_of.ensures.caller c.answered.ensures.none)
+    (none_in script gs k group player c.answered.result (group_at gs k group group lt c.index-group.ensures)
+    among c.player_of.ensures.caller c.answered.ensures.none)
