@@ -1,9 +1,8 @@
 -- The requests of scripts: none is asked of the clock, and what one may bind there is room for.
-use Rattle.std.proofs.Common.{◌≡◌, ℕ, Bool, true, false, List, Option, Some, None, if◌then◌else◌, refl, ap, sym, subst, ◌∙◌}
+use Rattle.std.proofs.Common.{◌≡◌, ℕ, Bool, true, false, List, Option, Some, None, if◌then◌else◌, refl, ap, sym, ◌∙◌}
 use Rattle.std.specs.Prelude.{Result, Ok, Err}
 use Rattle.std.specs.Option.{option_map}
 use Rattle.std.proofs.lemmas.Option.{none-some, same_Some}
-use Rattle.net_base.specs.declared.actor.ActorName.{ActorName}
 use Rattle.net_base.specs.declared.actor.ActorName.TheVariants as name
 use Rattle.net_base.specs.declared.names.Ctl.{Ctl}
 use Rattle.net_base.specs.declared.names.Ctl.TheVariants as ctl
@@ -20,7 +19,7 @@ use Rattle.net_base.specs.Steps.{Ask, Bound, Fid, Play, Asks, Ends, controls, fi
 use Rattle.net_tree.specs.Bindings.{Bindings}
 use Rattle.script_task.specs.declared.request.Request.{Request}
 use Rattle.script_task.specs.declared.request.Request.TheVariants as request
-use Rattle.script_task.specs.Requests.{HasRoom, head, newly_bound, newly_opened, planned, request_play}
+use Rattle.script_task.specs.Requests.{HasRoom, head, newly_opened, planned, request_play}
 
 -- The clock.
 

@@ -1,4 +1,4 @@
-use Rattle.std.proofs.Common.{◌≡◌, List, refl, ap, sym, subst, ◌∙◌}
+use Rattle.std.proofs.Common.{List, refl, ap, sym, subst, ◌∙◌}
 use Rattle.net_base.specs.Callers.{caller_of}
 use Rattle.host_net.proofs.Counting.{counts_none}
 use Rattle.host_net.proofs.Outcomes.{clock_played, clock_player}

@@ -1,8 +1,7 @@
-use Rattle.std.proofs.Common.{◌≡◌, ◌≢◌, List, [], ap, sym, subst, ◌∙◌}
-use Rattle.net_base.specs.Duties.{Duty}
+use Rattle.std.proofs.Common.{◌≢◌, [], ap, sym, subst, ◌∙◌}
 use Rattle.duties.specs.Queue.{work_of_duty}
 use Rattle.host_net.specs.declared.player.Played.{Played}
-use Rattle.host_net.specs.Playing.{Playing, PlaysOn}
+use Rattle.host_net.specs.Playing.{PlaysOn}
 use Rattle.host_net.proofs.Firsts.{first_of, first_some}
 use Rattle.host_net.proofs.Counting.{counts_stay}
 use Rattle.host_net.proofs.Keeping.{duty_keeps, duty_plays, duty_stays, playing}

@@ -1,6 +1,4 @@
-use Rattle.std.proofs.Common.{◌≡◌, List, [], Option, None, Some, refl, ap, sym, subst, ◌∙◌}
-use Rattle.net_base.specs.Steps.{Bound}
-use Rattle.script_task.specs.declared.request.Request.{Request}
+use Rattle.std.proofs.Common.{◌≡◌, [], None, Some, ap, sym, subst, ◌∙◌}
 use Rattle.host_net.specs.declared.player.Played.TheVariants as played
 use Rattle.host_net.specs.Playing.{PlaysOn}
 use Rattle.host_net.proofs.Counting.{heard_counts}

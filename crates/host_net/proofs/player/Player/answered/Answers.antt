@@ -1,4 +1,4 @@
-use Rattle.std.proofs.Common.{◌≡◌, sym, subst, ◌∙◌}
+use Rattle.std.proofs.Common.{sym, subst, ◌∙◌}
 use Rattle.host_net.proofs.Answered.{answered_free, answered_owing, tells_free, tells_lost, tells_nothing, tells_owing}
 use Rattle.host_net.proofs.Keeping.{playing}
 use Rattle.host_net.specs.Answering.{IsAnswered}

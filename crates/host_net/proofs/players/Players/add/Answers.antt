@@ -1,4 +1,4 @@
-use Rattle.std.proofs.Common.{◌≡◌, ℕ, ◌+◌, ◌<◌, ◌%◌, List, length, slice_set, slice_index_or, ap, sym, subst, ◌∙◌}
+use Rattle.std.proofs.Common.{◌≡◌, ℕ, ◌+◌, ◌<◌, ◌%◌, length, slice_set, ap, sym, subst, ◌∙◌}
 use Rattle.std.proofs.lemmas.Nat.{mod_below}
 use Rattle.host_net.specs.Groups.{IsDealt, all_seats, caller, dealt, joined, joined_at}
 use Rattle.host_net.proofs.Joining.{alone_index, dealt_set, grouping, groups_set, on_error}

@@ -1,4 +1,4 @@
-use Rattle.std.proofs.Common.{◌≡◌, ℕ, ◌<◌, length, rules, ap, ◌∙◌, arith}
+use Rattle.std.proofs.Common.{◌<◌, length, rules, ap, arith}
 use Rattle.net_base.specs.declared.world.World.{World}
 use Rattle.host_net.specs.Groups.{all_members}
 use Rattle.host_net.proofs.Answered.{answers_next, script_is}

@@ -1,6 +1,5 @@
 use Rattle.std.proofs.Common.{◌≡◌, ◌++◌, List, [], ◌∷◌, length, length-append, reverse, ap, sym, subst, ◌∙◌, arith}
 use Rattle.std.proofs.lemmas.List.{append-nil, reverse-reverse}
-use Rattle.net_base.specs.Stamped.{In}
 use Rattle.host_net.specs.Groups.{IsDealt, all_members, all_seats, visits}
 use Rattle.host_net.specs.Playing.{ArePlayed}
 use Rattle.host_net.specs.Visits.{HasGuest, Visit}
