@@ -1,9 +1,11 @@
 -- How many steps of the scripts are answered.
-use Rattle.std.proofs.Common.{◌≡◌, ℕ, zero, suc, ◌+◌, ◌-◌, ◌<◌, ◌≤◌, ◌%◌, ◌==◌, ◌⊎◌, inl, inr, Bool, true, false, not, List, [], ◌∷◌, ◌++◌, length, drop, filter, map, take, Option, Some, None, IfSome, is_none, nat_lt, slice_get, slice_index_or, sum_by, get_or, if◌then◌else◌, zero-add, refl, ap, sym, subst, ◌∙◌, arith}
+use Rattle.std.proofs.Common.{◌≡◌, ℕ, zero, suc, ◌+◌, ◌-◌, ◌<◌, ◌≤◌, ◌≢◌, ◌%◌, ◌==◌, ◌⊎◌, inl, inr, Bool, true, false, not, List, [], ◌∷◌}
+use Rattle.std.proofs.Common.{◌++◌, length, drop, filter, map, take, Option, Some, None, IfNone, IfSome, is_none, nat_lt, slice_get}
+use Rattle.std.proofs.Common.{slice_index_or, sum_by, get_or, if◌then◌else◌, zero-add, refl, ap, sym, subst, ◌∙◌, arith}
 use Rattle.std.specs.List.{enumerate_from}
 use Rattle.std.specs.Option.{option_map, option_map_or}
 use Rattle.std.proofs.lemmas.List.{map-append, take_all, take_more}
-use Rattle.std.proofs.lemmas.Bool.{lt-ltb}
+use Rattle.std.proofs.lemmas.Bool.{lt-ltb, true≢false}
 use Rattle.std.proofs.lemmas.List.Sums.{sum_by-cons}
 use Rattle.std.proofs.lemmas.Option.{none-some, same_Some}
 use Rattle.net_base.specs.declared.history.Entry.{Entry}
@@ -27,8 +29,9 @@ use Rattle.host_net.proofs.Passes.{last_or}
 use Rattle.host_net.proofs.Seating.{get_seats, in_parts, seats_long}
 use Rattle.host_net.proofs.Standings.{no_script, seats_in}
 use Rattle.host_net.proofs.Taking.{not_itself, visit_in, with_front}
-use Rattle.host_net.specs.Answering.{AreAfter, IsAnswered, IsAnsweredOf}
-use Rattle.host_net.specs.Groups.{Grouped, IsDealt, NotIn, Seats, all_callers, all_members, all_seats, caller, callers_in, callers_of, members, seats, visits, with_last}
+use Rattle.host_net.specs.Answering.{AreAfter, CannotTell, CannotTellOf, CanTell, IsAnswered, IsAnsweredOf}
+use Rattle.host_net.specs.Groups.{Grouped, IsDealt, NotIn, Seats, all_callers, all_members, all_seats, caller, callers_in, callers_of}
+use Rattle.host_net.specs.Groups.{members, seats, visits, with_last}
 use Rattle.host_net.specs.Playing.{IsCounted, Playing, replies_of}
 use Rattle.host_net.specs.Visits.{Visit}
 
@@ -44,6 +47,29 @@ module _ {T : Type 0} (Plays : Script → List Reply → List Bound → T → Ty
       → ((s : Script) (rs : List Reply) (names : List Bound) → Plays s rs names t → n ≡ finished_by rs s) → IsAnswered w v n
   answered_free n told none counts = λ s script.
       counts s (replies_of v) v.names (is.plays s script told) ∙ sym (ap (λ (b : Bool). answered (entries v.sight.seen) v.caller b s) none)
+
+-- whether it can tell
+owes_some : (ds : List Duty) → not (length ds == 0) ≡ true → ds ≢ []
+owes_some ds is none = true≢false (sym is ∙ ap (λ (l : List Duty). not (length l == 0)) none)
+
+owes_none : (ds : List Duty) → not (length ds == 0) ≡ false → ds ≡ []
+owes_none [] is = refl
+owes_none (d ∷ ds) is =
+    absurd (true≢false (sym (ap not (apart_test (length (d ∷ ds)) 0 (λ e. omega (arith, e)))) ∙ is))
+
+pub tells_owing : {T : Type 0} (p q : Playing T) → p ≡ q → p.counts ≡ true → not (length p.visit.owed == 0) ≡ true → CanTell q
+tells_owing {T = T} p q same counts owes =
+    subst (λ (x : Playing T). CanTell x) same (counts, inl (owes_some p.visit.owed owes))
+
+pub tells_free : {T : Type 0} (p q : Playing T) → p ≡ q → p.counts ≡ true → p.lost ≡ false → CanTell q
+tells_free {T = T} p q same counts told = subst (λ (x : Playing T). CanTell x) same (counts, inr told)
+
+pub tells_nothing : {T : Type 0} (p q : Playing T) → p ≡ q → p.counts ≡ false → CannotTell q
+tells_nothing {T = T} p q same counts = subst (λ (x : Playing T). CannotTell x) same (inl counts)
+
+pub tells_lost : {T : Type 0} (p q : Playing T) → p ≡ q → not (length p.visit.owed == 0) ≡ false → p.lost ≡ true → CannotTell q
+tells_lost {T = T} p q same owes lost =
+    subst (λ (x : Playing T). CannotTell x) same (inr (owes_none p.visit.owed owes, lost))
 
 -- A history in which it has what it knows.
 
@@ -75,7 +101,8 @@ answered_in w vs h v n s are there is script =
     ap (λ (es : List Entry). map (λ (x : Entry). x.reply) (filter (λ (x : Entry). is_none x.cites) es)) same in
     is s script ∙ (ap (λ (b : Bool). answered (entries v.sight.seen) v.caller b s) (sym owing) ∙ by_owes replies (owes (after w h) v.caller))
   where
-    by_owes : own_replies h v.caller ≡ own_replies (entries v.sight.seen) v.caller → (b : Bool) → answered (entries v.sight.seen) v.caller b s ≡ answered h v.caller b s
+    by_owes : own_replies h v.caller ≡ own_replies (entries v.sight.seen) v.caller → (b : Bool) → answered (entries v.sight.seen) v.caller b s
+        ≡ answered h v.caller b s
     by_owes replies true = ap (λ (rs : List Reply). finished_by (take (length rs - 1) rs) s) (sym replies)
     by_owes replies false = ap (λ (rs : List Reply). finished_by rs s) (sym replies)
 
@@ -131,7 +158,8 @@ answers_next w ps n a x lt is all = λ h are.
 pub answers_first : (w : World) (vs : List Visit) → AnswersTo w vs 0 0
 answers_first w vs = λ h are. zero-add (answered_steps w h)
 
-pub answers_all : (w : World) (vs : List Visit) (n a : ℕ) → length w.scripts ≤ n → AnswersTo w vs n a → (h : List Entry) → AreAfter w vs h → a ≡ answered_steps w h
+pub answers_all : (w : World) (vs : List Visit) (n a : ℕ) → length w.scripts ≤ n → AnswersTo w vs n a → (h : List Entry) → AreAfter w vs h
+    → a ≡ answered_steps w h
 answers_all w vs n a le all h are =
     let none : answered_from w h n ≡ 0 = ap (λ (xs : List Script). sum_by (answered_by w h) (enumerate_from n xs)) (past_all w.scripts n le) in
     omega (arith, all h are, none)
@@ -165,7 +193,8 @@ module _ {T : Type 0} where
   found_here ps i p lt is = got_in ps i p p lt is
 
   -- it isn't the caller's
-  pub none_yet : (c : ℕ) (ps : List (Playing T)) (i : ℕ) (p : Playing T) → i < length ps → p ≡ get_or ps i p → NotIn c (callers_of (take i ps)) → (caller p ≡ c → ⊥)
+  pub none_yet : (c : ℕ) (ps : List (Playing T)) (i : ℕ) (p : Playing T) → i < length ps → p ≡ get_or ps i p → NotIn c (callers_of (take i ps))
+      → (caller p ≡ c → ⊥)
       → NotIn c (callers_of (take (i + 1) ps))
   none_yet c ps i p lt is none other =
       subst (λ (l : List (Playing T)). NotIn c (callers_of l)) (sym (take_more ps i p lt ∙ ap (λ (x : Playing T). take i ps ++ x ∷ []) (sym is)))
@@ -210,6 +239,13 @@ module _ {T : Type 0} where
       → caller p ≡ c → IfSome o (IsAnswered w p.visit) → IfSome o (λ (n : ℕ). IsAnsweredOf w c (all_members gs) n)
   found_in w c gs k g p None there among is answers = tt
   found_in w c gs k g p (Some n) there among is answers = (p, group_in gs k g p there among, is, answers)
+
+  -- and if it can't tell, the script's player can't
+  pub none_in : (c : ℕ) (gs : List (Grouped T)) (k : ℕ) (g : Grouped T) (p : Playing T) (o : Option ℕ)
+      → slice_get gs k ≡ Some g → In p g.players → caller p ≡ c → IfNone o (CannotTell p)
+      → IfNone o (CannotTellOf c (all_members gs))
+  none_in c gs k g p None there among is cannot = (p, group_in gs k g p there among, is, cannot)
+  none_in c gs k g p (Some n) there among is cannot = tt
 
   pub some_groups : (w : World) (n : ℕ) (gs : List (Grouped T)) → IsDealt w n (all_seats gs) → 0 < length gs
   some_groups w n gs dealt = subst (λ (k : ℕ). 0 < k) (seats_long gs) dealt.some

@@ -1,9 +1,8 @@
 -- The requests of scripts: none is asked of the clock, and what one may bind there is room for.
-use Rattle.std.proofs.Common.{◌≡◌, ℕ, Bool, true, false, List, Option, Some, None, if◌then◌else◌, refl, ap, sym, subst, ◌∙◌}
+use Rattle.std.proofs.Common.{◌≡◌, ℕ, Bool, true, false, List, Option, Some, None, if◌then◌else◌, refl, ap, sym, ◌∙◌}
 use Rattle.std.specs.Prelude.{Result, Ok, Err}
 use Rattle.std.specs.Option.{option_map}
 use Rattle.std.proofs.lemmas.Option.{none-some, same_Some}
-use Rattle.net_base.specs.declared.actor.ActorName.{ActorName}
 use Rattle.net_base.specs.declared.actor.ActorName.TheVariants as name
 use Rattle.net_base.specs.declared.names.Ctl.{Ctl}
 use Rattle.net_base.specs.declared.names.Ctl.TheVariants as ctl
@@ -20,7 +19,7 @@ use Rattle.net_base.specs.Steps.{Ask, Bound, Fid, Play, Asks, Ends, controls, fi
 use Rattle.net_tree.specs.Bindings.{Bindings}
 use Rattle.script_task.specs.declared.request.Request.{Request}
 use Rattle.script_task.specs.declared.request.Request.TheVariants as request
-use Rattle.script_task.specs.Requests.{HasRoom, head, newly_bound, newly_opened, planned, request_play}
+use Rattle.script_task.specs.Requests.{HasRoom, head, newly_opened, planned, request_play}
 
 -- The clock.
 
@@ -67,7 +66,8 @@ request_away : (h : ℕ) (names : List Bound) (q : Request) → IsAway (request_
 request_away h names (request.Open called path m) = either (is_bound names called) _ _ refl (open_away h (openable (walk path) m))
 request_away h names (request.Read called count) = bound_away (fid_of called names) _ _ refl (λ f. either (reads f.mode) _ _ refl refl)
 request_away h names (request.Write called text) =
-    bound_away (fid_of called names) _ _ refl (λ f. either (writes f.mode) (puts h f f.file text (Ends names) (Ends names)) _ (puts_away h f f.file text (Ends names) (Ends names)) refl)
+    bound_away (fid_of called names) _ _ refl
+    (λ f. either (writes f.mode) (puts h f f.file text (Ends names) (Ends names)) _ (puts_away h f f.file text (Ends names) (Ends names)) refl)
 request_away h names (request.Close called) = bound_away (fid_of called names) _ _ refl (λ f. refl)
 request_away h names (request.Cs query) = refl
 request_away h names (request.Ls path) = ls_away h (walk path)
@@ -86,7 +86,8 @@ planned_away h names q ask is = head_away (request_play h names q) ask (request_
 
 -- Room.
 
-room_if : (b : Bindings) (called : List ℕ) → b.reserved ≡ Some called → (bound : Bool) (o : Option Fid) → HasRoom b (if bound then None else option_map (λ (f : Fid). called) o)
+room_if : (b : Bindings) (called : List ℕ) → b.reserved ≡ Some called → (bound : Bool) (o : Option Fid)
+    → HasRoom b (if bound then None else option_map (λ (f : Fid). called) o)
 room_if b called is true o = tt
 room_if b called is false None = tt
 room_if b called is false (Some f) = is

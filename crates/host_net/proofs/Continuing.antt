@@ -1,5 +1,6 @@
 -- A script's own entries, and how a task goes on after a reply.
-use Rattle.std.proofs.Common.{◌≡◌, ℕ, ◌+◌, ◌==◌, Bool, true, false, List, [], ◌∷◌, ◌++◌, length, map, filter, Option, Some, None, is_none, is_some, nat_lt, if◌then◌else◌, refl, ap, sym, subst, ◌∙◌, arith}
+use Rattle.std.proofs.Common.{◌≡◌, ℕ, ◌+◌, ◌==◌, Bool, true, false, List, [], ◌∷◌, ◌++◌, length, map, filter, Option, Some, None, is_none}
+use Rattle.std.proofs.Common.{is_some, nat_lt, if◌then◌else◌, refl, ap, sym, subst, ◌∙◌, arith}
 use Rattle.std.specs.Option.{option_map}
 use Rattle.std.proofs.lemmas.Bool.Decides.{nat_tests}
 use Rattle.std.proofs.lemmas.List.{append-nil}
@@ -42,10 +43,12 @@ one_reply : (x : Entry) (xs : List Entry) (rs : List Reply) (b d : Bool)
     ≡ (if b then (if d then x.reply ∷ rs else rs) else rs)
 one_reply x xs rs false d rec is = rec
 one_reply x xs rs true true rec is =
-    ap (λ (b : Bool). map (λ (e : Entry). e.reply) (if b then x ∷ filter (λ (e : Entry). is_none e.cites) xs else filter (λ (e : Entry). is_none e.cites) xs)) is
+    ap (λ (b : Bool). map (λ (e : Entry). e.reply)
+    (if b then x ∷ filter (λ (e : Entry). is_none e.cites) xs else filter (λ (e : Entry). is_none e.cites) xs)) is
     ∙ ap (λ (l : List Reply). x.reply ∷ l) rec
 one_reply x xs rs true false rec is =
-    ap (λ (b : Bool). map (λ (e : Entry). e.reply) (if b then x ∷ filter (λ (e : Entry). is_none e.cites) xs else filter (λ (e : Entry). is_none e.cites) xs)) is
+    ap (λ (b : Bool). map (λ (e : Entry). e.reply)
+    (if b then x ∷ filter (λ (e : Entry). is_none e.cites) xs else filter (λ (e : Entry). is_none e.cites) xs)) is
     ∙ rec
 
 if_list : (n : ℕ) (x : Noted) (xs : List (ℕ × Noted)) (b : Bool)
@@ -57,7 +60,8 @@ if_list n x xs false = refl
 own_from : (c n : ℕ) (log : List Noted) → own_replies (entries log) c ≡ replies_of (at_from (number.Caller c) n log)
 own_from c n [] = refl
 own_from c n (x ∷ xs) =
-    one_reply x.entry (filter (λ (e : Entry). e.caller == c) (entries xs)) (replies_of (at_from (number.Caller c) (n + 1) xs)) (x.entry.caller == c) (is_none x.entry.cites)
+    one_reply x.entry (filter (λ (e : Entry). e.caller == c) (entries xs)) (replies_of (at_from (number.Caller c) (n + 1) xs)) (x.entry.caller == c)
+    (is_none x.entry.cites)
     (own_from c (n + 1) xs) refl
     ∙ if_list n x (at_from (number.Caller c) (n + 1) xs) (x.entry.caller == c)
 
@@ -83,7 +87,8 @@ same_number : (c : ℕ) → (c == c) ≡ true
 same_number c = grind (arith, nat_tests)
 
 -- an entry of the caller more
-pub own_push : (c : ℕ) (log : List Noted) (x : Noted) → x.entry.caller ≡ c → (m : ℕ) × (at (number.Caller c) (log ++ x ∷ []) ≡ at (number.Caller c) log ++ (m, x) ∷ [])
+pub own_push : (c : ℕ) (log : List Noted) (x : Noted) → x.entry.caller ≡ c
+    → (m : ℕ) × (at (number.Caller c) (log ++ x ∷ []) ≡ at (number.Caller c) log ++ (m, x) ∷ [])
 own_push c log x is = at_from-push (number.Caller c) 0 log x (ap (λ (d : ℕ). d == c) is ∙ same_number c)
 
 replies_push : (xs : List (ℕ × Noted)) (x : ℕ × Noted) → replies_of (xs ++ x ∷ []) ≡ replies_of xs ++ replies_of (x ∷ [])
@@ -158,8 +163,10 @@ append_one (x ∷ xs) r more = ap (λ ys. x ∷ ys) (append_one xs r more)
 pub continues_on : (s : Script) (rs : List Reply) (p : Play) (r : Reply) → Continues s rs p → Continues s (rs ++ r ∷ []) (follow p r)
 continues_on s rs p r goes =
     record {
-      next_is = λ more. subst (λ (xs : List Reply). (position s.host s.steps [] xs).next ≡ head (rest p (r ∷ more))) (sym (append_one rs r more)) (goes.next_is (r ∷ more));
-      left_is = λ more. subst (λ (xs : List Reply). nat_lt 0 (length (position s.host s.steps [] xs).left) ≡ is_some (head (rest p (r ∷ more)))) (sym (append_one rs r more)) (goes.left_is (r ∷ more));
+      next_is = λ more. subst (λ (xs : List Reply). (position s.host s.steps [] xs).next ≡ head (rest p (r ∷ more))) (sym (append_one rs r more))
+          (goes.next_is (r ∷ more));
+      left_is = λ more. subst (λ (xs : List Reply). nat_lt 0 (length (position s.host s.steps [] xs).left) ≡ is_some (head (rest p (r ∷ more))))
+          (sym (append_one rs r more)) (goes.left_is (r ∷ more));
     }
 
 -- the script's next event is the play's

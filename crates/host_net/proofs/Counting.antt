@@ -1,5 +1,6 @@
 -- How many steps of its script a player has finished.
-use Rattle.std.proofs.Common.{◌≡◌, ℕ, ◌-◌, Bool, true, false, List, [], ◌∷◌, ◌++◌, length, length-append, take, Option, Some, None, refl, ap, sym, subst, ◌∙◌, arith}
+use Rattle.std.proofs.Common.{◌≡◌, ℕ, ◌-◌, Bool, true, false, List, [], ◌∷◌, ◌++◌, length, length-append, Option, Some, None, refl}
+use Rattle.std.proofs.Common.{ap, sym, subst, ◌∙◌, arith}
 use Rattle.std.proofs.lemmas.Bool.{false≢true, true≢false}
 use Rattle.std.proofs.lemmas.List.{take_at}
 use Rattle.net_base.specs.declared.noted.Noted.{Noted}
@@ -32,7 +33,8 @@ all_but_last rs r = take_at rs (r ∷ []) (length (rs ++ r ∷ []) - 1) (omega (
 
 -- One entry of a script that owed nothing.
 
-module _ (w : World) (old new : Visit) (same : IsSame old new) (h : ℕ) (q : Request) (stamp : ℕ) (r : Reply) (is : Asked w h q old (turn.Recorded stamp r) new) where
+module _ (w : World) (old new : Visit) (same : IsSame old new) (h : ℕ) (q : Request) (stamp : ℕ) (r : Reply)
+    (is : Asked w h q old (turn.Recorded stamp r) new) where
   -- its reply is one more
   pub one_reply_more : replies_of new ≡ replies_of old ++ r ∷ []
   one_reply_more =
@@ -96,9 +98,11 @@ module _ {T : Type 0} (Plays : Script → List Reply → List Bound → T → Ty
 
   -- The turn of a script.
 
-  module _ (asks : T → List Bound → Option Request) (after : T → Reply → T) (plays_on : whole.PlaysOn T asks after Plays) (old new : Visit) (same : IsSame old new)
+  module _ (asks : T → List Bound → Option Request) (after : T → Reply → T) (plays_on : whole.PlaysOn T asks after Plays) (old new : Visit)
+      (same : IsSame old new)
       (who : Role) (script : who ≡ role.Script) (has : HasRole w old.caller who) (t : T) (lost : Bool) (keeps_told : lost ≡ false) (before : ℕ)
-      (is : IsCounted Plays w old t lost before) (free : old.owed ≡ []) (q : Request) (asks_it : Some q ≡ asks t old.names) (keeps : KeepsActors) (fit : FitWorks) where
+      (is : IsCounted Plays w old t lost before) (free : old.owed ≡ []) (q : Request) (asks_it : Some q ≡ asks t old.names) (keeps : KeepsActors)
+      (fit : FitWorks) where
     abbrev Operates : Turn → Type 0
     Operates answer = (s : Script) → caller_of w old.caller ≡ IsScript s → Operated w s.host q old answer new
 
@@ -119,7 +123,8 @@ module _ {T : Type 0} (Plays : Script → List Reply → List Bound → T → Ty
               (sym (ap before_last (one_reply_more w old new same s.host q stamp r (does s (was s now))) ∙ all_but_last (replies_of old) r));
         }
       where
-        plays_then : (p : Played) → Told after t lost r p t' lost' → (s : Script) → caller_of w new.caller ≡ IsScript s → lost' ≡ false → Plays s (replies_of new) new.names t'
+        plays_then : (p : Played) → Told after t lost r p t' lost' → (s : Script) → caller_of w new.caller ≡ IsScript s → lost' ≡ false
+            → Plays s (replies_of new) new.names t'
         plays_then played.Recorded came s now again =
             let asked = does s (was s now) in
             subst (λ (x : T). Plays s (replies_of new) new.names x) (sym came.0)
@@ -130,7 +135,8 @@ module _ {T : Type 0} (Plays : Script → List Reply → List Bound → T → Ty
         plays_then played.Waits came s now again = absurd came
         plays_then played.Memory came s now again = absurd (true≢false (sym came.1 ∙ again))
 
-    alike : (t' : T) (lost' : Bool) (before' : ℕ) → t' ≡ t → lost' ≡ lost → before' ≡ before → IsCounted Plays w new t lost before → IsCounted Plays w new t' lost' before'
+    alike : (t' : T) (lost' : Bool) (before' : ℕ) → t' ≡ t → lost' ≡ lost → before' ≡ before → IsCounted Plays w new t lost before
+        → IsCounted Plays w new t' lost' before'
     alike t' lost' before' task told count counted =
         subst (λ (x : T). IsCounted Plays w new x lost' before') (sym task)
         (subst (λ (b : Bool). IsCounted Plays w new t b before') (sym told)

@@ -37,7 +37,8 @@ keeps_decided w old new (advance.NotCalm c) keeps same = (keeps, same)
 keeps_decided w old new advance.Limit keeps same = (keeps, same)
 keeps_decided w old new advance.Memory keeps same = absurd keeps
 
-asked_move : (ds : List Duty) (k : Caller) (ask : Option Ask) (x : Entry) (m : ℕ) → ds ≡ [] → k ≡ IsClock → x.actor ≡ name.Clock → x.event ≡ event.Move m → IsAsked ds k ask x
+asked_move : (ds : List Duty) (k : Caller) (ask : Option Ask) (x : Entry) (m : ℕ) → ds ≡ [] → k ≡ IsClock → x.actor ≡ name.Clock
+    → x.event ≡ event.Move m → IsAsked ds k ask x
 asked_move ds k ask x m none clock at moves = rw (none, clock, at, moves) tt
 
 module _ (w : World) (old new : Visit) (clock : caller_of w old.caller ≡ IsClock) where
@@ -78,7 +79,8 @@ module _ (w : World) (old new : Visit) (clock : caller_of w old.caller ≡ IsClo
 
   -- or it moved
   pub leaves_moving : (r : Roster) (m : ℕ) → new.caller ≡ old.caller → new.names ≡ old.names
-      → ((v : Visit) → IsWith w r v old.sight → (v.caller == old.caller) ≡ false → IsWith w r v new.sight) → Moves w old m new → Leaves w r old (advance.Moved m) new
+      → ((v : Visit) → IsWith w r v old.sight → (v.caller == old.caller) ≡ false → IsWith w r v new.sight) → Moves w old m new
+      → Leaves w r old (advance.Moved m) new
   leaves_moving r m caller names others moves =
       record {
         caller = caller;
@@ -121,11 +123,13 @@ module _ (w : World) (r : Roster) (c now : ℕ) (p q : Sight) (ds : List Duty) (
       → Leaves w r old (advance.Moved m) (visit c m p' ds' names)
   leaves_gone p' ds' m may moved at = at_sight q seen may moved at
     where
-      at_sight : (s : Sight) → s ≡ p → MayMove w c s → LeavesMoved w r c now m s ds p' ds' → m ≡ target w (noted_net w s.seen) → Leaves w r old (advance.Moved m) (visit c m p' ds' names)
+      at_sight : (s : Sight) → s ≡ p → MayMove w c s → LeavesMoved w r c now m s ds p' ds' → m ≡ target w (noted_net w s.seen)
+          → Leaves w r old (advance.Moved m) (visit c m p' ds' names)
       at_sight s same may_s moved_s at_s =
           let may_p = subst (λ (u : Sight). MayMove w c u) same may_s in
           let moved_p = subst (λ (u : Sight). LeavesMoved w r c now m u ds p' ds') same moved_s in
-          leaves_moving w old (visit c m p' ds' names) clock r m refl refl (λ v is other. still_with w r v p p' is (moved_p.others v.caller v.owed is.guest other))
+          leaves_moving w old (visit c m p' ds' names) clock r m refl refl
+          (λ v is other. still_with w r v p p' is (moved_p.others v.caller v.owed is.guest other))
           (record {
             may = may_p.may;
             has_room = may_p.unlimited;

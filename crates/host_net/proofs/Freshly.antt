@@ -1,5 +1,6 @@
 -- Guests to whom nothing has happened.
-use Rattle.std.proofs.Common.{◌≡◌, ℕ, zero, suc, ◌+◌, ◌<◌, ◌-◌, ◌==◌, nat_lt, inl, inr, Bool, true, false, not, List, [], ◌∷◌, ◌++◌, length, filter, Option, Some, None, if◌then◌else◌, refl, ap, sym, subst, ◌∙◌, arith}
+use Rattle.std.proofs.Common.{◌≡◌, ℕ, zero, suc, ◌+◌, ◌<◌, ◌-◌, ◌==◌, nat_lt, inl, inr, Bool, true, false, not, List, [], ◌∷◌, ◌++◌, length}
+use Rattle.std.proofs.Common.{filter, Option, Some, None, if◌then◌else◌, refl, ap, sym, subst, ◌∙◌, arith}
 use Rattle.std.specs.Option.{option_map_or}
 use Rattle.std.proofs.lemmas.Bool.{true≢false}
 use Rattle.std.proofs.lemmas.Bool.Decides.{nat_tests}
@@ -35,7 +36,8 @@ pub given_own : (c : ℕ) (hs : List Held) → In (number.Caller c, []) hs → I
 given_own c hs there = in_filter (λ (h : Held). same_number h.0 (number.Caller c)) (number.Caller c, []) hs there (same_refl c)
 
 -- the later numbers stay
-pub kept_later : (c d : ℕ) (hs : List Held) → c < d → In (number.Caller d, []) hs → In (number.Caller d, []) (filter (λ (h : Held). not (same_number h.0 (number.Caller c))) hs)
+pub kept_later : (c d : ℕ) (hs : List Held) → c < d → In (number.Caller d, []) hs
+    → In (number.Caller d, []) (filter (λ (h : Held). not (same_number h.0 (number.Caller c))) hs)
 kept_later c d hs lt there = in_filter (λ (h : Held). not (same_number h.0 (number.Caller c))) (number.Caller d, []) hs there (apart c d lt)
 
 same_is : (d n : ℕ) → (d == n) ≡ true → d ≡ n
@@ -49,7 +51,8 @@ pub all_numbers : (n d : ℕ) → d < n → In (number.Caller d, []) (caller_num
 all_numbers zero d lt = absurd (omega arith)
 all_numbers (suc n) d lt = by_place (λ below. all_numbers n d below) (d == n) refl
   where
-    by_place : (d < n → In (number.Caller d, []) (caller_numbers n)) → (b : Bool) → (d == n) ≡ b → In (number.Caller d, []) ((number.Caller n, []) ∷ caller_numbers n)
+    by_place : (d < n → In (number.Caller d, []) (caller_numbers n)) → (b : Bool) → (d == n) ≡ b
+        → In (number.Caller d, []) ((number.Caller n, []) ∷ caller_numbers n)
     by_place rec true is = inl (ap (λ (k : ℕ). (number.Caller k, [])) (same_is d n is))
     by_place rec false is = inr (rec (less d n lt is))
 

@@ -21,7 +21,8 @@ lists_from : (c n : ℕ) (log : List Noted) → entries_from (number.Caller c) n
 lists_from c n [] = refl
 lists_from c n (x ∷ log) = by_test (lists_from c (n + 1) log) (x.entry.caller == c)
   where
-    by_test : entries_from (number.Caller c) (n + 1) (entries log) ≡ map plain (at_from (number.Caller c) (n + 1) log) → (b : Bool) → (if b then (n, x.entry) ∷ entries_from (number.Caller c) (n + 1) (entries log) else entries_from (number.Caller c) (n + 1) (entries log))
+    by_test : entries_from (number.Caller c) (n + 1) (entries log) ≡ map plain (at_from (number.Caller c) (n + 1) log) → (b : Bool)
+        → (if b then (n, x.entry) ∷ entries_from (number.Caller c) (n + 1) (entries log) else entries_from (number.Caller c) (n + 1) (entries log))
         ≡ map plain (if b then (n, x) ∷ at_from (number.Caller c) (n + 1) log else at_from (number.Caller c) (n + 1) log)
     by_test rest true = ap (λ (l : List (ℕ × Entry)). (n, x.entry) ∷ l) rest
     by_test rest false = rest
@@ -45,7 +46,7 @@ module _ (w : World) (r : Roster) (p : Sight) (guests : IsOfGuests w r p.seen) (
       subst (λ (k : ℕ). of_caller k h ≡ of_caller k (entries p.seen)) v.2
       (is.lists v.0 v.1 ∙ (ap (map plain) (sym (alone v.0 v.1)) ∙ sym (lists_are v.0.caller p.seen)))
 
-  one_history : (h : List Entry) → IsHistoryOf w vs h → h ≡ entries p.seen
+  pub one_history : (h : List Entry) → IsHistoryOf w vs h → h ≡ entries p.seen
   one_history h is =
       one (caller_count w) h (entries p.seen) (λ i x there. (is.legal i x there).is_known.1) (λ i x there. (but i x there).is_known.1)
       (same_lists h is)

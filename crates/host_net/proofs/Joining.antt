@@ -1,7 +1,7 @@
 -- The next caller's player joins its group.
-use Rattle.std.proofs.Common.{◌≡◌, ℕ, zero, suc, ◌+◌, ◌<◌, ◌%◌, Result, Ok, Err, OnErr, List, [], ◌∷◌, ◌++◌, append_assoc, length, Option, None, Some, ◌⊎◌, inl, inr, slice_get, slice_set, slice_index_or, take, drop, refl, ap, sym, subst, ◌∙◌, arith}
+use Rattle.std.proofs.Common.{◌≡◌, ℕ, zero, suc, ◌+◌, ◌<◌, ◌%◌, Result, Ok, Err, OnErr, List, [], ◌∷◌, ◌++◌, append_assoc, length, Option}
+use Rattle.std.proofs.Common.{None, Some, ◌⊎◌, inl, inr, slice_get, slice_set, slice_index_or, take, drop, refl, ap, sym, subst, ◌∙◌, arith}
 use Rattle.net_base.specs.declared.world.World.{World}
-use Rattle.net_base.specs.Callers.{IsClock, caller_of}
 use Rattle.host_net.specs.declared.player.Role.{Role}
 use Rattle.host_net.specs.declared.player.Role.TheVariants as role
 use Rattle.host_net.specs.Groups.{Grouped, Grouping, IsDealt, all_seats, caller, callers_of, joined, joined_as, joined_at, visits, with_last}
@@ -24,7 +24,8 @@ on_error (Err e) P p = p
 abbrev pub grouping : {T : Type 0} → List (Grouped T) → ℕ → Grouping T
 grouping gs n = record { groups = gs; callers = n }
 
-module _ {T : Type 0} (w : World) (n : ℕ) (gs : List (Grouped T)) (dealt : IsDealt w n (all_seats gs)) (p : Playing T) (next : caller p ≡ n) (has : HasRole w (caller p) p.role)
+module _ {T : Type 0} (w : World) (n : ℕ) (gs : List (Grouped T)) (dealt : IsDealt w n (all_seats gs)) (p : Playing T) (next : caller p ≡ n)
+    (has : HasRole w (caller p) p.role)
     (k : ℕ) (is : k ≡ n % length gs) (lt : k < length gs) (d : Grouped T) where
   -- the group that the player joins
   pub alone_index : p.role ≡ role.Clock → (slice_index_or gs k d).clock ≡ None
@@ -40,7 +41,8 @@ module _ {T : Type 0} (w : World) (n : ℕ) (gs : List (Grouped T)) (dealt : IsD
   groups_set new joins = ap (slice_set gs k) joins ∙ (set_joined gs k d p ∙ ap (λ (i : ℕ). joined_at i gs p) is)
 
 -- the players of a group, and then its clock
-pub group_visits : {T : Type 0} (vs : List Visit) (ps : List (Playing T)) (o : Option (Playing T)) → (vs ++ visits ps) ++ visits (with_last [] o) ≡ vs ++ visits (with_last ps o)
+pub group_visits : {T : Type 0} (vs : List Visit) (ps : List (Playing T)) (o : Option (Playing T)) → (vs ++ visits ps) ++ visits (with_last [] o) ≡ vs
+    ++ visits (with_last ps o)
 group_visits vs ps None = append-nil (vs ++ visits ps)
 group_visits vs ps (Some p) = append_assoc vs (visits ps) (p.visit ∷ []) ∙ ap (λ (l : List Visit). vs ++ l) (sym (visits_more ps (p ∷ [])))
 

@@ -1,5 +1,5 @@
 -- What a turn leaves of a player.
-use Rattle.std.proofs.Common.{◌≡◌, ◌≢◌, ℕ, inl, inr, Bool, true, false, List, [], ◌∷◌, ◌++◌, Option, Some, None, refl, ap, sym, subst, ◌∙◌}
+use Rattle.std.proofs.Common.{◌≡◌, ℕ, inl, inr, Bool, true, false, List, [], ◌∷◌, ◌++◌, Option, Some, None, refl, ap, sym, subst, ◌∙◌}
 use Rattle.std.proofs.lemmas.Bool.{true≢false}
 use Rattle.std.proofs.lemmas.Option.{none-some, same_Some}
 use Rattle.net_base.specs.declared.actor.ActorName.{ActorName}
@@ -35,14 +35,15 @@ use Rattle.host_net.specs.Visits.{IsSame, Takes, Visit}
 use Rattle.net_locks.specs.Turns.{IsFull, Recorded, Stays, Unready, bare, own}
 use Rattle.host_net.proofs.Continuing.{duty_replies, own_push, own_stays}
 
-abbrev pub playing : {T : Type 0} → Visit → Role → T → Bool → Playing T
-playing v who t lost = record { visit = v; role = who; task = t; lost = lost }
+abbrev pub playing : {T : Type 0} → Visit → Role → T → Bool → Bool → Playing T
+playing v who t lost counts = record { visit = v; role = who; task = t; lost = lost; counts = counts }
 
 -- One turn, whatever is done.
 
 module _ (w : World) (a : ActorName) (work : Work) (cites : Option ℕ) (old new : Visit) (same : IsSame old new) where
   abbrev AskedFor : Type 0
-  AskedFor = (o : Outcome) → IsAsked old.owed (caller_of w old.caller) (next w (entries old.sight.seen) old.caller) (made a old.caller old.now work cites o).entry
+  AskedFor = (o : Outcome) → IsAsked old.owed (caller_of w old.caller) (next w (entries old.sight.seen) old.caller)
+      (made a old.caller old.now work cites o).entry
 
   abbrev RecordsIt : ℕ → Reply → Type 0
   RecordsIt stamp r = Recorded w old.caller old.now a work cites old.sight old.owed stamp r new.sight new.owed
@@ -101,14 +102,15 @@ module _ (w : World) (a : ActorName) (work : Work) (cites : Option ℕ) (old new
   unready_now : Unready w old.caller old.now a work old.sight new.sight → UnreadyNow
   unready_now is = ap (λ (m : ℕ). actor_step w a ((noted_net w new.sight.seen).actors a) m work) same.now ∙ is.unready
 
-  module _ {T : Type 0} (who : Role) (t : T) (lost : Bool) (names : new.names ≡ old.names) where
-    unmoved : own new.caller new.sight ≡ own old.caller old.sight → new.owed ≡ old.owed → IsUnmoved (playing old who t lost) (playing new who t lost)
+  module _ {T : Type 0} (who : Role) (t : T) (lost counts : Bool) (names : new.names ≡ old.names) where
+    unmoved : own new.caller new.sight ≡ own old.caller old.sight → new.owed ≡ old.owed
+        → IsUnmoved (playing old who t lost counts) (playing new who t lost counts)
     unmoved own_is owed = record { own_is = own_is; owed = owed; names = names; task = refl; lost = refl }
 
     -- what its turn came to
     pub turn_plays : (answer : Turn) → Takes w a work cites old answer new
         → (UnreadyNow → Stays w old.caller old.sight new.sight → new.owed ≡ old.owed → IsUnready w new new.owed)
-        → PlaysOn w (playing old who t lost) (played_by answer) (playing new who t lost)
+        → PlaysOn w (playing old who t lost counts) (played_by answer) (playing new who t lost counts)
     turn_plays (turn.Recorded stamp r) takes unready = (more stamp r takes, refl)
     turn_plays turn.NotReady takes unready = (unmoved (own_stands takes.0) takes.1, inr (unready (unready_now takes.0) takes.0.stays takes.1))
     turn_plays turn.Owes takes unready = absurd takes
@@ -130,7 +132,8 @@ is_script _ = false
 -- A player after a turn.
 
 module _ {T : Type 0} (Stands : ℕ → List Bound → T → Play → Type 0) (w : World) (old new : Visit) (same : IsSame old new) where
-  pub goes_stay : (s : Script) (t : T) → new.names ≡ old.names → own_replies (entries new.sight.seen) old.caller ≡ own_replies (entries old.sight.seen) old.caller
+  pub goes_stay : (s : Script) (t : T) → new.names ≡ old.names → own_replies (entries new.sight.seen) old.caller
+      ≡ own_replies (entries old.sight.seen) old.caller
       → GoesOn Stands s old t → GoesOn Stands s new t
   goes_stay s t names replies goes = (
     goes.0,
@@ -163,9 +166,11 @@ module _ (w : World) (d : Duty) (old new : Visit) (same : IsSame old new) (names
 
   -- what a first duty asks for
   duty_asked : (rest : List Duty) → old.owed ≡ d ∷ rest → (o : Outcome)
-      → IsAsked old.owed (caller_of w old.caller) (next w (entries old.sight.seen) old.caller) (made d.actor old.caller old.now (work_of_duty d) (Some d.cites) o).entry
+      → IsAsked old.owed (caller_of w old.caller) (next w (entries old.sight.seen) old.caller)
+      (made d.actor old.caller old.now (work_of_duty d) (Some d.cites) o).entry
   duty_asked rest is o =
-      subst (λ (ds : List Duty). IsAsked ds (caller_of w old.caller) (next w (entries old.sight.seen) old.caller) (made d.actor old.caller old.now (work_of_duty d) (Some d.cites) o).entry)
+      subst (λ (ds : List Duty). IsAsked ds (caller_of w old.caller) (next w (entries old.sight.seen) old.caller)
+      (made d.actor old.caller old.now (work_of_duty d) (Some d.cites) o).entry)
       (sym is) refl
 
   module _ (rest : List Duty) (is : old.owed ≡ d ∷ rest) (answer : Turn) (takes : Takes w d.actor (work_of_duty d) (Some d.cites) old answer new) where
@@ -176,24 +181,29 @@ module _ (w : World) (d : Duty) (old new : Visit) (same : IsSame old new) (names
         (turn_played w d.actor (work_of_duty d) (Some d.cites) old new same answer takes (duty_asked rest is) player.plays)
         (λ (s : Script) goes. goes_stay Stands w old new same s t names (duty_stays d.actor (work_of_duty d) answer takes) goes)
 
-    pub duty_plays : {T : Type 0} (who : Role) (t : T) (lost : Bool) → PlaysOn w (playing old who t lost) (played_by answer) (playing new who t lost)
-    duty_plays who t lost =
-        turn_plays w d.actor (work_of_duty d) (Some d.cites) old new same who t lost names answer takes
+    pub duty_plays : {T : Type 0} (who : Role) (t : T) (lost counts : Bool)
+        → PlaysOn w (playing old who t lost counts) (played_by answer) (playing new who t lost counts)
+    duty_plays who t lost counts =
+        turn_plays w d.actor (work_of_duty d) (Some d.cites) old new same who t lost counts names answer takes
         (λ unready stays owed. subst (λ (ds : List Duty). IsUnready w new ds) (sym (owed ∙ is)) unready)
 
 -- The copy that a courier takes.
 
-module _ (w : World) (m : ℕ) (old new : Visit) (same : IsSame old new) (names : new.names ≡ old.names) (courier : caller_of w old.caller ≡ IsCourier m) (free : old.owed ≡ [])
+module _ (w : World) (m : ℕ) (old new : Visit) (same : IsSame old new) (names : new.names ≡ old.names)
+    (courier : caller_of w old.caller ≡ IsCourier m) (free : old.owed ≡ [])
     (answer : Turn) (takes : Takes w (name.Medium m) (bare event.Take) None old answer new) where
   take_next : next w (entries old.sight.seen) old.caller ≡ Some (record { actor = name.Medium m; event = event.Take })
   take_next = ap (λ (k : Caller). next_of k (entries old.sight.seen) old.caller) courier
 
   take_asked : (o : Outcome)
-      → IsAsked old.owed (caller_of w old.caller) (next w (entries old.sight.seen) old.caller) (made (name.Medium m) old.caller old.now (bare event.Take) None o).entry
+      → IsAsked old.owed (caller_of w old.caller) (next w (entries old.sight.seen) old.caller)
+      (made (name.Medium m) old.caller old.now (bare event.Take) None o).entry
   take_asked o =
-      subst (λ (ds : List Duty). IsAsked ds (caller_of w old.caller) (next w (entries old.sight.seen) old.caller) (made (name.Medium m) old.caller old.now (bare event.Take) None o).entry)
+      subst (λ (ds : List Duty). IsAsked ds (caller_of w old.caller) (next w (entries old.sight.seen) old.caller)
+      (made (name.Medium m) old.caller old.now (bare event.Take) None o).entry)
       (sym free)
-      (subst (λ (k : Caller). IsAsked [] k (next w (entries old.sight.seen) old.caller) (made (name.Medium m) old.caller old.now (bare event.Take) None o).entry) (sym courier) take_next)
+      (subst (λ (k : Caller). IsAsked [] k (next w (entries old.sight.seen) old.caller)
+      (made (name.Medium m) old.caller old.now (bare event.Take) None o).entry) (sym courier) take_next)
 
   no_script : (s : Script) → caller_of w old.caller ≡ IsScript s → ⊥
   no_script s is = true≢false (ap is_script (sym is ∙ courier))
@@ -207,10 +217,12 @@ module _ (w : World) (m : ℕ) (old new : Visit) (same : IsSame old new) (names 
         goes_on = λ s script told. absurd (no_script s (ap (caller_of w) (sym same.caller) ∙ script));
       }
 
-  pub take_plays : {T : Type 0} (who : Role) (t : T) (lost : Bool) → PlaysOn w (playing old who t lost) (played_by answer) (playing new who t lost)
-  take_plays who t lost =
-      turn_plays w (name.Medium m) (bare event.Take) None old new same who t lost names answer takes
-      (λ unready stays owed. subst (λ (ds : List Duty). IsUnready w new ds) (sym (owed ∙ free)) (unready_next w old new same (record { actor = name.Medium m; event = event.Take }) unready stays take_next))
+  pub take_plays : {T : Type 0} (who : Role) (t : T) (lost counts : Bool)
+      → PlaysOn w (playing old who t lost counts) (played_by answer) (playing new who t lost counts)
+  take_plays who t lost counts =
+      turn_plays w (name.Medium m) (bare event.Take) None old new same who t lost counts names answer takes
+      (λ unready stays owed. subst (λ (ds : List Duty). IsUnready w new ds) (sym (owed ∙ free))
+      (unready_next w old new same (record { actor = name.Medium m; event = event.Take }) unready stays take_next))
 
 -- The clock waits for the calm.
 

@@ -58,9 +58,9 @@ module _ (w : World) (r : Roster) where
 
   -- at the bottom
   pub advances_at : (old : Visit) (answer : Advance) (new : Visit) → IsOfGuests w r old.sight.seen → Decided w old answer new
-      → new.caller ≡ old.caller → (AreNext w old.caller old.sight.seen → AreNext w old.caller new.sight.seen)
+      → new.caller ≡ old.caller → new.names ≡ old.names → (AreNext w old.caller old.sight.seen → AreNext w old.caller new.sight.seen)
       → (AreTimely w old.caller old.sight.seen → AreTimely w old.caller new.sight.seen) → Advances w r [] old answer new
-  advances_at old answer new guests decided caller nexts timely =
+  advances_at old answer new guests decided caller names nexts timely =
       record {
         at = old;
         to = new;
@@ -68,20 +68,24 @@ module _ (w : World) (r : Roster) where
         guests = guests;
         caller_at = refl;
         now_at = refl;
+        owed_at = refl;
         decided = decided;
         nexts = nexts;
         timely = timely;
         caller_is = caller;
+        names_are = names;
         now_is = refl;
+        owed_is = refl;
         seen_is = refl;
       }
 
   -- above it: the clock's guest got the number of v before, and gave it back
   pub advances_on : (v : Visit) (vs : List Visit) (old with : Visit) (answer : Advance) (had new : Visit)
       → ((u : Visit) → IsWith w r u old.sight → IsWith w r u with.sight) → IsWith w r v with.sight
-      → with.caller ≡ old.caller → with.now ≡ old.now → new.caller ≡ had.caller → new.now ≡ had.now → new.sight.seen ≡ had.sight.seen
+      → with.caller ≡ old.caller → with.now ≡ old.now → with.owed ≡ old.owed → with.names ≡ old.names
+      → new.caller ≡ had.caller → new.now ≡ had.now → new.owed ≡ had.owed → new.names ≡ had.names → new.sight.seen ≡ had.sight.seen
       → Advances w r vs with answer had → Advances w r (v ∷ vs) old answer new
-  advances_on v vs old with answer had new keeps mine caller now caller' now' seen a =
+  advances_on v vs old with answer had new keeps mine caller now owed names caller' now' owed' names' seen a =
       record {
         at = a.at;
         to = a.to;
@@ -89,6 +93,7 @@ module _ (w : World) (r : Roster) where
         guests = a.guests;
         caller_at = a.caller_at ∙ caller;
         now_at = a.now_at ∙ now;
+        owed_at = a.owed_at ∙ owed;
         decided = a.decided;
         nexts = λ each. subst (λ (l : List Noted). AreNext w old.caller l) (sym seen)
             (subst (λ (c : ℕ). AreNext w c had.sight.seen) caller
@@ -97,7 +102,9 @@ module _ (w : World) (r : Roster) where
             (subst (λ (c : ℕ). AreTimely w c had.sight.seen) caller
             (a.timely (subst (λ (c : ℕ). AreTimely w c a.at.sight.seen) (sym caller) each)));
         caller_is = caller' ∙ (a.caller_is ∙ caller);
+        names_are = names' ∙ (a.names_are ∙ names);
         now_is = now' ∙ a.now_is;
+        owed_is = owed' ∙ a.owed_is;
         seen_is = seen ∙ a.seen_is;
       }
     where

@@ -1,5 +1,6 @@
 -- Who the caller of a number is.
-use Rattle.std.proofs.Common.{◌≡◌, ℕ, ◌+◌, ◌-◌, ◌<◌, ◌≤◌, ◌==◌, nat_lt, Bool, true, false, List, [], ◌∷◌, length, Option, Some, None, slice_get, if◌then◌else◌, refl, ap, sym, subst, ◌∙◌, zero, suc, arith}
+use Rattle.std.proofs.Common.{◌≡◌, ℕ, ◌-◌, ◌<◌, ◌≤◌, ◌==◌, nat_lt, Bool, true, false, List, [], ◌∷◌, length, Option, Some, None}
+use Rattle.std.proofs.Common.{slice_get, if◌then◌else◌, refl, ap, sym, ◌∙◌, zero, suc, arith}
 use Rattle.std.specs.Option.{option_map_or}
 use Rattle.std.proofs.lemmas.Bool.{true≢false}
 use Rattle.std.proofs.lemmas.Bool.Decides.{nat_tests}
@@ -17,7 +18,8 @@ beyond [] c le = refl
 beyond (s ∷ ss) zero le = absurd (omega (arith, le))
 beyond (s ∷ ss) (suc c) le = beyond ss c (omega (arith, le))
 
-by_script : (w : World) (c : ℕ) (o : Option Script) → slice_get w.scripts c ≡ o → caller_of w c ≡ option_map_or (λ (s : Script). IsScript s) o (other_caller w c)
+by_script : (w : World) (c : ℕ) (o : Option Script) → slice_get w.scripts c ≡ o
+    → caller_of w c ≡ option_map_or (λ (s : Script). IsScript s) o (other_caller w c)
 by_script w c o is = ap (λ (q : Option Script). option_map_or (λ (s : Script). IsScript s) q (other_caller w c)) is
 
 by_number : (w : World) (c : ℕ) (a b : Bool) → nat_lt c (clock_number w) ≡ a → (c == clock_number w) ≡ b

@@ -22,7 +22,8 @@ use Rattle.host_net.specs.Visits.{IsVisit, Operated, Visit, names_after}
 abbrev pub visit : ℕ → ℕ → Sight → List Duty → List Bound → Visit
 visit c now p ds names = record { caller = c; now = now; sight = p; owed = ds; names = names }
 
-same_visit : (c now : ℕ) (p p' : Sight) (ds ds' : List Duty) (names names' : List Bound) → p' ≡ p → ds' ≡ ds → names' ≡ names → visit c now p' ds' names' ≡ visit c now p ds names
+same_visit : (c now : ℕ) (p p' : Sight) (ds ds' : List Duty) (names names' : List Bound) → p' ≡ p → ds' ≡ ds → names' ≡ names
+    → visit c now p' ds' names' ≡ visit c now p ds names
 same_visit c now p p' ds ds' names names' sight owed called =
     ap (λ (q : Sight). visit c now q ds' names') sight
     ∙ (ap (λ (l : List Duty). visit c now p l names') owed ∙ ap (λ (l : List Bound). visit c now p ds l) called)

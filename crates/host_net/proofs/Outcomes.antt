@@ -1,5 +1,10 @@
 -- What became of the clock, said of the histories of all callers.
-use Rattle.std.proofs.Common.{◌≡◌, ℕ, ◌+◌, ◌<◌, ◌==◌, ◌⊎◌, inl, inr, Bool, true, false, List, [], ◌∷◌, map, filter, is_none, if◌then◌else◌, refl, ap, sym, subst, ◌∙◌}
+use Rattle.std.proofs.Common.{◌≡◌, ℕ, ◌+◌, ◌<◌, ◌==◌, ◌⊎◌, inl, inr, Bool, true, false, List, [], ◌∷◌, ◌++◌, drop, length, Some, None, map}
+use Rattle.std.proofs.Common.{filter, is_none, if◌then◌else◌, refl, ap, sym, subst, ◌∙◌, arith}
+use Rattle.std.proofs.lemmas.List.{append-nil, length-map}
+use Rattle.net_base.specs.declared.actor.ActorName.{ActorName}
+use Rattle.net_base.specs.declared.actor.ActorName.TheVariants as name
+use Rattle.net_base.specs.declared.event.Event.TheVariants as event
 use Rattle.net_base.specs.declared.history.Entry.{Entry}
 use Rattle.net_base.specs.declared.noted.Noted.{Noted}
 use Rattle.net_base.specs.declared.noted.Number.TheVariants as number
@@ -7,7 +12,10 @@ use Rattle.net_base.specs.declared.reply.Reply.{Reply}
 use Rattle.net_base.specs.declared.world.Script.{Script}
 use Rattle.net_base.specs.declared.world.World.{World}
 use Rattle.net_base.specs.Callers.{IsClock, caller_of}
+use Rattle.net_base.specs.ActorStep.{Step}
+use Rattle.net_base.specs.Actors.{Actor, actor_step}
 use Rattle.net_base.specs.Calm.{done, limited, movable, stopped, target}
+use Rattle.net_base.specs.Duties.{Duty, duties, ticks}
 use Rattle.net_base.specs.Net.{Net, after}
 use Rattle.net_base.specs.Next.{by, own_replies}
 use Rattle.net_base.specs.Stamped.{In, at, at_from}
@@ -21,14 +29,17 @@ use Rattle.net_locks.specs.declared.clock.Advance.TheVariants as advance
 use Rattle.host_net.specs.declared.player.Role.{Role}
 use Rattle.host_net.proofs.Standings.{no_script}
 use Rattle.host_net.proofs.Taking.{all_lent, in_visits, visit_in}
-use Rattle.host_net.proofs.Histories.{AreOne, after_all}
-use Rattle.host_net.specs.Advancing.{Advanced, Advances, AfterAll, GroupsAreBack, other_players}
-use Rattle.host_net.specs.Deciding.{Decided}
+use Rattle.host_net.proofs.Histories.{AreOne, after_all, one_history}
+use Rattle.host_net.specs.Advancing.{Advanced, Advances, AfterAll, ClockRecords, GroupsAreBack, HasMoved, HasRested, IsHistoryOf}
+use Rattle.host_net.specs.Advancing.{StayAtOnce, moved, other_players}
+use Rattle.host_net.specs.Deciding.{Decided, Moves}
 use Rattle.net_locks.specs.Moving.{IsLeast}
 use Rattle.host_net.specs.Groups.{Grouped, all_members, visits}
 use Rattle.host_net.specs.Playing.{GoesOn, HasRole, IsPlayed, IsPlayer, Playing}
 use Rattle.host_net.specs.Visits.{HasGuest, IsWith, Visit}
-use Rattle.net_locks.specs.Turns.{Stays, own}
+use Rattle.net_locks.specs.Turns.{Stays, bare, own}
+use Rattle.locked.specs.Acts.{made, without_copy}
+use Rattle.host_net.proofs.Handing.{same_number_is}
 
 -- A player stays one where its caller recorded nothing.
 
@@ -36,7 +47,8 @@ by_from : (c n : ℕ) (log : List Noted) → by (entries log) c ≡ map (λ (y :
 by_from c n [] = refl
 by_from c n (x ∷ log) = by_test (by_from c (n + 1) log) (x.entry.caller == c)
   where
-    by_test : by (entries log) c ≡ map (λ (y : ℕ × Noted). y.1.entry) (at_from (number.Caller c) (n + 1) log) → (b : Bool) → (if b then x.entry ∷ by (entries log) c else by (entries log) c)
+    by_test : by (entries log) c ≡ map (λ (y : ℕ × Noted). y.1.entry) (at_from (number.Caller c) (n + 1) log) → (b : Bool)
+        → (if b then x.entry ∷ by (entries log) c else by (entries log) c)
         ≡ map (λ (y : ℕ × Noted). y.1.entry) (if b then (n, x) ∷ at_from (number.Caller c) (n + 1) log else at_from (number.Caller c) (n + 1) log)
     by_test rest true = ap (λ (l : List Entry). x.entry ∷ l) rest
     by_test rest false = rest
@@ -87,13 +99,51 @@ clock_played w r vs old answer new a mine is =
       timely = subst (λ (c : ℕ). AreTimely w c new.sight.seen) (sym a.caller_is) (a.timely (stands.timely is.timely));
     }
 
--- The answer.
+-- What the clock recorded.
 
-module _ {T : Type 0} (w : World) (r : Roster) (gs lent ks new : List (Grouped T)) (p q : Playing T) (answer : Advance)
-    (a : Advances w r (visits (other_players lent)) p.visit answer q.visit) (back : GroupsAreBack w q.visit.now lent ks)
-    (placed : (x : Playing T) → In x (all_members gs) → In x (other_players lent) ⊎ (x ≡ p))
-    (replaced : (x : Playing T) → In x (all_members new) → In x (other_players ks) ⊎ (x ≡ q)) (mine : IsWith w r p.visit p.visit.sight)
-    (all : (c : ℕ) → c < r.callers → HasGuest c (visits (all_members gs))) (all_new : (c : ℕ) → c < r.callers → HasGuest c (visits (all_members new)))
+-- an entry of a caller more stands behind all
+push_from : (c n : ℕ) (log : List Noted) (x : Noted) → (x.entry.caller == c) ≡ true
+    → at_from (number.Caller c) n (log ++ x ∷ []) ≡ at_from (number.Caller c) n log ++ (n + length log, x) ∷ []
+push_from c n [] x is =
+    let last : n ≡ n + 0 = omega arith in
+    ap (λ (b : Bool). if b then (n, x) ∷ [] else []) is ∙ ap (λ (k : ℕ). (k, x) ∷ []) last
+push_from c n (y ∷ log) x is =
+    let last : n + 1 + length log ≡ n + length (y ∷ log) = omega arith in
+    by_first (y.entry.caller == c)
+    (push_from c (n + 1) log x is ∙ ap (λ (k : ℕ). at_from (number.Caller c) (n + 1) log ++ (k, x) ∷ []) last)
+  where
+    by_first : (b : Bool)
+        → at_from (number.Caller c) (n + 1) (log ++ x ∷ [])
+        ≡ at_from (number.Caller c) (n + 1) log ++ (n + length (y ∷ log), x) ∷ []
+        → (if b then (n, y) ∷ at_from (number.Caller c) (n + 1) (log ++ x ∷ [])
+        else at_from (number.Caller c) (n + 1) (log ++ x ∷ []))
+        ≡ (if b then (n, y) ∷ at_from (number.Caller c) (n + 1) log else at_from (number.Caller c) (n + 1) log)
+        ++ (n + length (y ∷ log), x) ∷ []
+    by_first true rest = ap (λ (l : List (ℕ × Noted)). (n, y) ∷ l) rest
+    by_first false rest = rest
+
+pushed : (c stamp : ℕ) (log : List Noted) (x : Noted) → x.entry.caller ≡ c → length log ≡ stamp
+    → at (number.Caller c) (log ++ x ∷ []) ≡ at (number.Caller c) log ++ (stamp, x) ∷ []
+pushed c stamp log x is long =
+    let last : 0 + length log ≡ stamp = omega (arith, long) in
+    push_from c 0 log x (ap (λ (d : ℕ). d == c) is ∙ same_number_is c)
+    ∙ ap (λ (k : ℕ). at (number.Caller c) log ++ (k, x) ∷ []) last
+
+-- a move owes its ticks alone
+move_owes : (w : World) (actors : ActorName → Actor) (stamp m : ℕ) (step : Step Actor)
+    → duties w actors name.Clock stamp (bare (event.Move m)) step ≡ ticks w actors name.Clock stamp (event.Move m)
+move_owes w actors stamp m step = append-nil (ticks w actors name.Clock stamp (event.Move m))
+
+-- a move of the same caller at the same moment is one
+same_move : (u v : Visit) (m : ℕ) (step : Step Actor) → u.caller ≡ v.caller → u.now ≡ v.now → moved u m step ≡ moved v m step
+same_move u v m step caller now =
+    ap (λ (c : ℕ). made name.Clock c u.now (bare (event.Move m)) None (without_copy step.outcome)) caller
+    ∙ ap (λ (n : ℕ). made name.Clock v.caller n (bare (event.Move m)) None (without_copy step.outcome)) now
+
+module _ {T : Type 0} (w : World) (r : Roster) (gs lent : List (Grouped T)) (p q : Playing T) (answer : Advance)
+    (a : Advances w r (visits (other_players lent)) p.visit answer q.visit)
+    (placed : (x : Playing T) → In x (all_members gs) → In x (other_players lent) ⊎ (x ≡ p)) (mine : IsWith w r p.visit p.visit.sight)
+    (all : (c : ℕ) → c < r.callers → HasGuest c (visits (all_members gs)))
     (one : AreOne) (but : IsLegalButScripts w (entries a.at.sight.seen)) (net : noted_net w a.at.sight.seen ≡ after w (entries a.at.sight.seen)) where
   alone : (v : Visit) → In v (visits (all_members gs)) → own v.caller a.at.sight ≡ own v.caller v.sight
   alone v there =
@@ -105,6 +155,122 @@ module _ {T : Type 0} (w : World) (r : Roster) (gs lent ks new : List (Grouped T
       at_place x (inr e) =
           subst (λ (y : Playing T). own y.visit.caller a.at.sight ≡ own y.visit.caller y.visit.sight) (sym e) (a.gathers.kept p.visit mine).stays.alone
 
+  pub clock_told : (K : Net → Type 0) → K (noted_net w a.at.sight.seen) → AfterAll w (visits (all_members gs)) K
+  clock_told K holds = after_all w r a.at.sight a.guests one but net (visits (all_members gs)) all alone K holds
+
+  -- the one history is that which the clock's guest has seen
+  history_is : (h : List Entry) → IsHistoryOf w (visits (all_members gs)) h → h ≡ entries a.at.sight.seen
+  history_is h is = one_history w r a.at.sight a.guests one but net (visits (all_members gs)) all alone h is
+
+  same_entries : own q.visit.caller q.visit.sight ≡ own p.visit.caller a.to.sight
+  same_entries =
+      ap (λ (c : ℕ). own c q.visit.sight) a.caller_is ∙ ap (at (number.Caller p.visit.caller)) a.seen_is
+
+  stays : own p.visit.caller a.at.sight ≡ own p.visit.caller p.visit.sight
+  stays = (a.gathers.kept p.visit mine).stays.alone
+
+  rested : a.to ≡ a.at → HasRested p.visit q.visit
+  rested same =
+      record {
+        own_is = same_entries ∙ (ap (λ (v : Visit). own p.visit.caller v.sight) same ∙ stays);
+        owed_is = a.owed_is ∙ (ap (λ (v : Visit). v.owed) same ∙ a.owed_at);
+        now_is = a.now_is ∙ (ap (λ (v : Visit). v.now) same ∙ a.now_at);
+      }
+
+  module _ (m : ℕ) (d : Moves w a.at m a.to) where
+    past_is : d.entry.turn.past ≡ a.at.sight.seen
+    past_is = d.entry.whole
+
+    gains : own q.visit.caller q.visit.sight
+        ≡ own p.visit.caller p.visit.sight ++ (d.entry.stamp, moved p.visit m d.entry.turn.step) ∷ []
+    gains =
+        let t = d.entry.turn in
+        let c = p.visit.caller in
+        same_entries
+        ∙ (ap (at (number.Caller c)) t.seen
+        ∙ (pushed c d.entry.stamp t.past (moved a.at m t.step) a.caller_at t.stamp_is
+        ∙ (ap (λ (l : List (ℕ × Noted)). l ++ (d.entry.stamp, moved a.at m t.step) ∷ [])
+        (ap (at (number.Caller c)) past_is ∙ stays)
+        ∙ ap (λ (y : Noted). own c p.visit.sight ++ (d.entry.stamp, y) ∷ []) (same_move a.at p.visit m t.step a.caller_at a.now_at))))
+
+    stamp_is : (h : List Entry) → IsHistoryOf w (visits (all_members gs)) h → d.entry.stamp ≡ length h
+    stamp_is h is =
+        sym d.entry.turn.stamp_is
+        ∙ (ap length past_is
+        ∙ (sym (length-map a.at.sight.seen (λ (x : Noted). x.entry)) ∙ ap length (sym (history_is h is))))
+
+    stepped : AfterAll w (visits (all_members gs)) (λ (net_ : Net).
+        actor_step w name.Clock (net_.actors name.Clock) p.visit.now (bare (event.Move m)) ≡ Some d.entry.turn.step)
+    stepped =
+        let t = d.entry.turn in
+        clock_told
+        (λ (net_ : Net). actor_step w name.Clock (net_.actors name.Clock) p.visit.now (bare (event.Move m)) ≡ Some t.step)
+        (subst (λ (l : List Noted).
+        actor_step w name.Clock ((noted_net w l).actors name.Clock) p.visit.now (bare (event.Move m)) ≡ Some t.step)
+        past_is
+        (subst (λ (now : ℕ).
+        actor_step w name.Clock ((noted_net w t.past).actors name.Clock) now (bare (event.Move m)) ≡ Some t.step)
+        a.now_at t.stepped))
+
+    owed_after : (l : List Noted) → l ≡ a.at.sight.seen → drop 1 a.at.owed ++ duties w (noted_net w l).actors
+        name.Clock d.entry.stamp (bare (event.Move m)) d.entry.turn.step
+        ≡ ticks w (noted_net w a.at.sight.seen).actors name.Clock d.entry.stamp (event.Move m)
+    owed_after l is =
+        let t = d.entry.turn in
+        let s = d.entry.stamp in
+        ap (λ (ds : List Duty). drop 1 ds ++ duties w (noted_net w l).actors name.Clock s (bare (event.Move m)) t.step) d.free
+        ∙ (move_owes w (noted_net w l).actors s m t.step
+        ∙ ap (λ (k : List Noted). ticks w (noted_net w k).actors name.Clock s (event.Move m)) is)
+
+    owes : AfterAll w (visits (all_members gs)) (λ (net_ : Net).
+        q.visit.owed ≡ ticks w net_.actors name.Clock d.entry.stamp (event.Move m))
+    owes =
+        clock_told (λ (net_ : Net). q.visit.owed ≡ ticks w net_.actors name.Clock d.entry.stamp (event.Move m))
+        (a.owed_is ∙ (d.entry.turn.owed ∙ owed_after d.entry.turn.past past_is))
+
+    has_moved : HasMoved w (visits (all_members gs)) m p.visit q.visit
+    has_moved =
+        record {
+          stamp = d.entry.stamp;
+          step = d.entry.turn.step;
+          gains = gains;
+          free = sym a.owed_at ∙ d.free;
+          stamp_is = stamp_is;
+          stepped = stepped;
+          owes = owes;
+        }
+
+  records_by : (x : Advance) → Decided w a.at x a.to → ClockRecords w (visits (all_members gs)) p.visit x q.visit
+  records_by (advance.Moved m) d = has_moved m d
+  records_by advance.Done d = rested d.1
+  records_by advance.Stopped d = rested d.1
+  records_by (advance.NotCalm c) d = rested d.1
+  records_by advance.Limit d = rested d.1
+  records_by advance.Memory d = rested d
+
+  -- by the answer
+  pub clock_records : ClockRecords w (visits (all_members gs)) p.visit answer q.visit
+  clock_records = records_by answer a.decided
+
+-- Its moment, where it recorded nothing.
+
+stay_by : (w : World) (all : List Visit) (old new : Visit) (answer : Advance) → ClockRecords w all old answer new → (vs us : List Visit) → In old vs
+    → ((v : Visit) → In v us → v.now ≡ new.now) → StayAtOnce answer vs us
+stay_by w all old new (advance.Moved m) does vs us there now = tt
+stay_by w all old new advance.Done does vs us there now = λ m are v i. now v i ∙ (does.now_is ∙ are old there)
+stay_by w all old new advance.Stopped does vs us there now = λ m are v i. now v i ∙ (does.now_is ∙ are old there)
+stay_by w all old new (advance.NotCalm c) does vs us there now = λ m are v i. now v i ∙ (does.now_is ∙ are old there)
+stay_by w all old new advance.Limit does vs us there now = λ m are v i. now v i ∙ (does.now_is ∙ are old there)
+stay_by w all old new advance.Memory does vs us there now = λ m are v i. now v i ∙ (does.now_is ∙ are old there)
+
+-- The answer.
+
+module _ {T : Type 0} (w : World) (r : Roster) (gs lent ks new : List (Grouped T)) (p q : Playing T) (answer : Advance)
+    (a : Advances w r (visits (other_players lent)) p.visit answer q.visit) (back : GroupsAreBack w q.visit.now lent ks)
+    (placed : (x : Playing T) → In x (all_members gs) → In x (other_players lent) ⊎ (x ≡ p))
+    (replaced : (x : Playing T) → In x (all_members new) → In x (other_players ks) ⊎ (x ≡ q)) (mine : IsWith w r p.visit p.visit.sight)
+    (all : (c : ℕ) → c < r.callers → HasGuest c (visits (all_members gs))) (all_new : (c : ℕ) → c < r.callers → HasGuest c (visits (all_members new)))
+    (one : AreOne) (but : IsLegalButScripts w (entries a.at.sight.seen)) (net : noted_net w a.at.sight.seen ≡ after w (entries a.at.sight.seen)) where
   -- where the clock didn't move, the callers know the same entries as before
   alone_new : a.to ≡ a.at → (v : Visit) → In v (visits (all_members new)) → own v.caller a.at.sight ≡ own v.caller v.sight
   alone_new rests v there =
@@ -121,7 +287,7 @@ module _ {T : Type 0} (w : World) (r : Roster) (gs lent ks new : List (Grouped T
           (ap (at (number.Caller q.visit.caller)) (sym (a.seen_is ∙ ap (λ (v : Visit). v.sight.seen) rests)))
 
   told : (K : Net → Type 0) → K (noted_net w a.at.sight.seen) → AfterAll w (visits (all_members gs)) K
-  told K holds = after_all w r a.at.sight a.guests one but net (visits (all_members gs)) all alone K holds
+  told K holds = clock_told w r gs lent p q answer a placed mine all one but net K holds
 
   told_new : a.to ≡ a.at → (K : Net → Type 0) → K (noted_net w a.at.sight.seen) → AfterAll w (visits (all_members new)) K
   told_new rests K holds = after_all w r a.at.sight a.guests one but net (visits (all_members new)) all_new (alone_new rests) K holds
@@ -151,3 +317,9 @@ module _ {T : Type 0} (w : World) (r : Roster) (gs lent ks new : List (Grouped T
 
   pub advanced : Advanced w (visits (all_members gs)) answer (visits (all_members new))
   advanced = advanced_by answer a.decided
+
+  -- the moment
+  pub stay_at_once : In p (all_members gs) → StayAtOnce answer (visits (all_members gs)) (visits (all_members new))
+  stay_at_once there =
+      stay_by w (visits (all_members gs)) p.visit q.visit answer (clock_records w r gs lent p q answer a placed mine all one but net)
+      (visits (all_members gs)) (visits (all_members new)) (visit_in p (all_members gs) there) all_now

@@ -72,13 +72,15 @@ module _ (w : World) (r : Roster) where
     pub with_this : (q : Sight) (met : Met r p q p') → StaysGuest w r v.caller p v.owed p' → IsWith w r v p'
     with_this q met stays =
         let held : In (number.Caller v.caller, is.guest.list) p'.held =
-        subst (λ (hs : List Held). In (number.Caller v.caller, is.guest.list) hs) (sym met.held) (in-left (number.Caller v.caller, is.guest.list) p.held q.held is.guest.held) in
+        subst (λ (hs : List Held). In (number.Caller v.caller, is.guest.list) hs) (sym met.held)
+        (in-left (number.Caller v.caller, is.guest.list) p.held q.held is.guest.held) in
         with_more stays met.this held (met.lists (number.Caller v.caller) is.guest.list held)
 
     pub with_that : (q : Sight) (met : Met r q p p') → StaysGuest w r v.caller p v.owed p' → IsWith w r v p'
     with_that q met stays =
         let held : In (number.Caller v.caller, is.guest.list) p'.held =
-        subst (λ (hs : List Held). In (number.Caller v.caller, is.guest.list) hs) (sym met.held) (in-right (number.Caller v.caller, is.guest.list) q.held p.held is.guest.held) in
+        subst (λ (hs : List Held). In (number.Caller v.caller, is.guest.list) hs) (sym met.held)
+        (in-right (number.Caller v.caller, is.guest.list) q.held p.held is.guest.held) in
         with_more stays met.that held (met.lists (number.Caller v.caller) is.guest.list held)
 
 -- One after another.
@@ -122,7 +124,8 @@ module _ (w : World) (r : Roster) (p : Sight) (vs : List Visit) where
 
 module _ (w : World) (r : Roster) (vs : List Visit) (p' : Sight) where
   -- the last guest's pass took the others in
-  pub all_with : (rest : List Visit) (last : Visit) (p : Sight) → vs ≡ rest ++ last ∷ [] → IsWith w r last p → Gathers w r p rest p' → (v : Visit) → In v vs → IsWith w r v p'
+  pub all_with : (rest : List Visit) (last : Visit) (p : Sight) → vs ≡ rest ++ last ∷ [] → IsWith w r last p → Gathers w r p rest p' → (v : Visit)
+      → In v vs → IsWith w r v p'
   all_with rest last p is mine g v i = place (last_or v rest last (subst (λ (l : List Visit). In v l) is i))
     where
       place : In v rest ⊎ (v ≡ last) → IsWith w r v p'
@@ -137,7 +140,8 @@ module _ (w : World) (r : Roster) (vs : List Visit) (p' : Sight) where
 
 -- The end.
 
-module _ (w : World) (r : Roster) (actors : (a : ActorName) → In a r.actors → has_actor w a ≡ true) (callers : r.callers ≡ caller_count w) (vs : List Visit) (p : Sight) (books : List Volume) (h : List Entry)
+module _ (w : World) (r : Roster) (actors : (a : ActorName) → In a r.actors → has_actor w a ≡ true) (callers : r.callers ≡ caller_count w)
+    (vs : List Visit) (p : Sight) (books : List Volume) (h : List Entry)
     (all : (c : ℕ) → c < r.callers → HasGuest c vs) (here : (v : Visit) → In v vs → IsWith w r v p) (whole : IsWhole r p books h) where
   of_guests : IsOfGuests w r p.seen
   of_guests =
@@ -167,7 +171,8 @@ module _ (w : World) (r : Roster) (actors : (a : ActorName) → In a r.actors �
   owes net v i =
       ap (λ (l : List Entry). owed w l v.caller) whole.entries ∙ (ap (λ (n : Net). n.owed v.caller) (sym (net of_guests)) ∙ (here v i).guest.owed)
 
-  pub finished : ((a : ActorName) → has_actor w a ≡ true → HasBook w a h) → (IsOfGuests w r p.seen → noted_net w p.seen ≡ after w (entries p.seen)) → (IsOfGuests w r p.seen → IsLegalButScripts w (entries p.seen))
+  pub finished : ((a : ActorName) → has_actor w a ≡ true → HasBook w a h) → (IsOfGuests w r p.seen → noted_net w p.seen ≡ after w (entries p.seen))
+      → (IsOfGuests w r p.seen → IsLegalButScripts w (entries p.seen))
       → (IsOfGuests w r p.seen → ((c : ℕ) → c < r.callers → AreNext w c p.seen) → IsLegal w (entries p.seen))
       → (IsOfGuests w r p.seen → ((c : ℕ) → c < r.callers → AreTimely w c p.seen) → IsTimed w (entries p.seen)) → Finished w vs h
   finished has_books net but legal timed =

@@ -40,8 +40,8 @@ abbrev pub Heres : World → Roster → Type 0
 Heres w r =
     (c d : ℕ) (p q p' q' : Sight) (ds : List Duty) → HandsOver r c p q p' q' → (d == c) ≡ false → IsGuest w r d p ds → StaysGuest w r d p ds p'
 
-abbrev pub player : {T : Type 0} → Visit → Role → T → Bool → Playing T
-player v who task lost = record { visit = v; role = who; task = task; lost = lost }
+abbrev pub player : {T : Type 0} → Visit → Role → T → Bool → Bool → Playing T
+player v who task lost counts = record { visit = v; role = who; task = task; lost = lost; counts = counts }
 
 abbrev pub with_sight : Visit → Sight → Visit
 with_sight v p = record v { sight = p }
@@ -111,16 +111,16 @@ module _ (w : World) (r : Roster) (over : Overs w r) (there : Theres w r) (here 
         stays_here w r first.caller s p1 s2 p2 b v none.1.0 later (here first.caller v.caller s p1 s2 p2 v.owed b none.1.0 later.guest)
 
 -- One level of the recursion: `me` and `clock` are the guests of the first player and of the clock as they are seen inside.
-module _ {T : Type 0} (w : World) (r : Roster) (over : Overs w r) (there : Theres w r) (here : Heres w r) (who : Role) (task : T) (lost : Bool)
+module _ {T : Type 0} (w : World) (r : Roster) (over : Overs w r) (there : Theres w r) (here : Heres w r) (who : Role) (task : T) (lost counts : Bool)
     (me clock now_clock : Visit) (one : Playing T) (others ps : List (Playing T)) (gs : List (Grouped T))
-    (is_one : player me who task lost ≡ one) (parts : ps ≡ one ∷ others) (is_clock : clock ≡ now_clock) (ss : List Standing)
+    (is_one : player me who task lost counts ≡ one) (parts : ps ≡ one ∷ others) (is_clock : clock ≡ now_clock) (ss : List Standing)
     (apart : Apart (now_clock.caller ∷ callers_of (ps ++ other_players gs)))
     (lent : AreLent w r (visits (ps ++ other_players gs)) now_clock.sight ss) (guest : IsGuest w r me.caller me.sight me.owed)
     (p1 q1 : Sight) (h : HandsOver r me.caller me.sight clock.sight p1 q1) where
   abbrev left : List (Playing T)
   left = others ++ other_players gs
 
-  lists : ps ++ other_players gs ≡ player me who task lost ∷ left
+  lists : ps ++ other_players gs ≡ player me who task lost counts ∷ left
   lists = ap (λ (l : List (Playing T)). l ++ other_players gs) (parts ∙ ap (λ (x : Playing T). x ∷ others) (sym is_one))
 
   apart_here : Apart (clock.caller ∷ me.caller ∷ callers_of left)
@@ -183,7 +183,8 @@ module _ {T : Type 0} (w : World) (r : Roster) (over : Overs w r) (there : There
         me_visits stays_known ds host m k is home touched forgotten kept at_home covers forgets known =
             record {
               guest = me_back.guest;
-              here = is.here ∙ sym (returned_moment w r over there here me clock.caller (callers_of left) apart_here mine clock.sight p1 q1 h had.sight stay_here p2 s2 b);
+              here = is.here ∙ sym (returned_moment w r over there here me clock.caller (callers_of left)
+                  apart_here mine clock.sight p1 q1 h had.sight stay_here p2 s2 b);
               early = is.early;
               home = at_home;
               covers = forgets (own me.caller p2) (subst (λ (l : List (ℕ × Noted)). Covers l touched) (sym me_back.stays.alone) covers);
@@ -202,7 +203,8 @@ module _ {T : Type 0} (w : World) (r : Roster) (over : Overs w r) (there : There
               guest = subst (λ (c : ℕ). IsGuest w r c s2 ds) (sym had_caller)
                   (clock_guest_after w r over there here me clock.caller (callers_of left) apart_here mine clock.sight p1 q1 h had.sight stay_here p2 s2 b ds
                   (subst (λ (c : ℕ). IsGuest w r c had.sight ds) had_caller is.guest));
-              here = is.here ∙ sym (clock_moment_after w r over there here me clock.caller (callers_of left) apart_here mine clock.sight p1 q1 h had.sight stay_here p2 s2 b);
+              here = is.here ∙ sym (clock_moment_after w r over there here me clock.caller (callers_of left)
+                  apart_here mine clock.sight p1 q1 h had.sight stay_here p2 s2 b);
               early = is.early;
               home = is.home;
               covers = subst (λ (l : List (ℕ × Noted)). Covers l m) (sym stays.alone) is.covers;
@@ -221,17 +223,29 @@ module _ {T : Type 0} (w : World) (r : Roster) (over : Overs w r) (there : There
             (subst (λ (v : Visit). Advances w r (me ∷ visits left) v answer (with_sight had s2)) is_clock
             (advances_on w r me (visits left) clock (with_sight clock q1) answer had (with_sight had s2)
             (had_still w r over there here me clock.caller (callers_of left) apart_here mine clock.sight p1 q1 h)
-            (lent_one w r over there here me clock.caller (callers_of left) apart_here mine clock.sight p1 q1 h) refl refl refl refl b.left_seen
+            (lent_one w r over there here me clock.caller (callers_of left) apart_here mine clock.sight p1 q1 h)
+            refl refl refl refl refl refl refl refl b.left_seen
             (subst (λ (v : Visit). Advances w r (visits left) (with_sight clock q1) answer v) (sym is_had)
             (subst (λ (v : Visit). Advances w r (visits left) v answer had_now) with_clock advances))))
 
         pub are_back : (now : ℕ) (new : List (Playing T)) → AreBack w now others new → had.now ≡ now
-            → AreBack w now ps (player (record { caller = me.caller; now = had.now; sight = p2; owed = me.owed; names = me.names }) who task lost ∷ new)
+            → AreBack w now ps (player (record { caller = me.caller; now = had.now; sight = p2; owed = me.owed; names = me.names }) who task lost counts ∷ new)
         are_back now new rest is =
-            subst (λ (l : List (Playing T)). AreBack w now l (player (record { caller = me.caller; now = had.now; sight = p2; owed = me.owed; names = me.names }) who task lost ∷ new))
+            subst (λ (l : List (Playing T)). AreBack w now l
+            (player (record { caller = me.caller; now = had.now; sight = p2; owed = me.owed; names = me.names }) who task lost counts ∷ new))
             (sym (parts ∙ ap (λ (x : Playing T). x ∷ others) (sym is_one))) (
               (
-                record { caller_is = refl; owed_is = refl; names_are = refl; role_is = refl; task_is = refl; lost_is = refl; stays = me_back.stays },
+                record {
+                  caller_is = refl;
+                  owed_is = refl;
+                  names_are = refl;
+                  role_is = refl;
+                  task_is = refl;
+                  lost_is = refl;
+                  counts_is = refl;
+                  stays =
+                      me_back.stays;
+                },
                 is,
               ),
               rest,

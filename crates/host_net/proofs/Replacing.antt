@@ -13,10 +13,11 @@ use Rattle.net_locks.specs.declared.clock.Advance.{Advance}
 use Rattle.net_locks.specs.declared.clock.Standing.{Standing}
 use Rattle.net_base.specs.declared.noted.Noted.{Noted}
 use Rattle.host_net.proofs.Histories.{AreOne}
-use Rattle.host_net.proofs.Outcomes.{advanced}
+use Rattle.host_net.proofs.Outcomes.{advanced, clock_records, stay_at_once}
 use Rattle.host_net.proofs.Standings.{all_clocks, clock_apart, clock_seated, has_guest, lent_first}
-use Rattle.host_net.proofs.Taking.{NoClocks, all_placed, emptied, emptied_again, filled, filled_at, filled_kept, filled_others, none_left, others_stay, place_back, seats_kept, still_none}
-use Rattle.host_net.specs.Advancing.{Advanced, Advances, AreLent, AreStandings, GroupsAreBack, GroupsAreKept, IsClockKept, IsTaken, other_players}
+use Rattle.host_net.proofs.Taking.{NoClocks, all_placed, clock_among, emptied, emptied_again, filled, filled_at, filled_kept, filled_others}
+use Rattle.host_net.proofs.Taking.{none_left, others_stay, place_back, seats_kept, still_none}
+use Rattle.host_net.specs.Advancing.{Advanced, Advances, AreLent, AreStandings, GroupsAreBack, GroupsAreKept, IsClockKept, IsTaken, StayAtOnce, other_players}
 use Rattle.host_net.specs.Groups.{Apart, AreUpTo, Grouped, IsDealt, all_callers, all_members, all_seats, caller, callers_of, visits}
 use Rattle.host_net.specs.Playing.{Playing}
 use Rattle.host_net.specs.Visits.{HasGuest, IsWith}
@@ -71,19 +72,34 @@ module _ {T : Type 0} (w : World) (r : Roster) (gs lent : List (Grouped T)) (pla
     pub place_within : place < length ks
     place_within = slice_get_within ks place there_back.0 there_back.1
 
-    module _ (clock : IsClockKept p q) (new : List (Grouped T))
-        (is : (k : Grouped T) → slice_get ks place ≡ Some k → new ≡ slice_set ks place (filled k q)) where
+    module _ (answer : Advance) (advances : Advances w r (visits (other_players lent)) p.visit answer q.visit) (mine : IsWith w r p.visit p.visit.sight)
+        (one : AreOne) (but : ButScripts w r) (net : SameNets w r) (role : q.role ≡ p.role) (task : q.task ≡ p.task) (lost : q.lost ≡ p.lost)
+        (counts : q.counts ≡ p.counts)
+        (new : List (Grouped T)) (is : (k : Grouped T) → slice_get ks place ≡ Some k → new ≡ slice_set ks place (filled k q)) where
+      clock : IsClockKept w (visits (all_members gs)) answer p q
+      clock =
+          record {
+            caller_is = advances.caller_is;
+            names_are = advances.names_are;
+            role_is = role;
+            task_is = task;
+            lost_is = lost;
+            counts_is = counts;
+            records = clock_records w r gs lent p q answer advances placed mine (has_guest r.callers gs dealt.callers) one
+                (but advances.at.sight.seen advances.guests) (net advances.at.sight.seen advances.guests);
+          }
+
       put_is : new ≡ slice_set ks place (filled there_back.0 q)
       put_is = is there_back.0 there_back.1
 
-      pub all_kept : GroupsAreKept w gs new
+      pub all_kept : GroupsAreKept w gs answer new
       all_kept =
-          subst (λ (l : List (Grouped T)). GroupsAreKept w gs l) (sym put_is)
-          (filled_kept w q.visit.now gs ks place taken.group there_back.0 p q taken.there taken.clock_is there_back.1 clock
-          (subst (λ (l : List (Grouped T)). GroupsAreBack w q.visit.now l ks) taken.new_is back))
+          subst (λ (l : List (Grouped T)). GroupsAreKept w gs answer l) (sym put_is)
+          (filled_kept w (visits (all_members gs)) answer q.visit.now gs ks place taken.group there_back.0 p q taken.there taken.clock_is there_back.1 clock
+          (subst (λ (l : List (Grouped T)). GroupsAreBack w q.visit.now l ks) taken.new_is back) none_set)
 
       pub all_seated : all_seats new ≡ all_seats gs
-      all_seated = seats_kept w gs new all_kept
+      all_seated = seats_kept w (visits (all_members gs)) answer gs new all_kept
 
       replaced : (x : Playing T) → In x (all_members new) → In x (other_players ks) ⊎ (x ≡ q)
       replaced x i =
@@ -97,9 +113,14 @@ module _ {T : Type 0} (w : World) (r : Roster) (gs lent : List (Grouped T)) (pla
           has_guest r.callers new
           (subst (λ (l : List _). AreUpTo r.callers (all_callers l)) (sym all_seated) dealt.callers)
 
-      pub all_advanced : (answer : Advance) → Advances w r (visits (other_players lent)) p.visit answer q.visit → IsWith w r p.visit p.visit.sight
-          → AreOne → ButScripts w r → SameNets w r
-          → Advanced w (visits (all_members gs)) answer (visits (all_members new))
-      all_advanced answer a mine one but net =
-          advanced w r gs lent ks new p q answer a back placed replaced mine (has_guest r.callers gs dealt.callers) all_again one
-          (but a.at.sight.seen a.guests) (net a.at.sight.seen a.guests)
+      pub all_advanced : Advanced w (visits (all_members gs)) answer (visits (all_members new))
+      all_advanced =
+          advanced w r gs lent ks new p q answer advances back placed replaced mine (has_guest r.callers gs dealt.callers) all_again one
+          (but advances.at.sight.seen advances.guests) (net advances.at.sight.seen advances.guests)
+
+      -- the moment
+      pub all_at_once : StayAtOnce answer (visits (all_members gs)) (visits (all_members new))
+      all_at_once =
+          stay_at_once w r gs lent ks new p q answer advances back placed replaced mine (has_guest r.callers gs dealt.callers) all_again one
+          (but advances.at.sight.seen advances.guests) (net advances.at.sight.seen advances.guests)
+          (clock_among gs place taken.group p taken.there taken.clock_is)

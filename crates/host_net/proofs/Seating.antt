@@ -1,17 +1,20 @@
 -- The callers of groups, and what becomes of them.
-use Rattle.std.proofs.Common.{◌≡◌, ℕ, zero, suc, ◌+◌, ◌<◌, ◌≤◌, ◌%◌, ◌==◌, nat_lt, ◌⊎◌, inl, inr, Bool, true, false, ◌||◌, List, [], ◌∷◌, ◌++◌, length, map, take, option_map, Option, Some, None, IfSome, slice_get, slice_set, slice_index_or, reverse, refl, ap, sym, subst, ◌∙◌, append_assoc, arith}
+use Rattle.std.proofs.Common.{◌≡◌, ℕ, zero, suc, ◌+◌, ◌<◌, ◌≤◌, ◌%◌, ◌==◌, nat_lt, ◌⊎◌, inl, inr, Bool, true, false, ◌||◌, List, [], ◌∷◌}
+use Rattle.std.proofs.Common.{◌++◌, length, map, take, option_map, Option, Some, None, IfSome, slice_get, slice_set, slice_index_or}
+use Rattle.std.proofs.Common.{reverse, refl, ap, sym, subst, ◌∙◌, append_assoc, arith}
 use Rattle.std.specs.List.{list_any}
 use Rattle.std.proofs.lemmas.Bool.{true≢false}
 use Rattle.std.proofs.lemmas.Bool.Decides.{nat_tests}
 use Rattle.std.proofs.lemmas.List.{append-nil, reverse-append}
 use Rattle.std.proofs.lemmas.Option.{none-some, same_Some}
-use Rattle.net_base.specs.declared.world.Script.{Script}
 use Rattle.net_base.specs.declared.world.World.{World}
-use Rattle.net_base.specs.Callers.{Caller, IsClock, IsCourier, IsScript, caller_of}
+use Rattle.net_base.specs.Callers.{Caller, IsClock, caller_of}
 use Rattle.net_base.specs.Stamped.{In}
 use Rattle.host_net.specs.declared.player.Role.{Role}
 use Rattle.host_net.specs.declared.player.Role.TheVariants as role
-use Rattle.host_net.specs.Groups.{Apart, AreUpTo, AreWaiting, Grouped, Inserts, IsDealt, IsSeated, NotIn, Seats, all_callers, all_members, all_seats, caller, callers_in, callers_of, joined, joined_as, joined_at, members, seats, visits, with_last}
+use Rattle.host_net.specs.Groups.{Apart, AreUpTo, AreWaiting, Grouped, Inserts, IsDealt, IsSeated, NotIn, Seats, all_callers, all_members}
+use Rattle.host_net.specs.Groups.{all_seats, caller, callers_in, callers_of, joined, joined_as, joined_at, members, seats, visits}
+use Rattle.host_net.specs.Groups.{with_last}
 use Rattle.host_net.specs.Playing.{ArePlayed, HasRole, IsPlayed, IsWaiting, Playing}
 use Rattle.host_net.specs.Visits.{HasGuest, Visit}
 
@@ -123,7 +126,8 @@ module _ {T : Type 0} where
   callers_push : (ps : List (Playing T)) (p : Playing T) → callers_of (ps ++ p ∷ []) ≡ callers_of ps ++ caller p ∷ []
   callers_push ps p = map_append caller ps (p ∷ [])
 
-  other_inserts : (g : Grouped T) (p : Playing T) → Inserts (caller p) (callers_in (seats g)) (with_last (callers_of (g.players ++ p ∷ [])) (option_map caller g.clock))
+  other_inserts : (g : Grouped T) (p : Playing T)
+      → Inserts (caller p) (callers_in (seats g)) (with_last (callers_of (g.players ++ p ∷ [])) (option_map caller g.clock))
   other_inserts g p =
       subst (λ (l : List ℕ). Inserts (caller p) (callers_in (seats g)) (with_last l (option_map caller g.clock))) (sym (callers_push g.players p))
       (with_last_more (callers_of g.players) (caller p) (option_map caller g.clock))
@@ -133,7 +137,8 @@ module _ {T : Type 0} where
       subst (λ (q : Option (Playing T)). Inserts c (with_last xs (option_map caller q)) (xs ++ c ∷ [])) (sym none)
       (record { before = xs; behind = []; old_is = sym (append-nil xs); new_is = refl })
 
-  pub group_inserts : (r : Role) (g : Grouped T) (p : Playing T) → (r ≡ role.Clock → g.clock ≡ None) → Inserts (caller p) (callers_in (seats g)) (callers_in (seats (joined_as r g p)))
+  pub group_inserts : (r : Role) (g : Grouped T) (p : Playing T) → (r ≡ role.Clock → g.clock ≡ None)
+      → Inserts (caller p) (callers_in (seats g)) (callers_in (seats (joined_as r g p)))
   group_inserts role.Clock g p alone = clock_inserts (callers_of g.players) (caller p) g.clock (alone refl)
   group_inserts role.Script g p alone = other_inserts g p
   group_inserts (role.Courier m) g p alone = other_inserts g p
@@ -151,7 +156,8 @@ module _ {T : Type 0} where
       which c (inr (inl same)) = λ clock. other (ap (caller_of w) (sym same) ∙ clock)
       which c (inr (inr none)) = absurd none
 
-  pub group_seated : (w : World) (r : Role) (g : Grouped T) (p : Playing T) → HasRole w (caller p) r → IsSeated w (seats g) → IsSeated w (seats (joined_as r g p))
+  pub group_seated : (w : World) (r : Role) (g : Grouped T) (p : Playing T) → HasRole w (caller p) r → IsSeated w (seats g)
+      → IsSeated w (seats (joined_as r g p))
   group_seated w role.Clock g p has is = record { clock_is = has; others_are = is.others_are }
   group_seated w role.Script g p has is = other_seats w g p is (λ clock. true≢false (ap is_clock (sym clock ∙ has.1)))
   group_seated w (role.Courier m) g p has is = other_seats w g p is (λ clock. true≢false (ap is_clock (sym clock ∙ has)))
@@ -176,7 +182,8 @@ module _ {T : Type 0} where
   all_inserts zero (g ∷ gs) p lt alone =
       inserts_back (caller p) (all_callers (all_seats gs)) (callers_in (seats g)) (callers_in (seats (joined g p))) (group_inserts p.role g p (alone g refl))
   all_inserts (suc k) (g ∷ gs) p lt alone =
-      inserts_front (caller p) (callers_in (seats g)) (all_callers (all_seats gs)) (all_callers (all_seats (joined_at k gs p))) (all_inserts k gs p (omega (arith, lt)) alone)
+      inserts_front (caller p) (callers_in (seats g)) (all_callers (all_seats gs)) (all_callers (all_seats (joined_at k gs p)))
+      (all_inserts k gs p (omega (arith, lt)) alone)
 
   -- what stands at a place, or what stood there with a player more
   pub record Joined (k : ℕ) (gs : List (Grouped T)) (p : Playing T) (j : ℕ) (s : Seats) : Type 0 where
@@ -193,7 +200,8 @@ module _ {T : Type 0} where
   seats_at (suc k) (g ∷ gs) p zero s is = inl is
   seats_at (suc k) (g ∷ gs) p (suc j) s is = shift (seats_at k gs p j s is)
     where
-      shift : (slice_get (all_seats gs) j ≡ Some s) ⊎ Joined k gs p j s → (slice_get (all_seats (g ∷ gs)) (suc j) ≡ Some s) ⊎ Joined (suc k) (g ∷ gs) p (suc j) s
+      shift : (slice_get (all_seats gs) j ≡ Some s) ⊎ Joined k gs p j s
+          → (slice_get (all_seats (g ∷ gs)) (suc j) ≡ Some s) ⊎ Joined (suc k) (g ∷ gs) p (suc j) s
       shift (inl old) = inl old
       shift (inr new) = inr (record { group = new.group; there = new.there; here = ap suc new.here; is = new.is })
 
@@ -228,11 +236,13 @@ in_all [] s c none there = absurd none
 in_all (x ∷ ss) s c (inl here) there = in_first c (callers_in x) (all_callers ss) (subst (λ (y : Seats). In c (callers_in y)) here there)
 in_all (x ∷ ss) s c (inr behind) there = in_second c (callers_in x) (all_callers ss) (in_all ss s c behind there)
 
-module _ {T : Type 0} (w : World) (n : ℕ) (gs : List (Grouped T)) (dealt : IsDealt w n (all_seats gs)) (p : Playing T) (next : caller p ≡ n) (has : HasRole w (caller p) p.role) where
+module _ {T : Type 0} (w : World) (n : ℕ) (gs : List (Grouped T)) (dealt : IsDealt w n (all_seats gs)) (p : Playing T) (next : caller p ≡ n)
+    (has : HasRole w (caller p) p.role) where
   abbrev place : ℕ
   place = n % length gs
 
-  alone_from : (one : (a b : ℕ) → caller_of w a ≡ IsClock → caller_of w b ≡ IsClock → a ≡ b) → (g : Grouped T) → In (seats g) (all_seats gs) → p.role ≡ role.Clock → g.clock ≡ None
+  alone_from : (one : (a b : ℕ) → caller_of w a ≡ IsClock → caller_of w b ≡ IsClock → a ≡ b) → (g : Grouped T) → In (seats g) (all_seats gs)
+      → p.role ≡ role.Clock → g.clock ≡ None
   alone_from one g there clock = by_clock g.clock refl
     where
       is_clock_too : caller_of w n ≡ IsClock
@@ -243,13 +253,15 @@ module _ {T : Type 0} (w : World) (n : ℕ) (gs : List (Grouped T)) (dealt : IsD
       by_clock (Some q) is = absurd (omega (arith, below, same))
         where
           other : caller_of w (caller q) ≡ IsClock
-          other = subst (λ (o : Option (Playing T)). IfSome (option_map caller o) (λ (c : ℕ). caller_of w c ≡ IsClock)) is (dealt.seated (seats g) there).clock_is
+          other = subst (λ (o : Option (Playing T)). IfSome (option_map caller o) (λ (c : ℕ). caller_of w c ≡ IsClock)) is
+              (dealt.seated (seats g) there).clock_is
 
           same : caller q ≡ n
           same = one (caller q) n other is_clock_too
 
           among : In (caller q) (callers_in (seats g))
-          among = subst (λ (o : Option (Playing T)). In (caller q) (with_last (callers_of g.players) (option_map caller o))) (sym is) (in_second (caller q) (callers_of g.players) (caller q ∷ []) (inl refl))
+          among = subst (λ (o : Option (Playing T)). In (caller q) (with_last (callers_of g.players) (option_map caller o))) (sym is)
+              (in_second (caller q) (callers_of g.players) (caller q ∷ []) (inl refl))
 
           below : caller q < n
           below = dealt.callers.known (caller q) (in_all (all_seats gs) (seats g) (caller q) there among)
@@ -269,7 +281,8 @@ module _ {T : Type 0} (w : World) (n : ℕ) (gs : List (Grouped T)) (dealt : IsD
       subst (λ (x : Seats). IsSeated w x) (sym new.is)
       (group_seated w p.role new.group p has (dealt.seated (seats new.group) (get_in (all_seats gs) j (seats new.group) (get_seats gs j new.group new.there))))
 
-  placed_at : IsAlone place gs p → (j : ℕ) (s : Seats) (c : ℕ) → (slice_get (all_seats gs) j ≡ Some s) ⊎ Joined place gs p j s → In c (callers_in s) → c % length (all_seats gs) ≡ j
+  placed_at : IsAlone place gs p → (j : ℕ) (s : Seats) (c : ℕ) → (slice_get (all_seats gs) j ≡ Some s) ⊎ Joined place gs p j s → In c (callers_in s)
+      → c % length (all_seats gs) ≡ j
   placed_at alone j s c (inl old) there = dealt.places j s c old there
   placed_at alone j s c (inr new) there = which (inserted (caller p) c (callers_in (seats new.group)) (callers_in (seats (joined new.group p))) inserts among)
     where
@@ -286,7 +299,8 @@ module _ {T : Type 0} (w : World) (n : ℕ) (gs : List (Grouped T)) (dealt : IsD
   -- each caller so far has its place, the next one too
   pub dealt_more : place < length gs → IsAlone place gs p → IsDealt w (n + 1) (all_seats (joined_at place gs p))
   dealt_more lt alone =
-      let long : length (all_seats (joined_at place gs p)) ≡ length (all_seats gs) = seats_long (joined_at place gs p) ∙ (joined_long place gs p ∙ sym seats_many) in
+      let long : length (all_seats (joined_at place gs p)) ≡ length (all_seats gs) = seats_long (joined_at place gs p)
+      ∙ (joined_long place gs p ∙ sym seats_many) in
       record {
         some = subst (λ (k : ℕ). 0 < k) (sym long) dealt.some;
         callers = up_to_more n (all_callers (all_seats gs)) (all_callers (all_seats (joined_at place gs p))) dealt.callers
@@ -340,7 +354,8 @@ none_dealt w gs some are =
 
 -- What is set at a place.
 
-pub set_joined : {T : Type 0} (gs : List (Grouped T)) (k : ℕ) (d : Grouped T) (p : Playing T) → slice_set gs k (joined (slice_index_or gs k d) p) ≡ joined_at k gs p
+pub set_joined : {T : Type 0} (gs : List (Grouped T)) (k : ℕ) (d : Grouped T) (p : Playing T) → slice_set gs k (joined (slice_index_or gs k d) p)
+    ≡ joined_at k gs p
 set_joined [] k d p = refl
 set_joined (g ∷ gs) zero d p = refl
 set_joined (g ∷ gs) (suc k) d p = ap (λ (l : _). g ∷ l) (set_joined gs k d p)
@@ -351,7 +366,8 @@ set_same (x ∷ xs) zero d = refl
 set_same (x ∷ xs) (suc k) d = ap (λ (l : _). x ∷ l) (set_same xs k d)
 
 -- a player that keeps its caller
-pub same_callers : {T : Type 0} (ps : List (Playing T)) (i : ℕ) (d q : Playing T) → caller q ≡ caller (slice_index_or ps i d) → callers_of (slice_set ps i q) ≡ callers_of ps
+pub same_callers : {T : Type 0} (ps : List (Playing T)) (i : ℕ) (d q : Playing T) → caller q ≡ caller (slice_index_or ps i d)
+    → callers_of (slice_set ps i q) ≡ callers_of ps
 same_callers [] i d q same = refl
 same_callers (p ∷ ps) zero d q same = ap (λ (c : ℕ). c ∷ callers_of ps) same
 same_callers (p ∷ ps) (suc i) d q same = ap (λ (l : List ℕ). caller p ∷ l) (same_callers ps i d q same)
@@ -371,13 +387,15 @@ pub as_many : {T : Type 0} (gs hs : List (Grouped T)) → all_seats gs ≡ all_s
 as_many gs hs same = sym (seats_long gs) ∙ (ap length same ∙ seats_long hs)
 
 -- a group that keeps its callers, before others that do
-pub seats_on : {T : Type 0} (gs : List (Grouped T)) (g h : Grouped T) (rest after : List (Grouped T)) → gs ≡ g ∷ rest → seats h ≡ seats g → all_seats after ≡ all_seats rest
+pub seats_on : {T : Type 0} (gs : List (Grouped T)) (g h : Grouped T) (rest after : List (Grouped T)) → gs ≡ g ∷ rest → seats h ≡ seats g
+    → all_seats after ≡ all_seats rest
     → all_seats (h ∷ after) ≡ all_seats gs
 seats_on gs g h rest after parts first others =
     ap (λ (s : Seats). s ∷ all_seats after) first ∙ (ap (λ (l : List Seats). seats g ∷ l) others ∙ sym (ap all_seats parts))
 
 -- memory ran out in the first group, or in another
-pub some_short : {T A B : Type 0} (h : Grouped T) (after : List (Grouped T)) → (A → h.memory ≡ true) → (B → list_any (λ (x : Grouped T). x.memory) after ≡ true) → A ⊎ B
+pub some_short : {T A B : Type 0} (h : Grouped T) (after : List (Grouped T)) → (A → h.memory ≡ true)
+    → (B → list_any (λ (x : Grouped T). x.memory) after ≡ true) → A ⊎ B
     → list_any (λ (x : Grouped T). x.memory) (h ∷ after) ≡ true
 some_short {T = T} h after first others (inl here) = ap (λ (b : Bool). b || list_any (λ (x : Grouped T). x.memory) after) (first here)
 some_short {T = T} h after first others (inr there) = or_true h.memory (list_any (λ (x : Grouped T). x.memory) after) (others there)
@@ -400,7 +418,8 @@ module _ {T : Type 0} (w : World) where
       which (inl one) = first p one
       which (inr other) = second p other
 
-  pub waiting_members : (ps : List (Playing T)) (o : Option (Playing T)) → AreWaiting w ps → IfSome o (λ (p : Playing T). IsWaiting w p.visit) → AreWaiting w (with_last ps o)
+  pub waiting_members : (ps : List (Playing T)) (o : Option (Playing T)) → AreWaiting w ps → IfSome o (λ (p : Playing T). IsWaiting w p.visit)
+      → AreWaiting w (with_last ps o)
   waiting_members ps None others clock = others
   waiting_members ps (Some q) others clock = waiting_parts ps (q ∷ []) others one
     where
@@ -414,7 +433,8 @@ module _ {T : Type 0} (w : World) where
   take_set (p ∷ ps) (suc i) q lt = ap (λ (l : List (Playing T)). p ∷ l) (take_set ps i q (omega (arith, lt)))
 
   -- one more of them waits
-  pub waiting_more : (ps : List (Playing T)) (i : ℕ) (q : Playing T) → i < length ps → AreWaiting w (take i ps) → IsWaiting w q.visit → AreWaiting w (take (i + 1) (slice_set ps i q))
+  pub waiting_more : (ps : List (Playing T)) (i : ℕ) (q : Playing T) → i < length ps → AreWaiting w (take i ps) → IsWaiting w q.visit
+      → AreWaiting w (take (i + 1) (slice_set ps i q))
   waiting_more ps i q lt are is =
       subst (λ (k : ℕ). AreWaiting w (take k (slice_set ps i q))) {x = suc i} (omega arith)
       (subst (λ (l : List (Playing T)). AreWaiting w l) (sym (take_set ps i q lt)) (waiting_members (take i ps) (Some q) are is))
@@ -459,7 +479,8 @@ module _ {T : Type 0} where
 
   pub all_members_more : (gs hs : List (Grouped T)) → all_members (gs ++ hs) ≡ all_members gs ++ all_members hs
   all_members_more [] hs = refl
-  all_members_more (g ∷ gs) hs = ap (λ (l : List (Playing T)). members g ++ l) (all_members_more gs hs) ∙ sym (append_assoc (members g) (all_members gs) (all_members hs))
+  all_members_more (g ∷ gs) hs = ap (λ (l : List (Playing T)). members g ++ l) (all_members_more gs hs)
+      ∙ sym (append_assoc (members g) (all_members gs) (all_members hs))
 
   -- Guests that are taken out, one after another.
 

@@ -1,5 +1,7 @@
 -- How all callers stand, before the clock's guest gets their numbers.
-use Rattle.std.proofs.Common.{◌≡◌, ℕ, zero, suc, ◌+◌, ◌<◌, ◌≤◌, ◌==◌, ◌⊎◌, inl, inr, Bool, true, false, List, [], ◌∷◌, ◌++◌, get_or, length, map, take, Option, Some, None, if◌then◌else◌, nat_lt, slice_get, refl, ap, sym, subst, ◌∙◌, arith, append_assoc, ◌-◌}
+use Rattle.std.proofs.Common.{◌≡◌, ℕ, zero, suc, ◌+◌, ◌<◌, ◌≤◌, ◌==◌, ◌⊎◌, inl, inr, Bool, true, false, List, [], ◌∷◌, ◌++◌, get_or, length}
+use Rattle.std.proofs.Common.{take, Option, Some, None, if◌then◌else◌, nat_lt, slice_get, refl, ap, sym, subst, ◌∙◌, arith}
+use Rattle.std.proofs.Common.{append_assoc, ◌-◌}
 use Rattle.std.specs.Prelude.{IfSome}
 use Rattle.std.specs.Option.{option_map, option_map_or}
 use Rattle.std.proofs.lemmas.Bool.Decides.{nat_tests}
@@ -14,7 +16,8 @@ use Rattle.net_locks.specs.declared.clock.Standing.{Standing}
 use Rattle.host_net.proofs.Handing.{apart_test}
 use Rattle.host_net.proofs.Taking.{ClockIs, Clocks, all_callers_are, all_not, caller_in, in_visits, of_both, of_callers, others_apart, visit_in}
 use Rattle.host_net.specs.Advancing.{Adds, AreLent, AreStandings, IsStanding, other_players}
-use Rattle.host_net.specs.Groups.{Apart, AreUpTo, Grouped, IsSeated, Seats, all_callers, all_members, all_seats, caller, callers_of, members, seats, visits, with_last}
+use Rattle.host_net.specs.Groups.{Apart, AreUpTo, Grouped, IsSeated, Seats, all_callers, all_members, all_seats, caller, callers_of}
+use Rattle.host_net.specs.Groups.{members, seats, visits, with_last}
 use Rattle.host_net.specs.Playing.{Playing}
 use Rattle.host_net.specs.Visits.{HasGuest, IsWith, Visit}
 
@@ -138,7 +141,8 @@ module _ {T : Type 0} where
   pub clock_seated : (w : World) (gs : List (Grouped T)) (n : ℕ) (g : Grouped T) (p : Playing T) → ((s : Seats) → In s (all_seats gs) → IsSeated w s)
       → slice_get gs n ≡ Some g → g.clock ≡ Some p → caller_of w (caller p) ≡ IsClock
   clock_seated w gs n g p seated there is =
-      subst (λ (c : Option (Playing T)). IfSome (option_map caller c) (λ (k : ℕ). caller_of w k ≡ IsClock)) is (seated (seats g) (seats_in gs n g there)).clock_is
+      subst (λ (c : Option (Playing T)). IfSome (option_map caller c) (λ (k : ℕ). caller_of w k ≡ IsClock)) is
+      (seated (seats g) (seats_in gs n g there)).clock_is
 
   pub all_clocks : (w : World) (k : ℕ) (gs : List (Grouped T)) → caller_of w k ≡ IsClock → ((s : Seats) → In s (all_seats gs) → IsSeated w s) → Clocks k gs
   all_clocks w k [] clock seated = tt

@@ -1,14 +1,18 @@
 -- The clock's player is taken out of its group, and put back: no other group has one, and the other players stay.
-use Rattle.std.proofs.Common.{◌≡◌, ℕ, zero, suc, ◌==◌, ◌⊎◌, inl, inr, true, false, List, [], ◌∷◌, ◌++◌, drop, length, map, take, Option, Some, None, slice_get, slice_set, refl, ap, sym, subst, ◌∙◌, arith}
+use Rattle.std.proofs.Common.{◌≡◌, ℕ, zero, suc, ◌==◌, ◌⊎◌, inl, inr, false, List, [], ◌∷◌, ◌++◌, Option, Some, None, slice_get}
+use Rattle.std.proofs.Common.{slice_set, refl, ap, sym, subst, ◌∙◌}
 use Rattle.std.specs.Option.{option_map}
 use Rattle.std.proofs.lemmas.Bool.{true≢false}
-use Rattle.std.proofs.lemmas.List.{append-nil, drop_all, map-append, take_all}
+use Rattle.std.proofs.lemmas.List.{map-append}
 use Rattle.std.proofs.lemmas.Option.{none-some, same_Some}
 use Rattle.net_base.specs.declared.world.World.{World}
 use Rattle.net_base.specs.Stamped.{In}
 use Rattle.host_net.proofs.Handing.{in_back, in_front, none_more, same_number_is}
 use Rattle.host_net.proofs.Passes.{last_or}
-use Rattle.host_net.specs.Advancing.{AreBack, AreKept, ClockStays, GroupsAreBack, GroupsAreKept, IsBack, IsClockKept, IsGroupKept, IsKept, other_players}
+use Rattle.net_locks.specs.declared.clock.Advance.{Advance}
+use Rattle.net_locks.specs.declared.clock.Advance.TheVariants as advance
+use Rattle.host_net.specs.Advancing.{AreBack, AreKept, ClockStays, EachIsKept, GroupsAreBack, GroupsAreKept, IsBack, IsClockKept}
+use Rattle.host_net.specs.Advancing.{IsGroupKept, IsKept, other_players}
 use Rattle.host_net.specs.Groups.{Apart, Grouped, NotIn, all_callers, all_members, all_seats, caller, callers_in, callers_of, members, seats, visits, with_last}
 use Rattle.host_net.specs.Playing.{Playing}
 use Rattle.net_locks.specs.Turns.{Stays}
@@ -247,6 +251,15 @@ module _ {T : Type 0} where
       place rest (inl here) = at_clock (of_last q x.players x.clock here)
       place rest (inr behind) = later (rest behind)
 
+  -- the clock's player is one of all
+  pub clock_among : (gs : List (Grouped T)) (place : ℕ) (g : Grouped T) (p : Playing T) → slice_get gs place ≡ Some g → g.clock ≡ Some p → In p (all_members gs)
+  clock_among [] place g p there is = absurd (none-some g there)
+  clock_among (x ∷ gs) zero g p there is =
+      in_front p (members x) (all_members gs)
+      (subst (λ (c : Option (Playing T)). In p (with_last x.players c)) (sym (ap (λ (y : Grouped T). y.clock) (same_Some x g there) ∙ is))
+      (with_clock p x.players))
+  clock_among (x ∷ gs) (suc place) g p there is = in_back p (members x) (all_members gs) (clock_among gs place g p there is)
+
   -- the other way
   pub others_among : (gs : List (Grouped T)) (q : Playing T) → In q (other_players gs) → In q (all_members gs)
   others_among [] q there = absurd there
@@ -292,26 +305,27 @@ module _ {T : Type 0} where
   kept_of w now (p ∷ ps) [] back = absurd back
   kept_of w now (p ∷ ps) (q ∷ qs) back = (back.0.0, kept_of w now ps qs back.1)
 
-  same_clock : (c d : Option (Playing T)) → d ≡ c → ClockStays c d
-  same_clock c d is = subst (λ (x : Option (Playing T)). ClockStays c x) (sym is) (itself c)
-    where
-      itself : (x : Option (Playing T)) → ClockStays x x
-      itself None = tt
-      itself (Some q) = record { caller_is = refl; role_is = refl; task_is = refl; lost_is = refl }
+  -- the clock stands in another group
+  no_clock : (w : World) (all : List Visit) (answer : Advance) (c d : Option (Playing T)) → d ≡ c → c ≡ None → ClockStays w all answer c d
+  no_clock w all answer c d same none =
+      subst (λ (x : Option (Playing T)). ClockStays w all answer x d) (sym none)
+      (subst (λ (x : Option (Playing T)). ClockStays w all answer None x) (sym (same ∙ none)) tt)
 
-  group_kept : (w : World) (now : ℕ) (g k : Grouped T) → IsBack w now g k → IsGroupKept w g k
-  group_kept w now g k back =
+  group_kept : (w : World) (all : List Visit) (answer : Advance) (now : ℕ) (g k : Grouped T) → IsBack w now g k → g.clock ≡ None → IsGroupKept w all answer g k
+  group_kept w all answer now g k back none =
       record {
         players = kept_of w now g.players k.players back.players;
-        clock_stays = same_clock g.clock k.clock back.clock_is;
+        clock_stays = no_clock w all answer g.clock k.clock back.clock_is none;
         memory_is = back.memory_is;
       }
 
-  pub groups_kept : (w : World) (now : ℕ) (gs ks : List (Grouped T)) → GroupsAreBack w now gs ks → GroupsAreKept w gs ks
-  groups_kept w now [] [] back = tt
-  groups_kept w now [] (k ∷ ks) back = absurd back
-  groups_kept w now (g ∷ gs) [] back = absurd back
-  groups_kept w now (g ∷ gs) (k ∷ ks) back = (group_kept w now g k back.0, groups_kept w now gs ks back.1)
+  groups_kept : (w : World) (all : List Visit) (answer : Advance) (now : ℕ) (gs ks : List (Grouped T)) → GroupsAreBack w now gs ks → NoClocks gs
+      → EachIsKept w all answer gs ks
+  groups_kept w all answer now [] [] back none = tt
+  groups_kept w all answer now [] (k ∷ ks) back none = absurd back
+  groups_kept w all answer now (g ∷ gs) [] back none = absurd back
+  groups_kept w all answer now (g ∷ gs) (k ∷ ks) back none =
+      (group_kept w all answer now g k back.0 none.0, groups_kept w all answer now gs ks back.1 none.1)
 
   -- the group of the same place
   pub place_back : (w : World) (now : ℕ) (gs ks : List (Grouped T)) → GroupsAreBack w now gs ks → (n : ℕ) (g : Grouped T)
@@ -322,48 +336,64 @@ module _ {T : Type 0} where
   place_back w now (x ∷ gs) (y ∷ ks) back zero g there = (y, refl)
   place_back w now (x ∷ gs) (y ∷ ks) back (suc n) g there = place_back w now gs ks back.1 n g there
 
-  pub filled_kept : (w : World) (now : ℕ) (gs ks : List (Grouped T)) (n : ℕ) (g k : Grouped T) (p q : Playing T) → slice_get gs n ≡ Some g
-      → g.clock ≡ Some p → slice_get ks n ≡ Some k → IsClockKept p q → GroupsAreBack w now (slice_set gs n (emptied g)) ks
-      → GroupsAreKept w gs (slice_set ks n (filled k q))
-  filled_kept w now [] ks n g k p q there is at clock back = absurd (none-some g there)
-  filled_kept w now (x ∷ gs) [] n g k p q there is at clock back = absurd (none-some k at)
-  filled_kept w now (x ∷ gs) (y ∷ ks) zero g k p q there is at clock back = (
+  pub filled_kept : (w : World) (all : List Visit) (answer : Advance) (now : ℕ) (gs ks : List (Grouped T)) (n : ℕ) (g k : Grouped T) (p q : Playing T)
+      → slice_get gs n ≡ Some g → g.clock ≡ Some p → slice_get ks n ≡ Some k → IsClockKept w all answer p q
+      → GroupsAreBack w now (slice_set gs n (emptied g)) ks → NoClocks (slice_set gs n (emptied g))
+      → EachIsKept w all answer gs (slice_set ks n (filled k q))
+  filled_kept w all answer now [] ks n g k p q there is at clock back none = absurd (none-some g there)
+  filled_kept w all answer now (x ∷ gs) [] n g k p q there is at clock back none = absurd (none-some k at)
+  filled_kept w all answer now (x ∷ gs) (y ∷ ks) zero g k p q there is at clock back none = (
     record {
       players = subst (λ (z : Grouped T). AreKept w z.players k.players) (sym (same_Some x g there))
           (subst (λ (z : Grouped T). AreKept w g.players z.players) (same_Some y k at) (kept_of w now g.players y.players back.0.players));
-      clock_stays = subst (λ (c : Option (Playing T)). ClockStays c (Some q)) (sym (ap (λ (z : Grouped T). z.clock) (same_Some x g there) ∙ is)) clock;
+      clock_stays = subst (λ (c : Option (Playing T)). ClockStays w all answer c (Some q))
+          (sym (ap (λ (z : Grouped T). z.clock) (same_Some x g there) ∙ is)) clock;
       memory_is = ap (λ (z : Grouped T). z.memory) (sym (same_Some y k at)) ∙ (back.0.memory_is ∙ ap (λ (z : Grouped T). z.memory) (sym (same_Some x g there)));
     },
-    groups_kept w now gs ks back.1,
+    groups_kept w all answer now gs ks back.1 none.1,
   )
-  filled_kept w now (x ∷ gs) (y ∷ ks) (suc n) g k p q there is at clock back =
-      (group_kept w now x y back.0, filled_kept w now gs ks n g k p q there is at clock back.1)
+  filled_kept w all answer now (x ∷ gs) (y ∷ ks) (suc n) g k p q there is at clock back none =
+      (group_kept w all answer now x y back.0 none.0, filled_kept w all answer now gs ks n g k p q there is at clock back.1 none.1)
 
   players_itself : (w : World) (ps : List (Playing T)) → AreKept w ps ps
   players_itself w [] = tt
   players_itself w (p ∷ ps) = (
-    record { caller_is = refl; owed_is = refl; names_are = refl; role_is = refl; task_is = refl; lost_is = refl; stays = stays_itself w p.visit },
+    record {
+      caller_is = refl;
+      owed_is = refl;
+      names_are = refl;
+      role_is = refl;
+      task_is = refl;
+      lost_is = refl;
+      counts_is = refl;
+      stays =
+          stays_itself w p.visit;
+    },
     players_itself w ps,
   )
 
-  -- nothing was done
-  pub kept_itself : (w : World) (gs : List (Grouped T)) → GroupsAreKept w gs gs
-  kept_itself w [] = tt
-  kept_itself w (g ∷ gs) =
-      (record { players = players_itself w g.players; clock_stays = same_clock g.clock g.clock refl; memory_is = refl }, kept_itself w gs)
+  clock_itself : (w : World) (all : List Visit) (c : Option (Playing T)) → ClockStays w all advance.Memory c c
+  clock_itself w all None = tt
+  clock_itself w all (Some q) =
+      record {
+        caller_is = refl;
+        names_are = refl;
+        role_is = refl;
+        task_is = refl;
+        lost_is = refl;
+        counts_is = refl;
+        records =
+            record { own_is = refl; owed_is = refl; now_is = refl };
+      }
 
-  length_kept : (w : World) (gs ks : List (Grouped T)) → GroupsAreKept w gs ks → length ks ≡ length gs
-  length_kept w [] [] kept = refl
-  length_kept w [] (k ∷ ks) kept = absurd kept
-  length_kept w (g ∷ gs) [] kept = absurd kept
-  length_kept w (g ∷ gs) (k ∷ ks) kept = ap suc (length_kept w gs ks kept.1)
+  each_itself : (w : World) (all : List Visit) (gs : List (Grouped T)) → EachIsKept w all advance.Memory gs gs
+  each_itself w all [] = tt
+  each_itself w all (g ∷ gs) =
+      (record { players = players_itself w g.players; clock_stays = clock_itself w all g.clock; memory_is = refl }, each_itself w all gs)
 
-  -- what a vector has after its elements were written as a slice
-  pub written : (w : World) (n : ℕ) (gs ks : List (Grouped T)) → length gs ≡ n → GroupsAreKept w gs ks → take n (ks ++ drop (length ks) gs) ≡ ks
-  written w n gs ks many kept =
-      let same = length_kept w gs ks kept in
-      ap (λ (l : List (Grouped T)). take n (ks ++ l)) (drop_all (length ks) gs (omega (arith, same)))
-      ∙ (ap (take n) (append-nil ks) ∙ take_all n ks (omega (arith, same, many)))
+  -- nothing was done, for want of memory
+  pub kept_itself : (w : World) (gs : List (Grouped T)) → GroupsAreKept w gs advance.Memory gs
+  kept_itself w gs = each_itself w (visits (all_members gs)) gs
 
   callers_kept : (w : World) (ps qs : List (Playing T)) → AreKept w ps qs → callers_of qs ≡ callers_of ps
   callers_kept w [] [] kept = refl
@@ -372,20 +402,21 @@ module _ {T : Type 0} where
   callers_kept w (p ∷ ps) (q ∷ qs) kept =
       ap (λ (c : ℕ). c ∷ callers_of qs) kept.0.caller_is ∙ ap (λ (l : List ℕ). caller p ∷ l) (callers_kept w ps qs kept.1)
 
-  clock_kept : (c d : Option (Playing T)) → ClockStays c d → option_map caller d ≡ option_map caller c
-  clock_kept None None stays = refl
-  clock_kept None (Some q) stays = absurd stays
-  clock_kept (Some p) None stays = absurd stays
-  clock_kept (Some p) (Some q) stays = ap (λ (c : ℕ). Some c) stays.caller_is
+  clock_kept : (w : World) (all : List Visit) (answer : Advance) (c d : Option (Playing T)) → ClockStays w all answer c d
+      → option_map caller d ≡ option_map caller c
+  clock_kept w all answer None None stays = refl
+  clock_kept w all answer None (Some q) stays = absurd stays
+  clock_kept w all answer (Some p) None stays = absurd stays
+  clock_kept w all answer (Some p) (Some q) stays = ap (λ (c : ℕ). Some c) stays.caller_is
 
-  pub seats_kept : (w : World) (gs ks : List (Grouped T)) → GroupsAreKept w gs ks → all_seats ks ≡ all_seats gs
-  seats_kept w [] [] kept = refl
-  seats_kept w [] (k ∷ ks) kept = absurd kept
-  seats_kept w (g ∷ gs) [] kept = absurd kept
-  seats_kept w (g ∷ gs) (k ∷ ks) kept =
+  pub seats_kept : (w : World) (all : List Visit) (answer : Advance) (gs ks : List (Grouped T)) → EachIsKept w all answer gs ks → all_seats ks ≡ all_seats gs
+  seats_kept w all answer [] [] kept = refl
+  seats_kept w all answer [] (k ∷ ks) kept = absurd kept
+  seats_kept w all answer (g ∷ gs) [] kept = absurd kept
+  seats_kept w all answer (g ∷ gs) (k ∷ ks) kept =
       ap (λ (l : List ℕ). record { others = l; clock = option_map caller k.clock } ∷ all_seats ks) (callers_kept w g.players k.players kept.0.players)
-      ∙ (ap (λ (c : Option ℕ). record { others = callers_of g.players; clock = c } ∷ all_seats ks) (clock_kept g.clock k.clock kept.0.clock_stays)
-      ∙ ap (λ (l : List _). seats g ∷ l) (seats_kept w gs ks kept.1))
+      ∙ (ap (λ (c : Option ℕ). record { others = callers_of g.players; clock = c } ∷ all_seats ks) (clock_kept w all answer g.clock k.clock kept.0.clock_stays)
+      ∙ ap (λ (l : List _). seats g ∷ l) (seats_kept w all answer gs ks kept.1))
 
   -- each of those that were given back is one of those that were lent
   abbrev pub Lent : World → ℕ → List (Playing T) → Playing T → Type 0

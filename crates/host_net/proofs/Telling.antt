@@ -1,5 +1,5 @@
 -- What a script's request leaves of a player.
-use Rattle.std.proofs.Common.{◌≡◌, ◌≢◌, ℕ, inl, inr, Bool, true, false, List, [], ◌∷◌, ◌++◌, Option, Some, None, refl, ap, sym, subst, ◌∙◌}
+use Rattle.std.proofs.Common.{◌≡◌, ℕ, inl, inr, Bool, true, false, List, [], Option, Some, None, refl, ap, sym, subst, ◌∙◌}
 use Rattle.std.proofs.lemmas.Bool.{true≢false}
 use Rattle.std.proofs.lemmas.Option.{none-some}
 use Rattle.net_base.specs.declared.history.Outcome.{Outcome}
@@ -31,18 +31,24 @@ use Rattle.host_net.proofs.Counting.{one_reply_more, reply_fits}
 use Rattle.host_net.proofs.Keeping.{goes_stay, more, playing, still_player, turn_played, turn_plays, unready_next}
 
 -- the entry of a script that owes nothing is its next event
-next_asked : (w : World) (old : Visit) (s : Script) (ask : Ask) → caller_of w old.caller ≡ IsScript s → old.owed ≡ [] → next w (entries old.sight.seen) old.caller ≡ Some ask
-    → (o : Outcome) → IsAsked old.owed (caller_of w old.caller) (next w (entries old.sight.seen) old.caller) (made ask.actor old.caller old.now (bare ask.event) None o).entry
+next_asked : (w : World) (old : Visit) (s : Script) (ask : Ask) → caller_of w old.caller ≡ IsScript s → old.owed ≡ []
+    → next w (entries old.sight.seen) old.caller ≡ Some ask
+    → (o : Outcome) → IsAsked old.owed (caller_of w old.caller) (next w (entries old.sight.seen) old.caller)
+    (made ask.actor old.caller old.now (bare ask.event) None o).entry
 next_asked w old s ask script free is o =
-    subst (λ (ds : List Duty). IsAsked ds (caller_of w old.caller) (next w (entries old.sight.seen) old.caller) (made ask.actor old.caller old.now (bare ask.event) None o).entry) (sym free)
-    (subst (λ (k : Caller). IsAsked [] k (next w (entries old.sight.seen) old.caller) (made ask.actor old.caller old.now (bare ask.event) None o).entry) (sym script) is)
+    subst (λ (ds : List Duty). IsAsked ds (caller_of w old.caller) (next w (entries old.sight.seen) old.caller)
+    (made ask.actor old.caller old.now (bare ask.event) None o).entry) (sym free)
+    (subst (λ (k : Caller). IsAsked [] k (next w (entries old.sight.seen) old.caller)
+    (made ask.actor old.caller old.now (bare ask.event) None o).entry) (sym script) is)
 
 module _ {T : Type 0} (asks : T → List Bound → Option Request) (after : T → Reply → T) (Stands : ℕ → List Bound → T → Play → Type 0)
     (asks_so : AsksSo T asks Stands) (moves_so : MovesSo T asks after Stands) (w : World) where
   -- a script whose task is through has nothing that comes next
-  pub through_waits : (v : Visit) (s : Script) (t : T) → caller_of w v.caller ≡ IsScript s → v.owed ≡ [] → GoesOn Stands s v t → asks t v.names ≡ None → IsWaiting w v
+  pub through_waits : (v : Visit) (s : Script) (t : T) → caller_of w v.caller ≡ IsScript s → v.owed ≡ [] → GoesOn Stands s v t → asks t v.names ≡ None
+      → IsWaiting w v
   through_waits v s t script free goes none =
-      let ended : Heads s.host v.names None goes.0 = subst (λ (o : Option Request). Heads s.host v.names o goes.0) none (asks_so s.host v.names t goes.0 goes.1) in
+      let ended : Heads s.host v.names None goes.0 = subst (λ (o : Option Request). Heads s.host v.names o goes.0) none
+      (asks_so s.host v.names t goes.0 goes.1) in
       let nothing : next w (entries v.sight.seen) v.caller ≡ None = script_next w v.caller v.sight.seen s goes.0 script goes.2 ∙ ap head ended in
       inr (subst (λ (ds : List Duty). IsUnready w v ds) (sym free) (λ ask comes. absurd (none-some ask (sym nothing ∙ comes))))
 
@@ -50,7 +56,8 @@ module _ {T : Type 0} (asks : T → List Bound → Option Request) (after : T �
       (q : Request) (asks_it : asks t old.names ≡ Some q) where
     asked_head : (ask : Ask) → planned s.host old.names q ≡ Some ask → head goes.0 ≡ Some ask
     asked_head ask is =
-        let heads : Heads s.host old.names (Some q) goes.0 = subst (λ (o : Option Request). Heads s.host old.names o goes.0) asks_it (asks_so s.host old.names t goes.0 goes.1) in
+        let heads : Heads s.host old.names (Some q) goes.0 = subst (λ (o : Option Request). Heads s.host old.names o goes.0) asks_it
+        (asks_so s.host old.names t goes.0 goes.1) in
         heads.1 ∙ (sym heads.2 ∙ is)
 
     asked_next : (ask : Ask) → planned s.host old.names q ≡ Some ask → next w (entries old.sight.seen) old.caller ≡ Some ask
@@ -58,23 +65,28 @@ module _ {T : Type 0} (asks : T → List Bound → Option Request) (after : T �
 
     pub recorded_goes : KeepsActors → FitWorks → (stamp : ℕ) (r : Reply) → Asked w s.host q old (turn.Recorded stamp r) new → GoesOn Stands s new (after t r)
     recorded_goes keeps fit stamp r is =
-        let fit_it : fits_play goes.0 r ≡ true = play_fits goes.0 is.ask r (asked_head is.ask is.asks) (reply_fits w old new same s.host q stamp r is keeps fit) in
+        let fit_it : fits_play goes.0 r ≡ true = play_fits goes.0 is.ask r (asked_head is.ask is.asks)
+        (reply_fits w old new same s.host q stamp r is keeps fit) in
         let stands : Stands s.host (settled old.names q r) (after t r) (follow goes.0 r) = moves_so s.host old.names t goes.0 q r goes.1 asks_it fit_it in
         let replies = one_reply_more w old new same s.host q stamp r is in (
           follow goes.0 r,
           subst (λ (l : List Bound). Stands s.host l (after t r) (follow goes.0 r)) (sym is.names) stands,
-          subst (λ (rs : List Reply). Continues s rs (follow goes.0 r)) (sym replies) (continues_on s (own_replies (entries old.sight.seen) old.caller) goes.0 r goes.2),
+          subst (λ (rs : List Reply). Continues s rs (follow goes.0 r)) (sym replies)
+              (continues_on s (own_replies (entries old.sight.seen) old.caller) goes.0 r goes.2),
         )
 
     -- the entry, and what isn't ready
     pub asked_played : (answer : Turn) → Asked w s.host q old answer new → IsPlayed w old → IsPlayed w new
     asked_played answer is plays =
-        turn_played w is.ask.actor (bare is.ask.event) None old new same answer is.takes (next_asked w old s is.ask script is.free (asked_next is.ask is.asks)) plays
+        turn_played w is.ask.actor (bare is.ask.event) None old new same answer is.takes
+        (next_asked w old s is.ask script is.free (asked_next is.ask is.asks)) plays
 
-    pub asked_plays : (who : Role) (lost : Bool) → Asked w s.host q old turn.NotReady new → PlaysOn w (playing old who t lost) played.Waits (playing new who t lost)
-    asked_plays who lost is =
-        turn_plays w is.ask.actor (bare is.ask.event) None old new same who t lost is.names turn.NotReady is.takes
-        (λ unready stays owed. subst (λ (ds : List Duty). IsUnready w new ds) (sym (owed ∙ is.free)) (unready_next w old new same is.ask unready stays (asked_next is.ask is.asks)))
+    pub asked_plays : (who : Role) (lost counts : Bool) → Asked w s.host q old turn.NotReady new
+        → PlaysOn w (playing old who t lost counts) played.Waits (playing new who t lost counts)
+    asked_plays who lost counts is =
+        turn_plays w is.ask.actor (bare is.ask.event) None old new same who t lost counts is.names turn.NotReady is.takes
+        (λ unready stays owed. subst (λ (ds : List Duty). IsUnready w new ds) (sym (owed ∙ is.free))
+        (unready_next w old new same is.ask unready stays (asked_next is.ask is.asks)))
 
     pub asked_stays : Asked w s.host q old turn.NotReady new → GoesOn Stands s new t
     asked_stays is = goes_stay Stands w old new same s t is.names (own_stays old.caller old.sight.seen new.sight.seen is.takes.0.stays.alone) goes
@@ -95,7 +107,8 @@ module _ {T : Type 0} (asks : T → List Bound → Option Request) (after : T �
     kept_role : HasRole w new.caller who
     kept_role = subst (λ (c : ℕ). HasRole w c who) (sym same.caller) player.role_is
 
-    tells : (s : Script) → caller_of w old.caller ≡ IsScript s → (stamp : ℕ) (r : Reply) → Operates (turn.Recorded stamp r) → (result : Played) (t' : T) (lost' : Bool)
+    tells : (s : Script) → caller_of w old.caller ≡ IsScript s → (stamp : ℕ) (r : Reply) → Operates (turn.Recorded stamp r)
+        → (result : Played) (t' : T) (lost' : Bool)
         → Told after t lost r result t' lost' → IsPlayer Stands w new who t' lost'
     tells s script stamp r does played.Recorded t' lost' told =
         record {
@@ -138,48 +151,54 @@ module _ {T : Type 0} (asks : T → List Bound → Option Request) (after : T �
     script_keeps s script turn.Memory does result t' lost' heard =
         alike t' lost' heard.1 heard.2 (subst (λ (v : Visit). IsPlayer Stands w v who t lost) (sym (does s script).2) player)
 
-    told_plays : (result : Played) (r : Reply) (t' : T) (lost' : Bool) → Told after t lost r result t' lost' → HasMore old new
-        → PlaysOn w (playing old who t lost) result (playing new who t' lost')
-    told_plays played.Recorded r t' lost' told more_it = (more_it, told.1)
-    told_plays played.Waits r t' lost' told more_it = absurd told
-    told_plays played.Memory r t' lost' told more_it = inr (more_it, told.0, told.1)
+    told_plays : (counts : Bool) (result : Played) (r : Reply) (t' : T) (lost' : Bool) → Told after t lost r result t' lost' → HasMore old new
+        → PlaysOn w (playing old who t lost counts) result (playing new who t' lost' counts)
+    told_plays counts played.Recorded r t' lost' told more_it = (more_it, told.1)
+    told_plays counts played.Waits r t' lost' told more_it = absurd told
+    told_plays counts played.Memory r t' lost' told more_it = inr (more_it, told.0, told.1)
 
     -- nothing is recorded
-    unmoved_by : (result is : Played) (t' : T) (lost' : Bool) → result ≡ is → t' ≡ t → lost' ≡ lost → PlaysOn w (playing old who t lost) is (playing new who t lost)
-        → PlaysOn w (playing old who t lost) result (playing new who t' lost')
-    unmoved_by result is t' lost' came task told plays =
-        subst (λ (r : Played). PlaysOn w (playing old who t lost) r (playing new who t' lost')) (sym came)
-        (subst (λ (x : T). PlaysOn w (playing old who t lost) is (playing new who x lost')) (sym task)
-        (subst (λ (b : Bool). PlaysOn w (playing old who t lost) is (playing new who t b)) (sym told) plays))
+    unmoved_by : (counts : Bool) (result is : Played) (t' : T) (lost' : Bool) → result ≡ is → t' ≡ t → lost' ≡ lost
+        → PlaysOn w (playing old who t lost counts) is (playing new who t lost counts)
+        → PlaysOn w (playing old who t lost counts) result (playing new who t' lost' counts)
+    unmoved_by counts result is t' lost' came task told plays =
+        subst (λ (r : Played). PlaysOn w (playing old who t lost counts) r (playing new who t' lost' counts)) (sym came)
+        (subst (λ (x : T). PlaysOn w (playing old who t lost counts) is (playing new who x lost' counts)) (sym task)
+        (subst (λ (b : Bool). PlaysOn w (playing old who t lost counts) is (playing new who t b counts)) (sym told) plays))
 
-    still : IsUnmoved (playing old who t lost) (playing old who t lost)
-    still = record { own_is = refl; owed = refl; names = refl; task = refl; lost = refl }
+    still : (counts : Bool) → IsUnmoved (playing old who t lost counts) (playing old who t lost counts)
+    still counts = record { own_is = refl; owed = refl; names = refl; task = refl; lost = refl }
 
     -- and this is what its turn came to
-    pub script_plays : (s : Script) → caller_of w old.caller ≡ IsScript s → (answer : Turn) → Operates answer → (result : Played) (t' : T) (lost' : Bool)
-        → Heard after t lost answer result t' lost' → PlaysOn w (playing old who t lost) result (playing new who t' lost')
-    script_plays s script (turn.Recorded stamp r) does result t' lost' heard =
-        told_plays result r t' lost' heard (asked_more old new same s script t (goes_from s script) q asks_it stamp r (does s script))
-    script_plays s script turn.NotReady does result t' lost' heard =
-        unmoved_by result played.Waits t' lost' heard.0 heard.1 heard.2
-        (asked_plays old new same s script t (goes_from s script) q asks_it who lost (does s script))
-    script_plays s script turn.Owes does result t' lost' heard = absurd ((does s script).0 free)
-    script_plays s script turn.Limit does result t' lost' heard =
-        unmoved_by result played.Waits t' lost' heard.0 heard.1 heard.2
-        (subst (λ (v : Visit). PlaysOn w (playing old who t lost) played.Waits (playing v who t lost)) (sym (does s script).2) (still, inl (does s script).1))
-    script_plays s script turn.Memory does result t' lost' heard =
-        unmoved_by result played.Memory t' lost' heard.0 heard.1 heard.2
-        (subst (λ (v : Visit). PlaysOn w (playing old who t lost) played.Memory (playing v who t lost)) (sym (does s script).2) (inl still))
+    pub script_plays : (counts : Bool) (s : Script) → caller_of w old.caller ≡ IsScript s → (answer : Turn) → Operates answer
+        → (result : Played) (t' : T) (lost' : Bool)
+        → Heard after t lost answer result t' lost' → PlaysOn w (playing old who t lost counts) result (playing new who t' lost' counts)
+    script_plays counts s script (turn.Recorded stamp r) does result t' lost' heard =
+        told_plays counts result r t' lost' heard (asked_more old new same s script t (goes_from s script) q asks_it stamp r (does s script))
+    script_plays counts s script turn.NotReady does result t' lost' heard =
+        unmoved_by counts result played.Waits t' lost' heard.0 heard.1 heard.2
+        (asked_plays old new same s script t (goes_from s script) q asks_it who lost counts (does s script))
+    script_plays counts s script turn.Owes does result t' lost' heard = absurd ((does s script).0 free)
+    script_plays counts s script turn.Limit does result t' lost' heard =
+        unmoved_by counts result played.Waits t' lost' heard.0 heard.1 heard.2
+        (subst (λ (v : Visit). PlaysOn w (playing old who t lost counts) played.Waits (playing v who t lost counts)) (sym (does s script).2)
+        (still counts, inl (does s script).1))
+    script_plays counts s script turn.Memory does result t' lost' heard =
+        unmoved_by counts result played.Memory t' lost' heard.0 heard.1 heard.2
+        (subst (λ (v : Visit). PlaysOn w (playing old who t lost counts) played.Memory (playing v who t lost counts)) (sym (does s script).2)
+        (inl (still counts)))
 
   -- a script whose task is through, at its turn
-  pub through_plays : (v : Visit) (who : Role) (t : T) (lost : Bool) → who ≡ role.Script → lost ≡ false → IsPlayer Stands w v who t lost → v.owed ≡ [] → asks t v.names ≡ None
-      → PlaysOn w (playing v who t lost) played.Waits (playing v who t lost)
-  through_plays v who t lost script told player free none =
+  pub through_plays : (v : Visit) (who : Role) (t : T) (lost counts : Bool) → who ≡ role.Script → lost ≡ false → IsPlayer Stands w v who t lost
+      → v.owed ≡ [] → asks t v.names ≡ None
+      → PlaysOn w (playing v who t lost counts) played.Waits (playing v who t lost counts)
+  through_plays v who t lost counts script told player free none =
       let s = subst (λ (r : Role). HasRole w v.caller r) script player.role_is in
       (record { own_is = refl; owed = refl; names = refl; task = refl; lost = refl }, through_waits v s.0 t s.1 free (player.goes_on s.0 s.1 told) none)
 
   -- a script's turn
-  module _ (old new : Visit) (same : IsSame old new) (who : Role) (t : T) (lost : Bool) (script : who ≡ role.Script) (told : lost ≡ false) (player : IsPlayer Stands w old who t lost)
+  module _ (old new : Visit) (same : IsSame old new) (who : Role) (t : T) (lost : Bool) (script : who ≡ role.Script) (told : lost ≡ false)
+      (player : IsPlayer Stands w old who t lost)
       (free : old.owed ≡ []) (q : Request) (asks_it : Some q ≡ asks t old.names) (keeps : KeepsActors) (fit : FitWorks) (answer : Turn)
       (does : (s : Script) → caller_of w old.caller ≡ IsScript s → Operated w s.host q old answer new) (result : Played) (t' : T) (lost' : Bool)
       (heard : Heard after t lost answer result t' lost') where
@@ -189,5 +208,6 @@ module _ {T : Type 0} (asks : T → List Bound → Option Request) (after : T �
     pub heard_keeps : IsPlayer Stands w new who t' lost'
     heard_keeps = script_keeps old new same who t lost told player free q (sym asks_it) keeps fit scripted.0 scripted.1 answer does result t' lost' heard
 
-    pub heard_plays : PlaysOn w (playing old who t lost) result (playing new who t' lost')
-    heard_plays = script_plays old new same who t lost told player free q (sym asks_it) keeps fit scripted.0 scripted.1 answer does result t' lost' heard
+    pub heard_plays : (counts : Bool) → PlaysOn w (playing old who t lost counts) result (playing new who t' lost' counts)
+    heard_plays counts = script_plays old new same who t lost told player free q (sym asks_it) keeps fit counts scripted.0 scripted.1 answer does
+        result t' lost' heard

@@ -2,11 +2,18 @@
 --     IsStanding     what is known of a caller by its player
 --     IsHistoryOf    a history that some callers recorded
 --     Advanced       what became of the clock
---     GroupsAreKept  the players of all groups are as before, but for the moment and what they have seen
+--     ClockRecords   what the clock recorded
+--     GroupsAreKept  the players of all groups are as before, but for the moment, what they have seen and what the clock recorded
 use Rattle.std.specs.Prelude.{◌≡◌, ℕ, ◌<◌, ◌⊎◌, ◌==◌, true, false, not, List, [], ◌∷◌, ◌++◌, length, map, option_map, Option, Some, None, slice_get, slice_set}
+use Rattle.net_base.specs.declared.actor.ActorName.TheVariants as name
+use Rattle.net_base.specs.declared.event.Event.TheVariants as event
 use Rattle.net_base.specs.declared.history.Entry.{Entry}
+use Rattle.net_base.specs.declared.noted.Noted.{Noted}
 use Rattle.net_base.specs.declared.world.World.{World}
+use Rattle.net_base.specs.ActorStep.{Step}
+use Rattle.net_base.specs.Actors.{Actor, actor_step}
 use Rattle.net_base.specs.Calm.{done, limited, movable, stopped, target}
+use Rattle.net_base.specs.Duties.{ticks}
 use Rattle.net_base.specs.Legal.{IsLegal, IsTimed}
 use Rattle.net_base.specs.Net.{Net, after}
 use Rattle.net_base.specs.Next.{next}
@@ -16,6 +23,7 @@ use Rattle.journal.specs.declared.tokens.Sight.{Sight}
 use Rattle.journal.specs.Closing.{plain}
 use Rattle.due_moments.specs.Marks.{Covers}
 use Rattle.guest_laws.specs.Guests.{IsOfGuests}
+use Rattle.locked.specs.Acts.{made, without_copy}
 use Rattle.guest_laws.specs.Own.{AreNext, AreTimely}
 use Rattle.guest_laws.specs.Works.{entries}
 use Rattle.net_locks.specs.declared.clock.Advance.{Advance}
@@ -24,10 +32,10 @@ use Rattle.net_locks.specs.declared.clock.Standing.{Standing}
 use Rattle.host_net.specs.Deciding.{Decided}
 use Rattle.net_locks.specs.Standings.{HasStanding, IsBare, ask_of}
 use Rattle.net_locks.specs.Moving.{IsLeast}
-use Rattle.host_net.specs.Groups.{Grouped}
+use Rattle.host_net.specs.Groups.{Grouped, all_members, visits}
 use Rattle.host_net.specs.Playing.{Playing}
 use Rattle.host_net.specs.Visits.{Gathers, IsWith, Visit}
-use Rattle.net_locks.specs.Turns.{Stays, own}
+use Rattle.net_locks.specs.Turns.{Stays, bare, own}
 
 -- How a caller stands.
 
@@ -87,6 +95,45 @@ Advanced w old (advance.NotCalm c) new = AfterAll w new (λ (net : Net). IsLeast
 Advanced w old advance.Limit new = AfterAll w new (λ (net : Net). limited w net ≡ true)
 Advanced w old advance.Memory new = Unit {0}
 
+-- these callers have this moment
+abbrev pub AreAt : ℕ → List Visit → Type 0
+AreAt m vs = (v : Visit) → In v vs → v.now ≡ m
+
+-- unless the clock moved, callers that had one moment have it still
+abbrev pub StayAtOnce : Advance → List Visit → List Visit → Type 0
+StayAtOnce (advance.Moved m) old new = Unit {0}
+StayAtOnce answer old new = (m : ℕ) → AreAt m old → AreAt m new
+
+-- What the clock recorded.
+
+-- the entry of its move to this moment, with what its step gives
+abbrev pub moved : Visit → ℕ → Step Actor → Noted
+moved v m step = made name.Clock v.caller v.now (bare (event.Move m)) None (without_copy step.outcome)
+
+-- Its list gained one entry, its move to this moment, after all that the callers had recorded and where it owed nothing.
+-- Now it owes the ticks of that entry: one for each conversation whose due moment has come, in the order of host, protocol
+-- and slot.
+pub record HasMoved (w : World) (all : List Visit) (m : ℕ) (old new : Visit) : Type 0 where
+  pub stamp : ℕ
+  pub step : Step Actor
+  pub gains : own new.caller new.sight ≡ own old.caller old.sight ++ (stamp, moved old m step) ∷ []
+  pub free : old.owed ≡ []
+  pub stamp_is : (h : List Entry) → IsHistoryOf w all h → stamp ≡ length h
+  pub stepped : AfterAll w all (λ (net : Net).
+      actor_step w name.Clock (net.actors name.Clock) old.now (bare (event.Move m)) ≡ Some step)
+  pub owes : AfterAll w all (λ (net : Net). new.owed ≡ ticks w net.actors name.Clock stamp (event.Move m))
+
+-- it recorded nothing, and has the moment that it had
+pub record HasRested (old new : Visit) : Type 0 where
+  pub own_is : own new.caller new.sight ≡ own old.caller old.sight
+  pub owed_is : new.owed ≡ old.owed
+  pub now_is : new.now ≡ old.now
+
+-- by the answer
+abbrev pub ClockRecords : World → List Visit → Visit → Advance → Visit → Type 0
+ClockRecords w all old (advance.Moved m) new = HasMoved w all m old new
+ClockRecords w all old answer new = HasRested old new
+
 -- The players.
 
 -- The numbers of all callers were with the pass of the clock's guest, which decided.
@@ -99,11 +146,14 @@ pub record Advances (w : World) (r : Roster) (left : List Visit) (old : Visit) (
   pub guests : IsOfGuests w r at.sight.seen
   pub caller_at : at.caller ≡ old.caller
   pub now_at : at.now ≡ old.now
+  pub owed_at : at.owed ≡ old.owed
   pub decided : Decided w at answer to
   pub nexts : AreNext w old.caller at.sight.seen → AreNext w old.caller new.sight.seen
   pub timely : AreTimely w old.caller at.sight.seen → AreTimely w old.caller new.sight.seen
   pub caller_is : new.caller ≡ old.caller
+  pub names_are : new.names ≡ old.names
   pub now_is : new.now ≡ to.now
+  pub owed_is : new.owed ≡ to.owed
   pub seen_is : new.sight.seen ≡ to.sight.seen
 
 module _ {T : Type 0} where
@@ -115,6 +165,7 @@ module _ {T : Type 0} where
     pub role_is : new.role ≡ old.role
     pub task_is : new.task ≡ old.task
     pub lost_is : new.lost ≡ old.lost
+    pub counts_is : new.counts ≡ old.counts
     pub stays : Stays w old.visit.caller old.visit.sight new.visit.sight
 
   -- so are these, each in its place
@@ -152,25 +203,32 @@ module _ {T : Type 0} where
     pub clock_is : group.clock ≡ Some clock
     pub new_is : new ≡ slice_set old place (record group { clock = None })
 
-  -- the clock's player is the same, and its guest may have moved
-  pub record IsClockKept (old new : Playing T) : Type 0 where
+  -- the clock's player is as before, but for what it recorded by the answer
+  pub record IsClockKept (w : World) (all : List Visit) (answer : Advance) (old new : Playing T) : Type 0 where
     pub caller_is : new.visit.caller ≡ old.visit.caller
+    pub names_are : new.visit.names ≡ old.visit.names
     pub role_is : new.role ≡ old.role
     pub task_is : new.task ≡ old.task
     pub lost_is : new.lost ≡ old.lost
+    pub counts_is : new.counts ≡ old.counts
+    pub records : ClockRecords w all old.visit answer new.visit
 
-  abbrev pub ClockStays : Option (Playing T) → Option (Playing T) → Type 0
-  ClockStays None None = Unit {0}
-  ClockStays (Some p) (Some q) = IsClockKept p q
-  ClockStays _ _ = ⊥
+  abbrev pub ClockStays : World → List Visit → Advance → Option (Playing T) → Option (Playing T) → Type 0
+  ClockStays w all answer None None = Unit {0}
+  ClockStays w all answer (Some p) (Some q) = IsClockKept w all answer p q
+  ClockStays w all answer _ _ = ⊥
 
   -- each group has its players, each in its place
-  pub record IsGroupKept (w : World) (old new : Grouped T) : Type 0 where
+  pub record IsGroupKept (w : World) (all : List Visit) (answer : Advance) (old new : Grouped T) : Type 0 where
     pub players : AreKept w old.players new.players
-    pub clock_stays : ClockStays old.clock new.clock
+    pub clock_stays : ClockStays w all answer old.clock new.clock
     pub memory_is : new.memory ≡ old.memory
 
-  abbrev pub GroupsAreKept : World → List (Grouped T) → List (Grouped T) → Type 0
-  GroupsAreKept w [] [] = Unit {0}
-  GroupsAreKept w (g ∷ gs) (k ∷ ks) = IsGroupKept w g k × GroupsAreKept w gs ks
-  GroupsAreKept w _ _ = ⊥
+  -- where these are the callers of all groups
+  abbrev pub EachIsKept : World → List Visit → Advance → List (Grouped T) → List (Grouped T) → Type 0
+  EachIsKept w all answer [] [] = Unit {0}
+  EachIsKept w all answer (g ∷ gs) (k ∷ ks) = IsGroupKept w all answer g k × EachIsKept w all answer gs ks
+  EachIsKept w all answer _ _ = ⊥
+
+  abbrev pub GroupsAreKept : World → List (Grouped T) → Advance → List (Grouped T) → Type 0
+  GroupsAreKept w old answer new = EachIsKept w (visits (all_members old)) answer old new

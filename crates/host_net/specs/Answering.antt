@@ -1,5 +1,5 @@
 -- How many steps are answered, by what callers know.
-use Rattle.std.specs.Prelude.{◌≡◌, ℕ, ◌==◌, not, List, length, map}
+use Rattle.std.specs.Prelude.{◌≡◌, ◌≢◌, ◌⊎◌, ℕ, ◌<◌, ◌==◌, true, false, not, List, [], length, map}
 use Rattle.net_base.specs.declared.history.Entry.{Entry}
 use Rattle.net_base.specs.declared.world.Script.{Script}
 use Rattle.net_base.specs.declared.world.World.{World}
@@ -26,6 +26,22 @@ IsAnswered w v n =
     → n ≡ answered (entries v.sight.seen) v.caller (not (length v.owed == 0)) s
 
 module _ {T : Type 0} where
+  -- its task plays a whole script, and it owes something or its task was told the last reply
+  abbrev pub CanTell : Playing T → Type 0
+  CanTell p = (p.counts ≡ true) × ((p.visit.owed ≢ []) ⊎ (p.lost ≡ false))
+
+  -- or else it doesn't know how many of its steps are answered
+  abbrev pub CannotTell : Playing T → Type 0
+  CannotTell p = (p.counts ≡ false) ⊎ ((p.visit.owed ≡ []) × (p.lost ≡ true))
+
+  -- one of these players is the caller's, and it can't tell
+  abbrev pub CannotTellOf : ℕ → List (Playing T) → Type 0
+  CannotTellOf c ps = (p : Playing T) × In p ps × (caller p ≡ c) × CannotTell p
+
+  -- so it is of some script
+  abbrev pub SomeCannotTell : World → List (Playing T) → Type 0
+  SomeCannotTell w ps = (c : ℕ) × (c < length w.scripts) × CannotTellOf c ps
+
   -- one of these players is the caller's, and so many of its steps are answered
   abbrev pub IsAnsweredOf : World → ℕ → List (Playing T) → ℕ → Type 0
   IsAnsweredOf w c ps n = (p : Playing T) × In p ps × (caller p ≡ c) × IsAnswered w p.visit n

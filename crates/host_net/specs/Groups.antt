@@ -1,7 +1,8 @@
 -- The players of all callers, in groups.
 --     Seats        the callers of a group
 --     IsDealt      each caller so far has its place in one group
-use Rattle.std.specs.Prelude.{◌≡◌, ℕ, zero, suc, ◌+◌, ◌<◌, ◌++◌, ◌==◌, Bool, false, List, [], ◌∷◌, length, map, option_map, Option, Some, None, IfSome, slice_get, ◌%◌}
+use Rattle.std.specs.Prelude.{◌≡◌, ℕ, zero, suc, ◌+◌, ◌<◌, ◌++◌, ◌==◌, Bool, false, List, [], ◌∷◌, length, map, option_map, Option, Some}
+use Rattle.std.specs.Prelude.{None, IfSome, slice_get, ◌%◌}
 use Rattle.net_base.specs.declared.world.World.{World}
 use Rattle.net_base.specs.Callers.{IsClock, caller_of}
 use Rattle.net_base.specs.Stamped.{In}

@@ -48,6 +48,8 @@ pub record Playing (T : Type 0) : Type 0 where
   pub task : T
   -- the task wasn't told its last reply, for want of memory
   pub lost : Bool
+  -- the task plays the whole script, and so tells how many of its steps are finished
+  pub counts : Bool
 
 module _ {T : Type 0} (Stands : ℕ → List Bound → T → Play → Type 0) where
   -- the task stands for a play that goes on where the own entries of the script leave it
@@ -105,11 +107,12 @@ abbrev pub Heard : {T : Type 0} → (T → Reply → T) → T → Bool → Turn 
 Heard after t lost (turn.Recorded stamp answer) result t' lost' = Told after t lost answer result t' lost'
 Heard after t lost answer result t' lost' = (result ≡ played_by answer) × (t' ≡ t) × (lost' ≡ lost)
 
--- the same caller at the same moment
+-- the same caller at the same moment, whose task tells as much
 pub record IsSamePlayer {T : Type 0} (old new : Playing T) : Type 0 where
   pub caller : new.visit.caller ≡ old.visit.caller
   pub now : new.visit.now ≡ old.visit.now
   pub role : new.role ≡ old.role
+  pub counts : new.counts ≡ old.counts
 
 -- the first duty, or what comes next where nothing is owed, isn't ready after all that was seen
 abbrev pub IsUnready : World → Visit → List Duty → Type 0

@@ -8,7 +8,8 @@ ghost use Rattle.net_base.specs.World.{IsWorld};
 ghost use Rattle.journal.specs.Tokens.{Holds};
 ghost use Rattle.guest_laws.specs.Guests.{HandsOver, IsGuest};
 ghost use Rattle.guest_laws.specs.Works.{entries};
-ghost use Rattle.host_net.specs.Advancing.{Adds, Advanced, Advances, AreBack, AreLent, AreStandings, GroupsAreBack, GroupsAreKept, IsStanding, IsTaken, other_players};
+ghost use Rattle.host_net.specs.Advancing.{Adds, Advanced, Advances, AreBack, AreLent, AreStandings, GroupsAreBack, GroupsAreKept};
+ghost use Rattle.host_net.specs.Advancing.{IsStanding, IsTaken, StayAtOnce, other_players};
 ghost use Rattle.net_locks.specs.Standings.{IsBare, ask_of};
 ghost use Rattle.host_net.specs.Groups.{Apart, Grouped, IsDealt, NotIn, all_members, all_seats, callers_of, members, visits};
 ghost use Rattle.net_locks.specs.Turns as turns;
@@ -161,7 +162,9 @@ impl<J: Naming + Placing> Net<J, WorldActor<J>> {
         requires all { players.old.callers ≡ J.run.roster.callers }
         ensures callers { players.new.callers ≡ players.old.callers }
         ensures seats { all_seats players.new.groups ≡ all_seats players.old.groups }
-        ensures kept { GroupsAreKept J.world players.old.groups players.new.groups }
+        ensures kept { GroupsAreKept J.world players.old.groups result players.new.groups }
+        ensures moment { StayAtOnce result (visits (all_members players.old.groups))
+            (visits (all_members players.new.groups)) }
         ensures answer { Advanced J.world (visits (all_members players.old.groups)) result
             (visits (all_members players.new.groups)) }
     {
@@ -186,7 +189,8 @@ impl<J: Naming + Placing> Net<J, WorldActor<J>> {
         requires dealt { IsDealt J.world J.run.roster.callers (all_seats groups.old) }
         requires standings { AreStandings J.world (visits (all_members groups.old)) standings.now }
         ensures seats { all_seats groups.new ≡ all_seats groups.old }
-        ensures kept { GroupsAreKept J.world groups.old groups.new }
+        ensures kept { GroupsAreKept J.world groups.old result groups.new }
+        ensures moment { StayAtOnce result (visits (all_members groups.old)) (visits (all_members groups.new)) }
         ensures answer { Advanced J.world (visits (all_members groups.old)) result (visits (all_members groups.new)) }
     {
         histories_are_their_callers();

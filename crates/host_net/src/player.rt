@@ -1,11 +1,11 @@
 //! Callers that are played.
-ghost use Rattle.std.specs.Prelude.{◌≡◌, ◌≢◌, ◌<◌, [], false, IfSome};
+ghost use Rattle.std.specs.Prelude.{◌≡◌, ◌≢◌, ◌<◌, [], true, false, IfNone, IfSome, OnSome};
 ghost use Rattle.net_base.specs.declared.world.Script.{Script as AnyScript};
 ghost use Rattle.net_base.specs.Callers.{IsScript, caller_count, caller_of};
 ghost use Rattle.net_base.specs.Steps.{Play};
 ghost use Rattle.net_base.specs.World.{IsWorld};
 ghost use Rattle.script_task.specs.Rest.{Continues};
-ghost use Rattle.host_net.specs.Answering.{IsAnswered};
+ghost use Rattle.host_net.specs.Answering.{CannotTell, CanTell, IsAnswered};
 ghost use Rattle.host_net.specs.Playing.{Counts, HasRole, IsPlayed, IsSamePlayer, PlaysOn, Heard, Told, played_by};
 ghost use Rattle.net_locks.specs.Rosters.{IsRosterOf};
 ghost use Rattle.host_net.specs.Visits.{IsFresh};
@@ -56,7 +56,7 @@ impl<J: Naming + Placing, T: WholeTask> Model for Player<J, T> {
 
     ghost Value = { Playing T };
 
-    ghost view = { λ p. record { visit = p.guest; role = p.role; task = p.task; lost = p.lost } };
+    ghost view = { λ p. record { visit = p.guest; role = p.role; task = p.task; lost = p.lost; counts = p.counts } };
 
     ghost invariant = { λ p. IsPlayer T.Stands J.world p.guest p.role p.task p.lost
         × (p.counts ≡ true → IsCounted T.Plays J.world p.guest p.task p.lost p.before) };
@@ -77,6 +77,7 @@ impl<J: Naming + Placing, T: WholeTask> Player<J, T> {
         ensures role { HasRole J.world guest.caller result.role }
         ensures task { result.task ≡ task }
         ensures told { result.lost ≡ false }
+        ensures counts { result.counts ≡ false }
     {
         guests_begin();
         Player {
@@ -101,6 +102,7 @@ impl<J: Naming + Placing, T: WholeTask> Player<J, T> {
         ensures role { HasRole J.world guest.caller result.role }
         ensures task { result.task ≡ task }
         ensures told { result.lost ≡ false }
+        ensures counts { result.counts ≡ true }
     {
         let before = task.finished();
         let mut player = Player::new(world, guest, task);
@@ -132,9 +134,11 @@ impl<J: Naming + Placing, T: WholeTask> Player<J, T> {
     }
 
     /// How many steps of its script are answered, where it can tell: one that owes nothing, and whose last reply was lost for
-    /// want of memory, can't.
+    /// want of memory, can't, and none that `new` made.
     pub fn answered(&self) -> Option<usize>
-        ensures { IfSome result (IsAnswered J.world self.now.visit) }
+        ensures count { IfSome result (IsAnswered J.world self.now.visit) }
+        ensures tells { OnSome result (CanTell self.now) }
+        ensures none { IfNone result (CannotTell self.now) }
     {
         if !self.counts {
             return None;

@@ -1,12 +1,13 @@
 //! Players in groups, one for each worker.
-ghost use Rattle.std.specs.Prelude.{◌≡◌, ◌⊎◌, ℕ, ◌<◌, ◌≤◌, ◌++◌, List, [], length, true, false, None, option_map, IfOk, IfSome, OnErr, OnOk, slice_index_or};
+ghost use Rattle.std.specs.Prelude.{◌≡◌, ◌⊎◌, ℕ, ◌<◌, ◌≤◌, ◌++◌, List, [], length, true, false, None, option_map, IfNone, IfOk, IfSome};
+ghost use Rattle.std.specs.Prelude.{OnErr, OnOk, slice_index_or};
 ghost use Rattle.std.specs.List.{list_any};
 ghost use Rattle.net_base.specs.declared.history.Entry.{Entry};
 ghost use Rattle.net_base.specs.declared.world.Script.{Script as AnyScript};
 ghost use Rattle.net_base.specs.Callers.{IsScript, caller_of};
 ghost use Rattle.net_base.specs.Stamped.{In};
 ghost use Rattle.net_base.specs.Summary.{answered_steps};
-ghost use Rattle.host_net.specs.Answering.{AreAfter, IsAnsweredOf};
+ghost use Rattle.host_net.specs.Answering.{AreAfter, CannotTellOf, IsAnsweredOf, SomeCannotTell};
 ghost use Rattle.host_net.specs.Groups.{AreWaiting, all_members, all_seats, caller, callers_of, dealt, joined, members, no_players, seats, visits, with_last};
 ghost use Rattle.host_net.specs.Playing.{ArePlayed, IsSamePlayer, IsWaiting};
 ghost use Rattle.host_net.specs.Visits.{HasGuest};
@@ -152,8 +153,9 @@ impl<J: Naming + Placing, T: Task + Drop> Players<J, T> {
     pub fn answered(&self, world: &World) -> Option<u128>
         requires world { J.world ≡ world.now }
         requires all { length world.now.scripts ≤ self.now.callers }
-        ensures { IfSome result (λ n. (h : List Entry) → AreAfter J.world (visits (all_members self.now.groups)) h
-            → n ≡ answered_steps J.world h) }
+        ensures count { IfSome result (λ n. (h : List Entry)
+            → AreAfter J.world (visits (all_members self.now.groups)) h → n ≡ answered_steps J.world h) }
+        ensures none { IfNone result (SomeCannotTell J.world (all_members self.now.groups)) }
     {
         let mut answered: u128 = 0;
         for script in 0..world.scripts.len() {
@@ -169,7 +171,8 @@ impl<J: Naming + Placing, T: Task + Drop> Players<J, T> {
     fn answered_of(&self, script: usize) -> Option<usize>
         requires known { script < self.now.callers }
         requires script { (s : AnyScript) × (caller_of J.world script ≡ IsScript s) }
-        ensures { IfSome result (λ n. IsAnsweredOf J.world script (all_members self.now.groups) n) }
+        ensures count { IfSome result (λ n. IsAnsweredOf J.world script (all_members self.now.groups) n) }
+        ensures none { IfNone result (CannotTellOf script (all_members self.now.groups)) }
     {
         let group = &self.groups[script % self.groups.len()];
         player_of(&group.players, script).answered()

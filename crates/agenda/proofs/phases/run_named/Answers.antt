@@ -14,7 +14,7 @@ returns-clause-timed g c =
 
 pub returns-clause-answered : goal.returns-clause-answered
 returns-clause-answered g c =
-    c.in-Some.ensures c.in_ok-history.history
+    c.in-Some.ensures.count c.in_ok-history.history
     (closed_after g.J.Placing.world c.in_ok-played.played.items c.in_ok-history.history c.in_ok-history.ensures c.in_ok-played.ensures.plays _ c.in_ok-played.ensures.same)
 
 pub returns-clause-end : goal.returns-clause-end

@@ -1,4 +1,4 @@
-use Rattle.std.proofs.Common.{◌≡◌, ap, sym, ◌∙◌, arith}
+use Rattle.std.proofs.Common.{ap, sym, ◌∙◌, arith}
 use Rattle.host_net.proofs.Standings.{adds_clock, adds_player}
 use Rattle.host_net.specs.Groups.{Grouped}
 use Rattle.host_net.proofs.advance.add_standings.Goals as goal

@@ -1,4 +1,4 @@
-use Rattle.std.proofs.Common.{◌≡◌, Some, slice_set, ap, ◌∙◌}
+use Rattle.std.proofs.Common.{slice_set, ap, ◌∙◌}
 use Rattle.std.proofs.lemmas.Option.{get_or_from_slice_get}
 use Rattle.host_net.proofs.Taking.{filled}
 use Rattle.host_net.specs.Groups.{Grouped}

@@ -1,4 +1,4 @@
-use Rattle.std.proofs.Common.{◌≡◌, ap, ◌∙◌, arith}
+use Rattle.std.proofs.Common.{ap, ◌∙◌, arith}
 use Rattle.host_net.proofs.Standings.{all_standings, standings_group}
 use Rattle.host_net.specs.Groups.{Grouping}
 use Rattle.host_net.proofs.advance.standings_of.Goals as goal

@@ -7,7 +7,8 @@ loop-guest-init g c = gathering g.J.Placing.world g.J.Naming.run.roster c.args.a
 
 pub loop-guest-preserved : goal.loop-guest-preserved
 loop-guest-preserved g c =
-    gathers_on g.J.Placing.world g.J.Naming.run.roster c.args.all.now c.args.guests.items c.loop-guest.all c.take_in.new.all c.loop-guest.guests.items c.pop.new.self.items c.in-Some.guest
+    gathers_on g.J.Placing.world g.J.Naming.run.roster c.args.all.now c.args.guests.items c.loop-guest.all c.take_in.new.all c.loop-guest.guests.items
+    c.pop.new.self.items c.in-Some.guest
     c.loop-guest.invariant c.in-Some.ensures.items c.take_in.ensures.kept c.take_in.ensures.taken
 
 pub returns : goal.returns
@@ -15,5 +16,6 @@ returns g c =
     let none_left : c.loop-guest.guests.items ≡ [] = nil_of c.loop-guest.guests.items (omega (arith, c.in_default.ensures.cases.0, c.loop-guest.guests.ok.0)) in
     record {
       kept = c.loop-guest.invariant.kept;
-      taken = gathered g.J.Placing.world g.J.Naming.run.roster c.args.all.now c.args.guests.items c.loop-guest.all c.loop-guest.guests.items c.loop-guest.invariant none_left;
+      taken = gathered g.J.Placing.world g.J.Naming.run.roster c.args.all.now c.args.guests.items c.loop-guest.all c.loop-guest.guests.items
+          c.loop-guest.invariant none_left;
     }

@@ -12,7 +12,8 @@ loop-caller-init g c = (
   c.requires.seen,
   λ d le lt.
       subst (λ (hs : List Held). In (number.Caller d, []) hs) (sym c.requires.held)
-      (all_numbers g.J.Naming.run.roster.callers d (subst (λ (n : ℕ). d < n) (c.caller_count-callers.ensures ∙ (ap callers_in (sym c.requires.world) ∙ sym c.requires.callers)) lt)),
+      (all_numbers g.J.Naming.run.roster.callers d
+      (subst (λ (n : ℕ). d < n) (c.caller_count-callers.ensures ∙ (ap callers_in (sym c.requires.world) ∙ sym c.requires.callers)) lt)),
   ap length c.in_ok-guests.ensures.items,
   subst (AreFresh 0) (sym c.in_ok-guests.ensures.items) tt,
 )

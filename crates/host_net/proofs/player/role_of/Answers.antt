@@ -1,4 +1,4 @@
-use Rattle.std.proofs.Common.{◌≡◌, ◌<◌, ◌≤◌, ◌-◌, ℕ, length, sym, subst, ap, ◌∙◌, arith}
+use Rattle.std.proofs.Common.{◌≡◌, ◌-◌, ℕ, sym, subst, arith}
 use Rattle.net_base.specs.Callers.{IsCourier, caller_of}
 use Rattle.host_net.proofs.Naming.{clock_of, courier_of, script_of}
 use Rattle.host_net.proofs.player.role_of.Goals as goal

@@ -1,4 +1,4 @@
-use Rattle.std.proofs.Common.{◌≡◌, ◌++◌, List, [], ap, ◌∙◌}
+use Rattle.std.proofs.Common.{◌++◌, List, [], ap, ◌∙◌}
 use Rattle.host_net.specs.Groups.{members, visits, with_last}
 use Rattle.host_net.specs.Visits.{Visit}
 use Rattle.host_net.proofs.Joining.{group_visits}

@@ -27,5 +27,6 @@ loop-player-preserved g c = (
 
 pub returns-clause-same : goal.returns-clause-same
 returns-clause-same g c =
-    let none_left : c.loop-player.players.items ≡ [] = nil_of c.loop-player.players.items (omega (arith, c.in_default.ensures.cases.0, c.loop-player.players.ok.0)) in
+    let none_left : c.loop-player.players.items ≡ [] =
+    nil_of c.loop-player.players.items (omega (arith, c.in_default.ensures.cases.0, c.loop-player.players.ok.0)) in
     sym (append-nil c.loop-player.guests.items) ∙ (ap (λ l. c.loop-player.guests.items ++ visits (reverse l)) (sym none_left) ∙ c.loop-player.invariant.0)

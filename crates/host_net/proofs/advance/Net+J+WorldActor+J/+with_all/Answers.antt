@@ -7,7 +7,8 @@ use Rattle.host_net.proofs.Lending.{advances_at, all_stand, players_left}
 use Rattle.host_net.proofs.Outcomes.{player_stays}
 use Rattle.host_net.proofs.Operating.{visit}
 use Rattle.host_net.proofs.Passes.{nil_of}
-use Rattle.host_net.proofs.Passing.{OthersStay, advances_here, are_back, clock_visits, clock_with, group_lists, me_back, me_visits, next_apart, next_lent, others_stay_here, player, still_with}
+use Rattle.host_net.proofs.Passing.{OthersStay, advances_here, are_back, clock_visits, clock_with, group_lists, me_back, me_visits}
+use Rattle.host_net.proofs.Passing.{next_apart, next_lent, others_stay_here, player, still_with}
 use Rattle.host_net.specs.Advancing.{Advances, AreBack, AreLent, other_players}
 use Rattle.host_net.specs.Groups.{Grouped, callers_of, visits}
 use Rattle.host_net.specs.Playing.{IsCounted, IsPlayer, Playing}
@@ -24,9 +25,11 @@ invariant_of-clock g t c =
     let clock = c.clock.inside in
     let old = visit clock.caller clock.now clock.pass clock.duties.list clock.fids.names in
     let one =
-    ap (λ (i : Inside g.row.J.Denot g.row.T.Denot). player i.guest i.role i.task i.lost) c.first-inside.view_is ∙ c.first.view_is in
-    clock_with w r (law.over w r) (law.there w r) (law.here w r) c.first-inside.inside.0.1.0 c.first-inside.inside.0.1.1.0 c.first-inside.inside.0.1.1.1.0 mine old
-    c.args.clock.now c.in-Some.first.now c.in-Some.others.now c.args.players.now c.args.groups.now one c.in-Some.ensures.cases.0 c.clock.view_is c.args.standings.now
+    ap (λ (i : Inside g.row.J.Denot g.row.T.Denot). player i.guest i.role i.task i.lost i.counts) c.first-inside.view_is ∙ c.first.view_is in
+    clock_with w r (law.over w r) (law.there w r) (law.here w r) c.first-inside.inside.0.1.0 c.first-inside.inside.0.1.1.0
+    c.first-inside.inside.0.1.1.1.0 c.first-inside.inside.0.1.1.1.1.1.0 mine old
+    c.args.clock.now c.in-Some.first.now c.in-Some.others.now c.args.players.now c.args.groups.now one c.in-Some.ensures.cases.0 c.clock.view_is
+    c.args.standings.now
     c.requires.apart c.requires.lent c.first-inside.invariant.guest c.hand_over.new.from c.hand_over.new.to c.hand_over.ensures
     (c.calendars_stay_known.ensures w) clock.duties.list clock.host clock.touched clock.calendar c.clock.invariant
 
@@ -40,14 +43,18 @@ with_all-answer-requires g t c κs within =
     let clock = c.clock.inside in
     let old = visit clock.caller clock.now clock.pass clock.duties.list clock.fids.names in
     let one =
-    ap (λ (i : Inside g.row.J.Denot g.row.T.Denot). player i.guest i.role i.task i.lost) c.first-inside.view_is ∙ c.first.view_is in
+    ap (λ (i : Inside g.row.J.Denot g.row.T.Denot). player i.guest i.role i.task i.lost i.counts) c.first-inside.view_is ∙ c.first.view_is in
     let apart =
-    next_apart w r (law.over w r) (law.there w r) (law.here w r) c.first-inside.inside.0.1.0 c.first-inside.inside.0.1.1.0 c.first-inside.inside.0.1.1.1.0 mine old
-    c.args.clock.now c.in-Some.first.now c.in-Some.others.now c.args.players.now c.args.groups.now one c.in-Some.ensures.cases.0 c.clock.view_is c.args.standings.now
+    next_apart w r (law.over w r) (law.there w r) (law.here w r) c.first-inside.inside.0.1.0 c.first-inside.inside.0.1.1.0
+    c.first-inside.inside.0.1.1.1.0 c.first-inside.inside.0.1.1.1.1.1.0 mine old
+    c.args.clock.now c.in-Some.first.now c.in-Some.others.now c.args.players.now c.args.groups.now one c.in-Some.ensures.cases.0 c.clock.view_is
+    c.args.standings.now
     c.requires.apart c.requires.lent c.first-inside.invariant.guest c.hand_over.new.from c.hand_over.new.to c.hand_over.ensures in
     let lent =
-    next_lent w r (law.over w r) (law.there w r) (law.here w r) c.first-inside.inside.0.1.0 c.first-inside.inside.0.1.1.0 c.first-inside.inside.0.1.1.1.0 mine old
-    c.args.clock.now c.in-Some.first.now c.in-Some.others.now c.args.players.now c.args.groups.now one c.in-Some.ensures.cases.0 c.clock.view_is c.args.standings.now
+    next_lent w r (law.over w r) (law.there w r) (law.here w r) c.first-inside.inside.0.1.0 c.first-inside.inside.0.1.1.0
+    c.first-inside.inside.0.1.1.1.0 c.first-inside.inside.0.1.1.1.1.1.0 mine old
+    c.args.clock.now c.in-Some.first.now c.in-Some.others.now c.args.players.now c.args.groups.now one c.in-Some.ensures.cases.0 c.clock.view_is
+    c.args.standings.now
     c.requires.apart c.requires.lent c.first-inside.invariant.guest c.hand_over.new.from c.hand_over.new.to c.hand_over.ensures in
     let less : length c.in-Some.others.now + players_left c.args.groups.now < t = omega (arith, c.in-Some.ensures.cases.1, c.decreases) in (
       less,
@@ -76,14 +83,17 @@ hand_over-requires-in-Some g t c =
     let clock = c.clock.inside in
     let old = visit clock.caller clock.now clock.pass clock.duties.list clock.fids.names in
     let one =
-    ap (λ (i : Inside g.row.J.Denot g.row.T.Denot). player i.guest i.role i.task i.lost) c.first-inside.view_is ∙ c.first.view_is in
+    ap (λ (i : Inside g.row.J.Denot g.row.T.Denot). player i.guest i.role i.task i.lost i.counts) c.first-inside.view_is ∙ c.first.view_is in
     let had = c.clock-in-Some.inside in
     let after = visit had.caller had.now had.pass had.duties.list had.fids.names in
     let is =
-    still_with w r (law.over w r) (law.there w r) (law.here w r) c.first-inside.inside.0.1.0 c.first-inside.inside.0.1.1.0 c.first-inside.inside.0.1.1.1.0 mine old
-    c.args.clock.now c.in-Some.first.now c.in-Some.others.now c.args.players.now c.args.groups.now one c.in-Some.ensures.cases.0 c.clock.view_is c.args.standings.now
+    still_with w r (law.over w r) (law.there w r) (law.here w r) c.first-inside.inside.0.1.0 c.first-inside.inside.0.1.1.0
+    c.first-inside.inside.0.1.1.1.0 c.first-inside.inside.0.1.1.1.1.1.0 mine old
+    c.args.clock.now c.in-Some.first.now c.in-Some.others.now c.args.players.now c.args.groups.now one c.in-Some.ensures.cases.0 c.clock.view_is
+    c.args.standings.now
     c.requires.apart c.requires.lent c.first-inside.invariant.guest c.hand_over.new.from c.hand_over.new.to c.hand_over.ensures
-    after c.with_all-answer.new.clock c.clock-in-Some.view_is c.with_all-answer.result (visit clock.caller clock.now c.hand_over.new.to clock.duties.list clock.fids.names) refl
+    after c.with_all-answer.new.clock c.clock-in-Some.view_is c.with_all-answer.result
+    (visit clock.caller clock.now c.hand_over.new.to clock.duties.list clock.fids.names) refl
     c.with_all-answer.ensures.others c.with_all-answer.ensures.clock in
     (is.guest.list, is.guest.held)
 
@@ -97,15 +107,19 @@ invariant_of-first-inside g t c =
     let clock = c.clock.inside in
     let old = visit clock.caller clock.now clock.pass clock.duties.list clock.fids.names in
     let one =
-    ap (λ (i : Inside g.row.J.Denot g.row.T.Denot). player i.guest i.role i.task i.lost) c.first-inside.view_is ∙ c.first.view_is in
+    ap (λ (i : Inside g.row.J.Denot g.row.T.Denot). player i.guest i.role i.task i.lost i.counts) c.first-inside.view_is ∙ c.first.view_is in
     let had = c.clock-in-Some.inside in
     let after = visit had.caller had.now had.pass had.duties.list had.fids.names in
-    me_visits w r (law.over w r) (law.there w r) (law.here w r) c.first-inside.inside.0.1.0 c.first-inside.inside.0.1.1.0 c.first-inside.inside.0.1.1.1.0 mine old
-    c.args.clock.now c.in-Some.first.now c.in-Some.others.now c.args.players.now c.args.groups.now one c.in-Some.ensures.cases.0 c.clock.view_is c.args.standings.now
+    me_visits w r (law.over w r) (law.there w r) (law.here w r) c.first-inside.inside.0.1.0 c.first-inside.inside.0.1.1.0
+    c.first-inside.inside.0.1.1.1.0 c.first-inside.inside.0.1.1.1.1.1.0 mine old
+    c.args.clock.now c.in-Some.first.now c.in-Some.others.now c.args.players.now c.args.groups.now one c.in-Some.ensures.cases.0 c.clock.view_is
+    c.args.standings.now
     c.requires.apart c.requires.lent c.first-inside.invariant.guest c.hand_over.new.from c.hand_over.new.to c.hand_over.ensures
-    after c.with_all-answer.new.clock c.clock-in-Some.view_is c.with_all-answer.result (visit clock.caller clock.now c.hand_over.new.to clock.duties.list clock.fids.names) refl
+    after c.with_all-answer.new.clock c.clock-in-Some.view_is c.with_all-answer.result
+    (visit clock.caller clock.now c.hand_over.new.to clock.duties.list clock.fids.names) refl
     c.with_all-answer.ensures.others c.with_all-answer.ensures.clock c.hand_over-in-Some.new.to c.hand_over-in-Some.new.from c.hand_over-in-Some.ensures
-    (c.calendars_stay_known.ensures w) had.duties.list had.host had.touched had.calendar c.clock-in-Some.invariant me.host me.touched c.forget.new.self me.calendar c.first-inside.invariant.home
+    (c.calendars_stay_known.ensures w) had.duties.list had.host had.touched had.calendar c.clock-in-Some.invariant me.host me.touched
+    c.forget.new.self me.calendar c.first-inside.invariant.home
     c.first-inside.invariant.covers c.forget.ensures.covers c.first-inside.invariant.known
 
 pub invariant_of-first : goal.invariant_of-first
@@ -118,23 +132,29 @@ invariant_of-first g t c =
     let clock = c.clock.inside in
     let old = visit clock.caller clock.now clock.pass clock.duties.list clock.fids.names in
     let one =
-    ap (λ (i : Inside g.row.J.Denot g.row.T.Denot). player i.guest i.role i.task i.lost) c.first-inside.view_is ∙ c.first.view_is in
+    ap (λ (i : Inside g.row.J.Denot g.row.T.Denot). player i.guest i.role i.task i.lost i.counts) c.first-inside.view_is ∙ c.first.view_is in
     let had = c.clock-in-Some.inside in
     let after = visit had.caller had.now had.pass had.duties.list had.fids.names in
     let back =
-    me_back w r (law.over w r) (law.there w r) (law.here w r) c.first-inside.inside.0.1.0 c.first-inside.inside.0.1.1.0 c.first-inside.inside.0.1.1.1.0 mine old
-    c.args.clock.now c.in-Some.first.now c.in-Some.others.now c.args.players.now c.args.groups.now one c.in-Some.ensures.cases.0 c.clock.view_is c.args.standings.now
+    me_back w r (law.over w r) (law.there w r) (law.here w r) c.first-inside.inside.0.1.0 c.first-inside.inside.0.1.1.0
+    c.first-inside.inside.0.1.1.1.0 c.first-inside.inside.0.1.1.1.1.1.0 mine old
+    c.args.clock.now c.in-Some.first.now c.in-Some.others.now c.args.players.now c.args.groups.now one c.in-Some.ensures.cases.0 c.clock.view_is
+    c.args.standings.now
     c.requires.apart c.requires.lent c.first-inside.invariant.guest c.hand_over.new.from c.hand_over.new.to c.hand_over.ensures
-    after c.with_all-answer.new.clock c.clock-in-Some.view_is c.with_all-answer.result (visit clock.caller clock.now c.hand_over.new.to clock.duties.list clock.fids.names) refl
+    after c.with_all-answer.new.clock c.clock-in-Some.view_is c.with_all-answer.result
+    (visit clock.caller clock.now c.hand_over.new.to clock.duties.list clock.fids.names) refl
     c.with_all-answer.ensures.others c.with_all-answer.ensures.clock c.hand_over-in-Some.new.to c.hand_over-in-Some.new.from c.hand_over-in-Some.ensures in
     let was =
-    subst (λ (i : Inside g.row.J.Denot g.row.T.Denot). IsPlayer g.T.Task.Stands w i.guest i.role i.task i.lost) (sym c.first-inside.view_is) c.first.invariant.0 in
+    subst (λ (i : Inside g.row.J.Denot g.row.T.Denot). IsPlayer g.T.Task.Stands w i.guest i.role i.task i.lost) (sym c.first-inside.view_is)
+    c.first.invariant.0 in
     let counted =
-    subst (λ (i : Inside g.row.J.Denot g.row.T.Denot). i.counts ≡ true → IsCounted g.T.WholeTask.Plays w i.guest i.task i.lost i.before) (sym c.first-inside.view_is) c.first.invariant.1 in
+    subst (λ (i : Inside g.row.J.Denot g.row.T.Denot). i.counts ≡ true → IsCounted g.T.WholeTask.Plays w i.guest i.task i.lost i.before)
+    (sym c.first-inside.view_is) c.first.invariant.1 in
     let later = visit me.caller had.now c.hand_over-in-Some.new.to me.duties.list me.fids.names in (
       player_stays g.T.Task.Stands w mine later
           c.first-inside.inside.0.1.0 c.first-inside.inside.0.1.1.0 c.first-inside.inside.0.1.1.1.0 was refl refl back.stays,
-      λ counts. counts_stay g.T.WholeTask.Plays w mine later c.first-inside.inside.0.1.1.0 c.first-inside.inside.0.1.1.1.0 c.first-inside.inside.0.1.1.1.1.0 (counted counts) refl refl
+      λ counts. counts_stay g.T.WholeTask.Plays w mine later c.first-inside.inside.0.1.1.0 c.first-inside.inside.0.1.1.1.0
+          c.first-inside.inside.0.1.1.1.1.0 (counted counts) refl refl
           (own_stays me.caller mine.sight.seen later.sight.seen back.stays.alone),
     )
 
@@ -148,13 +168,16 @@ invariant_of-clock-in-Some g t c =
     let clock = c.clock.inside in
     let old = visit clock.caller clock.now clock.pass clock.duties.list clock.fids.names in
     let one =
-    ap (λ (i : Inside g.row.J.Denot g.row.T.Denot). player i.guest i.role i.task i.lost) c.first-inside.view_is ∙ c.first.view_is in
+    ap (λ (i : Inside g.row.J.Denot g.row.T.Denot). player i.guest i.role i.task i.lost i.counts) c.first-inside.view_is ∙ c.first.view_is in
     let had = c.clock-in-Some.inside in
     let after = visit had.caller had.now had.pass had.duties.list had.fids.names in
-    clock_visits w r (law.over w r) (law.there w r) (law.here w r) c.first-inside.inside.0.1.0 c.first-inside.inside.0.1.1.0 c.first-inside.inside.0.1.1.1.0 mine old
-    c.args.clock.now c.in-Some.first.now c.in-Some.others.now c.args.players.now c.args.groups.now one c.in-Some.ensures.cases.0 c.clock.view_is c.args.standings.now
+    clock_visits w r (law.over w r) (law.there w r) (law.here w r) c.first-inside.inside.0.1.0 c.first-inside.inside.0.1.1.0
+    c.first-inside.inside.0.1.1.1.0 c.first-inside.inside.0.1.1.1.1.1.0 mine old
+    c.args.clock.now c.in-Some.first.now c.in-Some.others.now c.args.players.now c.args.groups.now one c.in-Some.ensures.cases.0 c.clock.view_is
+    c.args.standings.now
     c.requires.apart c.requires.lent c.first-inside.invariant.guest c.hand_over.new.from c.hand_over.new.to c.hand_over.ensures
-    after c.with_all-answer.new.clock c.clock-in-Some.view_is c.with_all-answer.result (visit clock.caller clock.now c.hand_over.new.to clock.duties.list clock.fids.names) refl
+    after c.with_all-answer.new.clock c.clock-in-Some.view_is c.with_all-answer.result
+    (visit clock.caller clock.now c.hand_over.new.to clock.duties.list clock.fids.names) refl
     c.with_all-answer.ensures.others c.with_all-answer.ensures.clock c.hand_over-in-Some.new.to c.hand_over-in-Some.new.from c.hand_over-in-Some.ensures
     (c.calendars_stay_known.ensures w) had.duties.list had.host had.touched had.calendar c.clock-in-Some.invariant
 
@@ -178,13 +201,16 @@ returns-in-Some-clause-others g t c =
     let clock = c.clock.inside in
     let old = visit clock.caller clock.now clock.pass clock.duties.list clock.fids.names in
     let one =
-    ap (λ (i : Inside g.row.J.Denot g.row.T.Denot). player i.guest i.role i.task i.lost) c.first-inside.view_is ∙ c.first.view_is in
+    ap (λ (i : Inside g.row.J.Denot g.row.T.Denot). player i.guest i.role i.task i.lost i.counts) c.first-inside.view_is ∙ c.first.view_is in
     let had = c.clock-in-Some.inside in
     let after = visit had.caller had.now had.pass had.duties.list had.fids.names in
-    others_stay_here w r (law.over w r) (law.there w r) (law.here w r) c.first-inside.inside.0.1.0 c.first-inside.inside.0.1.1.0 c.first-inside.inside.0.1.1.1.0 mine old
-    c.args.clock.now c.in-Some.first.now c.in-Some.others.now c.args.players.now c.args.groups.now one c.in-Some.ensures.cases.0 c.clock.view_is c.args.standings.now
+    others_stay_here w r (law.over w r) (law.there w r) (law.here w r) c.first-inside.inside.0.1.0 c.first-inside.inside.0.1.1.0
+    c.first-inside.inside.0.1.1.1.0 c.first-inside.inside.0.1.1.1.1.1.0 mine old
+    c.args.clock.now c.in-Some.first.now c.in-Some.others.now c.args.players.now c.args.groups.now one c.in-Some.ensures.cases.0 c.clock.view_is
+    c.args.standings.now
     c.requires.apart c.requires.lent c.first-inside.invariant.guest c.hand_over.new.from c.hand_over.new.to c.hand_over.ensures
-    after c.with_all-answer.new.clock c.clock-in-Some.view_is c.with_all-answer.result (visit clock.caller clock.now c.hand_over.new.to clock.duties.list clock.fids.names) refl
+    after c.with_all-answer.new.clock c.clock-in-Some.view_is c.with_all-answer.result
+    (visit clock.caller clock.now c.hand_over.new.to clock.duties.list clock.fids.names) refl
     c.with_all-answer.ensures.others c.with_all-answer.ensures.clock c.hand_over-in-Some.new.to c.hand_over-in-Some.new.from c.hand_over-in-Some.ensures
 
 pub returns-in-Some-clause-clock : goal.returns-in-Some-clause-clock
@@ -197,13 +223,16 @@ returns-in-Some-clause-clock g t c =
     let clock = c.clock.inside in
     let old = visit clock.caller clock.now clock.pass clock.duties.list clock.fids.names in
     let one =
-    ap (λ (i : Inside g.row.J.Denot g.row.T.Denot). player i.guest i.role i.task i.lost) c.first-inside.view_is ∙ c.first.view_is in
+    ap (λ (i : Inside g.row.J.Denot g.row.T.Denot). player i.guest i.role i.task i.lost i.counts) c.first-inside.view_is ∙ c.first.view_is in
     let had = c.clock-in-Some.inside in
     let after = visit had.caller had.now had.pass had.duties.list had.fids.names in
-    advances_here w r (law.over w r) (law.there w r) (law.here w r) c.first-inside.inside.0.1.0 c.first-inside.inside.0.1.1.0 c.first-inside.inside.0.1.1.1.0 mine old
-    c.args.clock.now c.in-Some.first.now c.in-Some.others.now c.args.players.now c.args.groups.now one c.in-Some.ensures.cases.0 c.clock.view_is c.args.standings.now
+    advances_here w r (law.over w r) (law.there w r) (law.here w r) c.first-inside.inside.0.1.0 c.first-inside.inside.0.1.1.0
+    c.first-inside.inside.0.1.1.1.0 c.first-inside.inside.0.1.1.1.1.1.0 mine old
+    c.args.clock.now c.in-Some.first.now c.in-Some.others.now c.args.players.now c.args.groups.now one c.in-Some.ensures.cases.0 c.clock.view_is
+    c.args.standings.now
     c.requires.apart c.requires.lent c.first-inside.invariant.guest c.hand_over.new.from c.hand_over.new.to c.hand_over.ensures
-    after c.with_all-answer.new.clock c.clock-in-Some.view_is c.with_all-answer.result (visit clock.caller clock.now c.hand_over.new.to clock.duties.list clock.fids.names) refl
+    after c.with_all-answer.new.clock c.clock-in-Some.view_is c.with_all-answer.result
+    (visit clock.caller clock.now c.hand_over.new.to clock.duties.list clock.fids.names) refl
     c.with_all-answer.ensures.others c.with_all-answer.ensures.clock c.hand_over-in-Some.new.to c.hand_over-in-Some.new.from c.hand_over-in-Some.ensures
 
 pub returns-in-Some-clause-players : goal.returns-in-Some-clause-players
@@ -216,16 +245,20 @@ returns-in-Some-clause-players g t c =
     let clock = c.clock.inside in
     let old = visit clock.caller clock.now clock.pass clock.duties.list clock.fids.names in
     let one =
-    ap (λ (i : Inside g.row.J.Denot g.row.T.Denot). player i.guest i.role i.task i.lost) c.first-inside.view_is ∙ c.first.view_is in
+    ap (λ (i : Inside g.row.J.Denot g.row.T.Denot). player i.guest i.role i.task i.lost i.counts) c.first-inside.view_is ∙ c.first.view_is in
     let had = c.clock-in-Some.inside in
     let after = visit had.caller had.now had.pass had.duties.list had.fids.names in
-    are_back w r (law.over w r) (law.there w r) (law.here w r) c.first-inside.inside.0.1.0 c.first-inside.inside.0.1.1.0 c.first-inside.inside.0.1.1.1.0 mine old
-    c.args.clock.now c.in-Some.first.now c.in-Some.others.now c.args.players.now c.args.groups.now one c.in-Some.ensures.cases.0 c.clock.view_is c.args.standings.now
+    are_back w r (law.over w r) (law.there w r) (law.here w r) c.first-inside.inside.0.1.0 c.first-inside.inside.0.1.1.0
+    c.first-inside.inside.0.1.1.1.0 c.first-inside.inside.0.1.1.1.1.1.0 mine old
+    c.args.clock.now c.in-Some.first.now c.in-Some.others.now c.args.players.now c.args.groups.now one c.in-Some.ensures.cases.0 c.clock.view_is
+    c.args.standings.now
     c.requires.apart c.requires.lent c.first-inside.invariant.guest c.hand_over.new.from c.hand_over.new.to c.hand_over.ensures
-    after c.with_all-answer.new.clock c.clock-in-Some.view_is c.with_all-answer.result (visit clock.caller clock.now c.hand_over.new.to clock.duties.list clock.fids.names) refl
+    after c.with_all-answer.new.clock c.clock-in-Some.view_is c.with_all-answer.result
+    (visit clock.caller clock.now c.hand_over.new.to clock.duties.list clock.fids.names) refl
     c.with_all-answer.ensures.others c.with_all-answer.ensures.clock c.hand_over-in-Some.new.to c.hand_over-in-Some.new.from c.hand_over-in-Some.ensures
     had.now c.with_all-answer.new.players
-    (subst (λ (v : Visit). AreBack w v.now c.in-Some.others.now c.with_all-answer.new.players) (sym c.clock-in-Some.view_is) c.with_all-answer.ensures.players) refl
+    (subst (λ (v : Visit). AreBack w v.now c.in-Some.others.now c.with_all-answer.new.players) (sym c.clock-in-Some.view_is)
+    c.with_all-answer.ensures.players) refl
 
 pub returns-in-Some-split_first_mut-clause-others : goal.returns-in-Some-split_first_mut-clause-others
 returns-in-Some-split_first_mut-clause-others g t c =
@@ -235,7 +268,8 @@ returns-in-Some-split_first_mut-clause-others g t c =
     group_lists c.args.players.now c.args.groups.now c.in-Some-split_first_mut.group.now c.in-Some-split_first_mut.rest.now c.as_mut_slice-players.result.now
     (nil_of c.args.players.now c.in-None.ensures.cases) c.in-Some-split_first_mut.ensures.cases.0
     (c.as_mut_slice-players.ensures.value ∙ ap (λ (x : Grouped g.row.T.Denot). x.players) c.group.view_is) in
-    subst (λ (l : List (Playing g.row.T.Denot)). OthersStay w r (c.args.clock.now.caller ∷ callers_of l) c.args.clock.now.sight c.with_all.new.clock.sight) (sym same)
+    subst (λ (l : List (Playing g.row.T.Denot)). OthersStay w r (c.args.clock.now.caller ∷ callers_of l)
+    c.args.clock.now.sight c.with_all.new.clock.sight) (sym same)
     c.with_all.ensures.others
 
 pub returns-in-Some-split_first_mut-clause-clock : goal.returns-in-Some-split_first_mut-clause-clock
@@ -246,7 +280,8 @@ returns-in-Some-split_first_mut-clause-clock g t c =
     group_lists c.args.players.now c.args.groups.now c.in-Some-split_first_mut.group.now c.in-Some-split_first_mut.rest.now c.as_mut_slice-players.result.now
     (nil_of c.args.players.now c.in-None.ensures.cases) c.in-Some-split_first_mut.ensures.cases.0
     (c.as_mut_slice-players.ensures.value ∙ ap (λ (x : Grouped g.row.T.Denot). x.players) c.group.view_is) in
-    subst (λ (l : List (Playing g.row.T.Denot)). Advances w r (visits l) c.args.clock.now c.with_all.result c.with_all.new.clock) (sym same) c.with_all.ensures.clock
+    subst (λ (l : List (Playing g.row.T.Denot)). Advances w r (visits l) c.args.clock.now c.with_all.result c.with_all.new.clock) (sym same)
+    c.with_all.ensures.clock
 
 pub returns-in-None-split_first_mut-clause-others : goal.returns-in-None-split_first_mut-clause-others
 returns-in-None-split_first_mut-clause-others g t c v none is = c.decide.ensures.leaves.others v is none.0
@@ -260,8 +295,10 @@ returns-in-None-split_first_mut-clause-clock g t c =
     ap (λ (l : List (Playing g.row.T.Denot)). l ++ other_players c.args.groups.now) (nil_of c.args.players.now c.in-None.ensures.cases)
     ∙ ap other_players (nil_of c.args.groups.now c.in-None-split_first_mut.ensures.cases) in
     subst (λ (l : List (Playing g.row.T.Denot)). Advances w r (visits l) c.args.clock.now c.decide.result c.decide.new.clock) (sym none)
-    (advances_at w r c.args.clock.now c.decide.result c.decide.new.clock c.decide.ensures.guests leaves.decided leaves.caller leaves.nexts leaves.timely)
+    (advances_at w r c.args.clock.now c.decide.result c.decide.new.clock c.decide.ensures.guests leaves.decided leaves.caller leaves.names
+    leaves.nexts leaves.timely)
 
 pub returns-in-None-split_first_mut-clause-players : goal.returns-in-None-split_first_mut-clause-players
 returns-in-None-split_first_mut-clause-players g t c =
-    subst (λ (l : List (Playing g.row.T.Denot)). AreBack g.J.Placing.world c.decide.new.clock.now l l) (sym (nil_of c.args.players.now c.in-None.ensures.cases)) tt
+    subst (λ (l : List (Playing g.row.T.Denot)). AreBack g.J.Placing.world c.decide.new.clock.now l l)
+    (sym (nil_of c.args.players.now c.in-None.ensures.cases)) tt

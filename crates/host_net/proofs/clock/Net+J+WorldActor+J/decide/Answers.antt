@@ -79,7 +79,8 @@ invariant_of-clock-in_default-moved g c =
     let h = c.halt-halt.new.pass in
     let ds = c.clock.inside.duties.list in
     let still : h ≡ p = c.halt-halt.ensures.same in
-    let none = subst (λ (o : Option ℕ). MayGo w r k c.clock.inside.now h ds o c.try_move-moved.new.pass c.try_move-moved.new.duties.list) c.in_default-moved.is c.try_move-moved.ensures.go in
+    let none = subst (λ (o : Option ℕ). MayGo w r k c.clock.inside.now h ds o c.try_move-moved.new.pass c.try_move-moved.new.duties.list)
+    c.in_default-moved.is c.try_move-moved.ensures.go in
     visit_same w r k c.clock.inside.now p c.try_move-moved.new.pass ds c.try_move-moved.new.duties.list c.clock.inside.host c.clock.inside.touched
     c.clock.inside.calendar c.try_move-moved.new.calendar (none.0 ∙ still) none.1 c.try_move-moved.ensures.known c.clock.invariant
 
@@ -97,7 +98,8 @@ returns-in_default-moved-clause-leaves g c =
     let ds = c.clock.inside.duties.list in
     let still : h ≡ p = c.halt-halt.ensures.same in
     let clock = ap (λ (v : Visit). caller_of w v.caller) c.clock.view_is ∙ c.requires.clock in
-    let none = subst (λ (o : Option ℕ). MayGo w r k c.clock.inside.now h ds o c.try_move-moved.new.pass c.try_move-moved.new.duties.list) c.in_default-moved.is c.try_move-moved.ensures.go in
+    let none = subst (λ (o : Option ℕ). MayGo w r k c.clock.inside.now h ds o c.try_move-moved.new.pass c.try_move-moved.new.duties.list)
+    c.in_default-moved.is c.try_move-moved.ensures.go in
     let new = visit k c.clock.inside.now c.try_move-moved.new.pass c.try_move-moved.new.duties.list c.clock.inside.fids.names in
     subst (λ (v : Visit). Leaves w r v advance.Memory new) c.clock.view_is
     (leaves_none w r k c.clock.inside.now p h ds c.clock.inside.fids.names clock still c.try_move-moved.new.pass c.try_move-moved.new.duties.list none.0 none.1)
@@ -117,11 +119,13 @@ returns-clause-leaves g c =
     let still : h ≡ p = c.halt-halt.ensures.same in
     let clock = ap (λ (v : Visit). caller_of w v.caller) c.clock.view_is ∙ c.requires.clock in
     let m = c.in-Some-moved.moment in
-    let gone = subst (λ (o : Option ℕ). MayGo w r k c.clock.inside.now h ds o c.try_move-moved.new.pass c.try_move-moved.new.duties.list) c.in-Some-moved.is c.try_move-moved.ensures.go in
+    let gone = subst (λ (o : Option ℕ). MayGo w r k c.clock.inside.now h ds o c.try_move-moved.new.pass c.try_move-moved.new.duties.list)
+    c.in-Some-moved.is c.try_move-moved.ensures.go in
     let may = subst (λ (q : Sight). MayMove w k q) (sym still) (subst (λ (o : Option Advance). Halts w k p o) c.in_default.is c.halt-halt.ensures.halts) in
     let new = visit k m c.try_move-moved.new.pass c.try_move-moved.new.duties.list c.clock.inside.fids.names in
     subst (λ (v : Visit). Leaves w r v (advance.Moved m) new) c.clock.view_is
-    (leaves_gone w r k c.clock.inside.now p h ds c.clock.inside.fids.names clock still c.try_move-moved.new.pass c.try_move-moved.new.duties.list m may gone.0 gone.1)
+    (leaves_gone w r k c.clock.inside.now p h ds c.clock.inside.fids.names clock still c.try_move-moved.new.pass c.try_move-moved.new.duties.list m
+    may gone.0 gone.1)
 
 pub invariant_of-clock-2 : goal.invariant_of-clock-2
 invariant_of-clock-2 g c =

@@ -1,4 +1,4 @@
-use Rattle.std.proofs.Common.{ℕ, List, [], ap, sym, subst, arith}
+use Rattle.std.proofs.Common.{ℕ, List, ap, sym, subst, arith}
 use Rattle.net_base.specs.declared.noted.Noted.{Noted}
 use Rattle.net_base.specs.declared.noted.Number.TheVariants as number
 use Rattle.net_base.specs.Stamped.{at, moment}

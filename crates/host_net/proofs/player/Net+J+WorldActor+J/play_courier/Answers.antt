@@ -15,11 +15,11 @@ returns-clause-turn g c =
     let courier : caller_of w p.guest.caller ≡ IsCourier m =
     subst (λ (r : Role). HasRole w p.guest.caller r) (ap (λ x. x.role) c.player.view_is ∙ c.requires.courier) c.player.invariant.0.role_is in
     let free : p.guest.owed ≡ [] = ap (λ x. x.visit.owed) c.player.view_is ∙ c.requires.free in
-    let new = playing c.courier_turn.new.guest p.role p.task p.lost in
+    let new = playing c.courier_turn.new.guest p.role p.task p.lost p.counts in
     subst (λ x. PlaysOn w x c.played_of.result new) c.player.view_is
-    (subst (λ (r : Played). PlaysOn w (playing p.guest p.role p.task p.lost) r new) (sym c.played_of.ensures)
+    (subst (λ (r : Played). PlaysOn w (playing p.guest p.role p.task p.lost p.counts) r new) (sym c.played_of.ensures)
     (take_plays w m p.guest c.courier_turn.new.guest c.courier_turn.ensures.same c.courier_turn.ensures.names courier free c.courier_turn.result
-    (c.courier_turn.ensures.free free) p.role p.task p.lost))
+    (c.courier_turn.ensures.free free) p.role p.task p.lost p.counts))
 
 pub invariant_of-player : goal.invariant_of-player
 invariant_of-player g c =

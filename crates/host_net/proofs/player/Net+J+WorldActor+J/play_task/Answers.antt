@@ -1,6 +1,4 @@
-use Rattle.std.proofs.Common.{◌≡◌, List, [], Option, None, Some, refl, ap, sym, subst, ◌∙◌}
-use Rattle.net_base.specs.Steps.{Bound}
-use Rattle.script_task.specs.declared.request.Request.{Request}
+use Rattle.std.proofs.Common.{◌≡◌, [], None, Some, ap, sym, subst, ◌∙◌}
 use Rattle.host_net.specs.declared.player.Played.TheVariants as played
 use Rattle.host_net.specs.Playing.{PlaysOn}
 use Rattle.host_net.proofs.Counting.{heard_counts}
@@ -17,7 +15,8 @@ returns-in-Ok-None-clause-turn g c =
     let none : t.asks p.task p.guest.names ≡ None =
     ap (t.asks p.task) (sym c.fids.ensures) ∙ (sym (c.in-Ok-None.ensures) ∙ c.in-Ok-None.field-0-is) in
     subst (λ x. PlaysOn g.J.Placing.world x played.Waits x) c.player.view_is
-    (through_plays t.asks t.after t.Stands g.met.T.Task.asks_so g.met.T.Task.moves_so g.J.Placing.world p.guest p.role p.task p.lost script c.if-player.false c.player.invariant.0 free none)
+    (through_plays t.asks t.after t.Stands g.met.T.Task.asks_so g.met.T.Task.moves_so g.J.Placing.world p.guest p.role p.task p.lost p.counts script
+    c.if-player.false c.player.invariant.0 free none)
 
 pub invariant_of-player : goal.invariant_of-player
 invariant_of-player g c =
@@ -25,12 +24,17 @@ invariant_of-player g c =
     let p = c.player.inside in
     let free : p.guest.owed ≡ [] = ap (λ x. x.visit.owed) c.player.view_is ∙ c.requires.free in
     let script = ap (λ x. x.role) c.player.view_is ∙ c.requires.script in
-    let asks_it : Some c.in-Ok-Some.request ≡ t.asks p.task p.guest.names = sym c.in-Ok-Some.field-0-is ∙ (c.in-Ok-Some.ensures ∙ ap (t.asks p.task) c.fids.ensures) in (
-      heard_keeps t.asks t.after t.Stands g.met.T.Task.asks_so g.met.T.Task.moves_so g.J.Placing.world p.guest c.operate_at-turn.new.guest c.operate_at-turn.ensures.same p.role p.task p.lost
-          script c.if-player.false c.player.invariant.0 free c.in-Ok-Some.request asks_it c.locks_keep_actors.ensures.state c.replies_fit.ensures.works c.operate_at-turn.result
+    let asks_it : Some c.in-Ok-Some.request ≡ t.asks p.task p.guest.names = sym c.in-Ok-Some.field-0-is
+    ∙ (c.in-Ok-Some.ensures ∙ ap (t.asks p.task) c.fids.ensures) in (
+      heard_keeps t.asks t.after t.Stands g.met.T.Task.asks_so g.met.T.Task.moves_so g.J.Placing.world p.guest c.operate_at-turn.new.guest
+          c.operate_at-turn.ensures.same p.role p.task p.lost
+          script c.if-player.false c.player.invariant.0 free c.in-Ok-Some.request asks_it c.locks_keep_actors.ensures.state
+          c.replies_fit.ensures.works c.operate_at-turn.result
           c.operate_at-turn.ensures.turn c.hear.result c.hear.new.task c.hear.new.lost c.hear.ensures.heard,
-      λ counts. heard_counts g.T.WholeTask.Plays g.J.Placing.world t.asks t.after g.met.T.WholeTask.plays_on p.guest c.operate_at-turn.new.guest c.operate_at-turn.ensures.same p.role
-          script c.player.invariant.0.role_is p.task p.lost c.if-player.false p.before (c.player.invariant.1 counts) free c.in-Ok-Some.request asks_it c.locks_keep_actors.ensures.state
+      λ counts. heard_counts g.T.WholeTask.Plays g.J.Placing.world t.asks t.after g.met.T.WholeTask.plays_on p.guest c.operate_at-turn.new.guest
+          c.operate_at-turn.ensures.same p.role
+          script c.player.invariant.0.role_is p.task p.lost c.if-player.false p.before (c.player.invariant.1 counts)
+          free c.in-Ok-Some.request asks_it c.locks_keep_actors.ensures.state
           c.replies_fit.ensures.works c.operate_at-turn.result c.operate_at-turn.ensures.turn c.hear.result c.hear.new.task c.hear.new.lost c.hear.new.before
           c.hear.ensures.heard c.hear.ensures.counts,
     )
@@ -41,8 +45,12 @@ returns-clause-turn g c =
     let p = c.player.inside in
     let free : p.guest.owed ≡ [] = ap (λ x. x.visit.owed) c.player.view_is ∙ c.requires.free in
     let script = ap (λ x. x.role) c.player.view_is ∙ c.requires.script in
-    let asks_it : Some c.in-Ok-Some.request ≡ t.asks p.task p.guest.names = sym c.in-Ok-Some.field-0-is ∙ (c.in-Ok-Some.ensures ∙ ap (t.asks p.task) c.fids.ensures) in
-    subst (λ x. PlaysOn g.J.Placing.world x c.hear.result (playing c.operate_at-turn.new.guest p.role c.hear.new.task c.hear.new.lost)) c.player.view_is
-    (heard_plays t.asks t.after t.Stands g.met.T.Task.asks_so g.met.T.Task.moves_so g.J.Placing.world p.guest c.operate_at-turn.new.guest c.operate_at-turn.ensures.same p.role p.task p.lost
-    script c.if-player.false c.player.invariant.0 free c.in-Ok-Some.request asks_it c.locks_keep_actors.ensures.state c.replies_fit.ensures.works c.operate_at-turn.result
-    c.operate_at-turn.ensures.turn c.hear.result c.hear.new.task c.hear.new.lost c.hear.ensures.heard)
+    let asks_it : Some c.in-Ok-Some.request ≡ t.asks p.task p.guest.names = sym c.in-Ok-Some.field-0-is
+    ∙ (c.in-Ok-Some.ensures ∙ ap (t.asks p.task) c.fids.ensures) in
+    subst (λ x. PlaysOn g.J.Placing.world x c.hear.result (playing c.operate_at-turn.new.guest p.role c.hear.new.task c.hear.new.lost p.counts))
+    c.player.view_is
+    (heard_plays t.asks t.after t.Stands g.met.T.Task.asks_so g.met.T.Task.moves_so g.J.Placing.world p.guest c.operate_at-turn.new.guest
+    c.operate_at-turn.ensures.same p.role p.task p.lost
+    script c.if-player.false c.player.invariant.0 free c.in-Ok-Some.request asks_it c.locks_keep_actors.ensures.state c.replies_fit.ensures.works
+    c.operate_at-turn.result
+    c.operate_at-turn.ensures.turn c.hear.result c.hear.new.task c.hear.new.lost c.hear.ensures.heard p.counts)

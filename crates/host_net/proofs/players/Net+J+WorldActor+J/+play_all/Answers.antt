@@ -1,4 +1,4 @@
-use Rattle.std.proofs.Common.{◌≡◌, sym, subst}
+use Rattle.std.proofs.Common.{sym, subst}
 use Rattle.host_net.specs.Groups.{AreWaiting, all_members, members}
 use Rattle.host_net.proofs.Passes.{nil_of}
 use Rattle.host_net.proofs.Seating.{seats_on, some_short, waiting_parts}
@@ -12,12 +12,14 @@ returns-in-Some-clause-seats g t c =
 pub returns-in-Some-clause-rest : goal.returns-in-Some-clause-rest
 returns-in-Some-clause-rest g t c = λ whole waits.
     let two = c.both.ensures.waits waits in
-    waiting_parts g.J.Placing.world (members c.play_round-first.new.group) (all_members c.play_all-rest.new.groups) (c.play_round-first.ensures.rest whole two.0)
+    waiting_parts g.J.Placing.world (members c.play_round-first.new.group) (all_members c.play_all-rest.new.groups)
+    (c.play_round-first.ensures.rest whole two.0)
     (c.play_all-rest.ensures.rest whole two.1)
 
 pub returns-in-Some-clause-short : goal.returns-in-Some-clause-short
 returns-in-Some-clause-short g t c = λ memory.
-    some_short c.play_round-first.new.group c.play_all-rest.new.groups c.play_round-first.ensures.short c.play_all-rest.ensures.short (c.both.ensures.short memory)
+    some_short c.play_round-first.new.group c.play_all-rest.new.groups c.play_round-first.ensures.short c.play_all-rest.ensures.short
+    (c.both.ensures.short memory)
 
 pub returns-in-None-clause-rest : goal.returns-in-None-clause-rest
 returns-in-None-clause-rest g t c = λ whole waits.

@@ -1,5 +1,4 @@
-use Rattle.std.proofs.Common.{◌≡◌, ◌≤◌, length, slice_index_or, arith, ◌∙◌}
-use Rattle.host_net.proofs.Keeping.{waits_from}
+use Rattle.std.proofs.Common.{arith, ◌∙◌}
 use Rattle.host_net.proofs.Seating.{all_waiting, same_callers, waiting_more}
 use Rattle.host_net.proofs.players.Net+J+WorldActor+J.play_each.Goals as goal
 

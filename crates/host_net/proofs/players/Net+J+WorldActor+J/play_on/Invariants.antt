@@ -1,4 +1,4 @@
-use Rattle.std.proofs.Common.{◌≡◌, true}
+use Rattle.std.proofs.Common.{◌≡◌}
 use Rattle.host_net.specs.Groups.{seats}
 use Rattle.host_net.proofs.players.Net+J+WorldActor+J.play_on.Given as goal
 

@@ -10,15 +10,18 @@ invariant_of-players g c =
     let p = c.players.inside in
     let there = c.deref_mut.ensures.value in
     let same = c.play_groups.ensures.seats in
-    let wrote = written c.play_groups.new.groups p.groups.items p.groups.len p.groups.ok.0 (as_many c.play_groups.new.groups c.deref_mut.result.now same ∙ ap length there) in
-    subst (λ (ss : List Seats). IsDealt g.J.Placing.world p.callers ss) (sym (ap (λ l. all_seats l) wrote ∙ (same ∙ ap (λ l. all_seats l) there))) c.players.invariant
+    let wrote = written c.play_groups.new.groups p.groups.items p.groups.len p.groups.ok.0
+    (as_many c.play_groups.new.groups c.deref_mut.result.now same ∙ ap length there) in
+    subst (λ (ss : List Seats). IsDealt g.J.Placing.world p.callers ss) (sym (ap (λ l. all_seats l) wrote ∙ (same ∙ ap (λ l. all_seats l) there)))
+    c.players.invariant
 
 pub returns-clause-seats : goal.returns-clause-seats
 returns-clause-seats g c =
     let p = c.players.inside in
     let there = c.deref_mut.ensures.value in
     let same = c.play_groups.ensures.seats in
-    let wrote = written c.play_groups.new.groups p.groups.items p.groups.len p.groups.ok.0 (as_many c.play_groups.new.groups c.deref_mut.result.now same ∙ ap length there) in
+    let wrote = written c.play_groups.new.groups p.groups.items p.groups.len p.groups.ok.0
+    (as_many c.play_groups.new.groups c.deref_mut.result.now same ∙ ap length there) in
     ap (λ l. all_seats l) wrote ∙ (same ∙ (ap (λ l. all_seats l) there ∙ ap (λ x. all_seats x.groups) c.players.view_is))
 
 pub returns-clause-rest : goal.returns-clause-rest
@@ -26,5 +29,6 @@ returns-clause-rest g c =
     let p = c.players.inside in
     let there = c.deref_mut.ensures.value in
     let same = c.play_groups.ensures.seats in
-    let wrote = written c.play_groups.new.groups p.groups.items p.groups.len p.groups.ok.0 (as_many c.play_groups.new.groups c.deref_mut.result.now same ∙ ap length there) in
+    let wrote = written c.play_groups.new.groups p.groups.items p.groups.len p.groups.ok.0
+    (as_many c.play_groups.new.groups c.deref_mut.result.now same ∙ ap length there) in
     subst (λ l. list_any (λ x. x.memory) l ≡ false → AreWaiting g.J.Placing.world (all_members l)) (sym wrote) c.play_groups.ensures.rest

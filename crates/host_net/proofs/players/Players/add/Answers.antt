@@ -1,4 +1,4 @@
-use Rattle.std.proofs.Common.{◌≡◌, ℕ, ◌+◌, ◌<◌, ◌%◌, List, length, slice_set, slice_index_or, ap, sym, subst, ◌∙◌}
+use Rattle.std.proofs.Common.{◌≡◌, ℕ, ◌+◌, ◌<◌, ◌%◌, length, slice_set, ap, sym, subst, ◌∙◌}
 use Rattle.std.proofs.lemmas.Nat.{mod_below}
 use Rattle.host_net.specs.Groups.{IsDealt, all_seats, caller, dealt, joined, joined_at}
 use Rattle.host_net.proofs.Joining.{alone_index, dealt_set, grouping, groups_set, on_error}
@@ -17,20 +17,25 @@ add-requires g c =
     let is : k ≡ n % length gs = ap (λ (m : ℕ). m % c.len.result) (c.caller-caller.ensures.same ∙ next) ∙ ap (λ (m : ℕ). n % m) long in
     let some = some_groups w n gs c.self.invariant p next c.caller-caller.ensures.role in
     let lt : k < length gs = subst (λ (m : ℕ). m < length gs) (sym is) (mod_below n (length gs) some) in
-    record { alone = λ clock. ap (λ x. x.clock) c.index_mut.ensures.value ∙ alone_index w n gs c.self.invariant p next c.caller-caller.ensures.role k is lt c.index_mut.result.now clock }
+    record {
+      alone = λ clock. ap (λ x. x.clock) c.index_mut.ensures.value
+          ∙ alone_index w n gs c.self.invariant p next c.caller-caller.ensures.role k is lt c.index_mut.result.now clock;
+    }
 
 pub invariant_of-self : goal.invariant_of-self
 invariant_of-self g c =
     let gs = c.self.inside.groups.items in
     let k = c.caller-caller.result % c.len.result in
-    let same : slice_set gs k c.add.new.self ≡ gs = ap (slice_set gs k) (c.in_err-add.ensures.err ∙ c.index_mut.ensures.value) ∙ set_same gs k c.index_mut.result.now in
+    let same : slice_set gs k c.add.new.self ≡ gs = ap (slice_set gs k) (c.in_err-add.ensures.err ∙ c.index_mut.ensures.value)
+    ∙ set_same gs k c.index_mut.result.now in
     subst (λ l. IsDealt g.J.Placing.world c.self.inside.callers (all_seats l)) (sym same) c.self.invariant
 
 pub returns-in_err-add-clause-err : goal.returns-in_err-add-clause-err
 returns-in_err-add-clause-err g c =
     let gs = c.self.inside.groups.items in
     let k = c.caller-caller.result % c.len.result in
-    let same : slice_set gs k c.add.new.self ≡ gs = ap (slice_set gs k) (c.in_err-add.ensures.err ∙ c.index_mut.ensures.value) ∙ set_same gs k c.index_mut.result.now in
+    let same : slice_set gs k c.add.new.self ≡ gs = ap (slice_set gs k) (c.in_err-add.ensures.err ∙ c.index_mut.ensures.value)
+    ∙ set_same gs k c.index_mut.result.now in
     on_error c.from_residual.result _ (ap (λ l. grouping l c.self.inside.callers) same ∙ c.self.view_is)
 
 pub invariant_of-self-2 : goal.invariant_of-self-2
@@ -64,5 +69,6 @@ returns-clause-ok g c =
     let some = some_groups w n gs c.self.invariant p next c.caller-caller.ensures.role in
     let lt : k < length gs = subst (λ (m : ℕ). m < length gs) (sym is) (mod_below n (length gs) some) in
     let joins = c.in_ok-add.ensures.ok ∙ ap (λ x. joined x p) c.index_mut.ensures.value in
-    ap (λ l. grouping l (c.caller-caller.result + 1)) (groups_set w n gs c.self.invariant p next c.caller-caller.ensures.role k is lt c.index_mut.result.now c.add.new.self joins)
+    ap (λ l. grouping l (c.caller-caller.result + 1))
+    (groups_set w n gs c.self.invariant p next c.caller-caller.ensures.role k is lt c.index_mut.result.now c.add.new.self joins)
     ∙ (ap (λ (m : ℕ). grouping (joined_at (n % length gs) gs p) (m + 1)) now ∙ ap (λ x. dealt x p) c.self.view_is)

@@ -1,4 +1,4 @@
-use Rattle.std.proofs.Common.{◌≡◌, ℕ, ◌<◌, length, rules, ap, ◌∙◌, arith}
+use Rattle.std.proofs.Common.{◌<◌, length, rules, ap, arith}
 use Rattle.net_base.specs.declared.world.World.{World}
 use Rattle.host_net.specs.Groups.{all_members}
 use Rattle.host_net.proofs.Answered.{answers_next, script_is}
@@ -15,6 +15,15 @@ loop-script-preserved g c =
     let w = g.J.Placing.world in
     let many = ap (λ (v : World). length v.scripts) c.requires.world in
     let lt : c.loop-script.script < length w.scripts = omega (arith, many, c.loop-script-test.true, c.len-script-end.ensures) in (
-      answers_next w (all_members c.args.self.now.groups) c.loop-script.script c.loop-script.answered c.in-Some.steps lt c.in-Some.ensures c.loop-script.invariant.0,
+      answers_next w (all_members c.args.self.now.groups) c.loop-script.script c.loop-script.answered c.in-Some.steps lt c.in-Some.ensures.count
+          c.loop-script.invariant.0,
       search (rules),
     )
+
+pub returns-in_default-clause-none : goal.returns-in_default-clause-none
+returns-in_default-clause-none g c =
+    let w = g.J.Placing.world in
+    let many = ap (λ (v : World). length v.scripts) c.requires.world in
+    let lt : c.loop-script.script < length w.scripts =
+    omega (arith, many, c.loop-script-test.true, c.len-script-end.ensures) in
+    (c.loop-script.script, lt, c.in_default.ensures.none)

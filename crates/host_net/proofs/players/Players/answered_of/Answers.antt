@@ -1,10 +1,10 @@
-use Rattle.std.proofs.Common.{◌≡◌, ℕ, ◌<◌, ◌%◌, List, length, IfSome, Some, slice_get, ap, sym, subst, ◌∙◌}
+use Rattle.std.proofs.Common.{◌≡◌, ℕ, ◌<◌, ◌%◌, List, length, IfNone, IfSome, ap, sym, subst, ◌∙◌}
 use Rattle.std.proofs.lemmas.Nat.{mod_below}
 use Rattle.net_base.specs.Stamped.{In}
-use Rattle.host_net.specs.Answering.{IsAnsweredOf}
+use Rattle.host_net.specs.Answering.{CannotTellOf, IsAnsweredOf}
 use Rattle.host_net.specs.Groups.{Grouped, Grouping, all_members, callers_of}
 use Rattle.host_net.specs.Playing.{Playing}
-use Rattle.host_net.proofs.Answered.{found_in, group_at, script_here, some_groups}
+use Rattle.host_net.proofs.Answered.{found_in, group_at, none_in, script_here, some_groups}
 use Rattle.host_net.proofs.players.Players.answered_of.Goals as goal
 
 pub player_of-requires : goal.player_of-requires
@@ -22,8 +22,8 @@ player_of-requires g c =
     subst (λ (l : List (Playing g.row.T.Denot)). In script (callers_of l)) (sym players)
     (script_here w n gs c.self.invariant script c.requires.script.0 known c.requires.script.1 k group (group_at gs k group group lt c.index-group.ensures) is)
 
-pub returns : goal.returns
-returns g c =
+pub returns-clause-count : goal.returns-clause-count
+returns-clause-count g c =
     let w = g.J.Placing.world in
     let gs = c.self.inside.groups.items in
     let n = c.self.inside.callers in
@@ -36,4 +36,22 @@ returns g c =
     let players = c.deref.ensures.value ∙ ap (λ (x : Grouped g.row.T.Denot). x.players) c.group.view_is in
     let among : In player group.players = subst (λ (l : List (Playing g.row.T.Denot)). In player l) players c.player_of.ensures.there in
     subst (λ (x : Grouping g.row.T.Denot). IfSome c.answered.result (λ (m : ℕ). IsAnsweredOf w script (all_members x.groups) m)) c.self.view_is
-    (found_in w script gs k group player c.answered.result (group_at gs k group group lt c.index-group.ensures) among c.player_of.ensures.caller c.answered.ensures)
+    (found_in w script gs k group player c.answered.result (group_at gs k group group lt c.index-group.ensures)
+    among c.player_of.ensures.caller c.answered.ensures.count)
+
+pub returns-clause-none : goal.returns-clause-none
+returns-clause-none g c =
+    let w = g.J.Placing.world in
+    let gs = c.self.inside.groups.items in
+    let n = c.self.inside.callers in
+    let script = c.args.script in
+    let k = script % c.len.result in
+    let group = c.index-group.result.now in
+    let player = c.player_of.result.now in
+    let is : k ≡ script % length gs = ap (λ (m : ℕ). script % m) (c.len.ensures ∙ c.self.inside.groups.ok.0) in
+    let lt : k < length gs = subst (λ (m : ℕ). m < length gs) (sym is) (mod_below script (length gs) (some_groups w n gs c.self.invariant)) in
+    let players = c.deref.ensures.value ∙ ap (λ (x : Grouped g.row.T.Denot). x.players) c.group.view_is in
+    let among : In player group.players = subst (λ (l : List (Playing g.row.T.Denot)). In player l) players c.player_of.ensures.there in
+    subst (λ (x : Grouping g.row.T.Denot). IfNone c.answered.result (CannotTellOf script (all_members x.groups))) c.self.view_is
+    (none_in script gs k group player c.answered.result (group_at gs k group group lt c.index-group.ensures)
+    among c.player_of.ensures.caller c.answered.ensures.none)

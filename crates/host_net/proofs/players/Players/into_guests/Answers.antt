@@ -1,6 +1,5 @@
 use Rattle.std.proofs.Common.{◌≡◌, ◌++◌, List, [], ◌∷◌, length, length-append, reverse, ap, sym, subst, ◌∙◌, arith}
 use Rattle.std.proofs.lemmas.List.{append-nil, reverse-reverse}
-use Rattle.net_base.specs.Stamped.{In}
 use Rattle.host_net.specs.Groups.{IsDealt, all_members, all_seats, visits}
 use Rattle.host_net.specs.Playing.{ArePlayed}
 use Rattle.host_net.specs.Visits.{HasGuest, Visit}
@@ -11,7 +10,8 @@ use Rattle.host_net.proofs.players.Players.into_guests.Goals as goal
 pub loop-group-init : goal.loop-group-init
 loop-group-init g c = (
   ap (λ (l : List Visit). l ++ visits (all_members (reverse c.reverse.new.self.items))) c.in_ok-guests.ensures.items
-      ∙ (ap (λ l. visits (all_members l)) (ap reverse c.reverse.ensures.items ∙ reverse-reverse c.self.inside.groups.items) ∙ ap (λ x. visits (all_members x.groups)) c.self.view_is),
+      ∙ (ap (λ l. visits (all_members l)) (ap reverse c.reverse.ensures.items ∙ reverse-reverse c.self.inside.groups.items)
+      ∙ ap (λ x. visits (all_members x.groups)) c.self.view_is),
   subst (λ (l : List Visit). ArePlayed g.J.Placing.world l) (sym c.in_ok-guests.ensures.items) (λ v there. absurd there),
 )
 
@@ -28,7 +28,8 @@ loop-group-preserved g c = (
 pub returns-clause-same : goal.returns-clause-same
 returns-clause-same g c =
     let none_left : c.loop-group.groups.items ≡ [] = nil_of c.loop-group.groups.items (omega (arith, c.in_default.ensures.cases.0, c.loop-group.groups.ok.0)) in
-    sym (append-nil c.loop-group.guests.items) ∙ (ap (λ l. c.loop-group.guests.items ++ visits (all_members (reverse l))) (sym none_left) ∙ c.loop-group.invariant.0)
+    sym (append-nil c.loop-group.guests.items)
+    ∙ (ap (λ l. c.loop-group.guests.items ++ visits (all_members (reverse l))) (sym none_left) ∙ c.loop-group.invariant.0)
 
 pub returns-clause-all : goal.returns-clause-all
 returns-clause-all g c k lt =

@@ -1,4 +1,4 @@
-use Rattle.std.proofs.Common.{◌≡◌, ◌+◌, ℕ, List, [], ◌∷◌, length, length-append, ap, sym, subst, ◌∙◌, arith}
+use Rattle.std.proofs.Common.{◌+◌, ℕ, [], ◌∷◌, length, length-append, ap, sym, subst, ◌∙◌, arith}
 use Rattle.host_net.specs.Groups.{callers_in, seats}
 use Rattle.host_net.proofs.Seating.{AreEmpty, empty_more, none_dealt}
 use Rattle.host_net.proofs.players.Players.new.Goals as goal
