@@ -1,0 +1,21 @@
+use Rattle.std.proofs.Common.{◌≡◌, ℕ, ◌≤◌, arith, rules, Bool, true, false, None, Some, cond, not, unwrap_or, ltb, length, refl, ap, ◌∙◌}
+use Rattle.std.specs.List.{position_or_len}
+use Rattle.std.proofs.lemmas.Iterator.{YieldsList-from_slice}
+use Rattle.std.proofs.lemmas.Iterator.Search.{position_from_yields_List}
+use Rattle.std.proofs.lemmas.List.Sums.{prefix_len-le-length}
+use Rattle.std.proofs.lemmas.Bool.Decides.{nat_tests}
+use borrow.Author.Tests.{tests}
+use Rattle.net_base.specs.NdbText as spec
+use Rattle.checked_input.proofs.parts.line_len.Goals as goal
+
+at_or_length_if : (i n : ℕ) (b : Bool) → ltb i n ≡ b → i ≤ n → unwrap_or (cond b (Some i) None) n ≡ i
+at_or_length_if i n true e h = refl
+at_or_length_if i n false e h = grind (arith, nat_tests)
+
+pub returns : goal.returns
+returns c =
+    let e = position_from_yields_List spec.is_newline _ _ _ c.position.ensures.ran (YieldsList-from_slice c.args.text.now cc)
+    (λ x r q k. search (rules, tests)) in
+    let le = prefix_len-le-length (λ b. not (spec.is_newline b)) c.args.text.now in
+    c.unwrap_or.ensures
+    ∙ (ap (λ r. unwrap_or r (length c.args.text.now)) e ∙ at_or_length_if (position_or_len spec.is_newline c.args.text.now) (length c.args.text.now) _ refl le)
