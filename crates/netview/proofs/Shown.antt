@@ -1,0 +1,73 @@
+-- What is answered to an input, from what is told of it.
+use Rattle.std.proofs.Common.{◌≡◌, ℕ, ◌≤◌, false, List, length, Option, Some, None, sym, ◌∙◌, ap, subst, inl, inr}
+use Rattle.net_base.specs.declared.history.Entry.{Entry}
+use Rattle.net_base.specs.declared.world.World.{World}
+use Rattle.net_base.specs.Legal.{IsFault, IsLegal, IsTimed, Rule, rule_number}
+use Rattle.net_model.specs.Answers.{Answer, bad_input, rule_broken}
+use Rattle.netcheck.specs.Judged.{HasFault}
+use Rattle.checked_input.specs.Told.{HandsIn, IsFirst, Refuses}
+use Rattle.checked_input.specs.declared.fault.InputError.TheVariants as error
+use Rattle.netview.specs.Views.{input_limit, view, IsAnswer, IsShown}
+use Rattle.netview.specs.Words.{Command}
+use Rattle.netview.proofs.Endings.{told_by, told_of, within_limit}
+
+-- a history with a fault isn't both legal and timed, and has no other fault
+abbrev pub NotLegal : Type 0
+NotLegal = (w : World) (h : List Entry) (stamp : ℕ) (rule : Rule) → IsFault w h stamp rule → IsLegal w h → IsTimed w h → ⊥
+
+abbrev pub OneFault : Type 0
+OneFault = (w : World) (h : List Entry) (s t : ℕ) (r q : Rule) → IsFault w h s r → IsFault w h t q → (s ≡ t) × (r ≡ q)
+
+module _ (asked : Command) (w : World) (h : List Entry) (answer : Answer) (not_legal : NotLegal) where
+  shown_kept : IsLegal w h → IsTimed w h → answer ≡ view asked w h → IsShown asked w h answer
+  shown_kept legal timed is = record {
+    kept = λ l t. is;
+    broken = λ stamp rule fault. absurd (not_legal w h stamp fault.0 fault.2 legal timed);
+    judged = inl (legal, timed);
+  }
+
+  shown_broken : OneFault → (stamp rule : ℕ) → HasFault w h stamp rule → answer ≡ rule_broken stamp rule → IsShown asked w h answer
+  shown_broken one stamp rule fault is = record {
+    kept = λ legal timed. absurd (not_legal w h stamp fault.0 fault.2 legal timed);
+    broken = λ s r other.
+        let same = one w h stamp s fault.0 other.0 fault.2 other.2 in
+        is ∙ (ap (λ (k : ℕ). rule_broken k rule) same.0
+        ∙ ap (rule_broken s) (sym fault.1 ∙ (ap rule_number same.1 ∙ other.1)));
+    judged = inr (stamp, rule, fault);
+  }
+
+-- an answer to an input within the limit, of which no line is bad
+answer_good : (asked : Command) (input : List ℕ) (w : World) (h : List Entry) (told : Option (List ℕ)) (answer : Answer) → length input ≤ input_limit
+    → HandsIn input w h told → IsShown asked w h answer → IsAnswer asked input answer
+answer_good asked input w h told answer fits hands shown = record {
+  found = None;
+  first = told_by input false (within_limit input fits) None hands.good.is;
+  only = λ other is. hands.good.only other (told_of input false (within_limit input fits) other is);
+  given = (
+    hands.handed,
+    λ handed.
+        let same = hands.only handed in
+        subst (λ (v : World). IsShown asked v handed.history answer) (sym same.0)
+        (subst (λ (k : List Entry). IsShown asked w k answer) (sym same.1) shown),
+  );
+}
+
+pub answers_view : (asked : Command) (input : List ℕ) (w : World) (h : List Entry) (told : Option (List ℕ)) (answer : Answer) → NotLegal
+    → length input ≤ input_limit → HandsIn input w h told → IsLegal w h → IsTimed w h → answer ≡ view asked w h → IsAnswer asked input answer
+answers_view asked input w h told answer not_legal fits hands legal timed is =
+    answer_good asked input w h told answer fits hands (shown_kept asked w h answer not_legal legal timed is)
+
+pub answers_bad : (asked : Command) (input : List ℕ) (line cause : ℕ) (answer : Answer) → length input ≤ input_limit
+    → IsFirst input (Some (line, cause))
+    → answer ≡ bad_input line cause → IsAnswer asked input answer
+answers_bad asked input line cause answer fits first is = record {
+  found = Some (line, cause);
+  first = told_by input false (within_limit input fits) (Some (line, cause)) first.is;
+  only = λ other told. first.only other (told_of input false (within_limit input fits) other told);
+  given = is;
+}
+
+pub answers_fault : (asked : Command) (input : List ℕ) (stamp rule : ℕ) (answer : Answer) → NotLegal → OneFault → length input ≤ input_limit
+    → Refuses input (error.Fault stamp rule) → answer ≡ rule_broken stamp rule → IsAnswer asked input answer
+answers_fault asked input stamp rule answer not_legal one fits (w, h, told, hands, fault) is =
+    answer_good asked input w h told answer fits hands (shown_broken asked w h answer not_legal one stamp rule fault is)

@@ -1,0 +1,83 @@
+-- What a command answers to its input.
+--     IsFirstBad    the first bad line of an input
+--     view          what is shown of a world and a legal and timed history of it
+--     IsAnswer      an answer to a command and its input
+use Rattle.std.specs.Prelude.{◌≡◌, ℕ, ◌⊎◌, Bool, true, false, List, [], ◌∷◌, length, nat_lt, bytes_eq, codes, Option, Some, None, if◌then◌else◌}
+use Rattle.net_base.specs.declared.history.Entry.{Entry}
+use Rattle.net_base.specs.declared.world.MediumSpec.{MediumSpec}
+use Rattle.net_base.specs.declared.world.World.{World}
+use Rattle.net_base.specs.Legal.{IsLegal, IsTimed}
+use Rattle.netcheck.specs.Judged.{HasFault}
+use Rattle.net_model.specs.Answers.{Answer, bad_input, ended, rule_broken}
+use Rattle.checked_input.specs.Input.{Handed, IsBadHanded, parts_of}
+use Rattle.history_words.specs.HistoryWords.{history_words}
+use Rattle.net_capture.specs.Capture.{capture}
+use Rattle.netview.specs.Words.{Command, Pcap, Words}
+
+-- Bad lines.
+
+-- the most bytes that an input may have, 64 MiB
+abbrev pub input_limit : ℕ
+input_limit = 67108864
+
+abbrev pub is_over : List ℕ → Bool
+is_over input = nat_lt input_limit (length input)
+
+-- the first bad line of an input and its least cause, if a line is bad: one over the limit has cause 9 at line 0
+abbrev pub IsBadOf : Bool → List ℕ → Option (ℕ × ℕ) → Type 0
+IsBadOf true input found = found ≡ Some (0, 9)
+IsBadOf false input found = IsBadHanded (parts_of input) input found
+
+abbrev pub IsFirstBad : List ℕ → Option (ℕ × ℕ) → Type 0
+IsFirstBad input found = IsBadOf (is_over input) input found
+
+-- Views.
+
+-- a text that is shown
+abbrev pub whole : List ℕ → Answer
+whole text = record { status = 0; text = text }
+
+-- the world has no medium of the name
+abbrev pub no_medium : Answer
+no_medium = record { status = 5; text = ended (codes "! no answer") }
+
+-- the number of the medium with a name, if there is one
+abbrev pub medium_named : List ℕ → List MediumSpec → Option ℕ
+medium_named name [] = None
+medium_named name (s ∷ ss) = if bytes_eq s.name name then Some s.number else medium_named name ss
+
+-- the capture of one medium, if there is one
+abbrev pub capture_on : Option ℕ → World → List Entry → Answer
+capture_on None w h = no_medium
+capture_on (Some medium) w h = whole (capture w h (Some medium))
+
+abbrev pub view : Command → World → List Entry → Answer
+view (Pcap None) w h = whole (capture w h None)
+view (Pcap (Some name)) w h = capture_on (medium_named name w.media) w h
+view Words w h = whole (history_words w h)
+
+-- Answers.
+
+-- what is shown of a legal and timed history, or the first stamp that breaks a rule and the least rule there
+pub record IsShown (asked : Command) (w : World) (h : List Entry) (answer : Answer) : Type 0 where
+  pub kept : IsLegal w h → IsTimed w h → answer ≡ view asked w h
+  pub broken : (stamp rule : ℕ) → HasFault w h stamp rule → answer ≡ rule_broken stamp rule
+  -- and one of both it is
+  pub judged : (IsLegal w h × IsTimed w h) ⊎ ((stamp : ℕ) × (rule : ℕ) × HasFault w h stamp rule)
+
+-- so of what an input hands in
+abbrev pub IsShownOf : Command → List ℕ → Answer → Type 0
+IsShownOf asked input answer = (handed : Handed input) → IsShown asked handed.world handed.history answer
+
+-- an answer to an input with this first bad line, or without one, which hands something in
+abbrev pub IsGiven : Option (ℕ × ℕ) → Command → List ℕ → Answer → Type 0
+IsGiven None asked input answer = Handed input × IsShownOf asked input answer
+IsGiven (Some bad) asked input answer = answer ≡ bad_input bad.0 bad.1
+
+-- an answer to a command and its input
+pub record IsAnswer (asked : Command) (input : List ℕ) (answer : Answer) : Type 0 where
+  pub found : Option (ℕ × ℕ)
+  pub first : IsFirstBad input found
+  -- and no other line is the first bad one
+  pub only : (other : Option (ℕ × ℕ)) → IsFirstBad input other → other ≡ found
+  pub given : IsGiven found asked input answer

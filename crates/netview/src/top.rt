@@ -1,0 +1,92 @@
+//! The top call: words and an input in, a status and a text out.
+ghost use Rattle.std.specs.Prelude.{◌≡◌, ◌≢◌, ◌≤◌, ◌+◌, map, string_bytes, Err, None, Some};
+ghost use Rattle.netview.specs.Commands.{command_read};
+ghost use Rattle.command_line.specs.Calls.{Intake};
+ghost use Rattle.netview.specs.Ends.{Causes, Ends, IsAnswered, most_reads};
+ghost use Rattle.netview.specs.Words.{Command as AnyCommand, command_of};
+
+use crate::answer::{Answer, READ_FAULT, TOO_LONG, USAGE};
+use crate::command::{Command, read_words};
+use crate::view::answer_over;
+use command_line::tell;
+use outside::{Sink, Source, SureSink, SureSource, TakeError, read_to_end};
+use std::alloc::Global;
+
+/// The most bytes of an input, 64 MiB.
+const INPUT_LIMIT: usize = 67108864;
+
+/// Tells why there is no answer to a command and its input. One over the limit is answered as a bad one.
+fn tell_error<K: Sink>(sink: &mut K, error: TakeError) -> u8
+    ensures { (asked : AnyCommand) (intake : Intake) → IsAnswered asked intake (Err error) → Ends (Some asked) result intake
+        (record { held = K.held sink.old; holds = K.held sink.new; before = K.faults sink.old; after = K.faults sink.new }) }
+{
+    match error {
+        TakeError::TooLarge => tell(sink, 2, TOO_LONG.as_bytes()),
+        TakeError::Failed => tell(sink, 6, READ_FAULT.as_bytes()),
+        TakeError::Memory => 8,
+    }
+}
+
+/// Tells what became of a command and its input.
+fn tell_answer<K: Sink>(sink: &mut K, answered: Result<Answer, TakeError>) -> u8
+    ensures { (asked : AnyCommand) (intake : Intake) → IsAnswered asked intake answered → Ends (Some asked) result intake
+        (record { held = K.held sink.old; holds = K.held sink.new; before = K.faults sink.old; after = K.faults sink.new }) }
+{
+    match answered {
+        Ok(answer) => tell(sink, answer.status(), answer.text()),
+        Err(error) => tell_error(sink, error),
+    }
+}
+
+/// Reads the input of a command, and makes the answer.
+fn read_and_answer<S: Source>(
+    alloc: Global,
+    command: Command<'_>,
+    source: &mut S,
+) -> Result<Answer, TakeError>
+    ensures answered { IsAnswered (command_read command.entry)
+        (record { left = S.left source.old; rest = S.left source.new; before = S.faults source.old; after = S.faults source.new }) result }
+    ensures reads { S.reads source.new ≤ S.reads source.old + most_reads (Some (command_read command.entry)) }
+{
+    let input = read_to_end(alloc, source, INPUT_LIMIT)?;
+    Ok(answer_over(alloc, command, input.as_slice())?)
+}
+
+/// Does the command of these words, and gives the status that the call ends with.
+pub fn netview<S: Source, K: Sink>(
+    alloc: Global,
+    words: &[String],
+    source: &mut S,
+    sink: &mut K,
+) -> u8
+    ensures ends { Ends (command_of (map string_bytes words.now)) result
+        (record { left = S.left source.old; rest = S.left source.new; before = S.faults source.old; after = S.faults source.new })
+        (record { held = K.held sink.old; holds = K.held sink.new; before = K.faults sink.old; after = K.faults sink.new }) }
+    ensures causes { Causes (command_of (map string_bytes words.now)) result
+        (record { left = S.left source.old; rest = S.left source.new; before = S.faults source.old; after = S.faults source.new })
+        (record { held = K.held sink.old; holds = K.held sink.new; before = K.faults sink.old; after = K.faults sink.new }) }
+    ensures reads { S.reads source.new ≤ S.reads source.old + most_reads (command_of (map string_bytes words.now)) }
+{
+    match read_words(words) {
+        Some(command) => tell_answer(sink, read_and_answer(alloc, command, source)),
+        None => tell(sink, 1, USAGE.as_bytes()),
+    }
+}
+
+/// Does the command of these words over a source and a sink that never fail.
+pub fn show_surely(
+    alloc: Global,
+    words: &[String],
+    source: &mut SureSource,
+    sink: &mut SureSink,
+) -> u8
+    ensures ends { Ends (command_of (map string_bytes words.now)) result
+        (record { left = Some source.old; rest = Some source.new; before = 0; after = 0 })
+        (record { held = None; holds = None; before = 0; after = 0 }) }
+    ensures causes { Causes (command_of (map string_bytes words.now)) result
+        (record { left = Some source.old; rest = Some source.new; before = 0; after = 0 })
+        (record { held = None; holds = None; before = 0; after = 0 }) }
+    ensures surely { (result ≢ 6) × (result ≢ 7) }
+{
+    netview(alloc, words, source, sink)
+}

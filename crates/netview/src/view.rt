@@ -1,0 +1,71 @@
+//! What each command shows of an input.
+ghost use Rattle.std.specs.Prelude.{◌≡◌, ◌≤◌, IfOk, length};
+ghost use Rattle.net_base.specs.Legal.{IsLegal, IsTimed};
+ghost use Rattle.net_base.specs.World.{IsWorld};
+ghost use Rattle.netview.specs.Commands.{command_read};
+ghost use Rattle.netview.specs.Views.{IsAnswer, input_limit, medium_named, view};
+
+use crate::answer::Answer;
+use crate::command::Command;
+use checked_input::{CheckedInput, InputError, check_input};
+use history_laws::a_fault_is_not_legal;
+use history_words::words_of;
+use net_base::{History, World};
+use net_capture::capture_of;
+use netcheck::a_fault_is_one;
+use std::alloc::{AllocError, Global};
+use std::mem;
+
+/// The answer to a command and its input.
+pub fn answer_over(alloc: Global, command: Command<'_>, input: &[u8]) -> Result<Answer, AllocError>
+    requires { length input.now ≤ input_limit }
+    ensures { IfOk result (λ answer. IsAnswer (command_read command.entry) input.now answer) }
+{
+    a_fault_is_one();
+    a_fault_is_not_legal();
+    match check_input(alloc, input) {
+        Ok(read) => {
+            let answer = show(alloc, command, &read.world, &read.history);
+            // the program ends behind its one answer, and gives back all memory at once
+            mem::forget(read);
+            answer
+        }
+        Err(InputError::Bad { line, cause }) => Answer::bad_input(alloc, line, cause),
+        Err(InputError::Fault { stamp, rule }) => Answer::rule_broken(alloc, stamp, rule),
+        Err(InputError::Memory) => Err(AllocError),
+    }
+}
+
+/// What a command shows of a legal and timed history of a world.
+fn show(
+    alloc: Global,
+    command: Command<'_>,
+    world: &World,
+    history: &History,
+) -> Result<Answer, AllocError>
+    requires world { IsWorld world.now }
+    requires legal { IsLegal world.now history.now }
+    requires timed { IsTimed world.now history.now }
+    ensures { IfOk result (λ answer. answer ≡ view (command_read command.entry) world.now history.now) }
+{
+    match command {
+        Command::Capture => Ok(Answer::whole(capture_of(alloc, world, history, None)?)),
+        Command::CaptureOf(name) => match medium_named(world, name) {
+            Some(medium) => Ok(Answer::whole(capture_of(alloc, world, history, Some(medium))?)),
+            None => Answer::no_medium(alloc),
+        },
+        Command::Words => Ok(Answer::whole(words_of(alloc, world, history)?)),
+    }
+}
+
+/// The number of the medium with a name.
+fn medium_named(world: &World, name: &[u8]) -> Option<u32>
+    ensures { result ≡ medium_named name.now world.now.media }
+{
+    for medium in world.media.as_slice() {
+        if medium.name.as_slice() == name {
+            return Some(medium.number);
+        }
+    }
+    None
+}
