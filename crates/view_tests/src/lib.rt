@@ -1,0 +1,7 @@
+//! Steps and notes of small worlds, as whole texts.
+#![tactic(auto)]
+
+#[cfg(test)]
+mod notes;
+#[cfg(test)]
+mod steps;
