@@ -7,6 +7,7 @@ use il_machine::Ask::Wait;
 use net_base::Cause;
 use net_base::IlKind::{Ack, Close, Sync};
 use net_base::IlState::{Closed, Closing, Established, Listening, Syncee, Syncer};
+use std::alloc::AllocError;
 use std::test::*;
 
 const FAR_CLOSE: &[Row] = &[
@@ -25,9 +26,8 @@ const FAR_CLOSE: &[Row] = &[
 ];
 
 #[test]
-fn the_far_end_closes_first(rt: HostRuntime) -> Result<(), Fail> {
-    plays(&rt, rt.alloc(), &[FAR_CLOSE])?;
-    Ok(())
+fn the_far_end_closes_first(rt: HostRuntime) -> Result<(), AllocError> {
+    plays(&rt, rt.alloc(), &[FAR_CLOSE])
 }
 
 const REFUSAL: &[Row] = &[
@@ -45,9 +45,8 @@ const REFUSAL: &[Row] = &[
 ];
 
 #[test]
-fn a_sync_is_refused(rt: HostRuntime) -> Result<(), Fail> {
-    plays(&rt, rt.alloc(), &[REFUSAL])?;
-    Ok(())
+fn a_sync_is_refused(rt: HostRuntime) -> Result<(), AllocError> {
+    plays(&rt, rt.alloc(), &[REFUSAL])
 }
 
 const HANGUPS: &[Row] = &[
@@ -66,9 +65,8 @@ const HANGUPS: &[Row] = &[
 ];
 
 #[test]
-fn an_end_is_hung_up_in_every_state(rt: HostRuntime) -> Result<(), Fail> {
-    plays(&rt, rt.alloc(), &[HANGUPS])?;
-    Ok(())
+fn an_end_is_hung_up_in_every_state(rt: HostRuntime) -> Result<(), AllocError> {
+    plays(&rt, rt.alloc(), &[HANGUPS])
 }
 
 const ANNOUNCED: &[Row] = &[
@@ -81,7 +79,6 @@ const ANNOUNCED: &[Row] = &[
 ];
 
 #[test]
-fn an_announced_end_is_hung_up(rt: HostRuntime) -> Result<(), Fail> {
-    plays(&rt, rt.alloc(), &[ANNOUNCED])?;
-    Ok(())
+fn an_announced_end_is_hung_up(rt: HostRuntime) -> Result<(), AllocError> {
+    plays(&rt, rt.alloc(), &[ANNOUNCED])
 }

@@ -2,7 +2,7 @@
 use super::Deed::*;
 use super::Said::*;
 use super::Side::*;
-use super::{Ends, Row, play, step, written};
+use super::{Ends, Row, play};
 use il_machine::Ask::{Read as ToRead, Write as ToWrite};
 use net_base::IlKind::{Ack, DataQuery, State, Sync};
 use net_base::IlState::Established;
@@ -20,10 +20,21 @@ enum Limit {
 
 fn fill<R: Abort>(rt: &R, alloc: Global, limit: Limit) -> Result<(), AllocError> {
     let mut ends = Ends::fresh(alloc)?;
+    let filled = fill_ends(rt, alloc, &mut ends, limit);
+    drop(ends);
+    filled
+}
+
+fn fill_ends<R: Abort>(
+    rt: &R,
+    alloc: Global,
+    ends: &mut Ends,
+    limit: Limit,
+) -> Result<(), AllocError> {
     match limit {
-        Limit::Window => fill_the_window(rt, alloc, &mut ends),
-        Limit::Room => fill_the_room(rt, alloc, &mut ends),
-        Limit::Early => come_early(rt, alloc, &mut ends),
+        Limit::Window => fill_the_window(rt, alloc, ends),
+        Limit::Room => fill_the_room(rt, alloc, ends),
+        Limit::Early => come_early(rt, alloc, ends),
     }
 }
 
@@ -42,18 +53,22 @@ const FULL_WINDOW: &[Row] = &[
     (Near, 40, Ask(ToWrite, true), Quiet),
 ];
 
+/// A message is written, with this id.
+const fn wrote(id: u32) -> Row {
+    (Near, 20, Write(b"x"), Data(id, 100, b"x"))
+}
+
 fn fill_the_window<R: Abort>(rt: &R, alloc: Global, ends: &mut Ends) -> Result<(), AllocError> {
     play(rt, alloc, ends, CONNECTED)?;
-    for _ in 0..20 {
-        let _ = written(rt, &mut ends.near, 20, b"x")?;
+    for k in 2..22 {
+        play(rt, alloc, ends, &[wrote(k)])?;
     }
     play(rt, alloc, ends, FULL_WINDOW)
 }
 
 #[test]
-fn twenty_messages_may_be_unacknowledged(rt: HostRuntime) -> Result<(), Fail> {
-    fill(&rt, rt.alloc(), Limit::Window)?;
-    Ok(())
+fn twenty_messages_may_be_unacknowledged(rt: HostRuntime) -> Result<(), AllocError> {
+    fill(&rt, rt.alloc(), Limit::Window)
 }
 
 const BORN: &[Row] = &[(Near, 0, Born(100, 1), Bare(Sync, 100, 1))];
@@ -84,15 +99,14 @@ const FULL_ROOM: &[Row] = &[
 fn fill_the_room<R: Abort>(rt: &R, alloc: Global, ends: &mut Ends) -> Result<(), AllocError> {
     play(rt, alloc, ends, BORN)?;
     for k in 2..66 {
-        step(rt, alloc, &mut ends.near, &came(k, k))?;
+        play(rt, alloc, ends, &[came(k, k)])?;
     }
     play(rt, alloc, ends, FULL_ROOM)
 }
 
 #[test]
-fn sixty_four_messages_may_be_unread(rt: HostRuntime) -> Result<(), Fail> {
-    fill(&rt, rt.alloc(), Limit::Room)?;
-    Ok(())
+fn sixty_four_messages_may_be_unread(rt: HostRuntime) -> Result<(), AllocError> {
+    fill(&rt, rt.alloc(), Limit::Room)
 }
 
 const IN_TURN: &[Row] = &[
@@ -108,13 +122,12 @@ const IN_TURN: &[Row] = &[
 fn come_early<R: Abort>(rt: &R, alloc: Global, ends: &mut Ends) -> Result<(), AllocError> {
     play(rt, alloc, ends, BORN)?;
     for k in 3..22 {
-        step(rt, alloc, &mut ends.near, &came(24 - k, 1))?;
+        play(rt, alloc, ends, &[came(24 - k, 1)])?;
     }
     play(rt, alloc, ends, IN_TURN)
 }
 
 #[test]
-fn nineteen_messages_may_be_early(rt: HostRuntime) -> Result<(), Fail> {
-    fill(&rt, rt.alloc(), Limit::Early)?;
-    Ok(())
+fn nineteen_messages_may_be_early(rt: HostRuntime) -> Result<(), AllocError> {
+    fill(&rt, rt.alloc(), Limit::Early)
 }

@@ -21,16 +21,15 @@ const NUMBERS: &[(u32, u32, u32, Option<u64>)] = &[
 #[test]
 fn numbers_wrap_round(rt: HostRuntime) {
     for (start, id, passed, want) in NUMBERS {
-        assert_eq!(rt;
-            number(*start, *id, u64::from(*passed)),
-            *want,
+        assert!(rt;
+            number(*start, *id, u64::from(*passed)) == *want,
             "{id} after {start}"
         );
     }
 }
 
 /// What becomes of a message.
-#[derive(Clone, Copy, Debug, PartialEq, Eq)]
+#[derive(Clone, Copy, PartialEq, Eq)]
 enum Fate {
     Kept,
     /// It comes back as it was.
@@ -66,40 +65,40 @@ fn fill_unacked(alloc: Global, unacked: &mut Unacked) -> Result<usize, AllocErro
     Ok(unacked.len())
 }
 
-#[test]
-fn twenty_messages_wait_for_their_ack(rt: HostRuntime) -> Result<(), Fail> {
-    let mut unacked = Unacked::new(rt.alloc())?;
+/// Whether twenty messages are kept, and one more comes back.
+fn takes_twenty(alloc: Global, unacked: &mut Unacked) -> Result<bool, AllocError> {
     let empty = unacked.is_empty();
-    let kept = fill_unacked(rt.alloc(), &mut unacked);
+    let kept = fill_unacked(alloc, unacked)? == 20;
     let full = unacked.is_full();
-    let fate = wait_for_ack(rt.alloc(), &mut unacked, b"more");
-    assert_eq!(rt;
-        (empty, kept, full, fate),
-        (true, Ok(20), true, Ok(Fate::Back))
-    );
+    let back = wait_for_ack(alloc, unacked, b"more")? == Fate::Back;
+    Ok(empty && kept && full && back)
+}
+
+#[test]
+fn twenty_messages_wait_for_their_ack(rt: HostRuntime) -> Result<(), AllocError> {
+    let mut unacked = Unacked::new(rt.alloc())?;
+    assert!(rt; takes_twenty(rt.alloc(), &mut unacked) == Ok(true));
+    drop(unacked);
     Ok(())
 }
 
-/// What is first before and after one of two messages is acknowledged, if both are kept.
-fn first_is_acknowledged(
-    alloc: Global,
-    unacked: &mut Unacked,
-) -> Result<Option<(bool, bool)>, AllocError> {
+/// Whether two messages are kept, and the second is first once one is acknowledged.
+fn first_is_acknowledged(alloc: Global, unacked: &mut Unacked) -> Result<bool, AllocError> {
     let before = unacked.first().is_none();
     let first = wait_for_ack(alloc, unacked, b"a")?;
     let second = wait_for_ack(alloc, unacked, b"b")?;
     if first != Fate::Kept || second != Fate::Kept || unacked.len() != 2 {
-        return Ok(None);
+        return Ok(false);
     }
     unacked.drop_first(1);
-    Ok(Some((before, unacked.first() == Some(b"b".as_slice()))))
+    Ok(before && unacked.first() == Some(b"b".as_slice()))
 }
 
 #[test]
-fn acknowledged_messages_go(rt: HostRuntime) -> Result<(), Fail> {
+fn acknowledged_messages_go(rt: HostRuntime) -> Result<(), AllocError> {
     let mut unacked = Unacked::new(rt.alloc())?;
-    let told = first_is_acknowledged(rt.alloc(), &mut unacked);
-    assert_eq!(rt; told, Ok(Some((true, true))));
+    assert!(rt; first_is_acknowledged(rt.alloc(), &mut unacked) == Ok(true));
+    drop(unacked);
     Ok(())
 }
 
@@ -113,34 +112,50 @@ fn reads(unread: &mut Unread, count: usize, bytes: &[u8]) -> Result<bool, AllocE
     requires { 0 < count }
 {
     let seen = unread.peek(count) == bytes;
-    match unread.read(count)? {
-        Some(text) => Ok(seen && text.as_slice() == bytes),
-        None => Ok(false),
+    let read = unread.read(count)?;
+    let given = is_given(&read, bytes);
+    drop(read);
+    Ok(seen && given)
+}
+
+fn is_given(read: &Option<Octets>, bytes: &[u8]) -> bool {
+    match read {
+        Some(text) => text.as_slice() == bytes,
+        None => false,
     }
 }
 
 /// Whether two messages are kept, and each is read as far as it goes.
-fn reads_pieces(alloc: Global, unread: &mut Unread) -> Result<[bool; 4], AllocError> {
+fn reads_pieces(alloc: Global, unread: &mut Unread) -> Result<bool, AllocError> {
     let first = wait_for_reader(alloc, unread, b"hello")? == Fate::Kept;
     let second = wait_for_reader(alloc, unread, b"again")? == Fate::Kept;
     let front = reads(unread, 2, b"he")? && unread.len() == 2;
     let rest = reads(unread, 8192, b"llo")? && reads(unread, 5, b"again")?;
-    Ok([first, second, front, rest])
+    Ok(first && second && front && rest)
 }
 
 #[test]
-fn messages_are_read_piece_by_piece(rt: HostRuntime) -> Result<(), Fail> {
+fn messages_are_read_piece_by_piece(rt: HostRuntime) -> Result<(), AllocError> {
     let mut unread = Unread::new(rt.alloc())?;
-    let told = reads_pieces(rt.alloc(), &mut unread);
-    assert_eq!(rt; told, Ok([true; 4]));
+    assert!(rt; reads_pieces(rt.alloc(), &mut unread) == Ok(true));
+    drop(unread);
     Ok(())
 }
 
+/// Whether nothing is there to be read, and is read.
+fn reads_nothing(unread: &mut Unread) -> Result<bool, AllocError> {
+    let seen = unread.is_empty() && unread.peek(5).len() == 0;
+    let read = unread.read(5)?;
+    let nothing = read.is_none();
+    drop(read);
+    Ok(seen && nothing)
+}
+
 #[test]
-fn nothing_is_read_where_nothing_waits(rt: HostRuntime) -> Result<(), Fail> {
+fn nothing_is_read_where_nothing_waits(rt: HostRuntime) -> Result<(), AllocError> {
     let mut unread = Unread::new(rt.alloc())?;
-    let seen = (unread.is_empty(), unread.peek(5).len());
-    assert_eq!(rt; (seen, unread.read(5)), ((true, 0), Ok(None)));
+    assert!(rt; reads_nothing(&mut unread) == Ok(true));
+    drop(unread);
     Ok(())
 }
 
@@ -154,13 +169,19 @@ fn fill_unread(alloc: Global, unread: &mut Unread) -> Result<usize, AllocError> 
     Ok(unread.len())
 }
 
+/// Whether 64 messages are kept, one more comes back, and the first is read.
+fn takes_sixty_four(alloc: Global, unread: &mut Unread) -> Result<bool, AllocError> {
+    let kept = fill_unread(alloc, unread)? == 64;
+    let back = wait_for_reader(alloc, unread, b"more")? == Fate::Back;
+    let first = reads(unread, 1, &[0])?;
+    Ok(kept && back && first)
+}
+
 #[test]
-fn sixty_four_messages_wait_for_a_reader(rt: HostRuntime) -> Result<(), Fail> {
+fn sixty_four_messages_wait_for_a_reader(rt: HostRuntime) -> Result<(), AllocError> {
     let mut unread = Unread::new(rt.alloc())?;
-    let kept = fill_unread(rt.alloc(), &mut unread);
-    let fate = wait_for_reader(rt.alloc(), &mut unread, b"more");
-    let first = reads(&mut unread, 1, &[0]);
-    assert_eq!(rt; (kept, fate, first), (Ok(64), Ok(Fate::Back), Ok(true)));
+    assert!(rt; takes_sixty_four(rt.alloc(), &mut unread) == Ok(true));
+    drop(unread);
     Ok(())
 }
 
@@ -233,8 +254,8 @@ fn first_wrong(alloc: Global, early: &mut Early) -> Result<Option<usize>, AllocE
 #[test]
 fn early_messages_go_out_by_number(rt: HostRuntime) {
     let mut early = Early::new();
-    let wrong = first_wrong(rt.alloc(), &mut early);
-    assert_eq!(rt; wrong, Ok(None));
+    assert_eq!(rt; first_wrong(rt.alloc(), &mut early), Ok(None));
+    drop(early);
 }
 
 /// How many early messages of one byte are kept, each another.
@@ -253,7 +274,8 @@ fn twenty_messages_can_be_early(rt: HostRuntime) {
     let full = fill_early(rt.alloc(), &mut early);
     let last = takes(&mut early, 19, &[19]);
     let first = takes(&mut early, 0, &[0]);
-    assert_eq!(rt; (full, last, first, early.len()), (Ok(20), true, true, 18));
+    assert!(rt; full == Ok(20) && last && first && early.len() == 18);
+    drop(early);
 }
 
 /// Whether a tick at a moment says so, and leaves so much due.
@@ -301,8 +323,7 @@ fn an_ack_starts_the_wait_anew(rt: HostRuntime) {
     timer.start(800);
     timer.stop();
     let still = ticks(&mut timer, 99999, Tick::NotDue, None);
-    assert_eq!(rt;
-        (again, heard, waits, interval, idle, still),
-        (true, 600, Some(1100), 500, None, true)
+    assert!(rt;
+        (again, heard, waits, interval, idle, still) == (true, 600, Some(1100), 500, None, true)
     );
 }

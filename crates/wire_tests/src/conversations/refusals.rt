@@ -1,6 +1,7 @@
 //! What waits, and what is refused.
 use super::rows::{CONNECTING, CONNECTING_538, Deed, NOTHING, Row, Sent, Told, plays};
 use net_base::{IlKind, Proto, StateName};
+use std::alloc::AllocError;
 use std::test::*;
 
 const UNUSED: &[Row] = &[
@@ -42,9 +43,8 @@ const UNUSED: &[Row] = &[
 ];
 
 #[test]
-fn an_unused_conversation_waits_to_be_used(rt: HostRuntime) -> Result<(), Fail> {
-    plays(&rt, rt.alloc(), Proto::Il, 3, &[UNUSED])?;
-    Ok(())
+fn an_unused_conversation_waits_to_be_used(rt: HostRuntime) -> Result<(), AllocError> {
+    plays(&rt, rt.alloc(), Proto::Il, 3, &[UNUSED])
 }
 
 const BEFORE: &[Row] = &[(
@@ -91,10 +91,9 @@ const SHORT_WRITES: &[Row] = &[
 ];
 
 #[test]
-fn writes_are_refused_as_worked(rt: HostRuntime) -> Result<(), Fail> {
+fn writes_are_refused_as_worked(rt: HostRuntime) -> Result<(), AllocError> {
     let alloc = rt.alloc();
     plays(&rt, alloc, Proto::Il, 3, &[BEFORE, CONNECTING, WRITES])?;
     // a medium whose mtu is 576 leaves 538 bytes
-    plays(&rt, alloc, Proto::Il, 3, &[CONNECTING_538, SHORT_WRITES])?;
-    Ok(())
+    plays(&rt, alloc, Proto::Il, 3, &[CONNECTING_538, SHORT_WRITES])
 }

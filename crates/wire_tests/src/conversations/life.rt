@@ -1,6 +1,7 @@
 //! How conversations begin, listen, are born and end.
 use super::rows::{CONNECTING, Came, Deed, NOTHING, Row, SYNC, Sent, Told, plays};
 use net_base::{Cause, FileName, IlKind, Proto, StateName};
+use std::alloc::AllocError;
 use std::test::*;
 
 const SECOND_LIFE: &[Row] = &[
@@ -79,15 +80,14 @@ const STALE: &[Row] = &[
 ];
 
 #[test]
-fn a_second_life_knows_nothing_of_the_first(rt: HostRuntime) -> Result<(), Fail> {
+fn a_second_life_knows_nothing_of_the_first(rt: HostRuntime) -> Result<(), AllocError> {
     plays(
         &rt,
         rt.alloc(),
         Proto::Il,
         3,
         &[CONNECTING, SECOND_LIFE, STALE],
-    )?;
-    Ok(())
+    )
 }
 
 const LISTENS: &[Row] = &[
@@ -211,9 +211,8 @@ const IL_BORN: &[Row] = &[
 ];
 
 #[test]
-fn an_il_conversation_listens_and_is_born(rt: HostRuntime) -> Result<(), Fail> {
-    plays(&rt, rt.alloc(), Proto::Il, 3, &[LISTENS, IL_BORN])?;
-    Ok(())
+fn an_il_conversation_listens_and_is_born(rt: HostRuntime) -> Result<(), AllocError> {
+    plays(&rt, rt.alloc(), Proto::Il, 3, &[LISTENS, IL_BORN])
 }
 
 const UDP_BORN: &[Row] = &[
@@ -263,7 +262,6 @@ const UDP_BORN: &[Row] = &[
 ];
 
 #[test]
-fn a_udp_conversation_listens_and_is_born(rt: HostRuntime) -> Result<(), Fail> {
-    plays(&rt, rt.alloc(), Proto::Udp, 0, &[UDP_BORN])?;
-    Ok(())
+fn a_udp_conversation_listens_and_is_born(rt: HostRuntime) -> Result<(), AllocError> {
+    plays(&rt, rt.alloc(), Proto::Udp, 0, &[UDP_BORN])
 }

@@ -1,6 +1,7 @@
 //! A run that meets every answer of a UDP end.
 use net_base::{Octets, StateName};
 use std::alloc::{AllocError, Global};
+use std::process::Abort;
 use std::test::*;
 use udp_core::{HungupError, MOST_UNREAD, UdpEnd};
 
@@ -47,18 +48,24 @@ fn keeps(alloc: Global, end: &mut UdpEnd, bytes: &[u8], kept: bool) -> Result<bo
     }
 }
 
+fn is_given(read: &Result<Octets, HungupError>, bytes: Option<&[u8]>) -> Result<bool, AllocError> {
+    match (read, bytes) {
+        (Ok(text), Some(bytes)) => Ok(text.as_slice() == bytes),
+        (Err(HungupError::Hungup), None) => Ok(true),
+        (Err(HungupError::Memory), _) => Err(AllocError),
+        _ => Ok(false),
+    }
+}
+
 /// Whether a read gives these bytes, or is refused for a hangup where there are none.
 fn reads(end: &mut UdpEnd, count: usize, bytes: Option<&[u8]>) -> Result<bool, AllocError> {
     if !end.ready_read() {
         return Ok(false);
     }
     let read = end.read(count);
-    match (&read, bytes) {
-        (Ok(text), Some(bytes)) => Ok(text.as_slice() == bytes),
-        (Err(HungupError::Hungup), None) => Ok(true),
-        (Err(HungupError::Memory), _) => Err(AllocError),
-        _ => Ok(false),
-    }
+    let given = is_given(&read, bytes);
+    drop(read);
+    given
 }
 
 /// Makes the call. The answer is whether it comes to what it says.
@@ -95,7 +102,14 @@ fn first_wrong(
 /// The same at an end that begins so.
 fn wrong_at(alloc: Global, how: Begin, deeds: &[Deed]) -> Result<Option<usize>, AllocError> {
     let mut end = begun(alloc, how)?;
-    first_wrong(alloc, &mut end, deeds)
+    let wrong = first_wrong(alloc, &mut end, deeds);
+    drop(end);
+    wrong
+}
+
+/// No call is wrong.
+fn none_wrong(rt: &impl Abort, wrong: Result<Option<usize>, AllocError>) {
+    assert_eq!(rt; wrong, Ok(None));
 }
 
 const READ_ONCE: &[Deed] = &[
@@ -117,10 +131,8 @@ const READ_ONCE: &[Deed] = &[
 ];
 
 #[test]
-fn a_datagram_is_read_once(rt: HostRuntime) -> Result<(), Fail> {
-    let wrong = wrong_at(rt.alloc(), Begin::Fresh, READ_ONCE)?;
-    assert_eq!(rt; wrong, None);
-    Ok(())
+fn a_datagram_is_read_once(rt: HostRuntime) {
+    none_wrong(&rt, wrong_at(rt.alloc(), Begin::Fresh, READ_ONCE));
 }
 
 const FULL: &[Deed] = &[
@@ -168,15 +180,17 @@ fn filled(alloc: Global, end: &mut UdpEnd) -> Result<[Option<usize>; 4], AllocEr
 
 fn filled_one(alloc: Global) -> Result<[Option<usize>; 4], AllocError> {
     let mut end = begun(alloc, Begin::Connected)?;
-    filled(alloc, &mut end)
+    let told = filled(alloc, &mut end);
+    drop(end);
+    told
 }
 
+const OPEN: &[Deed] = &[Deed::Look(StateName::Open)];
+
 #[test]
-fn a_hung_up_end_takes_no_more(rt: HostRuntime) -> Result<(), Fail> {
-    let open = wrong_at(rt.alloc(), Begin::Connected, &[Deed::Look(StateName::Open)])?;
-    let told = filled_one(rt.alloc())?;
-    assert_eq!(rt; (open, told), (None, [Some(64), None, Some(64), None]));
-    Ok(())
+fn a_hung_up_end_takes_no_more(rt: HostRuntime) {
+    none_wrong(&rt, wrong_at(rt.alloc(), Begin::Connected, OPEN));
+    assert!(rt; filled_one(rt.alloc()) == Ok([Some(64), None, Some(64), None]));
 }
 
 const ANNOUNCED: &[Deed] = &[
@@ -186,8 +200,6 @@ const ANNOUNCED: &[Deed] = &[
 ];
 
 #[test]
-fn an_announced_end_listens(rt: HostRuntime) -> Result<(), Fail> {
-    let wrong = wrong_at(rt.alloc(), Begin::Announced, ANNOUNCED)?;
-    assert_eq!(rt; wrong, None);
-    Ok(())
+fn an_announced_end_listens(rt: HostRuntime) {
+    none_wrong(&rt, wrong_at(rt.alloc(), Begin::Announced, ANNOUNCED));
 }

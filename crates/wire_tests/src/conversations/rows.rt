@@ -57,7 +57,7 @@ pub enum Came {
 }
 
 /// What is replied.
-#[derive(Clone, Copy, Debug, PartialEq, Eq)]
+#[derive(Clone, Copy)]
 pub enum Told {
     Waits,
     Ok,
@@ -82,7 +82,7 @@ pub enum Told {
 }
 
 /// What is emitted: the kind, id and ack of an IL message, or the length of a datagram, and the ttl.
-#[derive(Clone, Copy, Debug, PartialEq, Eq)]
+#[derive(Clone, Copy, PartialEq, Eq)]
 pub enum Sent {
     Nothing,
     Il(IlKind, u32, u32, u8),
@@ -225,37 +225,57 @@ fn is_ready(conv: &Conv, now: u64, work: &Work) -> bool
     conv.ready(work)
 }
 
-// The outcome of a work, if it is ready.
-fn done(
-    rt: &impl Abort,
-    conv: &mut Conv,
-    now: u64,
-    work: &Work,
-) -> Result<Option<Outcome>, AllocError> {
-    assert!(rt; now < 1 << 62);
-    assert!(rt; conv.is_short());
-    if !is_ready(conv, now, work) {
-        return Ok(None);
+// Whether an outcome is what the row says.
+fn is_so(outcome: &Outcome, row: &Row) -> bool {
+    let (_, _, told, sends, ends) = *row;
+    (sent_in(&outcome.emit), outcome.ended) == (sends, ends) && is_told(&outcome.reply, told)
+}
+
+// Whether a work waits, or comes to an outcome, as the row says.
+fn comes_so(conv: &mut Conv, work: &Work, row: &Row) -> Result<bool, AllocError> {
+    let (now, _, told, _, _) = *row;
+    if now >= 1 << 62 || !conv.is_short() {
+        return Ok(false);
     }
-    Ok(Some(conv.step(now, work)?))
+    if !is_ready(conv, now, work) {
+        return Ok(matches!(told, Told::Waits));
+    }
+    let outcome = conv.step(now, work)?;
+    let so = is_so(&outcome, row);
+    drop(outcome);
+    Ok(so)
 }
 
 fn work_of(alloc: Global, deed: Deed) -> Result<Work, AllocError> {
-    let event = event_of(alloc, deed)?;
     let with = with_of(alloc, deed)?;
-    Ok(Work { event, with })
+    match event_of(alloc, deed) {
+        Ok(event) => Ok(Work { event, with }),
+        Err(error) => {
+            drop(with);
+            Err(error)
+        }
+    }
 }
 
 // Makes the call of a row. The answer is whether it comes to what the row says.
-fn is_met(rt: &impl Abort, alloc: Global, conv: &mut Conv, row: &Row) -> Result<bool, AllocError> {
-    let (now, deed, told, sends, ends) = *row;
-    let work = work_of(alloc, deed)?;
-    match done(rt, conv, now, &work)? {
-        None => Ok(told == Told::Waits),
-        Some(outcome) => {
-            let rest = (sent_in(&outcome.emit), outcome.ended) == (sends, ends);
-            Ok(rest && is_told(&outcome.reply, told))
-        }
+fn is_met(alloc: Global, conv: &mut Conv, row: &Row) -> Result<bool, AllocError> {
+    let work = work_of(alloc, row.1)?;
+    let met = comes_so(conv, &work, row);
+    drop(work);
+    met
+}
+
+fn is_due(conv: &Conv, told: Told) -> bool {
+    match told {
+        Told::Due(due) => conv.due() == due,
+        _ => false,
+    }
+}
+
+fn is_of_generation(conv: &Conv, told: Told) -> bool {
+    match told {
+        Told::Generation(generation) => conv.generation() == generation,
+        _ => false,
     }
 }
 
@@ -267,13 +287,24 @@ pub fn run(
     rows: &[Row],
 ) -> Result<(), AllocError> {
     for (i, row) in rows.iter().enumerate() {
-        let (_, deed, told, _, _) = *row;
-        let met = match deed {
-            Deed::Due => told == Told::Due(conv.due()),
-            Deed::Generation => told == Told::Generation(conv.generation()),
-            _ => is_met(rt, alloc, conv, row)?,
+        let met = match row.1 {
+            Deed::Due => is_due(conv, row.2),
+            Deed::Generation => is_of_generation(conv, row.2),
+            _ => is_met(alloc, conv, row)?,
         };
         assert!(rt; met, "row {i}");
+    }
+    Ok(())
+}
+
+fn run_all(
+    rt: &impl Abort,
+    alloc: Global,
+    conv: &mut Conv,
+    tables: &[&[Row]],
+) -> Result<(), AllocError> {
+    for rows in tables {
+        run(rt, alloc, conv, rows)?;
     }
     Ok(())
 }
@@ -287,10 +318,9 @@ pub fn plays(
     tables: &[&[Row]],
 ) -> Result<(), AllocError> {
     let mut conv = Conv::new(alloc, 0, proto, slot)?;
-    for rows in tables {
-        run(rt, alloc, &mut conv, rows)?;
-    }
-    Ok(())
+    let played = run_all(rt, alloc, &mut conv, tables);
+    drop(conv);
+    played
 }
 
 pub const SYNC: Came = Came::Il(IlKind::Sync, 500, 100, b"");

@@ -30,13 +30,14 @@ fn open_many(rt: &impl Abort, alloc: Global, conv: &mut Conv) -> Result<(), Allo
 
 fn open_many_of_one(rt: &impl Abort, alloc: Global) -> Result<(), AllocError> {
     let mut conv = Conv::new(alloc, 0, Proto::Udp, 0)?;
-    open_many(rt, alloc, &mut conv)
+    let played = open_many(rt, alloc, &mut conv);
+    drop(conv);
+    played
 }
 
 #[test]
-fn three_hundred_files_are_opened(rt: HostRuntime) -> Result<(), Fail> {
-    open_many_of_one(&rt, rt.alloc())?;
-    Ok(())
+fn three_hundred_files_are_opened(rt: HostRuntime) -> Result<(), AllocError> {
+    open_many_of_one(&rt, rt.alloc())
 }
 
 const LATE: &[Row] = &[
@@ -56,7 +57,6 @@ const LATE: &[Row] = &[
 ];
 
 #[test]
-fn what_waits_late_in_a_run(rt: HostRuntime) -> Result<(), Fail> {
-    plays(&rt, rt.alloc(), Proto::Il, 3, &[LATE])?;
-    Ok(())
+fn what_waits_late_in_a_run(rt: HostRuntime) -> Result<(), AllocError> {
+    plays(&rt, rt.alloc(), Proto::Il, 3, &[LATE])
 }
