@@ -1,4 +1,4 @@
-use Rattle.thread_tests.proofs.one_host.a_host_sends_itself_a_datagram.Given as goal
+use Rattle.thread_tests.proofs.one_host.echoes.Given as goal
 
 -- the net that was just opened
 abbrev pub ghosts-echoed-J-Naming : goal.ghosts-echoed-J-Naming
