@@ -3,7 +3,6 @@ use crate::reading::database;
 use ndb_reader::{NdbError, read_ndb, write_ndb};
 use net_base::{Db, Line, Tuple};
 use std::alloc::{AllocError, Global};
-use std::test::Fail;
 
 const LOCAL: &[u8] = b"# local network\n\
 ipnet=astro ip=135.104.0.0 ipmask=255.255.0.0\n\
@@ -50,12 +49,19 @@ fn put_tuples(db: &Db, out: &mut Vec<u8>) -> Result<(), AllocError> {
     Ok(())
 }
 
+/// Whether a database is shown so.
+fn shows(alloc: Global, db: &Db, want: &[u8]) -> Result<bool, AllocError> {
+    let mut shown = Vec::new(alloc);
+    put_tuples(db, &mut shown)?;
+    Ok(shown.as_slice() == want)
+}
+
 /// Whether a text is shown so.
 fn is_shown(alloc: Global, text: &[u8], want: &[u8]) -> Result<bool, AllocError> {
     let db = database(alloc, text)?;
-    let mut shown = Vec::new(alloc);
-    put_tuples(&db, &mut shown)?;
-    Ok(shown.as_slice() == want)
+    let shown = shows(alloc, &db, want);
+    drop(db);
+    shown
 }
 
 const SHOWN: &[u8] = b"<[ipnet=astro;ip=135.104.0.0;ipmask=255.255.0.0;][auth=bootes;]>\
@@ -67,10 +73,8 @@ const SHOWN: &[u8] = b"<[ipnet=astro;ip=135.104.0.0;ipmask=255.255.0.0;][auth=bo
 <[udp=echo;port=7;]>";
 
 #[test]
-fn the_worked_text_is_read(rt: HostRuntime) -> Result<(), Fail> {
-    let shown = is_shown(rt.alloc(), LOCAL, SHOWN)?;
-    assert!(rt; shown);
-    Ok(())
+fn the_worked_text_is_read(rt: HostRuntime) {
+    assert!(rt; is_shown(rt.alloc(), LOCAL, SHOWN) == Ok(true));
 }
 
 const WORDS: &[(&[u8], &[u8])] = &[
@@ -89,7 +93,7 @@ const WORDS: &[(&[u8], &[u8])] = &[
 ];
 
 #[test]
-fn words_are_split(rt: HostRuntime) -> Result<(), Fail> {
+fn words_are_split(rt: HostRuntime) -> Result<(), AllocError> {
     for (i, (text, want)) in WORDS.iter().enumerate() {
         let shown = is_shown(rt.alloc(), text, want)?;
         assert!(rt; shown, "row {i}");
@@ -130,26 +134,23 @@ fn are_chosen(alloc: Global) -> Result<bool, AllocError> {
 }
 
 #[test]
-fn seventy_files_are_chosen(rt: HostRuntime) -> Result<(), Fail> {
-    let chosen = are_chosen(rt.alloc())?;
-    assert!(rt; chosen);
-    Ok(())
+fn seventy_files_are_chosen(rt: HostRuntime) {
+    assert!(rt; are_chosen(rt.alloc()) == Ok(true));
 }
 
 /// Whether a database is written so.
 fn is_written(alloc: Global, text: &[u8], want: &[u8]) -> Result<bool, AllocError> {
     let db = database(alloc, text)?;
-    let written = write_ndb(alloc, &db)?;
-    Ok(written.as_slice() == want)
+    let written = write_ndb(alloc, &db);
+    drop(db);
+    Ok(written?.as_slice() == want)
 }
 
 #[test]
-fn values_with_white_space_are_quoted(rt: HostRuntime) -> Result<(), Fail> {
+fn values_with_white_space_are_quoted(rt: HostRuntime) {
     let text = b"a=\"b c\"  d\n e=\"f\" #\n g=\"#\"\nh=";
     let want = b"a=\"b c\" d=\n\te=f\n\tg=#\nh=\n";
-    let written = is_written(rt.alloc(), text, want)?;
-    assert!(rt; written);
-    Ok(())
+    assert!(rt; is_written(rt.alloc(), text, want) == Ok(true));
 }
 
 const BAD: &[(&[u8], u64, u32)] = &[
@@ -168,12 +169,19 @@ const BAD: &[(&[u8], u64, u32)] = &[
     (b"a=\"b\"#c", 1, 4),
 ];
 
-/// The line and the cause that are told of a text, where it is bad.
-fn told(alloc: Global, text: &[u8]) -> Option<(u64, u32)> {
-    match read_ndb(alloc, text) {
-        Err(NdbError::Bad { line, cause }) => Some((line, cause)),
+fn told_in(read: &Result<Db, NdbError>) -> Option<(u64, u32)> {
+    match read {
+        Err(NdbError::Bad { line, cause }) => Some((*line, *cause)),
         _ => None,
     }
+}
+
+/// The line and the cause that are told of a text, where it is bad.
+fn told(alloc: Global, text: &[u8]) -> Option<(u64, u32)> {
+    let read = read_ndb(alloc, text);
+    let told = told_in(&read);
+    drop(read);
+    told
 }
 
 #[test]

@@ -1,12 +1,11 @@
 //! The plain program and the index over many databases.
 use crate::answers::WORKED;
-use crate::reading::{database, put_lines};
+use crate::reading::{database, put_found};
 use cs_resolver::{CsError, answer, answer_indexed};
 use ndb_index::Index;
 use ndb_search::{closest, search};
 use net_base::{Db, Lines, Proto};
 use std::alloc::{AllocError, Global};
-use std::test::Fail;
 
 const ATTRS: &[&str] = &[
     "sys", "ip", "dom", "ipnet", "ipmask", "auth", "il", "udp", "port", "sys", "ip", "auth",
@@ -94,7 +93,7 @@ fn put_tuples(seed: u32, text: &mut Vec<u8>) -> Result<(), AllocError> {
 /// Adds the lines with a newline after each, or the error's number.
 fn put_answer(answer: Result<Lines, CsError>, text: &mut Vec<u8>) -> Result<(), AllocError> {
     match answer {
-        Ok(lines) => put_lines(&lines, text),
+        Ok(lines) => put_found(lines, text),
         Err(error) => {
             text.push(error.number() as u8)?;
             Ok(())
@@ -122,8 +121,7 @@ fn put_indexed(
 }
 
 fn put_closest(alloc: Global, db: &Db, attr: &str, text: &mut Vec<u8>) -> Result<(), AllocError> {
-    let values = closest(alloc, db, b"a", attr.as_bytes())?;
-    put_lines(&values, text)
+    put_found(closest(alloc, db, b"a", attr.as_bytes())?, text)
 }
 
 fn put_closest_indexed(
@@ -133,8 +131,7 @@ fn put_closest_indexed(
     attr: &str,
     text: &mut Vec<u8>,
 ) -> Result<(), AllocError> {
-    let values = index.closest(alloc, me.as_bytes(), attr.as_bytes())?;
-    put_lines(&values, text)
+    put_found(index.closest(alloc, me.as_bytes(), attr.as_bytes())?, text)
 }
 
 /// Whether both find a pair in the same tuples.
@@ -189,13 +186,21 @@ fn all_found_alike(alloc: Global, db: &Db, index: &Index) -> Result<bool, AllocE
     Ok(true)
 }
 
+/// Whether the index of a text is like its database.
+fn is_indexed_alike(alloc: Global, text: &[u8], db: &Db) -> Result<bool, AllocError> {
+    let index = Index::new(alloc, database(alloc, text)?)?;
+    let told = tells_alike(alloc, db, &index);
+    let found = all_found_alike(alloc, db, &index);
+    drop(index);
+    Ok(told? && found?)
+}
+
 /// Whether both are alike over the database of a text.
 fn are_alike(alloc: Global, text: &[u8]) -> Result<bool, AllocError> {
     let db = database(alloc, text)?;
-    let index = Index::new(alloc, database(alloc, text)?)?;
-    let told = tells_alike(alloc, &db, &index)?;
-    let found = all_found_alike(alloc, &db, &index)?;
-    Ok(told && found)
+    let alike = is_indexed_alike(alloc, text, &db);
+    drop(db);
+    alike
 }
 
 /// Whether both are alike over the database of a seed.
@@ -206,7 +211,7 @@ fn are_alike_over(alloc: Global, seed: u32) -> Result<bool, AllocError> {
 }
 
 #[test]
-fn both_answer_alike(rt: HostRuntime) -> Result<(), Fail> {
+fn both_answer_alike(rt: HostRuntime) -> Result<(), AllocError> {
     for seed in 0..40_u32 {
         let alike = are_alike_over(rt.alloc(), seed)?;
         assert!(rt; alike, "{seed}");
@@ -238,15 +243,18 @@ fn index_of_many(alloc: Global) -> Result<Index, AllocError> {
 /// Adds what anna is answered among many systems, and the `auth` value that is closest to it.
 fn put_among_many(alloc: Global, text: &mut Vec<u8>) -> Result<(), AllocError> {
     let index = index_of_many(alloc)?;
-    put_indexed(alloc, &index, "anna", "net!helix!9fs", text)?;
-    put_closest_indexed(alloc, &index, "anna", "auth", text)
+    let put = put_indexed(alloc, &index, "anna", "net!helix!9fs", text);
+    let put_more = put_closest_indexed(alloc, &index, "anna", "auth", text);
+    drop(index);
+    put?;
+    put_more
 }
 
 #[test]
-fn the_worked_query_beside_ten_thousand_systems(rt: HostRuntime) -> Result<(), Fail> {
+fn the_worked_query_beside_ten_thousand_systems(rt: HostRuntime) -> Result<(), AllocError> {
     let mut text = Vec::new(rt.alloc());
     put_among_many(rt.alloc(), &mut text)?;
     let wanted = b"/net/il/clone 135.104.9.31!17008\n/net/il/clone 10.0.0.31!17008\nhelix\n";
-    assert_eq!(rt; text.as_slice(), wanted.as_slice());
+    assert!(rt; text.as_slice() == wanted.as_slice());
     Ok(())
 }

@@ -1,9 +1,8 @@
 //! Worked queries and their answers.
-use crate::reading::{database, put_lines};
+use crate::reading::{database, none_wrong, put_found};
 use cs_resolver::{CsError, answer};
 use net_base::{Db, Proto};
 use std::alloc::{AllocError, Global};
-use std::test::Fail;
 
 /// A query, and the lines of its answer or the error's line.
 type Row = (&'static str, &'static str);
@@ -24,7 +23,7 @@ fn put_error(alloc: Global, error: CsError, text: &mut Vec<u8>) -> Result<(), Al
 fn put_answer(alloc: Global, db: &Db, query: &str, text: &mut Vec<u8>) -> Result<(), AllocError> {
     let nets = [Proto::Il, Proto::Udp];
     match answer(alloc, db, b"anna", &nets, query.as_bytes()) {
-        Ok(lines) => put_lines(&lines, text),
+        Ok(lines) => put_found(lines, text),
         Err(error) => put_error(alloc, error, text),
     }
 }
@@ -47,7 +46,9 @@ fn first_wrong(alloc: Global, db: &Db, rows: &[Row]) -> Result<Option<usize>, Al
 /// The first row whose query isn't answered so over a database.
 fn wrong_over(alloc: Global, text: &str, rows: &[Row]) -> Result<Option<usize>, AllocError> {
     let db = database(alloc, text.as_bytes())?;
-    first_wrong(alloc, &db, rows)
+    let wrong = first_wrong(alloc, &db, rows);
+    drop(db);
+    wrong
 }
 
 const QUERIES: &[Row] = &[
@@ -86,19 +87,15 @@ const QUERIES: &[Row] = &[
 ];
 
 #[test]
-fn the_worked_queries(rt: HostRuntime) -> Result<(), Fail> {
-    let wrong = wrong_over(rt.alloc(), WORKED, QUERIES)?;
-    assert_eq!(rt; wrong, None);
-    Ok(())
+fn the_worked_queries(rt: HostRuntime) {
+    none_wrong(&rt, wrong_over(rt.alloc(), WORKED, QUERIES));
 }
 
 const OF_NOTHING: &[Row] = &[("net!helix!9fs", "! 3 no host\n")];
 
 #[test]
-fn an_empty_database_has_no_host(rt: HostRuntime) -> Result<(), Fail> {
-    let wrong = wrong_over(rt.alloc(), "", OF_NOTHING)?;
-    assert_eq!(rt; wrong, None);
-    Ok(())
+fn an_empty_database_has_no_host(rt: HostRuntime) {
+    none_wrong(&rt, wrong_over(rt.alloc(), "", OF_NOTHING));
 }
 
 const NO_QUERIES: &[Row] = &[
@@ -113,10 +110,8 @@ const NO_QUERIES: &[Row] = &[
 ];
 
 #[test]
-fn what_is_no_query(rt: HostRuntime) -> Result<(), Fail> {
-    let wrong = wrong_over(rt.alloc(), WORKED, NO_QUERIES)?;
-    assert_eq!(rt; wrong, None);
-    Ok(())
+fn what_is_no_query(rt: HostRuntime) {
+    none_wrong(&rt, wrong_over(rt.alloc(), WORKED, NO_QUERIES));
 }
 
 /// The line of the name hides the lines after it, also where its value is no address (`hidden`); a tuple and an address
@@ -144,10 +139,8 @@ const NAMED: &[Row] = &[
 ];
 
 #[test]
-fn a_name_beside_other_words(rt: HostRuntime) -> Result<(), Fail> {
-    let wrong = wrong_over(rt.alloc(), NAMES, NAMED)?;
-    assert_eq!(rt; wrong, None);
-    Ok(())
+fn a_name_beside_other_words(rt: HostRuntime) {
+    none_wrong(&rt, wrong_over(rt.alloc(), NAMES, NAMED));
 }
 
 const ERRORS: &[(CsError, &str)] = &[
@@ -167,7 +160,7 @@ fn is_told(alloc: Global, error: CsError, line: &str) -> Result<bool, AllocError
 }
 
 #[test]
-fn each_error_has_its_number_and_text(rt: HostRuntime) -> Result<(), Fail> {
+fn each_error_has_its_number_and_text(rt: HostRuntime) -> Result<(), AllocError> {
     for (i, (error, line)) in ERRORS.iter().enumerate() {
         let told = is_told(rt.alloc(), *error, line)?;
         assert!(rt; told, "row {i}");

@@ -1,11 +1,10 @@
 //! Worked searches by scan.
 ghost use Rattle.std.specs.Prelude.{◌<◌, length};
 
-use crate::reading::{database, put_lines};
+use crate::reading::{database, put_found};
 use ndb_search::{closest, search, value_beside};
 use net_base::Db;
 use std::alloc::{AllocError, Global};
-use std::test::Fail;
 
 /// Two networks, a system of one of them, and a system with two addresses.
 const WORKED: &[u8] = b"ipnet=astro ip=135.104.0.0 ipmask=255.255.0.0\n\tauth=bootes\n\
@@ -30,7 +29,7 @@ fn are_beside(
 {
     let values = value_beside(alloc, db, 3, attr.as_bytes(), value.as_bytes(), b"ip")?;
     let mut text = Vec::new(alloc);
-    put_lines(&values, &mut text)?;
+    put_found(values, &mut text)?;
     Ok(text.as_slice() == wanted)
 }
 
@@ -46,16 +45,15 @@ fn finds_addresses(alloc: Global, db: &Db) -> Result<bool, AllocError> {
 
 fn finds_all(alloc: Global) -> Result<bool, AllocError> {
     let db = database(alloc, WORKED)?;
-    let place = finds_place(alloc, &db)?;
-    let addresses = finds_addresses(alloc, &db)?;
-    Ok(place && addresses)
+    let place = finds_place(alloc, &db);
+    let addresses = finds_addresses(alloc, &db);
+    drop(db);
+    Ok(place? && addresses?)
 }
 
 #[test]
-fn addresses_stand_beside_a_system(rt: HostRuntime) -> Result<(), Fail> {
-    let all = finds_all(rt.alloc())?;
-    assert!(rt; all);
-    Ok(())
+fn addresses_stand_beside_a_system(rt: HostRuntime) {
+    assert!(rt; finds_all(rt.alloc()) == Ok(true));
 }
 
 /// A system, an attribute, and its values that are closest to the system.
@@ -74,7 +72,7 @@ fn is_closest(
 ) -> Result<bool, AllocError> {
     let values = closest(alloc, db, me.as_bytes(), attr.as_bytes())?;
     let mut text = Vec::new(alloc);
-    put_lines(&values, &mut text)?;
+    put_found(values, &mut text)?;
     Ok(text.as_slice() == wanted.as_bytes())
 }
 
@@ -89,12 +87,12 @@ fn are_closest(alloc: Global, db: &Db) -> Result<bool, AllocError> {
 
 fn finds_closest(alloc: Global) -> Result<bool, AllocError> {
     let db = database(alloc, WORKED)?;
-    are_closest(alloc, &db)
+    let closest = are_closest(alloc, &db);
+    drop(db);
+    closest
 }
 
 #[test]
-fn the_longest_mask_is_closest(rt: HostRuntime) -> Result<(), Fail> {
-    let all = finds_closest(rt.alloc())?;
-    assert!(rt; all);
-    Ok(())
+fn the_longest_mask_is_closest(rt: HostRuntime) {
+    assert!(rt; finds_closest(rt.alloc()) == Ok(true));
 }

@@ -1,5 +1,6 @@
 //! Printed histories read back, and refusals of lines.
 use history_reader::{LineError, read_transcript};
+use net_base::{History, Octets};
 use std::alloc::{AllocError, Global};
 use std::process::Abort;
 use transcript::text_of;
@@ -31,46 +32,66 @@ bytes 2 2
 end done 0
 ";
 
+/// Whether a history prints as these lines.
+fn prints(alloc: Global, history: &History, lines: &[u8]) -> Result<bool, AllocError> {
+    let again = text_of(alloc, history)?;
+    let same = again.as_slice() == lines;
+    drop(again);
+    Ok(same)
+}
+
+/// Whether what is read behind the lines is this summary, or none where it is empty.
+fn is_summary(read: &Option<Octets>, summary: &[u8]) -> bool {
+    match read {
+        Some(read) => read.as_slice() == summary,
+        None => summary.is_empty(),
+    }
+}
+
 /// Whether a text reads as a history that prints as these lines, with this summary behind them.
 fn reads(alloc: Global, text: &[u8], lines: &[u8], summary: &[u8]) -> Result<bool, AllocError> {
-    match read_transcript(alloc, text) {
-        Ok((history, read)) => {
-            let again = text_of(alloc, &history)?;
-            let summary = match &read {
-                Some(read) => read.as_slice() == summary,
-                None => summary.is_empty(),
-            };
-            Ok(summary && again.as_slice() == lines)
-        }
-        Err(_) => Ok(false),
-    }
+    let Ok((history, read)) = read_transcript(alloc, text) else {
+        return Ok(false);
+    };
+    let printed = prints(alloc, &history, lines);
+    let summed = is_summary(&read, summary);
+    drop(history);
+    drop(read);
+    Ok(printed? && summed)
+}
+
+/// Whether the lines and the summary are read back, one behind the other.
+fn reads_both(alloc: Global) -> Result<bool, AllocError> {
+    let mut both = Vec::from_slice(alloc, DATAGRAM)?;
+    both.extend_from_slice(SUMMARY)?;
+    reads(alloc, both.as_slice(), DATAGRAM, SUMMARY)
 }
 
 #[test]
 fn a_printed_history_is_read_back(rt: HostRuntime) {
     let alloc = rt.alloc();
-    let alone = reads(alloc, DATAGRAM, DATAGRAM, b"");
-    assert_eq!(rt; alone, Ok(true));
-    let mut both = Vec::new(alloc);
-    let made = both.extend_from_slice(DATAGRAM);
-    assert_eq!(rt; made, Ok(()));
-    let made = both.extend_from_slice(SUMMARY);
-    assert_eq!(rt; made, Ok(()));
-    let with_summary = reads(alloc, both.as_slice(), DATAGRAM, SUMMARY);
-    assert_eq!(rt; with_summary, Ok(true));
-    let nothing = reads(alloc, b"", b"", b"");
-    assert_eq!(rt; nothing, Ok(true));
-    let only_summary = reads(alloc, SUMMARY, b"", SUMMARY);
-    assert_eq!(rt; only_summary, Ok(true));
+    assert!(rt; reads(alloc, DATAGRAM, DATAGRAM, b"") == Ok(true));
+    assert!(rt; reads_both(alloc) == Ok(true));
+    assert!(rt; reads(alloc, b"", b"", b"") == Ok(true));
+    assert!(rt; reads(alloc, SUMMARY, b"", SUMMARY) == Ok(true));
 }
 
+type Read = Result<(History, Option<Octets>), LineError>;
+
 /// The line and the cause of a refusal; 0 where the text reads.
-fn refusal(alloc: Global, text: &[u8]) -> (u64, u32) {
-    match read_transcript(alloc, text) {
+fn refusal_in(read: &Read) -> (u64, u32) {
+    match read {
         Ok(_) => (0, 0),
-        Err(LineError::Bad { line, cause }) => (line, cause),
+        Err(LineError::Bad { line, cause }) => (*line, *cause),
         Err(LineError::Memory) => (0, 1),
     }
+}
+
+fn refusal(alloc: Global, text: &[u8]) -> (u64, u32) {
+    let read = read_transcript(alloc, text);
+    let refusal = refusal_in(&read);
+    drop(read);
+    refusal
 }
 
 // Texts, each with the line and the cause of its refusal.
@@ -152,6 +173,6 @@ fn the_first_bad_line_is_told(rt: HostRuntime) {
     let alloc = rt.alloc();
     for (i, (text, want)) in ROWS.iter().enumerate() {
         let told = refusal(alloc, text);
-        assert_eq!(rt; told, *want, "row {i}");
+        assert!(rt; told == *want, "row {i}");
     }
 }
