@@ -11,7 +11,7 @@ use net_base::{ActorName, Addr, Mode, Proto};
 use std::alloc::{AllocError, Global};
 use std::process::Abort;
 use std::test::*;
-use trial::{ANNA, HELIX, Told, Trial};
+use trial::{ANNA, HELIX, Told, Trial, is_same};
 
 /// The actors that are asked.
 #[derive(Clone, Copy)]
@@ -52,24 +52,35 @@ fn name_of(who: Who) -> ActorName
 /// An actor, what it is asked at moment 9, and what it tells.
 type Row = (Who, Ask, Told);
 
-fn told(alloc: Global, trial: &mut Trial, who: Who, ask: Ask) -> Result<Told, AllocError> {
+/// Whether an actor tells this.
+fn tells(
+    alloc: Global,
+    trial: &mut Trial,
+    who: Who,
+    ask: Ask,
+    want: Told,
+) -> Result<bool, AllocError> {
     let work = work_of(alloc, ask)?;
-    trial.answer(name_of(who), 9, &work)
+    let told = trial.answer(name_of(who), 9, &work);
+    drop(work);
+    Ok(is_same(told?, want))
 }
 
 /// Asks what stands in a table, and compares what is told.
-fn play(rt: &impl Abort, alloc: Global, trial: &mut Trial, rows: &[Row]) {
+fn play(rt: &impl Abort, alloc: Global, trial: &mut Trial, rows: &[Row]) -> Result<(), AllocError> {
     for (i, (who, ask, want)) in rows.iter().enumerate() {
-        let got = told(alloc, trial, *who, *ask);
-        assert!(rt; got == Ok(*want), "row {i}");
+        let met = tells(alloc, trial, *who, *ask, *want)?;
+        assert!(rt; met, "row {i}");
     }
+    Ok(())
 }
 
 /// The same of fresh actors.
 fn plays(rt: &impl Abort, alloc: Global, rows: &[Row]) -> Result<(), AllocError> {
     let mut trial = Trial::new(alloc)?;
-    play(rt, alloc, &mut trial, rows);
-    Ok(())
+    let played = play(rt, alloc, &mut trial, rows);
+    drop(trial);
+    played
 }
 
 // The desk, the clock and the medium.
@@ -90,9 +101,8 @@ const NAMES: &[Row] = &[
 ];
 
 #[test]
-fn a_desk_lists_and_resolves(rt: HostRuntime) -> Result<(), Fail> {
-    plays(&rt, rt.alloc(), NAMES)?;
-    Ok(())
+fn a_desk_lists_and_resolves(rt: HostRuntime) -> Result<(), AllocError> {
+    plays(&rt, rt.alloc(), NAMES)
 }
 
 const REFUSALS: &[Row] = &[
@@ -119,9 +129,8 @@ const REFUSALS: &[Row] = &[
 ];
 
 #[test]
-fn a_desk_refuses_and_waits(rt: HostRuntime) -> Result<(), Fail> {
-    plays(&rt, rt.alloc(), REFUSALS)?;
-    Ok(())
+fn a_desk_refuses_and_waits(rt: HostRuntime) -> Result<(), AllocError> {
+    plays(&rt, rt.alloc(), REFUSALS)
 }
 
 const MOVES: &[Row] = &[
@@ -130,9 +139,8 @@ const MOVES: &[Row] = &[
 ];
 
 #[test]
-fn a_clock_moves(rt: HostRuntime) -> Result<(), Fail> {
-    plays(&rt, rt.alloc(), MOVES)?;
-    Ok(())
+fn a_clock_moves(rt: HostRuntime) -> Result<(), AllocError> {
+    plays(&rt, rt.alloc(), MOVES)
 }
 
 const CARRIES: &[Row] = &[
@@ -143,9 +151,8 @@ const CARRIES: &[Row] = &[
 ];
 
 #[test]
-fn a_medium_carries(rt: HostRuntime) -> Result<(), Fail> {
-    plays(&rt, rt.alloc(), CARRIES)?;
-    Ok(())
+fn a_medium_carries(rt: HostRuntime) -> Result<(), AllocError> {
+    plays(&rt, rt.alloc(), CARRIES)
 }
 
 // A directory.
@@ -161,9 +168,8 @@ const ANNOUNCES: &[Row] = &[
 ];
 
 #[test]
-fn a_directory_announces(rt: HostRuntime) -> Result<(), Fail> {
-    plays(&rt, rt.alloc(), ANNOUNCES)?;
-    Ok(())
+fn a_directory_announces(rt: HostRuntime) -> Result<(), AllocError> {
+    plays(&rt, rt.alloc(), ANNOUNCES)
 }
 
 const GRANTS: &[Row] = &[
@@ -175,9 +181,8 @@ const GRANTS: &[Row] = &[
 ];
 
 #[test]
-fn a_directory_grants(rt: HostRuntime) -> Result<(), Fail> {
-    plays(&rt, rt.alloc(), GRANTS)?;
-    Ok(())
+fn a_directory_grants(rt: HostRuntime) -> Result<(), AllocError> {
+    plays(&rt, rt.alloc(), GRANTS)
 }
 
 // Conversations.
@@ -214,13 +219,18 @@ const TALKS: &[Row] = &[
     (Who::Udp, Ask::Conv(AtConv::Read), Told::NotReady),
 ];
 
-#[test]
-fn a_conversation_talks(rt: HostRuntime) -> Result<(), Fail> {
-    let alloc = rt.alloc();
-    let mut trial = Trial::new(alloc)?;
-    play(&rt, alloc, &mut trial, TALKS);
+fn talk_once(rt: &impl Abort, alloc: Global, trial: &mut Trial) -> Result<(), AllocError> {
+    play(rt, alloc, trial, TALKS)?;
     assert!(rt; trial.generation(UDP) == 1);
     Ok(())
+}
+
+#[test]
+fn a_conversation_talks(rt: HostRuntime) -> Result<(), AllocError> {
+    let mut trial = Trial::new(rt.alloc())?;
+    let talked = talk_once(&rt, rt.alloc(), &mut trial);
+    drop(trial);
+    talked
 }
 
 const FILES: &[Row] = &[
@@ -235,9 +245,8 @@ const FILES: &[Row] = &[
 ];
 
 #[test]
-fn a_conversation_has_files(rt: HostRuntime) -> Result<(), Fail> {
-    plays(&rt, rt.alloc(), FILES)?;
-    Ok(())
+fn a_conversation_has_files(rt: HostRuntime) -> Result<(), AllocError> {
+    plays(&rt, rt.alloc(), FILES)
 }
 
 const BEGINS: &[Row] = &[(Who::Il, Ask::Conv(AtConv::Begin), Told::Ok)];
@@ -258,15 +267,20 @@ fn is_due(alloc: Global, trial: &Trial) -> Result<bool, AllocError> {
     Ok(due > 9 && dues.as_slice() == [wanted].as_slice())
 }
 
-#[test]
-fn an_end_that_connects_is_due(rt: HostRuntime) -> Result<(), Fail> {
-    let alloc = rt.alloc();
-    let mut trial = Trial::new(alloc)?;
-    play(&rt, alloc, &mut trial, BEGINS);
+fn connect_once(rt: &impl Abort, alloc: Global, trial: &mut Trial) -> Result<(), AllocError> {
+    play(rt, alloc, trial, BEGINS)?;
     assert!(rt; trial.due(IL).is_none());
-    play(&rt, alloc, &mut trial, CONNECTS);
-    assert!(rt; is_due(alloc, &trial) == Ok(true));
+    play(rt, alloc, trial, CONNECTS)?;
+    assert!(rt; is_due(alloc, trial) == Ok(true));
     Ok(())
+}
+
+#[test]
+fn an_end_that_connects_is_due(rt: HostRuntime) -> Result<(), AllocError> {
+    let mut trial = Trial::new(rt.alloc())?;
+    let connected = connect_once(&rt, rt.alloc(), &mut trial);
+    drop(trial);
+    connected
 }
 
 const BIRTH: &[Row] = &[
@@ -275,9 +289,8 @@ const BIRTH: &[Row] = &[
 ];
 
 #[test]
-fn a_birth_is_answered(rt: HostRuntime) -> Result<(), Fail> {
-    plays(&rt, rt.alloc(), BIRTH)?;
-    Ok(())
+fn a_birth_is_answered(rt: HostRuntime) -> Result<(), AllocError> {
+    plays(&rt, rt.alloc(), BIRTH)
 }
 
 // Numbers.
@@ -292,10 +305,9 @@ const NUMBERS: &[(ActorName, usize)] = &[
 ];
 
 #[test]
-fn numbers_follow_the_table(rt: HostRuntime) -> Result<(), Fail> {
+fn numbers_follow_the_table(rt: HostRuntime) {
     for (i, (name, number)) in NUMBERS.iter().enumerate() {
         assert!(rt; number_of(2, 1, *name) == *number, "row {i}");
     }
     assert!(rt; actor_count(2, 1) == 136 && actor_at(2, 1, 101) == IL);
-    Ok(())
 }

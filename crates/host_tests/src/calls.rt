@@ -56,7 +56,7 @@ const TEN: &[Row] = &[
 ];
 
 #[test]
-fn ten_calls_wait(rt: HostRuntime) -> Result<(), Fail> {
+fn ten_calls_wait(rt: HostRuntime) -> Result<(), AllocError> {
     let mut queue = CallQueue::new(rt.alloc())?;
     play(&rt, &mut queue, TEN);
     assert!(rt; queue.len() == 10);
@@ -71,7 +71,7 @@ fn has_two(alloc: Global, queue: &CallQueue) -> Result<bool, AllocError> {
 }
 
 #[test]
-fn calls_are_listed_and_sent_away(rt: HostRuntime) -> Result<(), Fail> {
+fn calls_are_listed_and_sent_away(rt: HostRuntime) -> Result<(), AllocError> {
     let mut queue = CallQueue::new(rt.alloc())?;
     play(&rt, &mut queue, TWO);
     assert!(rt; has_two(rt.alloc(), &queue) == Ok(true));

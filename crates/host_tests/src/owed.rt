@@ -1,8 +1,8 @@
 //! What the entries of a small world owe.
 use duties::{Due, Duties, Duty, WorldWays, most_owed};
 use net_base::{
-    ActorName, Addr, Body, Call, Event, HostSpec, Iface, MediumSpec, Octets, Outcome, Packet, Pair,
-    Proto, Reply, RouteLine, Sequence, Taken, With, Work, World,
+    ActorName, Addr, Body, Call, Event, HostSpec, Hosts, Iface, Media, MediumSpec, Octets, Outcome,
+    Packet, Pair, Proto, Reply, RouteLine, Sequence, Taken, With, Work, World,
 };
 use std::alloc::{AllocError, Global};
 use std::process::Abort;
@@ -66,24 +66,44 @@ fn route(gateway: u32) -> RouteLine {
     }
 }
 
+fn put_hosts(alloc: Global, hosts: &mut Hosts) -> Result<(), AllocError> {
+    hosts.push(host(alloc, &[iface(0, NEAR)], &[route(GATE)])?)?;
+    hosts.push(host(alloc, &[iface(0, GATE), iface(1, GATE_BEYOND)], &[])?)?;
+    hosts.push(host(alloc, &[iface(1, FAR)], &[route(GATE_BEYOND)])?)
+}
+
+fn put_media(alloc: Global, media: &mut Media) -> Result<(), AllocError> {
+    media.push(medium(alloc, 0)?)?;
+    media.push(medium(alloc, 1)?)
+}
+
+fn put_parts(alloc: Global, world: &mut World) -> Result<(), AllocError> {
+    put_media(alloc, &mut world.media)?;
+    put_hosts(alloc, &mut world.hosts)
+}
+
 fn ways(alloc: Global) -> Result<WorldWays, AllocError> {
-    let near = host(alloc, &[iface(0, NEAR)], &[route(GATE)])?;
-    let gate = host(alloc, &[iface(0, GATE), iface(1, GATE_BEYOND)], &[])?;
-    let far = host(alloc, &[iface(1, FAR)], &[route(GATE_BEYOND)])?;
-    let world = World {
+    let mut world = World {
         end: 60_000,
         seed: 1,
-        media: Sequence::from_vec(vec![in alloc; medium(alloc, 0)?, medium(alloc, 1)?]?),
-        hosts: Sequence::from_vec(vec![in alloc; near, gate, far]?),
+        media: Sequence::new(alloc),
+        hosts: Sequence::new(alloc),
         scripts: Sequence::new(alloc),
         db: Sequence::new(alloc),
     };
-    WorldWays::new(alloc, &world)
+    let made = put_parts(alloc, &mut world);
+    let ways = WorldWays::new(alloc, &world);
+    drop(world);
+    if made.is_err() {
+        drop(ways);
+        return Err(AllocError);
+    }
+    ways
 }
 
 // What is owed, as values that can be compared.
 
-#[derive(Clone, Copy, PartialEq, Eq)]
+#[derive(Clone, Copy)]
 enum Asked {
     Begin(u64),
     Connect(u64),
@@ -101,7 +121,7 @@ enum Asked {
     Other,
 }
 
-#[derive(Clone, Copy, PartialEq, Eq)]
+#[derive(Clone, Copy)]
 enum Given {
     Nothing,
     /// The ttl and the destination of a packet.
@@ -146,8 +166,46 @@ fn read_with(with: &With) -> Given {
     }
 }
 
+/// By what one event is told from another: a number for each kind, and what it holds.
+fn asked_key(asked: Asked) -> (u8, u32, u64) {
+    match asked {
+        Asked::Begin(generation) => (0, 0, generation),
+        Asked::Connect(generation) => (1, 0, generation),
+        Asked::Announced(generation) => (2, 0, generation),
+        Asked::Bound(generation) => (3, 0, generation),
+        Asked::Claim(generation) => (4, 0, generation),
+        Asked::Close(generation) => (5, 0, generation),
+        Asked::ArriveAt(generation) => (6, 0, generation),
+        Asked::Born(generation) => (7, 0, generation),
+        Asked::Tick(generation) => (8, 0, generation),
+        Asked::Withdraw(slot, generation) => (9, slot, generation),
+        Asked::Release(slot, generation) => (10, slot, generation),
+        Asked::Put(Some(to)) => (11, to, 0),
+        Asked::Put(None) => (12, 0, 0),
+        Asked::Arrive => (13, 0, 0),
+        Asked::Other => (14, 0, 0),
+    }
+}
+
+/// The same of what is given.
+fn given_key(given: Given) -> (u8, u32, u32, u32) {
+    match given {
+        Given::Nothing => (0, 0, 0, 0),
+        Given::Packet(ttl, ip) => (1, u32::from(ttl), ip, 0),
+        Given::Grant(start, limit) => (2, start, limit, 0),
+        Given::Key(ip, port) => (3, ip, u32::from(port), 0),
+        Given::Birth(ip, start, limit) => (4, ip, start, limit),
+    }
+}
+
 /// What is asked of an actor.
 type Owed = (ActorName, Asked, Given);
+
+fn is_same(owed: Owed, want: Owed) -> bool {
+    owed.0 == want.0
+        && asked_key(owed.1) == asked_key(want.1)
+        && given_key(owed.2) == given_key(want.2)
+}
 
 fn read_duty(duty: &Duty) -> Owed {
     let work = duty.work();
@@ -157,13 +215,24 @@ fn read_duty(duty: &Duty) -> Owed {
 /// Takes the first duty.
 fn next(owed: &mut Duties) -> Option<Owed> {
     let duty = owed.pop()?;
-    Some(read_duty(&duty))
+    let read = read_duty(&duty);
+    drop(duty);
+    Some(read)
+}
+
+/// Takes the first duty, which is this one, or none is left.
+fn is_next(owed: &mut Duties, want: Option<Owed>) -> bool {
+    match (next(owed), want) {
+        (Some(owed), Some(want)) => is_same(owed, want),
+        (None, None) => true,
+        _ => false,
+    }
 }
 
 /// What is owed is this, in this order, and nothing else.
 fn is_owed(rt: &impl Abort, owed: &mut Duties, all: &[Owed]) {
     for (i, want) in all.iter().enumerate() {
-        assert!(rt; next(owed) == Some(*want), "duty {i}");
+        assert!(rt; is_next(owed, Some(*want)), "duty {i}");
     }
     assert!(rt; owed.is_empty());
 }
@@ -219,9 +288,12 @@ fn set_up(alloc: Global) -> Result<Bench, AllocError> {
 
 /// What the entry of a step owes is owed too.
 fn owes(bench: &mut Bench, actor: ActorName, work: Work, outcome: Outcome) {
-    if bench.owed.reserve(most_owed(&outcome)).is_ok() {
-        let _ = bench.ways.owe(actor, STAMP, work, outcome, &mut bench.owed);
+    if bench.owed.reserve(most_owed(&outcome)).is_err() {
+        drop(work);
+        drop(outcome);
+        return;
     }
+    let _ = bench.ways.owe(actor, STAMP, work, outcome, &mut bench.owed);
 }
 
 /// The directory of the near host.
@@ -262,17 +334,22 @@ fn granted() -> Reply {
     }
 }
 
-#[test]
-fn a_slot_begins_and_connects(rt: HostRuntime) -> Result<(), Fail> {
-    let mut bench = set_up(rt.alloc())?;
+fn begin_and_connect(rt: &impl Abort, bench: &mut Bench) {
     let slot = Reply::Slot {
         slot: 2,
         generation: 3,
     };
     let begin = [(SECOND, Asked::Begin(3), Given::Nothing)];
-    follow(&rt, &mut bench, alone(Event::Reserve), slot, &begin);
+    follow(rt, bench, alone(Event::Reserve), slot, &begin);
     let connect = [(SECOND, Asked::Connect(3), Given::Grant(100, 1462))];
-    follow(&rt, &mut bench, alone(grant()), granted(), &connect);
+    follow(rt, bench, alone(grant()), granted(), &connect);
+}
+
+#[test]
+fn a_slot_begins_and_connects(rt: HostRuntime) -> Result<(), AllocError> {
+    let mut bench = set_up(rt.alloc())?;
+    begin_and_connect(&rt, &mut bench);
+    drop(bench);
     Ok(())
 }
 
@@ -293,15 +370,20 @@ fn bind() -> Event {
     }
 }
 
-#[test]
-fn ports_are_named(rt: HostRuntime) -> Result<(), Fail> {
-    let mut bench = set_up(rt.alloc())?;
+fn name_ports(rt: &impl Abort, bench: &mut Bench) {
     let announced = [(SECOND, Asked::Announced(3), Given::Key(0, 7))];
-    follow(&rt, &mut bench, alone(announce()), Reply::Ok, &announced);
+    follow(rt, bench, alone(announce()), Reply::Ok, &announced);
     let bound = [(SECOND, Asked::Bound(3), Given::Key(0, 9))];
-    follow(&rt, &mut bench, alone(bind()), Reply::Ok, &bound);
+    follow(rt, bench, alone(bind()), Reply::Ok, &bound);
     // refused
-    follow(&rt, &mut bench, alone(bind()), Reply::Stale, &[]);
+    follow(rt, bench, alone(bind()), Reply::Stale, &[]);
+}
+
+#[test]
+fn ports_are_named(rt: HostRuntime) -> Result<(), AllocError> {
+    let mut bench = set_up(rt.alloc())?;
+    name_ports(&rt, &mut bench);
+    drop(bench);
     Ok(())
 }
 
@@ -314,20 +396,26 @@ fn born() -> Reply {
     }
 }
 
-#[test]
-fn packets_arrive(rt: HostRuntime) -> Result<(), Fail> {
-    let first = packet(rt.alloc(), NEAR, 9)?;
-    let second = packet(rt.alloc(), NEAR, 9)?;
-    let mut bench = set_up(rt.alloc())?;
+fn arrive(rt: &impl Abort, alloc: Global, bench: &mut Bench) -> Result<(), AllocError> {
     let to = Reply::To {
         slot: 2,
         generation: 3,
     };
     let arrive = [(SECOND, Asked::ArriveAt(3), Given::Packet(9, NEAR))];
-    follow(&rt, &mut bench, arrival(first), to, &arrive);
+    let first = packet(alloc, NEAR, 9)?;
+    follow(rt, bench, arrival(first), to, &arrive);
     let birth = [(FOURTH, Asked::Born(1), Given::Birth(NEAR, 100, 1462))];
-    follow(&rt, &mut bench, arrival(second), born(), &birth);
+    let second = packet(alloc, NEAR, 9)?;
+    follow(rt, bench, arrival(second), born(), &birth);
     Ok(())
+}
+
+#[test]
+fn packets_arrive(rt: HostRuntime) -> Result<(), AllocError> {
+    let mut bench = set_up(rt.alloc())?;
+    let arrived = arrive(&rt, rt.alloc(), &mut bench);
+    drop(bench);
+    arrived
 }
 
 /// The calls of two listeners' clients.
@@ -345,10 +433,8 @@ fn two_calls(alloc: Global) -> Result<Reply, AllocError> {
     })
 }
 
-#[test]
-fn calls_are_claimed_or_closed(rt: HostRuntime) -> Result<(), Fail> {
-    let calls = two_calls(rt.alloc())?;
-    let mut bench = set_up(rt.alloc())?;
+fn claim_and_close(rt: &impl Abort, alloc: Global, bench: &mut Bench) -> Result<(), AllocError> {
+    let calls = two_calls(alloc)?;
     let withdraw = Event::Withdraw {
         slot: 2,
         generation: 3,
@@ -357,29 +443,32 @@ fn calls_are_claimed_or_closed(rt: HostRuntime) -> Result<(), Fail> {
         (FOURTH, Asked::Close(1), Given::Nothing),
         (FIFTH, Asked::Close(6), Given::Nothing),
     ];
-    follow(&rt, &mut bench, alone(withdraw), calls, &closes);
+    follow(rt, bench, alone(withdraw), calls, &closes);
     let call = Reply::Call {
         slot: 4,
         generation: 1,
     };
     let claim = [(FOURTH, Asked::Claim(1), Given::Nothing)];
-    follow(
-        &rt,
-        &mut bench,
-        alone(Event::Listen { slot: 2 }),
-        call,
-        &claim,
-    );
+    follow(rt, bench, alone(Event::Listen { slot: 2 }), call, &claim);
     Ok(())
 }
 
 #[test]
-fn a_listener_that_is_left_withdraws(rt: HostRuntime) -> Result<(), Fail> {
+fn calls_are_claimed_or_closed(rt: HostRuntime) -> Result<(), AllocError> {
+    let mut bench = set_up(rt.alloc())?;
+    let done = claim_and_close(&rt, rt.alloc(), &mut bench);
+    drop(bench);
+    done
+}
+
+#[test]
+fn a_listener_that_is_left_withdraws(rt: HostRuntime) -> Result<(), AllocError> {
     let mut bench = set_up(rt.alloc())?;
     let hangup = Event::Hangup { generation: 3 };
     owes(&mut bench, SECOND, alone(hangup), outcome(Reply::Left));
     let withdraw = [(DIRECTORY, Asked::Withdraw(2, 3), Given::Nothing)];
     is_owed(&rt, &mut bench.owed, &withdraw);
+    drop(bench);
     Ok(())
 }
 
@@ -394,12 +483,10 @@ fn last(packet: Packet) -> Outcome {
     }
 }
 
-#[test]
-fn a_last_close_is_put_and_releases(rt: HostRuntime) -> Result<(), Fail> {
-    let last = last(packet(rt.alloc(), FAR, 255)?);
-    let mut bench = set_up(rt.alloc())?;
+fn close_last(rt: &impl Abort, alloc: Global, bench: &mut Bench) -> Result<(), AllocError> {
+    let packet = packet(alloc, FAR, 255)?;
     let close = Event::Close { generation: 3 };
-    owes(&mut bench, SECOND, alone(close), last);
+    owes(bench, SECOND, alone(close), last(packet));
     // the far host goes by the gateway
     let all = [
         (
@@ -409,8 +496,16 @@ fn a_last_close_is_put_and_releases(rt: HostRuntime) -> Result<(), Fail> {
         ),
         (DIRECTORY, Asked::Release(2, 3), Given::Nothing),
     ];
-    is_owed(&rt, &mut bench.owed, &all);
+    is_owed(rt, &mut bench.owed, &all);
     Ok(())
+}
+
+#[test]
+fn a_last_close_is_put_and_releases(rt: HostRuntime) -> Result<(), AllocError> {
+    let mut bench = set_up(rt.alloc())?;
+    let closed = close_last(&rt, rt.alloc(), &mut bench);
+    drop(bench);
+    closed
 }
 
 /// A copy that a courier took for a host.
@@ -428,16 +523,21 @@ fn copy(to: u32, packet: Packet) -> Outcome {
     }
 }
 
-/// What the courier of medium 0 owes once it took a packet to this address, with this ttl, for a host.
-fn carries(alloc: Global, to: u32, ip: u32, ttl: u8) -> Result<Option<Owed>, AllocError> {
+/// Whether the courier of medium 0 owes this once it took a packet to this address, with this ttl, for a host.
+fn carries(
+    alloc: Global,
+    bench: &mut Bench,
+    to: u32,
+    ip: u32,
+    ttl: u8,
+    owed: Option<Owed>,
+) -> Result<bool, AllocError> {
     let copy = copy(to, packet(alloc, ip, ttl)?);
-    let mut bench = set_up(alloc)?;
-    owes(&mut bench, ActorName::Medium(0), alone(Event::Take), copy);
-    Ok(next(&mut bench.owed))
+    owes(bench, ActorName::Medium(0), alone(Event::Take), copy);
+    Ok(is_next(&mut bench.owed, owed))
 }
 
-#[test]
-fn copies_arrive_or_go_on(rt: HostRuntime) -> Result<(), Fail> {
+fn go_on(rt: &impl Abort, alloc: Global, bench: &mut Bench) -> Result<(), AllocError> {
     let arrive = (DIRECTORY, Asked::Arrive, Given::Packet(9, NEAR));
     let put = (
         ActorName::Medium(1),
@@ -452,9 +552,18 @@ fn copies_arrive_or_go_on(rt: HostRuntime) -> Result<(), Fail> {
         (1, NOWHERE, 9, None),
     ];
     for (to, ip, ttl, owed) in rows {
-        assert!(rt; carries(rt.alloc(), to, ip, ttl) == Ok(owed), "{ip}, {ttl}");
+        let carried = carries(alloc, bench, to, ip, ttl, owed)?;
+        assert!(rt; carried, "{ip}, {ttl}");
     }
     Ok(())
+}
+
+#[test]
+fn copies_arrive_or_go_on(rt: HostRuntime) -> Result<(), AllocError> {
+    let mut bench = set_up(rt.alloc())?;
+    let carried = go_on(&rt, rt.alloc(), &mut bench);
+    drop(bench);
+    carried
 }
 
 fn due(slot: u32, due: u64) -> Due {
@@ -467,17 +576,30 @@ fn due(slot: u32, due: u64) -> Due {
     }
 }
 
-#[test]
-fn conversations_tick_when_they_are_due(rt: HostRuntime) -> Result<(), Fail> {
-    let mut owed = Duties::new(rt.alloc());
+fn is_first(owed: &Duties, stamp: u64) -> bool {
+    match owed.first() {
+        Some(duty) => duty.cites == stamp,
+        None => false,
+    }
+}
+
+fn tick(rt: &impl Abort, owed: &mut Duties) -> Result<(), AllocError> {
     let dues = [due(2, 100), due(4, 101), due(5, 90)];
     owed.reserve(dues.len())?;
     owed.owe_ticks(STAMP, 100, &dues);
-    assert_eq!(rt; owed.first().map(|duty| duty.cites), Some(STAMP));
+    assert!(rt; is_first(owed, STAMP));
     let ticks = [
         (SECOND, Asked::Tick(3), Given::Nothing),
         (FIFTH, Asked::Tick(3), Given::Nothing),
     ];
-    is_owed(&rt, &mut owed, &ticks);
+    is_owed(rt, owed, &ticks);
     Ok(())
+}
+
+#[test]
+fn conversations_tick_when_they_are_due(rt: HostRuntime) -> Result<(), AllocError> {
+    let mut owed = Duties::new(rt.alloc());
+    let ticked = tick(&rt, &mut owed);
+    drop(owed);
+    ticked
 }

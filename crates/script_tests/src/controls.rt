@@ -4,6 +4,7 @@ ghost use Rattle.net_base.specs.ControlWords.{in_range};
 
 use ctl_words::{CtlError, read_ctl, write_ctl};
 use net_base::{Addr, Ctl};
+use std::process::Abort;
 use std::test::*;
 
 const HELIX: Addr = Addr {
@@ -94,17 +95,16 @@ const OTHER_ARGUMENTS: &[&[u8]] = &[
     b"tos 256",
 ];
 
+fn are_refused(rt: &impl Abort, texts: &[&[u8]], error: CtlError) {
+    for (i, text) in texts.iter().enumerate() {
+        assert!(rt; read_ctl(text) == Err(error), "text {i}");
+    }
+}
+
 #[test]
 fn other_texts_are_refused(rt: HostRuntime) {
-    for (i, text) in OTHER_WORDS.iter().enumerate() {
-        assert!(rt; read_ctl(text) == Err(CtlError::BadWord), "word {i}");
-    }
-    for (i, text) in OTHER_ARGUMENTS.iter().enumerate() {
-        assert!(rt;
-            read_ctl(text) == Err(CtlError::BadArgument),
-            "argument {i}"
-        );
-    }
+    are_refused(&rt, OTHER_WORDS, CtlError::BadWord);
+    are_refused(&rt, OTHER_ARGUMENTS, CtlError::BadArgument);
     let numbers = (CtlError::BadWord.number(), CtlError::BadArgument.number());
     assert!(rt; numbers == (1, 2));
 }
@@ -166,8 +166,6 @@ fn the_longest_text_fits(rt: HostRuntime) {
     };
     let mut out = [b'!'; 48];
     let len = write_ctl(&control, &mut out);
-    assert_eq!(rt;
-        &out[..len],
-        b"connect 255.255.255.255!65535 65535".as_slice()
-    );
+    let wanted = b"connect 255.255.255.255!65535 65535";
+    assert!(rt; &out[..len] == wanted.as_slice());
 }

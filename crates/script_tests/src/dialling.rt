@@ -4,6 +4,7 @@ use net_base::{Addr, FileName, Lines, Mode, Octets, Pair, Proto, Reply, Step};
 use net_tree::{Fid, Fids};
 use script_task::{Request, Task, settle};
 use std::alloc::{AllocError, Global};
+use std::process::Abort;
 use std::test::*;
 use words::split_first;
 
@@ -83,7 +84,10 @@ fn bind_all(fids: &mut Fids) -> Result<(), AllocError> {
 
 fn names(alloc: Global) -> Result<Fids, AllocError> {
     let mut fids = Fids::new(alloc);
-    bind_all(&mut fids)?;
+    if bind_all(&mut fids).is_err() {
+        drop(fids);
+        return Err(AllocError);
+    }
     Ok(fids)
 }
 
@@ -130,7 +134,10 @@ fn put_lines(alloc: Global, lines: &mut Lines) -> Result<(), AllocError> {
 
 fn lines(alloc: Global) -> Result<Reply, AllocError> {
     let mut lines = Lines::new(alloc);
-    put_lines(alloc, &mut lines)?;
+    if put_lines(alloc, &mut lines).is_err() {
+        drop(lines);
+        return Err(AllocError);
+    }
     Ok(Reply::Lines { lines })
 }
 
@@ -190,7 +197,11 @@ fn answer(
 ) -> Result<Reply, AllocError> {
     put(out, request)?;
     let reply = reply(alloc, letter)?;
-    settle(fids, request, &reply)?;
+    let settled = settle(fids, request, &reply);
+    if settled.is_err() {
+        drop(reply);
+        return Err(AllocError);
+    }
     Ok(reply)
 }
 
@@ -204,8 +215,9 @@ fn turn<T: Task>(
     let Some(request) = task.next(alloc, fids)? else {
         return Ok(());
     };
-    let reply = answer(alloc, fids, out, &request, letter)?;
-    task.told(alloc, reply)
+    let reply = answer(alloc, fids, out, &request, letter);
+    drop(request);
+    task.told(alloc, reply?)
 }
 
 fn turns<T: Task>(
@@ -224,6 +236,21 @@ fn turns<T: Task>(
     Ok(())
 }
 
+fn tells<T: Task>(
+    alloc: Global,
+    task: &mut T,
+    fids: &mut Fids,
+    letters: &[u8],
+    wanted: &[u8],
+) -> Result<bool, AllocError> {
+    let mut out = Octets::new(alloc);
+    let told = turns(alloc, task, fids, &mut out, letters);
+    let same = out.as_slice() == wanted;
+    drop(out);
+    told?;
+    Ok(same)
+}
+
 // Whether these are the requests of a task whose replies have these letters.
 fn plays<T: Task>(
     alloc: Global,
@@ -232,9 +259,9 @@ fn plays<T: Task>(
     wanted: &[u8],
 ) -> Result<bool, AllocError> {
     let mut fids = names(alloc)?;
-    let mut out = Octets::new(alloc);
-    turns(alloc, task, &mut fids, &mut out, letters)?;
-    Ok(out.as_slice() == wanted)
+    let told = tells(alloc, task, &mut fids, letters, wanted);
+    drop(fids);
+    told
 }
 
 // What stands before the first separator, and behind it.
@@ -303,7 +330,9 @@ fn step(alloc: Global, words: &[u8]) -> Result<Step, AllocError> {
 
 fn task_of(alloc: Global, words: &[u8]) -> Result<StepTask, AllocError> {
     let step = step(alloc, words)?;
-    StepTask::new(alloc, &step)
+    let task = StepTask::new(alloc, &step);
+    drop(step);
+    task
 }
 
 // Whether the step of a row makes its requests.
@@ -311,7 +340,53 @@ fn is_met(alloc: Global, row: &[u8]) -> Result<bool, AllocError> {
     let (words, rest) = cut(row, b'|');
     let (letters, wanted) = cut(rest, b'|');
     let mut task = task_of(alloc, words)?;
-    plays(alloc, &mut task, letters, wanted)
+    let met = plays(alloc, &mut task, letters, wanted);
+    drop(task);
+    met
+}
+
+// The names and the letters of a step that has a task of its own, and the requests wanted of it.
+#[derive(Clone, Copy)]
+struct Alone<'a> {
+    name: &'a [u8],
+    other: &'a [u8],
+    letters: &'a [u8],
+    wanted: &'a [u8],
+}
+
+fn dials(alloc: Global, row: Alone<'_>) -> Result<bool, AllocError> {
+    let mut task = Dial::new(alloc, row.name, row.other)?;
+    let met = plays(alloc, &mut task, row.letters, row.wanted);
+    drop(task);
+    met
+}
+
+fn announces(alloc: Global, row: Alone<'_>) -> Result<bool, AllocError> {
+    let mut task = Announce::new(alloc, row.name, row.other)?;
+    let met = plays(alloc, &mut task, row.letters, row.wanted);
+    drop(task);
+    met
+}
+
+fn listens(alloc: Global, row: Alone<'_>) -> Result<bool, AllocError> {
+    let mut task = Listen::new(alloc, row.name, row.other)?;
+    let met = plays(alloc, &mut task, row.letters, row.wanted);
+    drop(task);
+    met
+}
+
+fn accepts(alloc: Global, row: Alone<'_>) -> Result<bool, AllocError> {
+    let mut task = Accept::new(alloc, row.name, row.other)?;
+    let met = plays(alloc, &mut task, row.letters, row.wanted);
+    drop(task);
+    met
+}
+
+fn rejects(alloc: Global, row: Alone<'_>) -> Result<bool, AllocError> {
+    let mut task = Reject::new(alloc, row.name)?;
+    let met = plays(alloc, &mut task, row.letters, row.wanted);
+    drop(task);
+    met
 }
 
 // Whether the step's own task makes them.
@@ -320,43 +395,37 @@ fn is_met_alone(alloc: Global, row: &[u8]) -> Result<bool, AllocError> {
     let (letters, wanted) = cut(rest, b'|');
     let (word, rest) = cut(words, b' ');
     let (name, other) = cut(rest, b' ');
+    let row = Alone {
+        name,
+        other,
+        letters,
+        wanted,
+    };
     match word {
-        b"dial" => plays(alloc, &mut Dial::new(alloc, name, other)?, letters, wanted),
-        b"announce" => plays(
-            alloc,
-            &mut Announce::new(alloc, name, other)?,
-            letters,
-            wanted,
-        ),
-        b"listen" => plays(
-            alloc,
-            &mut Listen::new(alloc, name, other)?,
-            letters,
-            wanted,
-        ),
-        b"accept" => plays(
-            alloc,
-            &mut Accept::new(alloc, name, other)?,
-            letters,
-            wanted,
-        ),
-        _ => plays(alloc, &mut Reject::new(alloc, name)?, letters, wanted),
+        b"dial" => dials(alloc, row),
+        b"announce" => announces(alloc, row),
+        b"listen" => listens(alloc, row),
+        b"accept" => accepts(alloc, row),
+        _ => rejects(alloc, row),
+    }
+}
+
+fn play_rows(rt: &impl Abort, alloc: Global, rows: &[u8], alone: bool) {
+    for (i, row) in rows.split(|byte| *byte == b'\n').enumerate() {
+        let met = is_met(alloc, row) == Ok(true);
+        let met_alone = !alone || is_met_alone(alloc, row) == Ok(true);
+        assert!(rt; met && met_alone, "row {i}");
     }
 }
 
 #[test]
 fn steps_are_played(rt: HostRuntime) {
-    for (i, row) in STEPS.split(|byte| *byte == b'\n').enumerate() {
-        assert_eq!(rt; is_met(rt.alloc(), row), Ok(true), "row {i}");
-    }
+    play_rows(&rt, rt.alloc(), STEPS, false);
 }
 
 #[test]
 fn long_steps_are_played(rt: HostRuntime) {
-    for (i, row) in LONG_STEPS.split(|byte| *byte == b'\n').enumerate() {
-        let met = (is_met(rt.alloc(), row), is_met_alone(rt.alloc(), row));
-        assert_eq!(rt; met, (Ok(true), Ok(true)), "row {i}");
-    }
+    play_rows(&rt, rt.alloc(), LONG_STEPS, true);
 }
 
 #[test]
@@ -369,10 +438,10 @@ fn addresses_are_completed(rt: HostRuntime) {
         (b"", b"net!!9fs"),
         (b"!", b"!!9fs"),
     ];
+    let blank = [b'#'; 16];
     for (address, wanted) in rows {
-        let mut out = [b'#'; 16];
+        let mut out = blank;
         let length = netmkaddr(address, b"net", b"9fs", &mut out);
-        assert_eq!(rt; &out[..length], wanted);
-        assert!(rt; out[length..].iter().all(|byte| *byte == b'#'));
+        assert!(rt; &out[..length] == wanted && &out[length..] == &blank[length..]);
     }
 }

@@ -4,25 +4,33 @@ use script_player::Player;
 use std::alloc::{AllocError, Global};
 use std::test::*;
 
+fn closes(alloc: Global) -> Result<Step, AllocError> {
+    Ok(Step::Close {
+        name: Octets::from_slice(alloc, b"c")?,
+    })
+}
+
 // A script of one step, which closes a name that isn't bound.
 fn script(alloc: Global) -> Result<Script, AllocError> {
-    let name = Octets::from_slice(alloc, b"c")?;
     let mut steps = Sequence::new(alloc);
-    steps.push(Step::Close { name })?;
+    steps.push(closes(alloc)?)?;
     Ok(Script { host: 2, steps })
 }
 
 // Whether the event is one at the desk of the script's host.
-fn is_at_desk(asked: Option<(ActorName, Event)>) -> bool {
+fn is_at_desk(asked: &Option<(ActorName, Event)>) -> bool {
     match asked {
-        Some((actor, _)) => actor == ActorName::Desk(2),
+        Some((actor, _)) => *actor == ActorName::Desk(2),
         None => false,
     }
 }
 
 // Whether the next event is one at the desk of the script's host.
 fn asks_desk(player: &mut Player, script: &Script) -> Result<bool, AllocError> {
-    Ok(is_at_desk(player.next(script)?))
+    let asked = player.next(script)?;
+    let at_desk = is_at_desk(&asked);
+    drop(asked);
+    Ok(at_desk)
 }
 
 // Whether the script asks at the desk, and with the refusal ends.
@@ -33,12 +41,17 @@ fn ends_refused(player: &mut Player, script: &Script) -> Result<bool, AllocError
     Ok(asks && !asks_on && player.finished() == 1)
 }
 
-#[test]
-fn a_script_is_played(rt: HostRuntime) -> Result<(), Fail> {
-    let alloc = rt.alloc();
-    let script = script(alloc)?;
+fn ends(alloc: Global, script: &Script) -> Result<bool, AllocError> {
     let mut player = Player::new(alloc);
-    let ends = ends_refused(&mut player, &script)?;
-    assert!(rt; ends);
+    let ends = ends_refused(&mut player, script);
+    drop(player);
+    ends
+}
+
+#[test]
+fn a_script_is_played(rt: HostRuntime) -> Result<(), AllocError> {
+    let script = script(rt.alloc())?;
+    assert!(rt; ends(rt.alloc(), &script) == Ok(true));
+    drop(script);
     Ok(())
 }

@@ -41,11 +41,11 @@ fn bind_all(fids: &mut Fids) -> bool {
 
 fn some_names(alloc: Global) -> Result<Fids, AllocError> {
     let mut fids = Fids::new(alloc);
-    if bind_all(&mut fids) {
-        Ok(fids)
-    } else {
-        Err(AllocError)
+    if !bind_all(&mut fids) {
+        drop(fids);
+        return Err(AllocError);
     }
+    Ok(fids)
 }
 
 fn word(event: &Event) -> &'static [u8] {
@@ -76,14 +76,16 @@ fn word(event: &Event) -> &'static [u8] {
     }
 }
 
+fn is_planned(planned: &Planned, actor: ActorName, text: &[u8]) -> bool {
+    planned.actor == actor && word(&planned.event) == text
+}
+
 // Whether the request records this event there.
 fn records(fids: &Fids, request: Request, actor: ActorName, text: &[u8]) -> bool {
-    let Planned {
-        actor: at,
-        event,
-        ..
-    } = plan(2, fids, request);
-    at == actor && word(&event) == text
+    let planned = plan(2, fids, request);
+    let told = is_planned(&planned, actor, text);
+    drop(planned);
+    told
 }
 
 /// A request in a row.
@@ -157,7 +159,9 @@ fn record(rt: &impl Abort, alloc: Global, fids: &Fids, rows: &[Row]) -> Result<(
 
 fn record_all(rt: &impl Abort, alloc: Global, rows: &[Row]) -> Result<(), AllocError> {
     let fids = some_names(alloc)?;
-    record(rt, alloc, &fids, rows)
+    let recorded = record(rt, alloc, &fids, rows);
+    drop(fids);
+    recorded
 }
 
 const WRITES: &[Row] = &[
@@ -183,9 +187,8 @@ const WRITES: &[Row] = &[
 ];
 
 #[test]
-fn writes_have_events(rt: HostRuntime) -> Result<(), Fail> {
-    record_all(&rt, rt.alloc(), WRITES)?;
-    Ok(())
+fn writes_have_events(rt: HostRuntime) -> Result<(), AllocError> {
+    record_all(&rt, rt.alloc(), WRITES)
 }
 
 const OPENS: &[Row] = &[
@@ -223,9 +226,8 @@ const OPENS: &[Row] = &[
 ];
 
 #[test]
-fn opens_have_events(rt: HostRuntime) -> Result<(), Fail> {
-    record_all(&rt, rt.alloc(), OPENS)?;
-    Ok(())
+fn opens_have_events(rt: HostRuntime) -> Result<(), AllocError> {
+    record_all(&rt, rt.alloc(), OPENS)
 }
 
 const OTHERS: &[Row] = &[
@@ -249,16 +251,25 @@ const OTHERS: &[Row] = &[
 ];
 
 #[test]
-fn other_requests_have_events(rt: HostRuntime) -> Result<(), Fail> {
-    record_all(&rt, rt.alloc(), OTHERS)?;
-    Ok(())
+fn other_requests_have_events(rt: HostRuntime) -> Result<(), AllocError> {
+    record_all(&rt, rt.alloc(), OTHERS)
+}
+
+fn actor_of(fids: &Fids, request: &Request) -> Result<ActorName, AllocError> {
+    let planned = event_of(2, fids, request)?;
+    let actor = planned.actor;
+    drop(planned);
+    Ok(actor)
 }
 
 // The actor of a request that is kept.
 fn asked(alloc: Global) -> Result<ActorName, AllocError> {
     let request = request(alloc, Ask::Cs(b"net!helix!9fs"))?;
-    let planned = event_of(2, &Fids::new(alloc), &request)?;
-    Ok(planned.actor)
+    let fids = Fids::new(alloc);
+    let actor = actor_of(&fids, &request);
+    drop(fids);
+    drop(request);
+    actor
 }
 
 #[test]
@@ -275,8 +286,12 @@ fn opened(
 ) -> Result<Option<Fid>, AllocError> {
     let request = open(alloc, b"n", path, mode)?;
     let mut fids = Fids::new(alloc);
-    settle(&mut fids, &request, reply)?;
-    Ok(fids.get(b"n"))
+    let settled = settle(&mut fids, &request, reply);
+    let fid = fids.get(b"n");
+    drop(fids);
+    drop(request);
+    settled?;
+    Ok(fid)
 }
 
 const SLOT: Reply = Reply::Slot {
@@ -310,12 +325,21 @@ fn opens_bind_what_is_opened(rt: HostRuntime) {
     }
 }
 
+fn settles(alloc: Global, fids: &mut Fids, ask: Ask, reply: &Reply) -> Result<(), AllocError> {
+    let request = request(alloc, ask)?;
+    let settled = settle(fids, &request, reply);
+    drop(request);
+    settled
+}
+
 // What the names `c` and `d` are bound to after a reply to a request.
 fn after(alloc: Global, ask: Ask, reply: &Reply) -> Result<(Option<Fid>, Option<Fid>), AllocError> {
-    let request = request(alloc, ask)?;
     let mut fids = some_names(alloc)?;
-    settle(&mut fids, &request, reply)?;
-    Ok((fids.get(b"c"), fids.get(b"d")))
+    let settled = settles(alloc, &mut fids, ask, reply);
+    let both = (fids.get(b"c"), fids.get(b"d"));
+    drop(fids);
+    settled?;
+    Ok(both)
 }
 
 #[test]
@@ -336,20 +360,30 @@ fn closes_unbind_whatever_the_reply(rt: HostRuntime) {
     }
 }
 
-// Run it with each allocation failing in turn: where there was memory for the room, there is none that the open wants.
-#[test]
-fn an_open_of_a_reserved_name_wants_no_memory(rt: HostRuntime) -> Result<(), Fail> {
-    let alloc = rt.alloc();
-    let mut fids = Fids::new(alloc);
-    let effect = Effect::Opens {
+fn opens(alloc: Global) -> Result<Effect, AllocError> {
+    Ok(Effect::Opens {
         name: Octets::from_slice(alloc, b"n")?,
         node: Node::Clone(Proto::Il),
         mode: Mode::Both,
-    };
-    if fids.reserve(b"n").is_ok() {
-        let fid = effect.opened(&SLOT);
-        let settled = effect.settle(&mut fids, fid).is_ok();
-        assert!(rt; settled && fids.get(b"n") == fid);
+    })
+}
+
+// Whether an open of a name is settled, where there is room for it.
+fn is_settled(fids: &mut Fids, effect: &Effect) -> bool {
+    if fids.reserve(b"n").is_err() {
+        return true;
     }
+    let fid = effect.opened(&SLOT);
+    effect.settle(fids, fid).is_ok() && fids.get(b"n") == fid
+}
+
+// Run it with each allocation failing in turn: where there was memory for the room, there is none that the open wants.
+#[test]
+fn an_open_of_a_reserved_name_wants_no_memory(rt: HostRuntime) -> Result<(), AllocError> {
+    let effect = opens(rt.alloc())?;
+    let mut fids = Fids::new(rt.alloc());
+    assert!(rt; is_settled(&mut fids, &effect));
+    drop(fids);
+    drop(effect);
     Ok(())
 }

@@ -6,65 +6,96 @@ use std::alloc::{AllocError, Global};
 use std::test::*;
 use whole_script::ScriptTask;
 
+fn dials(alloc: Global) -> Result<Step, AllocError> {
+    Ok(Step::Dial {
+        name: Octets::from_slice(alloc, b"f")?,
+        address: Octets::from_slice(alloc, b"il!helix")?,
+    })
+}
+
 // A script of two steps: a dial, and then a wait for a moment.
 fn script(alloc: Global) -> Result<Script, AllocError> {
-    let name = Octets::from_slice(alloc, b"f")?;
-    let address = Octets::from_slice(alloc, b"il!helix")?;
     let mut steps = Sequence::new(alloc);
-    steps.push(Step::Dial { name, address })?;
+    steps.push(dials(alloc)?)?;
     steps.push(Step::Until { moment: 9 })?;
     Ok(Script { host: 2, steps })
 }
 
-// Whether the next request asks for lines.
-fn asks_lines<T: Task>(alloc: Global, task: &T) -> Result<bool, AllocError> {
-    match task.next(alloc, &Fids::new(alloc))? {
-        Some(Request::Cs { .. }) => Ok(true),
-        _ => Ok(false),
+/// What is asked for.
+#[derive(Clone, Copy, PartialEq, Eq)]
+enum Asked {
+    Lines,
+    Moment(u64),
+    Nothing,
+    Other,
+}
+
+fn read_request(request: &Option<Request>) -> Asked {
+    match request {
+        Some(Request::Cs { .. }) => Asked::Lines,
+        Some(Request::Until { moment }) => Asked::Moment(*moment),
+        Some(_) => Asked::Other,
+        None => Asked::Nothing,
     }
 }
 
-// Whether the next request waits for a moment.
-fn asks_moment<T: Task>(alloc: Global, task: &T) -> Result<bool, AllocError> {
-    match task.next(alloc, &Fids::new(alloc))? {
-        Some(Request::Until { moment }) => Ok(moment == 9),
-        _ => Ok(false),
-    }
+// What the next request asks for.
+fn asks<T: Task>(alloc: Global, task: &T) -> Result<Asked, AllocError> {
+    let fids = Fids::new(alloc);
+    let request = task.next(alloc, &fids);
+    drop(fids);
+    let request = request?;
+    let asked = read_request(&request);
+    drop(request);
+    Ok(asked)
 }
 
 // Whether nothing is asked for.
 fn is_over<T: Task>(alloc: Global, task: &T) -> Result<bool, AllocError> {
-    Ok(task.is_through() && task.next(alloc, &Fids::new(alloc))?.is_none())
+    Ok(task.is_through() && asks(alloc, task)? == Asked::Nothing)
+}
+
+fn tell_no_lines<T: Task>(alloc: Global, task: &mut T) -> Result<(), AllocError> {
+    let lines = Lines::new(alloc);
+    task.told(alloc, Reply::Lines { lines })
 }
 
 // Whether the steps are played in turn. The dial is told of no line, and ends with that reply.
 fn plays_both<T: Task>(alloc: Global, task: &mut T) -> Result<bool, AllocError> {
-    let dials = asks_lines(alloc, task)? && asks_lines(alloc, task)?;
-    let lines = Lines::new(alloc);
-    task.told(alloc, Reply::Lines { lines })?;
-    let waits = !task.is_through() && asks_moment(alloc, task)?;
+    let dials = asks(alloc, task)? == Asked::Lines && asks(alloc, task)? == Asked::Lines;
+    tell_no_lines(alloc, task)?;
+    let waits = !task.is_through() && asks(alloc, task)? == Asked::Moment(9);
     task.told(alloc, Reply::Ok)?;
     Ok(dials && waits && is_over(alloc, task)?)
 }
 
-#[test]
-fn a_script_is_played(rt: HostRuntime) -> Result<(), Fail> {
-    let alloc = rt.alloc();
-    let script = script(alloc)?;
-    let mut task = ScriptTask::new(&script);
-    assert_eq!(rt; task.finished(), 0);
-    let plays = plays_both(alloc, &mut task)?;
-    assert!(rt; plays);
-    assert_eq!(rt; task.finished(), 2);
-    Ok(())
+fn plays(alloc: Global, script: &Script) -> Result<bool, AllocError> {
+    let mut task = ScriptTask::new(script);
+    let fresh = task.finished() == 0;
+    let both = plays_both(alloc, &mut task);
+    let finished = task.finished() == 2;
+    drop(task);
+    Ok(both? && fresh && finished)
 }
 
 #[test]
-fn nothing_is_idle(rt: HostRuntime) -> Result<(), Fail> {
-    let alloc = rt.alloc();
-    let mut task = ScriptTask::idle();
-    task.told(alloc, Reply::Ok)?;
-    let over = is_over(alloc, &task)?;
-    assert!(rt; over);
+fn a_script_is_played(rt: HostRuntime) -> Result<(), AllocError> {
+    let script = script(rt.alloc())?;
+    assert!(rt; plays(rt.alloc(), &script) == Ok(true));
+    drop(script);
     Ok(())
+}
+
+fn stays_over(alloc: Global) -> Result<bool, AllocError> {
+    let mut task = ScriptTask::idle();
+    let told = task.told(alloc, Reply::Ok);
+    let over = is_over(alloc, &task);
+    drop(task);
+    told?;
+    over
+}
+
+#[test]
+fn nothing_is_idle(rt: HostRuntime) {
+    assert!(rt; stays_over(rt.alloc()) == Ok(true));
 }

@@ -1,6 +1,7 @@
 //! Paths, modes, directories and bound names.
 use net_base::{FileName, Lines, Mode, Node, Proto};
 use net_tree::{Fid, Fids, TreeError, may_open, names, walk};
+use std::alloc::{AllocError, Global};
 use std::test::*;
 
 fn fid(slot: u32) -> Fid {
@@ -68,29 +69,49 @@ fn other_paths_name_nothing(rt: HostRuntime) {
     assert!(rt; numbers == (1, 2, 3));
 }
 
+/// A directory with a number for what is live there, and its names.
+const DIRECTORIES: &[(Node, u32, &[&[u8]])] = &[
+    (Node::Root, 0, &[b"cs", b"il", b"udp"]),
+    (
+        Node::Proto(Proto::Il),
+        0x8000_0005,
+        &[b"clone", b"0", b"2", b"31"],
+    ),
+    (
+        Node::Dir(Proto::Udp, 3),
+        8,
+        &[
+            b"ctl", b"data", b"err", b"listen", b"local", b"remote", b"status",
+        ],
+    ),
+    (Node::Cs, 1, &[]),
+];
+
+/// Whether a directory has these names.
+fn has_names(alloc: Global, node: Node, live: u32, words: &[&[u8]]) -> Result<bool, AllocError> {
+    let lines = names(alloc, node, live)?;
+    let has = is_list(&lines, words);
+    drop(lines);
+    Ok(has)
+}
+
 #[test]
-fn directories_have_names(rt: HostRuntime) -> Result<(), Fail> {
-    let alloc = rt.alloc();
-    let root = names(alloc, Node::Root, 0)?;
-    assert!(rt; is_list(&root, &[b"cs", b"il", b"udp"]));
-    let proto = names(alloc, Node::Proto(Proto::Il), 0x8000_0005)?;
-    assert!(rt; is_list(&proto, &[b"clone", b"0", b"2", b"31"]));
-    let dir = names(alloc, Node::Dir(Proto::Udp, 3), 8)?;
-    let files: [&[u8]; 7] = [
-        b"ctl", b"data", b"err", b"listen", b"local", b"remote", b"status",
-    ];
-    assert!(rt; is_list(&dir, &files));
-    assert!(rt; is_list(&names(alloc, Node::Cs, 1)?, &[]));
+fn directories_have_names(rt: HostRuntime) -> Result<(), AllocError> {
+    for (i, (node, live, words)) in DIRECTORIES.iter().enumerate() {
+        let has = has_names(rt.alloc(), *node, *live, words)?;
+        assert!(rt; has, "row {i}");
+    }
     Ok(())
 }
 
 fn is_list(lines: &Lines, words: &[&[u8]]) -> bool {
     let lines = lines.as_slice();
+    for (line, word) in lines.iter().zip(words.iter()) {
+        if line.as_slice() != *word {
+            return false;
+        }
+    }
     lines.len() == words.len()
-        && lines
-            .iter()
-            .zip(words.iter())
-            .all(|(line, word)| line.as_slice() == *word)
 }
 
 /// What a name does, with the slot of its file.
@@ -129,14 +150,21 @@ fn names_are_bound_and_unbound(rt: HostRuntime) {
     for (i, (name, ask)) in BINDINGS.iter().enumerate() {
         assert!(rt; does(&mut fids, name, *ask), "row {i}");
     }
+    drop(fids);
+}
+
+// Whether a name is bound, where there is room for it.
+fn is_bound_in_room(fids: &mut Fids) -> bool {
+    if fids.reserve(b"conversation").is_err() {
+        return true;
+    }
+    fids.bind(b"conversation", fid(1)) == Ok(()) && fids.get(b"conversation") == Some(fid(1))
 }
 
 // Run it with each allocation failing in turn: where there was memory for the room, there is none that the binding wants.
 #[test]
 fn a_reserved_name_is_bound(rt: HostRuntime) {
     let mut fids = Fids::new(rt.alloc());
-    if fids.reserve(b"conversation").is_ok() {
-        assert_eq!(rt; fids.bind(b"conversation", fid(1)), Ok(()));
-        assert_eq!(rt; fids.get(b"conversation"), Some(fid(1)));
-    }
+    assert!(rt; is_bound_in_room(&mut fids));
+    drop(fids);
 }

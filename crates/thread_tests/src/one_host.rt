@@ -10,8 +10,8 @@ use actor_machines::{Placing, WorldActor};
 use host_net::*;
 use journal::Naming;
 use net_base::{
-    Db, Fates, HostSpec, Hosts, Iface, Ifaces, Media, MediumSpec, Mode, Nets, Octets, Proto,
-    RouteLines, Script, Scripts, Starts, Step, StepList, World,
+    Db, Fates, History, HostSpec, Hosts, Iface, Ifaces, Media, MediumSpec, Mode, Nets, Octets,
+    Proto, RouteLines, Script, Scripts, Starts, Step, StepList, World,
 };
 use outside::OpenGate;
 use script_task::Request;
@@ -157,7 +157,10 @@ fn operated_once<J: Naming + Placing, R: Wait>(
     requires script { (s : AnyScript) × (caller_of J.world script.old.caller ≡ IsScript s) }
     ensures { script.new.caller ≡ script.old.caller }
 {
-    hear(&net.operate(rt, &OpenGate, script, request))
+    let turn = net.operate(rt, &OpenGate, script, request);
+    let heard = hear(&turn);
+    drop(turn);
+    heard
 }
 
 // The turn of a request, once more where memory ran out.
@@ -185,7 +188,10 @@ fn carried_once<J: Naming + Placing, R: Wait>(
     requires courier { caller_of J.world courier.old.caller ≡ IsCourier 0 }
     ensures { courier.new.caller ≡ courier.old.caller }
 {
-    hear(&net.courier_turn(rt, &OpenGate, courier, 0))
+    let turn = net.courier_turn(rt, &OpenGate, courier, 0);
+    let heard = hear(&turn);
+    drop(turn);
+    heard
 }
 
 // The courier's turns until nothing is there to carry, which is said. Memory may run out once.
@@ -214,7 +220,7 @@ fn serves_once<J: Naming + Placing, R: Wait>(
     ensures { guest.new.caller ≡ guest.old.caller }
 {
     if guest.owes() {
-        net.serve(rt, &OpenGate, guest);
+        drop(net.serve(rt, &OpenGate, guest));
     }
 }
 
@@ -225,6 +231,42 @@ fn serves<J: Naming + Placing, R: Wait>(rt: &R, net: &Net<J, WorldActor<J>>, gue
     for _ in 0..3_u32 {
         serves_once(rt, net, guest);
     }
+}
+
+fn opens_once<J: Naming + Placing, R: Wait>(
+    rt: &R,
+    alloc: Global,
+    net: &Net<J, WorldActor<J>>,
+    script: &mut Guest<J>,
+    name: &[u8],
+    path: &[u8],
+) -> Result<(), AllocError>
+    requires script { (s : AnyScript) × (caller_of J.world script.old.caller ≡ IsScript s) }
+    ensures { script.new.caller ≡ script.old.caller }
+{
+    let open = opens(alloc, name, path)?;
+    operated(rt, net, script, &open);
+    drop(open);
+    Ok(())
+}
+
+// Writes, and says whether a second write is held up by what is owed for the first.
+fn writes_twice<J: Naming + Placing, R: Wait>(
+    rt: &R,
+    alloc: Global,
+    net: &Net<J, WorldActor<J>>,
+    script: &mut Guest<J>,
+    name: &[u8],
+    bytes: &[u8],
+) -> Result<bool, AllocError>
+    requires script { (s : AnyScript) × (caller_of J.world script.old.caller ≡ IsScript s) }
+    ensures { script.new.caller ≡ script.old.caller }
+{
+    let write = writes(alloc, name, bytes)?;
+    operated(rt, net, script, &write);
+    let again = operated(rt, net, script, &write);
+    drop(write);
+    Ok(matches!(again, Heard::Owes))
 }
 
 // Opens a file and writes to it. Says whether the script was held up by what it owed for the write.
@@ -240,14 +282,11 @@ fn speaks<J: Naming + Placing, R: Wait>(
     requires script { (s : AnyScript) × (caller_of J.world script.old.caller ≡ IsScript s) }
     ensures { script.new.caller ≡ script.old.caller }
 {
-    let open = opens(alloc, name, path)?;
-    operated(rt, net, script, &open);
+    opens_once(rt, alloc, net, script, name, path)?;
     serves(rt, net, script);
-    let write = writes(alloc, name, bytes)?;
-    operated(rt, net, script, &write);
-    let again = operated(rt, net, script, &write);
+    let held = writes_twice(rt, alloc, net, script, name, bytes)?;
     serves(rt, net, script);
-    Ok(matches!(again, Heard::Owes))
+    Ok(held)
 }
 
 // Three guests: the script's, the courier's and the clock's.
@@ -326,13 +365,20 @@ fn play<J: Naming + Placing, R: Wait>(
     Ok(before && held && after)
 }
 
-// The text of the history, and whether all went as it had to.
+fn has_text(alloc: Global, history: &History, lines: &[u8]) -> Result<bool, AllocError> {
+    let text = text_of(alloc, history)?;
+    let same = text.as_slice() == lines;
+    drop(text);
+    Ok(same)
+}
+
+// Whether all went as it had to, and the history has its lines.
 fn echoed<J: Naming + Placing, R: Wait>(
     rt: &R,
     alloc: Global,
     world: &World,
     opened: NetOpened,
-) -> Result<(bool, Octets), AllocError>
+) -> Result<bool, AllocError>
     requires name { opened ≡ J.run }
     requires world { J.world ≡ world.now }
     requires worked { world.now ≡ worked.echo_world }
@@ -340,19 +386,25 @@ fn echoed<J: Naming + Placing, R: Wait>(
     requires roster { IsRosterOf J.world J.run.roster }
 {
     let (net, mut guests) = Net::<J, WorldActor<J>>::named(alloc, world, opened)?;
-    let held = play(rt, alloc, &net, &mut guests)?;
+    let held = play(rt, alloc, &net, &mut guests);
     let history = net.finish(alloc, guests)?;
-    let text = text_of(alloc, &history)?;
-    Ok((held, text))
+    let told = has_text(alloc, &history, LINES);
+    drop(history);
+    Ok(held? && told?)
+}
+
+fn echoes<R: Wait>(rt: &R, alloc: Global, world: &World) -> Result<bool, AllocError>
+    requires worked { world.now ≡ worked.echo_world }
+    requires is { IsWorld world.now }
+{
+    let opened = NetOpened::new(alloc, world)?;
+    echoed::<Brand, _>(rt, alloc, world, opened)
 }
 
 #[test]
-fn a_host_sends_itself_a_datagram(rt: HostRuntime) -> Result<(), Fail> {
-    let alloc = rt.alloc();
-    let world = world(alloc)?;
-    let opened = NetOpened::new(alloc, &world)?;
-    let (held, text) = echoed::<Brand, _>(&rt, alloc, &world, opened)?;
-    assert!(rt; held);
-    assert!(rt; text.as_slice() == LINES);
+fn a_host_sends_itself_a_datagram(rt: HostRuntime) -> Result<(), AllocError> {
+    let world = world(rt.alloc())?;
+    assert!(rt; echoes(&rt, rt.alloc(), &world) == Ok(true));
+    drop(world);
     Ok(())
 }

@@ -12,9 +12,9 @@ use counter::Counter;
 use gates::Watch;
 use journal::{Journal, Naming, Opened, Pass};
 use locked::*;
-use net_base::{ActorList, ActorName, Entry, Event, Outcome, Reply, With, Work, same_actor};
+use net_base::{ActorList, ActorName, Entry, Event, Reply, With, Work, same_actor};
 use outside::{Gate, OpenGate};
-use std::alloc::Global;
+use std::alloc::{AllocError, Global};
 use std::marker::Brand;
 use std::process::Abort;
 use std::sync::atomic::{AtomicU64, Ordering};
@@ -23,32 +23,32 @@ use std::test::*;
 use std::thread::{Threads, join};
 
 // What an act answered: the stamp and the count, or the front.
-#[derive(Clone, Copy, PartialEq, Eq, Debug)]
+#[derive(Clone, Copy, PartialEq, Eq)]
 enum Told {
     Counted(u64, u32),
     NotReady(u64),
     Nothing,
 }
 
-fn heard(answer: Answer) -> Told {
+fn told_of(stamp: u64, reply: &Reply) -> Told {
+    match reply {
+        Reply::Count { count } => Told::Counted(stamp, *count),
+        _ => Told::Nothing,
+    }
+}
+
+fn told_by(answer: &Answer) -> Told {
     match answer {
-        Answer::Done {
-            stamp,
-            outcome: Outcome {
-                reply: Reply::Count { count },
-                copy: _,
-                emit: _,
-                taken: _,
-                ended: _,
-            },
-        } => Told::Counted(stamp, count),
-        Answer::Done {
-            stamp: _,
-            outcome: _,
-        } => Told::Nothing,
-        Answer::NotReady { front } => Told::NotReady(front),
+        Answer::Done { stamp, outcome } => told_of(*stamp, &outcome.reply),
+        Answer::NotReady { front } => Told::NotReady(*front),
         Answer::Memory => Told::Nothing,
     }
+}
+
+fn heard(answer: Answer) -> Told {
+    let told = told_by(&answer);
+    drop(answer);
+    told
 }
 
 // Acts at a desk at moment 0, by a caller that has made at most so many entries.
@@ -105,6 +105,13 @@ fn await_count(generation: u64) -> Work {
     }
 }
 
+fn moves() -> Work {
+    Work {
+        event: Event::Move { moment: 7 },
+        with: With::Nothing,
+    }
+}
+
 // Whether the entries are those of two callers, in the order in which these were told of them.
 fn are_counted(history: &[Entry], a: Told, b: Told) -> bool {
     if history.len() != 2 {
@@ -125,7 +132,7 @@ fn counted_by_two<J: Naming + Send + Sync, R: Threads + Wait + Abort + Sync>(
     rt: &R,
     alloc: Global,
     opened: Opened,
-) -> Result<(), Fail>
+) -> Result<(), AllocError>
     requires name { opened ≡ J.run }
     requires callers { J.run.roster.callers ≡ 2 }
     requires actors { J.run.roster.actors ≡ DeskName 0 ∷ [] }
@@ -148,12 +155,13 @@ fn counted_by_two<J: Naming + Send + Sync, R: Threads + Wait + Abort + Sync>(
             ensures { (es : List (ℕ × Noted)) × Holds result.1 1 es × (length es ≤ 1) }
         { act_first(rt, &journal, &desk, two, 1, &work) },
     );
+    drop(work);
     journal.meet(&mut one, two);
-    assert_eq!(rt; journal.look(&mut one), 2);
-    assert_eq!(rt; one.room(0), 131071);
-    assert_eq!(rt; one.room(1), 131071);
+    assert!(rt; journal.look(&mut one) == 2);
+    assert!(rt; one.room(0) == 131071);
+    assert!(rt; one.room(1) == 131071);
     let (machine, book) = desk.into_parts();
-    assert_eq!(rt; machine.count, 2);
+    assert!(rt; machine.count == 2);
     if !same_actor(book.actor(), ActorName::Desk(0)) {
         panic!(rt; "another actor's book");
     }
@@ -161,11 +169,12 @@ fn counted_by_two<J: Naming + Send + Sync, R: Threads + Wait + Abort + Sync>(
     books.push(book)?;
     let history = journal.close(alloc, one, books)?.into_vec();
     assert!(rt; are_counted(&history, a, b));
+    drop(history);
     Ok(())
 }
 
 #[test]
-fn two_threads_count(rt: HostRuntime) -> Result<(), Fail> {
+fn two_threads_count(rt: HostRuntime) -> Result<(), AllocError> {
     let mut names = Vec::new(rt.alloc());
     names.push(ActorName::Desk(0))?;
     let opened = Opened::new(rt.alloc(), 2, &ActorList::from_vec(names))?;
@@ -174,7 +183,11 @@ fn two_threads_count(rt: HostRuntime) -> Result<(), Fail> {
 
 // Acts at a desk, once where it isn't ready, and then at the clock. At each call of the gate, a pass without numbers looks at
 // the journal: each entry is recorded between two calls.
-fn watched<J: Naming, R: Wait + Abort>(rt: &R, alloc: Global, opened: Opened) -> Result<(), Fail>
+fn watched<J: Naming, R: Wait + Abort>(
+    rt: &R,
+    alloc: Global,
+    opened: Opened,
+) -> Result<(), AllocError>
     requires name { opened ≡ J.run }
     requires callers { J.run.roster.callers ≡ 1 }
     requires actors { J.run.roster.actors ≡ DeskName 0 ∷ ClockName ∷ [] }
@@ -192,33 +205,34 @@ fn watched<J: Naming, R: Wait + Abort>(rt: &R, alloc: Global, opened: Opened) ->
     };
     let desk = Locked::new(Counter { count: 0 }, first);
     let clock = Locked::new(Counter { count: 0 }, second);
-    let (told, pass) = act_once(rt, &journal, &gate, &desk, pass, 0, 0, &await_count(1));
-    assert_eq!(rt; told, Told::NotReady(0));
-    assert_eq!(rt; gate.calls.load(Ordering::SeqCst), 0);
-    let (told, pass) = act_once(rt, &journal, &gate, &desk, pass, 0, 1, &take());
-    assert_eq!(rt; told, Told::Counted(0, 1));
-    assert_eq!(rt; gate.calls.load(Ordering::SeqCst), 1021);
-    let (told, mut pass) = act_once(rt, &journal, &gate, &desk, pass, 0, 2, &await_count(1));
-    assert_eq!(rt; told, Told::Counted(1, 2));
-    let work = Work {
-        event: Event::Move { moment: 7 },
-        with: With::Nothing,
-    };
+    let (waits, takes, late, work) = (await_count(1), take(), await_count(3), moves());
+    let (told, pass) = act_once(rt, &journal, &gate, &desk, pass, 0, 0, &waits);
+    assert!(rt; told == Told::NotReady(0));
+    assert!(rt; gate.calls.load(Ordering::SeqCst) == 0);
+    let (told, pass) = act_once(rt, &journal, &gate, &desk, pass, 0, 1, &takes);
+    assert!(rt; told == Told::Counted(0, 1));
+    assert!(rt; gate.calls.load(Ordering::SeqCst) == 1021);
+    let (told, mut pass) = act_once(rt, &journal, &gate, &desk, pass, 0, 2, &waits);
+    assert!(rt; told == Told::Counted(1, 2));
     let told = heard(clock.act_clock(rt, &journal, &gate, &mut pass, 0, 0, &work, None));
-    assert_eq!(rt; told, Told::Counted(2, 1));
-    assert_eq!(rt; gate.calls.load(Ordering::SeqCst), 102111223243);
-    let seen = desk.view(rt, &journal, &mut pass, 7, Some(&await_count(3)));
+    assert!(rt; told == Told::Counted(2, 1));
+    assert!(rt; gate.calls.load(Ordering::SeqCst) == 102111223243);
+    let seen = desk.view(rt, &journal, &mut pass, 7, Some(&late));
     assert!(rt; !seen.ready && seen.due.is_none() && seen.front == 3);
     let seen = desk.view(rt, &journal, &mut pass, 7, Some(&work));
     assert!(rt; seen.ready && seen.front == 3);
     let seen = clock.view(rt, &journal, &mut pass, 7, None);
     assert!(rt; !seen.ready && seen.front == 3);
-    assert_eq!(rt; gate.calls.load(Ordering::SeqCst), 102111223243);
+    assert!(rt; gate.calls.load(Ordering::SeqCst) == 102111223243);
+    drop(waits);
+    drop(takes);
+    drop(late);
+    drop(work);
     Ok(())
 }
 
 #[test]
-fn the_gate_is_called_round_each_record(rt: HostRuntime) -> Result<(), Fail> {
+fn the_gate_is_called_round_each_record(rt: HostRuntime) -> Result<(), AllocError> {
     let mut names = Vec::new(rt.alloc());
     names.push(ActorName::Desk(0))?;
     names.push(ActorName::Clock)?;

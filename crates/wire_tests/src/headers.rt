@@ -3,7 +3,7 @@ ghost use Rattle.std.specs.Prelude.{◌≤◌, length};
 
 use ip_wire::*;
 use net_base::Addr;
-use std::test::Fail;
+use std::alloc::AllocError;
 
 const ANNA: u32 = 0x8768_0906;
 
@@ -60,7 +60,7 @@ fn sum_of(bytes: &[u8]) -> Option<u16> {
 #[test]
 fn sums(rt: HostRuntime) {
     for (i, row) in WORKED_SUMS.iter().enumerate() {
-        assert_eq!(rt; sum_of(row.0), Some(row.1), "row {i}");
+        assert!(rt; sum_of(row.0) == Some(row.1), "row {i}");
     }
 }
 
@@ -70,9 +70,9 @@ fn sums_of(bytes: &[u8]) -> (Option<u16>, Option<u16>) {
 }
 
 #[test]
-fn sums_of_the_most_bytes(rt: HostRuntime) -> Result<(), Fail> {
+fn sums_of_the_most_bytes(rt: HostRuntime) -> Result<(), AllocError> {
     let longest = vec![in rt.alloc(); 0xffu8; 65547]?;
-    assert_eq!(rt; sums_of(&longest), (Some(0xff), Some(0)));
+    assert!(rt; sums_of(&longest) == (Some(0xff), Some(0)));
     Ok(())
 }
 
@@ -82,10 +82,10 @@ fn a_frame_is_written(rt: HostRuntime) {
     let carried = encode_udp(FROM, TO, b"hi", &mut datagram);
     let mut out = [9; 32];
     let whole = encode_ip(&HEADER, &datagram[..10], &mut out);
-    assert_eq!(rt; (carried, whole), (10, 30));
-    assert_eq!(rt; &datagram[10..], [7, 7].as_slice());
-    assert_eq!(rt; &out[..30], FRAME.as_slice());
-    assert_eq!(rt; &out[30..], [9, 9].as_slice());
+    assert!(rt; (carried, whole) == (10, 30));
+    assert!(rt; &datagram[10..] == [7, 7].as_slice());
+    assert!(rt; &out[..30] == FRAME.as_slice());
+    assert!(rt; &out[30..] == [9, 9].as_slice());
 }
 
 /// Whether a datagram from port 5000 to port 7 carries this text.
@@ -131,7 +131,7 @@ fn the_header_of_a_sync(rt: HostRuntime) {
     };
     let mut out = [0; 38];
     let whole = encode_ip(&header, &SYNC, &mut out);
-    assert_eq!(rt; (whole, &out[..20]), (38, SYNC_HEADER.as_slice()));
+    assert!(rt; (whole, &out[..20]) == (38, SYNC_HEADER.as_slice()));
 }
 
 /// The header of the frame under these flags and this sum, with an identification.
@@ -171,7 +171,7 @@ fn flags(rt: HostRuntime) {
         Some((true, 0x1234, 0x40)),
         Some((true, 0x1234, 0x40)),
     );
-    assert_eq!(rt; read, wanted);
+    assert!(rt; read == wanted);
 }
 
 /// What stands at which place.
@@ -212,7 +212,7 @@ const REFUSED: &[(Edits, usize, WireError)] = &[
 #[test]
 fn refused_datagrams(rt: HostRuntime) {
     for (i, row) in REFUSED.iter().enumerate() {
-        assert_eq!(rt; fault_of(row.0, row.1), Some(row.2), "row {i}");
+        assert!(rt; fault_of(row.0, row.1) == Some(row.2), "row {i}");
     }
 }
 
@@ -235,7 +235,7 @@ const REFUSED_USER: &[(u32, Edits, usize, WireError)] = &[
 #[test]
 fn refused_user_datagrams(rt: HostRuntime) {
     for (i, row) in REFUSED_USER.iter().enumerate() {
-        assert_eq!(rt; user_fault(row.0, row.1, row.2), Some(row.3), "row {i}");
+        assert!(rt; user_fault(row.0, row.1, row.2) == Some(row.3), "row {i}");
     }
 }
 
@@ -256,9 +256,9 @@ fn summed(text: &[u8]) -> Option<(u8, u8, bool, bool)> {
 #[test]
 fn sums_of_user_datagrams(rt: HostRuntime) {
     // an even number of bytes, an odd one, and a computed 0
-    assert_eq!(rt; summed(b"hi"), Some((0x62, 0xec, true, true)));
-    assert_eq!(rt; summed(b"h"), Some((0x63, 0x57, true, true)));
-    assert_eq!(rt; summed(&[0xcb, 0x55]), Some((0xff, 0xff, true, true)));
+    assert!(rt; summed(b"hi") == Some((0x62, 0xec, true, true)));
+    assert!(rt; summed(b"h") == Some((0x63, 0x57, true, true)));
+    assert!(rt; summed(&[0xcb, 0x55]) == Some((0xff, 0xff, true, true)));
 }
 
 /// Whether the greatest text is written with this user datagram's sum and this header's, and read again.
@@ -277,7 +277,7 @@ fn is_greatest(text: &[u8], datagram: &mut [u8], out: &mut [u8]) -> bool {
 }
 
 #[test]
-fn greatest_lengths(rt: HostRuntime) -> Result<(), Fail> {
+fn greatest_lengths(rt: HostRuntime) -> Result<(), AllocError> {
     let text = vec![in rt.alloc(); 0xffu8; 65507]?;
     let mut datagram = vec![in rt.alloc(); 0u8; 65515]?;
     let mut out = vec![in rt.alloc(); 0u8; 65535]?;

@@ -1,3 +1,4 @@
+//! Packets on a medium: the order in which they come, the mtu, and the fates of frames.
 ghost use Rattle.std.specs.Prelude.{◌+◌, ◌≤◌};
 ghost use Rattle.medium.specs.OnFates.{AreLines};
 
@@ -8,7 +9,6 @@ use net_base::{
 };
 use std::alloc::{AllocError, Global};
 use std::process::Abort;
-use std::test::Fail;
 
 const ANNA: Addr = Addr {
     ip: 0x8768_0906,
@@ -44,30 +44,56 @@ fn fated(
         later,
         fates,
     };
-    Medium::new(alloc, &spec, 1)
+    let medium = Medium::new(alloc, &spec, 1);
+    drop(spec);
+    medium
+}
+
+fn lay_copies(medium: &mut Medium, packet: &Packet, frames: usize) -> Result<(), AllocError> {
+    for _ in 0..frames {
+        medium.put(Some(1), packet)?;
+    }
+    Ok(())
 }
 
 /// Lays so many frames.
 fn lay(alloc: Global, medium: &mut Medium, frames: usize) -> Result<(), AllocError> {
     let packet = udp(alloc, b"hi")?;
-    for _ in 0..frames {
-        medium.put(Some(1), &packet)?;
+    let laid = lay_copies(medium, &packet, frames);
+    drop(packet);
+    laid
+}
+
+/// The frame of the next copy.
+fn next_frame(medium: &mut Medium) -> Result<Option<u64>, AllocError> {
+    if !medium.pending() {
+        return Ok(None);
     }
-    Ok(())
+    let taken = medium.take()?;
+    let frame = taken.frame;
+    drop(taken);
+    Ok(Some(frame))
 }
 
 /// Whether the copies of these frames come, and no others.
 fn come(medium: &mut Medium, expected: &[u64]) -> Result<bool, AllocError> {
     for frame in expected {
-        if !medium.pending() {
-            return Ok(false);
-        }
-        let taken = medium.take()?;
-        if taken.frame != *frame {
+        if next_frame(medium)? != Some(*frame) {
             return Ok(false);
         }
     }
     Ok(!medium.pending())
+}
+
+/// Whether these copies come of so many frames, and no others.
+fn gives(
+    alloc: Global,
+    medium: &mut Medium,
+    frames: usize,
+    expected: &[u64],
+) -> Result<bool, AllocError> {
+    lay(alloc, medium, frames)?;
+    come(medium, expected)
 }
 
 /// Whether these copies come of so many frames on a medium with these lines.
@@ -83,8 +109,9 @@ fn lines_give(
 {
     let lines = Sequence::from_vec(Vec::from_slice(alloc, lines)?);
     let mut medium = fated(alloc, loss, 0, 0, lines)?;
-    lay(alloc, &mut medium, frames)?;
-    come(&mut medium, expected)
+    let given = gives(alloc, &mut medium, frames, expected);
+    drop(medium);
+    given
 }
 
 /// Whether these copies come of two frames under these rates. The first words, modulo 1000, are 86 and 797.
@@ -98,8 +125,9 @@ fn rates_give(
     requires { loss + twice + later ≤ 1000 }
 {
     let mut medium = fated(alloc, loss, twice, later, Sequence::new(alloc))?;
-    lay(alloc, &mut medium, 2)?;
-    come(&mut medium, expected)
+    let given = gives(alloc, &mut medium, 2, expected);
+    drop(medium);
+    given
 }
 
 const LINES: [FateRange; 3] = [
@@ -158,13 +186,9 @@ fn lays(
         Proto::Udp => udp(alloc, text)?,
         Proto::Il => il(alloc, text)?,
     };
-    medium.put(to, &packet)
-}
-
-/// Takes a copy, which must be there.
-fn taken(rt: &impl Abort, medium: &mut Medium) -> Result<Taken, AllocError> {
-    assert!(rt; medium.pending());
-    medium.take()
+    let laid = medium.put(to, &packet);
+    drop(packet);
+    laid
 }
 
 /// Whether it is the datagram `hi`, of the first frame to station 1.
@@ -193,29 +217,69 @@ fn is_second(taken: &Taken) -> bool {
     }
 }
 
-#[test]
-fn packets_come_in_their_order(rt: HostRuntime) -> Result<(), Fail> {
-    let mut medium = ether(rt.alloc())?;
-    let before = medium.pending();
-    let rows = [
-        (Some(1), Proto::Udp, b"hi".as_slice(), Laid::Frame(1)),
-        (None, Proto::Udp, b"hi", Laid::NoStation),
-        (Some(0), Proto::Il, b"hello", Laid::Frame(2)),
-    ];
-    for (to, proto, text, laid) in rows {
-        assert_eq!(rt; lays(rt.alloc(), &mut medium, to, proto, text), Ok(laid));
+/// A station, a protocol and a text, and what becomes of the packet.
+type Row<'a> = (Option<u32>, Proto, &'a [u8], Laid);
+
+fn lay_rows(
+    rt: &impl Abort,
+    alloc: Global,
+    medium: &mut Medium,
+    rows: &[Row<'_>],
+) -> Result<(), AllocError> {
+    for (i, (to, proto, text, laid)) in rows.iter().enumerate() {
+        let met = lays(alloc, medium, *to, *proto, text)? == *laid;
+        assert!(rt; met, "row {i}");
     }
-    let first = taken(&rt, &mut medium)?;
-    let second = taken(&rt, &mut medium)?;
-    assert_eq!(rt; (before, medium.pending()), (false, false));
-    assert_eq!(rt; (is_first(&first), is_second(&second)), (true, true));
+    Ok(())
+}
+
+/// Whether a copy comes that is the first.
+fn first_comes(medium: &mut Medium) -> Result<bool, AllocError> {
+    if !medium.pending() {
+        return Ok(false);
+    }
+    let taken = medium.take()?;
+    let first = is_first(&taken);
+    drop(taken);
+    Ok(first)
+}
+
+/// Whether a copy comes that is the second.
+fn second_comes(medium: &mut Medium) -> Result<bool, AllocError> {
+    if !medium.pending() {
+        return Ok(false);
+    }
+    let taken = medium.take()?;
+    let second = is_second(&taken);
+    drop(taken);
+    Ok(second)
+}
+
+const IN_ORDER: &[Row<'static>] = &[
+    (Some(1), Proto::Udp, b"hi", Laid::Frame(1)),
+    (None, Proto::Udp, b"hi", Laid::NoStation),
+    (Some(0), Proto::Il, b"hello", Laid::Frame(2)),
+];
+
+fn carry(rt: &impl Abort, alloc: Global, medium: &mut Medium) -> Result<(), AllocError> {
+    assert!(rt; !medium.pending());
+    lay_rows(rt, alloc, medium, IN_ORDER)?;
+    let both = first_comes(medium)? && second_comes(medium)?;
+    assert!(rt; both && !medium.pending());
     Ok(())
 }
 
 #[test]
-fn packets_up_to_the_mtu(rt: HostRuntime) -> Result<(), Fail> {
-    let text = [b'x'; 549];
+fn packets_come_in_their_order(rt: HostRuntime) -> Result<(), AllocError> {
     let mut medium = ether(rt.alloc())?;
+    let carried = carry(&rt, rt.alloc(), &mut medium);
+    drop(medium);
+    carried
+}
+
+#[test]
+fn packets_up_to_the_mtu(rt: HostRuntime) -> Result<(), AllocError> {
+    let text = [b'x'; 549];
     let rows = [
         (Some(0), Proto::Udp, &text[..548], Laid::Frame(1)),
         (Some(0), Proto::Udp, &text[..549], Laid::TooBig),
@@ -223,51 +287,46 @@ fn packets_up_to_the_mtu(rt: HostRuntime) -> Result<(), Fail> {
         (Some(0), Proto::Il, &text[..538], Laid::Frame(2)),
         (Some(0), Proto::Il, &text[..539], Laid::TooBig),
     ];
-    for (i, (to, proto, text, laid)) in rows.iter().enumerate() {
-        assert_eq!(rt;
-            lays(rt.alloc(), &mut medium, *to, *proto, text),
-            Ok(*laid),
-            "row {i}"
-        );
-    }
-    Ok(())
+    let mut medium = ether(rt.alloc())?;
+    let laid = lay_rows(&rt, rt.alloc(), &mut medium, &rows);
+    drop(medium);
+    laid
 }
 
 #[test]
-fn fates_by_lines(rt: HostRuntime) -> Result<(), Fail> {
-    assert!(rt; lines_give(rt.alloc(), 0, &LINES, 6, &[2, 4, 4, 3, 5, 5, 6])?);
-    Ok(())
+fn fates_by_lines(rt: HostRuntime) {
+    assert!(rt; lines_give(rt.alloc(), 0, &LINES, 6, &[2, 4, 4, 3, 5, 5, 6]) == Ok(true));
 }
 
-#[test]
-fn fates_by_rates(rt: HostRuntime) -> Result<(), Fail> {
-    let alloc = rt.alloc();
-    let rows = [
+/// Whether all rates give what they have to.
+fn all_rates_give(alloc: Global) -> Result<bool, AllocError> {
+    Ok(
         // 86 below the loss of 87, and at the loss of 86
-        rates_give(alloc, 87, 0, 0, &[2])?,
-        rates_give(alloc, 86, 0, 0, &[1, 2])?,
-        // 86 below loss and twice
-        rates_give(alloc, 80, 7, 0, &[1, 1, 2])?,
-        // 86 at loss and twice, below all three
-        rates_give(alloc, 80, 6, 1, &[2, 1])?,
-        // 86 at all three
-        rates_give(alloc, 40, 40, 6, &[1, 2])?,
-    ];
-    assert_eq!(rt; rows, [true; 5]);
-    Ok(())
+        rates_give(alloc, 87, 0, 0, &[2])?
+            && rates_give(alloc, 86, 0, 0, &[1, 2])?
+            // 86 below loss and twice
+            && rates_give(alloc, 80, 7, 0, &[1, 1, 2])?
+            // 86 at loss and twice, below all three
+            && rates_give(alloc, 80, 6, 1, &[2, 1])?
+            // 86 at all three
+            && rates_give(alloc, 40, 40, 6, &[1, 2])?,
+    )
 }
 
 #[test]
-fn words_are_drawn_for_all_frames(rt: HostRuntime) -> Result<(), Fail> {
+fn fates_by_rates(rt: HostRuntime) {
+    assert!(rt; all_rates_give(rt.alloc()) == Ok(true));
+}
+
+#[test]
+fn words_are_drawn_for_all_frames(rt: HostRuntime) {
     // 86, 797, 970, 809, 448, 80, 103, 790, 936 and 677
-    let lost = lines_give(rt.alloc(), 500, &[], 10, &[2, 3, 4, 8, 9, 10])?;
-    let lined = lines_give(rt.alloc(), 500, &LINES, 10, &[2, 4, 4, 3, 5, 5, 8, 9, 10])?;
-    assert_eq!(rt; (lost, lined), (true, true));
-    Ok(())
+    let lost = lines_give(rt.alloc(), 500, &[], 10, &[2, 3, 4, 8, 9, 10]);
+    let lined = lines_give(rt.alloc(), 500, &LINES, 10, &[2, 4, 4, 3, 5, 5, 8, 9, 10]);
+    assert!(rt; (lost, lined) == (Ok(true), Ok(true)));
 }
 
 #[test]
-fn the_last_held_copy_of_an_idle_medium(rt: HostRuntime) -> Result<(), Fail> {
-    assert!(rt; rates_give(rt.alloc(), 0, 0, 1000, &[1, 2])?);
-    Ok(())
+fn the_last_held_copy_of_an_idle_medium(rt: HostRuntime) {
+    assert!(rt; rates_give(rt.alloc(), 0, 0, 1000, &[1, 2]) == Ok(true));
 }

@@ -88,15 +88,15 @@ fn wrong_after_gate(alloc: Global, deeds: &[Deed]) -> (Option<usize>, Option<usi
 
 #[test]
 fn the_longest_mask_is_taken(rt: HostRuntime) {
-    assert_eq!(rt; wrong_after_gate(rt.alloc(), &[]), (None, None));
+    assert!(rt; wrong_after_gate(rt.alloc(), &[]) == (None, None));
 }
 
 #[test]
 fn a_host_route_is_longer_than_its_network(rt: HostRuntime) {
-    assert_eq!(rt; wrong_after_gate(rt.alloc(), HOST_ROUTE), (None, None));
+    assert!(rt; wrong_after_gate(rt.alloc(), HOST_ROUTE) == (None, None));
 }
 
 #[test]
 fn routes_are_refused(rt: HostRuntime) {
-    assert_eq!(rt; wrong_after_gate(rt.alloc(), REFUSED), (None, None));
+    assert!(rt; wrong_after_gate(rt.alloc(), REFUSED) == (None, None));
 }

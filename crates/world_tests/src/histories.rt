@@ -2,10 +2,9 @@
 use crate::worlds::WORLD;
 use net_base::{
     ActorName, Addr, BodyHeader, Call, CallList, Cause, Entry, Event, FileName, Header, History,
-    IlKind, Lines, Mode, Octets, Pair, Proto, Reply, StateName,
+    IlKind, Lines, Mode, Octets, Pair, Proto, Reply, StateName, World,
 };
 use std::alloc::{AllocError, Global};
-use std::test::Fail;
 use transcript::{End, RunStatus, summary_by, text_of};
 use world_file::read_world;
 
@@ -55,18 +54,23 @@ fn put_part(alloc: Global, part: Part, history: &mut History) -> Result<(), Allo
 
 fn has_text(alloc: Global, history: &History, lines: &str) -> Result<bool, AllocError> {
     let text = text_of(alloc, history)?;
-    Ok(text.as_slice() == lines.as_bytes())
+    let same = text.as_slice() == lines.as_bytes();
+    drop(text);
+    Ok(same)
 }
 
 /// Whether the history of a part has this text.
 fn is_told(alloc: Global, part: Part, lines: &str) -> Result<bool, AllocError> {
     let mut history = History::new(alloc);
-    put_part(alloc, part, &mut history)?;
-    has_text(alloc, &history, lines)
+    let put = put_part(alloc, part, &mut history);
+    let told = has_text(alloc, &history, lines);
+    drop(history);
+    put?;
+    told
 }
 
 #[test]
-fn each_entry_has_its_line(rt: HostRuntime) -> Result<(), Fail> {
+fn each_entry_has_its_line(rt: HostRuntime) -> Result<(), AllocError> {
     for (i, (part, lines)) in PARTS.iter().enumerate() {
         let told = is_told(rt.alloc(), *part, lines)?;
         assert!(rt; told, "part {i}");
@@ -548,6 +552,19 @@ fn put_numbers(alloc: Global, history: &mut History) -> Result<(), AllocError> {
     put(history, Event::Move { moment: 60000 }, Reply::Ok)
 }
 
+fn has_summary(
+    alloc: Global,
+    world: &World,
+    history: &History,
+    status: RunStatus,
+    lines: &str,
+) -> Result<bool, AllocError> {
+    let summary = summary_by(alloc, world, history, status)?;
+    let same = summary.as_slice() == lines.as_bytes();
+    drop(summary);
+    Ok(same)
+}
+
 /// Whether a history behind the scripts of the worked world has this summary.
 fn is_summed(
     alloc: Global,
@@ -558,8 +575,9 @@ fn is_summed(
     let Ok(world) = read_world(alloc, WORLD) else {
         return Ok(false);
     };
-    let summary = summary_by(alloc, &world, history, status)?;
-    Ok(summary.as_slice() == lines.as_bytes())
+    let summed = has_summary(alloc, &world, history, status, lines);
+    drop(world);
+    summed
 }
 
 const DONE: &str = "steps 8 of 8\nmessages 1 1\nbytes 2 2\nend done 0\n";
@@ -570,15 +588,16 @@ fn datagram_is_summed(alloc: Global) -> Result<bool, AllocError> {
         end: End::Done,
     };
     let mut history = History::new(alloc);
-    put_datagram(alloc, &mut history)?;
-    is_summed(alloc, &history, status, DONE)
+    let put = put_datagram(alloc, &mut history);
+    let summed = is_summed(alloc, &history, status, DONE);
+    drop(history);
+    put?;
+    summed
 }
 
 #[test]
-fn a_datagram_is_summed(rt: HostRuntime) -> Result<(), Fail> {
-    let summed = datagram_is_summed(rt.alloc())?;
-    assert!(rt; summed);
-    Ok(())
+fn a_datagram_is_summed(rt: HostRuntime) {
+    assert!(rt; datagram_is_summed(rt.alloc()) == Ok(true));
 }
 
 /// Adds what counts as no message: a write that is refused, a read of nothing, a read of another file.
@@ -599,6 +618,11 @@ fn put_moves(history: &mut History) -> Result<(), AllocError> {
     Ok(())
 }
 
+fn put_stops(alloc: Global, history: &mut History) -> Result<(), AllocError> {
+    put_no_messages(alloc, history)?;
+    put_moves(history)
+}
+
 const STOPPED: &str = "steps 3 of 8\nmessages 0 0\nbytes 0 0\nend stopped 60000\n";
 
 fn refusals_are_summed(alloc: Global) -> Result<bool, AllocError> {
@@ -607,14 +631,14 @@ fn refusals_are_summed(alloc: Global) -> Result<bool, AllocError> {
         end: End::Stopped,
     };
     let mut history = History::new(alloc);
-    put_no_messages(alloc, &mut history)?;
-    put_moves(&mut history)?;
-    is_summed(alloc, &history, status, STOPPED)
+    let put = put_stops(alloc, &mut history);
+    let summed = is_summed(alloc, &history, status, STOPPED);
+    drop(history);
+    put?;
+    summed
 }
 
 #[test]
-fn refusals_are_no_messages(rt: HostRuntime) -> Result<(), Fail> {
-    let summed = refusals_are_summed(rt.alloc())?;
-    assert!(rt; summed);
-    Ok(())
+fn refusals_are_no_messages(rt: HostRuntime) {
+    assert!(rt; refusals_are_summed(rt.alloc()) == Ok(true));
 }

@@ -1,12 +1,27 @@
-//! Tests of texts: lines of a world, worlds as they are read, written and made, and histories with their summaries.
+//! Tests of texts: databases with their searches, lines of a world, worlds as they are read, written and made, and histories with
+//! their summaries, printed and read back.
 #![tactic(auto)]
 
 #[cfg(test)]
+mod answers;
+#[cfg(test)]
+mod compared;
+#[cfg(test)]
 mod histories;
+#[cfg(test)]
+mod indexes;
 #[cfg(test)]
 mod lines;
 #[cfg(test)]
 mod made;
+#[cfg(test)]
+mod reading;
+#[cfg(test)]
+mod searches;
+#[cfg(test)]
+mod texts;
+#[cfg(test)]
+mod transcripts;
 #[cfg(test)]
 mod worlds;
 #[cfg(test)]

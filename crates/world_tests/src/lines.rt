@@ -1,6 +1,7 @@
 //! Worked lines, and those that are refused.
 use net_base::{Fate, Proto, Step};
 use std::alloc::Global;
+use std::process::Abort;
 use world_text::{Frames, HostLine, MediumLine, WorldLine};
 use world_words::{LineFault, is_name, read_line};
 
@@ -25,13 +26,20 @@ fn names_are_told(rt: HostRuntime) {
     }
 }
 
-/// The cause of a line, 0 where it is read.
-fn cause_of(alloc: Global, line: &[u8]) -> u32 {
-    match read_line(alloc, line) {
+fn cause_in(read: &Result<WorldLine, LineFault>) -> u32 {
+    match read {
         Ok(_) => 0,
         Err(LineFault::Cause(cause)) => cause.number(),
         Err(LineFault::Memory) => 1,
     }
+}
+
+/// The cause of a line, 0 where it is read.
+fn cause_of(alloc: Global, line: &[u8]) -> u32 {
+    let read = read_line(alloc, line);
+    let cause = cause_in(&read);
+    drop(read);
+    cause
 }
 
 /// The first of these lines that has another cause.
@@ -42,6 +50,11 @@ fn first_other(alloc: Global, lines: &[&[u8]], cause: u32) -> Option<usize> {
         }
     }
     None
+}
+
+/// All of these lines have this cause.
+fn all_have(rt: &impl Abort, alloc: Global, lines: &[&[u8]], cause: u32) {
+    assert_eq!(rt; first_other(alloc, lines, cause), None);
 }
 
 const LINES: &[&[u8]] = &[
@@ -64,8 +77,7 @@ const LINES: &[&[u8]] = &[
 
 #[test]
 fn lines_are_read(rt: HostRuntime) {
-    let other = first_other(rt.alloc(), LINES, 0);
-    assert_eq!(rt; other, None);
+    all_have(&rt, rt.alloc(), LINES, 0);
 }
 
 const STEPS: &[&[u8]] = &[
@@ -90,16 +102,14 @@ const STEPS: &[&[u8]] = &[
 
 #[test]
 fn steps_are_read(rt: HostRuntime) {
-    let other = first_other(rt.alloc(), STEPS, 0);
-    assert_eq!(rt; other, None);
+    all_have(&rt, rt.alloc(), STEPS, 0);
 }
 
 const UNKNOWN: &[&[u8]] = &[b" end 1", b"opens c /net", b"ENDS", b"", b"ndbs"];
 
 #[test]
 fn unknown_words_are_told(rt: HostRuntime) {
-    let other = first_other(rt.alloc(), UNKNOWN, 12);
-    assert_eq!(rt; other, None);
+    all_have(&rt, rt.alloc(), UNKNOWN, 12);
 }
 
 const WRONG_LINES: &[&[u8]] = &[
@@ -127,8 +137,7 @@ const WRONG_LINES: &[&[u8]] = &[
 
 #[test]
 fn wrong_lines_are_told(rt: HostRuntime) {
-    let other = first_other(rt.alloc(), WRONG_LINES, 13);
-    assert_eq!(rt; other, None);
+    all_have(&rt, rt.alloc(), WRONG_LINES, 13);
 }
 
 const WRONG_STEPS: &[&[u8]] = &[
@@ -156,8 +165,7 @@ const WRONG_STEPS: &[&[u8]] = &[
 
 #[test]
 fn wrong_steps_are_told(rt: HostRuntime) {
-    let other = first_other(rt.alloc(), WRONG_STEPS, 13);
-    assert_eq!(rt; other, None);
+    all_have(&rt, rt.alloc(), WRONG_STEPS, 13);
 }
 
 /// What a line says, as far as rows ask.
@@ -204,11 +212,18 @@ fn said_of(line: &WorldLine) -> Said {
     }
 }
 
-fn said_by(alloc: Global, line: &[u8]) -> Said {
-    match read_line(alloc, line) {
-        Ok(line) => said_of(&line),
+fn said_in(read: &Result<WorldLine, LineFault>) -> Said {
+    match read {
+        Ok(line) => said_of(line),
         Err(_) => Said::Other,
     }
+}
+
+fn said_by(alloc: Global, line: &[u8]) -> Said {
+    let read = read_line(alloc, line);
+    let said = said_in(&read);
+    drop(read);
+    said
 }
 
 const SAID: &[(&[u8], Said)] = &[

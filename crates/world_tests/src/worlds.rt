@@ -1,7 +1,7 @@
 //! Worked worlds, and the causes of bad lines.
 use net_base::{HostSpec, MediumSpec, Script, Step, World};
 use std::alloc::{AllocError, Global};
-use std::test::Fail;
+use std::process::Abort;
 use world_file::{WorldError, read_world};
 
 /// The lines that a world begins with, those behind them, and the bad line of both with its cause.
@@ -107,6 +107,11 @@ fn first_wrong(alloc: Global, rows: &[Row]) -> Result<Option<usize>, AllocError>
     Ok(None)
 }
 
+/// No row is wrong.
+fn none_wrong(rt: &impl Abort, wrong: Result<Option<usize>, AllocError>) {
+    assert_eq!(rt; wrong, Ok(None));
+}
+
 /// Whether a host is helix at its one address.
 fn is_helix(host: &HostSpec) -> bool {
     match host.ifaces.as_slice() {
@@ -143,14 +148,20 @@ fn has_two_scripts(world: &World) -> bool {
     }
 }
 
+fn is_worked(world: &World) -> bool {
+    let head = world.end == 60000 && world.seed == 7;
+    let counts = world.media.len() == 1 && world.db.len() == 3;
+    head && counts && has_two_hosts(world) && has_two_scripts(world)
+}
+
 /// Whether the worked world is read as its lines say.
 fn worked_is_read(alloc: Global) -> bool {
     let Ok(world) = read_world(alloc, WORLD) else {
         return false;
     };
-    let head = world.end == 60000 && world.seed == 7;
-    let counts = world.media.len() == 1 && world.db.len() == 3;
-    head && counts && has_two_hosts(&world) && has_two_scripts(&world)
+    let worked = is_worked(&world);
+    drop(world);
+    worked
 }
 
 #[test]
@@ -209,7 +220,9 @@ fn free_is_read(alloc: Global) -> bool {
     let Ok(world) = read_world(alloc, FREE) else {
         return false;
     };
-    has_fates(&world) && has_free_hosts(&world) && has_free_scripts(&world)
+    let free = has_fates(&world) && has_free_hosts(&world) && has_free_scripts(&world);
+    drop(world);
+    free
 }
 
 #[test]
@@ -236,10 +249,8 @@ const FIRST_LINES: &[Row] = &[
 ];
 
 #[test]
-fn first_lines_are_judged(rt: HostRuntime) -> Result<(), Fail> {
-    let wrong = first_wrong(rt.alloc(), FIRST_LINES)?;
-    assert_eq!(rt; wrong, None);
-    Ok(())
+fn first_lines_are_judged(rt: HostRuntime) {
+    none_wrong(&rt, first_wrong(rt.alloc(), FIRST_LINES));
 }
 
 const OF_MEDIA: &[Row] = &[
@@ -276,10 +287,8 @@ const OF_MEDIA: &[Row] = &[
 ];
 
 #[test]
-fn media_are_judged(rt: HostRuntime) -> Result<(), Fail> {
-    let wrong = first_wrong(rt.alloc(), OF_MEDIA)?;
-    assert_eq!(rt; wrong, None);
-    Ok(())
+fn media_are_judged(rt: HostRuntime) {
+    none_wrong(&rt, first_wrong(rt.alloc(), OF_MEDIA));
 }
 
 const OF_HOSTS: &[Row] = &[
@@ -298,10 +307,8 @@ const OF_HOSTS: &[Row] = &[
 ];
 
 #[test]
-fn hosts_are_judged(rt: HostRuntime) -> Result<(), Fail> {
-    let wrong = first_wrong(rt.alloc(), OF_HOSTS)?;
-    assert_eq!(rt; wrong, None);
-    Ok(())
+fn hosts_are_judged(rt: HostRuntime) {
+    none_wrong(&rt, first_wrong(rt.alloc(), OF_HOSTS));
 }
 
 const ROUTES: &[Row] = &[
@@ -331,10 +338,8 @@ const ROUTES: &[Row] = &[
 ];
 
 #[test]
-fn routes_are_judged(rt: HostRuntime) -> Result<(), Fail> {
-    let wrong = first_wrong(rt.alloc(), ROUTES)?;
-    assert_eq!(rt; wrong, None);
-    Ok(())
+fn routes_are_judged(rt: HostRuntime) {
+    none_wrong(&rt, first_wrong(rt.alloc(), ROUTES));
 }
 
 const SCRIPTS: &[Row] = &[
@@ -353,10 +358,8 @@ const SCRIPTS: &[Row] = &[
 ];
 
 #[test]
-fn scripts_are_judged(rt: HostRuntime) -> Result<(), Fail> {
-    let wrong = first_wrong(rt.alloc(), SCRIPTS)?;
-    assert_eq!(rt; wrong, None);
-    Ok(())
+fn scripts_are_judged(rt: HostRuntime) {
+    none_wrong(&rt, first_wrong(rt.alloc(), SCRIPTS));
 }
 
 /// What is told of this many scripts more than none.
@@ -369,10 +372,8 @@ fn told_of_scripts(alloc: Global, many: u32) -> Result<Option<(u64, u32)>, Alloc
 }
 
 #[test]
-fn a_script_too_many_is_told(rt: HostRuntime) -> Result<(), Fail> {
-    let told = told_of_scripts(rt.alloc(), 33)?;
-    assert_eq!(rt; told, Some((41, 17)));
-    Ok(())
+fn a_script_too_many_is_told(rt: HostRuntime) {
+    assert!(rt; told_of_scripts(rt.alloc(), 33) == Ok(Some((41, 17))));
 }
 
 /// The first line of these behind which the worked world can be cut, with its newline or without, and isn't told to lack
@@ -398,5 +399,5 @@ fn first_whole(alloc: Global, lines: u64) -> Option<u64> {
 #[test]
 fn a_text_that_is_cut_lacks_a_part(rt: HostRuntime) {
     let first = first_whole(rt.alloc(), 19);
-    assert_eq!(rt; first, None);
+    assert!(rt; first == None);
 }

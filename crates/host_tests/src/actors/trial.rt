@@ -17,7 +17,7 @@ pub const ANNA: u32 = 0x8768_0906;
 pub const HELIX: u32 = 0x8768_091f;
 
 /// What is read of a reply.
-#[derive(Clone, Copy, PartialEq, Eq)]
+#[derive(Clone, Copy)]
 pub enum Told {
     NotReady,
     Ok,
@@ -73,6 +73,39 @@ fn read_reply(reply: &Reply) -> Told {
         Reply::Copy { frame } => Told::Copy(*frame),
         _ => Told::Other,
     }
+}
+
+/// By what one is told from another: a number for each kind, and what it holds.
+fn key(told: Told) -> (u8, u32, u64) {
+    match told {
+        Told::NotReady => (0, 0, 0),
+        Told::Ok => (1, 0, 0),
+        Told::NoFile => (2, 0, 0),
+        Told::BadMode => (3, 0, 0),
+        Told::BadFid => (4, 0, 0),
+        Told::Lines(count) => (5, 0, count as u64),
+        Told::CsRefused(number) => (6, number, 0),
+        Told::Names(count) => (7, 0, count as u64),
+        Told::Slot(slot, generation) => (8, slot, generation),
+        Told::Granted(limit) => (9, limit, 0),
+        Told::Call(slot, generation) => (10, slot, generation),
+        Told::Calls(count) => (11, 0, count as u64),
+        Told::To(slot, generation) => (12, slot, generation),
+        Told::Born(slot, generation) => (13, slot, generation),
+        Told::Opened(generation) => (14, 0, generation),
+        Told::Bytes(count) => (15, 0, count as u64),
+        Told::Count(count) => (16, count, 0),
+        Told::Took => (17, 0, 0),
+        Told::NotDue => (18, 0, 0),
+        Told::Stale => (19, 0, 0),
+        Told::Laid(frame) => (20, 0, frame),
+        Told::Copy(frame) => (21, 0, frame),
+        Told::Other => (22, 0, 0),
+    }
+}
+
+pub fn is_same(told: Told, want: Told) -> bool {
+    key(told) == key(want)
 }
 
 fn media(alloc: Global) -> Result<Media, AllocError>
@@ -157,8 +190,12 @@ impl Trial {
     #[tactic(auto, using(crate::proofs::Trying::none_led, crate::proofs::Trying::tried_is_world))]
     pub fn new(alloc: Global) -> Result<Trial, AllocError> {
         let world = world(alloc)?;
-        let actors = Actors::new(alloc, &world)?;
-        Ok(Trial { actors, works: 0 })
+        let actors = Actors::new(alloc, &world);
+        drop(world);
+        Ok(Trial {
+            actors: actors?,
+            works: 0,
+        })
     }
 
     /// What the actor answers.
@@ -174,7 +211,9 @@ impl Trial {
         }
         let outcome = self.actors.step(name, now, work)?;
         self.works += 1;
-        Ok(read_reply(&outcome.reply))
+        let told = read_reply(&outcome.reply);
+        drop(outcome);
+        Ok(told)
     }
 
     /// When the actor is due.

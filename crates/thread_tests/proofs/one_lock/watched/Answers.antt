@@ -26,6 +26,12 @@ act_once-told-requires-clause-actor g c =
     let items = c.in-Some-Some.ensures.items ∙ ap (λ (bs : List Volume). bs ++ c.in-Some-Some.second ∷ []) c.in-Some-Some.ensures'.items in
     c.new-desk.ensures.actor ∙ first_blank 0 (name.Desk 0) name.Clock c.pop-2.new.self.items c.in-Some-Some.first c.in-Some-Some.second (subst (λ (bs : List Volume). AreBlank 0 (name.Desk 0 ∷ name.Clock ∷ []) bs) items blank)
 
+pub act_once-told-requires-2-clause-actor : goal.act_once-told-requires-2-clause-actor
+act_once-told-requires-2-clause-actor g c =
+    let blank = subst (λ (as' : List ActorName). AreBlank 0 as' c.in_ok-journal.books.items) c.requires.actors c.in_ok-journal.ensures.books in
+    let items = c.in-Some-Some.ensures.items ∙ ap (λ (bs : List Volume). bs ++ c.in-Some-Some.second ∷ []) c.in-Some-Some.ensures'.items in
+    c.new-desk.ensures.actor ∙ first_blank 0 (name.Desk 0) name.Clock c.pop-2.new.self.items c.in-Some-Some.first c.in-Some-Some.second (subst (λ (bs : List Volume). AreBlank 0 (name.Desk 0 ∷ name.Clock ∷ []) bs) items blank)
+
 pub act_once-told-requires-3-clause-actor : goal.act_once-told-requires-3-clause-actor
 act_once-told-requires-3-clause-actor g c =
     let blank = subst (λ (as' : List ActorName). AreBlank 0 as' c.in_ok-journal.books.items) c.requires.actors c.in_ok-journal.ensures.books in

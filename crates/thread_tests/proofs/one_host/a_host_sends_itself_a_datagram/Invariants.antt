@@ -1,9 +1,0 @@
-use Rattle.thread_tests.proofs.one_host.a_host_sends_itself_a_datagram.Given as goal
-
--- the net that was just opened
-abbrev pub ghosts-echoed-J-Naming : goal.ghosts-echoed-J-Naming
-ghosts-echoed-J-Naming g a = record { run = a.opened }
-
--- in the worked world
-abbrev pub ghosts-echoed-J-Placing : goal.ghosts-echoed-J-Placing
-ghosts-echoed-J-Placing g a = record { world = a.world.now }
