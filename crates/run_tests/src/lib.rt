@@ -1,5 +1,7 @@
-//! Tests of runs: legal on any number of workers, and in a fixed order on one.
+//! Tests of runs: legal on any number of workers, and in a fixed order on one; as they are and with one entry changed.
 #![tactic(auto)]
 
+#[cfg(test)]
+mod changes;
 #[cfg(test)]
 mod random_worlds;

@@ -2,14 +2,13 @@
 ghost use Rattle.std.specs.Prelude.{◌<◌, ◌≤◌};
 ghost use Rattle.net_base.specs.World.{IsWorld};
 
-use net_base::World;
+use net_base::{History, World};
 use netcheck::check;
 use outside::OpenGate;
 use rand_core::utils::NextWord;
 use rand_pcg::Lcg64Xsh32;
 use std::alloc::{AllocError, Global};
 use std::sync::Wait;
-use std::test::Fail;
 use std::thread::Threads;
 use transcript::text_of;
 use world_file::read_world;
@@ -113,9 +112,11 @@ fn put_world(words: &mut Lcg64Xsh32, text: &mut String) -> Result<(), AllocError
 
 /// A number of a text, and of what was told before.
 fn told_of(before: u64, text: &[u8]) -> u64 {
-    text.iter().fold(before, |told, byte| {
-        told.wrapping_mul(31).wrapping_add(u64::from(*byte))
-    })
+    let mut told = before;
+    for byte in text {
+        told = told.wrapping_mul(31).wrapping_add(u64::from(*byte));
+    }
+    told
 }
 
 /// Whether the history of a run on so many workers keeps all rules.
@@ -132,7 +133,9 @@ fn is_legal<R: Threads + Wait + Sync>(
     let Ok(run) = agenda::run(rt, alloc, world, workers, &OpenGate) else {
         return Err(AllocError);
     };
-    Ok(check(alloc, world, &run.history).is_ok())
+    let legal = check(alloc, world, &run.history).is_ok();
+    drop(run);
+    Ok(legal)
 }
 
 /// Whether that holds on two, four and sixteen.
@@ -149,7 +152,40 @@ fn are_legal<R: Threads + Wait + Sync>(
     Ok(two && four && many)
 }
 
-/// Whether the histories on one worker and on more keep all rules, with what that on one tells.
+/// Whether a history keeps all rules, with what it tells.
+fn is_told_legal(
+    alloc: Global,
+    world: &World,
+    history: &History,
+    before: u64,
+) -> Result<(bool, u64), AllocError>
+    requires { IsWorld world.now }
+{
+    let text = text_of(alloc, history)?;
+    let told = told_of(before, text.as_slice());
+    Ok((check(alloc, world, history).is_ok(), told))
+}
+
+/// Whether the histories of a world on one worker and on more keep all rules, with what that on one tells.
+fn are_legal_in<R: Threads + Wait + Sync>(
+    rt: &R,
+    alloc: Global,
+    world: &World,
+    before: u64,
+) -> Result<(bool, u64), AllocError>
+    requires { IsWorld world.now }
+{
+    let Ok(run) = agenda::run(rt, alloc, world, 1, &OpenGate) else {
+        return Err(AllocError);
+    };
+    let told = is_told_legal(alloc, world, &run.history, before);
+    drop(run);
+    let (alone, told) = told?;
+    let others = are_legal(rt, alloc, world)?;
+    Ok((alone && others, told))
+}
+
+/// The same of the world of a text.
 fn are_legal_of<R: Threads + Wait + Sync>(
     rt: &R,
     alloc: Global,
@@ -159,13 +195,9 @@ fn are_legal_of<R: Threads + Wait + Sync>(
     let Ok(world) = read_world(alloc, text.as_bytes()) else {
         return Ok((false, before));
     };
-    let Ok(run) = agenda::run(rt, alloc, &world, 1, &OpenGate) else {
-        return Err(AllocError);
-    };
-    let told = told_of(before, text_of(alloc, &run.history)?.as_slice());
-    let alone = check(alloc, &world, &run.history).is_ok();
-    let others = are_legal(rt, alloc, &world)?;
-    Ok((alone && others, told))
+    let legal = are_legal_in(rt, alloc, &world, before);
+    drop(world);
+    legal
 }
 
 /// The same of the next world.
@@ -184,7 +216,7 @@ fn are_legal_next<R: Threads + Wait + Sync>(
 const TOLD: u64 = 5_407_751_749_184_666_353;
 
 #[test]
-fn histories_of_random_worlds_are_legal(rt: HostRuntime) -> Result<(), Fail> {
+fn histories_of_random_worlds_are_legal(rt: HostRuntime) -> Result<(), AllocError> {
     let mut words = Lcg64Xsh32::new(30, 1);
     let mut told = 0;
     for i in 0..300_u32 {
@@ -192,6 +224,6 @@ fn histories_of_random_worlds_are_legal(rt: HostRuntime) -> Result<(), Fail> {
         assert!(rt; legal, "world {i}");
         told = next;
     }
-    assert_eq!(rt; told, TOLD);
+    assert!(rt; told == TOLD);
     Ok(())
 }

@@ -1,5 +1,5 @@
 use Rattle.std.proofs.Common.{refl}
-use Rattle.check_tests.proofs.changes.has_summary.Goals as goal
+use Rattle.run_tests.proofs.changes.has_summary.Goals as goal
 
 pub summary_of-requires-clause-legal : goal.summary_of-requires-clause-legal
 summary_of-requires-clause-legal c = c.in-Ok.ensures.legal refl
