@@ -7,3 +7,5 @@ pub mod Drawing
 pub mod Chart
 pub mod Laws
 pub mod Ways
+pub mod Talks
+pub mod TalkChart

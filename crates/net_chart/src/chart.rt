@@ -122,8 +122,9 @@ fn put_style(out: &mut Octets) -> Result<(), AllocError>
     out.append(b"\n")
 }
 
+/// Begins a page.
 #[tactic(auto, unfolding(crate::specs::Chart::page_start))]
-fn put_start(out: &mut Octets, width: u64, bottom: u64) -> Result<(), AllocError>
+pub fn put_start(out: &mut Octets, width: u64, bottom: u64) -> Result<(), AllocError>
     ensures { OnOk result (out.new ≡ out.old ++ spec.page_start width bottom) }
 {
     put_opening(out)?;
@@ -132,7 +133,8 @@ fn put_start(out: &mut Octets, width: u64, bottom: u64) -> Result<(), AllocError
     put_style(out)
 }
 
-fn put_end(out: &mut Octets) -> Result<(), AllocError>
+/// Ends it.
+pub fn put_end(out: &mut Octets) -> Result<(), AllocError>
     ensures { OnOk result (out.new ≡ out.old ++ spec.page_end) }
 {
     out.append(b"</svg>")?;
@@ -148,7 +150,8 @@ fn put_columns(out: &mut Octets, bottom: u64, hosts: &[HostSpec]) -> Result<(), 
     Ok(())
 }
 
-fn put_bands(out: &mut Octets, page: &Page, width: u64) -> Result<(), AllocError>
+/// Adds the moments of a page.
+pub fn put_bands(out: &mut Octets, page: &Page, width: u64) -> Result<(), AllocError>
     ensures { OnOk result (out.new ≡ out.old ++ flat_map (band_text page.now width) page.now.places) }
 {
     for place in page.places.as_slice() {
@@ -175,7 +178,8 @@ fn put_things(
     Ok(())
 }
 
-fn put_drawn(
+/// Adds what is drawn by an entry, if anything is.
+pub fn put_drawn(
     out: &mut Octets,
     page: &Page,
     entry: &Entry,

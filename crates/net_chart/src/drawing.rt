@@ -13,7 +13,7 @@ use std::alloc::AllocError;
 use words::put_decimal;
 
 /// The column of a host, by its number.
-fn column_at(host: u64) -> u64
+pub fn column_at(host: u64) -> u64
     ensures { result ≡ spec.column_at host }
 {
     260 + 320 * bounded(host)

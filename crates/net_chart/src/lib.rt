@@ -10,7 +10,10 @@ mod past;
 mod place;
 mod sight;
 mod svg;
+mod talk;
+mod talk_chart;
 mod thing;
 
 pub use chart::chart_of;
 pub use law::{frames_are_told, ways_are_shown};
+pub use talk_chart::chart_of_talks;

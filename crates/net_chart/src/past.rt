@@ -160,8 +160,8 @@ fn arrives(history: &[Entry], came: &IndexSet<Key>, key: Key) -> bool
     came.contains(&key)
 }
 
-// The entry that owed one.
-fn owner_of(history: &[Entry], cites: Option<u64>) -> Option<&Entry>
+/// The entry that owed one.
+pub fn owner_of(history: &[Entry], cites: Option<u64>) -> Option<&Entry>
     ensures { option_copied result ≡ frames.owner_of history.now cites }
 {
     match cites {
