@@ -4,6 +4,7 @@ use Rattle.std.specs.List.{enumerate_from}
 use Rattle.net_base.specs.declared.actor.ActorName.{ActorName}
 use Rattle.net_base.specs.declared.actor.ActorName.TheVariants as name
 use Rattle.net_base.specs.declared.history.Entry.{Entry}
+use Rattle.net_base.specs.declared.address.Proto.{Proto}
 use Rattle.net_base.specs.declared.world.HostSpec.{HostSpec}
 use Rattle.net_base.specs.declared.world.World.{World}
 use Rattle.net_base.specs.Numeral.{numeral}
@@ -22,9 +23,12 @@ abbrev pub host_text : Option HostSpec → List ℕ
 host_text None = codes "?"
 host_text (Some host) = escaped host.name
 
+unfoldable pub slot_text : Proto → ℕ → List ℕ
+slot_text p n = codes " " ++ proto_name p ++ codes "/" ++ numeral n
+
 -- the name of a host with the protocol and the number of its conversation
 abbrev pub talk_name : World → ActorName → List ℕ
-talk_name w (name.Conv h p n) = host_text (slice_get w.hosts h) ++ codes " " ++ proto_name p ++ codes "/" ++ numeral n
+talk_name w (name.Conv h p n) = host_text (slice_get w.hosts h) ++ slot_text p n
 talk_name w _ = []
 
 unfoldable pub talk_column : World → ℕ → ℕ × ActorName → List ℕ

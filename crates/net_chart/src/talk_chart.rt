@@ -12,7 +12,7 @@ use crate::past::{Past, arrivals_in};
 use crate::place::{Page, bounded, page_of};
 use crate::svg::{end_text, put_escaped, put_line, start_text};
 use crate::talk::{Talks, talks_of};
-use net_base::{ActorName, Entry, History, HostSpec, Octets, World};
+use net_base::{ActorName, Entry, History, HostSpec, Octets, Proto, World};
 use std::alloc::{AllocError, Global};
 use words::{proto_name, put_decimal};
 
@@ -61,22 +61,36 @@ fn put_host(out: &mut Octets, host: Option<&HostSpec>) -> Result<(), AllocError>
     }
 }
 
+#[tactic(auto, unfolding(crate::specs::TalkChart::slot_text))]
+fn put_slot(out: &mut Octets, proto: Proto, slot: u32) -> Result<(), AllocError>
+    ensures { OnOk result (out.new ≡ out.old ++ spec.slot_text proto slot) }
+{
+    out.append(b" ")?;
+    out.append(proto_name(proto))?;
+    out.append(b"/")?;
+    put_decimal(out, slot as u64)
+}
+
+fn host_at(world: &World, host: u32) -> Option<&HostSpec>
+    ensures { option_copied result ≡ slice_get world.now.hosts host }
+{
+    world.hosts.as_slice().get(host as usize)
+}
+
 // The name of a host with the protocol and the number of its conversation.
 fn put_name(out: &mut Octets, world: &World, actor: ActorName) -> Result<(), AllocError>
     ensures { OnOk result (out.new ≡ out.old ++ spec.talk_name world.now actor) }
 {
     match actor {
         ActorName::Conv(host, proto, slot) => {
-            put_host(out, world.hosts.as_slice().get(host as usize))?;
-            out.append(b" ")?;
-            out.append(proto_name(proto))?;
-            out.append(b"/")?;
-            put_decimal(out, slot as u64)
+            put_host(out, host_at(world, host))?;
+            put_slot(out, proto, slot)
         }
         _ => Ok(()),
     }
 }
 
+#[tactic(auto, unfolding(crate::specs::TalkChart::talk_column))]
 fn put_column(
     out: &mut Octets,
     world: &World,
