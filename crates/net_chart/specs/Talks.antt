@@ -1,5 +1,6 @@
--- Columns of conversations: in which one the packet of a frame was emitted, and to which one a copy was brought.
-use Rattle.std.specs.Prelude.{ℕ, ◌+◌, ◌-◌, ◌==◌, ◌&&◌, Bool, true, false, List, [], ◌∷◌, ◌++◌, min, nat_eq, Option, Some, None, option_map, position, if◌then◌else◌}
+-- A column for each conversation, which is a slot of a host and protocol in all its generations: in which one the packet of a
+-- frame was emitted, and to which one a copy of it was brought. What belongs to none isn't drawn.
+use Rattle.std.specs.Prelude.{ℕ, ◌+◌, ◌-◌, ◌==◌, Bool, true, false, List, [], ◌∷◌, ◌++◌, min, nat_eq, Option, Some, None, option_map, position, if◌then◌else◌}
 use Rattle.std.specs.Map.{lookup}
 use Rattle.std.specs.Option.{option_and_then}
 use Rattle.indexmap.specs.IndexMap.{insert_entry}
@@ -11,15 +12,15 @@ use Rattle.net_chart.specs.declared.frame.Frame.{Frame}
 use Rattle.net_chart.specs.declared.frame.Source.{Source}
 use Rattle.net_chart.specs.declared.place.Place.{Place}
 use Rattle.net_chart.specs.declared.sight.Sight.{Sight}
-use Rattle.net_chart.specs.declared.sight.Sight.TheVariants.{Laid, Came, Did, Nothing}
+use Rattle.net_chart.specs.declared.sight.Sight.TheVariants.{Laid, Came}
 use Rattle.net_chart.specs.declared.thing.Thing.{Thing}
 use Rattle.net_chart.specs.declared.thing.Thing.TheVariants.{Arrow, Cross, Operation}
 use Rattle.net_chart.specs.Frames.{owner_of, same_frame}
 use Rattle.net_chart.specs.Sights.{sight_of}
 use Rattle.net_chart.specs.Things.{Drawn, Past, drawn_of, no_past, past_after, thing_at}
 
--- conversations in the order of their first entries; the columns of frames, by where their packets were emitted; and those to
--- which the copies that entries took were brought, by stamps
+-- the conversations in the order of their first entries; the columns where frames start, by medium and number; and the columns to
+-- which copies were brought, by the stamps of the entries that took them
 pub record Talks : Type 0 where
   pub columns : List ActorName
   pub starts : List ((ℕ × ℕ) × ℕ)
@@ -54,7 +55,8 @@ columns_with columns a = if is_conversation a then columns_by columns a (column_
 abbrev pub start_at : List ((ℕ × ℕ) × ℕ) → ℕ × ℕ → Option ℕ
 start_at starts key = lookup (same_frame key) starts
 
--- the column of a packet that this actor emitted, or that came by an earlier frame
+-- a packet starts in the column of the conversation that emitted it; one that came by an earlier frame and is sent on, where
+-- that one started; and one that a directory emitted in none
 abbrev pub start_by : Talks → ActorName → Sight → Option ℕ
 start_by t a (Came m k) = start_at t.starts (m, k)
 start_by t a _ = column_of t.columns a
@@ -66,7 +68,7 @@ abbrev pub starts_at : List ((ℕ × ℕ) × ℕ) → ℕ × ℕ → Option ℕ 
 starts_at starts key None = starts
 starts_at starts key (Some c) = insert_entry same_frame starts key c
 
--- a frame that is laid starts where the entry that owed it says
+-- a frame that is laid starts where its packet does, by the entry that owed it
 abbrev pub starts_by : Talks → Option Entry → Sight → List ((ℕ × ℕ) × ℕ)
 starts_by t owner (Laid m k to) = starts_at t.starts (m, k) (option_and_then (start_of t) owner)
 starts_by t owner _ = t.starts
@@ -79,11 +81,11 @@ ends_at ends (Some stamp) (Some c) = insert_entry nat_eq ends stamp c
 ends_at ends (Some stamp) None = ends
 ends_at ends None column = ends
 
--- the stamp of the entry that owed the one that owed this one
+-- the entry that owed the owner of an entry, by its stamp
 abbrev pub cited_by : Option Entry → Option ℕ
 cited_by owner = option_and_then (λ (y : Entry). y.cites) owner
 
--- a copy was brought to the conversation of an entry whose owner was owed by the entry that took it
+-- an entry takes a copy, which owes one at a directory, which owes one at the conversation to which the copy is brought
 abbrev pub talks_by : Talks → Option Entry → Entry → List ActorName → Talks
 talks_by t owner x columns = record {
   columns = columns;
@@ -116,12 +118,13 @@ arrow_between f at (Some from) (Some to) = Some (Arrow (moved from to f) at)
 arrow_between f at (Some from) None = None
 arrow_between f at None to = None
 
--- an arrow of a copy that was brought to a conversation
+-- a copy has an arrow where it was brought to a conversation and its packet started in one: a stray has none, nor has a copy
+-- that is sent on
 abbrev pub arrow_by : Talks → ℕ → Frame → Place → Sight → Option Thing
 arrow_by t stamp f at (Came m k) = arrow_between f at (start_at t.starts (m, k)) (end_at t.ends stamp)
 arrow_by t stamp f at _ = None
 
--- the column beside one, to which half an arrow goes
+-- the column beside one, to which half an arrow goes: the one on its left, but for the first
 abbrev pub beside : ℕ → ℕ
 beside column = if column == 0 then 1 else column - 1
 
@@ -129,15 +132,17 @@ abbrev pub cross_from : Frame → Option ℕ → Option Thing
 cross_from f None = None
 cross_from f (Some from) = Some (Cross (moved from (beside from) f))
 
+-- a lost frame has a cross where its packet started in a column
 abbrev pub cross_by : Talks → Frame → Sight → Option Thing
 cross_by t f (Laid m k to) = cross_from f (start_at t.starts (m, k))
 cross_by t f _ = None
 
+-- an operation of a desk or a directory stands in no column, and its row is empty
 abbrev pub operation_in : Place → Option ℕ → Option Thing
 operation_in at None = None
 operation_in at (Some c) = Some (Operation c at)
 
--- a thing of the hosts' columns in those of conversations, if it has to do with any
+-- a thing of the chart of hosts as it stands between the columns of conversations, if it has to do with any
 abbrev pub talked : Talks → ℕ → Entry → Thing → Option Thing
 talked t stamp x (Arrow f at) = arrow_by t stamp f at (sight_of x)
 talked t stamp x (Cross f) = cross_by t f (sight_of x)

@@ -1,4 +1,4 @@
-//! The chart of a history: a column a host, time downwards, an arrow for each copy of a frame.
+//! The chart of a history: a column a host or a conversation, time downwards, an arrow for each copy of a frame.
 #![tactic(auto)]
 
 mod chart;

@@ -18,8 +18,8 @@ use std::marker::Model;
 /// No column has a greater number.
 const LAST_COLUMN: usize = 4_294_967_295;
 
-/// Conversations in the order of their first entries; the columns of frames, by where their packets were emitted; and those to
-/// which the copies that entries took were brought, by stamps.
+/// The conversations in the order of their first entries; the columns where frames start, by medium and number; and the columns to
+/// which copies were brought, by the stamps of the entries that took them.
 #[derive(Drop)]
 pub struct Talks {
     columns: ActorList,
@@ -137,7 +137,7 @@ fn end_at(ends: &IndexMap<u64, u32>, stamp: u64) -> Option<u32>
     ends.get(&stamp).copied()
 }
 
-// The stamp of the entry that owed this one.
+// The entry that owed this owner, by its stamp.
 fn cited_by(owner: Option<&Entry>) -> Option<u64>
     ensures { (owed : Option AnyEntry) → option_copied owner.entry ≡ owed → result ≡ spec.cited_by owed }
 {
@@ -158,7 +158,7 @@ impl Talks {
         }
     }
 
-    /// How many columns there are.
+    /// The conversations, column by column.
     pub fn columns(&self) -> &[ActorName]
         ensures { result.now ≡ self.now.columns }
     {
@@ -176,7 +176,7 @@ impl Talks {
         note_end(&mut self.ends, cited_by(owner), column)
     }
 
-    // A frame that is laid starts where the entry that owed it says.
+    // A frame that is laid starts where its packet does.
     fn note_laid(&mut self, owner: Option<&Entry>, sight: Sight) -> Result<(), AllocError>
         ensures { OnOk result ((owed : Option AnyEntry) → option_copied owner.entry ≡ owed
             → self.new ≡ record self.old { starts = spec.starts_by self.old owed sight }) }
@@ -199,7 +199,7 @@ impl Talks {
         }
     }
 
-    // The column of a packet that an entry's actor emitted, or that came by an earlier frame.
+    // Where a packet starts, by the entry that owes its put: where it was emitted, or where the earlier frame started by which it came.
     fn start_of(&self, owner: &Entry) -> Option<u32>
         ensures { result ≡ spec.start_of self.now owner.now }
     {
@@ -209,7 +209,7 @@ impl Talks {
         }
     }
 
-    /// A thing of the hosts' columns in those of conversations, if it has to do with any.
+    /// A thing of the chart of hosts as it stands between these columns, if it has to do with any.
     pub fn talked(&self, stamp: u64, entry: &Entry, thing: Option<Thing>) -> Option<Thing>
         ensures { result ≡ spec.talked_by self.now stamp entry.now thing }
     {

@@ -1,7 +1,7 @@
 //! Charts, as whole pages and by what they count.
 use history_reader::read_transcript;
 use net_base::{ActorName, Entry, Event, History, Octets, Reply, World};
-use net_chart::chart_of;
+use net_chart::{chart_of, chart_of_talks};
 use std::alloc::{AllocError, Global};
 use std::process::Abort;
 use world_file::read_world;
@@ -88,6 +88,97 @@ fn draws(alloc: Global, lines: &[u8], page: &[u8]) -> Result<bool, AllocError> {
 #[test]
 fn copies_and_losses_are_drawn(rt: HostRuntime) {
     let drawn = draws(rt.alloc(), HISTORY, PAGE);
+    assert_eq!(rt; drawn, Ok(true));
+}
+
+// A datagram between conversations, a stray, an answer that is sent on from one medium to another, and one that is lost.
+const TALKS: &[u8] = b"0 0 0 dir.0.udp - reserve = slot 0 1
+1 0 0 conv.0.udp.0 - write 1 6869 = count 2 + udp 135.104.9.6!5000 135.104.9.31!7 255 0 2
+2 0 0 medium.0 1 put 1 = laid 1
+3 0 2 medium.0 - take = copy 1
+4 0 2 dir.1.udp 3 arrive = to 0 1
+5 0 2 conv.1.udp.0 4 arrive 1 = took
+6 2 0 conv.0.udp.1 - write 1 68 = count 1 + udp 135.104.9.6!5001 135.104.9.31!9 255 0 1
+7 2 0 medium.0 6 put 1 = laid 2
+8 3 2 medium.0 - take = copy 2
+9 3 2 dir.1.udp 8 arrive = dropped
+10 3 1 conv.1.udp.0 - write 1 6f6b = count 2 + udp 135.104.9.31!7 135.104.9.6!5001 255 0 2
+11 3 1 medium.1 10 put 0 = laid 1
+12 4 2 medium.1 - take = copy 1
+13 4 2 medium.0 12 put 0 = laid 3
+14 5 2 medium.0 - take = copy 3
+15 5 2 dir.0.udp 14 arrive = to 1 1
+16 5 2 conv.0.udp.1 15 arrive 1 = took
+17 6 1 conv.1.udp.0 - write 1 21 = count 1 + udp 135.104.9.31!7 135.104.9.6!5001 255 0 1
+18 6 1 medium.1 17 put 0 = laid 2
+";
+
+const TALKS_PAGE: &[u8] =
+    b"<svg xmlns='http://www.w3.org/2000/svg' width='1160' height='440' viewBox='0 0 1160 440'>
+<style>
+text{font:10px monospace;fill:#222}
+line,path{stroke:#357;fill:none}
+.host{font:bold 14px sans-serif;text-anchor:middle}
+.life{stroke:#bbb}
+.moment{stroke:#ddd}
+.when{fill:#888}
+.right{text-anchor:start}
+.left{text-anchor:end}
+.again{stroke:#a60}
+line.again{stroke-dasharray:5 3}
+.lost{stroke:#c22}
+.op{fill:#262}
+</style>
+<rect width='100%' height='100%' fill='#fff'/>
+<text class='host' x='260' y='30'>anna udp/0</text>
+<line class='life' x1='260' y1='40' x2='260' y2='440'/>
+<text class='host' x='580' y='30'>helix udp/0</text>
+<line class='life' x1='580' y1='40' x2='580' y2='440'/>
+<text class='host' x='900' y='30'>anna udp/1</text>
+<line class='life' x1='900' y1='40' x2='900' y2='440'/>
+<line class='moment' x1='0' y1='76' x2='1160' y2='76'/>
+<text class='when' x='4' y='87'>0 ms</text>
+<line class='moment' x1='0' y1='156' x2='1160' y2='156'/>
+<text class='when' x='4' y='167'>2 ms</text>
+<line class='moment' x1='0' y1='204' x2='1160' y2='204'/>
+<text class='when' x='4' y='215'>3 ms</text>
+<line class='moment' x1='0' y1='268' x2='1160' y2='268'/>
+<text class='when' x='4' y='279'>4 ms</text>
+<line class='moment' x1='0' y1='316' x2='1160' y2='316'/>
+<text class='when' x='4' y='327'>5 ms</text>
+<line class='moment' x1='0' y1='348' x2='1160' y2='348'/>
+<text class='when' x='4' y='359'>6 ms</text>
+<text class='left op' dx='-6' dy='3' x='260' y='108'>write 2 'hi' = count 2</text>
+<line class='frame' x1='260' y1='124' x2='580' y2='140'/>
+<path class='frame' d='M 580 140m-8-4l8 4l-8 4'/>
+<text class='right' dx='10' dy='-3' x='260' y='124'>1: udp len 2</text>
+<text class='right op' dx='6' dy='3' x='900' y='172'>write 1 'h' = count 1</text>
+<text class='right op' dx='6' dy='3' x='580' y='236'>write 2 'ok' = count 2</text>
+<line class='frame' x1='580' y1='300' x2='900' y2='332'/>
+<path class='frame' d='M 900 332m-8-4l8 4l-8 4'/>
+<text class='right' dx='10' dy='-3' x='580' y='300'>3: udp len 2</text>
+<text class='right op' dx='6' dy='3' x='580' y='364'>write 1 '!' = count 1</text>
+<line class='lost' x1='580' y1='380' x2='420' y2='388'/>
+<path class='lost' d='M 420 388m-5-5l10 10m0-10l-10 10'/>
+<text class='left' dx='-10' dy='-3' x='580' y='380'>2: udp len 1</text>
+</svg>
+";
+
+// Whether the chart of their conversations is this one.
+fn draws_talks(alloc: Global, lines: &[u8], page: &[u8]) -> Result<bool, AllocError> {
+    let Ok(world) = read_world(alloc, WORLD) else {
+        return Err(AllocError);
+    };
+    let Ok((history, _)) = read_transcript(alloc, lines) else {
+        return Err(AllocError);
+    };
+    let text = chart_of_talks(alloc, &world, &history)?;
+    Ok(text.as_slice() == page)
+}
+
+#[test]
+fn frames_between_conversations_are_drawn(rt: HostRuntime) {
+    let drawn = draws_talks(rt.alloc(), TALKS, TALKS_PAGE);
     assert_eq!(rt; drawn, Ok(true));
 }
 
