@@ -2,3 +2,4 @@ pub mod Steps
 pub mod Telling
 pub mod Showing
 pub mod Talking
+pub mod TellingTalks

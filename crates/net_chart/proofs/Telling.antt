@@ -87,10 +87,10 @@ found_more (e ∷ es) k q f = by (same_frame k e.0) refl (found_more es k q f)
 
 -- The frames so far are those that were laid.
 
-abbrev Knows : List Entry → Laid_frames → Type 0
+abbrev pub Knows : List Entry → Laid_frames → Type 0
 Knows past frames = (key : ℕ × ℕ) → found frames key ≡ was_laid past key
 
-laid_last : (past : List Entry) (x : Entry) (key : ℕ × ℕ) → was_laid (past ++ x ∷ []) key ≡ (was_laid past key || lays key (sight_of x))
+pub laid_last : (past : List Entry) (x : Entry) (key : ℕ × ℕ) → was_laid (past ++ x ∷ []) key ≡ (was_laid past key || lays key (sight_of x))
 laid_last [] x key = by (lays key (sight_of x))
   where
     by : (b : Bool) → (b || false) ≡ b
@@ -113,7 +113,7 @@ unchanged : (a : Bool) → a ≡ (a || false)
 unchanged true = refl
 unchanged false = refl
 
-knows_by : (h past : List Entry) (p : Past) (x : Entry) (s : Sight) → Knows past p.frames
+pub knows_by : (h past : List Entry) (p : Past) (x : Entry) (s : Sight) → Knows past p.frames
     → (key : ℕ × ℕ) → found (past_by h p x s).frames key ≡ (was_laid past key || lays key s)
 knows_by h past p x (Laid m k to) knows key =
     found_more p.frames (m, k) key (laid_by h p.frames x k to p.place)

@@ -9,3 +9,4 @@ pub mod Laws
 pub mod Ways
 pub mod Talks
 pub mod TalkChart
+pub mod TalkLaws

@@ -20,7 +20,8 @@ use Rattle.net_chart.specs.Sights.{sight_of}
 use Rattle.net_chart.specs.Things.{Drawn, Past, drawn_of, no_past, past_after, thing_at}
 
 -- the conversations in the order of their first entries; the columns where frames start, by medium and number; and the columns to
--- which copies were brought, by the stamps of the entries that took them
+-- which copies were brought, by the stamps of the entries that took them. Of a number that is laid twice, which no legal history
+-- does, the last start counts
 pub record Talks : Type 0 where
   pub columns : List ActorName
   pub starts : List ((ℕ × ℕ) × ℕ)
@@ -143,18 +144,18 @@ operation_in at None = None
 operation_in at (Some c) = Some (Operation c at)
 
 -- a thing of the chart of hosts as it stands between the columns of conversations, if it has to do with any
-abbrev pub talked : Talks → ℕ → Entry → Thing → Option Thing
-talked t stamp x (Arrow f at) = arrow_by t stamp f at (sight_of x)
-talked t stamp x (Cross f) = cross_by t f (sight_of x)
-talked t stamp x (Operation host at) = operation_in at (column_of t.columns x.actor)
+abbrev pub talked : Talks → ℕ → Entry → Sight → Thing → Option Thing
+talked t stamp x s (Arrow f at) = arrow_by t stamp f at s
+talked t stamp x s (Cross f) = cross_by t f s
+talked t stamp x s (Operation host at) = operation_in at (column_of t.columns x.actor)
 
-abbrev pub talked_by : Talks → ℕ → Entry → Option Thing → Option Thing
-talked_by t stamp x thing = option_and_then (talked t stamp x) thing
+abbrev pub talked_by : Talks → ℕ → Entry → Sight → Option Thing → Option Thing
+talked_by t stamp x s thing = option_and_then (talked t stamp x s) thing
 
 abbrev pub talks_drawn_from : Bool → List Entry → Talks → Past → ℕ → List Entry → List Drawn
 talks_drawn_from brief h t past stamp [] = []
 talks_drawn_from brief h t past stamp (x ∷ xs) =
-    drawn_of x (talked_by t stamp x (thing_at brief h past x)) ++ talks_drawn_from brief h t (past_after brief h past x) (stamp + 1) xs
+    drawn_of x (talked_by t stamp x (sight_of x) (thing_at brief h past x)) ++ talks_drawn_from brief h t (past_after brief h past x) (stamp + 1) xs
 
 -- all that is drawn of the conversations of a history
 abbrev pub talks_drawn : Bool → List Entry → Talks → List Drawn

@@ -2,6 +2,7 @@
 ghost use Rattle.std.specs.Prelude.{Bool, List};
 ghost use Rattle.net_base.specs.declared.history.Entry.{Entry};
 ghost use Rattle.net_chart.specs.Laws.{TellsFrames};
+ghost use Rattle.net_chart.specs.TalkLaws.{TellsTalks};
 ghost use Rattle.net_chart.specs.Ways.{ShowsWays};
 
 /// What is drawn of a history has one cross for each frame of which no copy arrives, and one arrow for each copy that comes of a
@@ -14,4 +15,10 @@ pub fn frames_are_told()
 /// the frame's number and station.
 pub fn ways_are_shown()
     ensures { (brief : Bool) (h : List Entry) → ShowsWays brief h }
+{}
+
+/// What is drawn of conversations has one cross for each lost frame that starts in a column, and one arrow for each copy of a frame
+/// that comes from a column to a column.
+pub fn talks_are_told()
+    ensures { (brief : Bool) (h : List Entry) → TellsTalks brief h }
 {}

@@ -3,6 +3,7 @@ ghost use Rattle.std.specs.Prelude.{◌≡◌, ◌++◌, [], ◌∷◌, nat_eq, 
 ghost use Rattle.std.specs.Option.{option_and_then};
 ghost use Rattle.net_base.specs.declared.history.Entry.{Entry as AnyEntry};
 ghost use Rattle.net_base.specs.Stamped.{same_actor as is_same};
+ghost use Rattle.net_chart.specs.Sights.{sight_of as sight};
 ghost use Rattle.net_chart.specs.Talks as spec;
 
 use crate::frame::{Frame, Key, Source};
@@ -211,7 +212,7 @@ impl Talks {
 
     /// A thing of the chart of hosts as it stands between these columns, if it has to do with any.
     pub fn talked(&self, stamp: u64, entry: &Entry, thing: Option<Thing>) -> Option<Thing>
-        ensures { result ≡ spec.talked_by self.now stamp entry.now thing }
+        ensures { result ≡ spec.talked_by self.now stamp entry.now (sight entry.now) thing }
     {
         match thing {
             Some(thing) => self.between(stamp, entry, thing),
@@ -220,7 +221,7 @@ impl Talks {
     }
 
     fn between(&self, stamp: u64, entry: &Entry, thing: Thing) -> Option<Thing>
-        ensures { result ≡ spec.talked self.now stamp entry.now thing }
+        ensures { result ≡ spec.talked self.now stamp entry.now (sight entry.now) thing }
     {
         match thing {
             Thing::Arrow { frame, at } => self.arrow(stamp, &frame, at, sight_of(entry)),

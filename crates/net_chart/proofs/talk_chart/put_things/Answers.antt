@@ -8,6 +8,8 @@ pub loop-stamp-preserved : goal.loop-stamp-preserved
 loop-stamp-preserved c =
     let l = c.loop-stamp in
     let page = c.args.page.now in
-    talks_more page c.args.entries.now c.args.entries.now c.args.talks.now l.stamp c.index-entries-stamp.result l.past c.take.new.self c.in_ok-thing.thing c.talked.result
-    l.out c.put_drawn.new.out (c.args.out.now ++ drawing_of page (talks_drawn page.brief c.args.entries.now c.args.talks.now)) c.loop-stamp-test.true
-    c.index-entries-stamp.is c.in_ok-thing.ensures.thing c.in_ok-thing.ensures.past c.talked.ensures c.in_ok-put_drawn.ensures l.invariant
+    let h = c.args.entries.now in
+    let talks = c.args.talks.now in
+    talks_more page h h talks l.stamp c.index-entries-stamp.result l.past c.take.new.self c.in_ok-thing.thing c.talked.result l.out c.put_drawn.new.out
+    (c.args.out.now ++ drawing_of page (talks_drawn page.brief h talks)) c.loop-stamp-test.true c.index-entries-stamp.is c.in_ok-thing.ensures.thing
+    c.in_ok-thing.ensures.past c.talked.ensures c.in_ok-put_drawn.ensures l.invariant
