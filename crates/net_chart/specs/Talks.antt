@@ -49,7 +49,7 @@ columns_by columns a (Some c) = columns
 
 -- a conversation that had no entry yet has the next column
 abbrev pub columns_with : List ActorName → ActorName → List ActorName
-columns_with columns a = if is_conversation a then columns_by columns a (column_of columns a) else columns
+columns_with columns a = columns_by columns a (column_of columns a)
 
 -- Frames and copies.
 
@@ -86,16 +86,19 @@ ends_at ends None column = ends
 abbrev pub cited_by : Option Entry → Option ℕ
 cited_by owner = option_and_then (λ (y : Entry). y.cites) owner
 
--- an entry takes a copy, which owes one at a directory, which owes one at the conversation to which the copy is brought
-abbrev pub talks_by : Talks → Option Entry → Entry → List ActorName → Talks
-talks_by t owner x columns = record {
-  columns = columns;
-  starts = starts_by t owner (sight_of x);
-  ends = ends_at t.ends (cited_by owner) (column_of columns x.actor);
-}
+-- with the column of a frame that is laid
+abbrev pub started : Talks → Option Entry → Entry → Talks
+started t owner x = record t { starts = starts_by t owner (sight_of x) }
+
+-- at an entry of this conversation: the entry of this stamp took a copy, which owed one at a directory, which owed this one
+abbrev pub entered : Talks → Option ℕ → ActorName → Talks
+entered t stamp a = record t { columns = columns_with t.columns a; ends = ends_at t.ends stamp (column_of (columns_with t.columns a) a) }
+
+abbrev pub talks_by : Talks → Option Entry → Entry → Talks
+talks_by t owner x = if is_conversation x.actor then entered (started t owner x) (cited_by owner) x.actor else started t owner x
 
 abbrev pub talks_with : List Entry → Talks → Entry → Talks
-talks_with h t x = talks_by t (owner_of h x.cites) x (columns_with t.columns x.actor)
+talks_with h t x = talks_by t (owner_of h x.cites) x
 
 abbrev pub talks_from : List Entry → Talks → List Entry → Talks
 talks_from h t [] = t

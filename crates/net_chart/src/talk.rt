@@ -82,9 +82,6 @@ fn column_of(columns: &[ActorName], actor: ActorName) -> Option<u32>
 fn note_column(columns: &mut ActorList, actor: ActorName) -> Result<(), AllocError>
     ensures { OnOk result (columns.new ≡ spec.columns_with columns.old actor) }
 {
-    if !is_conversation(actor) {
-        return Ok(());
-    }
     match column_of(columns.as_slice(), actor) {
         Some(_) => Ok(()),
         None => columns.push(actor),
@@ -172,9 +169,20 @@ impl Talks {
     {
         let owner = owner_of(history, entry.cites);
         self.note_laid(owner, sight_of(entry))?;
-        note_column(&mut self.columns, entry.actor)?;
-        let column = column_of(self.columns.as_slice(), entry.actor);
-        note_end(&mut self.ends, cited_by(owner), column)
+        if is_conversation(entry.actor) {
+            self.enter(cited_by(owner), entry.actor)
+        } else {
+            Ok(())
+        }
+    }
+
+    // Takes an entry of a conversation, to which the copy is brought that the entry of this stamp took.
+    fn enter(&mut self, stamp: Option<u64>, actor: ActorName) -> Result<(), AllocError>
+        ensures { OnOk result (self.new ≡ spec.entered self.old stamp actor) }
+    {
+        note_column(&mut self.columns, actor)?;
+        let column = column_of(self.columns.as_slice(), actor);
+        note_end(&mut self.ends, stamp, column)
     }
 
     // A frame that is laid starts where its packet does.
