@@ -3,3 +3,4 @@ pub mod Telling
 pub mod Showing
 pub mod Talking
 pub mod TellingTalks
+pub mod Bringing

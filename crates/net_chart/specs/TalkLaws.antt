@@ -1,12 +1,15 @@
 -- What a chart of conversations tells of a history: each lost frame that starts in a column by one cross, and each copy between two
 -- columns by one arrow.
-use Rattle.std.specs.Prelude.{◌≡◌, ℕ, ◌+◌, ◌&&◌, Bool, false, not, List, [], ◌∷◌, ◌++◌, filter, is_some, if◌then◌else◌}
+use Rattle.std.specs.Prelude.{◌≡◌, ℕ, ◌+◌, ◌&&◌, Bool, false, not, List, [], ◌∷◌, ◌++◌, filter, is_some, nat_eq, Option, Some, None, if◌then◌else◌}
+use Rattle.std.specs.Option.{option_and_then}
+use Rattle.net_base.specs.declared.actor.ActorName.{ActorName}
 use Rattle.net_base.specs.declared.history.Entry.{Entry}
 use Rattle.net_chart.specs.declared.sight.Sight.{Sight}
 use Rattle.net_chart.specs.declared.sight.Sight.TheVariants.{Laid, Came, Did, Nothing}
+use Rattle.net_chart.specs.Frames.{owner_of}
 use Rattle.net_chart.specs.Laws.{drawn_at, is_arrow, is_cross, was_laid}
 use Rattle.net_chart.specs.Sights.{sight_of}
-use Rattle.net_chart.specs.Talks.{Talks, end_at, start_at, talks_drawn, talks_of}
+use Rattle.net_chart.specs.Talks.{Talks, cited_by, column_of, end_at, is_conversation, start_at, talks_drawn, talks_of}
 use Rattle.net_chart.specs.Things.{arrives_in}
 
 -- a frame is laid that starts in a column, and of which no copy arrives
@@ -38,3 +41,22 @@ between_from past t stamp (x ∷ xs) =
 pub record TellsTalks (brief : Bool) (h : List Entry) : Type 0 where
   pub crosses : drawn_at is_cross (talks_drawn brief h (talks_of h)) ≡ lost_talks h (talks_of h) h
   pub arrows : drawn_at is_arrow (talks_drawn brief h (talks_of h)) ≡ between_from [] (talks_of h) 0 h
+
+-- Where arrows end.
+
+abbrev pub is_taken_at : ℕ → Option ℕ → Bool
+is_taken_at stamp None = false
+is_taken_at stamp (Some taken) = nat_eq stamp taken
+
+-- the entry brings a copy to its conversation, which the entry of this stamp took
+abbrev pub brings : List Entry → ℕ → Entry → Bool
+brings h stamp x = is_conversation x.actor && is_taken_at stamp (cited_by (owner_of h x.cites))
+
+-- the conversation to which the copy is brought last, if these entries bring it to none
+abbrev pub brought_from : List Entry → ℕ → Option ActorName → List Entry → Option ActorName
+brought_from h stamp a [] = a
+brought_from h stamp a (x ∷ xs) = brought_from h stamp (if brings h stamp x then Some x.actor else a) xs
+
+-- a copy ends in the column of the conversation to which it is brought, and in none where it is brought to none
+abbrev pub EndsThere : List Entry → ℕ → Type 0
+EndsThere h stamp = end_at (talks_of h).ends stamp ≡ option_and_then (column_of (talks_of h).columns) (brought_from h stamp None h)

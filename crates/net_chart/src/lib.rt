@@ -15,5 +15,5 @@ mod talk_chart;
 mod thing;
 
 pub use chart::chart_of;
-pub use law::{frames_are_told, talks_are_told, ways_are_shown};
+pub use law::{arrows_end_there, frames_are_told, talks_are_told, ways_are_shown};
 pub use talk_chart::chart_of_talks;
