@@ -109,6 +109,7 @@ talks_of h = talks_from h no_talks h
 
 -- Things between columns.
 
+-- where no emission of the packet is known its arrow is drawn at its end alone, as on the chart of hosts
 abbrev pub source_in : ℕ → Option Source → Option Source
 source_in column None = None
 source_in column (Some s) = Some (record s { host = column })
