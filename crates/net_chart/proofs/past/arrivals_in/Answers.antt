@@ -1,0 +1,11 @@
+use Rattle.net_chart.proofs.Steps.{copies_all, copies_more}
+use Rattle.net_chart.proofs.past.arrivals_in.Goals as goal
+
+pub loop-entry-preserved : goal.loop-entry-preserved
+loop-entry-preserved c =
+    let l = c.loop-entry in
+    copies_more c.args.entries.now l.entry-index c.entry-item.result l.came.keys c.note_copy.new.came.keys c.loop-entry-test.true c.entry-item.is
+    (λ key. c.in_ok-note_copy.ensures key) l.invariant
+
+pub returns : goal.returns
+returns c = let l = c.loop-entry in copies_all c.args.entries.now l.entry-index l.came.keys c.loop-entry-test.false l.invariant
