@@ -7,8 +7,6 @@ mod fault;
 mod keeper;
 mod known;
 mod notes;
-#[cfg(test)]
-mod tests;
 mod word;
 
 pub use fault::LintError;

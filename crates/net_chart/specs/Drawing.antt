@@ -34,7 +34,10 @@ middle_of a b = 260 + 160 * (bounded a + bounded b)
 
 abbrev pub column_text : ℕ → ℕ × HostSpec → List ℕ
 column_text bottom host =
-    text_start (codes "host") [] (column_at host.0) 30 ++ escaped host.1.name ++ text_end ++ line_text (codes "life") (column_at host.0) 40 (column_at host.0) bottom
+    text_start (codes "host") [] (column_at host.0) 30
+    ++ escaped host.1.name
+    ++ text_end
+    ++ line_text (codes "life") (column_at host.0) 40 (column_at host.0) bottom
 
 -- Labels.
 

@@ -15,8 +15,21 @@ use std::alloc::{AllocError, Global};
 use words::put_decimal;
 
 /// How the page looks.
-const STYLE: &[u8] =
-    b"<style>text{font:10px monospace;fill:#222}line,path{stroke:#357;fill:none}.host{font:bold 14px sans-serif;text-anchor:middle}.life{stroke:#bbb}.moment{stroke:#ddd}.when{fill:#888}.right{text-anchor:start}.left{text-anchor:end}.again{stroke:#a60;stroke-dasharray:5 3}.lost{stroke:#c22}.op{fill:#262}</style><rect width='100%' height='100%' fill='#fff'/>";
+const STYLE: &[u8] = b"<style>
+text{font:10px monospace;fill:#222}
+line,path{stroke:#357;fill:none}
+.host{font:bold 14px sans-serif;text-anchor:middle}
+.life{stroke:#bbb}
+.moment{stroke:#ddd}
+.when{fill:#888}
+.right{text-anchor:start}
+.left{text-anchor:end}
+.again{stroke:#a60}
+line.again{stroke-dasharray:5 3}
+.lost{stroke:#c22}
+.op{fill:#262}
+</style>
+<rect width='100%' height='100%' fill='#fff'/>";
 
 /// The chart of a history of a world, as a page of SVG. A page of more than 400 rows shows the first and the last frame of each
 /// moment, and how many are between. It goes three times through the history.

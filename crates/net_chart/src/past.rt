@@ -104,8 +104,10 @@ impl Past {
         to: u32,
     ) -> Result<Option<Thing>, AllocError>
         requires { Knows history.now came.now.keys }
-        ensures thing { IfOk result (λ thing. thing ≡ spec.laid_thing history.now key (spec.laid_by history.now self.old.frames entry.now key.1 to self.old.place)) }
-        ensures past { OnOk result (self.new ≡ spec.with_laid key (spec.laid_by history.now self.old.frames entry.now key.1 to self.old.place) self.old) }
+        ensures thing { IfOk result (λ thing. thing
+            ≡ spec.laid_thing history.now key (spec.laid_by history.now self.old.frames entry.now key.1 to self.old.place)) }
+        ensures past { OnOk result (self.new
+            ≡ spec.with_laid key (spec.laid_by history.now self.old.frames entry.now key.1 to self.old.place) self.old) }
     {
         let frame = Frame {
             number: key.1,
