@@ -46,7 +46,7 @@ all_crosses brief h = crosses brief h no_past h
 abbrev found : Laid_frames → ℕ × ℕ → Bool
 found frames key = is_some (frame_at frames key)
 
-same_is : (a b : ℕ × ℕ) → same_frame a b ≡ true → a ≡ b
+pub same_is : (a b : ℕ × ℕ) → same_frame a b ≡ true → a ≡ b
 same_is a b e = by (a.0 == b.0) (a.1 == b.1) refl refl e
   where
     by : (u v : Bool) → (a.0 == b.0) ≡ u → (a.1 == b.1) ≡ v → (u && v) ≡ true → a ≡ b

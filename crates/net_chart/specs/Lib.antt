@@ -6,3 +6,4 @@ pub mod Svg
 pub mod Drawing
 pub mod Chart
 pub mod Laws
+pub mod Ways

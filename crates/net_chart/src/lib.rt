@@ -13,4 +13,4 @@ mod svg;
 mod thing;
 
 pub use chart::chart_of;
-pub use law::frames_are_told;
+pub use law::{frames_are_told, ways_are_shown};
