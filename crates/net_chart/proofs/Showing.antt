@@ -50,8 +50,17 @@ at_more (e ∷ es) k q f = by (same_frame k e.0) refl
 
 -- The frames so far are those that were laid, where they were laid.
 
+abbrev laying_at : ℕ → ℕ → Place → Laying
+laying_at k to at = record { number = k; to = to; at = at }
+
 abbrev laying_in : Frame → Laying
-laying_in f = record { number = f.number; to = f.to; at = f.at }
+laying_in f = laying_at f.number f.to f.at
+
+abbrev flight_in : Frame → Place → Flight
+flight_in f at = record { start = laying_in f; came = at }
+
+abbrev stands : Entry → Place → Standing
+stands x at = record { entry = x; place = at }
 
 abbrev Knows : List Standing → Laid_frames → Type 0
 Knows past frames = (key : ℕ × ℕ) → option_map laying_in (frame_at frames key) ≡ laid_in past key
@@ -62,7 +71,7 @@ knows_by h past p x (Laid m k to) knows key =
     ap (λ (o : Option Frame). option_map laying_in o) (at_more p.frames (m, k) key (laid_by h p.frames x k to p.place)) ∙ by (same_frame key (m, k))
   where
     by : (b : Bool) → option_map laying_in (cond b (Some (laid_by h p.frames x k to p.place)) (frame_at p.frames key))
-        ≡ cond b (Some (record { number = k; to = to; at = p.place })) (laid_in past key)
+        ≡ cond b (Some (laying_at k to p.place)) (laid_in past key)
     by true = refl
     by false = knows key
 knows_by h past p x (Came m k) knows key = by (frame_at p.frames (m, k)) refl ∙ knows key
@@ -109,7 +118,7 @@ flight_one h past p x (Came m k) rest more knows e =
   where
     by : (o : Option Frame) → flights_of (drawn_of x (arrow_to p.place o) ++ rest) ≡ flight_to p.place (option_map laying_in o) ++ more
     by None = e
-    by (Some f) = ap (λ (fs : List Flight). record { start = laying_in f; came = p.place } ∷ fs) e
+    by (Some f) = ap (λ (fs : List Flight). flight_in f p.place ∷ fs) e
 flight_one h past p x (Did host) rest more knows e = e
 flight_one h past p x Nothing rest more knows e = e
 
@@ -118,10 +127,10 @@ flights : (brief : Bool) (h : List Entry) (past : List Standing) (p : Past) (xs 
 flights brief h past p [] knows = refl
 flights brief h past p (x ∷ xs) knows =
     flight_one h past (past_at brief p x) x (sight_of x) (things_from brief h (past_after brief h p x) xs)
-    (flights_from brief (record { entry = x; place = place_after brief p.place x } ∷ past) (place_after brief p.place x) xs) knows
-    (flights brief h (record { entry = x; place = place_after brief p.place x } ∷ past) (past_after brief h p x) xs
+    (flights_from brief (stands x (place_after brief p.place x) ∷ past) (place_after brief p.place x) xs) knows
+    (flights brief h (stands x (place_after brief p.place x) ∷ past) (past_after brief h p x) xs
     (λ key. knows_by h past (past_at brief p x) x (sight_of x) knows key)
-    ∙ ap (λ (q : Place). flights_from brief (record { entry = x; place = place_after brief p.place x } ∷ past) q xs)
+    ∙ ap (λ (q : Place). flights_from brief (stands x (place_after brief p.place x) ∷ past) q xs)
     (place_kept h (past_at brief p x) x (sight_of x)))
 
 pub all_flights : (brief : Bool) (h : List Entry) → flights_of (things_of brief h) ≡ flights_from brief [] above_all h
@@ -134,9 +143,9 @@ loss_one : (h : List Entry) (p : Past) (x : Entry) (s : Sight) (rest : List Draw
 loss_one h p x (Laid m k to) rest more e = by (arrives_in h (m, k))
   where
     by : (b : Bool) → losses_of (drawn_of x (cond b None (Some (Cross (laid_by h p.frames x k to p.place)))) ++ rest)
-        ≡ cond b [] (record { number = k; to = to; at = p.place } ∷ []) ++ more
+        ≡ cond b [] (laying_at k to p.place ∷ []) ++ more
     by true = e
-    by false = ap (λ (ls : List Laying). record { number = k; to = to; at = p.place } ∷ ls) e
+    by false = ap (λ (ls : List Laying). laying_at k to p.place ∷ ls) e
 loss_one h p x (Came m k) rest more e = by (frame_at p.frames (m, k))
   where
     by : (o : Option Frame) → losses_of (drawn_of x (arrow_to p.place o) ++ rest) ≡ more
