@@ -117,9 +117,13 @@ shaft_text class f y to_y =
 abbrev pub drawn_arrow : Page → List ℕ → Frame → ℕ → List ℕ
 drawn_arrow page class f to_y = shaft_text class f (height_of page f.at) to_y ++ head_text class f to_y
 
+-- how far a copy that has no row of its own comes below its frame's: the first one, or a later one
+abbrev pub drop_of : Frame → ℕ
+drop_of f = if f.came then 28 else 12
+
 -- where it ends: on a brief page its copy has no row of its own
 abbrev pub end_height : Page → Frame → Place → ℕ
-end_height page f at = if page.brief then height_of page f.at + 12 else height_of page at
+end_height page f at = if page.brief then height_of page f.at + drop_of f else height_of page at
 
 -- the first copy of a frame, with its label, or a later one
 abbrev pub arrow_text : Page → Frame → Place → List ℕ
@@ -167,7 +171,7 @@ drawing_of page things = flat_map (drawn_text page) things
 -- a line across the page, and the moment below it
 abbrev pub when_text : ℕ → ℕ → ℕ → List ℕ
 when_text width y moment =
-    line_text (codes "moment") 0 (y - 13) width (y - 13) ++ text_start (codes "when") [] 4 y ++ numeral moment ++ codes " ms" ++ text_end
+    line_text (codes "moment") 0 (y - 16) width (y - 16) ++ text_start (codes "when") [] 4 (y - 5) ++ numeral moment ++ codes " ms" ++ text_end
 
 -- the moment of a band, above its first row
 abbrev pub moment_text : Page → ℕ → Place → List ℕ

@@ -1,5 +1,5 @@
 //! The things of a history as they are drawn on their page.
-ghost use Rattle.std.specs.Prelude.{◌≡◌, ◌+◌, ◌<◌, ◌^◌, ◌++◌, [], OnOk};
+ghost use Rattle.std.specs.Prelude.{◌≡◌, ◌+◌, ◌<◌, ◌≤◌, ◌^◌, ◌++◌, [], OnOk};
 ghost use Rattle.net_chart.specs.Drawing as spec;
 ghost use Rattle.net_chart.specs.Svg.{path_text};
 
@@ -141,12 +141,20 @@ fn put_arrow(
     put_head(out, class, frame, to_y)
 }
 
+// How far a copy that has no row of its own comes below its frame's.
+fn drop_of(frame: &Frame) -> u64
+    ensures value { result ≡ spec.drop_of frame.now }
+    ensures within { result ≤ 28 }
+{
+    if frame.came { 28 } else { 12 }
+}
+
 // Where an arrow ends: on a brief page its copy has no row of its own.
 fn end_height(page: &Page, frame: &Frame, at: Place) -> u64
     ensures { result ≡ spec.end_height page.now frame.now at }
 {
     if page.brief {
-        page.height_of(frame.at) + 12
+        page.height_of(frame.at) + drop_of(frame)
     } else {
         page.height_of(at)
     }
@@ -249,9 +257,9 @@ pub fn put_thing(
 fn put_when(out: &mut Octets, width: u64, y: u64, moment: u64) -> Result<(), AllocError>
     ensures { OnOk result (out.new ≡ out.old ++ spec.when_text width y moment) }
 {
-    let above = y.saturating_sub(13);
+    let above = y.saturating_sub(16);
     put_line(out, b"moment", 0, above, width, above)?;
-    start_text(out, b"when", b"", 4, y)?;
+    start_text(out, b"when", b"", 4, y.saturating_sub(5))?;
     put_decimal(out, moment)?;
     out.append(b" ms")?;
     end_text(out)

@@ -51,10 +51,10 @@ line.again{stroke-dasharray:5 3}
 <line class='life' x1='260' y1='40' x2='260' y2='264'/>
 <text class='host' x='580' y='30'>helix</text>
 <line class='life' x1='580' y1='40' x2='580' y2='264'/>
-<line class='moment' x1='0' y1='79' x2='840' y2='79'/>
-<text class='when' x='4' y='92'>0 ms</text>
-<line class='moment' x1='0' y1='143' x2='840' y2='143'/>
-<text class='when' x='4' y='156'>5 ms</text>
+<line class='moment' x1='0' y1='76' x2='840' y2='76'/>
+<text class='when' x='4' y='87'>0 ms</text>
+<line class='moment' x1='0' y1='140' x2='840' y2='140'/>
+<text class='when' x='4' y='151'>5 ms</text>
 <text class='left op' dx='-6' dy='3' x='260' y='92'>write 3 '&lt;&amp;&gt;' = count 3</text>
 <line class='frame' x1='260' y1='108' x2='580' y2='124'/>
 <path class='frame' d='M 580 124m-8-4l8 4l-8 4'/>
