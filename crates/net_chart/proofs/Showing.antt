@@ -24,7 +24,7 @@ use Rattle.net_chart.proofs.Telling.{same_is}
 -- a frame more
 at_more : (es : Laid_frames) (k q : ℕ × ℕ) (f : Frame) → frame_at (insert_entry same_frame es k f) q ≡ cond (same_frame q k) (Some f) (frame_at es q)
 at_more [] k q f = refl
-at_more (e ∷ es) k q f = by (same_frame k e.0) refl
+at_more (e ∷ es) k q f = by (same_frame k e.0) refl (at_more es k q f)
   where
     -- the key stands here
     here : (b : Bool) → cond b (Some f) (frame_at es q) ≡ cond b (Some f) (cond b (Some e.1) (frame_at es q))
@@ -38,15 +38,16 @@ at_more (e ∷ es) k q f = by (same_frame k e.0) refl
     other false same apart is = refl
 
     later : (b : Bool) → same_frame q e.0 ≡ b → same_frame k e.0 ≡ false
+        → frame_at (insert_entry same_frame es k f) q ≡ cond (same_frame q k) (Some f) (frame_at es q)
         → cond b (Some e.1) (frame_at (insert_entry same_frame es k f) q) ≡ cond (same_frame q k) (Some f) (cond b (Some e.1) (frame_at es q))
-    later true is apart = other (same_frame q k) refl apart is
-    later false is apart = at_more es k q f
+    later true is apart rest = other (same_frame q k) refl apart is
+    later false is apart rest = rest
 
-    by : (b : Bool) → same_frame k e.0 ≡ b
+    by : (b : Bool) → same_frame k e.0 ≡ b → frame_at (insert_entry same_frame es k f) q ≡ cond (same_frame q k) (Some f) (frame_at es q)
         → lookup (same_frame q) (cond b ((e.0, f) ∷ es) (e ∷ insert_entry same_frame es k f)) ≡ cond (same_frame q k) (Some f) (frame_at (e ∷ es) q)
-    by true is =
+    by true is rest =
         here (same_frame q e.0) ∙ ap (λ (key : ℕ × ℕ). cond (same_frame q key) (Some f) (frame_at (e ∷ es) q)) (sym (same_is k e.0 is))
-    by false is = later (same_frame q e.0) refl is
+    by false is rest = later (same_frame q e.0) refl is rest
 
 -- The frames so far are those that were laid, where they were laid.
 

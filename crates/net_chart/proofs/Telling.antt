@@ -64,7 +64,7 @@ found_more [] k q f = by (same_frame q k)
     by : (b : Bool) → is_some (cond b (Some f) None) ≡ (b || false)
     by true = refl
     by false = refl
-found_more (e ∷ es) k q f = by (same_frame k e.0) refl
+found_more (e ∷ es) k q f = by (same_frame k e.0) refl (found_more es k q f)
   where
     -- the key stands here
     here : (b : Bool) → is_some (cond b (Some f) (lookup (same_frame q) es)) ≡ (b || is_some (cond b (Some e.1) (lookup (same_frame q) es)))
@@ -72,20 +72,21 @@ found_more (e ∷ es) k q f = by (same_frame k e.0) refl
     here false = refl
 
     -- it stands later, or nowhere
-    later : (b : Bool) → is_some (cond b (Some e.1) (lookup (same_frame q) (insert_entry same_frame es k f)))
+    later : (b : Bool) → found (insert_entry same_frame es k f) q ≡ (same_frame q k || found es q)
+        → is_some (cond b (Some e.1) (lookup (same_frame q) (insert_entry same_frame es k f)))
         ≡ (same_frame q k || is_some (cond b (Some e.1) (lookup (same_frame q) es)))
-    later true = sym (any (same_frame q k))
+    later true rest = sym (any (same_frame q k))
       where
         any : (b : Bool) → (b || true) ≡ true
         any true = refl
         any false = refl
-    later false = found_more es k q f
+    later false rest = rest
 
-    by : (b : Bool) → same_frame k e.0 ≡ b
+    by : (b : Bool) → same_frame k e.0 ≡ b → found (insert_entry same_frame es k f) q ≡ (same_frame q k || found es q)
         → is_some (lookup (same_frame q) (cond b ((e.0, f) ∷ es) (e ∷ insert_entry same_frame es k f))) ≡ (same_frame q k || found (e ∷ es) q)
-    by true is =
+    by true is rest =
         here (same_frame q e.0) ∙ ap (λ (key : ℕ × ℕ). same_frame q key || found (e ∷ es) q) (sym (same_is k e.0 is))
-    by false is = later (same_frame q e.0)
+    by false is rest = later (same_frame q e.0) rest
 
 -- The frames so far are those that were laid.
 

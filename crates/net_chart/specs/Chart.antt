@@ -14,19 +14,32 @@ use Rattle.net_chart.specs.Things.{things_of}
 abbrev pub width_of : World → ℕ
 width_of w = 200 + 320 * bounded (length w.hosts)
 
-abbrev pub page_start : ℕ → ℕ → List ℕ
-page_start width bottom =
-    codes "<svg xmlns='http://www.w3.org/2000/svg'"
-    ++ attribute (codes "width") width
-    ++ attribute (codes "height") bottom
-    ++ codes " viewBox='0 0 "
-    ++ numeral width
-    ++ codes " "
-    ++ numeral bottom
-    ++ codes "'>"
-    ++ newline
-    ++ STYLE.now
-    ++ newline
+-- two numbers behind the beginning of an attribute
+unfoldable pub pair_text : List ℕ → ℕ → ℕ → List ℕ
+pair_text name a b = name ++ numeral a ++ codes " " ++ numeral b
+
+unfoldable pub opening_end : List ℕ
+opening_end = codes "'>" ++ newline
+
+-- how large a page is
+unfoldable pub size_text : ℕ → ℕ → List ℕ
+size_text width bottom = attribute (codes "width") width ++ attribute (codes "height") bottom
+
+unfoldable pub view_name : List ℕ
+view_name = codes " viewBox='0 0 "
+
+-- all of it is shown
+unfoldable pub view_text : ℕ → ℕ → List ℕ
+view_text width bottom = pair_text view_name width bottom ++ opening_end
+
+unfoldable pub opening_text : List ℕ
+opening_text = codes "<svg xmlns='http://www.w3.org/2000/svg'"
+
+unfoldable pub style_text : List ℕ
+style_text = STYLE.now ++ newline
+
+unfoldable pub page_start : ℕ → ℕ → List ℕ
+page_start width bottom = opening_text ++ size_text width bottom ++ view_text width bottom ++ style_text
 
 abbrev pub page_end : List ℕ
 page_end = codes "</svg>" ++ newline

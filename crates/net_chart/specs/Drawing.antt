@@ -32,7 +32,7 @@ column_at host = 260 + 320 * bounded host
 abbrev pub middle_of : ℕ → ℕ → ℕ
 middle_of a b = 260 + 160 * (bounded a + bounded b)
 
-abbrev pub column_text : ℕ → ℕ × HostSpec → List ℕ
+unfoldable pub column_text : ℕ → ℕ × HostSpec → List ℕ
 column_text bottom host =
     text_start (codes "host") [] (column_at host.0) 30
     ++ escaped host.1.name
@@ -92,7 +92,7 @@ label_start f y =
     then text_start (codes "right") (codes " dx='10' dy='-3'") (column_at (start_of f)) y
     else text_start (codes "left") (codes " dx='-10' dy='-3'") (column_at (start_of f)) y
 
-abbrev pub label_text : Page → Frame → List ℕ
+unfoldable pub label_text : Page → Frame → List ℕ
 label_text page f = label_start f (height_of page f.at) ++ frame_label f ++ text_end
 
 -- the head of an arrow that comes from the left, or from the right
@@ -133,7 +133,7 @@ arrow_text page f at =
     else drawn_arrow page (codes "frame") f (end_height page f at) ++ label_text page f
 
 -- half an arrow from a column on, with a cross at its end
-abbrev pub half_text : ℕ → ℕ → ℕ → List ℕ
+unfoldable pub half_text : ℕ → ℕ → ℕ → List ℕ
 half_text x y to_x =
     line_text (codes "lost") x y to_x (y + 8) ++ path_text (codes "lost") to_x (y + 8) (codes "m-5-5l10 10m0-10l-10 10")
 
@@ -169,7 +169,7 @@ drawing_of page things = flat_map (drawn_text page) things
 -- Moments.
 
 -- a line across the page, and the moment below it
-abbrev pub when_text : ℕ → ℕ → ℕ → List ℕ
+unfoldable pub when_text : ℕ → ℕ → ℕ → List ℕ
 when_text width y moment =
     line_text (codes "moment") 0 (y - 16) width (y - 16) ++ text_start (codes "when") [] 4 (y - 5) ++ numeral moment ++ codes " ms" ++ text_end
 
@@ -181,7 +181,7 @@ moment_text page width p =
     else []
 
 -- how many frames of a moment aren't drawn, above its last one
-abbrev pub count_text : Page → Place → List ℕ
+unfoldable pub count_text : Page → Place → List ℕ
 count_text page p =
     if hides page p
     then text_start (codes "when") [] 4 (height_of page p - 16) ++ numeral (p.row - p.first - 1) ++ codes " between" ++ text_end

@@ -6,14 +6,14 @@ abbrev pub newline : List ℕ
 newline = 10 ∷ []
 
 -- an attribute with a number
-abbrev pub attribute : List ℕ → ℕ → List ℕ
+unfoldable pub attribute : List ℕ → ℕ → List ℕ
 attribute name n = codes " " ++ name ++ codes "='" ++ numeral n ++ codes "'"
 
 abbrev pub class_text : List ℕ → List ℕ
 class_text class = codes " class='" ++ class ++ codes "'"
 
 -- a line between two points
-abbrev pub line_text : List ℕ → ℕ → ℕ → ℕ → ℕ → List ℕ
+unfoldable pub line_text : List ℕ → ℕ → ℕ → ℕ → ℕ → List ℕ
 line_text class x y to_x to_y =
     codes "<line"
     ++ class_text class
@@ -25,20 +25,20 @@ line_text class x y to_x to_y =
     ++ newline
 
 -- strokes from a point on
-abbrev pub path_start : List ℕ → ℕ → ℕ → List ℕ
+unfoldable pub path_start : List ℕ → ℕ → ℕ → List ℕ
 path_start class x y = codes "<path" ++ class_text class ++ codes " d='M " ++ numeral x ++ codes " " ++ numeral y
 
-abbrev pub path_end : List ℕ
+unfoldable pub path_end : List ℕ
 path_end = codes "'/>" ++ newline
 
 abbrev pub path_text : List ℕ → ℕ → ℕ → List ℕ → List ℕ
 path_text class x y strokes = path_start class x y ++ strokes ++ path_end
 
 -- a text near a point, which other attributes shift
-abbrev pub text_start : List ℕ → List ℕ → ℕ → ℕ → List ℕ
+unfoldable pub text_start : List ℕ → List ℕ → ℕ → ℕ → List ℕ
 text_start class shift x y = codes "<text" ++ class_text class ++ shift ++ attribute (codes "x") x ++ attribute (codes "y") y ++ codes ">"
 
-abbrev pub text_end : List ℕ
+unfoldable pub text_end : List ℕ
 text_end = codes "</text>" ++ newline
 
 -- a byte as XML takes it between tags: what isn't printed there is a dot
@@ -56,5 +56,5 @@ abbrev pub escaped : List ℕ → List ℕ
 escaped bytes = flat_map escaped_byte bytes
 
 -- the beginning of a text in quotes
-abbrev pub quoted : List ℕ → List ℕ
+unfoldable pub quoted : List ℕ → List ℕ
 quoted text = codes " '" ++ escaped (take 16 text) ++ codes "'"

@@ -65,20 +65,71 @@ fn width_of(world: &World) -> u64
     200 + 320 * bounded(world.hosts.len() as u64)
 }
 
+#[tactic(auto, unfolding(crate::specs::Chart::opening_text))]
+fn put_opening(out: &mut Octets) -> Result<(), AllocError>
+    ensures { OnOk result (out.new ≡ out.old ++ spec.opening_text) }
+{
+    out.append(b"<svg xmlns='http://www.w3.org/2000/svg'")
+}
+
+#[tactic(auto, unfolding(crate::specs::Chart::size_text))]
+fn put_size(out: &mut Octets, width: u64, bottom: u64) -> Result<(), AllocError>
+    ensures { OnOk result (out.new ≡ out.old ++ spec.size_text width bottom) }
+{
+    put_attribute(out, b"width", width)?;
+    put_attribute(out, b"height", bottom)
+}
+
+#[tactic(auto, unfolding(crate::specs::Chart::view_name))]
+fn view_name() -> &'static [u8]
+    ensures { result.now ≡ spec.view_name }
+{
+    b" viewBox='0 0 "
+}
+
+#[tactic(auto, unfolding(crate::specs::Chart::view_text))]
+fn put_view(out: &mut Octets, width: u64, bottom: u64) -> Result<(), AllocError>
+    ensures { OnOk result (out.new ≡ out.old ++ spec.view_text width bottom) }
+{
+    put_pair(out, view_name(), width, bottom)?;
+    put_opening_end(out)
+}
+
+#[tactic(auto, unfolding(crate::specs::Chart::opening_end))]
+fn put_opening_end(out: &mut Octets) -> Result<(), AllocError>
+    ensures { OnOk result (out.new ≡ out.old ++ spec.opening_end) }
+{
+    out.append(b"'>")?;
+    out.append(b"\n")
+}
+
+// Two numbers behind the beginning of an attribute.
+#[tactic(auto, unfolding(crate::specs::Chart::pair_text))]
+fn put_pair(out: &mut Octets, name: &[u8], a: u64, b: u64) -> Result<(), AllocError>
+    ensures { OnOk result (out.new ≡ out.old ++ spec.pair_text name.now a b) }
+{
+    out.append(name)?;
+    put_decimal(out, a)?;
+    out.append(b" ")?;
+    put_decimal(out, b)
+}
+
+#[tactic(auto, unfolding(crate::specs::Chart::style_text))]
+fn put_style(out: &mut Octets) -> Result<(), AllocError>
+    ensures { OnOk result (out.new ≡ out.old ++ spec.style_text) }
+{
+    out.append(STYLE)?;
+    out.append(b"\n")
+}
+
+#[tactic(auto, unfolding(crate::specs::Chart::page_start))]
 fn put_start(out: &mut Octets, width: u64, bottom: u64) -> Result<(), AllocError>
     ensures { OnOk result (out.new ≡ out.old ++ spec.page_start width bottom) }
 {
-    out.append(b"<svg xmlns='http://www.w3.org/2000/svg'")?;
-    put_attribute(out, b"width", width)?;
-    put_attribute(out, b"height", bottom)?;
-    out.append(b" viewBox='0 0 ")?;
-    put_decimal(out, width)?;
-    out.append(b" ")?;
-    put_decimal(out, bottom)?;
-    out.append(b"'>")?;
-    out.append(b"\n")?;
-    out.append(STYLE)?;
-    out.append(b"\n")
+    put_opening(out)?;
+    put_size(out, width, bottom)?;
+    put_view(out, width, bottom)?;
+    put_style(out)
 }
 
 fn put_end(out: &mut Octets) -> Result<(), AllocError>

@@ -27,6 +27,7 @@ fn middle_of(one: u64, other: u64) -> u64
 }
 
 /// Adds the column of a host.
+#[tactic(auto, unfolding(crate::specs::Drawing::column_text))]
 pub fn put_column(
     out: &mut Octets,
     bottom: u64,
@@ -68,6 +69,7 @@ fn start_label(out: &mut Octets, frame: &Frame, y: u64) -> Result<(), AllocError
     }
 }
 
+#[tactic(auto, unfolding(crate::specs::Drawing::label_text))]
 fn put_label(out: &mut Octets, page: &Page, frame: &Frame) -> Result<(), AllocError>
     ensures { OnOk result (out.new ≡ out.old ++ spec.label_text page.now frame.now) }
 {
@@ -173,6 +175,7 @@ fn put_copy(out: &mut Octets, page: &Page, frame: &Frame, at: Place) -> Result<(
 }
 
 // Half an arrow from a column on, with a cross at its end.
+#[tactic(auto, unfolding(crate::specs::Drawing::half_text))]
 fn put_half(out: &mut Octets, x: u64, y: u64, to_x: u64) -> Result<(), AllocError>
     requires { y < 2 ^ 50 }
     ensures { OnOk result (out.new ≡ out.old ++ spec.half_text x y to_x) }
@@ -254,6 +257,7 @@ pub fn put_thing(
 }
 
 // A line across the page, and the moment below it.
+#[tactic(auto, unfolding(crate::specs::Drawing::when_text))]
 fn put_when(out: &mut Octets, width: u64, y: u64, moment: u64) -> Result<(), AllocError>
     ensures { OnOk result (out.new ≡ out.old ++ spec.when_text width y moment) }
 {
@@ -276,6 +280,7 @@ fn put_moment(out: &mut Octets, page: &Page, width: u64, place: Place) -> Result
 }
 
 // How many frames of a moment aren't drawn, above its last one.
+#[tactic(auto, unfolding(crate::specs::Drawing::count_text))]
 fn put_count(out: &mut Octets, page: &Page, place: Place) -> Result<(), AllocError>
     ensures { OnOk result (out.new ≡ out.old ++ spec.count_text page.now place) }
 {

@@ -7,6 +7,7 @@ use std::alloc::AllocError;
 use words::put_decimal;
 
 /// Adds an attribute with a number.
+#[tactic(auto, unfolding(crate::specs::Svg::attribute))]
 pub fn put_attribute(out: &mut Octets, name: &[u8], n: u64) -> Result<(), AllocError>
     ensures { OnOk result (out.new ≡ out.old ++ spec.attribute name.now n) }
 {
@@ -26,6 +27,7 @@ fn put_class(out: &mut Octets, class: &[u8]) -> Result<(), AllocError>
 }
 
 /// Adds a line between two points.
+#[tactic(auto, unfolding(crate::specs::Svg::line_text))]
 pub fn put_line(
     out: &mut Octets,
     class: &[u8],
@@ -47,6 +49,7 @@ pub fn put_line(
 }
 
 /// Begins strokes from a point on.
+#[tactic(auto, unfolding(crate::specs::Svg::path_start))]
 pub fn start_path(out: &mut Octets, class: &[u8], x: u64, y: u64) -> Result<(), AllocError>
     ensures { OnOk result (out.new ≡ out.old ++ spec.path_start class.now x y) }
 {
@@ -59,6 +62,7 @@ pub fn start_path(out: &mut Octets, class: &[u8], x: u64, y: u64) -> Result<(), 
 }
 
 /// Ends strokes.
+#[tactic(auto, unfolding(crate::specs::Svg::path_end))]
 pub fn end_path(out: &mut Octets) -> Result<(), AllocError>
     ensures { OnOk result (out.new ≡ out.old ++ spec.path_end) }
 {
@@ -67,6 +71,7 @@ pub fn end_path(out: &mut Octets) -> Result<(), AllocError>
 }
 
 /// Begins a text near a point, which other attributes shift.
+#[tactic(auto, unfolding(crate::specs::Svg::text_start))]
 pub fn start_text(
     out: &mut Octets,
     class: &[u8],
@@ -85,6 +90,7 @@ pub fn start_text(
 }
 
 /// Ends a text.
+#[tactic(auto, unfolding(crate::specs::Svg::text_end))]
 pub fn end_text(out: &mut Octets) -> Result<(), AllocError>
     ensures { OnOk result (out.new ≡ out.old ++ spec.text_end) }
 {
@@ -121,6 +127,7 @@ fn beginning(text: &[u8]) -> &[u8]
 }
 
 /// Adds the beginning of a text in quotes.
+#[tactic(auto, unfolding(crate::specs::Svg::quoted))]
 pub fn put_quoted(out: &mut Octets, text: &[u8]) -> Result<(), AllocError>
     ensures { OnOk result (out.new ≡ out.old ++ spec.quoted text.now) }
 {

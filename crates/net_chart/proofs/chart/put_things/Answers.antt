@@ -1,3 +1,4 @@
+use Rattle.std.proofs.Common.{◌++◌}
 use Rattle.net_chart.specs.Drawing.{drawing_of}
 use Rattle.net_chart.specs.Things.{things_of}
 use Rattle.net_chart.proofs.Steps.{things_more}
