@@ -9,8 +9,7 @@ use Rattle.net_chart.specs.declared.frame.Frame.{Frame}
 use Rattle.net_chart.specs.declared.place.Place.{Place}
 use Rattle.net_chart.specs.declared.sight.Sight.{Sight}
 use Rattle.net_chart.specs.declared.sight.Sight.TheVariants.{Laid, Came, Did, Nothing}
-use Rattle.net_chart.specs.declared.thing.Thing.{Thing}
-use Rattle.net_chart.specs.declared.thing.Thing.TheVariants.{Arrow, Cross, Operation}
+use Rattle.net_chart.specs.declared.thing.Thing.TheVariants.{Cross}
 use Rattle.net_chart.specs.Frames.{Laid_frames, frame_at, same_frame}
 use Rattle.net_chart.specs.Laws.{lays}
 use Rattle.net_chart.specs.Places.{above_all, place_after}

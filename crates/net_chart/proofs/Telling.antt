@@ -1,7 +1,5 @@
 -- Crosses and arrows, entry by entry.
-use Rattle.std.proofs.Common.{◌≡◌, ℕ, ◌==◌, ◌&&◌, ◌||◌, Bool, true, false, not, cond, List, [], ◌∷◌, ◌++◌, Option, Some, None, is_some, refl, ap, sym, subst, ◌∙◌, eq-eqb}
-use Rattle.std.specs.Prelude.{filter, map}
-use Rattle.std.specs.List.{list_any}
+use Rattle.std.proofs.Common.{◌≡◌, ℕ, ◌==◌, ◌&&◌, ◌||◌, Bool, true, false, not, cond, List, [], ◌∷◌, ◌++◌, Option, Some, None, is_some, refl, ap, sym, subst, ◌∙◌}
 use Rattle.std.specs.Map.{lookup}
 use Rattle.std.proofs.lemmas.Bool.{eqb-true, false≢true}
 use Rattle.indexmap.specs.IndexMap.{insert_entry}
@@ -9,8 +7,7 @@ use Rattle.net_base.specs.declared.history.Entry.{Entry}
 use Rattle.net_chart.specs.declared.frame.Frame.{Frame}
 use Rattle.net_chart.specs.declared.sight.Sight.{Sight}
 use Rattle.net_chart.specs.declared.sight.Sight.TheVariants.{Laid, Came, Did, Nothing}
-use Rattle.net_chart.specs.declared.thing.Thing.{Thing}
-use Rattle.net_chart.specs.declared.thing.Thing.TheVariants.{Arrow, Cross, Operation}
+use Rattle.net_chart.specs.declared.thing.Thing.TheVariants.{Cross}
 use Rattle.net_chart.specs.Frames.{Laid_frames, frame_at, same_frame}
 use Rattle.net_chart.specs.Laws.{copies_from, drawn_at, is_arrow, is_copy_of, is_cross, is_lost, lays, lost_in, was_laid}
 use Rattle.net_chart.specs.Sights.{sight_of}

@@ -1,5 +1,5 @@
 -- The things of a history as they are drawn on their page.
-use Rattle.std.specs.Prelude.{ℕ, ◌+◌, ◌-◌, ◌*◌, ◌==◌, List, [], ◌∷◌, ◌++◌, length, Option, Some, None, codes, flat_map, nat_le, nat_lt, if◌then◌else◌}
+use Rattle.std.specs.Prelude.{ℕ, ◌+◌, ◌-◌, ◌*◌, ◌==◌, List, [], ◌++◌, length, Option, Some, None, codes, flat_map, nat_le, nat_lt, if◌then◌else◌}
 use Rattle.net_base.specs.declared.event.Event.{Event}
 use Rattle.net_base.specs.declared.event.Event.TheVariants as event
 use Rattle.net_base.specs.declared.history.Entry.{Entry}

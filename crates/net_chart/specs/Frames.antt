@@ -7,7 +7,7 @@ use Rattle.net_base.specs.declared.packet.Header.{Header}
 use Rattle.net_chart.specs.declared.frame.Frame.{Frame}
 use Rattle.net_chart.specs.declared.frame.Source.{Source}
 use Rattle.net_chart.specs.declared.sight.Sight.{Sight}
-use Rattle.net_chart.specs.declared.sight.Sight.TheVariants.{Laid, Came, Did, Nothing}
+use Rattle.net_chart.specs.declared.sight.Sight.TheVariants.{Came}
 use Rattle.net_chart.specs.Sights.{host_of, sight_of}
 
 -- both are of one medium and have one number
