@@ -1,0 +1,13 @@
+//! What a keeper of a network database may want to look at again: a line each, with its number. Nothing of what is told is
+//! proved, but that each call is safe and returns.
+#![tactic(auto)]
+
+mod bundle;
+mod fault;
+mod keeper;
+mod known;
+mod notes;
+mod word;
+
+pub use fault::LintError;
+pub use keeper::lint;

@@ -1,0 +1,10 @@
+use Rattle.std.proofs.Common.{◌≡◌, ◌++◌, ◌-◌, length}
+use Rattle.std.specs.Prelude.{flat_map}
+use Rattle.std.specs.List.{range_with_len}
+use Rattle.script_steps.specs.Steps.{script_text, step_text}
+use Rattle.script_steps.proofs.steps.put_script.Given as goal
+
+-- the steps so far, and those that are left
+abbrev pub invariant-loop-step : goal.invariant-loop-step
+invariant-loop-step l =
+    l.out ++ flat_map (step_text l.world l.entries l.lines (l.number, l.script)) (range_with_len l.step (l.step-end - l.step)) ≡ l.initial.out ++ script_text l.world l.entries l.lines (l.number, l.script)

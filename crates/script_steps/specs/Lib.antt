@@ -1,0 +1,3 @@
+pub mod WorldSteps
+pub mod Recorded
+pub mod Steps

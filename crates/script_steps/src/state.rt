@@ -1,0 +1,140 @@
+//! What became of a step, or what it waits for.
+ghost use Rattle.std.specs.Prelude.{◌≡◌, ◌++◌, Some, OnOk, slice_get};
+ghost use Rattle.net_base.specs.Steps as steps;
+ghost use Rattle.plain_runner.specs.Turns.{ask_of, asks_of};
+ghost use Rattle.script_steps.specs.Steps as spec;
+
+use crate::recorded::Latest;
+use crate::world_steps::StepLine;
+use entry_labels::{put_actor, put_event, put_reply};
+use net_base::{Entry, Octets, Reply};
+use plain_runner::Turn;
+use std::alloc::AllocError;
+use words::put_decimal;
+
+/// Whether a reply is that of an event which isn't refused.
+fn is_accepted(reply: &Reply) -> bool
+    ensures { result ≡ steps.is_accepted reply.now }
+{
+    match reply {
+        Reply::Slot { .. } => true,
+        Reply::Granted { .. } => true,
+        Reply::Call { .. } => true,
+        Reply::Opened { .. } => true,
+        Reply::Ok => true,
+        Reply::Left => true,
+        Reply::Bytes { .. } => true,
+        Reply::Count { .. } => true,
+        Reply::Lines { .. } => true,
+        Reply::Names { .. } => true,
+        _ => false,
+    }
+}
+
+fn put_outcome(out: &mut Octets, word: &[u8], moment: u64, reply: &Reply) -> Result<(), AllocError>
+    ensures { OnOk result (out.new ≡ out.old ++ spec.outcome_text word.now moment reply.now) }
+{
+    out.append(word)?;
+    out.append(b" at ")?;
+    put_decimal(out, moment)?;
+    out.append(b", ")?;
+    put_reply(out, reply)
+}
+
+// A step whose last entry was accepted, with the one before it.
+fn put_ended(out: &mut Octets, last: &Entry, before: &Entry) -> Result<(), AllocError>
+    ensures { OnOk result (out.new ≡ out.old ++ spec.ended_both last.now before.now) }
+{
+    if is_accepted(&before.reply) {
+        put_outcome(out, b"answered", last.moment, &last.reply)
+    } else {
+        put_outcome(out, b"refused", last.moment, &before.reply)
+    }
+}
+
+fn put_told(
+    out: &mut Octets,
+    entries: &[Entry],
+    last: &Entry,
+    before: Option<usize>,
+) -> Result<(), AllocError>
+    ensures { OnOk result (out.new ≡ out.old ++ spec.told_of entries.now last.now before) }
+{
+    if !is_accepted(&last.reply) {
+        return put_outcome(out, b"refused", last.moment, &last.reply);
+    }
+    let Some(stamp) = before else {
+        return put_outcome(out, b"answered", last.moment, &last.reply);
+    };
+    match entries.get(stamp) {
+        Some(before) => put_ended(out, last, before),
+        None => put_outcome(out, b"answered", last.moment, &last.reply),
+    }
+}
+
+/// Adds what became of a step, by its last entries.
+pub fn put_answered(
+    out: &mut Octets,
+    entries: &[Entry],
+    latest: Option<Latest>,
+) -> Result<(), AllocError>
+    ensures { OnOk result (out.new ≡ out.old ++ spec.answered_text entries.now latest) }
+{
+    let Some(latest) = latest else {
+        return out.append(b"answered");
+    };
+    match entries.get(latest.last) {
+        Some(last) => put_told(out, entries, last, latest.before),
+        None => out.append(b"answered"),
+    }
+}
+
+/// Adds what a step waits for: the next event of its script, unless something is owed.
+pub fn put_waiting(out: &mut Octets, owes: bool, next: &Option<Turn>) -> Result<(), AllocError>
+    ensures { OnOk result (out.new ≡ out.old ++ spec.waiting_text owes (asks_of next.now)) }
+{
+    if owes {
+        return out.append(b"owes");
+    }
+    match next {
+        Some(turn) => put_asked(out, turn),
+        None => out.append(b"waits"),
+    }
+}
+
+fn put_asked(out: &mut Octets, turn: &Turn) -> Result<(), AllocError>
+    ensures { OnOk result (out.new ≡ out.old ++ spec.asked_text (Some (ask_of turn.now))) }
+{
+    out.append(b"waits for ")?;
+    put_actor(out, turn.actor)?;
+    out.append(b" ")?;
+    put_event(out, &turn.work.event)
+}
+
+/// Adds the number of a step's line and that of its script, and the step as it is spelled.
+pub fn put_place(
+    out: &mut Octets,
+    lines: &[StepLine],
+    step: usize,
+    script: u32,
+) -> Result<(), AllocError>
+    ensures { OnOk result (out.new ≡ out.old ++ spec.place_text (slice_get lines.now step) script) }
+{
+    match lines.get(step) {
+        Some(line) => put_line(out, line, script),
+        None => {
+            out.append(b"- ")?;
+            put_decimal(out, script as u64)
+        }
+    }
+}
+
+fn put_line(out: &mut Octets, line: &StepLine, script: u32) -> Result<(), AllocError>
+    ensures { OnOk result (out.new ≡ out.old ++ spec.place_text (Some line.now) script) }
+{
+    put_decimal(out, line.number)?;
+    out.append(b" ")?;
+    put_decimal(out, script as u64)?;
+    out.append(b" ")?;
+    out.append(line.text.as_slice())
+}
