@@ -18,15 +18,15 @@ NotLegal = (w : World) (h : List Entry) (stamp : ℕ) (rule : Rule) → IsFault 
 abbrev pub OneFault : Type 0
 OneFault = (w : World) (h : List Entry) (s t : ℕ) (r q : Rule) → IsFault w h s r → IsFault w h t q → (s ≡ t) × (r ≡ q)
 
-module _ (asked : Command) (w : World) (h : List Entry) (answer : Answer) (not_legal : NotLegal) where
-  shown_kept : IsLegal w h → IsTimed w h → answer ≡ view asked w h → IsShown asked w h answer
+module _ (asked : Command) (input : List ℕ) (w : World) (h : List Entry) (answer : Answer) (not_legal : NotLegal) where
+  shown_kept : IsLegal w h → IsTimed w h → answer ≡ view asked input w h → IsShown asked input w h answer
   shown_kept legal timed is = record {
     kept = λ l t. is;
     broken = λ stamp rule fault. absurd (not_legal w h stamp fault.0 fault.2 legal timed);
     judged = inl (legal, timed);
   }
 
-  shown_broken : OneFault → (stamp rule : ℕ) → HasFault w h stamp rule → answer ≡ rule_broken stamp rule → IsShown asked w h answer
+  shown_broken : OneFault → (stamp rule : ℕ) → HasFault w h stamp rule → answer ≡ rule_broken stamp rule → IsShown asked input w h answer
   shown_broken one stamp rule fault is = record {
     kept = λ legal timed. absurd (not_legal w h stamp fault.0 fault.2 legal timed);
     broken = λ s r other.
@@ -38,7 +38,7 @@ module _ (asked : Command) (w : World) (h : List Entry) (answer : Answer) (not_l
 
 -- an answer to an input within the limit, of which no line is bad
 answer_good : (asked : Command) (input : List ℕ) (w : World) (h : List Entry) (told : Option (List ℕ)) (answer : Answer) → length input ≤ input_limit
-    → HandsIn input w h told → IsShown asked w h answer → IsAnswer asked input answer
+    → HandsIn input w h told → IsShown asked input w h answer → IsAnswer asked input answer
 answer_good asked input w h told answer fits hands shown = record {
   found = None;
   first = told_by input false (within_limit input fits) None hands.good.is;
@@ -47,15 +47,15 @@ answer_good asked input w h told answer fits hands shown = record {
     hands.handed,
     λ handed.
         let same = hands.only handed in
-        subst (λ (v : World). IsShown asked v handed.history answer) (sym same.0)
-        (subst (λ (k : List Entry). IsShown asked w k answer) (sym same.1) shown),
+        subst (λ (v : World). IsShown asked input v handed.history answer) (sym same.0)
+        (subst (λ (k : List Entry). IsShown asked input w k answer) (sym same.1) shown),
   );
 }
 
 pub answers_view : (asked : Command) (input : List ℕ) (w : World) (h : List Entry) (told : Option (List ℕ)) (answer : Answer) → NotLegal
-    → length input ≤ input_limit → HandsIn input w h told → IsLegal w h → IsTimed w h → answer ≡ view asked w h → IsAnswer asked input answer
+    → length input ≤ input_limit → HandsIn input w h told → IsLegal w h → IsTimed w h → answer ≡ view asked input w h → IsAnswer asked input answer
 answers_view asked input w h told answer not_legal fits hands legal timed is =
-    answer_good asked input w h told answer fits hands (shown_kept asked w h answer not_legal legal timed is)
+    answer_good asked input w h told answer fits hands (shown_kept asked input w h answer not_legal legal timed is)
 
 pub answers_bad : (asked : Command) (input : List ℕ) (line cause : ℕ) (answer : Answer) → length input ≤ input_limit
     → IsFirst input (Some (line, cause))
@@ -70,4 +70,4 @@ answers_bad asked input line cause answer fits first is = record {
 pub answers_fault : (asked : Command) (input : List ℕ) (stamp rule : ℕ) (answer : Answer) → NotLegal → OneFault → length input ≤ input_limit
     → Refuses input (error.Fault stamp rule) → answer ≡ rule_broken stamp rule → IsAnswer asked input answer
 answers_fault asked input stamp rule answer not_legal one fits (w, h, told, hands, fault) is =
-    answer_good asked input w h told answer fits hands (shown_broken asked w h answer not_legal one stamp rule fault is)
+    answer_good asked input w h told answer fits hands (shown_broken asked input w h answer not_legal one stamp rule fault is)

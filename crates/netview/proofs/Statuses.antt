@@ -8,7 +8,7 @@ use Rattle.net_base.specs.Legal.{IsLegal, IsTimed}
 use Rattle.net_model.specs.Answers.{Answer, usage, read_fault}
 use Rattle.checked_input.specs.Input.{Handed}
 use Rattle.netview.specs.Views.{capture_on, medium_named, view, IsAnswer, IsFirstBad, IsGiven, IsShown, IsShownOf}
-use Rattle.netview.specs.Words.{Command, Pcap, Words}
+use Rattle.netview.specs.Words.{Command, Chart, Pcap, Steps, Words}
 use Rattle.command_line.specs.Calls.{Intake, IsInput, IsUnread, IsUnwritten, Output, Told}
 use Rattle.netview.specs.Ends.{IsRead, Answers, HasHanded, IsBad, IsBroken, IsHanded, IsRefused, IsShownWith, Ends, no_row, answered, unread, no_memory, Causes}
 use Rattle.netview.proofs.Endings.{told_of, too_long_is_over}
@@ -22,14 +22,16 @@ none_some bad h = cc
 -- What an answer says.
 
 -- what is shown has the status 0 or 5
-shown_status : (asked : Command) (w : World) (h : List Entry) → ((view asked w h).status ≡ 0) ⊎ ((view asked w h).status ≡ 5)
-shown_status (Pcap None) w h = inl refl
-shown_status (Pcap (Some name)) w h = by (medium_named name w.media)
+shown_status : (asked : Command) (input : List ℕ) (w : World) (h : List Entry) → ((view asked input w h).status ≡ 0) ⊎ ((view asked input w h).status ≡ 5)
+shown_status (Pcap None) input w h = inl refl
+shown_status (Pcap (Some name)) input w h = by (medium_named name w.media)
   where
     by : (medium : Option ℕ) → ((capture_on medium w h).status ≡ 0) ⊎ ((capture_on medium w h).status ≡ 5)
     by None = inr refl
     by (Some m) = inl refl
-shown_status Words w h = inl refl
+shown_status Chart input w h = inl refl
+shown_status Steps input w h = inl refl
+shown_status Words input w h = inl refl
 
 -- what a status says of the command and its input, and the status that it is
 pub data Of (asked : Command) (input : List ℕ) (answer : Answer) : Type 0 where
@@ -38,15 +40,15 @@ pub data Of (asked : Command) (input : List ℕ) (answer : Answer) : Type 0 wher
   of_refusal : (handed : Handed input) → IsFirstBad input None → answer.status ≡ 5 → IsRefused asked input handed → Of asked input answer
 
 of_shown : (asked : Command) (input : List ℕ) (answer : Answer) (handed : Handed input) → IsFirstBad input None
-    → IsShown asked handed.world handed.history answer
+    → IsShown asked input handed.world handed.history answer
     → Of asked input answer
 of_shown asked input answer handed good shown = elim shown.judged [
-  | inl kept ↦ by_status kept.0 kept.1 (shown_status asked handed.world handed.history)
+  | inl kept ↦ by_status kept.0 kept.1 (shown_status asked input handed.world handed.history)
   | inr (stamp, rule, fault) ↦ of_refusal handed good (ap (λ (a : Answer). a.status) (shown.broken stamp rule fault)) (inl (stamp, rule, fault))
 ]
   where
     by_status : IsLegal handed.world handed.history → IsTimed handed.world handed.history
-        → ((view asked handed.world handed.history).status ≡ 0) ⊎ ((view asked handed.world handed.history).status ≡ 5) → Of asked input answer
+        → ((view asked input handed.world handed.history).status ≡ 0) ⊎ ((view asked input handed.world handed.history).status ≡ 5) → Of asked input answer
     by_status legal timed (inl zero) =
         of_view handed good (ap (λ (a : Answer). a.status) (shown.kept legal timed) ∙ zero) (record { legal = legal; timed = timed; status_is = zero })
     by_status legal timed (inr five) =

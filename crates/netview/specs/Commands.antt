@@ -8,4 +8,6 @@ use Rattle.netview.specs.declared.command.Command.TheVariants as command
 abbrev pub command_read : Command → words.Command
 command_read command.Capture = words.Pcap None
 command_read (command.CaptureOf name) = words.Pcap (Some name.now)
+command_read command.Chart = words.Chart
+command_read command.Steps = words.Steps
 command_read command.Words = words.Words

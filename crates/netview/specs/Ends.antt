@@ -61,7 +61,7 @@ pub record HasHanded (command : Option Command) (So : Command → (input : List 
 pub record IsShownWith (status : ℕ) (asked : Command) (input : List ℕ) (handed : Handed input) : Type 0 where
   pub legal : IsLegal handed.world handed.history
   pub timed : IsTimed handed.world handed.history
-  pub status_is : (view asked handed.world handed.history).status ≡ status
+  pub status_is : (view asked input handed.world handed.history).status ≡ status
 
 -- a history that breaks a rule
 abbrev pub IsBroken : Command → (input : List ℕ) → Handed input → Type 0

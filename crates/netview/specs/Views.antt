@@ -1,6 +1,6 @@
 -- What a command answers to its input.
 --     IsFirstBad    the first bad line of an input
---     view          what is shown of a world and a legal and timed history of it
+--     view          what is shown of an input with a world and a legal and timed history of it
 --     IsAnswer      an answer to a command and its input
 use Rattle.std.specs.Prelude.{◌≡◌, ℕ, ◌⊎◌, Bool, true, false, List, [], ◌∷◌, length, nat_lt, bytes_eq, codes, Option, Some, None, if◌then◌else◌}
 use Rattle.net_base.specs.declared.history.Entry.{Entry}
@@ -12,7 +12,9 @@ use Rattle.net_model.specs.Answers.{Answer, bad_input, ended, rule_broken}
 use Rattle.checked_input.specs.Input.{Handed, IsBadHanded, parts_of}
 use Rattle.history_words.specs.HistoryWords.{history_words}
 use Rattle.net_capture.specs.Capture.{capture}
-use Rattle.netview.specs.Words.{Command, Pcap, Words}
+use Rattle.net_chart.specs.Chart.{chart}
+use Rattle.script_steps.specs.Steps.{steps_text}
+use Rattle.netview.specs.Words.{Command, Chart, Pcap, Steps, Words}
 
 -- Bad lines.
 
@@ -51,23 +53,26 @@ abbrev pub capture_on : Option ℕ → World → List Entry → Answer
 capture_on None w h = no_medium
 capture_on (Some medium) w h = whole (capture w h (Some medium))
 
-abbrev pub view : Command → World → List Entry → Answer
-view (Pcap None) w h = whole (capture w h None)
-view (Pcap (Some name)) w h = capture_on (medium_named name w.media) w h
-view Words w h = whole (history_words w h)
+-- of steps it is where they stand in the text of the world, too
+abbrev pub view : Command → List ℕ → World → List Entry → Answer
+view (Pcap None) input w h = whole (capture w h None)
+view (Pcap (Some name)) input w h = capture_on (medium_named name w.media) w h
+view Chart input w h = whole (chart w h)
+view Steps input w h = whole (steps_text input w h)
+view Words input w h = whole (history_words w h)
 
 -- Answers.
 
 -- what is shown of a legal and timed history, or the first stamp that breaks a rule and the least rule there
-pub record IsShown (asked : Command) (w : World) (h : List Entry) (answer : Answer) : Type 0 where
-  pub kept : IsLegal w h → IsTimed w h → answer ≡ view asked w h
+pub record IsShown (asked : Command) (input : List ℕ) (w : World) (h : List Entry) (answer : Answer) : Type 0 where
+  pub kept : IsLegal w h → IsTimed w h → answer ≡ view asked input w h
   pub broken : (stamp rule : ℕ) → HasFault w h stamp rule → answer ≡ rule_broken stamp rule
   -- and one of both it is
   pub judged : (IsLegal w h × IsTimed w h) ⊎ ((stamp : ℕ) × (rule : ℕ) × HasFault w h stamp rule)
 
 -- so of what an input hands in
 abbrev pub IsShownOf : Command → List ℕ → Answer → Type 0
-IsShownOf asked input answer = (handed : Handed input) → IsShown asked handed.world handed.history answer
+IsShownOf asked input answer = (handed : Handed input) → IsShown asked input handed.world handed.history answer
 
 -- an answer to an input with this first bad line, or without one, which hands something in
 abbrev pub IsGiven : Option (ℕ × ℕ) → Command → List ℕ → Answer → Type 0

@@ -10,6 +10,10 @@ pub enum Command<'a> {
     Capture,
     /// `pcap MEDIUM`
     CaptureOf(&'a [u8]),
+    /// `chart`
+    Chart,
+    /// `steps`
+    Steps,
     /// `words`
     Words,
 }
@@ -31,6 +35,12 @@ fn read_one(name: &[u8]) -> Option<Command<'_>>
 {
     if name == b"pcap".as_slice() {
         return Some(Command::Capture);
+    }
+    if name == b"chart".as_slice() {
+        return Some(Command::Chart);
+    }
+    if name == b"steps".as_slice() {
+        return Some(Command::Steps);
     }
     if name == b"words".as_slice() {
         return Some(Command::Words);

@@ -12,7 +12,9 @@ use history_laws::a_fault_is_not_legal;
 use history_words::words_of;
 use net_base::{History, World};
 use net_capture::capture_of;
+use net_chart::chart_of;
 use netcheck::a_fault_is_one;
+use script_steps::steps_of;
 use std::alloc::{AllocError, Global};
 use std::mem;
 
@@ -25,7 +27,7 @@ pub fn answer_over(alloc: Global, command: Command<'_>, input: &[u8]) -> Result<
     a_fault_is_not_legal();
     match check_input(alloc, input) {
         Ok(read) => {
-            let answer = show(alloc, command, &read.world, &read.history);
+            let answer = show(alloc, command, input, &read.world, &read.history);
             // the program ends behind its one answer, and gives back all memory at once
             mem::forget(read);
             answer
@@ -40,13 +42,14 @@ pub fn answer_over(alloc: Global, command: Command<'_>, input: &[u8]) -> Result<
 fn show(
     alloc: Global,
     command: Command<'_>,
+    input: &[u8],
     world: &World,
     history: &History,
 ) -> Result<Answer, AllocError>
     requires world { IsWorld world.now }
     requires legal { IsLegal world.now history.now }
     requires timed { IsTimed world.now history.now }
-    ensures { IfOk result (λ answer. answer ≡ view (command_read command.entry) world.now history.now) }
+    ensures { IfOk result (λ answer. answer ≡ view (command_read command.entry) input.now world.now history.now) }
 {
     match command {
         Command::Capture => Ok(Answer::whole(capture_of(alloc, world, history, None)?)),
@@ -54,6 +57,8 @@ fn show(
             Some(medium) => Ok(Answer::whole(capture_of(alloc, world, history, Some(medium))?)),
             None => Answer::no_medium(alloc),
         },
+        Command::Chart => Ok(Answer::whole(chart_of(alloc, world, history)?)),
+        Command::Steps => Ok(Answer::whole(steps_of(alloc, input, world, history)?)),
         Command::Words => Ok(Answer::whole(words_of(alloc, world, history)?)),
     }
 }
