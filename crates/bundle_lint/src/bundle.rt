@@ -1,5 +1,4 @@
 //! A bundle as it is written: its files and tuples in order, with the numbers of their lines.
-use crate::fault::LintError;
 use crate::word::{goes_on, next_word};
 use net_base::Octets;
 use std::alloc::{AllocError, Global};
@@ -33,7 +32,7 @@ impl Tuple {
 }
 
 /// The parts of a bundle without bad lines.
-pub fn parts_of(alloc: Global, text: &[u8]) -> Result<Vec<Part>, LintError> {
+pub fn parts_of(alloc: Global, text: &[u8]) -> Result<Vec<Part>, AllocError> {
     let mut parts = Vec::new(alloc);
     let mut pairs = Vec::new(alloc);
     let mut number: u64 = 0;

@@ -1,4 +1,8 @@
 //! The notes on a bundle.
+ghost use Rattle.std.specs.Prelude.{◌≡◌, None, IfErr, OnOk};
+ghost use Rattle.bundle_lint.specs.Told.{Tells};
+ghost use Rattle.net_base.specs.NdbBundle.{bad_line};
+
 use crate::bundle::{Pair, Part, Tuple, parts_of};
 use crate::fault::LintError;
 use crate::known::Known;
@@ -13,10 +17,28 @@ use words::read_address;
 /// a mask written `/N`; a file that `database` names and that isn't there, or that is there and isn't named; an address of a
 /// system that is on no network; an attribute for which nothing asks; a system or a domain that is named twice. It goes a few
 /// times through the text.
-pub fn lint(alloc: Global, text: &[u8]) -> Result<Octets, LintError> {
-    if let Some(fault) = fault_of(alloc, text) {
-        return Err(fault);
+pub fn lint(alloc: Global, text: &[u8]) -> Result<Octets, LintError>
+    ensures good { OnOk result (bad_line text.now ≡ None) }
+    ensures bad { IfErr result (λ e. Tells e (bad_line text.now)) }
+{
+    read_through(alloc, text)?;
+    Ok(notes_of(alloc, text)?)
+}
+
+// Whether a text is a database, or its first bad line.
+fn read_through(alloc: Global, text: &[u8]) -> Result<(), LintError>
+    ensures good { OnOk result (bad_line text.now ≡ None) }
+    ensures bad { IfErr result (λ e. Tells e (bad_line text.now)) }
+{
+    match read_ndb(alloc, text) {
+        Ok(_) => Ok(()),
+        Err(NdbError::Memory) => Err(LintError::Memory),
+        Err(NdbError::Bad { line, cause }) => Err(LintError::Bad { line, cause }),
     }
+}
+
+// The notes on a bundle without bad lines.
+fn notes_of(alloc: Global, text: &[u8]) -> Result<Octets, AllocError> {
     let parts = parts_of(alloc, text)?;
     let known = Known::of(alloc, &parts)?;
     let mut keeper = Keeper {
@@ -30,15 +52,6 @@ pub fn lint(alloc: Global, text: &[u8]) -> Result<Octets, LintError> {
     }
     let Keeper { notes, .. } = keeper;
     Ok(notes)
-}
-
-// The first bad line of a text, if there is one.
-fn fault_of(alloc: Global, text: &[u8]) -> Option<LintError> {
-    match read_ndb(alloc, text) {
-        Ok(_) => None,
-        Err(NdbError::Memory) => Some(LintError::Memory),
-        Err(NdbError::Bad { line, cause }) => Some(LintError::Bad { line, cause }),
-    }
 }
 
 // The notes so far, and the line of each system and domain.

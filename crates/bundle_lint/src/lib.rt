@@ -1,5 +1,5 @@
-//! What a keeper of a network database may want to look at again: a line each, with its number. Nothing of what is told is
-//! proved, but that each call is safe and returns.
+//! What a keeper of a network database may want to look at again: a line each, with its number. Of what is told only a bad line is
+//! proved; of the rest, that each call is safe and returns.
 #![tactic(auto)]
 
 mod bundle;

@@ -15,25 +15,27 @@ use Rattle.command_line.specs.Calls.{Intake, IsInput, IsUnread, Output, Told}
 use Rattle.netview.specs.Ends.{IsAnswered, Answers, Ends, answered, no_row, unread}
 
 -- an input over the limit is bad
-pub too_long_is_over : (input : List ℕ) → input_limit < length input → is_over input ≡ true
-too_long_is_over input long = grind (arith, nat_tests)
+pub too_long_is_over : (asked : Command) (input : List ℕ) → input_limit asked < length input → is_over asked input ≡ true
+too_long_is_over asked input long = grind (arith, nat_tests)
 
-pub within_limit : (input : List ℕ) → length input ≤ input_limit → is_over input ≡ false
-within_limit input fits = grind (arith, nat_tests)
+pub within_limit : (asked : Command) (input : List ℕ) → length input ≤ input_limit asked → is_over asked input ≡ false
+within_limit asked input fits = grind (arith, nat_tests)
 
 -- what is told of an input, by whether it is over the limit
-pub told_by : (input : List ℕ) (over : Bool) → is_over input ≡ over → (found : Option (ℕ × ℕ)) → IsBadOf over input found → IsFirstBad input found
-told_by input over is found told = subst (λ (b : Bool). IsBadOf b input found) (sym is) told
+pub told_by : (asked : Command) (input : List ℕ) (over : Bool) → is_over asked input ≡ over → (found : Option (ℕ × ℕ)) → IsBadOf over asked input found
+    → IsFirstBad asked input found
+told_by asked input over is found told = subst (λ (b : Bool). IsBadOf b asked input found) (sym is) told
 
-pub told_of : (input : List ℕ) (over : Bool) → is_over input ≡ over → (found : Option (ℕ × ℕ)) → IsFirstBad input found → IsBadOf over input found
-told_of input over is found told = subst (λ (b : Bool). IsBadOf b input found) is told
+pub told_of : (asked : Command) (input : List ℕ) (over : Bool) → is_over asked input ≡ over → (found : Option (ℕ × ℕ)) → IsFirstBad asked input found
+    → IsBadOf over asked input found
+told_of asked input over is found told = subst (λ (b : Bool). IsBadOf b asked input found) is told
 
 -- an answer to an input over the limit
-answer_too_long : (asked : Command) (input : List ℕ) → is_over input ≡ true → IsAnswer asked input (bad_input 0 9)
+answer_too_long : (asked : Command) (input : List ℕ) → is_over asked input ≡ true → IsAnswer asked input (bad_input 0 9)
 answer_too_long asked input is = record {
   found = Some (0, 9);
-  first = told_by input true is (Some (0, 9)) refl;
-  only = λ other told. told_of input true is other told;
+  first = told_by asked input true is (Some (0, 9)) refl;
+  only = λ other told. told_of asked input true is other told;
   given = refl;
 }
 
@@ -46,16 +48,16 @@ input_too_long limit (Some left) (Some rest) bytes taken long =
     (bytes ++ rest, sym taken, omega (arith, length-append bytes rest, long))
 
 -- an input of which more was taken than the limit
-answers_too_long : (asked : Command) (intake : Intake) → ConsumedToEnd intake.left intake.rest input_limit (Err error.TooLarge)
+answers_too_long : (asked : Command) (intake : Intake) → ConsumedToEnd intake.left intake.rest (input_limit asked) (Err error.TooLarge)
     → intake.after ≡ intake.before
     → Answers asked (bad_input 0 9) intake
 answers_too_long asked intake taken same =
-    let input = input_too_long input_limit intake.left intake.rest taken.bytes taken.consumed (taken.too_large.0 refl)
+    let input = input_too_long (input_limit asked) intake.left intake.rest taken.bytes taken.consumed (taken.too_large.0 refl)
     in record {
       input = input.0;
       read = (input.1, inr input.2);
       same = same;
-      right = answer_too_long asked input.0 (too_long_is_over input.0 input.2);
+      right = answer_too_long asked input.0 (too_long_is_over asked input.0 input.2);
     }
 
 -- what reading gave, where it failed
@@ -69,19 +71,21 @@ memory_is_no_fault : failing error.Memory ≡ failing error.Failed → ⊥
 memory_is_no_fault same = cc
 
 -- so the command is answered
-reading_failed : (asked : Command) (intake : Intake) (fault : TakeError) → ConsumedToEnd intake.left intake.rest input_limit (failing fault)
+reading_failed : (asked : Command) (intake : Intake) (fault : TakeError) → ConsumedToEnd intake.left intake.rest (input_limit asked) (failing fault)
     → (failing fault ≡ failing error.Failed → Rose intake.before intake.after) → (failing fault ≢ failing error.Failed → intake.after ≡ intake.before)
     → IsAnswered asked intake (Err fault)
 reading_failed asked intake error.TooLarge taken failed same = answers_too_long asked intake taken (same large_is_no_fault)
 reading_failed asked intake error.Failed taken failed same = failed refl
 reading_failed asked intake error.Memory taken failed same = same memory_is_no_fault
 
-pub answered_failed : (asked : Command) (intake : Intake) (fault : TakeError) (result : Result Answer TakeError) → result ≡ Err fault
-    → ConsumedToEnd intake.left intake.rest input_limit (failing fault)
+pub answered_failed : (asked : Command) (intake : Intake) (limit : ℕ) (fault : TakeError) (result : Result Answer TakeError) → limit ≡ input_limit asked
+    → result ≡ Err fault
+    → ConsumedToEnd intake.left intake.rest limit (failing fault)
     → (failing fault ≡ failing error.Failed → Rose intake.before intake.after) → (failing fault ≢ failing error.Failed → intake.after ≡ intake.before)
     → IsAnswered asked intake result
-answered_failed asked intake fault result is taken failed same =
-    subst (λ (r : Result Answer TakeError). IsAnswered asked intake r) (sym is) (reading_failed asked intake fault taken failed same)
+answered_failed asked intake limit fault result limit_is is taken failed same =
+    subst (λ (r : Result Answer TakeError). IsAnswered asked intake r) (sym is)
+    (reading_failed asked intake fault (subst (λ (n : ℕ). ConsumedToEnd intake.left intake.rest n (failing fault)) limit_is taken) failed same)
 
 -- the text of an input over the limit
 pub too_long_text : codes "! line 0 cause 9\n" ≡ (bad_input 0 9).text

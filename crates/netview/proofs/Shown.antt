@@ -7,8 +7,9 @@ use Rattle.net_model.specs.Answers.{Answer, bad_input, rule_broken}
 use Rattle.netcheck.specs.Judged.{HasFault}
 use Rattle.checked_input.specs.Told.{HandsIn, IsFirst, Refuses}
 use Rattle.checked_input.specs.declared.fault.InputError.TheVariants as error
-use Rattle.netview.specs.Views.{input_limit, view, IsAnswer, IsShown}
-use Rattle.netview.specs.Words.{Command}
+use Rattle.net_base.specs.NdbBundle.{bad_line}
+use Rattle.netview.specs.Views.{input_limit, view, whole, IsAnswer, IsGiven, IsShown}
+use Rattle.netview.specs.Words.{Lint, Show, View}
 use Rattle.netview.proofs.Endings.{told_by, told_of, within_limit}
 
 -- a history with a fault isn't both legal and timed, and has no other fault
@@ -18,15 +19,15 @@ NotLegal = (w : World) (h : List Entry) (stamp : ℕ) (rule : Rule) → IsFault 
 abbrev pub OneFault : Type 0
 OneFault = (w : World) (h : List Entry) (s t : ℕ) (r q : Rule) → IsFault w h s r → IsFault w h t q → (s ≡ t) × (r ≡ q)
 
-module _ (asked : Command) (w : World) (h : List Entry) (answer : Answer) (not_legal : NotLegal) where
-  shown_kept : IsLegal w h → IsTimed w h → answer ≡ view asked w h → IsShown asked w h answer
+module _ (asked : View) (input : List ℕ) (w : World) (h : List Entry) (answer : Answer) (not_legal : NotLegal) where
+  shown_kept : IsLegal w h → IsTimed w h → answer ≡ view asked input w h → IsShown asked input w h answer
   shown_kept legal timed is = record {
     kept = λ l t. is;
     broken = λ stamp rule fault. absurd (not_legal w h stamp fault.0 fault.2 legal timed);
     judged = inl (legal, timed);
   }
 
-  shown_broken : OneFault → (stamp rule : ℕ) → HasFault w h stamp rule → answer ≡ rule_broken stamp rule → IsShown asked w h answer
+  shown_broken : OneFault → (stamp rule : ℕ) → HasFault w h stamp rule → answer ≡ rule_broken stamp rule → IsShown asked input w h answer
   shown_broken one stamp rule fault is = record {
     kept = λ legal timed. absurd (not_legal w h stamp fault.0 fault.2 legal timed);
     broken = λ s r other.
@@ -37,37 +38,59 @@ module _ (asked : Command) (w : World) (h : List Entry) (answer : Answer) (not_l
   }
 
 -- an answer to an input within the limit, of which no line is bad
-answer_good : (asked : Command) (input : List ℕ) (w : World) (h : List Entry) (told : Option (List ℕ)) (answer : Answer) → length input ≤ input_limit
-    → HandsIn input w h told → IsShown asked w h answer → IsAnswer asked input answer
+answer_good : (asked : View) (input : List ℕ) (w : World) (h : List Entry) (told : Option (List ℕ)) (answer : Answer) → length input ≤ input_limit (Show asked)
+    → HandsIn input w h told → IsShown asked input w h answer → IsAnswer (Show asked) input answer
 answer_good asked input w h told answer fits hands shown = record {
   found = None;
-  first = told_by input false (within_limit input fits) None hands.good.is;
-  only = λ other is. hands.good.only other (told_of input false (within_limit input fits) other is);
+  first = told_by (Show asked) input false (within_limit (Show asked) input fits) None hands.good.is;
+  only = λ other is. hands.good.only other (told_of (Show asked) input false (within_limit (Show asked) input fits) other is);
   given = (
     hands.handed,
     λ handed.
         let same = hands.only handed in
-        subst (λ (v : World). IsShown asked v handed.history answer) (sym same.0)
-        (subst (λ (k : List Entry). IsShown asked w k answer) (sym same.1) shown),
+        subst (λ (v : World). IsShown asked input v handed.history answer) (sym same.0)
+        (subst (λ (k : List Entry). IsShown asked input w k answer) (sym same.1) shown),
   );
 }
 
-pub answers_view : (asked : Command) (input : List ℕ) (w : World) (h : List Entry) (told : Option (List ℕ)) (answer : Answer) → NotLegal
-    → length input ≤ input_limit → HandsIn input w h told → IsLegal w h → IsTimed w h → answer ≡ view asked w h → IsAnswer asked input answer
+pub answers_view : (asked : View) (input : List ℕ) (w : World) (h : List Entry) (told : Option (List ℕ)) (answer : Answer) → NotLegal
+    → length input ≤ input_limit (Show asked) → HandsIn input w h told → IsLegal w h → IsTimed w h → answer ≡ view asked input w h → IsAnswer (Show asked) input answer
 answers_view asked input w h told answer not_legal fits hands legal timed is =
-    answer_good asked input w h told answer fits hands (shown_kept asked w h answer not_legal legal timed is)
+    answer_good asked input w h told answer fits hands (shown_kept asked input w h answer not_legal legal timed is)
 
-pub answers_bad : (asked : Command) (input : List ℕ) (line cause : ℕ) (answer : Answer) → length input ≤ input_limit
+pub answers_bad : (asked : View) (input : List ℕ) (line cause : ℕ) (answer : Answer) → length input ≤ input_limit (Show asked)
     → IsFirst input (Some (line, cause))
-    → answer ≡ bad_input line cause → IsAnswer asked input answer
+    → answer ≡ bad_input line cause → IsAnswer (Show asked) input answer
 answers_bad asked input line cause answer fits first is = record {
   found = Some (line, cause);
-  first = told_by input false (within_limit input fits) (Some (line, cause)) first.is;
-  only = λ other told. first.only other (told_of input false (within_limit input fits) other told);
+  first = told_by (Show asked) input false (within_limit (Show asked) input fits) (Some (line, cause)) first.is;
+  only = λ other told. first.only other (told_of (Show asked) input false (within_limit (Show asked) input fits) other told);
   given = is;
 }
 
-pub answers_fault : (asked : Command) (input : List ℕ) (stamp rule : ℕ) (answer : Answer) → NotLegal → OneFault → length input ≤ input_limit
-    → Refuses input (error.Fault stamp rule) → answer ≡ rule_broken stamp rule → IsAnswer asked input answer
+pub answers_fault : (asked : View) (input : List ℕ) (stamp rule : ℕ) (answer : Answer) → NotLegal → OneFault → length input ≤ input_limit (Show asked)
+    → Refuses input (error.Fault stamp rule) → answer ≡ rule_broken stamp rule → IsAnswer (Show asked) input answer
 answers_fault asked input stamp rule answer not_legal one fits (w, h, told, hands, fault) is =
-    answer_good asked input w h told answer fits hands (shown_broken asked w h answer not_legal one stamp rule fault is)
+    answer_good asked input w h told answer fits hands (shown_broken asked input w h answer not_legal one stamp rule fault is)
+
+-- Notes on a bundle.
+
+-- one that is read has no bad line, and one that is refused is told of by its bad line
+bundle_told : (input : List ℕ) (found : Option (ℕ × ℕ)) (answer : Answer) → length input ≤ input_limit Lint → bad_line input ≡ found
+    → IsGiven found Lint input answer
+    → IsAnswer Lint input answer
+bundle_told input found answer fits is given = record {
+  found = found;
+  first = told_by Lint input false (within_limit Lint input fits) found (sym is);
+  only = λ other told. told_of Lint input false (within_limit Lint input fits) other told ∙ is;
+  given = given;
+}
+
+pub answers_notes : (input notes : List ℕ) (answer : Answer) → length input ≤ input_limit Lint → bad_line input ≡ None → answer ≡ whole notes
+    → IsAnswer Lint input answer
+answers_notes input notes answer fits good is = bundle_told input None answer fits good (notes, is)
+
+pub answers_bad_bundle : (input : List ℕ) (line cause : ℕ) (answer : Answer) → length input ≤ input_limit Lint → bad_line input ≡ Some (line, cause)
+    → answer ≡ bad_input line cause
+    → IsAnswer Lint input answer
+answers_bad_bundle input line cause answer fits bad is = bundle_told input (Some (line, cause)) answer fits bad is

@@ -7,10 +7,10 @@ use Rattle.net_base.specs.declared.world.World.{World}
 use Rattle.net_base.specs.Legal.{IsLegal, IsTimed}
 use Rattle.net_model.specs.Answers.{Answer, usage, read_fault}
 use Rattle.checked_input.specs.Input.{Handed}
-use Rattle.netview.specs.Views.{capture_on, medium_named, view, IsAnswer, IsFirstBad, IsGiven, IsShown, IsShownOf}
-use Rattle.netview.specs.Words.{Command, Pcap, Words}
+use Rattle.netview.specs.Views.{capture_on, medium_named, view, IsAnswer, IsFirstBad, IsGiven, IsGood, IsShown, IsShownOf}
+use Rattle.netview.specs.Words.{Command, Lint, Show, View, Chart, Pcap, Steps, Words}
 use Rattle.command_line.specs.Calls.{Intake, IsInput, IsUnread, IsUnwritten, Output, Told}
-use Rattle.netview.specs.Ends.{IsRead, Answers, HasHanded, IsBad, IsBroken, IsHanded, IsRefused, IsShownWith, Ends, no_row, answered, unread, no_memory, Causes}
+use Rattle.netview.specs.Ends.{IsRead, Answers, HasBundle, HasHanded, IsBad, IsBroken, IsHanded, IsRefused, IsShownWith, Ends, no_row, answered, unread, no_memory, Causes}
 use Rattle.netview.proofs.Endings.{told_of, too_long_is_over}
 
 some_none : (asked : Command) → Some asked ≡ None → ⊥
@@ -22,39 +22,48 @@ none_some bad h = cc
 -- What an answer says.
 
 -- what is shown has the status 0 or 5
-shown_status : (asked : Command) (w : World) (h : List Entry) → ((view asked w h).status ≡ 0) ⊎ ((view asked w h).status ≡ 5)
-shown_status (Pcap None) w h = inl refl
-shown_status (Pcap (Some name)) w h = by (medium_named name w.media)
+shown_status : (asked : View) (input : List ℕ) (w : World) (h : List Entry) → ((view asked input w h).status ≡ 0) ⊎ ((view asked input w h).status ≡ 5)
+shown_status (Pcap None) input w h = inl refl
+shown_status (Pcap (Some name)) input w h = by (medium_named name w.media)
   where
     by : (medium : Option ℕ) → ((capture_on medium w h).status ≡ 0) ⊎ ((capture_on medium w h).status ≡ 5)
     by None = inr refl
     by (Some m) = inl refl
-shown_status Words w h = inl refl
+shown_status Chart input w h = inl refl
+shown_status Steps input w h = inl refl
+shown_status Words input w h = inl refl
 
 -- what a status says of the command and its input, and the status that it is
 pub data Of (asked : Command) (input : List ℕ) (answer : Answer) : Type 0 where
-  of_bad : (bad : ℕ × ℕ) → IsFirstBad input (Some bad) → answer.status ≡ 2 → Of asked input answer
-  of_view : (handed : Handed input) → IsFirstBad input None → answer.status ≡ 0 → IsShownWith 0 asked input handed → Of asked input answer
-  of_refusal : (handed : Handed input) → IsFirstBad input None → answer.status ≡ 5 → IsRefused asked input handed → Of asked input answer
+  of_bad : (bad : ℕ × ℕ) → IsFirstBad asked input (Some bad) → answer.status ≡ 2 → Of asked input answer
+  of_view : (view : View) (handed : Handed input) → asked ≡ Show view → IsFirstBad asked input None → answer.status ≡ 0 → IsShownWith 0 view input handed
+      → Of asked input answer
+  of_refusal : (view : View) (handed : Handed input) → asked ≡ Show view → IsFirstBad asked input None → answer.status ≡ 5 → IsRefused view input handed
+      → Of asked input answer
+  of_notes : asked ≡ Lint → IsFirstBad asked input None → answer.status ≡ 0 → Of asked input answer
 
-of_shown : (asked : Command) (input : List ℕ) (answer : Answer) (handed : Handed input) → IsFirstBad input None
-    → IsShown asked handed.world handed.history answer
-    → Of asked input answer
+of_shown : (asked : View) (input : List ℕ) (answer : Answer) (handed : Handed input) → IsFirstBad (Show asked) input None
+    → IsShown asked input handed.world handed.history answer
+    → Of (Show asked) input answer
 of_shown asked input answer handed good shown = elim shown.judged [
-  | inl kept ↦ by_status kept.0 kept.1 (shown_status asked handed.world handed.history)
-  | inr (stamp, rule, fault) ↦ of_refusal handed good (ap (λ (a : Answer). a.status) (shown.broken stamp rule fault)) (inl (stamp, rule, fault))
+  | inl kept ↦ by_status kept.0 kept.1 (shown_status asked input handed.world handed.history)
+  | inr (stamp, rule, fault) ↦ of_refusal asked handed refl good (ap (λ (a : Answer). a.status) (shown.broken stamp rule fault)) (inl (stamp, rule, fault))
 ]
   where
     by_status : IsLegal handed.world handed.history → IsTimed handed.world handed.history
-        → ((view asked handed.world handed.history).status ≡ 0) ⊎ ((view asked handed.world handed.history).status ≡ 5) → Of asked input answer
+        → ((view asked input handed.world handed.history).status ≡ 0) ⊎ ((view asked input handed.world handed.history).status ≡ 5) → Of (Show asked) input answer
     by_status legal timed (inl zero) =
-        of_view handed good (ap (λ (a : Answer). a.status) (shown.kept legal timed) ∙ zero) (record { legal = legal; timed = timed; status_is = zero })
+        of_view asked handed refl good (ap (λ (a : Answer). a.status) (shown.kept legal timed) ∙ zero) (record { legal = legal; timed = timed; status_is = zero })
     by_status legal timed (inr five) =
-        of_refusal handed good (ap (λ (a : Answer). a.status) (shown.kept legal timed) ∙ five) (inr (record { legal = legal; timed = timed; status_is = five }))
+        of_refusal asked handed refl good (ap (λ (a : Answer). a.status) (shown.kept legal timed) ∙ five) (inr (record { legal = legal; timed = timed; status_is = five }))
 
-of_given : (asked : Command) (input : List ℕ) (answer : Answer) (bad : Option (ℕ × ℕ)) → IsFirstBad input bad → IsGiven bad asked input answer
+of_good : (asked : Command) (input : List ℕ) (answer : Answer) → IsFirstBad asked input None → IsGood asked input answer → Of asked input answer
+of_good (Show asked) input answer is given = of_shown asked input answer given.0 is (given.1 given.0)
+of_good Lint input answer is given = of_notes refl is (ap (λ (a : Answer). a.status) given.1)
+
+of_given : (asked : Command) (input : List ℕ) (answer : Answer) (bad : Option (ℕ × ℕ)) → IsFirstBad asked input bad → IsGiven bad asked input answer
     → Of asked input answer
-of_given asked input answer None is given = of_shown asked input answer given.0 is (given.1 given.0)
+of_given asked input answer None is given = of_good asked input answer is given
 of_given asked input answer (Some bad) is given = of_bad bad is (ap (λ (a : Answer). a.status) given)
 
 of_answer : (asked : Command) (input : List ℕ) (answer : Answer) → IsAnswer asked input answer → Of asked input answer
@@ -66,8 +75,9 @@ Apart n = (n ≡ 0 → ⊥) × (n ≡ 2 → ⊥) × (n ≡ 5 → ⊥)
 
 no_answer : (asked : Command) (input : List ℕ) (answer : Answer) (n : ℕ) → Of asked input answer → answer.status ≡ n → Apart n → ⊥
 no_answer asked input answer n (of_bad bad is two) same apart = apart.1 (sym same ∙ two)
-no_answer asked input answer n (of_view handed good zero shown) same apart = apart.0 (sym same ∙ zero)
-no_answer asked input answer n (of_refusal handed good five refused) same apart = apart.2 (sym same ∙ five)
+no_answer asked input answer n (of_view view handed is good zero shown) same apart = apart.0 (sym same ∙ zero)
+no_answer asked input answer n (of_refusal view handed is good five refused) same apart = apart.2 (sym same ∙ five)
+no_answer asked input answer n (of_notes is good zero) same apart = apart.0 (sym same ∙ zero)
 
 apart_1 : Apart 1
 apart_1 = (λ e. omega (arith, e), λ e. omega (arith, e), λ e. omega (arith, e))
@@ -88,22 +98,30 @@ not_of asked answer intake status n answers same is apart =
     no_answer asked answers.input answer n (of_answer asked answers.input answer answers.right) (sym same ∙ is) apart
 
 -- a good input was read to its end
-read_whole : (input : List ℕ) (intake : Intake) → IsRead intake input → IsFirstBad input None → IsInput intake.left input × IsAtEnd intake.rest
-read_whole input intake (is, inl end) good = (is, end)
-read_whole input intake (is, inr long) good = absurd (none_some (0, 9) (told_of input true (too_long_is_over input long) None good))
+read_whole : (asked : Command) (input : List ℕ) (intake : Intake) → IsRead asked intake input → IsFirstBad asked input None
+    → IsInput intake.left input × IsAtEnd intake.rest
+read_whole asked input intake (is, inl end) good = (is, end)
+read_whole asked input intake (is, inr long) good = absurd (none_some (0, 9) (told_of asked input true (too_long_is_over asked input long) None good))
 
 -- An answer to an input that is known.
 
--- a good input has an answer that shows what it handed in
-shows_it : (asked : Command) (input : List ℕ) (answer : Answer) → IsAnswer asked input answer → IsFirstBad input None → IsShownOf asked input answer
-shows_it asked input answer is good = by is.found (is.only None good) is.given
+-- a good input has an answer that shows what it handed in, or notes
+good_it : (asked : Command) (input : List ℕ) (answer : Answer) → IsAnswer asked input answer → IsFirstBad asked input None → IsGood asked input answer
+good_it asked input answer is good = by is.found (is.only None good) is.given
   where
-    by : (found : Option (ℕ × ℕ)) → None ≡ found → IsGiven found asked input answer → IsShownOf asked input answer
-    by None same given = given.1
+    by : (found : Option (ℕ × ℕ)) → None ≡ found → IsGiven found asked input answer → IsGood asked input answer
+    by None same given = given
     by (Some bad) same given = absurd (none_some bad same)
 
+shows_it : (asked : View) (input : List ℕ) (answer : Answer) → IsAnswer (Show asked) input answer → IsFirstBad (Show asked) input None
+    → IsShownOf asked input answer
+shows_it asked input answer is good = (good_it (Show asked) input answer is good).1
+
+notes_it : (input : List ℕ) (answer : Answer) → IsAnswer Lint input answer → IsFirstBad Lint input None → answer.status ≡ 0
+notes_it input answer is good = ap (λ (a : Answer). a.status) (good_it Lint input answer is good).1
+
 -- a bad one has status 2
-tells_it : (asked : Command) (input : List ℕ) (answer : Answer) (bad : ℕ × ℕ) → IsAnswer asked input answer → IsFirstBad input (Some bad)
+tells_it : (asked : Command) (input : List ℕ) (answer : Answer) (bad : ℕ × ℕ) → IsAnswer asked input answer → IsFirstBad asked input (Some bad)
     → answer.status ≡ 2
 tells_it asked input answer bad is told = by is.found (is.only (Some bad) told) is.given
   where
@@ -198,29 +216,37 @@ module _ (command : Option Command) (status : ℕ) (intake : Intake) (output : O
 
   bad_of : (of : IsOf command intake 2) → Of of.asked of.answers.input of.answer → IsBad command intake
   bad_of of (of_bad bad is two) = record { asked = of.asked; input = of.answers.input; bad = bad; is_asked = of.is_asked; read = of.answers.read; is_bad = is }
-  bad_of of (of_view handed good zero shown) = absurd (omega (arith, of.right, zero))
-  bad_of of (of_refusal handed good five refused) = absurd (omega (arith, of.right, five))
+  bad_of of (of_view view handed is good zero shown) = absurd (omega (arith, of.right, zero))
+  bad_of of (of_refusal view handed is good five refused) = absurd (omega (arith, of.right, five))
+  bad_of of (of_notes is good zero) = absurd (omega (arith, of.right, zero))
 
-  done_of : (of : IsOf command intake 0) → Of of.asked of.answers.input of.answer → HasHanded command (IsShownWith 0) intake
+  done_of : (of : IsOf command intake 0) → Of of.asked of.answers.input of.answer → HasHanded command (IsShownWith 0) intake ⊎ HasBundle command intake
   done_of of (of_bad bad is two) = absurd (omega (arith, of.right, two))
-  done_of of (of_view handed good zero shown) = record {
-    asked = of.asked;
+  done_of of (of_view view handed is good zero shown) = inl (record {
+    asked = view;
     input = of.answers.input;
-    is_asked = of.is_asked;
-    took = read_whole of.answers.input intake of.answers.read good;
+    is_asked = of.is_asked ∙ ap Some is;
+    took = read_whole of.asked of.answers.input intake of.answers.read good;
     handed = handed;
     right = shown;
-  }
-  done_of of (of_refusal handed good five refused) = absurd (omega (arith, of.right, five))
+  })
+  done_of of (of_refusal view handed is good five refused) = absurd (omega (arith, of.right, five))
+  done_of of (of_notes is good zero) = inr (record {
+    input = of.answers.input;
+    is_asked = of.is_asked ∙ ap Some is;
+    took = read_whole of.asked of.answers.input intake of.answers.read good;
+    good = subst (λ (c : Command). IsFirstBad c of.answers.input None) is good;
+  })
 
   refused_of : (of : IsOf command intake 5) → Of of.asked of.answers.input of.answer → HasHanded command IsRefused intake
   refused_of of (of_bad bad is two) = absurd (omega (arith, of.right, two))
-  refused_of of (of_view handed good zero shown) = absurd (omega (arith, of.right, zero))
-  refused_of of (of_refusal handed good five refused) = record {
-    asked = of.asked;
+  refused_of of (of_view view handed is good zero shown) = absurd (omega (arith, of.right, zero))
+  refused_of of (of_notes is good zero) = absurd (omega (arith, of.right, zero))
+  refused_of of (of_refusal view handed is good five refused) = record {
+    asked = view;
     input = of.answers.input;
-    is_asked = of.is_asked;
-    took = read_whole of.answers.input intake of.answers.read good;
+    is_asked = of.is_asked ∙ ap Some is;
+    took = read_whole of.asked of.answers.input intake of.answers.read good;
     handed = handed;
     right = refused;
   }
@@ -250,28 +276,34 @@ module _ (command : Option Command) (status : ℕ) (intake : Intake) (output : O
 
   tells_bad : Ends command status intake output → ¬ Rose intake.before intake.after → ¬ Rose output.before output.after
       → (asked : Command) (input : List ℕ) (bad : ℕ × ℕ)
-      → command ≡ Some asked → intake.left ≡ Some input → IsFirstBad input (Some bad) → (status ≡ 2) ⊎ (status ≡ 8)
+      → command ≡ Some asked → intake.left ≡ Some input → IsFirstBad asked input (Some bad) → (status ≡ 2) ⊎ (status ≡ 8)
   tells_bad ends no_read no_write asked input bad is left told = elim (told_input ends no_read no_write asked input is left) [
     | inl eight ↦ inr eight
     | inr (answer, right, same) ↦ inl (same ∙ tells_it asked input answer bad right told)
   ]
 
-  shows : Ends command status intake output → (asked : Command) (input : List ℕ) (n : ℕ) → IsHanded command asked intake output input
+  shows : Ends command status intake output → (asked : View) (input : List ℕ) (n : ℕ) → IsHanded command (Show asked) intake output input
       → (handed : Handed input)
       → IsShownWith n asked input handed → (status ≡ n) ⊎ (status ≡ 8)
-  shows ends asked input n is handed shown = elim (told_input ends is.no_read_fault is.no_write_fault asked input is.is_asked is.left) [
+  shows ends asked input n is handed shown = elim (told_input ends is.no_read_fault is.no_write_fault (Show asked) input is.is_asked is.left) [
     | inl eight ↦ inr eight
     | inr (answer, right, same) ↦
         inl (same ∙ (ap (λ (a : Answer). a.status) ((shows_it asked input answer right is.good handed).kept shown.legal shown.timed) ∙ shown.status_is))
   ]
 
-  breaks : Ends command status intake output → (asked : Command) (input : List ℕ) → IsHanded command asked intake output input
+  breaks : Ends command status intake output → (asked : View) (input : List ℕ) → IsHanded command (Show asked) intake output input
       → (handed : Handed input)
       → IsBroken asked input handed → (status ≡ 5) ⊎ (status ≡ 8)
-  breaks ends asked input is handed (stamp, rule, fault) = elim (told_input ends is.no_read_fault is.no_write_fault asked input is.is_asked is.left) [
+  breaks ends asked input is handed (stamp, rule, fault) = elim (told_input ends is.no_read_fault is.no_write_fault (Show asked) input is.is_asked is.left) [
     | inl eight ↦ inr eight
     | inr (answer, right, same) ↦
         inl (same ∙ ap (λ (a : Answer). a.status) ((shows_it asked input answer right is.good handed).broken stamp rule fault))
+  ]
+
+  notes : Ends command status intake output → (input : List ℕ) → IsHanded command Lint intake output input → (status ≡ 0) ⊎ (status ≡ 8)
+  notes ends input is = elim (told_input ends is.no_read_fault is.no_write_fault Lint input is.is_asked is.left) [
+    | inl eight ↦ inr eight
+    | inr (answer, right, same) ↦ inl (same ∙ notes_it input answer right is.good)
   ]
 
   of_it : (n : ℕ) (of : IsOf command intake n) → Of of.asked of.answers.input of.answer
@@ -300,4 +332,5 @@ module _ (command : Option Command) (status : ℕ) (intake : Intake) (output : O
     tells_bad = tells_bad ends;
     shows = shows ends;
     breaks = breaks ends;
+    notes = notes ends;
   }

@@ -10,16 +10,16 @@ use Rattle.outside.specs.declared.fault.TakeError.TheVariants as error
 use Rattle.command_line.specs.Calls.{Intake, IsInput, IsUnread, IsUnwritten, Output, Told}
 use Rattle.checked_input.specs.Input.{Handed}
 use Rattle.netview.specs.Views.{IsAnswer, IsFirstBad, input_limit, view}
-use Rattle.netview.specs.Words.{Command}
+use Rattle.netview.specs.Words.{Command, Lint, Show, View}
 
--- the input was read to its end, or is over the limit
-abbrev pub IsRead : Intake → List ℕ → Type 0
-IsRead intake input = IsInput intake.left input × (IsAtEnd intake.rest ⊎ (input_limit < length input))
+-- the input was read to its end, or is over the limit of the command
+abbrev pub IsRead : Command → Intake → List ℕ → Type 0
+IsRead asked intake input = IsInput intake.left input × (IsAtEnd intake.rest ⊎ (input_limit asked < length input))
 
 -- the answer is one to an input which was read without a fault
 pub record Answers (asked : Command) (answer : Answer) (intake : Intake) : Type 0 where
   pub input : List ℕ
-  pub read : IsRead intake input
+  pub read : IsRead asked intake input
   pub same : intake.after ≡ intake.before
   pub right : IsAnswer asked input answer
 
@@ -45,30 +45,37 @@ pub record IsBad (command : Option Command) (intake : Intake) : Type 0 where
   pub input : List ℕ
   pub bad : ℕ × ℕ
   pub is_asked : command ≡ Some asked
-  pub read : IsRead intake input
-  pub is_bad : IsFirstBad input (Some bad)
+  pub read : IsRead asked intake input
+  pub is_bad : IsFirstBad asked input (Some bad)
 
--- what an input that was read to its end handed in: a command's, and the world and the history in it are so
-pub record HasHanded (command : Option Command) (So : Command → (input : List ℕ) → Handed input → Type 0) (intake : Intake) : Type 0 where
-  pub asked : Command
+-- what an input that was read to its end handed in: of a view it is, and the world and the history in it are so
+pub record HasHanded (command : Option Command) (So : View → (input : List ℕ) → Handed input → Type 0) (intake : Intake) : Type 0 where
+  pub asked : View
   pub input : List ℕ
-  pub is_asked : command ≡ Some asked
+  pub is_asked : command ≡ Some (Show asked)
   pub took : IsInput intake.left input × IsAtEnd intake.rest
   pub handed : Handed input
   pub right : So asked input handed
 
+-- a bundle that was read to its end and has no bad line
+pub record HasBundle (command : Option Command) (intake : Intake) : Type 0 where
+  pub input : List ℕ
+  pub is_asked : command ≡ Some Lint
+  pub took : IsInput intake.left input × IsAtEnd intake.rest
+  pub good : IsFirstBad Lint input None
+
 -- a legal and timed history, of which the command shows something with this status
-pub record IsShownWith (status : ℕ) (asked : Command) (input : List ℕ) (handed : Handed input) : Type 0 where
+pub record IsShownWith (status : ℕ) (asked : View) (input : List ℕ) (handed : Handed input) : Type 0 where
   pub legal : IsLegal handed.world handed.history
   pub timed : IsTimed handed.world handed.history
-  pub status_is : (view asked handed.world handed.history).status ≡ status
+  pub status_is : (view asked input handed.world handed.history).status ≡ status
 
 -- a history that breaks a rule
-abbrev pub IsBroken : Command → (input : List ℕ) → Handed input → Type 0
+abbrev pub IsBroken : View → (input : List ℕ) → Handed input → Type 0
 IsBroken asked input handed = (stamp : ℕ) × (rule : ℕ) × HasFault handed.world handed.history stamp rule
 
 -- a rule is broken, or there is no medium of the name
-abbrev pub IsRefused : Command → (input : List ℕ) → Handed input → Type 0
+abbrev pub IsRefused : View → (input : List ℕ) → Handed input → Type 0
 IsRefused asked input handed = IsBroken asked input handed ⊎ IsShownWith 5 asked input handed
 
 -- the command was asked, there was no fault, and the source told what it had left: an input of which no line is bad
@@ -77,12 +84,12 @@ pub record IsHanded (command : Option Command) (asked : Command) (intake : Intak
   pub no_read_fault : ¬ Rose intake.before intake.after
   pub no_write_fault : ¬ Rose output.before output.after
   pub left : intake.left ≡ Some input
-  pub good : IsFirstBad input None
+  pub good : IsFirstBad asked input None
 
 -- the most reads of a source by words: none where they are in no row, and else two more than the limit has bytes
 abbrev pub most_reads : Option Command → ℕ
 most_reads None = 0
-most_reads (Some asked) = input_limit + 2
+most_reads (Some asked) = input_limit asked + 2
 
 -- when each status comes, and what it leaves
 pub record Causes (command : Option Command) (status : ℕ) (intake : Intake) (output : Output) : Type 0 where
@@ -91,7 +98,7 @@ pub record Causes (command : Option Command) (status : ℕ) (intake : Intake) (o
   pub no_row : command ≡ None → (status ≡ 1) ⊎ (status ≡ 7)
   pub reads_nothing : command ≡ None → IsUnread intake
   -- the words and the input alone give 0, 2 and 5
-  pub done : status ≡ 0 → HasHanded command (IsShownWith 0) intake
+  pub done : status ≡ 0 → HasHanded command (IsShownWith 0) intake ⊎ HasBundle command intake
   pub bad_input : status ≡ 2 → IsBad command intake
   pub refused : status ≡ 5 → HasHanded command IsRefused intake
   -- the faults and the memory
@@ -103,9 +110,11 @@ pub record Causes (command : Option Command) (status : ℕ) (intake : Intake) (o
   pub write_faults : output.after ≢ output.before → status ≡ 7
   -- where there is no fault and the source told what it had left, a bad input is told of
   pub tells_bad : ¬ Rose intake.before intake.after → ¬ Rose output.before output.after → (asked : Command) (input : List ℕ) (bad : ℕ × ℕ)
-      → command ≡ Some asked → intake.left ≡ Some input → IsFirstBad input (Some bad) → (status ≡ 2) ⊎ (status ≡ 8)
+      → command ≡ Some asked → intake.left ≡ Some input → IsFirstBad asked input (Some bad) → (status ≡ 2) ⊎ (status ≡ 8)
   -- a good one has the status of what is shown of it, or 5 where its history breaks a rule
-  pub shows : (asked : Command) (input : List ℕ) (n : ℕ) → IsHanded command asked intake output input → (handed : Handed input)
+  pub shows : (asked : View) (input : List ℕ) (n : ℕ) → IsHanded command (Show asked) intake output input → (handed : Handed input)
       → IsShownWith n asked input handed → (status ≡ n) ⊎ (status ≡ 8)
-  pub breaks : (asked : Command) (input : List ℕ) → IsHanded command asked intake output input → (handed : Handed input)
+  pub breaks : (asked : View) (input : List ℕ) → IsHanded command (Show asked) intake output input → (handed : Handed input)
       → IsBroken asked input handed → (status ≡ 5) ⊎ (status ≡ 8)
+  -- and a good bundle has 0
+  pub notes : (input : List ℕ) → IsHanded command Lint intake output input → (status ≡ 0) ⊎ (status ≡ 8)

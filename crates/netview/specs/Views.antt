@@ -1,7 +1,8 @@
 -- What a command answers to its input.
 --     IsFirstBad    the first bad line of an input
---     view          what is shown of a world and a legal and timed history of it
+--     view          what is shown of an input with a world and a legal and timed history of it
 --     IsAnswer      an answer to a command and its input
+-- Of a bundle nothing is said of what is noted, but that its bad lines are told.
 use Rattle.std.specs.Prelude.{◌≡◌, ℕ, ◌⊎◌, Bool, true, false, List, [], ◌∷◌, length, nat_lt, bytes_eq, codes, Option, Some, None, if◌then◌else◌}
 use Rattle.net_base.specs.declared.history.Entry.{Entry}
 use Rattle.net_base.specs.declared.world.MediumSpec.{MediumSpec}
@@ -12,24 +13,33 @@ use Rattle.net_model.specs.Answers.{Answer, bad_input, ended, rule_broken}
 use Rattle.checked_input.specs.Input.{Handed, IsBadHanded, parts_of}
 use Rattle.history_words.specs.HistoryWords.{history_words}
 use Rattle.net_capture.specs.Capture.{capture}
-use Rattle.netview.specs.Words.{Command, Pcap, Words}
+use Rattle.net_chart.specs.Chart.{chart}
+use Rattle.script_steps.specs.Steps.{steps_text}
+use Rattle.net_base.specs.NdbBundle.{bad_line}
+use Rattle.netview.specs.Words.{Command, Lint, Show, View, Chart, Pcap, Steps, Words}
 
 -- Bad lines.
 
--- the most bytes that an input may have, 64 MiB
-abbrev pub input_limit : ℕ
-input_limit = 67108864
+-- the most bytes that an input may have: 64 MiB of a world with a history, and 4 MiB of a bundle
+abbrev pub input_limit : Command → ℕ
+input_limit (Show asked) = 67108864
+input_limit Lint = 4194304
 
-abbrev pub is_over : List ℕ → Bool
-is_over input = nat_lt input_limit (length input)
+abbrev pub is_over : Command → List ℕ → Bool
+is_over asked input = nat_lt (input_limit asked) (length input)
 
--- the first bad line of an input and its least cause, if a line is bad: one over the limit has cause 9 at line 0
-abbrev pub IsBadOf : Bool → List ℕ → Option (ℕ × ℕ) → Type 0
-IsBadOf true input found = found ≡ Some (0, 9)
-IsBadOf false input found = IsBadHanded (parts_of input) input found
+-- the first bad line of an input within the limit, and its least cause, if a line is bad
+abbrev pub IsBadLine : Command → List ℕ → Option (ℕ × ℕ) → Type 0
+IsBadLine (Show asked) input found = IsBadHanded (parts_of input) input found
+IsBadLine Lint input found = found ≡ bad_line input
 
-abbrev pub IsFirstBad : List ℕ → Option (ℕ × ℕ) → Type 0
-IsFirstBad input found = IsBadOf (is_over input) input found
+-- the same of any input: one over the limit has cause 9 at line 0
+abbrev pub IsBadOf : Bool → Command → List ℕ → Option (ℕ × ℕ) → Type 0
+IsBadOf true asked input found = found ≡ Some (0, 9)
+IsBadOf false asked input found = IsBadLine asked input found
+
+abbrev pub IsFirstBad : Command → List ℕ → Option (ℕ × ℕ) → Type 0
+IsFirstBad asked input found = IsBadOf (is_over asked input) asked input found
 
 -- Views.
 
@@ -51,33 +61,41 @@ abbrev pub capture_on : Option ℕ → World → List Entry → Answer
 capture_on None w h = no_medium
 capture_on (Some medium) w h = whole (capture w h (Some medium))
 
-abbrev pub view : Command → World → List Entry → Answer
-view (Pcap None) w h = whole (capture w h None)
-view (Pcap (Some name)) w h = capture_on (medium_named name w.media) w h
-view Words w h = whole (history_words w h)
+-- of steps it is where they stand in the text of the world, too
+abbrev pub view : View → List ℕ → World → List Entry → Answer
+view (Pcap None) input w h = whole (capture w h None)
+view (Pcap (Some name)) input w h = capture_on (medium_named name w.media) w h
+view Chart input w h = whole (chart w h)
+view Steps input w h = whole (steps_text input w h)
+view Words input w h = whole (history_words w h)
 
 -- Answers.
 
 -- what is shown of a legal and timed history, or the first stamp that breaks a rule and the least rule there
-pub record IsShown (asked : Command) (w : World) (h : List Entry) (answer : Answer) : Type 0 where
-  pub kept : IsLegal w h → IsTimed w h → answer ≡ view asked w h
+pub record IsShown (asked : View) (input : List ℕ) (w : World) (h : List Entry) (answer : Answer) : Type 0 where
+  pub kept : IsLegal w h → IsTimed w h → answer ≡ view asked input w h
   pub broken : (stamp rule : ℕ) → HasFault w h stamp rule → answer ≡ rule_broken stamp rule
   -- and one of both it is
   pub judged : (IsLegal w h × IsTimed w h) ⊎ ((stamp : ℕ) × (rule : ℕ) × HasFault w h stamp rule)
 
 -- so of what an input hands in
-abbrev pub IsShownOf : Command → List ℕ → Answer → Type 0
-IsShownOf asked input answer = (handed : Handed input) → IsShown asked handed.world handed.history answer
+abbrev pub IsShownOf : View → List ℕ → Answer → Type 0
+IsShownOf asked input answer = (handed : Handed input) → IsShown asked input handed.world handed.history answer
 
--- an answer to an input with this first bad line, or without one, which hands something in
+-- an answer to an input without a bad line: what is shown of what it hands in, or some notes
+abbrev pub IsGood : Command → List ℕ → Answer → Type 0
+IsGood (Show asked) input answer = Handed input × IsShownOf asked input answer
+IsGood Lint input answer = (notes : List ℕ) × (answer ≡ whole notes)
+
+-- an answer to an input with this first bad line, or without one
 abbrev pub IsGiven : Option (ℕ × ℕ) → Command → List ℕ → Answer → Type 0
-IsGiven None asked input answer = Handed input × IsShownOf asked input answer
+IsGiven None asked input answer = IsGood asked input answer
 IsGiven (Some bad) asked input answer = answer ≡ bad_input bad.0 bad.1
 
 -- an answer to a command and its input
 pub record IsAnswer (asked : Command) (input : List ℕ) (answer : Answer) : Type 0 where
   pub found : Option (ℕ × ℕ)
-  pub first : IsFirstBad input found
+  pub first : IsFirstBad asked input found
   -- and no other line is the first bad one
-  pub only : (other : Option (ℕ × ℕ)) → IsFirstBad input other → other ≡ found
+  pub only : (other : Option (ℕ × ℕ)) → IsFirstBad asked input other → other ≡ found
   pub given : IsGiven found asked input answer

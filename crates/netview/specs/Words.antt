@@ -1,22 +1,35 @@
 -- The words of the command line.
 use Rattle.std.specs.Prelude.{ℕ, List, [], ◌∷◌, Option, Some, None, bytes_eq, codes, if◌then◌else◌}
 
-pub data Command : Type 0 where
+-- what is shown of a history
+pub data View : Type 0 where
   -- `pcap`, or `pcap MEDIUM`: a capture of all media, or of one
-  Pcap : Option (List ℕ) → Command
+  Pcap : Option (List ℕ) → View
+  -- `chart`: the history as a picture
+  Chart : View
+  -- `steps`: how far each script came
+  Steps : View
   -- `words`: the history in words
-  Words : Command
+  Words : View
+
+pub data Command : Type 0 where
+  Show : View → Command
+  -- `lint`: notes on a bundle of files of a network database
+  Lint : Command
 
 -- the name of a medium is no empty word
 abbrev pub one_medium : List ℕ → Option Command
 one_medium [] = None
-one_medium (b ∷ name) = Some (Pcap (Some (b ∷ name)))
+one_medium (b ∷ name) = Some (Show (Pcap (Some (b ∷ name))))
 
 -- the command of words, where they are in a row
 abbrev pub command_of : List (List ℕ) → Option Command
 command_of (name ∷ []) =
-    if bytes_eq name (codes "pcap") then Some (Pcap None)
-    else if bytes_eq name (codes "words") then Some Words
+    if bytes_eq name (codes "pcap") then Some (Show (Pcap None))
+    else if bytes_eq name (codes "chart") then Some (Show Chart)
+    else if bytes_eq name (codes "steps") then Some (Show Steps)
+    else if bytes_eq name (codes "words") then Some (Show Words)
+    else if bytes_eq name (codes "lint") then Some Lint
     else None
 command_of (name ∷ word ∷ []) = if bytes_eq name (codes "pcap") then one_medium word else None
 command_of _ = None

@@ -3,15 +3,28 @@ ghost use Rattle.std.specs.Prelude.{◌≡◌, ◌∷◌, [], map, option_map, s
 ghost use Rattle.netview.specs.Commands.{command_read};
 ghost use Rattle.netview.specs.Words.{command_of};
 
-/// A command, with the words that it needs.
+/// What is shown of a history, with the words that it needs.
 #[derive(Clone, Copy)]
-pub enum Command<'a> {
+pub enum View<'a> {
     /// `pcap`
     Capture,
     /// `pcap MEDIUM`
     CaptureOf(&'a [u8]),
+    /// `chart`
+    Chart,
+    /// `steps`
+    Steps,
     /// `words`
     Words,
+}
+
+/// A command.
+#[derive(Clone, Copy)]
+pub enum Command<'a> {
+    /// Something is shown of a history.
+    Show(View<'a>),
+    /// `lint`
+    Lint,
 }
 
 /// The command that words give, if they are in a row.
@@ -30,10 +43,19 @@ fn read_one(name: &[u8]) -> Option<Command<'_>>
     ensures { option_map command_read result ≡ command_of (name.now ∷ []) }
 {
     if name == b"pcap".as_slice() {
-        return Some(Command::Capture);
+        return Some(Command::Show(View::Capture));
+    }
+    if name == b"chart".as_slice() {
+        return Some(Command::Show(View::Chart));
+    }
+    if name == b"steps".as_slice() {
+        return Some(Command::Show(View::Steps));
     }
     if name == b"words".as_slice() {
-        return Some(Command::Words);
+        return Some(Command::Show(View::Words));
+    }
+    if name == b"lint".as_slice() {
+        return Some(Command::Lint);
     }
     None
 }
@@ -43,7 +65,7 @@ fn read_two<'a>(name: &[u8], word: &'a [u8]) -> Option<Command<'a>>
     ensures { option_map command_read result ≡ command_of (name.now ∷ word.now ∷ []) }
 {
     if name == b"pcap".as_slice() && !word.is_empty() {
-        return Some(Command::CaptureOf(word));
+        return Some(Command::Show(View::CaptureOf(word)));
     }
     None
 }

@@ -1,8 +1,9 @@
-//! A run of a world for people: as a capture, and as words.
+//! A run of a world for people: as a capture, a picture, steps and words; and notes on a database.
 #![tactic(auto)]
 
 mod answer;
 mod command;
+mod notes;
 mod top;
 mod view;
 

@@ -1,19 +1,24 @@
 //! The top call: words and an input in, a status and a text out.
-ghost use Rattle.std.specs.Prelude.{◌≡◌, ◌≢◌, ◌≤◌, ◌+◌, map, string_bytes, Err, None, Some};
+ghost use Rattle.std.specs.Prelude.{◌≡◌, ◌≢◌, ◌≤◌, ◌+◌, IfOk, length, map, string_bytes, Err, None, Some};
 ghost use Rattle.netview.specs.Commands.{command_read};
 ghost use Rattle.command_line.specs.Calls.{Intake};
 ghost use Rattle.netview.specs.Ends.{Causes, Ends, IsAnswered, most_reads};
+ghost use Rattle.netview.specs.Views.{IsAnswer, input_limit};
 ghost use Rattle.netview.specs.Words.{Command as AnyCommand, command_of};
 
 use crate::answer::{Answer, READ_FAULT, TOO_LONG, USAGE};
 use crate::command::{Command, read_words};
-use crate::view::answer_over;
+use crate::notes::notes_over;
+use crate::view::view_over;
 use command_line::tell;
 use outside::{Sink, Source, SureSink, SureSource, TakeError, read_to_end};
-use std::alloc::Global;
+use std::alloc::{AllocError, Global};
 
-/// The most bytes of an input, 64 MiB.
-const INPUT_LIMIT: usize = 67108864;
+/// The most bytes of a world with a history, 64 MiB.
+const HISTORY_LIMIT: usize = 67108864;
+
+/// The most bytes of a bundle, 4 MiB.
+const BUNDLE_LIMIT: usize = 4194304;
 
 /// Tells why there is no answer to a command and its input. One over the limit is answered as a bad one.
 fn tell_error<K: Sink>(sink: &mut K, error: TakeError) -> u8
@@ -38,6 +43,27 @@ fn tell_answer<K: Sink>(sink: &mut K, answered: Result<Answer, TakeError>) -> u8
     }
 }
 
+/// The answer to a command and its input, which is within the limit.
+fn answer_over(alloc: Global, command: Command<'_>, input: &[u8]) -> Result<Answer, AllocError>
+    requires { length input.now ≤ input_limit (command_read command) }
+    ensures { IfOk result (λ answer. IsAnswer (command_read command.entry) input.now answer) }
+{
+    match command {
+        Command::Show(asked) => view_over(alloc, asked, input),
+        Command::Lint => notes_over(alloc, input),
+    }
+}
+
+/// The most bytes that the input of a command may have.
+fn limit_of(command: Command<'_>) -> usize
+    ensures { result ≡ input_limit (command_read command.entry) }
+{
+    match command {
+        Command::Show(_) => HISTORY_LIMIT,
+        Command::Lint => BUNDLE_LIMIT,
+    }
+}
+
 /// Reads the input of a command, and makes the answer.
 fn read_and_answer<S: Source>(
     alloc: Global,
@@ -48,7 +74,7 @@ fn read_and_answer<S: Source>(
         (record { left = S.left source.old; rest = S.left source.new; before = S.faults source.old; after = S.faults source.new }) result }
     ensures reads { S.reads source.new ≤ S.reads source.old + most_reads (Some (command_read command.entry)) }
 {
-    let input = read_to_end(alloc, source, INPUT_LIMIT)?;
+    let input = read_to_end(alloc, source, limit_of(command))?;
     Ok(answer_over(alloc, command, input.as_slice())?)
 }
 

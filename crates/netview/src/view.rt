@@ -1,31 +1,34 @@
-//! What each command shows of an input.
+//! What is shown of an input.
 ghost use Rattle.std.specs.Prelude.{◌≡◌, ◌≤◌, IfOk, length};
 ghost use Rattle.net_base.specs.Legal.{IsLegal, IsTimed};
 ghost use Rattle.net_base.specs.World.{IsWorld};
-ghost use Rattle.netview.specs.Commands.{command_read};
+ghost use Rattle.netview.specs.Commands.{view_read};
 ghost use Rattle.netview.specs.Views.{IsAnswer, input_limit, medium_named, view};
+ghost use Rattle.netview.specs.Words.{Show};
 
 use crate::answer::Answer;
-use crate::command::Command;
+use crate::command::View;
 use checked_input::{CheckedInput, InputError, check_input};
 use history_laws::a_fault_is_not_legal;
 use history_words::words_of;
 use net_base::{History, World};
 use net_capture::capture_of;
+use net_chart::chart_of;
 use netcheck::a_fault_is_one;
+use script_steps::steps_of;
 use std::alloc::{AllocError, Global};
 use std::mem;
 
-/// The answer to a command and its input.
-pub fn answer_over(alloc: Global, command: Command<'_>, input: &[u8]) -> Result<Answer, AllocError>
-    requires { length input.now ≤ input_limit }
-    ensures { IfOk result (λ answer. IsAnswer (command_read command.entry) input.now answer) }
+/// What is shown of an input, where a view of it is asked for.
+pub fn view_over(alloc: Global, asked: View<'_>, input: &[u8]) -> Result<Answer, AllocError>
+    requires { length input.now ≤ input_limit (Show (view_read asked)) }
+    ensures { IfOk result (λ answer. IsAnswer (Show (view_read asked.entry)) input.now answer) }
 {
     a_fault_is_one();
     a_fault_is_not_legal();
     match check_input(alloc, input) {
         Ok(read) => {
-            let answer = show(alloc, command, &read.world, &read.history);
+            let answer = show(alloc, asked, input, &read.world, &read.history);
             // the program ends behind its one answer, and gives back all memory at once
             mem::forget(read);
             answer
@@ -36,25 +39,28 @@ pub fn answer_over(alloc: Global, command: Command<'_>, input: &[u8]) -> Result<
     }
 }
 
-/// What a command shows of a legal and timed history of a world.
+/// What a view shows of a legal and timed history of a world.
 fn show(
     alloc: Global,
-    command: Command<'_>,
+    asked: View<'_>,
+    input: &[u8],
     world: &World,
     history: &History,
 ) -> Result<Answer, AllocError>
     requires world { IsWorld world.now }
     requires legal { IsLegal world.now history.now }
     requires timed { IsTimed world.now history.now }
-    ensures { IfOk result (λ answer. answer ≡ view (command_read command.entry) world.now history.now) }
+    ensures { IfOk result (λ answer. answer ≡ view (view_read asked.entry) input.now world.now history.now) }
 {
-    match command {
-        Command::Capture => Ok(Answer::whole(capture_of(alloc, world, history, None)?)),
-        Command::CaptureOf(name) => match medium_named(world, name) {
+    match asked {
+        View::Capture => Ok(Answer::whole(capture_of(alloc, world, history, None)?)),
+        View::CaptureOf(name) => match medium_named(world, name) {
             Some(medium) => Ok(Answer::whole(capture_of(alloc, world, history, Some(medium))?)),
             None => Answer::no_medium(alloc),
         },
-        Command::Words => Ok(Answer::whole(words_of(alloc, world, history)?)),
+        View::Chart => Ok(Answer::whole(chart_of(alloc, world, history)?)),
+        View::Steps => Ok(Answer::whole(steps_of(alloc, input, world, history)?)),
+        View::Words => Ok(Answer::whole(words_of(alloc, world, history)?)),
     }
 }
 
