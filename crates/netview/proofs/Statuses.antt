@@ -8,7 +8,7 @@ use Rattle.net_base.specs.Legal.{IsLegal, IsTimed}
 use Rattle.net_model.specs.Answers.{Answer, usage, read_fault}
 use Rattle.checked_input.specs.Input.{Handed}
 use Rattle.netview.specs.Views.{capture_on, medium_named, view, IsAnswer, IsFirstBad, IsGiven, IsGood, IsShown, IsShownOf}
-use Rattle.netview.specs.Words.{Command, Lint, Show, View, Chart, Pcap, Steps, Words}
+use Rattle.netview.specs.Words.{Command, Lint, Show, View, Chart, ChartOfTalks, Pcap, Steps, Words}
 use Rattle.command_line.specs.Calls.{Intake, IsInput, IsUnread, IsUnwritten, Output, Told}
 use Rattle.netview.specs.Ends.{IsRead, Answers, HasBundle, HasHanded, IsBad, IsBroken, IsHanded, IsRefused, IsShownWith, Ends, no_row, answered, unread, no_memory, Causes}
 use Rattle.netview.proofs.Endings.{told_of, too_long_is_over}
@@ -30,6 +30,7 @@ shown_status (Pcap (Some name)) input w h = by (medium_named name w.media)
     by None = inr refl
     by (Some m) = inl refl
 shown_status Chart input w h = inl refl
+shown_status ChartOfTalks input w h = inl refl
 shown_status Steps input w h = inl refl
 shown_status Words input w h = inl refl
 

@@ -14,9 +14,10 @@ use Rattle.checked_input.specs.Input.{Handed, IsBadHanded, parts_of}
 use Rattle.history_words.specs.HistoryWords.{history_words}
 use Rattle.net_capture.specs.Capture.{capture}
 use Rattle.net_chart.specs.Chart.{chart}
+use Rattle.net_chart.specs.TalkChart.{talk_chart}
 use Rattle.script_steps.specs.Steps.{steps_text}
 use Rattle.net_base.specs.NdbBundle.{bad_line}
-use Rattle.netview.specs.Words.{Command, Lint, Show, View, Chart, Pcap, Steps, Words}
+use Rattle.netview.specs.Words.{Command, Lint, Show, View, Chart, ChartOfTalks, Pcap, Steps, Words}
 
 -- Bad lines.
 
@@ -66,6 +67,7 @@ abbrev pub view : View → List ℕ → World → List Entry → Answer
 view (Pcap None) input w h = whole (capture w h None)
 view (Pcap (Some name)) input w h = capture_on (medium_named name w.media) w h
 view Chart input w h = whole (chart w h)
+view ChartOfTalks input w h = whole (talk_chart w h)
 view Steps input w h = whole (steps_text input w h)
 view Words input w h = whole (history_words w h)
 

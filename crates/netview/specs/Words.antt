@@ -1,12 +1,14 @@
 -- The words of the command line.
-use Rattle.std.specs.Prelude.{ℕ, List, [], ◌∷◌, Option, Some, None, bytes_eq, codes, if◌then◌else◌}
+use Rattle.std.specs.Prelude.{◌&&◌, ℕ, List, [], ◌∷◌, Option, Some, None, bytes_eq, codes, if◌then◌else◌}
 
 -- what is shown of a history
 pub data View : Type 0 where
   -- `pcap`, or `pcap MEDIUM`: a capture of all media, or of one
   Pcap : Option (List ℕ) → View
-  -- `chart`: the history as a picture
+  -- `chart`: the history as a picture, with a column for each host
   Chart : View
+  -- `chart conversations`: the same with a column for each conversation
+  ChartOfTalks : View
   -- `steps`: how far each script came
   Steps : View
   -- `words`: the history in words
@@ -31,5 +33,8 @@ command_of (name ∷ []) =
     else if bytes_eq name (codes "words") then Some (Show Words)
     else if bytes_eq name (codes "lint") then Some Lint
     else None
-command_of (name ∷ word ∷ []) = if bytes_eq name (codes "pcap") then one_medium word else None
+command_of (name ∷ word ∷ []) =
+    if bytes_eq name (codes "pcap") then one_medium word
+    else if bytes_eq name (codes "chart") && bytes_eq word (codes "conversations") then Some (Show ChartOfTalks)
+    else None
 command_of _ = None

@@ -12,6 +12,8 @@ pub enum View<'a> {
     CaptureOf(&'a [u8]),
     /// `chart`
     Chart,
+    /// `chart conversations`
+    ChartOfTalks,
     /// `steps`
     Steps,
     /// `words`
@@ -66,6 +68,9 @@ fn read_two<'a>(name: &[u8], word: &'a [u8]) -> Option<Command<'a>>
 {
     if name == b"pcap".as_slice() && !word.is_empty() {
         return Some(Command::Show(View::CaptureOf(word)));
+    }
+    if name == b"chart".as_slice() && word == b"conversations".as_slice() {
+        return Some(Command::Show(View::ChartOfTalks));
     }
     None
 }

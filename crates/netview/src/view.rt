@@ -13,7 +13,7 @@ use history_laws::a_fault_is_not_legal;
 use history_words::words_of;
 use net_base::{History, World};
 use net_capture::capture_of;
-use net_chart::chart_of;
+use net_chart::{chart_of, chart_of_talks};
 use netcheck::a_fault_is_one;
 use script_steps::steps_of;
 use std::alloc::{AllocError, Global};
@@ -59,6 +59,7 @@ fn show(
             None => Answer::no_medium(alloc),
         },
         View::Chart => Ok(Answer::whole(chart_of(alloc, world, history)?)),
+        View::ChartOfTalks => Ok(Answer::whole(chart_of_talks(alloc, world, history)?)),
         View::Steps => Ok(Answer::whole(steps_of(alloc, input, world, history)?)),
         View::Words => Ok(Answer::whole(words_of(alloc, world, history)?)),
     }
