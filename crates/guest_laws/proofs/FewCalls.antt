@@ -256,7 +256,7 @@ module _ (equal : (a b : ActorName) → same_actor a b ≡ true → a ≡ b) (w 
       → actor_step w dir ((noted_net w log).actors dir) now work ≡ Some t
       → t.outcome.reply ≡ reply.Calls calls → length calls ≤ 10
   few_calls log now work t calls gives is =
-      let few = actor_few w h p ((noted_net w log).actors dir) now work (from_few opening_net log opens_few) in
+      let few = actor_few w h p ((noted_net w log).actors dir) now work (from_few (opening_net w) log opens_few) in
       told t calls (subst (λ (o : Option (Step Actor)). FewAfter o) gives few).1 is
 
 -- Elsewhere.

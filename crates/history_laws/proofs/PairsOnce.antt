@@ -222,7 +222,7 @@ all_kept w h legal = by_entries w (λ (p : List Entry). Kept (after w p) (given_
   where
     push : (p : List Entry) (x : Entry) → IsLegal w p → MayFollow w p x → Kept (after w p) (given_in w p) → Kept (after w (p ++ x ∷ [])) (given_in w (p ++ x ∷ []))
     push p x before may kept =
-        subst (Kept (after w (p ++ x ∷ []))) (sym (given_push w opening_net p x))
+        subst (Kept (after w (p ++ x ∷ []))) (sym (given_push w (opening_net w) p x))
         (subst (λ (net : Net). Kept net (given_in w p ++ option_to_list (gives x.actor (work_of (after w p) x) x.reply))) (sym (after_push w p x))
         (kept_step w (after w p) x (given_in w p) (step_of w (after w p) x) refl may.answers may.is_ready kept))
 

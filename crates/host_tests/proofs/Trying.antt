@@ -17,8 +17,8 @@ use Rattle.host_tests.specs.Tried.{AreLedTo, IsLedTo, tried_world}
 use Rattle.net_actors.proofs.FewWorks.{few_works}
 use Rattle.net_actors.proofs.Numbering.{among_is}
 
-pub none_led : (w : World) (v : Numbered) → AreActors w v opening_actor → AreLedTo w v 0
-none_led w v are = record { states = opening_actor; are = are; led = λ a. record { works = []; led = refl; few = omega arith } }
+pub none_led : (w : World) (v : Numbered) → AreActors w v (opening_actor w.timers) → AreLedTo w v 0
+none_led w v are = record { states = (opening_actor w.timers); are = are; led = λ a. record { works = []; led = refl; few = omega arith } }
 
 pub can_step : (w : World) (v : Numbered) (n : ℕ) (a : ActorName) (now : ℕ) (work : Work) (told : Bool) → AreLedTo w v n → n < 2 ^ 20 → has_actor w a ≡ true → told ≡ true
     → ((u : World) (states : ActorName → Actor) → AreActors u v states → told ≡ is_some (actor_step u a (states a) now work)) → CanStep v a now work
@@ -47,7 +47,7 @@ one_more w a s t n now work o led step =
       works = led.works ++ p ∷ [];
       led =
           sym (ap (stepped_to s) step)
-          ∙ (ap (λ (x : Actor). play w a x p) led.led ∙ sym (played_more w a (opening_actor a) led.works p));
+          ∙ (ap (λ (x : Actor). play w a x p) led.led ∙ sym (played_more w a (opening_actor w.timers a) led.works p));
       few = omega (arith, more, count);
     }
 

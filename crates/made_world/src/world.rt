@@ -9,7 +9,7 @@ use crate::steps::{anna_steps, helix_steps};
 use ndb_reader::{NdbError, read_ndb};
 use net_base::{
     Db, Fates, HostSpec, Hosts, Iface, Ifaces, Media, MediumSpec, Nets, Octets, Proto, RouteLines,
-    Script, Scripts, Starts, World,
+    Script, Scripts, Starts, Timers, World,
 };
 use std::alloc::{AllocError, Global};
 
@@ -119,6 +119,7 @@ pub fn make_world(alloc: Global, n: u32) -> Result<World, AllocError>
     Ok(World {
         end: END,
         seed: u64::from(n),
+        timers: Timers::Fixed,
         media,
         hosts: hosts(alloc)?,
         scripts: scripts(alloc, n)?,

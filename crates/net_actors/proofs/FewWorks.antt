@@ -3,6 +3,7 @@ use Rattle.std.proofs.Common.{◌≡◌, ℕ, zero, suc, ◌+◌, ◌<◌, ◌�
 use Rattle.std.specs.Prelude.{slice_get, ◌&&◌, ◌||◌}
 use Rattle.std.specs.Option.{option_map, option_and_then}
 use Rattle.std.proofs.lemmas.Option.{none-some}
+use Rattle.net_base.specs.declared.timer.Timers.{Timers}
 use Rattle.net_base.specs.declared.actor.ActorName.{ActorName}
 use Rattle.net_base.specs.declared.actor.ActorName.TheVariants as name
 use Rattle.net_base.specs.declared.address.Pair.{Pair}
@@ -444,13 +445,13 @@ all_raise w a s (p ∷ ps) =
     let rest = all_raise w a (play w a s p) ps in
     omega (arith, one, rest)
 
-opens_empty : (a : ActorName) → size_of (opening_actor a) ≡ 0
-opens_empty (name.Desk h) = refl
-opens_empty (name.Dir h p) = refl
-opens_empty (name.Conv h proto.Il n) = refl
-opens_empty (name.Conv h proto.Udp n) = refl
-opens_empty (name.Medium m) = refl
-opens_empty name.Clock = refl
+opens_empty : (timers : Timers) (a : ActorName) → size_of (opening_actor timers a) ≡ 0
+opens_empty timers (name.Desk h) = refl
+opens_empty timers (name.Dir h p) = refl
+opens_empty timers (name.Conv h proto.Il n) = refl
+opens_empty timers (name.Conv h proto.Udp n) = refl
+opens_empty timers (name.Medium m) = refl
+opens_empty timers name.Clock = refl
 
 small_conv : (c : Conv) (k : Core) → c.core ≡ k → core_size k < 2 ^ 30 → IsSmall (IsConv c)
 small_conv c (Il e) is few = subst (λ (k : Core). IsSmall (IsConv (record c { core = k }))) (sym is) (record { few_sent = omega (arith, few); few_got = omega (arith, few) })
@@ -463,8 +464,8 @@ small_is (IsDir d) few = tt
 small_is IsPlain few = tt
 
 -- what few works led to is small
-pub few_works : (w : World) (a : ActorName) (ps : List Play) → length ps < 2 ^ 30 → IsSmall (played w a (opening_actor a) ps)
+pub few_works : (w : World) (a : ActorName) (ps : List Play) → length ps < 2 ^ 30 → IsSmall (played w a (opening_actor w.timers a) ps)
 few_works w a ps few =
-    let raised = all_raise w a (opening_actor a) ps in
-    let empty = opens_empty a in
-    small_is (played w a (opening_actor a) ps) (omega (arith, raised, empty, few))
+    let raised = all_raise w a (opening_actor w.timers a) ps in
+    let empty = opens_empty w.timers a in
+    small_is (played w a (opening_actor w.timers a) ps) (omega (arith, raised, empty, few))

@@ -39,7 +39,7 @@ impl Actor {
         requires db { arc_value db.now ≡ world.now.db }
         ensures of { IfOk result (IsActorOf world.now) }
         ensures name { IfOk result (λ a. a.name ≡ name) }
-        ensures opening { IfOk result (λ a. state_of a ≡ opening_actor name) }
+        ensures opening { IfOk result (λ a. state_of a ≡ opening_actor world.now.timers name) }
     {
         let kind = Kind::new(alloc, world, db, name)?;
         Ok(Actor { name, kind })

@@ -22,7 +22,7 @@ use conversation::Conv;
 use host_dir::Dir;
 use medium::Medium;
 use ndb_index::Index;
-use net_base::{ActorName, Event, Outcome, Proto, Reply, Work, World};
+use net_base::{ActorName, Event, Outcome, Proto, Reply, Timers, Work, World};
 use std::alloc::{AllocError, Global};
 use std::sync::Arc;
 
@@ -48,13 +48,13 @@ impl Kind {
         requires has { has_actor world.now name ≡ true }
         requires db { arc_value db.now ≡ world.now.db }
         ensures keeps { IfOk result (Keeps world.now name) }
-        ensures opening { IfOk result (λ k. seen k ≡ opening_actor name) }
+        ensures opening { IfOk result (λ k. seen k ≡ opening_actor world.now.timers name) }
     {
         match name {
             ActorName::Desk(host) => Ok(Kind::Desk(desk_of(alloc, world, db, host)?)),
             ActorName::Dir(host, proto) => Ok(Kind::Dir(Dir::new(alloc, world, host, proto)?)),
             ActorName::Conv(host, proto, slot) => {
-                Ok(Kind::Conv(fresh_conv(alloc, host, proto, slot)?))
+                Ok(Kind::Conv(fresh_conv(alloc, host, proto, slot, world.timers)?))
             }
             ActorName::Medium(medium) => Ok(Kind::Medium(medium_of(alloc, world, medium)?)),
             ActorName::Clock => Ok(Kind::Clock),
@@ -131,11 +131,17 @@ fn desk_of(
 
 /// The conversation of a slot.
 #[tactic(auto, using(crate::proofs::ByKind::kept_is))]
-fn fresh_conv(alloc: Global, host: u32, proto: Proto, slot: u32) -> Result<Conv, AllocError>
+fn fresh_conv(
+    alloc: Global,
+    host: u32,
+    proto: Proto,
+    slot: u32,
+    timers: Timers,
+) -> Result<Conv, AllocError>
     ensures slot { IfOk result (λ c. slot_of c ≡ slot) }
-    ensures opening { IfOk result (λ c. c.conv ≡ opening_conv proto) }
+    ensures opening { IfOk result (λ c. c.conv ≡ opening_conv timers proto) }
 {
-    Conv::new(alloc, host, proto, slot)
+    Conv::new(alloc, host, proto, slot, timers)
 }
 
 /// A medium of the world.

@@ -7,6 +7,7 @@ use Rattle.net_base.specs.declared.address.Proto.{Proto}
 use Rattle.net_base.specs.declared.address.Proto.TheVariants as proto
 use Rattle.net_base.specs.declared.history.Work.{Work}
 use Rattle.net_base.specs.declared.reply.Reply.{Reply}
+use Rattle.net_base.specs.declared.timer.Timers.{Timers}
 use Rattle.net_base.specs.declared.world.HostSpec.{HostSpec}
 use Rattle.net_base.specs.declared.world.MediumSpec.{MediumSpec}
 use Rattle.net_base.specs.declared.world.World.{World}
@@ -46,12 +47,12 @@ abbrev pub opening_dir : Dir
 opening_dir = record { slots = replicate slot_count free_slot; pairs = []; ports = []; starts = 0 }
 
 -- an end to which nothing has happened
-abbrev pub opening_core : Proto → Core
-opening_core proto.Il = Il fresh_end
-opening_core proto.Udp = Udp fresh_udp
+abbrev pub opening_core : Timers → Proto → Core
+opening_core timers proto.Il = Il (fresh_end timers)
+opening_core timers proto.Udp = Udp fresh_udp
 
-abbrev pub opening_conv : Proto → Conv
-opening_conv p =
+abbrev pub opening_conv : Timers → Proto → Conv
+opening_conv timers p =
     record {
       generation = 0;
       opens = 0;
@@ -60,16 +61,16 @@ opening_conv p =
       ttl = 255;
       tos = 0;
       stage = Unused;
-      core = opening_core p;
+      core = opening_core timers p;
     }
 
--- the state from which an actor sets out
-abbrev pub opening_actor : ActorName → Actor
-opening_actor (name.Desk h) = IsPlain
-opening_actor (name.Dir h p) = IsDir opening_dir
-opening_actor (name.Conv h p n) = IsConv (opening_conv p)
-opening_actor (name.Medium m) = IsMedium quiet_medium
-opening_actor name.Clock = IsPlain
+-- the state from which an actor sets out, where the timers are of this kind
+abbrev pub opening_actor : Timers → ActorName → Actor
+opening_actor timers (name.Desk h) = IsPlain
+opening_actor timers (name.Dir h p) = IsDir opening_dir
+opening_actor timers (name.Conv h p n) = IsConv (opening_conv timers p)
+opening_actor timers (name.Medium m) = IsMedium quiet_medium
+opening_actor timers name.Clock = IsPlain
 
 -- Their steps.
 

@@ -6,6 +6,7 @@ use crate::names::Mode;
 use crate::ndb::Db;
 use crate::octets::Octets;
 use crate::sequence::Sequence;
+use crate::timer::Timers;
 use std::alloc::AllocError;
 
 /// What becomes of a frame.
@@ -167,6 +168,7 @@ pub type Scripts = Sequence<Script>;
 pub struct World {
     pub end: u64,
     pub seed: u64,
+    pub timers: Timers,
     pub media: Media,
     pub hosts: Hosts,
     pub scripts: Scripts,

@@ -4,6 +4,7 @@ use Rattle.std.specs.Option.{option_map, option_and_then}
 use Rattle.std.specs.Prelude.{IfSome, slice_get}
 use Rattle.std.proofs.lemmas.Bool.{cond_both, eq-eqb}
 use Rattle.std.proofs.lemmas.Option.{none-some, same_Some}
+use Rattle.net_base.specs.declared.timer.Timers.{Timers}
 use Rattle.net_base.specs.declared.actor.ActorName.{ActorName}
 use Rattle.net_base.specs.declared.actor.ActorName.TheVariants as name
 use Rattle.net_base.specs.declared.address.Proto.{Proto}
@@ -184,13 +185,13 @@ tick_later w (name.Conv h p n) (IsConv c) now with g s conv t mine is =
 tick_later w (name.Conv h p n) _ now with g s conv t mine is = absurd (never (has_actor w (name.Conv h p n)) s is)
 tick_later w _ b now with g s conv t mine is = absurd conv
 
-core_timed : (p : Proto) → Timed (opening_core p) 0
-core_timed proto.Il = (omega arith, tt)
-core_timed proto.Udp = tt
+core_timed : (timers : Timers) (p : Proto) → Timed (opening_core timers p) 0
+core_timed timers proto.Il = (omega arith, tt)
+core_timed timers proto.Udp = tt
 
-pub timed_opening : (a : ActorName) → TimedActor (opening_actor a)
-timed_opening (name.Conv h p n) = core_timed p
-timed_opening (name.Dir h p) = tt
-timed_opening (name.Medium m) = tt
-timed_opening (name.Desk h) = tt
-timed_opening name.Clock = tt
+pub timed_opening : (timers : Timers) (a : ActorName) → TimedActor (opening_actor timers a)
+timed_opening timers (name.Conv h p n) = core_timed timers p
+timed_opening timers (name.Dir h p) = tt
+timed_opening timers (name.Medium m) = tt
+timed_opening timers (name.Desk h) = tt
+timed_opening timers name.Clock = tt

@@ -161,7 +161,7 @@ step_linked name.Clock s ev gift o t gs later l = kept_linked t t gs later (λ q
 -- The list, one entry more.
 
 pub given_push : (w : World) (h : List Entry) (x : Entry) → given_in w (h ++ x ∷ []) ≡ given_in w h ++ option_to_list (gave x.actor x.event (work_of (after w h) x).with x.reply)
-given_push w h x = go opening_net h
+given_push w h x = go (opening_net w) h
   where
     go : (net : Net) (xs : List Entry) → given_from w net (xs ++ x ∷ []) ≡ given_from w net xs ++ option_to_list (gave x.actor x.event (work_of (net_of w net xs) x).with x.reply)
     go net [] = last (option_to_list (gave x.actor x.event (work_of net x).with x.reply))

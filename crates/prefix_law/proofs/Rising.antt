@@ -327,12 +327,12 @@ rests_next : (w : World) (net : Net) (x : Entry) (o : Option (Step Actor)) (ask 
 rests_next w net x None ask rests is below ready asked = absurd (false≢true ready)
 rests_next w net x (Some s) ask rests is below ready asked = rests_then w net x s rests is below ask asked
 
-opening_awake : (w : World) (a : ActorName) → IsConvName a → Beyond 0 (due_of (opening_actor a))
+opening_awake : (w : World) (a : ActorName) → IsConvName a → Beyond 0 (due_of (opening_actor w.timers a))
 opening_awake w (name.Conv h proto.Il n) conv = tt
 opening_awake w (name.Conv h proto.Udp n) conv = tt
 opening_awake w _ conv = absurd conv
 
-rests_opening : (w : World) → Rests w opening_net
+rests_opening : (w : World) → Rests w (opening_net w)
 rests_opening w = record {
   timed = timed_opening;
   plain = λ h. refl;

@@ -76,7 +76,7 @@ module _ (t : Trace) (owned_unique : (p q : Pair) (o : Owner) → t.owner p ≡ 
 -- One entry more.
 
 pub stood_push : (w : World) (e : Conversation) (h : List Entry) (x : Entry) → stood w (h ++ x ∷ []) e ≡ shown_in e.generation ((after w (h ++ x ∷ [])).actors (actor_of e)) (stood w h e)
-stood_push w e h x = go opening_net fresh_end h ∙ ap (λ (net : Net). shown_in e.generation (net.actors (actor_of e)) (stood w h e)) (sym (after_push w h x))
+stood_push w e h x = go (opening_net w) (fresh_end w.timers) h ∙ ap (λ (net : Net). shown_in e.generation (net.actors (actor_of e)) (stood w h e)) (sym (after_push w h x))
   where
     go : (net : Net) (last : End) (xs : List Entry) → stood_from w e net last (xs ++ x ∷ []) ≡ shown_in e.generation ((next_net w (net_of w net xs) x).actors (actor_of e)) (stood_from w e net last xs)
     go net last [] = refl

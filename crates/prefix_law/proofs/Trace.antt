@@ -84,7 +84,7 @@ trace_of w net t [] = t
 trace_of w net t (x ∷ xs) = trace_of w (next_net w net x) (next_trace w net x t) xs
 
 abbrev pub trace : World → List Entry → Trace
-trace w h = trace_of w opening_net opening_trace h
+trace w h = trace_of w (opening_net w) opening_trace h
 
 -- an address has one host, and a way goes out by an address of its own host
 pub record HasPlaces (w : World) : Type 0 where

@@ -562,7 +562,7 @@ free_fine h n = record {
   unused = λ r p g is. absurd (none-some _ is);
 }
 
-opening_fine : (w : World) → Fine w 0 opening_net opening_trace
+opening_fine : (w : World) → Fine w 0 (opening_net w) opening_trace
 opening_fine w = record {
   owned = record {
     talk = λ p. nothing_yet;
@@ -585,7 +585,7 @@ opening_fine w = record {
 -- Legal histories.
 
 pub trace_push : (w : World) (h : List Entry) (x : Entry) → trace w (h ++ x ∷ []) ≡ next_trace w (after w h) x (trace w h)
-trace_push w h x = go opening_net opening_trace h
+trace_push w h x = go (opening_net w) opening_trace h
   where
     go : (net : Net) (t : Trace) (xs : List Entry) → trace_of w net t (xs ++ x ∷ []) ≡ next_trace w (net_of w net xs) x (trace_of w net t xs)
     go net t [] = refl

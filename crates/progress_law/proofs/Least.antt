@@ -2,6 +2,7 @@
 use Rattle.std.proofs.Common.{◌≡◌, ℕ, zero, suc, ◌+◌, ◌<◌, ◌≤◌, ◌==◌, ◌⊎◌, Bool, true, false, List, [], ◌∷◌, length, Option, Some, None, slice_get, inl, inr, refl, sym, ap, subst, ◌∙◌, arith, nat_lt}
 use Rattle.std.specs.Prelude.{IsSome}
 use Rattle.std.proofs.lemmas.Bool.{true≢false, lt-ltb, eqb-true, eqb-false, ltb-true, ltb-false, cases_lt}
+use Rattle.net_base.specs.declared.timer.Timers.TheVariants.{Fixed}
 use Rattle.net_base.specs.declared.actor.ActorName.{ActorName}
 use Rattle.net_base.specs.declared.actor.ActorName.TheVariants as name
 use Rattle.net_base.specs.declared.address.Proto.{Proto}
@@ -155,7 +156,7 @@ raise_or g c step some = by (g == c.generation + 1) (nat_lt g c.generation) (g =
     by false false false next less same = inr (inr (omega (arith, eqb-false g (c.generation + 1) next, ltb-false g c.generation less, eqb-false g c.generation same)))
 
 -- what may bear a conversation of the protocol may bear one with this end
-same_bear : (p : Proto) (c : Core) (b : Body) → same_core p c → may_bear (opening_core p) b ≡ true → may_bear c b ≡ true
+same_bear : (p : Proto) (c : Core) (b : Body) → same_core p c → may_bear (opening_core Fixed p) b ≡ true → may_bear c b ≡ true
 same_bear proto.Il (Il e) (body.Il m) same is = is
 same_bear proto.Udp (Udp e) (body.Udp t) same is = is
 same_bear proto.Il (Il e) (body.Udp t) same is = is
@@ -163,13 +164,13 @@ same_bear proto.Udp (Udp e) (body.Il m) same is = is
 same_bear proto.Il (Udp e) b same is = absurd same
 same_bear proto.Udp (Il e) b same is = absurd same
 
-same_connect : (p : Proto) (c : Core) (start limit : ℕ) → same_core p c → may_connect (opening_core p) start limit ≡ true → may_connect c start limit ≡ true
+same_connect : (p : Proto) (c : Core) (start limit : ℕ) → same_core p c → may_connect (opening_core Fixed p) start limit ≡ true → may_connect c start limit ≡ true
 same_connect proto.Il (Il e) start limit same is = is
 same_connect proto.Udp (Udp e) start limit same is = is
 same_connect proto.Il (Udp e) start limit same is = absurd same
 same_connect proto.Udp (Il e) start limit same is = absurd same
 
-same_protocol : (p : Proto) (c : Core) (b : Body) → same_core p c → has_protocol (opening_core p) b ≡ true → has_protocol c b ≡ true
+same_protocol : (p : Proto) (c : Core) (b : Body) → same_core p c → has_protocol (opening_core Fixed p) b ≡ true → has_protocol c b ≡ true
 same_protocol proto.Il (Il e) (body.Il m) same is = is
 same_protocol proto.Udp (Udp e) (body.Udp t) same is = is
 same_protocol proto.Il (Il e) (body.Udp t) same is = is

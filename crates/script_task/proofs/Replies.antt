@@ -4,6 +4,7 @@ use Rattle.std.specs.Prelude.{if◌then◌else◌, IsSome}
 use Rattle.std.specs.Option.{option_map, option_and_then}
 use Rattle.std.proofs.lemmas.Bool.{true≢false, false≢true}
 use Rattle.std.proofs.lemmas.Option.{none-some, same_Some}
+use Rattle.net_base.specs.declared.timer.Timers.{Timers}
 use Rattle.net_base.specs.declared.actor.ActorName.{ActorName}
 use Rattle.net_base.specs.declared.actor.ActorName.TheVariants as name
 use Rattle.net_base.specs.declared.address.Pair.{Pair}
@@ -182,15 +183,15 @@ played_fine : (w : World) (a : ActorName) (s : Actor) (ps : List Play) → IsFin
 played_fine w a s [] fine = fine
 played_fine w a s (p ∷ ps) fine = played_fine w a (stepped_to s (actor_step w a s p.moment p.work)) ps (stays_fine s p.work.event (actor_step w a s p.moment p.work) fine (actor_goes w a s p.moment p.work fine))
 
-opening_is_fine : (a : ActorName) → IsFine (opening_actor a)
-opening_is_fine (name.Desk h) = tt
-opening_is_fine (name.Dir h p) = opening_fine
-opening_is_fine (name.Conv h p n) = tt
-opening_is_fine (name.Medium m) = tt
-opening_is_fine name.Clock = tt
+opening_is_fine : (timers : Timers) (a : ActorName) → IsFine (opening_actor timers a)
+opening_is_fine timers (name.Desk h) = tt
+opening_is_fine timers (name.Dir h p) = opening_fine
+opening_is_fine timers (name.Conv h p n) = tt
+opening_is_fine timers (name.Medium m) = tt
+opening_is_fine timers name.Clock = tt
 
 fine_after : (w : World) (h : List Entry) (a : ActorName) → IsFine ((after w h).actors a)
-fine_after w h a = subst IsFine (sym (state_is_fold w h a)) (played_fine w a (opening_actor a) (works w h a) (opening_is_fine a))
+fine_after w h a = subst IsFine (sym (state_is_fold w h a)) (played_fine w a (opening_actor w.timers a) (works w h a) (opening_is_fine w.timers a))
 
 goes_fits : (e : Event) (o : Option (Step Actor)) (t : Step Actor) → o ≡ Some t → Goes e o → fits e t.outcome.reply ≡ true
 goes_fits e None t is goes = absurd (none-some t is)
@@ -201,10 +202,10 @@ pub step_fits : (w : World) (h : List Entry) (a : ActorName) (now : ℕ) (work :
 step_fits w h a now work t is = goes_fits work.event (actor_step w a ((after w h).actors a) now work) t is (actor_goes w a ((after w h).actors a) now work (fine_after w h a))
 
 -- a step of an actor after any works
-pub played_fits : (w : World) (a : ActorName) (ps : List Play) (now : ℕ) (work : Work) (t : Step Actor) → actor_step w a (played w a (opening_actor a) ps) now work ≡ Some t → fits work.event t.outcome.reply ≡ true
+pub played_fits : (w : World) (a : ActorName) (ps : List Play) (now : ℕ) (work : Work) (t : Step Actor) → actor_step w a (played w a (opening_actor w.timers a) ps) now work ≡ Some t → fits work.event t.outcome.reply ≡ true
 played_fits w a ps now work t is =
-    goes_fits work.event (actor_step w a (played w a (opening_actor a) ps) now work) t is
-    (actor_goes w a (played w a (opening_actor a) ps) now work (played_fine w a (opening_actor a) ps (opening_is_fine a)))
+    goes_fits work.event (actor_step w a (played w a (opening_actor w.timers a) ps) now work) t is
+    (actor_goes w a (played w a (opening_actor w.timers a) ps) now work (played_fine w a (opening_actor w.timers a) ps (opening_is_fine w.timers a)))
 
 shown_fits : (x : Entry) (e : Event) (o : Option (Step Actor)) → Goes e o → IsSome (option_map (λ (s : Step Actor). s.outcome) o) → Shows (option_map (λ (s : Step Actor). s.outcome) o) x → fits e x.reply ≡ true
 shown_fits x e None goes ready shows = absurd (false≢true ready)

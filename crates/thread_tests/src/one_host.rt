@@ -11,7 +11,7 @@ use host_net::*;
 use journal::Naming;
 use net_base::{
     Db, Fates, History, HostSpec, Hosts, Iface, Ifaces, Media, MediumSpec, Mode, Nets, Octets,
-    Proto, RouteLines, Script, Scripts, Starts, Step, StepList, World,
+    Proto, RouteLines, Script, Scripts, Starts, Step, StepList, Timers, World,
 };
 use outside::OpenGate;
 use script_task::Request;
@@ -85,6 +85,7 @@ fn world(alloc: Global) -> Result<World, AllocError>
     Ok(World {
         end: 60000,
         seed: 7,
+        timers: Timers::Fixed,
         media: media(alloc)?,
         hosts: hosts(alloc)?,
         scripts: scripts(alloc)?,

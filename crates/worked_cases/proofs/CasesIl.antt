@@ -13,7 +13,7 @@ use Rattle.worked_worlds.specs.WorkedIl.{lossy_world, lossy_history, calling, ca
 use Rattle.worked_worlds.specs.Worked.{small_bundle}
 use Rattle.worked_cases.proofs.Walk.{Follow, InTime, is_legal, is_timed}
 
-lossy_follows : Follow lossy_world [] opening_net lossy_history
+lossy_follows : Follow lossy_world [] (opening_net lossy_world) lossy_history
 unfolding number digits state_after
 lossy_follows = (
   record { answers = refl; at_moment = refl; cites = refl; is_asked = refl; is_ready = refl; is_known = (refl, omega arith); has_room = omega arith },
@@ -167,7 +167,7 @@ lossy_follows = (
   ),
 )
 
-lossy_in_time : InTime lossy_world opening_net lossy_history
+lossy_in_time : InTime lossy_world (opening_net lossy_world) lossy_history
 unfolding number digits state_after
 lossy_in_time = (tt, (tt, (tt, (tt, (tt, ((refl, refl), (tt, (tt, (tt, (tt, (tt, (tt, (tt, (tt, (tt, (tt, (tt, (tt, (tt, (tt, (tt, (tt, (tt, (tt, (tt, (tt, (tt, (tt, (tt, (tt, (tt, (tt, ((refl, refl), (tt, (tt, (tt, (tt, (tt, (tt, (tt, (tt, (tt, (tt, (tt, (tt, (tt, (tt, (tt, (tt, (tt, (tt, tt)))))))))))))))))))))))))))))))))))))))))))))))))))
 
@@ -215,7 +215,7 @@ called_reads = refl
 pub calling_writes : writes lossy_history calling ≡ codes "hello" ∷ []
 calling_writes = refl
 
-refused_follows : Follow refused_world [] opening_net refused_history
+refused_follows : Follow refused_world [] (opening_net refused_world) refused_history
 unfolding number digits state_after
 refused_follows = (
   record { answers = refl; at_moment = refl; cites = refl; is_asked = tt; is_ready = refl; is_known = (refl, omega arith); has_room = omega arith },
@@ -267,7 +267,7 @@ refused_follows = (
   ),
 )
 
-refused_in_time : InTime refused_world opening_net refused_history
+refused_in_time : InTime refused_world (opening_net refused_world) refused_history
 unfolding number digits state_after
 refused_in_time = ((refl, refl), (tt, (tt, (tt, (tt, (tt, (tt, (tt, (tt, (tt, (tt, (tt, (tt, (tt, (tt, (tt, (tt, tt)))))))))))))))))
 

@@ -7,6 +7,7 @@ use Rattle.net_base.specs.declared.world.MediumSpec.{MediumSpec}
 use Rattle.net_base.specs.declared.world.Script.{Script}
 use Rattle.net_base.specs.declared.world.Step.TheVariants as step
 use Rattle.net_base.specs.declared.world.World.{World}
+use Rattle.net_base.specs.declared.timer.Timers.TheVariants.{Fixed}
 use Rattle.net_base.specs.NdbBundle.{reading}
 use Rattle.net_base.specs.World.{IsWorld}
 
@@ -62,6 +63,7 @@ two_hosts first second =
     record {
       end = 60000;
       seed = 7;
+      timers = Fixed;
       media = ether0 ∷ [];
       hosts = anna ∷ helix ∷ [];
       scripts = first ∷ second ∷ [];

@@ -2,7 +2,7 @@
 use net_base::{
     Db, Fate, FateRange, Fates, HostSpec, Hosts, Iface, Ifaces, Line, Media, MediumSpec, Mode,
     NdbPair, Nets, Octets, Proto, RouteLine, RouteLines, Script, Scripts, Starts, Step, StepList,
-    Tuple, World,
+    Timers, Tuple, World,
 };
 use std::alloc::{AllocError, Global};
 use world_writer::write_world;
@@ -233,6 +233,7 @@ fn is_written(alloc: Global, lines: &str) -> Result<bool, AllocError> {
     let mut world = World {
         end: 60000,
         seed: 18446744073709551615,
+        timers: Timers::Fixed,
         media: Media::new(alloc),
         hosts: Hosts::new(alloc),
         scripts: Scripts::new(alloc),

@@ -5,6 +5,8 @@
 use Rattle.std.specs.Prelude.{ℕ, ◌&&◌, List, [], ◌∷◌, codes, bytes_eq, Option, Some, None, Result, Ok, Err, nat_le, option_map, if◌then◌else◌}
 use Rattle.std.specs.Option.{option_and_then}
 use Rattle.net_base.specs.declared.names.Mode.{Mode}
+use Rattle.net_base.specs.declared.timer.Timers.{Timers}
+use Rattle.net_base.specs.declared.timer.Timers.TheVariants as timers
 use Rattle.net_base.specs.declared.world.Fate.{Fate}
 use Rattle.net_base.specs.declared.world.Fate.TheVariants as fate
 use Rattle.net_base.specs.declared.world.Step.{Step}
@@ -29,8 +31,15 @@ named word read = if is_name word then read else None
 
 -- The first lines.
 
+-- the kind of timers that a number names
+abbrev pub timers_named : List ℕ → Option Timers
+timers_named word =
+    if bytes_eq word (codes "1") then Some timers.Fixed
+    else (if bytes_eq word (codes "2") then Some timers.Measured
+    else None)
+
 abbrev pub networld_of : List (List ℕ) → Option WorldLine
-networld_of args = option_and_then (λ version. if bytes_eq version (codes "1") then Some line.Networld else None) (one args)
+networld_of args = option_map (λ (kind : Timers). line.Networld kind) (option_and_then timers_named (one args))
 
 abbrev pub end_of : List (List ℕ) → Option WorldLine
 end_of args = option_map (λ moment. line.End moment) (option_and_then (number_in 1 1000000000) (one args))

@@ -8,6 +8,7 @@ use Rattle.net_base.specs.declared.world.MediumSpec.{MediumSpec}
 use Rattle.net_base.specs.declared.world.Step.{Step}
 use Rattle.net_base.specs.declared.world.Step.TheVariants as step
 use Rattle.net_base.specs.declared.world.World.{World}
+use Rattle.net_base.specs.declared.timer.Timers.TheVariants.{Measured}
 use Rattle.worked_worlds.specs.Worked.{ip, script, small_bundle}
 
 -- The worked world of UDP.
@@ -72,4 +73,4 @@ all_steps =
     ∷ []
 
 abbrev pub every_line : World
-every_line = record { end = 60000; seed = 18446744073709551615; media = lossy_medium ∷ plain_medium ∷ []; hosts = gate ∷ []; scripts = script 0 all_steps ∷ []; db = [] }
+every_line = record { end = 60000; seed = 18446744073709551615; timers = Measured; media = lossy_medium ∷ plain_medium ∷ []; hosts = gate ∷ []; scripts = script 0 all_steps ∷ []; db = [] }

@@ -13,6 +13,8 @@ use Rattle.net_base.specs.declared.world.Script.{Script}
 use Rattle.net_base.specs.declared.world.Step.{Step}
 use Rattle.net_base.specs.declared.world.Step.TheVariants as step
 use Rattle.net_base.specs.declared.world.World.{World}
+use Rattle.net_base.specs.declared.timer.Timers.{Timers}
+use Rattle.net_base.specs.declared.timer.Timers.TheVariants as timers
 use Rattle.net_base.specs.ControlWords.{dotted}
 use Rattle.net_base.specs.NdbBundle.{database, bad_line}
 use Rattle.net_base.specs.NdbText.{is_newline, is_hash, lines_of}
@@ -39,13 +41,23 @@ spaced words = join_with_byte 32 words
 abbrev pub name_at : List (List ℕ) → ℕ → List ℕ
 name_at names n = get_or names n []
 
--- Media.
+-- The first lines.
+
+-- the number of a kind of timers
+abbrev pub timers_word : Timers → List ℕ
+timers_word timers.Fixed = codes "1"
+timers_word timers.Measured = codes "2"
+
+abbrev pub line_of_timers : Timers → List ℕ
+line_of_timers kind = spaced (codes "networld" ∷ timers_word kind ∷ [])
 
 abbrev pub line_of_end : ℕ → List ℕ
 line_of_end moment = spaced (codes "end" ∷ decimal moment ∷ [])
 
 abbrev pub line_of_seed : ℕ → List ℕ
 line_of_seed seed = spaced (codes "seed" ∷ decimal seed ∷ [])
+
+-- Media.
 
 abbrev pub line_of_medium : MediumSpec → List ℕ
 line_of_medium s = spaced (codes "medium" ∷ s.name ∷ decimal s.mtu ∷ [])
@@ -129,7 +141,7 @@ lines_of_script hosts s = spaced (codes "script" ∷ name_at hosts s.host ∷ []
 -- the lines of a world before `ndb`, in the order of their groups
 abbrev pub lines_of_world : World → List (List ℕ)
 lines_of_world w =
-    codes "networld 1"
+    line_of_timers w.timers
     ∷ line_of_end w.end
     ∷ line_of_seed w.seed
     ∷ (flat_map lines_of_medium w.media
@@ -296,9 +308,9 @@ abbrev pub lines_of_steps : ScriptText → List WorldLine
 lines_of_steps s = line.Script s.host ∷ map (λ (x : Step). line.OfScript x) s.steps
 
 -- all lines before `ndb`, in their groups
-abbrev pub lines_said : ℕ → ℕ → List MediumLine → List HostText → List ScriptText → List WorldLine
-lines_said moment seed media hosts scripts =
-    line.Networld ∷ line.End moment ∷ line.Seed seed
+abbrev pub lines_said : Timers → ℕ → ℕ → List MediumLine → List HostText → List ScriptText → List WorldLine
+lines_said kind moment seed media hosts scripts =
+    line.Networld kind ∷ line.End moment ∷ line.Seed seed
     ∷ (map (λ (l : MediumLine). line.OfMedium l) media ++ (flat_map lines_of_text hosts ++ flat_map lines_of_steps scripts))
 
 -- Spellings.
@@ -318,7 +330,7 @@ words_of_host_line (host.Route l) = codes "route" ∷ dotted l.net ∷ dotted l.
 words_of_host_line (host.Start start) = codes "start" ∷ decimal start ∷ []
 
 abbrev pub words_of_line : WorldLine → List (List ℕ)
-words_of_line line.Networld = codes "networld" ∷ codes "1" ∷ []
+words_of_line (line.Networld kind) = codes "networld" ∷ timers_word kind ∷ []
 words_of_line (line.End moment) = codes "end" ∷ decimal moment ∷ []
 words_of_line (line.Seed seed) = codes "seed" ∷ decimal seed ∷ []
 words_of_line (line.OfMedium l) = words_of_medium_line l
@@ -343,7 +355,7 @@ pub record IsWorldText (text : List ℕ) (w : World) : Type 0 where
   pub media : List MediumLine
   pub hosts : List HostText
   pub scripts : List ScriptText
-  pub spelled : filter speaks head ≡ map spelling (lines_said w.end w.seed media hosts scripts)
+  pub spelled : filter speaks head ≡ map spelling (lines_said w.timers w.end w.seed media hosts scripts)
   pub media_are : w.media ≡ media_said media
   pub media_in_order : EachBehind IsBehindMedium media
   pub hosts_are : w.hosts ≡ map (host_said (medium_names w.media)) hosts

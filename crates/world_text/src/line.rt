@@ -2,12 +2,12 @@
 ghost use Rattle.std.specs.Prelude.{◌≡◌};
 ghost use Rattle.world_text.specs.LineCauses.{number_of};
 
-use net_base::{Fate, Nets, Octets, RouteLine, Step};
+use net_base::{Fate, Nets, Octets, RouteLine, Step, Timers};
 
 /// Why a line is bad, in the order in which causes are told.
 #[derive(Clone, Copy, Debug, PartialEq, Eq)]
 pub enum LineCause {
-    /// The first line isn't `networld 1`.
+    /// The first line is neither `networld 1` nor `networld 2`.
     FirstLine,
     UnknownWord,
     WrongArgument,
@@ -92,7 +92,8 @@ pub enum HostLine {
 /// A line of a world.
 #[derive(Debug, Drop)]
 pub enum WorldLine {
-    Networld,
+    /// The kind of timers: fixed for 1, measured for 2.
+    Networld(Timers),
     End(u64),
     Seed(u64),
     OfMedium(MediumLine),

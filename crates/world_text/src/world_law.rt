@@ -70,7 +70,7 @@ pub fn worked_world_lines()
     ensures one_datagram { laid (lines_of_world datagram_world) ≡ datagram_head }
     ensures its_text { world_reading datagram_text ≡ Ok datagram_world }
     ensures every_line { laid (lines_of_world every_line)
-        ≡ codes "networld 1\nend 60000\nseed 18446744073709551615\nmedium ether0 1500\n"
+        ≡ codes "networld 2\nend 60000\nseed 18446744073709551615\nmedium ether0 1500\n"
         ++ (codes "rates ether0 10 0 20\nfate ether0 1 lose\nfate ether0 3-5 deliver\n"
         ++ (codes "medium ether1 576\nhost gate udp il\nif ether1 10.0.0.1 255.0.0.0\n"
         ++ (codes "if ether0 135.104.9.1 255.255.255.0\nroute 0.0.0.0 0.0.0.0 10.0.0.2\nstart 7\n"

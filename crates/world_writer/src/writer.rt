@@ -1,6 +1,6 @@
 //! The file of a world.
 ghost use Rattle.std.specs.Prelude.{◌≡◌, ◌∷◌, ◌++◌, [], codes, IfOk, OnOk};
-ghost use Rattle.world_text.specs.WorldSpelling.{laid, line_of_end, line_of_seed, lines_of_world};
+ghost use Rattle.world_text.specs.WorldSpelling.{laid, line_of_end, line_of_seed, line_of_timers, lines_of_world};
 ghost use Rattle.world_writer.specs.Written.{file_text, lines_of_parts};
 
 use crate::hosts::put_hosts;
@@ -8,14 +8,25 @@ use crate::line::put_number;
 use crate::media::put_media;
 use crate::scripts::put_scripts;
 use ndb_reader::write_ndb;
-use net_base::{HostSpec, MediumSpec, Octets, Script, World};
+use net_base::{HostSpec, MediumSpec, Octets, Script, Timers, World};
 use std::alloc::{AllocError, Global};
+
+/// Adds the first line, which names the kind of timers.
+fn put_timers(out: &mut Octets, timers: Timers) -> Result<(), AllocError>
+    ensures { OnOk result (out.new ≡ out.old ++ laid (line_of_timers timers ∷ [])) }
+{
+    match timers {
+        Timers::Fixed => out.append(b"networld 1\n"),
+        Timers::Measured => out.append(b"networld 2\n"),
+    }
+}
 
 /// Adds the lines that stand before the media.
 fn put_head(out: &mut Octets, world: &World) -> Result<(), AllocError>
-    ensures { OnOk result (out.new ≡ out.old ++ laid (codes "networld 1" ∷ line_of_end world.now.end ∷ line_of_seed world.now.seed ∷ [])) }
+    ensures { OnOk result (out.new ≡ out.old ++ laid (line_of_timers world.now.timers ∷ line_of_end world.now.end ∷ line_of_seed world.now.seed ∷ [])) }
 {
-    out.append(b"networld 1\nend")?;
+    put_timers(out, world.timers)?;
+    out.append(b"end")?;
     put_number(out, world.end)?;
     out.append(b"\nseed")?;
     put_number(out, world.seed)?;

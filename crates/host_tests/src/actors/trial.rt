@@ -7,7 +7,7 @@ ghost use Rattle.host_tests.specs.Tried.{tried_host, tried_medium, tried_world};
 use net_actors::{Actors, Due};
 use net_base::{
     ActorName, Db, Fates, HostSpec, Hosts, Iface, Ifaces, Media, MediumSpec, Nets, Octets, Proto,
-    Reply, RouteLines, Scripts, Starts, Work, World,
+    Reply, RouteLines, Scripts, Starts, Timers, Work, World,
 };
 use std::alloc::{AllocError, Global};
 use std::marker::Model;
@@ -161,6 +161,7 @@ fn world(alloc: Global) -> Result<World, AllocError>
     Ok(World {
         end: 60000,
         seed: 7,
+        timers: Timers::Fixed,
         media: media(alloc)?,
         hosts: hosts(alloc)?,
         scripts: Scripts::new(alloc),
