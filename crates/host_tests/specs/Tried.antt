@@ -32,7 +32,7 @@ tried_world =
       media = tried_medium ∷ [];
       hosts = tried_host (codes "anna") 2271742214 ∷ tried_host (codes "helix") 2271742239 ∷ [];
       scripts = [];
-      db = [];
+      dbs = record { moment = 0; db = [] } ∷ [];
     }
 
 -- at most n works led the actor to this state

@@ -203,7 +203,7 @@ fn world(alloc: Global) -> Result<World, AllocError>
         media: Sequence::from_vec(vec![in alloc; ether]?),
         hosts: Sequence::from_vec(vec![in alloc; host]?),
         scripts: Sequence::new(alloc),
-        db: Sequence::new(alloc),
+        dbs: Sequence::new(alloc),
     })
 }
 

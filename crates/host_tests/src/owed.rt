@@ -90,7 +90,7 @@ fn ways(alloc: Global) -> Result<WorldWays, AllocError> {
         media: Sequence::new(alloc),
         hosts: Sequence::new(alloc),
         scripts: Sequence::new(alloc),
-        db: Sequence::new(alloc),
+        dbs: Sequence::new(alloc),
     };
     let made = put_parts(alloc, &mut world);
     let ways = WorldWays::new(alloc, &world);

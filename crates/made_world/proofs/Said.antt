@@ -74,5 +74,6 @@ module _ (n : ℕ) (small : n < 2 ^ 64) where
     hosts_addressed = refl;
     few_scripts = refl;
     scripts = and_from _ _ anna_said (and_from _ _ helix_said refl);
-    database = (small_bundle, refl, local_reads);
+    versions_timed = refl;
+    versions = ((small_bundle, refl, local_reads), tt);
   }

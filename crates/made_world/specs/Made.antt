@@ -57,5 +57,5 @@ made_world n =
       media = made_medium ∷ [];
       hosts = made_hosts;
       scripts = made_scripts n;
-      db = tuples;
+      dbs = record { moment = 0; db = tuples } ∷ [];
     }

@@ -18,10 +18,10 @@ ghost use Rattle.net_actors.specs.Stepping.{ConvSteps, KindSteps, ActorMayWant, 
 use crate::desk::Desk;
 use crate::media;
 use crate::outcome::answered;
+use crate::versions::IndexedVersions;
 use conversation::Conv;
 use host_dir::Dir;
 use medium::Medium;
-use ndb_index::Index;
 use net_base::{ActorName, Event, Outcome, Proto, Reply, Timers, Work, World};
 use std::alloc::{AllocError, Global};
 use std::sync::Arc;
@@ -41,17 +41,17 @@ impl Kind {
     pub fn new(
         alloc: Global,
         world: &World,
-        db: &Arc<Index, Global>,
+        dbs: &Arc<IndexedVersions, Global>,
         name: ActorName,
     ) -> Result<Kind, AllocError>
         requires world { IsWorld world.now }
         requires has { has_actor world.now name ≡ true }
-        requires db { arc_value db.now ≡ world.now.db }
+        requires dbs { arc_value dbs.now ≡ world.now.dbs }
         ensures keeps { IfOk result (Keeps world.now name) }
         ensures opening { IfOk result (λ k. seen k ≡ opening_actor world.now.timers name) }
     {
         match name {
-            ActorName::Desk(host) => Ok(Kind::Desk(desk_of(alloc, world, db, host)?)),
+            ActorName::Desk(host) => Ok(Kind::Desk(desk_of(alloc, world, dbs, host)?)),
             ActorName::Dir(host, proto) => Ok(Kind::Dir(Dir::new(alloc, world, host, proto)?)),
             ActorName::Conv(host, proto, slot) => {
                 Ok(Kind::Conv(fresh_conv(alloc, host, proto, slot, world.timers)?))
@@ -118,15 +118,15 @@ impl Kind {
 fn desk_of(
     alloc: Global,
     world: &World,
-    db: &Arc<Index, Global>,
+    dbs: &Arc<IndexedVersions, Global>,
     host: u32,
 ) -> Result<Desk, AllocError>
     requires world { IsWorld world.now }
     requires has { has_actor world.now (name.Desk host) ≡ true }
-    requires db { arc_value db.now ≡ world.now.db }
+    requires dbs { arc_value dbs.now ≡ world.now.dbs }
     ensures { IfOk result (IsDeskOf world.now host) }
 {
-    Desk::new(alloc, db, &world.hosts.as_slice()[host as usize])
+    Desk::new(alloc, dbs, &world.hosts.as_slice()[host as usize])
 }
 
 /// The conversation of a slot.

@@ -35,5 +35,5 @@ pub use timer::{Probe, Tick, Timers};
 pub use udp::UdpState;
 pub use world::{
     Fate, FateRange, Fates, HostSpec, Hosts, Iface, Ifaces, Media, MediumSpec, Nets, RouteLine,
-    RouteLines, Script, Scripts, Starts, Step, StepList, World,
+    RouteLines, Script, Scripts, Starts, Step, StepList, Version, Versions, World,
 };

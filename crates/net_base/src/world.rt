@@ -128,6 +128,7 @@ pub enum Step {
     Until {
         moment: u64,
     },
+    Refresh,
     Dial {
         name: Octets,
         address: Octets,
@@ -163,6 +164,16 @@ pub struct Script {
 
 pub type Scripts = Sequence<Script>;
 
+/// A database, and the moment in ms from which on it is in force.
+#[derive(Debug, Drop)]
+pub struct Version {
+    pub moment: u64,
+    pub db: Db,
+}
+
+/// The databases of a world, in the order of their moments.
+pub type Versions = Sequence<Version>;
+
 /// All that a run starts from. `end` is the end moment in ms.
 #[derive(Debug, Drop)]
 pub struct World {
@@ -172,5 +183,5 @@ pub struct World {
     pub media: Media,
     pub hosts: Hosts,
     pub scripts: Scripts,
-    pub db: Db,
+    pub dbs: Versions,
 }

@@ -24,4 +24,4 @@ abbrev pub script : Script
 script = record { host = 0; steps = step.Until 1 ∷ [] }
 
 abbrev pub echo_world : World
-echo_world = record { end = 60000; seed = 7; timers = Fixed; media = medium ∷ []; hosts = anna ∷ []; scripts = script ∷ []; db = [] }
+echo_world = record { end = 60000; seed = 7; timers = Fixed; media = medium ∷ []; hosts = anna ∷ []; scripts = script ∷ []; dbs = record { moment = 0; db = [] } ∷ [] }

@@ -3,6 +3,7 @@ use Rattle.std.proofs.Common.{◌≡◌, ℕ, ◌+◌, Bool, true, false, List, 
 use Rattle.std.specs.Fmt.{digits}
 use Rattle.rand_pcg.specs.Lcg.{state_after}
 use Rattle.net_base.specs.declared.timer.Timers.TheVariants.{Fixed}
+use Rattle.net_base.specs.declared.world.Version.{Version}
 use Rattle.net_base.specs.declared.address.Addr.{Addr}
 use Rattle.net_base.specs.declared.address.Proto.TheVariants as proto
 use Rattle.net_base.specs.declared.event.Event.{Event}
@@ -24,7 +25,7 @@ use Rattle.net_base.specs.IlEnd.{fresh_end, message}
 use Rattle.net_base.specs.UdpEnd.{fresh_udp}
 use Rattle.net_base.specs.Number.{number}
 use Rattle.net_base.specs.Conversation.{Conv, Core, Il, Udp, Unused, nowhere, conv_step}
-use Rattle.net_base.specs.Desk.{desk_reply}
+use Rattle.net_base.specs.Desk.{opening_desk, desk_reply}
 use Rattle.net_base.specs.Directory.{Dir, free_slot, dir_step}
 use Rattle.net_base.specs.Draws.{drawn_word}
 use Rattle.net_base.specs.Medium.{Medium, quiet_medium, medium_step}
@@ -397,31 +398,35 @@ the_gateway = refl
 
 -- The desk.
 
-pub the_names_in_net : desk_reply small_database anna (event.LsPath (codes "/net")) 0 ≡ Some (reply.Names (codes "cs" ∷ codes "il" ∷ codes "udp" ∷ []))
+-- the small database alone
+abbrev small_versions : List Version
+small_versions = record { moment = 0; db = small_database } ∷ []
+
+pub the_names_in_net : desk_reply small_versions anna (event.LsPath (codes "/net")) 0 opening_desk ≡ Some (reply.Names (codes "cs" ∷ codes "il" ∷ codes "udp" ∷ []))
 unfolding number digits state_after
 the_names_in_net = refl
 
-pub no_such_file : desk_reply small_database anna (event.OpenPath (codes "/net/tcp") mode.Read) 0 ≡ Some reply.NoFile
+pub no_such_file : desk_reply small_versions anna (event.OpenPath (codes "/net/tcp") mode.Read) 0 opening_desk ≡ Some reply.NoFile
 unfolding number digits state_after
 no_such_file = refl
 
-pub a_bad_mode : desk_reply small_database anna (event.OpenPath (codes "/net/il/3/err") mode.Both) 0 ≡ Some reply.BadMode
+pub a_bad_mode : desk_reply small_versions anna (event.OpenPath (codes "/net/il/3/err") mode.Both) 0 opening_desk ≡ Some reply.BadMode
 unfolding number digits state_after
 a_bad_mode = refl
 
-pub it_may_be_opened : desk_reply small_database anna (event.OpenPath (codes "/net/il/3/err") mode.Read) 0 ≡ None
+pub it_may_be_opened : desk_reply small_versions anna (event.OpenPath (codes "/net/il/3/err") mode.Read) 0 opening_desk ≡ None
 unfolding number digits state_after
 it_may_be_opened = refl
 
-pub not_until_then : desk_reply small_database anna (event.Until 10) 9 ≡ None
+pub not_until_then : desk_reply small_versions anna (event.Until 10) 9 opening_desk ≡ None
 unfolding number digits state_after
 not_until_then = refl
 
-pub until_then : desk_reply small_database anna (event.Until 10) 10 ≡ Some reply.Ok
+pub until_then : desk_reply small_versions anna (event.Until 10) 10 opening_desk ≡ Some reply.Ok
 unfolding number digits state_after
 until_then = refl
 
-pub both_nets : desk_reply small_database anna (event.Cs (codes "net!135.104.50.9!564")) 0
+pub both_nets : desk_reply small_versions anna (event.Cs (codes "net!135.104.50.9!564")) 0 opening_desk
     ≡ Some (reply.Lines (codes "/net/il/clone 135.104.50.9!564" ∷ codes "/net/udp/clone 135.104.50.9!564" ∷ []))
 unfolding number digits state_after
 both_nets = refl

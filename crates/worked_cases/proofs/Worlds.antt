@@ -67,7 +67,7 @@ two_hosts first second =
       media = ether0 ∷ [];
       hosts = anna ∷ helix ∷ [];
       scripts = first ∷ second ∷ [];
-      db = small_database;
+      dbs = record { moment = 0; db = small_database } ∷ [];
     }
 
 -- a call over IL

@@ -76,7 +76,7 @@ world end fates hosts scripts =
       media = record { number = 0; name = codes "ether0"; mtu = 1500; loss = 0; twice = 0; later = 0; fates = fates } ∷ [];
       hosts = hosts;
       scripts = scripts;
-      db = tuples;
+      dbs = record { moment = 0; db = tuples } ∷ [];
     }
 
 abbrev pub script : ℕ → List Step → Script

@@ -123,7 +123,7 @@ impl Draft {
         }
     }
 
-    /// The world, without its database.
+    /// The world, without its databases.
     pub(crate) fn finish(self, alloc: Global) -> Result<World, AllocError>
         ensures { IfOk result (λ w. w ≡ spec.world_of self) }
     {
@@ -143,7 +143,7 @@ impl Draft {
             media: Sequence::from_vec(finish_media(alloc, media)?),
             hosts: Sequence::from_vec(finish_hosts(alloc, hosts)?),
             scripts: Sequence::from_vec(scripts),
-            db: Sequence::new(alloc),
+            dbs: Sequence::new(alloc),
         })
     }
 }

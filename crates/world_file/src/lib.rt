@@ -10,6 +10,7 @@ mod host;
 mod lines;
 mod medium;
 mod reader;
+mod versions;
 
 pub use fault::WorldError;
 pub use net_base::World;

@@ -2,7 +2,7 @@
 use net_base::{
     Db, Fate, FateRange, Fates, HostSpec, Hosts, Iface, Ifaces, Line, Media, MediumSpec, Mode,
     NdbPair, Nets, Octets, Proto, RouteLine, RouteLines, Script, Scripts, Starts, Step, StepList,
-    Timers, Tuple, World,
+    Timers, Tuple, Version, Versions, World,
 };
 use std::alloc::{AllocError, Global};
 use world_writer::write_world;
@@ -219,7 +219,9 @@ fn put_parts(alloc: Global, world: &mut World) -> Result<(), AllocError> {
     put_media(alloc, &mut world.media)?;
     world.hosts.push(gate(alloc)?)?;
     world.scripts.push(script(alloc)?)?;
-    put_tuple(alloc, &mut world.db)
+    let mut db = Db::new(alloc);
+    put_tuple(alloc, &mut db)?;
+    world.dbs.push(Version { moment: 0, db })
 }
 
 fn has_file(alloc: Global, world: &World, lines: &str) -> Result<bool, AllocError> {
@@ -237,7 +239,7 @@ fn is_written(alloc: Global, lines: &str) -> Result<bool, AllocError> {
         media: Media::new(alloc),
         hosts: Hosts::new(alloc),
         scripts: Scripts::new(alloc),
-        db: Db::new(alloc),
+        dbs: Versions::new(alloc),
     };
     let put = put_parts(alloc, &mut world);
     let written = has_file(alloc, &world, lines);

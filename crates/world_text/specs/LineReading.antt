@@ -170,16 +170,22 @@ abbrev pub of_two : (List ℕ → List ℕ → Step) → List (List ℕ) → Opt
 of_two make (word ∷ other ∷ []) = kept (make word other)
 of_two make _ = None
 
+-- `refresh` has no words
+abbrev pub refresh_of : List (List ℕ) → Option Step
+refresh_of [] = kept step.Refresh
+refresh_of _ = None
+
 abbrev pub other_of : List ℕ → List (List ℕ) → Option (Option Step)
 other_of word args =
     if bytes_eq word (codes "until") then Some (until_of args)
+    else (if bytes_eq word (codes "refresh") then Some (refresh_of args)
     else (if bytes_eq word (codes "dial") then Some (of_two (λ n a. step.Dial n a) args)
     else (if bytes_eq word (codes "announce") then Some (of_two (λ n a. step.Announce n a) args)
     else (if bytes_eq word (codes "listen") then Some (of_two (λ n f. step.Listen n f) args)
     else (if bytes_eq word (codes "accept") then Some (of_two (λ n f. step.Accept n f) args)
     else (if bytes_eq word (codes "reject") then Some (of_one (λ n. step.Reject n) args)
     else (if bytes_eq word (codes "hangup") then Some (of_one (λ n. step.Hangup n) args)
-    else None))))))
+    else None)))))))
 
 -- the step of a word and its arguments, which are wrong where there is none
 abbrev pub step_of : List ℕ → List (List ℕ) → Option (Option Step)

@@ -297,9 +297,9 @@ after d (line.Script called) = record d { group = 6; scripts = d.scripts ++ empt
 after d (line.OfScript s) = record d { scripts = at_last (with_step s) d.scripts }
 after d line.Ndb = d
 
--- the world, without its database
+-- the world, without its databases
 abbrev pub world_of : Draft → World
-world_of d = record { end = d.end; seed = d.seed; timers = d.timers; media = d.media; hosts = d.hosts; scripts = d.scripts; db = [] }
+world_of d = record { end = d.end; seed = d.seed; timers = d.timers; media = d.media; hosts = d.hosts; scripts = d.scripts; dbs = [] }
 
 -- what a line is: it goes on with the world so far, or it begins the bundle of the world, or it is bad
 pub data Verdict : Type 0 where

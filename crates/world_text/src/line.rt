@@ -28,10 +28,12 @@ pub enum LineCause {
     FarGateway,
     /// Fates overlap, or the rates of a medium are over 1000.
     FateClash,
+    /// The moment of a version of the database isn't above the one before.
+    EarlyVersion,
 }
 
 impl LineCause {
-    /// The cause's number, 11 to 23.
+    /// The cause's number, 11 to 24.
     pub fn number(self) -> u32
         ensures { result ≡ number_of self }
     {
@@ -49,6 +51,7 @@ impl LineCause {
             LineCause::RouteTwice => 21,
             LineCause::FarGateway => 22,
             LineCause::FateClash => 23,
+            LineCause::EarlyVersion => 24,
         }
     }
 }

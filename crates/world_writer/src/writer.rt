@@ -1,14 +1,15 @@
 //! The file of a world.
 ghost use Rattle.std.specs.Prelude.{◌≡◌, ◌∷◌, ◌++◌, [], codes, IfOk, OnOk};
 ghost use Rattle.world_text.specs.WorldSpelling.{laid, line_of_end, line_of_seed, line_of_timers, lines_of_world};
-ghost use Rattle.world_writer.specs.Written.{file_text, lines_of_parts};
+ghost use Rattle.ndb_reader.specs.Written.{db_text};
+ghost use Rattle.world_writer.specs.Written.{file_text, later_text, lines_of_parts, versions_text};
 
 use crate::hosts::put_hosts;
 use crate::line::put_number;
 use crate::media::put_media;
 use crate::scripts::put_scripts;
 use ndb_reader::write_ndb;
-use net_base::{HostSpec, MediumSpec, Octets, Script, Timers, World};
+use net_base::{HostSpec, MediumSpec, Octets, Script, Timers, Version, World};
 use std::alloc::{AllocError, Global};
 
 /// Adds the first line, which names the kind of timers.
@@ -57,14 +58,45 @@ fn put_lines(out: &mut Octets, world: &World) -> Result<(), AllocError>
     put_parts(out, media, hosts, world.scripts.as_slice())
 }
 
-/// The text of a world's file: its lines, `ndb`, and the text of its database.
+/// Adds a later version: the line that begins it, and the text of its database.
+fn put_later(alloc: Global, out: &mut Octets, version: &Version) -> Result<(), AllocError>
+    ensures { OnOk result (out.new ≡ out.old ++ later_text version.now) }
+{
+    out.append(b"%at")?;
+    put_number(out, version.moment)?;
+    out.push(b'\n')?;
+    put_database(alloc, out, version)
+}
+
+/// Adds the text of a version's database.
+fn put_database(alloc: Global, out: &mut Octets, version: &Version) -> Result<(), AllocError>
+    ensures { OnOk result (out.new ≡ out.old ++ db_text version.now.db) }
+{
+    let text = write_ndb(alloc, &version.db)?;
+    out.append(text.as_slice())
+}
+
+/// Adds the text of all versions.
+fn put_versions(alloc: Global, out: &mut Octets, versions: &[Version]) -> Result<(), AllocError>
+    ensures { OnOk result (out.new ≡ out.old ++ versions_text versions.now) }
+{
+    let [first, later @ ..] = versions else {
+        return Ok(());
+    };
+    put_database(alloc, out, first)?;
+    for version in later {
+        put_later(alloc, out, version)?;
+    }
+    Ok(())
+}
+
+/// The text of a world's file: its lines, `ndb`, and the text of its versions.
 pub fn write_world(alloc: Global, world: &World) -> Result<Octets, AllocError>
     ensures { IfOk result (λ text. text ≡ file_text world.now) }
 {
     let mut out = Octets::new(alloc);
     put_lines(&mut out, world)?;
     out.append(b"ndb\n")?;
-    let db = write_ndb(alloc, &world.db)?;
-    out.append(db.as_slice())?;
+    put_versions(alloc, &mut out, world.dbs.as_slice())?;
     Ok(out)
 }

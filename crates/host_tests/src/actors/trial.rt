@@ -155,6 +155,18 @@ fn hosts(alloc: Global) -> Result<Hosts, AllocError>
     Ok(hosts)
 }
 
+/// One version of the database, which is empty.
+fn versions(alloc: Global) -> Result<Versions, AllocError>
+    ensures { IfOk result (λ versions. versions ≡ record { moment = 0; db = [] } ∷ []) }
+{
+    let mut versions = Versions::new(alloc);
+    versions.push(Version {
+        moment: 0,
+        db: Db::new(alloc),
+    })?;
+    Ok(versions)
+}
+
 fn world(alloc: Global) -> Result<World, AllocError>
     ensures { IfOk result (λ w. w ≡ tried_world) }
 {
@@ -165,7 +177,7 @@ fn world(alloc: Global) -> Result<World, AllocError>
         media: media(alloc)?,
         hosts: hosts(alloc)?,
         scripts: Scripts::new(alloc),
-        db: Db::new(alloc),
+        dbs: versions(alloc)?,
     })
 }
 
