@@ -30,11 +30,11 @@ use Rattle.net_base.specs.declared.world.HostSpec.{HostSpec}
 use Rattle.net_base.specs.declared.world.MediumSpec.{MediumSpec}
 use Rattle.net_base.specs.declared.world.World.{World}
 use Rattle.net_base.specs.ActorStep.{Step, when}
-use Rattle.net_base.specs.Actors.{Actor, IsDir, IsConv, IsMedium, IsPlain, actor_step, has_actor, opening_actor, plain_step, step_as, table_step}
+use Rattle.net_base.specs.Actors.{Actor, IsDesk, IsDir, IsConv, IsMedium, IsPlain, actor_step, has_actor, opening_actor, plain_step, step_as, table_step}
 use Rattle.net_base.specs.ControlWords as control
 use Rattle.net_base.specs.Conversation as conv
 use Rattle.net_base.specs.Conversation.{Conv, Core, Il, Udp, Stage, Unused, Listening, Connected}
-use Rattle.net_base.specs.Desk.{clock_reply, desk_reply}
+use Rattle.net_base.specs.Desk.{Desk, clock_reply, desk_step}
 use Rattle.net_base.specs.Directory.{Dir, dir_step}
 use Rattle.net_base.specs.IlEnd as end
 use Rattle.net_base.specs.IlEnd.{Early, End, Turn}
@@ -413,10 +413,14 @@ as_plain : (n : ℕ) (r : Option Reply) → Raises n (option_map plain_step r)
 as_plain n None = tt
 as_plain n (Some r) = nothing n
 
-at_desk : (w : World) (now : ℕ) (work : Work) (h : Option HostSpec)
-    → Raises 0 (option_and_then (λ (host : HostSpec). option_map plain_step (desk_reply w.db host work.event now)) h)
-at_desk w now work None = tt
-at_desk w now work (Some h) = as_plain 0 (desk_reply w.db h work.event now)
+as_desk : (n : ℕ) (t : Option (Step Desk)) → Raises n (step_as IsDesk t)
+as_desk n None = tt
+as_desk n (Some t) = nothing n
+
+at_desk : (w : World) (now : ℕ) (work : Work) (d : Desk) (h : Option HostSpec)
+    → Raises 0 (option_and_then (λ (host : HostSpec). step_as IsDesk (desk_step w.dbs host work.event now d)) h)
+at_desk w now work d None = tt
+at_desk w now work d (Some h) = as_desk 0 (desk_step w.dbs h work.event now d)
 
 at_medium : (w : World) (work : Work) (m : Medium) (spec : Option MediumSpec)
     → Raises m.frames (option_and_then (λ (spec : MediumSpec). step_as IsMedium (medium_step spec w.seed work.event work.with m)) spec)
@@ -424,7 +428,7 @@ at_medium w work m None = tt
 at_medium w work m (Some spec) = as_medium m.frames (medium_step spec w.seed work.event work.with m) (medium_lays spec w.seed work.event work.with m)
 
 table_raises : (w : World) (a : ActorName) (s : Actor) (now : ℕ) (work : Work) → Raises (size_of s) (table_step w a s now work)
-table_raises w (name.Desk h) IsPlain now work = at_desk w now work (slice_get w.hosts h)
+table_raises w (name.Desk h) (IsDesk d) now work = at_desk w now work d (slice_get w.hosts h)
 table_raises w (name.Dir h p) (IsDir d) now work = as_dir 0 (dir_step w h p work.event work.with d)
 table_raises w (name.Conv h p n) (IsConv c) now work = as_conv (core_size c.core) (conv.conv_step n work.event work.with now c) (conv_grows n work.event work.with now c)
 table_raises w (name.Medium m) (IsMedium s) now work = at_medium w work s (slice_get w.media m)
@@ -461,6 +465,7 @@ small_is : (s : Actor) → size_of s < 2 ^ 30 → IsSmall s
 small_is (IsConv c) few = small_conv c c.core refl few
 small_is (IsMedium m) few = omega (arith, few)
 small_is (IsDir d) few = tt
+small_is (IsDesk d) few = tt
 small_is IsPlain few = tt
 
 -- what few works led to is small

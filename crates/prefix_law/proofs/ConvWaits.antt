@@ -18,9 +18,9 @@ use Rattle.net_base.specs.declared.world.HostSpec.{HostSpec}
 use Rattle.net_base.specs.declared.world.MediumSpec.{MediumSpec}
 use Rattle.net_base.specs.declared.world.World.{World}
 use Rattle.net_base.specs.ActorStep.{Step, when}
-use Rattle.net_base.specs.Actors.{Actor, IsDir, IsConv, IsMedium, IsPlain, actor_step, step_as, has_actor, plain_step, opening_actor, opening_core}
+use Rattle.net_base.specs.Actors.{Actor, IsDesk, IsDir, IsConv, IsMedium, IsPlain, actor_step, step_as, has_actor, plain_step, opening_actor, opening_core}
 use Rattle.net_base.specs.Conversation.{Conv, Core, Il, Udp, conv_step, ticked}
-use Rattle.net_base.specs.Desk.{desk_reply, clock_reply}
+use Rattle.net_base.specs.Desk.{Desk, desk_step, clock_reply}
 use Rattle.net_base.specs.Directory.{dir_step}
 use Rattle.net_base.specs.Duties.{due_of, due_of_core, generation_of}
 use Rattle.net_base.specs.IlEnd.{End, Turn}
@@ -137,9 +137,11 @@ plain_later now b false o s is = absurd (none-some s is)
 plain_later now b true None s is = absurd (none-some s is)
 plain_later now b true (Some r) s is = subst (λ (t : Step Actor). ActorLater now b t.state) (same_Some _ s is) (not_conv now b IsPlain tt refl)
 
-desk_later : (w : World) (h : ℕ) (work : Work) (now : ℕ) (b : Actor) (has : Bool) (found : Option HostSpec) (s : Step Actor) → when has (option_and_then (λ (host : HostSpec). option_map plain_step (desk_reply w.db host work.event now)) found) ≡ Some s → ActorLater now b s.state
-desk_later w h work now b has None s is = absurd (never has s is)
-desk_later w h work now b has (Some host) s is = plain_later now b has (desk_reply w.db host work.event now) s is
+desk_later : (w : World) (h : ℕ) (work : Work) (now : ℕ) (d : Desk) (has : Bool) (found : Option HostSpec) (s : Step Actor) → when has (option_and_then (λ (host : HostSpec). step_as IsDesk (desk_step w.dbs host work.event now d)) found) ≡ Some s → ActorLater now (IsDesk d) s.state
+desk_later w h work now d has None s is = absurd (never has s is)
+desk_later w h work now d has (Some host) s is =
+    let t = as_step IsDesk has (desk_step w.dbs host work.event now d) s (λ (x : Desk). Unit {0}) (any_some _) is in
+    subst (λ (x : Actor). ActorLater now (IsDesk d) x) (sym t.2) (not_conv now (IsDesk d) (IsDesk t.0) tt refl)
 
 medium_later : (w : World) (work : Work) (now : ℕ) (m : Medium) (has : Bool) (found : Option MediumSpec) (s : Step Actor) → when has (option_and_then (λ (spec : MediumSpec). step_as IsMedium (medium_step spec w.seed work.event work.with m)) found) ≡ Some s → ActorLater now (IsMedium m) s.state
 medium_later w work now m has None s is = absurd (never has s is)
@@ -153,22 +155,27 @@ actor_later w (name.Conv h p n) (IsConv c) now work s t is =
     subst (λ (x : Actor). ActorLater now (IsConv c) x) (sym u.2) (record { timed = u.1.timed; due = u.1.due })
 actor_later w (name.Conv h p n) (IsDir d) now work s t is = absurd (never (has_actor w (name.Conv h p n)) s is)
 actor_later w (name.Conv h p n) (IsMedium m) now work s t is = absurd (never (has_actor w (name.Conv h p n)) s is)
+actor_later w (name.Conv h p n) (IsDesk d) now work s t is = absurd (never (has_actor w (name.Conv h p n)) s is)
 actor_later w (name.Conv h p n) IsPlain now work s t is = absurd (never (has_actor w (name.Conv h p n)) s is)
 actor_later w (name.Dir h p) (IsDir d) now work s t is =
     let u = as_step IsDir (has_actor w (name.Dir h p)) (dir_step w h p work.event work.with d) s (λ x. Unit {0}) (any_some _) is in
     subst (λ (x : Actor). ActorLater now (IsDir d) x) (sym u.2) (not_conv now (IsDir d) (IsDir u.0) tt refl)
 actor_later w (name.Dir h p) (IsConv c) now work s t is = absurd (never (has_actor w (name.Dir h p)) s is)
 actor_later w (name.Dir h p) (IsMedium m) now work s t is = absurd (never (has_actor w (name.Dir h p)) s is)
+actor_later w (name.Dir h p) (IsDesk d) now work s t is = absurd (never (has_actor w (name.Dir h p)) s is)
 actor_later w (name.Dir h p) IsPlain now work s t is = absurd (never (has_actor w (name.Dir h p)) s is)
 actor_later w (name.Medium m) (IsMedium x) now work s t is = medium_later w work now x (has_actor w (name.Medium m)) (slice_get w.media m) s is
 actor_later w (name.Medium m) (IsConv c) now work s t is = absurd (never (has_actor w (name.Medium m)) s is)
 actor_later w (name.Medium m) (IsDir d) now work s t is = absurd (never (has_actor w (name.Medium m)) s is)
+actor_later w (name.Medium m) (IsDesk d) now work s t is = absurd (never (has_actor w (name.Medium m)) s is)
 actor_later w (name.Medium m) IsPlain now work s t is = absurd (never (has_actor w (name.Medium m)) s is)
-actor_later w (name.Desk h) IsPlain now work s t is = desk_later w h work now IsPlain (has_actor w (name.Desk h)) (slice_get w.hosts h) s is
+actor_later w (name.Desk h) (IsDesk d) now work s t is = desk_later w h work now d (has_actor w (name.Desk h)) (slice_get w.hosts h) s is
+actor_later w (name.Desk h) IsPlain now work s t is = absurd (never (has_actor w (name.Desk h)) s is)
 actor_later w (name.Desk h) (IsConv c) now work s t is = absurd (never (has_actor w (name.Desk h)) s is)
 actor_later w (name.Desk h) (IsDir d) now work s t is = absurd (never (has_actor w (name.Desk h)) s is)
 actor_later w (name.Desk h) (IsMedium x) now work s t is = absurd (never (has_actor w (name.Desk h)) s is)
 actor_later w name.Clock IsPlain now work s t is = plain_later now IsPlain (has_actor w name.Clock) (clock_reply work.event) s is
+actor_later w name.Clock (IsDesk d) now work s t is = absurd (never (has_actor w name.Clock) s is)
 actor_later w name.Clock (IsConv c) now work s t is = absurd (never (has_actor w name.Clock) s is)
 actor_later w name.Clock (IsDir d) now work s t is = absurd (never (has_actor w name.Clock) s is)
 actor_later w name.Clock (IsMedium x) now work s t is = absurd (never (has_actor w name.Clock) s is)

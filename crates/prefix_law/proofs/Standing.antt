@@ -8,7 +8,7 @@ use Rattle.net_base.specs.declared.address.Pair.{Pair}
 use Rattle.net_base.specs.declared.address.Proto.TheVariants as proto
 use Rattle.net_base.specs.declared.history.Entry.{Entry}
 use Rattle.net_base.specs.declared.world.World.{World}
-use Rattle.net_base.specs.Actors.{Actor, IsConv, IsDir, IsMedium, IsPlain}
+use Rattle.net_base.specs.Actors.{Actor, IsDesk, IsConv, IsDir, IsMedium, IsPlain}
 use Rattle.net_base.specs.Conversation.{Conv, Core, Il, Udp, Stage, Unused, Listening, Connected}
 use Rattle.net_base.specs.IlEnd.{End, fresh_end}
 use Rattle.net_base.specs.Legal.{IsLegal, MayFollow}
@@ -100,6 +100,10 @@ shown_cases P g (IsDir d) before own other = other (λ c is gen. is_no_conv c is
 shown_cases P g (IsMedium m) before own other = other (λ c is gen. is_no_conv c is)
   where
     is_no_conv : (c : Conv) → IsMedium m ≡ IsConv c → ⊥
+    is_no_conv c is = cc
+shown_cases P g (IsDesk d) before own other = other (λ c is gen. is_no_conv c is)
+  where
+    is_no_conv : (c : Conv) → IsDesk d ≡ IsConv c → ⊥
     is_no_conv c is = cc
 shown_cases P g IsPlain before own other = other (λ c is gen. is_no_conv c is)
   where

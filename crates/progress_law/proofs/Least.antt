@@ -16,7 +16,7 @@ use Rattle.net_base.specs.declared.world.HostSpec.{HostSpec}
 use Rattle.net_base.specs.declared.world.MediumSpec.{MediumSpec}
 use Rattle.net_base.specs.declared.world.World.{World}
 use Rattle.net_base.specs.ActorStep.{Step, when}
-use Rattle.net_base.specs.Actors.{Actor, IsDir, IsConv, IsMedium, IsPlain, actor_step, opening_core, slot_count, step_as}
+use Rattle.net_base.specs.Actors.{Actor, IsDesk, IsDir, IsConv, IsMedium, IsPlain, actor_step, opening_core, slot_count, step_as}
 use Rattle.net_base.specs.Callers.{caller_count}
 use Rattle.net_base.specs.Conversation.{Conv, Core, Il, Udp, in_generation, raises, conv_step, may_bear, may_connect, has_protocol, brought_forth, joined, taken_in}
 use Rattle.net_base.specs.Directory.{Dir, Slot, dir_step, in_found_slot}
@@ -255,12 +255,15 @@ actor_ready w (name.Medium m) (IsMedium s) now e with of kind =
     rw (lt-ltb m (length w.media) kind.0, spec.1) (some_or _ true (medium_step spec.0 w.seed e with s) refl (inl (medium_ready w spec.0 w.seed e with s kind.1)))
 actor_ready w (name.Conv h p n) (IsDir d) now e with of kind = absurd of
 actor_ready w (name.Conv h p n) (IsMedium s) now e with of kind = absurd of
+actor_ready w (name.Conv h p n) (IsDesk d) now e with of kind = absurd of
 actor_ready w (name.Conv h p n) IsPlain now e with of kind = absurd of
 actor_ready w (name.Dir h p) (IsConv c) now e with of kind = absurd of
 actor_ready w (name.Dir h p) (IsMedium s) now e with of kind = absurd of
+actor_ready w (name.Dir h p) (IsDesk d) now e with of kind = absurd of
 actor_ready w (name.Dir h p) IsPlain now e with of kind = absurd of
 actor_ready w (name.Medium m) (IsConv c) now e with of kind = absurd of
 actor_ready w (name.Medium m) (IsDir d) now e with of kind = absurd of
+actor_ready w (name.Medium m) (IsDesk d) now e with of kind = absurd of
 actor_ready w (name.Medium m) IsPlain now e with of kind = absurd of
 actor_ready w (name.Desk h) s now e with of kind = absurd kind
 actor_ready w name.Clock s now e with of kind = absurd kind
