@@ -1,7 +1,9 @@
 -- What a desk keeps of its world, and its version.
-use Rattle.std.specs.Prelude.{◌≡◌, ◌≢◌, ℕ, ◌<◌, List, [], length, AllPairs, Option, Some, None, slice_get}
+use Rattle.std.specs.Prelude.{◌≡◌, ◌≢◌, ℕ, ◌<◌, Bool, true, false, List, [], length, AllPairs, Option, Some, None, slice_get}
 use Rattle.std.specs.Option.{option_map}
 use Rattle.net_base.specs.declared.address.Proto.{Proto}
+use Rattle.net_base.specs.declared.event.Event.{Event}
+use Rattle.net_base.specs.declared.event.Event.TheVariants as event
 use Rattle.net_base.specs.declared.history.Outcome.{Outcome}
 use Rattle.net_base.specs.declared.reply.Reply.{Reply}
 use Rattle.net_base.specs.declared.world.HostSpec.{HostSpec}
@@ -43,6 +45,11 @@ IsAtSome d (Some h) = IsAtHost d h
 pub record IsDeskOf (w : World) (h : ℕ) (d : AtDesk) : Type 0 where
   pub databases : d.dbs ≡ w.dbs
   pub host : IsAtSome d (slice_get w.hosts h)
+
+-- an event that leaves a desk its version
+abbrev pub leaves_desk : Event → Bool
+leaves_desk event.Refresh = false
+leaves_desk _ = true
 
 -- this outcome has the reply, and nothing else is given
 abbrev pub Replies : Option Reply → Outcome → Type 0

@@ -7,7 +7,7 @@ ghost use Rattle.net_base.specs.Desk as spec;
 ghost use Rattle.net_base.specs.Paths.{walk as node_at};
 ghost use Rattle.net_base.specs.World.{is_nets};
 ghost use Rattle.net_base.specs.Versions.{database_of, in_force};
-ghost use Rattle.net_actors.specs.AtDesk.{Replies, desk_at, host_of};
+ghost use Rattle.net_actors.specs.AtDesk.{Replies, desk_at, host_of, leaves_desk};
 ghost use Rattle.net_actors.specs.Stepping.{desk_takes};
 
 use crate::outcome::answered;
@@ -82,6 +82,7 @@ impl Desk {
     }
 
     /// The answer to an event, where there is one.
+    #[tactic(auto, using(crate::proofs::ByKind::told_steps))]
     pub fn answer(&mut self, now: u64, event: &Event) -> Result<Outcome, AllocError>
         requires { IsTrue (is_some (spec.desk_reply self.old.dbs (host_of self.old) event.now now (desk_at self.old))) }
         ensures ok { IfOk result (λ o. spec.desk_step self.old.dbs (host_of self.old) event.now now (desk_at self.old)
@@ -91,18 +92,31 @@ impl Desk {
         ensures memory { OnErr result (desk_takes event.now ≡ true) }
     {
         match event {
+            Event::Refresh => Ok(self.read_again(now)),
+            _ => self.tell(event, now),
+        }
+    }
+
+    /// The answer to an event that leaves the desk as it is.
+    fn tell(&self, event: &Event, now: u64) -> Result<Outcome, AllocError>
+        requires some { IsTrue (is_some (spec.desk_reply self.now.dbs (host_of self.now) event.now now (desk_at self.now))) }
+        requires leaves { leaves_desk event.now ≡ true }
+        ensures ok { IfOk result (Replies (spec.desk_reply self.now.dbs (host_of self.now) event.now now (desk_at self.now))) }
+        ensures memory { OnErr result (desk_takes event.now ≡ true) }
+    {
+        match event {
             Event::Cs { query } => self.resolve(query.as_slice()),
             Event::LsPath { path } => list(self.alloc, path.as_slice()),
             Event::OpenPath { path, mode } => Ok(refuse(path.as_slice(), *mode)),
             Event::Use { .. } => Ok(answered(Reply::BadFid, Reply::BadFid)),
             Event::Misuse { .. } => Ok(answered(Reply::BadMode, Reply::BadMode)),
             Event::Until { .. } => Ok(answered(Reply::Ok, Reply::Ok)),
-            Event::Refresh => Ok(self.read_again(now)),
             _ => unreachable!(),
         }
     }
 
     /// Has cs search the version that is in force at a moment.
+    #[tactic(auto, using(crate::proofs::InForce::in_force_below))]
     fn read_again(&mut self, now: u64) -> Outcome
         ensures tells { Replies (Some (reply.Version self.new.version)) result }
         ensures version { self.new ≡ record self.old { version = in_force now self.old.dbs } }

@@ -3,14 +3,14 @@ ghost use Rattle.std.specs.Prelude.{◌≡◌, ◌^◌, ◌<◌, IfOk, IsTrue, O
 ghost use Rattle.std.specs.Arc.{arc_value};
 ghost use Rattle.net_base.specs.declared.actor.ActorName.TheVariants as name;
 ghost use Rattle.net_base.specs.Actors.{has_actor, opening_actor, opening_conv};
-ghost use Rattle.net_base.specs.Desk.{clock_reply};
+ghost use Rattle.net_base.specs.Desk.{clock_reply, opening_desk};
 ghost use Rattle.net_base.specs.Duties as duties;
 ghost use Rattle.net_base.specs.Medium.{quiet_medium};
 ghost use Rattle.net_base.specs.World.{IsWorld};
 ghost use Rattle.conversation.specs.Memory.{work_takes};
 ghost use Rattle.conversation.specs.Stands.{IsShort, slot_of, step_at};
 ghost use Rattle.medium.specs.OnMedium.{medium_of as seen_medium};
-ghost use Rattle.net_actors.specs.AtDesk.{IsDeskOf, Replies};
+ghost use Rattle.net_actors.specs.AtDesk.{IsDeskOf, Replies, desk_at};
 ghost use Rattle.net_actors.specs.Kept.{IsMediumOf, Keeps, seen};
 ghost use Rattle.net_actors.specs.Small.{IsSmall};
 ghost use Rattle.net_actors.specs.Stepping.{ConvSteps, KindSteps, ActorMayWant, kind_ready};
@@ -114,7 +114,7 @@ impl Kind {
 }
 
 /// The desk of a host of the world.
-#[tactic(auto, using(crate::proofs::Said::host_nets, crate::proofs::Said::desk_is))]
+#[tactic(auto, using(crate::proofs::Said::host_nets, crate::proofs::Said::some_versions, crate::proofs::Said::desk_is, crate::proofs::Said::desk_opens))]
 fn desk_of(
     alloc: Global,
     world: &World,
@@ -124,7 +124,8 @@ fn desk_of(
     requires world { IsWorld world.now }
     requires has { has_actor world.now (name.Desk host) ≡ true }
     requires dbs { arc_value dbs.now ≡ world.now.dbs }
-    ensures { IfOk result (IsDeskOf world.now host) }
+    ensures of { IfOk result (IsDeskOf world.now host) }
+    ensures opening { IfOk result (λ d. desk_at d ≡ opening_desk) }
 {
     Desk::new(alloc, dbs, &world.hosts.as_slice()[host as usize])
 }

@@ -54,12 +54,10 @@ impl IndexedVersions {
         ensures { result ≡ spec.in_force now self.now }
     {
         let mut last = 0;
-        let mut number = 0;
-        for version in self.versions.iter() {
+        for (number, version) in self.versions.iter().enumerate() {
             if version.moment <= now {
-                last = number;
+                last = number as u64;
             }
-            number += 1;
         }
         last
     }
