@@ -56,6 +56,7 @@ fits_silent = record {
 says_silent : (h : ℕ) (s : ScriptStep) → Says h Silent s
 says_silent h (step.Open called path m) = ((refl, refl), λ a m. refl)
 says_silent h (step.Until moment) = refl
+says_silent h step.Refresh = tt
 says_silent h (step.Ls path) = tt
 says_silent h (step.Cs query) = tt
 says_silent h (step.Dial called address) = ((refl, refl), (refl, refl))
