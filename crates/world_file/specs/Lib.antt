@@ -1,5 +1,6 @@
 pub mod Indexed
 pub mod Told
+pub mod Bundles
 pub use Rattle.net_base.specs.World
 pub use Rattle.world_text.specs.LineCauses
 pub use Rattle.world_text.specs.LineFit

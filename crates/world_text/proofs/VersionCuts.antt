@@ -1,7 +1,7 @@
 -- Lines without a bad one are bundles, and lines that begin versions between them; and back.
 use Rattle.std.proofs.Common.{◌≡◌, ℕ, ◌+◌, ◌-◌, ◌<◌, ◌≤◌, suc, Bool, true, false, not, ◌&&◌, ◌||◌, cond, List, [], ◌∷◌, ◌++◌, length, take, drop, map, refl, sym, ap, subst, ◌∙◌, arith, Option, Some, None, append-nil, append_assoc, length-append}
 use Rattle.std.specs.Prelude.{⊤, bytes_eq, codes, filter_map, flat_map, nat_le, nat_lt, unwrap_or}
-use Rattle.std.specs.List.{after_last, before_first, cons_option, last_or, position_or_len, prefix_len, suffix_len}
+use Rattle.std.specs.List.{after_last, before_first, cons_option, last_or, list_any, position_or_len, prefix_len, suffix_len}
 use Rattle.std.proofs.Math.Seq.{drop-append-le, drop-length}
 use Rattle.std.proofs.Math.ListN.{take-append-drop}
 use Rattle.std.proofs.lemmas.Bool.{and_from, and_parts, false≢true}
@@ -20,6 +20,7 @@ use Rattle.world_text.specs.declared.line.LineCause.TheVariants as line_cause
 use Rattle.world_text.specs.LineCauses.{number_of}
 use Rattle.world_text.specs.VersionLines.{at_causes, begins_at, first_bad_version, is_at_line, last_moment, later_versions, moment_of, own_lines, version_causes, version_from, versions_in, with_version}
 use Rattle.world_text.specs.WorldSpelling.{IsGoodBundle, LaterText, line_of_moment, lines_of_later, version_said}
+use Rattle.world_text.proofs.WorldLists.{or-parts}
 use Rattle.world_text.proofs.WorldNumbers.{number-back, number_in-spelled}
 
 -- Causes.
@@ -84,21 +85,21 @@ at-spelled line moment at is = by (bytes_eq line (codes "%at")) refl at
         ∙ (ap (λ (f : List ℕ). f ++ drop 4 line) (sym front)
         ∙ ap (λ (word : List ℕ). codes "%at " ++ word) ((number_in-spelled 1 1000000000 (drop 4 line) moment (omega arith) is).is))
 
+abbrev Percent : List ℕ → Type 0
+Percent text = (begins is_percent text && not (is_file_line text)) ≡ true
+
+behind-at : (rest : List ℕ) → Percent (codes "%at " ++ rest)
+behind-at rest = refl
+
 -- it begins with `%` and begins no file
-at-percent : (line : List ℕ) → is_at_line line ≡ true → (begins is_percent line && not (is_file_line line)) ≡ true
+at-percent : (line : List ℕ) → is_at_line line ≡ true → Percent line
 at-percent line at = by (bytes_eq line (codes "%at")) refl at
   where
-    abbrev Percent : List ℕ → Type 0
-    Percent text = (begins is_percent text && not (is_file_line text)) ≡ true
-
     by : (b : Bool) → bytes_eq line (codes "%at") ≡ b → (b || begins_with (codes "%at ") line) ≡ true → Percent line
     by true same e = subst Percent (sym ((bytes_eq-Decides line (codes "%at")).0 same)) refl
     by false other e =
         let front : codes "%at " ≡ take 4 line = (bytes_eq-Decides (codes "%at ") (take 4 line)).0 e in
-        subst Percent (ap (λ (f : List ℕ). f ++ drop 4 line) front ∙ take-append-drop 4 line) (begins-at (drop 4 line))
-      where
-        begins-at : (rest : List ℕ) → Percent (codes "%at " ++ rest)
-        begins-at rest = refl
+        subst Percent (ap (λ (f : List ℕ). f ++ drop 4 line) front ∙ take-append-drop 4 line) (behind-at (drop 4 line))
 
 -- so no line of a good bundle does
 not-at : (has : Bool) (line : List ℕ) → causes_of has line ≡ [] → is_at_line line ≡ false
@@ -117,7 +118,7 @@ not-at has line good = by (is_at_line line) refl
     by true at = absurd (false≢true (sym (only-cause 6 _ last) ∙ at-percent line at))
 
 -- none of these lines begins a version
-abbrev Free : List (List ℕ) → Type 0
+abbrev pub Free : List (List ℕ) → Type 0
 Free [] = ⊤
 Free (line ∷ lines) = (is_at_line line ≡ false) × Free lines
 
@@ -130,7 +131,7 @@ good-free own (line ∷ lines) good =
 begins-none : (line : List ℕ) → is_at_line line ≡ false → begins_at line ≡ None
 begins-none line free = ap (λ (b : Bool). cond b (moment_of line) None) free
 
-begins-some : (line : List ℕ) (moment : ℕ) → is_at_line line ≡ true → moment_of line ≡ Some moment → begins_at line ≡ Some moment
+pub begins-some : (line : List ℕ) (moment : ℕ) → is_at_line line ≡ true → moment_of line ≡ Some moment → begins_at line ≡ Some moment
 begins-some line moment at is = ap (λ (b : Bool). cond b (moment_of line) None) at ∙ is
 
 -- What stands before a line.
@@ -138,7 +139,7 @@ begins-some line moment at is = ap (λ (b : Bool). cond b (moment_of line) None)
 suffix-push : (test : List ℕ → Bool) (before : List (List ℕ)) (line : List ℕ) → suffix_len test (before ++ line ∷ []) ≡ cond (test line) (1 + suffix_len test before) 0
 suffix-push test before line = ap (prefix_len test) (reverse-append before (line ∷ []))
 
-own-at : (before : List (List ℕ)) (line : List ℕ) → is_at_line line ≡ true → own_lines (before ++ line ∷ []) ≡ []
+pub own-at : (before : List (List ℕ)) (line : List ℕ) → is_at_line line ≡ true → own_lines (before ++ line ∷ []) ≡ []
 own-at before line at =
     let none : suffix_len (λ x. not (is_at_line x)) (before ++ line ∷ []) ≡ 0 =
     suffix-push (λ x. not (is_at_line x)) before line ∙ ap (λ (b : Bool). cond (not b) (1 + suffix_len (λ x. not (is_at_line x)) before) 0) at in
@@ -167,13 +168,13 @@ last-push before line =
     by None xs = ap (λ (ns : List ℕ). unwrap_or (last_or None ns) 0) (append-nil xs)
     by (Some n) xs = ap (λ (o : Option ℕ). unwrap_or o 0) (last-more None xs n)
 
-last-at : (before : List (List ℕ)) (line : List ℕ) (moment : ℕ) → is_at_line line ≡ true → moment_of line ≡ Some moment → last_moment (before ++ line ∷ []) ≡ moment
+pub last-at : (before : List (List ℕ)) (line : List ℕ) (moment : ℕ) → is_at_line line ≡ true → moment_of line ≡ Some moment → last_moment (before ++ line ∷ []) ≡ moment
 last-at before line moment at is = last-push before line ∙ ap (λ (o : Option ℕ). unwrap_or o (last_moment before)) (begins-some line moment at is)
 
 last-same : (before : List (List ℕ)) (line : List ℕ) → is_at_line line ≡ false → last_moment (before ++ line ∷ []) ≡ last_moment before
 last-same before line free = last-push before line ∙ ap (λ (o : Option ℕ). unwrap_or o (last_moment before)) (begins-none line free)
 
-last-free : (before lines : List (List ℕ)) → Free lines → last_moment (before ++ lines) ≡ last_moment before
+pub last-free : (before lines : List (List ℕ)) → Free lines → last_moment (before ++ lines) ≡ last_moment before
 last-free before [] free = ap last_moment (append-nil before)
 last-free before (line ∷ lines) free =
     ap last_moment (sym (append_assoc before (line ∷ []) lines)) ∙ (last-free (before ++ line ∷ []) lines free.1 ∙ last-same before line free.0)
@@ -186,7 +187,7 @@ one-add n = omega arith
 first-stop : (line : List ℕ) (lines : List (List ℕ)) → is_at_line line ≡ true → before_first is_at_line (line ∷ lines) ≡ []
 first-stop line lines at = rw at refl
 
-first-go : (line : List ℕ) (lines : List (List ℕ)) → is_at_line line ≡ false → before_first is_at_line (line ∷ lines) ≡ line ∷ before_first is_at_line lines
+pub first-go : (line : List ℕ) (lines : List (List ℕ)) → is_at_line line ≡ false → before_first is_at_line (line ∷ lines) ≡ line ∷ before_first is_at_line lines
 first-go line lines free = rw (free, one-add) refl
 
 -- Moments.
@@ -326,7 +327,7 @@ bundle-first [] (v ∷ later) free = first-stop (line_of_moment v.moment) (v.bun
 bundle-first (line ∷ bundle) later free =
     first-go line (bundle ++ flat_map lines_of_later later) free.0 ∙ ap (λ (ls : List (List ℕ)). line ∷ ls) (bundle-first bundle later free.1)
 
-free-later : (bundle tail : List (List ℕ)) → Free bundle → later_versions (bundle ++ tail) ≡ later_versions tail
+pub free-later : (bundle tail : List (List ℕ)) → Free bundle → later_versions (bundle ++ tail) ≡ later_versions tail
 free-later [] tail free = refl
 free-later (line ∷ bundle) tail free =
     ap (λ (o : Option ℕ). with_version o (bundle ++ tail) (later_versions (bundle ++ tail))) (begins-none line free.0) ∙ free-later bundle tail free.1
@@ -348,3 +349,81 @@ said first later good goods rising =
     let free = good-free [] first good in
     ap (λ (ls : List (List ℕ)). version_said 0 ls ∷ later_versions (first ++ flat_map lines_of_later later)) (bundle-first first later free)
     ∙ ap (λ (vs : List Version). version_said 0 first ∷ vs) (free-later first (flat_map lines_of_later later) free ∙ later-said 0 later goods rising)
+
+-- Lines in a row, and numbers of lines.
+
+-- what is told of lines, else of those behind them
+abbrev pub or_else : Option (ℕ × ℕ) → Option (ℕ × ℕ) → Option (ℕ × ℕ)
+or_else None behind = behind
+or_else (Some bad) behind = Some bad
+
+told-else : (n : ℕ) (o : Option ℕ) (a b : Option (ℕ × ℕ)) → told n o (or_else a b) ≡ or_else (told n o a) b
+told-else n None a b = refl
+told-else n (Some c) a b = refl
+
+pub versions-append : (before xs ys : List (List ℕ)) → first_bad_version before (xs ++ ys) ≡ or_else (first_bad_version before xs) (first_bad_version (before ++ xs) ys)
+versions-append before [] ys = ap (λ (ls : List (List ℕ)). first_bad_version ls ys) (sym (append-nil before))
+versions-append before (x ∷ xs) ys =
+    let n : ℕ = length before + 1 in
+    let o : Option ℕ = least (version_causes before x) in
+    let front : Option (ℕ × ℕ) = first_bad_version (before ++ x ∷ []) xs in
+    ap (told n o) (versions-append (before ++ x ∷ []) xs ys ∙ ap (λ (ls : List (List ℕ)). or_else front (first_bad_version ls ys)) (append_assoc before (x ∷ []) xs))
+    ∙ told-else n o front (first_bad_version (before ++ x ∷ xs) ys)
+
+-- a line so many lines further on
+abbrev pub moved : ℕ → Option (ℕ × ℕ) → Option (ℕ × ℕ)
+moved d None = None
+moved d (Some bad) = Some (d + bad.0, bad.1)
+
+told-moved : (d m n : ℕ) (o : Option ℕ) (behind : Option (ℕ × ℕ)) → m ≡ d + n → told m o (moved d behind) ≡ moved d (told n o behind)
+told-moved d m n None behind e = refl
+told-moved d m n (Some c) behind e = ap (λ (k : ℕ). told k (Some c) None) e
+
+-- what is told of a bundle's lines, counted from the first line of all
+pub bundle-told : (d : ℕ) (before own bundle : List (List ℕ)) → own_lines before ≡ own → length before ≡ d + length own → Free bundle
+    → first_bad_version before bundle ≡ moved d (first_bad causes_of own bundle)
+bundle-told d before own [] is len free = refl
+bundle-told d before own (line ∷ bundle) is len free =
+    let causes : version_causes before line ≡ causes_of (has_tuple own) line =
+    ap (λ (b : Bool). cond b (at_causes (last_moment before) (moment_of line)) (causes_of (has_tuple (own_lines before)) line)) free.0
+    ∙ ap (λ (ls : List (List ℕ)). causes_of (has_tuple ls) line) is in
+    let one = length-append before (line ∷ []) in
+    let two = length-append own (line ∷ []) in
+    let later = bundle-told d (before ++ line ∷ []) (own ++ line ∷ []) bundle (own-more before line free.0 ∙ ap (λ (ls : List (List ℕ)). ls ++ line ∷ []) is)
+    (omega (arith, len, one, two)) free.1 in
+    ap (λ (cs : List ℕ). told (length before + 1) (least cs) (first_bad_version (before ++ line ∷ []) bundle)) causes
+    ∙ (ap (told (length before + 1) (least (causes_of (has_tuple own) line))) later
+    ∙ told-moved d (length before + 1) (length own + 1) (least (causes_of (has_tuple own) line)) (first_bad causes_of (own ++ line ∷ []) bundle) (omega (arith, len)))
+
+pub any-free : (lines : List (List ℕ)) → list_any is_at_line lines ≡ false → Free lines
+any-free [] none = tt
+any-free (line ∷ lines) none = let parts = or-parts (is_at_line line) (list_any is_at_line lines) none in (parts.0, any-free lines parts.1)
+
+-- the bundle up to a line that begins a version, or to the end
+pub before-at : (bundle : List (List ℕ)) (line : List ℕ) (tail : List (List ℕ)) → Free bundle → is_at_line line ≡ true → before_first is_at_line (bundle ++ line ∷ tail) ≡ bundle
+before-at [] line tail free at = first-stop line tail at
+before-at (l ∷ bundle) line tail free at =
+    first-go l (bundle ++ line ∷ tail) free.0 ∙ ap (λ (ls : List (List ℕ)). l ∷ ls) (before-at bundle line tail free.1 at)
+
+pub before-all : (bundle : List (List ℕ)) → Free bundle → before_first is_at_line bundle ≡ bundle
+before-all [] free = refl
+before-all (line ∷ bundle) free = first-go line bundle free.0 ∙ ap (λ (ls : List (List ℕ)). line ∷ ls) (before-all bundle free.1)
+
+-- a line that begins a version and isn't bad
+pub version-goes : (before : List (List ℕ)) (line : List ℕ) (tail : List (List ℕ)) (moment : ℕ) → is_at_line line ≡ true → moment_of line ≡ Some moment → last_moment before < moment
+    → first_bad_version before (line ∷ tail) ≡ first_bad_version (before ++ line ∷ []) tail
+version-goes before line tail moment at is late =
+    let none : version_causes before line ≡ [] =
+    ap (λ (b : Bool). cond b (at_causes (last_moment before) (moment_of line)) (causes_of (has_tuple (own_lines before)) line)) at
+    ∙ (ap (at_causes (last_moment before)) is ∙ ap (cause (number_of line_cause.EarlyVersion)) (not-late moment (last_moment before) late)) in
+    ap (λ (cs : List ℕ). told (length before + 1) (least cs) (first_bad_version (before ++ line ∷ []) tail)) none
+  where
+    not-late : (m n : ℕ) → n < m → nat_le m n ≡ false
+    not-late m n e = grind (arith, nat_tests)
+
+-- one that is bad for this cause
+pub version-bad : (before : List (List ℕ)) (line : List ℕ) (tail : List (List ℕ)) (c : ℕ) → is_at_line line ≡ true → at_causes (last_moment before) (moment_of line) ≡ c ∷ []
+    → first_bad_version before (line ∷ tail) ≡ Some (length before + 1, c)
+version-bad before line tail c at is =
+    ap (λ (b : Bool). told (length before + 1) (least (cond b (at_causes (last_moment before) (moment_of line)) (causes_of (has_tuple (own_lines before)) line))) (first_bad_version (before ++ line ∷ []) tail)) at
+    ∙ ap (λ (cs : List ℕ). told (length before + 1) (least cs) (first_bad_version (before ++ line ∷ []) tail)) is
