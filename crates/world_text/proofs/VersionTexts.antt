@@ -15,7 +15,7 @@ use Rattle.world_text.specs.VersionLines.{bad_version_line, first_bad_version, l
 use Rattle.world_text.specs.WorldSpelling.{IsGoodBundle, LaterText, SaysVersions, lines_of_later, version_said}
 use Rattle.world_text.proofs.VersionCuts.{AreGood, Split, back, said, saids, split}
 
-all-good : (later : List LaterText) → AreGood later → All (λ (v : LaterText). IsGoodBundle v.bundle) later
+pub all-good : (later : List LaterText) → AreGood later → All (λ (v : LaterText). IsGoodBundle v.bundle) later
 all-good [] good k d lt = absurd (omega (arith, lt))
 all-good (v ∷ later) good zero d lt = good.0
 all-good (v ∷ later) good (suc k) d lt = all-good later good.1 k d (omega (arith, lt))
