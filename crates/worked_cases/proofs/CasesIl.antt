@@ -2,11 +2,13 @@
 use Rattle.std.proofs.Common.{◌≡◌, true, [], ◌∷◌, Some, codes, refl, arith}
 use Rattle.std.specs.Fmt.{digits}
 use Rattle.rand_pcg.specs.Lcg.{state_after}
+use Rattle.std.proofs.lemmas.List.Elements.{All-from_recursion}
 use Rattle.net_base.specs.Calm.{done}
 use Rattle.net_base.specs.Legal.{IsLegal, IsTimed}
 use Rattle.net_base.specs.Net.{after, opening_net}
 use Rattle.net_base.specs.Number.{number}
-use Rattle.net_base.specs.World.{IsWorld}
+use Rattle.net_base.specs.declared.world.Version.{Version}
+use Rattle.net_base.specs.World.{IsDatabase, IsWorld}
 use Rattle.net_base.specs.Written.{peer, reads, writes}
 use Rattle.worked_cases.specs.Rounds.{run_of}
 use Rattle.worked_worlds.specs.WorkedIl.{lossy_world, lossy_history, calling, called, refused_world, refused_history}
@@ -198,7 +200,8 @@ lossy_is_a_world = record {
   hosts_addressed = refl;
   few_scripts = refl;
   scripts = refl;
-  database = (small_bundle, refl, refl);
+  versions_timed = refl;
+  versions = All-from_recursion (λ (v : Version). IsDatabase v.db) lossy_world.dbs ((small_bundle, refl, refl), tt);
 }
 
 pub called_is_met : peer lossy_world lossy_history called ≡ Some calling
