@@ -20,6 +20,7 @@ use Rattle.net_base.specs.declared.history.With.{With}
 use Rattle.net_base.specs.declared.history.With.TheVariants as given
 use Rattle.net_base.specs.declared.history.Work.{Work}
 use Rattle.net_base.specs.declared.history.Entry.{Entry}
+use Rattle.net_base.specs.declared.timer.Timers.TheVariants.{Fixed}
 use Rattle.prefix_law.proofs.Pairs.{Side}
 use Rattle.net_base.specs.declared.world.World.{World}
 use Rattle.net_base.specs.Routes.{Way, way, has_address}
@@ -568,7 +569,7 @@ free_fine h n = record {
 opening_fine : (w : World) → Fine w 0 (opening_net w) opening_trace
 opening_fine w = record {
   owned = record {
-    talk = λ p. nothing_yet;
+    talk = λ p. nothing_yet Fixed Fixed;
     untouched = λ p is. refl;
     unique = λ p q o one two. absurd (none-some o one);
     apart = λ p o is. absurd (none-some o is);
