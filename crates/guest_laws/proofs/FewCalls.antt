@@ -243,7 +243,7 @@ module _ (equal : (a b : ActorName) → same_actor a b ≡ true → a ≡ b) (w 
   from_few net [] few = few
   from_few net (x ∷ xs) few = from_few (next_noted w net x) xs (next_net_few net x (same_actor x.entry.actor dir) refl few)
 
-  opens_few : FewAt (opening_net.actors dir)
+  opens_few : FewAt ((opening_net w).actors dir)
   opens_few = replicated 32
     where
       replicated : (n : ℕ) → FewSlots (replicate n free_slot)
