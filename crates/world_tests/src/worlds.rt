@@ -233,11 +233,12 @@ fn lines_stand_in_any_order(rt: HostRuntime) {
 
 const FIRST_LINES: &[Row] = &[
     (b"", b"", 1, 11),
-    (b"", b"#a\n\nnetworld 2\n", 3, 11),
+    (b"", b"#a\n\nnetworld 3\n", 3, 11),
     (b"", b"networld 1 ", 1, 11),
     (START, b" end 1", 2, 12),
     (START, b"#end\n\nends", 4, 12),
-    (START, b"networld 2", 2, 13),
+    (START, b"networld 3", 2, 13),
+    (START, b"networld 2", 2, 18),
     (START, b"end 1\nend 0", 3, 13),
     (START, b"networld 1", 2, 18),
     (START, b"end 1\nend 1", 3, 18),
