@@ -262,7 +262,7 @@ fn histories_of_random_worlds_are_legal(rt: HostRuntime) -> Result<(), AllocErro
 }
 
 /// The same of worlds with measured timers and versions.
-const TOLD_OF_CHANGES: u64 = 0;
+const TOLD_OF_CHANGES: u64 = 14_064_421_479_661_945_035;
 
 #[test]
 fn histories_of_changed_worlds_are_legal(rt: HostRuntime) -> Result<(), AllocError> {
