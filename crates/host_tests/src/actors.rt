@@ -129,11 +129,7 @@ const REFUSALS: &[Row] = &[
 ];
 
 const REFRESHES: &[Row] = &[
-    (
-        Who::Desk,
-        Ask::Desk(AtDesk::Refresh),
-        Told::Version(0),
-    ),
+    (Who::Desk, Ask::Desk(AtDesk::Refresh), Told::Version(0)),
     (Who::Clock, Ask::Desk(AtDesk::Refresh), Told::NotReady),
 ];
 

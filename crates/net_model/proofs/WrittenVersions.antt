@@ -109,8 +109,7 @@ padded (line ∷ lines) = by (is_file_line line) refl (padded lines)
         (ap tuples_of same, ap going_on same)
     by false own rest =
         let one = before-more line (lines ++ [] ∷ []) own in
-        let two = before-more line lines own in
-        (
+        let two = before-more line lines own in (
           ap tuples_of one
               ∙ (ap (λ (g : List (List NdbPair)). cond (starts line) ((pairs_of line ∷ g) ∷ tuples_of (before_first is_file_line (lines ++ [] ∷ []))) (tuples_of (before_first is_file_line (lines ++ [] ∷ [])))) rest.1
               ∙ (ap (λ (t : Tuples). cond (starts line) ((pairs_of line ∷ going_on (before_first is_file_line lines)) ∷ t) t) rest.0 ∙ ap tuples_of (sym two))),
@@ -235,8 +234,7 @@ module _ (back : (text : List ℕ) (db : Tuples) → reading text ≡ Some db �
   pub are-back : (dbs : List Version) → All (λ (v : Version). IsDatabase v.db) dbs → All (λ (v : Version). is_whole v.db ≡ true) dbs → AreBack dbs
   are-back [] databases whole = tt
   are-back (v ∷ dbs) databases whole =
-      let text = databases zero v (omega arith) in
-      (
+      let text = databases zero v (omega arith) in (
         back text.0 v.db text.2 (whole zero v (omega arith)),
         are-back dbs (λ k d lt. databases (suc k) d (omega (arith, lt))) (λ k d lt. whole (suc k) d (omega (arith, lt))),
       )

@@ -104,8 +104,8 @@ acked_later now None e f l = l
 acked_later now (Some k) e f l =
     cond_both (nat_le k (length f.sent)) _ _ (λ (x : End). EndLater now e x)
     (λ _. both_later now e.timer f.timer _ l
-        (both_later now f.timer (timer.acks now k f.timer) _ (acks_later now k f.timer.probe f.timer)
-        (moves_later now (has_unacked (record f { acked = k }) || is_closing f.state) (timer.acks now k f.timer))))
+    (both_later now f.timer (timer.acks now k f.timer) _ (acks_later now k f.timer.probe f.timer)
+    (moves_later now (has_unacked (record f { acked = k }) || is_closing f.state) (timer.acks now k f.timer))))
     (λ _. l)
 
 heard : (now : ℕ) (m : IlMsg) (e : End) → EndLater now e (hears_ack now m e)

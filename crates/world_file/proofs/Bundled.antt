@@ -128,8 +128,7 @@ module _ (text : List ℕ) (first number moment : ℕ) (versions : List Version)
   pub end_ok : (db : Tuples) → bad_line rest ≡ None → db ≡ database (lines_of rest) → (bad_version_line text ≡ None) × (versions ++ version_at moment db ∷ [] ≡ versions_in (lines_of text))
   end_ok db good is =
       let free : Free (lines_of rest) = any-free (lines_of rest) none in
-      let later : later_versions (lines_of rest) ≡ [] = ap later_versions (sym (append-nil (lines_of rest))) ∙ free-later (lines_of rest) [] free in
-      (
+      let later : later_versions (lines_of rest) ≡ [] = ap later_versions (sym (append-nil (lines_of rest))) ∙ free-later (lines_of rest) [] free in (
         last-told ∙ ap (moved (length a.before)) good,
         sym (a.said
             ∙ ap (λ (vs : List Version). versions ++ vs)
@@ -169,88 +168,88 @@ module _
     (text : List ℕ) (first number moment : ℕ) (versions : List Version) (rest : List ℕ) (a : At text first number moment versions rest)
     (place lines : ℕ) (f : IsFront rest place lines)
   where
-  free : Free f.front
-  free = any-free f.front f.own
+    free : Free f.front
+    free = any-free f.front f.own
 
-  lines-are : lines_of rest ≡ f.front ++ lines_of f.rest
-  lines-are = ap lines_of f.text_is ∙ laid_lines f.front f.rest f.whole
+    lines-are : lines_of rest ≡ f.front ++ lines_of f.rest
+    lines-are = ap lines_of f.text_is ∙ laid_lines f.front f.rest f.whole
 
-  told : bad_version_line text ≡ or_else (moved (length a.before) (first_bad causes_of [] f.front)) (first_bad_version (a.before ++ f.front) (lines_of f.rest))
-  told =
-      a.reading
-      ∙ (ap (first_bad_version a.before) lines-are
-      ∙ (versions-append a.before f.front (lines_of f.rest)
-      ∙ ap (λ (o : Option (ℕ × ℕ)). or_else o (first_bad_version (a.before ++ f.front) (lines_of f.rest)))
-      (bundle-told (length a.before) a.before [] f.front a.own (omega arith) free)))
+    told : bad_version_line text ≡ or_else (moved (length a.before) (first_bad causes_of [] f.front)) (first_bad_version (a.before ++ f.front) (lines_of f.rest))
+    told =
+        a.reading
+        ∙ (ap (first_bad_version a.before) lines-are
+        ∙ (versions-append a.before f.front (lines_of f.rest)
+        ∙ ap (λ (o : Option (ℕ × ℕ)). or_else o (first_bad_version (a.before ++ f.front) (lines_of f.rest)))
+        (bundle-told (length a.before) a.before [] f.front a.own (omega arith) free)))
 
-  pub front_bad : (e : WorldError) → TellsBehind number e (bad_line (take (place - 1) rest)) → TellsBehind first e (bad_version_line text)
-  front_bad e tells =
-      told-front first number (length a.before) e (bad_line (take (place - 1) rest)) _ (bad_version_line text) a.count
-      (told ∙ ap (λ (o : Option (ℕ × ℕ)). or_else (moved (length a.before) o) (first_bad_version (a.before ++ f.front) (lines_of f.rest))) (sym (front_same rest place lines f).bad)) tells
+    pub front_bad : (e : WorldError) → TellsBehind number e (bad_line (take (place - 1) rest)) → TellsBehind first e (bad_version_line text)
+    front_bad e tells =
+        told-front first number (length a.before) e (bad_line (take (place - 1) rest)) _ (bad_version_line text) a.count
+        (told ∙ ap (λ (o : Option (ℕ × ℕ)). or_else (moved (length a.before) o) (first_bad_version (a.before ++ f.front) (lines_of f.rest))) (sym (front_same rest place lines f).bad)) tells
 
-  module _ (good : bad_line (take (place - 1) rest) ≡ None) (line behind : List ℕ) (cut : cuts_of (drop place rest) ≡ record { line = line; behind = behind } ∷ cuts_of behind) where
-    cut-is : cuts_of f.rest ≡ record { line = line; behind = behind } ∷ cuts_of behind
-    cut-is = ap cuts_of (sym (front-rest rest place lines f)) ∙ cut
+    module _ (good : bad_line (take (place - 1) rest) ≡ None) (line behind : List ℕ) (cut : cuts_of (drop place rest) ≡ record { line = line; behind = behind } ∷ cuts_of behind) where
+      cut-is : cuts_of f.rest ≡ record { line = line; behind = behind } ∷ cuts_of behind
+      cut-is = ap cuts_of (sym (front-rest rest place lines f)) ∙ cut
 
-    begins : is_at_line line ≡ true
-    begins =
-        ap (λ (cs : List Cut). is_at_line (get_or cs 0 (record { line = line; behind = behind })).line) (sym cut-is ∙ f.cut) ∙ f.begins
+      begins : is_at_line line ≡ true
+      begins =
+          ap (λ (cs : List Cut). is_at_line (get_or cs 0 (record { line = line; behind = behind })).line) (sym cut-is ∙ f.cut) ∙ f.begins
 
-    there : Ahead f.rest line behind
-    there = ahead f.rest line behind (some-cut f.rest (record { line = line; behind = behind }) (cuts_of behind) cut-is) cut-is
+      there : Ahead f.rest line behind
+      there = ahead f.rest line behind (some-cut f.rest (record { line = line; behind = behind }) (cuts_of behind) cut-is) cut-is
 
-    -- the bundle is good, so the next line counts
-    told-here : bad_version_line text ≡ first_bad_version (a.before ++ f.front) (line ∷ there.tail)
-    told-here =
-        told
-        ∙ (ap (λ (o : Option (ℕ × ℕ)). or_else (moved (length a.before) o) (first_bad_version (a.before ++ f.front) (lines_of f.rest))) (sym (front_same rest place lines f).bad ∙ good)
-        ∙ ap (first_bad_version (a.before ++ f.front)) there.lines_are)
+      -- the bundle is good, so the next line counts
+      told-here : bad_version_line text ≡ first_bad_version (a.before ++ f.front) (line ∷ there.tail)
+      told-here =
+          told
+          ∙ (ap (λ (o : Option (ℕ × ℕ)). or_else (moved (length a.before) o) (first_bad_version (a.before ++ f.front) (lines_of f.rest))) (sym (front_same rest place lines f).bad ∙ good)
+          ∙ ap (first_bad_version (a.before ++ f.front)) there.lines_are)
 
-    moment-here : last_moment (a.before ++ f.front) ≡ moment
-    moment-here = last-free a.before f.front free ∙ a.last
+      moment-here : last_moment (a.before ++ f.front) ≡ moment
+      moment-here = last-free a.before f.front free ∙ a.last
 
-    count-here : number + lines ≡ first + length (a.before ++ f.front)
-    count-here =
-        let count = a.count in
-        let more = f.count in
-        let len = length-append a.before f.front in omega (arith, count, more, len)
+      count-here : number + lines ≡ first + length (a.before ++ f.front)
+      count-here =
+          let count = a.count in
+          let more = f.count in
+          let len = length-append a.before f.front in omega (arith, count, more, len)
 
-    pub moment_bad : (number' : ℕ) (e : WorldError) → number' ≡ number + (lines + 1) → TellsMoment number' moment line e → TellsBehind first e (bad_version_line text)
-    moment_bad number' error.Memory at tells = absurd tells
-    moment_bad number' (error.Bad place' cause) at tells =
-        let is : bad_version_line text ≡ Some (length (a.before ++ f.front) + 1, cause) =
-        told-here ∙ version-bad (a.before ++ f.front) line there.tail cause begins (ap (λ (m : ℕ). at_causes m (moment_of line)) moment-here ∙ tells.1) in
-        let count = count-here in
-        let same = tells.0 in
-        subst (λ (o : Option (ℕ × ℕ)). TellsBehind first (error.Bad place' cause) o) (sym is) (omega (arith, at, same, count), refl)
+      pub moment_bad : (number' : ℕ) (e : WorldError) → number' ≡ number + (lines + 1) → TellsMoment number' moment line e → TellsBehind first e (bad_version_line text)
+      moment_bad number' error.Memory at tells = absurd tells
+      moment_bad number' (error.Bad place' cause) at tells =
+          let is : bad_version_line text ≡ Some (length (a.before ++ f.front) + 1, cause) =
+          told-here ∙ version-bad (a.before ++ f.front) line there.tail cause begins (ap (λ (m : ℕ). at_causes m (moment_of line)) moment-here ∙ tells.1) in
+          let count = count-here in
+          let same = tells.0 in
+          subst (λ (o : Option (ℕ × ℕ)). TellsBehind first (error.Bad place' cause) o) (sym is) (omega (arith, at, same, count), refl)
 
-    pub at_next : (db : Tuples) (m : ℕ) → db ≡ database (lines_of (take (place - 1) rest)) → moment_of line ≡ Some m → moment < m
-        → At text first (number + (lines + 1)) m (versions ++ version_at moment db ∷ []) behind
-    at_next db m read is late = record {
-      before = (a.before ++ f.front) ++ line ∷ [];
-      reading = told-here
-          ∙ (version-goes (a.before ++ f.front) line there.tail m begins is (let same = moment-here in omega (arith, late, same))
-          ∙ tail-told ((a.before ++ f.front) ++ line ∷ []) there.tail behind there.tail_is);
-      own = own-at (a.before ++ f.front) line begins;
-      last = last-at (a.before ++ f.front) line m begins is;
-      count = let count = count-here in let len = length-append (a.before ++ f.front) (line ∷ []) in omega (arith, count, len);
-      said = a.said ∙ (ap (λ (vs : List Version). versions ++ vs) said-here ∙ sym (append_assoc versions (version_at moment db ∷ []) (version_from m (lines_of behind) ∷ later_versions (lines_of behind))));
-      room = let room = a.room in
-          let count = f.count in
-          let long = laid-long f.front in
-          let len = ap length f.text_is in
-          let more = length-append (laid f.front) f.rest in
-          let less = there.less in omega (arith, room, count, long, len, more, less);
-    }
-      where
-        whole-lines : lines_of rest ≡ f.front ++ line ∷ there.tail
-        whole-lines = lines-are ∙ ap (λ (ls : List (List ℕ)). f.front ++ ls) there.lines_are
+      pub at_next : (db : Tuples) (m : ℕ) → db ≡ database (lines_of (take (place - 1) rest)) → moment_of line ≡ Some m → moment < m
+          → At text first (number + (lines + 1)) m (versions ++ version_at moment db ∷ []) behind
+      at_next db m read is late = record {
+        before = (a.before ++ f.front) ++ line ∷ [];
+        reading = told-here
+            ∙ (version-goes (a.before ++ f.front) line there.tail m begins is (let same = moment-here in omega (arith, late, same))
+            ∙ tail-told ((a.before ++ f.front) ++ line ∷ []) there.tail behind there.tail_is);
+        own = own-at (a.before ++ f.front) line begins;
+        last = last-at (a.before ++ f.front) line m begins is;
+        count = let count = count-here in let len = length-append (a.before ++ f.front) (line ∷ []) in omega (arith, count, len);
+        said = a.said ∙ (ap (λ (vs : List Version). versions ++ vs) said-here ∙ sym (append_assoc versions (version_at moment db ∷ []) (version_from m (lines_of behind) ∷ later_versions (lines_of behind))));
+        room = let room = a.room in
+            let count = f.count in
+            let long = laid-long f.front in
+            let len = ap length f.text_is in
+            let more = length-append (laid f.front) f.rest in
+            let less = there.less in omega (arith, room, count, long, len, more, less);
+      }
+        where
+          whole-lines : lines_of rest ≡ f.front ++ line ∷ there.tail
+          whole-lines = lines-are ∙ ap (λ (ls : List (List ℕ)). f.front ++ ls) there.lines_are
 
-        said-here : version_from moment (lines_of rest) ∷ later_versions (lines_of rest) ≡ version_at moment db ∷ (version_from m (lines_of behind) ∷ later_versions (lines_of behind))
-        said-here =
-            ap (λ (ls : List (List ℕ)). version_from moment ls ∷ later_versions ls) whole-lines
-            ∙ (ap (λ (ls : List (List ℕ)). version_at moment (database ls) ∷ later_versions (f.front ++ line ∷ there.tail)) (before-at f.front line there.tail free begins)
-            ∙ (ap (λ (d : Tuples). version_at moment d ∷ later_versions (f.front ++ line ∷ there.tail)) (sym (read ∙ (front_same rest place lines f).read))
-            ∙ ap (λ (vs : List Version). version_at moment db ∷ vs)
-            (free-later f.front (line ∷ there.tail) free
-            ∙ (ap (λ (o : Option ℕ). with_version o there.tail (later_versions there.tail)) (begins-some line m begins is) ∙ tail-said m there.tail behind there.tail_is))))
+          said-here : version_from moment (lines_of rest) ∷ later_versions (lines_of rest) ≡ version_at moment db ∷ (version_from m (lines_of behind) ∷ later_versions (lines_of behind))
+          said-here =
+              ap (λ (ls : List (List ℕ)). version_from moment ls ∷ later_versions ls) whole-lines
+              ∙ (ap (λ (ls : List (List ℕ)). version_at moment (database ls) ∷ later_versions (f.front ++ line ∷ there.tail)) (before-at f.front line there.tail free begins)
+              ∙ (ap (λ (d : Tuples). version_at moment d ∷ later_versions (f.front ++ line ∷ there.tail)) (sym (read ∙ (front_same rest place lines f).read))
+              ∙ ap (λ (vs : List Version). version_at moment db ∷ vs)
+              (free-later f.front (line ∷ there.tail) free
+              ∙ (ap (λ (o : Option ℕ). with_version o there.tail (later_versions there.tail)) (begins-some line m begins is) ∙ tail-said m there.tail behind there.tail_is))))

@@ -112,8 +112,7 @@ bundle-database : (bundle : List (List ℕ)) → AreBare bundle → IsGoodBundle
 bundle-database [] bare good = ([], refl, refl)
 bundle-database (line ∷ lines) bare good =
     let text : List ℕ = join_with_byte 10 (line ∷ lines) in
-    let same : lines_of text ≡ line ∷ lines = joined-lines line lines bare.0 bare.1 in
-    (
+    let same : lines_of text ≡ line ∷ lines = joined-lines line lines bare.0 bare.1 in (
       text,
       joined-bytes line lines bare.0 bare.1,
       database-read text (ap (first_bad causes_of []) same ∙ good) ∙ ap (λ (ls : List (List ℕ)). Some (database ls)) same,
