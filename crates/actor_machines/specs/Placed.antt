@@ -1,5 +1,5 @@
 -- Some world, where none is named.
-use Rattle.std.specs.Prelude.{[]}
+use Rattle.std.specs.Prelude.{[], ◌∷◌}
 use Rattle.net_base.specs.declared.world.World.{World}
 use Rattle.net_base.specs.declared.timer.Timers.TheVariants.{Fixed}
 

@@ -33,7 +33,7 @@ pub struct Desk {
 }
 
 impl Model for Desk {
-    ghost use Rattle.std.specs.Prelude.{◌×◌, ◌<◌, length};
+    ghost use Rattle.std.specs.Prelude.{◌<◌, length};
     ghost use Rattle.std.specs.Arc.{arc_value};
     ghost use Rattle.net_actors.specs.AtDesk.{AreNets, AtDesk};
 

@@ -1,5 +1,5 @@
 -- A text of versions, cut at a line that begins one.
-use Rattle.std.specs.Prelude.{◌≡◌, ℕ, true, false, List, [], ◌∷◌, ◌++◌, length, ⊥}
+use Rattle.std.specs.Prelude.{◌≡◌, ℕ, true, false, List, [], ◌∷◌, ◌++◌, length}
 use Rattle.std.specs.List.{list_all, list_any}
 use Rattle.net_base.specs.NdbText.{lines_of}
 use Rattle.world_text.specs.VersionLines.{at_causes, is_at_line, moment_of}

@@ -1,5 +1,5 @@
 -- What the reader tells of a bad line.
-use Rattle.std.specs.Prelude.{◌≡◌, ◌≤◌, ℕ, ◌+◌, length, map, bytes_eq, true, Bool, Option, Some, None, Result, Err, ⊤, ⊥, if◌then◌else◌}
+use Rattle.std.specs.Prelude.{◌≡◌, ◌≤◌, ℕ, ◌+◌, length, map, bytes_eq, true, Bool, Option, Some, None, Result, Err, ⊤, if◌then◌else◌}
 use Rattle.net_base.specs.declared.world.MediumSpec.{MediumSpec}
 use Rattle.net_base.specs.declared.world.World.{World}
 use Rattle.net_base.specs.World.{all_apart}

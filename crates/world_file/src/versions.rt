@@ -1,5 +1,5 @@
 //! The versions of a world's database: the bundles behind `ndb`, and the lines `%at M` between them.
-ghost use Rattle.std.specs.Prelude.{◌≡◌, ◌+◌, ◌-◌, ◌<◌, ◌≤◌, ◌^◌, ◌×◌, length, take, drop, Some, None, IfOk, IfErr, IfSome, IfNone};
+ghost use Rattle.std.specs.Prelude.{◌≡◌, ◌+◌, ◌-◌, ◌<◌, ◌≤◌, ◌^◌, length, take, drop, Some, None, IfOk, IfErr, IfSome, IfNone};
 ghost use Rattle.net_base.specs.NdbBundle.{bad_line, database};
 ghost use Rattle.net_base.specs.NdbText.{lines_of};
 ghost use Rattle.world_text.specs.LineCauses.{number_of};
