@@ -144,6 +144,15 @@ laid-long (line ∷ lines) =
     let rest = laid-long lines in
     let more = length-append line (10 ∷ laid lines) in omega (arith, rest, more)
 
+-- a line that begins a version stands behind that many others
+pub front_lines : (text : List ℕ) (place lines : ℕ) → IsFront text place lines → lines < length text
+front_lines text place lines f =
+    let count = f.count in
+    let long = laid-long f.front in
+    let len = ap length f.text_is in
+    let more = length-append (laid f.front) f.rest in
+    let some = some-cut f.rest (record { line = f.line; behind = f.behind }) (cuts_of f.behind) f.cut in omega (arith, count, long, len, more, some)
+
 -- an empty line says nothing
 empty-told : (before : List (List ℕ)) → first_bad_version before ([] ∷ []) ≡ None
 empty-told before = refl

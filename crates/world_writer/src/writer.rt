@@ -1,5 +1,5 @@
 //! The file of a world.
-ghost use Rattle.std.specs.Prelude.{◌≡◌, ◌∷◌, ◌++◌, [], codes, IfOk, OnOk};
+ghost use Rattle.std.specs.Prelude.{◌≡◌, ◌∷◌, ◌++◌, [], codes, flat_map, IfOk, OnOk};
 ghost use Rattle.world_text.specs.WorldSpelling.{laid, line_of_end, line_of_seed, line_of_timers, lines_of_world};
 ghost use Rattle.ndb_reader.specs.Written.{db_text};
 ghost use Rattle.world_writer.specs.Written.{file_text, later_text, lines_of_parts, versions_text};
@@ -76,6 +76,16 @@ fn put_database(alloc: Global, out: &mut Octets, version: &Version) -> Result<()
     out.append(text.as_slice())
 }
 
+/// Adds later versions.
+fn put_all_later(alloc: Global, out: &mut Octets, versions: &[Version]) -> Result<(), AllocError>
+    ensures { OnOk result (out.new ≡ out.old ++ flat_map later_text versions.now) }
+{
+    for version in versions {
+        put_later(alloc, out, version)?;
+    }
+    Ok(())
+}
+
 /// Adds the text of all versions.
 fn put_versions(alloc: Global, out: &mut Octets, versions: &[Version]) -> Result<(), AllocError>
     ensures { OnOk result (out.new ≡ out.old ++ versions_text versions.now) }
@@ -84,10 +94,7 @@ fn put_versions(alloc: Global, out: &mut Octets, versions: &[Version]) -> Result
         return Ok(());
     };
     put_database(alloc, out, first)?;
-    for version in later {
-        put_later(alloc, out, version)?;
-    }
-    Ok(())
+    put_all_later(alloc, out, later)
 }
 
 /// The text of a world's file: its lines, `ndb`, and the text of its versions.
