@@ -14,16 +14,16 @@ use Rattle.guest_laws.specs.Guests.{HandsOver, IsGuest, StaysGuest}
 use Rattle.net_locks.specs.declared.clock.Advance.{Advance}
 use Rattle.net_locks.specs.declared.calendar.Calendar.{Calendar}
 use Rattle.net_locks.specs.declared.clock.Standing.{Standing}
-use Rattle.host_net.proofs.Handing.{goes_over, moment_here, moment_over, moment_there, stays_here, stays_there}
-use Rattle.host_net.proofs.Operating.{StaysKnown}
+use Rattle.net_guests.proofs.Handing.{goes_over, moment_here, moment_over, moment_there, stays_here, stays_there}
+use Rattle.net_guests.proofs.Operating.{StaysKnown}
 use Rattle.host_net.proofs.Lending.{advances_on, lent_on}
 use Rattle.host_net.specs.declared.player.Role.{Role}
-use Rattle.host_net.proofs.Passes.{itself}
+use Rattle.net_guests.proofs.Passes.{itself}
 use Rattle.host_net.specs.Advancing.{Advances, AreBack, AreLent, other_players}
 use Rattle.host_net.specs.Groups.{Apart, Grouped, NotIn, callers_of, visits}
 use Rattle.host_net.specs.Playing.{Playing}
 use Rattle.net_locks.specs.Knowing.{IsKnown}
-use Rattle.host_net.specs.Visits.{IsVisit, IsWith, Visit}
+use Rattle.net_guests.specs.Visits.{IsVisit, IsWith, Visit}
 use Rattle.net_locks.specs.Turns.{Stays, own}
 
 pub test_turned : (a b : ℕ) → (a == b) ≡ false → (b == a) ≡ false

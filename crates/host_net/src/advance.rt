@@ -13,7 +13,7 @@ ghost use Rattle.host_net.specs.Advancing.{IsStanding, IsTaken, StayAtOnce, othe
 ghost use Rattle.net_locks.specs.Standings.{IsBare, ask_of};
 ghost use Rattle.host_net.specs.Groups.{Apart, Grouped, IsDealt, NotIn, all_members, all_seats, callers_of, members, visits};
 ghost use Rattle.net_locks.specs.Turns as turns;
-ghost use Rattle.host_net.specs.Visits.{IsWith, Visit};
+ghost use Rattle.net_guests.specs.Visits.{IsWith, Visit};
 
 use crate::guest::Guest;
 use crate::net::Net;

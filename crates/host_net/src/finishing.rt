@@ -1,5 +1,5 @@
 //! The end: the passes of all guests.
-ghost use Rattle.host_net.specs.Visits.{Gathers, IsWith, Visit};
+ghost use Rattle.net_guests.specs.Visits.{Gathers, IsWith, Visit};
 
 use crate::guest::Guest;
 use actor_machines::Placing;

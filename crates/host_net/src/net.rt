@@ -11,7 +11,7 @@ ghost use Rattle.journal.specs.Rule.{caller_numbers};
 ghost use Rattle.script_task.specs.Requests.{HasRoom as HasRoomFor, newly_bound};
 ghost use Rattle.duties.specs.Queue.{work_of_duty};
 ghost use Rattle.net_locks.specs.Rosters.{IsRosterOf};
-ghost use Rattle.host_net.specs.Visits.{AreFresh, Finished, HasGuest, IsSame, Operated, Takes, names_after};
+ghost use Rattle.net_guests.specs.Visits.{AreFresh, Finished, HasGuest, IsSame, Operated, Takes, names_after};
 ghost use Rattle.net_locks.specs.Turns.{bare};
 
 use crate::finishing::gather;

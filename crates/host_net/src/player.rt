@@ -8,7 +8,7 @@ ghost use Rattle.script_task.specs.Rest.{Continues};
 ghost use Rattle.host_net.specs.Answering.{CannotTell, CanTell, IsAnswered};
 ghost use Rattle.host_net.specs.Playing.{Counts, HasRole, IsPlayed, IsSamePlayer, PlaysOn, Heard, Told, played_by};
 ghost use Rattle.net_locks.specs.Rosters.{IsRosterOf};
-ghost use Rattle.host_net.specs.Visits.{IsFresh};
+ghost use Rattle.net_guests.specs.Visits.{IsFresh};
 ghost use Rattle.host_net.specs.declared.player.Role.TheVariants as role;
 
 use crate::guest::Guest;

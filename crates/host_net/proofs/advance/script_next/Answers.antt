@@ -7,7 +7,7 @@ use Rattle.script_task.specs.Requests.{planned}
 use Rattle.guest_laws.specs.Works.{entries}
 use Rattle.net_locks.specs.Standings.{ask_of}
 use Rattle.host_net.specs.Playing.{Playing}
-use Rattle.host_net.specs.Visits.{Visit}
+use Rattle.net_guests.specs.Visits.{Visit}
 use Rattle.host_net.proofs.Foreseen.{nothing_next, something_next}
 use Rattle.host_net.proofs.advance.script_next.Goals as goal
 

@@ -5,14 +5,14 @@ use Rattle.host_net.proofs.Continuing.{own_stays}
 use Rattle.host_net.proofs.Counting.{counts_stay}
 use Rattle.host_net.proofs.Lending.{advances_at, all_stand, players_left}
 use Rattle.host_net.proofs.Outcomes.{player_stays}
-use Rattle.host_net.proofs.Operating.{visit}
-use Rattle.host_net.proofs.Passes.{nil_of}
+use Rattle.net_guests.proofs.Operating.{visit}
+use Rattle.net_guests.proofs.Passes.{nil_of}
 use Rattle.host_net.proofs.Passing.{OthersStay, advances_here, are_back, clock_visits, clock_with, group_lists, me_back, me_visits}
 use Rattle.host_net.proofs.Passing.{next_apart, next_lent, others_stay_here, player, still_with}
 use Rattle.host_net.specs.Advancing.{Advances, AreBack, AreLent, other_players}
 use Rattle.host_net.specs.Groups.{Grouped, callers_of, visits}
 use Rattle.host_net.specs.Playing.{IsCounted, IsPlayer, Playing}
-use Rattle.host_net.specs.Visits.{Visit}
+use Rattle.net_guests.specs.Visits.{Visit}
 use Rattle.host_net.proofs.advance.Net+J+WorldActor+J.+with_all.Goals as goal
 
 pub invariant_of-clock : goal.invariant_of-clock
