@@ -4,4 +4,4 @@ pub mod Firsts
 pub mod Operating
 pub mod Handing
 pub mod Decided
-pub mod Lending
+pub mod Returning

@@ -41,10 +41,10 @@ impl<J: Naming + Placing> Model for Bundle<J> {
     ghost Value = { Carried };
 
     ghost view = { λ b. record {
-        visit = record { caller = b.caller; now = b.now; sight = b.pass; owed = b.duties.list; names = b.fids.names };
-        host = b.host;
-        touched = b.touched;
-        calendar = b.calendar
+      visit = record { caller = b.caller; now = b.now; sight = b.pass; owed = b.duties.list; names = b.fids.names };
+      host = b.host;
+      touched = b.touched;
+      calendar = b.calendar;
     } };
 }
 
@@ -101,7 +101,7 @@ impl<J: Naming + Placing> Bundle<J> {
     /// The conversations at which something was recorded since the clock last moved.
     pub fn touched(&self, alloc: Global) -> Result<Touched, AllocError>
         requires complete { IsComplete J.world J.run.roster self.now }
-        ensures { IfOk result (Covers (own self.now.visit.caller self.now.visit.sight)) }
+        ensures { IfOk result (Covers (own self.entry.now.visit.caller self.entry.now.visit.sight)) }
     {
         self.touched.copy(alloc)
     }

@@ -5,6 +5,7 @@ ghost use Rattle.net_base.specs.World.{IsWorld};
 ghost use Rattle.guest_laws.specs.Guests.{IsOfGuests};
 ghost use Rattle.net_locks.specs.Standings.{AllStand};
 ghost use Rattle.net_guests.specs.Deciding.{Leaves};
+ghost use Rattle.net_guests.specs.Visits.{IsComplete};
 
 use crate::bundle::Bundle;
 use actor_machines::{Placing, WorldActor};

@@ -24,7 +24,10 @@ use std::alloc::AllocError;
 use std::sync::Wait;
 
 /// Where the actor of a guest's first duty stands.
-pub fn first_spot<J: Naming + Placing>(locks: &Locks<J, WorldActor<J>>, bundle: &Bundle<J>) -> Spot {
+pub fn first_spot<J: Naming + Placing>(
+    locks: &Locks<J, WorldActor<J>>,
+    bundle: &Bundle<J>,
+) -> Spot {
     match bundle.duties.first() {
         Some(duty) => locks.spot_of(duty.actor),
         None => Spot::nowhere(),
@@ -33,7 +36,12 @@ pub fn first_spot<J: Naming + Placing>(locks: &Locks<J, WorldActor<J>>, bundle: 
 
 impl<J: Naming + Placing> Bundle<J> {
     /// The first duty is recorded.
-    pub fn serve<R: Wait, G: Gate>(&mut self, rt: &R, gate: &G, locks: &Locks<J, WorldActor<J>>) -> Turn
+    pub fn serve<R: Wait, G: Gate>(
+        &mut self,
+        rt: &R,
+        gate: &G,
+        locks: &Locks<J, WorldActor<J>>,
+    ) -> Turn
         requires complete { IsComplete J.world J.run.roster self.old }
         requires owes { self.old.visit.owed ≢ [] }
         ensures complete { IsComplete J.world J.run.roster self.new }
@@ -112,7 +120,7 @@ impl<J: Naming + Placing> Bundle<J> {
         if self.owes() {
             return Turn::Owes;
         }
-        if self.is_full() {
+        if self.pass.room(self.caller) == 0 {
             return Turn::Limit;
         }
         let Ok(planned) = event_of(self.host, &self.fids, request) else {

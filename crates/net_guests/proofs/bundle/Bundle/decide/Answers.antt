@@ -15,7 +15,7 @@ use Rattle.net_guests.specs.Deciding.{Leaves}
 use Rattle.net_guests.specs.Visits.{Carried, IsComplete}
 use Rattle.net_guests.proofs.Decided.{early_end, leaves_gone, leaves_kept, leaves_none, visit_same}
 use Rattle.net_guests.proofs.Operating.{visit}
-use Rattle.net_guests.proofs.clock.Bundle.decide.Goals as goal
+use Rattle.net_guests.proofs.bundle.Bundle.decide.Goals as goal
 
 pub halt-halt-requires-clause-moment : goal.halt-halt-requires-clause-moment
 halt-halt-requires-clause-moment g c =
@@ -51,6 +51,7 @@ returns-in-Some-clause-leaves g c =
 
 pub returns-in-Some-clause-complete : goal.returns-in-Some-clause-complete
 returns-in-Some-clause-complete g c =
+    let is = subst (λ (b : Carried). IsComplete g.J.Placing.world g.J.Naming.run.roster b) (sym c.self.view_is) c.requires.complete in
     let w = g.J.Placing.world in
     let r = g.J.Naming.run.roster in
     let k = c.self.inside.caller in
@@ -59,15 +60,18 @@ returns-in-Some-clause-complete g c =
     let ds = c.self.inside.duties.list in
     let still : h ≡ p = c.halt-halt.ensures.same in
     visit_same w r k c.self.inside.now p h ds ds c.self.inside.host c.self.inside.touched c.self.inside.calendar c.self.inside.calendar still refl
-    (subst (λ (q : Sight). IsKnown w q.seen c.self.inside.calendar) (sym still) (subst (λ (b : Carried). IsComplete g.J.Placing.world g.J.Naming.run.roster b) (sym c.self.view_is) c.requires.complete).known) (subst (λ (b : Carried). IsComplete g.J.Placing.world g.J.Naming.run.roster b) (sym c.self.view_is) c.requires.complete)
+    (subst (λ (q : Sight). IsKnown w q.seen c.self.inside.calendar) (sym still) is.known) is
 
 pub try_move-moved-requires-clause-guest : goal.try_move-moved-requires-clause-guest
 try_move-moved-requires-clause-guest g c =
+    let is = subst (λ (b : Carried). IsComplete g.J.Placing.world g.J.Naming.run.roster b) (sym c.self.view_is) c.requires.complete in
     subst (λ (q : Sight). IsGuest g.J.Placing.world g.J.Naming.run.roster c.self.inside.caller q c.self.inside.duties.list) (sym c.halt-halt.ensures.same)
-    (subst (λ (b : Carried). IsComplete g.J.Placing.world g.J.Naming.run.roster b) (sym c.self.view_is) c.requires.complete).guest
+    is.guest
 
 pub try_move-moved-requires-clause-moment : goal.try_move-moved-requires-clause-moment
-try_move-moved-requires-clause-moment g c = (subst (λ (b : Carried). IsComplete g.J.Placing.world g.J.Naming.run.roster b) (sym c.self.view_is) c.requires.complete).here ∙ ap (λ (q : Sight). moment_of q.seen) (sym c.halt-halt.ensures.same)
+try_move-moved-requires-clause-moment g c =
+    let is = subst (λ (b : Carried). IsComplete g.J.Placing.world g.J.Naming.run.roster b) (sym c.self.view_is) c.requires.complete in
+    is.here ∙ ap (λ (q : Sight). moment_of q.seen) (sym c.halt-halt.ensures.same)
 
 pub try_move-moved-requires-clause-all : goal.try_move-moved-requires-clause-all
 try_move-moved-requires-clause-all g c =
@@ -78,10 +82,12 @@ try_move-moved-requires-clause-all g c =
 
 pub try_move-moved-requires-clause-known : goal.try_move-moved-requires-clause-known
 try_move-moved-requires-clause-known g c =
-    subst (λ (q : Sight). IsKnown g.J.Placing.world q.seen c.self.inside.calendar) (sym c.halt-halt.ensures.same) (subst (λ (b : Carried). IsComplete g.J.Placing.world g.J.Naming.run.roster b) (sym c.self.view_is) c.requires.complete).known
+    let is = subst (λ (b : Carried). IsComplete g.J.Placing.world g.J.Naming.run.roster b) (sym c.self.view_is) c.requires.complete in
+    subst (λ (q : Sight). IsKnown g.J.Placing.world q.seen c.self.inside.calendar) (sym c.halt-halt.ensures.same) is.known
 
 pub returns-in_default-moved-clause-complete : goal.returns-in_default-moved-clause-complete
 returns-in_default-moved-clause-complete g c =
+    let is = subst (λ (b : Carried). IsComplete g.J.Placing.world g.J.Naming.run.roster b) (sym c.self.view_is) c.requires.complete in
     let w = g.J.Placing.world in
     let r = g.J.Naming.run.roster in
     let k = c.self.inside.caller in
@@ -92,7 +98,7 @@ returns-in_default-moved-clause-complete g c =
     let none = subst (λ (o : Option ℕ). MayGo w r k c.self.inside.now h ds o c.try_move-moved.new.pass c.try_move-moved.new.duties.list)
     c.in_default-moved.is c.try_move-moved.ensures.go in
     visit_same w r k c.self.inside.now p c.try_move-moved.new.pass ds c.try_move-moved.new.duties.list c.self.inside.host c.self.inside.touched
-    c.self.inside.calendar c.try_move-moved.new.calendar (none.0 ∙ still) none.1 c.try_move-moved.ensures.known (subst (λ (b : Carried). IsComplete g.J.Placing.world g.J.Naming.run.roster b) (sym c.self.view_is) c.requires.complete)
+    c.self.inside.calendar c.try_move-moved.new.calendar (none.0 ∙ still) none.1 c.try_move-moved.ensures.known is
 
 pub returns-in_default-moved-clause-guests : goal.returns-in_default-moved-clause-guests
 returns-in_default-moved-clause-guests g c =
@@ -139,6 +145,7 @@ returns-clause-leaves g c =
 
 pub returns-clause-complete : goal.returns-clause-complete
 returns-clause-complete g c =
+    let is = subst (λ (b : Carried). IsComplete g.J.Placing.world g.J.Naming.run.roster b) (sym c.self.view_is) c.requires.complete in
     let w = g.J.Placing.world in
     let r = g.J.Naming.run.roster in
     let me = c.self.inside in
@@ -151,8 +158,8 @@ returns-clause-complete g c =
       guest = gone.0.guest;
       here = gone.0.here;
       early = early_end m c.args.world.now.end c.requires.is.end (omega (arith, gone.2, ap (λ (v : World). v.end) c.requires.world));
-      home = (subst (λ (b : Carried). IsComplete g.J.Placing.world g.J.Naming.run.roster b) (sym c.self.view_is) c.requires.complete).home;
+      home = is.home;
       covers = c.forget.ensures.covers (own me.caller p')
-          (gone.0.covers me.touched (subst (λ (q : Sight). Covers (own me.caller q) me.touched) (sym c.halt-halt.ensures.same) (subst (λ (b : Carried). IsComplete g.J.Placing.world g.J.Naming.run.roster b) (sym c.self.view_is) c.requires.complete).covers));
+          (gone.0.covers me.touched (subst (λ (q : Sight). Covers (own me.caller q) me.touched) (sym c.halt-halt.ensures.same) is.covers));
       known = c.try_move-moved.ensures.known;
     }

@@ -2,9 +2,9 @@ use Rattle.std.proofs.Common.{refl, ap, sym, subst}
 use Rattle.guest_laws.specs.Guests.{IsGuest}
 use Rattle.net_guests.specs.Lent.{IsAway}
 use Rattle.net_guests.specs.Visits.{Carried, IsComplete, IsWith, Visit}
-use Rattle.net_guests.proofs.Lending.{clock_with, had_still, lent_one}
+use Rattle.net_guests.proofs.Returning.{clock_with, had_still, lent_one}
 use Rattle.net_guests.proofs.Operating.{visit}
-use Rattle.net_guests.proofs.lending.Bundle.lend.Goals as goal
+use Rattle.net_guests.proofs.bundle.Bundle.lend.Goals as goal
 
 pub hand_over-requires : goal.hand_over-requires
 hand_over-requires g c =

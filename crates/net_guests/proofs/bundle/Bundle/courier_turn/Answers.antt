@@ -1,7 +1,7 @@
 use Rattle.std.proofs.Common.{sym, subst}
 use Rattle.net_guests.specs.Visits.{Carried, IsComplete}
 use Rattle.net_guests.proofs.Operating.{visit_on}
-use Rattle.net_guests.proofs.turns.Bundle.courier_turn.Goals as goal
+use Rattle.net_guests.proofs.bundle.Bundle.courier_turn.Goals as goal
 
 pub own-requires-clause-guest : goal.own-requires-clause-guest
 own-requires-clause-guest g c =

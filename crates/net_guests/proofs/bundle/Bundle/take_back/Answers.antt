@@ -4,9 +4,9 @@ use Rattle.journal.specs.declared.tokens.Sight.{Sight}
 use Rattle.journal.specs.Tokens.{Holds}
 use Rattle.net_guests.specs.Lent.{IsAway, IsBack}
 use Rattle.net_guests.specs.Visits.{Carried, IsComplete, IsWith, Visit}
-use Rattle.net_guests.proofs.Lending.{clock_after, me_visits, others_stay, returned}
+use Rattle.net_guests.proofs.Returning.{clock_after, me_visits, others_stay, returned}
 use Rattle.net_guests.proofs.Operating.{visit}
-use Rattle.net_guests.proofs.lending.Bundle.take_back.Goals as goal
+use Rattle.net_guests.proofs.bundle.Bundle.take_back.Goals as goal
 
 pub hand_over-requires : goal.hand_over-requires
 hand_over-requires g c =
@@ -17,8 +17,8 @@ hand_over-requires g c =
     let clock = c.clock.inside in
     let had = subst (λ (b : Carried). IsComplete w r b) (sym c.clock.view_is) c.requires.clock in
     let v = c.requires.away.0 in
-    let away = c.requires.away.1.0 in
-    let with = subst (λ (b : Carried). IsWith w r v b.visit.sight) (sym c.clock.view_is) c.requires.away.1.1 in
+    let away = c.requires.away.1 in
+    let with = subst (λ (b : Carried). IsWith w r v b.visit.sight) (sym c.clock.view_is) c.requires.away.2 in
     let caller = ap (λ (x : Visit). x.caller) (sym away.visit_is) ∙ ap (λ (b : Carried). b.visit.caller) (sym c.self.view_is) in
     subst (λ (n : ℕ). (es : List (ℕ × Noted)) × Holds clock.pass n es) caller (with.guest.list, with.guest.held)
 
@@ -31,8 +31,8 @@ returns-clause-complete g c =
     let clock = c.clock.inside in
     let had = subst (λ (b : Carried). IsComplete w r b) (sym c.clock.view_is) c.requires.clock in
     let v = c.requires.away.0 in
-    let away = c.requires.away.1.0 in
-    let with = subst (λ (b : Carried). IsWith w r v b.visit.sight) (sym c.clock.view_is) c.requires.away.1.1 in
+    let away = c.requires.away.1 in
+    let with = subst (λ (b : Carried). IsWith w r v b.visit.sight) (sym c.clock.view_is) c.requires.away.2 in
     let caller = ap (λ (x : Visit). x.caller) (sym away.visit_is) ∙ ap (λ (b : Carried). b.visit.caller) (sym c.self.view_is) in
     let owes = ap (λ (x : Visit). x.owed) (sym away.visit_is) ∙ ap (λ (b : Carried). b.visit.owed) (sym c.self.view_is) in
     me_visits w r (law.over w r) (law.here w r) me.caller clock.pass me.pass c.hand_over.new.from c.hand_over.new.to c.hand_over.ensures

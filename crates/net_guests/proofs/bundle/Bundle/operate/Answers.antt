@@ -7,7 +7,7 @@ use Rattle.net_guests.specs.Visits.{Carried, IsComplete, Operated, names_after}
 use Rattle.net_guests.proofs.Asking.{planned_away}
 use Rattle.net_guests.proofs.Operating.{visit_on, operated, visit}
 use Rattle.net_guests.proofs.Firsts.{free_none}
-use Rattle.net_guests.proofs.turns.Bundle.operate.Goals as goal
+use Rattle.net_guests.proofs.bundle.Bundle.operate.Goals as goal
 
 pub own-turn-requires-clause-guest : goal.own-turn-requires-clause-guest
 own-turn-requires-clause-guest g c =

@@ -3,7 +3,7 @@ use Rattle.duties.specs.Queue.{work_of_duty}
 use Rattle.net_guests.specs.Visits.{Carried, IsComplete, Takes}
 use Rattle.net_guests.proofs.Firsts.{first_some}
 use Rattle.net_guests.proofs.Operating.{visit, visit_on}
-use Rattle.net_guests.proofs.turns.Bundle.serve.Goals as goal
+use Rattle.net_guests.proofs.bundle.Bundle.serve.Goals as goal
 
 pub serve-requires-clause-guest : goal.serve-requires-clause-guest
 serve-requires-clause-guest g c =
