@@ -81,7 +81,7 @@ impl<J: Naming + Placing, T: WholeTask> Player<J, T> {
     {
         guests_begin();
         Player {
-            role: role_of(world, guest.caller),
+            role: role_of(world, guest.caller()),
             guest,
             task,
             lost: false,
