@@ -24,7 +24,7 @@ use journal::Naming;
 use net_base::{ActorName, Event, With, Work, World};
 use net_locks::{Advance, Standing};
 use outside::Gate;
-use script_task::{Planned, event_of};
+use script_task::{Planned, plan};
 use std::alloc::{AllocError, Global};
 use std::sync::Wait;
 use whole_script::WholeTask;
@@ -92,7 +92,7 @@ fn script_next<J: Naming + Placing, T: WholeTask>(
         actor,
         event,
         effect: _,
-    } = event_of(guest.host(), guest.fids(), &request)?;
+    } = plan(guest.host(), guest.fids(), request);
     Ok(Some((actor, bare(event))))
 }
 

@@ -102,24 +102,26 @@ impl<J: Naming + Placing> Net<J, WorldActor<J>> {
         ensures turn { (s : AnyScript) → caller_of J.world guest.old.caller ≡ IsScript s
             → Operated J.world s.host request.now guest.old result guest.new }
     {
-        self.operate_at(rt, gate, guest, request, &mut Spot::nowhere())
+        guest
+            .bundle
+            .operate(rt, gate, &self.locks, request, &mut Spot::nowhere())
     }
 
-    // The same. The spot is then that of the actor, where the turn came so far.
+    // The same of a request that nobody needs any longer. The spot is then that of the actor, where the turn came so far.
     pub(crate) fn operate_at<R: Wait, G: Gate>(
         &self,
         rt: &R,
         gate: &G,
         guest: &mut Guest<J>,
-        request: &Request,
+        request: Request,
         spot: &mut Spot,
     ) -> Turn
         requires script { (s : AnyScript) × (caller_of J.world guest.old.caller ≡ IsScript s) }
         ensures same { IsSame guest.old guest.new }
         ensures turn { (s : AnyScript) → caller_of J.world guest.old.caller ≡ IsScript s
-            → Operated J.world s.host request.now guest.old result guest.new }
+            → Operated J.world s.host request guest.old result guest.new }
     {
-        guest.bundle.operate(rt, gate, &self.locks, request, spot)
+        guest.bundle.operate_once(rt, gate, &self.locks, request, spot)
     }
 
     // What the clock does, where its guest's pass holds the numbers of all callers and they stand so.

@@ -352,7 +352,7 @@ impl<J: Naming + Placing> Net<J, WorldActor<J>> {
             Ok(None) => return Played::Waits,
             Err(_) => return Played::Memory,
         };
-        let turn = self.operate_at(rt, gate, &mut player.guest, &request, spot);
+        let turn = self.operate_at(rt, gate, &mut player.guest, request, spot);
         hear(
             &mut player.task,
             &mut player.lost,

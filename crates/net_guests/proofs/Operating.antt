@@ -1,11 +1,14 @@
 -- A guest after its turn, and what a request did.
-use Rattle.std.proofs.Common.{◌≡◌, ℕ, List, [], Some, None, ap, ◌∙◌}
+use Rattle.std.proofs.Common.{◌≡◌, ℕ, List, [], Some, None, refl, ap, ◌∙◌}
 use Rattle.net_base.specs.declared.world.World.{World}
 use Rattle.net_base.specs.Duties.{Duty}
 use Rattle.net_base.specs.Steps.{Ask, Bound}
 use Rattle.journal.specs.declared.tokens.Sight.{Sight}
 use Rattle.script_task.specs.declared.request.Request.{Request}
-use Rattle.script_task.specs.Requests.{planned}
+use Rattle.net_base.specs.declared.reply.Reply.{Reply}
+use Rattle.net_tree.specs.Bindings.{Bindings}
+use Rattle.script_task.specs.Effects.{effect_of, opened, settles}
+use Rattle.script_task.specs.Requests.{planned, settled}
 use Rattle.net_locks.specs.declared.turn.Turn.{Turn}
 use Rattle.net_locks.specs.declared.turn.Turn.TheVariants as turn
 use mathlib.Core.List.{IsPrefix}
@@ -17,7 +20,7 @@ use Rattle.guest_laws.specs.Guests.{IsGuest}
 use Rattle.net_locks.specs.declared.calendar.Calendar.{Calendar}
 use Rattle.net_locks.specs.Knowing.{IsKnown}
 use Rattle.net_locks.specs.Turns.{Turned, bare, own}
-use Rattle.net_guests.specs.Visits.{IsVisit, Operated, Visit, names_after}
+use Rattle.net_guests.specs.Visits.{IsVisit, Operated, Visit, names_after, settled_by}
 
 abbrev pub visit : ℕ → ℕ → Sight → List Duty → List Bound → Visit
 visit c now p ds names = record { caller = c; now = now; sight = p; owed = ds; names = names }
@@ -51,3 +54,12 @@ operated w h q c now p p' ds ds' names names' ask turn.Limit free asks takes cal
     (free, takes.0, same_visit c now p p' ds ds' names names' takes.1 takes.2 called)
 operated w h q c now p p' ds ds' names names' ask turn.Memory free asks takes called =
     (free, takes.0, same_visit c now p p' ds ds' names names' takes.1 takes.2 called)
+
+-- the effect of a request settles the names of a turn as its reply does
+pub settles_names : ((b : Bindings) (q : Request) (r : Reply) → (settles (effect_of b.names q) (opened (effect_of b.names q) r) b).names ≡ settled b.names q r)
+    → (b : Bindings) (q : Request) (t : Turn) → (settled_by (effect_of b.names q) t b).names ≡ names_after b.names q t
+settles_names law b q (turn.Recorded stamp answer) = law b q answer
+settles_names law b q turn.NotReady = refl
+settles_names law b q turn.Owes = refl
+settles_names law b q turn.Limit = refl
+settles_names law b q turn.Memory = refl

@@ -16,7 +16,10 @@ use Rattle.net_base.specs.Steps.{Ask, Bound}
 use Rattle.journal.specs.declared.law.Roster.{Roster}
 use Rattle.journal.specs.declared.tokens.Sight.{Sight}
 use Rattle.journal.specs.Closing.{plain}
+use Rattle.net_tree.specs.Bindings.{Bindings}
+use Rattle.script_task.specs.declared.effect.Effect.{Effect}
 use Rattle.script_task.specs.declared.request.Request.{Request}
+use Rattle.script_task.specs.Effects.{opened, settles}
 use Rattle.script_task.specs.Requests.{planned, settled}
 use Rattle.guest_laws.specs.Own.{AreNext, AreTimely, IsLegalButScripts}
 use Rattle.guest_laws.specs.Guests.{IsGuest}
@@ -70,6 +73,11 @@ Takes w a work cites old answer new =
 abbrev pub names_after : List Bound → Request → Turn → List Bound
 names_after names q (turn.Recorded stamp answer) = settled names q answer
 names_after names q _ = names
+
+-- the bindings after a turn whose reply has this effect
+abbrev pub settled_by : Effect → Turn → Bindings → Bindings
+settled_by e (turn.Recorded stamp answer) b = settles e (opened e answer) b
+settled_by e _ b = b
 
 -- the turn of a request of a script's host, where nothing is owed
 pub record Asked (w : World) (h : ℕ) (q : Request) (old : Visit) (answer : Turn) (new : Visit) : Type 0 where

@@ -1,14 +1,13 @@
 //! A guest's turns at the locks.
 ghost use Rattle.std.specs.Prelude.{◌≡◌, ◌≢◌, [], None, Some, OnOk, slice_get};
-ghost use Rattle.net_base.specs.declared.reply.Reply.{Reply as AnyReply};
 ghost use Rattle.net_base.specs.declared.actor.ActorName.TheVariants as name;
 ghost use Rattle.net_base.specs.declared.event.Event.TheVariants as event;
 ghost use Rattle.net_base.specs.declared.world.Script.{Script as AnyScript};
 ghost use Rattle.net_base.specs.Callers.{IsCourier, IsScript, caller_of};
 ghost use Rattle.net_base.specs.Duties.{Duty as AnyDuty};
-ghost use Rattle.script_task.specs.Requests.{HasRoom as HasRoomFor, newly_bound};
+ghost use Rattle.script_task.specs.Effects as effects;
 ghost use Rattle.duties.specs.Queue.{work_of_duty};
-ghost use Rattle.net_guests.specs.Visits.{IsComplete, IsSame, Operated, Takes, names_after};
+ghost use Rattle.net_guests.specs.Visits.{IsComplete, IsSame, Operated, Takes, settled_by};
 ghost use Rattle.net_locks.specs.Turns.{bare};
 
 use crate::bundle::Bundle;
@@ -19,7 +18,7 @@ use net_base::{ActorName, Event};
 use net_locks::{Locks, Spot, Turn, calendars_stay_known};
 use net_tree::Fids;
 use outside::Gate;
-use script_task::{Request, event_of, settle};
+use script_task::{Effect, Planned, Request, effects_settle, plan};
 use std::alloc::AllocError;
 use std::sync::Wait;
 
@@ -115,21 +114,52 @@ impl<J: Naming + Placing> Bundle<J> {
         ensures turn { (s : AnyScript) → caller_of J.world self.old.visit.caller ≡ IsScript s
             → Operated J.world s.host request.now self.old.visit result self.new.visit }
     {
-        calendars_stay_known();
-        turns_are_these();
         if self.owes() {
             return Turn::Owes;
         }
         if self.pass.room(self.caller) == 0 {
             return Turn::Limit;
         }
-        let Ok(planned) = event_of(self.host, &self.fids, request) else {
-            return Turn::Memory;
-        };
-        if reserve(&mut self.fids, request).is_err() {
+        match request.clone() {
+            Ok(request) => self.operate_once(rt, gate, locks, request, spot),
+            Err(_) => Turn::Memory,
+        }
+    }
+
+    /// The same of a request that nobody needs any longer: no text of it is copied on the way to the actor.
+    pub fn operate_once<R: Wait, G: Gate>(
+        &mut self,
+        rt: &R,
+        gate: &G,
+        locks: &Locks<J, WorldActor<J>>,
+        request: Request,
+        spot: &mut Spot,
+    ) -> Turn
+        requires complete { IsComplete J.world J.run.roster self.old }
+        requires script { (s : AnyScript) × (caller_of J.world self.old.visit.caller ≡ IsScript s) }
+        ensures complete { IsComplete J.world J.run.roster self.new }
+        ensures same { IsSame self.old.visit self.new.visit }
+        ensures turn { (s : AnyScript) → caller_of J.world self.old.visit.caller ≡ IsScript s
+            → Operated J.world s.host request self.old.visit result self.new.visit }
+    {
+        calendars_stay_known();
+        turns_are_these();
+        effects_settle();
+        if self.owes() {
+            return Turn::Owes;
+        }
+        if self.pass.room(self.caller) == 0 {
+            return Turn::Limit;
+        }
+        let Planned {
+            actor,
+            event,
+            effect,
+        } = plan(self.host, &self.fids, request);
+        if reserve(&mut self.fids, &effect).is_err() {
             return Turn::Memory;
         }
-        *spot = locks.spot_of(planned.actor);
+        *spot = locks.spot_of(actor);
         let turn = locks.own(
             rt,
             gate,
@@ -138,31 +168,31 @@ impl<J: Naming + Placing> Bundle<J> {
             &mut self.touched,
             self.caller,
             self.now,
-            planned.actor,
-            planned.event,
+            actor,
+            event,
         );
-        settle_turn(&mut self.fids, request, &turn);
+        settle_turn(&mut self.fids, &effect, &turn);
         turn
     }
 }
 
-// Room for the name that a request may bind.
-fn reserve(fids: &mut Fids, request: &Request) -> Result<(), AllocError>
+// Room for the name that a reply may bind.
+fn reserve(fids: &mut Fids, effect: &Effect) -> Result<(), AllocError>
     ensures names { fids.new.names ≡ fids.old.names }
-    ensures ok { OnOk result ((r : AnyReply) → HasRoomFor fids.new (newly_bound fids.new.names request.now r)) }
+    ensures ok { OnOk result (effects.HasRoom effect.now fids.new) }
 {
-    match request {
-        Request::Open { name, .. } => fids.reserve(name.as_slice()),
+    match effect {
+        Effect::Opens { name, .. } => fids.reserve(name.as_slice()),
         _ => Ok(()),
     }
 }
 
-// The names after a turn with a request. There is room for what it binds.
-fn settle_turn(fids: &mut Fids, request: &Request, turn: &Turn)
-    requires { (r : AnyReply) → HasRoomFor fids.old (newly_bound fids.old.names request.now r) }
-    ensures { fids.new.names ≡ names_after fids.old.names request.now turn.now }
+// The names after a turn. There is room for what its reply binds.
+fn settle_turn(fids: &mut Fids, effect: &Effect, turn: &Turn)
+    requires { effects.HasRoom effect.now fids.old }
+    ensures { fids.new ≡ settled_by effect.now turn.now fids.old }
 {
     if let Turn::Recorded { reply, .. } = turn {
-        let _ = settle(fids, request, reply);
+        let _ = effect.settle(fids, effect.opened(reply));
     }
 }

@@ -1,5 +1,5 @@
 //! The task of a whole script.
-ghost use Rattle.std.specs.Prelude.{◌≡◌, ℕ, List, [], None, IfOk, OnOk, OnErr, option_map, slice_get};
+ghost use Rattle.std.specs.Prelude.{◌≡◌, ◌<◌, ℕ, List, [], None, IfOk, OnOk, OnErr, length, option_map, slice_get, true};
 ghost use Rattle.net_base.specs.declared.reply.Reply.{Reply};
 ghost use Rattle.net_base.specs.declared.world.Script.{Script};
 ghost use Rattle.net_base.specs.Next.{finished_by};
@@ -8,7 +8,7 @@ ghost use Rattle.dial_lib.specs.StepTasks.{begun};
 ghost use Rattle.whole_script.specs.ScriptTasks as spec;
 
 use crate::whole::WholeTask;
-use dial_lib::StepTask;
+use dial_lib::{StepTask, ends_by, first_request};
 use net_base::{Reply, Script, Step};
 use net_tree::Fids;
 use script_task::{Request, Task};
@@ -85,8 +85,8 @@ impl Task for ScriptTask<'_> {
     fn next(&self, alloc: Global, fids: &Fids) -> Result<Option<Request>, AllocError> {
         match &self.task {
             Some(task) => task.next(alloc, fids),
-            None => match first(alloc, self.steps, self.finished)? {
-                Some(task) => task.next(alloc, fids),
+            None => match self.steps.get(self.finished) {
+                Some(step) => first_request(alloc, fids, step),
                 None => Ok(None),
             },
         }
@@ -99,6 +99,10 @@ impl Task for ScriptTask<'_> {
 
     #[tactic(auto, using(crate::proofs::Played::begun_same, crate::proofs::Played::kept_begun, crate::proofs::Played::kept_none))]
     fn told(&mut self, alloc: Global, reply: Reply) -> Result<(), AllocError> {
+        if ends_so(self.steps, self.finished, &self.task, &reply) {
+            self.finished += 1;
+            return Ok(());
+        }
         begin(alloc, self.steps, self.finished, &mut self.task)?;
         hear(alloc, &mut self.task, reply)?;
         if is_played(&self.task) {
@@ -120,6 +124,22 @@ impl WholeTask for ScriptTask<'_> {
 
     fn finished(&self) -> usize {
         ScriptTask::finished(self)
+    }
+}
+
+// Whether a step is left that hasn't begun, and is through after this reply.
+fn ends_so(steps: &[Step], finished: usize, task: &Option<StepTask>, reply: &Reply) -> bool
+    ensures none { result ≡ true → task.now ≡ None }
+    ensures left { result ≡ true → finished < length steps.now }
+    ensures ends { result ≡ true → (names : List Bound)
+        → spec.is_played (spec.heard (spec.begun_by task.now (slice_get steps.now finished)) reply.now) names ≡ true }
+{
+    if task.is_some() {
+        return false;
+    }
+    match steps.get(finished) {
+        Some(step) => ends_by(step, reply),
+        None => false,
     }
 }
 
