@@ -5,7 +5,6 @@ ghost use Rattle.net_base.specs.Steps as steps;
 ghost use Rattle.net_base.specs.Steps.{Bound};
 ghost use Rattle.net_base.specs.declared.names.Mode.TheVariants as mode;
 ghost use Rattle.net_base.specs.declared.world.Step.TheVariants as step;
-ghost use Rattle.script_task.specs.declared.request.Request.{Request as AnyRequest};
 ghost use Rattle.dial_lib.specs.Slots.{HaveSlots};
 ghost use Rattle.dial_lib.specs.StepTasks as spec;
 
@@ -101,12 +100,21 @@ fn begin(alloc: Global, step: &Step) -> Result<StepTask, AllocError>
     ensures { IfOk result (λ t. t ≡ spec.begun step.now) }
 {
     match step {
-        Step::Open { .. }
-        | Step::Read { .. }
-        | Step::Close { .. }
-        | Step::Ls { .. }
-        | Step::Cs { .. }
-        | Step::Until { .. } => Ok(once(only_request(step)?)),
+        Step::Open { name, path, mode } => Ok(once(open(name, path, *mode)?)),
+        Step::Read { name, count } => Ok(once(Request::Read {
+            name: name.clone()?,
+            count: *count,
+        })),
+        Step::Close { name } => Ok(once(Request::Close {
+            name: name.clone()?,
+        })),
+        Step::Ls { path } => Ok(once(Request::Ls {
+            path: path.clone()?,
+        })),
+        Step::Cs { query } => Ok(once(Request::Cs {
+            query: query.clone()?,
+        })),
+        Step::Until { moment } => Ok(once(Request::Until { moment: *moment })),
         Step::Write { name, text } => write(name, text),
         Step::Writex { name, text } => write(name, text),
         Step::Dial { name, address } => Ok(StepTask::Dial(Dial::new(
@@ -139,12 +147,11 @@ pub fn first_request(alloc: Global, fids: &Fids, step: &Step) -> Result<Option<R
     ensures { IfOk result (λ q. q ≡ spec.asks (spec.begun step.now) fids.now.names) }
 {
     match step {
-        Step::Open { .. }
-        | Step::Read { .. }
-        | Step::Close { .. }
-        | Step::Ls { .. }
-        | Step::Cs { .. }
-        | Step::Until { .. } => Ok(Some(only_request(step)?)),
+        Step::Open { name, path, mode } => Ok(Some(open(name, path, *mode)?)),
+        Step::Read { name, count } => Ok(Some(Request::Read {
+            name: name.clone()?,
+            count: *count,
+        })),
         Step::Write { name, text } => Ok(Some(Request::Write {
             name: name.clone()?,
             text: text.clone()?,
@@ -153,6 +160,7 @@ pub fn first_request(alloc: Global, fids: &Fids, step: &Step) -> Result<Option<R
             name: name.clone()?,
             text: text.clone()?,
         })),
+        Step::Until { moment } => Ok(Some(Request::Until { moment: *moment })),
         _ => begin(alloc, step)?.next(alloc, fids),
     }
 }
@@ -170,25 +178,6 @@ pub fn ends_by(step: &Step, reply: &Reply) -> bool
         | Step::Until { .. } => true,
         Step::Write { .. } | Step::Writex { .. } | Step::Hangup { .. } => !is_granted(reply),
         _ => false,
-    }
-}
-
-// The request of a step of one.
-fn only_request(step: &Step) -> Result<Request, AllocError>
-    requires { (q : AnyRequest) × (spec.begun step.now ≡ spec.asks_once q) }
-    ensures { IfOk result (λ q. spec.begun step.now ≡ spec.asks_once q) }
-{
-    match step {
-        Step::Open { name, path, mode } => open(name, path, *mode),
-        Step::Read { name, count } => Ok(Request::Read {
-            name: name.clone()?,
-            count: *count,
-        }),
-        Step::Close { name } => Ok(Request::Close { name: name.clone()? }),
-        Step::Ls { path } => Ok(Request::Ls { path: path.clone()? }),
-        Step::Cs { query } => Ok(Request::Cs { query: query.clone()? }),
-        Step::Until { moment } => Ok(Request::Until { moment: *moment }),
-        _ => unreachable!(),
     }
 }
 
