@@ -121,7 +121,9 @@ impl<J: Naming + Placing> Net<J, WorldActor<J>> {
         ensures turn { (s : AnyScript) → caller_of J.world guest.old.caller ≡ IsScript s
             → Operated J.world s.host request guest.old result guest.new }
     {
-        guest.bundle.operate_once(rt, gate, &self.locks, request, spot)
+        guest
+            .bundle
+            .operate_once(rt, gate, &self.locks, request, spot)
     }
 
     // What the clock does, where its guest's pass holds the numbers of all callers and they stand so.
