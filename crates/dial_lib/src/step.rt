@@ -105,6 +105,8 @@ fn begin(alloc: Global, step: &Step) -> Result<StepTask, AllocError>
             name: name.clone()?,
             count: *count,
         })),
+        Step::Write { name, text } => write(name, text),
+        Step::Writex { name, text } => write(name, text),
         Step::Close { name } => Ok(once(Request::Close {
             name: name.clone()?,
         })),
@@ -115,8 +117,6 @@ fn begin(alloc: Global, step: &Step) -> Result<StepTask, AllocError>
             query: query.clone()?,
         })),
         Step::Until { moment } => Ok(once(Request::Until { moment: *moment })),
-        Step::Write { name, text } => write(name, text),
-        Step::Writex { name, text } => write(name, text),
         Step::Dial { name, address } => Ok(StepTask::Dial(Dial::new(
             alloc,
             name.as_slice(),
