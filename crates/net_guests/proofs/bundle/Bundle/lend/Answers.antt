@@ -10,20 +10,14 @@ pub hand_over-requires : goal.hand_over-requires
 hand_over-requires g c =
     let w = g.J.Placing.world in
     let r = g.J.Naming.run.roster in
-    let law = c.guests_hand_over.ensures in
-    let me = c.self.inside in
-    let clock = c.clock.inside in
     let is = subst (λ (b : Carried). IsComplete w r b) (sym c.self.view_is) c.requires.complete in
-    let mine = visit me.caller me.now me.pass me.duties.list me.fids.names in
     (is.guest.list, is.guest.held)
 
 pub returns-clause-away : goal.returns-clause-away
 returns-clause-away g c =
     let w = g.J.Placing.world in
     let r = g.J.Naming.run.roster in
-    let law = c.guests_hand_over.ensures in
     let me = c.self.inside in
-    let clock = c.clock.inside in
     let is = subst (λ (b : Carried). IsComplete w r b) (sym c.self.view_is) c.requires.complete in
     let mine = visit me.caller me.now me.pass me.duties.list me.fids.names in
     let away : IsAway w mine (record {
@@ -78,9 +72,4 @@ returns-clause-complete g c =
 
 pub returns-clause-same : goal.returns-clause-same
 returns-clause-same g c =
-    let w = g.J.Placing.world in
-    let r = g.J.Naming.run.roster in
-    let law = c.guests_hand_over.ensures in
-    let me = c.self.inside in
-    let clock = c.clock.inside in
     ap (λ (b : Carried). visit b.visit.caller b.visit.now c.hand_over.new.to b.visit.owed b.visit.names) c.clock.view_is

@@ -12,10 +12,7 @@ pub hand_over-requires : goal.hand_over-requires
 hand_over-requires g c =
     let w = g.J.Placing.world in
     let r = g.J.Naming.run.roster in
-    let law = c.guests_hand_over.ensures in
-    let me = c.self.inside in
     let clock = c.clock.inside in
-    let had = subst (λ (b : Carried). IsComplete w r b) (sym c.clock.view_is) c.requires.clock in
     let v = c.requires.away.0 in
     let away = c.requires.away.1 in
     let with = subst (λ (b : Carried). IsWith w r v b.visit.sight) (sym c.clock.view_is) c.requires.away.2 in
@@ -42,11 +39,6 @@ returns-clause-complete g c =
 
 pub returns-clause-back : goal.returns-clause-back
 returns-clause-back g c =
-    let w = g.J.Placing.world in
-    let r = g.J.Naming.run.roster in
-    let law = c.guests_hand_over.ensures in
-    let me = c.self.inside in
-    let clock = c.clock.inside in
     record {
       caller = ap (λ (b : Carried). b.visit.caller) c.self.view_is;
       now_is = ap (λ (b : Carried). b.visit.now) c.clock.view_is;
@@ -92,18 +84,8 @@ returns-clause-clock g c =
 
 pub returns-clause-same : goal.returns-clause-same
 returns-clause-same g c =
-    let w = g.J.Placing.world in
-    let r = g.J.Naming.run.roster in
-    let law = c.guests_hand_over.ensures in
-    let me = c.self.inside in
-    let clock = c.clock.inside in
     ap (λ (b : Carried). visit b.visit.caller b.visit.now c.hand_over.new.from b.visit.owed b.visit.names) c.clock.view_is
 
 pub returns-clause-seen : goal.returns-clause-seen
 returns-clause-seen g c =
-    let w = g.J.Placing.world in
-    let r = g.J.Naming.run.roster in
-    let law = c.guests_hand_over.ensures in
-    let me = c.self.inside in
-    let clock = c.clock.inside in
     c.hand_over.ensures.left_seen ∙ ap (λ (b : Carried). b.visit.sight.seen) c.clock.view_is
