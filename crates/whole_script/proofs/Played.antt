@@ -2,7 +2,7 @@
 use Rattle.std.proofs.Common.{◌≡◌, ℕ, zero, suc, ◌+◌, ◌<◌, ◌∙◌, Bool, true, false, List, [], ◌∷◌, ◌++◌, drop, length, Option, Some, None, slice_get, is_none, is_some, nat_lt, nat_le, option_map, refl, sym, ap, subst, rules, tests, arith}
 use Rattle.std.proofs.lemmas.Bool.Decides.{nat_tests}
 use Rattle.std.proofs.lemmas.Bool.{true≢false}
-use Rattle.std.proofs.lemmas.Option.{none-some, same_Some}
+use Rattle.std.proofs.lemmas.Option.{none-some}
 use Rattle.net_base.specs.declared.reply.Reply.{Reply}
 use Rattle.net_base.specs.declared.world.Script.{Script}
 use Rattle.net_base.specs.declared.world.Step.{Step}
@@ -269,11 +269,11 @@ module _ (n : ℕ) (t v : Option StepTask) (ss : List Step) (r : Reply) (through
     (tells : (names : List Bound) → through ≡ is_played (told_by t (slice_get ss n) r) names) where
   -- the step that is through is one of the script
   pub has_room : Kept n t ss → through ≡ true → n < length ss
-  has_room kept yes = room_by n (begun_by t (slice_get ss n)) ss r (kept_by n t ss kept) (sym yes ∙ tells [])
+  has_room kept over = room_by n (begun_by t (slice_get ss n)) ss r (kept_by n t ss kept) (sym over ∙ tells [])
 
   pub told_through : through ≡ true → progress (n + 1) None (drop (n + 1) ss) ≡ after (progress n t (drop n ss)) r
-  told_through yes =
-      through_by n (begun_by t (slice_get ss n)) ss r (sym yes ∙ tells []) ∙ ap (λ (x : Scripting). after x r) (begun_same n t ss)
+  told_through over =
+      through_by n (begun_by t (slice_get ss n)) ss r (sym over ∙ tells []) ∙ ap (λ (x : Scripting). after x r) (begun_same n t ss)
 
   module _ (on : through ≡ false → v ≡ told_by t (slice_get ss n) r) (no : through ≡ false) where
     pub kept_told : Kept n t ss → Kept n v ss
@@ -305,4 +305,4 @@ tells_told t u v o r b is told tells names = tells names ∙ ap (λ (x : Option 
 pub ends_step : (o : Option Step) (s : Step) (r : Reply) (b : Bool) → o ≡ Some s
     → (b ≡ true → (names : List Bound) → step.asks (step.after (step.begun s) r) names ≡ None)
     → b ≡ true → (names : List Bound) → is_played (told_by None o r) names ≡ true
-ends_step o s r b is ends yes names = ap (λ (x : Option Step). is_played (told_by None x r) names) is ∙ ap is_none (ends yes names)
+ends_step o s r b is ends over names = ap (λ (x : Option Step). is_played (told_by None x r) names) is ∙ ap is_none (ends over names)
