@@ -1,7 +1,6 @@
 use Rattle.std.proofs.Common.{refl, ap, sym, subst}
-use Rattle.guest_laws.specs.Guests.{IsGuest}
 use Rattle.net_guests.specs.Lent.{IsAway}
-use Rattle.net_guests.specs.Visits.{Carried, IsComplete, IsWith, Visit}
+use Rattle.net_guests.specs.Visits.{Carried, IsComplete, IsWith}
 use Rattle.net_guests.proofs.Returning.{clock_with, had_still, lent_one}
 use Rattle.net_guests.proofs.Operating.{visit}
 use Rattle.net_guests.proofs.bundle.Bundle.lend.Goals as goal

@@ -1,8 +1,7 @@
-use Rattle.std.proofs.Common.{◌≡◌, ◌==◌, false, List, ℕ, refl, ap, sym, subst, ◌∙◌}
+use Rattle.std.proofs.Common.{◌≡◌, ◌==◌, false, List, ℕ, ap, sym, subst, ◌∙◌}
 use Rattle.net_base.specs.declared.noted.Noted.{Noted}
-use Rattle.journal.specs.declared.tokens.Sight.{Sight}
 use Rattle.journal.specs.Tokens.{Holds}
-use Rattle.net_guests.specs.Lent.{IsAway, IsBack}
+use Rattle.net_guests.specs.Lent.{IsAway}
 use Rattle.net_guests.specs.Visits.{Carried, IsComplete, IsWith, Visit}
 use Rattle.net_guests.proofs.Returning.{clock_after, me_visits, others_stay, returned}
 use Rattle.net_guests.proofs.Operating.{visit}
