@@ -1,4 +1,4 @@
-use Rattle.std.proofs.Common.{◌≡◌, ℕ, ◌==◌, ◌++◌, ◌∷◌, ◌+◌, ◌<◌, true, false, [], length, List, refl, ap, sym, subst, ◌∙◌, arith}
+use Rattle.std.proofs.Common.{◌≡◌, ◌==◌, ◌++◌, ◌∷◌, ◌+◌, ◌<◌, true, false, [], length, List, ap, sym, subst, ◌∙◌, arith}
 use Rattle.net_base.specs.Callers.{caller_of}
 use Rattle.host_net.specs.declared.player.Player.TheInside.{Inside}
 use Rattle.host_net.proofs.Continuing.{own_stays}
