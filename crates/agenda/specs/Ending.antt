@@ -6,7 +6,7 @@ use Rattle.net_base.specs.Net.{Net}
 use Rattle.agenda.specs.declared.outcome.RunEnd.{RunEnd}
 use Rattle.agenda.specs.declared.outcome.RunEnd.TheVariants as ends
 use Rattle.host_net.specs.Advancing.{AfterAll}
-use Rattle.host_net.specs.Visits.{Visit}
+use Rattle.net_guests.specs.Visits.{Visit}
 
 -- how the net stands that a run leaves
 abbrev pub EndsSo : World → Net → RunEnd → Type 0

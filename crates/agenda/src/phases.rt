@@ -10,7 +10,7 @@ ghost use Rattle.net_model.specs.Headline.{Headline};
 ghost use Rattle.whole_script.specs.ScriptTasks.{Plays};
 ghost use Rattle.host_net.specs.Groups.{all_members, visits};
 ghost use Rattle.net_locks.specs.Rosters.{IsRosterOf};
-ghost use Rattle.host_net.specs.Visits.{AreFresh};
+ghost use Rattle.net_guests.specs.Visits.{AreFresh};
 ghost use Rattle.agenda.specs.Ending.{EndAllSo, EndsSo};
 
 use crate::outcome::{Run, RunEnd, RunError};

@@ -22,10 +22,10 @@ use Rattle.net_base.specs.Stamped.{In, entries_from, of_caller}
 use Rattle.net_base.specs.Steps.{Bound}
 use Rattle.net_base.specs.Summary.{answered_by, answered_steps}
 use Rattle.guest_laws.specs.Works.{entries}
-use Rattle.host_net.proofs.Handing.{apart_test, in_back, in_front}
+use Rattle.net_guests.proofs.Handing.{apart_test, in_back, in_front}
 use Rattle.host_net.proofs.Histories.{lists_are}
 use Rattle.host_net.proofs.Joining.{get_index}
-use Rattle.host_net.proofs.Passes.{last_or}
+use Rattle.net_guests.proofs.Passes.{last_or}
 use Rattle.host_net.proofs.Seating.{get_seats, in_parts, seats_long}
 use Rattle.host_net.proofs.Standings.{no_script, seats_in}
 use Rattle.host_net.proofs.Taking.{not_itself, visit_in, with_front}
@@ -33,7 +33,7 @@ use Rattle.host_net.specs.Answering.{AreAfter, CannotTell, CannotTellOf, CanTell
 use Rattle.host_net.specs.Groups.{Grouped, IsDealt, NotIn, Seats, all_callers, all_members, all_seats, caller, callers_in, callers_of}
 use Rattle.host_net.specs.Groups.{members, seats, visits, with_last}
 use Rattle.host_net.specs.Playing.{IsCounted, Playing, replies_of}
-use Rattle.host_net.specs.Visits.{Visit}
+use Rattle.net_guests.specs.Visits.{Visit}
 
 -- One player.
 

@@ -8,7 +8,7 @@ use Rattle.host_net.specs.Groups.{Grouped, Grouping, IsDealt, all_seats, caller,
 use Rattle.host_net.specs.Playing.{HasRole, Playing}
 use Rattle.host_net.proofs.Naming.{one_clock}
 use Rattle.host_net.proofs.Seating.{alone_at, dealt_more, set_joined, visits_more}
-use Rattle.host_net.specs.Visits.{Visit}
+use Rattle.net_guests.specs.Visits.{Visit}
 use Rattle.std.proofs.lemmas.List.{append-nil}
 
 pub get_index : {A : Type 0} (xs : List A) (k : ℕ) (d : A) → k < length xs → slice_get xs k ≡ Some (slice_index_or xs k d)

@@ -16,7 +16,7 @@ use Rattle.host_net.specs.Groups.{Apart, AreUpTo, AreWaiting, Grouped, Inserts, 
 use Rattle.host_net.specs.Groups.{all_seats, caller, callers_in, callers_of, joined, joined_as, joined_at, members, seats, visits}
 use Rattle.host_net.specs.Groups.{with_last}
 use Rattle.host_net.specs.Playing.{ArePlayed, HasRole, IsPlayed, IsWaiting, Playing}
-use Rattle.host_net.specs.Visits.{HasGuest, Visit}
+use Rattle.net_guests.specs.Visits.{HasGuest, Visit}
 
 -- Members of lists.
 

@@ -10,7 +10,7 @@ ghost use Rattle.net_base.specs.Summary.{answered_steps};
 ghost use Rattle.host_net.specs.Answering.{AreAfter, CannotTellOf, IsAnsweredOf, SomeCannotTell};
 ghost use Rattle.host_net.specs.Groups.{AreWaiting, all_members, all_seats, caller, callers_of, dealt, joined, members, no_players, seats, visits, with_last};
 ghost use Rattle.host_net.specs.Playing.{ArePlayed, IsSamePlayer, IsWaiting};
-ghost use Rattle.host_net.specs.Visits.{HasGuest};
+ghost use Rattle.net_guests.specs.Visits.{HasGuest};
 ghost use Rattle.host_net.specs.declared.player.Played.TheVariants as played;
 ghost use Rattle.host_net.specs.declared.player.Role.TheVariants as role;
 ghost use Rattle.host_net.specs.declared.players.Round.TheVariants.{Whole};
