@@ -1,4 +1,4 @@
-use Rattle.std.proofs.Common.{◌+◌, ℕ, [], ◌∷◌, length, length-append, ap, sym, subst, ◌∙◌, arith}
+use Rattle.std.proofs.Common.{◌+◌, ◌<◌, ℕ, [], ◌∷◌, length, length-append, ap, sym, subst, ◌∙◌, arith}
 use Rattle.host_net.specs.Groups.{callers_in, seats}
 use Rattle.host_net.proofs.Seating.{AreEmpty, empty_more, none_dealt, none_follow}
 use Rattle.host_net.proofs.players.Players.new.Goals as goal
@@ -15,5 +15,5 @@ loop-preserved g c = (
 
 pub invariant_of-result : goal.invariant_of-result
 invariant_of-result g c =
-    let some = omega (arith, c.loop.invariant.0, c.loop-test.false, c.requires) in
+    let some : 0 < length c.loop.all.items = omega (arith, c.loop.invariant.0, c.loop-test.false, c.requires) in
     (none_dealt g.J.Placing.world c.loop.all.items some c.loop.invariant.1, none_follow c.args.deal.items c.loop.all.items c.loop.invariant.1)
