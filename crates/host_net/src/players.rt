@@ -31,6 +31,9 @@ use std::thread::Threads;
 use whole_script::WholeTask as Task;
 use workers::{Crew, Pace, Shift};
 
+/// As how many calls in vain one counts whose workers waited for one another most of the time.
+const VAIN_CALLS: u32 = 8;
+
 /// The players of one worker. The clock's stands by itself, in one of the groups.
 #[derive(Drop)]
 pub struct Group<J: Naming + Placing, T: Task> {
@@ -295,6 +298,17 @@ fn count(going: &mut usize, turns: Played) {
     }
 }
 
+// Whether a call paid. One whose workers waited for one another counts as several in vain.
+fn learn<R: Wait>(rt: &R, pace: &mut Pace, crew: &Crew) {
+    let waited = crew.has_waited(rt);
+    pace.learn(!waited && crew.has_paid(rt));
+    if waited {
+        for _ in 1..VAIN_CALLS {
+            pace.learn(false);
+        }
+    }
+}
+
 impl<J: Naming + Placing> Net<J, WorldActor<J>> {
     /// The caller plays all players, and where those of several groups go on for long, each group is played by a worker.
     /// Unless memory ran out, each player waits then.
@@ -430,7 +444,7 @@ impl<J: Naming + Placing> Net<J, WorldActor<J>> {
         }
         let crew = Crew::new(groups.len());
         self.play_each_beside(rt, alloc, gate, &crew, groups);
-        pace.learn(crew.has_paid(rt));
+        learn(rt, pace, &crew);
     }
 
     fn play_each_beside<R: Threads + Wait + Sync, G: Gate + Sync, T: Task + Drop + Send>(
@@ -522,7 +536,9 @@ impl<J: Naming + Placing> Net<J, WorldActor<J>> {
         shift: &mut Shift,
         group: &Group<J, T>,
     ) -> bool {
-        crew.tell(rt, shift);
+        if !crew.tell(rt, shift) {
+            return false;
+        }
         for _ in rt.forever() {
             let (changes, looks) = crew.look(rt);
             if self.goes_on_soon(group, looks) {
