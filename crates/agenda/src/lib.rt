@@ -1,6 +1,7 @@
 //! Runs the scripts of a world on any number of workers.
 #![tactic(auto)]
 
+mod deal;
 mod outcome;
 mod phases;
 

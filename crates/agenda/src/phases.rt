@@ -13,6 +13,7 @@ ghost use Rattle.net_locks.specs.Rosters.{IsRosterOf};
 ghost use Rattle.net_guests.specs.Visits.{AreFresh};
 ghost use Rattle.agenda.specs.Ending.{EndAllSo, EndsSo};
 
+use crate::deal::{Deal, deal_of};
 use crate::outcome::{Run, RunEnd, RunError};
 use actor_machines::{Placing, WorldActor};
 use host_net::{Advance, Guest, Net, NetOpened, Player, Players};
@@ -69,7 +70,8 @@ fn run_named<J: Naming + Placing + Send + Sync, R: Threads + Wait + Sync, G: Gat
 {
     legal_histories_keep_it();
     let (net, guests) = Net::<J, WorldActor<J>>::named(alloc, world, opened)?;
-    let mut players = players_of(alloc, world, guests, workers)?;
+    let deal = deal_of(rt, alloc, world, workers)?;
+    let mut players = players_of(alloc, world, guests, deal)?;
     let end = phases(rt, alloc, world, gate, &net, &mut players)?;
     let Some(answered) = players.answered(world) else {
         return Err(AllocError);
@@ -83,21 +85,22 @@ fn run_named<J: Naming + Placing + Send + Sync, R: Threads + Wait + Sync, G: Gat
     })
 }
 
-// A player for each guest, in so many groups.
+// A player for each guest, in its group.
 fn players_of<'a, J: Naming + Placing>(
     alloc: Global,
     world: &'a World,
     guests: Vec<Guest<J>>,
-    workers: u32,
+    deal: Deal,
 ) -> Result<Players<J, ScriptTask<'a>>, AllocError>
     requires world { J.world ≡ world.now }
     requires is { IsWorld world.now }
     requires roster { IsRosterOf J.world J.run.roster }
-    requires some { 0 < workers }
+    requires some { 0 < deal.groups }
     requires fresh { AreFresh 0 guests.items }
     ensures { IfOk result (λ players. players.callers ≡ length guests.items) }
 {
-    let mut players = Players::new(alloc, workers)?;
+    let Deal { groups, numbers } = deal;
+    let mut players = Players::new(alloc, groups, numbers)?;
     for guest in guests {
         let task = task_of(world, guest.caller());
         players.add(Player::counting(world, guest, task))?;

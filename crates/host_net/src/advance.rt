@@ -150,6 +150,7 @@ impl<J: Naming + Placing> Net<J, WorldActor<J>> {
         requires is { IsWorld world.now }
         requires all { players.old.callers ≡ J.run.roster.callers }
         ensures callers { players.new.callers ≡ players.old.callers }
+        ensures deal { players.new.deal ≡ players.old.deal }
         ensures seats { all_seats players.new.groups ≡ all_seats players.old.groups }
         ensures kept { GroupsAreKept J.world players.old.groups result players.new.groups }
         ensures moment { StayAtOnce result (visits (all_members players.old.groups))
