@@ -4,5 +4,6 @@
 mod outcome;
 mod phases;
 
-pub use outcome::{Run, RunEnd, RunError};
-pub use phases::run;
+pub use outcome::{BookedRun, Run, RunError};
+pub use phases::{run, run_in_books};
+pub use run_record::RunEnd;

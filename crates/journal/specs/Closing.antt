@@ -1,5 +1,5 @@
 -- What the whole history says of the pass and the books that it was made from.
-use Rattle.std.specs.Prelude.{◌≡◌, ℕ, ◌⊎◌, List, [], ◌∷◌, map, slice_set}
+use Rattle.std.specs.Prelude.{◌≡◌, ℕ, ◌⊎◌, List, [], ◌∷◌, map}
 use mathlib.Core.Option.{some}
 use mathlib.Core.List.{IsPrefix}
 use lib.ListN.{get_elem?}
@@ -62,8 +62,3 @@ AreOf es ls = (e : Stamped) → IsLeft e ls → In e es
 -- what is in these lists stands at its stamp
 abbrev pub AreAt : List Entry → List (List Stamped) → Type 0
 AreAt log ls = (e : Stamped) → IsLeft e ls → get_elem? log e.stamp ≡ some e.entry
-
--- an order, with one place at the stamp of each of these entries
-abbrev pub with_place : ℕ → List Stamped → List ℕ → List ℕ
-with_place place [] order = order
-with_place place (e ∷ es) order = with_place place es (slice_set order e.stamp place)

@@ -1,6 +1,5 @@
 use Rattle.std.proofs.Common.{refl, List, [], ◌∷◌, ◌++◌, map, ap, sym, subst, ◌∙◌, append_assoc}
 use Rattle.std.proofs.lemmas.List.{append-nil}
-use Rattle.std.specs.Vec.Iter.{into_iter_items}
 use Rattle.journal.specs.declared.tokens.Stamped.{Stamped}
 use Rattle.journal.specs.declared.tokens.Volume.{Volume}
 use Rattle.journal.specs.Closing.{AreOf}
@@ -12,7 +11,7 @@ pub loop-book-init : goal.loop-book-init
 loop-book-init g c = (
   c.requires.seat,
   refl,
-  ([], [], append-nil c.args.books.items, gathered_none c.args.all.now.me.0, subst (λ (ls : List (List Stamped)). AreOf [] ls) (sym (ap (map into_iter_items) c.requires.none)) of_none),
+  ([], [], append-nil c.args.books.items, gathered_none c.args.all.now.me.0, subst (λ (ls : List (List Stamped)). AreOf [] ls) (sym c.requires.none) of_none),
 )
 
 pub loop-book-preserved : goal.loop-book-preserved
@@ -31,6 +30,6 @@ loop-book-preserved g c =
         sym (append_assoc c.pop.new.self.items (b ∷ []) inv.0) ∙ (ap (λ (l : List Volume). l ++ inv.0) (sym c.in-Some.ensures.items) ∙ inv.2),
         gathered_more v c.loop-book.all.me.0 w inv.0 b inv.1 inv.3 mine.taken,
         subst (λ (ls : List (List Stamped)). AreOf (inv.1 ++ map stamped b.list) ls) (sym mine.list)
-            (of_more inv.1 (map stamped b.list) (map into_iter_items c.loop-book.lists.items) inv.4),
+            (of_more inv.1 (map stamped b.list) c.loop-book.lists.items inv.4),
       ),
     )
