@@ -73,11 +73,13 @@ lines_of_both first middle last xs le le' within =
     ∙ ap (lines_from first) (part_both first middle last xs le le')
 
 -- a line more is written
-pub lines_next : (out was : List ℕ) (stamp last : ℕ) (xs : List Entry) (x : Entry) → slice_get xs stamp ≡ Some x → stamp < last
+pub lines_next : (out new was : List ℕ) (stamp last : ℕ) (xs : List Entry) (x : Entry) → slice_get xs stamp ≡ Some x → stamp < last
+    → new ≡ out ++ line_of stamp x
     → out ++ lines_from stamp (part stamp last xs) ≡ was
-    → (out ++ line_of stamp x) ++ lines_from (stamp + 1) (part (stamp + 1) last xs) ≡ was
-lines_next out was stamp last xs x is lt all =
-    append_assoc out (line_of stamp x) (lines_from (stamp + 1) (part (stamp + 1) last xs))
+    → new ++ lines_from (stamp + 1) (part (stamp + 1) last xs) ≡ was
+lines_next out new was stamp last xs x is lt more all =
+    ap (λ (l : List ℕ). l ++ lines_from (stamp + 1) (part (stamp + 1) last xs)) more
+    ∙ append_assoc out (line_of stamp x) (lines_from (stamp + 1) (part (stamp + 1) last xs))
     ∙ ap (λ (l : List Entry). out ++ lines_from stamp l) (sym (part_next stamp last xs x is lt)) ∙ all
 
 -- all are
