@@ -1,6 +1,6 @@
 -- Entries at their places.
-use Rattle.std.proofs.Common.{◌≡◌, ℕ, zero, suc, ◌+◌, ◌≤◌, List, [], ◌∷◌, length, drop, Option, Some, None, slice_get, inl, inr, refl, ap, sym, subst, ◌∙◌, arith}
-use Rattle.std.proofs.lemmas.List.{drop_all}
+use Rattle.std.proofs.Common.{◌≡◌, ℕ, zero, suc, ◌+◌, ◌<◌, ◌≤◌, ◌⊎◌, inl, inr, ⊎_elim, List, [], ◌∷◌, ◌++◌, length, take, Option, Some, None, slice_get, slice_set, refl, ap, sym, subst, ◌∙◌, arith}
+use Rattle.std.proofs.lemmas.List.{take_all}
 use Rattle.std.proofs.lemmas.Option.{none-some, same_Some}
 use mathlib.Core.Option.{some, some-injective}
 use lib.ListN.{get_elem?}
@@ -9,7 +9,8 @@ use Rattle.net_base.specs.Stamped.{In}
 use Rattle.journal.specs.declared.places.Place.{Place}
 use Rattle.journal.specs.declared.tokens.Stamped.{Stamped}
 use Rattle.journal.specs.Closing.{AreAt, IsLeft}
-use Rattle.journal.specs.Places.{AreThere, AreThereFrom, IsClosed, IsThere, entries_at, in_list, there, with_entry}
+use Rattle.journal.specs.Places.{ArePlaced, AreThere, AreThereFrom, IsClosed, IsThere, entries_at, in_list, there, with_entry}
+use Rattle.journal.proofs.Gathering.{left_append}
 
 -- What stands at a place.
 
@@ -66,19 +67,123 @@ pub closed_by : (ls : List (List Stamped)) (ps : List Place) (log : List Entry) 
 closed_by ls ps log all long at =
     record { all = all; only = subst (λ (l : List Entry). AreAt l ls) (sym (all_at ls ps log all long at)) at }
 
--- A look at each.
+-- Places that are noted.
 
-drop_one : (ps : List Place) (n : ℕ) (p : Place) → slice_get ps n ≡ Some p → drop n ps ≡ p ∷ drop (suc n) ps
-drop_one [] n p is = absurd (none-some p is)
-drop_one (q ∷ ps) zero p is = ap (λ (z : Place). z ∷ ps) (same_Some q p is)
-drop_one (q ∷ ps) (suc n) p is = drop_one ps n p is
+kept_at : (ls : List (List Stamped)) (es : List Stamped) (k at : ℕ) (e : Stamped) → in_list (slice_get ls k) at ≡ Some e
+    → in_list (slice_get (ls ++ es ∷ []) k) at ≡ Some e
+kept_at [] es k at e is = absurd (none-some e is)
+kept_at (l ∷ ls) es zero at e is = is
+kept_at (l ∷ ls) es (suc k) at e is = kept_at ls es k at e is
 
-pub there_more : (ls : List (List Stamped)) (ps : List Place) (n : ℕ) (p : Place) → slice_get ps n ≡ Some p → IsThere ls p n
-    → (AreThereFrom n ls (drop n ps) → AreThere ls ps) → AreThereFrom (n + 1) ls (drop (n + 1) ps) → AreThere ls ps
-there_more ls ps n p is own so rest =
-    let e : suc n ≡ n + 1 = omega arith in
-    let next : drop n ps ≡ p ∷ drop (n + 1) ps = subst (λ (k : ℕ). drop n ps ≡ p ∷ drop k ps) e (drop_one ps n p is) in
-    so (subst (λ (qs : List Place). AreThereFrom n ls qs) (sym next) (own, rest))
+last_at : (ls : List (List Stamped)) (es : List Stamped) (at : ℕ) (e : Stamped) → slice_get es at ≡ Some e
+    → in_list (slice_get (ls ++ es ∷ []) (length ls)) at ≡ Some e
+last_at [] es at e is = is
+last_at (l ∷ ls) es at e is = last_at ls es at e is
 
-pub there_all : (ls : List (List Stamped)) (ps : List Place) (n : ℕ) → length ps ≤ n → (AreThereFrom n ls (drop n ps) → AreThere ls ps) → AreThere ls ps
-there_all ls ps n le so = so (subst (λ (qs : List Place). AreThereFrom n ls qs) (sym (drop_all n ps le)) tt)
+got_set : (ps : List Place) (n : ℕ) (p : Place) → n < length ps → slice_get (slice_set ps n p) n ≡ Some p
+got_set [] n p lt = absurd (omega (arith, lt))
+got_set (q ∷ ps) zero p lt = refl
+got_set (q ∷ ps) (suc n) p lt = got_set ps n p (omega (arith, lt))
+
+got_other : (ps : List Place) (n m : ℕ) (p : Place) → (m ≡ n → ⊥) → slice_get (slice_set ps n p) m ≡ slice_get ps m
+got_other [] n m p other = refl
+got_other (q ∷ ps) zero zero p other = absurd (other refl)
+got_other (q ∷ ps) zero (suc m) p other = refl
+got_other (q ∷ ps) (suc n) zero p other = refl
+got_other (q ∷ ps) (suc n) (suc m) p other = got_other ps n m p (λ same. other (ap suc same))
+
+pub long_set : (ps : List Place) (n : ℕ) (p : Place) → length (slice_set ps n p) ≡ length ps
+long_set [] n p = refl
+long_set (q ∷ ps) zero p = refl
+long_set (q ∷ ps) (suc n) p = ap suc (long_set ps n p)
+
+in_take : (es : List Stamped) (j : ℕ) (x e : Stamped) → slice_get es j ≡ Some x → In e (take (suc j) es) → In e (take j es) ⊎ (e ≡ x)
+in_take [] j x e is i = absurd (none-some x is)
+in_take (y ∷ es) zero x e is (inl same) = inr (same ∙ same_Some y x is)
+in_take (y ∷ es) zero x e is (inr i) = absurd i
+in_take (y ∷ es) (suc j) x e is (inl same) = inl (inl same)
+in_take (y ∷ es) (suc j) x e is (inr i) = ⊎_elim (λ k. inl (inr k)) (λ same. inr same) (in_take es j x e is i)
+
+same_or_not : (m n : ℕ) → (m ≡ n) ⊎ (m ≡ n → ⊥)
+same_or_not zero zero = inl refl
+same_or_not zero (suc n) = inr (λ is. absurd (omega (arith, is)))
+same_or_not (suc m) zero = inr (λ is. absurd (omega (arith, is)))
+same_or_not (suc m) (suc n) = ⊎_elim (λ is. inl (ap suc is)) (λ not. inr (λ is. not (omega (arith, is)))) (same_or_not m n)
+
+-- the entries of the lists, and the first j of a list behind them, are placed
+abbrev pub PlacedSo : List (List Stamped) → List Stamped → ℕ → List Place → Type 0
+PlacedSo ls es j ps = (e : Stamped) → IsLeft e ls ⊎ In e (take j es) → e.stamp < length ps
+    → (p : Place) × (slice_get ps e.stamp ≡ Some p) × IsThere (ls ++ es ∷ []) p e.stamp
+
+pub placed_first : (ls : List (List Stamped)) (es : List Stamped) (ps : List Place) → ArePlaced ls ps → PlacedSo ls es 0 ps
+placed_first ls es ps placed e (inl i) lt =
+    let t = placed e i lt in
+    let f = t.2 in
+    (t.0, t.1, (f.0, kept_at ls es t.0.list t.0.at f.0 f.1, f.2))
+placed_first ls es ps placed e (inr i) lt = absurd i
+
+module _ (ls : List (List Stamped)) (es : List Stamped) (j : ℕ) (ps ps' : List Place) (x : Stamped) (k : ℕ)
+    (is : slice_get es j ≡ Some x) (behind : length ls ≡ k) (set : ps' ≡ slice_set ps x.stamp record { list = k; at = j })
+    (placed : PlacedSo ls es j ps) where
+  long : length ps' ≡ length ps
+  long = ap length set ∙ long_set ps x.stamp record { list = k; at = j }
+
+  of_this : (e : Stamped) → e.stamp ≡ x.stamp → e.stamp < length ps' → (p : Place) × (slice_get ps' e.stamp ≡ Some p) × IsThere (ls ++ es ∷ []) p e.stamp
+  of_this e same lt =
+      let p : Place = record { list = k; at = j } in
+      let within : x.stamp < length ps = omega (arith, lt, same, long) in
+      let there_is : slice_get ps' e.stamp ≡ Some p =
+      ap (λ (n : ℕ). slice_get ps' n) same ∙ ap (λ (qs : List Place). slice_get qs x.stamp) set ∙ got_set ps x.stamp p within in
+      let stands : there (ls ++ es ∷ []) p ≡ Some x =
+      subst (λ (n : ℕ). in_list (slice_get (ls ++ es ∷ []) n) j ≡ Some x) behind (last_at ls es j x is) in
+      (p, there_is, (x, stands, sym same))
+
+  of_others : (e : Stamped) → (e.stamp ≡ x.stamp → ⊥) → IsLeft e ls ⊎ In e (take (suc j) es) → e.stamp < length ps'
+      → (p : Place) × (slice_get ps' e.stamp ≡ Some p) × IsThere (ls ++ es ∷ []) p e.stamp
+  of_others e other which lt =
+      let before : IsLeft e ls ⊎ In e (take j es) =
+      ⊎_elim (λ i. inl i)
+      (λ i. ⊎_elim (λ h. inr h) (λ same. absurd (other (ap (λ (z : Stamped). z.stamp) same))) (in_take es j x e is i)) which in
+      let t = placed e before (omega (arith, lt, long)) in
+      let there_is : slice_get ps' e.stamp ≡ Some t.0 =
+      ap (λ (qs : List Place). slice_get qs e.stamp) set ∙ got_other ps x.stamp e.stamp record { list = k; at = j } other ∙ t.1 in
+      (t.0, there_is, t.2)
+
+  placed_one : PlacedSo ls es (suc j) ps'
+  placed_one e which lt = ⊎_elim (λ same. of_this e same lt) (λ other. of_others e other which lt) (same_or_not e.stamp x.stamp)
+
+  pub placed_next : PlacedSo ls es (j + 1) ps'
+  placed_next = let e : suc j ≡ j + 1 = omega arith in subst (λ (n : ℕ). PlacedSo ls es n ps') e placed_one
+
+pub placed_all : (ls : List (List Stamped)) (es : List Stamped) (n : ℕ) (ps : List Place) → length es ≤ n → PlacedSo ls es n ps → ArePlaced (ls ++ es ∷ []) ps
+placed_all ls es n ps le placed e i lt =
+    placed e (⊎_elim (λ h. inl h) (λ h. inr (subst (λ (l : List Stamped). In e l) (sym (take_all n es le)) h)) (left_append e ls es i)) lt
+
+-- where all entries of a history are placed, all stand there
+from_at : (n : ℕ) (ls : List (List Stamped)) (ps : List Place) → ((i : ℕ) → i < length ps → (p : Place) × (slice_get ps i ≡ Some p) × IsThere ls p (n + i))
+    → AreThereFrom n ls ps
+from_at n ls [] each = tt
+from_at n ls (q ∷ ps) each =
+    let t = each 0 (omega arith) in
+    let first : IsThere ls q (n + 0) = subst (λ (z : Place). IsThere ls z (n + 0)) (sym (same_Some q t.0 t.1)) t.2 in
+    let zero_more : n + 0 ≡ n = omega arith in (
+      subst (λ (m : ℕ). IsThere ls q m) zero_more first,
+      from_at (n + 1) ls ps (λ i lt.
+          let u = each (suc i) (omega (arith, lt)) in
+          let more : n + suc i ≡ n + 1 + i = omega arith in
+          (u.0, u.1, subst (λ (m : ℕ). IsThere ls u.0 m) more u.2)),
+    )
+
+got_in : (log : List Entry) (n : ℕ) → n < length log → (x : Entry) × (get_elem? log n ≡ some x)
+got_in [] n lt = absurd (omega (arith, lt))
+got_in (x ∷ log) zero lt = (x, refl)
+got_in (x ∷ log) (suc n) lt = got_in log n (omega (arith, lt))
+
+pub all_there : (ls : List (List Stamped)) (ps : List Place) (log : List Entry) → ArePlaced ls ps → length log ≡ length ps
+    → ((n : ℕ) (x : Entry) → get_elem? log n ≡ some x → IsLeft record { stamp = n; entry = x } ls) → AreThere ls ps
+all_there ls ps log placed long all =
+    from_at 0 ls ps (λ i lt.
+    let x = got_in log i (omega (arith, lt, long)) in
+    let t = placed record { stamp = i; entry = x.0 } (all i x.0 x.1) lt in
+    let same : i ≡ 0 + i = omega arith in
+    (t.0, t.1, subst (λ (m : ℕ). IsThere ls t.0 m) same t.2))

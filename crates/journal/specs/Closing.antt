@@ -59,6 +59,10 @@ IsLeft e (l ∷ ls) = In e l ⊎ IsLeft e ls
 abbrev pub AreOf : List Stamped → List (List Stamped) → Type 0
 AreOf es ls = (e : Stamped) → IsLeft e ls → In e es
 
+-- and all of them
+abbrev pub AreAllOf : List Stamped → List (List Stamped) → Type 0
+AreAllOf es ls = AreOf es ls × ((e : Stamped) → In e es → IsLeft e ls)
+
 -- what is in these lists stands at its stamp
 abbrev pub AreAt : List Entry → List (List Stamped) → Type 0
 AreAt log ls = (e : Stamped) → IsLeft e ls → get_elem? log e.stamp ≡ some e.entry

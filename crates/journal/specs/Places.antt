@@ -1,9 +1,9 @@
 -- A history by the lists of its actors' books, and the places of its entries there.
-use Rattle.std.specs.Prelude.{◌≡◌, ℕ, ◌+◌, List, [], ◌∷◌, Option, Some, None, slice_get}
+use Rattle.std.specs.Prelude.{◌≡◌, ℕ, ◌+◌, ◌<◌, List, [], ◌∷◌, length, Option, Some, None, slice_get}
 use Rattle.net_base.specs.declared.history.Entry.{Entry}
 use Rattle.journal.specs.declared.places.Place.{Place}
 use Rattle.journal.specs.declared.tokens.Stamped.{Stamped}
-use Rattle.journal.specs.Closing.{AreAt}
+use Rattle.journal.specs.Closing.{AreAt, IsLeft}
 
 -- what stands in a list, if there is one
 abbrev pub in_list : Option (List Stamped) → ℕ → Option Stamped
@@ -17,6 +17,10 @@ there ls p = in_list (slice_get ls p.list) p.at
 -- the entry of this stamp stands at the place
 abbrev pub IsThere : List (List Stamped) → Place → ℕ → Type 0
 IsThere ls p n = (e : Stamped) × (there ls p ≡ Some e) × (e.stamp ≡ n)
+
+-- each entry of the lists stands at its stamp's place, as far as the places reach
+abbrev pub ArePlaced : List (List Stamped) → List Place → Type 0
+ArePlaced ls ps = (e : Stamped) → IsLeft e ls → e.stamp < length ps → (p : Place) × (slice_get ps e.stamp ≡ Some p) × IsThere ls p e.stamp
 
 -- at these places stand the entries from the stamp n on
 abbrev pub AreThereFrom : ℕ → List (List Stamped) → List Place → Type 0

@@ -2,9 +2,10 @@
 ghost use Rattle.std.specs.Prelude.{◌≡◌, ◌≤◌, ◌<◌, List, length, IfOk, IfSome, IsNone, Some, slice_get};
 ghost use Rattle.net_base.specs.declared.history.Entry.{Entry as AnyEntry};
 ghost use Rattle.journal.specs.Closing.{AreAt};
+ghost use Rattle.journal.specs.Places.{AreThere};
 
 use crate::merging::{merge, opened};
-use crate::places::{Place, are_there, found_at};
+use crate::places::{Place, found_at};
 use crate::tokens::Stamped;
 use net_base::{Entry, History, Sequence};
 use run_record::Entries;
@@ -31,19 +32,13 @@ impl Model for ClosedBooks {
 }
 
 impl ClosedBooks {
-    // The lists of all books, whose entries are those of one history.
-    pub(crate) fn checked(
-        lists: Vec<Sequence<Stamped>>,
-        places: Vec<Place>,
-    ) -> Result<ClosedBooks, AllocError>
-        requires { (log : List AnyEntry) × (length log ≡ length places.items) × AreAt log lists.items }
-        ensures { IfOk result (λ closed. (log : List AnyEntry) → length log ≡ length places.items
-            → AreAt log lists.items → closed ≡ log) }
+    // The lists of all books, whose entries are those of one history, each at its stamp's place.
+    pub(crate) fn new(lists: Vec<Sequence<Stamped>>, places: Vec<Place>) -> ClosedBooks
+        requires all { AreThere lists.items places.items }
+        requires only { (log : List AnyEntry) × (length log ≡ length places.items) × AreAt log lists.items }
+        ensures { (log : List AnyEntry) → length log ≡ length places.items → AreAt log lists.items → result ≡ log }
     {
-        if !are_there(&lists, &places) {
-            return Err(AllocError);
-        }
-        Ok(ClosedBooks { lists, places })
+        ClosedBooks { lists, places }
     }
 
     /// How many entries.

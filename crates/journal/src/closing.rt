@@ -3,7 +3,8 @@ ghost use Rattle.std.specs.Prelude.{◌≡◌, ◌++◌, List, [], ◌∷◌, ma
 ghost use Rattle.journal.specs.declared.tokens.Stamped.{Stamped};
 ghost use Rattle.journal.specs.Rule.{IsSeat};
 ghost use Rattle.journal.specs.Tokens.{HoldsAll, stamped};
-ghost use Rattle.journal.specs.Closing.{Taken, Gathered, IsWhole, AreOf};
+ghost use Rattle.journal.specs.Closing.{Taken, Gathered, IsWhole, AreAllOf};
+ghost use Rattle.journal.specs.Places.{ArePlaced};
 
 use crate::closed::ClosedBooks;
 use crate::law::Naming;
@@ -51,7 +52,7 @@ impl<J: Naming> Journal<J> {
         self.gather(&mut all, books, &mut places, &mut lists)?;
         let Journal { table, of: _ } = self;
         table.close_with(all).free();
-        ClosedBooks::checked(lists, places)
+        Ok(ClosedBooks::new(lists, places))
     }
 
     // Takes the books' seats in. Their entries are in the lists, and at each of their stamps is their place.
@@ -67,7 +68,8 @@ impl<J: Naming> Journal<J> {
         ensures seat { IsSeat J.run.table all.new }
         ensures long { length places.new.items ≡ length places.old.items }
         ensures gathered { OnOk result ((es : List Stamped) × Gathered all.old.me.0 books.items all.new.me.0 es
-            × AreOf es lists.new.items) }
+            × AreAllOf es lists.new.items) }
+        ensures placed { OnOk result (ArePlaced lists.new.items places.new.items) }
     {
         while let Some(book) = books.pop() {
             self.gather_one(all, book, places, lists)?;
@@ -88,6 +90,8 @@ impl<J: Naming> Journal<J> {
         ensures long { length places.new.items ≡ length places.old.items }
         ensures taken { OnOk result (Taken all.old.me.0 book all.new.me.0) }
         ensures list { OnOk result (lists.new.items ≡ lists.old.items ++ map stamped book.list ∷ []) }
+        ensures placed { OnOk result (ArePlaced lists.old.items places.old.items
+            → ArePlaced lists.new.items places.new.items) }
     {
         let Book {
             badge,
@@ -96,9 +100,12 @@ impl<J: Naming> Journal<J> {
             entries,
             of: _,
         } = book;
+        let Ok(list) = u32::try_from(lists.len()) else {
+            return Err(AllocError);
+        };
         self.take_in(all, badge.into_seat());
         self.watch(all);
-        note(&entries, lists.len(), places);
+        note(&entries, list, places);
         Ok(lists.push(Sequence::from_vec(entries))?)
     }
 }

@@ -37,7 +37,7 @@ pub(crate) fn merge(
 {
     while history.len() < places.len() {
         let stamp = history.len();
-        let Some(next) = next_of(&mut lists, places[stamp].list()) else {
+        let Some(next) = next_of(&mut lists, places[stamp].list as usize) else {
             return Err(AllocError);
         };
         history.push(entry_of(next, stamp)?)?;

@@ -1,6 +1,7 @@
 // Where entries stand in the lists of closed books.
-ghost use Rattle.std.specs.Prelude.{◌≡◌, length, IfOk, IfSome, IsNone, Some, None, true};
-ghost use Rattle.journal.specs.Places.{AreThere, IsThere, there};
+ghost use Rattle.std.specs.Prelude.{◌≡◌, ◌<◌, ◌^◌, ◌++◌, ◌∷◌, [], List, length, slice_set, IfOk, IfSome, IsNone, Some, None};
+ghost use Rattle.journal.specs.declared.tokens.Stamped.{Stamped as AnyStamped};
+ghost use Rattle.journal.specs.Places.{ArePlaced, there};
 
 use crate::tokens::Stamped;
 use net_base::Sequence;
@@ -9,8 +10,8 @@ use std::alloc::{AllocError, Global};
 /// The place of an entry: its list, and where it stands there.
 #[derive(Clone, Copy, Debug)]
 pub struct Place {
-    list: u32,
-    at: u32,
+    pub(crate) list: u32,
+    pub(crate) at: u32,
 }
 
 // So many places at which no entry is yet.
@@ -22,32 +23,34 @@ pub(crate) fn nowhere(alloc: Global, count: usize) -> Result<Vec<Place>, AllocEr
     Ok(places)
 }
 
-// Notes where the entries of a list stand.
-pub(crate) fn note(entries: &[Stamped], list: usize, places: &mut Vec<Place>)
-    ensures { length places.new.items ≡ length places.old.items }
+// Notes where the entries of a list stand, which comes behind so many others.
+pub(crate) fn note(entries: &[Stamped], list: u32, places: &mut Vec<Place>)
+    requires short { length entries.now < 2 ^ 32 }
+    ensures long { length places.new.items ≡ length places.old.items }
+    ensures placed { (ls : List (List AnyStamped)) → length ls ≡ list → ArePlaced ls places.old.items
+        → ArePlaced (ls ++ entries.now ∷ []) places.new.items }
 {
     for (at, entry) in entries.iter().enumerate() {
-        note_at(entry.stamp as usize, list, at, places);
+        note_at(
+            entry.stamp as usize,
+            Place {
+                list,
+                at: at as u32,
+            },
+            places,
+        );
     }
 }
 
-// Notes the place of an entry, where the places reach so far and its numbers fit.
-fn note_at(stamp: usize, list: usize, at: usize, places: &mut Vec<Place>)
-    ensures { length places.new.items ≡ length places.old.items }
+// Notes a place at one stamp, where the places reach so far.
+#[tactic(auto, using(crate::proofs::Lists::set_outside))]
+fn note_at(stamp: usize, place: Place, places: &mut Vec<Place>)
+    ensures { places.new.items ≡ slice_set places.old.items stamp place }
 {
-    let (Ok(list), Ok(at)) = (u32::try_from(list), u32::try_from(at)) else {
+    if stamp >= places.len() {
         return;
-    };
-    if stamp < places.len() {
-        places[stamp] = Place { list, at };
     }
-}
-
-impl Place {
-    // Which list.
-    pub(crate) fn list(self) -> usize {
-        self.list as usize
-    }
+    places[stamp] = place;
 }
 
 // What stands at a place.
@@ -57,25 +60,4 @@ pub(crate) fn found_at(lists: &[Sequence<Stamped>], place: Place) -> Option<&Sta
 {
     let list = lists.get(place.list as usize)?;
     list.as_slice().get(place.at as usize)
-}
-
-// Whether at each stamp's place is an entry of that stamp, which is always so: that is seen here.
-pub(crate) fn are_there(lists: &[Sequence<Stamped>], places: &[Place]) -> bool
-    ensures { result ≡ true → AreThere lists.now places.now }
-{
-    for (stamp, place) in places.iter().enumerate() {
-        if !is_there(lists, *place, stamp as u64) {
-            return false;
-        }
-    }
-    true
-}
-
-fn is_there(lists: &[Sequence<Stamped>], place: Place, stamp: u64) -> bool
-    ensures { result ≡ true → IsThere lists.now place stamp }
-{
-    match found_at(lists, place) {
-        Some(own) => own.stamp == stamp,
-        None => false,
-    }
 }
