@@ -120,7 +120,7 @@ covers r log v0 v books es g lists lawful actors = record {
 -- Lists of entries.
 
 pub of_none : AreAllOf [] []
-of_none = (λ e i. absurd i, λ e i. absurd i)
+of_none = record { only = λ e i. absurd i; all = λ e i. absurd i }
 
 pub left_append : (e : Stamped) (ls : List (List Stamped)) (l : List Stamped) → IsLeft e (ls ++ l ∷ []) → IsLeft e ls ⊎ In e l
 left_append e [] l (inl i) = inr i
@@ -138,10 +138,10 @@ left_last e [] l i = inl i
 left_last e (k ∷ ls) l i = inr (left_last e ls l i)
 
 pub of_more : (es fs : List Stamped) (ls : List (List Stamped)) → AreAllOf es ls → AreAllOf (es ++ fs) (ls ++ fs ∷ [])
-of_more es fs ls (are, all) = (
-  λ e i. ⊎_elim (λ j. in-left e es fs (are e j)) (λ j. in-right e es fs j) (left_append e ls fs i),
-  λ e i. ⊎_elim (λ j. left_of e ls fs (all e j)) (λ j. left_last e ls fs j) (in-append e es fs i),
-)
+of_more es fs ls are = record {
+  only = λ e i. ⊎_elim (λ j. in-left e es fs (are.only e j)) (λ j. in-right e es fs j) (left_append e ls fs i);
+  all = λ e i. ⊎_elim (λ j. left_of e ls fs (are.all e j)) (λ j. left_last e ls fs j) (in-append e es fs i);
+}
 
 module _ {A : Type 0} (f : A → List Stamped) where
   -- a list of which the first entries are gone
@@ -216,14 +216,14 @@ pub closes : (r : Roster) (v w0 w : View) (n : ℕ) (books : List Volume) (es : 
     → Knows r log w → Lawful r log → HoldsAll r (sight v) → map (λ (b : Volume). b.actor) books ≡ r.actors → AreAllOf es ls
     → (log ≡ v.seen) × (length (map (λ (z : Noted). z.entry) log) ≡ n) × AreAt (map (λ (z : Noted). z.entry) log) ls
     × ((m : ℕ) (x : Entry) → get_elem? (map (λ (z : Noted). z.entry) log) m ≡ some x → IsLeft record { stamp = m; entry = x } ls)
-closes r v w0 w n books es log ls agrees d g known lawful holds actors (are, all) =
+closes r v w0 w n books es log ls agrees d g known lawful holds actors are =
     let lists : (k : Number) (l : List (ℕ × Noted)) → In (k, l) w.held → l ≡ at k log = λ k l i. (known.lists k l i).1.0 in
     let stays : (k : Number) (l : List (ℕ × Noted)) → In (k, l) v.held → In (k, l) w0.held = λ k l i. subst (λ (hs : List Held). In (k, l) hs) (sym d.held) i in
     let there : log ≡ v.seen = all_seen r v log agrees lawful (prefix_trans v.seen w0.seen log d.before (prefix_trans w0.seen w.seen log g.before known.seen)) (λ k l i. sym (lists k l (g.kept k l (stays k l i)))) holds in
     let before : w0.seen ≡ v.seen = all_seen r v w0.seen agrees d.lawful d.before (λ k l i. d.lists k l (stays k l i)) holds in
     let cover = covers r log w0 w books es g lists lawful actors in
     let long : length (map (λ (z : Noted). z.entry) log) ≡ n = length-map log (λ (z : Noted). z.entry) ∙ (ap length (there ∙ sym before) ∙ d.front) in
-    (there, long, at_stamps (map (λ (z : Noted). z.entry) log) es ls cover are, λ m x h. all record { stamp = m; entry = x } (cover.all m x h))
+    (there, long, at_stamps (map (λ (z : Noted). z.entry) log) es ls cover are.only, λ m x h. are.all record { stamp = m; entry = x } (cover.all m x h))
 
 -- put together at the answer
 pub whole : (r : Roster) (p : Sight) (books : List Volume) (h : List Entry) (log : List Noted) → log ≡ p.seen → h ≡ map (λ (z : Noted). z.entry) log

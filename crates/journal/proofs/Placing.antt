@@ -9,7 +9,7 @@ use Rattle.net_base.specs.Stamped.{In}
 use Rattle.journal.specs.declared.places.Place.{Place}
 use Rattle.journal.specs.declared.tokens.Stamped.{Stamped}
 use Rattle.journal.specs.Closing.{AreAt, IsLeft}
-use Rattle.journal.specs.Places.{ArePlaced, AreThere, AreThereFrom, IsClosed, IsThere, entries_at, in_list, there, with_entry}
+use Rattle.journal.specs.Places.{ArePlaced, AreThere, AreThereFrom, IsClosed, IsPlaced, IsThere, entries_at, in_list, there, with_entry}
 use Rattle.journal.proofs.Gathering.{left_append}
 
 -- What stands at a place.
@@ -29,18 +29,18 @@ pub stands_at : (n i : ℕ) (ls : List (List Stamped)) (ps : List Place) (p : Pl
     → (e : Stamped) × (there ls p ≡ Some e) × (slice_get (entries_at ls ps) i ≡ Some e.entry)
 stands_at n i ls [] p all is = absurd (none-some p is)
 stands_at n zero ls (q ∷ ps) p (first, more) is = (
-  first.0,
-  subst (λ (z : Place). there ls z ≡ Some first.0) (same_Some q p is) first.1,
-  ap (λ (o : Option Stamped). slice_get (with_entry o (entries_at ls ps)) 0) first.1,
+  first.entry,
+  subst (λ (z : Place). there ls z ≡ Some first.entry) (same_Some q p is) first.stands,
+  ap (λ (o : Option Stamped). slice_get (with_entry o (entries_at ls ps)) 0) first.stands,
 )
 stands_at n (suc i) ls (q ∷ ps) p (first, more) is =
     let t = stands_at (n + 1) i ls ps p more is in
-    (t.0, t.1, ap (λ (o : Option Stamped). slice_get (with_entry o (entries_at ls ps)) (suc i)) first.1 ∙ t.2)
+    (t.0, t.1, ap (λ (o : Option Stamped). slice_get (with_entry o (entries_at ls ps)) (suc i)) first.stands ∙ t.2)
 
 pub long_at : (n : ℕ) (ls : List (List Stamped)) (ps : List Place) → AreThereFrom n ls ps → length (entries_at ls ps) ≡ length ps
 long_at n ls [] all = refl
 long_at n ls (p ∷ ps) (first, more) =
-    ap (λ (o : Option Stamped). length (with_entry o (entries_at ls ps))) first.1 ∙ ap suc (long_at (n + 1) ls ps more)
+    ap (λ (o : Option Stamped). length (with_entry o (entries_at ls ps))) first.stands ∙ ap suc (long_at (n + 1) ls ps more)
 
 -- All of a history.
 
@@ -50,12 +50,12 @@ all_from n ls [] [] all long at = refl
 all_from n ls [] (x ∷ rest) all long at = absurd (omega (arith, long))
 all_from n ls (p ∷ ps) [] all long at = absurd (omega (arith, long))
 all_from n ls (p ∷ ps) (x ∷ rest) (first, more) long at =
-    let e : Stamped = first.0 in
-    let stamp : e.stamp ≡ n + 0 = let own = first.2 in omega (arith, own) in
-    let here : x ≡ e.entry = some-injective x e.entry (at 0 e (left_at ls p.list p.at e first.1) stamp) in
+    let e : Stamped = first.entry in
+    let own : e.stamp ≡ n = first.stamp_is in
+    let here : x ≡ e.entry = some-injective x e.entry (at 0 e (left_at ls p.list p.at e first.stands) (omega (arith, own))) in
     let behind : entries_at ls ps ≡ rest =
     all_from (n + 1) ls ps rest more (omega (arith, long)) (λ i f left own. at (suc i) f left (omega (arith, own))) in
-    ap (λ (o : Option Stamped). with_entry o (entries_at ls ps)) first.1
+    ap (λ (o : Option Stamped). with_entry o (entries_at ls ps)) first.stands
     ∙ ap (λ (y : Entry). y ∷ entries_at ls ps) (sym here)
     ∙ ap (λ (l : List Entry). x ∷ l) behind
 
@@ -113,13 +113,15 @@ same_or_not (suc m) (suc n) = ⊎_elim (λ is. inl (ap suc is)) (λ not. inr (λ
 -- the entries of the lists, and the first j of a list behind them, are placed
 abbrev pub PlacedSo : List (List Stamped) → List Stamped → ℕ → List Place → Type 0
 PlacedSo ls es j ps = (e : Stamped) → IsLeft e ls ⊎ In e (take j es) → e.stamp < length ps
-    → (p : Place) × (slice_get ps e.stamp ≡ Some p) × IsThere (ls ++ es ∷ []) p e.stamp
+    → IsPlaced (ls ++ es ∷ []) ps e.stamp
 
 pub placed_first : (ls : List (List Stamped)) (es : List Stamped) (ps : List Place) → ArePlaced ls ps → PlacedSo ls es 0 ps
 placed_first ls es ps placed e (inl i) lt =
-    let t = placed e i lt in
-    let f = t.2 in
-    (t.0, t.1, (f.0, kept_at ls es t.0.list t.0.at f.0 f.1, f.2))
+    let t = placed e i lt in record {
+      place = t.place;
+      noted = t.noted;
+      is = record { entry = t.is.entry; stands = kept_at ls es t.place.list t.place.at t.is.entry t.is.stands; stamp_is = t.is.stamp_is };
+    }
 placed_first ls es ps placed e (inr i) lt = absurd i
 
 module _ (ls : List (List Stamped)) (es : List Stamped) (j : ℕ) (ps ps' : List Place) (x : Stamped) (k : ℕ)
@@ -128,7 +130,7 @@ module _ (ls : List (List Stamped)) (es : List Stamped) (j : ℕ) (ps ps' : List
   long : length ps' ≡ length ps
   long = ap length set ∙ long_set ps x.stamp record { list = k; at = j }
 
-  of_this : (e : Stamped) → e.stamp ≡ x.stamp → e.stamp < length ps' → (p : Place) × (slice_get ps' e.stamp ≡ Some p) × IsThere (ls ++ es ∷ []) p e.stamp
+  of_this : (e : Stamped) → e.stamp ≡ x.stamp → e.stamp < length ps' → IsPlaced (ls ++ es ∷ []) ps' e.stamp
   of_this e same lt =
       let p : Place = record { list = k; at = j } in
       let within : x.stamp < length ps = omega (arith, lt, same, long) in
@@ -136,10 +138,10 @@ module _ (ls : List (List Stamped)) (es : List Stamped) (j : ℕ) (ps ps' : List
       ap (λ (n : ℕ). slice_get ps' n) same ∙ ap (λ (qs : List Place). slice_get qs x.stamp) set ∙ got_set ps x.stamp p within in
       let stands : there (ls ++ es ∷ []) p ≡ Some x =
       subst (λ (n : ℕ). in_list (slice_get (ls ++ es ∷ []) n) j ≡ Some x) behind (last_at ls es j x is) in
-      (p, there_is, (x, stands, sym same))
+      record { place = p; noted = there_is; is = record { entry = x; stands = stands; stamp_is = sym same } }
 
   of_others : (e : Stamped) → (e.stamp ≡ x.stamp → ⊥) → IsLeft e ls ⊎ In e (take (suc j) es) → e.stamp < length ps'
-      → (p : Place) × (slice_get ps' e.stamp ≡ Some p) × IsThere (ls ++ es ∷ []) p e.stamp
+      → IsPlaced (ls ++ es ∷ []) ps' e.stamp
   of_others e other which lt =
       let before : IsLeft e ls ⊎ In e (take j es) =
       ⊎_elim (λ i. inl i)
@@ -160,12 +162,17 @@ placed_all ls es n ps le placed e i lt =
     placed e (⊎_elim (λ h. inl h) (λ h. inr (subst (λ (l : List Stamped). In e l) (sym (take_all n es le)) h)) (left_append e ls es i)) lt
 
 -- where all entries of a history are placed, all stand there
-from_at : (n : ℕ) (ls : List (List Stamped)) (ps : List Place) → ((i : ℕ) → i < length ps → (p : Place) × (slice_get ps i ≡ Some p) × IsThere ls p (n + i))
+record StandsAt (n i : ℕ) (ls : List (List Stamped)) (ps : List Place) : Type 0 where
+  place : Place
+  noted : slice_get ps i ≡ Some place
+  is : IsThere ls place (n + i)
+
+from_at : (n : ℕ) (ls : List (List Stamped)) (ps : List Place) → ((i : ℕ) → i < length ps → StandsAt n i ls ps)
     → AreThereFrom n ls ps
 from_at n ls [] each = tt
 from_at n ls (q ∷ ps) each =
     let t = each 0 (omega arith) in
-    let first : IsThere ls q (n + 0) = subst (λ (z : Place). IsThere ls z (n + 0)) (sym (same_Some q t.0 t.1)) t.2 in
+    let first : IsThere ls q (n + 0) = subst (λ (z : Place). IsThere ls z (n + 0)) (sym (same_Some q t.place t.noted)) t.is in
     let zero_more : n + 0 ≡ n = omega arith in (
       subst (λ (m : ℕ). IsThere ls q m) zero_more first,
       from_at (n + 1) ls ps (λ i lt.
@@ -186,4 +193,4 @@ all_there ls ps log placed long all =
     let x = got_in log i (omega (arith, lt, long)) in
     let t = placed record { stamp = i; entry = x.0 } (all i x.0 x.1) lt in
     let same : i ≡ 0 + i = omega arith in
-    (t.0, t.1, subst (λ (m : ℕ). IsThere ls t.0 m) same t.2))
+    record { place = t.place; noted = t.noted; is = subst (λ (m : ℕ). IsThere ls t.place m) same t.is })

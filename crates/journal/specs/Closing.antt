@@ -60,8 +60,9 @@ abbrev pub AreOf : List Stamped → List (List Stamped) → Type 0
 AreOf es ls = (e : Stamped) → IsLeft e ls → In e es
 
 -- and all of them
-abbrev pub AreAllOf : List Stamped → List (List Stamped) → Type 0
-AreAllOf es ls = AreOf es ls × ((e : Stamped) → In e es → IsLeft e ls)
+pub record AreAllOf (es : List Stamped) (ls : List (List Stamped)) : Type 0 where
+  pub only : AreOf es ls
+  pub all : (e : Stamped) → In e es → IsLeft e ls
 
 -- what is in these lists stands at its stamp
 abbrev pub AreAt : List Entry → List (List Stamped) → Type 0

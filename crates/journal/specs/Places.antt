@@ -15,12 +15,20 @@ abbrev pub there : List (List Stamped) → Place → Option Stamped
 there ls p = in_list (slice_get ls p.list) p.at
 
 -- the entry of this stamp stands at the place
-abbrev pub IsThere : List (List Stamped) → Place → ℕ → Type 0
-IsThere ls p n = (e : Stamped) × (there ls p ≡ Some e) × (e.stamp ≡ n)
+pub record IsThere (ls : List (List Stamped)) (p : Place) (n : ℕ) : Type 0 where
+  pub entry : Stamped
+  pub stands : there ls p ≡ Some entry
+  pub stamp_is : entry.stamp ≡ n
+
+-- the same of the place of that stamp
+pub record IsPlaced (ls : List (List Stamped)) (ps : List Place) (n : ℕ) : Type 0 where
+  pub place : Place
+  pub noted : slice_get ps n ≡ Some place
+  pub is : IsThere ls place n
 
 -- each entry of the lists stands at its stamp's place, as far as the places reach
 abbrev pub ArePlaced : List (List Stamped) → List Place → Type 0
-ArePlaced ls ps = (e : Stamped) → IsLeft e ls → e.stamp < length ps → (p : Place) × (slice_get ps e.stamp ≡ Some p) × IsThere ls p e.stamp
+ArePlaced ls ps = (e : Stamped) → IsLeft e ls → e.stamp < length ps → IsPlaced ls ps e.stamp
 
 -- at these places stand the entries from the stamp n on
 abbrev pub AreThereFrom : ℕ → List (List Stamped) → List Place → Type 0
