@@ -147,9 +147,9 @@ module _ (ls : List (List Stamped)) (es : List Stamped) (j : ℕ) (ps ps' : List
       ⊎_elim (λ i. inl i)
       (λ i. ⊎_elim (λ h. inr h) (λ same. absurd (other (ap (λ (z : Stamped). z.stamp) same))) (in_take es j x e is i)) which in
       let t = placed e before (omega (arith, lt, long)) in
-      let there_is : slice_get ps' e.stamp ≡ Some t.0 =
-      ap (λ (qs : List Place). slice_get qs e.stamp) set ∙ got_other ps x.stamp e.stamp record { list = k; at = j } other ∙ t.1 in
-      (t.0, there_is, t.2)
+      let there_is : slice_get ps' e.stamp ≡ Some t.place =
+      ap (λ (qs : List Place). slice_get qs e.stamp) set ∙ got_other ps x.stamp e.stamp record { list = k; at = j } other ∙ t.noted in
+      record { place = t.place; noted = there_is; is = t.is }
 
   placed_one : PlacedSo ls es (suc j) ps'
   placed_one e which lt = ⊎_elim (λ same. of_this e same lt) (λ other. of_others e other which lt) (same_or_not e.stamp x.stamp)
@@ -178,7 +178,7 @@ from_at n ls (q ∷ ps) each =
       from_at (n + 1) ls ps (λ i lt.
           let u = each (suc i) (omega (arith, lt)) in
           let more : n + suc i ≡ n + 1 + i = omega arith in
-          (u.0, u.1, subst (λ (m : ℕ). IsThere ls u.0 m) more u.2)),
+          record { place = u.place; noted = u.noted; is = subst (λ (m : ℕ). IsThere ls u.place m) more u.is }),
     )
 
 got_in : (log : List Entry) (n : ℕ) → n < length log → (x : Entry) × (get_elem? log n ≡ some x)
@@ -194,3 +194,22 @@ all_there ls ps log placed long all =
     let t = placed record { stamp = i; entry = x.0 } (all i x.0 x.1) lt in
     let same : i ≡ 0 + i = omega arith in
     record { place = t.place; noted = t.noted; is = subst (λ (m : ℕ). IsThere ls t.place m) same t.is })
+
+-- What closed books lend.
+
+-- what stands at a stamp's place is its entry
+pub lends : (ls : List (List Stamped)) (ps : List Place) (log : List Entry) → IsClosed ls ps → entries_at ls ps ≡ log
+    → (i : ℕ) (p : Place) (e : Stamped) → slice_get ps i ≡ Some p → there ls p ≡ Some e → slice_get log i ≡ Some e.entry
+lends ls ps log closed view i p e noted found =
+    let t = stands_at 0 i ls ps p closed.all noted in
+    let same : t.0 ≡ e = same_Some t.0 e (sym t.1 ∙ found) in
+    ap (λ (l : List Entry). slice_get l i) (sym view) ∙ t.2 ∙ ap (λ (z : Stamped). Some z.entry) same
+
+-- and something stands there
+pub never_none : (ls : List (List Stamped)) (ps : List Place) → IsClosed ls ps → (i : ℕ) (p : Place) → slice_get ps i ≡ Some p → there ls p ≡ None → ⊥
+never_none ls ps closed i p noted none =
+    let t = stands_at 0 i ls ps p closed.all noted in
+    none-some t.0 (sym none ∙ t.1)
+
+pub long_as : (ls : List (List Stamped)) (ps : List Place) (log : List Entry) → IsClosed ls ps → entries_at ls ps ≡ log → length log ≡ length ps
+long_as ls ps log closed view = ap length (sym view) ∙ long_at 0 ls ps closed.all
