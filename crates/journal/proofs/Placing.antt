@@ -1,5 +1,6 @@
 -- Entries at their places.
 use Rattle.std.proofs.Common.{◌≡◌, ℕ, zero, suc, ◌+◌, ◌<◌, ◌≤◌, ◌⊎◌, inl, inr, ⊎_elim, List, [], ◌∷◌, ◌++◌, length, take, Option, Some, None, slice_get, slice_set, refl, ap, sym, subst, ◌∙◌, arith}
+use Rattle.std.specs.Prelude.{slice_index_or}
 use Rattle.std.proofs.lemmas.List.{take_all}
 use Rattle.std.proofs.lemmas.Option.{none-some, same_Some}
 use mathlib.Core.Option.{some, some-injective}
@@ -213,3 +214,8 @@ never_none ls ps closed i p noted none =
 
 pub long_as : (ls : List (List Stamped)) (ps : List Place) (log : List Entry) → IsClosed ls ps → entries_at ls ps ≡ log → length log ≡ length ps
 long_as ls ps log closed view = ap length (sym view) ∙ long_at 0 ls ps closed.all
+
+pub got_by : (ps : List Place) (i : ℕ) (p : Place) → p ≡ slice_index_or ps i p → i < length ps → slice_get ps i ≡ Some p
+got_by [] i p is lt = absurd (omega (arith, lt))
+got_by (q ∷ ps) zero p is lt = ap (λ (z : Place). Some z) (sym is)
+got_by (q ∷ ps) (suc i) p is lt = got_by ps i p is (omega (arith, lt))

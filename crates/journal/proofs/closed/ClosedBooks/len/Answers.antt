@@ -1,4 +1,4 @@
-use Rattle.std.proofs.Common.{sym, ◌∙◌, arith}
+use Rattle.std.proofs.Common.{arith}
 use Rattle.journal.proofs.Placing.{long_as}
 use Rattle.journal.proofs.closed.ClosedBooks.len.Goals as goal
 
