@@ -1,5 +1,5 @@
 -- The lines and sums of entries, by parts of a history.
-use Rattle.std.proofs.Common.{◌≡◌, ℕ, zero, suc, ◌+◌, ◌<◌, ◌≤◌, List, [], ◌∷◌, ◌++◌, length, take, drop, Some, slice_get, refl, ap, sym, subst, ◌∙◌, append_assoc, arith}
+use Rattle.std.proofs.Common.{◌≡◌, ℕ, zero, suc, ◌+◌, ◌-◌, ◌/◌, ◌<◌, ◌≤◌, List, [], ◌∷◌, ◌++◌, length, take, drop, Some, slice_get, refl, ap, sym, subst, ◌∙◌, append_assoc, arith}
 use Rattle.std.proofs.lemmas.List.{append-nil, drop_all, take_all}
 use Rattle.std.proofs.lemmas.List.Sums.{sum_by-cons}
 use Rattle.std.proofs.lemmas.Option.{none-some, same_Some}
@@ -64,13 +64,20 @@ lines_append n (x ∷ xs) ys =
     ∙ sym (append_assoc (line_of n x) (lines_from (n + 1) xs) (lines_from (n + length (x ∷ xs)) ys))
 
 -- those of either part
-pub lines_of_both : (first middle last : ℕ) (xs : List Entry) → first ≤ middle → middle ≤ last → middle ≤ length xs
+lines_of_both : (first middle last : ℕ) (xs : List Entry) → first ≤ middle → middle ≤ last → middle ≤ length xs
     → lines_from first (part first middle xs) ++ lines_from middle (part middle last xs) ≡ lines_from first (part first last xs)
 lines_of_both first middle last xs le le' within =
     let there : middle ≡ first + length (part first middle xs) = sym (part_long first middle xs le within) in
     ap (λ (k : ℕ). lines_from first (part first middle xs) ++ lines_from k (part middle last xs)) there
     ∙ sym (lines_append first (part first middle xs) (part middle last xs))
     ∙ ap (lines_from first) (part_both first middle last xs le le')
+
+-- those of either half
+pub lines_of_halves : (first last : ℕ) (xs : List Entry) → first ≤ last → last ≤ length xs
+    → lines_from first (part first (first + (last - first) / 2) xs) ++ lines_from (first + (last - first) / 2) (part (first + (last - first) / 2) last xs)
+    ≡ lines_from first (part first last xs)
+lines_of_halves first last xs le within =
+    lines_of_both first (first + (last - first) / 2) last xs (omega arith) (omega (arith, le)) (omega (arith, le, within))
 
 -- a line more is written
 pub lines_next : (out new was : List ℕ) (stamp last : ℕ) (xs : List Entry) (x : Entry) → slice_get xs stamp ≡ Some x → stamp < last

@@ -26,6 +26,7 @@ pub fn text_by<R: Threads + Sync, E: Entries + Sync>(
 }
 
 // The text of the entries from a stamp up to another: that of either half, by half of the workers.
+#[tactic(auto, using(crate::proofs::Runs::lines_of_halves))]
 fn text_by_halves<R: Threads + Sync, E: Entries + Sync>(
     rt: &R,
     alloc: Global,

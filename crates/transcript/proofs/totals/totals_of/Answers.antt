@@ -1,4 +1,4 @@
-use Rattle.std.proofs.Common.{rules, arith}
+use Rattle.std.proofs.Common.{rules, length, ◌≤◌, arith}
 use Rattle.net_base.specs.Summary.{bytes_read_in, bytes_written_in, read_in, written_in}
 use Rattle.transcript.proofs.Runs.{latest_done, latest_next, sum_done, sum_next}
 use Rattle.transcript.proofs.totals.totals_of.Goals as goal
@@ -26,7 +26,7 @@ pub returns : goal.returns
 returns g c =
     let l = c.loop-stamp in
     let xs = g.E.Entries.list c.args.entries.now in
-    let done = omega (arith, c.loop-stamp-test.false, c.count-stamp-end.ensures) in
+    let done : length xs ≤ l.stamp = omega (arith, c.loop-stamp-test.false, c.count-stamp-end.ensures) in
     record {
       written = sum_done written_in xs l.stamp l.totals.written done l.invariant.written;
       read = sum_done read_in xs l.stamp l.totals.read done l.invariant.read;
