@@ -19,7 +19,7 @@ use crate::finishing::gather;
 use crate::guest::Guest;
 use actor_machines::{Placing, WorldActor};
 use guest_laws::histories_of_guests_are_legal;
-use journal::{Journal, Naming, Pass};
+use journal::{ClosedBooks, Journal, Naming, Pass};
 use locked::Machine;
 use net_base::{History, World};
 use net_guests::first_spot;
@@ -146,7 +146,20 @@ impl<J: Naming + Placing> Net<J, WorldActor<J>> {
     }
 
     /// The history, by the guests of all callers.
-    pub fn finish(self, alloc: Global, mut guests: Vec<Guest<J>>) -> Result<History, AllocError>
+    pub fn finish(self, alloc: Global, guests: Vec<Guest<J>>) -> Result<History, AllocError>
+        requires all { (c : ℕ) → c < J.run.roster.callers → HasGuest c guests.items }
+        ensures { IfOk result (Finished J.world guests.items) }
+    {
+        let books = self.finish_in_books(alloc, guests)?;
+        books.into_history(alloc)
+    }
+
+    /// The same, with each entry where its actor's book has it.
+    pub fn finish_in_books(
+        self,
+        alloc: Global,
+        mut guests: Vec<Guest<J>>,
+    ) -> Result<ClosedBooks, AllocError>
         requires all { (c : ℕ) → c < J.run.roster.callers → HasGuest c guests.items }
         ensures { IfOk result (Finished J.world guests.items) }
     {
@@ -158,7 +171,7 @@ impl<J: Naming + Placing> Net<J, WorldActor<J>> {
         };
         let mut all = last.into_pass();
         gather(&journal, &mut all, guests);
-        journal.close(alloc, all, books)
+        journal.close_in_books(alloc, all, books)
     }
 }
 

@@ -2,7 +2,7 @@ use Rattle.std.proofs.Common.{ap, sym, ◌∙◌, arith}
 use Rattle.std.specs.Vec.Iter.{into_iter_items}
 use Rattle.std.specs.Option.{option_to_list}
 use Rattle.journal.proofs.Gathering.{found_left, kept_left}
-use Rattle.journal.proofs.closing.next_of.Goals as goal
+use Rattle.journal.proofs.merging.next_of.Goals as goal
 
 pub returns-clause-rest : goal.returns-clause-rest
 returns-clause-rest c e i =

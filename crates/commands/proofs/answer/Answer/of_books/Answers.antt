@@ -3,12 +3,12 @@ use Rattle.net_base.specs.Net.{after}
 use Rattle.commands.specs.Built.{IsStatus}
 use Rattle.commands.proofs.OneHistory.{only_one}
 use Rattle.commands.proofs.RunEnds.{status_is}
-use Rattle.commands.proofs.answer.Answer.of_history.Goals as goal
+use Rattle.commands.proofs.answer.Answer.of_books.Goals as goal
 
 pub returns : goal.returns
 returns c =
     let w = c.args.world.now in
-    let h = c.args.history.now in
+    let h = c.args.books.now in
     let plain = c.legal_histories_are_plain.ensures w c.requires.world h c.requires.legal in
     record {
       history = h;

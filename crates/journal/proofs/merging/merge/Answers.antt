@@ -1,7 +1,7 @@
 use Rattle.std.proofs.Common.{◌∷◌, [], length, length-append, map, ap, ◌∙◌, arith}
 use Rattle.std.specs.Vec.Iter.{into_iter_items}
 use Rattle.journal.proofs.Gathering.{begins, merged_more, taken_all}
-use Rattle.journal.proofs.closing.merge.Goals as goal
+use Rattle.journal.proofs.merging.merge.Goals as goal
 
 pub loop-history-init : goal.loop-history-init
 loop-history-init c = (

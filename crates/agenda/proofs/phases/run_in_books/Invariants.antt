@@ -1,4 +1,4 @@
-use Rattle.agenda.proofs.phases.run.Given as goal
+use Rattle.agenda.proofs.phases.run_in_books.Given as goal
 
 -- the journal that was just opened
 abbrev pub ghosts-run_named-J-Naming : goal.ghosts-run_named-J-Naming
