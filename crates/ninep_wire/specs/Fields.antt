@@ -14,13 +14,9 @@ number k n = little_bytes k n
 abbrev pub counted : ℕ → List ℕ → List ℕ
 counted k bytes = number k (length bytes) ++ bytes
 
--- a text: its bytes after their number in two
+-- a text: its bytes after their number in two. The data of a read or a write stand after theirs in four
 abbrev pub string : List ℕ → List ℕ
 string text = counted 2 text
-
--- the data of a read or a write: after their number in four bytes
-abbrev pub data : List ℕ → List ℕ
-data bytes = counted 4 bytes
 
 -- what a file is to its server: its type, its version and its path
 abbrev pub qid : Qid → List ℕ

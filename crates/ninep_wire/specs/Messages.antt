@@ -5,7 +5,7 @@ use Rattle.ninep_wire.specs.declared.request.Tmsg.TheVariants as t
 use Rattle.ninep_wire.specs.declared.answer.Rmsg.{Rmsg}
 use Rattle.ninep_wire.specs.declared.answer.Rmsg.TheVariants as r
 use Rattle.ninep_wire.specs.declared.qid.Qid.{Qid}
-use Rattle.ninep_wire.specs.Fields.{number, string, data, qid, many, Holds, Counts, IsQid, AreFew}
+use Rattle.ninep_wire.specs.Fields.{number, counted, string, qid, many, Holds, Counts, IsQid, AreFew}
 
 -- no message of this network is longer
 abbrev pub longest : ℕ
@@ -57,7 +57,7 @@ t_fields (t.Walk tag fid newfid names) = number 4 fid ++ (number 4 newfid ++ man
 t_fields (t.Open tag fid mode) = number 4 fid ++ number 1 mode
 t_fields (t.Create tag fid name perm mode) = number 4 fid ++ (string name ++ (number 4 perm ++ number 1 mode))
 t_fields (t.Read tag fid offset count) = number 4 fid ++ (number 8 offset ++ number 4 count)
-t_fields (t.Write tag fid offset bytes) = number 4 fid ++ (number 8 offset ++ data bytes)
+t_fields (t.Write tag fid offset bytes) = number 4 fid ++ (number 8 offset ++ counted 4 bytes)
 t_fields (t.Clunk tag fid) = number 4 fid
 t_fields (t.Remove tag fid) = number 4 fid
 t_fields (t.Stat tag fid) = number 4 fid
@@ -138,7 +138,7 @@ r_fields (r.Flush tag) = []
 r_fields (r.Walk tag qids) = many qid qids
 r_fields (r.Open tag q iounit) = qid q ++ number 4 iounit
 r_fields (r.Create tag q iounit) = qid q ++ number 4 iounit
-r_fields (r.Read tag bytes) = data bytes
+r_fields (r.Read tag bytes) = counted 4 bytes
 r_fields (r.Write tag count) = number 4 count
 r_fields (r.Clunk tag) = []
 r_fields (r.Remove tag) = []

@@ -21,7 +21,7 @@ pub(crate) struct Header<'a> {
 }
 
 /// The header of bytes that are as many as they say.
-pub(crate) fn header(bytes: &[u8]) -> Result<Header<'_>, NinepError>
+pub(crate) fn header_of(bytes: &[u8]) -> Result<Header<'_>, NinepError>
     ensures kind { IfOk result (λ h. h.kind ≡ type_field bytes.now) }
     ensures tag { IfOk result (λ h. h.tag ≡ tag_field bytes.now) }
     ensures fields { IfOk result (λ h. h.fields.now ≡ drop 7 bytes.now) }

@@ -9,7 +9,12 @@ use net_base::{Lines, Octets};
 use std::alloc::{AllocError, Global};
 
 /// A message with this type, this tag and these fields.
-pub(crate) fn framed(alloc: Global, kind: u8, tag: u16, fields: &Octets) -> Result<Octets, AllocError>
+pub(crate) fn framed(
+    alloc: Global,
+    kind: u8,
+    tag: u16,
+    fields: &Octets,
+) -> Result<Octets, AllocError>
     requires { length fields.now < 8210 }
     ensures { IfOk result (λ o. o ≡ messages.framed kind tag fields.now) }
 {
@@ -67,7 +72,7 @@ pub(crate) fn put_string(out: &mut Octets, text: &Octets) -> Result<(), AllocErr
 /// Writes data after their length in four bytes.
 pub(crate) fn put_data(out: &mut Octets, bytes: &Octets) -> Result<(), AllocError>
     requires { length bytes.now < 2 ^ 32 }
-    ensures { OnOk result (out.new ≡ out.old ++ spec.data bytes.now) }
+    ensures { OnOk result (out.new ≡ out.old ++ spec.counted 4 bytes.now) }
 {
     put_long(out, bytes.len() as u32)?;
     out.append(bytes.as_slice())
@@ -101,8 +106,8 @@ pub(crate) fn put_qids(out: &mut Octets, qids: &Qids) -> Result<(), AllocError>
     ensures { OnOk result (out.new ≡ out.old ++ spec.many spec.qid qids.now) }
 {
     put_word(out, qids.len() as u16)?;
-    for qid in qids.as_slice() {
-        put_qid(out, *qid)?;
+    for one in qids.as_slice() {
+        put_qid(out, *one)?;
     }
     Ok(())
 }

@@ -30,19 +30,11 @@ fn put_fields(out: &mut Octets, message: &Rmsg) -> Result<(), AllocError>
             put_long(out, *msize)?;
             put_string(out, version)
         }
-        Rmsg::Auth { aqid, .. } => {
-            put_qid(out, *aqid)
-        }
-        Rmsg::Attach { qid, .. } => {
-            put_qid(out, *qid)
-        }
-        Rmsg::Error { ename, .. } => {
-            put_string(out, ename)
-        }
+        Rmsg::Auth { aqid, .. } => { put_qid(out, *aqid) }
+        Rmsg::Attach { qid, .. } => { put_qid(out, *qid) }
+        Rmsg::Error { ename, .. } => { put_string(out, ename) }
         Rmsg::Flush { .. } => Ok(()),
-        Rmsg::Walk { qids, .. } => {
-            put_qids(out, qids)
-        }
+        Rmsg::Walk { qids, .. } => { put_qids(out, qids) }
         Rmsg::Open { qid, iounit, .. } => {
             put_qid(out, *qid)?;
             put_long(out, *iounit)
@@ -51,17 +43,11 @@ fn put_fields(out: &mut Octets, message: &Rmsg) -> Result<(), AllocError>
             put_qid(out, *qid)?;
             put_long(out, *iounit)
         }
-        Rmsg::Read { bytes, .. } => {
-            put_data(out, bytes)
-        }
-        Rmsg::Write { count, .. } => {
-            put_long(out, *count)
-        }
+        Rmsg::Read { bytes, .. } => { put_data(out, bytes) }
+        Rmsg::Write { count, .. } => { put_long(out, *count) }
         Rmsg::Clunk { .. } => Ok(()),
         Rmsg::Remove { .. } => Ok(()),
-        Rmsg::Stat { stat, .. } => {
-            put_string(out, stat)
-        }
+        Rmsg::Stat { stat, .. } => { put_string(out, stat) }
         Rmsg::Wstat { .. } => Ok(()),
     }
 }

@@ -2,8 +2,10 @@
 ghost use Rattle.std.specs.Prelude.{◌≡◌, ◌<◌, ◌≤◌, ◌++◌, length, IfOk, OnOk};
 ghost use Rattle.ninep_wire.specs.Messages.{SpellsT, IsTmsg, longest, t_bytes, t_fields, t_names, t_tag, t_type};
 
+use crate::put::{
+    framed, put_byte, put_data, put_long, put_string, put_strings, put_vast, put_word,
+};
 use crate::request::Tmsg;
-use crate::put::{framed, put_byte, put_data, put_long, put_string, put_strings, put_vast, put_word};
 use net_base::Octets;
 use std::alloc::{AllocError, Global};
 
@@ -30,21 +32,35 @@ fn put_fields(out: &mut Octets, message: &Tmsg) -> Result<(), AllocError>
             put_long(out, *msize)?;
             put_string(out, version)
         }
-        Tmsg::Auth { afid, uname, aname, .. } => {
+        Tmsg::Auth {
+            afid,
+            uname,
+            aname,
+            ..
+        } => {
             put_long(out, *afid)?;
             put_string(out, uname)?;
             put_string(out, aname)
         }
-        Tmsg::Attach { fid, afid, uname, aname, .. } => {
+        Tmsg::Attach {
+            fid,
+            afid,
+            uname,
+            aname,
+            ..
+        } => {
             put_long(out, *fid)?;
             put_long(out, *afid)?;
             put_string(out, uname)?;
             put_string(out, aname)
         }
-        Tmsg::Flush { oldtag, .. } => {
-            put_word(out, *oldtag)
-        }
-        Tmsg::Walk { fid, newfid, names, .. } => {
+        Tmsg::Flush { oldtag, .. } => { put_word(out, *oldtag) }
+        Tmsg::Walk {
+            fid,
+            newfid,
+            names,
+            ..
+        } => {
             put_long(out, *fid)?;
             put_long(out, *newfid)?;
             put_strings(out, names)
@@ -53,31 +69,41 @@ fn put_fields(out: &mut Octets, message: &Tmsg) -> Result<(), AllocError>
             put_long(out, *fid)?;
             put_byte(out, *mode)
         }
-        Tmsg::Create { fid, name, perm, mode, .. } => {
+        Tmsg::Create {
+            fid,
+            name,
+            perm,
+            mode,
+            ..
+        } => {
             put_long(out, *fid)?;
             put_string(out, name)?;
             put_long(out, *perm)?;
             put_byte(out, *mode)
         }
-        Tmsg::Read { fid, offset, count, .. } => {
+        Tmsg::Read {
+            fid,
+            offset,
+            count,
+            ..
+        } => {
             put_long(out, *fid)?;
             put_vast(out, *offset)?;
             put_long(out, *count)
         }
-        Tmsg::Write { fid, offset, bytes, .. } => {
+        Tmsg::Write {
+            fid,
+            offset,
+            bytes,
+            ..
+        } => {
             put_long(out, *fid)?;
             put_vast(out, *offset)?;
             put_data(out, bytes)
         }
-        Tmsg::Clunk { fid, .. } => {
-            put_long(out, *fid)
-        }
-        Tmsg::Remove { fid, .. } => {
-            put_long(out, *fid)
-        }
-        Tmsg::Stat { fid, .. } => {
-            put_long(out, *fid)
-        }
+        Tmsg::Clunk { fid, .. } => { put_long(out, *fid) }
+        Tmsg::Remove { fid, .. } => { put_long(out, *fid) }
+        Tmsg::Stat { fid, .. } => { put_long(out, *fid) }
         Tmsg::Wstat { fid, stat, .. } => {
             put_long(out, *fid)?;
             put_string(out, stat)

@@ -1,5 +1,5 @@
 //! Reading what a server answers.
-ghost use Rattle.std.specs.Prelude.{◌≡◌, ◌≢◌, ◌<◌, ◌×◌, ◌⊎◌, ◌↔◌, length, drop, IfOk, IsErrOf, false, Some};
+ghost use Rattle.std.specs.Prelude.{◌≡◌, ◌≢◌, ◌<◌, ◌⊎◌, ◌↔◌, length, drop, IfOk, IsErrOf, false, Some};
 ghost use Rattle.ninep_wire.specs.declared.answer.Rmsg.{Rmsg};
 ghost use Rattle.ninep_wire.specs.Faults.{HasHeader, HasSize, HasRType, is_r_type, size_field, type_field};
 ghost use Rattle.ninep_wire.specs.Messages.{SpellsR, longest};
@@ -8,7 +8,7 @@ ghost use Rattle.ninep_wire.specs.Reading.{Gives, all_of, r_at, r_attach, r_auth
 use crate::answer::Rmsg;
 use crate::fault::NinepError;
 use crate::fields::{data, long, qid, qids, string};
-use crate::header::{header, is_answer};
+use crate::header::{header_of, is_answer};
 use std::alloc::Global;
 
 /// The Rmsg that the bytes spell.
@@ -23,7 +23,7 @@ pub fn decode_r(alloc: Global, bytes: &[u8]) -> Result<Rmsg, NinepError>
     ensures bad_type { IsErrOf result NinepError.BadType ↔ (HasSize bytes.now × (is_r_type (type_field bytes.now) ≡ false)) }
     ensures field { IsErrOf result NinepError.Field → HasRType bytes.now × ((m : Rmsg) → SpellsR m bytes.now → ⊥) }
 {
-    let header = header(bytes)?;
+    let header = header_of(bytes)?;
     if !is_answer(header.kind) {
         return Err(NinepError::BadType);
     }
@@ -71,7 +71,11 @@ fn version_of(alloc: Global, tag: u16, bytes: &[u8]) -> Result<(Rmsg, &[u8]), Ni
 {
     let (msize, rest) = long(bytes)?;
     let (version, rest) = string(alloc, rest)?;
-    let message = Rmsg::Version { tag, msize, version };
+    let message = Rmsg::Version {
+        tag,
+        msize,
+        version,
+    };
     Ok((message, rest))
 }
 

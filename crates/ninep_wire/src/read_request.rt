@@ -1,14 +1,14 @@
 //! Reading what a client asks.
-ghost use Rattle.std.specs.Prelude.{◌≡◌, ◌≢◌, ◌<◌, ◌×◌, ◌⊎◌, ◌↔◌, length, drop, IfOk, IsErrOf, false, Some};
+ghost use Rattle.std.specs.Prelude.{◌≡◌, ◌≢◌, ◌<◌, ◌⊎◌, ◌↔◌, length, drop, IfOk, IsErrOf, false, Some};
 ghost use Rattle.ninep_wire.specs.declared.request.Tmsg.{Tmsg};
 ghost use Rattle.ninep_wire.specs.Faults.{HasHeader, HasSize, HasTType, is_t_type, size_field, type_field};
 ghost use Rattle.ninep_wire.specs.Messages.{SpellsT, longest};
 ghost use Rattle.ninep_wire.specs.Reading.{Gives, all_of, t_at, t_attach, t_auth, t_clunk, t_create, t_flush, t_of, t_open, t_read, t_remove, t_stat, t_version, t_walk, t_write, t_wstat};
 
-use crate::request::Tmsg;
 use crate::fault::NinepError;
 use crate::fields::{byte, data, long, string, strings, vast, word};
-use crate::header::{header, is_request};
+use crate::header::{header_of, is_request};
+use crate::request::Tmsg;
 use std::alloc::Global;
 
 /// The Tmsg that the bytes spell.
@@ -23,7 +23,7 @@ pub fn decode_t(alloc: Global, bytes: &[u8]) -> Result<Tmsg, NinepError>
     ensures bad_type { IsErrOf result NinepError.BadType ↔ (HasSize bytes.now × (is_t_type (type_field bytes.now) ≡ false)) }
     ensures field { IsErrOf result NinepError.Field → HasTType bytes.now × ((m : Tmsg) → SpellsT m bytes.now → ⊥) }
 {
-    let header = header(bytes)?;
+    let header = header_of(bytes)?;
     if !is_request(header.kind) {
         return Err(NinepError::BadType);
     }
@@ -70,7 +70,11 @@ fn version_of(alloc: Global, tag: u16, bytes: &[u8]) -> Result<(Tmsg, &[u8]), Ni
 {
     let (msize, rest) = long(bytes)?;
     let (version, rest) = string(alloc, rest)?;
-    let message = Tmsg::Version { tag, msize, version };
+    let message = Tmsg::Version {
+        tag,
+        msize,
+        version,
+    };
     Ok((message, rest))
 }
 
@@ -81,7 +85,12 @@ fn auth_of(alloc: Global, tag: u16, bytes: &[u8]) -> Result<(Tmsg, &[u8]), Ninep
     let (afid, rest) = long(bytes)?;
     let (uname, rest) = string(alloc, rest)?;
     let (aname, rest) = string(alloc, rest)?;
-    let message = Tmsg::Auth { tag, afid, uname, aname };
+    let message = Tmsg::Auth {
+        tag,
+        afid,
+        uname,
+        aname,
+    };
     Ok((message, rest))
 }
 
@@ -93,7 +102,13 @@ fn attach_of(alloc: Global, tag: u16, bytes: &[u8]) -> Result<(Tmsg, &[u8]), Nin
     let (afid, rest) = long(rest)?;
     let (uname, rest) = string(alloc, rest)?;
     let (aname, rest) = string(alloc, rest)?;
-    let message = Tmsg::Attach { tag, fid, afid, uname, aname };
+    let message = Tmsg::Attach {
+        tag,
+        fid,
+        afid,
+        uname,
+        aname,
+    };
     Ok((message, rest))
 }
 
@@ -113,7 +128,12 @@ fn walk_of(alloc: Global, tag: u16, bytes: &[u8]) -> Result<(Tmsg, &[u8]), Ninep
     let (fid, rest) = long(bytes)?;
     let (newfid, rest) = long(rest)?;
     let (names, rest) = strings(alloc, rest)?;
-    let message = Tmsg::Walk { tag, fid, newfid, names };
+    let message = Tmsg::Walk {
+        tag,
+        fid,
+        newfid,
+        names,
+    };
     Ok((message, rest))
 }
 
@@ -135,7 +155,13 @@ fn create_of(alloc: Global, tag: u16, bytes: &[u8]) -> Result<(Tmsg, &[u8]), Nin
     let (name, rest) = string(alloc, rest)?;
     let (perm, rest) = long(rest)?;
     let (mode, rest) = byte(rest)?;
-    let message = Tmsg::Create { tag, fid, name, perm, mode };
+    let message = Tmsg::Create {
+        tag,
+        fid,
+        name,
+        perm,
+        mode,
+    };
     Ok((message, rest))
 }
 
@@ -146,7 +172,12 @@ fn read_of(tag: u16, bytes: &[u8]) -> Result<(Tmsg, &[u8]), NinepError>
     let (fid, rest) = long(bytes)?;
     let (offset, rest) = vast(rest)?;
     let (count, rest) = long(rest)?;
-    let message = Tmsg::Read { tag, fid, offset, count };
+    let message = Tmsg::Read {
+        tag,
+        fid,
+        offset,
+        count,
+    };
     Ok((message, rest))
 }
 
@@ -157,7 +188,12 @@ fn write_of(alloc: Global, tag: u16, bytes: &[u8]) -> Result<(Tmsg, &[u8]), Nine
     let (fid, rest) = long(bytes)?;
     let (offset, rest) = vast(rest)?;
     let (text, rest) = data(alloc, rest)?;
-    let message = Tmsg::Write { tag, fid, offset, bytes: text };
+    let message = Tmsg::Write {
+        tag,
+        fid,
+        offset,
+        bytes: text,
+    };
     Ok((message, rest))
 }
 
