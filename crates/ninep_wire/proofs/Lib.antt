@@ -1,2 +1,4 @@
 pub mod Laws
 pub mod Layouts
+pub mod Loop
+pub mod Whole
