@@ -251,3 +251,20 @@ module _ {A : Type 0} (one : Reader A) (spell : A → List ℕ) (Is : A → Type
 
   pub many_reads : Reads (List A) (many_at one) (many spell) (AreFew Is)
   many_reads = record { takes = many_takes; again = many_again }
+
+-- ---- the numbers at the front
+
+number_front : (k : ℕ) → Reads ℕ (number_at k) (number k) (Holds k) → (bytes : List ℕ) → IsBytes bytes → k ≤ length bytes → (bytes ≡ number k (little_number k bytes) ++ drop k bytes) × Holds k (little_number k bytes)
+number_front k reads bytes fits long =
+    let low : ltb (length bytes) k ≡ false = le-ltb _ _ long in
+    let t = reads.takes bytes (little_number k bytes) (drop k bytes) fits (rw low refl) in
+    (t.0.parts, t.1)
+
+pub front_1 : (bytes : List ℕ) → IsBytes bytes → 1 ≤ length bytes → (bytes ≡ number 1 (little_number 1 bytes) ++ drop 1 bytes) × Holds 1 (little_number 1 bytes)
+front_1 bytes fits long = number_front 1 reads_1 bytes fits long
+
+pub front_2 : (bytes : List ℕ) → IsBytes bytes → 2 ≤ length bytes → (bytes ≡ number 2 (little_number 2 bytes) ++ drop 2 bytes) × Holds 2 (little_number 2 bytes)
+front_2 bytes fits long = number_front 2 reads_2 bytes fits long
+
+pub front_4 : (bytes : List ℕ) → IsBytes bytes → 4 ≤ length bytes → (bytes ≡ number 4 (little_number 4 bytes) ++ drop 4 bytes) × Holds 4 (little_number 4 bytes)
+front_4 bytes fits long = number_front 4 reads_4 bytes fits long
