@@ -66,7 +66,7 @@ pub record Reads (A : Type 0) (read : Reader A) (spell : A → List ℕ) (Is : A
 
 both_takes : {A B : Type 0} (f : Reader A) (g : Reader B) (s : A → List ℕ) (t : B → List ℕ) (P : A → Type 0) (Q : B → Type 0) → Reads A f s P → Reads B g t Q
     → (bytes : List ℕ) (x : A × B) (rest : List ℕ) → IsBytes bytes → both f g bytes ≡ Some (x, rest) → Takes bytes (s x.0 ++ t x.1) rest × (P x.0 × Q x.1)
-both_takes f g s t P Q first second bytes x rest fits e =
+both_takes {A = A} {B = B} f g s t P Q first second bytes x rest fits e =
     let a = bind_some (f bytes) (λ a. g a.1 >>= (λ b. Some ((a.0, b.0), b.1))) (x, rest) e in
     let b = bind_some (g a.0.1) (λ b. Some ((a.0.0, b.0), b.1)) (x, rest) a.2 in
     let one = first.takes bytes a.0.0 a.0.1 fits a.1 in
@@ -186,11 +186,11 @@ qid_parts =
 -- what is made of a reading
 pub making_takes : {A B : Type 0} (f : Reader A) (made : A → B) (s : A → List ℕ) (P : A → Type 0) → Reads A f s P → (bytes : List ℕ) (y : B) (rest : List ℕ) → IsBytes bytes → making f made bytes ≡ Some (y, rest)
     → (x : A) × (made x ≡ y) × (Takes bytes (s x) rest × P x)
-making_takes f made s P reads bytes y rest fits e =
+making_takes {A = A} {B = B} f made s P reads bytes y rest fits e =
     let a = bind_some (f bytes) (λ a. Some (made a.0, a.1)) (y, rest) e in
     let one = reads.takes bytes a.0.0 a.0.1 fits a.1 in
     let p = some_is (made a.0.0, a.0.1) (y, rest) a.2 in
-    (a.0.0, (ap (λ (q : B × List ℕ). q.0) p, subst (λ (r : List ℕ). Takes bytes (s a.0.0) r × P a.0.0) (ap (λ (q : B × List ℕ). q.1) p) one))
+    (a.0.0, ap (λ (q : B × List ℕ). q.0) p, subst (λ (r : List ℕ). Takes bytes (s a.0.0) r × P a.0.0) (ap (λ (q : B × List ℕ). q.1) p) one)
 
 pub making_again : {A B : Type 0} (f : Reader A) (made : A → B) (s : A → List ℕ) (P : A → Type 0) → Reads A f s P → (x : A) (rest : List ℕ) → P x → making f made (s x ++ rest) ≡ Some (made x, rest)
 making_again f made s P reads x rest fits = rw (reads.again x rest fits) refl

@@ -49,7 +49,7 @@ frame_heads : (n tag : ℕ) (fields : List ℕ) → Holds 1 n → Holds 2 tag �
 frame_heads n tag fields kind tagged short = record {
   sized = record {
     header = omega arith;
-    whole = little_number-reads_back 4 (7 + length fields) (number 1 n ++ (number 2 tag ++ fields)) (omega (arith, short));
+    whole = little_number-reads_back 4 (7 + length fields) (number 1 n ++ (number 2 tag ++ fields)) (omega (arith, short)) ∙ omega arith;
     short = short;
   };
   kind = omega (arith, kind);
