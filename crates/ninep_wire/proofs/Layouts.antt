@@ -433,7 +433,7 @@ from_r_103 : (n tag : ℕ) → FindsR n tag (after_r_103 n tag)
 from_r_103 n tag = r_or n 103 tag (r_auth tag) (after_r_105 n tag) (r_auth_takes tag) (from_r_105 n tag)
 
 pub r_takes : (n tag : ℕ) → FindsR n tag (r_at n tag)
-unfolding r_at r_flush r_clunk r_remove r_wstat
+unfolding r_at
 r_takes n tag =
     r_or n 101 tag (r_version tag) (after_r_103 n tag) (r_version_takes tag) (from_r_103 n tag)
 
@@ -478,7 +478,7 @@ unfolding r_stat
 r_stat_again tag stat rest fits = making_again (counted_at 2) (λ f. r.Stat tag f) string (Counts 2) string_reads stat rest fits
 
 pub r_again : (m : Rmsg) (rest : List ℕ) → IsRmsg m → r_at (r_type m) (r_tag m) (r_fields m ++ rest) ≡ Some (m, rest)
-unfolding r_at r_flush r_clunk r_remove r_wstat
+unfolding r_at
 r_again (r.Version tag msize version) rest fits = r_version_again tag msize version rest fits
 r_again (r.Auth tag aqid) rest fits = r_auth_again tag aqid rest fits
 r_again (r.Attach tag q) rest fits = r_attach_again tag q rest fits

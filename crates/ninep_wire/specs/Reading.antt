@@ -142,7 +142,7 @@ r_attach tag bytes = making qid_at (λ f. r.Attach tag f) bytes
 unfoldable pub r_error : ℕ → List ℕ → Option (Rmsg × List ℕ)
 r_error tag bytes = making (counted_at 2) (λ f. r.Error tag f) bytes
 
-unfoldable pub r_flush : ℕ → List ℕ → Option (Rmsg × List ℕ)
+abbrev pub r_flush : ℕ → List ℕ → Option (Rmsg × List ℕ)
 r_flush tag bytes = nothing (r.Flush tag) bytes
 
 unfoldable pub r_walk : ℕ → List ℕ → Option (Rmsg × List ℕ)
@@ -160,16 +160,16 @@ r_read tag bytes = making (counted_at 4) (λ f. r.Read tag f) bytes
 unfoldable pub r_write : ℕ → List ℕ → Option (Rmsg × List ℕ)
 r_write tag bytes = making (number_at 4) (λ f. r.Write tag f) bytes
 
-unfoldable pub r_clunk : ℕ → List ℕ → Option (Rmsg × List ℕ)
+abbrev pub r_clunk : ℕ → List ℕ → Option (Rmsg × List ℕ)
 r_clunk tag bytes = nothing (r.Clunk tag) bytes
 
-unfoldable pub r_remove : ℕ → List ℕ → Option (Rmsg × List ℕ)
+abbrev pub r_remove : ℕ → List ℕ → Option (Rmsg × List ℕ)
 r_remove tag bytes = nothing (r.Remove tag) bytes
 
 unfoldable pub r_stat : ℕ → List ℕ → Option (Rmsg × List ℕ)
 r_stat tag bytes = making (counted_at 2) (λ f. r.Stat tag f) bytes
 
-unfoldable pub r_wstat : ℕ → List ℕ → Option (Rmsg × List ℕ)
+abbrev pub r_wstat : ℕ → List ℕ → Option (Rmsg × List ℕ)
 r_wstat tag bytes = nothing (r.Wstat tag) bytes
 
 -- the R-message of a type and a tag
