@@ -1,16 +1,15 @@
 -- What a reader takes from the front is what the field spells, and what a field spells is read again, whatever follows it.
-use Rattle.std.proofs.Common.{◌≡◌, ℕ, zero, suc, ◌+◌, ◌*◌, ◌^◌, ◌<◌, ◌≤◌, Bool, true, false, cond, ltb, eqb, List, [], ◌∷◌, ◌++◌, length, get_or, take, drop, Option, Some, None, refl, sym, ap, subst, ◌∙◌, append_assoc, arith, inl, inr}
-use Rattle.std.specs.Int.{w16, w32, w64}
+use Rattle.std.proofs.Common.{◌≡◌, ℕ, zero, suc, ◌+◌, ◌<◌, ◌≤◌, Bool, true, false, cond, ltb, List, [], ◌∷◌, ◌++◌, length, get_or, take, drop, Option, Some, None, refl, sym, ap, subst, ◌∙◌, append_assoc, arith, inl, inr}
 use Rattle.std.specs.List.{flat_map, AllByRecursion}
-use Rattle.std.proofs.lemmas.Bool.{cases_lt, ltb-false, ltb-true, le-ltb, lt-ltb, eqb-true}
-use Rattle.std.proofs.lemmas.List.{take_at, drop_at, take-append-drop, length-append, length-take, get_or-drop, get_or-take, get_or_past, append-nil, nil_from_length}
+use Rattle.std.proofs.lemmas.Bool.{cases_lt, ltb-false, ltb-true, le-ltb, lt-ltb}
+use Rattle.std.proofs.lemmas.List.{take_at, drop_at, take-append-drop, length-append, length-take, get_or-drop, get_or-take, get_or_past}
 use Rattle.std.proofs.lemmas.List.Concat.{flat_map-cons}
 use Rattle.std.proofs.lemmas.Nat.{le_bytes_2, le_bytes_4, le_bytes_8}
-use Rattle.byteorder.specs.Endian.{little_from, little_number}
-use Rattle.byteorder.specs.Numbers.{little_from-append, little_from-lt, little_from-take, little_number-reads_back, length-bytes_low_first}
+use Rattle.byteorder.specs.Endian.{little_number}
+use Rattle.byteorder.specs.Numbers.{little_from-lt, little_from-take, little_number-reads_back, length-bytes_low_first}
 use Rattle.ninep_wire.specs.declared.qid.Qid.{Qid}
 use Rattle.ninep_wire.specs.Fields.{number, counted, string, qid, many, Holds, Counts, IsQid, AreFew}
-use Rattle.ninep_wire.specs.Reading.{◌>>=◌, Reader, both, making, nothing, number_at, bytes_at, counted_at, qid_of, qid_at, list_at, many_at, all_of}
+use Rattle.ninep_wire.specs.Reading.{◌>>=◌, Reader, both, making, number_at, bytes_at, counted_at, qid_of, qid_at, list_at, many_at}
 
 abbrev pub IsBytes : List ℕ → Type 0
 IsBytes bytes = (i : ℕ) → get_or bytes i 0 < 256

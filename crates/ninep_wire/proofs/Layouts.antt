@@ -1,5 +1,5 @@
 -- The messages of each type: what is read of a type is that type's message, and it is read again.
-use Rattle.std.proofs.Common.{◌≡◌, ℕ, Bool, true, false, cond, eqb, List, [], ◌∷◌, ◌++◌, length, drop, Option, Some, None, refl, sym, ap, subst, ◌∙◌, arith, inl, inr, ◌⊎◌}
+use Rattle.std.proofs.Common.{◌≡◌, ℕ, Bool, true, false, cond, eqb, List, [], ◌++◌, Some, None, refl, sym, ap, subst, inl, inr, ◌⊎◌}
 use Rattle.std.proofs.lemmas.Bool.{eqb-true}
 use Rattle.ninep_wire.specs.declared.qid.Qid.{Qid}
 use Rattle.ninep_wire.specs.declared.request.Tmsg.{Tmsg}
@@ -8,7 +8,7 @@ use Rattle.ninep_wire.specs.declared.answer.Rmsg.{Rmsg}
 use Rattle.ninep_wire.specs.declared.answer.Rmsg.TheVariants as r
 use Rattle.ninep_wire.specs.Fields.{number, counted, string, qid, many, Holds, Counts, IsQid, AreFew}
 use Rattle.ninep_wire.specs.Messages.{t_type, t_tag, t_fields, IsTmsg, r_type, r_tag, r_fields, IsRmsg}
-use Rattle.ninep_wire.specs.Reading.{Reader, both, making, nothing, number_at, counted_at, qid_at, many_at, t_version, t_auth, t_attach, t_flush, t_walk, t_open, t_create, t_read, t_write, t_clunk, t_remove, t_stat, t_wstat, t_at, r_version, r_auth, r_attach, r_error, r_flush, r_walk, r_open, r_create, r_read, r_write, r_clunk, r_remove, r_stat, r_wstat, r_at}
+use Rattle.ninep_wire.specs.Reading.{Reader, both, making, nothing, number_at, counted_at, qid_at, many_at, t_version, t_auth, t_attach, t_flush, t_walk, t_open, t_create, t_read, t_write, t_clunk, t_remove, t_stat, t_wstat, t_at, r_version, r_auth, r_attach, r_error, r_walk, r_open, r_create, r_read, r_write, r_stat, r_at}
 use Rattle.ninep_wire.proofs.Laws.{IsBytes, Takes, Reads, both_reads, making_takes, making_again, some_is, reads_1, reads_2, reads_4, reads_8, string_reads, data_reads, qid_reads, many_reads}
 
 -- which way a test went

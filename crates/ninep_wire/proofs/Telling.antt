@@ -1,5 +1,5 @@
 -- What a decoder's answer says of the bytes.
-use Rattle.std.proofs.Common.{◌≡◌, ◌≢◌, ℕ, ◌<◌, ◌⊎◌, Bool, true, false, List, length, drop, Option, Some, None, Result, Ok, Err, refl, sym, ap, subst, ◌∙◌, arith, inl, inr}
+use Rattle.std.proofs.Common.{◌≡◌, ◌≢◌, ℕ, ◌<◌, ◌⊎◌, Bool, true, false, List, length, drop, Option, Some, None, Result, Ok, Err, refl, arith, inl, inr}
 use Rattle.std.specs.Prelude.{IfOk, IsErrOf}
 use Rattle.ninep_wire.specs.declared.fault.NinepError.{NinepError}
 use Rattle.ninep_wire.specs.declared.fault.NinepError.TheVariants as error

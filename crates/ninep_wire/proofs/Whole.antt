@@ -1,5 +1,5 @@
 -- What a decoder needs: bytes that spell a message have its header and are read as it, and what is read is spelled so.
-use Rattle.std.proofs.Common.{◌≡◌, ℕ, ◌+◌, ◌<◌, ◌≤◌, Bool, true, false, cond, eqb, List, [], ◌∷◌, ◌++◌, length, drop, get_or, Option, Some, None, refl, sym, ap, subst, ◌∙◌, arith}
+use Rattle.std.proofs.Common.{◌≡◌, ℕ, ◌+◌, ◌≤◌, Bool, true, false, cond, eqb, List, [], ◌++◌, length, drop, Some, None, refl, sym, ap, subst, ◌∙◌, arith}
 use Rattle.std.proofs.lemmas.Bool.{eqb-true}
 use Rattle.std.proofs.lemmas.List.{append-nil, nil_from_length, drop-drop, get_or-drop, length-drop}
 use Rattle.byteorder.specs.Endian.{little_number}
@@ -8,11 +8,11 @@ use Rattle.ninep_wire.specs.declared.request.Tmsg.{Tmsg}
 use Rattle.ninep_wire.specs.declared.request.Tmsg.TheVariants as t
 use Rattle.ninep_wire.specs.declared.answer.Rmsg.{Rmsg}
 use Rattle.ninep_wire.specs.declared.answer.Rmsg.TheVariants as r
-use Rattle.ninep_wire.specs.Faults.{HasSize, is_r_type, is_t_type, size_field, tag_field, type_field}
+use Rattle.ninep_wire.specs.Faults.{HasSize, is_r_type, is_t_type, tag_field, type_field}
 use Rattle.ninep_wire.specs.Fields.{number, Holds}
 use Rattle.ninep_wire.specs.Messages.{framed, longest, t_type, t_tag, t_fields, t_bytes, IsTmsg, SpellsT, r_type, r_tag, r_fields, r_bytes, IsRmsg, SpellsR}
-use Rattle.ninep_wire.specs.Reading.{◌>>=◌, all_of, t_at, r_at}
-use Rattle.ninep_wire.proofs.Laws.{IsBytes, IsBytes-drop, Takes, bind_some, some_is, front_1, front_2, front_4}
+use Rattle.ninep_wire.specs.Reading.{all_of, t_at, r_at}
+use Rattle.ninep_wire.proofs.Laws.{IsBytes, IsBytes-drop, bind_some, front_1, front_2, front_4}
 use Rattle.ninep_wire.proofs.Layouts.{IsT, t_takes, t_again, IsR, r_takes, r_again}
 
 guard_ended : {A : Type 0} (b : Bool) (x y : A) → cond b (Some x) None ≡ Some y → (b ≡ true) × (x ≡ y)

@@ -1,5 +1,5 @@
 -- The messages of 9P2000 as bytes: size[4] type[1] tag[2], and then the fields of the type.
-use Rattle.std.specs.Prelude.{◌≡◌, ◌<◌, ◌≤◌, ◌^◌, ℕ, ◌+◌, List, [], ◌∷◌, ◌++◌, length}
+use Rattle.std.specs.Prelude.{◌≡◌, ◌≤◌, ℕ, ◌+◌, List, [], ◌++◌, length}
 use Rattle.ninep_wire.specs.declared.request.Tmsg.{Tmsg}
 use Rattle.ninep_wire.specs.declared.request.Tmsg.TheVariants as t
 use Rattle.ninep_wire.specs.declared.answer.Rmsg.{Rmsg}

@@ -1,4 +1,3 @@
-use Rattle.std.proofs.Common.{◌≡◌, ◌++◌, ◌∷◌, []}
 use Rattle.std.proofs.lemmas.Result.{err_from_is_err_and}
 use Rattle.ninep_wire.specs.Reading.{counted_at, list_at}
 use Rattle.ninep_wire.proofs.Loop.{goes_on, ends, is_done}

@@ -10,8 +10,8 @@ returns c =
     let path : List ℕ = number 8 c.args.qid.path in
     subst (λ (x : List ℕ). OnOk c.put_vast.result (c.put_vast.new.out ≡ x))
     (
-      ap (λ (y : List ℕ). y ++ path) (c.in_ok-put_long.ensures ∙ ap (λ (z : List ℕ). z ++ version) c.in_ok-put_byte.ensures)
-      ∙ append_assoc (c.args.out.now ++ kind) version path
-      ∙ append_assoc c.args.out.now kind (version ++ path)
+    ap (λ (y : List ℕ). y ++ path) (c.in_ok-put_long.ensures ∙ ap (λ (z : List ℕ). z ++ version) c.in_ok-put_byte.ensures)
+    ∙ append_assoc (c.args.out.now ++ kind) version path
+    ∙ append_assoc c.args.out.now kind (version ++ path)
     )
     c.put_vast.ensures
