@@ -9,19 +9,23 @@ use Rattle.ninep_wire.specs.Reading.{◌>>=◌, Fails, Reader, list_at}
 abbrev pub with_front : {A : Type 0} → List A → Option (List A × List ℕ) → Option (List A × List ℕ)
 with_front front read = read >>= (λ x. Some (front ++ x.0, x.1))
 
-regroup : {A : Type 0} (front : List A) (n : A) (read : Option (List A × List ℕ)) → with_front front (read >>= (λ x. Some (n ∷ x.0, x.1))) ≡ with_front (front ++ n ∷ []) read
+regroup : {A : Type 0} (front : List A) (n : A) (read : Option (List A × List ℕ))
+    → with_front front (read >>= (λ x. Some (n ∷ x.0, x.1))) ≡ with_front (front ++ n ∷ []) read
 regroup {A} front n (Some x) = ap (λ (ns : List A). Some (ns, x.1)) (simp append_assoc)
 regroup front n None = refl
 
-pub goes_on : {A : Type 0} (one : Reader A) (front : List A) (count i : ℕ) (bytes : List ℕ) (n : A) (after : List ℕ) (total : Option (List A × List ℕ)) → i < count → one bytes ≡ Some (n, after)
+pub goes_on : {A : Type 0} (one : Reader A) (front : List A) (count i : ℕ) (bytes : List ℕ) (n : A) (after : List ℕ) (total : Option (List A × List ℕ))
+    → i < count → one bytes ≡ Some (n, after)
     → with_front front (list_at one (count - i) bytes) ≡ total → with_front (front ++ n ∷ []) (list_at one (count - (i + 1)) after) ≡ total
 unfolding list_at
 goes_on one front count i bytes n after total lt h so_far =
     let k : count - i ≡ suc (count - (i + 1)) = omega arith in
-    let next : with_front front (list_at one (count - i) bytes) ≡ with_front (front ++ n ∷ []) (list_at one (count - (i + 1)) after) = rw (k, h) (regroup front n (list_at one (count - (i + 1)) after)) in
+    let next : with_front front (list_at one (count - i) bytes) ≡ with_front (front ++ n ∷ []) (list_at one (count - (i + 1)) after) =
+    rw (k, h) (regroup front n (list_at one (count - (i + 1)) after)) in
     sym next ∙ so_far
 
-pub ends : {A : Type 0} (one : Reader A) (e : NinepError) (front : List A) (count i : ℕ) (bytes : List ℕ) (total : Option (List A × List ℕ)) → i < count → Fails e (one bytes)
+pub ends : {A : Type 0} (one : Reader A) (e : NinepError) (front : List A) (count i : ℕ) (bytes : List ℕ) (total : Option (List A × List ℕ)) → i < count
+    → Fails e (one bytes)
     → with_front front (list_at one (count - i) bytes) ≡ total → Fails e total
 unfolding list_at
 ends one error.Memory front count i bytes total lt h so_far = tt
@@ -33,7 +37,8 @@ ends one error.Short front count i bytes total lt h so_far = h
 ends one error.Size front count i bytes total lt h so_far = h
 ends one error.BadType front count i bytes total lt h so_far = h
 
-pub is_done : {A : Type 0} (one : Reader A) (front : List A) (count i : ℕ) (bytes : List ℕ) (total : Option (List A × List ℕ)) → count ≤ i → with_front front (list_at one (count - i) bytes) ≡ total → total ≡ Some (front, bytes)
+pub is_done : {A : Type 0} (one : Reader A) (front : List A) (count i : ℕ) (bytes : List ℕ) (total : Option (List A × List ℕ)) → count ≤ i
+    → with_front front (list_at one (count - i) bytes) ≡ total → total ≡ Some (front, bytes)
 unfolding list_at
 is_done {A} one front count i bytes total le so_far =
     let k : count - i ≡ 0 = omega arith in
