@@ -8,7 +8,7 @@ ghost use Rattle.ninep_wire.specs.Reading.{Gives, all_of, r_at, r_attach, r_auth
 use crate::answer::Rmsg;
 use crate::fault::NinepError;
 use crate::fields::{data, long, qid, qids, string};
-use crate::header::headeis_answer;
+use crate::header::{header_of, is_answer};
 use std::alloc::Global;
 
 /// The Rmsg that the bytes spell.
