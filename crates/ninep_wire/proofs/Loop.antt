@@ -1,6 +1,9 @@
--- Reading values one after the other, as a loop does.
-use Rattle.std.proofs.Common.{◌≡◌, ℕ, suc, ◌-◌, ◌+◌, ◌≤◌, ◌<◌, List, [], ◌∷◌, ◌++◌, Option, Some, None, refl, sym, ap, ◌∙◌, append_assoc, arith}
-use Rattle.std.proofs.lemmas.List.{append-nil}
+-- Reading and writing values one after the other, as a loop does.
+use Rattle.std.proofs.Common.{◌≡◌, ℕ, suc, ◌-◌, ◌+◌, ◌≤◌, ◌<◌, List, [], ◌∷◌, ◌++◌, length, get_or, take, Option, Some, None, All}
+use Rattle.std.proofs.Common.{refl, sym, ap, subst, ◌∙◌, append_assoc, arith}
+use Rattle.std.specs.List.{flat_map}
+use Rattle.std.proofs.lemmas.List.{append-nil, flat_map_more, take_more}
+use Rattle.std.proofs.lemmas.List.Elements.{All-more}
 use Rattle.ninep_wire.specs.declared.fault.NinepError.{NinepError}
 use Rattle.ninep_wire.specs.declared.fault.NinepError.TheVariants as error
 use Rattle.ninep_wire.specs.Reading.{◌>>=◌, Fails, Reader, list_at}
@@ -44,3 +47,19 @@ is_done {A} one front count i bytes total le so_far =
     let k : count - i ≡ 0 = omega arith in
     let last : with_front front (list_at one (count - i) bytes) ≡ Some (front, bytes) = rw k (ap (λ (ns : List A). Some (ns, bytes)) (append-nil front)) in
     sym so_far ∙ last
+
+-- ---- writing
+
+-- one value more is written, and has a spelling
+pub writes_on : {A : Type 0} (spell : A → List ℕ) (Is : A → Type 0) (old count out new : List ℕ) (xs : List A) (i : ℕ) (d x : A) → i < length xs
+    → x ≡ get_or xs i d → new ≡ out ++ spell x → Is x → (out ≡ old ++ (count ++ flat_map spell (take i xs))) × All Is (take i xs)
+    → (new ≡ old ++ (count ++ flat_map spell (take (i + 1) xs))) × All Is (take (i + 1) xs)
+writes_on {A} spell Is old count out new xs i d x lt here written is so_far =
+    let before : out ≡ (old ++ count) ++ flat_map spell (take i xs) = so_far.0 ∙ sym (append_assoc old count (flat_map spell (take i xs))) in
+    let more : take i xs ++ x ∷ [] ≡ take (i + 1) xs = ap (λ (y : A). take i xs ++ y ∷ []) here ∙ sym (take_more xs i d lt) in
+    let after : new ≡ (old ++ count) ++ flat_map spell (take (i + 1) xs) =
+    written
+    ∙ ap (λ (o : List ℕ). o ++ spell x) before
+    ∙ flat_map_more spell (old ++ count) (take i xs) x
+    ∙ ap (λ (ys : List A). (old ++ count) ++ flat_map spell ys) more in
+    (after ∙ append_assoc old count (flat_map spell (take (i + 1) xs)), All-more Is xs i d lt so_far.1 (subst Is here is))
