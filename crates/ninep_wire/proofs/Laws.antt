@@ -1,5 +1,6 @@
 -- What a reader takes from the front is what the field spells, and what a field spells is read again, whatever follows it.
-use Rattle.std.proofs.Common.{◌≡◌, ℕ, zero, suc, ◌+◌, ◌<◌, ◌≤◌, Bool, true, false, cond, ltb, List, [], ◌∷◌, ◌++◌, length, get_or, take, drop, Option, Some, None, refl, sym, ap, subst, ◌∙◌, append_assoc, arith, inl, inr}
+use Rattle.std.proofs.Common.{◌≡◌, ℕ, zero, suc, ◌+◌, ◌<◌, ◌≤◌, Bool, true, false, cond, ltb, List, [], ◌∷◌, ◌++◌, length, get_or, take, drop, Option, Some}
+use Rattle.std.proofs.Common.{None, refl, sym, ap, subst, ◌∙◌, append_assoc, arith, inl, inr}
 use Rattle.std.specs.List.{flat_map, AllByRecursion}
 use Rattle.std.proofs.lemmas.Bool.{cases_lt, ltb-false, ltb-true, le-ltb, lt-ltb}
 use Rattle.std.proofs.lemmas.List.{take_at, drop_at, take-append-drop, length-append, length-take, get_or-drop, get_or-take, get_or_past}
@@ -78,7 +79,8 @@ both_again : {A B : Type 0} (f : Reader A) (g : Reader B) (s : A → List ℕ) (
 both_again f g s t P Q first second x rest fits =
     ap (both f g) (append_assoc (s x.0) (t x.1) rest) ∙ rw (first.again x.0 (t x.1 ++ rest) fits.0, second.again x.1 rest fits.1) refl
 
-pub both_reads : {A B : Type 0} (f : Reader A) (g : Reader B) (s : A → List ℕ) (t : B → List ℕ) (P : A → Type 0) (Q : B → Type 0) → Reads A f s P → Reads B g t Q
+pub both_reads : {A B : Type 0} (f : Reader A) (g : Reader B) (s : A → List ℕ) (t : B → List ℕ) (P : A → Type 0) (Q : B → Type 0) → Reads A f s P
+    → Reads B g t Q
     → Reads (A × B) (both f g) (λ x. s x.0 ++ t x.1) (λ x. P x.0 × Q x.1)
 both_reads f g s t P Q first second = record {
   takes = both_takes f g s t P Q first second;
@@ -105,14 +107,19 @@ back_4 bytes len fits = le_bytes_4 bytes _ len fits (omega arith)
 back_8 : Backs 8
 back_8 bytes len fits = le_bytes_8 bytes _ len fits (omega arith)
 
-number_takes : (k : ℕ) → Backs k → (bytes : List ℕ) (n : ℕ) (rest : List ℕ) → IsBytes bytes → number_at k bytes ≡ Some (n, rest) → Takes bytes (number k n) rest × Holds k n
+number_takes : (k : ℕ) → Backs k → (bytes : List ℕ) (n : ℕ) (rest : List ℕ) → IsBytes bytes → number_at k bytes ≡ Some (n, rest)
+    → Takes bytes (number k n) rest × Holds k n
 number_takes k back bytes n rest fits e =
     let g = guard_low (ltb (length bytes) k) (little_number k bytes, drop k bytes) (n, rest) e in
     let long : k ≤ length bytes = ltb-false _ _ g.0 in
     let n-is : little_number k bytes ≡ n = ap (λ (p : ℕ × List ℕ). p.0) g.1 in
     let rest-is : drop k bytes ≡ rest = ap (λ (p : ℕ × List ℕ). p.1) g.1 in
-    let front : number k n ≡ take k bytes = ap (number k) (sym n-is ∙ sym (little_from-take 0 k k bytes (omega arith))) ∙ back (take k bytes) (omega (arith, length-take k bytes)) (IsBytes-take k bytes fits) in
-    (record { parts = rw (front, ← rest-is) (sym (take-append-drop k bytes)); rest_fits = rw (← rest-is) (IsBytes-drop k bytes fits) }, subst (Holds k) n-is (little_from-lt 0 k bytes fits))
+    let front : number k n ≡ take k bytes =
+    ap (number k) (sym n-is ∙ sym (little_from-take 0 k k bytes (omega arith))) ∙ back (take k bytes) (omega (arith, length-take k bytes))
+    (IsBytes-take k bytes fits) in (
+      record { parts = rw (front, ← rest-is) (sym (take-append-drop k bytes)); rest_fits = rw (← rest-is) (IsBytes-drop k bytes fits) },
+      subst (Holds k) n-is (little_from-lt 0 k bytes fits),
+    )
 
 number_again : (k n : ℕ) (rest : List ℕ) → Holds k n → number_at k (number k n ++ rest) ≡ Some (n, rest)
 number_again k n rest fits =
@@ -149,7 +156,8 @@ bytes_again text rest =
     let long : ltb (length (text ++ rest)) (length text) ≡ false = le-ltb _ _ (omega (arith, length-append text rest)) in
     rw (long, take_at text rest (length text) refl, drop_at text rest (length text) refl) refl
 
-counted_takes : (k : ℕ) → Reads ℕ (number_at k) (number k) (Holds k) → (bytes text rest : List ℕ) → IsBytes bytes → counted_at k bytes ≡ Some (text, rest) → Takes bytes (counted k text) rest × Counts k text
+counted_takes : (k : ℕ) → Reads ℕ (number_at k) (number k) (Holds k) → (bytes text rest : List ℕ) → IsBytes bytes → counted_at k bytes ≡ Some (text, rest)
+    → Takes bytes (counted k text) rest × Counts k text
 unfolding counted_at
 counted_takes k numbers bytes text rest fits e =
     let a = bind_some (number_at k bytes) (λ n. bytes_at n.0 n.1) (text, rest) e in
@@ -158,7 +166,8 @@ counted_takes k numbers bytes text rest fits e =
     subst (λ (n : ℕ). Takes bytes (number k n ++ text) rest × Holds k n) (sym two.1)
     (Takes-then bytes (number k a.0.0) a.0.1 text rest one.0 two.0, one.1)
 
-counted_again : (k : ℕ) → Reads ℕ (number_at k) (number k) (Holds k) → (text rest : List ℕ) → Counts k text → counted_at k (counted k text ++ rest) ≡ Some (text, rest)
+counted_again : (k : ℕ) → Reads ℕ (number_at k) (number k) (Holds k) → (text rest : List ℕ) → Counts k text
+    → counted_at k (counted k text ++ rest) ≡ Some (text, rest)
 unfolding counted_at
 counted_again k numbers text rest fits =
     ap (counted_at k) (append_assoc (number k (length text)) text rest) ∙ rw (numbers.again (length text) (text ++ rest) fits) (bytes_again text rest)
@@ -177,13 +186,16 @@ data_reads = counted_reads 4 reads_4
 abbrev parts_of : Qid → ℕ × (ℕ × ℕ)
 parts_of q = (q.kind, (q.version, q.path))
 
-qid_parts : Reads (ℕ × (ℕ × ℕ)) (both (number_at 1) (both (number_at 4) (number_at 8))) (λ x. number 1 x.0 ++ (number 4 x.1.0 ++ number 8 x.1.1)) (λ x. Holds 1 x.0 × (Holds 4 x.1.0 × Holds 8 x.1.1))
+qid_parts : Reads (ℕ × (ℕ × ℕ)) (both (number_at 1) (both (number_at 4) (number_at 8))) (λ x. number 1 x.0 ++ (number 4 x.1.0 ++ number 8 x.1.1))
+    (λ x. Holds 1 x.0 × (Holds 4 x.1.0 × Holds 8 x.1.1))
 qid_parts =
-    both_reads (number_at 1) (both (number_at 4) (number_at 8)) (number 1) (λ x. number 4 x.0 ++ number 8 x.1) (Holds 1) (λ x. Holds 4 x.0 × Holds 8 x.1) reads_1
+    both_reads (number_at 1) (both (number_at 4) (number_at 8)) (number 1) (λ x. number 4 x.0 ++ number 8 x.1) (Holds 1)
+    (λ x. Holds 4 x.0 × Holds 8 x.1) reads_1
     (both_reads (number_at 4) (number_at 8) (number 4) (number 8) (Holds 4) (Holds 8) reads_4 reads_8)
 
 -- what is made of a reading
-pub making_takes : {A B : Type 0} (f : Reader A) (made : A → B) (s : A → List ℕ) (P : A → Type 0) → Reads A f s P → (bytes : List ℕ) (y : B) (rest : List ℕ) → IsBytes bytes → making f made bytes ≡ Some (y, rest)
+pub making_takes : {A B : Type 0} (f : Reader A) (made : A → B) (s : A → List ℕ) (P : A → Type 0) → Reads A f s P
+    → (bytes : List ℕ) (y : B) (rest : List ℕ) → IsBytes bytes → making f made bytes ≡ Some (y, rest)
     → (x : A) × (made x ≡ y) × (Takes bytes (s x) rest × P x)
 making_takes {A = A} {B = B} f made s P reads bytes y rest fits e =
     let a = bind_some (f bytes) (λ a. Some (made a.0, a.1)) (y, rest) e in
@@ -191,19 +203,23 @@ making_takes {A = A} {B = B} f made s P reads bytes y rest fits e =
     let p = some_is (made a.0.0, a.0.1) (y, rest) a.2 in
     (a.0.0, ap (λ (q : B × List ℕ). q.0) p, subst (λ (r : List ℕ). Takes bytes (s a.0.0) r × P a.0.0) (ap (λ (q : B × List ℕ). q.1) p) one)
 
-pub making_again : {A B : Type 0} (f : Reader A) (made : A → B) (s : A → List ℕ) (P : A → Type 0) → Reads A f s P → (x : A) (rest : List ℕ) → P x → making f made (s x ++ rest) ≡ Some (made x, rest)
+pub making_again : {A B : Type 0} (f : Reader A) (made : A → B) (s : A → List ℕ) (P : A → Type 0) → Reads A f s P → (x : A) (rest : List ℕ) → P x
+    → making f made (s x ++ rest) ≡ Some (made x, rest)
 making_again f made s P reads x rest fits = rw (reads.again x rest fits) refl
 
 qid_takes : (bytes : List ℕ) (q : Qid) (rest : List ℕ) → IsBytes bytes → qid_at bytes ≡ Some (q, rest) → Takes bytes (qid q) rest × IsQid q
 unfolding qid_at
 qid_takes bytes q rest fits e =
-    let a = making_takes (both (number_at 1) (both (number_at 4) (number_at 8))) qid_of (λ x. number 1 x.0 ++ (number 4 x.1.0 ++ number 8 x.1.1)) (λ x. Holds 1 x.0 × (Holds 4 x.1.0 × Holds 8 x.1.1)) qid_parts bytes q rest fits e in
+    let a =
+    making_takes (both (number_at 1) (both (number_at 4) (number_at 8))) qid_of (λ x. number 1 x.0 ++ (number 4 x.1.0 ++ number 8 x.1.1))
+    (λ x. Holds 1 x.0 × (Holds 4 x.1.0 × Holds 8 x.1.1)) qid_parts bytes q rest fits e in
     subst (λ (p : Qid). Takes bytes (qid p) rest × IsQid p) a.1 a.2
 
 qid_again : (q : Qid) (rest : List ℕ) → IsQid q → qid_at (qid q ++ rest) ≡ Some (q, rest)
 unfolding qid_at
 qid_again q rest fits =
-    making_again (both (number_at 1) (both (number_at 4) (number_at 8))) qid_of (λ x. number 1 x.0 ++ (number 4 x.1.0 ++ number 8 x.1.1)) (λ x. Holds 1 x.0 × (Holds 4 x.1.0 × Holds 8 x.1.1)) qid_parts (parts_of q) rest fits
+    making_again (both (number_at 1) (both (number_at 4) (number_at 8))) qid_of (λ x. number 1 x.0 ++ (number 4 x.1.0 ++ number 8 x.1.1))
+    (λ x. Holds 1 x.0 × (Holds 4 x.1.0 × Holds 8 x.1.1)) qid_parts (parts_of q) rest fits
 
 pub qid_reads : Reads Qid qid_at qid IsQid
 qid_reads = record { takes = qid_takes; again = qid_again }
@@ -211,27 +227,32 @@ qid_reads = record { takes = qid_takes; again = qid_again }
 -- ---- lists
 
 module _ {A : Type 0} (one : Reader A) (spell : A → List ℕ) (Is : A → Type 0) (each : Reads A one spell Is) where
-  list_takes : (n : ℕ) (bytes : List ℕ) (xs : List A) (rest : List ℕ) → IsBytes bytes → list_at one n bytes ≡ Some (xs, rest) → Takes bytes (flat_map spell xs) rest × ((length xs ≡ n) × AllByRecursion Is xs)
+  list_takes : (n : ℕ) (bytes : List ℕ) (xs : List A) (rest : List ℕ) → IsBytes bytes → list_at one n bytes ≡ Some (xs, rest)
+      → Takes bytes (flat_map spell xs) rest × ((length xs ≡ n) × AllByRecursion Is xs)
   unfolding list_at
   list_takes zero bytes xs rest fits e =
-      subst (λ (y : List A × List ℕ). Takes bytes (flat_map spell y.0) y.1 × ((length y.0 ≡ 0) × AllByRecursion Is y.0)) (some_is ([], bytes) (xs, rest) e) (record { parts = refl; rest_fits = fits }, (refl, tt))
+      subst (λ (y : List A × List ℕ). Takes bytes (flat_map spell y.0) y.1 × ((length y.0 ≡ 0) × AllByRecursion Is y.0)) (some_is ([], bytes) (xs, rest) e)
+      (record { parts = refl; rest_fits = fits }, (refl, tt))
   list_takes (suc n) bytes xs rest fits e =
       let a = bind_some (one bytes) (λ x. list_at one n x.1 >>= (λ ys. Some (x.0 ∷ ys.0, ys.1))) (xs, rest) e in
       let b = bind_some (list_at one n a.0.1) (λ ys. Some (a.0.0 ∷ ys.0, ys.1)) (xs, rest) a.2 in
       let first = each.takes bytes a.0.0 a.0.1 fits a.1 in
       let second = list_takes n a.0.1 b.0.0 b.0.1 first.0.rest_fits b.1 in
       let all = Takes-then bytes (spell a.0.0) a.0.1 (flat_map spell b.0.0) b.0.1 first.0 second.0 in
-      subst (λ (y : List A × List ℕ). Takes bytes (flat_map spell y.0) y.1 × ((length y.0 ≡ suc n) × AllByRecursion Is y.0)) (some_is (a.0.0 ∷ b.0.0, b.0.1) (xs, rest) b.2)
+      subst (λ (y : List A × List ℕ). Takes bytes (flat_map spell y.0) y.1 × ((length y.0 ≡ suc n) × AllByRecursion Is y.0))
+      (some_is (a.0.0 ∷ b.0.0, b.0.1) (xs, rest) b.2)
       (rw flat_map-cons all, (ap suc second.1.0, (first.1, second.1.1)))
 
   list_again : (xs : List A) (rest : List ℕ) → AllByRecursion Is xs → list_at one (length xs) (flat_map spell xs ++ rest) ≡ Some (xs, rest)
   unfolding list_at
   list_again [] rest fits = refl
   list_again (x ∷ xs) rest fits =
-      let regrouped : flat_map spell (x ∷ xs) ++ rest ≡ spell x ++ (flat_map spell xs ++ rest) = ap (λ (t : List ℕ). t ++ rest) (flat_map-cons spell x xs) ∙ append_assoc (spell x) (flat_map spell xs) rest in
+      let regrouped : flat_map spell (x ∷ xs) ++ rest ≡ spell x ++ (flat_map spell xs ++ rest) =
+      ap (λ (t : List ℕ). t ++ rest) (flat_map-cons spell x xs) ∙ append_assoc (spell x) (flat_map spell xs) rest in
       ap (list_at one (suc (length xs))) regrouped ∙ rw (each.again x (flat_map spell xs ++ rest) fits.0, list_again xs rest fits.1) refl
 
-  many_takes : (bytes : List ℕ) (xs : List A) (rest : List ℕ) → IsBytes bytes → many_at one bytes ≡ Some (xs, rest) → Takes bytes (many spell xs) rest × AreFew Is xs
+  many_takes : (bytes : List ℕ) (xs : List A) (rest : List ℕ) → IsBytes bytes → many_at one bytes ≡ Some (xs, rest)
+      → Takes bytes (many spell xs) rest × AreFew Is xs
   unfolding many_at
   many_takes bytes xs rest fits e =
       let a = bind_some (number_at 2 bytes) (λ n. cond (ltb n.0 17) (list_at one n.0 n.1) None) (xs, rest) e in
@@ -239,7 +260,8 @@ module _ {A : Type 0} (one : Reader A) (spell : A → List ℕ) (Is : A → Type
       let g = guard_then (ltb a.0.0 17) (list_at one a.0.0 a.0.1) (xs, rest) a.2 in
       let second = list_takes a.0.0 a.0.1 xs rest first.0.rest_fits g.1 in
       let all = Takes-then bytes (number 2 a.0.0) a.0.1 (flat_map spell xs) rest first.0 second.0 in
-      subst (λ (n : ℕ). Takes bytes (number 2 n ++ flat_map spell xs) rest × ((n < 17) × AllByRecursion Is xs)) (sym second.1.0) (all, (ltb-true _ _ g.0, second.1.1))
+      subst (λ (n : ℕ). Takes bytes (number 2 n ++ flat_map spell xs) rest × ((n < 17) × AllByRecursion Is xs)) (sym second.1.0)
+      (all, (ltb-true _ _ g.0, second.1.1))
 
   many_again : (xs : List A) (rest : List ℕ) → AreFew Is xs → many_at one (many spell xs ++ rest) ≡ Some (xs, rest)
   unfolding many_at
@@ -253,7 +275,8 @@ module _ {A : Type 0} (one : Reader A) (spell : A → List ℕ) (Is : A → Type
 
 -- ---- the numbers at the front
 
-number_front : (k : ℕ) → Reads ℕ (number_at k) (number k) (Holds k) → (bytes : List ℕ) → IsBytes bytes → k ≤ length bytes → (bytes ≡ number k (little_number k bytes) ++ drop k bytes) × Holds k (little_number k bytes)
+number_front : (k : ℕ) → Reads ℕ (number_at k) (number k) (Holds k) → (bytes : List ℕ) → IsBytes bytes → k ≤ length bytes
+    → (bytes ≡ number k (little_number k bytes) ++ drop k bytes) × Holds k (little_number k bytes)
 number_front k reads bytes fits long =
     let low : ltb (length bytes) k ≡ false = le-ltb _ _ long in
     let t = reads.takes bytes (little_number k bytes) (drop k bytes) fits (rw low refl) in

@@ -11,9 +11,10 @@ use Rattle.ninep_wire.specs.declared.answer.Rmsg.TheVariants as r
 use Rattle.ninep_wire.specs.Faults.{HasSize, is_r_type, is_t_type, tag_field, type_field}
 use Rattle.ninep_wire.specs.Fields.{number, Holds}
 use Rattle.ninep_wire.specs.Messages.{framed, longest, t_type, t_tag, t_fields, t_bytes, IsTmsg, SpellsT, r_type, r_tag, r_fields, r_bytes, IsRmsg, SpellsR}
-use Rattle.ninep_wire.specs.Reading.{all_of, t_at, r_at}
+use Rattle.ninep_wire.specs.Reading.{all_of, t_at, t_of, r_at, r_of}
 use Rattle.ninep_wire.proofs.Laws.{IsBytes, IsBytes-drop, bind_some, front_1, front_2, front_4}
-use Rattle.ninep_wire.proofs.Layouts.{IsT, t_takes, t_again, IsR, r_takes, r_again}
+use Rattle.ninep_wire.proofs.Requests.{IsT, t_takes, t_again}
+use Rattle.ninep_wire.proofs.Responses.{IsR, r_takes, r_again}
 
 guard_ended : {A : Type 0} (b : Bool) (x y : A) → cond b (Some x) None ≡ Some y → (b ≡ true) × (x ≡ y)
 guard_ended true x y e = (refl, cc)
@@ -29,9 +30,11 @@ headed bytes fits sized =
     let f2 = front_2 (drop 5 bytes) (IsBytes-drop 5 bytes fits) (omega (arith, sized.header, length-drop 5 bytes)) in
     let kind : little_number 1 (drop 4 bytes) ≡ type_field bytes = omega (arith, get_or-drop 4 bytes 0 0) in
     let size : little_number 4 bytes ≡ 7 + length (drop 7 bytes) = sized.whole ∙ omega (arith, sized.header, length-drop 7 bytes) in
-    let behind : drop 5 bytes ≡ number 2 (tag_field bytes) ++ drop 7 bytes = f2.0 ∙ ap (λ (rest : List ℕ). number 2 (tag_field bytes) ++ rest) (drop-drop 2 5 bytes) in
+    let behind : drop 5 bytes ≡ number 2 (tag_field bytes) ++ drop 7 bytes =
+    f2.0 ∙ ap (λ (rest : List ℕ). number 2 (tag_field bytes) ++ rest) (drop-drop 2 5 bytes) in
     let tail : drop 4 bytes ≡ number 1 (type_field bytes) ++ (number 2 (tag_field bytes) ++ drop 7 bytes) =
-    f1.0 ∙ ap (λ (n : ℕ). number 1 n ++ drop 1 (drop 4 bytes)) kind ∙ ap (λ (rest : List ℕ). number 1 (type_field bytes) ++ rest) (drop-drop 1 4 bytes ∙ behind) in (
+    f1.0 ∙ ap (λ (n : ℕ). number 1 n ++ drop 1 (drop 4 bytes)) kind ∙ ap (λ (rest : List ℕ). number 1 (type_field bytes) ++ rest)
+    (drop-drop 1 4 bytes ∙ behind) in (
       f4.0 ∙ ap (λ (rest : List ℕ). number 4 (little_number 4 bytes) ++ rest) tail
           ∙ ap (λ (n : ℕ). number 4 n ++ (number 1 (type_field bytes) ++ (number 2 (tag_field bytes) ++ drop 7 bytes))) size,
       f2.1,
@@ -105,13 +108,14 @@ t_whole m fits =
     rw read refl
 
 -- .. and are read as it
-pub t_only : (m : Tmsg) (bytes : List ℕ) → SpellsT m bytes → all_of (t_at (type_field bytes) (tag_field bytes)) (drop 7 bytes) ≡ Some m
+pub t_only : (m : Tmsg) (bytes : List ℕ) → SpellsT m bytes → t_of bytes ≡ Some m
 t_only m bytes s =
     let h = t_heads m bytes s in
     rw (h.kind, h.tagged, h.rest) (t_whole m s.fields)
 
 -- what is read, with nothing behind it, is spelled so
-pub t_found : (bytes : List ℕ) (m : Tmsg) → IsBytes bytes → HasSize bytes → all_of (t_at (type_field bytes) (tag_field bytes)) (drop 7 bytes) ≡ Some m → SpellsT m bytes
+pub t_found : (bytes : List ℕ) (m : Tmsg) → IsBytes bytes → HasSize bytes → t_of bytes ≡ Some m
+    → SpellsT m bytes
 unfolding t_bytes
 t_found bytes m fits sized e =
     let a = bind_some (t_at (type_field bytes) (tag_field bytes) (drop 7 bytes)) (λ x. cond (eqb (length x.1) 0) (Some x.0) None) m e in
@@ -119,7 +123,8 @@ t_found bytes m fits sized e =
     let none : a.0.1 ≡ [] = nil_from_length a.0.1 (eqb-true _ _ g.0) in
     let one = t_takes (type_field bytes) (tag_field bytes) (drop 7 bytes) a.0.0 a.0.1 (IsBytes-drop 7 bytes fits) a.1 in
     let is : IsT (type_field bytes) (tag_field bytes) (drop 7 bytes) m [] =
-    subst (λ (r : List ℕ). IsT (type_field bytes) (tag_field bytes) (drop 7 bytes) m r) none (subst (λ (y : Tmsg). IsT (type_field bytes) (tag_field bytes) (drop 7 bytes) y a.0.1) g.1 one) in
+    subst (λ (r : List ℕ). IsT (type_field bytes) (tag_field bytes) (drop 7 bytes) m r) none
+    (subst (λ (y : Tmsg). IsT (type_field bytes) (tag_field bytes) (drop 7 bytes) y a.0.1) g.1 one) in
     let text : drop 7 bytes ≡ t_fields m = is.fields.parts ∙ append-nil (t_fields m) in
     let head = headed bytes fits sized in
     record {
@@ -183,13 +188,14 @@ r_whole m fits =
     rw read refl
 
 -- .. and are read as it
-pub r_only : (m : Rmsg) (bytes : List ℕ) → SpellsR m bytes → all_of (r_at (type_field bytes) (tag_field bytes)) (drop 7 bytes) ≡ Some m
+pub r_only : (m : Rmsg) (bytes : List ℕ) → SpellsR m bytes → r_of bytes ≡ Some m
 r_only m bytes s =
     let h = r_heads m bytes s in
     rw (h.kind, h.tagged, h.rest) (r_whole m s.fields)
 
 -- what is read, with nothing behind it, is spelled so
-pub r_found : (bytes : List ℕ) (m : Rmsg) → IsBytes bytes → HasSize bytes → all_of (r_at (type_field bytes) (tag_field bytes)) (drop 7 bytes) ≡ Some m → SpellsR m bytes
+pub r_found : (bytes : List ℕ) (m : Rmsg) → IsBytes bytes → HasSize bytes → r_of bytes ≡ Some m
+    → SpellsR m bytes
 unfolding r_bytes
 r_found bytes m fits sized e =
     let a = bind_some (r_at (type_field bytes) (tag_field bytes) (drop 7 bytes)) (λ x. cond (eqb (length x.1) 0) (Some x.0) None) m e in
@@ -197,7 +203,8 @@ r_found bytes m fits sized e =
     let none : a.0.1 ≡ [] = nil_from_length a.0.1 (eqb-true _ _ g.0) in
     let one = r_takes (type_field bytes) (tag_field bytes) (drop 7 bytes) a.0.0 a.0.1 (IsBytes-drop 7 bytes fits) a.1 in
     let is : IsR (type_field bytes) (tag_field bytes) (drop 7 bytes) m [] =
-    subst (λ (r : List ℕ). IsR (type_field bytes) (tag_field bytes) (drop 7 bytes) m r) none (subst (λ (y : Rmsg). IsR (type_field bytes) (tag_field bytes) (drop 7 bytes) y a.0.1) g.1 one) in
+    subst (λ (r : List ℕ). IsR (type_field bytes) (tag_field bytes) (drop 7 bytes) m r) none
+    (subst (λ (y : Rmsg). IsR (type_field bytes) (tag_field bytes) (drop 7 bytes) y a.0.1) g.1 one) in
     let text : drop 7 bytes ≡ r_fields m = is.fields.parts ∙ append-nil (r_fields m) in
     let head = headed bytes fits sized in
     record {

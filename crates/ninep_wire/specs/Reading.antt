@@ -1,6 +1,7 @@
 -- Reading a message's fields from left to right. A reading is a value and the bytes after it; there is none where the fields don't fill the message.
 use Rattle.std.specs.Prelude.{◌≡◌, ℕ, zero, suc, List, [], ◌∷◌, length, take, drop, Option, Some, None, Result, Ok, Err, nat_lt, ◌==◌, if◌then◌else◌}
 use Rattle.byteorder.specs.Endian.{little_number}
+use Rattle.ninep_wire.specs.Faults.{type_field, tag_field}
 use Rattle.ninep_wire.specs.declared.fault.NinepError.{NinepError}
 use Rattle.ninep_wire.specs.declared.fault.NinepError.TheVariants as error
 use Rattle.ninep_wire.specs.declared.qid.Qid.{Qid}
@@ -8,7 +9,6 @@ use Rattle.ninep_wire.specs.declared.request.Tmsg.{Tmsg}
 use Rattle.ninep_wire.specs.declared.request.Tmsg.TheVariants as t
 use Rattle.ninep_wire.specs.declared.answer.Rmsg.{Rmsg}
 use Rattle.ninep_wire.specs.declared.answer.Rmsg.TheVariants as r
-use Rattle.ninep_wire.specs.Faults.{type_field, tag_field}
 
 infixl 10 ◌>>=◌
 abbrev pub ◌>>=◌ : {A B : Type 0} → Option A → (A → Option B) → Option B
@@ -196,8 +196,9 @@ abbrev pub all_of : {A : Type 0} → Reader A → List ℕ → Option A
 all_of read bytes = read bytes >>= (λ x. if length x.1 == 0 then Some x.0 else None)
 
 -- the T-message behind a header
-unfoldable pub t_of : List ℕ → Option Tmsg
+abbrev pub t_of : List ℕ → Option Tmsg
 t_of bytes = all_of (t_at (type_field bytes) (tag_field bytes)) (drop 7 bytes)
 
-unfoldable pub r_of : List ℕ → Option Rmsg
+-- the R-message behind a header
+abbrev pub r_of : List ℕ → Option Rmsg
 r_of bytes = all_of (r_at (type_field bytes) (tag_field bytes)) (drop 7 bytes)

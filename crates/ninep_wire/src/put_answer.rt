@@ -13,6 +13,7 @@ pub fn encode_r(alloc: Global, message: &Rmsg) -> Result<Octets, AllocError>
     requires short { length (r_bytes message.now) ≤ longest }
     requires few { length (r_qids message.now) < 17 }
     ensures spelled { IfOk result (λ o. o ≡ r_bytes message.now) }
+    ensures spells { IfOk result (λ o. SpellsR message.now o) }
 {
     let mut fields = Octets::new(alloc);
     put_fields(&mut fields, message)?;
@@ -23,6 +24,7 @@ pub fn encode_r(alloc: Global, message: &Rmsg) -> Result<Octets, AllocError>
 fn put_fields(out: &mut Octets, message: &Rmsg) -> Result<(), AllocError>
     requires short { length (r_fields message.now) < 8210 }
     requires few { length (r_qids message.now) < 17 }
+    ensures fits { OnOk result (IsRmsg message.now) }
     ensures spelled { OnOk result (out.new ≡ out.old ++ r_fields message.now) }
 {
     match message {

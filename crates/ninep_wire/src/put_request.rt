@@ -1,6 +1,6 @@
 //! Writing what a client asks.
 ghost use Rattle.std.specs.Prelude.{◌≡◌, ◌<◌, ◌≤◌, ◌++◌, length, IfOk, OnOk};
-ghost use Rattle.ninep_wire.specs.Fields.{number};
+ghost use Rattle.ninep_wire.specs.Fields.{Holds, number};
 ghost use Rattle.ninep_wire.specs.Messages.{SpellsT, IsTmsg, longest, t_bytes, t_fields, t_names, t_tag, t_type};
 
 use crate::put::{
@@ -16,6 +16,7 @@ pub fn encode_t(alloc: Global, message: &Tmsg) -> Result<Octets, AllocError>
     requires short { length (t_bytes message.now) ≤ longest }
     requires few { length (t_names message.now) < 17 }
     ensures spelled { IfOk result (λ o. o ≡ t_bytes message.now) }
+    ensures spells { IfOk result (λ o. SpellsT message.now o) }
 {
     let mut fields = Octets::new(alloc);
     put_fields(&mut fields, message)?;
@@ -26,6 +27,7 @@ pub fn encode_t(alloc: Global, message: &Tmsg) -> Result<Octets, AllocError>
 fn put_fields(out: &mut Octets, message: &Tmsg) -> Result<(), AllocError>
     requires short { length (t_fields message.now) < 8210 }
     requires few { length (t_names message.now) < 17 }
+    ensures fits { OnOk result (IsTmsg message.now) }
     ensures spelled { OnOk result (out.new ≡ out.old ++ t_fields message.now) }
 {
     match message {
@@ -112,7 +114,8 @@ fn put_fields(out: &mut Octets, message: &Tmsg) -> Result<(), AllocError>
 
 // A file and a place in it.
 fn put_place(out: &mut Octets, fid: u32, offset: u64) -> Result<(), AllocError>
-    ensures { OnOk result (out.new ≡ out.old ++ (number 4 fid ++ number 8 offset)) }
+    ensures fits { Holds 4 fid × Holds 8 offset }
+    ensures spelled { OnOk result (out.new ≡ out.old ++ (number 4 fid ++ number 8 offset)) }
 {
     put_long(out, fid)?;
     put_vast(out, offset)

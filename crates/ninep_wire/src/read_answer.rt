@@ -1,9 +1,9 @@
 //! Reading what a server answers.
-ghost use Rattle.std.specs.Prelude.{◌≡◌, ◌≢◌, ◌<◌, ◌⊎◌, ◌↔◌, length, drop, IfOk, IsErrOf, false, Some};
+ghost use Rattle.std.specs.Prelude.{◌≡◌, ◌≢◌, ◌<◌, ◌≤◌, ◌⊎◌, ◌↔◌, length, IfErr, IfOk, IsErrOf, false};
 ghost use Rattle.ninep_wire.specs.declared.answer.Rmsg.{Rmsg};
 ghost use Rattle.ninep_wire.specs.Faults.{HasHeader, HasSize, HasRType, is_r_type, size_field, type_field};
-ghost use Rattle.ninep_wire.specs.Messages.{SpellsR, longest};
-ghost use Rattle.ninep_wire.specs.Reading.{Gives, all_of, r_at, r_attach, r_auth, r_create, r_error, r_of, r_open, r_read, r_stat, r_version, r_walk, r_write};
+ghost use Rattle.ninep_wire.specs.Messages.{SpellsR, longest, r_bytes, r_qids};
+ghost use Rattle.ninep_wire.specs.Reading.{Gives, all_of, r_at, r_attach, r_auth, r_create, r_error, r_open, r_read, r_stat, r_version, r_walk, r_write};
 
 use crate::answer::Rmsg;
 use crate::fault::NinepError;
@@ -16,7 +16,9 @@ pub fn decode_r(alloc: Global, bytes: &[u8]) -> Result<Rmsg, NinepError>
     // What is read is spelled so.
     ensures found { IfOk result (λ m. SpellsR m bytes.now) }
     // What is spelled so is read, unless memory runs out.
-    ensures only { (m : Rmsg) → SpellsR m bytes.now → Gives (λ r. r) result (Some m) }
+    ensures only { (m : Rmsg) → SpellsR m bytes.now → IfOk result (λ r. r ≡ m) × IfErr result (λ e. e ≡ NinepError.Memory) }
+    // What is read may be written again.
+    ensures again { IfOk result (λ m. (length (r_bytes m) ≤ longest) × (length (r_qids m) < 17)) }
     // Which fault it is: the first of these.
     ensures short { IsErrOf result NinepError.Short ↔ (length bytes.now < 7) }
     ensures size { IsErrOf result NinepError.Size ↔ (HasHeader bytes.now × ((size_field bytes.now ≢ length bytes.now) ⊎ (longest < length bytes.now))) }

@@ -1,9 +1,10 @@
 //! Reading what a client asks.
-ghost use Rattle.std.specs.Prelude.{◌≡◌, ◌≢◌, ◌<◌, ◌⊎◌, ◌↔◌, length, drop, IfOk, IsErrOf, false, Some};
+ghost use Rattle.std.specs.Prelude.{◌≡◌, ◌≢◌, ◌<◌, ◌≤◌, ◌⊎◌, ◌↔◌, length, IfErr, IfOk, IsErrOf, false};
 ghost use Rattle.ninep_wire.specs.declared.request.Tmsg.{Tmsg};
 ghost use Rattle.ninep_wire.specs.Faults.{HasHeader, HasSize, HasTType, is_t_type, size_field, type_field};
-ghost use Rattle.ninep_wire.specs.Messages.{SpellsT, longest};
-ghost use Rattle.ninep_wire.specs.Reading.{Gives, all_of, t_at, t_attach, t_auth, t_clunk, t_create, t_flush, t_of, t_open, t_read, t_remove, t_stat, t_version, t_walk, t_write, t_wstat};
+ghost use Rattle.ninep_wire.specs.Messages.{SpellsT, longest, t_bytes, t_names};
+ghost use Rattle.ninep_wire.specs.Reading.{Gives, all_of, t_at};
+ghost use Rattle.ninep_wire.specs.Reading.{t_attach, t_auth, t_clunk, t_create, t_flush, t_open, t_read, t_remove, t_stat, t_version, t_walk, t_write, t_wstat};
 
 use crate::fault::NinepError;
 use crate::fields::{byte, data, long, string, strings, vast, word};
@@ -16,7 +17,9 @@ pub fn decode_t(alloc: Global, bytes: &[u8]) -> Result<Tmsg, NinepError>
     // What is read is spelled so.
     ensures found { IfOk result (λ m. SpellsT m bytes.now) }
     // What is spelled so is read, unless memory runs out.
-    ensures only { (m : Tmsg) → SpellsT m bytes.now → Gives (λ r. r) result (Some m) }
+    ensures only { (m : Tmsg) → SpellsT m bytes.now → IfOk result (λ r. r ≡ m) × IfErr result (λ e. e ≡ NinepError.Memory) }
+    // What is read may be written again.
+    ensures again { IfOk result (λ m. (length (t_bytes m) ≤ longest) × (length (t_names m) < 17)) }
     // Which fault it is: the first of these.
     ensures short { IsErrOf result NinepError.Short ↔ (length bytes.now < 7) }
     ensures size { IsErrOf result NinepError.Size ↔ (HasHeader bytes.now × ((size_field bytes.now ≢ length bytes.now) ⊎ (longest < length bytes.now))) }
