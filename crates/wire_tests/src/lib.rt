@@ -12,8 +12,6 @@ mod il_messages;
 #[cfg(test)]
 mod media;
 #[cfg(test)]
-mod ninep_messages;
-#[cfg(test)]
 mod queues;
 #[cfg(test)]
 mod routing;
