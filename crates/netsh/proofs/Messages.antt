@@ -1,0 +1,25 @@
+-- Whether a word is a message in hexadecimal.
+use Rattle.std.proofs.Common.{◌≡◌, ℕ, ◌≤◌, Bool, true, cond, ◌&&◌, List, [], ◌∷◌, length, Option, Some, None, refl, ap, arith}
+use Rattle.std.specs.Prelude.{bytes_eq, codes, is_some}
+use Rattle.std.proofs.lemmas.Bool.{false_from_ne_true}
+use Rattle.std.proofs.lemmas.Slice.Eq.{bytes_eq-Decides}
+use Rattle.net_base.specs.Hexadecimal.{hex_byte, hex_bytes, hex_text, hex_value}
+
+-- one byte more, of two digits
+by_digits : (high low : Option ℕ) (rest : Option (List ℕ)) → is_some (hex_byte high low rest) ≡ (is_some high && is_some low && is_some rest)
+by_digits (Some high) (Some low) (Some rest) = refl
+by_digits (Some high) (Some low) None = refl
+by_digits (Some high) None rest = refl
+by_digits None low rest = refl
+
+pub pair_more : (high low : ℕ) (rest : List ℕ) → is_some (hex_bytes (high ∷ low ∷ rest)) ≡ (is_some (hex_value high) && is_some (hex_value low) && is_some (hex_bytes rest))
+pair_more high low rest = by_digits (hex_value high) (hex_value low) (hex_bytes rest)
+
+-- a word of two digits and more isn't the one for no bytes
+pub pairs_are : (word : List ℕ) → 2 ≤ length word → is_some (hex_text word) ≡ is_some (hex_bytes word)
+pairs_are [] long = absurd (omega (arith, long))
+pairs_are (b ∷ []) long = absurd (omega (arith, long))
+pairs_are (b ∷ c ∷ word) long =
+    ap (λ (none : Bool). is_some (cond none (Some []) (hex_bytes (b ∷ c ∷ word))))
+    (false_from_ne_true (bytes_eq (b ∷ c ∷ word) (codes "-"))
+    (λ (e : bytes_eq (b ∷ c ∷ word) (codes "-") ≡ true). let size = ap (λ (xs : List ℕ). length xs) ((bytes_eq-Decides (b ∷ c ∷ word) (codes "-")).0 e) in omega (arith, size)))
