@@ -1,5 +1,5 @@
 use Rattle.commands.proofs.CsAnswers.{reply_over, answers_found}
-use Rattle.commands.proofs.dns.dns.Goals as goal
+use Rattle.commands.proofs.dns_reply.dns.Goals as goal
 
 pub returns : goal.returns
 returns c =
