@@ -99,7 +99,7 @@ fn read_two<'a>(name: &[u8], number: &'a [u8]) -> Option<Command<'a>>
 const MOST_DIGITS: usize = 2048;
 
 /// Whether a word is a message in hexadecimal, of 1 to 1024 bytes.
-#[tactic(auto, unfolding(net_model::specs::Words::is_message), using(crate::proofs::Messages::pairs_are))]
+#[tactic(auto, using(crate::proofs::Messages::message_is))]
 fn is_message(word: &[u8]) -> bool
     ensures { result ≡ is_message word.now }
 {
