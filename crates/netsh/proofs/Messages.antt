@@ -42,10 +42,10 @@ pairs_are (b ∷ c ∷ word) long =
     (λ (e : bytes_eq (b ∷ c ∷ word) (codes "-") ≡ true). let size = ap (λ (xs : List ℕ). length xs) ((bytes_eq-Decides (b ∷ c ∷ word) (codes "-")).0 e) in omega (arith, size)))
 
 -- so a message is pairs of digits, not too few and not too many
-pub message_is : (word : List ℕ) → is_message word ≡ (nat_le 2 (length word) && nat_le (length word) 2048 && is_some (hex_bytes word))
+pub message_is : (word : List ℕ) → is_message word ≡ ((nat_le 2 (length word) && nat_le (length word) 2048) && is_some (hex_bytes word))
 unfolding is_message
 message_is [] = refl
 message_is (b ∷ []) = refl
 message_is (b ∷ c ∷ word) =
-    ap (λ (pairs : Bool). nat_le 2 (length (b ∷ c ∷ word)) && nat_le (length (b ∷ c ∷ word)) 2048 && pairs)
+    ap (λ (pairs : Bool). (nat_le 2 (length (b ∷ c ∷ word)) && nat_le (length (b ∷ c ∷ word)) 2048) && pairs)
     (pairs_are (b ∷ c ∷ word) (omega arith))

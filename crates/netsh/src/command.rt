@@ -1,5 +1,5 @@
 //! The words of the command line.
-ghost use Rattle.std.specs.Prelude.{◌≡◌, ◌∷◌, [], is_some, map, option_map, string_bytes};
+ghost use Rattle.std.specs.Prelude.{◌≡◌, ◌∷◌, ◌&&◌, [], is_some, length, map, nat_le, option_map, string_bytes};
 ghost use Rattle.net_base.specs.Hexadecimal.{hex_bytes, hex_value};
 ghost use Rattle.net_model.specs.Words.{command_of, is_message, is_word, messages_in, reads, workers_in};
 ghost use Rattle.netsh.specs.Commands.{command_read, question_read};
@@ -103,7 +103,14 @@ const MOST_DIGITS: usize = 2048;
 fn is_message(word: &[u8]) -> bool
     ensures { result ≡ is_message word.now }
 {
-    2 <= word.len() && word.len() <= MOST_DIGITS && are_pairs(word)
+    is_within(word) && are_pairs(word)
+}
+
+/// Whether a word is as long as one of 1 to 1024 bytes may be.
+fn is_within(word: &[u8]) -> bool
+    ensures { result ≡ (nat_le 2 (length word.now) && nat_le (length word.now) 2048) }
+{
+    2 <= word.len() && word.len() <= MOST_DIGITS
 }
 
 /// Whether all bytes are pairs of digits in lower case.
