@@ -12,6 +12,8 @@ mod il_messages;
 #[cfg(test)]
 mod media;
 #[cfg(test)]
+mod ninep_messages;
+#[cfg(test)]
 mod queues;
 #[cfg(test)]
 mod routing;

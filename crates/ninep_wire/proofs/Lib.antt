@@ -1,0 +1,9 @@
+pub mod Laws
+pub mod Layouts
+pub mod Loop
+pub mod Requests
+pub mod Responses
+pub mod Sizes
+pub mod Spelling
+pub mod Telling
+pub mod Whole

@@ -1,0 +1,13 @@
+-- A session's bytes, message by message.
+use Rattle.std.specs.Prelude.{◌≡◌, ℕ, List, ◌++◌, option_to_list}
+use Rattle.net_base.specs.declared.world.Step.{Step}
+use Rattle.ninep_wire.specs.declared.request.Tmsg.{Tmsg}
+use Rattle.sessions.specs.Script.{Begins, after, step_of}
+use Rattle.sessions.specs.Table.{Table}
+
+-- the first message was taken: its step stands behind the others, and the rest is left
+pub record Takes (old new : Table) (before steps : List Step) (bytes rest : List ℕ) : Type 0 where
+  pub message : Tmsg
+  pub begins : Begins old.msize message bytes rest
+  pub table : new ≡ after old message
+  pub adds : steps ≡ before ++ option_to_list (step_of old message)

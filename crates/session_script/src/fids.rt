@@ -1,0 +1,47 @@
+//! Fids and what they stand for.
+ghost use Rattle.std.specs.Prelude.{◌≡◌, Some, None, OnOk};
+ghost use Rattle.sessions.specs.Table.{with_fid};
+ghost use Rattle.session_script.specs.Seen.{stands};
+
+use indexmap::IndexMap;
+use sessions::Target;
+use std::alloc::{AllocError, Global};
+
+/// The fids that are known. Clauses say of it what each number stands for.
+#[derive(Drop)]
+pub struct Fids {
+    entries: IndexMap<u32, Target>,
+}
+
+impl Fids {
+    /// No fids, which take no memory yet.
+    pub fn new(alloc: Global) -> Fids
+        ensures { stands result ≡ (λ n. None) }
+    {
+        Fids {
+            entries: IndexMap::new(alloc),
+        }
+    }
+
+    /// What a fid stands for.
+    pub fn get(&self, fid: u32) -> Option<Target>
+        ensures { result ≡ stands self.now fid }
+    {
+        self.entries.get(&fid).copied()
+    }
+
+    /// From now on the fid stands for this.
+    pub fn set(&mut self, fid: u32, target: Target) -> Result<(), AllocError>
+        ensures { OnOk result (stands self.new ≡ with_fid fid (Some target) (stands self.old)) }
+    {
+        self.entries.insert(fid, target)?;
+        Ok(())
+    }
+
+    /// The fid stands for nothing any longer.
+    pub fn forget(&mut self, fid: u32)
+        ensures { stands self.new ≡ with_fid fid None (stands self.old) }
+    {
+        self.entries.swap_remove(&fid);
+    }
+}

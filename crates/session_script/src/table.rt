@@ -1,0 +1,168 @@
+//! What a session knows after its messages.
+ghost use Rattle.std.specs.Prelude.{◌≡◌, OnOk};
+ghost use Rattle.sessions.specs.Script as spec;
+ghost use Rattle.sessions.specs.Table as known;
+ghost use Rattle.session_script.specs.Seen.{seen};
+
+use crate::fids::Fids;
+use crate::files::{can_open, reached};
+use net_base::{Lines, Node};
+use ninep_wire::Tmsg;
+use sessions::Target;
+use std::alloc::{AllocError, Global};
+
+/// No message is longer.
+const LONGEST: u32 = 8216;
+
+/// No fid.
+const NOFID: u32 = 0xffff_ffff;
+
+/// The longest message, and the fids that are known.
+#[derive(Drop)]
+pub struct Table {
+    pub is_first: bool,
+    pub msize: u32,
+    pub fids: Fids,
+}
+
+impl Table {
+    /// Before the first message. It takes no memory yet.
+    pub fn new(alloc: Global) -> Table
+        ensures { seen result ≡ known.opening }
+    {
+        Table {
+            is_first: true,
+            msize: LONGEST,
+            fids: Fids::new(alloc),
+        }
+    }
+
+    /// What a fid stands for that was opened.
+    pub fn used(&self, fid: u32) -> Option<Target>
+        ensures { result ≡ known.used (seen self.now) fid }
+    {
+        let target = self.fids.get(fid)?;
+        if target.is_used { Some(target) } else { None }
+    }
+
+    /// The most that a read of so many bytes gives.
+    pub fn room(&self, count: u32) -> u32
+        ensures { result ≡ spec.room (seen self.now) count }
+    {
+        count.min(self.msize.saturating_sub(24))
+    }
+
+    /// Takes a message.
+    pub fn hear(&mut self, alloc: Global, message: &Tmsg) -> Result<(), AllocError>
+        ensures { OnOk result (seen self.new ≡ spec.after (seen self.old) message.now) }
+    {
+        self.change(alloc, message)?;
+        self.is_first = false;
+        Ok(())
+    }
+
+    // What a message changes, whichever it is.
+    fn change(&mut self, alloc: Global, message: &Tmsg) -> Result<(), AllocError>
+        ensures { OnOk result (seen self.new ≡ spec.changed (seen self.old) message.now) }
+    {
+        match message {
+            Tmsg::Version { msize, .. } => {
+                self.hear_version(*msize);
+                Ok(())
+            }
+            Tmsg::Attach { fid, afid, .. } => self.attach(*fid, *afid),
+            Tmsg::Walk {
+                fid,
+                newfid,
+                names,
+                ..
+            } => self.walk(alloc, *fid, *newfid, names),
+            Tmsg::Open { fid, mode, .. } => self.open(*fid, *mode),
+            Tmsg::Clunk { fid, .. } => {
+                self.fids.forget(*fid);
+                Ok(())
+            }
+            Tmsg::Remove { fid, .. } => {
+                self.fids.forget(*fid);
+                Ok(())
+            }
+            _ => Ok(()),
+        }
+    }
+
+    fn hear_version(&mut self, msize: u32)
+        ensures { seen self.new ≡ spec.heard (seen self.old) msize }
+    {
+        if self.is_first && 256 <= msize {
+            self.msize = msize.min(LONGEST);
+        }
+    }
+
+    fn attach(&mut self, fid: u32, afid: u32) -> Result<(), AllocError>
+        ensures { OnOk result (seen self.new ≡ spec.attached (seen self.old) fid afid) }
+    {
+        if afid != NOFID || self.fids.get(fid).is_some() {
+            return Ok(());
+        }
+        let target = fresh(Node::Root);
+        self.fids.set(fid, target)
+    }
+
+    // Where a walk begins, where it may.
+    fn source(&self, fid: u32, newfid: u32) -> Option<Node>
+        ensures { result ≡ spec.source (seen self.now) fid newfid }
+    {
+        let target = self.fids.get(fid)?;
+        if fid != newfid && self.fids.get(newfid).is_some() {
+            return None;
+        }
+        if target.is_used {
+            return None;
+        }
+        Some(target.node)
+    }
+
+    fn walk(
+        &mut self,
+        alloc: Global,
+        fid: u32,
+        newfid: u32,
+        names: &Lines,
+    ) -> Result<(), AllocError>
+        ensures { OnOk result (seen self.new ≡ spec.walked_to (seen self.old) fid newfid names.now) }
+    {
+        let Some(node) = self.source(fid, newfid) else {
+            return Ok(());
+        };
+        let Some(end) = reached(alloc, node, names)? else {
+            return Ok(());
+        };
+        self.fids.set(newfid, fresh(end))
+    }
+
+    fn open(&mut self, fid: u32, mode: u8) -> Result<(), AllocError>
+        ensures { OnOk result (seen self.new ≡ spec.used_by (seen self.old) fid mode) }
+    {
+        let Some(target) = self.fids.get(fid) else {
+            return Ok(());
+        };
+        if !can_open(target.node, mode) {
+            return Ok(());
+        }
+        let target = Target {
+            node: target.node,
+            is_used: true,
+        };
+        self.fids.set(fid, target)
+    }
+}
+
+// A fid that wasn't opened yet.
+fn fresh(node: Node) -> Target
+    ensures { result ≡ known.fresh node }
+{
+    Target {
+        node,
+        is_used: false,
+    }
+}

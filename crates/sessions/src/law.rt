@@ -1,0 +1,26 @@
+//! What the definitions of sessions say together.
+ghost use Rattle.std.specs.Prelude.{◌≡◌, ℕ, List, Some, map, flat_map};
+ghost use Rattle.net_base.specs.Hexadecimal.{hex_digits};
+ghost use Rattle.net_base.specs.declared.reply.Reply.{Reply};
+ghost use Rattle.ninep_wire.specs.declared.request.Tmsg.{Tmsg};
+ghost use Rattle.ninep_wire.specs.Messages.{r_tag, t_bytes, t_tag};
+ghost use Rattle.sessions.specs.Answers.{Found, replied, said};
+ghost use Rattle.sessions.specs.Script.{AreMessages, script};
+ghost use Rattle.sessions.specs.Server.{answers_to};
+ghost use Rattle.sessions.specs.Session.{first, session};
+ghost use Rattle.sessions.specs.Table.{Table};
+ghost use Rattle.sessions.specs.Worked as worked;
+
+/// An answer has the tag of its message.
+pub fn answers_have_the_tag()
+    ensures said { (table : Table) (found : Found) (m : Tmsg) → r_tag (said table found m) ≡ t_tag m }
+    ensures replied { (table : Table) (m : Tmsg) (x : Reply) → r_tag (replied table m x) ≡ t_tag m }
+{}
+
+/// A session that opens the clone file of UDP and reads its number has two steps, and five answers.
+pub fn a_session_is_answered()
+    ensures messages { hex_digits (flat_map t_bytes worked.messages) ≡ worked.feed }
+    ensures stream { AreMessages (flat_map t_bytes worked.messages) worked.messages }
+    ensures script { script worked.messages ≡ worked.steps }
+    ensures answers { map hex_digits (answers_to (session 0) first worked.messages worked.replies) ≡ worked.answers }
+{}

@@ -1,0 +1,8 @@
+//! The definitions of sessions of 9P: the fids of a session, the steps of its script, and the answers to its messages.
+#![tactic(auto)]
+
+mod law;
+mod target;
+
+pub use law::{a_session_is_answered, answers_have_the_tag};
+pub use target::Target;
