@@ -28,7 +28,7 @@ use Rattle.net_base.specs.Medium.{Medium, medium_step}
 use Rattle.prefix_law.proofs.ConvMoves.{Act, Rest, Arrival, Writing, Reading, Hanging, Ticking, Move, Stay, Begin, Join, Come, Listen, of_end, moves}
 use Rattle.prefix_law.proofs.Deeds.{both_ways}
 use Rattle.prefix_law.proofs.OtherSteps.{IsUdp, udp_steps}
-use Rattle.prefix_law.proofs.Waits.{Beyond, Runs, EndLater, end_kept, arrives_later, hangs_up_later, writes_later, reads_later, waits_later, ticks_wait}
+use Rattle.prefix_law.proofs.Waits.{Beyond, Runs, EndLater, end_kept, arrives_later, hangs_up_later, writes_later, reads_later, waits_later, ticks_wait, some_base}
 
 -- an IL conversation's limit is small, and what it waits for it has waited for a while
 abbrev pub Timed : Core → ℕ → Type 0
@@ -69,14 +69,18 @@ moved now c e ev gift s t (Begin begins) = record {
   timed = timed_as s.state _ 0 begins.core_is begins.limit_is (omega arith, tt);
   due = inr (beyond_as now s.state _ begins.core_is tt);
 }
-moved now c e ev gift s t (Join joins) = record {
-  timed = timed_as s.state _ s.state.limit joins.core_is refl (joins.limited, omega arith);
-  due = inr (beyond_as now s.state _ joins.core_is (omega arith));
-}
-moved now c e ev gift s t (Come comes) = record {
-  timed = timed_as s.state _ s.state.limit comes.core_is refl (comes.limited, omega arith);
-  due = inr (beyond_as now s.state _ comes.core_is (omega arith));
-}
+moved now c e ev gift s t (Join joins) =
+    let waits = some_base e.timer.timers e.timer.measured e.timer.mean e.timer.dev in
+    record {
+      timed = timed_as s.state _ s.state.limit joins.core_is refl (joins.limited, waits);
+      due = inr (beyond_as now s.state _ joins.core_is (omega (arith, waits)));
+    }
+moved now c e ev gift s t (Come comes) =
+    let waits = some_base e.timer.timers false 0 0 in
+    record {
+      timed = timed_as s.state _ s.state.limit comes.core_is refl (comes.limited, waits);
+      due = inr (beyond_as now s.state _ comes.core_is (omega (arith, waits)));
+    }
 moved now c e ev gift s t (Listen opens) = record {
   timed = timed_as s.state _ c.limit opens.core_is opens.limit_is t;
   due = inl (ap due_of_core opens.core_is, opens.generation_is);

@@ -44,7 +44,7 @@ halts now t u none = record {
 }
 
 -- an end waits for a while, whatever round trips were measured
-some_base : (kind : Timers) (measured : Bool) (mean dev : ℕ) → 0 < timer.base_by kind measured mean dev
+pub some_base : (kind : Timers) (measured : Bool) (mean dev : ℕ) → 0 < timer.base_by kind measured mean dev
 some_base Fixed measured mean dev = omega arith
 some_base Measured false mean dev = omega arith
 some_base Measured true mean dev = omega arith
