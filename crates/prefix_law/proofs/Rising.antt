@@ -24,7 +24,7 @@ use Rattle.net_base.specs.ActorStep.{Step, when}
 use Rattle.net_base.specs.Actors.{Actor, IsDesk, IsDir, IsConv, IsMedium, actor_step, has_actor, opening_actor, step_as, slot_count}
 use Rattle.net_base.specs.Callers.{Caller, IsScript, caller_of, caller_count, other_caller, clock_number}
 use Rattle.net_base.specs.Calm.{owes as owes_some, is_ready, can_go_on, callers, nothing_owed, nothing_pending, scripts_wait, calm, unfinished, movable, awaited_moment, least, target}
-use Rattle.net_base.specs.Desk.{Desk, opening_desk, desk_replies, desk_reply, desk_step}
+use Rattle.net_base.specs.Desk.{Desk, opening_desk, desk_step}
 use Rattle.net_base.specs.Duties.{Duty, duties, due_of, generation_of, has_come, slots_of, conversations, tick_at, ticks, emitted_put, follow_up, courier_duty, release}
 use Rattle.net_base.specs.Legal.{IsLegal, MayFollow, IsInTime, IsTimed, IsAsked}
 use Rattle.net_base.specs.Medium.{medium_step}

@@ -1,10 +1,9 @@
 -- What a line spells is read as it, stands on one line and isn't passed over.
-use Rattle.std.proofs.Common.{◌≡◌, ℕ, ◌<◌, ◌≤◌, ◌^◌, ◌==◌, Bool, true, false, not, ◌&&◌, ◌||◌, List, [], ◌∷◌, ◌++◌, length, map, refl, sym, ap, subst, ◌∙◌, arith, Option, Some, None, Result, Ok, Err}
+use Rattle.std.proofs.Common.{◌≡◌, ℕ, ◌<◌, ◌≤◌, ◌^◌, ◌==◌, true, false, not, ◌&&◌, ◌||◌, List, [], ◌∷◌, ◌++◌, length, map, refl, sym, ap, subst, ◌∙◌, arith, Some, None, Ok}
 use Rattle.std.specs.Prelude.{⊤, codes, decimal, nat_le, nat_lt, option_map, if◌then◌else◌}
-use Rattle.std.specs.List.{join_with_byte, list_all, list_any, slice_split}
+use Rattle.std.specs.List.{list_all}
 use Rattle.std.specs.Option.{option_and_then}
 use Rattle.std.proofs.lemmas.Bool.{and_parts, false≢true, ltb-true, ne_eqb}
-use Rattle.std.proofs.lemmas.Bool.Decides.{nat_tests}
 use Rattle.std.proofs.lemmas.List.Elements.{All-append, All-nil}
 use Rattle.std.proofs.lemmas.List.Folds.{list_any_none}
 use Rattle.std.proofs.lemmas.List.Splits.{join_with_byte-slice_split, length-slice_split}
@@ -22,20 +21,16 @@ use Rattle.net_base.specs.Addresses.{parts_at}
 use Rattle.net_base.specs.ControlWords.{dotted}
 use Rattle.net_base.specs.NdbText.{is_newline}
 use Rattle.net_base.specs.Paths.{proto_name}
-use Rattle.net_base.specs.Hexadecimal.{hex_word}
 use Rattle.net_base.specs.Transcript.{mode_word}
-use Rattle.net_base.specs.World.{is_address, is_byte, is_letter, is_moment, is_name, is_name_byte, is_nets, is_step, is_text, is_within, is_word}
+use Rattle.net_base.specs.World.{is_address, is_byte, is_letter, is_name, is_name_byte, is_nets, is_step, is_text, is_within, is_word}
 use Rattle.net_base.proofs.Texts.{IsWithout, cut_at, decimal_without, one_part, without_one}
 use Rattle.world_text.specs.declared.line.Frames.{Frames}
 use Rattle.world_text.specs.declared.line.Frames.TheVariants as frames
-use Rattle.world_text.specs.declared.line.HostLine.{HostLine}
 use Rattle.world_text.specs.declared.line.HostLine.TheVariants as host
-use Rattle.world_text.specs.declared.line.LineCause.{LineCause}
-use Rattle.world_text.specs.declared.line.MediumLine.{MediumLine}
 use Rattle.world_text.specs.declared.line.MediumLine.TheVariants as medium
 use Rattle.world_text.specs.declared.line.WorldLine.{WorldLine}
 use Rattle.world_text.specs.declared.line.WorldLine.TheVariants as line
-use Rattle.world_text.specs.WorldWords.{address_in, hex_text, joined, mode_named, nets_named, number_in, words_of}
+use Rattle.world_text.specs.WorldWords.{address_in, joined, mode_named, nets_named, number_in}
 use Rattle.world_text.specs.LineReading.{argued, cs_of, fate_from, fate_named, frame_in, frames_in, frames_of, if_from, kept, named, range_from, rate_in, rates_from, read_line, route_from, step_read, words_line, write_of}
 use Rattle.world_text.specs.WorldSpelling.{fate_word, frames_spelled, is_line, spaced, speaks, spelling, timers_word, words_of_line, words_of_step}
 use Rattle.world_text.proofs.Controls.{dotted_is_without}

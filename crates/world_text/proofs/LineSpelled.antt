@@ -1,5 +1,5 @@
 -- What is read of a line is what it spells.
-use Rattle.std.proofs.Common.{◌≡◌, ℕ, ◌<◌, ◌≤◌, ◌^◌, Bool, true, false, ◌&&◌, List, [], ◌∷◌, ◌++◌, map, refl, sym, ap, subst, ◌∙◌, arith, Option, Some, None, Result, Ok, Err}
+use Rattle.std.proofs.Common.{◌≡◌, ℕ, ◌<◌, ◌^◌, Bool, true, false, ◌&&◌, List, [], ◌∷◌, ◌++◌, map, refl, sym, ap, subst, ◌∙◌, arith, Option, Some, None, Result, Ok, Err}
 use Rattle.std.specs.Prelude.{⊤, codes, decimal, bytes_eq, nat_le, option_map, if◌then◌else◌}
 use Rattle.std.specs.List.{join_with_byte}
 use Rattle.std.specs.Option.{option_and_then, option_to_list}
@@ -20,14 +20,11 @@ use Rattle.net_base.specs.Addresses.{parts_at, read_digits, within}
 use Rattle.net_base.specs.ControlWords.{dotted}
 use Rattle.net_base.specs.Paths.{proto_name, proto_named}
 use Rattle.net_base.specs.Transcript.{mode_word}
-use Rattle.net_base.specs.World.{is_address, is_moment, is_name, is_nets, is_step, is_within}
+use Rattle.net_base.specs.World.{is_address, is_name, is_nets, is_step, is_within}
 use Rattle.world_text.specs.declared.line.Frames.{Frames}
 use Rattle.world_text.specs.declared.line.Frames.TheVariants as frames
-use Rattle.world_text.specs.declared.line.HostLine.{HostLine}
 use Rattle.world_text.specs.declared.line.HostLine.TheVariants as host
 use Rattle.world_text.specs.declared.line.LineCause.{LineCause}
-use Rattle.world_text.specs.declared.line.LineCause.TheVariants as cause
-use Rattle.world_text.specs.declared.line.MediumLine.{MediumLine}
 use Rattle.world_text.specs.declared.line.MediumLine.TheVariants as medium
 use Rattle.world_text.specs.declared.line.WorldLine.{WorldLine}
 use Rattle.world_text.specs.declared.line.WorldLine.TheVariants as line

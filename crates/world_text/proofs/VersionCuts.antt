@@ -1,7 +1,7 @@
 -- Lines without a bad one are bundles, and lines that begin versions between them; and back.
 use Rattle.std.proofs.Common.{◌≡◌, ℕ, ◌+◌, ◌-◌, ◌<◌, ◌≤◌, suc, Bool, true, false, not, ◌&&◌, ◌||◌, cond, List, [], ◌∷◌, ◌++◌, length, take, drop, map, refl, sym, ap, subst, ◌∙◌, arith, Option, Some, None, append-nil, append_assoc, length-append}
 use Rattle.std.specs.Prelude.{⊤, bytes_eq, codes, filter_map, flat_map, nat_le, nat_lt, unwrap_or}
-use Rattle.std.specs.List.{after_last, before_first, cons_option, last_or, list_any, position_or_len, prefix_len, suffix_len}
+use Rattle.std.specs.List.{before_first, cons_option, last_or, list_any, prefix_len, suffix_len}
 use Rattle.std.proofs.Math.Seq.{drop-append-le, drop-length}
 use Rattle.std.proofs.Math.ListN.{take-append-drop}
 use Rattle.std.proofs.lemmas.Bool.{and_from, and_parts, false≢true}
@@ -12,13 +12,12 @@ use Rattle.std.proofs.lemmas.List.Sums.{suffix_len-le-length}
 use Rattle.std.proofs.lemmas.Option.{none-some}
 use Rattle.std.proofs.lemmas.Slice.Eq.{bytes_eq-Decides}
 use Rattle.net_base.specs.declared.world.Version.{Version}
-use Rattle.net_base.specs.Addresses.{number_in}
-use Rattle.net_base.specs.NdbBundle.{cause, causes_of, database, first_bad, has_tuple, is_file_line, least, told}
+use Rattle.net_base.specs.NdbBundle.{cause, causes_of, first_bad, has_tuple, is_file_line, least, told}
 use Rattle.net_base.specs.NdbText.{begins, begins_with, is_percent}
 use Rattle.net_base.specs.Versions.{are_later}
 use Rattle.world_text.specs.declared.line.LineCause.TheVariants as line_cause
 use Rattle.world_text.specs.LineCauses.{number_of}
-use Rattle.world_text.specs.VersionLines.{at_causes, begins_at, first_bad_version, is_at_line, last_moment, later_versions, moment_of, own_lines, version_causes, version_from, versions_in, with_version}
+use Rattle.world_text.specs.VersionLines.{at_causes, begins_at, first_bad_version, is_at_line, last_moment, later_versions, moment_of, own_lines, version_causes, versions_in, with_version}
 use Rattle.world_text.specs.WorldSpelling.{IsGoodBundle, LaterText, line_of_moment, lines_of_later, version_said}
 use Rattle.world_text.proofs.WorldLists.{or-parts}
 use Rattle.world_text.proofs.WorldNumbers.{number-back, number_in-spelled}
@@ -101,21 +100,22 @@ at-percent line at = by (bytes_eq line (codes "%at")) refl at
         let front : codes "%at " ≡ take 4 line = (bytes_eq-Decides (codes "%at ") (take 4 line)).0 e in
         subst Percent (ap (λ (f : List ℕ). f ++ drop 4 line) front ∙ take-append-drop 4 line) (behind-at (drop 4 line))
 
+sixth-alone : (has : Bool) (line : List ℕ) → causes_of has line ≡ [] → cause 6 (begins is_percent line && not (is_file_line line)) ≡ []
+sixth-alone has line good =
+    let one = cause-none 1 _ _ good in
+    let two = cause-none 2 _ _ one.1 in
+    let three = cause-none 3 _ _ two.1 in
+    let four = cause-none 4 _ _ three.1 in
+    let five = cause-none 5 _ _ four.1 in
+    five.1
+
 -- so no line of a good bundle does
 not-at : (has : Bool) (line : List ℕ) → causes_of has line ≡ [] → is_at_line line ≡ false
 not-at has line good = by (is_at_line line) refl
   where
-    last : cause 6 (begins is_percent line && not (is_file_line line)) ≡ []
-    last =
-        let two = (cause-none 1 _ _ good).1 in
-        let three = (cause-none 2 _ _ two).1 in
-        let four = (cause-none 3 _ _ three).1 in
-        let five = (cause-none 4 _ _ four).1 in
-        (cause-none 5 _ _ five).1
-
     by : (b : Bool) → is_at_line line ≡ b → b ≡ false
     by false at = refl
-    by true at = absurd (false≢true (sym (only-cause 6 _ last) ∙ at-percent line at))
+    by true at = absurd (false≢true (sym (only-cause 6 (begins is_percent line && not (is_file_line line)) (sixth-alone has line good)) ∙ at-percent line at))
 
 -- none of these lines begins a version
 abbrev pub Free : List (List ℕ) → Type 0

@@ -1,7 +1,7 @@
 -- A text without a bad line says its versions, which a world may have; and a text that says versions is read as them.
-use Rattle.std.proofs.Common.{◌≡◌, ℕ, ◌<◌, ◌==◌, zero, suc, Bool, true, false, ◌&&◌, cond, List, [], ◌∷◌, ◌++◌, length, refl, sym, ap, subst, ◌∙◌, arith, Option, Some, None}
+use Rattle.std.proofs.Common.{◌≡◌, ℕ, ◌==◌, zero, suc, Bool, true, false, cond, List, [], ◌∷◌, ◌++◌, refl, sym, ap, subst, ◌∙◌, arith, Option, Some, None}
 use Rattle.std.specs.Prelude.{⊤, flat_map, is_none}
-use Rattle.std.specs.List.{All, join_with_byte, list_all, onto_first, slice_split}
+use Rattle.std.specs.List.{All, join_with_byte, list_all, onto_first}
 use Rattle.std.proofs.lemmas.Bool.{and_from, and_parts}
 use Rattle.std.proofs.lemmas.List.Elements.{All-nil}
 use Rattle.std.proofs.lemmas.List.Folds.{list_all-append}
@@ -135,7 +135,8 @@ all-databases (v ∷ vs) each (suc k) d lt = all-databases vs each.1 k d (omega 
 
 pub versions-databases : (text : List ℕ) → list_all is_byte text ≡ true → bad_version_line text ≡ None → All (λ (v : Version). IsDatabase v.db) (versions_in (lines_of text))
 versions-databases text all good =
-    let s = bundles text good in
+    let s = versions-say text good in
     let parts = bare-split s.first (flat_map lines_of_later s.later) (subst AreBare s.lines_are (lines-bare text all)) in
-    subst (λ (vs : List Version). All (λ (v : Version). IsDatabase v.db) vs) (sym ((versions-say text good).said))
-    (all-databases (version_said 0 s.first ∷ saids s.later) (bundle-database s.first parts.0 s.first_good, later-databases s.later s.later_good parts.1))
+    subst (λ (vs : List Version). All (λ (v : Version). IsDatabase v.db) vs) (sym s.said)
+    (all-databases (version_said 0 s.first ∷ saids s.later)
+    (bundle-database s.first parts.0 s.first_good, later-databases s.later (good-all s.later s.later_good) parts.1))

@@ -1,14 +1,13 @@
 -- The lines of the hosts behind one another: the world so far is what they say, and each line fits exactly where all of them do.
-use Rattle.std.proofs.Common.{◌≡◌, ℕ, ◌+◌, ◌<◌, ◌≤◌, ◌==◌, suc, Bool, true, false, not, ◌&&◌, ◌||◌, cond, List, [], ◌∷◌, ◌++◌, length, map, refl, sym, ap, subst, ◌∙◌, arith, Option, Some, None, append-nil, append_assoc, length-append}
+use Rattle.std.proofs.Common.{◌≡◌, ℕ, ◌+◌, ◌<◌, ◌≤◌, ◌==◌, suc, Bool, true, false, not, ◌&&◌, ◌||◌, List, [], ◌∷◌, ◌++◌, length, map, refl, sym, ap, ◌∙◌, arith, Option, Some, None, append-nil, append_assoc, length-append}
 use Rattle.std.specs.Prelude.{bit_and, bytes_eq, filter_map, flat_map, is_none, nat_eq, nat_le, nat_lt, if◌then◌else◌}
 use Rattle.std.specs.List.{cons_option, last_or, list_all, list_any, position_or_len}
 use Rattle.std.specs.Option.{option_map_or}
-use Rattle.std.proofs.lemmas.Bool.{and_parts, eqb-true, false≢true}
-use Rattle.std.proofs.lemmas.Bool.Decides.{nat_tests}
+use Rattle.std.proofs.lemmas.Bool.{and_parts}
 use Rattle.std.proofs.lemmas.Grind.{flat_map-append}
 use Rattle.std.proofs.lemmas.List.{map-append}
 use Rattle.std.proofs.lemmas.List.Elements.{filter_map-append}
-use Rattle.std.proofs.lemmas.List.Folds.{list_all-append, list_any-append}
+use Rattle.std.proofs.lemmas.List.Folds.{list_any-append}
 use Rattle.net_base.specs.declared.address.Proto.{Proto}
 use Rattle.net_base.specs.declared.timer.Timers.{Timers}
 use Rattle.net_base.specs.declared.world.HostSpec.{HostSpec}
@@ -19,12 +18,11 @@ use Rattle.net_base.specs.Routes.{Route, has_ip, iface_routes}
 use Rattle.net_base.specs.World.{addresses, all_apart, is_address, is_iface, is_mask, is_name, is_nets, same_medium, same_network}
 use Rattle.world_text.specs.declared.line.HostLine.{HostLine}
 use Rattle.world_text.specs.declared.line.HostLine.TheVariants as host
-use Rattle.world_text.specs.declared.line.LineCause.{LineCause}
 use Rattle.world_text.specs.declared.line.LineCause.TheVariants as cause
 use Rattle.world_text.specs.WorldLines.{Draft, after_host_line, at_last, bare_host, has_host, has_iface_on, has_medium, host_cause, host_line_cause, host_under, is_before, is_host_named, is_medium_named, is_near, is_net, is_network, is_past, is_under, knows_network, leads_to, medium_number, reaches, with_host_line}
 use Rattle.world_text.specs.WorldSpelling.{EachBehind, HostText, IsReached, host_said, iface_said, medium_names, place_of, route_said, start_said}
 use Rattle.world_text.specs.LineFit.{fit_host_line}
-use Rattle.world_text.proofs.WorldLists.{all-parts, all-push, any-cong, any-map, apart-front, apart-insert, apart-push, at_last-push, each-front, each-last, each-none, each-push, false-of-not, last-push, or-parts, place-map, place-there, same-bytes, same-numbers, true-of-not}
+use Rattle.world_text.proofs.WorldLists.{all-parts, all-push, any-cong, any-map, apart-front, apart-insert, apart-push, at_last-push, each-front, each-last, each-none, each-push, false-of-not, last-push, place-map, place-there, same-bytes, same-numbers, true-of-not}
 use Rattle.world_text.proofs.WorldMedia.{passes, room-from, room-is, unrefused}
 use Rattle.world_text.proofs.WorldMediums.{both}
 

@@ -1,10 +1,8 @@
 -- The lines of a world, one behind another, lead to what all of them say.
-use Rattle.std.proofs.Common.{◌≡◌, ℕ, ◌+◌, ◌<◌, ◌≤◌, ◌==◌, suc, Bool, true, false, ◌&&◌, List, [], ◌∷◌, ◌++◌, length, map, refl, sym, ap, subst, ◌∙◌, arith, Option, Some, None, append-nil, append_assoc, length-append}
-use Rattle.std.specs.Prelude.{bytes_eq, filter_map, flat_map, nat_eq, nat_lt}
+use Rattle.std.proofs.Common.{◌≡◌, ℕ, ◌≤◌, true, List, [], ◌∷◌, ◌++◌, length, map, refl, sym, ap, subst, arith, None, append-nil, append_assoc}
+use Rattle.std.specs.Prelude.{filter_map, flat_map}
 use Rattle.std.specs.List.{list_all}
 use Rattle.std.proofs.lemmas.Bool.{and_parts}
-use Rattle.std.proofs.lemmas.List.{map-append}
-use Rattle.net_base.specs.declared.address.Proto.{Proto}
 use Rattle.net_base.specs.declared.timer.Timers.{Timers}
 use Rattle.net_base.specs.declared.timer.Timers.TheVariants.{Fixed}
 use Rattle.net_base.specs.declared.world.HostSpec.{HostSpec}
@@ -12,20 +10,18 @@ use Rattle.net_base.specs.declared.world.MediumSpec.{MediumSpec}
 use Rattle.net_base.specs.declared.world.Step.{Step}
 use Rattle.net_base.specs.World.{is_host, is_moment, is_name, is_within}
 use Rattle.world_text.specs.declared.line.HostLine.{HostLine}
-use Rattle.world_text.specs.declared.line.LineCause.{LineCause}
-use Rattle.world_text.specs.declared.line.LineCause.TheVariants as cause
 use Rattle.world_text.specs.declared.line.MediumLine.{MediumLine}
 use Rattle.world_text.specs.declared.line.WorldLine.{WorldLine}
 use Rattle.world_text.specs.declared.line.WorldLine.TheVariants as line
 use Rattle.world_text.specs.WorldLines.{Draft, after, line_cause, opening_draft}
-use Rattle.world_text.specs.WorldSpelling.{HostText, ScriptText, host_names, host_said, lines_of_steps, lines_of_text, lines_said, media_said, medium_names, rated_name}
+use Rattle.world_text.specs.WorldSpelling.{HostText, ScriptText, host_names, lines_of_steps, lines_of_text, media_said, medium_names, rated_name}
 use Rattle.world_text.specs.LineFit.{fit_host_line, fit_medium_line, is_fit}
-use Rattle.world_text.proofs.WorldLists.{all-at, apart-front, each-front, each-last, each-push}
-use Rattle.world_text.proofs.WorldMedia.{FineMedia, GoodBehind, media-after, media-front, media-good, media_draft, media_group}
+use Rattle.world_text.proofs.WorldLists.{all-at, each-last}
+use Rattle.world_text.proofs.WorldMedia.{FineMedia, media-after, media-front, media-good, media_draft}
 use Rattle.world_text.proofs.WorldMediums.{both}
 use Rattle.world_text.proofs.WorldHosts.{EachFine, FineHosts, bare_text, host-after, host-good, host_draft, hosts-front, line-after, line-good, saids}
 use Rattle.world_text.proofs.WorldHostForms.{name-known}
-use Rattle.world_text.proofs.WorldScripts.{host-known, FineScripts, empty_text, script-after, script-good, script_draft, scripts-front, scripts_said, step-after, step-good, step-own, steps-front, with_one}
+use Rattle.world_text.proofs.WorldScripts.{host-known, FineScripts, empty_text, script-after, script-good, script_draft, scripts-front, step-after, step-good, step-own, steps-front}
 
 -- Lines that lead on.
 

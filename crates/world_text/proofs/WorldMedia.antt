@@ -1,5 +1,5 @@
 -- The lines of the media behind one another: the world so far is what they say, and each line fits exactly where all of them do.
-use Rattle.std.proofs.Common.{◌≡◌, ℕ, ◌+◌, ◌<◌, ◌≤◌, suc, Bool, true, false, not, ◌&&◌, ◌||◌, cond, List, [], ◌∷◌, ◌++◌, length, map, refl, sym, ap, subst, ◌∙◌, arith, Option, Some, None, append-nil, length-append}
+use Rattle.std.proofs.Common.{◌≡◌, ℕ, ◌+◌, ◌<◌, ◌≤◌, suc, Bool, true, false, not, ◌&&◌, ◌||◌, List, [], ◌∷◌, ◌++◌, length, refl, sym, ap, ◌∙◌, arith, Option, Some, None, append-nil, length-append}
 use Rattle.std.specs.Prelude.{⊤, bytes_eq, filter_map, get_or, nat_le, nat_lt, if◌then◌else◌}
 use Rattle.std.specs.List.{cons_option, list_all, list_any}
 use Rattle.std.proofs.lemmas.Bool.{and_parts, false≢true}
@@ -19,7 +19,7 @@ use Rattle.world_text.specs.declared.line.LineCause.TheVariants as cause
 use Rattle.world_text.specs.declared.line.MediumLine.{MediumLine}
 use Rattle.world_text.specs.declared.line.MediumLine.TheVariants as medium
 use Rattle.world_text.specs.WorldLines.{Draft, after_medium_line, has_fate, has_medium, is_before, is_fated, is_medium_named, is_past, is_rated, medium_line_cause, on_medium, plain_medium, range_of, refuse, with_fate, with_rates}
-use Rattle.world_text.specs.WorldSpelling.{EachBehind, IsBehindMedium, Rates, SaysMedium, fate_on, media_named, media_said, medium_names, medium_said, name_said, no_rates, rated_name, rates_on, rates_said}
+use Rattle.world_text.specs.WorldSpelling.{EachBehind, IsBehindMedium, Rates, SaysMedium, fate_on, media_named, media_said, medium_names, medium_said, name_said, no_rates, rated_name, rates_on}
 use Rattle.world_text.specs.LineFit.{fit_medium_line}
 use Rattle.world_text.proofs.WorldLists.{all-parts, all-push, and-false, any-map, apart-front, apart-push, each-front, each-last, each-none, each-push, false-of-not, none-if, or-parts, own-bytes, same-bytes, true-of-not}
 

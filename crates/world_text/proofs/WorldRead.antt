@@ -1,11 +1,12 @@
 -- A text that spells a world is read as it.
-use Rattle.std.proofs.Common.{◌≡◌, ℕ, ◌+◌, ◌^◌, ◌<◌, ◌≤◌, ◌==◌, inl, inr, suc, zero, Bool, true, false, ◌&&◌, List, [], ◌∷◌, ◌++◌, length, map, refl, sym, ap, subst, ◌∙◌, arith, Option, Some, None, Ok, Err, Result}
-use Rattle.std.specs.Prelude.{bytes_eq, codes, filter_map, flat_map, nat_eq, nat_le, nat_lt, if◌then◌else◌}
-use Rattle.std.specs.List.{All, filter, list_all}
-use Rattle.std.proofs.lemmas.Bool.{and_parts, false≢true, ltb-true}
+use Rattle.std.proofs.Common.{◌≡◌, ℕ, ◌+◌, ◌^◌, ◌≤◌, ◌==◌, inl, inr, suc, true, false, List, [], ◌∷◌, ◌++◌, length, map, refl, sym, ap, subst, ◌∙◌, arith, Some, None, Ok}
+use Rattle.std.specs.Prelude.{bytes_eq, codes, flat_map, nat_eq, nat_le, nat_lt, if◌then◌else◌}
+use Rattle.std.specs.List.{All, list_all}
+use Rattle.std.proofs.lemmas.Bool.{and_parts, false≢true}
 use Rattle.std.proofs.lemmas.Bool.Decides.{nat_tests}
 use Rattle.std.proofs.lemmas.List.Folds.{list_all-append}
 use Rattle.net_base.specs.declared.timer.Timers.{Timers}
+use Rattle.net_base.specs.declared.timer.Timers.TheVariants.{Fixed, Measured}
 use Rattle.net_base.specs.declared.world.HostSpec.{HostSpec}
 use Rattle.net_base.specs.declared.world.MediumSpec.{MediumSpec}
 use Rattle.net_base.specs.declared.world.Script.{Script}
@@ -15,17 +16,16 @@ use Rattle.net_base.specs.declared.world.World.{World}
 use Rattle.net_base.specs.NdbText.{is_hash, lines_of}
 use Rattle.net_base.specs.World.{IsWorld, addresses, all_apart, are_media, is_host, is_medium, is_name, is_script, is_within}
 use Rattle.world_text.specs.declared.line.HostLine.{HostLine}
-use Rattle.world_text.specs.declared.line.LineCause.{LineCause}
 use Rattle.world_text.specs.declared.line.LineCause.TheVariants as cause
 use Rattle.world_text.specs.declared.line.MediumLine.{MediumLine}
 use Rattle.world_text.specs.declared.line.MediumLine.TheVariants as medium
 use Rattle.world_text.specs.declared.line.WorldLine.{WorldLine}
 use Rattle.world_text.specs.declared.line.WorldLine.TheVariants as line
 use Rattle.world_text.specs.LineReading.{read_line}
-use Rattle.world_text.specs.VersionLines.{bad_version_line, versions_in}
+use Rattle.world_text.specs.VersionLines.{versions_in}
 use Rattle.world_text.specs.WorldLines.{Begins, Draft, Goes, after, first_line, good_line, judged_line, line_cause, line_verdict, opening_draft, unless, world_of}
 use Rattle.world_text.specs.WorldRefusal.{Leads}
-use Rattle.world_text.specs.WorldSpelling.{EachBehind, HostText, IsBehindMedium, IsHeaded, IsReached, IsWorldText, ScriptText, host_names, host_said, laid, lines_of_steps, lines_of_text, lines_said, media_named, media_said, medium_names, rated_name, script_said, speaks, spelling}
+use Rattle.world_text.specs.WorldSpelling.{EachBehind, HostText, IsBehindMedium, IsHeaded, IsReached, IsWorldText, ScriptText, host_names, host_said, laid, lines_of_steps, lines_of_text, lines_said, media_said, medium_names, script_said, speaks, spelling}
 use Rattle.world_text.specs.WorldText.{Cut, cuts_of, judged, reading_from, with_versions, world_reading}
 use Rattle.world_text.specs.LineFit.{is_fit}
 use Rattle.world_text.proofs.LineBack.{back, loud}
@@ -105,12 +105,17 @@ all-going media hosts scripts =
     (list_all-append going (flat_map lines_of_text hosts) (flat_map lines_of_steps scripts)
     ∙ both (list_all going (flat_map lines_of_text hosts)) (list_all going (flat_map lines_of_steps scripts)) (hosts-going hosts) (scripts-going scripts))
 
+-- its first line names its timers
+first-goes : (kind : Timers) → line_verdict opening_draft (spelling (line.Networld kind)) ≡ Goes (begun kind)
+first-goes Fixed = refl
+first-goes Measured = refl
+
 -- the spelled lines of a world lead to it
 pub world-leads : (kind : Timers) (e s : ℕ) (media : List MediumLine) (hosts : List HostText) (scripts : List ScriptText) → FineWorld e s media hosts scripts
     → Leads opening_draft (map spelling (lines_said kind e s media hosts scripts)) (whole_draft kind e s media hosts scripts)
 world-leads kind e s media hosts scripts k = (
   begun kind,
-  refl,
+  first-goes kind,
   spelled-leads (begun kind) (whole_draft kind e s media hosts scripts)
       (line.End e ∷ line.Seed s ∷ (of_media media ++ (flat_map lines_of_text hosts ++ flat_map lines_of_steps scripts))) refl (all-going media hosts scripts)
       (world-lead kind e s media hosts scripts k),

@@ -19,7 +19,7 @@ use Rattle.world_text.proofs.WorldLists.{false-of-not, or-parts}
 use Rattle.world_text.proofs.WorldRead.{spelled-read}
 use Rattle.world_text.proofs.LineSpelled.{spelled}
 use Rattle.world_text.proofs.WorldSound.{err-ok, same-ok}
-use Rattle.world_text.proofs.WorldTexts.{Ends, Shape, cuts-line, ends, headed, judged-goes, last-parts, leads-all, no-cuts, passed-goes, reading-lines, shape}
+use Rattle.world_text.proofs.WorldTexts.{Shape, cuts-line, ends, headed, judged-goes, last-parts, leads-all, no-cuts, passed-goes, reading-lines, shape}
 
 -- A text says one world at most.
 

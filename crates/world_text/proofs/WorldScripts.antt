@@ -1,5 +1,5 @@
 -- The lines of the scripts behind one another.
-use Rattle.std.proofs.Common.{◌≡◌, ℕ, ◌+◌, ◌<◌, ◌≤◌, ◌==◌, suc, Bool, true, false, not, ◌&&◌, List, [], ◌∷◌, ◌++◌, length, map, refl, sym, ap, ◌∙◌, arith, Option, Some, None, length-append}
+use Rattle.std.proofs.Common.{◌≡◌, ℕ, ◌<◌, ◌≤◌, suc, true, not, ◌&&◌, List, [], ◌∷◌, ◌++◌, length, map, refl, sym, ap, ◌∙◌, arith, None, length-append}
 use Rattle.std.specs.Prelude.{bytes_eq, nat_le, nat_lt}
 use Rattle.std.specs.List.{list_all, list_any, position_or_len}
 use Rattle.std.proofs.lemmas.Bool.{and_parts}
@@ -11,9 +11,8 @@ use Rattle.net_base.specs.declared.world.MediumSpec.{MediumSpec}
 use Rattle.net_base.specs.declared.world.Script.{Script}
 use Rattle.net_base.specs.declared.world.Step.{Step}
 use Rattle.net_base.specs.World.{is_script, is_step}
-use Rattle.world_text.specs.declared.line.LineCause.{LineCause}
 use Rattle.world_text.specs.declared.line.LineCause.TheVariants as cause
-use Rattle.world_text.specs.WorldLines.{Draft, at_last, empty_script, has_host, host_number, is_before, is_host_named, script_cause, step_cause, with_step}
+use Rattle.world_text.specs.WorldLines.{Draft, at_last, empty_script, has_host, is_before, is_host_named, script_cause, step_cause, with_step}
 use Rattle.world_text.specs.WorldSpelling.{ScriptText, host_names, place_of, script_said}
 use Rattle.world_text.proofs.WorldLists.{all-parts, any-map, at_last-push, place-map, place-there, true-of-not}
 use Rattle.world_text.proofs.WorldMedia.{passes, room-from, room-is, unrefused}

@@ -1,6 +1,6 @@
 -- A world so far is small.
-use Rattle.std.proofs.Common.{◌≡◌, ℕ, ◌≤◌, ◌==◌, Bool, true, false, List, [], ◌∷◌, ◌++◌, length, suc, map, arith, refl, sym, ap, subst, ◌∙◌}
-use Rattle.std.specs.Prelude.{bytes_eq, filter_map}
+use Rattle.std.proofs.Common.{◌≡◌, ℕ, ◌≤◌, true, List, [], ◌∷◌, ◌++◌, length, suc, map, arith, refl, ap, ◌∙◌}
+use Rattle.std.specs.Prelude.{bytes_eq}
 use Rattle.net_base.specs.declared.timer.Timers.{Timers}
 use Rattle.net_base.specs.declared.world.HostSpec.{HostSpec}
 use Rattle.net_base.specs.declared.world.MediumSpec.{MediumSpec}
@@ -12,10 +12,10 @@ use Rattle.world_text.specs.WorldLines.{Draft, Goes, line_verdict, opening_draft
 use Rattle.world_text.specs.WorldRefusal.{Leads}
 use Rattle.world_text.specs.WorldSpelling.{HostText, ScriptText, host_names, media_said, medium_names}
 use Rattle.world_text.proofs.WorldMedia.{count-named, names-media}
-use Rattle.world_text.proofs.WorldHosts.{count-said, saids}
-use Rattle.world_text.proofs.WorldScripts.{FineScripts, scripts_said}
+use Rattle.world_text.proofs.WorldHosts.{count-said}
+use Rattle.world_text.proofs.WorldScripts.{scripts_said}
 use Rattle.world_text.proofs.WorldSound.{Behind, Opening, Stage, read-all}
-use Rattle.world_text.proofs.WorldStands.{AtEnd, AtFirst, AtRest, So, Stands, hosts-are, hosts_of, stands_draft}
+use Rattle.world_text.proofs.WorldStands.{AtEnd, AtFirst, AtRest, Stands, hosts-are, hosts_of, stands_draft}
 use Rattle.world_text.proofs.WorldTexts.{leads-more}
 
 -- so few of each

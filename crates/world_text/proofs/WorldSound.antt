@@ -1,8 +1,7 @@
 -- What is read spells the world.
-use Rattle.std.proofs.Common.{◌≡◌, ℕ, ◌+◌, ◌≤◌, ◌<◌, ◌==◌, ◌⊎◌, inl, inr, suc, zero, Bool, true, false, ◌&&◌, cond, List, [], ◌∷◌, ◌++◌, length, map, get_or, refl, sym, ap, subst, ◌∙◌, arith, Option, Some, None, Ok, Err, Result, append-nil, append_assoc}
-use Rattle.std.specs.Prelude.{codes}
+use Rattle.std.proofs.Common.{◌≡◌, ℕ, ◌+◌, ◌==◌, ◌⊎◌, inl, inr, suc, zero, true, false, ◌&&◌, cond, List, [], ◌∷◌, ◌++◌, map, refl, sym, ap, subst, ◌∙◌, arith, Option, Some, None, Ok, Err, Result, append-nil, append_assoc}
 use Rattle.std.specs.List.{All, filter, list_all}
-use Rattle.std.proofs.lemmas.Bool.{and_parts, false≢true}
+use Rattle.std.proofs.lemmas.Bool.{false≢true}
 use Rattle.std.proofs.lemmas.List.{map-append}
 use Rattle.std.proofs.lemmas.List.Elements.{filter-append}
 use Rattle.net_base.specs.declared.timer.Timers.{Timers}
@@ -10,7 +9,6 @@ use Rattle.net_base.specs.declared.world.Version.{Version}
 use Rattle.net_base.specs.declared.world.World.{World}
 use Rattle.net_base.specs.NdbText.{lines_of}
 use Rattle.net_base.specs.World.{IsWorld, is_byte}
-use Rattle.world_text.specs.declared.line.LineCause.{LineCause}
 use Rattle.world_text.specs.declared.line.MediumLine.{MediumLine}
 use Rattle.world_text.specs.declared.line.WorldLine.{WorldLine}
 use Rattle.world_text.specs.declared.line.WorldLine.TheVariants as line
@@ -19,19 +17,16 @@ use Rattle.world_text.specs.LineReading.{read_line}
 use Rattle.world_text.specs.VersionLines.{bad_version_line, versions_in}
 use Rattle.world_text.specs.WorldLines.{Bad, Begins, Draft, Goes, Verdict, after, good_line, line_cause, line_verdict, ndb_cause, opening_draft, world_of}
 use Rattle.world_text.specs.WorldRefusal.{Leads}
-use Rattle.world_text.specs.WorldSpelling.{EachBehind, HostText, IsHeaded, IsReached, IsWorldText, ScriptText, host_names, host_said, is_line, laid, lines_said, media_said, medium_names, script_said, speaks, spelling}
+use Rattle.world_text.specs.WorldSpelling.{EachBehind, HostText, IsHeaded, IsReached, IsWorldText, ScriptText, is_line, media_said, medium_names, speaks, spelling}
 use Rattle.world_text.specs.WorldText.{Cut, cuts_of, judged, missing, reading_from, with_versions, world_reading}
 use Rattle.world_text.proofs.LineBack.{loud}
 use Rattle.world_text.proofs.LineSpelled.{spelled}
 use Rattle.world_text.proofs.VersionTexts.{versions-databases, versions-say, versions-timed}
 use Rattle.world_text.proofs.WorldMedia.{media_group}
-use Rattle.world_text.proofs.WorldHosts.{EachFine, FineHost, FineHosts}
-use Rattle.world_text.proofs.WorldLed.{begun}
+use Rattle.world_text.proofs.WorldHosts.{EachFine}
 use Rattle.world_text.proofs.WorldScripts.{script_draft}
-use Rattle.world_text.proofs.WorldStands.{AtEnd, AtFirst, AtRest, Complete, IsReady, So, Stands, complete, some-scripts, so-more, stands_draft}
-use Rattle.world_text.proofs.WorldTexts.{Ends, First, Good, Passed, Refused, Shape, View, bad-goes, begins-goes, bytes-behind, ends, headed, last-parts, leads-more, same-goes, shape, view}
-use Rattle.net_base.specs.declared.world.MediumSpec.{MediumSpec}
-use Rattle.net_base.specs.declared.world.HostSpec.{HostSpec}
+use Rattle.world_text.proofs.WorldStands.{AtEnd, AtFirst, AtRest, Complete, So, complete, some-scripts, so-more, stands_draft}
+use Rattle.world_text.proofs.WorldTexts.{Ends, First, Good, Passed, Refused, Shape, View, bad-goes, begins-goes, bytes-behind, ends, headed, last-parts, same-goes, shape, view}
 use Rattle.world_text.specs.WorldSpelling.{rated_name}
 use Rattle.world_text.proofs.WorldHosts.{saids}
 use Rattle.std.specs.Prelude.{filter_map}

@@ -1,7 +1,7 @@
 -- What lines lead to is what all of them say, and a world where none is missing.
-use Rattle.std.proofs.Common.{◌≡◌, ℕ, ◌+◌, ◌^◌, ◌<◌, ◌≤◌, ◌==◌, suc, Bool, true, false, not, ◌&&◌, ◌||◌, List, [], ◌∷◌, ◌++◌, length, map, refl, sym, ap, subst, ◌∙◌, arith, Option, Some, None, append-nil, append_assoc, length-append}
-use Rattle.std.specs.Prelude.{⊤, bytes_eq, filter_map, flat_map, is_none, nat_eq, nat_le, nat_lt, if◌then◌else◌}
-use Rattle.std.specs.List.{All, last_or, list_all, list_any}
+use Rattle.std.proofs.Common.{◌≡◌, ℕ, ◌^◌, ◌≤◌, suc, Bool, true, false, not, ◌||◌, List, [], ◌∷◌, ◌++◌, length, map, refl, sym, ap, subst, ◌∙◌, arith, Some, None, append-nil, append_assoc, length-append}
+use Rattle.std.specs.Prelude.{filter_map, flat_map, is_none, nat_le, nat_lt}
+use Rattle.std.specs.List.{All, list_all, list_any}
 use Rattle.std.proofs.lemmas.Bool.{and_parts, false≢true}
 use Rattle.std.proofs.lemmas.Bool.Decides.{nat_tests}
 use Rattle.std.proofs.lemmas.Grind.{flat_map-append}
@@ -16,7 +16,7 @@ use Rattle.net_base.specs.declared.world.Version.{Version}
 use Rattle.net_base.specs.declared.world.World.{World}
 use Rattle.net_base.specs.Routes.{has_ip}
 use Rattle.net_base.specs.Versions.{are_timed}
-use Rattle.net_base.specs.World.{IsDatabase, IsWorld, is_host, is_moment, is_name, is_nets, is_script, is_step, is_within}
+use Rattle.net_base.specs.World.{IsDatabase, IsWorld, is_host, is_moment, is_script, is_within}
 use Rattle.world_text.specs.declared.line.HostLine.{HostLine}
 use Rattle.world_text.specs.declared.line.HostLine.TheVariants as host
 use Rattle.world_text.specs.declared.line.LineCause.{LineCause}
@@ -25,16 +25,16 @@ use Rattle.world_text.specs.declared.line.MediumLine.{MediumLine}
 use Rattle.world_text.specs.declared.line.MediumLine.TheVariants as medium
 use Rattle.world_text.specs.declared.line.WorldLine.{WorldLine}
 use Rattle.world_text.specs.declared.line.WorldLine.TheVariants as line
-use Rattle.world_text.specs.WorldLines.{Draft, after, has_fate, has_host, has_iface_on, has_medium, host_cause, host_line_cause, host_under, is_before, is_host_named, is_past, is_rated, is_under, line_cause, medium_line_cause, medium_number, ndb_cause, opening_draft, range_of, script_cause, world_of}
-use Rattle.world_text.specs.WorldSpelling.{HostText, IsBehindMedium, SaysMedium, ScriptText, host_names, host_said, lines_of_steps, lines_of_text, lines_said, media_said, medium_names, rated_name, script_said}
-use Rattle.world_text.specs.LineFit.{fit_host_line, fit_medium_line, is_fit}
+use Rattle.world_text.specs.WorldLines.{Draft, after, has_host, has_iface_on, has_medium, host_cause, host_line_cause, host_under, is_before, is_host_named, is_past, is_rated, is_under, line_cause, medium_line_cause, medium_number, ndb_cause, script_cause, world_of}
+use Rattle.world_text.specs.WorldSpelling.{HostText, ScriptText, host_names, lines_of_steps, lines_of_text, lines_said, media_said, medium_names, rated_name, script_said}
+use Rattle.world_text.specs.LineFit.{is_fit}
 use Rattle.world_text.proofs.WorldLists.{Ending, Empty, Pushed, ending, or-parts, true-of-not}
-use Rattle.world_text.proofs.WorldMedia.{FineMedia, FitsBehind, count-named, fine-none, media-after, media-fits, media_draft, media_group, names, unrefused}
-use Rattle.world_text.proofs.WorldMediums.{AreMedia, both, media-of-lines}
+use Rattle.world_text.proofs.WorldMedia.{FineMedia, count-named, fine-none, media-after, media-fits, media_draft, media_group, names, unrefused}
+use Rattle.world_text.proofs.WorldMediums.{both, media-of-lines}
 use Rattle.world_text.proofs.WorldHosts.{FineHosts, bare_text, count-said, host-after, host-fits, host_draft, hosts-none, line-after, line-fits, saids, with_line}
-use Rattle.world_text.proofs.WorldHostForms.{AreHosts, hosts-of-lines}
+use Rattle.world_text.proofs.WorldHostForms.{hosts-of-lines}
 use Rattle.world_text.proofs.WorldScripts.{FineScripts, empty_text, script-after, script-fits, script_draft, scripts-none, scripts_said, step-after, step-fits, with_one}
-use Rattle.world_text.proofs.WorldLed.{begun, of_host, of_media, of_script}
+use Rattle.world_text.proofs.WorldLed.{begun, of_media}
 
 -- Lines so far.
 

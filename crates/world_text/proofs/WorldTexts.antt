@@ -1,5 +1,5 @@
 -- A text by its lines, and what any line makes of the world so far.
-use Rattle.std.proofs.Common.{◌≡◌, ℕ, ◌+◌, ◌==◌, ◌⊎◌, inl, inr, Bool, true, false, not, ◌&&◌, ◌||◌, cond, List, [], ◌∷◌, ◌++◌, length, refl, sym, ap, subst, ◌∙◌, arith, Option, Some, None, Result, Ok, Err, append_assoc}
+use Rattle.std.proofs.Common.{◌≡◌, ℕ, ◌+◌, ◌==◌, ◌⊎◌, inl, inr, Bool, true, false, not, ◌||◌, cond, List, [], ◌∷◌, ◌++◌, length, refl, sym, ap, subst, ◌∙◌, arith, Option, Some, None, Result, Ok, Err, append_assoc}
 use Rattle.std.specs.Prelude.{bytes_eq, codes, get_or, if◌then◌else◌}
 use Rattle.std.specs.List.{filter, list_all, list_any}
 use Rattle.std.proofs.lemmas.Bool.{and_parts, eqb-true, false≢true}

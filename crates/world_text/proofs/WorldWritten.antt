@@ -1,10 +1,12 @@
 -- Each world has a text: its canonical lines say it.
-use Rattle.std.proofs.Common.{◌≡◌, ℕ, ◌+◌, ◌<◌, ◌≤◌, ◌==◌, inl, suc, zero, Bool, true, false, not, ◌&&◌, ◌||◌, cond, List, [], ◌∷◌, ◌++◌, length, map, get_or, refl, sym, ap, subst, ◌∙◌, arith, Option, Some, None, append-nil, append_assoc}
+use Rattle.std.proofs.Common.{◌≡◌, ℕ, ◌+◌, ◌<◌, ◌==◌, inl, suc, zero, Bool, true, false, not, ◌&&◌, cond, List, [], ◌∷◌, ◌++◌, length, map, get_or, refl, sym, ap, subst, ◌∙◌, arith, Option, None, append-nil, append_assoc}
 use Rattle.std.specs.Prelude.{bit_and, bytes_eq, codes, filter_map, flat_map, nat_le, nat_lt}
-use Rattle.std.specs.List.{All, cons_option, filter, list_all, list_any, position_or_len}
-use Rattle.std.proofs.lemmas.Bool.{and_parts, false≢true, ltb-true}
+use Rattle.std.specs.List.{All, filter, list_all, list_any, position_or_len}
+use Rattle.std.proofs.lemmas.Bool.{and_parts, ltb-true}
 use Rattle.std.proofs.lemmas.List.{map-append}
 use Rattle.std.proofs.lemmas.List.Elements.{filter_map-append}
+use Rattle.net_base.specs.declared.timer.Timers.{Timers}
+use Rattle.net_base.specs.declared.timer.Timers.TheVariants.{Fixed, Measured}
 use Rattle.net_base.specs.declared.world.HostSpec.{HostSpec}
 use Rattle.net_base.specs.declared.world.Iface.{Iface}
 use Rattle.net_base.specs.declared.world.MediumSpec.{MediumSpec}
@@ -21,11 +23,10 @@ use Rattle.world_text.specs.declared.line.MediumLine.{MediumLine}
 use Rattle.world_text.specs.declared.line.WorldLine.{WorldLine}
 use Rattle.world_text.specs.declared.line.WorldLine.TheVariants as line
 use Rattle.world_text.specs.VersionLines.{bad_version_line, versions_in}
-use Rattle.world_text.specs.WorldLines.{Draft, after, is_near, line_cause, opening_draft}
+use Rattle.world_text.specs.WorldLines.{Draft, after, is_near}
 use Rattle.world_text.specs.WorldSpelling.{EachBehind, HostText, IsReached, IsWorldText, SaysVersions, ScriptText, host_names, host_said, iface_said, is_line, laid, line_of_iface, line_of_route, line_of_start, line_of_step, line_of_timers, lines_of_host, lines_of_medium, lines_of_script, lines_of_steps, lines_of_text, lines_of_world, lines_said, medium_names, name_at, place_of, route_said, script_said, speaks, spelling, start_said}
-use Rattle.world_text.specs.LineFit.{is_fit}
 use Rattle.world_text.proofs.LineBack.{loud, one_line}
-use Rattle.world_text.proofs.WorldLists.{any-at, each-none, each-push, false-of-not, own-bytes, same-bytes, or-parts}
+use Rattle.world_text.proofs.WorldLists.{each-none, each-push, false-of-not, own-bytes, same-bytes, or-parts}
 use Rattle.world_text.proofs.VersionTexts.{versions-say}
 use Rattle.world_text.proofs.WorldMediums.{both}
 use Rattle.world_text.proofs.WorldHosts.{ifaces, routes, starts}
@@ -298,6 +299,10 @@ whole-lines : (d e : Draft) (ls : List WorldLine) → Led d ls e → list_all is
 whole-lines d e [] led = refl
 whole-lines d e (l ∷ ls) led = both (is_line (spelling l)) (list_all is_line (map spelling ls)) (one_line l led.0) (whole-lines (after d l) e ls led.2)
 
+first-whole : (kind : Timers) → is_line (spelling (line.Networld kind)) ≡ true
+first-whole Fixed = refl
+first-whole Measured = refl
+
 loud-lines : (ls : List WorldLine) → filter speaks (map spelling ls) ≡ map spelling ls
 loud-lines [] = refl
 loud-lines (l ∷ ls) =
@@ -312,8 +317,10 @@ written w bundle is fine read =
     let s = canon-said w is in
     let led = world-lead w.timers w.end w.seed media hosts scripts (fine-world w media hosts scripts s) in
     let same = canon-spelled w is in
-    let whole : list_all is_line (map spelling ls) ≡ true = whole-lines (begun w.timers) (whole_draft w.timers w.end w.seed media hosts scripts)
-    (line.End w.end ∷ line.Seed w.seed ∷ (of_media media ++ (flat_map lines_of_text hosts ++ flat_map lines_of_steps scripts))) led in
+    let rest : List WorldLine = line.End w.end ∷ line.Seed w.seed ∷ (of_media media ++ (flat_map lines_of_text hosts ++ flat_map lines_of_steps scripts)) in
+    let whole : list_all is_line (map spelling ls) ≡ true =
+    both (is_line (spelling (line.Networld w.timers))) (list_all is_line (map spelling rest)) (first-whole w.timers)
+    (whole-lines (begun w.timers) (whole_draft w.timers w.end w.seed media hosts scripts) rest led) in
     record {
       head = lines_of_world w;
       bundle = bundle;

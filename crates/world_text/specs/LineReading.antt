@@ -15,11 +15,9 @@ use Rattle.net_base.specs.Addresses.{parts_at}
 use Rattle.net_base.specs.World.{is_name, is_nets, is_step}
 use Rattle.world_text.specs.declared.line.Frames.{Frames}
 use Rattle.world_text.specs.declared.line.Frames.TheVariants as frames
-use Rattle.world_text.specs.declared.line.HostLine.{HostLine}
 use Rattle.world_text.specs.declared.line.HostLine.TheVariants as host
 use Rattle.world_text.specs.declared.line.LineCause.{LineCause}
 use Rattle.world_text.specs.declared.line.LineCause.TheVariants as cause
-use Rattle.world_text.specs.declared.line.MediumLine.{MediumLine}
 use Rattle.world_text.specs.declared.line.MediumLine.TheVariants as medium
 use Rattle.world_text.specs.declared.line.WorldLine.{WorldLine}
 use Rattle.world_text.specs.declared.line.WorldLine.TheVariants as line

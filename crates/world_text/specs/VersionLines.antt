@@ -5,7 +5,6 @@
 --     versions_in                the versions that lines make
 use Rattle.std.specs.Prelude.{ℕ, ◌+◌, Bool, ◌||◌, List, [], ◌∷◌, ◌++◌, length, drop, filter_map, codes, bytes_eq, Option, Some, None, unwrap_or, nat_le, if◌then◌else◌}
 use Rattle.std.specs.List.{last_or, before_first, after_last}
-use Rattle.net_base.specs.declared.ndb.NdbPair.{NdbPair}
 use Rattle.net_base.specs.declared.world.Version.{Version}
 use Rattle.net_base.specs.Addresses.{number_in}
 use Rattle.net_base.specs.NdbBundle.{cause, causes_of, database, has_tuple, least, told}
