@@ -17,7 +17,7 @@ use Rattle.net_base.specs.Search.{tuples_with, all_beside}
 use Rattle.ndb_reader.specs.Written.{line_text}
 use Rattle.net_base.specs.Cs.{cs_list}
 use Rattle.net_base.specs.Hexadecimal.{hex_digits, hex_text}
-use Rattle.dns_text.specs.Answers.{dns_answer}
+use Rattle.net_base.specs.DomainAnswers.{dns_answer}
 use Rattle.net_base.specs.Net.{Net, after}
 use Rattle.net_base.specs.Plain.{IsPlain}
 use Rattle.net_base.specs.Summary.{summary}

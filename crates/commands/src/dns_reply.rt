@@ -1,7 +1,7 @@
 //! The command `dns`.
 ghost use Rattle.std.specs.Prelude.{◌≡◌, map, option_to_list, IfOk};
 ghost use Rattle.net_base.specs.Hexadecimal.{hex_digits};
-ghost use Rattle.dns_text.specs.Answers.{dns_answer};
+ghost use Rattle.net_base.specs.DomainAnswers.{dns_answer};
 ghost use Rattle.commands.specs.Built.{dns_lines, dns_over};
 
 use crate::answer::Answer;

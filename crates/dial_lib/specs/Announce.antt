@@ -4,7 +4,7 @@ use Rattle.net_base.specs.declared.names.Mode.TheVariants as mode
 use Rattle.net_base.specs.declared.reply.Reply.{Reply}
 use Rattle.net_base.specs.declared.world.Step.{Step}
 use Rattle.net_base.specs.declared.world.Step.TheVariants as step
-use Rattle.net_base.specs.Steps.{Bound, Fid, Play, Ends, fid_of, is_bound, bind, unbind, puts, closes, netmkaddr, lines_in, clone_path, line_address, is_accepted, announces, play_of}
+use Rattle.net_base.specs.Steps.{Names, Fid, Play, Ends, fid_of, is_bound, bind, unbind, puts, closes, netmkaddr, lines_in, clone_path, line_address, is_accepted, announces, play_of}
 use Rattle.dial_lib.specs.Lines.{first, first_line}
 use Rattle.dial_lib.specs.declared.announce.Announce.{Announce}
 use Rattle.dial_lib.specs.declared.announce.AnnouncePhase.{AnnouncePhase}
@@ -13,7 +13,7 @@ use Rattle.script_task.specs.declared.request.Request.{Request}
 use Rattle.script_task.specs.declared.request.Request.TheVariants as request
 use Rattle.script_task.specs.Fitting.{is_opening}
 
-abbrev pub begins : List Bound → List ℕ → List ℕ → Request
+abbrev pub begins : Names → List ℕ → List ℕ → Request
 begins names called address = if is_bound names called then request.Unbound called else request.Cs (netmkaddr address (codes "net") (codes "9fs"))
 
 abbrev pub opens_line : List ℕ → Option (List ℕ) → Option Request
@@ -23,7 +23,7 @@ opens_line called (Some line) = Some (request.Open called (clone_path line) mode
 abbrev pub writes_line : List ℕ → List (List ℕ) → Request
 writes_line called lines = request.Write called (codes "announce " ++ line_address (first_line lines))
 
-abbrev pub asks_by : AnnouncePhase → List ℕ → List ℕ → List (List ℕ) → List Bound → Option Request
+abbrev pub asks_by : AnnouncePhase → List ℕ → List ℕ → List (List ℕ) → Names → Option Request
 asks_by phase.Fresh called address lines names = Some (begins names called address)
 asks_by phase.Open called address lines names = opens_line called (first lines)
 asks_by phase.Write called address lines names = Some (writes_line called lines)
@@ -31,7 +31,7 @@ asks_by phase.Close called address lines names = Some (request.Close called)
 asks_by phase.Through called address lines names = None
 
 -- the next request under these names
-abbrev pub asks : Announce → List Bound → Option Request
+abbrev pub asks : Announce → Names → Option Request
 asks t names = asks_by t.phase t.name t.address t.lines names
 
 -- a refused open ends the step, and a refused announce closes the file
@@ -52,21 +52,21 @@ after t r = record t { phase = phase_after t.phase r; lines = lines_after t.phas
 
 -- The play that it stands for.
 
-abbrev pub writing : ℕ → List ℕ → List Bound → Fid → List ℕ → Play
+abbrev pub writing : ℕ → List ℕ → Names → Fid → List ℕ → Play
 writing h called base made line = puts h made made.file (codes "announce " ++ line_address line) (closes h made (Ends base) (Ends base)) (Ends (bind called made base))
 
-pub data Stands (h : ℕ) (called address : List ℕ) (names : List Bound) : AnnouncePhase → List (List ℕ) → Play → Type 0 where
+pub data Stands (h : ℕ) (called address : List ℕ) (names : Names) : AnnouncePhase → List (List ℕ) → Play → Type 0 where
   IsFresh : (lines : List (List ℕ)) → Stands h called address names phase.Fresh lines (play_of h names (step.Announce called address))
   IsOpen : (lines : List (List ℕ)) → is_bound names called ≡ false → Stands h called address names phase.Open lines (announces h called names lines)
   -- the name was bound already
   IsOver : Stands h called address names phase.Open [] (Ends names)
-  IsWrite : (base : List Bound) (made : Fid) (line : List ℕ) (lines : List (List ℕ)) → is_bound base called ≡ false → names ≡ bind called made base → made.mode ≡ mode.Both
+  IsWrite : (base : Names) (made : Fid) (line : List ℕ) (lines : List (List ℕ)) → is_bound base called ≡ false → names ≡ bind called made base → made.mode ≡ mode.Both
       → Stands h called address names phase.Write (line ∷ lines) (writing h called base made line)
-  IsClose : (base : List Bound) (made : Fid) (lines : List (List ℕ)) → fid_of called names ≡ Some made → unbind called names ≡ base
+  IsClose : (base : Names) (made : Fid) (lines : List (List ℕ)) → fid_of called names ≡ Some made → unbind called names ≡ base
       → Stands h called address names phase.Close lines (closes h made (Ends base) (Ends base))
   IsThrough : (lines : List (List ℕ)) → Stands h called address names phase.Through lines (Ends names)
 
-abbrev pub StandsFor : ℕ → List Bound → Announce → Play → Type 0
+abbrev pub StandsFor : ℕ → Names → Announce → Play → Type 0
 StandsFor h names t p = Stands h t.name t.address names t.phase t.lines p
 
 -- The beginning.
@@ -77,4 +77,4 @@ begun called address = record { name = called; address = address; phase = phase.
 
 -- on every host and under all names it stands for the step's play
 abbrev pub Begins : Announce → Step → Type 0
-Begins t s = (h : ℕ) (names : List Bound) → StandsFor h names t (play_of h names s)
+Begins t s = (h : ℕ) (names : Names) → StandsFor h names t (play_of h names s)

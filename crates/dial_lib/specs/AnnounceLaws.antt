@@ -4,7 +4,7 @@ use Rattle.net_base.specs.declared.names.Mode.TheVariants as mode
 use Rattle.net_base.specs.declared.reply.Reply.{Reply}
 use Rattle.net_base.specs.declared.world.Step.TheVariants as step
 use Rattle.net_base.specs.Paths.{walk, writes}
-use Rattle.net_base.specs.Steps.{Bound, Fid, Play, Ends, fid_of, is_bound, bind, unbind, uses, on_fid, puts, closes, asks_cs, netmkaddr, opened_fid, openable, announces, clone_path, line_address, lines_in, is_accepted, if_accepted, play_of}
+use Rattle.net_base.specs.Steps.{Names, Fid, Play, Ends, fid_of, is_bound, bind, unbind, uses, on_fid, puts, closes, asks_cs, netmkaddr, opened_fid, openable, announces, clone_path, line_address, lines_in, is_accepted, if_accepted, play_of}
 use Rattle.dial_lib.specs.declared.announce.Announce.{Announce}
 use Rattle.dial_lib.specs.declared.announce.AnnouncePhase.{AnnouncePhase}
 use Rattle.dial_lib.specs.declared.announce.AnnouncePhase.TheVariants as phase
@@ -22,24 +22,24 @@ use Rattle.script_task.specs.Task.{Heads, AsksSo, MovesSo, follow, fits_play}
 
 -- Its requests.
 
-fresh_heads : (h : ℕ) (names : List Bound) (called address : List ℕ) (b : Bool)
+fresh_heads : (h : ℕ) (names : Names) (called address : List ℕ) (b : Bool)
     → Heads h names (Some (if b then request.Unbound called else request.Cs (netmkaddr address (codes "net") (codes "9fs"))))
     (if b then uses h called names else asks_cs h address (announces h called names))
 fresh_heads h names called address true = (_, refl, refl)
 fresh_heads h names called address false = (_, refl, refl)
 
 -- the name is bound to the file that was made
-pub found : (called : List ℕ) (base names : List Bound) (made : Fid) → names ≡ bind called made base → fid_of called names ≡ Some made
+pub found : (called : List ℕ) (base names : Names) (made : Fid) → names ≡ bind called made base → fid_of called names ≡ Some made
 found called base names made is = rw (is, same_bytes called) refl
 
 -- a text goes to a file that a name is bound to
-pub writing_heads : (h : ℕ) (names : List Bound) (called text : List ℕ) (made : Fid) → fid_of called names ≡ Some made → made.mode ≡ mode.Both
+pub writing_heads : (h : ℕ) (names : Names) (called text : List ℕ) (made : Fid) → fid_of called names ≡ Some made → made.mode ≡ mode.Both
     → (refused next : Play) → Heads h names (Some (request.Write called text)) (puts h made made.file text refused next)
 writing_heads h names called text made is both refused next =
     let put = puts_head h made made.file text in
     (put.0, put.1 refused next, rw (is) (chosen (writes made.mode) _ _ put.0 (ap writes both) (put.1 (Ends names) (Ends names))))
 
-heads : (h : ℕ) (called address : List ℕ) (names : List Bound) (ph : AnnouncePhase) (lines : List (List ℕ)) (p : Play)
+heads : (h : ℕ) (called address : List ℕ) (names : Names) (ph : AnnouncePhase) (lines : List (List ℕ)) (p : Play)
     → Stands h called address names ph lines p → Heads h names (spec.asks_by ph called address lines names) p
 heads h called address names _ _ _ (IsFresh lines) = fresh_heads h names called address (is_bound names called)
 heads h called address names _ _ _ (IsOpen [] free) = refl
@@ -52,33 +52,33 @@ heads h called address names _ _ _ (IsThrough lines) = refl
 
 -- Its replies.
 
-move_fresh : (h : ℕ) (called address : List ℕ) (names : List Bound) (r : Reply) (b : Bool) → is_bound names called ≡ b
+move_fresh : (h : ℕ) (called address : List ℕ) (names : Names) (r : Reply) (b : Bool) → is_bound names called ≡ b
     → fits_play (if b then uses h called names else asks_cs h address (announces h called names)) r ≡ true
     → Stands h called address (settled names (if b then request.Unbound called else request.Cs (netmkaddr address (codes "net") (codes "9fs"))) r) phase.Open (lines_in r)
     (follow (if b then uses h called names else asks_cs h address (announces h called names)) r)
 move_fresh h called address names r true is fit = rw (no_lines r (flip (is_accepted r) fit)) IsOver
 move_fresh h called address names r false is fit = IsOpen (lines_in r) is
 
-move_line : (h : ℕ) (called address : List ℕ) (names : List Bound) (line : List ℕ) (lines : List (List ℕ)) (o : Option Fid) (r : Reply) → is_bound names called ≡ false → Gave mode.Both o r
+move_line : (h : ℕ) (called address : List ℕ) (names : Names) (line : List ℕ) (lines : List (List ℕ)) (o : Option Fid) (r : Reply) → is_bound names called ≡ false → Gave mode.Both o r
     → Stands h called address (bound_after called names o) (if is_opening r then phase.Write else phase.Through) (line ∷ lines) (on_fid o (Ends names) (λ (made : Fid). writing h called names made line))
 move_line h called address names line lines o r free (Opens made is both slot opening) = rw (is, opening) (IsWrite names made line lines free refl both)
 move_line h called address names line lines o r free (Refuses is opening) = rw (is, opening) (IsThrough (line ∷ lines))
 
-pub open_settle : (names : List Bound) (called path : List ℕ) (r : Reply) → is_bound names called ≡ false
+pub open_settle : (names : Names) (called path : List ℕ) (r : Reply) → is_bound names called ≡ false
     → settled names (request.Open called path mode.Both) r ≡ bound_after called names (opened_fid mode.Both (openable (walk path) mode.Both) r)
 open_settle names called path r free = rw (free) refl
 
-pub front_left : (called : List ℕ) (base names : List Bound) (made : Fid) → is_bound base called ≡ false → names ≡ bind called made base → unbind called names ≡ base
+pub front_left : (called : List ℕ) (base names : Names) (made : Fid) → is_bound base called ≡ false → names ≡ bind called made base → unbind called names ≡ base
 front_left called base names made free is = rw (is, same_bytes called) (unbind_free called base free)
 
-move_write : (h : ℕ) (called address : List ℕ) (base names : List Bound) (made : Fid) (line : List ℕ) (lines : List (List ℕ)) (r : Reply) → is_bound base called ≡ false → names ≡ bind called made base
+move_write : (h : ℕ) (called address : List ℕ) (base names : Names) (made : Fid) (line : List ℕ) (lines : List (List ℕ)) (r : Reply) → is_bound base called ≡ false → names ≡ bind called made base
     → Stands h called address names (spec.phase_after phase.Write r) (line ∷ lines) (if_accepted r (Ends (bind called made base)) (closes h made (Ends base) (Ends base)))
 move_write h called address base names made line lines r free is =
     by_test (λ b p. Stands h called address names (if b then phase.Through else phase.Close) (line ∷ lines) p) (is_accepted r) (Ends (bind called made base)) (closes h made (Ends base) (Ends base))
-    (subst (λ (bound : List Bound). Stands h called address names phase.Through (line ∷ lines) (Ends bound)) is (IsThrough (line ∷ lines)))
+    (subst (λ (bound : Names). Stands h called address names phase.Through (line ∷ lines) (Ends bound)) is (IsThrough (line ∷ lines)))
     (IsClose base made (line ∷ lines) (found called base names made is) (front_left called base names made free is))
 
-moves : (h : ℕ) (called address : List ℕ) (names : List Bound) (ph : AnnouncePhase) (lines : List (List ℕ)) (p : Play) (q : Request) (r : Reply)
+moves : (h : ℕ) (called address : List ℕ) (names : Names) (ph : AnnouncePhase) (lines : List (List ℕ)) (p : Play) (q : Request) (r : Reply)
     → Stands h called address names ph lines p → spec.asks_by ph called address lines names ≡ Some q → fits_play p r ≡ true
     → Stands h called address (settles names (spec.asks_by ph called address lines names) r) (spec.phase_after ph r) (spec.lines_after ph r lines) (follow p r)
 moves h called address names _ _ _ q r (IsFresh lines) asked fit = move_fresh h called address names r (is_bound names called) refl fit
@@ -106,7 +106,7 @@ pub moves_so : MovesSo Announce spec.asks spec.after spec.StandsFor
 moves_so = moves_from Announce spec.asks spec.after spec.StandsFor moves_by
 
 -- a fresh one stands for its step
-pub fresh : (h : ℕ) (names : List Bound) (called address name other : List ℕ) (lines : List (List ℕ)) → name ≡ called → other ≡ address
+pub fresh : (h : ℕ) (names : Names) (called address name other : List ℕ) (lines : List (List ℕ)) → name ≡ called → other ≡ address
     → spec.StandsFor h names (record { name = name; address = other; phase = phase.Fresh; lines = lines }) (play_of h names (step.Announce called address))
 fresh h names called address name other lines is other_is =
     subst (λ (n : List ℕ). Stands h n other names phase.Fresh lines (play_of h names (step.Announce called address))) (sym is)

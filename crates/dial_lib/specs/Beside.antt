@@ -4,7 +4,7 @@ use Rattle.net_base.specs.declared.names.FileName.{FileName}
 use Rattle.net_base.specs.declared.names.Mode.TheVariants as mode
 use Rattle.net_base.specs.declared.names.Node.TheVariants as node
 use Rattle.net_base.specs.Paths.{path_of}
-use Rattle.net_base.specs.Steps.{Bound, Fid, Play, Ends, fid_of, is_bound, bind, with_bound, with_new, opens_beside}
+use Rattle.net_base.specs.Steps.{Names, Fid, Play, Ends, fid_of, is_bound, bind, with_bound, with_new, opens_beside}
 use Rattle.dial_lib.specs.Slots.{HaveSlots}
 use Rattle.script_task.specs.declared.request.Request.{Request}
 use Rattle.script_task.specs.declared.request.Request.TheVariants as request
@@ -14,21 +14,21 @@ abbrev pub opens_file : List ℕ → Fid → FileName → Request
 opens_file called f to = request.Open called (path_of (node.File f.proto f.slot to)) mode.Both
 
 -- the name that must be bound is asked for first, then the new one
-abbrev pub asks_file : FileName → List ℕ → List ℕ → List Bound → Option Fid → Request
+abbrev pub asks_file : FileName → List ℕ → List ℕ → Names → Option Fid → Request
 asks_file to called from names None = request.Unbound from
 asks_file to called from names (Some f) = if is_bound names called then request.Unbound called else opens_file called f to
 
-abbrev pub asks_beside : FileName → List ℕ → List ℕ → List Bound → Request
+abbrev pub asks_beside : FileName → List ℕ → List ℕ → Names → Request
 asks_beside to called from names = asks_file to called from names (fid_of from names)
 
-abbrev pub asks_by : FileName → List ℕ → List ℕ → Bool → List Bound → Option Request
+abbrev pub asks_by : FileName → List ℕ → List ℕ → Bool → Names → Option Request
 asks_by to called from is_through names = if is_through then None else Some (asks_beside to called from names)
 
 -- the file's conversation has another file, which is opened with a new name
-abbrev pub beside_play : FileName → ℕ → List ℕ → List ℕ → List Bound → Play
+abbrev pub beside_play : FileName → ℕ → List ℕ → List ℕ → Names → Play
 beside_play to h called from names =
     with_bound h from names (λ (f : Fid). with_new h called names (opens_beside h f to (Ends names) (λ (made : Fid). Ends (bind called made names))))
 
-pub data Stands (to : FileName) (h : ℕ) (names : List Bound) (called from : List ℕ) : Bool → Play → Type 0 where
+pub data Stands (to : FileName) (h : ℕ) (names : Names) (called from : List ℕ) : Bool → Play → Type 0 where
   IsFresh : HaveSlots names → Stands to h names called from false (beside_play to h called from names)
   IsThrough : Stands to h names called from true (Ends names)

@@ -1,7 +1,7 @@
 -- A dial asks for what its play records.
 use Rattle.std.proofs.Common.{◌≡◌, ℕ, Bool, true, false, List, [], ◌∷◌, ◌++◌, Some, codes, if◌then◌else◌, refl}
 use Rattle.net_base.specs.declared.names.FileName.TheVariants as file
-use Rattle.net_base.specs.Steps.{Bound, Fid, Play, fid_of, is_bound, bind, uses, asks_cs, closes_last, connected, dials, netmkaddr, dotted_name, line_address}
+use Rattle.net_base.specs.Steps.{Names, Fid, Play, fid_of, is_bound, bind, uses, asks_cs, closes_last, connected, dials, netmkaddr, dotted_name, line_address}
 use Rattle.dial_lib.specs.declared.dial.DialPhase.{DialPhase}
 use Rattle.dial_lib.specs.AnnounceLaws.{found, writing_heads}
 use Rattle.dial_lib.specs.BesideLaws.{opens_head}
@@ -10,7 +10,7 @@ use Rattle.dial_lib.specs.Names.{apart}
 use Rattle.script_task.specs.declared.request.Request.TheVariants as request
 use Rattle.script_task.specs.Task.{Heads}
 
-fresh : (h : ℕ) (names : List Bound) (called dotted address : List ℕ) (next : List (List ℕ) → Play) (b c : Bool)
+fresh : (h : ℕ) (names : Names) (called dotted address : List ℕ) (next : List (List ℕ) → Play) (b c : Bool)
     → Heads h names (Some (if b then request.Unbound called else (if c then request.Unbound dotted else request.Cs (netmkaddr address (codes "net") (codes "9fs")))))
     (if b then uses h called names else (if c then uses h dotted names else asks_cs h address next))
 fresh h names called dotted address next true c = (_, refl, refl)
@@ -18,13 +18,13 @@ fresh h names called dotted address next false true = (_, refl, refl)
 fresh h names called dotted address next false false = (_, refl, refl)
 
 -- the dotted name is bound in front
-pub made_found : (called : List ℕ) (base names : List Bound) (made : Fid) → Holds called base names made → fid_of (dotted_name called) names ≡ Some made
+pub made_found : (called : List ℕ) (base names : Names) (made : Fid) → Holds called base names made → fid_of (dotted_name called) names ≡ Some made
 made_found called base names made holds = found (dotted_name called) base names made holds.names_are
 
-pub still_free : (called : List ℕ) (base names : List Bound) (made : Fid) → Holds called base names made → is_bound names called ≡ false
+pub still_free : (called : List ℕ) (base names : Names) (made : Fid) → Holds called base names made → is_bound names called ≡ false
 still_free called base names made holds = rw (holds.names_are, apart called) holds.free.name
 
-pub dial_asks : (h : ℕ) (called address : List ℕ) (names : List Bound) (ph : DialPhase) (lines : List (List ℕ)) (p : Play)
+pub dial_asks : (h : ℕ) (called address : List ℕ) (names : Names) (ph : DialPhase) (lines : List (List ℕ)) (p : Play)
     → Stands h called address names ph lines p → Heads h names (asks_by ph called address lines names) p
 dial_asks h called address names _ _ _ (IsFresh lines) = fresh h names called (dotted_name called) address (dials h called names) (is_bound names called) (is_bound names (dotted_name called))
 dial_asks h called address names _ _ _ (IsOpen [] free) = refl

@@ -5,7 +5,7 @@ use Rattle.net_base.specs.declared.names.Mode.TheVariants as mode
 use Rattle.net_base.specs.declared.names.Node.TheVariants as node
 use Rattle.net_base.specs.declared.reply.Reply.{Reply}
 use Rattle.net_base.specs.Paths.{walk}
-use Rattle.net_base.specs.Steps.{Bound, Fid, Play, Ends, fid_of, is_bound, bind, unbind, uses, asks_cs, closes_last, connected, dials, dotted_name, clone_path, line_address, opened_fid, openable, on_fid, is_accepted, lines_in}
+use Rattle.net_base.specs.Steps.{Names, Fid, Play, Ends, fid_of, is_bound, bind, unbind, uses, asks_cs, closes_last, connected, dials, dotted_name, clone_path, line_address, opened_fid, openable, on_fid, is_accepted, lines_in}
 use Rattle.dial_lib.specs.declared.dial.DialPhase.{DialPhase}
 use Rattle.dial_lib.specs.declared.dial.DialPhase.TheVariants as phase
 use Rattle.dial_lib.specs.AnnounceLaws.{front_left, open_settle}
@@ -21,50 +21,50 @@ use Rattle.script_task.specs.Fitting.{is_opening}
 use Rattle.script_task.specs.Requests.{settled, settles, bound_after}
 use Rattle.script_task.specs.Task.{follow, fits_play}
 
-unbind_front : (called : List ℕ) (base names : List Bound) (made : Fid) → Holds called base names made → unbind (dotted_name called) names ≡ base
+unbind_front : (called : List ℕ) (base names : Names) (made : Fid) → Holds called base names made → unbind (dotted_name called) names ≡ base
 unbind_front called base names made holds = front_left (dotted_name called) base names made holds.free.dotted holds.names_are
 
-move_fresh : (h : ℕ) (called address : List ℕ) (names : List Bound) (r : Reply) (b c : Bool) → is_bound names called ≡ b → is_bound names (dotted_name called) ≡ c
+move_fresh : (h : ℕ) (called address : List ℕ) (names : Names) (r : Reply) (b c : Bool) → is_bound names called ≡ b → is_bound names (dotted_name called) ≡ c
     → fits_play (if b then uses h called names else (if c then uses h (dotted_name called) names else asks_cs h address (dials h called names))) r ≡ true
     → Stands h called address names phase.Open (lines_in r) (follow (if b then uses h called names else (if c then uses h (dotted_name called) names else asks_cs h address (dials h called names))) r)
 move_fresh h called address names r true c is so fit = rw (no_lines r (flip (is_accepted r) fit)) IsOver
 move_fresh h called address names r false true is so fit = rw (no_lines r (flip (is_accepted r) fit)) IsOver
 move_fresh h called address names r false false is so fit = IsOpen (lines_in r) (record { name = is; dotted = so })
 
-settle_fresh : (names : List Bound) (called dotted address : List ℕ) (r : Reply) (b c : Bool) → is_bound names called ≡ b → is_bound names dotted ≡ c → settled names (begins names called dotted address) r ≡ names
+settle_fresh : (names : Names) (called dotted address : List ℕ) (r : Reply) (b c : Bool) → is_bound names called ≡ b → is_bound names dotted ≡ c → settled names (begins names called dotted address) r ≡ names
 settle_fresh names called dotted address r true c is so = rw (is) refl
 settle_fresh names called dotted address r false true is so = rw (is, so) refl
 settle_fresh names called dotted address r false false is so = rw (is, so) refl
 
-move_line : (h : ℕ) (called address : List ℕ) (names : List Bound) (line : List ℕ) (lines : List (List ℕ)) (free : Free called names) (o : Option Fid) (r : Reply) → Gave mode.Both o r
+move_line : (h : ℕ) (called address : List ℕ) (names : Names) (line : List ℕ) (lines : List (List ℕ)) (free : Free called names) (o : Option Fid) (r : Reply) → Gave mode.Both o r
     → Stands h called address (bound_after (dotted_name called) names o) (if is_opening r then phase.Write else phase.Open) (if is_opening r then line ∷ lines else lines)
     (on_fid o (dials h called names lines) (λ (made : Fid). connecting h called names made line lines))
 move_line h called address names line lines free o r (Opens made is both slot opening) = rw (is, opening) (IsWrite names made line lines (record { free = free; names_are = refl; both = both; slot = slot }))
 move_line h called address names line lines free o r (Refuses is opening) = rw (is, opening) (IsOpen lines free)
 
 -- a connect is accepted, or isn't
-move_connect : (h : ℕ) (called address : List ℕ) (base names : List Bound) (made : Fid) (line : List ℕ) (lines : List (List ℕ)) → Holds called base names made → (b : Bool)
+move_connect : (h : ℕ) (called address : List ℕ) (base names : Names) (made : Fid) (line : List ℕ) (lines : List (List ℕ)) → Holds called base names made → (b : Bool)
     → Stands h called address names (if b then phase.Data else phase.Retry) (line ∷ lines) (if b then connected h called base made else retrying h called base made lines)
 move_connect h called address base names made line lines holds true = IsData base made (line ∷ lines) holds
 move_connect h called address base names made line lines holds false = IsRetry base made line lines holds
 
-move_put : (h : ℕ) (called address : List ℕ) (base names : List Bound) (made : Fid) (line : List ℕ) (lines : List (List ℕ)) → Holds called base names made → (r : Reply) (p : Play)
+move_put : (h : ℕ) (called address : List ℕ) (base names : Names) (made : Fid) (line : List ℕ) (lines : List (List ℕ)) → Holds called base names made → (r : Reply) (p : Play)
     → Put h made r (retrying h called base made lines) (connected h called base made) p
     → Stands h called address names (phase_after phase.Write r) (line ∷ lines) p
 move_put h called address base names made line lines holds r p (Waits granted is) = rw (granted, is) (IsWait base made line lines holds)
 move_put h called address base names made line lines holds r p (Goes granted is) = rw (granted, is) (move_connect h called address base names made line lines holds (is_accepted r))
 
-move_data : (h : ℕ) (called address : List ℕ) (base names : List Bound) (made : Fid) (lines : List (List ℕ)) → Holds called base names made → (o : Option Fid)
+move_data : (h : ℕ) (called address : List ℕ) (base names : Names) (made : Fid) (lines : List (List ℕ)) → Holds called base names made → (o : Option Fid)
     → Stands h called address (bound_after called names o) phase.Close lines (on_fid o (closes_last h made base) (λ (data_file : Fid). closes_last h made (bind called data_file base)))
 move_data h called address base names made lines holds None = IsClose base made lines (made_found called base names made holds) (unbind_front called base names made holds)
 move_data h called address base names made lines holds (Some d) =
     IsClose (bind called d base) made lines (rw (apart_too called) (made_found called base names made holds)) (rw (apart_too called) (ap (λ xs. bind called d xs) (unbind_front called base names made holds)))
 
-settle_data : (names : List Bound) (called dotted : List ℕ) (made : Fid) (r : Reply) → fid_of dotted names ≡ Some made
+settle_data : (names : Names) (called dotted : List ℕ) (made : Fid) (r : Reply) → fid_of dotted names ≡ Some made
     → settled names (opens_data called dotted (fid_of dotted names)) r ≡ settled names (opens_data called dotted (Some made)) r
 settle_data names called dotted made r is = ap (λ o. settled names (opens_data called dotted o) r) is
 
-pub dial_moves : (h : ℕ) (called address : List ℕ) (names : List Bound) (ph : DialPhase) (lines : List (List ℕ)) (p : Play) (q : Request) (r : Reply)
+pub dial_moves : (h : ℕ) (called address : List ℕ) (names : Names) (ph : DialPhase) (lines : List (List ℕ)) (p : Play) (q : Request) (r : Reply)
     → Stands h called address names ph lines p → asks_by ph called address lines names ≡ Some q → fits_play p r ≡ true
     → Stands h called address (settles names (asks_by ph called address lines names) r) (phase_after ph r) (lines_after ph r lines) (follow p r)
 dial_moves h called address names _ _ _ q r (IsFresh lines) asked fit =

@@ -1,7 +1,7 @@
 -- A dial asks and moves as its play does.
 use Rattle.std.proofs.Common.{◌≡◌, ℕ, List, sym, subst}
 use Rattle.net_base.specs.declared.world.Step.TheVariants as step
-use Rattle.net_base.specs.Steps.{Bound, play_of}
+use Rattle.net_base.specs.Steps.{Names, play_of}
 use Rattle.dial_lib.specs.declared.dial.DialPhase.TheVariants as phase
 use Rattle.dial_lib.specs.DialAsks.{dial_asks}
 use Rattle.dial_lib.specs.DialMoves.{dial_moves}
@@ -20,7 +20,7 @@ pub moves_so : MovesSo Dialling spec.asks spec.after spec.StandsFor
 moves_so = moves_from Dialling spec.asks spec.after spec.StandsFor moves_by
 
 -- a fresh one stands for its step
-pub fresh : (h : ℕ) (names : List Bound) (called address name other : List ℕ) (lines : List (List ℕ)) → name ≡ called → other ≡ address
+pub fresh : (h : ℕ) (names : Names) (called address name other : List ℕ) (lines : List (List ℕ)) → name ≡ called → other ≡ address
     → spec.StandsFor h names (record { called = name; address = other; phase = phase.Fresh; lines = lines }) (play_of h names (step.Dial called address))
 fresh h names called address name other lines is other_is =
     subst (λ (n : List ℕ). Stands h n other names phase.Fresh lines (play_of h names (step.Dial called address))) (sym is)

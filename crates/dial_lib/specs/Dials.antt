@@ -6,7 +6,7 @@ use Rattle.net_base.specs.declared.names.Mode.TheVariants as mode
 use Rattle.net_base.specs.declared.reply.Reply.{Reply}
 use Rattle.net_base.specs.declared.world.Step.{Step}
 use Rattle.net_base.specs.declared.world.Step.TheVariants as step
-use Rattle.net_base.specs.Steps.{Bound, Fid, Play, Asks, Ends, fid_of, is_bound, bind, unbind, is_accepted, if_accepted, conversation_of, puts, closes, closes_last, connected, dials, netmkaddr, lines_in, clone_path, line_address, dotted_name, play_of}
+use Rattle.net_base.specs.Steps.{Names, Fid, Play, Asks, Ends, fid_of, is_bound, bind, unbind, is_accepted, if_accepted, conversation_of, puts, closes, closes_last, connected, dials, netmkaddr, lines_in, clone_path, line_address, dotted_name, play_of}
 use Rattle.dial_lib.specs.Beside.{opens_file}
 use Rattle.dial_lib.specs.Lines.{first, first_line, other_lines}
 use Rattle.dial_lib.specs.declared.dial.DialPhase.{DialPhase}
@@ -24,7 +24,7 @@ pub record Dialling : Type 0 where
   -- the first of them is tried now
   pub lines : List (List ℕ)
 
-abbrev pub begins : List Bound → List ℕ → List ℕ → List ℕ → Request
+abbrev pub begins : Names → List ℕ → List ℕ → List ℕ → Request
 begins names called dotted address =
     if is_bound names called
     then request.Unbound called
@@ -41,7 +41,7 @@ opens_data called dotted (Some f) = opens_file called f file.Data
 abbrev pub connects : List ℕ → List (List ℕ) → Request
 connects dotted lines = request.Write dotted (codes "connect " ++ line_address (first_line lines))
 
-abbrev pub asks_by : DialPhase → List ℕ → List ℕ → List (List ℕ) → List Bound → Option Request
+abbrev pub asks_by : DialPhase → List ℕ → List ℕ → List (List ℕ) → Names → Option Request
 asks_by phase.Fresh called address lines names = Some (begins names called (dotted_name called) address)
 asks_by phase.Open called address lines names = opens_line (dotted_name called) (first lines)
 asks_by phase.Write called address lines names = Some (connects (dotted_name called) lines)
@@ -52,7 +52,7 @@ asks_by phase.Close called address lines names = Some (request.Close (dotted_nam
 asks_by phase.Through called address lines names = None
 
 -- the next request of a dial under these names
-abbrev pub asks : Dialling → List Bound → Option Request
+abbrev pub asks : Dialling → Names → Option Request
 asks d names = asks_by d.phase d.called d.address d.lines names
 
 -- a line that isn't opened, or isn't connected, is left for the next
@@ -79,48 +79,48 @@ after d r = record d { phase = phase_after d.phase r; lines = lines_after d.phas
 -- The play that it stands for.
 
 -- the name and its dotted one are free
-pub record Free (called : List ℕ) (base : List Bound) : Type 0 where
+pub record Free (called : List ℕ) (base : Names) : Type 0 where
   pub name : is_bound base called ≡ false
   pub dotted : is_bound base (dotted_name called) ≡ false
 
 -- the ctl file of a line is bound in front of the names
-pub record Holds (called : List ℕ) (base names : List Bound) (made : Fid) : Type 0 where
+pub record Holds (called : List ℕ) (base names : Names) (made : Fid) : Type 0 where
   pub free : Free called base
   pub names_are : names ≡ bind (dotted_name called) made base
   pub both : made.mode ≡ mode.Both
   pub slot : made.slot < 32
 
 -- the ctl file is closed and the next line is tried
-abbrev pub retrying : ℕ → List ℕ → List Bound → Fid → List (List ℕ) → Play
+abbrev pub retrying : ℕ → List ℕ → Names → Fid → List (List ℕ) → Play
 retrying h called base made lines = closes h made (Ends base) (dials h called base lines)
 
 -- a line's address is written to its ctl file
-abbrev pub connecting : ℕ → List ℕ → List Bound → Fid → List ℕ → List (List ℕ) → Play
+abbrev pub connecting : ℕ → List ℕ → Names → Fid → List ℕ → List (List ℕ) → Play
 connecting h called base made line lines =
     puts h made made.file (codes "connect " ++ line_address line) (retrying h called base made lines) (connected h called base made)
 
-abbrev pub waiting : ℕ → List ℕ → List Bound → Fid → List (List ℕ) → Play
+abbrev pub waiting : ℕ → List ℕ → Names → Fid → List (List ℕ) → Play
 waiting h called base made lines =
     Asks (conversation_of h made) (event.Await made.generation) (λ (r : Reply). if_accepted r (connected h called base made) (retrying h called base made lines))
 
-pub data Stands (h : ℕ) (called address : List ℕ) (names : List Bound) : DialPhase → List (List ℕ) → Play → Type 0 where
+pub data Stands (h : ℕ) (called address : List ℕ) (names : Names) : DialPhase → List (List ℕ) → Play → Type 0 where
   IsFresh : (lines : List (List ℕ)) → Stands h called address names phase.Fresh lines (play_of h names (step.Dial called address))
   IsOpen : (lines : List (List ℕ)) → Free called names → Stands h called address names phase.Open lines (dials h called names lines)
   -- one of the names was bound already
   IsOver : Stands h called address names phase.Open [] (Ends names)
-  IsWrite : (base : List Bound) (made : Fid) (line : List ℕ) (lines : List (List ℕ)) → Holds called base names made
+  IsWrite : (base : Names) (made : Fid) (line : List ℕ) (lines : List (List ℕ)) → Holds called base names made
       → Stands h called address names phase.Write (line ∷ lines) (connecting h called base made line lines)
-  IsWait : (base : List Bound) (made : Fid) (line : List ℕ) (lines : List (List ℕ)) → Holds called base names made
+  IsWait : (base : Names) (made : Fid) (line : List ℕ) (lines : List (List ℕ)) → Holds called base names made
       → Stands h called address names phase.Wait (line ∷ lines) (waiting h called base made lines)
-  IsRetry : (base : List Bound) (made : Fid) (line : List ℕ) (lines : List (List ℕ)) → Holds called base names made
+  IsRetry : (base : Names) (made : Fid) (line : List ℕ) (lines : List (List ℕ)) → Holds called base names made
       → Stands h called address names phase.Retry (line ∷ lines) (retrying h called base made lines)
-  IsData : (base : List Bound) (made : Fid) (lines : List (List ℕ)) → Holds called base names made
+  IsData : (base : Names) (made : Fid) (lines : List (List ℕ)) → Holds called base names made
       → Stands h called address names phase.Data lines (connected h called base made)
-  IsClose : (base : List Bound) (made : Fid) (lines : List (List ℕ)) → fid_of (dotted_name called) names ≡ Some made → unbind (dotted_name called) names ≡ base
+  IsClose : (base : Names) (made : Fid) (lines : List (List ℕ)) → fid_of (dotted_name called) names ≡ Some made → unbind (dotted_name called) names ≡ base
       → Stands h called address names phase.Close lines (closes_last h made base)
   IsThrough : (lines : List (List ℕ)) → Stands h called address names phase.Through lines (Ends names)
 
-abbrev pub StandsFor : ℕ → List Bound → Dialling → Play → Type 0
+abbrev pub StandsFor : ℕ → Names → Dialling → Play → Type 0
 StandsFor h names d p = Stands h d.called d.address names d.phase d.lines p
 
 -- The beginning.
@@ -131,4 +131,4 @@ begun called address = record { called = called; address = address; phase = phas
 
 -- on every host and under all names it stands for the step's play
 abbrev pub Begins : Dialling → Step → Type 0
-Begins d s = (h : ℕ) (names : List Bound) → StandsFor h names d (play_of h names s)
+Begins d s = (h : ℕ) (names : Names) → StandsFor h names d (play_of h names s)

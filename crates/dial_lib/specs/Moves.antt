@@ -4,7 +4,7 @@ use Rattle.net_base.specs.declared.names.Mode.{Mode}
 use Rattle.net_base.specs.declared.reply.Reply.{Reply}
 use Rattle.net_base.specs.declared.reply.Reply.TheVariants as reply
 use Rattle.net_base.specs.Paths.{walk}
-use Rattle.net_base.specs.Steps.{Ask, Bound, Fid, Play, Asks, Ends, is_bound, uses, opens, bind, opened_fid, openable, is_accepted, lines_in}
+use Rattle.net_base.specs.Steps.{Ask, Names, Fid, Play, Asks, Ends, is_bound, uses, opens, bind, opened_fid, openable, is_accepted, lines_in}
 use Rattle.script_task.specs.declared.request.Request.{Request}
 use Rattle.script_task.specs.declared.request.Request.TheVariants as request
 use Rattle.script_task.specs.Fitting.{fits}
@@ -15,13 +15,13 @@ use Rattle.dial_lib.specs.Openings.{Gave, Opens, Refuses, gave, path_range}
 use Rattle.dial_lib.specs.Slots.{HaveSlots}
 
 -- after a reply to its request, if it has one, a task stands for the rest of the play
-abbrev pub MovesBy : (T : Type 0) → (T → List Bound → Option Request) → (T → Reply → T) → (ℕ → List Bound → T → Play → Type 0) → Type 0
+abbrev pub MovesBy : (T : Type 0) → (T → Names → Option Request) → (T → Reply → T) → (ℕ → Names → T → Play → Type 0) → Type 0
 MovesBy T asks after Stands =
-    (h : ℕ) (names : List Bound) (t : T) (p : Play) (q : Request) (r : Reply)
+    (h : ℕ) (names : Names) (t : T) (p : Play) (q : Request) (r : Reply)
     → Stands h names t p → asks t names ≡ Some q → fits_play p r ≡ true
     → Stands h (settles names (asks t names) r) (after t r) (follow p r)
 
-pub moves_from : (T : Type 0) (asks : T → List Bound → Option Request) (after : T → Reply → T) (Stands : ℕ → List Bound → T → Play → Type 0)
+pub moves_from : (T : Type 0) (asks : T → Names → Option Request) (after : T → Reply → T) (Stands : ℕ → Names → T → Play → Type 0)
     → MovesBy T asks after Stands → MovesSo T asks after Stands
 moves_from T asks after Stands moves h names t p q r stands asked fit =
     subst (λ (o : Option Request). Stands h (settles names o r) (after t r) (follow p r)) asked (moves h names t p q r stands asked fit)
@@ -55,18 +55,18 @@ head_fits (Ends names) r = refl
 pub fits_alike : (p other : Play) (r : Reply) → head p ≡ head other → fits_play p r ≡ true → fits_play other r ≡ true
 fits_alike p other r same fit = head_fits other r ∙ ap (λ o. event_fits o r) (sym same) ∙ sym (head_fits p r) ∙ fit
 
-opened_slots : (called : List ℕ) (names : List Bound) (m : Mode) (o : Option Fid) (r : Reply) → HaveSlots names → Gave m o r → HaveSlots (bound_after called names o)
+opened_slots : (called : List ℕ) (names : Names) (m : Mode) (o : Option Fid) (r : Reply) → HaveSlots names → Gave m o r → HaveSlots (bound_after called names o)
 opened_slots called names m o r slots (Opens made is mode slot opening) = subst (λ (f : Option Fid). HaveSlots (bound_after called names f)) (sym is) (bind_slots called made names slot slots)
 opened_slots called names m o r slots (Refuses is opening) = subst (λ (f : Option Fid). HaveSlots (bound_after called names f)) (sym is) slots
 
-open_slots : (h : ℕ) (names : List Bound) (called path : List ℕ) (m : Mode) (r : Reply) (b : Bool) → HaveSlots names
+open_slots : (h : ℕ) (names : Names) (called path : List ℕ) (m : Mode) (r : Reply) (b : Bool) → HaveSlots names
     → fits_play (if b then uses h called names else opens h path m (Ends names) (λ (f : Fid). Ends (bind called f names))) r ≡ true
     → HaveSlots (if b then names else bound_after called names (opened_fid m (openable (walk path) m) r))
 open_slots h names called path m r true slots fit = slots
 open_slots h names called path m r false slots fit = opened_slots called names m (opened_fid m (openable (walk path) m) r) r slots (gave path m (openable (walk path) m) r (path_range path m) fit)
 
 -- names keep their slots
-pub settle_slots : (h : ℕ) (names : List Bound) (q : Request) (r : Reply) → HaveSlots names → fits_play (request_play h names q) r ≡ true → HaveSlots (settled names q r)
+pub settle_slots : (h : ℕ) (names : Names) (q : Request) (r : Reply) → HaveSlots names → fits_play (request_play h names q) r ≡ true → HaveSlots (settled names q r)
 settle_slots h names (request.Open called path m) r slots fit = open_slots h names called path m r (is_bound names called) slots fit
 settle_slots h names (request.Close called) r slots fit = unbind_slots called names slots
 settle_slots h names (request.Read called count) r slots fit = slots
@@ -80,5 +80,5 @@ settle_slots h names (request.Unbound called) r slots fit = slots
 settle_slots h names (request.Misuse called) r slots fit = slots
 
 -- the names of a task keep their slots
-pub heads_slots : (h : ℕ) (names : List Bound) (q : Request) (p : Play) (r : Reply) → HaveSlots names → Heads h names (Some q) p → fits_play p r ≡ true → HaveSlots (settled names q r)
+pub heads_slots : (h : ℕ) (names : Names) (q : Request) (p : Play) (r : Reply) → HaveSlots names → Heads h names (Some q) p → fits_play p r ≡ true → HaveSlots (settled names q r)
 heads_slots h names q p r slots heads fit = settle_slots h names q r slots (fits_alike p (request_play h names q) r (heads.1 ∙ sym heads.2) fit)

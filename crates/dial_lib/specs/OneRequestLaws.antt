@@ -1,7 +1,7 @@
 -- A step of one request asks for its play's event and ends after the reply.
 use Rattle.std.proofs.Common.{◌≡◌, ℕ, Bool, true, List, Some, refl, sym, subst}
 use Rattle.net_base.specs.declared.reply.Reply.{Reply}
-use Rattle.net_base.specs.Steps.{Bound, Play}
+use Rattle.net_base.specs.Steps.{Names, Play}
 use Rattle.dial_lib.specs.declared.one_request.OneRequest.{OneRequest}
 use Rattle.dial_lib.specs.Moves.{MovesBy, moves_from}
 use Rattle.dial_lib.specs.OneRequest as spec
@@ -10,11 +10,11 @@ use Rattle.script_task.specs.declared.request.Request.{Request}
 use Rattle.script_task.specs.Requests.{settled, settles}
 use Rattle.script_task.specs.Task.{Heads, AsksSo, MovesSo, follow}
 
-heads : (h : ℕ) (names : List Bound) (q : Request) (b : Bool) (p : Play) → Stands h names q b p → Heads h names (spec.asks_by q b) p
+heads : (h : ℕ) (names : Names) (q : Request) (b : Bool) (p : Play) → Stands h names q b p → Heads h names (spec.asks_by q b) p
 heads h names q _ _ (IsFresh single) = (single.0, single.1, single.1)
 heads h names q _ _ IsThrough = refl
 
-moves : (h : ℕ) (names : List Bound) (q : Request) (b : Bool) (p : Play) (asked : Request) (r : Reply) → Stands h names q b p → spec.asks_by q b ≡ Some asked
+moves : (h : ℕ) (names : Names) (q : Request) (b : Bool) (p : Play) (asked : Request) (r : Reply) → Stands h names q b p → spec.asks_by q b ≡ Some asked
     → Stands h (settles names (spec.asks_by q b) r) q true (follow p r)
 moves h names q _ _ asked r (IsFresh single) is = subst (λ (p : Play). Stands h (settled names q r) q true p) (sym (single.2 r)) IsThrough
 moves h names q _ _ asked r IsThrough is = IsThrough

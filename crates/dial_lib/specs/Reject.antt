@@ -4,7 +4,7 @@ use Rattle.net_base.specs.declared.event.Event.TheVariants as event
 use Rattle.net_base.specs.declared.reply.Reply.{Reply}
 use Rattle.net_base.specs.declared.world.Step.{Step}
 use Rattle.net_base.specs.declared.world.Step.TheVariants as step
-use Rattle.net_base.specs.Steps.{Bound, Fid, Play, Ends, fid_of, conversation_of, ends_with, unbind, is_accepted, play_of}
+use Rattle.net_base.specs.Steps.{Names, Fid, Play, Ends, fid_of, conversation_of, ends_with, unbind, is_accepted, play_of}
 use Rattle.dial_lib.specs.declared.reject.Reject.{Reject}
 use Rattle.dial_lib.specs.declared.reject.RejectPhase.{RejectPhase}
 use Rattle.dial_lib.specs.declared.reject.RejectPhase.TheVariants as phase
@@ -17,7 +17,7 @@ asks_by phase.Close called = Some (request.Close called)
 asks_by phase.Through called = None
 
 -- the next request under these names
-abbrev pub asks : Reject → List Bound → Option Request
+abbrev pub asks : Reject → Names → Option Request
 asks t names = asks_by t.phase t.name
 
 -- a refused hangup ends the step
@@ -31,16 +31,16 @@ abbrev pub after : Reject → Reply → Reject
 after t r = record t { phase = phase_after t.phase r }
 
 -- the file is closed, with which the step is finished
-abbrev pub closing : ℕ → List Bound → List ℕ → Fid → Play
+abbrev pub closing : ℕ → Names → List ℕ → Fid → Play
 closing h names called f = ends_with (conversation_of h f) (event.Close f.generation) (unbind called names)
 
-pub data Stands (h : ℕ) (names : List Bound) (called : List ℕ) : RejectPhase → Play → Type 0 where
+pub data Stands (h : ℕ) (names : Names) (called : List ℕ) : RejectPhase → Play → Type 0 where
   IsWrite : Stands h names called phase.Write (play_of h names (step.Reject called))
   IsClose : (f : Fid) → fid_of called names ≡ Some f → Stands h names called phase.Close (closing h names called f)
   IsThrough : Stands h names called phase.Through (Ends names)
 
 -- the play that it stands for
-abbrev pub StandsFor : ℕ → List Bound → Reject → Play → Type 0
+abbrev pub StandsFor : ℕ → Names → Reject → Play → Type 0
 StandsFor h names t p = Stands h names t.name t.phase p
 
 -- The beginning.
@@ -51,4 +51,4 @@ begun called = record { name = called; phase = phase.Write }
 
 -- on every host and under all names it stands for the step's play
 abbrev pub Begins : Reject → Step → Type 0
-Begins t s = (h : ℕ) (names : List Bound) → StandsFor h names t (play_of h names s)
+Begins t s = (h : ℕ) (names : Names) → StandsFor h names t (play_of h names s)

@@ -6,7 +6,7 @@ use Rattle.net_base.specs.declared.reply.Reply.{Reply}
 use Rattle.net_base.specs.declared.world.Step.{Step}
 use Rattle.net_base.specs.declared.world.Step.TheVariants as step
 use Rattle.net_base.specs.Paths.{walk, reads}
-use Rattle.net_base.specs.Steps.{Bound, Fid, Play, Ends, fid_of, is_bound, bind, on_fid, opened_fid, openable, default_mode, play_of}
+use Rattle.net_base.specs.Steps.{Names, Fid, Play, Ends, fid_of, is_bound, bind, on_fid, opened_fid, openable, default_mode, play_of}
 use Rattle.dial_lib.specs.declared.step.StepTask.{StepTask}
 use Rattle.dial_lib.specs.declared.step.StepTask.TheVariants as task
 use Rattle.dial_lib.specs.Announce as announce
@@ -32,24 +32,24 @@ use Rattle.script_task.specs.Task.{Heads, AsksSo, MovesSo, follow, fits_play}
 
 -- Steps of one request.
 
-ends_bound : (called : List ℕ) (names : List Bound) (o : Option Fid) → on_fid o (Ends names) (λ (f : Fid). Ends (bind called f names)) ≡ Ends (bound_after called names o)
+ends_bound : (called : List ℕ) (names : Names) (o : Option Fid) → on_fid o (Ends names) (λ (f : Fid). Ends (bind called f names)) ≡ Ends (bound_after called names o)
 ends_bound called names None = refl
 ends_bound called names (Some f) = refl
 
-open_single : (h : ℕ) (names : List Bound) (called path : List ℕ) (m : Mode) (b : Bool) → is_bound names called ≡ b → IsSingle h names (request.Open called path m)
+open_single : (h : ℕ) (names : Names) (called path : List ℕ) (m : Mode) (b : Bool) → is_bound names called ≡ b → IsSingle h names (request.Open called path m)
 open_single h names called path m true is = rw is (_, refl, λ r. refl)
 open_single h names called path m false is = rw is (_, refl, λ r. ends_bound called names (opened_fid m (openable (walk path) m) r))
 
-read_mode : (h : ℕ) (names : List Bound) (called : List ℕ) (count : ℕ) (f : Fid) → fid_of called names ≡ Some f → (b : Bool) → reads f.mode ≡ b → IsSingle h names (request.Read called count)
+read_mode : (h : ℕ) (names : Names) (called : List ℕ) (count : ℕ) (f : Fid) → fid_of called names ≡ Some f → (b : Bool) → reads f.mode ≡ b → IsSingle h names (request.Read called count)
 read_mode h names called count f is true may = rw (is, may) (_, refl, λ r. refl)
 read_mode h names called count f is false may = rw (is, may) (_, refl, λ r. refl)
 
-read_single : (h : ℕ) (names : List Bound) (called : List ℕ) (count : ℕ) (o : Option Fid) → fid_of called names ≡ o → IsSingle h names (request.Read called count)
+read_single : (h : ℕ) (names : Names) (called : List ℕ) (count : ℕ) (o : Option Fid) → fid_of called names ≡ o → IsSingle h names (request.Read called count)
 read_single h names called count None is = rw is (_, refl, λ r. refl)
 read_single h names called count (Some f) is = read_mode h names called count f is (reads f.mode) refl
 
 -- a name that is bound to nothing isn't bound
-none_bound : (called : List ℕ) (names : List Bound) → fid_of called names ≡ None → is_bound names called ≡ false
+none_bound : (called : List ℕ) (names : Names) → fid_of called names ≡ None → is_bound names called ≡ false
 none_bound called [] is = refl
 none_bound called (b ∷ bs) is = each (bytes_eq called b.called) refl is (none_bound called bs)
   where
@@ -57,13 +57,13 @@ none_bound called (b ∷ bs) is = each (bytes_eq called b.called) refl is (none_
     each true same none ih = absurd (none-some b.fid (sym none))
     each false apart none ih = rw (apart) (ih none)
 
-close_single : (h : ℕ) (names : List Bound) (called : List ℕ) (o : Option Fid) → fid_of called names ≡ o → IsSingle h names (request.Close called)
+close_single : (h : ℕ) (names : Names) (called : List ℕ) (o : Option Fid) → fid_of called names ≡ o → IsSingle h names (request.Close called)
 close_single h names called None is = rw is (_, refl, λ r. ap Ends (sym (unbind_free called names (none_bound called names is))))
 close_single h names called (Some f) is = rw is (_, refl, λ r. refl)
 
 -- The beginning.
 
-pub begins_so : (h : ℕ) (names : List Bound) (s : Step) → HaveSlots names → spec.stands_by h names (spec.begun s) (play_of h names s)
+pub begins_so : (h : ℕ) (names : Names) (s : Step) → HaveSlots names → spec.stands_by h names (spec.begun s) (play_of h names s)
 begins_so h names (step.Open called path m) slots = IsFresh (open_single h names called path (unwrap_or m (default_mode (walk path))) (is_bound names called) refl)
 begins_so h names (step.Read called count) slots = IsFresh (read_single h names called count (fid_of called names) refl)
 begins_so h names (step.Write called text) slots = write_text.IsWrite
@@ -81,12 +81,12 @@ begins_so h names (step.Reject called) slots = reject.IsWrite
 begins_so h names (step.Hangup called) slots = write_text.IsWrite
 
 -- what has begun stands for its step
-pub begun_stands : (t : StepTask) (s : Step) → t ≡ spec.begun s → (h : ℕ) (names : List Bound) → HaveSlots names → spec.StandsFor h names t (play_of h names s)
+pub begun_stands : (t : StepTask) (s : Step) → t ≡ spec.begun s → (h : ℕ) (names : Names) → HaveSlots names → spec.StandsFor h names t (play_of h names s)
 begun_stands t s is h names slots = (slots, subst (λ (u : StepTask). spec.stands_by h names u (play_of h names s)) (sym is) (begins_so h names s slots))
 
 -- Requests and replies.
 
-asks_by : (h : ℕ) (names : List Bound) (t : StepTask) (p : Play) → spec.stands_by h names t p → Heads h names (spec.asks t names) p
+asks_by : (h : ℕ) (names : Names) (t : StepTask) (p : Play) → spec.stands_by h names t p → Heads h names (spec.asks t names) p
 asks_by h names (task.OneRequest t) p stands = one_request_laws.asks_so h names t p stands
 asks_by h names (task.WriteText t) p stands = write_text_laws.asks_so h names t p stands
 asks_by h names (task.Dial t) p stands = dial_laws.asks_so h names t p stands
@@ -98,7 +98,7 @@ asks_by h names (task.Reject t) p stands = reject_laws.asks_so h names t p stand
 pub asks_so : AsksSo StepTask spec.asks spec.StandsFor
 asks_so h names t p stands = asks_by h names t p stands.1
 
-moves_by : (h : ℕ) (names : List Bound) (t : StepTask) (p : Play) (q : Request) (r : Reply) → spec.stands_by h names t p → spec.asks t names ≡ Some q → fits_play p r ≡ true
+moves_by : (h : ℕ) (names : Names) (t : StepTask) (p : Play) (q : Request) (r : Reply) → spec.stands_by h names t p → spec.asks t names ≡ Some q → fits_play p r ≡ true
     → spec.stands_by h (settled names q r) (spec.after t r) (follow p r)
 moves_by h names (task.OneRequest t) p q r stands asked fit = one_request_laws.moves_so h names t p q r stands asked fit
 moves_by h names (task.WriteText t) p q r stands asked fit = write_text_laws.moves_so h names t p q r stands asked fit
@@ -108,7 +108,7 @@ moves_by h names (task.Listen t) p q r stands asked fit = beside_laws.listen_mov
 moves_by h names (task.Accept t) p q r stands asked fit = beside_laws.accept_moves_so h names t p q r stands asked fit
 moves_by h names (task.Reject t) p q r stands asked fit = reject_laws.moves_so h names t p q r stands asked fit
 
-moves_slots : (h : ℕ) (names : List Bound) (t : StepTask) (p : Play) (q : Request) (r : Reply) → spec.StandsFor h names t p → spec.asks t names ≡ Some q → fits_play p r ≡ true → HaveSlots (settled names q r)
+moves_slots : (h : ℕ) (names : Names) (t : StepTask) (p : Play) (q : Request) (r : Reply) → spec.StandsFor h names t p → spec.asks t names ≡ Some q → fits_play p r ≡ true → HaveSlots (settled names q r)
 moves_slots h names t p q r stands asked fit = heads_slots h names q p r stands.0 (subst (λ (o : Option Request). Heads h names o p) asked (asks_by h names t p stands.1)) fit
 
 pub moves_so : MovesSo StepTask spec.asks spec.after spec.StandsFor

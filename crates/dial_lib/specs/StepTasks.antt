@@ -4,7 +4,7 @@ use Rattle.net_base.specs.declared.reply.Reply.{Reply}
 use Rattle.net_base.specs.declared.world.Step.{Step}
 use Rattle.net_base.specs.declared.world.Step.TheVariants as step
 use Rattle.net_base.specs.Paths.{walk}
-use Rattle.net_base.specs.Steps.{Bound, Play, default_mode, play_of}
+use Rattle.net_base.specs.Steps.{Names, Play, default_mode, play_of}
 use Rattle.dial_lib.specs.declared.step.StepTask.{StepTask}
 use Rattle.dial_lib.specs.declared.step.StepTask.TheVariants as task
 use Rattle.dial_lib.specs.declared.write_text.WritePhase.TheVariants as write_phase
@@ -48,7 +48,7 @@ begun (step.Hangup called) = writes_text called (codes "hangup")
 -- Requests and replies.
 
 -- the next request under these names
-abbrev pub asks : StepTask → List Bound → Option Request
+abbrev pub asks : StepTask → Names → Option Request
 asks (task.OneRequest t) names = one_request.asks t names
 asks (task.WriteText t) names = write_text.asks t names
 asks (task.Dial t) names = dial.asks t names
@@ -69,7 +69,7 @@ after (task.Reject t) r = task.Reject (reject.after t r)
 
 -- The play that it stands for.
 
-abbrev pub stands_by : ℕ → List Bound → StepTask → Play → Type 0
+abbrev pub stands_by : ℕ → Names → StepTask → Play → Type 0
 stands_by h names (task.OneRequest t) p = one_request.StandsFor h names t p
 stands_by h names (task.WriteText t) p = write_text.StandsFor h names t p
 stands_by h names (task.Dial t) p = dial.StandsFor h names t p
@@ -79,9 +79,9 @@ stands_by h names (task.Accept t) p = accept.StandsFor h names t p
 stands_by h names (task.Reject t) p = reject.StandsFor h names t p
 
 -- under names that are bound to files of slots that there are
-abbrev pub StandsFor : ℕ → List Bound → StepTask → Play → Type 0
+abbrev pub StandsFor : ℕ → Names → StepTask → Play → Type 0
 StandsFor h names t p = HaveSlots names × stands_by h names t p
 
 -- on every host it stands for the step's play, where each name is bound to a file of a slot that there is
 abbrev pub Begins : StepTask → Step → Type 0
-Begins t s = (h : ℕ) (names : List Bound) → HaveSlots names → StandsFor h names t (play_of h names s)
+Begins t s = (h : ℕ) (names : Names) → HaveSlots names → StandsFor h names t (play_of h names s)

@@ -2,7 +2,7 @@
 use Rattle.std.specs.Prelude.{◌≡◌, ℕ, List, Option, Some, None, if◌then◌else◌}
 use Rattle.net_base.specs.declared.event.Event.TheVariants as event
 use Rattle.net_base.specs.declared.reply.Reply.{Reply}
-use Rattle.net_base.specs.Steps.{Bound, Fid, Play, Asks, Ends, fid_of, conversation_of, if_accepted}
+use Rattle.net_base.specs.Steps.{Names, Fid, Play, Asks, Ends, fid_of, conversation_of, if_accepted}
 use Rattle.dial_lib.specs.declared.write_text.WritePhase.{WritePhase}
 use Rattle.dial_lib.specs.declared.write_text.WritePhase.TheVariants as phase
 use Rattle.dial_lib.specs.declared.write_text.WriteText.{WriteText}
@@ -17,7 +17,7 @@ asks_by phase.Wait called text = Some (request.Wait called)
 asks_by phase.Through called text = None
 
 -- the next request under these names
-abbrev pub asks : WriteText → List Bound → Option Request
+abbrev pub asks : WriteText → Names → Option Request
 asks t names = asks_by t.phase t.name t.text
 
 -- only a text that connects is granted a pair
@@ -30,12 +30,12 @@ phase_after phase.Through r = phase.Through
 abbrev pub after : WriteText → Reply → WriteText
 after t r = record t { phase = phase_after t.phase r }
 
-pub data Stands (h : ℕ) (names : List Bound) (called text : List ℕ) : WritePhase → Play → Type 0 where
+pub data Stands (h : ℕ) (names : Names) (called text : List ℕ) : WritePhase → Play → Type 0 where
   IsWrite : Stands h names called text phase.Write (request_play h names (request.Write called text))
   IsWait : (f : Fid) → fid_of called names ≡ Some f
       → Stands h names called text phase.Wait (Asks (conversation_of h f) (event.Await f.generation) (λ (r : Reply). if_accepted r (Ends names) (Ends names)))
   IsThrough : Stands h names called text phase.Through (Ends names)
 
 -- the play that it stands for
-abbrev pub StandsFor : ℕ → List Bound → WriteText → Play → Type 0
+abbrev pub StandsFor : ℕ → Names → WriteText → Play → Type 0
 StandsFor h names t p = Stands h names t.name t.text t.phase p

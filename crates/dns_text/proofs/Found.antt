@@ -5,8 +5,8 @@ use Rattle.std.specs.List.{list_all}
 use Rattle.std.proofs.lemmas.Bool.{true≢false, false≢true, and_parts, and_from, ltb-true, leb-true, eqb-true, eq-eqb, ne_eqb}
 use Rattle.std.proofs.lemmas.List.{take_at, drop_at, take-append-drop}
 use Rattle.std.proofs.lemmas.Option.{none-some, same_Some}
-use Rattle.dns_text.specs.Labels.{is_label, is_label_byte, is_name, labels_bytes, name_bytes}
-use Rattle.dns_text.specs.Questions.{labels_in, name_at_front}
+use Rattle.net_base.specs.DomainNames.{is_label, is_label_byte, is_name, labels_bytes, name_bytes}
+use Rattle.net_base.specs.DomainQuestions.{labels_in, name_at_front}
 
 -- ---- labels
 

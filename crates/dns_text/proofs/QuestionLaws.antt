@@ -4,10 +4,10 @@ use Rattle.std.specs.Prelude.{nat_le, option_and_then}
 use Rattle.std.proofs.lemmas.Bool.{and_parts, and_from, leb-true, le-leb, eqb-true, eq-eqb}
 use Rattle.std.proofs.lemmas.List.{take_at, take-append-drop}
 use Rattle.std.proofs.lemmas.Option.{none-some, same_Some}
-use Rattle.wire_text.specs.Bytes.{word_at}
-use Rattle.dns_text.specs.declared.question.Question.{Question}
-use Rattle.dns_text.specs.Labels.{Ended, Pointed, PointsBack, ReadsName, Spells, StandAt, is_name, name_bytes, name_text}
-use Rattle.dns_text.specs.Questions.{HasHeader, ReadsQuestion, name_at_front, question_named, question_of}
+use Rattle.net_base.specs.Bytes.{word_at}
+use Rattle.net_base.specs.declared.question.Question.{Question}
+use Rattle.net_base.specs.DomainNames.{Ended, Pointed, PointsBack, ReadsName, Spells, StandAt, is_name, name_bytes, name_text}
+use Rattle.net_base.specs.DomainQuestions.{HasHeader, ReadsQuestion, name_at_front, question_named, question_of}
 use Rattle.dns_text.proofs.Found.{name_begins, name_found}
 
 -- ---- a name at the first place behind a header, to which no pointer leads

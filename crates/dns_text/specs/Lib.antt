@@ -1,5 +1,2 @@
-pub use Rattle.net_base.specs.Search
-pub use Rattle.wire_text.specs.Bytes
-pub mod Labels
-pub mod Questions
-pub mod Answers
+pub use Rattle.net_base.specs.DomainNames
+pub use Rattle.net_base.specs.DomainQuestions

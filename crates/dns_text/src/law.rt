@@ -1,7 +1,7 @@
 //! Laws of questions.
 ghost use Rattle.std.specs.Prelude.{◌≡◌, ℕ, List, Some};
-ghost use Rattle.dns_text.specs.declared.question.Question.{Question};
-ghost use Rattle.dns_text.specs.Questions.{ReadsQuestion, question_of};
+ghost use Rattle.net_base.specs.declared.question.Question.{Question};
+ghost use Rattle.net_base.specs.DomainQuestions.{ReadsQuestion, question_of};
 
 /// The question that is found in a message is spelled there.
 pub fn a_question_is_spelled()

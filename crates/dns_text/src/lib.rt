@@ -2,7 +2,5 @@
 #![tactic(auto)]
 
 mod law;
-mod question;
 
 pub use law::{a_question_is_spelled, what_is_spelled_is_a_question};
-pub use question::Question;

@@ -20,7 +20,7 @@ use Rattle.net_base.specs.declared.world.Step.{Step}
 use Rattle.net_base.specs.declared.world.Step.TheVariants as step
 use Rattle.net_base.specs.ControlWords as control
 use Rattle.net_base.specs.Paths.{walk, reads, writes as may_write}
-use Rattle.net_base.specs.Steps.{Fid, Bound, fid_of, is_bound, bind, unbind, Play, Asks, Ends, is_accepted, if_accepted, ends_with, uses, misuses, on_fid, with_bound, with_new, with_readable, with_writable, conversation_of, default_mode, openable, open_actor, open_event, opened_fid, opens_node, opens, opens_beside, read_event, controls, puts, closes, closes_last, ls_actor, ls_event, netmkaddr, lines_in, asks_cs, clone_path, line_address, dotted_name, connected, dials, announces, play_of, Ask, Stand, Asking, Finished, stands, Position, position_by, position}
+use Rattle.net_base.specs.Steps.{Fid, Names, fid_of, is_bound, bind, unbind, Play, Asks, Ends, is_accepted, if_accepted, ends_with, uses, misuses, on_fid, with_bound, with_new, with_readable, with_writable, conversation_of, default_mode, openable, open_actor, open_event, opened_fid, opens_node, opens, opens_beside, read_event, controls, puts, closes, closes_last, ls_actor, ls_event, netmkaddr, lines_in, asks_cs, clone_path, line_address, dotted_name, connected, dials, announces, play_of, Ask, Stand, Asking, Finished, stands, Position, position_by, position}
 use Rattle.history_laws.proofs.Ordered.{Each}
 
 -- an event that neither opens a path at the desk, nor names what isn't open, nor waits for a moment
@@ -98,7 +98,7 @@ module _ (h : ℕ) (P : ActorName → Event → Type 0) (R : Reply → Type 0) (
   abbrev Good : Play → Type 0
   Good p = Records P R p
 
-  ending : (a : ActorName) (e : Event) (names : List Bound) → P a e → Good (ends_with a e names)
+  ending : (a : ActorName) (e : Event) (names : Names) → P a e → Good (ends_with a e names)
   ending a e names f = (f, λ r fine. tt)
 
   either : (b : Bool) (x y : Play) → Good x → Good y → Good (cond b x y)
@@ -108,18 +108,18 @@ module _ (h : ℕ) (P : ActorName → Event → Type 0) (R : Reply → Type 0) (
   on_found None otherwise next f g = f
   on_found (Some x) otherwise next f g = g x
 
-  bound : (called : List ℕ) (names : List Bound) (next : Fid → Play) → IsNamed h P called → ((f : Fid) → Good (next f)) → Good (with_bound h called names next)
+  bound : (called : List ℕ) (names : Names) (next : Fid → Play) → IsNamed h P called → ((f : Fid) → Good (next f)) → Good (with_bound h called names next)
   bound called names next named g = on_found (fid_of called names) (uses h called names) next (ending _ _ names named.0) g
 
-  new : (called : List ℕ) (names : List Bound) (next : Play) → IsNamed h P called → Good next → Good (with_new h called names next)
+  new : (called : List ℕ) (names : Names) (next : Play) → IsNamed h P called → Good next → Good (with_new h called names next)
   new called names next named f = either (is_bound names called) (uses h called names) next (ending _ _ names named.0) f
 
-  readable : (called : List ℕ) (names : List Bound) (next : Fid → Play) → IsNamed h P called → ((f : Fid) → Good (next f)) → Good (with_readable h called names next)
+  readable : (called : List ℕ) (names : Names) (next : Fid → Play) → IsNamed h P called → ((f : Fid) → Good (next f)) → Good (with_readable h called names next)
   readable called names next named g =
       bound called names (λ (f : Fid). cond (reads f.mode) (next f) (misuses h called names)) named
       (λ f. either (reads f.mode) (next f) (misuses h called names) (g f) (ending _ _ names named.1))
 
-  writable : (called : List ℕ) (names : List Bound) (next : Fid → Play) → IsNamed h P called → ((f : Fid) → Good (next f)) → Good (with_writable h called names next)
+  writable : (called : List ℕ) (names : Names) (next : Fid → Play) → IsNamed h P called → ((f : Fid) → Good (next f)) → Good (with_writable h called names next)
   writable called names next named g =
       bound called names (λ (f : Fid). cond (may_write f.mode) (next f) (misuses h called names)) named
       (λ f. either (may_write f.mode) (next f) (misuses h called names) (g f) (ending _ _ names named.1))
@@ -183,12 +183,12 @@ module _ (h : ℕ) (P : ActorName → Event → Type 0) (R : Reply → Type 0) (
   ls_of a path (Some (node.Dir p n)) = fits.other a event.Ls tt
   ls_of a path _ = fits.other a (event.LsPath path) tt
 
-  connects : (called : List ℕ) (names : List Bound) (made : Fid) → Good (connected h called names made)
+  connects : (called : List ℕ) (names : Names) (made : Fid) → Good (connected h called names made)
   connects called names made =
       let closed : P (conversation_of h made) (event.Close made.generation) = fits.other (conversation_of h made) (event.Close made.generation) tt in
       beside made file.Data (closes_last h made names) _ (ending _ _ names closed) (λ f. ending _ _ (bind called f names) closed)
 
-  dialling : (called : List ℕ) (names : List Bound) (lines : List (List ℕ)) → Each (λ (line : List ℕ). IsOpened P (clone_path line)) lines → Good (dials h called names lines)
+  dialling : (called : List ℕ) (names : Names) (lines : List (List ℕ)) → Each (λ (line : List ℕ). IsOpened P (clone_path line)) lines → Good (dials h called names lines)
   dialling called names [] all = tt
   dialling called names (line ∷ lines) all =
       opens_path (clone_path line) mode.Both (dials h called names lines) _ all.0 (dialling called names lines all.1) (λ made.
@@ -196,7 +196,7 @@ module _ (h : ℕ) (P : ActorName → Event → Type 0) (R : Reply → Type 0) (
       (closing made (Ends names) (dials h called names lines) tt (dialling called names lines all.1))
       (connects called names made))
 
-  announcing : (called : List ℕ) (names : List Bound) (lines : List (List ℕ)) → Each (λ (line : List ℕ). IsOpened P (clone_path line)) lines → Good (announces h called names lines)
+  announcing : (called : List ℕ) (names : Names) (lines : List (List ℕ)) → Each (λ (line : List ℕ). IsOpened P (clone_path line)) lines → Good (announces h called names lines)
   announcing called names [] all = tt
   announcing called names (line ∷ lines) all =
       opens_path (clone_path line) mode.Both (Ends names) _ all.0 tt (λ made.
@@ -206,7 +206,7 @@ module _ (h : ℕ) (P : ActorName → Event → Type 0) (R : Reply → Type 0) (
   asks_lines : (address : List ℕ) (next : List (List ℕ) → Play) → ((lines : List (List ℕ)) → Each (λ (line : List ℕ). IsOpened P (clone_path line)) lines → Good (next lines)) → Good (asks_cs h address next)
   asks_lines address next g = (fits.other _ (event.Cs (netmkaddr address (codes "net") (codes "9fs"))) tt, λ r fine. g (lines_in r) (fits.dialled r fine))
 
-  played : (names : List Bound) (s : Step) → Says h P s → Good (play_of h names s)
+  played : (names : Names) (s : Step) → Says h P s → Good (play_of h names s)
   played names (step.Open called path m) says = new called names _ says.0 (opens_path path (unwrap_or m (default_mode (walk path))) (Ends names) _ says.1 tt (λ f. tt))
   played names (step.Read called count) says = readable called names _ says (λ f. ending _ _ names (reads_of (conversation_of h f) f count f.file))
   played names (step.Write called text) says = writable called names _ says (λ f. put f f.file text (Ends names) (Ends names) tt tt)
@@ -238,14 +238,14 @@ module _ (h : ℕ) (P : ActorName → Event → Type 0) (R : Reply → Type 0) (
   standing (Asks a e next) [] f fine = f.0
   standing (Asks a e next) (r ∷ rs) f fine = standing (next r) rs (f.1 r fine.0) fine.1
 
-  next_by : (s : Stand) (steps : List Step) (go_on : List Bound → List Reply → Position) → IsStand s → ((names : List Bound) (rs : List Reply) → Each R rs → IsNextEvent P (go_on names rs).next) → IsNextEvent P (position_by s steps go_on).next
+  next_by : (s : Stand) (steps : List Step) (go_on : Names → List Reply → Position) → IsStand s → ((names : Names) (rs : List Reply) → Each R rs → IsNextEvent P (go_on names rs).next) → IsNextEvent P (position_by s steps go_on).next
   next_by (Asking ask) steps go_on f g = f
   next_by (Finished names rs) steps go_on f g = g names rs f
 
   -- what a script records next
-  pub next_event : (steps : List Step) (names : List Bound) (rs : List Reply) → Each (λ (s : Step). Says h P s) steps → Each R rs → IsNextEvent P (position h steps names rs).next
+  pub next_event : (steps : List Step) (names : Names) (rs : List Reply) → Each (λ (s : Step). Says h P s) steps → Each R rs → IsNextEvent P (position h steps names rs).next
   next_event [] names rs says fine = tt
   next_event (s ∷ ss) names rs says fine =
-      next_by (stands (play_of h names s) rs) (s ∷ ss) (λ (bound : List Bound) (later : List Reply). position h ss bound later)
+      next_by (stands (play_of h names s) rs) (s ∷ ss) (λ (bound : Names) (later : List Reply). position h ss bound later)
       (standing (play_of h names s) rs (played names s says.0) fine)
       (λ bound later fine. next_event ss bound later says.1 fine)

@@ -19,7 +19,7 @@ use Rattle.net_base.specs.Duties.{Duty}
 use Rattle.net_base.specs.Net.{after}
 use Rattle.net_base.specs.Next.{answered, by, finished_by, own_replies}
 use Rattle.net_base.specs.Stamped.{In, entries_from, of_caller}
-use Rattle.net_base.specs.Steps.{Bound}
+use Rattle.net_base.specs.Steps.{Names}
 use Rattle.net_base.specs.Summary.{answered_by, answered_steps}
 use Rattle.guest_laws.specs.Works.{entries}
 use Rattle.net_guests.proofs.Handing.{apart_test, in_back, in_front}
@@ -37,14 +37,14 @@ use Rattle.net_guests.specs.Visits.{Visit}
 
 -- One player.
 
-module _ {T : Type 0} (Plays : Script → List Reply → List Bound → T → Type 0) (w : World) (v : Visit) (t : T) (lost : Bool) (before : ℕ)
+module _ {T : Type 0} (Plays : Script → List Reply → Names → T → Type 0) (w : World) (v : Visit) (t : T) (lost : Bool) (before : ℕ)
     (is : IsCounted Plays w v t lost before) where
   -- what is owed belongs to the step of its last own event
   pub answered_owing : not (length v.owed == 0) ≡ true → IsAnswered w v before
   answered_owing some = λ s script. is.before_is s script ∙ sym (ap (λ (b : Bool). answered (entries v.sight.seen) v.caller b s) some)
 
   pub answered_free : (n : ℕ) → lost ≡ false → not (length v.owed == 0) ≡ false
-      → ((s : Script) (rs : List Reply) (names : List Bound) → Plays s rs names t → n ≡ finished_by rs s) → IsAnswered w v n
+      → ((s : Script) (rs : List Reply) (names : Names) → Plays s rs names t → n ≡ finished_by rs s) → IsAnswered w v n
   answered_free n told none counts = λ s script.
       counts s (replies_of v) v.names (is.plays s script told) ∙ sym (ap (λ (b : Bool). answered (entries v.sight.seen) v.caller b s) none)
 

@@ -9,7 +9,7 @@ use Rattle.net_base.specs.declared.world.Script.{Script}
 use Rattle.net_base.specs.declared.world.World.{World}
 use Rattle.net_base.specs.Callers.{IsCourier, IsScript, caller_of}
 use Rattle.net_base.specs.Next.{finished_by, own_replies}
-use Rattle.net_base.specs.Steps.{Bound}
+use Rattle.net_base.specs.Steps.{Names}
 use Rattle.locked.specs.Acts.{made, without_copy}
 use Rattle.script_task.specs.declared.request.Request.{Request}
 use Rattle.script_task.specs.Fitting.{fits}
@@ -52,7 +52,7 @@ module _ (w : World) (old new : Visit) (same : IsSame old new) (h : ℕ) (q : Re
       let rec = is.takes in
       ap (fits is.ask.event) rec.reply ∙ fits_there w is.ask.actor keeps fit rec.past old.now (bare is.ask.event) rec.step rec.stepped
 
-module _ {T : Type 0} (Plays : Script → List Reply → List Bound → T → Type 0) (w : World) where
+module _ {T : Type 0} (Plays : Script → List Reply → Names → T → Type 0) (w : World) where
   -- where the own replies and the names stay
   pub counts_stay : (old new : Visit) (t : T) (lost : Bool) (before : ℕ) → IsCounted Plays w old t lost before → new.caller ≡ old.caller → new.names ≡ old.names
       → own_replies (entries new.sight.seen) old.caller ≡ own_replies (entries old.sight.seen) old.caller → IsCounted Plays w new t lost before
@@ -61,7 +61,7 @@ module _ {T : Type 0} (Plays : Script → List Reply → List Bound → T → Ty
       record {
         plays = λ s script told.
             subst (λ (rs : List Reply). Plays s rs new.names t) (sym same)
-            (subst (λ (l : List Bound). Plays s (replies_of old) l t) (sym names) (is.plays s (ap (caller_of w) (sym caller) ∙ script) told));
+            (subst (λ (l : Names). Plays s (replies_of old) l t) (sym names) (is.plays s (ap (caller_of w) (sym caller) ∙ script) told));
         before_is = λ s script. is.before_is s (ap (caller_of w) (sym caller) ∙ script) ∙ ap (λ (rs : List Reply). finished_by (before_last rs) s) (sym same);
       }
 
@@ -78,18 +78,18 @@ module _ {T : Type 0} (Plays : Script → List Reply → List Bound → T → Ty
 
   -- nothing is recorded yet
   counts_first : (v : Visit) (t : T) (before : ℕ) → v.sight.seen ≡ [] → v.names ≡ [] → ((s : Script) → caller_of w v.caller ≡ IsScript s → Plays s [] [] t)
-      → ((s : Script) (rs : List Reply) (names : List Bound) → Plays s rs names t → before ≡ finished_by rs s) → IsCounted Plays w v t false before
+      → ((s : Script) (rs : List Reply) (names : Names) → Plays s rs names t → before ≡ finished_by rs s) → IsCounted Plays w v t false before
   counts_first v t before seen names plays counts =
       let none : replies_of v ≡ [] = ap (λ (l : List Noted). own_replies (entries l) v.caller) seen in
       record {
         plays = λ s script told.
-            subst (λ (rs : List Reply). Plays s rs v.names t) (sym none) (subst (λ (l : List Bound). Plays s [] l t) (sym names) (plays s script));
+            subst (λ (rs : List Reply). Plays s rs v.names t) (sym none) (subst (λ (l : Names). Plays s [] l t) (sym names) (plays s script));
         before_is = λ s script. counts s [] [] (plays s script) ∙ ap (λ (rs : List Reply). finished_by (before_last rs) s) (sym none);
       }
 
   pub counts_fresh : (guest v : Visit) (task t : T) (lost : Bool) (before : ℕ) → v ≡ guest → t ≡ task → lost ≡ false → IsFresh guest.caller guest
       → ((s : Script) → caller_of w guest.caller ≡ IsScript s → Plays s [] [] task)
-      → ((s : Script) (rs : List Reply) (names : List Bound) → Plays s rs names task → before ≡ finished_by rs s) → IsCounted Plays w v t lost before
+      → ((s : Script) (rs : List Reply) (names : Names) → Plays s rs names task → before ≡ finished_by rs s) → IsCounted Plays w v t lost before
   counts_fresh guest v task t lost before visit same told fresh plays counts =
       subst (λ (b : Bool). IsCounted Plays w v t b before) (sym told)
       (subst (λ (x : T). IsCounted Plays w v x false before) (sym same)
@@ -98,7 +98,7 @@ module _ {T : Type 0} (Plays : Script → List Reply → List Bound → T → Ty
 
   -- The turn of a script.
 
-  module _ (asks : T → List Bound → Option Request) (after : T → Reply → T) (plays_on : whole.PlaysOn T asks after Plays) (old new : Visit)
+  module _ (asks : T → Names → Option Request) (after : T → Reply → T) (plays_on : whole.PlaysOn T asks after Plays) (old new : Visit)
       (same : IsSame old new)
       (who : Role) (script : who ≡ role.Script) (has : HasRole w old.caller who) (t : T) (lost : Bool) (keeps_told : lost ≡ false) (before : ℕ)
       (is : IsCounted Plays w old t lost before) (free : old.owed ≡ []) (q : Request) (asks_it : Some q ≡ asks t old.names) (keeps : KeepsActors)
@@ -128,7 +128,7 @@ module _ {T : Type 0} (Plays : Script → List Reply → List Bound → T → Ty
         plays_then played.Recorded came s now again =
             let asked = does s (was s now) in
             subst (λ (x : T). Plays s (replies_of new) new.names x) (sym came.0)
-            (subst (λ (l : List Bound). Plays s (replies_of new) l (after t r)) (sym asked.names)
+            (subst (λ (l : Names). Plays s (replies_of new) l (after t r)) (sym asked.names)
             (subst (λ (rs : List Reply). Plays s rs (settled old.names q r) (after t r)) (sym (one_reply_more w old new same s.host q stamp r asked))
             (plays_on s (replies_of old) old.names t q asked.ask r (is.plays s (was s now) keeps_told) (sym asks_it) asked.asks
             (reply_fits w old new same s.host q stamp r asked keeps fit))))

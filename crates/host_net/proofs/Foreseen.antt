@@ -6,7 +6,7 @@ use Rattle.net_base.specs.declared.world.Script.{Script}
 use Rattle.net_base.specs.declared.world.World.{World}
 use Rattle.net_base.specs.Callers.{Caller, IsScript, caller_of}
 use Rattle.net_base.specs.Next.{next, next_of, own_replies}
-use Rattle.net_base.specs.Steps.{Ask, Bound, Play, position}
+use Rattle.net_base.specs.Steps.{Ask, Names, Play, position}
 use Rattle.script_task.specs.declared.request.Request.{Request}
 use Rattle.script_task.specs.Requests.{head, planned}
 use Rattle.script_task.specs.Rest.{Continues}
@@ -22,7 +22,7 @@ next_is_head w v s p script goes =
     ∙ (ap (λ (rs : List Reply). (position s.host s.steps [] rs).next) (sym (append-nil (own_replies (entries v.sight.seen) v.caller)))
     ∙ goes.next_is [])
 
-module _ {T : Type 0} (asks : T → List Bound → Option Request) (Stands : ℕ → List Bound → T → Play → Type 0) (so : AsksSo T asks Stands)
+module _ {T : Type 0} (asks : T → Names → Option Request) (Stands : ℕ → Names → T → Play → Type 0) (so : AsksSo T asks Stands)
     (w : World) (v : Visit) (s : Script) (t : T) (script : caller_of w v.caller ≡ IsScript s) (goes : GoesOn Stands s v t) where
   -- the task is through
   pub nothing_next : asks t v.names ≡ None → None ≡ next w (entries v.sight.seen) v.caller

@@ -18,7 +18,7 @@ use Rattle.net_base.specs.Duties.{Duty}
 use Rattle.net_base.specs.Legal.{IsAsked}
 use Rattle.net_base.specs.Next.{next, next_of, own_replies}
 use Rattle.net_base.specs.Stamped.{at}
-use Rattle.net_base.specs.Steps.{Ask, Bound, Play}
+use Rattle.net_base.specs.Steps.{Ask, Names, Play}
 use Rattle.duties.specs.Queue.{work_of_duty}
 use Rattle.journal.specs.declared.tokens.Sight.{Sight}
 use Rattle.locked.specs.Acts.{made, without_copy}
@@ -131,13 +131,13 @@ is_script _ = false
 
 -- A player after a turn.
 
-module _ {T : Type 0} (Stands : ℕ → List Bound → T → Play → Type 0) (w : World) (old new : Visit) (same : IsSame old new) where
+module _ {T : Type 0} (Stands : ℕ → Names → T → Play → Type 0) (w : World) (old new : Visit) (same : IsSame old new) where
   pub goes_stay : (s : Script) (t : T) → new.names ≡ old.names → own_replies (entries new.sight.seen) old.caller
       ≡ own_replies (entries old.sight.seen) old.caller
       → GoesOn Stands s old t → GoesOn Stands s new t
   goes_stay s t names replies goes = (
     goes.0,
-    subst (λ (l : List Bound). Stands s.host l t goes.0) (sym names) goes.1,
+    subst (λ (l : Names). Stands s.host l t goes.0) (sym names) goes.1,
     subst (λ (rs : List Reply). Continues s rs goes.0) (sym (ap (own_replies (entries new.sight.seen)) same.caller ∙ replies)) goes.2,
   )
 
@@ -174,7 +174,7 @@ module _ (w : World) (d : Duty) (old new : Visit) (same : IsSame old new) (names
       (sym is) refl
 
   module _ (rest : List Duty) (is : old.owed ≡ d ∷ rest) (answer : Turn) (takes : Takes w d.actor (work_of_duty d) (Some d.cites) old answer new) where
-    pub duty_keeps : {T : Type 0} (Stands : ℕ → List Bound → T → Play → Type 0) (who : Role) (t : T) (lost : Bool)
+    pub duty_keeps : {T : Type 0} (Stands : ℕ → Names → T → Play → Type 0) (who : Role) (t : T) (lost : Bool)
         → IsPlayer Stands w old who t lost → IsPlayer Stands w new who t lost
     duty_keeps Stands who t lost player =
         still_player Stands w old new same who t lost player
@@ -208,7 +208,7 @@ module _ (w : World) (m : ℕ) (old new : Visit) (same : IsSame old new) (names 
   no_script : (s : Script) → caller_of w old.caller ≡ IsScript s → ⊥
   no_script s is = true≢false (ap is_script (sym is ∙ courier))
 
-  pub take_keeps : {T : Type 0} (Stands : ℕ → List Bound → T → Play → Type 0) (who : Role) (t : T) (lost : Bool)
+  pub take_keeps : {T : Type 0} (Stands : ℕ → Names → T → Play → Type 0) (who : Role) (t : T) (lost : Bool)
       → IsPlayer Stands w old who t lost → IsPlayer Stands w new who t lost
   take_keeps Stands who t lost player =
       record {

@@ -19,7 +19,7 @@ use Rattle.net_base.specs.Duties.{Duty, duties, ticks}
 use Rattle.net_base.specs.Net.{Net, after}
 use Rattle.net_base.specs.Next.{by, own_replies}
 use Rattle.net_base.specs.Stamped.{In, at, at_from}
-use Rattle.net_base.specs.Steps.{Bound, Play}
+use Rattle.net_base.specs.Steps.{Names, Play}
 use Rattle.journal.specs.declared.law.Roster.{Roster}
 use Rattle.script_task.specs.Rest.{Continues}
 use Rattle.guest_laws.specs.Own.{AreNext, AreTimely, IsLegalButScripts}
@@ -58,7 +58,7 @@ same_replies c l m same =
     ap (λ (es : List Entry). map (λ (x : Entry). x.reply) (filter (λ (x : Entry). is_none x.cites) es))
     (by_from c 0 m ∙ (ap (map (λ (y : ℕ × Noted). y.1.entry)) same ∙ sym (by_from c 0 l)))
 
-module _ {T : Type 0} (Stands : ℕ → List Bound → T → Play → Type 0) (w : World) where
+module _ {T : Type 0} (Stands : ℕ → Names → T → Play → Type 0) (w : World) where
   pub player_stays : (old new : Visit) (who : Role) (t : T) (lost : Bool) → IsPlayer Stands w old who t lost → new.caller ≡ old.caller
       → new.names ≡ old.names → Stays w old.caller old.sight new.sight → IsPlayer Stands w new who t lost
   player_stays old new who t lost is caller names stays =
@@ -74,7 +74,7 @@ module _ {T : Type 0} (Stands : ℕ → List Bound → T → Play → Type 0) (w
       goes_on : (s : Script) → GoesOn Stands s old t → GoesOn Stands s new t
       goes_on s on = (
         on.0,
-        subst (λ (l : List Bound). Stands s.host l t on.0) (sym names) on.1,
+        subst (λ (l : Names). Stands s.host l t on.0) (sym names) on.1,
         subst (λ (rs : List Reply). Continues s rs on.0)
             (sym (ap (own_replies (entries new.sight.seen)) caller ∙ same_replies old.caller old.sight.seen new.sight.seen stays.alone)) on.2,
       )

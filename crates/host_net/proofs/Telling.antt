@@ -10,7 +10,7 @@ use Rattle.net_base.specs.Callers.{Caller, IsScript, caller_of}
 use Rattle.net_base.specs.Duties.{Duty}
 use Rattle.net_base.specs.Legal.{IsAsked}
 use Rattle.net_base.specs.Next.{next, own_replies}
-use Rattle.net_base.specs.Steps.{Ask, Bound, Play}
+use Rattle.net_base.specs.Steps.{Ask, Names, Play}
 use Rattle.locked.specs.Acts.{made}
 use Rattle.script_task.specs.declared.request.Request.{Request}
 use Rattle.script_task.specs.Requests.{head, planned, settled}
@@ -41,7 +41,7 @@ next_asked w old s ask script free is o =
     (subst (λ (k : Caller). IsAsked [] k (next w (entries old.sight.seen) old.caller)
     (made ask.actor old.caller old.now (bare ask.event) None o).entry) (sym script) is)
 
-module _ {T : Type 0} (asks : T → List Bound → Option Request) (after : T → Reply → T) (Stands : ℕ → List Bound → T → Play → Type 0)
+module _ {T : Type 0} (asks : T → Names → Option Request) (after : T → Reply → T) (Stands : ℕ → Names → T → Play → Type 0)
     (asks_so : AsksSo T asks Stands) (moves_so : MovesSo T asks after Stands) (w : World) where
   -- a script whose task is through has nothing that comes next
   pub through_waits : (v : Visit) (s : Script) (t : T) → caller_of w v.caller ≡ IsScript s → v.owed ≡ [] → GoesOn Stands s v t → asks t v.names ≡ None
@@ -70,7 +70,7 @@ module _ {T : Type 0} (asks : T → List Bound → Option Request) (after : T �
         let stands : Stands s.host (settled old.names q r) (after t r) (follow goes.0 r) = moves_so s.host old.names t goes.0 q r goes.1 asks_it fit_it in
         let replies = one_reply_more w old new same s.host q stamp r is in (
           follow goes.0 r,
-          subst (λ (l : List Bound). Stands s.host l (after t r) (follow goes.0 r)) (sym is.names) stands,
+          subst (λ (l : Names). Stands s.host l (after t r) (follow goes.0 r)) (sym is.names) stands,
           subst (λ (rs : List Reply). Continues s rs (follow goes.0 r)) (sym replies)
               (continues_on s (own_replies (entries old.sight.seen) old.caller) goes.0 r goes.2),
         )

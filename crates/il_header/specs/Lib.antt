@@ -1,5 +1,5 @@
 pub mod Faults
 pub mod Views
-pub use Rattle.wire_text.specs.Bytes
+pub use Rattle.net_base.specs.Bytes
 pub use Rattle.wire_text.specs.IlWire
 pub use Rattle.wire_text.specs.Sum

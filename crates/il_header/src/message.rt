@@ -1,7 +1,7 @@
 //! IL messages.
 ghost use Rattle.std.specs.Prelude.{◌≡◌, ◌≢◌, ◌+◌, ◌<◌, ◌≤◌, ◌++◌, ◌↔◌, ℕ, List, length, take, drop, IfOk, IsOkAnd, IsErrOf};
 ghost use Rattle.net_base.specs.declared.il.IlMsg.{IlMsg};
-ghost use Rattle.wire_text.specs.Bytes.{word_at};
+ghost use Rattle.net_base.specs.Bytes.{word_at};
 ghost use Rattle.wire_text.specs.IlWire.{IsMessage, SpellsIl, il_bytes, il_length, il_sum, il_with, kind_of, type_field, type_number};
 ghost use Rattle.il_header.specs.Faults.{HasHeader, HasLength, HasSum};
 ghost use Rattle.il_header.specs.Views.{message_in};

@@ -1,7 +1,7 @@
 -- The sum of a header by its parts before and after the sum field.
 use Rattle.std.proofs.Common.{◌≡◌, ℕ, ◌+◌, ◌-◌, ◌≤◌, List, length, take, drop, sum, ap, ◌∙◌, arith}
 use Rattle.std.proofs.lemmas.List.{length-take, take-take, drop-take}
-use Rattle.wire_text.specs.Bytes.{blanked}
+use Rattle.net_base.specs.Bytes.{blanked}
 use Rattle.wire_text.specs.Sum.{words}
 use Rattle.wire_text.specs.Ipv4.{header_sum}
 use Rattle.wire_text.proofs.WireNumbers.{IsBytes}

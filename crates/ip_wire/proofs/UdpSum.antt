@@ -2,7 +2,7 @@
 use Rattle.std.proofs.Common.{◌≡◌, ℕ, zero, suc, ◌+◌, ◌-◌, ◌<◌, ◌≤◌, List, [], ◌∷◌, ◌++◌, length, take, drop, sum, refl, sym, ap, ◌∙◌, arith}
 use Rattle.std.specs.Int.{bytes_high_first}
 use Rattle.net_base.specs.declared.address.Addr.{Addr}
-use Rattle.wire_text.specs.Bytes.{blanked}
+use Rattle.net_base.specs.Bytes.{blanked}
 use Rattle.wire_text.specs.Sum.{words, sum_of}
 use Rattle.wire_text.specs.UdpWire.{pseudo_header, sent_sum, udp_with, udp_sum, udp_length, received_sum}
 use Rattle.wire_text.proofs.WireNumbers.{IsBytes}

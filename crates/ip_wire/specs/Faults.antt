@@ -1,6 +1,6 @@
 -- How far bytes look like a datagram: each step is what the fault after it presumes.
 use Rattle.std.specs.Prelude.{◌≡◌, ◌≤◌, ◌⊎◌, List, length, ℕ}
-use Rattle.wire_text.specs.Bytes.{word_at}
+use Rattle.net_base.specs.Bytes.{word_at}
 use Rattle.wire_text.specs.Ipv4.{version, header_words, fragment, header_sum}
 use Rattle.wire_text.specs.UdpWire.{sum_field, received_sum}
 

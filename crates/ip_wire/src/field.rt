@@ -1,6 +1,6 @@
 //! Numbers at a place in bytes, high byte first.
 ghost use Rattle.std.specs.Prelude.{◌≡◌, ◌+◌, ◌≤◌, length};
-ghost use Rattle.wire_text.specs.Bytes.{word_at, long_at};
+ghost use Rattle.net_base.specs.Bytes.{word_at, long_at};
 
 use byteorder::{BigEndian, ByteOrder};
 

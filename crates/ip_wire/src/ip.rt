@@ -1,6 +1,6 @@
 //! IPv4 headers.
 ghost use Rattle.std.specs.Prelude.{◌≡◌, ◌≢◌, ◌+◌, ◌^◌, ◌<◌, ◌≤◌, ◌++◌, ◌↔◌, ℕ, false, List, length, take, drop, IfOk, IsOkAnd, IsErrOf};
-ghost use Rattle.wire_text.specs.Bytes.{word_at};
+ghost use Rattle.net_base.specs.Bytes.{word_at};
 ghost use Rattle.wire_text.specs.Ipv4.{Ipv4, IsHeader, SpellsIpv4, flags, fragment, header_of, header_sum, header_words, ipv4_bytes, summed, total_length, version};
 ghost use Rattle.ip_wire.specs.Faults.{HasHeader, HasHeaderSum, HasNoOptions, IsNoFragment, IsVersion4};
 ghost use Rattle.ip_wire.specs.Headers.{view};

@@ -8,7 +8,7 @@ use Rattle.std.proofs.lemmas.Bool.Decides.{nat_tests}
 use Rattle.std.proofs.lemmas.List.{length-map}
 use Rattle.net_base.specs.Addresses.{parts_at}
 use Rattle.net_base.specs.NdbBundle.{each_once}
-use Rattle.dns_text.specs.Labels.{is_label, is_label_byte, is_name, label_bytes, labels_bytes, labels_of, lowered, name_bytes, name_in}
+use Rattle.net_base.specs.DomainNames.{is_label, is_label_byte, is_name, label_bytes, labels_bytes, labels_of, lowered, name_bytes, name_in}
 
 lower_dot : (b : ℕ) → (to_ascii_lowercase b == 46) ≡ (b == 46)
 lower_dot b = grind (arith, nat_tests)

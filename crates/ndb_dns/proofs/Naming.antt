@@ -9,7 +9,7 @@ use Rattle.std.proofs.lemmas.List.{take_at, drop_at, take-append-drop, length-ma
 use Rattle.std.proofs.lemmas.Option.{none-some, same_Some}
 use Rattle.net_base.specs.NdbText.{is_empty}
 use Rattle.wire_text.proofs.WireNumbers.{word_again}
-use Rattle.dns_text.specs.Labels.{is_label, is_name, label_bytes, labels_bytes, lowered, name_bytes, name_text, pointer_bytes}
+use Rattle.net_base.specs.DomainNames.{is_label, is_name, label_bytes, labels_bytes, lowered, name_bytes, name_text, pointer_bytes}
 use Rattle.dns_text.proofs.Found.{label_few, label_some}
 use Rattle.ndb_dns.specs.declared.name.End.{End}
 use Rattle.ndb_dns.proofs.Sizes.{size_of}

@@ -15,7 +15,7 @@ use Rattle.net_base.specs.NdbBundle.{each_once}
 use Rattle.net_base.specs.NdbText.{is_empty}
 use Rattle.net_base.specs.Networks.{first_of}
 use Rattle.net_base.specs.Search.{all_beside, beside, or_where_empty, tuples_with}
-use Rattle.wire_text.specs.Bytes.{word_at}
+use Rattle.net_base.specs.Bytes.{word_at}
 use Rattle.ndb_reader.specs.Names.{names_seen, with_name, with_names}
 use Rattle.ndb_reader.proofs.Groups.{name_put}
 use Rattle.ndb_reader.proofs.Once.{names_append}
@@ -25,10 +25,10 @@ use Rattle.ndb_index.specs.Kept.{spots_with}
 use Rattle.ndb_index.specs.Near.{spot_tuples}
 use Rattle.ndb_index.proofs.Nearby.{Db, spots_count, spots_found}
 use Rattle.cs_resolver.proofs.Once.{among, once_push, same_any, turned}
-use Rattle.dns_text.specs.declared.question.Question.{Question}
-use Rattle.dns_text.specs.Answers.{Key, address_record, address_records, addresses_named, alias_of, alias_records, answer_read, asked, dns_answer, is_unknown, key_of, naming_record, rcode_of, record_bytes, records_beside, records_found, records_of, reply_of}
-use Rattle.dns_text.specs.Labels.{name_in}
-use Rattle.dns_text.specs.Questions.{HasHeader, question_of}
+use Rattle.net_base.specs.declared.question.Question.{Question}
+use Rattle.net_base.specs.DomainAnswers.{Key, address_record, address_records, addresses_named, alias_of, alias_records, answer_read, asked, dns_answer, is_unknown, key_of, naming_record, rcode_of, record_bytes, records_beside, records_found, records_of, reply_of}
+use Rattle.net_base.specs.DomainNames.{name_in}
+use Rattle.net_base.specs.DomainQuestions.{HasHeader, question_of}
 use Rattle.ndb_dns.specs.Looks.{looks_beside, looks_for, looks_of, most_looks}
 use Rattle.ndb_dns.specs.Refusals.{IsQuery}
 use Rattle.ndb_dns.specs.Taken.{Adds}

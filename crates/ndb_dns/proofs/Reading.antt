@@ -2,7 +2,7 @@
 use Rattle.std.proofs.Common.{◌≡◌, ℕ, ◌+◌, ◌-◌, ◌<◌, ◌≤◌, Bool, true, List, [], ◌∷◌, ◌++◌, length, drop, Option, Some, None, refl, sym, ap, ◌∙◌, arith, subst}
 use Rattle.std.specs.Prelude.{IfSome}
 use Rattle.std.specs.List.{list_all}
-use Rattle.dns_text.specs.Labels.{ReadsName, Spells, is_label, is_name, name_text}
+use Rattle.net_base.specs.DomainNames.{ReadsName, Spells, is_label, is_name, name_text}
 use Rattle.dns_text.proofs.Found.{name_valid}
 use Rattle.ndb_dns.specs.declared.name.End.{End}
 use Rattle.ndb_dns.specs.declared.name.Run.{Run}

@@ -4,7 +4,7 @@ use Rattle.std.specs.List.{list_all, join_with_byte}
 use Rattle.std.proofs.lemmas.Bool.Decides.{nat_tests}
 use Rattle.std.proofs.lemmas.List.Splits.{join_with_byte-slice_split}
 use Rattle.net_base.specs.Addresses.{parts_at}
-use Rattle.dns_text.specs.Labels.{is_label, is_name, labels_bytes, labels_of, name_bytes}
+use Rattle.net_base.specs.DomainNames.{is_label, is_name, labels_bytes, labels_of, name_bytes}
 
 -- labels have a byte more than their text
 pub size_of : (label : List ℕ) (labels : List (List ℕ)) → length (labels_bytes (label ∷ labels)) ≡ length (join_with_byte 46 (label ∷ labels)) + 1

@@ -6,7 +6,7 @@ use Rattle.std.proofs.lemmas.Bool.{and_parts, and_from, lt-ltb, le-leb, ltb-true
 use Rattle.std.proofs.lemmas.List.{take_at, take-append-drop, length-drop, get_or-drop, get_or-append-add}
 use Rattle.std.proofs.lemmas.List.Folds.{list_all-append}
 use Rattle.std.proofs.lemmas.Option.{same_Some}
-use Rattle.dns_text.specs.Labels.{Ended, Pointed, PointsBack, ReadsName, Spells, StandAt, is_label, is_name, labels_bytes, name_bytes, name_text, pointer_bytes}
+use Rattle.net_base.specs.DomainNames.{Ended, Pointed, PointsBack, ReadsName, Spells, StandAt, is_label, is_name, labels_bytes, name_bytes, name_text, pointer_bytes}
 use Rattle.dns_text.proofs.Found.{name_valid}
 use Rattle.ndb_dns.specs.declared.name.End.{End}
 use Rattle.ndb_dns.specs.declared.name.Run.{Run}

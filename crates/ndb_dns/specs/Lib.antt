@@ -1,10 +1,10 @@
 pub use Rattle.net_base.specs.Search
-pub use Rattle.wire_text.specs.Bytes
+pub use Rattle.net_base.specs.Bytes
 pub use Rattle.ndb_reader.specs.Names
 pub use Rattle.ndb_index.specs.Index
-pub use Rattle.dns_text.specs.Labels
-pub use Rattle.dns_text.specs.Questions
-pub use Rattle.dns_text.specs.Answers
+pub use Rattle.net_base.specs.DomainNames
+pub use Rattle.net_base.specs.DomainQuestions
+pub use Rattle.net_base.specs.DomainAnswers
 pub mod Keys
 pub mod Looks
 pub mod Refusals

@@ -3,9 +3,9 @@ use Rattle.std.specs.Prelude.{ℕ, ◌+◌, ◌*◌, ◌==◌, List, Option, Som
 use Rattle.std.specs.Option.{option_map_or}
 use Rattle.net_base.specs.declared.ndb.NdbPair.{NdbPair}
 use Rattle.ndb_index.specs.Index.{found}
-use Rattle.dns_text.specs.declared.question.Question.{Question}
-use Rattle.dns_text.specs.Answers.{Key, alias_of, host_address, key_of}
-use Rattle.dns_text.specs.Questions.{question_of}
+use Rattle.net_base.specs.declared.question.Question.{Question}
+use Rattle.net_base.specs.DomainAnswers.{Key, alias_of, host_address, key_of}
+use Rattle.net_base.specs.DomainQuestions.{question_of}
 
 -- the tuples of the name for which a name stands
 abbrev pub alias_looks : List (List (List NdbPair)) → Option (List ℕ) → ℕ

@@ -1,7 +1,7 @@
 -- The refusals of messages whose question isn't read.
 use Rattle.std.specs.Prelude.{◌≡◌, ◌<◌, ◌≤◌, ℕ, ◌^◌, List, length, None, ⊤}
-use Rattle.wire_text.specs.Bytes.{word_at}
-use Rattle.dns_text.specs.Questions.{HasHeader, question_of}
+use Rattle.net_base.specs.Bytes.{word_at}
+use Rattle.net_base.specs.DomainQuestions.{HasHeader, question_of}
 use Rattle.ndb_dns.specs.declared.fault.DnsError.{DnsError}
 use Rattle.ndb_dns.specs.declared.fault.DnsError.TheVariants as error
 

@@ -2,7 +2,7 @@
 use Rattle.std.specs.Prelude.{◌≡◌, ◌<◌, ◌≤◌, ◌⊎◌, ℕ, ◌+◌, ◌-◌, ◌*◌, ◌==◌, Bool, true, ◌&&◌, nat_lt, nat_le, List, [], ◌∷◌, ◌++◌, length, take, drop, Option, Some, None, option_and_then, if◌then◌else◌}
 use Rattle.std.specs.List.{list_all}
 use Rattle.net_base.specs.NdbText.{is_empty}
-use Rattle.dns_text.specs.Labels.{Spells, is_label, lowered}
+use Rattle.net_base.specs.DomainNames.{Spells, is_label, lowered}
 use Rattle.ndb_dns.specs.declared.fault.DnsError.{DnsError}
 use Rattle.ndb_dns.specs.declared.fault.DnsError.TheVariants as error
 use Rattle.ndb_dns.specs.declared.name.End.{End}

@@ -1,6 +1,6 @@
 -- What a reply has taken of the records that were offered to it: the first ones, as far as they fit.
 use Rattle.std.specs.Prelude.{◌≡◌, ◌≤◌, ℕ, ◌+◌, nat_lt, List, ◌++◌, length, flat_map}
-use Rattle.dns_text.specs.Answers.{fitting}
+use Rattle.net_base.specs.DomainAnswers.{fitting}
 use Rattle.ndb_dns.specs.declared.reply.Records.{Records}
 
 -- of these, offered in order where there was this much room

@@ -1,7 +1,7 @@
 //! What a message is answered.
 ghost use Rattle.std.specs.Prelude.{◌≡◌, ◌+◌, ◌<◌, ◌≤◌, ◌↔◌, ◌++◌, ◌⊎◌, List, length, if◌then◌else◌, IfOk, IsTrue};
 ghost use Rattle.net_base.specs.declared.ndb.NdbPair.{NdbPair};
-ghost use Rattle.dns_text.specs.Answers as spec;
+ghost use Rattle.net_base.specs.DomainAnswers as spec;
 ghost use Rattle.ndb_dns.specs.Looks.{looks_of, most_looks};
 ghost use Rattle.ndb_dns.specs.Refusals.{Refuses};
 ghost use Rattle.ndb_dns.specs.Taken.{Adds, IsFew};
@@ -12,7 +12,7 @@ use crate::key::key_of;
 use crate::question::read_question;
 use crate::record::{ADDRESS, ALIAS, INTERNET, POINTER};
 use crate::reply::{Records, format_reply, reply};
-use dns_text::Question;
+use net_base::Question;
 use ndb_index::{Index, Steps};
 use net_base::Octets;
 use std::alloc::{AllocError, Global};

@@ -8,8 +8,8 @@ ghost use Rattle.net_base.specs.Search as spec;
 ghost use Rattle.ndb_reader.specs.Names.{names_seen};
 ghost use Rattle.ndb_index.specs.Index.{found};
 ghost use Rattle.ndb_index.specs.Near.{SpotsWithin, spot_tuples};
-ghost use Rattle.dns_text.specs.Labels as labels;
-ghost use Rattle.dns_text.specs.Answers as answers;
+ghost use Rattle.net_base.specs.DomainNames as labels;
+ghost use Rattle.net_base.specs.DomainAnswers as answers;
 
 use crate::value::name_in;
 use indexmap::IndexSet;

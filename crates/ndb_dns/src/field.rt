@@ -1,7 +1,7 @@
 //! Numbers in messages, high byte first.
 ghost use Rattle.std.specs.Prelude.{◌≡◌, ◌+◌, ◌++◌, ◌≤◌, length, OnOk};
 ghost use Rattle.std.specs.Int.{bytes_high_first};
-ghost use Rattle.wire_text.specs.Bytes.{word_at};
+ghost use Rattle.net_base.specs.Bytes.{word_at};
 
 use byteorder::{BigEndian, ByteOrder};
 use net_base::Octets;

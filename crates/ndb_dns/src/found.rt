@@ -3,8 +3,8 @@ ghost use Rattle.std.specs.Prelude.{◌≡◌, ◌+◌, ◌≤◌, true, map, co
 ghost use Rattle.std.specs.List.{list_all};
 ghost use Rattle.ndb_reader.specs.Names.{names_seen};
 ghost use Rattle.ndb_index.specs.Index.{found};
-ghost use Rattle.dns_text.specs.Answers as spec;
-ghost use Rattle.dns_text.specs.Labels.{is_name, labels_of};
+ghost use Rattle.net_base.specs.DomainAnswers as spec;
+ghost use Rattle.net_base.specs.DomainNames.{is_name, labels_of};
 ghost use Rattle.ndb_dns.specs.Looks.{alias_looks, looks_beside};
 ghost use Rattle.ndb_dns.specs.Taken.{Adds, IsFew};
 

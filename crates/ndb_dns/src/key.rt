@@ -1,11 +1,11 @@
 //! What a question searches the database for.
 ghost use Rattle.std.specs.Prelude.{◌≡◌, option_map, IfOk};
-ghost use Rattle.dns_text.specs.Answers as spec;
+ghost use Rattle.net_base.specs.DomainAnswers as spec;
 ghost use Rattle.ndb_dns.specs.Keys.{key_seen};
 
 use crate::record::POINTER;
 use crate::reverse::reverse_of;
-use dns_text::Question;
+use net_base::Question;
 use net_base::Octets;
 use std::alloc::{AllocError, Global};
 

@@ -1,7 +1,7 @@
 //! Labels of names.
 ghost use Rattle.std.specs.Prelude.{◌≡◌, ◌++◌, OnOk};
 ghost use Rattle.std.specs.List.{list_all};
-ghost use Rattle.dns_text.specs.Labels as spec;
+ghost use Rattle.net_base.specs.DomainNames as spec;
 
 use net_base::Octets;
 use std::alloc::AllocError;

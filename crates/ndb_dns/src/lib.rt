@@ -16,7 +16,7 @@ mod reverse;
 mod value;
 
 pub use answer::{dns_answer, dns_answer_counted};
-pub use dns_text::Question;
+pub use net_base::Question;
 pub use fault::DnsError;
 pub use name::{Name, read_name};
 pub use question::read_question;

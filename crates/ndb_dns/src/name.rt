@@ -1,6 +1,6 @@
 //! Names in messages.
 ghost use Rattle.std.specs.Prelude.{◌≡◌, ◌<◌, ◌≤◌, ℕ, true, List, None, Some, length, IfOk, IfErr, IfSome, MatchOption, OnOk};
-ghost use Rattle.dns_text.specs.Labels.{ReadsName, is_label};
+ghost use Rattle.net_base.specs.DomainNames.{ReadsName, is_label};
 ghost use Rattle.ndb_dns.specs.Runs as spec;
 ghost use Rattle.ndb_dns.specs.Runs.{AddsLabels, AddsPointed, AddsRun, AreTooLong, HasNoRun, IsRefused, LeadsToNone, behind_label, label_of, with_label};
 

@@ -1,14 +1,14 @@
 //! Questions.
 ghost use Rattle.std.specs.Prelude.{◌≡◌, ◌<◌, ◌≤◌, ◌↔◌, ◌^◌, length, IfOk, IfErr, IsErrOf, Some, None};
-ghost use Rattle.wire_text.specs.Bytes.{word_at};
-ghost use Rattle.dns_text.specs.Questions.{HasHeader, question_of};
+ghost use Rattle.net_base.specs.Bytes.{word_at};
+ghost use Rattle.net_base.specs.DomainQuestions.{HasHeader, question_of};
 ghost use Rattle.ndb_dns.specs.Refusals.{IsQuery, Refuses};
 ghost use Rattle.ndb_dns.specs.Runs.{IsRefused};
 
 use crate::fault::DnsError;
 use crate::field::word;
 use crate::name::read_name;
-use dns_text::Question;
+use net_base::Question;
 use std::alloc::Global;
 
 /// The bytes of a header.

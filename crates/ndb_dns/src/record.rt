@@ -1,7 +1,7 @@
 //! Records of answers.
 ghost use Rattle.std.specs.Prelude.{◌≡◌, ◌<◌, ◌^◌, true, length, IfOk};
-ghost use Rattle.dns_text.specs.Answers as spec;
-ghost use Rattle.dns_text.specs.Labels.{is_name, labels_of, spelling};
+ghost use Rattle.net_base.specs.DomainAnswers as spec;
+ghost use Rattle.net_base.specs.DomainNames.{is_name, labels_of, spelling};
 
 use crate::field::{put_long, put_word};
 use crate::value::put_name;

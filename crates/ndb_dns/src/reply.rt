@@ -1,10 +1,10 @@
 //! Replies.
 ghost use Rattle.std.specs.Prelude.{◌≡◌, ◌-◌, ◌<◌, ◌≤◌, ◌++◌, ◌∷◌, [], ℕ, List, length, IfOk, OnOk};
-ghost use Rattle.dns_text.specs.Answers as spec;
+ghost use Rattle.net_base.specs.DomainAnswers as spec;
 ghost use Rattle.ndb_dns.specs.Taken.{Adds, IsFew, Took};
 
 use crate::field::{put_word, word};
-use dns_text::Question;
+use net_base::Question;
 use net_base::Octets;
 use std::alloc::{AllocError, Global};
 

@@ -1,7 +1,7 @@
 //! Names below in-addr.arpa.
 ghost use Rattle.std.specs.Prelude.{◌≡◌, ◌++◌, codes, None, Some, IfOk, MatchOption};
 ghost use Rattle.net_base.specs.Addresses.{parts_at};
-ghost use Rattle.dns_text.specs.Answers as spec;
+ghost use Rattle.net_base.specs.DomainAnswers as spec;
 
 use net_base::Octets;
 use std::alloc::{AllocError, Global};

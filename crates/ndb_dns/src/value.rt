@@ -2,7 +2,7 @@
 ghost use Rattle.std.specs.Prelude.{◌≡◌, ◌++◌, true, IfOk, OnOk};
 ghost use Rattle.std.specs.List.{list_all};
 ghost use Rattle.net_base.specs.Addresses.{parts_at};
-ghost use Rattle.dns_text.specs.Labels as spec;
+ghost use Rattle.net_base.specs.DomainNames as spec;
 
 use crate::label::{is_label, put_lowered};
 use net_base::Octets;

@@ -10,7 +10,7 @@ ghost use Rattle.net_actors.specs.Small.{IsSmall};
 ghost use Rattle.net_actors.specs.Stepping.{IsReady, ActorMayWant, Steps};
 
 use crate::kind::Kind;
-use crate::versions::IndexedVersions;
+use ndb_versions::IndexedVersions;
 use net_base::{ActorName, Outcome, Work, World};
 use std::alloc::{AllocError, Global};
 use std::sync::Arc;

@@ -13,8 +13,8 @@ ghost use Rattle.net_actors.specs.Together.{AreActors, AreFirst, CanStep, MayWan
 
 use crate::actor::Actor;
 use crate::number::{actor_at, actor_count, is_among, number_of};
-use crate::versions::IndexedVersions;
 use duties::Due;
+use ndb_versions::IndexedVersions;
 use net_base::{ActorName, Outcome, Proto, Work, World};
 use std::alloc::{AllocError, Global};
 use std::marker::Model;

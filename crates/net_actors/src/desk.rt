@@ -11,8 +11,8 @@ ghost use Rattle.net_actors.specs.AtDesk.{Replies, desk_at, host_of, leaves_desk
 ghost use Rattle.net_actors.specs.Stepping.{desk_takes};
 
 use crate::outcome::answered;
-use crate::versions::IndexedVersions;
 use cs_resolver::{CsError, answer_indexed};
+use ndb_versions::IndexedVersions;
 use net_base::{Event, HostSpec, Lines, Mode, Nets, Node, Octets, Outcome, Reply};
 use net_tree::{may_open, names, walk};
 use std::alloc::{AllocError, Global};

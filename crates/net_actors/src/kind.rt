@@ -18,10 +18,10 @@ ghost use Rattle.net_actors.specs.Stepping.{ConvSteps, KindSteps, ActorMayWant, 
 use crate::desk::Desk;
 use crate::media;
 use crate::outcome::answered;
-use crate::versions::IndexedVersions;
 use conversation::Conv;
 use host_dir::Dir;
 use medium::Medium;
+use ndb_versions::IndexedVersions;
 use net_base::{ActorName, Event, Outcome, Proto, Reply, Timers, Work, World};
 use std::alloc::{AllocError, Global};
 use std::sync::Arc;

@@ -27,7 +27,7 @@ is_ready w net (Some ask) = is_some (actor_step w ask.actor (net.actors ask.acto
 
 -- a caller's next event is ready
 abbrev pub can_go_on : World → Net → ℕ → Bool
-can_go_on w net c = is_ready w net (next_of (caller_of w c) net.past c)
+can_go_on w net c = is_ready w net (next_of w (caller_of w c) net.past c)
 
 -- the numbers of all callers
 abbrev pub callers : World → List ℕ
@@ -53,7 +53,7 @@ calm w net = nothing_owed w net && (nothing_pending w net && scripts_wait w net)
 
 -- some script isn't through
 abbrev pub unfinished : World → Net → Bool
-unfinished w net = list_any (λ (s : ℕ × Script). is_unfinished net.past s.0 s.1) (enumerate_from 0 w.scripts)
+unfinished w net = list_any (λ (s : ℕ × Script). is_unfinished w net.past s.0 s.1) (enumerate_from 0 w.scripts)
 
 -- the clock may move
 abbrev pub movable : World → Net → Bool
@@ -79,7 +79,7 @@ abbrev pub target : World → Net → ℕ
 target w net =
     least w.end
     (filter_map (λ (a : ActorName). due_of (net.actors a)) (conversations w)
-    ++ filter_map (λ (c : ℕ). awaited_moment (next_of (caller_of w c) net.past c)) (callers w))
+    ++ filter_map (λ (c : ℕ). awaited_moment (next_of w (caller_of w c) net.past c)) (callers w))
 
 -- The end of a run.
 

@@ -1,6 +1,7 @@
 pub mod Mirror
 pub mod Number
 pub mod Numeral
+pub mod Bytes
 pub mod Hexadecimal
 pub mod Timer
 pub mod UdpEnd
@@ -26,6 +27,10 @@ pub mod Directory
 pub mod Desk
 pub mod NdbBundle
 pub mod NdbText
+pub mod DomainNames
+pub mod DomainQuestions
+pub mod DomainAnswers
+pub mod DatagramHeaders
 pub mod Actors
 pub mod Callers
 pub mod Duties

@@ -56,7 +56,7 @@ totals h =
 -- Steps.
 
 abbrev pub answered_by : World → List Entry → ℕ × Script → ℕ
-answered_by w h s = answered h s.0 (owes (after w h) s.0) s.1
+answered_by w h s = answered w h s.0 (owes (after w h) s.0) s.1
 
 abbrev pub answered_steps : World → List Entry → ℕ
 answered_steps w h = sum_by (answered_by w h) (enumerate_from 0 w.scripts)

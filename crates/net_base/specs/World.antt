@@ -15,6 +15,7 @@ use Rattle.net_base.specs.declared.world.Step.{Step}
 use Rattle.net_base.specs.declared.world.Step.TheVariants as step
 use Rattle.net_base.specs.declared.world.Version.{Version}
 use Rattle.net_base.specs.declared.world.World.{World}
+use Rattle.net_base.specs.DatagramHeaders.{has_headers}
 use Rattle.net_base.specs.NdbBundle.{reading}
 use Rattle.net_base.specs.Networks.{mask_bits}
 use Rattle.net_base.specs.Routes.{Route, matches, iface_routes, host_routes}
@@ -161,6 +162,9 @@ is_step (step.Listen name from) = is_name name && is_name from
 is_step (step.Accept name from) = is_name name && is_name from
 is_step (step.Reject name) = is_name name
 is_step (step.Hangup name) = is_name name
+is_step (step.Hread name count) = is_name name && is_within 1 65536 count
+is_step (step.Hwrite name bytes) = is_name name && (list_all is_byte bytes && has_headers bytes)
+is_step (step.Dns name times) = is_name name && is_within 1 1000 times
 
 -- a script of one of so many hosts
 abbrev pub is_script : ℕ → Script → Bool

@@ -151,6 +151,21 @@ pub enum Step {
     Hangup {
         name: Octets,
     },
+    /// Takes a call, and reads its first datagram and where that is from.
+    Hread {
+        name: Octets,
+        count: u32,
+    },
+    /// Answers the datagram of the open `hread`: headers and a text.
+    Hwrite {
+        name: Octets,
+        bytes: Octets,
+    },
+    /// Answers so many questions from the database.
+    Dns {
+        name: Octets,
+        times: u32,
+    },
 }
 
 pub type StepList = Sequence<Step>;

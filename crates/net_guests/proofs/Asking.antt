@@ -15,8 +15,8 @@ use Rattle.net_base.specs.declared.reply.Reply.{Reply}
 use Rattle.net_base.specs.ControlWords as control
 use Rattle.net_base.specs.Paths.{reads, walk, writes}
 use Rattle.net_base.specs.Stamped.{same_actor}
-use Rattle.net_base.specs.Steps.{Ask, Bound, Fid, Play, Asks, Ends, controls, fid_of, is_bound, ls_actor, on_fid, open_actor, openable, opened_fid, puts}
-use Rattle.net_tree.specs.Bindings.{Bindings}
+use Rattle.net_base.specs.Steps.{Ask, Names, Fid, Play, Asks, Ends, controls, fid_of, is_bound, ls_actor, on_fid, open_actor, openable, opened_fid, puts}
+use Rattle.script_task.specs.Holdings.{Holdings}
 use Rattle.script_task.specs.declared.request.Request.{Request}
 use Rattle.script_task.specs.declared.request.Request.TheVariants as request
 use Rattle.script_task.specs.Requests.{HasRoom, head, newly_opened, planned, request_play}
@@ -62,7 +62,7 @@ puts_away : (h : ℕ) (f : Fid) (n : FileName) (text : List ℕ) (refused next :
 puts_away h f file.Data text refused next = refl
 puts_away h f _ text refused next = controls_away h f text (control.read text) refused next
 
-request_away : (h : ℕ) (names : List Bound) (q : Request) → IsAway (request_play h names q)
+request_away : (h : ℕ) (names : Names) (q : Request) → IsAway (request_play h names q)
 request_away h names (request.Open called path m) = either (is_bound names called) _ _ refl (open_away h (openable (walk path) m))
 request_away h names (request.Read called count) = bound_away (fid_of called names) _ _ refl (λ f. either (reads f.mode) _ _ refl refl)
 request_away h names (request.Write called text) =
@@ -82,17 +82,17 @@ head_away (Asks a e next) ask away is = ap (λ (q : Ask). same_actor q.actor nam
 head_away (Ends names) ask away is = absurd (none-some ask is)
 
 -- no request has its event at the clock
-pub planned_away : (h : ℕ) (names : List Bound) (q : Request) (ask : Ask) → planned h names q ≡ Some ask → same_actor ask.actor name.Clock ≡ false
+pub planned_away : (h : ℕ) (names : Names) (q : Request) (ask : Ask) → planned h names q ≡ Some ask → same_actor ask.actor name.Clock ≡ false
 planned_away h names q ask is = head_away (request_play h names q) ask (request_away h names q) is
 
 -- Room.
 
-room_if : (b : Bindings) (called : List ℕ) → b.reserved ≡ Some called → (bound : Bool) (o : Option Fid)
+room_if : (b : Holdings) (called : List ℕ) → b.reserved ≡ Some called → (bound : Bool) (o : Option Fid)
     → HasRoom b (if bound then None else option_map (λ (f : Fid). called) o)
 room_if b called is true o = tt
 room_if b called is false None = tt
 room_if b called is false (Some f) = is
 
 -- there is room for the name of an open
-pub room_for : (b : Bindings) (called path : List ℕ) (m : Mode) (r : Reply) → b.reserved ≡ Some called → HasRoom b (newly_opened b.names called path m r)
+pub room_for : (b : Holdings) (called path : List ℕ) (m : Mode) (r : Reply) → b.reserved ≡ Some called → HasRoom b (newly_opened b.names called path m r)
 room_for b called path m r is = room_if b called is (is_bound b.names called) (opened_fid m (openable (walk path) m) r)

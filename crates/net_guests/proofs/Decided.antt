@@ -10,7 +10,7 @@ use Rattle.net_base.specs.Calm.{target}
 use Rattle.net_base.specs.Duties.{Duty}
 use Rattle.net_base.specs.Legal.{IsAsked}
 use Rattle.net_base.specs.Stamped.{at, moment}
-use Rattle.net_base.specs.Steps.{Ask, Bound}
+use Rattle.net_base.specs.Steps.{Ask, Names}
 use Rattle.net_base.specs.World.{is_moment}
 use Rattle.journal.specs.declared.law.Roster.{Roster}
 use Rattle.journal.specs.declared.tokens.Sight.{Sight}
@@ -97,7 +97,7 @@ still_with w r v p p' is on = record { guest = on.0; stays = stays_on w r v.call
 
 -- By its parts.
 
-module _ (w : World) (r : Roster) (c now : ℕ) (p q : Sight) (ds : List Duty) (names : List Bound) (clock : caller_of w c ≡ IsClock) (seen : q ≡ p) where
+module _ (w : World) (r : Roster) (c now : ℕ) (p q : Sight) (ds : List Duty) (names : Names) (clock : caller_of w c ≡ IsClock) (seen : q ≡ p) where
   abbrev old : Visit
   old = visit c now p ds names
 

@@ -2,11 +2,11 @@
 use Rattle.std.proofs.Common.{◌≡◌, ℕ, List, [], Some, None, refl, ap, ◌∙◌}
 use Rattle.net_base.specs.declared.world.World.{World}
 use Rattle.net_base.specs.Duties.{Duty}
-use Rattle.net_base.specs.Steps.{Ask, Bound}
+use Rattle.net_base.specs.Steps.{Ask, Names}
 use Rattle.journal.specs.declared.tokens.Sight.{Sight}
 use Rattle.script_task.specs.declared.request.Request.{Request}
 use Rattle.net_base.specs.declared.reply.Reply.{Reply}
-use Rattle.net_tree.specs.Bindings.{Bindings}
+use Rattle.script_task.specs.Holdings.{Holdings}
 use Rattle.script_task.specs.Effects.{effect_of, opened, settles}
 use Rattle.script_task.specs.Requests.{planned, settled}
 use Rattle.net_locks.specs.declared.turn.Turn.{Turn}
@@ -22,14 +22,14 @@ use Rattle.net_locks.specs.Knowing.{IsKnown}
 use Rattle.net_locks.specs.Turns.{Turned, bare, own}
 use Rattle.net_guests.specs.Visits.{IsVisit, Operated, Visit, names_after, settled_by}
 
-abbrev pub visit : ℕ → ℕ → Sight → List Duty → List Bound → Visit
+abbrev pub visit : ℕ → ℕ → Sight → List Duty → Names → Visit
 visit c now p ds names = record { caller = c; now = now; sight = p; owed = ds; names = names }
 
-same_visit : (c now : ℕ) (p p' : Sight) (ds ds' : List Duty) (names names' : List Bound) → p' ≡ p → ds' ≡ ds → names' ≡ names
+same_visit : (c now : ℕ) (p p' : Sight) (ds ds' : List Duty) (names names' : Names) → p' ≡ p → ds' ≡ ds → names' ≡ names
     → visit c now p' ds' names' ≡ visit c now p ds names
 same_visit c now p p' ds ds' names names' sight owed called =
     ap (λ (q : Sight). visit c now q ds' names') sight
-    ∙ (ap (λ (l : List Duty). visit c now p l names') owed ∙ ap (λ (l : List Bound). visit c now p ds l) called)
+    ∙ (ap (λ (l : List Duty). visit c now p l names') owed ∙ ap (λ (l : Names). visit c now p ds l) called)
 
 -- what is known of due moments is known after more entries
 abbrev pub StaysKnown : World → Type 0
@@ -42,7 +42,7 @@ visit_on w r c now p p' ds ds' host m m' k stays is guest here covers grows =
     record { guest = guest; here = here; early = is.early; home = is.home; covers = covers; known = stays p.seen p'.seen k grows is.known }
 
 -- the turn of a request that was planned
-pub operated : (w : World) (h : ℕ) (q : Request) (c now : ℕ) (p p' : Sight) (ds ds' : List Duty) (names names' : List Bound) (ask : Ask) (t : Turn) → ds ≡ []
+pub operated : (w : World) (h : ℕ) (q : Request) (c now : ℕ) (p p' : Sight) (ds ds' : List Duty) (names names' : Names) (ask : Ask) (t : Turn) → ds ≡ []
     → planned h names q ≡ Some ask → Turned w c now ask.actor (bare ask.event) None p ds t p' ds' → names' ≡ names_after names q t
     → Operated w h q (visit c now p ds names) t (visit c now p' ds' names')
 operated w h q c now p p' ds ds' names names' ask (turn.Recorded stamp answer) free asks takes called =
@@ -56,8 +56,8 @@ operated w h q c now p p' ds ds' names names' ask turn.Memory free asks takes ca
     (free, takes.0, same_visit c now p p' ds ds' names names' takes.1 takes.2 called)
 
 -- the effect of a request settles the names of a turn as its reply does
-pub settles_names : ((b : Bindings) (q : Request) (r : Reply) → (settles (effect_of b.names q) (opened (effect_of b.names q) r) b).names ≡ settled b.names q r)
-    → (b : Bindings) (q : Request) (t : Turn) → (settled_by (effect_of b.names q) t b).names ≡ names_after b.names q t
+pub settles_names : ((b : Holdings) (q : Request) (r : Reply) → (settles (effect_of b.names q) (opened (effect_of b.names q) r) b).names ≡ settled b.names q r)
+    → (b : Holdings) (q : Request) (t : Turn) → (settled_by (effect_of b.names q) t b).names ≡ names_after b.names q t
 settles_names law b q (turn.Recorded stamp answer) = law b q answer
 settles_names law b q turn.NotReady = refl
 settles_names law b q turn.Owes = refl

@@ -12,11 +12,11 @@ use Rattle.net_base.specs.Duties.{Duty}
 use Rattle.net_base.specs.Legal.{IsLegal, IsTimed}
 use Rattle.net_base.specs.Net.{owed}
 use Rattle.net_base.specs.Stamped.{In, moment, of_actor, of_caller}
-use Rattle.net_base.specs.Steps.{Ask, Bound}
+use Rattle.net_base.specs.Steps.{Ask, Names}
 use Rattle.journal.specs.declared.law.Roster.{Roster}
 use Rattle.journal.specs.declared.tokens.Sight.{Sight}
 use Rattle.journal.specs.Closing.{plain}
-use Rattle.net_tree.specs.Bindings.{Bindings}
+use Rattle.script_task.specs.Holdings.{Holdings}
 use Rattle.script_task.specs.declared.effect.Effect.{Effect}
 use Rattle.script_task.specs.declared.request.Request.{Request}
 use Rattle.script_task.specs.Effects.{opened, settles}
@@ -37,7 +37,7 @@ pub record Visit : Type 0 where
   pub now : ℕ
   pub sight : Sight
   pub owed : List Duty
-  pub names : List Bound
+  pub names : Names
 
 -- a guest knows its duties and the moment, a script's the host on which it runs, at which conversations it recorded
 -- something, and when conversations were due
@@ -70,12 +70,12 @@ Takes w a work cites old answer new =
     Turned w old.caller old.now a work cites old.sight old.owed answer new.sight new.owed
 
 -- the names after a turn with a request
-abbrev pub names_after : List Bound → Request → Turn → List Bound
+abbrev pub names_after : Names → Request → Turn → Names
 names_after names q (turn.Recorded stamp answer) = settled names q answer
 names_after names q _ = names
 
--- the bindings after a turn whose reply has this effect
-abbrev pub settled_by : Effect → Turn → Bindings → Bindings
+-- the holdings after a turn whose reply has this effect
+abbrev pub settled_by : Effect → Turn → Holdings → Holdings
 settled_by e (turn.Recorded stamp answer) b = settles e (opened e answer) b
 settled_by e _ b = b
 

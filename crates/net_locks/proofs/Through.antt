@@ -16,7 +16,7 @@ use Rattle.net_base.specs.Calm.{unfinished}
 use Rattle.net_base.specs.Net.{Net}
 use Rattle.net_base.specs.Next.{is_unfinished, next_of}
 use Rattle.net_base.specs.Stamped.{In}
-use Rattle.net_base.specs.Steps.{Bound, Stand, Asking, Finished, play_of, position, position_by, stands}
+use Rattle.net_base.specs.Steps.{Names, Stand, Asking, Finished, play_of, position, position_by, stands}
 use Rattle.journal.specs.declared.law.Roster.{Roster}
 use Rattle.journal.specs.declared.tokens.Sight.{Sight}
 use Rattle.guest_laws.specs.Works.{entries, noted_net}
@@ -28,13 +28,13 @@ use Rattle.net_locks.specs.Standings.{AllStand, StandsAt, ask_of, has_left}
 some_left : (n : ℕ) → nat_lt 0 (suc n) ≡ true
 some_left n = lt-ltb 0 (suc n) (omega arith)
 
-left_is : (h : ℕ) (ss : List Step) (names : List Bound) (rs : List Reply) → nat_lt 0 (length (position h ss names rs).left) ≡ is_some (position h ss names rs).next
+left_is : (h : ℕ) (ss : List Step) (names : Names) (rs : List Reply) → nat_lt 0 (length (position h ss names rs).left) ≡ is_some (position h ss names rs).next
 left_is h [] names rs = refl
 left_is h (s ∷ ss) names rs = by_stand (stands (play_of h names s) rs) (λ after later. left_is h ss after later)
   where
-    by_stand : (t : Stand) → ((after : List Bound) (later : List Reply) → nat_lt 0 (length (position h ss after later).left) ≡ is_some (position h ss after later).next)
-        → nat_lt 0 (length (position_by t (s ∷ ss) (λ (after : List Bound) (later : List Reply). position h ss after later)).left)
-        ≡ is_some (position_by t (s ∷ ss) (λ (after : List Bound) (later : List Reply). position h ss after later)).next
+    by_stand : (t : Stand) → ((after : Names) (later : List Reply) → nat_lt 0 (length (position h ss after later).left) ≡ is_some (position h ss after later).next)
+        → nat_lt 0 (length (position_by t (s ∷ ss) (λ (after : Names) (later : List Reply). position h ss after later)).left)
+        ≡ is_some (position_by t (s ∷ ss) (λ (after : Names) (later : List Reply). position h ss after later)).next
     by_stand (Asking ask) rest = some_left (length ss)
     by_stand (Finished after later) rest = rest after later
 

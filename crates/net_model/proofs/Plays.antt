@@ -10,7 +10,7 @@ use Rattle.net_base.specs.declared.history.Entry.{Entry}
 use Rattle.net_base.specs.declared.reply.Reply.{Reply}
 use Rattle.net_base.specs.declared.world.Step.{Step}
 use Rattle.net_base.specs.Legal.{asked_by}
-use Rattle.net_base.specs.Steps.{Ask, Bound, Play, Asks, Ends, Position, Stand, Asking, Finished, play_of, position, position_by, stands}
+use Rattle.net_base.specs.Steps.{Ask, Names, Play, Asks, Ends, Position, Stand, Asking, Finished, play_of, position, position_by, stands}
 use Rattle.net_model.specs.ScriptOrder.{Begins, Finishes, IsPlayed, StandInOrder}
 
 abbrev pub replies : List Entry → List Reply
@@ -24,15 +24,15 @@ begins_asks (Ends names) xs first = absurd first
 begins_asks (Asks a e next) [] first = (record { actor = a; event = e }, refl)
 begins_asks (Asks a e next) (x ∷ xs) first = begins_asks (next x.reply) xs first.1
 
-played_finishes : (p : Play) (xs : List Entry) (bound : List Bound) (rs : List Reply) → IsPlayed p xs bound → stands p (replies xs ++ rs) ≡ Finished bound rs
-played_finishes (Ends names) [] bound rs played = ap (λ (ns : List Bound). Finished ns rs) played
+played_finishes : (p : Play) (xs : List Entry) (bound : Names) (rs : List Reply) → IsPlayed p xs bound → stands p (replies xs ++ rs) ≡ Finished bound rs
+played_finishes (Ends names) [] bound rs played = ap (λ (ns : Names). Finished ns rs) played
 played_finishes (Ends names) (x ∷ xs) bound rs played = absurd played
 played_finishes (Asks a e next) [] bound rs played = absurd played
 played_finishes (Asks a e next) (x ∷ xs) bound rs played = played_finishes (next x.reply) xs bound rs played.1
 
 -- the play isn't over after these entries, or it is
 abbrev Goes : Play → List Entry → Type 0
-Goes p xs = Begins p xs ⊎ ((bound : List Bound) × IsPlayed p xs bound)
+Goes p xs = Begins p xs ⊎ ((bound : Names) × IsPlayed p xs bound)
 
 no_entry : (p : Play) → Goes p []
 no_entry (Ends names) = inr (names, refl)
@@ -61,7 +61,7 @@ begins_take (Asks a e next) [] (suc k) first = tt
 begins_take (Asks a e next) (x ∷ xs) zero first = tt
 begins_take (Asks a e next) (x ∷ xs) (suc k) first = (first.0, begins_take (next x.reply) xs k first.1)
 
-played_take : (p : Play) (xs : List Entry) (bound : List Bound) (k : ℕ) → k < length xs → IsPlayed p xs bound → Begins p (take k xs)
+played_take : (p : Play) (xs : List Entry) (bound : Names) (k : ℕ) → k < length xs → IsPlayed p xs bound → Begins p (take k xs)
 played_take (Ends names) [] bound k lt played = absurd (omega (arith, lt))
 played_take (Ends names) (x ∷ xs) bound k lt played = absurd played
 played_take (Asks a e next) [] bound k lt played = absurd played
@@ -71,25 +71,25 @@ played_take (Asks a e next) (x ∷ xs) bound (suc k) lt played = (played.0, play
 -- Steps.
 
 -- the entries stand in order, some of the steps finished
-abbrev pub Stood : ℕ → List Bound → List Step → List Entry → Type 0
+abbrev pub Stood : ℕ → Names → List Step → List Entry → Type 0
 Stood h names ss xs = (n : ℕ) × StandInOrder h names ss n xs
 
-pub none_stood : (h : ℕ) (names : List Bound) (ss : List Step) → Stood h names ss []
+pub none_stood : (h : ℕ) (names : Names) (ss : List Step) → Stood h names ss []
 none_stood h names [] = (0, (refl, refl))
 none_stood h names (s ∷ ss) = by (no_entry (play_of h names s)) (λ bound. none_stood h bound ss)
   where
-    by : Goes (play_of h names s) [] → ((bound : List Bound) → Stood h bound ss []) → Stood h names (s ∷ ss) []
+    by : Goes (play_of h names s) [] → ((bound : Names) → Stood h bound ss []) → Stood h names (s ∷ ss) []
     by (inl first) later = (0, first)
     by (inr over) later =
         let rest = later over.0 in
         (suc rest.0, record { own = []; rest = []; bound = over.0; all = refl; played = over.1; later = rest.1 })
 
-position_at : (h : ℕ) (names : List Bound) (s : Step) (ss : List Step) (rs : List Reply) (at : Stand) → stands (play_of h names s) rs ≡ at
-    → position h (s ∷ ss) names rs ≡ position_by at (s ∷ ss) (λ (bound : List Bound) (later : List Reply). position h ss bound later)
-position_at h names s ss rs at is = ap (λ (stand : Stand). position_by stand (s ∷ ss) (λ (bound : List Bound) (later : List Reply). position h ss bound later)) is
+position_at : (h : ℕ) (names : Names) (s : Step) (ss : List Step) (rs : List Reply) (at : Stand) → stands (play_of h names s) rs ≡ at
+    → position h (s ∷ ss) names rs ≡ position_by at (s ∷ ss) (λ (bound : Names) (later : List Reply). position h ss bound later)
+position_at h names s ss rs at is = ap (λ (stand : Stand). position_by stand (s ∷ ss) (λ (bound : Names) (later : List Reply). position h ss bound later)) is
 
 -- where a step is finished, the later steps go on by the other replies
-goes_on : (h : ℕ) (names : List Bound) (s : Step) (ss : List Step) (n : ℕ) (xs : List Entry)
+goes_on : (h : ℕ) (names : Names) (s : Step) (ss : List Step) (n : ℕ) (xs : List Entry)
     → (f : Finishes (play_of h names s) (λ bound rest. StandInOrder h bound ss n rest) xs) → position h (s ∷ ss) names (replies xs) ≡ position h ss f.bound (replies f.rest)
 goes_on h names s ss n xs f = position_at h names s ss (replies xs) (Finished f.bound (replies f.rest)) finished
   where
@@ -99,7 +99,7 @@ goes_on h names s ss n xs f = position_at h names s ss (replies xs) (Finished f.
         ∙ (ap (λ (rs : List Reply). stands (play_of h names s) rs) (map-append (λ (x : Entry). x.reply) f.own f.rest)
         ∙ played_finishes (play_of h names s) f.own f.bound (replies f.rest) f.played)
 
-pub stood_push : (h : ℕ) (names : List Bound) (ss : List Step) (n : ℕ) (xs : List Entry) (x : Entry)
+pub stood_push : (h : ℕ) (names : Names) (ss : List Step) (n : ℕ) (xs : List Entry) (x : Entry)
     → StandInOrder h names ss n xs → (position h ss names (replies xs)).next ≡ Some (asked_by x) → Stood h names ss (xs ++ x ∷ [])
 stood_push h names [] n xs x there is = absurd (none-some (asked_by x) is)
 stood_push h names (s ∷ ss) zero xs x first is = by (play_push (play_of h names s) xs x first asks)
@@ -132,7 +132,7 @@ stood_push h names (s ∷ ss) (suc n) xs x f is =
     )
 
 -- the steps that aren't finished are left
-pub counted : (h : ℕ) (names : List Bound) (ss : List Step) (n : ℕ) (xs : List Entry)
+pub counted : (h : ℕ) (names : Names) (ss : List Step) (n : ℕ) (xs : List Entry)
     → StandInOrder h names ss n xs → length (position h ss names (replies xs)).left + n ≡ length ss
 counted h names [] n xs there = omega (arith, there.0)
 counted h names (s ∷ ss) zero xs first =
@@ -147,7 +147,7 @@ counted h names (s ∷ ss) (suc n) xs f =
     omega (arith, rest, left)
 
 -- the first entries stand in order too
-pub stood_take : (h : ℕ) (names : List Bound) (ss : List Step) (n : ℕ) (xs : List Entry) (k : ℕ) → StandInOrder h names ss n xs → Stood h names ss (take k xs)
+pub stood_take : (h : ℕ) (names : Names) (ss : List Step) (n : ℕ) (xs : List Entry) (k : ℕ) → StandInOrder h names ss n xs → Stood h names ss (take k xs)
 stood_take h names [] n xs k there = (0, (refl, ap (λ (ys : List Entry). take k ys) there.1 ∙ of_none k))
   where
     of_none : (j : ℕ) → take {A = Entry} j [] ≡ []

@@ -9,7 +9,7 @@ use Rattle.net_base.specs.declared.world.Step.{Step}
 use Rattle.net_base.specs.declared.world.Step.TheVariants as step
 use Rattle.net_base.specs.ControlWords as control
 use Rattle.net_base.specs.Paths.{reads, writes}
-use Rattle.net_base.specs.Steps.{Bound, Fid, Play, Ends, asks_cs, controls, dials, dotted_name, fid_of, is_bound, misuses, on_fid, play_of, puts, uses, with_bound, with_new, with_readable, with_writable}
+use Rattle.net_base.specs.Steps.{Names, Fid, Play, Ends, asks_cs, controls, dials, dotted_name, fid_of, is_bound, misuses, on_fid, play_of, puts, uses, with_bound, with_new, with_readable, with_writable}
 use Rattle.net_model.specs.ScriptOrder.{Begins}
 
 -- the play asks first
@@ -24,18 +24,18 @@ on : (o : Option Fid) (p : Play) (next : Fid → Play) → Asking p → ((f : Fi
 on None p next none each = none
 on (Some f) p next none each = each f
 
-new : (h : ℕ) (called : List ℕ) (names : List Bound) (next : Play) → Asking next → Asking (with_new h called names next)
+new : (h : ℕ) (called : List ℕ) (names : Names) (next : Play) → Asking next → Asking (with_new h called names next)
 new h called names next asks = either (is_bound names called) (uses h called names) next tt asks
 
-bound : (h : ℕ) (called : List ℕ) (names : List Bound) (next : Fid → Play) → ((f : Fid) → Asking (next f)) → Asking (with_bound h called names next)
+bound : (h : ℕ) (called : List ℕ) (names : Names) (next : Fid → Play) → ((f : Fid) → Asking (next f)) → Asking (with_bound h called names next)
 bound h called names next each = on (fid_of called names) (uses h called names) next tt each
 
-readable : (h : ℕ) (called : List ℕ) (names : List Bound) (next : Fid → Play) → ((f : Fid) → Asking (next f)) → Asking (with_readable h called names next)
+readable : (h : ℕ) (called : List ℕ) (names : Names) (next : Fid → Play) → ((f : Fid) → Asking (next f)) → Asking (with_readable h called names next)
 readable h called names next each =
     bound h called names (λ (f : Fid). if reads f.mode then next f else misuses h called names)
     (λ f. either (reads f.mode) (next f) (misuses h called names) (each f) tt)
 
-writable : (h : ℕ) (called : List ℕ) (names : List Bound) (next : Fid → Play) → ((f : Fid) → Asking (next f)) → Asking (with_writable h called names next)
+writable : (h : ℕ) (called : List ℕ) (names : Names) (next : Fid → Play) → ((f : Fid) → Asking (next f)) → Asking (with_writable h called names next)
 writable h called names next each =
     bound h called names (λ (f : Fid). if writes f.mode then next f else misuses h called names)
     (λ f. either (writes f.mode) (next f) (misuses h called names) (each f) tt)
@@ -58,7 +58,7 @@ putting h f file.Local text refused next = controlling h f text (control.read te
 putting h f file.Remote text refused next = controlling h f text (control.read text) refused next
 putting h f file.Status text refused next = controlling h f text (control.read text) refused next
 
-pub step_asks : (h : ℕ) (names : List Bound) (s : Step) → Begins (play_of h names s) []
+pub step_asks : (h : ℕ) (names : Names) (s : Step) → Begins (play_of h names s) []
 step_asks h names (step.Open called path m) = new h called names _ tt
 step_asks h names (step.Read called count) = readable h called names _ (λ f. tt)
 step_asks h names (step.Write called text) = writable h called names _ (λ f. putting h f f.file text (Ends names) (Ends names))

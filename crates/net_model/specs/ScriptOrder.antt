@@ -15,14 +15,14 @@ use Rattle.net_base.specs.Legal.{asked_by}
 use Rattle.net_base.specs.Net.{after, owed}
 use Rattle.net_base.specs.Next.{answered, by, finished_by, own_replies}
 use Rattle.net_base.specs.Stamped.{In}
-use Rattle.net_base.specs.Steps.{Bound, Play, Asks, Ends, play_of}
+use Rattle.net_base.specs.Steps.{Names, Play, Asks, Ends, play_of}
 
 -- the entries of a caller that nothing owed, in order
 abbrev pub own_entries : List Entry → ℕ → List Entry
 own_entries h c = filter (λ (x : Entry). is_none x.cites) (by h c)
 
 -- the play records exactly these entries, each by the replies before it, and ends with these names bound
-abbrev pub IsPlayed : Play → List Entry → List Bound → Type 0
+abbrev pub IsPlayed : Play → List Entry → Names → Type 0
 IsPlayed (Ends names) [] bound = names ≡ bound
 IsPlayed (Ends names) (x ∷ xs) bound = ⊥
 IsPlayed (Asks a e next) [] bound = ⊥
@@ -35,17 +35,17 @@ Begins (Asks a e next) [] = Unit {0}
 Begins (Asks a e next) (x ∷ xs) = (asked_by x ≡ record { actor = a; event = e }) × Begins (next x.reply) xs
 
 -- a step is finished: its play's entries stand first, and those of later steps after them
-pub record Finishes (play : Play) (Later : List Bound → List Entry → Type 0) (entries : List Entry) : Type 0 where
+pub record Finishes (play : Play) (Later : Names → List Entry → Type 0) (entries : List Entry) : Type 0 where
   pub own : List Entry
   pub rest : List Entry
-  pub bound : List Bound
+  pub bound : Names
   pub all : entries ≡ own ++ rest
   pub played : IsPlayed play own bound
   pub later : Later bound rest
 
 -- the entries of these steps of a host's script, where these names are bound: so many steps are finished, the next one, if any,
 -- isn't over, and those after it have no entry
-abbrev pub StandInOrder : ℕ → List Bound → List Step → ℕ → List Entry → Type 0
+abbrev pub StandInOrder : ℕ → Names → List Step → ℕ → List Entry → Type 0
 StandInOrder h names [] n xs = (n ≡ 0) × (xs ≡ [])
 StandInOrder h names (s ∷ ss) zero xs = Begins (play_of h names s) xs
 StandInOrder h names (s ∷ ss) (suc n) xs = Finishes (play_of h names s) (λ bound rest. StandInOrder h bound ss n rest) xs

@@ -7,7 +7,7 @@ use Rattle.net_base.specs.declared.event.Event.TheVariants as event
 use Rattle.net_base.specs.declared.reply.Reply.{Reply}
 use Rattle.net_base.specs.declared.world.Step.{Step}
 use Rattle.net_base.specs.declared.world.Step.TheVariants as step
-use Rattle.net_base.specs.Steps.{Bound, clone_path, lines_in, Ask, position}
+use Rattle.net_base.specs.Steps.{Names, clone_path, lines_in, Ask, position}
 use Rattle.history_laws.proofs.Ordered.{each_any}
 use Rattle.history_laws.proofs.StepEvents.{IsOther, own_other, IsOpened, Fits, Says, IsNextEvent, next_event}
 
@@ -41,7 +41,7 @@ says_until h (step.Accept called from) = ((tt, tt), (tt, tt))
 says_until h _ = (tt, tt)
 
 -- what a script records next
-pub fine_position : (h : ℕ) (steps : List Step) (names : List Bound) (rs : List Reply) → FineNext h (position h steps names rs).next
+pub fine_position : (h : ℕ) (steps : List Step) (names : Names) (rs : List Reply) → FineNext h (position h steps names rs).next
 fine_position h steps names rs =
     next_event h (UntilAt h) (λ (r : Reply). Unit {0}) (fits_until h) steps names rs
     (each_any (λ (s : Step). Says h (UntilAt h) s) (says_until h) steps)

@@ -8,8 +8,8 @@ use Rattle.net_base.specs.declared.world.Script.{Script}
 use Rattle.net_base.specs.declared.world.Step.{Step}
 use Rattle.net_base.specs.declared.world.Step.TheVariants as step
 use Rattle.net_base.specs.Next.{finished_by}
-use Rattle.net_base.specs.Steps.{Ask, Bound, Play, Asks, Ends, Position, position, position_by, play_of, stands}
-use Rattle.net_tree.specs.Bindings.{Bindings, bindings}
+use Rattle.net_base.specs.Steps.{Ask, Names, Play, Asks, Ends, Position, position, position_by, play_of, stands}
+use Rattle.script_task.specs.Holdings.{Holdings, holdings}
 use Rattle.script_task.specs.declared.effect.Effect.{Effect}
 use Rattle.script_task.specs.declared.effect.Effect.TheVariants.{Opens, Closes, Keeps}
 use Rattle.script_task.specs.declared.request.Request.{Request}
@@ -66,7 +66,7 @@ length_drop (suc k) (x ∷ ss) le = omega (arith, length_drop k ss (omega (arith
 -- A step begins.
 
 -- a step that has begun isn't through
-begun_asks : (names : List Bound) (s : Step) → is_none (asks (begun s) names) ≡ false
+begun_asks : (names : Names) (s : Step) → is_none (asks (begun s) names) ≡ false
 begun_asks names (step.Open called path m) = refl
 begun_asks names (step.Read called count) = refl
 begun_asks names (step.Write called text) = refl
@@ -88,13 +88,13 @@ begins : (s : Script) (rs : List Reply) (p : Playing) (at : Step) → slice_get 
 begins s rs p at is between =
     let behind : drop p.finished s.steps ≡ at ∷ drop (suc p.finished) s.steps = drop_at p.finished s.steps at is in
     record {
-      play = play_of s.host p.bindings.names at;
+      play = play_of s.host p.holdings.names at;
       step = at;
       rest = drop (suc p.finished) s.steps;
       behind = behind;
-      plays = λ more. subst (λ (ss : List Step). position_after s (rs ++ more) ≡ position s.host ss p.bindings.names more) behind (between.leaves more);
-      stands_for = begun_stands (begun at) at refl s.host p.bindings.names between.slots;
-      goes_on = begun_asks p.bindings.names at;
+      plays = λ more. subst (λ (ss : List Step). position_after s (rs ++ more) ≡ position s.host ss p.holdings.names more) behind (between.leaves more);
+      stands_for = begun_stands (begun at) at refl s.host p.holdings.names between.slots;
+      goes_on = begun_asks p.holdings.names at;
       knows = tt;
     }
 
@@ -113,8 +113,8 @@ begun_at s rs p at = begun_is s rs p p.task (slice_get s.steps p.finished) refl 
 
 -- The next event.
 
-heads : (s : Script) (rs : List Reply) (p : Playing) (t : StepTask) (q : Request) (step : InStep s rs p t) → asks t p.bindings.names ≡ Some q → Heads s.host p.bindings.names (Some q) step.play
-heads s rs p t q step is = subst (λ (o : Option Request). Heads s.host p.bindings.names o step.play) is (asks_so s.host p.bindings.names t step.play step.stands_for)
+heads : (s : Script) (rs : List Reply) (p : Playing) (t : StepTask) (q : Request) (step : InStep s rs p t) → asks t p.holdings.names ≡ Some q → Heads s.host p.holdings.names (Some q) step.play
+heads s rs p t q step is = subst (λ (o : Option Request). Heads s.host p.holdings.names o step.play) is (asks_so s.host p.holdings.names t step.play step.stands_for)
 
 -- a play that asks stands at its event, and its step is left
 at_event : (s : Script) (rs : List Reply) (play : Play) (at : Step) (rest : List Step) (ask : Ask) → head play ≡ Some ask → Plays s rs play at rest
@@ -128,21 +128,21 @@ some_request : (o : Option Request) → is_none o ≡ false → (q : Request) ×
 some_request None is = absurd (true≢false is)
 some_request (Some q) is = (q, refl)
 
-step_next : (s : Script) (rs : List Reply) (p : Playing) (t : StepTask) → InStep s rs p t → asked_by s.host p.bindings.names (asks t p.bindings.names) ≡ next_after s rs
+step_next : (s : Script) (rs : List Reply) (p : Playing) (t : StepTask) → InStep s rs p t → asked_by s.host p.holdings.names (asks t p.holdings.names) ≡ next_after s rs
 step_next s rs p t step =
-    let found = some_request (asks t p.bindings.names) step.goes_on in
+    let found = some_request (asks t p.holdings.names) step.goes_on in
     let heading = heads s rs p t found.0 step found.1 in
-    ap (λ (o : Option Request). asked_by s.host p.bindings.names o) found.1 ∙ heading.2 ∙ sym (ap (λ (at : Position). at.next) (at_event s rs step.play step.step step.rest heading.0 heading.1 step.plays))
+    ap (λ (o : Option Request). asked_by s.host p.holdings.names o) found.1 ∙ heading.2 ∙ sym (ap (λ (at : Position). at.next) (at_event s rs step.play step.step step.rest heading.0 heading.1 step.plays))
 
 -- no step is left
 none_left : (s : Script) (rs : List Reply) (p : Playing) → Between s rs p → slice_get s.steps p.finished ≡ None → position_after s rs ≡ record { next = None; left = [] }
 none_left s rs p between is =
-    ap (λ (xs : List Reply). position_after s xs) (sym (append_nothing rs)) ∙ between.leaves [] ∙ ap (λ (ss : List Step). position s.host ss p.bindings.names []) (drop_none p.finished s.steps is)
+    ap (λ (xs : List Reply). position_after s xs) (sym (append_nothing rs)) ∙ between.leaves [] ∙ ap (λ (ss : List Step). position s.host ss p.holdings.names []) (drop_none p.finished s.steps is)
 
 next_is : (s : Script) (rs : List Reply) (p : Playing) (t : Option StepTask) (o : Option Step) → p.task ≡ t → slice_get s.steps p.finished ≡ o → IsAtBy s rs p t → asked_at s.host (begun_by p t o) ≡ next_after s rs
-next_is s rs p (Some t) o task is at = ap (λ (u : Option StepTask). asked_by s.host p.bindings.names (request_by p.bindings.names u)) task ∙ step_next s rs p t at
+next_is s rs p (Some t) o task is at = ap (λ (u : Option StepTask). asked_by s.host p.holdings.names (request_by p.holdings.names u)) task ∙ step_next s rs p t at
 next_is s rs p None None task is at =
-    ap (λ (u : Option StepTask). asked_by s.host p.bindings.names (request_by p.bindings.names u)) task ∙ sym (ap (λ (at : Position). at.next) (none_left s rs p at is))
+    ap (λ (u : Option StepTask). asked_by s.host p.holdings.names (request_by p.holdings.names u)) task ∙ sym (ap (λ (at : Position). at.next) (none_left s rs p at is))
 next_is s rs p None (Some step) task is at = step_next s rs (record p { task = Some (begun step); effect = None }) (begun step) (begins s rs p step is at)
 
 pub next_right : (s : Script) (rs : List Reply) (p : Playing) → IsAt s rs p → asked_at s.host (begun_in s p) ≡ next_after s rs
@@ -151,35 +151,35 @@ next_right s rs p at = next_is s rs p p.task (slice_get s.steps p.finished) refl
 
 -- It is ready for a reply.
 
-same_names : (e : Effect) (b : Bindings) → (with_room e b).names ≡ b.names
+same_names : (e : Effect) (b : Holdings) → (with_room e b).names ≡ b.names
 same_names (Opens called n m) b = refl
 same_names (Closes called) b = refl
 same_names Keeps b = refl
 
-step_prepared : (s : Script) (rs : List Reply) (p : Playing) (t : StepTask) (q : Request) → InStep s rs p t → asks t p.bindings.names ≡ Some q → (names : List Bound) (b : Bindings) → p.bindings.names ≡ names → b.names ≡ names
-    → InStep s rs (record p { bindings = b; effect = Some (effect_of p.bindings.names q) }) t
+step_prepared : (s : Script) (rs : List Reply) (p : Playing) (t : StepTask) (q : Request) → InStep s rs p t → asks t p.holdings.names ≡ Some q → (names : Names) (b : Holdings) → p.holdings.names ≡ names → b.names ≡ names
+    → InStep s rs (record p { holdings = b; effect = Some (effect_of p.holdings.names q) }) t
 step_prepared s rs p t q step is names b old new =
-    let back : p.bindings.names ≡ b.names = old ∙ sym new in
+    let back : p.holdings.names ≡ b.names = old ∙ sym new in
     record {
       play = step.play;
       step = step.step;
       rest = step.rest;
       behind = step.behind;
       plays = step.plays;
-      stands_for = subst (λ (ns : List Bound). StandsFor s.host ns t step.play) back step.stands_for;
-      goes_on = subst (λ (ns : List Bound). is_none (asks t ns) ≡ false) back step.goes_on;
-      knows = (q, subst (λ (ns : List Bound). asks t ns ≡ Some q) back is, ap (λ (ns : List Bound). effect_of ns q) back);
+      stands_for = subst (λ (ns : Names). StandsFor s.host ns t step.play) back step.stands_for;
+      goes_on = subst (λ (ns : Names). is_none (asks t ns) ≡ false) back step.goes_on;
+      knows = (q, subst (λ (ns : Names). asks t ns ≡ Some q) back is, ap (λ (ns : Names). effect_of ns q) back);
     }
 
-prepared_is : (s : Script) (rs : List Reply) (p : Playing) (t : Option StepTask) (o : Option Request) → p.task ≡ t → request_by p.bindings.names t ≡ o → IsAtBy s rs p t → AtIts s rs (prepared_by p o)
+prepared_is : (s : Script) (rs : List Reply) (p : Playing) (t : Option StepTask) (o : Option Request) → p.task ≡ t → request_by p.holdings.names t ≡ o → IsAtBy s rs p t → AtIts s rs (prepared_by p o)
 prepared_is s rs p t None task is at = subst (λ (u : Option StepTask). IsAtBy s rs p u) (sym task) at
 prepared_is s rs p None (Some q) task is at = absurd (none-some q is)
 prepared_is s rs p (Some t) (Some q) task is at =
-    subst (λ (u : Option StepTask). IsAtBy s rs (prepared_by p (Some q)) u) (sym task) (step_prepared s rs p t q at is p.bindings.names (with_room (effect_of p.bindings.names q) p.bindings) refl (same_names (effect_of p.bindings.names q) p.bindings))
+    subst (λ (u : Option StepTask). IsAtBy s rs (prepared_by p (Some q)) u) (sym task) (step_prepared s rs p t q at is p.holdings.names (with_room (effect_of p.holdings.names q) p.holdings) refl (same_names (effect_of p.holdings.names q) p.holdings))
 
 pub prepared_at : (s : Script) (rs : List Reply) (p : Playing) → IsAt s rs p → IsAt s rs (prepared p)
 unfolding IsAt
-prepared_at s rs p at = prepared_is s rs p p.task (request_by p.bindings.names p.task) refl refl at
+prepared_at s rs p at = prepared_is s rs p p.task (request_by p.holdings.names p.task) refl refl at
 
 -- where the effect isn't known it is got ready
 pub expected_none : (s : Script) (p : Playing) → p.effect ≡ None → expected_in s p ≡ prepared (begun_in s p)
@@ -196,9 +196,9 @@ expected_at s rs p at = by p.effect
     by (Some e) = at
 
 -- where there is an event its effect is known
-prepared_knows : (h : ℕ) (p : Playing) (o : Option Request) (ask : Ask) → asked_by h p.bindings.names o ≡ Some ask → (e : Effect) × ((prepared_by p o).effect ≡ Some e)
+prepared_knows : (h : ℕ) (p : Playing) (o : Option Request) (ask : Ask) → asked_by h p.holdings.names o ≡ Some ask → (e : Effect) × ((prepared_by p o).effect ≡ Some e)
 prepared_knows h p None ask is = absurd (none-some ask is)
-prepared_knows h p (Some q) ask is = (effect_of p.bindings.names q, refl)
+prepared_knows h p (Some q) ask is = (effect_of p.holdings.names q, refl)
 
 expected_knows : (s : Script) (rs : List Reply) (p : Playing) (ask : Ask) → IsAt s rs p → next_after s rs ≡ Some ask → (e : Effect) × ((expected_in s p).effect ≡ Some e)
 expected_knows s rs p ask at is = by p.effect refl
@@ -218,21 +218,21 @@ play_fits (Asks a e next) ask r is fit = subst (λ (x : Ask). fits x.event r ≡
 play_fits (Ends names) ask r is fit = refl
 
 -- what holds of the task and the play after a reply
-record Moved (s : Script) (rs : List Reply) (p : Playing) (t : StepTask) (step : InStep s rs p t) (r : Reply) (names : List Bound) : Type 0 where
+record Moved (s : Script) (rs : List Reply) (p : Playing) (t : StepTask) (step : InStep s rs p t) (r : Reply) (names : Names) : Type 0 where
   stands_for : StandsFor s.host names (after t r) (follow step.play r)
   plays : Plays s (rs ++ r ∷ []) (follow step.play r) step.step step.rest
 
-moved : (s : Script) (rs : List Reply) (p : Playing) (t : StepTask) (step : InStep s rs p t) (e : Effect) (ask : Ask) (r : Reply) → Knows p.bindings.names t (Some e) → next_after s rs ≡ Some ask → fits ask.event r ≡ true
-    → Moved s rs p t step r (settles e (opened e r) p.bindings).names
+moved : (s : Script) (rs : List Reply) (p : Playing) (t : StepTask) (step : InStep s rs p t) (e : Effect) (ask : Ask) (r : Reply) → Knows p.holdings.names t (Some e) → next_after s rs ≡ Some ask → fits ask.event r ≡ true
+    → Moved s rs p t step r (settles e (opened e r) p.holdings).names
 moved s rs p t step e ask r knows is fit =
     let q : Request = knows.0 in
     let heading = heads s rs p t q step knows.1 in
     let same : heading.0 ≡ ask = same_Some heading.0 ask (sym (ap (λ (at : Position). at.next) (at_event s rs step.play step.step step.rest heading.0 heading.1 step.plays)) ∙ is) in
     let fits_it : fits_play step.play r ≡ true = play_fits step.play heading.0 r heading.1 (subst (λ (x : Ask). fits x.event r ≡ true) (sym same) fit) in
-    let names_are : settled p.bindings.names q r ≡ (settles e (opened e r) p.bindings).names =
-    sym (ap (λ (x : Effect). (settles x (opened x r) p.bindings).names) knows.2 ∙ settles_so p.bindings q r) in
+    let names_are : settled p.holdings.names q r ≡ (settles e (opened e r) p.holdings).names =
+    sym (ap (λ (x : Effect). (settles x (opened x r) p.holdings).names) knows.2 ∙ settles_so p.holdings q r) in
     record {
-      stands_for = subst (λ (ns : List Bound). StandsFor s.host ns (after t r) (follow step.play r)) names_are (moves_so s.host p.bindings.names t step.play q r step.stands_for knows.1 fits_it);
+      stands_for = subst (λ (ns : Names). StandsFor s.host ns (after t r) (follow step.play r)) names_are (moves_so s.host p.holdings.names t step.play q r step.stands_for knows.1 fits_it);
       plays = plays_on s rs step.play step.step step.rest heading.0 r heading.1 step.plays;
     }
 
@@ -244,9 +244,9 @@ lt_test : (k n : ℕ) → k < n → nat_lt k n ≡ true
 lt_test k n lt = search (rules, tests, lt)
 
 -- the step goes on, or the next one comes
-goes_on : (s : Script) (rs : List Reply) (p : Playing) (t : StepTask) (step : InStep s rs p t) (r : Reply) (b : Bindings) → Moved s rs p t step r b.names
+goes_on : (s : Script) (rs : List Reply) (p : Playing) (t : StepTask) (step : InStep s rs p t) (r : Reply) (b : Holdings) → Moved s rs p t step r b.names
     → (through : Bool) → is_none (asks (after t r) b.names) ≡ through
-    → AtIts s (rs ++ r ∷ []) (if through && nat_lt p.finished (length s.steps) then record p { bindings = b; effect = None; finished = p.finished + 1; task = None } else record p { bindings = b; task = Some (after t r); effect = None })
+    → AtIts s (rs ++ r ∷ []) (if through && nat_lt p.finished (length s.steps) then record p { holdings = b; effect = None; finished = p.finished + 1; task = None } else record p { holdings = b; task = Some (after t r); effect = None })
 goes_on s rs p t step r b moves false is =
     record {
       play = follow step.play r;
@@ -262,19 +262,19 @@ goes_on s rs p t step r b moves true is =
     let more = behind_more p.finished s.steps step.step step.rest step.behind in
     let ends : follow step.play r ≡ Ends b.names =
     subst (λ (o : Option Request). Heads s.host b.names o (follow step.play r)) (none_is (asks (after t r) b.names) is) (asks_so s.host b.names (after t r) (follow step.play r) moves.stands_for) in
-    let next : Between s (rs ++ r ∷ []) (record p { bindings = b; effect = None; finished = p.finished + 1; task = None }) =
+    let next : Between s (rs ++ r ∷ []) (record p { holdings = b; effect = None; finished = p.finished + 1; task = None }) =
     record {
       slots = moves.stands_for.0;
       leaves = λ later. moves.plays later
-          ∙ ap (λ (x : Play). position_by (stands x later) (step.step ∷ step.rest) (λ (names : List Bound) (rest : List Reply). position s.host step.rest names rest)) ends
+          ∙ ap (λ (x : Play). position_by (stands x later) (step.step ∷ step.rest) (λ (names : Names) (rest : List Reply). position s.host step.rest names rest)) ends
           ∙ ap (λ (ss : List Step). position s.host ss b.names later) (sym more.1);
       within = omega (arith, more.0);
       unknown = refl;
     } in
     chosen (nat_lt p.finished (length s.steps)) (lt_test p.finished (length s.steps) more.0) next
   where
-    chosen : (c : Bool) → c ≡ true → Between s (rs ++ r ∷ []) (record p { bindings = b; effect = None; finished = p.finished + 1; task = None })
-        → AtIts s (rs ++ r ∷ []) (if c then record p { bindings = b; effect = None; finished = p.finished + 1; task = None } else record p { bindings = b; task = Some (after t r); effect = None })
+    chosen : (c : Bool) → c ≡ true → Between s (rs ++ r ∷ []) (record p { holdings = b; effect = None; finished = p.finished + 1; task = None })
+        → AtIts s (rs ++ r ∷ []) (if c then record p { holdings = b; effect = None; finished = p.finished + 1; task = None } else record p { holdings = b; task = Some (after t r); effect = None })
     chosen true is next = next
     chosen false is next = absurd (false≢true is)
 
@@ -282,8 +282,8 @@ told_is : (s : Script) (rs : List Reply) (p : Playing) (t : Option StepTask) (e 
     → AtIts s (rs ++ r ∷ []) (left_by (length s.steps) (heard_by p t (Some e) r) (heard_by p t (Some e) r).task)
 told_is s rs p None e ask r known at is fit = absurd (none-some e (sym at.unknown ∙ known))
 told_is s rs p (Some t) e ask r known step is fit =
-    let b : Bindings = settles e (opened e r) p.bindings in
-    goes_on s rs p t step r b (moved s rs p t step e ask r (subst (λ (o : Option Effect). Knows p.bindings.names t o) known step.knows) is fit) (is_none (asks (after t r) b.names)) refl
+    let b : Holdings = settles e (opened e r) p.holdings in
+    goes_on s rs p t step r b (moved s rs p t step e ask r (subst (λ (o : Option Effect). Knows p.holdings.names t o) known step.knows) is fit) (is_none (asks (after t r) b.names)) refl
 
 told_at : (s : Script) (rs : List Reply) (p : Playing) (e : Effect) (ask : Ask) (r : Reply) → p.effect ≡ Some e → AtIts s rs p → next_after s rs ≡ Some ask → fits ask.event r ≡ true → AtIts s (rs ++ r ∷ []) (left (length s.steps) (heard p r))
 told_at s rs p e ask r known at is fit =
@@ -300,7 +300,7 @@ told_right s rs p ask r at is fit =
 
 step_left : (s : Script) (rs : List Reply) (p : Playing) (t : StepTask) → InStep s rs p t → length (position_after s rs).left + p.finished ≡ length s.steps
 step_left s rs p t step =
-    let found = some_request (asks t p.bindings.names) step.goes_on in
+    let found = some_request (asks t p.holdings.names) step.goes_on in
     let heading = heads s rs p t found.0 step found.1 in
     let left_are : (position_after s rs).left ≡ drop p.finished s.steps =
     ap (λ (at : Position). at.left) (at_event s rs step.play step.step step.rest heading.0 heading.1 step.plays) ∙ sym step.behind in
@@ -327,6 +327,6 @@ pub unfinished_right : (s : Script) (rs : List Reply) (p : Playing) → IsAt s r
 unfinished_right s rs p at = unfinished (length (position_after s rs).left) p.finished (length s.steps) (sum_at s rs p at)
 
 -- nothing is recorded
-pub starts : (s : Script) → IsAt s [] (record { bindings = bindings [] None; finished = 0; task = None; effect = None })
+pub starts : (s : Script) → IsAt s [] (record { holdings = holdings [] None; finished = 0; task = None; effect = None })
 unfolding IsAt
 starts s = record { slots = refl; leaves = λ more. refl; within = omega arith; unknown = refl }

@@ -5,8 +5,8 @@ use Rattle.net_base.specs.declared.event.Event.{Event}
 use Rattle.net_base.specs.declared.reply.Reply.{Reply}
 use Rattle.net_base.specs.declared.world.Script.{Script}
 use Rattle.net_base.specs.declared.world.Step.{Step}
-use Rattle.net_base.specs.Steps.{Ask, Bound, Play, Position, position, position_by, stands}
-use Rattle.net_tree.specs.Bindings.{Bindings, bindings}
+use Rattle.net_base.specs.Steps.{Ask, Names, Play, Position, position, position_by, stands}
+use Rattle.script_task.specs.Holdings.{Holdings, holdings}
 use Rattle.script_task.specs.declared.effect.Effect.{Effect}
 use Rattle.script_task.specs.declared.effect.Effect.TheVariants.{Opens}
 use Rattle.script_task.specs.declared.request.Request.{Request}
@@ -18,7 +18,7 @@ use Rattle.dial_lib.specs.StepTasks.{StandsFor, asks, after, begun}
 
 -- what a contract sees of a player
 pub record Playing : Type 0 where
-  pub bindings : Bindings
+  pub holdings : Holdings
   pub finished : ℕ
   -- the task of the step behind those, where it has begun
   pub task : Option StepTask
@@ -40,14 +40,14 @@ next_after s rs = (position_after s rs).next
 -- after these replies this play is left of a step, and these steps behind it
 abbrev pub Plays : Script → List Reply → Play → Step → List Step → Type 0
 Plays s rs p step rest =
-    (more : List Reply) → position_after s (rs ++ more) ≡ position_by (stands p more) (step ∷ rest) (λ (names : List Bound) (later : List Reply). position s.host rest names later)
+    (more : List Reply) → position_after s (rs ++ more) ≡ position_by (stands p more) (step ∷ rest) (λ (names : Names) (later : List Reply). position s.host rest names later)
 
 -- after these replies these steps are left, where these names are bound
-abbrev pub Leaves : Script → List Reply → List Bound → List Step → Type 0
+abbrev pub Leaves : Script → List Reply → Names → List Step → Type 0
 Leaves s rs names rest = (more : List Reply) → position_after s (rs ++ more) ≡ position s.host rest names more
 
 -- what is known is the effect of the task's next request
-abbrev pub Knows : List Bound → StepTask → Option Effect → Type 0
+abbrev pub Knows : Names → StepTask → Option Effect → Type 0
 Knows names t None = Unit {0}
 Knows names t (Some e) = (q : Request) × (asks t names ≡ Some q) × (e ≡ effect_of names q)
 
@@ -58,14 +58,14 @@ pub record InStep (s : Script) (rs : List Reply) (p : Playing) (t : StepTask) : 
   pub rest : List Step
   pub behind : drop p.finished s.steps ≡ step ∷ rest
   pub plays : Plays s rs play step rest
-  pub stands_for : StandsFor s.host p.bindings.names t play
-  pub goes_on : is_none (asks t p.bindings.names) ≡ false
-  pub knows : Knows p.bindings.names t p.effect
+  pub stands_for : StandsFor s.host p.holdings.names t play
+  pub goes_on : is_none (asks t p.holdings.names) ≡ false
+  pub knows : Knows p.holdings.names t p.effect
 
 -- before a step, or at the end
 pub record Between (s : Script) (rs : List Reply) (p : Playing) : Type 0 where
-  pub slots : HaveSlots p.bindings.names
-  pub leaves : Leaves s rs p.bindings.names (drop p.finished s.steps)
+  pub slots : HaveSlots p.holdings.names
+  pub leaves : Leaves s rs p.holdings.names (drop p.finished s.steps)
   pub within : p.finished ≤ length s.steps
   pub unknown : p.effect ≡ None
 
@@ -88,30 +88,30 @@ begun_by p None (Some step) = record p { task = Some (begun step); effect = None
 abbrev pub begun_in : Script → Playing → Playing
 begun_in s p = begun_by p p.task (slice_get s.steps p.finished)
 
-abbrev pub request_by : List Bound → Option StepTask → Option Request
+abbrev pub request_by : Names → Option StepTask → Option Request
 request_by names None = None
 request_by names (Some t) = asks t names
 
 -- the request of the step that it is at
 abbrev pub request_of : Playing → Option Request
-request_of p = request_by p.bindings.names p.task
+request_of p = request_by p.holdings.names p.task
 
-abbrev pub asked_by : ℕ → List Bound → Option Request → Option Ask
+abbrev pub asked_by : ℕ → Names → Option Request → Option Ask
 asked_by h names None = None
 asked_by h names (Some q) = planned h names q
 
 -- the event of that request
 abbrev pub asked_at : ℕ → Playing → Option Ask
-asked_at h p = asked_by h p.bindings.names (request_of p)
+asked_at h p = asked_by h p.holdings.names (request_of p)
 
 -- there is room for the name that is opened
-abbrev pub with_room : Effect → Bindings → Bindings
-with_room (Opens called n m) b = bindings b.names (Some called)
+abbrev pub with_room : Effect → Holdings → Holdings
+with_room (Opens called n m) b = holdings b.names (Some called)
 with_room _ b = b
 
 abbrev pub prepared_by : Playing → Option Request → Playing
 prepared_by p None = p
-prepared_by p (Some q) = record p { bindings = with_room (effect_of p.bindings.names q) p.bindings; effect = Some (effect_of p.bindings.names q) }
+prepared_by p (Some q) = record p { holdings = with_room (effect_of p.holdings.names q) p.holdings; effect = Some (effect_of p.holdings.names q) }
 
 -- it is ready for the reply
 abbrev pub prepared : Playing → Playing
@@ -125,7 +125,7 @@ abbrev pub expected_in : Script → Playing → Playing
 expected_in s p = expected_by s p p.effect
 
 abbrev pub heard_by : Playing → Option StepTask → Option Effect → Reply → Playing
-heard_by p (Some t) (Some e) r = record p { bindings = settles e (opened e r) p.bindings; task = Some (after t r); effect = None }
+heard_by p (Some t) (Some e) r = record p { holdings = settles e (opened e r) p.holdings; task = Some (after t r); effect = None }
 heard_by p _ _ r = p
 
 -- its task and its names after a reply
@@ -134,7 +134,7 @@ heard p r = heard_by p p.task p.effect r
 
 abbrev pub left_by : ℕ → Playing → Option StepTask → Playing
 left_by count p None = p
-left_by count p (Some t) = if is_none (asks t p.bindings.names) && nat_lt p.finished count then record p { finished = p.finished + 1; task = None } else p
+left_by count p (Some t) = if is_none (asks t p.holdings.names) && nat_lt p.finished count then record p { finished = p.finished + 1; task = None } else p
 
 -- a step that is through is finished
 abbrev pub left : ℕ → Playing → Playing

@@ -35,7 +35,7 @@ impl Model for Player {
 
     ghost Value = { Playing };
 
-    ghost view = { λ p. record { bindings = p.fids; finished = p.finished; task = p.task; effect = p.effect } };
+    ghost view = { λ p. record { holdings = p.fids; finished = p.finished; task = p.task; effect = p.effect } };
 
     ghost invariant = { λ p. IfSome p.effect (λ e. HasRoom e p.fids) };
 }
@@ -57,7 +57,7 @@ impl Player {
 
     /// The names that are bound.
     pub fn fids(&self) -> &Fids
-        ensures { result.now ≡ self.now.bindings }
+        ensures { result.now ≡ self.now.holdings }
     {
         &self.fids
     }

@@ -54,7 +54,7 @@ use Rattle.net_base.specs.Paths.{walk, may_open}
 use Rattle.net_base.specs.Timer as timer
 use Rattle.net_base.specs.UdpEnd.{UdpEnd, is_hung_up, takes_datagram, udp_state_name}
 use Rattle.history_laws.proofs.Histories.{state_is_fold}
-use Rattle.script_task.specs.Fitting.{fits, is_granted}
+use Rattle.script_task.specs.Fitting.{fits, fits_write, is_granted}
 use Rattle.script_task.proofs.DirReplies.{Fine, Fits, FitsIf, dir_fits, opening_fine}
 
 -- the step's reply fits the event
@@ -129,22 +129,34 @@ read_at Connected (Udp e) count c = udp_read e.unread count e c
 read_at Unused core count c = refl
 read_at Listening core count c = refl
 
-il_written : (s : IlState) (now : ℕ) (text : List ℕ) (e : End) (c : Conv) → Plain (Some (conversation.il_written s now text e c))
+-- the reply fits a write
+abbrev Wrote : Option (Step Conv) → Type 0
+Wrote None = Unit {0}
+Wrote (Some s) = fits_write s.outcome.reply ≡ true
+
+either_wrote : (b : Bool) (x y : Option (Step Conv)) → Wrote x → Wrote y → Wrote (if b then x else y)
+either_wrote true x y f g = f
+either_wrote false x y f g = g
+
+wrote_in_generation : (g : ℕ) (c : Conv) (step : Option (Step Conv)) → Wrote step → Wrote (conversation.in_generation g c step)
+wrote_in_generation g c step wrote = either_wrote (g == c.generation) step _ wrote (either_wrote (nat_lt g c.generation) (Some (conversation.answers c reply.Stale)) None refl tt)
+
+il_written : (s : IlState) (now : ℕ) (text : List ℕ) (e : End) (c : Conv) → Wrote (Some (conversation.il_written s now text e c))
 il_written state.Established now text e c = refl
 il_written _ now text e c = refl
 
 udp_written : (text : List ℕ) (e : UdpEnd) (c : Conv) (b : Bool)
-    → Plain (Some (if b then conversation.answers c (reply.Hungup cause.Hungup) else conversation.leaves c (reply.Count (length text)) c (Some (conversation.packet_of c (body.Udp text)))))
+    → Wrote (Some (if b then conversation.answers c (reply.Hungup cause.Hungup) else conversation.leaves c (reply.Count (length text)) c (Some (conversation.packet_of c (body.Udp text)))))
 udp_written text e c true = refl
 udp_written text e c false = refl
 
-core_written : (core : Core) (now : ℕ) (text : List ℕ) (c : Conv) → Plain (conversation.core_written core now text c)
-core_written (Il e) now text c = either (may_write e.state e) (Some (conversation.il_written e.state now text e c)) None (il_written e.state now text e c) tt
+core_written : (core : Core) (now : ℕ) (text : List ℕ) (c : Conv) → Wrote (conversation.core_written core now text c)
+core_written (Il e) now text c = either_wrote (may_write e.state e) (Some (conversation.il_written e.state now text e c)) None (il_written e.state now text e c) tt
 core_written (Udp e) now text c = udp_written text e c (conversation.is_closed_name (udp_state_name e.state))
 
-write_at : (s : Stage) (core : Core) (now : ℕ) (text : List ℕ) (c : Conv) → Plain (conversation.write_at s core now text c)
+write_at : (s : Stage) (core : Core) (now : ℕ) (text : List ℕ) (c : Conv) → Wrote (conversation.write_at s core now text c)
 write_at Connected core now text c =
-    either (length text == 0) (Some _) _ refl (either (nat_lt c.limit (length text)) (Some _) (conversation.core_written core now text c) refl (core_written core now text c))
+    either_wrote (length text == 0) (Some _) _ refl (either_wrote (nat_lt c.limit (length text)) (Some _) (conversation.core_written core now text c) refl (core_written core now text c))
 write_at Unused core now text c = refl
 write_at Listening core now text c = refl
 
@@ -252,11 +264,15 @@ data_read g count now c =
     plainly (event.Read g count) (when (nat_lt 0 count) (conversation.in_generation g c (conversation.read_at c.stage c.core count c))) (λ r. refl)
     (of_kind (nat_lt 0 count) (conversation.in_generation g c (conversation.read_at c.stage c.core count c)) (in_generation g c (conversation.read_at c.stage c.core count c) (read_at c.stage c.core count c)))
 
+fitting : (e : Event) (o : Option (Step Conv)) → ((r : Reply) → fits e r ≡ fits_write r) → Wrote o → Answers e o
+fitting e None any wrote = tt
+fitting e (Some s) any wrote = any s.outcome.reply ∙ wrote
+
 written : (g : ℕ) (text : List ℕ) (now : ℕ) (c : Conv)
     → Answers (event.Write g text) (conversation.in_generation g c (conversation.write_at c.stage c.core now text c))
 written g text now c =
-    plainly (event.Write g text) (conversation.in_generation g c (conversation.write_at c.stage c.core now text c)) (λ r. refl)
-    (in_generation g c (conversation.write_at c.stage c.core now text c) (write_at c.stage c.core now text c))
+    fitting (event.Write g text) (conversation.in_generation g c (conversation.write_at c.stage c.core now text c)) (λ r. refl)
+    (wrote_in_generation g c (conversation.write_at c.stage c.core now text c) (write_at c.stage c.core now text c))
 
 hangs_up : (g : ℕ) (now : ℕ) (c : Conv)
     → Answers (event.Hangup g) (conversation.in_generation g c (Some (conversation.hung_up c.core now (conversation.left_or_ok (conversation.core_name c.core)) c c)))

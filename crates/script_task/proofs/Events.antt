@@ -7,14 +7,15 @@ use Rattle.net_base.specs.declared.names.FileName.{FileName}
 use Rattle.net_base.specs.declared.names.FileName.TheVariants as file
 use Rattle.net_base.specs.declared.names.Mode.{Mode}
 use Rattle.net_base.specs.ControlWords as control
-use Rattle.net_base.specs.Paths.{walk, writes}
+use Rattle.net_base.specs.declared.headers.Heard.{Heard}
+use Rattle.net_base.specs.Paths.{walk, reads, writes}
 use Rattle.net_base.specs.Steps as steps
-use Rattle.net_base.specs.Steps.{Bound, Fid, Play, Ends, fid_of, is_bound, puts, uses, misuses, on_fid}
+use Rattle.net_base.specs.Steps.{Names, Fid, Play, Ends, fid_of, is_bound, puts, uses, misuses, on_fid}
 use Rattle.script_task.specs.declared.request.Request.TheVariants as request
 use Rattle.script_task.specs.Planning as spec
 use Rattle.script_task.specs.Requests.{head, planned}
 
-pub open_is : (h : ℕ) (names : List Bound) (called path : List ℕ) (m : Mode) → planned h names (request.Open called path m) ≡ Some (spec.opens_path h names called path m)
+pub open_is : (h : ℕ) (names : Names) (called path : List ℕ) (m : Mode) → planned h names (request.Open called path m) ≡ Some (spec.opens_path h names called path m)
 open_is h names called path m = by (is_bound names called)
   where
     by : (b : Bool) → head (if b then uses h called names else steps.opens h path m (Ends names) (λ (f : Fid). Ends (steps.bind called f names)))
@@ -40,7 +41,7 @@ puts_are h f file.Local text refused next = controls_are h f text (control.read 
 puts_are h f file.Remote text refused next = controls_are h f text (control.read text) refused next
 puts_are h f file.Status text refused next = controls_are h f text (control.read text) refused next
 
-pub write_is : (h : ℕ) (names : List Bound) (called text : List ℕ) → planned h names (request.Write called text) ≡ Some (spec.write h called text (fid_of called names))
+pub write_is : (h : ℕ) (names : Names) (called text : List ℕ) → planned h names (request.Write called text) ≡ Some (spec.write h called text (fid_of called names))
 write_is h names called text = found (fid_of called names)
   where
     put : Fid → Play
@@ -53,3 +54,17 @@ write_is h names called text = found (fid_of called names)
     found : (o : Option Fid) → head (on_fid o (uses h called names) (λ (f : Fid). if writes f.mode then put f else misuses h called names)) ≡ Some (spec.write h called text o)
     found None = refl
     found (Some f) = open_so f (writes f.mode)
+
+pub hear_is : (h : ℕ) (names : Names) (called : List ℕ) (count : ℕ) (heard : Heard) → planned h names (request.Hear called count heard) ≡ Some (spec.read h called count (fid_of called names))
+hear_is h names called count heard = found (fid_of called names)
+  where
+    asks : Fid → Play
+    asks f = steps.ends_with (steps.conversation_of h f) (steps.read_event f count f.file) (steps.hearing heard names)
+
+    open_so : (f : Fid) (b : Bool) → head (if b then asks f else misuses h called names) ≡ Some (if b then spec.at_file h f (steps.read_event f count f.file) else spec.at_desk h (event.Misuse called))
+    open_so f true = refl
+    open_so f false = refl
+
+    found : (o : Option Fid) → head (on_fid o (uses h called names) (λ (f : Fid). if reads f.mode then asks f else misuses h called names)) ≡ Some (spec.read h called count o)
+    found None = refl
+    found (Some f) = open_so f (reads f.mode)

@@ -4,32 +4,35 @@ use Rattle.net_base.specs.declared.names.Mode.{Mode}
 use Rattle.net_base.specs.declared.names.Node.{Node}
 use Rattle.net_base.specs.declared.reply.Reply.{Reply}
 use Rattle.net_base.specs.Paths.{walk}
-use Rattle.net_base.specs.Steps.{Bound, Fid, fid_of, is_bound, bind, unbind, openable, opened_fid}
-use Rattle.net_tree.specs.Bindings.{Bindings, bindings}
+use Rattle.net_base.specs.Steps.{Bound, Names, Fid, fid_among, fid_of, is_bound, bind, unbind, without, openable, opened_fid}
+use Rattle.script_task.specs.Holdings.{Holdings, holdings}
 use Rattle.script_task.specs.declared.request.Request.{Request}
 use Rattle.script_task.specs.declared.request.Request.TheVariants as request
 use Rattle.script_task.specs.declared.effect.Effect.TheVariants.{Keeps}
 use Rattle.script_task.specs.Effects.{effect_of, opens_as, closes, opened, settles}
 use Rattle.script_task.specs.Requests.{settled, bound_after}
 
-unbind_free : (called : List ℕ) (names : List Bound) → fid_of called names ≡ None → unbind called names ≡ names
-unbind_free called [] free = refl
-unbind_free called (b ∷ bs) free = by (bytes_eq called b.called) refl free (unbind_free called bs)
+without_free : (called : List ℕ) (bound : List Bound) → fid_among called bound ≡ None → without called bound ≡ bound
+without_free called [] free = refl
+without_free called (b ∷ bs) free = by (bytes_eq called b.called) refl free (without_free called bs)
   where
-    by : (t : Bool) → bytes_eq called b.called ≡ t → (if t then Some b.fid else fid_of called bs) ≡ None → (fid_of called bs ≡ None → unbind called bs ≡ bs)
-        → (if not t then b ∷ unbind called bs else unbind called bs) ≡ b ∷ bs
+    by : (t : Bool) → bytes_eq called b.called ≡ t → (if t then Some b.fid else fid_among called bs) ≡ None → (fid_among called bs ≡ None → without called bs ≡ bs)
+        → (if not t then b ∷ without called bs else without called bs) ≡ b ∷ bs
     by true is free rest = absurd (search (rules, tests, free))
     by false is free rest = ap (λ (xs : List Bound). b ∷ xs) (rest free)
 
-closed : (called : List ℕ) (b : Bindings) (o : Option Fid) (r : Reply) → fid_of called b.names ≡ o → (settles (closes called o) (opened (closes called o) r) b).names ≡ unbind called b.names
+unbind_free : (called : List ℕ) (names : Names) → fid_of called names ≡ None → unbind called names ≡ names
+unbind_free called names free = ap (λ (xs : List Bound). record names { bound = xs }) (without_free called names.bound free)
+
+closed : (called : List ℕ) (b : Holdings) (o : Option Fid) (r : Reply) → fid_of called b.names ≡ o → (settles (closes called o) (opened (closes called o) r) b).names ≡ unbind called b.names
 closed called b None r is = by (unbind_free called b.names is)
   where
     by : unbind called b.names ≡ b.names → b.names ≡ unbind called b.names
     by same = search (rules, same)
 closed called b (Some f) r is = refl
 
-module _ (called : List ℕ) (m : Mode) (b : Bindings) (r : Reply) where
-  bound : (t : Bool) (f : Fid) → is_bound b.names called ≡ t → (if t then b else bindings (bind called f b.names) None).names ≡ (if t then b.names else bind called f b.names)
+module _ (called : List ℕ) (m : Mode) (b : Holdings) (r : Reply) where
+  bound : (t : Bool) (f : Fid) → is_bound b.names called ≡ t → (if t then b else holdings (bind called f b.names) None).names ≡ (if t then b.names else bind called f b.names)
   bound true f is = refl
   bound false f is = refl
 
@@ -46,7 +49,7 @@ module _ (called : List ℕ) (m : Mode) (b : Bindings) (r : Reply) where
   opened_so n true is = refl
   opened_so n false is = opens n false is refl
 
-pub settles_so : (b : Bindings) (q : Request) (r : Reply) → (settles (effect_of b.names q) (opened (effect_of b.names q) r) b).names ≡ settled b.names q r
+pub settles_so : (b : Holdings) (q : Request) (r : Reply) → (settles (effect_of b.names q) (opened (effect_of b.names q) r) b).names ≡ settled b.names q r
 settles_so b (request.Open called path m) r = opened_so called m b r (openable (walk path) m) (is_bound b.names called) refl
 settles_so b (request.Close called) r = closed called b (fid_of called b.names) r refl
 settles_so b _ r = refl

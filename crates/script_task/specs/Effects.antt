@@ -1,16 +1,17 @@
 -- What the replies to requests do to the names that are bound.
 use Rattle.std.specs.Prelude.{◌≡◌, ◌⊎◌, ℕ, true, List, Option, Some, None, if◌then◌else◌}
 use Rattle.net_base.specs.declared.address.Proto.{Proto}
+use Rattle.net_base.specs.declared.headers.Heard.{Heard}
 use Rattle.net_base.specs.declared.names.FileName.{FileName}
 use Rattle.net_base.specs.declared.names.Mode.{Mode}
 use Rattle.net_base.specs.declared.names.Node.{Node}
 use Rattle.net_base.specs.declared.names.Node.TheVariants as node
 use Rattle.net_base.specs.declared.reply.Reply.{Reply}
 use Rattle.net_base.specs.Paths.{walk}
-use Rattle.net_base.specs.Steps.{Bound, Fid, fid_of, is_bound, bind, unbind, openable, opened_fid}
-use Rattle.net_tree.specs.Bindings.{Bindings, bindings}
+use Rattle.net_base.specs.Steps.{Names, Fid, fid_of, is_bound, bind, unbind, hearing, openable, opened_fid}
+use Rattle.script_task.specs.Holdings.{Holdings, holdings}
 use Rattle.script_task.specs.declared.effect.Effect.{Effect}
-use Rattle.script_task.specs.declared.effect.Effect.TheVariants.{Opens, Closes, Keeps}
+use Rattle.script_task.specs.declared.effect.Effect.TheVariants.{Opens, Closes, Hears, Keeps}
 use Rattle.script_task.specs.declared.request.Request.{Request}
 use Rattle.script_task.specs.declared.request.Request.TheVariants as request
 
@@ -22,10 +23,14 @@ abbrev pub closes : List ℕ → Option Fid → Effect
 closes called None = Keeps
 closes called (Some f) = Closes called
 
+abbrev pub hears : Heard → Effect
+hears heard = Hears heard
+
 -- what the reply to a request does under these names
-abbrev pub effect_of : List Bound → Request → Effect
+abbrev pub effect_of : Names → Request → Effect
 effect_of names (request.Open called path m) = if is_bound names called then Keeps else opens_as called m (openable (walk path) m)
 effect_of names (request.Close called) = closes called (fid_of called names)
+effect_of names (request.Hear called count heard) = hears heard
 effect_of names _ = Keeps
 
 -- the file that the reply opens
@@ -40,17 +45,18 @@ abbrev pub file_opened : Proto → ℕ → FileName → Mode → Reply → Optio
 file_opened p n f m r = opened_fid m (Some (node.File p n f)) r
 
 -- a name that is free is bound, for which the room is used
-abbrev pub binds : List ℕ → Fid → Bindings → Bindings
-binds called f b = if is_bound b.names called then b else bindings (bind called f b.names) None
+abbrev pub binds : List ℕ → Fid → Holdings → Holdings
+binds called f b = if is_bound b.names called then b else holdings (bind called f b.names) None
 
 -- the names where this was opened
-abbrev pub settles : Effect → Option Fid → Bindings → Bindings
+abbrev pub settles : Effect → Option Fid → Holdings → Holdings
 settles (Opens called n m) (Some f) b = binds called f b
 settles (Opens called n m) None b = b
 settles (Closes called) opened b = record b { names = unbind called b.names }
+settles (Hears heard) opened b = record b { names = hearing heard b.names }
 settles Keeps opened b = b
 
 -- what it binds there is room for
-abbrev pub HasRoom : Effect → Bindings → Type 0
+abbrev pub HasRoom : Effect → Holdings → Type 0
 HasRoom (Opens called n m) b = (b.reserved ≡ Some called) ⊎ (is_bound b.names called ≡ true)
 HasRoom _ b = Unit {0}

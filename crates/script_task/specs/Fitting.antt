@@ -1,5 +1,5 @@
 -- Which replies an event can have, as far as tasks go by it.
-use Rattle.std.specs.Prelude.{Bool, true, false, not, nat_lt}
+use Rattle.std.specs.Prelude.{Bool, true, false, not, ◌||◌, nat_lt}
 use Rattle.net_base.specs.declared.event.Event.{Event}
 use Rattle.net_base.specs.declared.event.Event.TheVariants as event
 use Rattle.net_base.specs.declared.reply.Reply.{Reply}
@@ -41,6 +41,16 @@ abbrev pub fits_grant : Reply → Bool
 fits_grant (reply.Granted pair start limit) = true
 fits_grant r = not (is_accepted r)
 
+-- the replies to events that name what isn't open, or isn't so
+abbrev pub is_unopened : Reply → Bool
+is_unopened reply.BadFid = true
+is_unopened reply.BadMode = true
+is_unopened _ = false
+
+-- no write is granted a pair, or names what isn't open
+abbrev pub fits_write : Reply → Bool
+fits_write r = not (is_granted r || is_unopened r)
+
 -- the event can have this reply
 abbrev pub fits : Event → Reply → Bool
 fits event.Reserve r = fits_reserve r
@@ -48,6 +58,7 @@ fits (event.Listen n) r = fits_listen r
 fits (event.Open f m) r = fits_open r
 fits (event.OpenPath path m) r = not (is_opening r)
 fits (event.Grant n g remote port) r = fits_grant r
-fits (event.Use called) r = not (is_accepted r)
-fits (event.Misuse called) r = not (is_accepted r)
+fits (event.Use called) r = is_unopened r
+fits (event.Misuse called) r = is_unopened r
+fits (event.Write g text) r = fits_write r
 fits _ r = not (is_granted r)

@@ -1,8 +1,10 @@
 pub mod Effects
 pub mod Fitting
+pub mod Holdings
 pub mod Planning
 pub mod Requests
 pub mod Task
 pub mod Rest
 pub use Rattle.net_base.specs.Steps
 pub use Rattle.net_tree.specs.Bindings
+pub use Rattle.ndb_index.specs.Index

@@ -12,7 +12,7 @@ use Rattle.net_base.specs.declared.names.Mode.{Mode}
 use Rattle.net_base.specs.ControlWords as control
 use Rattle.net_base.specs.Paths as paths
 use Rattle.net_base.specs.Steps as steps
-use Rattle.net_base.specs.Steps.{Ask, Bound, Fid}
+use Rattle.net_base.specs.Steps.{Ask, Names, Fid}
 use Rattle.script_task.specs.declared.effect.Effect.TheVariants.{Keeps}
 use Rattle.script_task.specs.declared.planned.Planned.{Planned}
 use Rattle.script_task.specs.declared.request.Request.{Request}
@@ -41,7 +41,7 @@ at_directory h f e = asks (name.Dir h f.proto) e
 abbrev pub open_request : List ℕ → List ℕ → Mode → Request
 open_request called path m = request.Open called path m
 
-abbrev pub opens_path : ℕ → List Bound → List ℕ → List ℕ → Mode → Ask
+abbrev pub opens_path : ℕ → Names → List ℕ → List ℕ → Mode → Ask
 opens_path h names called path m =
     if steps.is_bound names called
     then at_desk h (event.Use called)

@@ -1,19 +1,19 @@
 -- What every task keeps, given its next request, what a reply makes of it, and the plays that it stands for.
 use Rattle.std.specs.Prelude.{◌≡◌, ℕ, Bool, true, List, Option, Some, None}
 use Rattle.net_base.specs.declared.reply.Reply.{Reply}
-use Rattle.net_base.specs.Steps.{Ask, Bound, Play, Asks, Ends}
+use Rattle.net_base.specs.Steps.{Ask, Names, Play, Asks, Ends}
 use Rattle.script_task.specs.declared.request.Request.{Request}
 use Rattle.script_task.specs.Requests.{head, planned, settled}
 use Rattle.script_task.specs.Fitting.{fits}
 
 -- the request is the play's next event, and none is its end with these names
-abbrev pub Heads : ℕ → List Bound → Option Request → Play → Type 0
+abbrev pub Heads : ℕ → Names → Option Request → Play → Type 0
 Heads h names None p = p ≡ Ends names
 Heads h names (Some q) p = (ask : Ask) × (head p ≡ Some ask) × (planned h names q ≡ Some ask)
 
 -- a task that stands for a play under names asks for what the play records
-abbrev pub AsksSo : (T : Type 0) → (T → List Bound → Option Request) → (ℕ → List Bound → T → Play → Type 0) → Type 0
-AsksSo T asks Stands = (h : ℕ) (names : List Bound) (t : T) (p : Play) → Stands h names t p → Heads h names (asks t names) p
+abbrev pub AsksSo : (T : Type 0) → (T → Names → Option Request) → (ℕ → Names → T → Play → Type 0) → Type 0
+AsksSo T asks Stands = (h : ℕ) (names : Names) (t : T) (p : Play) → Stands h names t p → Heads h names (asks t names) p
 
 -- the rest of a play after a reply to its event
 abbrev pub follow : Play → Reply → Play
@@ -26,8 +26,8 @@ fits_play (Asks a e next) r = fits e r
 fits_play (Ends names) r = true
 
 -- after a reply that its event can have it stands for the rest of the play, under the names that are bound then
-abbrev pub MovesSo : (T : Type 0) → (T → List Bound → Option Request) → (T → Reply → T) → (ℕ → List Bound → T → Play → Type 0) → Type 0
+abbrev pub MovesSo : (T : Type 0) → (T → Names → Option Request) → (T → Reply → T) → (ℕ → Names → T → Play → Type 0) → Type 0
 MovesSo T asks after Stands =
-    (h : ℕ) (names : List Bound) (t : T) (p : Play) (q : Request) (r : Reply)
+    (h : ℕ) (names : Names) (t : T) (p : Play) (q : Request) (r : Reply)
     → Stands h names t p → asks t names ≡ Some q → fits_play p r ≡ true
     → Stands h (settled names q r) (after t r) (follow p r)

@@ -4,8 +4,9 @@ ghost use Rattle.net_base.specs.Steps as steps;
 ghost use Rattle.net_tree.specs.Bindings.{file_of};
 ghost use Rattle.script_task.specs.Effects as spec;
 
-use net_base::{FileName, Mode, Node, Octets, Proto, Reply};
-use net_tree::{Fid, Fids};
+use crate::names::Names;
+use net_base::{FileName, Heard, Mode, Node, Octets, Proto, Reply};
+use net_tree::Fid;
 use std::alloc::AllocError;
 
 /// What the reply to a request does to the names that are bound.
@@ -20,6 +21,10 @@ pub enum Effect {
     /// The name is unbound, whatever the reply.
     Closes {
         name: Octets,
+    },
+    /// An `hread` was told this, whatever the reply.
+    Hears {
+        heard: Heard,
     },
     /// No name changes.
     Keeps,
@@ -37,10 +42,10 @@ impl Effect {
     }
 
     /// Changes the names, where this was opened. Without memory they are as before.
-    pub fn settle(&self, fids: &mut Fids, opened: Option<Fid>) -> Result<(), AllocError>
-        ensures ok { OnOk result (fids.new ≡ spec.settles self.now (option_map file_of opened) fids.old) }
+    pub fn settle(self, fids: &mut Names, opened: Option<Fid>) -> Result<(), AllocError>
+        ensures ok { OnOk result (fids.new ≡ spec.settles self (option_map file_of opened) fids.old) }
         ensures err { OnErr result (fids.new ≡ fids.old) }
-        ensures room { spec.HasRoom self.now fids.old → IsOk result }
+        ensures room { spec.HasRoom self fids.old → IsOk result }
     {
         match self {
             Effect::Opens { name, .. } => match opened {
@@ -51,13 +56,17 @@ impl Effect {
                 fids.unbind(name.as_slice());
                 Ok(())
             }
+            Effect::Hears { heard } => {
+                fids.hear(heard);
+                Ok(())
+            }
             Effect::Keeps => Ok(()),
         }
     }
 }
 
 /// Binds a name to a file, where the name is free.
-pub(crate) fn bind_free(fids: &mut Fids, name: &[u8], fid: Fid) -> Result<(), AllocError>
+pub(crate) fn bind_free(fids: &mut Names, name: &[u8], fid: Fid) -> Result<(), AllocError>
     ensures ok { OnOk result (fids.new ≡ spec.binds name.now (file_of fid) fids.old) }
     ensures err { OnErr result (fids.new ≡ fids.old) }
     ensures room { (fids.old.reserved ≡ Some name.now) ⊎ (steps.is_bound fids.old.names name.now ≡ true)

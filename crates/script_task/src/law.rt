@@ -9,7 +9,7 @@ ghost use Rattle.net_base.specs.Actors.{Actor, actor_step, opening_actor};
 ghost use Rattle.net_base.specs.Legal.{IsLegal};
 ghost use Rattle.net_base.specs.Net.{Play, after, played};
 ghost use Rattle.net_base.specs.declared.reply.Reply.{Reply};
-ghost use Rattle.net_tree.specs.Bindings.{Bindings};
+ghost use Rattle.script_task.specs.Holdings.{Holdings};
 ghost use Rattle.script_task.specs.declared.request.Request.{Request};
 ghost use Rattle.script_task.specs.Effects.{effect_of, opened, settles};
 ghost use Rattle.script_task.specs.Fitting.{fits};
@@ -29,6 +29,6 @@ pub fn replies_fit()
 
 /// The effect of a request settles the names as the request itself does.
 pub fn effects_settle()
-    ensures { (b : Bindings) (q : Request) (r : Reply)
+    ensures { (b : Holdings) (q : Request) (r : Reply)
         → (settles (effect_of b.names q) (opened (effect_of b.names q) r) b).names ≡ settled b.names q r }
 {}

@@ -7,11 +7,13 @@ mod names;
 mod paths;
 mod planned;
 mod request;
+mod settle;
 mod task;
 
 pub use effect::Effect;
 pub use law::{effects_settle, replies_fit};
-pub use names::settle;
+pub use names::Names;
 pub use planned::{Planned, event_of, plan};
 pub use request::Request;
+pub use settle::settle;
 pub use task::Task;

@@ -1,50 +1,147 @@
-//! The names after a reply.
-ghost use Rattle.std.specs.Prelude.{◌≡◌, IsOk, OnOk, OnErr};
-ghost use Rattle.script_task.specs.Requests as spec;
+//! What a script holds from step to step.
+ghost use Rattle.std.specs.Prelude.{◌≡◌, ◌≢◌, ◌↔◌, ◌⊎◌, ◌<◌, None, Some, Err, true, length, IsErrOf, IfErr, OnOk, OnErr, option_map};
+ghost use Rattle.std.specs.Arc.{arc_value};
+ghost use Rattle.net_base.specs.Steps as steps;
+ghost use Rattle.net_base.specs.Versions.{database_of};
+ghost use Rattle.net_tree.specs.Bindings.{file_of};
+ghost use Rattle.net_tree.specs.declared.fault.TreeError.TheVariants.{BadFid, Memory};
+ghost use Rattle.script_task.specs.Holdings.{holdings};
 
-use crate::effect::{bind_free, opened_fid};
-use crate::paths::openable;
-use crate::request::Request;
-use net_base::{Mode, Octets, Reply};
-use net_tree::Fids;
-use std::alloc::AllocError;
+use ndb_index::Index;
+use ndb_versions::IndexedVersions;
+use net_base::{FileName, Headers, Heard, Mode};
+use net_tree::{Fid, Fids, TreeError};
+use std::alloc::{AllocError, Global};
+use std::marker::Model;
+use std::sync::Arc;
 
-/// The names after the reply to the event of a request. Without memory they are as before.
+/// What a step of a script finds and leaves: names bound to open files, what the last `hread` was told, and the database
+/// from which `dns` answers, the first version.
 ///
-/// It takes none where there is room for the request's name, or where nothing is bound.
-pub fn settle(fids: &mut Fids, request: &Request, reply: &Reply) -> Result<(), AllocError>
-    ensures ok { OnOk result (fids.new ≡ spec.settles_to fids.old request.now reply.now) }
-    ensures err { OnErr result (fids.new ≡ fids.old) }
-    ensures room { spec.HasRoom fids.old (spec.newly_bound fids.old.names request.now reply.now) → IsOk result }
-{
-    match request {
-        Request::Open { name, path, mode } => settle_open(fids, name, path, *mode, reply),
-        Request::Close { name } => {
-            fids.unbind(name.as_slice());
-            Ok(())
+/// Clauses see these, and the name that there is room for.
+#[derive(Drop)]
+pub struct Names {
+    fids: Fids,
+    heard: Option<Heard>,
+    dbs: Arc<IndexedVersions, Global>,
+}
+
+impl Model for Names {
+    ghost use Rattle.std.specs.Prelude.{◌<◌, length};
+    ghost use Rattle.std.specs.Arc.{arc_value};
+    ghost use Rattle.net_base.specs.Versions.{database_of};
+    ghost use Rattle.script_task.specs.Holdings.{Holdings};
+
+    ghost Value = { Holdings };
+
+    ghost view = { λ n. record {
+      names = record { bound = n.fids.names; heard = n.heard; zone = database_of (arc_value n.dbs) 0 };
+      reserved = n.fids.reserved;
+    } };
+
+    ghost invariant = { λ n. 0 < length (arc_value n.dbs) };
+}
+
+impl Names {
+    /// What the first step of a script finds. It takes no memory.
+    pub fn new(alloc: Global, dbs: Arc<IndexedVersions, Global>) -> Names
+        requires some { 0 < length (arc_value dbs) }
+        ensures { result ≡ holdings (steps.no_names (database_of (arc_value dbs) 0)) None }
+    {
+        Names {
+            fids: Fids::new(alloc),
+            heard: None,
+            dbs,
         }
-        _ => Ok(()),
+    }
+
+    /// The file that the name is bound to.
+    pub fn get(&self, name: &[u8]) -> Option<Fid>
+        ensures { option_map file_of result ≡ steps.fid_of name.now self.now.names }
+    {
+        self.fids.get(name)
+    }
+
+    /// Whether the name is bound.
+    pub fn is_bound(&self, name: &[u8]) -> bool
+        ensures { result ≡ steps.is_bound self.now.names name.now }
+    {
+        self.fids.is_bound(name)
+    }
+
+    /// Makes room for this name, so that its binding takes no memory if it is the next one.
+    pub fn reserve(&mut self, name: &[u8]) -> Result<(), AllocError>
+        ensures ok { OnOk result (self.new ≡ holdings self.old.names (Some name.now)) }
+        ensures err { OnErr result (self.new ≡ self.old) }
+    {
+        self.fids.reserve(name)
+    }
+
+    /// Binds a name that isn't bound.
+    pub fn bind(&mut self, name: &[u8], fid: Fid) -> Result<(), TreeError>
+        ensures ok { OnOk result (self.new ≡ holdings (steps.bind name.now (file_of fid) self.old.names) None) }
+        ensures err { OnErr result (self.new ≡ self.old) }
+        ensures bad_fid { IsErrOf result BadFid ↔ (steps.is_bound self.old.names name.now ≡ true) }
+        ensures causes { IfErr result (λ e. (e ≡ BadFid) ⊎ (e ≡ Memory)) }
+        ensures reserved { self.old.reserved ≡ Some name.now → result ≢ Err Memory }
+    {
+        self.fids.bind(name, fid)
+    }
+
+    /// Unbinds the name, and gives the file that it was bound to.
+    pub fn unbind(&mut self, name: &[u8]) -> Option<Fid>
+        ensures found { option_map file_of result ≡ steps.fid_of name.now self.old.names }
+        ensures rest { self.new ≡ holdings (steps.unbind name.now self.old.names) self.old.reserved }
+    {
+        self.fids.unbind(name)
+    }
+
+    /// An `hread` was told this.
+    pub fn hear(&mut self, heard: Heard)
+        ensures { self.new ≡ holdings (steps.hearing heard self.old.names) self.old.reserved }
+    {
+        self.heard = Some(heard);
+    }
+
+    /// The data file of the open call that an `hread` heard on this name.
+    pub fn open_call(&self, name: &[u8]) -> Option<Fid>
+        ensures { option_map file_of result ≡ steps.open_call name.now self.now.names }
+    {
+        if !was_on(&self.heard, name) {
+            return None;
+        }
+        let fid = self.get(b".d")?;
+        if fid.file == FileName::Data && fid.mode == Mode::Both {
+            Some(fid)
+        } else {
+            None
+        }
+    }
+
+    /// Whether the headers are of the datagram that was heard last. The interface isn't compared.
+    pub fn is_answered_by(&self, headers: Headers) -> bool
+        ensures { result ≡ steps.answers_to headers self.now.names.heard }
+    {
+        match &self.heard {
+            Some(heard) => headers.remote == heard.remote && headers.local == heard.local,
+            None => false,
+        }
+    }
+
+    /// The database from which `dns` answers.
+    pub fn zone(&self) -> &Index
+        ensures { result.now ≡ self.now.names.zone }
+    {
+        self.dbs.index(0)
     }
 }
 
-// The same for an open.
-fn settle_open(
-    fids: &mut Fids,
-    name: &Octets,
-    path: &Octets,
-    mode: Mode,
-    reply: &Reply,
-) -> Result<(), AllocError>
-    ensures ok { OnOk result (fids.new ≡ spec.opens_to fids.old name.now path.now mode reply.now) }
-    ensures err { OnErr result (fids.new ≡ fids.old) }
-    ensures room { spec.HasRoom fids.old (spec.newly_opened fids.old.names name.now path.now mode reply.now)
-        → IsOk result }
+// Whether a call was heard on this name.
+fn was_on(heard: &Option<Heard>, name: &[u8]) -> bool
+    ensures { result ≡ steps.was_on name.now heard.now }
 {
-    let Some(node) = openable(path.as_slice(), mode) else {
-        return Ok(());
-    };
-    match opened_fid(node, mode, reply) {
-        Some(fid) => bind_free(fids, name.as_slice(), fid),
-        None => Ok(()),
+    match heard {
+        Some(heard) => name == heard.name.as_slice(),
+        None => false,
     }
 }

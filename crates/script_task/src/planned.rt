@@ -8,11 +8,12 @@ ghost use Rattle.script_task.specs.Planning as spec;
 ghost use Rattle.script_task.specs.Requests as requests;
 
 use crate::effect::Effect;
+use crate::names::Names;
 use crate::paths::{ls_actor, ls_event, node_of, open_actor, open_event, openable};
 use crate::request::Request;
 use ctl_words::read_ctl;
-use net_base::{ActorName, Ctl, Event, FileName, Mode, Node, Octets};
-use net_tree::{Fid, Fids};
+use net_base::{ActorName, Ctl, Event, FileName, Heard, Mode, Node, Octets};
+use net_tree::Fid;
 use std::alloc::AllocError;
 
 /// An event at an actor, and what its reply does to the names.
@@ -24,7 +25,7 @@ pub struct Planned {
 }
 
 /// The event that a request of a host records under these names.
-pub fn event_of(host: u32, fids: &Fids, request: &Request) -> Result<Planned, AllocError>
+pub fn event_of(host: u32, fids: &Names, request: &Request) -> Result<Planned, AllocError>
     ensures event { IfOk result (λ p. requests.planned host fids.now.names request.now ≡ Some (spec.ask_of p)) }
     ensures effect { IfOk result (λ p. p.effect ≡ effects.effect_of fids.now.names request.now) }
 {
@@ -33,8 +34,8 @@ pub fn event_of(host: u32, fids: &Fids, request: &Request) -> Result<Planned, Al
 }
 
 /// The same for a request that nobody needs any longer. It takes no memory.
-#[tactic(auto, using(crate::proofs::Events::open_is, crate::proofs::Events::write_is))]
-pub fn plan(host: u32, fids: &Fids, request: Request) -> Planned
+#[tactic(auto, using(crate::proofs::Events::open_is, crate::proofs::Events::write_is, crate::proofs::Events::hear_is))]
+pub fn plan(host: u32, fids: &Names, request: Request) -> Planned
     ensures event { requests.planned host fids.now.names request ≡ Some (spec.ask_of result) }
     ensures effect { result.effect ≡ effects.effect_of fids.now.names request }
 {
@@ -47,6 +48,7 @@ pub fn plan(host: u32, fids: &Fids, request: Request) -> Planned
         Request::Ls { path } => ls(host, path),
         Request::Until { moment } => at_desk(host, Event::Until { moment }),
         Request::Refresh => at_desk(host, Event::Refresh),
+        Request::Hear { name, count, heard } => hear(host, fids, name, count, heard),
         Request::Wait { name } => wait(host, fids, name),
         Request::Unbound { name } => at_desk(host, Event::Use { name }),
         Request::Misuse { name } => at_desk(host, Event::Misuse { name }),
@@ -76,7 +78,7 @@ fn at_file(host: u32, fid: Fid, event: Event) -> Planned
     keeping(ActorName::Conv(host, fid.proto, fid.slot), event)
 }
 
-fn open(host: u32, fids: &Fids, name: Octets, path: Octets, mode: Mode) -> Planned
+fn open(host: u32, fids: &Names, name: Octets, path: Octets, mode: Mode) -> Planned
     ensures event { spec.ask_of result ≡ spec.opens_path host fids.now.names name path mode }
     ensures effect { result.effect ≡ effects.effect_of fids.now.names (spec.open_request name path mode) }
 {
@@ -107,7 +109,7 @@ fn ls(host: u32, path: Octets) -> Planned
     keeping(ls_actor(host, node), ls_event(path, node))
 }
 
-fn close(host: u32, fids: &Fids, name: Octets) -> Planned
+fn close(host: u32, fids: &Names, name: Octets) -> Planned
     ensures event { spec.ask_of result ≡ spec.close host name (steps.fid_of name fids.now.names) }
     ensures effect { result.effect ≡ effects.closes name (steps.fid_of name fids.now.names) }
 {
@@ -123,7 +125,7 @@ fn close(host: u32, fids: &Fids, name: Octets) -> Planned
     }
 }
 
-fn wait(host: u32, fids: &Fids, name: Octets) -> Planned
+fn wait(host: u32, fids: &Names, name: Octets) -> Planned
     ensures { result ≡ spec.keeping (spec.wait host name (steps.fid_of name fids.now.names)) }
 {
     match fids.get(name.as_slice()) {
@@ -138,7 +140,7 @@ fn wait(host: u32, fids: &Fids, name: Octets) -> Planned
     }
 }
 
-fn read(host: u32, fids: &Fids, name: Octets, count: u32) -> Planned
+fn read(host: u32, fids: &Names, name: Octets, count: u32) -> Planned
     ensures { result ≡ spec.keeping (spec.read host name count (steps.fid_of name fids.now.names)) }
 {
     match fids.get(name.as_slice()) {
@@ -150,6 +152,19 @@ fn read(host: u32, fids: &Fids, name: Octets, count: u32) -> Planned
             }
         }
         None => at_desk(host, Event::Use { name }),
+    }
+}
+
+// The same, where an `hread` was told this.
+fn hear(host: u32, fids: &Names, name: Octets, count: u32, heard: Heard) -> Planned
+    ensures event { spec.ask_of result ≡ spec.read host name count (steps.fid_of name fids.now.names) }
+    ensures effect { result.effect ≡ effects.hears heard }
+{
+    let Planned { actor, event, .. } = read(host, fids, name, count);
+    Planned {
+        actor,
+        event,
+        effect: Effect::Hears { heard },
     }
 }
 
@@ -187,7 +202,7 @@ fn read_event(fid: Fid, count: u32) -> Event
     }
 }
 
-fn write(host: u32, fids: &Fids, name: Octets, text: Octets) -> Planned
+fn write(host: u32, fids: &Names, name: Octets, text: Octets) -> Planned
     ensures { result ≡ spec.keeping (spec.write host name text (steps.fid_of name fids.now.names)) }
 {
     match fids.get(name.as_slice()) {

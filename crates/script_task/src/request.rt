@@ -1,5 +1,5 @@
 //! What a task asks for.
-use net_base::{Mode, Octets};
+use net_base::{Heard, Mode, Octets};
 
 /// A file operation, which names its file as its caller has bound it. Counts are in bytes, moments in ms.
 #[derive(Clone, Debug, Drop)]
@@ -33,6 +33,12 @@ pub enum Request {
     },
     /// Has the connection server read its database again.
     Refresh,
+    /// Reads a datagram of which an `hread` was told this.
+    Hear {
+        name: Octets,
+        count: u32,
+        heard: Heard,
+    },
     /// Waits until the conversation is connected.
     Wait {
         name: Octets,

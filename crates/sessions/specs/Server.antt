@@ -1,7 +1,7 @@
 -- Servers: what a request of one does, and what it is answered.
 use Rattle.std.specs.Prelude.{ℕ, List, [], ◌∷◌, Option, Some}
 use Rattle.net_base.specs.declared.reply.Reply.{Reply}
-use Rattle.net_base.specs.Steps.{Ask, Bound, Play, Asks, Ends}
+use Rattle.net_base.specs.Steps.{Ask, Names, Play, Asks, Ends}
 
 -- what a request does: it asks and goes on by the reply, or it gives an answer and the state of the session after it
 pub data Doing (S : Type 0) : Type 0 where
@@ -11,11 +11,11 @@ pub data Doing (S : Type 0) : Type 0 where
 -- a session: its state at first, the names that are bound in a state, and what it does with a request
 pub record Server (S R : Type 0) : Type 0 where
   pub opening : S
-  pub names : S → List Bound
+  pub names : S → Names
   pub serves : S → R → Doing S
 
 -- the play of a step as what a request does, which goes on by the names and the last reply
-abbrev pub doing_of : {S : Type 0} → Play → Option Reply → (List Bound → Option Reply → Doing S) → Doing S
+abbrev pub doing_of : {S : Type 0} → Play → Option Reply → (Names → Option Reply → Doing S) → Doing S
 doing_of (Ends names) last go_on = go_on names last
 doing_of (Asks a e next) last go_on = Does (record { actor = a; event = e }) (λ (r : Reply). doing_of (next r) (Some r) go_on)
 

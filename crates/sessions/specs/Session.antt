@@ -8,7 +8,7 @@ use Rattle.net_base.specs.declared.world.World.{World}
 use Rattle.net_base.specs.Calm.{owes}
 use Rattle.net_base.specs.Net.{after as net_after}
 use Rattle.net_base.specs.Next.{own_replies}
-use Rattle.net_base.specs.Steps.{Bound, play_of}
+use Rattle.net_base.specs.Steps.{Names, play_of}
 use Rattle.ninep_wire.specs.declared.request.Tmsg.{Tmsg}
 use Rattle.ninep_wire.specs.Messages.{r_bytes}
 use Rattle.sessions.specs.Answers.{Found, found_after, found_by, replied, said}
@@ -20,7 +20,7 @@ use Rattle.sessions.specs.Table.{Table, opening}
 pub record State : Type 0 where
   pub table : Table
   pub found : Found
-  pub names : List Bound
+  pub names : Names
 
 abbrev pub first : State
 first = record { table = opening; found = λ (n : ℕ). []; names = [] }
@@ -30,7 +30,7 @@ abbrev pub told : State → Tmsg → Doing State
 told s m = Gives (r_bytes (said s.table s.found m)) (record { table = after s.table m; found = found_after s.found m; names = s.names })
 
 -- by the last reply
-abbrev pub by_last : State → Tmsg → List Bound → Option Reply → Doing State
+abbrev pub by_last : State → Tmsg → Names → Option Reply → Doing State
 by_last s m names None = told s m
 by_last s m names (Some x) = Gives (r_bytes (replied s.table m x)) (record { table = after s.table m; found = found_by s.table s.found m x; names = names })
 

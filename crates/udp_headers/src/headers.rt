@@ -1,27 +1,19 @@
 //! Headers of a datagram.
 ghost use Rattle.std.specs.Prelude.{◌≡◌, ◌+◌, ◌<◌, ◌≤◌, ◌↔◌, ℕ, false, List, length, IfOk, IsOkAnd, IsErrOf};
-ghost use Rattle.udp_headers.specs.declared.headers.Headers.{Headers};
-ghost use Rattle.udp_headers.specs.HeaderBytes.{AreHeaders, SpellsHeaders, all_mapped, headers_bytes, headers_of, is_mapped};
+ghost use Rattle.net_base.specs.declared.headers.Headers.{Headers};
+ghost use Rattle.net_base.specs.DatagramHeaders.{AreHeaders, SpellsHeaders, all_mapped, headers_bytes, headers_of, is_mapped};
 ghost use Rattle.udp_headers.specs.Faults.{AreWhole};
 
 use crate::fault::HeadersError;
 use byteorder::{BigEndian, ByteOrder};
 use ip_wire::{long, word};
-use net_base::Addr;
+use net_base::{Addr, Headers};
 
 /// The bytes of headers.
 const HEADERS: usize = 52;
 
 /// What stands in an address before its IPv4 address.
 const FRONT: [u8; 12] = [0, 0, 0, 0, 0, 0, 0, 0, 0, 0, 0xff, 0xff];
-
-/// Who sent a datagram, for whom, and the address of the interface.
-#[derive(Clone, Copy, Debug, PartialEq, Eq)]
-pub struct Headers {
-    pub remote: Addr,
-    pub local: Addr,
-    pub iface: u32,
-}
 
 /// Headers, and the text behind them, which is lent by its bytes.
 #[derive(Clone, Copy, Debug)]

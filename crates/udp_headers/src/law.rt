@@ -1,7 +1,7 @@
 //! Laws of headers as bytes.
 ghost use Rattle.std.specs.Prelude.{◌≡◌, ◌++◌, ℕ, List};
-ghost use Rattle.udp_headers.specs.declared.headers.Headers.{Headers};
-ghost use Rattle.udp_headers.specs.HeaderBytes.{AreHeaders, SpellsHeaders, headers_bytes, headers_of};
+ghost use Rattle.net_base.specs.declared.headers.Headers.{Headers};
+ghost use Rattle.net_base.specs.DatagramHeaders.{AreHeaders, SpellsHeaders, headers_bytes, headers_of};
 
 /// The bytes of headers read back as the headers, whatever text follows them.
 pub fn headers_are_read()

@@ -6,8 +6,9 @@ mod headers;
 mod law;
 
 pub use fault::HeadersError;
-pub use headers::{Headers, HeadersView, decode_headers, encode_headers};
+pub use headers::{HeadersView, decode_headers, encode_headers};
 pub use law::{headers_are_read, headers_read_once};
+pub use net_base::Headers;
 
 #[cfg(test)]
 mod tests;

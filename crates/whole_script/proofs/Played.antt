@@ -7,7 +7,7 @@ use Rattle.net_base.specs.declared.reply.Reply.{Reply}
 use Rattle.net_base.specs.declared.world.Script.{Script}
 use Rattle.net_base.specs.declared.world.Step.{Step}
 use Rattle.net_base.specs.Next.{finished_by}
-use Rattle.net_base.specs.Steps.{Bound, Play, Asks, Ends, Position, position, position_by, play_of, stands}
+use Rattle.net_base.specs.Steps.{Names, Play, Asks, Ends, Position, position, position_by, play_of, stands}
 use Rattle.script_task.specs.declared.request.Request.{Request}
 use Rattle.script_task.specs.Requests.{head, settled}
 use Rattle.script_task.specs.Rest.{rest}
@@ -26,24 +26,24 @@ record Ties (at : Position) (p : Play) : Type 0 where
   next_is : at.next ≡ head p
   left_is : nat_lt 0 (length at.left) ≡ is_some (head p)
 
-rest_ended : (names : List Bound) (rs : List Reply) → head (rest (Ends names) rs) ≡ None
+rest_ended : (names : Names) (rs : List Reply) → head (rest (Ends names) rs) ≡ None
 rest_ended names [] = refl
 rest_ended names (r ∷ rs) = rest_ended names rs
 
-ended : (names : List Bound) (rs : List Reply) → Ties (record { next = None; left = [] }) (rest (Ends names) rs)
+ended : (names : Names) (rs : List Reply) → Ties (record { next = None; left = [] }) (rest (Ends names) rs)
 ended names rs = record { next_is = sym (rest_ended names rs); left_is = ap is_some (sym (rest_ended names rs)) }
 
 lt_test : (k n : ℕ) → k < n → nat_lt k n ≡ true
 lt_test k n lt = search (rules, tests, lt)
 
 -- a step's play before these
-step_ties : (h : ℕ) (s : Step) (ss : List Step) → ((names : List Bound) (rs : List Reply) → Ties (position h ss names rs) (rest (plays_of h ss names) rs))
-    → (p : Play) (rs : List Reply) → Ties (position_by (stands p rs) (s ∷ ss) (λ (names : List Bound) (later : List Reply). position h ss names later)) (rest (then_play p (plays_of h ss)) rs)
+step_ties : (h : ℕ) (s : Step) (ss : List Step) → ((names : Names) (rs : List Reply) → Ties (position h ss names rs) (rest (plays_of h ss names) rs))
+    → (p : Play) (rs : List Reply) → Ties (position_by (stands p rs) (s ∷ ss) (λ (names : Names) (later : List Reply). position h ss names later)) (rest (then_play p (plays_of h ss)) rs)
 step_ties h s ss later (Ends names) rs = later names rs
 step_ties h s ss later (Asks a e next) [] = record { next_is = refl; left_is = lt_test 0 (suc (length ss)) (omega arith) }
 step_ties h s ss later (Asks a e next) (r ∷ rs) = step_ties h s ss later (next r) rs
 
-ties : (h : ℕ) (ss : List Step) (names : List Bound) (rs : List Reply) → Ties (position h ss names rs) (rest (plays_of h ss names) rs)
+ties : (h : ℕ) (ss : List Step) (names : Names) (rs : List Reply) → Ties (position h ss names rs) (rest (plays_of h ss names) rs)
 ties h [] names rs = ended names rs
 ties h (s ∷ ss) names rs = step_ties h s ss (ties h ss) (play_of h names s) rs
 
@@ -51,9 +51,9 @@ ties h (s ∷ ss) names rs = step_ties h s ss (ties h ss) (play_of h names s) rs
 
 -- what is finished and what is left make up the script, whatever replies come
 abbrev AddsUp : ℕ → List Reply → Type 0
-AddsUp h rs = (n : ℕ) (names : List Bound) (t : StepTask) (behind : List Step) (s : Step) (p : Play) → step.StandsFor h names t p → is_none (step.asks t names) ≡ false
+AddsUp h rs = (n : ℕ) (names : Names) (t : StepTask) (behind : List Step) (s : Step) (p : Play) → step.StandsFor h names t p → is_none (step.asks t names) ≡ false
     → AllFit (then_play p (plays_of h behind)) rs
-    → finished_in (after_all (AtStep n t behind) rs) + length (position_by (stands p rs) (s ∷ behind) (λ (ns : List Bound) (later : List Reply). position h behind ns later)).left ≡ n + suc (length behind)
+    → finished_in (after_all (AtStep n t behind) rs) + length (position_by (stands p rs) (s ∷ behind) (λ (ns : Names) (later : List Reply). position h behind ns later)).left ≡ n + suc (length behind)
 
 ended_adds : (n : ℕ) (rs : List Reply) → finished_in (after_all (AtEnd n) rs) ≡ n
 ended_adds n [] = refl
@@ -64,7 +64,7 @@ some_request None is = absurd (true≢false is)
 some_request (Some q) is = (q, refl)
 
 -- a step that isn't through has no play that has ended
-not_ended : (h : ℕ) (names ns : List Bound) (t : StepTask) → step.StandsFor h names t (Ends ns) → is_none (step.asks t names) ≡ false → ⊥
+not_ended : (h : ℕ) (names ns : Names) (t : StepTask) → step.StandsFor h names t (Ends ns) → is_none (step.asks t names) ≡ false → ⊥
 not_ended h names ns t stands on =
     let found = some_request (step.asks t names) on in
     let heads : Heads h names (Some found.0) (Ends ns) = step_heads h names t (Ends ns) found.0 stands found.1 in
@@ -75,22 +75,22 @@ adds_none h n names t behind s (Asks a e next) at on fit = refl
 adds_none h n names t behind s (Ends ns) at on fit = absurd (not_ended h names ns t at on)
 
 -- where the first of these begins
-begun_adds : (h : ℕ) (rs : List Reply) → AddsUp h rs → (n : ℕ) (names : List Bound) (left : List Step) → HaveSlots names → AllFit (plays_of h left names) rs
+begun_adds : (h : ℕ) (rs : List Reply) → AddsUp h rs → (n : ℕ) (names : Names) (left : List Step) → HaveSlots names → AllFit (plays_of h left names) rs
     → finished_in (after_all (begun_at n left) rs) + length (position h left names rs).left ≡ n + length left
 begun_adds h rs more n names [] slots fit = ap (λ (k : ℕ). k + 0) (ended_adds n rs)
 begun_adds h rs more n names (s ∷ ss) slots fit = more n names (step.begun s) ss s (play_of h names s) (step_laws.begun_stands (step.begun s) s refl h names slots) (begun_asks s names) fit
 
 -- the step goes on, or the next one begins
-adds_by : (h : ℕ) (rs : List Reply) → AddsUp h rs → (n : ℕ) (names : List Bound) (t : StepTask) (behind : List Step) (s : Step) (p : Play) → step.StandsFor h names t p
+adds_by : (h : ℕ) (rs : List Reply) → AddsUp h rs → (n : ℕ) (names : Names) (t : StepTask) (behind : List Step) (s : Step) (p : Play) → step.StandsFor h names t p
     → (through : Bool) → is_none (step.asks t names) ≡ through → AllFit (then_play p (plays_of h behind)) rs
-    → finished_in (after_all (goes_on n t behind through) rs) + length (position_by (stands p rs) (s ∷ behind) (λ (ns : List Bound) (later : List Reply). position h behind ns later)).left ≡ n + suc (length behind)
+    → finished_in (after_all (goes_on n t behind through) rs) + length (position_by (stands p rs) (s ∷ behind) (λ (ns : Names) (later : List Reply). position h behind ns later)).left ≡ n + suc (length behind)
 adds_by h rs more n names t behind s p at false is fit = more n names t behind s p at is fit
 adds_by h rs more n names t behind s p at true is fit =
     let over : p ≡ Ends names = ended_play h names t p at is in
     let next_fit : AllFit (plays_of h behind names) rs = subst (λ (x : Play). AllFit (then_play x (plays_of h behind)) rs) over fit in
     let next : finished_in (after_all (begun_at (n + 1) behind) rs) + length (position h behind names rs).left ≡ (n + 1) + length behind = begun_adds h rs more (n + 1) names behind at.0 next_fit in
     let same : (n + 1) + length behind ≡ n + suc (length behind) = omega arith in
-    subst (λ (x : Play). finished_in (after_all (begun_at (n + 1) behind) rs) + length (position_by (stands x rs) (s ∷ behind) (λ (ns : List Bound) (later : List Reply). position h behind ns later)).left ≡ n + suc (length behind)) (sym over) (next ∙ same)
+    subst (λ (x : Play). finished_in (after_all (begun_at (n + 1) behind) rs) + length (position_by (stands x rs) (s ∷ behind) (λ (ns : Names) (later : List Reply). position h behind ns later)).left ≡ n + suc (length behind)) (sym over) (next ∙ same)
 
 adds_more : (h : ℕ) (r : Reply) (rs : List Reply) → AddsUp h rs → AddsUp h (r ∷ rs)
 adds_more h r rs more n names t behind s (Ends ns) at on fit = absurd (not_ended h names ns t at on)
@@ -127,7 +127,7 @@ append_nothing : (xs : List Reply) → xs ++ [] ≡ xs
 append_nothing [] = refl
 append_nothing (x ∷ xs) = ap (λ ys. x ∷ ys) (append_nothing xs)
 
-pub finished_right : (s : Script) (rs : List Reply) (names : List Bound) (t : Scripting) → Plays s rs names t → finished_in t ≡ finished_by rs s
+pub finished_right : (s : Script) (rs : List Reply) (names : Names) (t : Scripting) → Plays s rs names t → finished_in t ≡ finished_by rs s
 finished_right s rs names t at = subst (λ (xs : List Reply). finished_in t ≡ finished_by xs s) (append_nothing rs) (at.counts [] tt)
 
 -- What the fields stand for.
@@ -150,18 +150,18 @@ le_more : (m n : ℕ) → nat_le (suc m) (suc n) ≡ nat_le m n
 le_more m n = grind (arith, nat_tests)
 
 -- no step is left exactly where nothing is asked
-none_left : (n : ℕ) (ss : List Step) (names : List Bound) → nat_le (length ss) n ≡ is_none (asks (begun_at 0 (drop n ss)) names)
+none_left : (n : ℕ) (ss : List Step) (names : Names) → nat_le (length ss) n ≡ is_none (asks (begun_at 0 (drop n ss)) names)
 none_left zero [] names = le_nothing 0
 none_left zero (s ∷ ss) names = not_le (suc (length ss)) 0 (omega arith) ∙ sym (begun_asks s names)
 none_left (suc n) [] names = le_nothing (suc n)
 none_left (suc n) (s ∷ ss) names = le_more (length ss) n ∙ none_left n ss names
 
-begun_alike : (m n : ℕ) (left : List Step) (names : List Bound) → asks (begun_at m left) names ≡ asks (begun_at n left) names
+begun_alike : (m n : ℕ) (left : List Step) (names : Names) → asks (begun_at m left) names ≡ asks (begun_at n left) names
 begun_alike m n [] names = refl
 begun_alike m n (s ∷ ss) names = refl
 
 pub through_right : (n : ℕ) (t : Option StepTask) (ss : List Step) → Kept n t ss
-    → (names : List Bound) → nat_le (length ss) n ≡ is_none (asks (progress n t (drop n ss)) names)
+    → (names : Names) → nat_le (length ss) n ≡ is_none (asks (progress n t (drop n ss)) names)
 through_right n None ss kept names = none_left n ss names ∙ ap is_none (begun_alike 0 n (drop n ss) names)
 through_right n (Some t) ss kept names = not_le (length ss) n kept.0 ∙ sym (kept.1 names)
 
@@ -201,14 +201,14 @@ in_range n [] s is = absurd (none-some s is)
 in_range zero (x ∷ ss) s is = omega arith
 in_range (suc n) (x ∷ ss) s is = omega (arith, in_range n ss s is)
 
-first_by : (n m : ℕ) (ss : List Step) (names : List Bound) → first_asked (slice_get ss n) names ≡ asks (begun_at m (drop n ss)) names
+first_by : (n m : ℕ) (ss : List Step) (names : Names) → first_asked (slice_get ss n) names ≡ asks (begun_at m (drop n ss)) names
 first_by zero m [] names = refl
 first_by (suc n) m [] names = refl
 first_by zero m (s ∷ ss) names = refl
 first_by (suc n) m (s ∷ ss) names = first_by n m ss names
 
 -- where none has begun, the script's task asks as the first of them does
-pub asks_first : (n : ℕ) (t : Option StepTask) (ss : List Step) → t ≡ None → (names : List Bound)
+pub asks_first : (n : ℕ) (t : Option StepTask) (ss : List Step) → t ≡ None → (names : Names)
     → first_asked (slice_get ss n) names ≡ asks (progress n t (drop n ss)) names
 asks_first n t ss none names = first_by n n ss names ∙ ap (λ (u : Option StepTask). asks (progress n u (drop n ss)) names) (sym none)
 
@@ -235,7 +235,7 @@ still_same n t u ss is = sym (begun_same n u ss) ∙ ap (λ (x : Option StepTask
 pub kept_none : (n : ℕ) (t : Option StepTask) (ss : List Step) → t ≡ None → Kept n t ss
 kept_none n t ss is = subst (λ (x : Option StepTask). Kept n x ss) (sym is) tt
 
-heard_kept : (n : ℕ) (u : Option StepTask) (ss : List Step) (r : Reply) → Kept n u ss → ((names : List Bound) → false ≡ is_played (heard u r) names) → Kept n (heard u r) ss
+heard_kept : (n : ℕ) (u : Option StepTask) (ss : List Step) (r : Reply) → Kept n u ss → ((names : Names) → false ≡ is_played (heard u r) names) → Kept n (heard u r) ss
 heard_kept n None ss r kept on = tt
 heard_kept n (Some t) ss r kept on = (kept.0, λ names. sym (on names))
 
@@ -266,7 +266,7 @@ through_by n (Some t) ss r over = ap (begun_at (n + 1)) (drop_more n ss) ∙ ap 
 
 -- `through` tells whether the step is through after the reply, and where it isn't, `v` is its task then.
 module _ (n : ℕ) (t v : Option StepTask) (ss : List Step) (r : Reply) (through : Bool)
-    (tells : (names : List Bound) → through ≡ is_played (told_by t (slice_get ss n) r) names) where
+    (tells : (names : Names) → through ≡ is_played (told_by t (slice_get ss n) r) names) where
   -- the step that is through is one of the script
   pub has_room : Kept n t ss → through ≡ true → n < length ss
   has_room kept over = room_by n (begun_by t (slice_get ss n)) ss r (kept_by n t ss kept) (sym over ∙ tells [])
@@ -298,11 +298,11 @@ pub begun_told : (t u v : Option StepTask) (o : Option Step) (r : Reply) → u �
 begun_told t u v o r is told = told ∙ ap (λ (x : Option StepTask). heard x r) is
 
 pub tells_told : (t u v : Option StepTask) (o : Option Step) (r : Reply) (b : Bool) → u ≡ begun_by t o → v ≡ heard u r
-    → ((names : List Bound) → b ≡ is_played v names) → (names : List Bound) → b ≡ is_played (told_by t o r) names
+    → ((names : Names) → b ≡ is_played v names) → (names : Names) → b ≡ is_played (told_by t o r) names
 tells_told t u v o r b is told tells names = tells names ∙ ap (λ (x : Option StepTask). is_played x names) (begun_told t u v o r is told)
 
 -- no task is made of it
 pub ends_step : (o : Option Step) (s : Step) (r : Reply) (b : Bool) → o ≡ Some s
-    → (b ≡ true → (names : List Bound) → step.asks (step.after (step.begun s) r) names ≡ None)
-    → b ≡ true → (names : List Bound) → is_played (told_by None o r) names ≡ true
+    → (b ≡ true → (names : Names) → step.asks (step.after (step.begun s) r) names ≡ None)
+    → b ≡ true → (names : Names) → is_played (told_by None o r) names ≡ true
 ends_step o s r b is ends over names = ap (λ (x : Option Step). is_played (told_by None x r) names) is ∙ ap is_none (ends over names)

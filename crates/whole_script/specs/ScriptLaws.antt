@@ -9,7 +9,7 @@ use Rattle.net_base.specs.declared.world.Script.{Script}
 use Rattle.net_base.specs.declared.world.Step.{Step}
 use Rattle.net_base.specs.declared.world.Step.TheVariants as word
 use Rattle.net_base.specs.Next.{finished_by}
-use Rattle.net_base.specs.Steps.{Ask, Bound, Play, Asks, Ends, position, play_of}
+use Rattle.net_base.specs.Steps.{Ask, Names, Play, Asks, Ends, position, play_of}
 use Rattle.script_task.specs.declared.request.Request.{Request}
 use Rattle.script_task.specs.Fitting.{fits}
 use Rattle.script_task.specs.Requests.{head, planned, settled}
@@ -36,7 +36,7 @@ none_is None is = refl
 none_is (Some q) is = absurd (false≢true is)
 
 -- a step that has begun isn't through
-pub begun_asks : (s : Step) (names : List Bound) → is_none (step.asks (step.begun s) names) ≡ false
+pub begun_asks : (s : Step) (names : Names) → is_none (step.asks (step.begun s) names) ≡ false
 begun_asks (word.Open called path m) names = refl
 begun_asks (word.Read called count) names = refl
 begun_asks (word.Write called text) names = refl
@@ -53,18 +53,18 @@ begun_asks (word.Accept called from) names = refl
 begun_asks (word.Reject called) names = refl
 begun_asks (word.Hangup called) names = refl
 
-beside_alike : (to : FileName) (called from : List ℕ) (b : Bool) (m n : List Bound) → is_none (beside.asks_by to called from b m) ≡ is_none (beside.asks_by to called from b n)
+beside_alike : (to : FileName) (called from : List ℕ) (b : Bool) (m n : Names) → is_none (beside.asks_by to called from b m) ≡ is_none (beside.asks_by to called from b n)
 beside_alike to called from true m n = refl
 beside_alike to called from false m n = refl
 
-announce_alike : (x : AnnouncePhase) (called address : List ℕ) (lines : List (List ℕ)) (m n : List Bound) → is_none (announces.asks_by x called address lines m) ≡ is_none (announces.asks_by x called address lines n)
+announce_alike : (x : AnnouncePhase) (called address : List ℕ) (lines : List (List ℕ)) (m n : Names) → is_none (announces.asks_by x called address lines m) ≡ is_none (announces.asks_by x called address lines n)
 announce_alike announce.Fresh called address lines m n = refl
 announce_alike announce.Open called address lines m n = refl
 announce_alike announce.Write called address lines m n = refl
 announce_alike announce.Close called address lines m n = refl
 announce_alike announce.Through called address lines m n = refl
 
-dial_alike : (x : DialPhase) (called address : List ℕ) (lines : List (List ℕ)) (m n : List Bound) → is_none (dials.asks_by x called address lines m) ≡ is_none (dials.asks_by x called address lines n)
+dial_alike : (x : DialPhase) (called address : List ℕ) (lines : List (List ℕ)) (m n : Names) → is_none (dials.asks_by x called address lines m) ≡ is_none (dials.asks_by x called address lines n)
 dial_alike dial.Fresh called address lines m n = refl
 dial_alike dial.Open called address lines m n = refl
 dial_alike dial.Write called address lines m n = refl
@@ -75,7 +75,7 @@ dial_alike dial.Close called address lines m n = refl
 dial_alike dial.Through called address lines m n = refl
 
 -- whether a step is through doesn't hang on the names
-pub asks_alike : (t : StepTask) (m n : List Bound) → is_none (step.asks t m) ≡ is_none (step.asks t n)
+pub asks_alike : (t : StepTask) (m n : Names) → is_none (step.asks t m) ≡ is_none (step.asks t n)
 asks_alike (task.OneRequest t) m n = refl
 asks_alike (task.WriteText t) m n = refl
 asks_alike (task.Reject t) m n = refl
@@ -86,21 +86,21 @@ asks_alike (task.Dial t) m n = dial_alike t.phase t.called t.address t.lines m n
 
 -- Plays, one after another.
 
-head_then : (p : Play) (later : List Bound → Play) (ask : Ask) → head p ≡ Some ask → head (then_play p later) ≡ Some ask
+head_then : (p : Play) (later : Names → Play) (ask : Ask) → head p ≡ Some ask → head (then_play p later) ≡ Some ask
 head_then (Asks a e next) later ask is = is
 head_then (Ends names) later ask is = absurd (none-some ask is)
 
-fits_then : (p : Play) (later : List Bound → Play) (ask : Ask) (r : Reply) → head p ≡ Some ask → fits_play (then_play p later) r ≡ true → fits_play p r ≡ true
+fits_then : (p : Play) (later : Names → Play) (ask : Ask) (r : Reply) → head p ≡ Some ask → fits_play (then_play p later) r ≡ true → fits_play p r ≡ true
 fits_then (Asks a e next) later ask r is fit = fit
 fits_then (Ends names) later ask r is fit = absurd (none-some ask is)
 
-follow_then : (p : Play) (later : List Bound → Play) (ask : Ask) (r : Reply) → head p ≡ Some ask → follow (then_play p later) r ≡ then_play (follow p r) later
+follow_then : (p : Play) (later : Names → Play) (ask : Ask) (r : Reply) → head p ≡ Some ask → follow (then_play p later) r ≡ then_play (follow p r) later
 follow_then (Asks a e next) later ask r is = refl
 follow_then (Ends names) later ask r is = absurd (none-some ask is)
 
 -- The next request.
 
-asks_then : (h : ℕ) (names : List Bound) (o : Option Request) (p : Play) (later : List Bound → Play) → is_none o ≡ false → Heads h names o p → Heads h names o (then_play p later)
+asks_then : (h : ℕ) (names : Names) (o : Option Request) (p : Play) (later : Names → Play) → is_none o ≡ false → Heads h names o p → Heads h names o (then_play p later)
 asks_then h names None p later is heads = absurd (true≢false is)
 asks_then h names (Some q) p later is heads = (heads.0, head_then p later heads.0 heads.1, heads.2)
 
@@ -113,7 +113,7 @@ asks_so h names (AtEnd n) p at = at
 -- After a reply.
 
 -- what is left stands for the plays of the steps that are left
-pub begins : (h n : ℕ) (names : List Bound) (left : List Step) → HaveSlots names → StandsFor h names (begun_at n left) (plays_of h left names)
+pub begins : (h n : ℕ) (names : Names) (left : List Step) → HaveSlots names → StandsFor h names (begun_at n left) (plays_of h left names)
 begins h n names [] slots = refl
 begins h n names (s ∷ ss) slots =
     record {
@@ -124,18 +124,18 @@ begins h n names (s ∷ ss) slots =
     }
 
 -- a step that is through has played its play to the end
-pub ended_play : (h : ℕ) (names : List Bound) (t : StepTask) (p : Play) → step.StandsFor h names t p → is_none (step.asks t names) ≡ true → p ≡ Ends names
+pub ended_play : (h : ℕ) (names : Names) (t : StepTask) (p : Play) → step.StandsFor h names t p → is_none (step.asks t names) ≡ true → p ≡ Ends names
 ended_play h names t p stands is = subst (λ (o : Option Request). Heads h names o p) (none_is (step.asks t names) is) (step_laws.asks_so h names t p stands)
 
 -- the step goes on, or the next one begins
-moves_by : (h n : ℕ) (names : List Bound) (t : StepTask) (behind : List Step) (p : Play) → step.StandsFor h names t p → (through : Bool) → is_none (step.asks t names) ≡ through
+moves_by : (h n : ℕ) (names : Names) (t : StepTask) (behind : List Step) (p : Play) → step.StandsFor h names t p → (through : Bool) → is_none (step.asks t names) ≡ through
     → StandsFor h names (goes_on n t behind through) (then_play p (plays_of h behind))
 moves_by h n names t behind p stands false is = record { step_play = p; stands_for = stands; asks_on = is; play_is = refl }
 moves_by h n names t behind p stands true is =
     subst (λ (x : Play). StandsFor h names (begun_at (n + 1) behind) (then_play x (plays_of h behind))) (sym (ended_play h names t p stands is)) (begins h (n + 1) names behind stands.0)
 
 -- the request of a step and the event of its play
-pub step_heads : (h : ℕ) (names : List Bound) (t : StepTask) (p : Play) (q : Request) → step.StandsFor h names t p → step.asks t names ≡ Some q → Heads h names (Some q) p
+pub step_heads : (h : ℕ) (names : Names) (t : StepTask) (p : Play) (q : Request) → step.StandsFor h names t p → step.asks t names ≡ Some q → Heads h names (Some q) p
 step_heads h names t p q stands asked = subst (λ (o : Option Request). Heads h names o p) asked (step_laws.asks_so h names t p stands)
 
 pub moves_so : MovesSo Scripting asks after StandsFor
@@ -167,7 +167,7 @@ same_ask (Asks a e next) ask r is fit = subst (λ (x : Ask). fits x.event r ≡ 
 same_ask (Ends names) ask r is fit = absurd (none-some ask is)
 
 -- after a reply that the event of its request can have, it plays the script on
-pub plays_on : (s : Script) (rs : List Reply) (names : List Bound) (t : Scripting) (q : Request) (ask : Ask) (r : Reply) → Plays s rs names t
+pub plays_on : (s : Script) (rs : List Reply) (names : Names) (t : Scripting) (q : Request) (ask : Ask) (r : Reply) → Plays s rs names t
     → asks t names ≡ Some q → planned s.host names q ≡ Some ask → fits ask.event r ≡ true → Plays s (rs ++ r ∷ []) (settled names q r) (after t r)
 plays_on s rs names t q ask r at asked is fit =
     let heads : Heads s.host names (Some q) at.play = subst (λ (o : Option Request). Heads s.host names o at.play) asked (asks_so s.host names t at.play at.stands_for) in
@@ -180,6 +180,6 @@ plays_on s rs names t q ask r at asked is fit =
     }
 
 -- it stands for a play that goes on where the script stands
-pub stands_there : (s : Script) (rs : List Reply) (names : List Bound) (t : Scripting) → Plays s rs names t
+pub stands_there : (s : Script) (rs : List Reply) (names : Names) (t : Scripting) → Plays s rs names t
     → (p : Play) × StandsFor s.host names t p × Continues s rs p
 stands_there s rs names t at = (at.play, at.stands_for, at.continues)

@@ -4,7 +4,7 @@ use Rattle.net_base.specs.declared.reply.Reply.{Reply}
 use Rattle.net_base.specs.declared.world.Script.{Script}
 use Rattle.net_base.specs.declared.world.Step.{Step}
 use Rattle.net_base.specs.Next.{finished_by}
-use Rattle.net_base.specs.Steps.{Bound, Play, Asks, Ends, play_of}
+use Rattle.net_base.specs.Steps.{Names, Play, Asks, Ends, play_of}
 use Rattle.script_task.specs.declared.request.Request.{Request}
 use Rattle.script_task.specs.Rest.{Continues}
 use Rattle.script_task.specs.Task.{follow, fits_play}
@@ -40,18 +40,18 @@ begun_by (Some t) o = Some t
 -- Requests and replies.
 
 -- the next request under these names
-abbrev pub asks : Scripting → List Bound → Option Request
+abbrev pub asks : Scripting → Names → Option Request
 asks (AtStep n t behind) names = step.asks t names
 asks (AtEnd n) names = None
 
 -- what this step, if there is one, asks before it has recorded anything
-abbrev pub first_asked : Option Step → List Bound → Option Request
+abbrev pub first_asked : Option Step → Names → Option Request
 first_asked None names = None
 first_asked (Some s) names = step.asks (step.begun s) names
 
 -- a step has a request, whatever the names
 abbrev pub GoesOn : StepTask → Type 0
-GoesOn t = (names : List Bound) → is_none (step.asks t names) ≡ false
+GoesOn t = (names : Names) → is_none (step.asks t names) ≡ false
 
 -- a step that has begun is one of those that are left, and isn't through
 abbrev pub Kept : ℕ → Option StepTask → List Step → Type 0
@@ -77,31 +77,31 @@ abbrev pub told_by : Option StepTask → Option Step → Reply → Option StepTa
 told_by t o r = heard (begun_by t o) r
 
 -- a step has begun and is through
-abbrev pub is_played : Option StepTask → List Bound → Bool
+abbrev pub is_played : Option StepTask → Names → Bool
 is_played None names = false
 is_played (Some t) names = is_none (step.asks t names)
 
 -- The play that it stands for.
 
 -- a play, and then the one that begins with the names that it leaves
-abbrev pub then_play : Play → (List Bound → Play) → Play
+abbrev pub then_play : Play → (Names → Play) → Play
 then_play (Asks a e next) later = Asks a e (λ (r : Reply). then_play (next r) later)
 then_play (Ends names) later = later names
 
 -- the plays of these steps, one after another
-abbrev pub plays_of : ℕ → List Step → List Bound → Play
+abbrev pub plays_of : ℕ → List Step → Names → Play
 plays_of h [] names = Ends names
 plays_of h (s ∷ ss) names = then_play (play_of h names s) (plays_of h ss)
 
 -- in the midst of a step, which stands for its own play and isn't through, before these
-pub record InStep (h : ℕ) (names : List Bound) (t : StepTask) (behind : List Step) (p : Play) : Type 0 where
+pub record InStep (h : ℕ) (names : Names) (t : StepTask) (behind : List Step) (p : Play) : Type 0 where
   pub step_play : Play
   pub stands_for : step.StandsFor h names t step_play
   pub asks_on : is_none (step.asks t names) ≡ false
   pub play_is : p ≡ then_play step_play (plays_of h behind)
 
 -- on this host, under these names
-abbrev pub StandsFor : ℕ → List Bound → Scripting → Play → Type 0
+abbrev pub StandsFor : ℕ → Names → Scripting → Play → Type 0
 StandsFor h names (AtStep n t behind) p = InStep h names t behind p
 StandsFor h names (AtEnd n) p = p ≡ Ends names
 
@@ -119,7 +119,7 @@ AllFit p (r ∷ rs) = (fits_play p r ≡ true) × AllFit (follow p r) rs
 
 -- After these replies, under these names, it plays the script: it stands for a play that goes on where they leave the
 -- script. Whatever replies come then, as many steps are finished as the script has finished.
-pub record Plays (s : Script) (rs : List Reply) (names : List Bound) (t : Scripting) : Type 0 where
+pub record Plays (s : Script) (rs : List Reply) (names : Names) (t : Scripting) : Type 0 where
   pub play : Play
   pub stands_for : StandsFor s.host names t play
   pub continues : Continues s rs play

@@ -2,22 +2,22 @@
 use Rattle.std.specs.Prelude.{◌≡◌, ℕ, true, List, [], ◌∷◌, ◌++◌, Option, Some}
 use Rattle.net_base.specs.declared.reply.Reply.{Reply}
 use Rattle.net_base.specs.declared.world.Script.{Script}
-use Rattle.net_base.specs.Steps.{Ask, Bound, Play}
+use Rattle.net_base.specs.Steps.{Ask, Names, Play}
 use Rattle.script_task.specs.declared.request.Request.{Request}
 use Rattle.script_task.specs.Fitting.{fits}
 use Rattle.script_task.specs.Requests.{planned, settled}
 use Rattle.script_task.specs.Rest.{Continues}
 
 -- it stands for a play that goes on where these replies leave its script
-abbrev pub StandsThere : (T : Type 0) → (ℕ → List Bound → T → Play → Type 0) → (Script → List Reply → List Bound → T → Type 0) → Type 0
+abbrev pub StandsThere : (T : Type 0) → (ℕ → Names → T → Play → Type 0) → (Script → List Reply → Names → T → Type 0) → Type 0
 StandsThere T Stands Plays =
-    (s : Script) (rs : List Reply) (names : List Bound) (t : T)
+    (s : Script) (rs : List Reply) (names : Names) (t : T)
     → Plays s rs names t → (p : Play) × Stands s.host names t p × Continues s rs p
 
 -- after a reply that the event of its request can have, it plays the script on
 abbrev pub PlaysOn :
-    (T : Type 0) → (T → List Bound → Option Request) → (T → Reply → T) → (Script → List Reply → List Bound → T → Type 0) → Type 0
+    (T : Type 0) → (T → Names → Option Request) → (T → Reply → T) → (Script → List Reply → Names → T → Type 0) → Type 0
 PlaysOn T asks after Plays =
-    (s : Script) (rs : List Reply) (names : List Bound) (t : T) (q : Request) (ask : Ask) (r : Reply)
+    (s : Script) (rs : List Reply) (names : Names) (t : T) (q : Request) (ask : Ask) (r : Reply)
     → Plays s rs names t → asks t names ≡ Some q → planned s.host names q ≡ Some ask → fits ask.event r ≡ true
     → Plays s (rs ++ r ∷ []) (settled names q r) (after t r)

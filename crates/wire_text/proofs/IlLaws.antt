@@ -4,7 +4,7 @@ use Rattle.std.proofs.lemmas.List.{length-drop}
 use Rattle.net_base.specs.declared.il.IlKind.{IlKind}
 use Rattle.net_base.specs.declared.il.IlKind.TheVariants as kind
 use Rattle.net_base.specs.declared.il.IlMsg.{IlMsg}
-use Rattle.wire_text.specs.Bytes.{word_at, blanked}
+use Rattle.net_base.specs.Bytes.{word_at, blanked}
 use Rattle.wire_text.specs.Sum.{sum_of}
 use Rattle.wire_text.specs.IlWire.{IsMessage, SpellsIl, type_number, il_with, il_bytes, il_sum, il_length, type_field, kind_of, il_sport, il_dport, message_of}
 use Rattle.wire_text.proofs.WireNumbers.{IsBytes, word_again, long_again, word_high, word_low, long_0, long_1, long_2, long_3, items, by_items}

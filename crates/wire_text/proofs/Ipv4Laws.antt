@@ -2,7 +2,7 @@
 use Rattle.std.proofs.Common.{◌≡◌, ℕ, ◌+◌, ◌*◌, ◌/◌, ◌%◌, ◌^◌, ◌<◌, ◌≤◌, Bool, true, false, List, ◌∷◌, ◌++◌, length, take, drop, get_or, ◌==◌, slice_index, refl, sym, ap, ◌∙◌, arith}
 use Rattle.std.proofs.lemmas.Bool.Decides.{nat_tests}
 use Rattle.std.proofs.lemmas.List.{length-drop}
-use Rattle.wire_text.specs.Bytes.{word_at, blanked}
+use Rattle.net_base.specs.Bytes.{word_at, blanked}
 use Rattle.wire_text.specs.Sum.{sum_of}
 use Rattle.wire_text.specs.Ipv4.{Ipv4, IsHeader, SpellsIpv4, flags, header_with, flagged_bytes, total_length, fragment, header_sum, header_of, payload_of}
 use Rattle.wire_text.proofs.WireSums.{sum_of-fits}

@@ -3,7 +3,7 @@ use Rattle.std.proofs.Common.{◌≡◌, ◌⊎◌, ℕ, ◌+◌, ◌*◌, ◌/�
 use Rattle.std.proofs.lemmas.Bool.Decides.{nat_tests}
 use Rattle.std.proofs.lemmas.List.{length-drop}
 use Rattle.net_base.specs.declared.address.Addr.{Addr}
-use Rattle.wire_text.specs.Bytes.{blanked}
+use Rattle.net_base.specs.Bytes.{blanked}
 use Rattle.wire_text.specs.Sum.{sum_of}
 use Rattle.wire_text.specs.UdpWire.{SpellsUdp, address, pseudo_header, sent_sum, udp_with, udp_sum, udp_bytes, unsummed_bytes, sport_of, dport_of, udp_length, sum_field, received_sum, udp_text}
 use Rattle.wire_text.proofs.WireNumbers.{IsBytes, word_again, word_high, word_low, items, by_items}

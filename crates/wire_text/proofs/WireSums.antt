@@ -5,7 +5,7 @@ use Rattle.std.proofs.lemmas.Bool.Decides.{nat_tests}
 use Rattle.std.proofs.lemmas.List.{get_or-take, get_or-drop, get_or_past, length-take, length-take-le}
 use Rattle.std.proofs.lemmas.List.Sums.{sum_by-append}
 use Rattle.std.specs.Int.{byte_at, bytes_high_first}
-use Rattle.wire_text.specs.Bytes.{blanked}
+use Rattle.net_base.specs.Bytes.{blanked}
 use Rattle.wire_text.specs.Sum.{words, total_of, sum_of}
 use Rattle.wire_text.proofs.WireNumbers.{IsBytes}
 

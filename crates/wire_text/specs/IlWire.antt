@@ -4,7 +4,7 @@ use Rattle.std.specs.Int.{bytes_high_first}
 use Rattle.net_base.specs.declared.il.IlKind.{IlKind}
 use Rattle.net_base.specs.declared.il.IlKind.TheVariants as kind
 use Rattle.net_base.specs.declared.il.IlMsg.{IlMsg}
-use Rattle.wire_text.specs.Bytes.{word_at, long_at, blanked}
+use Rattle.net_base.specs.Bytes.{word_at, long_at, blanked}
 use Rattle.wire_text.specs.Sum.{sum_of}
 
 -- a message's type as a number

@@ -1,7 +1,7 @@
 -- An IPv4 datagram without options (RFC 791): a header of twenty bytes, then the payload.
 use Rattle.std.specs.Prelude.{◌≡◌, ◌<◌, ℕ, ◌+◌, ◌/◌, ◌%◌, ◌^◌, Bool, false, List, ◌∷◌, ◌++◌, length, take, drop, slice_index, ◌==◌, if◌then◌else◌}
 use Rattle.std.specs.Int.{bytes_high_first}
-use Rattle.wire_text.specs.Bytes.{word_at, long_at, blanked}
+use Rattle.net_base.specs.Bytes.{word_at, long_at, blanked}
 use Rattle.wire_text.specs.Sum.{sum_of}
 
 -- what a header says, besides lengths and the sum

@@ -1,4 +1,4 @@
-pub mod Bytes
+pub use Rattle.net_base.specs.Bytes
 pub mod Datagram
 pub mod IlWire
 pub mod Ipv4

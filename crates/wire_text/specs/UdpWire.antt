@@ -2,7 +2,7 @@
 use Rattle.std.specs.Prelude.{◌≡◌, ◌<◌, ℕ, ◌+◌, ◌^◌, ◌⊎◌, List, ◌∷◌, ◌++◌, length, drop, ◌==◌, if◌then◌else◌}
 use Rattle.std.specs.Int.{bytes_high_first}
 use Rattle.net_base.specs.declared.address.Addr.{Addr}
-use Rattle.wire_text.specs.Bytes.{word_at, blanked}
+use Rattle.net_base.specs.Bytes.{word_at, blanked}
 use Rattle.wire_text.specs.Sum.{sum_of}
 
 -- an IPv4 address with a port

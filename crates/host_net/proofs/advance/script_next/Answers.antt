@@ -2,7 +2,7 @@ use Rattle.std.proofs.Common.{◌≡◌, List, Some, None, ap, sym, subst, ◌�
 use Rattle.net_base.specs.declared.history.Work.{Work}
 use Rattle.net_base.specs.Callers.{caller_of}
 use Rattle.net_base.specs.Next.{next}
-use Rattle.net_base.specs.Steps.{Bound}
+use Rattle.net_base.specs.Steps.{Names}
 use Rattle.script_task.specs.Requests.{planned}
 use Rattle.guest_laws.specs.Works.{entries}
 use Rattle.net_locks.specs.Standings.{ask_of}
@@ -32,7 +32,7 @@ returns-clause-next g c =
     let script = ap (λ (u : Visit). caller_of w u.caller) seen ∙ c.requires.script.1 in
     let asks = ap (g.T.Task.asks c.player.inside.task) (sym c.fids.ensures) ∙ (sym c.in_ok-request.ensures ∙ c.in-Some.is) in
     let home = c.host.ensures s script in
-    let plans = ap (λ (l : List Bound). planned c.host.result l c.in-Some.request) (sym c.fids-2.ensures) ∙ c.plan-actor.ensures.event in
+    let plans = ap (λ (l : Names). planned c.host.result l c.in-Some.request) (sym c.fids-2.ensures) ∙ c.plan-actor.ensures.event in
     subst (λ (u : Visit). Some (ask_of (c.plan-actor.result.actor, c.bare.result)) ≡ next w (entries u.sight.seen) u.caller) seen
     (ap (λ (x : Work). Some (record { actor = c.plan-actor.result.actor; event = x.event })) c.bare.ensures
     ∙ something_next g.T.Task.asks g.T.Task.Stands g.met.T.Task.asks_so w v s c.player.inside.task script

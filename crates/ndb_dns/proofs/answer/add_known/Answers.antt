@@ -1,7 +1,7 @@
 use Rattle.std.proofs.Common.{ℕ, List, sym, ap, ◌∙◌, subst}
 use Rattle.std.specs.Option.{option_map}
 use Rattle.ndb_index.specs.Kept.{spots_with}
-use Rattle.dns_text.specs.Answers.{key_of}
+use Rattle.net_base.specs.DomainAnswers.{key_of}
 use Rattle.ndb_dns.specs.Keys.{key_seen}
 use Rattle.ndb_dns.specs.Taken.{Adds}
 use Rattle.ndb_dns.proofs.Fitting.{adds_none}

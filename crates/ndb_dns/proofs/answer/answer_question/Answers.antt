@@ -1,5 +1,5 @@
 use Rattle.std.proofs.Common.{◌≡◌, ℕ, ◌-◌, [], List, IfOk, subst}
-use Rattle.dns_text.specs.Answers.{records_of, reply_of}
+use Rattle.net_base.specs.DomainAnswers.{records_of, reply_of}
 use Rattle.ndb_dns.proofs.answer.answer_question.Goals as goal
 
 pub returns-clause-reply : goal.returns-clause-reply

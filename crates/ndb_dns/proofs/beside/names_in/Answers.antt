@@ -4,7 +4,7 @@ use Rattle.std.proofs.lemmas.List.{take_all}
 use Rattle.ndb_reader.specs.Names.{names_seen, with_names}
 use Rattle.ndb_reader.proofs.Groups.{name_put}
 use Rattle.ndb_reader.proofs.Once.{once_all}
-use Rattle.dns_text.specs.Labels.{name_in}
+use Rattle.net_base.specs.DomainNames.{name_in}
 use Rattle.ndb_dns.proofs.Parts.{name_less, name_more}
 use Rattle.ndb_dns.proofs.beside.names_in.Goals as goal
 use Rattle.ndb_dns.proofs.beside.names_in.Goals.{in-Some+in_ok-insert, in_default}

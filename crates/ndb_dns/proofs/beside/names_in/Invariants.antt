@@ -1,7 +1,7 @@
 use Rattle.std.proofs.Common.{◌≡◌, [], take}
 use Rattle.std.specs.Prelude.{filter_map}
 use Rattle.ndb_reader.specs.Names.{names_seen, with_names}
-use Rattle.dns_text.specs.Labels.{name_in}
+use Rattle.net_base.specs.DomainNames.{name_in}
 use Rattle.ndb_dns.proofs.beside.names_in.Given as goal
 
 abbrev pub invariant-loop-value : goal.invariant-loop-value

@@ -1,5 +1,5 @@
 use Rattle.std.proofs.Common.{map, take}
-use Rattle.dns_text.specs.Answers.{address_record}
+use Rattle.net_base.specs.DomainAnswers.{address_record}
 use Rattle.ndb_dns.specs.Taken.{Adds}
 use Rattle.ndb_dns.proofs.found.add_addresses.Given as goal
 

@@ -1,6 +1,6 @@
 use Rattle.std.proofs.Common.{ℕ, List, Option, Some, OnOk, sym, ap, ◌∙◌, subst}
 use Rattle.ndb_reader.specs.Names.{names_seen}
-use Rattle.dns_text.specs.Answers.{alias_records}
+use Rattle.net_base.specs.DomainAnswers.{alias_records}
 use Rattle.ndb_dns.specs.Taken.{Adds}
 use Rattle.ndb_dns.proofs.Parts.{first_name}
 use Rattle.ndb_dns.proofs.found.add_alias.Goals as goal

@@ -1,7 +1,7 @@
 use Rattle.std.proofs.Common.{◌∷◌, [], List, Vec, ℕ, Global, map, take, ap, ◌∙◌}
 use Rattle.std.specs.List.{list_all}
 use Rattle.ndb_reader.specs.Names.{names_seen}
-use Rattle.dns_text.specs.Answers.{naming_record}
+use Rattle.net_base.specs.DomainAnswers.{naming_record}
 use Rattle.ndb_dns.proofs.Fitting.{adds_both}
 use Rattle.ndb_dns.proofs.Lowering.{is_valid}
 use Rattle.ndb_dns.proofs.Parts.{names_step, valid_name}

@@ -1,6 +1,6 @@
 use Rattle.std.proofs.Common.{map, take}
 use Rattle.ndb_reader.specs.Names.{names_seen}
-use Rattle.dns_text.specs.Answers.{naming_record}
+use Rattle.net_base.specs.DomainAnswers.{naming_record}
 use Rattle.ndb_dns.specs.Taken.{Adds}
 use Rattle.ndb_dns.proofs.found.add_names.Given as goal
 

@@ -1,7 +1,7 @@
 use Rattle.std.proofs.Common.{◌∷◌, [], ℕ, List, map, ap, ◌∙◌}
 use Rattle.std.proofs.lemmas.Result.{on_ok_weaker}
-use Rattle.dns_text.specs.Answers.{address_record, alias_records, naming_record}
-use Rattle.dns_text.specs.Labels.{spelling}
+use Rattle.net_base.specs.DomainAnswers.{address_record, alias_records, naming_record}
+use Rattle.net_base.specs.DomainNames.{spelling}
 use Rattle.std.specs.Prelude.{Some}
 use Rattle.ndb_dns.proofs.Fitting.{adds_both}
 use Rattle.ndb_dns.proofs.found.follow.Goals as goal

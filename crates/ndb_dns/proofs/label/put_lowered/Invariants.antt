@@ -1,5 +1,5 @@
 use Rattle.std.proofs.Common.{◌≡◌, ◌++◌, drop}
-use Rattle.dns_text.specs.Labels.{lowered}
+use Rattle.net_base.specs.DomainNames.{lowered}
 use Rattle.ndb_dns.proofs.label.put_lowered.Given as goal
 
 -- what is written, and what is still to write

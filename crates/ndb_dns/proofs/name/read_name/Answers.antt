@@ -1,6 +1,6 @@
 use Rattle.std.proofs.Common.{ℕ, List, [], refl, arith, subst}
 use Rattle.std.proofs.lemmas.Result.{err_from_is_err_and}
-use Rattle.dns_text.specs.Labels.{ReadsName}
+use Rattle.net_base.specs.DomainNames.{ReadsName}
 use Rattle.ndb_dns.specs.Runs.{AddsRun, HasNoRun, LeadsToNone}
 use Rattle.ndb_dns.proofs.Asking.{refused_so}
 use Rattle.ndb_dns.proofs.Reading.{name_is_read, no_name_at_all, no_name_behind}

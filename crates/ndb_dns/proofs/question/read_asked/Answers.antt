@@ -1,7 +1,7 @@
 use Rattle.std.proofs.Common.{◌≡◌, ℕ, List, None, inr, refl, arith}
 use Rattle.std.proofs.lemmas.Result.{err_from_is_err_and}
-use Rattle.dns_text.specs.Labels.{ReadsName}
-use Rattle.dns_text.specs.Questions.{question_of}
+use Rattle.net_base.specs.DomainNames.{ReadsName}
+use Rattle.net_base.specs.DomainQuestions.{question_of}
 use Rattle.ndb_dns.proofs.Asking.{asks, asks_half, asks_no_name, name_within, refused_so}
 use Rattle.ndb_dns.proofs.question.read_asked.Goals as goal
 

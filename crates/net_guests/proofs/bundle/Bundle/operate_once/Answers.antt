@@ -1,7 +1,7 @@
 use Rattle.std.proofs.Common.{◌≡◌, ℕ, not, ◌==◌, false, List, length, ap, sym, subst, ◌∙◌}
 use Rattle.net_base.specs.Callers.{caller_of}
-use Rattle.net_base.specs.Steps.{Bound}
-use Rattle.net_tree.specs.Bindings.{Bindings}
+use Rattle.net_base.specs.Steps.{Names}
+use Rattle.script_task.specs.Holdings.{Holdings}
 use Rattle.script_task.specs.declared.effect.Effect.{Effect}
 use Rattle.script_task.specs.Effects.{effect_of}
 use Rattle.script_task.specs.Planning.{ask_of}
@@ -56,12 +56,12 @@ returns-clause-turn g c s is =
     let home : s.host ≡ me.host = whole.home s (ap (λ (b : Carried). caller_of w b.visit.caller) c.self.view_is ∙ is) in
     let none : not (length me.duties.list == 0) ≡ false =
     cc (ap (λ (b : Carried). not (length b.visit.owed == 0)) c.self.view_is, c.owes.ensures, c.if-owes.false) in
-    let effect = c.plan-actor.ensures.effect ∙ ap (λ (l : List Bound). effect_of l q) (sym c.reserve.ensures.names) in
+    let effect = c.plan-actor.ensures.effect ∙ ap (λ (l : Names). effect_of l q) (sym c.reserve.ensures.names) in
     let called =
-    ap (λ (b : Bindings). b.names) c.settle_turn.ensures
+    ap (λ (b : Holdings). b.names) c.settle_turn.ensures
     ∙ (ap (λ (e : Effect). (settled_by e c.own-turn.result c.reserve.new.fids).names) effect
     ∙ (settles_names c.effects_settle.ensures c.reserve.new.fids q c.own-turn.result
-    ∙ ap (λ (l : List Bound). names_after l q c.own-turn.result) c.reserve.ensures.names)) in
+    ∙ ap (λ (l : Names). names_after l q c.own-turn.result) c.reserve.ensures.names)) in
     subst (λ (b : Carried). Operated w s.host q b.visit c.own-turn.result new) c.self.view_is
     (operated w s.host q me.caller me.now me.pass c.own-turn.new.pass me.duties.list c.own-turn.new.duties.list
     names c.settle_turn.new.fids.names (ask_of c.plan-actor.result) c.own-turn.result (free_none me.duties.list none)

@@ -1,6 +1,6 @@
 //! Questions.
 
-use net_base::Octets;
+use crate::octets::Octets;
 
 /// What a message asks: a name in lower case, a type and a class, and the place behind them.
 #[derive(Debug, Drop)]

@@ -1,8 +1,8 @@
 -- The question of a message (RFC 1035, sections 4.1.1 and 4.1.2): behind a header of twelve bytes a name, a type and a class.
 use Rattle.std.specs.Prelude.{◌≡◌, ◌≤◌, ℕ, zero, suc, ◌+◌, ◌==◌, ◌&&◌, nat_le, List, [], ◌∷◌, length, take, drop, Option, Some, None, option_map, option_and_then, if◌then◌else◌}
-use Rattle.wire_text.specs.Bytes.{word_at}
-use Rattle.dns_text.specs.declared.question.Question.{Question}
-use Rattle.dns_text.specs.Labels.{ReadsName, is_label, is_name, name_bytes, name_text}
+use Rattle.net_base.specs.Bytes.{word_at}
+use Rattle.net_base.specs.declared.question.Question.{Question}
+use Rattle.net_base.specs.DomainNames.{ReadsName, is_label, is_name, name_bytes, name_text}
 
 -- ---- the grammar
 

@@ -1,6 +1,6 @@
 use Rattle.std.proofs.Common.{◌≡◌, drop}
 use Rattle.net_base.specs.Versions.{in_force, last_come}
-use Rattle.net_actors.proofs.versions.IndexedVersions.in_force.Given as goal
+use Rattle.ndb_versions.proofs.versions.IndexedVersions.in_force.Given as goal
 
 -- the last that has come so far, and those that are left
 abbrev pub invariant-loop-number : goal.invariant-loop-number

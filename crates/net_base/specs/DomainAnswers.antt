@@ -8,10 +8,10 @@ use Rattle.net_base.specs.NdbBundle.{each_once}
 use Rattle.net_base.specs.NdbText.{is_empty}
 use Rattle.net_base.specs.Networks.{first_of}
 use Rattle.net_base.specs.Search.{all_beside, or_where_empty, tuples_with}
-use Rattle.wire_text.specs.Bytes.{word_at}
-use Rattle.dns_text.specs.declared.question.Question.{Question}
-use Rattle.dns_text.specs.Labels.{name_in, spelling}
-use Rattle.dns_text.specs.Questions.{question_of}
+use Rattle.net_base.specs.Bytes.{word_at}
+use Rattle.net_base.specs.declared.question.Question.{Question}
+use Rattle.net_base.specs.DomainNames.{name_in, spelling}
+use Rattle.net_base.specs.DomainQuestions.{question_of}
 
 -- ---- types of records
 

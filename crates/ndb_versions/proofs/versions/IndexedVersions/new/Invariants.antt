@@ -1,5 +1,5 @@
 use Rattle.std.proofs.Common.{◌≡◌, ◌++◌, drop}
-use Rattle.net_actors.proofs.versions.IndexedVersions.new.Given as goal
+use Rattle.ndb_versions.proofs.versions.IndexedVersions.new.Given as goal
 
 -- those that are indexed, and those that are left
 abbrev pub invariant-loop-version : goal.invariant-loop-version

@@ -1,10 +1,9 @@
 -- The headers of a datagram, udp in ip(3): the remote address, the local one and the interface's, each as an IPv6 address that
 -- stands for one of IPv4 (RFC 4291, section 2.5.5.2), then the remote port and the local one, high byte first.
-use Rattle.std.specs.Prelude.{◌≡◌, ◌<◌, ℕ, ◌^◌, Bool, ◌&&◌, bytes_eq, List, [], ◌∷◌, ◌++◌, take, drop}
+use Rattle.std.specs.Prelude.{◌≡◌, ◌<◌, ℕ, ◌^◌, Bool, ◌&&◌, nat_le, bytes_eq, List, [], ◌∷◌, ◌++◌, length, take, drop}
 use Rattle.std.specs.Int.{bytes_high_first}
-use Rattle.wire_text.specs.Bytes.{word_at, long_at}
-use Rattle.wire_text.specs.UdpWire.{address}
-use Rattle.udp_headers.specs.declared.headers.Headers.{Headers}
+use Rattle.net_base.specs.Bytes.{word_at, long_at}
+use Rattle.net_base.specs.declared.headers.Headers.{Headers}
 
 -- ---- spelling
 
@@ -46,10 +45,18 @@ is_mapped i bytes = bytes_eq (take 12 (drop i bytes)) mapped_front
 abbrev pub all_mapped : List ℕ → Bool
 all_mapped bytes = is_mapped 0 bytes && is_mapped 16 bytes && is_mapped 32 bytes
 
+-- the bytes begin with headers
+abbrev pub has_headers : List ℕ → Bool
+has_headers bytes = nat_le 52 (length bytes) && all_mapped bytes
+
+-- the text behind the headers
+abbrev pub text_behind : List ℕ → List ℕ
+text_behind bytes = drop 52 bytes
+
 -- the fields, each at its place
 abbrev pub headers_of : List ℕ → Headers
 headers_of bytes = record {
-  remote = address (long_at 12 bytes) (word_at 48 bytes);
-  local = address (long_at 28 bytes) (word_at 50 bytes);
+  remote = record { ip = long_at 12 bytes; port = word_at 48 bytes };
+  local = record { ip = long_at 28 bytes; port = word_at 50 bytes };
   iface = long_at 44 bytes;
 }

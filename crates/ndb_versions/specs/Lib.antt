@@ -1,0 +1,2 @@
+pub use Rattle.net_base.specs.Versions
+pub use Rattle.ndb_index.specs.Index
