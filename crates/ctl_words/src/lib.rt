@@ -9,4 +9,5 @@ mod spelled;
 
 pub use controls::read_ctl;
 pub use fault::CtlError;
+pub use parts::without_newline;
 pub use spelled::write_ctl;

@@ -1,6 +1,7 @@
 -- The steps that open another file of a conversation: its listen file, or its data file.
 use Rattle.std.specs.Prelude.{ℕ, Bool, true, false, List, Option, Some, None, if◌then◌else◌}
 use Rattle.net_base.specs.declared.names.FileName.{FileName}
+use Rattle.net_base.specs.declared.names.Mode.{Mode}
 use Rattle.net_base.specs.declared.names.Mode.TheVariants as mode
 use Rattle.net_base.specs.declared.names.Node.TheVariants as node
 use Rattle.net_base.specs.Paths.{path_of}
@@ -9,9 +10,13 @@ use Rattle.dial_lib.specs.Slots.{HaveSlots}
 use Rattle.script_task.specs.declared.request.Request.{Request}
 use Rattle.script_task.specs.declared.request.Request.TheVariants as request
 
--- the file is opened by its path, to read and to write
+-- the file is opened by its path
+abbrev pub opens_so : List ℕ → Fid → FileName → Mode → Request
+opens_so called f to m = request.Open called (path_of (node.File f.proto f.slot to)) m
+
+-- .. to read and to write
 abbrev pub opens_file : List ℕ → Fid → FileName → Request
-opens_file called f to = request.Open called (path_of (node.File f.proto f.slot to)) mode.Both
+opens_file called f to = opens_so called f to mode.Both
 
 -- the name that must be bound is asked for first, then the new one
 abbrev pub asks_file : FileName → List ℕ → List ℕ → Names → Option Fid → Request

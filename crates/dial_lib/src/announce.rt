@@ -8,8 +8,7 @@ use crate::address::query_of;
 use crate::lines::{clone_path, text_to};
 use crate::reply::{is_accepted, is_opening, lines_in};
 use net_base::{Lines, Mode, Octets, Reply};
-use net_tree::Fids;
-use script_task::{Request, Task};
+use script_task::{Names, Request, Task};
 use std::alloc::{AllocError, Global};
 
 /// What an announce does next.
@@ -107,7 +106,7 @@ impl Announce {
     }
 
     // Asks for the lines, where the name is free.
-    fn begin(&self, alloc: Global, fids: &Fids) -> Result<Request, AllocError>
+    fn begin(&self, alloc: Global, fids: &Names) -> Result<Request, AllocError>
         ensures { IfOk result (λ q. q ≡ spec.begins fids.now.names self.now.name self.now.address) }
     {
         if fids.is_bound(self.name.as_slice()) {
@@ -158,7 +157,7 @@ impl Task for Announce {
 
     ghost moves_so = { laws.moves_so };
 
-    fn next(&self, alloc: Global, fids: &Fids) -> Result<Option<Request>, AllocError> {
+    fn next(&self, alloc: Global, fids: &Names) -> Result<Option<Request>, AllocError> {
         match self.phase {
             AnnouncePhase::Fresh => Ok(Some(self.begin(alloc, fids)?)),
             AnnouncePhase::Open => self.open_line(alloc),

@@ -9,8 +9,8 @@ ghost use Rattle.dial_lib.specs.Beside as spec;
 ghost use Rattle.dial_lib.specs.Listen as listen;
 
 use net_base::{FileName, Mode, Octets, Proto, Reply};
-use net_tree::{Fid, Fids};
-use script_task::{Request, Task};
+use net_tree::Fid;
+use script_task::{Names, Request, Task};
 use std::alloc::{AllocError, Global};
 use words::{file_name, proto_name, put_decimal};
 
@@ -50,7 +50,7 @@ impl Task for Listen {
 
     ghost moves_so = { laws.listen_moves_so };
 
-    fn next(&self, alloc: Global, fids: &Fids) -> Result<Option<Request>, AllocError> {
+    fn next(&self, alloc: Global, fids: &Names) -> Result<Option<Request>, AllocError> {
         if self.is_through {
             return Ok(None);
         }
@@ -103,7 +103,7 @@ impl Task for Accept {
 
     ghost moves_so = { laws.accept_moves_so };
 
-    fn next(&self, alloc: Global, fids: &Fids) -> Result<Option<Request>, AllocError> {
+    fn next(&self, alloc: Global, fids: &Names) -> Result<Option<Request>, AllocError> {
         if self.is_through {
             return Ok(None);
         }
@@ -123,7 +123,7 @@ impl Task for Accept {
 // The request that opens a file of the conversation of `from` with a new name.
 fn request_of(
     alloc: Global,
-    fids: &Fids,
+    fids: &Names,
     name: &Octets,
     from: &Octets,
     file: FileName,
@@ -154,10 +154,23 @@ pub fn open_beside(
 ) -> Result<Request, AllocError>
     ensures { IfOk result (λ q. q ≡ spec.opens_file name.now (file_of fid) file) }
 {
+    open_file(alloc, name, fid, file, Mode::Both)
+}
+
+/// The same in a mode.
+pub fn open_file(
+    alloc: Global,
+    name: &Octets,
+    fid: Fid,
+    file: FileName,
+    mode: Mode,
+) -> Result<Request, AllocError>
+    ensures { IfOk result (λ q. q ≡ spec.opens_so name.now (file_of fid) file mode) }
+{
     Ok(Request::Open {
         name: name.clone()?,
         path: path_of(alloc, fid.proto, fid.slot, file)?,
-        mode: Mode::Both,
+        mode,
     })
 }
 

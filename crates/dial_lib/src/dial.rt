@@ -11,8 +11,7 @@ use crate::beside::open_beside;
 use crate::lines::{clone_path, text_to};
 use crate::reply::{is_accepted, is_granted, is_opening, lines_in};
 use net_base::{FileName, Lines, Mode, Octets, Reply};
-use net_tree::Fids;
-use script_task::{Request, Task};
+use script_task::{Names, Request, Task};
 use std::alloc::{AllocError, Global};
 use std::marker::Model;
 
@@ -148,7 +147,7 @@ impl Dial {
     }
 
     // Asks for the lines, where its names are free.
-    fn begin(&self, alloc: Global, fids: &Fids, dotted: Octets) -> Result<Request, AllocError>
+    fn begin(&self, alloc: Global, fids: &Names, dotted: Octets) -> Result<Request, AllocError>
         ensures { IfOk result (λ q. q ≡ spec.begins fids.now.names self.now.called dotted self.now.address) }
     {
         if fids.is_bound(self.name.as_slice()) {
@@ -199,7 +198,7 @@ impl Dial {
     }
 
     // Opens the data file of what was dialled.
-    fn open_data(&self, alloc: Global, fids: &Fids, dotted: Octets) -> Result<Request, AllocError>
+    fn open_data(&self, alloc: Global, fids: &Names, dotted: Octets) -> Result<Request, AllocError>
         ensures { IfOk result (λ q. q ≡ spec.opens_data self.now.called dotted (fid_of dotted fids.now.names)) }
     {
         match fids.get(dotted.as_slice()) {
@@ -222,7 +221,7 @@ impl Task for Dial {
 
     ghost moves_so = { laws.moves_so };
 
-    fn next(&self, alloc: Global, fids: &Fids) -> Result<Option<Request>, AllocError> {
+    fn next(&self, alloc: Global, fids: &Names) -> Result<Option<Request>, AllocError> {
         let dotted = dotted_name(alloc, self.name.as_slice())?;
         match self.phase {
             DialPhase::Fresh => Ok(Some(self.begin(alloc, fids, dotted)?)),

@@ -4,18 +4,27 @@
 mod address;
 mod announce;
 mod beside;
+mod call;
 mod dial;
+mod dns;
+mod hread;
+mod hwrite;
 mod lines;
 mod one_request;
 mod reject;
 mod reply;
 mod step;
+mod told;
 mod write_text;
 
 pub use address::netmkaddr;
 pub use announce::{Announce, AnnouncePhase};
 pub use beside::{Accept, Listen};
+pub use call::CallPhase;
 pub use dial::{Dial, DialPhase};
+pub use dns::Dns;
+pub use hread::Hread;
+pub use hwrite::{Hwrite, HwritePhase};
 pub use one_request::OneRequest;
 pub use reject::{Reject, RejectPhase};
 pub use step::{StepTask, ends_by, first_request};

@@ -2,8 +2,7 @@
 ghost use Rattle.std.specs.Prelude.{◌≡◌, false};
 
 use net_base::Reply;
-use net_tree::Fids;
-use script_task::{Request, Task};
+use script_task::{Names, Request, Task};
 use std::alloc::{AllocError, Global};
 
 /// A step that is a single request, whatever its reply.
@@ -39,7 +38,7 @@ impl Task for OneRequest {
 
     ghost moves_so = { laws.moves_so };
 
-    fn next(&self, _alloc: Global, _fids: &Fids) -> Result<Option<Request>, AllocError> {
+    fn next(&self, _alloc: Global, _fids: &Names) -> Result<Option<Request>, AllocError> {
         if self.is_through {
             return Ok(None);
         }

@@ -5,8 +5,7 @@ ghost use Rattle.dial_lib.specs.Reject as spec;
 
 use crate::reply::is_accepted;
 use net_base::{Octets, Reply};
-use net_tree::Fids;
-use script_task::{Request, Task};
+use script_task::{Names, Request, Task};
 use std::alloc::{AllocError, Global};
 
 /// What a reject does next.
@@ -69,7 +68,7 @@ impl Task for Reject {
 
     ghost moves_so = { laws.moves_so };
 
-    fn next(&self, alloc: Global, _fids: &Fids) -> Result<Option<Request>, AllocError> {
+    fn next(&self, alloc: Global, _fids: &Names) -> Result<Option<Request>, AllocError> {
         match self.phase {
             RejectPhase::Write => Ok(Some(Request::Write {
                 name: self.name.clone()?,

@@ -48,6 +48,16 @@ pub fn is_accepted(reply: &Reply) -> bool
     }
 }
 
+/// Whether the reply is one to an event that names what isn't open, or isn't so.
+pub fn is_unopened(reply: &Reply) -> bool
+    ensures { result ≡ fitting.is_unopened reply.now }
+{
+    match reply {
+        Reply::BadFid | Reply::BadMode => true,
+        _ => false,
+    }
+}
+
 /// The lines of the reply, or none. It takes no memory.
 pub fn lines_in(alloc: Global, reply: Reply) -> Lines
     ensures { result ≡ steps.lines_in reply }

@@ -11,13 +11,16 @@ ghost use Rattle.dial_lib.specs.StepTasks as spec;
 use crate::announce::Announce;
 use crate::beside::{Accept, Listen};
 use crate::dial::Dial;
+use crate::dns::Dns;
+use crate::hread::Hread;
+use crate::hwrite::Hwrite;
 use crate::one_request::OneRequest;
 use crate::reject::Reject;
 use crate::reply::is_granted;
 use crate::write_text::WriteText;
 use net_base::{FileName, Mode, Node, Octets, Reply, Step};
-use net_tree::{Fids, walk};
-use script_task::{Request, Task};
+use net_tree::walk;
+use script_task::{Names, Request, Task};
 use std::alloc::{AllocError, Global};
 
 /// A step that is being played.
@@ -32,6 +35,9 @@ pub enum StepTask {
     Listen(Listen),
     Accept(Accept),
     Reject(Reject),
+    Hread(Hread),
+    Hwrite(Hwrite),
+    Dns(Dns),
 }
 
 impl StepTask {
@@ -58,7 +64,7 @@ impl Task for StepTask {
 
     ghost moves_so = { laws.moves_so };
 
-    fn next(&self, alloc: Global, fids: &Fids) -> Result<Option<Request>, AllocError> {
+    fn next(&self, alloc: Global, fids: &Names) -> Result<Option<Request>, AllocError> {
         match self {
             StepTask::OneRequest(task) => task.next(alloc, fids),
             StepTask::WriteText(task) => task.next(alloc, fids),
@@ -67,6 +73,9 @@ impl Task for StepTask {
             StepTask::Listen(task) => task.next(alloc, fids),
             StepTask::Accept(task) => task.next(alloc, fids),
             StepTask::Reject(task) => task.next(alloc, fids),
+            StepTask::Hread(task) => task.next(alloc, fids),
+            StepTask::Hwrite(task) => task.next(alloc, fids),
+            StepTask::Dns(task) => task.next(alloc, fids),
         }
     }
 
@@ -79,6 +88,9 @@ impl Task for StepTask {
             StepTask::Listen(task) => task.is_through(),
             StepTask::Accept(task) => task.is_through(),
             StepTask::Reject(task) => task.is_through(),
+            StepTask::Hread(task) => task.is_through(),
+            StepTask::Hwrite(task) => task.is_through(),
+            StepTask::Dns(task) => task.is_through(),
         }
     }
 
@@ -91,6 +103,9 @@ impl Task for StepTask {
             StepTask::Listen(task) => task.told(alloc, reply),
             StepTask::Accept(task) => task.told(alloc, reply),
             StepTask::Reject(task) => task.told(alloc, reply),
+            StepTask::Hread(task) => task.told(alloc, reply),
+            StepTask::Hwrite(task) => task.told(alloc, reply),
+            StepTask::Dns(task) => task.told(alloc, reply),
         }
     }
 }
@@ -140,11 +155,22 @@ fn begin(alloc: Global, step: &Step) -> Result<StepTask, AllocError>
         )?)),
         Step::Reject { name } => Ok(StepTask::Reject(Reject::new(alloc, name.as_slice())?)),
         Step::Hangup { name } => hang_up(alloc, name),
+        Step::Hread { name, count } => Ok(StepTask::Hread(Hread::new(
+            alloc,
+            name.as_slice(),
+            *count,
+        )?)),
+        Step::Hwrite { name, bytes } => Ok(StepTask::Hwrite(Hwrite::new(
+            alloc,
+            name.as_slice(),
+            bytes.as_slice(),
+        )?)),
+        Step::Dns { name, times } => Ok(StepTask::Dns(Dns::new(alloc, name.as_slice(), *times)?)),
     }
 }
 
 /// What a step that has recorded nothing asks. Where its first request is in the step itself, no task is made for it.
-pub fn first_request(alloc: Global, fids: &Fids, step: &Step) -> Result<Option<Request>, AllocError>
+pub fn first_request(alloc: Global, fids: &Names, step: &Step) -> Result<Option<Request>, AllocError>
     ensures { IfOk result (λ q. q ≡ spec.asks (spec.begun step.now) fids.now.names) }
 {
     match step {

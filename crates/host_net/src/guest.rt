@@ -1,8 +1,10 @@
 //! A guest: what a caller keeps.
 ghost use Rattle.std.specs.Prelude.{◌≡◌, ◌<◌, [], not, length, ◌==◌, IfOk};
+ghost use Rattle.std.specs.Arc.{arc_value};
 ghost use Rattle.net_base.specs.declared.noted.Number.TheVariants.{Caller};
 ghost use Rattle.net_base.specs.declared.world.Script.{Script};
 ghost use Rattle.net_base.specs.Callers.{IsScript, caller_of};
+ghost use Rattle.net_base.specs.Next.{zone_of};
 ghost use Rattle.net_base.specs.Stamped.{In};
 ghost use Rattle.due_moments.specs.Marks.{Covers};
 ghost use Rattle.guest_laws.specs.Guests.{IsGuest};
@@ -12,10 +14,12 @@ ghost use Rattle.net_locks.specs.Turns.{own};
 use actor_machines::Placing;
 use due_moments::Touched;
 use journal::{Journal, Naming, Pass};
+use ndb_versions::IndexedVersions;
 use net_guests::Bundle;
-use net_tree::Fids;
+use script_task::Names;
 use std::alloc::{AllocError, Global};
 use std::marker::Model;
+use std::sync::Arc;
 
 /// A caller's pass, what it owes, and the names that it has bound. Clauses see these, its number and the moment.
 #[derive(Drop)]
@@ -35,15 +39,23 @@ impl<J: Naming + Placing> Model for Guest<J> {
 
 impl<J: Naming + Placing> Guest<J> {
     // The guest of a caller to whom nothing has happened, of a script's host.
-    pub(crate) fn fresh(alloc: Global, pass: Pass<J>, caller: u32, host: u32) -> Guest<J>
+    pub(crate) fn fresh(
+        alloc: Global,
+        dbs: Arc<IndexedVersions, Global>,
+        pass: Pass<J>,
+        caller: u32,
+        host: u32,
+    ) -> Guest<J>
+        requires dbs { arc_value dbs ≡ J.world.dbs }
+        requires some { 0 < length (arc_value dbs) }
         requires seen { pass.seen ≡ [] }
         requires held { In (Caller caller, []) pass.held }
         requires known { caller < J.run.roster.callers }
         requires home { (s : Script) → caller_of J.world caller ≡ IsScript s → s.host ≡ host }
-        ensures { IsFresh caller result }
+        ensures { IsFresh (zone_of J.world) caller result }
     {
         Guest {
-            bundle: Bundle::fresh(alloc, pass, caller, host),
+            bundle: Bundle::fresh(alloc, dbs, pass, caller, host),
         }
     }
 
@@ -108,7 +120,7 @@ impl<J: Naming + Placing> Guest<J> {
     }
 
     /// The names that are bound.
-    pub fn fids(&self) -> &Fids
+    pub fn fids(&self) -> &Names
         ensures { result.now.names ≡ self.entry.now.names }
     {
         self.bundle.fids()

@@ -1,10 +1,12 @@
 //! The net behind locks, with a guest for each caller.
 ghost use Rattle.std.specs.Prelude.{◌≡◌, ◌≢◌, ◌<◌, ℕ, [], None, Some, IfOk, slice_get, length};
+ghost use Rattle.std.specs.Arc.{arc_value};
 ghost use Rattle.net_base.specs.declared.actor.ActorName.TheVariants as name;
 ghost use Rattle.net_base.specs.declared.event.Event.TheVariants as event;
 ghost use Rattle.net_base.specs.declared.world.Script.{Script as AnyScript};
 ghost use Rattle.net_base.specs.Callers.{IsClock, IsCourier, IsScript, caller_count as callers_in, caller_of};
 ghost use Rattle.net_base.specs.Duties.{Duty as AnyDuty};
+ghost use Rattle.net_base.specs.Next.{zone_of};
 ghost use Rattle.net_base.specs.World.{IsWorld};
 ghost use Rattle.journal.specs.Rule.{caller_numbers};
 ghost use Rattle.duties.specs.Queue.{work_of_duty};
@@ -23,11 +25,12 @@ use journal::{ClosedBooks, Journal, Naming, Pass};
 use locked::Machine;
 use net_base::{History, World};
 use net_guests::first_spot;
+use ndb_versions::IndexedVersions;
 use net_locks::{Advance, Locks, NetOpened, Spot, Standing, Turn, caller_count};
 use outside::Gate;
 use script_task::Request;
 use std::alloc::{AllocError, Global};
-use std::sync::Wait;
+use std::sync::{Arc, Wait};
 
 /// Every actor of a world behind its lock, each at its number.
 #[derive(Drop)]
@@ -47,10 +50,11 @@ impl<J: Naming + Placing> Net<J, WorldActor<J>> {
         requires is { IsWorld world.now }
         requires roster { IsRosterOf J.world J.run.roster }
         ensures many { IfOk result (λ r. length r.1.items ≡ J.run.roster.callers) }
-        ensures fresh { IfOk result (λ r. AreFresh 0 r.1.items) }
+        ensures fresh { IfOk result (λ r. AreFresh (zone_of J.world) 0 r.1.items) }
     {
-        let (locks, pass) = Locks::<J, WorldActor<J>>::named(alloc, world, opened)?;
-        let guests = guests_of(alloc, world, locks.journal(), pass)?;
+        let dbs = Arc::new(alloc, IndexedVersions::new(alloc, world.dbs.as_slice())?)?;
+        let (locks, pass) = Locks::<J, WorldActor<J>>::named(alloc, world, &dbs, opened)?;
+        let guests = guests_of(alloc, world, &dbs, locks.journal(), pass)?;
         Ok((Net { locks }, guests))
     }
 
@@ -179,22 +183,25 @@ impl<J: Naming + Placing> Net<J, WorldActor<J>> {
 fn guests_of<J: Naming + Placing>(
     alloc: Global,
     world: &World,
+    dbs: &Arc<IndexedVersions, Global>,
     journal: &Journal<J>,
     mut pass: Pass<J>,
 ) -> Result<Vec<Guest<J>>, AllocError>
     requires world { J.world ≡ world.now }
     requires is { IsWorld world.now }
+    requires dbs { arc_value dbs.now ≡ world.now.dbs }
     requires callers { J.run.roster.callers ≡ callers_in J.world }
     requires seen { pass.seen ≡ [] }
     requires held { pass.held ≡ caller_numbers J.run.roster.callers }
     ensures many { IfOk result (λ guests. length guests.items ≡ J.run.roster.callers) }
-    ensures fresh { IfOk result (λ guests. AreFresh 0 guests.items) }
+    ensures fresh { IfOk result (λ guests. AreFresh (zone_of J.world) 0 guests.items) }
 {
     let callers = caller_count(world);
     let mut guests = Vec::with_capacity(alloc, callers as usize)?;
     for caller in 0..callers {
         let own = journal.split_pass(&mut pass, caller);
-        guests.push(Guest::fresh(alloc, own, caller, host_of(world, caller)))?;
+        let dbs = Arc::try_clone(dbs)?;
+        guests.push(Guest::fresh(alloc, dbs, own, caller, host_of(world, caller)))?;
     }
     Ok(guests)
 }

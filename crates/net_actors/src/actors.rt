@@ -44,15 +44,19 @@ impl Model for Actors {
 }
 
 impl Actors {
-    /// The actors of a world, to which nothing has happened, with one database for all desks.
-    pub fn new(alloc: Global, world: &World) -> Result<Actors, AllocError>
-        requires { IsWorld world.now }
+    /// The actors of a world, to which nothing has happened, with its versions of the database for all desks.
+    pub fn new(
+        alloc: Global,
+        world: &World,
+        dbs: &Arc<IndexedVersions, Global>,
+    ) -> Result<Actors, AllocError>
+        requires is { IsWorld world.now }
+        requires dbs { arc_value dbs.now ≡ world.now.dbs }
         ensures { IfOk result (λ actors. AreActors world.now actors opening_actor) }
     {
         let hosts = world.hosts.len() as u32;
         let media = world.media.len() as u32;
-        let dbs = Arc::new(alloc, IndexedVersions::new(alloc, world.dbs.as_slice())?)?;
-        let actors = all_actors(alloc, world, &dbs, hosts, media)?;
+        let actors = all_actors(alloc, world, dbs, hosts, media)?;
         Ok(Actors {
             hosts,
             media,

@@ -1,5 +1,5 @@
 -- The steps of scripts: which events each records, given the replies so far.
-use Rattle.std.specs.Prelude.{ℕ, zero, suc, count_by, ◌==◌, ◌&&◌, Bool, true, false, not, List, [], ◌∷◌, ◌++◌, filter, Option, Some, None, Result, Ok, Err, codes, bytes_eq, unwrap_or, if◌then◌else◌}
+use Rattle.std.specs.Prelude.{ℕ, zero, suc, ◌-◌, count_by, ◌==◌, ◌&&◌, Bool, true, false, not, List, [], ◌∷◌, ◌++◌, filter, Option, Some, None, Result, Ok, Err, codes, bytes_eq, unwrap_or, if◌then◌else◌}
 use Rattle.std.specs.List.{before_first, after_first, list_any}
 use Rattle.std.specs.Option.{option_map, option_and_then}
 use Rattle.net_base.specs.declared.actor.ActorName.{ActorName}
@@ -24,7 +24,7 @@ use Rattle.net_base.specs.declared.world.Step.{Step}
 use Rattle.net_base.specs.declared.world.Step.TheVariants as step
 use Rattle.net_base.specs.Addresses.{address_in, number_in, parts_at}
 use Rattle.net_base.specs.ControlWords as control
-use Rattle.net_base.specs.DatagramHeaders.{headers_of, text_behind}
+use Rattle.net_base.specs.DatagramHeaders.{has_headers, headers_of, text_behind}
 use Rattle.net_base.specs.DomainAnswers.{dns_answer}
 use Rattle.net_base.specs.Paths.{walk, may_open, is_read_alone, reads, writes}
 use Rattle.net_base.specs.Same.{same_addr}
@@ -370,6 +370,10 @@ abbrev pub answers_to : Headers → Option Heard → Bool
 answers_to headers None = false
 answers_to headers (Some heard) = same_addr headers.remote heard.remote && same_addr headers.local heard.local
 
+-- the bytes are such headers, and a text
+abbrev pub is_answer : List ℕ → Option Heard → Bool
+is_answer bytes heard = has_headers bytes && answers_to (headers_of bytes) heard
+
 abbrev pub is_data : FileName → Bool
 is_data file.Data = true
 is_data _ = false
@@ -407,14 +411,18 @@ answers_call h call data_file (Some text) refused next =
     Asks (conversation_of h data_file) (event.Write data_file.generation text) (λ (r : Reply).
     if_accepted r (leaves_call h call data_file refused next) (closes_all h (data_file ∷ call ∷ []) refused))
 
--- so many calls are taken, and what is asked in each is answered from the database
-abbrev pub serves : ℕ → List ℕ → Names → ℕ → Play
-serves h called names zero = Ends names
-serves h called names (suc times) =
+-- a call is taken, and what is asked in it is answered from the database
+abbrev pub serves_call : ℕ → List ℕ → Names → Play → Play
+serves_call h called names next =
     with_call h called names (λ (call data_file : Fid) (remote local : Addr).
     Asks (conversation_of h data_file) (event.Read data_file.generation 8192) (λ (r : Reply).
-    if_accepted r (answers_call h call data_file (dns_answer names.zone (bytes_in r)) (Ends names) (serves h called names times))
+    if_accepted r (answers_call h call data_file (dns_answer names.zone (bytes_in r)) (Ends names) next)
     (closes_all h (data_file ∷ call ∷ []) (Ends names))))
+
+-- the same for one call and for so many more
+abbrev pub serves : ℕ → List ℕ → Names → ℕ → Play
+serves h called names zero = serves_call h called names (Ends names)
+serves h called names (suc more) = serves_call h called names (serves h called names more)
 
 -- The steps.
 
@@ -447,8 +455,8 @@ play_of h names (step.Hread called count) =
     hears h names count call data_file (record { name = called; remote = remote; local = local }))
 play_of h names (step.Hwrite called bytes) =
     on_fid (open_call called names) (uses h data_name names) (λ (data_file : Fid).
-    if answers_to (headers_of bytes) names.heard then answers h names (text_behind bytes) data_file else misuses h data_name names)
-play_of h names (step.Dns called times) = serves h called names times
+    if is_answer bytes names.heard then answers h names (text_behind bytes) data_file else misuses h data_name names)
+play_of h names (step.Dns called times) = serves h called names (times - 1)
 
 -- Scripts.
 

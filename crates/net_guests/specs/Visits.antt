@@ -12,7 +12,8 @@ use Rattle.net_base.specs.Duties.{Duty}
 use Rattle.net_base.specs.Legal.{IsLegal, IsTimed}
 use Rattle.net_base.specs.Net.{owed}
 use Rattle.net_base.specs.Stamped.{In, moment, of_actor, of_caller}
-use Rattle.net_base.specs.Steps.{Ask, Names}
+use Rattle.net_base.specs.Steps.{Ask, Names, no_names}
+use Rattle.net_base.specs.Versions.{Tuples}
 use Rattle.journal.specs.declared.law.Roster.{Roster}
 use Rattle.journal.specs.declared.tokens.Sight.{Sight}
 use Rattle.journal.specs.Closing.{plain}
@@ -138,15 +139,15 @@ pub record Gathering (w : World) (r : Roster) (p : Sight) (vs : List Visit) (p' 
 
 -- The beginning.
 
--- the guest of a caller to whom nothing has happened
-pub record IsFresh (c : ℕ) (v : Visit) : Type 0 where
+-- the guest of a caller to whom nothing has happened, whose `dns` answers from this database
+pub record IsFresh (zone : Tuples) (c : ℕ) (v : Visit) : Type 0 where
   pub caller : v.caller ≡ c
   pub now : v.now ≡ 0
   pub seen : v.sight.seen ≡ []
   pub owed : v.owed ≡ []
-  pub names : v.names ≡ []
+  pub names : v.names ≡ no_names zone
 
 -- those of the callers from c on
-abbrev pub AreFresh : ℕ → List Visit → Type 0
-AreFresh c [] = Unit {0}
-AreFresh c (v ∷ vs) = IsFresh c v × AreFresh (c + 1) vs
+abbrev pub AreFresh : Tuples → ℕ → List Visit → Type 0
+AreFresh zone c [] = Unit {0}
+AreFresh zone c (v ∷ vs) = IsFresh zone c v × AreFresh zone (c + 1) vs

@@ -1,8 +1,10 @@
 //! A bundle: what a guest carries.
 ghost use Rattle.std.specs.Prelude.{◌≡◌, ◌<◌, [], not, length, ◌==◌, IfOk};
+ghost use Rattle.std.specs.Arc.{arc_value};
 ghost use Rattle.net_base.specs.declared.noted.Number.TheVariants.{Caller};
 ghost use Rattle.net_base.specs.declared.world.Script.{Script};
 ghost use Rattle.net_base.specs.Callers.{IsScript, caller_of};
+ghost use Rattle.net_base.specs.Next.{zone_of};
 ghost use Rattle.net_base.specs.Stamped.{In};
 ghost use Rattle.due_moments.specs.Marks.{Covers};
 ghost use Rattle.guest_laws.specs.Guests.{IsGuest};
@@ -14,10 +16,12 @@ use due_moments::Touched;
 use duties::Duties;
 use guest_laws::{guests_begin, guests_meet};
 use journal::{Journal, Naming, Pass};
+use ndb_versions::IndexedVersions;
 use net_locks::Calendar;
-use net_tree::Fids;
+use script_task::Names;
 use std::alloc::{AllocError, Global};
 use std::marker::Model;
+use std::sync::Arc;
 
 /// A caller's pass, what it owes, and the names that it has bound. Clauses see these, its number and the moment, and what else
 /// is known of it. It may be without its number while the clock has that, so whether it is complete is said of each call.
@@ -25,7 +29,7 @@ use std::marker::Model;
 pub struct Bundle<J: Naming + Placing> {
     pub(crate) pass: Pass<J>,
     pub(crate) duties: Duties,
-    pub(crate) fids: Fids,
+    pub(crate) fids: Names,
     pub(crate) caller: u32,
     pub(crate) host: u32,
     pub(crate) now: u64,
@@ -50,19 +54,27 @@ impl<J: Naming + Placing> Model for Bundle<J> {
 
 impl<J: Naming + Placing> Bundle<J> {
     /// That of a caller to whom nothing has happened, of a script's host.
-    pub fn fresh(alloc: Global, pass: Pass<J>, caller: u32, host: u32) -> Bundle<J>
+    pub fn fresh(
+        alloc: Global,
+        dbs: Arc<IndexedVersions, Global>,
+        pass: Pass<J>,
+        caller: u32,
+        host: u32,
+    ) -> Bundle<J>
+        requires dbs { arc_value dbs ≡ J.world.dbs }
+        requires some { 0 < length (arc_value dbs) }
         requires seen { pass.seen ≡ [] }
         requires held { In (Caller caller, []) pass.held }
         requires known { caller < J.run.roster.callers }
         requires home { (s : Script) → caller_of J.world caller ≡ IsScript s → s.host ≡ host }
         ensures complete { IsComplete J.world J.run.roster result }
-        ensures fresh { IsFresh caller result.visit }
+        ensures fresh { IsFresh (zone_of J.world) caller result.visit }
     {
         guests_begin();
         Bundle {
             pass,
             duties: Duties::new(alloc),
-            fids: Fids::new(alloc),
+            fids: Names::new(alloc, dbs),
             caller,
             host,
             now: 0,
@@ -143,7 +155,7 @@ impl<J: Naming + Placing> Bundle<J> {
     }
 
     /// The names that are bound.
-    pub fn fids(&self) -> &Fids
+    pub fn fids(&self) -> &Names
         ensures { result.now.names ≡ self.entry.now.visit.names }
     {
         &self.fids

@@ -16,9 +16,8 @@ use guest_laws::turns_are_these;
 use journal::Naming;
 use net_base::{ActorName, Event};
 use net_locks::{Locks, Spot, Turn, calendars_stay_known};
-use net_tree::Fids;
 use outside::Gate;
-use script_task::{Effect, Planned, Request, effects_settle, plan};
+use script_task::{Effect, Names, Planned, Request, effects_settle, plan};
 use std::alloc::AllocError;
 use std::sync::Wait;
 
@@ -171,13 +170,13 @@ impl<J: Naming + Placing> Bundle<J> {
             actor,
             event,
         );
-        settle_turn(&mut self.fids, &effect, &turn);
+        settle_turn(&mut self.fids, effect, &turn);
         turn
     }
 }
 
 // Room for the name that a reply may bind.
-fn reserve(fids: &mut Fids, effect: &Effect) -> Result<(), AllocError>
+fn reserve(fids: &mut Names, effect: &Effect) -> Result<(), AllocError>
     ensures names { fids.new.names ≡ fids.old.names }
     ensures ok { OnOk result (effects.HasRoom effect.now fids.new) }
 {
@@ -188,11 +187,12 @@ fn reserve(fids: &mut Fids, effect: &Effect) -> Result<(), AllocError>
 }
 
 // The names after a turn. There is room for what its reply binds.
-fn settle_turn(fids: &mut Fids, effect: &Effect, turn: &Turn)
-    requires { effects.HasRoom effect.now fids.old }
-    ensures { fids.new ≡ settled_by effect.now turn.now fids.old }
+fn settle_turn(fids: &mut Names, effect: Effect, turn: &Turn)
+    requires { effects.HasRoom effect fids.old }
+    ensures { fids.new ≡ settled_by effect turn.now fids.old }
 {
     if let Turn::Recorded { reply, .. } = turn {
-        let _ = effect.settle(fids, effect.opened(reply));
+        let opened = effect.opened(reply);
+        let _ = effect.settle(fids, opened);
     }
 }

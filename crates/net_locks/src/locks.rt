@@ -53,11 +53,13 @@ impl<J: Naming + Placing> Locks<J, WorldActor<J>> {
     pub fn named(
         alloc: Global,
         world: &World,
+        dbs: &Arc<IndexedVersions, Global>,
         opened: NetOpened,
     ) -> Result<(Locks<J, WorldActor<J>>, Pass<J>), AllocError>
         requires name { opened ≡ J.run }
         requires world { J.world ≡ world.now }
         requires is { IsWorld world.now }
+        requires dbs { arc_value dbs.now ≡ world.now.dbs }
         requires roster { IsRosterOf J.world J.run.roster }
         ensures seen { IfOk result (λ r. r.1.seen ≡ []) }
         ensures held { IfOk result (λ r. r.1.held ≡ caller_numbers J.run.roster.callers) }
@@ -65,7 +67,7 @@ impl<J: Naming + Placing> Locks<J, WorldActor<J>> {
         let NetOpened { opened } = opened;
         let (journal, pass, books) = opened.named::<J>(alloc)?;
         let ways = WorldWays::new(alloc, world)?;
-        let locks = locks_of(alloc, world, books)?;
+        let locks = locks_of(alloc, world, dbs, books)?;
         let marks = Marks::new(alloc, locks.len())?;
         let net = Locks {
             journal,
@@ -252,19 +254,20 @@ fn absent<J: Naming + Placing>(pass: &Pass<J>, caller: u32) -> Turn
 fn locks_of<J: Naming + Placing>(
     alloc: Global,
     world: &World,
+    dbs: &Arc<IndexedVersions, Global>,
     mut books: Vec<Book<J>>,
 ) -> Result<Vec<Locked<J, WorldActor<J>>>, AllocError>
     requires world { J.world ≡ world.now }
     requires is { IsWorld world.now }
+    requires dbs { arc_value dbs.now ≡ world.now.dbs }
     requires actors { (a : Name) → In a (map (λ b. b.actor) books.items) → has_actor J.world a ≡ true }
     requires blank { AreUnused books.items }
     ensures { IfOk result (λ locks. map (λ l. l.actor) locks.items ≡ map (λ b. b.actor) books.items) }
 {
-    let dbs = Arc::new(alloc, IndexedVersions::new(alloc, world.dbs.as_slice())?)?;
     let mut locks = Vec::with_capacity(alloc, books.len())?;
     books.reverse();
     while let Some(book) = books.pop() {
-        let lock = lock_for(alloc, world, &dbs, book)?;
+        let lock = lock_for(alloc, world, dbs, book)?;
         locks.push(lock)?;
     }
     Ok(locks)

@@ -1,5 +1,6 @@
 //! A caller of a run.
-ghost use Rattle.std.specs.Prelude.{◌≡◌, ◌<◌, ◌+◌, ◌^◌, ℕ, List, [], IfOk, OnOk, Some, slice_get};
+ghost use Rattle.std.specs.Arc.{arc_value};
+ghost use Rattle.std.specs.Prelude.{◌≡◌, ◌<◌, ◌+◌, ◌^◌, ℕ, List, [], length, IfOk, OnOk, Some, slice_get};
 ghost use Rattle.net_base.specs.declared.history.Entry.{Entry as AnyEntry};
 ghost use Rattle.net_base.specs.declared.world.World.{World as AnyWorld};
 ghost use Rattle.net_base.specs.Callers.{IsClock, IsCourier, caller_of};
@@ -17,8 +18,10 @@ use duties::{Duties, Duty};
 use history_laws::histories_grow;
 use net_actors::Actors;
 use net_base::{ActorName, Event, Reply, Script, With, Work};
+use ndb_versions::IndexedVersions;
 use script_player::Player;
 use std::alloc::{AllocError, Global};
+use std::sync::Arc;
 
 /// Who a caller is.
 #[derive(Drop)]
@@ -43,11 +46,16 @@ pub struct Caller<'a> {
 
 impl<'a> Caller<'a> {
     /// A script before anything is recorded.
-    pub fn script(alloc: Global, script: &'a Script) -> Result<Caller<'a>, AllocError>
-        ensures { IfOk result (λ k. (w : AnyWorld) (c : ℕ)
+    pub fn script(
+        alloc: Global,
+        script: &'a Script,
+        dbs: Arc<IndexedVersions, Global>,
+    ) -> Result<Caller<'a>, AllocError>
+        requires some { 0 < length (arc_value dbs) }
+        ensures { IfOk result (λ k. (w : AnyWorld) (c : ℕ) → w.dbs ≡ arc_value dbs
             → slice_get w.scripts c ≡ Some script.now → IsCaller w [] c k) }
     {
-        let mut player = Player::new(alloc);
+        let mut player = Player::new(alloc, dbs);
         let next = asked(player.next(script)?);
         let before = player.finished();
         Ok(Caller {

@@ -41,9 +41,10 @@ impl<'a> Runner<'a> {
         ensures tracks { IfOk result (Tracks world.now) }
         ensures empty { IfOk result (λ r. r.history.entries ≡ []) }
     {
-        let net = Actors::new(alloc, world)?;
+        let dbs = Arc::new(alloc, IndexedVersions::new(alloc, world.dbs.as_slice())?)?;
+        let net = Actors::new(alloc, world, &dbs)?;
         let ways = WorldWays::new(alloc, world)?;
-        let callers = callers_of(alloc, world)?;
+        let callers = callers_of(alloc, world, &dbs)?;
         Ok(Runner {
             alloc,
             history: GhostHistory::fresh(),
@@ -57,13 +58,19 @@ impl<'a> Runner<'a> {
 }
 
 // All callers of a world, by number.
-fn callers_of<'a>(alloc: Global, world: &'a World) -> Result<Vec<Caller<'a>>, AllocError>
-    requires { IsWorld world.now }
+fn callers_of<'a>(
+    alloc: Global,
+    world: &'a World,
+    dbs: &Arc<IndexedVersions, Global>,
+) -> Result<Vec<Caller<'a>>, AllocError>
+    requires is { IsWorld world.now }
+    requires dbs { arc_value dbs.now ≡ world.now.dbs }
     ensures { IfOk result (λ callers. AreCallers world.now [] callers.items) }
 {
     let mut callers = Vec::new(alloc);
     for script in world.scripts.as_slice() {
-        callers.push(Caller::script(alloc, script)?)?;
+        let dbs = Arc::try_clone(dbs)?;
+        callers.push(Caller::script(alloc, script, dbs)?)?;
     }
     for medium in 0..world.media.len() {
         callers.push(Caller::courier(alloc, medium as u32))?;

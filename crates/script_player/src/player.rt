@@ -1,25 +1,28 @@
 //! The player of a script.
-ghost use Rattle.std.specs.Prelude.{◌≡◌, ◌⊎◌, ◌++◌, ◌∷◌, ℕ, List, [], Some, true, IfOk, OnOk, OnErr, length, nat_lt, option_map};
+ghost use Rattle.std.specs.Prelude.{◌≡◌, ◌<◌, ◌⊎◌, ◌++◌, ◌∷◌, ℕ, List, [], Some, true, IfOk, OnOk, OnErr, length, nat_lt, option_map};
+ghost use Rattle.std.specs.Arc.{arc_value};
 ghost use Rattle.net_base.specs.declared.reply.Reply.{Reply};
 ghost use Rattle.net_base.specs.declared.world.Script.{Script};
 ghost use Rattle.net_base.specs.Next.{finished_by};
 ghost use Rattle.net_base.specs.Steps.{Ask};
+ghost use Rattle.net_base.specs.Versions.{Tuples, database_of};
 ghost use Rattle.script_task.specs.Fitting.{fits};
 ghost use Rattle.script_player.specs.Players as spec;
 
 use dial_lib::StepTask;
 use net_base::{ActorName, Event, Reply, Script};
-use net_tree::Fids;
-use script_task::{Effect, Planned, Task, plan};
+use ndb_versions::IndexedVersions;
+use script_task::{Effect, Names, Planned, Task, plan};
 use std::alloc::{AllocError, Global};
 use std::marker::Model;
+use std::sync::Arc;
 
 /// A script that is being played: how many steps are finished, what it is at, and the names that are bound.
 ///
 /// The script is lent to each call, and is always the same one.
 #[derive(Drop)]
 pub struct Player {
-    fids: Fids,
+    fids: Names,
     finished: usize,
     // the task of the step behind those, where it has begun
     task: Option<StepTask>,
@@ -43,11 +46,12 @@ impl Model for Player {
 impl Player {
     /// The player of a script of which nothing is recorded. It takes no memory.
     #[tactic(auto, using(crate::proofs::Played::starts))]
-    pub fn new(alloc: Global) -> Player
-        ensures { (s : Script) → spec.IsAt s [] result }
+    pub fn new(alloc: Global, dbs: Arc<IndexedVersions, Global>) -> Player
+        requires some { 0 < length (arc_value dbs) }
+        ensures { (s : Script) → spec.IsAt (database_of (arc_value dbs) 0) s [] result }
     {
         Player {
-            fids: Fids::new(alloc),
+            fids: Names::new(alloc, dbs),
             finished: 0,
             task: None,
             effect: None,
@@ -56,7 +60,7 @@ impl Player {
     }
 
     /// The names that are bound.
-    pub fn fids(&self) -> &Fids
+    pub fn fids(&self) -> &Names
         ensures { result.now ≡ self.now.holdings }
     {
         &self.fids
@@ -65,9 +69,10 @@ impl Player {
     /// The next event of the script at its actor, or none where each step is finished.
     #[tactic(auto, using(crate::proofs::Played::next_right, crate::proofs::Played::begun_at, crate::proofs::Played::prepared_at))]
     pub fn next(&mut self, script: &Script) -> Result<Option<(ActorName, Event)>, AllocError>
-        ensures event { (rs : List Reply) → spec.IsAt script.now rs self.old
-            → IfOk result (λ o. option_map spec.asked o ≡ spec.next_after script.now rs) }
-        ensures same { (rs : List Reply) → spec.IsAt script.now rs self.old → spec.IsAt script.now rs self.new }
+        ensures event { (zone : Tuples) (rs : List Reply) → spec.IsAt zone script.now rs self.old
+            → IfOk result (λ o. option_map spec.asked o ≡ spec.next_after zone script.now rs) }
+        ensures same { (zone : Tuples) (rs : List Reply)
+            → spec.IsAt zone script.now rs self.old → spec.IsAt zone script.now rs self.new }
     {
         self.begin(script)?;
         self.ask(script.host)
@@ -76,11 +81,11 @@ impl Player {
     /// Takes the reply to the next event. Without memory it is where it was.
     #[tactic(auto, using(crate::proofs::Played::told_right, crate::proofs::Played::begun_at, crate::proofs::Played::expected_at))]
     pub fn told(&mut self, script: &Script, reply: Reply) -> Result<(), AllocError>
-        ensures ok { (rs : List Reply) (ask : Ask)
-            → spec.IsAt script.now rs self.old → spec.next_after script.now rs ≡ Some ask → fits ask.event reply ≡ true
-            → OnOk result (spec.IsAt script.now (rs ++ reply ∷ []) self.new) }
-        ensures err { (rs : List Reply) → spec.IsAt script.now rs self.old
-            → OnErr result (spec.IsAt script.now rs self.new) }
+        ensures ok { (zone : Tuples) (rs : List Reply) (ask : Ask)
+            → spec.IsAt zone script.now rs self.old → spec.next_after zone script.now rs ≡ Some ask
+            → fits ask.event reply ≡ true → OnOk result (spec.IsAt zone script.now (rs ++ reply ∷ []) self.new) }
+        ensures err { (zone : Tuples) (rs : List Reply) → spec.IsAt zone script.now rs self.old
+            → OnErr result (spec.IsAt zone script.now rs self.new) }
     {
         self.expect(script)?;
         self.hear(reply)?;
@@ -91,7 +96,8 @@ impl Player {
     /// How many steps are finished.
     #[tactic(auto, using(crate::proofs::Played::finished_right))]
     pub fn finished(&self) -> usize
-        ensures { (s : Script) (rs : List Reply) → spec.IsAt s rs self.now → result ≡ finished_by rs s }
+        ensures { (zone : Tuples) (s : Script) (rs : List Reply)
+            → spec.IsAt zone s rs self.now → result ≡ finished_by zone rs s }
     {
         self.finished
     }
@@ -99,8 +105,8 @@ impl Player {
     /// Whether some step of the script isn't finished.
     #[tactic(auto, using(crate::proofs::Played::unfinished_right))]
     pub fn is_unfinished(&self, script: &Script) -> bool
-        ensures { (rs : List Reply) → spec.IsAt script.now rs self.now
-            → result ≡ nat_lt 0 (length (spec.position_after script.now rs).left) }
+        ensures { (zone : Tuples) (rs : List Reply) → spec.IsAt zone script.now rs self.now
+            → result ≡ nat_lt 0 (length (spec.position_after zone script.now rs).left) }
     {
         self.finished < script.steps.len()
     }
@@ -181,9 +187,10 @@ impl Player {
         };
         let opened = effect.opened(&reply);
         task.told(self.alloc, reply)?;
-        // there is room for the name
-        let _ = effect.settle(&mut self.fids, opened);
-        self.effect = None;
+        if let Some(effect) = self.effect.take() {
+            // there is room for the name
+            let _ = effect.settle(&mut self.fids, opened);
+        }
         Ok(())
     }
 
@@ -202,7 +209,7 @@ impl Player {
 }
 
 // Makes room for the name that is opened.
-fn make_room(fids: &mut Fids, effect: &Effect) -> Result<(), AllocError>
+fn make_room(fids: &mut Names, effect: &Effect) -> Result<(), AllocError>
     ensures ok { OnOk result (fids.new ≡ spec.with_room effect.now fids.old) }
     ensures err { OnErr result (fids.new ≡ fids.old) }
 {

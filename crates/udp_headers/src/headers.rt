@@ -1,7 +1,7 @@
 //! Headers of a datagram.
-ghost use Rattle.std.specs.Prelude.{◌≡◌, ◌+◌, ◌<◌, ◌≤◌, ◌↔◌, ℕ, false, List, length, IfOk, IsOkAnd, IsErrOf};
+ghost use Rattle.std.specs.Prelude.{◌≡◌, ◌+◌, ◌<◌, ◌≤◌, ◌↔◌, ℕ, true, false, List, length, IfOk, IsOk, IsOkAnd, IsErrOf};
 ghost use Rattle.net_base.specs.declared.headers.Headers.{Headers};
-ghost use Rattle.net_base.specs.DatagramHeaders.{AreHeaders, SpellsHeaders, all_mapped, headers_bytes, headers_of, is_mapped};
+ghost use Rattle.net_base.specs.DatagramHeaders.{AreHeaders, SpellsHeaders, all_mapped, has_headers, headers_bytes, headers_of, is_mapped, text_behind};
 ghost use Rattle.udp_headers.specs.Faults.{AreWhole};
 
 use crate::fault::HeadersError;
@@ -36,6 +36,9 @@ pub fn decode_headers(bytes: &[u8]) -> Result<HeadersView<'_>, HeadersError>
     ensures found { IfOk result (λ v. SpellsHeaders v.headers v.text.now bytes.now) }
     // What is spelled so is read.
     ensures only { (h : Headers) (text : List ℕ) → SpellsHeaders h text bytes.now → IsOkAnd result (λ v. (v.headers ≡ h) × (v.text.now ≡ text)) }
+    // The same as the fields at their places.
+    ensures fields { IfOk result (λ v. (v.headers ≡ headers_of bytes.now) × (v.text.now ≡ text_behind bytes.now)) }
+    ensures whole { IsOk result ↔ (has_headers bytes.now ≡ true) }
     // Which fault it is: the first of these.
     ensures short { IsErrOf result HeadersError.Short ↔ (length bytes.now < 52) }
     ensures not_mapped { IsErrOf result HeadersError.NotMapped ↔ (AreWhole bytes.now × (all_mapped bytes.now ≡ false)) }

@@ -10,8 +10,7 @@ ghost use Rattle.whole_script.specs.ScriptTasks as spec;
 use crate::whole::WholeTask;
 use dial_lib::{StepTask, ends_by, first_request};
 use net_base::{Reply, Script, Step};
-use net_tree::Fids;
-use script_task::{Request, Task};
+use script_task::{Names, Request, Task};
 use std::alloc::{AllocError, Global};
 use std::marker::Model;
 
@@ -81,7 +80,7 @@ impl Task for ScriptTask<'_> {
 
     ghost moves_so = { laws.moves_so };
 
-    fn next(&self, alloc: Global, fids: &Fids) -> Result<Option<Request>, AllocError> {
+    fn next(&self, alloc: Global, fids: &Names) -> Result<Option<Request>, AllocError> {
         match &self.task {
             Some(task) => task.next(alloc, fids),
             None => first_asked(alloc, fids, self.steps, self.finished),
@@ -121,7 +120,7 @@ impl WholeTask for ScriptTask<'_> {
 // What the step behind so many asks first, if one is left.
 fn first_asked(
     alloc: Global,
-    fids: &Fids,
+    fids: &Names,
     steps: &[Step],
     finished: usize,
 ) -> Result<Option<Request>, AllocError>

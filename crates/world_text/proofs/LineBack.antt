@@ -19,6 +19,7 @@ use Rattle.net_base.specs.declared.world.Step.{Step}
 use Rattle.net_base.specs.declared.world.Step.TheVariants as step
 use Rattle.net_base.specs.Addresses.{parts_at}
 use Rattle.net_base.specs.ControlWords.{dotted}
+use Rattle.net_base.specs.DatagramHeaders.{has_headers}
 use Rattle.net_base.specs.NdbText.{is_newline}
 use Rattle.net_base.specs.Paths.{proto_name}
 use Rattle.net_base.specs.Transcript.{mode_word}
@@ -157,6 +158,15 @@ step-free s p (step.Accept called from) plain fit =
     (letters-free s p (codes "accept") refl, (name-free s p called both.0, (name-free s p from both.1, tt)))
 step-free s p (step.Reject called) plain fit = (letters-free s p (codes "reject") refl, (name-free s p called fit, tt))
 step-free s p (step.Hangup called) plain fit = (letters-free s p (codes "hangup") refl, (name-free s p called fit, tt))
+step-free s p (step.Hread called count) plain fit =
+    let both = and_parts (is_name called) (is_within 1 65536 count) fit in
+    (letters-free s p (codes "hread") refl, (name-free s p called both.0, (number-free s p 1 65536 count (omega arith) both.1, tt)))
+step-free s p (step.Hwrite called bytes) plain fit =
+    let both = and_parts (is_name called) (list_all is_byte bytes && has_headers bytes) fit in
+    (letters-free s p (codes "hwrite") refl, (name-free s p called both.0, (hex-without s bytes p.low, tt)))
+step-free s p (step.Dns called times) plain fit =
+    let both = and_parts (is_name called) (is_within 1 1000 times) fit in
+    (letters-free s p (codes "dns") refl, (name-free s p called both.0, (number-free s p 1 1000 times (omega arith) both.1, tt)))
 
 one-free : (s : ℕ) → Apart s → IsWithout s (codes "1")
 one-free s p = let low = p.low in without_one s 49 [] (ne_eqb 49 s (λ is. omega (arith, is, low))) (All-nil (λ (x : ℕ). (x == s) ≡ false))
@@ -298,6 +308,16 @@ step-back (step.Listen called from) plain fit = kept-back (step.Listen called fr
 step-back (step.Accept called from) plain fit = kept-back (step.Accept called from) fit
 step-back (step.Reject called) plain fit = kept-back (step.Reject called) fit
 step-back (step.Hangup called) plain fit = kept-back (step.Hangup called) fit
+step-back (step.Hread called count) plain fit =
+    ap (λ o. step_read (Some (option_and_then (λ n. kept (step.Hread called n)) o))) (number-back 1 65536 count (omega arith) ((and_parts (is_name called) (is_within 1 65536 count) fit).1))
+    ∙ kept-back (step.Hread called count) fit
+step-back (step.Hwrite called bytes) plain fit =
+    let both = and_parts (is_name called) (list_all is_byte bytes && has_headers bytes) fit in
+    ap (λ o. step_read (Some (option_and_then (λ bs. kept (step.Hwrite called bs)) o))) (hex-back bytes ((and_parts (list_all is_byte bytes) (has_headers bytes) both.1).0))
+    ∙ kept-back (step.Hwrite called bytes) fit
+step-back (step.Dns called times) plain fit =
+    ap (λ o. step_read (Some (option_and_then (λ n. kept (step.Dns called n)) o))) (number-back 1 1000 times (omega arith) ((and_parts (is_name called) (is_within 1 1000 times) fit).1))
+    ∙ kept-back (step.Dns called times) fit
 
 words-back : (l : WorldLine) → IsPlain l → is_fit l ≡ true → words_line (words_of_line l) ≡ Ok l
 words-back (line.Networld timers.Fixed) plain fit = refl
@@ -382,6 +402,9 @@ back-step (step.Listen called from) fit = plain-back (line.OfScript (step.Listen
 back-step (step.Accept called from) fit = plain-back (line.OfScript (step.Accept called from)) tt fit _ refl (omega arith)
 back-step (step.Reject called) fit = plain-back (line.OfScript (step.Reject called)) tt fit _ refl (omega arith)
 back-step (step.Hangup called) fit = plain-back (line.OfScript (step.Hangup called)) tt fit _ refl (omega arith)
+back-step (step.Hread called count) fit = plain-back (line.OfScript (step.Hread called count)) tt fit _ refl (omega arith)
+back-step (step.Hwrite called bytes) fit = plain-back (line.OfScript (step.Hwrite called bytes)) tt fit _ refl (omega arith)
+back-step (step.Dns called times) fit = plain-back (line.OfScript (step.Dns called times)) tt fit _ refl (omega arith)
 
 pub back : (l : WorldLine) → is_fit l ≡ true → read_line (spelling l) ≡ Ok l
 back (line.Networld timers.Fixed) fit = refl
@@ -417,6 +440,9 @@ loud-step (step.Listen called from) = refl
 loud-step (step.Accept called from) = refl
 loud-step (step.Reject called) = refl
 loud-step (step.Hangup called) = refl
+loud-step (step.Hread called count) = refl
+loud-step (step.Hwrite called bytes) = refl
+loud-step (step.Dns called times) = refl
 
 pub loud : (l : WorldLine) → speaks (spelling l) ≡ true
 loud (line.Networld timers.Fixed) = refl
@@ -458,6 +484,9 @@ one-step (step.Listen called from) fit = step-free 10 apart-newline (step.Listen
 one-step (step.Accept called from) fit = step-free 10 apart-newline (step.Accept called from) tt fit
 one-step (step.Reject called) fit = step-free 10 apart-newline (step.Reject called) tt fit
 one-step (step.Hangup called) fit = step-free 10 apart-newline (step.Hangup called) tt fit
+one-step (step.Hread called count) fit = step-free 10 apart-newline (step.Hread called count) tt fit
+one-step (step.Hwrite called bytes) fit = step-free 10 apart-newline (step.Hwrite called bytes) tt fit
+one-step (step.Dns called times) fit = step-free 10 apart-newline (step.Dns called times) tt fit
 
 one-free-line : (l : WorldLine) → is_fit l ≡ true → AreFree 10 (words_of_line l)
 one-free-line (line.OfScript x) fit = one-step x fit

@@ -29,7 +29,7 @@ use Rattle.world_text.specs.declared.line.MediumLine.TheVariants as medium
 use Rattle.world_text.specs.declared.line.WorldLine.{WorldLine}
 use Rattle.world_text.specs.declared.line.WorldLine.TheVariants as line
 use Rattle.world_text.specs.WorldWords.{Four, Three, Two, address_in, both_nets, four, hex_text, is_padded, joined, mode_named, nets_named, number_in, one, three, two, words_of}
-use Rattle.world_text.specs.LineReading.{argued, cs_of, end_of, fate_from, fate_named, fate_of, frame_in, frames_in, frames_of, host_of, if_from, if_of, kept, medium_of, named, ndb_of, networld_of, of_one, of_two, open_of, other_of, range_from, rate_in, rates_from, rates_of, read_line, read_of, refresh_of, route_from, route_of, script_of, seed_of, start_of, step_of, step_read, timers_named, until_of, words_line, write_of, writex_of}
+use Rattle.world_text.specs.LineReading.{argued, cs_of, dns_of, end_of, fate_from, fate_named, fate_of, frame_in, frames_in, frames_of, host_of, hread_of, hwrite_of, if_from, if_of, kept, medium_of, named, ndb_of, networld_of, of_one, of_two, open_of, other_of, range_from, rate_in, rates_from, rates_of, read_line, read_of, refresh_of, route_from, route_of, script_of, seed_of, start_of, step_of, step_read, timers_named, until_of, words_line, write_of, writex_of}
 use Rattle.world_text.specs.WorldSpelling.{fate_word, frames_spelled, spelling, timers_word, words_of_line}
 use Rattle.world_text.specs.LineFit.{fit_frames, is_fit, is_frame, is_rate}
 use Rattle.world_text.proofs.Hexes.{hex-spelled}
@@ -392,6 +392,24 @@ said-writex args = step-then (codes "writex" ∷ args) (λ (w : Two). option_and
     said-kept (codes "writex" ∷ args) (step.Writex w.first bytes)
     (ap (λ (vs : List (List ℕ)). joined (codes "writex" ∷ vs)) (two-is args w e ∙ ap (λ (x : List ℕ). w.first ∷ x ∷ []) (hex-spelled w.second bytes f)))))
 
+said-hread : (args : List (List ℕ)) → SaidStep (codes "hread" ∷ args) (hread_of args)
+said-hread args = step-then (codes "hread" ∷ args) (λ (w : Two). option_and_then (λ count. kept (step.Hread w.first count)) (number_in 1 65536 w.second)) (two args) (λ w e.
+    step-then (codes "hread" ∷ args) (λ count. kept (step.Hread w.first count)) (number_in 1 65536 w.second) (λ count f.
+    said-kept (codes "hread" ∷ args) (step.Hread w.first count)
+    (ap (λ (vs : List (List ℕ)). joined (codes "hread" ∷ vs)) (two-is args w e ∙ ap (λ (x : List ℕ). w.first ∷ x ∷ []) (number-is 1 65536 w.second count (omega arith) f)))))
+
+said-hwrite : (args : List (List ℕ)) → SaidStep (codes "hwrite" ∷ args) (hwrite_of args)
+said-hwrite args = step-then (codes "hwrite" ∷ args) (λ (w : Two). option_and_then (λ bytes. kept (step.Hwrite w.first bytes)) (hex_text w.second)) (two args) (λ w e.
+    step-then (codes "hwrite" ∷ args) (λ bytes. kept (step.Hwrite w.first bytes)) (hex_text w.second) (λ bytes f.
+    said-kept (codes "hwrite" ∷ args) (step.Hwrite w.first bytes)
+    (ap (λ (vs : List (List ℕ)). joined (codes "hwrite" ∷ vs)) (two-is args w e ∙ ap (λ (x : List ℕ). w.first ∷ x ∷ []) (hex-spelled w.second bytes f)))))
+
+said-dns : (args : List (List ℕ)) → SaidStep (codes "dns" ∷ args) (dns_of args)
+said-dns args = step-then (codes "dns" ∷ args) (λ (w : Two). option_and_then (λ times. kept (step.Dns w.first times)) (number_in 1 1000 w.second)) (two args) (λ w e.
+    step-then (codes "dns" ∷ args) (λ times. kept (step.Dns w.first times)) (number_in 1 1000 w.second) (λ times f.
+    said-kept (codes "dns" ∷ args) (step.Dns w.first times)
+    (ap (λ (vs : List (List ℕ)). joined (codes "dns" ∷ vs)) (two-is args w e ∙ ap (λ (x : List ℕ). w.first ∷ x ∷ []) (number-is 1 1000 w.second times (omega arith) f)))))
+
 said-cs : (args : List (List ℕ)) → SaidStep (codes "cs" ∷ args) (cs_of args)
 said-cs [] = tt
 said-cs (word ∷ words) = said-kept (codes "cs" ∷ word ∷ words) (step.Cs (joined (word ∷ words))) refl
@@ -428,7 +446,10 @@ said-other word args =
     (own-if word args (codes "listen") (of_two (λ n f. step.Listen n f) args) _ (said-two (codes "listen") (λ n f. step.Listen n f) args (λ a b. refl))
     (own-if word args (codes "accept") (of_two (λ n f. step.Accept n f) args) _ (said-two (codes "accept") (λ n f. step.Accept n f) args (λ a b. refl))
     (own-if word args (codes "reject") (of_one (λ n. step.Reject n) args) _ (said-one (codes "reject") (λ n. step.Reject n) args (λ a. refl))
-    (own-if word args (codes "hangup") (of_one (λ n. step.Hangup n) args) None (said-one (codes "hangup") (λ n. step.Hangup n) args (λ a. refl)) tt)))))))
+    (own-if word args (codes "hangup") (of_one (λ n. step.Hangup n) args) _ (said-one (codes "hangup") (λ n. step.Hangup n) args (λ a. refl))
+    (own-if word args (codes "hread") (hread_of args) _ (said-hread args)
+    (own-if word args (codes "hwrite") (hwrite_of args) _ (said-hwrite args)
+    (own-if word args (codes "dns") (dns_of args) None (said-dns args) tt))))))))))
 
 said-step : (word : List ℕ) (args : List (List ℕ)) → SaidOwn (word ∷ args) (step_of word args)
 said-step word args =

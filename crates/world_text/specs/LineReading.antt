@@ -173,6 +173,15 @@ abbrev pub refresh_of : List (List ℕ) → Option Step
 refresh_of [] = kept step.Refresh
 refresh_of _ = None
 
+abbrev pub hread_of : List (List ℕ) → Option Step
+hread_of args = option_and_then (λ (w : Two). option_and_then (λ count. kept (step.Hread w.first count)) (number_in 1 65536 w.second)) (two args)
+
+abbrev pub hwrite_of : List (List ℕ) → Option Step
+hwrite_of args = option_and_then (λ (w : Two). option_and_then (λ bytes. kept (step.Hwrite w.first bytes)) (hex_text w.second)) (two args)
+
+abbrev pub dns_of : List (List ℕ) → Option Step
+dns_of args = option_and_then (λ (w : Two). option_and_then (λ times. kept (step.Dns w.first times)) (number_in 1 1000 w.second)) (two args)
+
 abbrev pub other_of : List ℕ → List (List ℕ) → Option (Option Step)
 other_of word args =
     if bytes_eq word (codes "until") then Some (until_of args)
@@ -183,7 +192,10 @@ other_of word args =
     else (if bytes_eq word (codes "accept") then Some (of_two (λ n f. step.Accept n f) args)
     else (if bytes_eq word (codes "reject") then Some (of_one (λ n. step.Reject n) args)
     else (if bytes_eq word (codes "hangup") then Some (of_one (λ n. step.Hangup n) args)
-    else None)))))))
+    else (if bytes_eq word (codes "hread") then Some (hread_of args)
+    else (if bytes_eq word (codes "hwrite") then Some (hwrite_of args)
+    else (if bytes_eq word (codes "dns") then Some (dns_of args)
+    else None))))))))))
 
 -- the step of a word and its arguments, which are wrong where there is none
 abbrev pub step_of : List ℕ → List (List ℕ) → Option (Option Step)

@@ -52,6 +52,10 @@ gate = record {
   starts = 7 ∷ 4294967295 ∷ [];
 }
 
+-- who asked, and whom
+abbrev pub asked : Headers
+asked = record { remote = record { ip = ip 135 104 9 6; port = 5000 }; local = record { ip = ip 135 104 9 31; port = 53 }; iface = ip 135 104 9 31 }
+
 abbrev pub all_steps : List Step
 all_steps =
     step.Until 10
@@ -71,6 +75,9 @@ all_steps =
     ∷ step.Accept (codes "f") (codes "l")
     ∷ step.Reject (codes "l")
     ∷ step.Hangup (codes "e")
+    ∷ step.Hread (codes "a") 512
+    ∷ step.Hwrite (codes "a") (headers_bytes asked ++ 104 ∷ 105 ∷ [])
+    ∷ step.Dns (codes "a") 1000
     ∷ []
 
 abbrev pub every_line : World

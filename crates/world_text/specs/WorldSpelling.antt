@@ -130,6 +130,9 @@ words_of_step (step.Listen called from) = codes "listen" ∷ called ∷ from ∷
 words_of_step (step.Accept called from) = codes "accept" ∷ called ∷ from ∷ []
 words_of_step (step.Reject called) = codes "reject" ∷ called ∷ []
 words_of_step (step.Hangup called) = codes "hangup" ∷ called ∷ []
+words_of_step (step.Hread called count) = codes "hread" ∷ called ∷ decimal count ∷ []
+words_of_step (step.Hwrite called bytes) = codes "hwrite" ∷ called ∷ hex_word bytes ∷ []
+words_of_step (step.Dns called times) = codes "dns" ∷ called ∷ decimal times ∷ []
 
 abbrev pub line_of_step : Step → List ℕ
 line_of_step s = spaced (words_of_step s)

@@ -77,5 +77,7 @@ pub fn worked_world_lines()
         ++ (codes "start 4294967295\nscript gate\nuntil 10\nopen c /net/il/clone\n"
         ++ (codes "open d /net/cs rw\nread d 8192\nwrite d two  words\nwritex d 000aff\n"
         ++ (codes "writex d -\nclose d\nls /net\ncs net!$auth!9fs\nrefresh\ndial e il!helix!9fs\n"
-        ++ (codes "announce a il!*!9fs\nlisten l a\naccept f l\nreject l\nhangup e\n"))))))) }
+        ++ (codes "announce a il!*!9fs\nlisten l a\naccept f l\nreject l\nhangup e\n"
+        ++ (codes "hread a 512\nhwrite a 00000000000000000000ffff8768090600000000000000000000ffff8768091f"
+        ++ codes "00000000000000000000ffff8768091f138800356869\ndns a 1000\n")))))))) }
 {}

@@ -8,6 +8,7 @@ use crate::arguments::Arguments;
 use crate::names::{are_bytes, is_name, is_text, is_word, mode_named};
 use net_base::{Mode, Octets, Step};
 use std::alloc::{AllocError, Global};
+use udp_headers::decode_headers;
 use words::{number_in, read_hex_word};
 
 /// The step of a word and its arguments, which are wrong where there is none.
@@ -61,6 +62,12 @@ fn read_other(
         Ok(Some(read_reject(alloc, args)?))
     } else if word == b"hangup".as_slice() {
         Ok(Some(read_hangup(alloc, args)?))
+    } else if word == b"hread".as_slice() {
+        Ok(Some(read_hread(alloc, args)?))
+    } else if word == b"hwrite".as_slice() {
+        Ok(Some(read_hwrite(alloc, args)?))
+    } else if word == b"dns".as_slice() {
+        Ok(Some(read_dns(alloc, args)?))
     } else {
         Ok(None)
     }
@@ -107,6 +114,12 @@ fn is_step(step: &Step) -> bool
         Step::Accept { name, from } => is_name(name.as_slice()) && is_name(from.as_slice()),
         Step::Reject { name } => is_name(name.as_slice()),
         Step::Hangup { name } => is_name(name.as_slice()),
+        Step::Hread { name, count } => is_name(name.as_slice()) && 1 <= *count && *count <= 65536,
+        Step::Hwrite { name, bytes } => {
+            are_bytes(bytes.as_slice());
+            is_name(name.as_slice()) && decode_headers(bytes.as_slice()).is_ok()
+        }
+        Step::Dns { name, times } => is_name(name.as_slice()) && 1 <= *times && *times <= 1000,
     }
 }
 
@@ -301,6 +314,51 @@ fn read_accept(alloc: Global, args: &Arguments<'_>) -> Result<Option<Step>, Allo
         Some((name, from)) => Ok(kept(Step::Accept {
             name: Octets::from_slice(alloc, name)?,
             from: Octets::from_slice(alloc, from)?,
+        })),
+        None => Ok(None),
+    }
+}
+
+fn read_hread(alloc: Global, args: &Arguments<'_>) -> Result<Option<Step>, AllocError>
+    ensures { IfOk result (λ read. read ≡ spec.hread_of args.now) }
+{
+    let Some((name, count)) = args.two() else {
+        return Ok(None);
+    };
+    match number_in(1, 65536, count) {
+        Some(count) => Ok(kept(Step::Hread {
+            name: Octets::from_slice(alloc, name)?,
+            count: count as u32,
+        })),
+        None => Ok(None),
+    }
+}
+
+fn read_hwrite(alloc: Global, args: &Arguments<'_>) -> Result<Option<Step>, AllocError>
+    ensures { IfOk result (λ read. read ≡ spec.hwrite_of args.now) }
+{
+    let Some((name, hex)) = args.two() else {
+        return Ok(None);
+    };
+    match read_hex_word(alloc, hex)? {
+        Some(bytes) => Ok(kept(Step::Hwrite {
+            name: Octets::from_slice(alloc, name)?,
+            bytes,
+        })),
+        None => Ok(None),
+    }
+}
+
+fn read_dns(alloc: Global, args: &Arguments<'_>) -> Result<Option<Step>, AllocError>
+    ensures { IfOk result (λ read. read ≡ spec.dns_of args.now) }
+{
+    let Some((name, times)) = args.two() else {
+        return Ok(None);
+    };
+    match number_in(1, 1000, times) {
+        Some(times) => Ok(kept(Step::Dns {
+            name: Octets::from_slice(alloc, name)?,
+            times: times as u32,
         })),
         None => Ok(None),
     }

@@ -54,6 +54,18 @@ fn put_step(out: &mut Octets, step: &Step) -> Result<(), AllocError>
         Step::Accept { name, from } => put_three(out, b"accept", name.as_slice(), from.as_slice()),
         Step::Reject { name } => put_two(out, b"reject", name.as_slice()),
         Step::Hangup { name } => put_two(out, b"hangup", name.as_slice()),
+        Step::Hread { name, count } => {
+            put_two(out, b"hread", name.as_slice())?;
+            put_number(out, u64::from(*count))
+        }
+        Step::Hwrite { name, bytes } => {
+            put_two(out, b"hwrite", name.as_slice())?;
+            put_hex(out, bytes.as_slice())
+        }
+        Step::Dns { name, times } => {
+            put_two(out, b"dns", name.as_slice())?;
+            put_number(out, u64::from(*times))
+        }
     }
 }
 
