@@ -36,7 +36,7 @@ abbrev dues : World → Net → List ℕ
 dues w net = filter_map (λ (a : ActorName). due_of (net.actors a)) (conversations w)
 
 abbrev awaited : World → Net → ℕ → Option ℕ
-awaited w net c = awaited_moment (next_of (caller_of w c) net.past c)
+awaited w net c = awaited_moment (next_of w (caller_of w c) net.past c)
 
 abbrev awaits : World → Net → List ℕ
 awaits w net = filter_map (awaited w net) (callers w)

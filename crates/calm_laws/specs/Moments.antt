@@ -19,4 +19,4 @@ pub record IsDue (w : World) (net : Net) (m : ℕ) : Type 0 where
 pub record IsAwaited (w : World) (net : Net) (m : ℕ) : Type 0 where
   pub caller : ℕ
   pub known : caller < caller_count w
-  pub awaits : awaited_moment (next_of (caller_of w caller) net.past caller) ≡ Some m
+  pub awaits : awaited_moment (next_of w (caller_of w caller) net.past caller) ≡ Some m

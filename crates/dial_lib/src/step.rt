@@ -2,7 +2,7 @@
 ghost use Rattle.std.specs.Prelude.{◌≡◌, ℕ, List, None, IfOk, true, codes, if◌then◌else◌};
 ghost use Rattle.net_base.specs.Paths as paths;
 ghost use Rattle.net_base.specs.Steps as steps;
-ghost use Rattle.net_base.specs.Steps.{Names};
+ghost use Rattle.net_base.specs.Steps.{Names as AnyNames};
 ghost use Rattle.net_base.specs.declared.names.Mode.TheVariants as mode;
 ghost use Rattle.net_base.specs.declared.world.Step.TheVariants as step;
 ghost use Rattle.dial_lib.specs.Slots.{HaveSlots};
@@ -194,7 +194,7 @@ pub fn first_request(alloc: Global, fids: &Names, step: &Step) -> Result<Option<
 
 /// Whether a step that has recorded nothing is seen, without its task, to be through after this reply.
 pub fn ends_by(step: &Step, reply: &Reply) -> bool
-    ensures { result ≡ true → (names : Names) → spec.asks (spec.after (spec.begun step.now) reply.now) names ≡ None }
+    ensures { result ≡ true → (names : AnyNames) → spec.asks (spec.after (spec.begun step.now) reply.now) names ≡ None }
 {
     match step {
         Step::Open { .. }

@@ -36,7 +36,7 @@ pub courier_turn : (w : World) (c : ℕ) (p : Sight) (m : ℕ) → caller_of w c
 courier_turn w c p m is = record {
   given = refl;
   cites_it = refl;
-  asked = λ now o. subst (λ (k : Caller). IsAskedButOfScripts [] k (next_of k (entries p.seen) c)
+  asked = λ now o. subst (λ (k : Caller). IsAskedButOfScripts [] k (next_of w k (entries p.seen) c)
       (made (name.Medium m) c now (record { event = event.Take; with = given.Nothing }) None o).entry) (sym is) refl;
 }
 

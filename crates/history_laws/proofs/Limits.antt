@@ -56,12 +56,12 @@ abbrev is_nobody : Caller → Bool
 is_nobody IsNobody = true
 is_nobody _ = false
 
-nobody_asks : (ds : List Duty) (k : Caller) (h : List Entry) (c : ℕ) (x : Entry) → ds ≡ [] → is_nobody k ≡ true → IsAsked ds k (next_of k h c) x → ⊥
-nobody_asks (d ∷ ds) k h c x none is asked = absurd (omega (arith, ap length none))
-nobody_asks [] IsNobody h c x none is asked = none-some _ asked
-nobody_asks [] (IsScript s) h c x none is asked = false≢true is
-nobody_asks [] (IsCourier m) h c x none is asked = false≢true is
-nobody_asks [] IsClock h c x none is asked = false≢true is
+nobody_asks : (w : World) (ds : List Duty) (k : Caller) (h : List Entry) (c : ℕ) (x : Entry) → ds ≡ [] → is_nobody k ≡ true → IsAsked ds k (next_of w k h c) x → ⊥
+nobody_asks w (d ∷ ds) k h c x none is asked = absurd (omega (arith, ap length none))
+nobody_asks w [] IsNobody h c x none is asked = none-some _ asked
+nobody_asks w [] (IsScript s) h c x none is asked = false≢true is
+nobody_asks w [] (IsCourier m) h c x none is asked = false≢true is
+nobody_asks w [] IsClock h c x none is asked = false≢true is
 
 below_or_not : (c n : ℕ) → (c < n) ⊎ (n ≤ c)
 below_or_not c n = by (nat_lt c n) refl
@@ -74,7 +74,7 @@ caller_known : (w : World) (h : List Entry) (x : Entry) → IsLegal w h → Keep
 caller_known w h x legal asked =
     elim (below_or_not x.caller (caller_count w)) [
       | inl below ↦ below
-      | inr far ↦ absurd (nobody_asks ((after w h).owed x.caller) (caller_of w x.caller) h x.caller x (quiet_after w h legal x.caller far) (ap is_nobody (nobody w x.caller far)) asked)
+      | inr far ↦ absurd (nobody_asks w ((after w h).owed x.caller) (caller_of w x.caller) h x.caller x (quiet_after w h legal x.caller far) (ap is_nobody (nobody w x.caller far)) asked)
     ]
 
 ready_known : (has : Bool) (o : Option (Step Actor)) → IsSome (option_map (λ (s : Step Actor). s.outcome) (when has o)) → has ≡ true

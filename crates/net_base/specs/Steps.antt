@@ -298,6 +298,9 @@ remote_name = codes ".r"
 abbrev pub local_name : List ℕ
 local_name = codes ".l"
 
+abbrev pub call_names : List (List ℕ)
+call_names = data_name ∷ call_name ∷ remote_name ∷ local_name ∷ []
+
 -- the first of these names that is bound
 abbrev pub first_bound : List (List ℕ) → Names → Option (List ℕ)
 first_bound [] names = None
@@ -305,7 +308,7 @@ first_bound (called ∷ others) names = if is_bound names called then Some calle
 
 -- the name that an open call has bound, if one is open: that of its data file, since that is bound wherever another one is
 abbrev pub taken_name : Names → Option (List ℕ)
-taken_name names = first_bound (data_name ∷ call_name ∷ remote_name ∷ local_name ∷ []) names
+taken_name names = first_bound call_names names
 
 abbrev pub on_taken : Option (List ℕ) → (List ℕ → Play) → Play → Play
 on_taken None used next = next

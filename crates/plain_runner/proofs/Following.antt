@@ -175,7 +175,7 @@ clock_moves w h x m history known asked is = by_owed (owed w h x.caller) refl as
     kinds = (steady_after w h history.world history.legal).kinds x.caller
 
     not_next : (k : AnyCaller) → next_of k h x.caller ≡ Some (asked_by x) → IsClockMove w h x
-    not_next k asked = absurd (still_not x.event m is (next_still k h x.caller (asked_by x) asked))
+    not_next k asked = absurd (still_not x.event m is (next_still w k h x.caller (asked_by x) asked))
 
     by_kind : owed w h x.caller ≡ [] → Kind w x.caller → IsNext (caller_of w x.caller) (next w h x.caller) x → IsClockMove w h x
     by_kind none (OfClock at) asked = record {

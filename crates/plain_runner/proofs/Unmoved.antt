@@ -20,11 +20,11 @@ use Rattle.net_base.specs.Calm.{is_ready, most_entries}
 use Rattle.net_base.specs.Duties.{Duty}
 use Rattle.net_base.specs.Legal.{IsAsked, IsInTime, IsNext, asked_by}
 use Rattle.net_base.specs.Net.{Net, after, moment, owed, with_of}
-use Rattle.net_base.specs.Next.{by, next, next_of, own_replies}
-use Rattle.net_base.specs.Steps.{Ask, clone_path, lines_in, position}
+use Rattle.net_base.specs.Next.{by, next, next_of, own_replies, zone_of}
+use Rattle.net_base.specs.Steps.{Ask, Names, call_names, no_names, clone_path, lines_in, position}
 use Rattle.history_laws.proofs.Ordered.{Each, each_any}
 use Rattle.history_laws.proofs.Owed.{past_after}
-use Rattle.history_laws.proofs.StepEvents.{Fits, IsNextEvent, IsOpened, IsOwn, Says, next_event}
+use Rattle.history_laws.proofs.StepEvents.{Fits, IsNextEvent, IsNamed, IsOpened, IsOwn, Says, next_event}
 use Rattle.progress_law.proofs.Always.{steady_after}
 use Rattle.progress_law.proofs.Duties.{IsKind, OfKind}
 use Rattle.plain_runner.specs.Recording.{IsHistory}
@@ -71,19 +71,22 @@ says_still h (step.Cs query) = tt
 says_still h (step.Dial called address) = ((tt, tt), (tt, tt))
 says_still h (step.Listen called from) = ((tt, tt), (tt, tt))
 says_still h (step.Accept called from) = ((tt, tt), (tt, tt))
+says_still h (step.Hread called count) = ((tt, tt), each_any (λ (called : List ℕ). IsNamed h (IsStillAt) called) (λ called. (tt, tt)) call_names)
+says_still h (step.Hwrite called bytes) = ((tt, tt), each_any (λ (called : List ℕ). IsNamed h (IsStillAt) called) (λ called. (tt, tt)) call_names)
+says_still h (step.Dns called times) = ((tt, tt), each_any (λ (called : List ℕ). IsNamed h (IsStillAt) called) (λ called. (tt, tt)) call_names)
 says_still h _ = (tt, tt)
 
-position_still : (h : ℕ) (steps : List Step) (rs : List Reply) → IsNextEvent IsStillAt (position h steps [] rs).next
-position_still h steps rs =
-    next_event h IsStillAt (λ (r : Reply). Unit {0}) fits_still steps [] rs
+position_still : (h : ℕ) (steps : List Step) (names : Names) (rs : List Reply) → IsNextEvent IsStillAt (position h steps names rs).next
+position_still h steps names rs =
+    next_event h IsStillAt (λ (r : Reply). Unit {0}) fits_still steps names rs
     (each_any (λ (s : Step). Says h IsStillAt s) (says_still h) steps)
     (each_any (λ (r : Reply). Unit {0}) (λ r. tt) rs)
 
-pub next_still : (k : Caller) (h : List Entry) (c : ℕ) (ask : Ask) → next_of k h c ≡ Some ask → IsStill ask.event
-next_still (IsScript s) h c ask is = subst (IsNextEvent IsStillAt) is (position_still s.host s.steps (own_replies h c))
-next_still (IsCourier m) h c ask is = subst (IsNextEvent IsStillAt) is tt
-next_still IsClock h c ask is = absurd (none-some ask is)
-next_still IsNobody h c ask is = absurd (none-some ask is)
+pub next_still : (w : World) (k : Caller) (h : List Entry) (c : ℕ) (ask : Ask) → next_of w k h c ≡ Some ask → IsStill ask.event
+next_still w (IsScript s) h c ask is = subst (IsNextEvent IsStillAt) is (position_still s.host s.steps (no_names (zone_of w)) (own_replies h c))
+next_still w (IsCourier m) h c ask is = subst (IsNextEvent IsStillAt) is tt
+next_still w IsClock h c ask is = absurd (none-some ask is)
+next_still w IsNobody h c ask is = absurd (none-some ask is)
 
 -- The turn of a caller.
 
@@ -111,7 +114,7 @@ by_ask : (w : World) (net : Net) (h : List Entry) (c : ℕ) (k : Caller) (t : Tu
 by_ask w net h c k t past asked gave ready =
     same_ask w net t (asked_by (entry_for c t)) given.Nothing refl gave
     (subst (λ (o : Option Ask). is_ready w net o ≡ true) asked (subst (λ (p : List Entry). is_ready w net (next_of k p c) ≡ true) past ready))
-    (next_still k h c (asked_by (entry_for c t)) asked)
+    (next_still w k h c (asked_by (entry_for c t)) asked)
 
 by_next : (w : World) (net : Net) (h : List Entry) (c : ℕ) (k : Caller) (t : Turn) → net.past ≡ h → IsNext k (next_of k h c) (entry_for c t)
     → t.work.with ≡ given.Nothing

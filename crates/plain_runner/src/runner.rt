@@ -1,5 +1,6 @@
 //! A run as far as it has come, and the turns of its callers.
 ghost use Rattle.std.specs.Prelude.{◌≡◌, ◌<◌, ◌==◌, [], length, IfOk};
+ghost use Rattle.std.specs.Arc.{arc_value};
 ghost use Rattle.net_base.specs.declared.world.World.{World as AnyWorld};
 ghost use Rattle.net_base.specs.Calm.{most_entries};
 ghost use Rattle.net_base.specs.Net.{moment_after as spec_moment_after};
@@ -15,9 +16,11 @@ use crate::law::histories_are_short;
 use crate::recording::record;
 use crate::turn::Turn;
 use duties::WorldWays;
+use ndb_versions::IndexedVersions;
 use net_actors::Actors;
 use net_base::{Entry, Event, World};
 use std::alloc::{AllocError, Global};
+use std::sync::Arc;
 
 /// How many entries a caller may record.
 pub const MOST_ENTRIES: u32 = 131_072;

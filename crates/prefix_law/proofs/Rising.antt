@@ -29,9 +29,9 @@ use Rattle.net_base.specs.Duties.{Duty, duties, due_of, generation_of, has_come,
 use Rattle.net_base.specs.Legal.{IsLegal, MayFollow, IsInTime, IsTimed, IsAsked}
 use Rattle.net_base.specs.Medium.{medium_step}
 use Rattle.net_base.specs.Net.{Net, opening_net, net_after, after, step_of, work_of, with_of, moment_after}
-use Rattle.net_base.specs.Next.{next_of, own_replies}
+use Rattle.net_base.specs.Next.{next_of, own_replies, zone_of}
 use Rattle.net_base.specs.Stamped.{In, same_actor}
-use Rattle.net_base.specs.Steps.{Ask}
+use Rattle.net_base.specs.Steps.{Ask, no_names}
 use Rattle.net_base.specs.World.{IsWorld, is_script, is_step}
 use Rattle.prefix_law.proofs.ConvWaits.{TimedActor, actor_later, IsConvName, tick_later, timed_opening}
 use Rattle.prefix_law.proofs.Deeds.{both_ways}
@@ -404,26 +404,26 @@ module _ (w : World) (net : Net) (world : IsWorld w) (rests : Rests w net) (is_c
   by_ask h None lt at not_ready = tt
   by_ask h (Some ask) lt at not_ready = by_event h ask.actor ask.event lt at not_ready
 
-  awaits : (c : ℕ) (o : Option Script) → slice_get w.scripts c ≡ o → Beyond net.moment (awaited_moment (next_of (option_map_or (λ (s : Script). IsScript s) o (other_caller w c)) net.past c))
+  awaits : (c : ℕ) (o : Option Script) → slice_get w.scripts c ≡ o → Beyond net.moment (awaited_moment (next_of w (option_map_or (λ (s : Script). IsScript s) o (other_caller w c)) net.past c))
   awaits c None is =
-      cond_both (nat_lt c (clock_number w)) _ _ (λ (k : Caller). Beyond net.moment (awaited_moment (next_of k net.past c)))
+      cond_both (nat_lt c (clock_number w)) _ _ (λ (k : Caller). Beyond net.moment (awaited_moment (next_of w k net.past c)))
       (λ _. tt)
-      (λ _. cond_both (c == clock_number w) _ _ (λ (k : Caller). Beyond net.moment (awaited_moment (next_of k net.past c))) (λ _. tt) (λ _. tt))
+      (λ _. cond_both (c == clock_number w) _ _ (λ (k : Caller). Beyond net.moment (awaited_moment (next_of w k net.past c))) (λ _. tt) (λ _. tt))
   awaits c (Some s) is =
       let one = all_at (is_script (length w.hosts)) w.scripts c s world.scripts is in
       let lt : s.host < length w.hosts = ltb-true s.host (length w.hosts) (and_parts (nat_lt s.host (length w.hosts)) (list_all is_step s.steps) one).0 in
       let waits = all_in (λ (k : ℕ). not (can_go_on w net k)) (range_with_len 0 (length w.scripts)) c all_wait (in_range 0 (length w.scripts) c (omega arith) (omega (arith, slice_get_within w.scripts c s is))) in
-      let waits_so : not (is_ready w net (next_of (IsScript s) net.past c)) ≡ true =
-      subst (λ (o : Option Script). not (is_ready w net (next_of (option_map_or (λ (t : Script). IsScript t) o (other_caller w c)) net.past c)) ≡ true) is waits in
-      by_ask s.host (next_of (IsScript s) net.past c) lt (fine_position s.host s.steps [] (own_replies net.past c)) (not_is (is_ready w net (next_of (IsScript s) net.past c)) waits_so)
+      let waits_so : not (is_ready w net (next_of w (IsScript s) net.past c)) ≡ true =
+      subst (λ (o : Option Script). not (is_ready w net (next_of w (option_map_or (λ (t : Script). IsScript t) o (other_caller w c)) net.past c)) ≡ true) is waits in
+      by_ask s.host (next_of w (IsScript s) net.past c) lt (fine_position s.host s.steps (no_names (zone_of w)) (own_replies net.past c)) (not_is (is_ready w net (next_of w (IsScript s) net.past c)) waits_so)
 
   -- the clock's target is beyond the moment, where the end is
   rises : net.moment < w.end → net.moment < target w net
   rises lt =
       below_least net.moment w.end _ lt
-      (above_both net.moment (filter_map (λ (a : ActorName). due_of (net.actors a)) (conversations w)) (filter_map (λ (c : ℕ). awaited_moment (next_of (caller_of w c) net.past c)) (callers w))
+      (above_both net.moment (filter_map (λ (a : ActorName). due_of (net.actors a)) (conversations w)) (filter_map (λ (c : ℕ). awaited_moment (next_of w (caller_of w c) net.past c)) (callers w))
       (above_filter net.moment (λ (a : ActorName). due_of (net.actors a)) (conversations w) due_beyond)
-      (above_filter net.moment (λ (c : ℕ). awaited_moment (next_of (caller_of w c) net.past c)) (callers w) (λ c there. awaits c (slice_get w.scripts c) refl)))
+      (above_filter net.moment (λ (c : ℕ). awaited_moment (next_of w (caller_of w c) net.past c)) (callers w) (λ c there. awaits c (slice_get w.scripts c) refl)))
 
 -- Over a timed legal history.
 

@@ -7,9 +7,9 @@ use Rattle.net_base.specs.declared.event.Event.TheVariants as event
 use Rattle.net_base.specs.declared.reply.Reply.{Reply}
 use Rattle.net_base.specs.declared.world.Step.{Step}
 use Rattle.net_base.specs.declared.world.Step.TheVariants as step
-use Rattle.net_base.specs.Steps.{Names, clone_path, lines_in, Ask, position}
+use Rattle.net_base.specs.Steps.{Names, call_names, clone_path, lines_in, Ask, position}
 use Rattle.history_laws.proofs.Ordered.{each_any}
-use Rattle.history_laws.proofs.StepEvents.{IsOther, own_other, IsOpened, Fits, Says, IsNextEvent, next_event}
+use Rattle.history_laws.proofs.StepEvents.{IsOther, own_other, IsNamed, IsOpened, Fits, Says, IsNextEvent, next_event}
 
 -- a wait for a moment is recorded at the host's desk
 abbrev pub UntilAt : ℕ → ActorName → Event → Type 0
@@ -38,6 +38,9 @@ says_until h (step.Cs query) = tt
 says_until h (step.Dial called address) = ((tt, tt), (tt, tt))
 says_until h (step.Listen called from) = ((tt, tt), (tt, tt))
 says_until h (step.Accept called from) = ((tt, tt), (tt, tt))
+says_until h (step.Hread called count) = ((tt, tt), each_any (λ (called : List ℕ). IsNamed h (UntilAt h) called) (λ called. (tt, tt)) call_names)
+says_until h (step.Hwrite called bytes) = ((tt, tt), each_any (λ (called : List ℕ). IsNamed h (UntilAt h) called) (λ called. (tt, tt)) call_names)
+says_until h (step.Dns called times) = ((tt, tt), each_any (λ (called : List ℕ). IsNamed h (UntilAt h) called) (λ called. (tt, tt)) call_names)
 says_until h _ = (tt, tt)
 
 -- what a script records next

@@ -26,12 +26,12 @@ use Rattle.net_base.specs.Directory.{Slot, free_slot}
 use Rattle.net_base.specs.Duties.{Duty}
 use Rattle.net_base.specs.Legal.{IsAsked, IsLegal, IsNext, MayFollow, asked_by}
 use Rattle.net_base.specs.Net.{Net, after, net_after, next_net, opening_net, owed, step_of, with_of}
-use Rattle.net_base.specs.Next.{next, next_of, own_replies}
-use Rattle.net_base.specs.Steps.{Ask, Position, clone_path, lines_in, position}
+use Rattle.net_base.specs.Next.{next, next_of, own_replies, zone_of}
+use Rattle.net_base.specs.Steps.{Ask, Names, Position, call_names, no_names, clone_path, lines_in, position}
 use Rattle.net_base.specs.World.{IsWorld}
 use Rattle.history_laws.proofs.Histories.{after_push, by_entries}
 use Rattle.history_laws.proofs.Ordered.{Each, each_any}
-use Rattle.history_laws.proofs.StepEvents.{Fits, IsNextEvent, IsOpened, IsOwn, Says, next_event}
+use Rattle.history_laws.proofs.StepEvents.{Fits, IsNextEvent, IsNamed, IsOpened, IsOwn, Says, next_event}
 use Rattle.progress_law.proofs.Duties.{Steady, AreSlots, IsActorOf, IsCallIn, bears, generation_in, same_core, given_last}
 use Rattle.progress_law.proofs.Entries.{Recorded, changes}
 use Rattle.progress_law.proofs.Keeping.{steady_on}
@@ -62,27 +62,30 @@ says_silent h (step.Cs query) = tt
 says_silent h (step.Dial called address) = ((refl, refl), (refl, refl))
 says_silent h (step.Listen called from) = ((refl, refl), (refl, refl))
 says_silent h (step.Accept called from) = ((refl, refl), (refl, refl))
+says_silent h (step.Hread called count) = ((refl, refl), each_any (λ (called : List ℕ). IsNamed h (Silent) called) (λ called. (refl, refl)) call_names)
+says_silent h (step.Hwrite called bytes) = ((refl, refl), each_any (λ (called : List ℕ). IsNamed h (Silent) called) (λ called. (refl, refl)) call_names)
+says_silent h (step.Dns called times) = ((refl, refl), each_any (λ (called : List ℕ). IsNamed h (Silent) called) (λ called. (refl, refl)) call_names)
 says_silent h _ = (refl, refl)
 
-silent_position : (h : ℕ) (steps : List ScriptStep) (rs : List Reply) → IsNextEvent Silent (position h steps [] rs).next
-silent_position h steps rs =
-    next_event h Silent (λ (r : Reply). Unit {0}) fits_silent steps [] rs
+silent_position : (h : ℕ) (steps : List ScriptStep) (names : Names) (rs : List Reply) → IsNextEvent Silent (position h steps names rs).next
+silent_position h steps names rs =
+    next_event h Silent (λ (r : Reply). Unit {0}) fits_silent steps names rs
     (each_any (λ (s : ScriptStep). Says h Silent s) (says_silent h) steps)
     (each_any (λ (r : Reply). Unit {0}) (λ r. tt) rs)
 
-silent_next : (k : Caller) (h : List Entry) (c : ℕ) (x : Entry) → IsNext k (next_of k h c) x → bears x.event ≡ false
-silent_next (IsScript s) h c x is = by (position s.host s.steps [] (own_replies h c)).next (silent_position s.host s.steps (own_replies h c)) is
+silent_next : (w : World) (k : Caller) (h : List Entry) (c : ℕ) (x : Entry) → IsNext k (next_of w k h c) x → bears x.event ≡ false
+silent_next w (IsScript s) h c x is = by (position s.host s.steps (no_names (zone_of w)) (own_replies h c)).next (silent_position s.host s.steps (no_names (zone_of w)) (own_replies h c)) is
   where
     by : (o : Option Ask) → IsNextEvent Silent o → o ≡ Some (asked_by x) → bears x.event ≡ false
     by None fine is = absurd (none-some _ is)
     by (Some ask) fine is = ap (λ (a : Ask). bears a.event) (sym (same_Some ask (asked_by x) is)) ∙ fine
-silent_next (IsCourier m) h c x is = ap (λ (a : Ask). bears a.event) (sym (same_Some _ (asked_by x) is))
-silent_next IsClock h c x is = moves x.actor x.event is
+silent_next w (IsCourier m) h c x is = ap (λ (a : Ask). bears a.event) (sym (same_Some _ (asked_by x) is))
+silent_next w IsClock h c x is = moves x.actor x.event is
   where
     moves : (a : ActorName) (e : Event) → IsNext IsClock None (record x { actor = a; event = e }) → bears e ≡ false
     moves name.Clock (event.Move m) is = refl
     moves _ _ is = absurd is
-silent_next IsNobody h c x is = absurd (none-some _ is)
+silent_next w IsNobody h c x is = absurd (none-some _ is)
 
 -- At the beginning.
 
@@ -139,7 +142,7 @@ push w world h x legal may steady =
       known = may.is_known.1;
       step = some.1;
       asked = record {
-        own = λ none. (ap with_of none, silent_next (caller_of w x.caller) h x.caller x (own ((after w h).owed x.caller) none may.is_asked));
+        own = λ none. (ap with_of none, silent_next w (caller_of w x.caller) h x.caller x (own ((after w h).owed x.caller) none may.is_asked));
         duty = λ d ds is.
             let same = owing ((after w h).owed x.caller) d ds is may.is_asked in
             (ap (λ (a : Ask). a.actor) same, ap (λ (a : Ask). a.event) same, sym (ap with_of is));

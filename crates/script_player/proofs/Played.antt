@@ -8,10 +8,11 @@ use Rattle.net_base.specs.declared.world.Script.{Script}
 use Rattle.net_base.specs.declared.world.Step.{Step}
 use Rattle.net_base.specs.declared.world.Step.TheVariants as step
 use Rattle.net_base.specs.Next.{finished_by}
-use Rattle.net_base.specs.Steps.{Ask, Names, Play, Asks, Ends, Position, position, position_by, play_of, stands}
+use Rattle.net_base.specs.Steps.{Ask, Names, Play, Asks, Ends, Position, no_names, position, position_by, play_of, stands}
+use Rattle.net_base.specs.Versions.{Tuples}
 use Rattle.script_task.specs.Holdings.{Holdings, holdings}
 use Rattle.script_task.specs.declared.effect.Effect.{Effect}
-use Rattle.script_task.specs.declared.effect.Effect.TheVariants.{Opens, Closes, Keeps}
+use Rattle.script_task.specs.declared.effect.Effect.TheVariants.{Opens, Closes, Hears, Keeps}
 use Rattle.script_task.specs.declared.request.Request.{Request}
 use Rattle.script_task.specs.Effects.{effect_of, opened, settles}
 use Rattle.script_task.specs.Fitting.{fits}
@@ -82,83 +83,87 @@ begun_asks names (step.Listen called from) = refl
 begun_asks names (step.Accept called from) = refl
 begun_asks names (step.Reject called) = refl
 begun_asks names (step.Hangup called) = refl
+begun_asks names (step.Hread called count) = refl
+begun_asks names (step.Hwrite called bytes) = refl
+begun_asks names (step.Dns called times) = refl
 
-begins : (s : Script) (rs : List Reply) (p : Playing) (at : Step) → slice_get s.steps p.finished ≡ Some at → Between s rs p
-    → InStep s rs (record p { task = Some (begun at); effect = None }) (begun at)
-begins s rs p at is between =
+begins : (zone : Tuples) (s : Script) (rs : List Reply) (p : Playing) (at : Step) → slice_get s.steps p.finished ≡ Some at → Between zone s rs p
+    → InStep zone s rs (record p { task = Some (begun at); effect = None }) (begun at)
+begins zone s rs p at is between =
     let behind : drop p.finished s.steps ≡ at ∷ drop (suc p.finished) s.steps = drop_at p.finished s.steps at is in
     record {
       play = play_of s.host p.holdings.names at;
       step = at;
       rest = drop (suc p.finished) s.steps;
       behind = behind;
-      plays = λ more. subst (λ (ss : List Step). position_after s (rs ++ more) ≡ position s.host ss p.holdings.names more) behind (between.leaves more);
+      plays = λ more. subst (λ (ss : List Step). position_after zone s (rs ++ more) ≡ position s.host ss p.holdings.names more) behind (between.leaves more);
       stands_for = begun_stands (begun at) at refl s.host p.holdings.names between.slots;
       goes_on = begun_asks p.holdings.names at;
       knows = tt;
     }
 
 -- as `IsAt`
-abbrev AtIts : Script → List Reply → Playing → Type 0
-AtIts s rs p = IsAtBy s rs p p.task
+abbrev AtIts : Tuples → Script → List Reply → Playing → Type 0
+AtIts zone s rs p = IsAtBy zone s rs p p.task
 
-begun_is : (s : Script) (rs : List Reply) (p : Playing) (t : Option StepTask) (o : Option Step) → p.task ≡ t → slice_get s.steps p.finished ≡ o → IsAtBy s rs p t → AtIts s rs (begun_by p t o)
-begun_is s rs p (Some t) o task is at = subst (λ (u : Option StepTask). IsAtBy s rs p u) (sym task) at
-begun_is s rs p None None task is at = subst (λ (u : Option StepTask). IsAtBy s rs p u) (sym task) at
-begun_is s rs p None (Some step) task is at = begins s rs p step is at
+begun_is : (zone : Tuples) (s : Script) (rs : List Reply) (p : Playing) (t : Option StepTask) (o : Option Step) → p.task ≡ t → slice_get s.steps p.finished ≡ o → IsAtBy zone s rs p t → AtIts zone s rs (begun_by p t o)
+begun_is zone s rs p (Some t) o task is at = subst (λ (u : Option StepTask). IsAtBy zone s rs p u) (sym task) at
+begun_is zone s rs p None None task is at = subst (λ (u : Option StepTask). IsAtBy zone s rs p u) (sym task) at
+begun_is zone s rs p None (Some step) task is at = begins zone s rs p step is at
 
-pub begun_at : (s : Script) (rs : List Reply) (p : Playing) → IsAt s rs p → IsAt s rs (begun_in s p)
+pub begun_at : (zone : Tuples) (s : Script) (rs : List Reply) (p : Playing) → IsAt zone s rs p → IsAt zone s rs (begun_in s p)
 unfolding IsAt
-begun_at s rs p at = begun_is s rs p p.task (slice_get s.steps p.finished) refl refl at
+begun_at zone s rs p at = begun_is zone s rs p p.task (slice_get s.steps p.finished) refl refl at
 
 -- The next event.
 
-heads : (s : Script) (rs : List Reply) (p : Playing) (t : StepTask) (q : Request) (step : InStep s rs p t) → asks t p.holdings.names ≡ Some q → Heads s.host p.holdings.names (Some q) step.play
-heads s rs p t q step is = subst (λ (o : Option Request). Heads s.host p.holdings.names o step.play) is (asks_so s.host p.holdings.names t step.play step.stands_for)
+heads : (zone : Tuples) (s : Script) (rs : List Reply) (p : Playing) (t : StepTask) (q : Request) (step : InStep zone s rs p t) → asks t p.holdings.names ≡ Some q → Heads s.host p.holdings.names (Some q) step.play
+heads zone s rs p t q step is = subst (λ (o : Option Request). Heads s.host p.holdings.names o step.play) is (asks_so s.host p.holdings.names t step.play step.stands_for)
 
 -- a play that asks stands at its event, and its step is left
-at_event : (s : Script) (rs : List Reply) (play : Play) (at : Step) (rest : List Step) (ask : Ask) → head play ≡ Some ask → Plays s rs play at rest
-    → position_after s rs ≡ record { next = Some ask; left = at ∷ rest }
-at_event s rs (Asks a e next) at rest ask is plays =
-    ap (λ (xs : List Reply). position_after s xs) (sym (append_nothing rs)) ∙ plays [] ∙ ap (λ (o : Option Ask). record { next = o; left = at ∷ rest }) is
-at_event s rs (Ends names) at rest ask is plays = absurd (none-some ask is)
+at_event : (zone : Tuples) (s : Script) (rs : List Reply) (play : Play) (at : Step) (rest : List Step) (ask : Ask) → head play ≡ Some ask → Plays zone s rs play at rest
+    → position_after zone s rs ≡ record { next = Some ask; left = at ∷ rest }
+at_event zone s rs (Asks a e next) at rest ask is plays =
+    ap (λ (xs : List Reply). position_after zone s xs) (sym (append_nothing rs)) ∙ plays [] ∙ ap (λ (o : Option Ask). record { next = o; left = at ∷ rest }) is
+at_event zone s rs (Ends names) at rest ask is plays = absurd (none-some ask is)
 
 -- there is a request where it isn't through
 some_request : (o : Option Request) → is_none o ≡ false → (q : Request) × (o ≡ Some q)
 some_request None is = absurd (true≢false is)
 some_request (Some q) is = (q, refl)
 
-step_next : (s : Script) (rs : List Reply) (p : Playing) (t : StepTask) → InStep s rs p t → asked_by s.host p.holdings.names (asks t p.holdings.names) ≡ next_after s rs
-step_next s rs p t step =
+step_next : (zone : Tuples) (s : Script) (rs : List Reply) (p : Playing) (t : StepTask) → InStep zone s rs p t → asked_by s.host p.holdings.names (asks t p.holdings.names) ≡ next_after zone s rs
+step_next zone s rs p t step =
     let found = some_request (asks t p.holdings.names) step.goes_on in
-    let heading = heads s rs p t found.0 step found.1 in
-    ap (λ (o : Option Request). asked_by s.host p.holdings.names o) found.1 ∙ heading.2 ∙ sym (ap (λ (at : Position). at.next) (at_event s rs step.play step.step step.rest heading.0 heading.1 step.plays))
+    let heading = heads zone s rs p t found.0 step found.1 in
+    ap (λ (o : Option Request). asked_by s.host p.holdings.names o) found.1 ∙ heading.2 ∙ sym (ap (λ (at : Position). at.next) (at_event zone s rs step.play step.step step.rest heading.0 heading.1 step.plays))
 
 -- no step is left
-none_left : (s : Script) (rs : List Reply) (p : Playing) → Between s rs p → slice_get s.steps p.finished ≡ None → position_after s rs ≡ record { next = None; left = [] }
-none_left s rs p between is =
-    ap (λ (xs : List Reply). position_after s xs) (sym (append_nothing rs)) ∙ between.leaves [] ∙ ap (λ (ss : List Step). position s.host ss p.holdings.names []) (drop_none p.finished s.steps is)
+none_left : (zone : Tuples) (s : Script) (rs : List Reply) (p : Playing) → Between zone s rs p → slice_get s.steps p.finished ≡ None → position_after zone s rs ≡ record { next = None; left = [] }
+none_left zone s rs p between is =
+    ap (λ (xs : List Reply). position_after zone s xs) (sym (append_nothing rs)) ∙ between.leaves [] ∙ ap (λ (ss : List Step). position s.host ss p.holdings.names []) (drop_none p.finished s.steps is)
 
-next_is : (s : Script) (rs : List Reply) (p : Playing) (t : Option StepTask) (o : Option Step) → p.task ≡ t → slice_get s.steps p.finished ≡ o → IsAtBy s rs p t → asked_at s.host (begun_by p t o) ≡ next_after s rs
-next_is s rs p (Some t) o task is at = ap (λ (u : Option StepTask). asked_by s.host p.holdings.names (request_by p.holdings.names u)) task ∙ step_next s rs p t at
-next_is s rs p None None task is at =
-    ap (λ (u : Option StepTask). asked_by s.host p.holdings.names (request_by p.holdings.names u)) task ∙ sym (ap (λ (at : Position). at.next) (none_left s rs p at is))
-next_is s rs p None (Some step) task is at = step_next s rs (record p { task = Some (begun step); effect = None }) (begun step) (begins s rs p step is at)
+next_is : (zone : Tuples) (s : Script) (rs : List Reply) (p : Playing) (t : Option StepTask) (o : Option Step) → p.task ≡ t → slice_get s.steps p.finished ≡ o → IsAtBy zone s rs p t → asked_at s.host (begun_by p t o) ≡ next_after zone s rs
+next_is zone s rs p (Some t) o task is at = ap (λ (u : Option StepTask). asked_by s.host p.holdings.names (request_by p.holdings.names u)) task ∙ step_next zone s rs p t at
+next_is zone s rs p None None task is at =
+    ap (λ (u : Option StepTask). asked_by s.host p.holdings.names (request_by p.holdings.names u)) task ∙ sym (ap (λ (at : Position). at.next) (none_left zone s rs p at is))
+next_is zone s rs p None (Some step) task is at = step_next zone s rs (record p { task = Some (begun step); effect = None }) (begun step) (begins zone s rs p step is at)
 
-pub next_right : (s : Script) (rs : List Reply) (p : Playing) → IsAt s rs p → asked_at s.host (begun_in s p) ≡ next_after s rs
+pub next_right : (zone : Tuples) (s : Script) (rs : List Reply) (p : Playing) → IsAt zone s rs p → asked_at s.host (begun_in s p) ≡ next_after zone s rs
 unfolding IsAt
-next_right s rs p at = next_is s rs p p.task (slice_get s.steps p.finished) refl refl at
+next_right zone s rs p at = next_is zone s rs p p.task (slice_get s.steps p.finished) refl refl at
 
 -- It is ready for a reply.
 
 same_names : (e : Effect) (b : Holdings) → (with_room e b).names ≡ b.names
 same_names (Opens called n m) b = refl
 same_names (Closes called) b = refl
+same_names (Hears heard) b = refl
 same_names Keeps b = refl
 
-step_prepared : (s : Script) (rs : List Reply) (p : Playing) (t : StepTask) (q : Request) → InStep s rs p t → asks t p.holdings.names ≡ Some q → (names : Names) (b : Holdings) → p.holdings.names ≡ names → b.names ≡ names
-    → InStep s rs (record p { holdings = b; effect = Some (effect_of p.holdings.names q) }) t
-step_prepared s rs p t q step is names b old new =
+step_prepared : (zone : Tuples) (s : Script) (rs : List Reply) (p : Playing) (t : StepTask) (q : Request) → InStep zone s rs p t → asks t p.holdings.names ≡ Some q → (names : Names) (b : Holdings) → p.holdings.names ≡ names → b.names ≡ names
+    → InStep zone s rs (record p { holdings = b; effect = Some (effect_of p.holdings.names q) }) t
+step_prepared zone s rs p t q step is names b old new =
     let back : p.holdings.names ≡ b.names = old ∙ sym new in
     record {
       play = step.play;
@@ -171,15 +176,15 @@ step_prepared s rs p t q step is names b old new =
       knows = (q, subst (λ (ns : Names). asks t ns ≡ Some q) back is, ap (λ (ns : Names). effect_of ns q) back);
     }
 
-prepared_is : (s : Script) (rs : List Reply) (p : Playing) (t : Option StepTask) (o : Option Request) → p.task ≡ t → request_by p.holdings.names t ≡ o → IsAtBy s rs p t → AtIts s rs (prepared_by p o)
-prepared_is s rs p t None task is at = subst (λ (u : Option StepTask). IsAtBy s rs p u) (sym task) at
-prepared_is s rs p None (Some q) task is at = absurd (none-some q is)
-prepared_is s rs p (Some t) (Some q) task is at =
-    subst (λ (u : Option StepTask). IsAtBy s rs (prepared_by p (Some q)) u) (sym task) (step_prepared s rs p t q at is p.holdings.names (with_room (effect_of p.holdings.names q) p.holdings) refl (same_names (effect_of p.holdings.names q) p.holdings))
+prepared_is : (zone : Tuples) (s : Script) (rs : List Reply) (p : Playing) (t : Option StepTask) (o : Option Request) → p.task ≡ t → request_by p.holdings.names t ≡ o → IsAtBy zone s rs p t → AtIts zone s rs (prepared_by p o)
+prepared_is zone s rs p t None task is at = subst (λ (u : Option StepTask). IsAtBy zone s rs p u) (sym task) at
+prepared_is zone s rs p None (Some q) task is at = absurd (none-some q is)
+prepared_is zone s rs p (Some t) (Some q) task is at =
+    subst (λ (u : Option StepTask). IsAtBy zone s rs (prepared_by p (Some q)) u) (sym task) (step_prepared zone s rs p t q at is p.holdings.names (with_room (effect_of p.holdings.names q) p.holdings) refl (same_names (effect_of p.holdings.names q) p.holdings))
 
-pub prepared_at : (s : Script) (rs : List Reply) (p : Playing) → IsAt s rs p → IsAt s rs (prepared p)
+pub prepared_at : (zone : Tuples) (s : Script) (rs : List Reply) (p : Playing) → IsAt zone s rs p → IsAt zone s rs (prepared p)
 unfolding IsAt
-prepared_at s rs p at = prepared_is s rs p p.task (request_by p.holdings.names p.task) refl refl at
+prepared_at zone s rs p at = prepared_is zone s rs p p.task (request_by p.holdings.names p.task) refl refl at
 
 -- where the effect isn't known it is got ready
 pub expected_none : (s : Script) (p : Playing) → p.effect ≡ None → expected_in s p ≡ prepared (begun_in s p)
@@ -188,11 +193,11 @@ expected_none s p is = ap (λ (o : Option Effect). expected_by s p o) is
 pub expected_some : (s : Script) (p : Playing) (e : Effect) → p.effect ≡ Some e → expected_in s p ≡ p
 expected_some s p e is = ap (λ (o : Option Effect). expected_by s p o) is
 
-pub expected_at : (s : Script) (rs : List Reply) (p : Playing) → IsAt s rs p → IsAt s rs (expected_in s p)
-expected_at s rs p at = by p.effect
+pub expected_at : (zone : Tuples) (s : Script) (rs : List Reply) (p : Playing) → IsAt zone s rs p → IsAt zone s rs (expected_in s p)
+expected_at zone s rs p at = by p.effect
   where
-    by : (o : Option Effect) → IsAt s rs (expected_by s p o)
-    by None = prepared_at s rs (begun_in s p) (begun_at s rs p at)
+    by : (o : Option Effect) → IsAt zone s rs (expected_by s p o)
+    by None = prepared_at zone s rs (begun_in s p) (begun_at zone s rs p at)
     by (Some e) = at
 
 -- where there is an event its effect is known
@@ -200,40 +205,40 @@ prepared_knows : (h : ℕ) (p : Playing) (o : Option Request) (ask : Ask) → as
 prepared_knows h p None ask is = absurd (none-some ask is)
 prepared_knows h p (Some q) ask is = (effect_of p.holdings.names q, refl)
 
-expected_knows : (s : Script) (rs : List Reply) (p : Playing) (ask : Ask) → IsAt s rs p → next_after s rs ≡ Some ask → (e : Effect) × ((expected_in s p).effect ≡ Some e)
-expected_knows s rs p ask at is = by p.effect refl
+expected_knows : (zone : Tuples) (s : Script) (rs : List Reply) (p : Playing) (ask : Ask) → IsAt zone s rs p → next_after zone s rs ≡ Some ask → (e : Effect) × ((expected_in s p).effect ≡ Some e)
+expected_knows zone s rs p ask at is = by p.effect refl
   where
     by : (o : Option Effect) → p.effect ≡ o → (e : Effect) × ((expected_by s p o).effect ≡ Some e)
-    by None none = prepared_knows s.host (begun_in s p) (request_of (begun_in s p)) ask (next_right s rs p at ∙ is)
+    by None none = prepared_knows s.host (begun_in s p) (request_of (begun_in s p)) ask (next_right zone s rs p at ∙ is)
     by (Some e) some = (e, some)
 
 -- A reply.
 
-plays_on : (s : Script) (rs : List Reply) (play : Play) (at : Step) (rest : List Step) (ask : Ask) (r : Reply) → head play ≡ Some ask → Plays s rs play at rest → Plays s (rs ++ r ∷ []) (follow play r) at rest
-plays_on s rs (Asks a e next) at rest ask r is plays = λ more. ap (λ (xs : List Reply). position_after s xs) (append_one rs r more) ∙ plays (r ∷ more)
-plays_on s rs (Ends names) at rest ask r is plays = absurd (none-some ask is)
+plays_on : (zone : Tuples) (s : Script) (rs : List Reply) (play : Play) (at : Step) (rest : List Step) (ask : Ask) (r : Reply) → head play ≡ Some ask → Plays zone s rs play at rest → Plays zone s (rs ++ r ∷ []) (follow play r) at rest
+plays_on zone s rs (Asks a e next) at rest ask r is plays = λ more. ap (λ (xs : List Reply). position_after zone s xs) (append_one rs r more) ∙ plays (r ∷ more)
+plays_on zone s rs (Ends names) at rest ask r is plays = absurd (none-some ask is)
 
 play_fits : (play : Play) (ask : Ask) (r : Reply) → head play ≡ Some ask → fits ask.event r ≡ true → fits_play play r ≡ true
 play_fits (Asks a e next) ask r is fit = subst (λ (x : Ask). fits x.event r ≡ true) (sym (same_Some (record { actor = a; event = e }) ask is)) fit
 play_fits (Ends names) ask r is fit = refl
 
 -- what holds of the task and the play after a reply
-record Moved (s : Script) (rs : List Reply) (p : Playing) (t : StepTask) (step : InStep s rs p t) (r : Reply) (names : Names) : Type 0 where
+record Moved (zone : Tuples) (s : Script) (rs : List Reply) (p : Playing) (t : StepTask) (step : InStep zone s rs p t) (r : Reply) (names : Names) : Type 0 where
   stands_for : StandsFor s.host names (after t r) (follow step.play r)
-  plays : Plays s (rs ++ r ∷ []) (follow step.play r) step.step step.rest
+  plays : Plays zone s (rs ++ r ∷ []) (follow step.play r) step.step step.rest
 
-moved : (s : Script) (rs : List Reply) (p : Playing) (t : StepTask) (step : InStep s rs p t) (e : Effect) (ask : Ask) (r : Reply) → Knows p.holdings.names t (Some e) → next_after s rs ≡ Some ask → fits ask.event r ≡ true
-    → Moved s rs p t step r (settles e (opened e r) p.holdings).names
-moved s rs p t step e ask r knows is fit =
+moved : (zone : Tuples) (s : Script) (rs : List Reply) (p : Playing) (t : StepTask) (step : InStep zone s rs p t) (e : Effect) (ask : Ask) (r : Reply) → Knows p.holdings.names t (Some e) → next_after zone s rs ≡ Some ask → fits ask.event r ≡ true
+    → Moved zone s rs p t step r (settles e (opened e r) p.holdings).names
+moved zone s rs p t step e ask r knows is fit =
     let q : Request = knows.0 in
-    let heading = heads s rs p t q step knows.1 in
-    let same : heading.0 ≡ ask = same_Some heading.0 ask (sym (ap (λ (at : Position). at.next) (at_event s rs step.play step.step step.rest heading.0 heading.1 step.plays)) ∙ is) in
+    let heading = heads zone s rs p t q step knows.1 in
+    let same : heading.0 ≡ ask = same_Some heading.0 ask (sym (ap (λ (at : Position). at.next) (at_event zone s rs step.play step.step step.rest heading.0 heading.1 step.plays)) ∙ is) in
     let fits_it : fits_play step.play r ≡ true = play_fits step.play heading.0 r heading.1 (subst (λ (x : Ask). fits x.event r ≡ true) (sym same) fit) in
     let names_are : settled p.holdings.names q r ≡ (settles e (opened e r) p.holdings).names =
     sym (ap (λ (x : Effect). (settles x (opened x r) p.holdings).names) knows.2 ∙ settles_so p.holdings q r) in
     record {
       stands_for = subst (λ (ns : Names). StandsFor s.host ns (after t r) (follow step.play r)) names_are (moves_so s.host p.holdings.names t step.play q r step.stands_for knows.1 fits_it);
-      plays = plays_on s rs step.play step.step step.rest heading.0 r heading.1 step.plays;
+      plays = plays_on zone s rs step.play step.step step.rest heading.0 r heading.1 step.plays;
     }
 
 none_is : (o : Option Request) → is_none o ≡ true → o ≡ None
@@ -244,10 +249,10 @@ lt_test : (k n : ℕ) → k < n → nat_lt k n ≡ true
 lt_test k n lt = search (rules, tests, lt)
 
 -- the step goes on, or the next one comes
-goes_on : (s : Script) (rs : List Reply) (p : Playing) (t : StepTask) (step : InStep s rs p t) (r : Reply) (b : Holdings) → Moved s rs p t step r b.names
+goes_on : (zone : Tuples) (s : Script) (rs : List Reply) (p : Playing) (t : StepTask) (step : InStep zone s rs p t) (r : Reply) (b : Holdings) → Moved zone s rs p t step r b.names
     → (through : Bool) → is_none (asks (after t r) b.names) ≡ through
-    → AtIts s (rs ++ r ∷ []) (if through && nat_lt p.finished (length s.steps) then record p { holdings = b; effect = None; finished = p.finished + 1; task = None } else record p { holdings = b; task = Some (after t r); effect = None })
-goes_on s rs p t step r b moves false is =
+    → AtIts zone s (rs ++ r ∷ []) (if through && nat_lt p.finished (length s.steps) then record p { holdings = b; effect = None; finished = p.finished + 1; task = None } else record p { holdings = b; task = Some (after t r); effect = None })
+goes_on zone s rs p t step r b moves false is =
     record {
       play = follow step.play r;
       step = step.step;
@@ -258,11 +263,11 @@ goes_on s rs p t step r b moves false is =
       goes_on = is;
       knows = tt;
     }
-goes_on s rs p t step r b moves true is =
+goes_on zone s rs p t step r b moves true is =
     let more = behind_more p.finished s.steps step.step step.rest step.behind in
     let ends : follow step.play r ≡ Ends b.names =
     subst (λ (o : Option Request). Heads s.host b.names o (follow step.play r)) (none_is (asks (after t r) b.names) is) (asks_so s.host b.names (after t r) (follow step.play r) moves.stands_for) in
-    let next : Between s (rs ++ r ∷ []) (record p { holdings = b; effect = None; finished = p.finished + 1; task = None }) =
+    let next : Between zone s (rs ++ r ∷ []) (record p { holdings = b; effect = None; finished = p.finished + 1; task = None }) =
     record {
       slots = moves.stands_for.0;
       leaves = λ later. moves.plays later
@@ -273,60 +278,60 @@ goes_on s rs p t step r b moves true is =
     } in
     chosen (nat_lt p.finished (length s.steps)) (lt_test p.finished (length s.steps) more.0) next
   where
-    chosen : (c : Bool) → c ≡ true → Between s (rs ++ r ∷ []) (record p { holdings = b; effect = None; finished = p.finished + 1; task = None })
-        → AtIts s (rs ++ r ∷ []) (if c then record p { holdings = b; effect = None; finished = p.finished + 1; task = None } else record p { holdings = b; task = Some (after t r); effect = None })
+    chosen : (c : Bool) → c ≡ true → Between zone s (rs ++ r ∷ []) (record p { holdings = b; effect = None; finished = p.finished + 1; task = None })
+        → AtIts zone s (rs ++ r ∷ []) (if c then record p { holdings = b; effect = None; finished = p.finished + 1; task = None } else record p { holdings = b; task = Some (after t r); effect = None })
     chosen true is next = next
     chosen false is next = absurd (false≢true is)
 
-told_is : (s : Script) (rs : List Reply) (p : Playing) (t : Option StepTask) (e : Effect) (ask : Ask) (r : Reply) → p.effect ≡ Some e → IsAtBy s rs p t → next_after s rs ≡ Some ask → fits ask.event r ≡ true
-    → AtIts s (rs ++ r ∷ []) (left_by (length s.steps) (heard_by p t (Some e) r) (heard_by p t (Some e) r).task)
-told_is s rs p None e ask r known at is fit = absurd (none-some e (sym at.unknown ∙ known))
-told_is s rs p (Some t) e ask r known step is fit =
+told_is : (zone : Tuples) (s : Script) (rs : List Reply) (p : Playing) (t : Option StepTask) (e : Effect) (ask : Ask) (r : Reply) → p.effect ≡ Some e → IsAtBy zone s rs p t → next_after zone s rs ≡ Some ask → fits ask.event r ≡ true
+    → AtIts zone s (rs ++ r ∷ []) (left_by (length s.steps) (heard_by p t (Some e) r) (heard_by p t (Some e) r).task)
+told_is zone s rs p None e ask r known at is fit = absurd (none-some e (sym at.unknown ∙ known))
+told_is zone s rs p (Some t) e ask r known step is fit =
     let b : Holdings = settles e (opened e r) p.holdings in
-    goes_on s rs p t step r b (moved s rs p t step e ask r (subst (λ (o : Option Effect). Knows p.holdings.names t o) known step.knows) is fit) (is_none (asks (after t r) b.names)) refl
+    goes_on zone s rs p t step r b (moved zone s rs p t step e ask r (subst (λ (o : Option Effect). Knows p.holdings.names t o) known step.knows) is fit) (is_none (asks (after t r) b.names)) refl
 
-told_at : (s : Script) (rs : List Reply) (p : Playing) (e : Effect) (ask : Ask) (r : Reply) → p.effect ≡ Some e → AtIts s rs p → next_after s rs ≡ Some ask → fits ask.event r ≡ true → AtIts s (rs ++ r ∷ []) (left (length s.steps) (heard p r))
-told_at s rs p e ask r known at is fit =
-    subst (λ (o : Option Effect). AtIts s (rs ++ r ∷ []) (left_by (length s.steps) (heard_by p p.task o r) (heard_by p p.task o r).task)) (sym known) (told_is s rs p p.task e ask r known at is fit)
+told_at : (zone : Tuples) (s : Script) (rs : List Reply) (p : Playing) (e : Effect) (ask : Ask) (r : Reply) → p.effect ≡ Some e → AtIts zone s rs p → next_after zone s rs ≡ Some ask → fits ask.event r ≡ true → AtIts zone s (rs ++ r ∷ []) (left (length s.steps) (heard p r))
+told_at zone s rs p e ask r known at is fit =
+    subst (λ (o : Option Effect). AtIts zone s (rs ++ r ∷ []) (left_by (length s.steps) (heard_by p p.task o r) (heard_by p p.task o r).task)) (sym known) (told_is zone s rs p p.task e ask r known at is fit)
 
 -- where it is after a reply
-pub told_right : (s : Script) (rs : List Reply) (p : Playing) (ask : Ask) (r : Reply) → IsAt s rs p → next_after s rs ≡ Some ask → fits ask.event r ≡ true → IsAt s (rs ++ r ∷ []) (left (length s.steps) (heard (expected_in s p) r))
+pub told_right : (zone : Tuples) (s : Script) (rs : List Reply) (p : Playing) (ask : Ask) (r : Reply) → IsAt zone s rs p → next_after zone s rs ≡ Some ask → fits ask.event r ≡ true → IsAt zone s (rs ++ r ∷ []) (left (length s.steps) (heard (expected_in s p) r))
 unfolding IsAt
-told_right s rs p ask r at is fit =
-    let knows = expected_knows s rs p ask at is in
-    told_at s rs (expected_in s p) knows.0 ask r knows.1 (expected_at s rs p at) is fit
+told_right zone s rs p ask r at is fit =
+    let knows = expected_knows zone s rs p ask at is in
+    told_at zone s rs (expected_in s p) knows.0 ask r knows.1 (expected_at zone s rs p at) is fit
 
 -- Steps that are finished.
 
-step_left : (s : Script) (rs : List Reply) (p : Playing) (t : StepTask) → InStep s rs p t → length (position_after s rs).left + p.finished ≡ length s.steps
-step_left s rs p t step =
+step_left : (zone : Tuples) (s : Script) (rs : List Reply) (p : Playing) (t : StepTask) → InStep zone s rs p t → length (position_after zone s rs).left + p.finished ≡ length s.steps
+step_left zone s rs p t step =
     let found = some_request (asks t p.holdings.names) step.goes_on in
-    let heading = heads s rs p t found.0 step found.1 in
-    let left_are : (position_after s rs).left ≡ drop p.finished s.steps =
-    ap (λ (at : Position). at.left) (at_event s rs step.play step.step step.rest heading.0 heading.1 step.plays) ∙ sym step.behind in
+    let heading = heads zone s rs p t found.0 step found.1 in
+    let left_are : (position_after zone s rs).left ≡ drop p.finished s.steps =
+    ap (λ (at : Position). at.left) (at_event zone s rs step.play step.step step.rest heading.0 heading.1 step.plays) ∙ sym step.behind in
     ap (λ (ss : List Step). length ss + p.finished) left_are ∙ length_drop p.finished s.steps (omega (arith, (behind_more p.finished s.steps step.step step.rest step.behind).0))
 
-left_is : (s : Script) (rs : List Reply) (p : Playing) (t : Option StepTask) (o : Option Step) → slice_get s.steps p.finished ≡ o → IsAtBy s rs p t → length (position_after s rs).left + p.finished ≡ length s.steps
-left_is s rs p (Some t) o is step = step_left s rs p t step
-left_is s rs p None (Some at) is between = step_left s rs (record p { task = Some (begun at); effect = None }) (begun at) (begins s rs p at is between)
-left_is s rs p None None is between =
-    ap (λ (ss : List Step). length ss + p.finished) (ap (λ (at : Position). at.left) (none_left s rs p between is) ∙ sym (drop_none p.finished s.steps is)) ∙ length_drop p.finished s.steps between.within
+left_is : (zone : Tuples) (s : Script) (rs : List Reply) (p : Playing) (t : Option StepTask) (o : Option Step) → slice_get s.steps p.finished ≡ o → IsAtBy zone s rs p t → length (position_after zone s rs).left + p.finished ≡ length s.steps
+left_is zone s rs p (Some t) o is step = step_left zone s rs p t step
+left_is zone s rs p None (Some at) is between = step_left zone s rs (record p { task = Some (begun at); effect = None }) (begun at) (begins zone s rs p at is between)
+left_is zone s rs p None None is between =
+    ap (λ (ss : List Step). length ss + p.finished) (ap (λ (at : Position). at.left) (none_left zone s rs p between is) ∙ sym (drop_none p.finished s.steps is)) ∙ length_drop p.finished s.steps between.within
 
-sum_at : (s : Script) (rs : List Reply) (p : Playing) → IsAt s rs p → length (position_after s rs).left + p.finished ≡ length s.steps
+sum_at : (zone : Tuples) (s : Script) (rs : List Reply) (p : Playing) → IsAt zone s rs p → length (position_after zone s rs).left + p.finished ≡ length s.steps
 unfolding IsAt
-sum_at s rs p at = left_is s rs p p.task (slice_get s.steps p.finished) refl at
+sum_at zone s rs p at = left_is zone s rs p p.task (slice_get s.steps p.finished) refl at
 
-pub finished_right : (s : Script) (rs : List Reply) (p : Playing) → IsAt s rs p → p.finished ≡ finished_by rs s
-finished_right s rs p at = omega (arith, sum_at s rs p at)
+pub finished_right : (zone : Tuples) (s : Script) (rs : List Reply) (p : Playing) → IsAt zone s rs p → p.finished ≡ finished_by zone rs s
+finished_right zone s rs p at = omega (arith, sum_at zone s rs p at)
 
 unfinished : (a b n : ℕ) → a + b ≡ n → nat_lt b n ≡ nat_lt 0 a
 unfinished zero b n is = grind (arith, nat_tests)
 unfinished (suc a) b n is = grind (arith, nat_tests)
 
-pub unfinished_right : (s : Script) (rs : List Reply) (p : Playing) → IsAt s rs p → nat_lt p.finished (length s.steps) ≡ nat_lt 0 (length (position_after s rs).left)
-unfinished_right s rs p at = unfinished (length (position_after s rs).left) p.finished (length s.steps) (sum_at s rs p at)
+pub unfinished_right : (zone : Tuples) (s : Script) (rs : List Reply) (p : Playing) → IsAt zone s rs p → nat_lt p.finished (length s.steps) ≡ nat_lt 0 (length (position_after zone s rs).left)
+unfinished_right zone s rs p at = unfinished (length (position_after zone s rs).left) p.finished (length s.steps) (sum_at zone s rs p at)
 
 -- nothing is recorded
-pub starts : (s : Script) → IsAt s [] (record { holdings = holdings [] None; finished = 0; task = None; effect = None })
+pub starts : (zone : Tuples) (s : Script) → IsAt zone s [] (record { holdings = holdings (no_names zone) None; finished = 0; task = None; effect = None })
 unfolding IsAt
-starts s = record { slots = refl; leaves = λ more. refl; within = omega arith; unknown = refl }
+starts zone s = record { slots = refl; leaves = λ more. refl; within = omega arith; unknown = refl }

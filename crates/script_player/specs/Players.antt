@@ -5,7 +5,8 @@ use Rattle.net_base.specs.declared.event.Event.{Event}
 use Rattle.net_base.specs.declared.reply.Reply.{Reply}
 use Rattle.net_base.specs.declared.world.Script.{Script}
 use Rattle.net_base.specs.declared.world.Step.{Step}
-use Rattle.net_base.specs.Steps.{Ask, Names, Play, Position, position, position_by, stands}
+use Rattle.net_base.specs.Steps.{Ask, Names, Play, Position, no_names, position, position_by, stands}
+use Rattle.net_base.specs.Versions.{Tuples}
 use Rattle.script_task.specs.Holdings.{Holdings, holdings}
 use Rattle.script_task.specs.declared.effect.Effect.{Effect}
 use Rattle.script_task.specs.declared.effect.Effect.TheVariants.{Opens}
@@ -29,22 +30,22 @@ pub record Playing : Type 0 where
 abbrev pub asked : ActorName × Event → Ask
 asked e = record { actor = e.0; event = e.1 }
 
--- where the script stands after the replies to its own events
-abbrev pub position_after : Script → List Reply → Position
-position_after s rs = position s.host s.steps [] rs
+-- where the script stands after the replies to its own events, where `dns` answers from this database
+abbrev pub position_after : Tuples → Script → List Reply → Position
+position_after zone s rs = position s.host s.steps (no_names zone) rs
 
 -- the event that it records next
-abbrev pub next_after : Script → List Reply → Option Ask
-next_after s rs = (position_after s rs).next
+abbrev pub next_after : Tuples → Script → List Reply → Option Ask
+next_after zone s rs = (position_after zone s rs).next
 
 -- after these replies this play is left of a step, and these steps behind it
-abbrev pub Plays : Script → List Reply → Play → Step → List Step → Type 0
-Plays s rs p step rest =
-    (more : List Reply) → position_after s (rs ++ more) ≡ position_by (stands p more) (step ∷ rest) (λ (names : Names) (later : List Reply). position s.host rest names later)
+abbrev pub Plays : Tuples → Script → List Reply → Play → Step → List Step → Type 0
+Plays zone s rs p step rest =
+    (more : List Reply) → position_after zone s (rs ++ more) ≡ position_by (stands p more) (step ∷ rest) (λ (names : Names) (later : List Reply). position s.host rest names later)
 
 -- after these replies these steps are left, where these names are bound
-abbrev pub Leaves : Script → List Reply → Names → List Step → Type 0
-Leaves s rs names rest = (more : List Reply) → position_after s (rs ++ more) ≡ position s.host rest names more
+abbrev pub Leaves : Tuples → Script → List Reply → Names → List Step → Type 0
+Leaves zone s rs names rest = (more : List Reply) → position_after zone s (rs ++ more) ≡ position s.host rest names more
 
 -- what is known is the effect of the task's next request
 abbrev pub Knows : Names → StepTask → Option Effect → Type 0
@@ -52,30 +53,30 @@ Knows names t None = Unit {0}
 Knows names t (Some e) = (q : Request) × (asks t names ≡ Some q) × (e ≡ effect_of names q)
 
 -- in the midst of a step, which isn't through
-pub record InStep (s : Script) (rs : List Reply) (p : Playing) (t : StepTask) : Type 0 where
+pub record InStep (zone : Tuples) (s : Script) (rs : List Reply) (p : Playing) (t : StepTask) : Type 0 where
   pub play : Play
   pub step : Step
   pub rest : List Step
   pub behind : drop p.finished s.steps ≡ step ∷ rest
-  pub plays : Plays s rs play step rest
+  pub plays : Plays zone s rs play step rest
   pub stands_for : StandsFor s.host p.holdings.names t play
   pub goes_on : is_none (asks t p.holdings.names) ≡ false
   pub knows : Knows p.holdings.names t p.effect
 
 -- before a step, or at the end
-pub record Between (s : Script) (rs : List Reply) (p : Playing) : Type 0 where
+pub record Between (zone : Tuples) (s : Script) (rs : List Reply) (p : Playing) : Type 0 where
   pub slots : HaveSlots p.holdings.names
-  pub leaves : Leaves s rs p.holdings.names (drop p.finished s.steps)
+  pub leaves : Leaves zone s rs p.holdings.names (drop p.finished s.steps)
   pub within : p.finished ≤ length s.steps
   pub unknown : p.effect ≡ None
 
-abbrev pub IsAtBy : Script → List Reply → Playing → Option StepTask → Type 0
-IsAtBy s rs p None = Between s rs p
-IsAtBy s rs p (Some t) = InStep s rs p t
+abbrev pub IsAtBy : Tuples → Script → List Reply → Playing → Option StepTask → Type 0
+IsAtBy zone s rs p None = Between zone s rs p
+IsAtBy zone s rs p (Some t) = InStep zone s rs p t
 
 -- the player of the script was told these replies to its own events, and no others
-unfoldable pub IsAt : Script → List Reply → Playing → Type 0
-IsAt s rs p = IsAtBy s rs p p.task
+unfoldable pub IsAt : Tuples → Script → List Reply → Playing → Type 0
+IsAt zone s rs p = IsAtBy zone s rs p p.task
 
 -- Moves.
 

@@ -1,6 +1,6 @@
 //! Tasks.
 ghost use Rattle.std.specs.Prelude.{◌≡◌, ℕ, List, Option, IfOk, OnOk, OnErr, is_none};
-ghost use Rattle.net_base.specs.Steps.{Names, Play};
+ghost use Rattle.net_base.specs.Steps.{Names as AnyNames, Play};
 ghost use Rattle.net_base.specs.declared.reply.Reply.{Reply};
 ghost use Rattle.script_task.specs.declared.request.Request.{Request};
 ghost use Rattle.script_task.specs.Task.{AsksSo, MovesSo};
@@ -13,13 +13,13 @@ use std::alloc::{AllocError, Global};
 /// A step that is being played.
 pub trait Task {
     // its next request under these names
-    ghost asks: { Self → Names → Option Request };
+    ghost asks: { Self → AnyNames → Option Request };
 
     // what a reply makes of it
     ghost after: { Self → Reply → Self };
 
     // at a host, under these names, it stands for this play
-    ghost Stands: { ℕ → Names → Self → Play → Type 0 };
+    ghost Stands: { ℕ → AnyNames → Self → Play → Type 0 };
 
     /// The next request under these names, or none where the task is through.
     fn next(&self, alloc: Global, fids: &Names) -> Result<Option<Request>, AllocError>
@@ -27,7 +27,7 @@ pub trait Task {
 
     /// Whether it is through: it has no request, whatever the names. It takes no memory.
     fn is_through(&self) -> bool
-        ensures { (names : Names) → result ≡ is_none (asks self.now names) };
+        ensures { (names : AnyNames) → result ≡ is_none (asks self.now names) };
 
     /// Takes the reply to the event of its request. Without memory it is as before.
     fn told(&mut self, alloc: Global, reply: Reply) -> Result<(), AllocError>

@@ -7,7 +7,8 @@ use Rattle.net_base.specs.declared.reply.Reply.{Reply}
 use Rattle.net_base.specs.declared.world.Script.{Script}
 use Rattle.net_base.specs.declared.world.Step.{Step}
 use Rattle.net_base.specs.Next.{finished_by}
-use Rattle.net_base.specs.Steps.{Names, Play, Asks, Ends, Position, position, position_by, play_of, stands}
+use Rattle.net_base.specs.Steps.{Names, Play, Asks, Ends, Position, no_names, position, position_by, play_of, stands}
+use Rattle.net_base.specs.Versions.{Tuples}
 use Rattle.script_task.specs.declared.request.Request.{Request}
 use Rattle.script_task.specs.Requests.{head, settled}
 use Rattle.script_task.specs.Rest.{rest}
@@ -98,7 +99,7 @@ adds_more h r rs more n names t behind s (Asks a e next) at on fit =
     let found = some_request (step.asks t names) on in
     adds_by h rs more n (settled names found.0 r) (step.after t r) behind s (next r)
     (step_laws.moves_so h names t (Asks a e next) found.0 r at found.1 fit.0)
-    (is_none (step.asks (step.after t r) [])) (asks_alike (step.after t r) (settled names found.0 r) []) fit.1
+    (is_none (step.asks (step.after t r) (no_names []))) (asks_alike (step.after t r) (settled names found.0 r) (no_names [])) fit.1
 
 adds_up : (h : ℕ) (rs : List Reply) → AddsUp h rs
 adds_up h [] = adds_none h
@@ -106,29 +107,29 @@ adds_up h (r ∷ rs) = adds_more h r rs (adds_up h rs)
 
 -- The beginning.
 
-counts_from : (s : Script) (rs : List Reply) → AllFit (plays_of s.host s.steps []) rs → finished_in (after_all (begun_at 0 s.steps) rs) ≡ finished_by rs s
-counts_from s rs fit =
-    let all : finished_in (after_all (begun_at 0 s.steps) rs) + length (position s.host s.steps [] rs).left ≡ 0 + length s.steps = begun_adds s.host rs (adds_up s.host rs) 0 [] s.steps refl fit in
+counts_from : (zone : Tuples) (s : Script) (rs : List Reply) → AllFit (plays_of s.host s.steps (no_names zone)) rs → finished_in (after_all (begun_at 0 s.steps) rs) ≡ finished_by zone rs s
+counts_from zone s rs fit =
+    let all : finished_in (after_all (begun_at 0 s.steps) rs) + length (position s.host s.steps (no_names zone) rs).left ≡ 0 + length s.steps = begun_adds s.host rs (adds_up s.host rs) 0 (no_names zone) s.steps refl fit in
     omega (arith, all)
 
-starts_at : (s : Script) → Plays s [] [] (begun_at 0 s.steps)
-starts_at s =
+starts_at : (zone : Tuples) (s : Script) → Plays zone s [] (no_names zone) (begun_at 0 s.steps)
+starts_at zone s =
     record {
-      play = plays_of s.host s.steps [];
-      stands_for = begins s.host 0 [] s.steps refl;
-      continues = record { next_is = λ more. (ties s.host s.steps [] more).next_is; left_is = λ more. (ties s.host s.steps [] more).left_is };
-      counts = λ more fit. counts_from s more fit;
+      play = plays_of s.host s.steps (no_names zone);
+      stands_for = begins s.host 0 (no_names zone) s.steps refl;
+      continues = record { next_is = λ more. (ties s.host s.steps (no_names zone) more).next_is; left_is = λ more. (ties s.host s.steps (no_names zone) more).left_is };
+      counts = λ more fit. counts_from zone s more fit;
     }
 
-pub starts : (s : Script) (ss : List Step) → ss ≡ s.steps → Plays s [] [] (begun_at 0 ss)
-starts s ss is = subst (λ (xs : List Step). Plays s [] [] (begun_at 0 xs)) (sym is) (starts_at s)
+pub starts : (zone : Tuples) (s : Script) (ss : List Step) → ss ≡ s.steps → Plays zone s [] (no_names zone) (begun_at 0 ss)
+starts zone s ss is = subst (λ (xs : List Step). Plays zone s [] (no_names zone) (begun_at 0 xs)) (sym is) (starts_at zone s)
 
 append_nothing : (xs : List Reply) → xs ++ [] ≡ xs
 append_nothing [] = refl
 append_nothing (x ∷ xs) = ap (λ ys. x ∷ ys) (append_nothing xs)
 
-pub finished_right : (s : Script) (rs : List Reply) (names : Names) (t : Scripting) → Plays s rs names t → finished_in t ≡ finished_by rs s
-finished_right s rs names t at = subst (λ (xs : List Reply). finished_in t ≡ finished_by xs s) (append_nothing rs) (at.counts [] tt)
+pub finished_right : (zone : Tuples) (s : Script) (rs : List Reply) (names : Names) (t : Scripting) → Plays zone s rs names t → finished_in t ≡ finished_by zone rs s
+finished_right zone s rs names t at = subst (λ (xs : List Reply). finished_in t ≡ finished_by zone xs s) (append_nothing rs) (at.counts [] tt)
 
 -- What the fields stand for.
 
@@ -239,12 +240,12 @@ heard_kept : (n : ℕ) (u : Option StepTask) (ss : List Step) (r : Reply) → Ke
 heard_kept n None ss r kept on = tt
 heard_kept n (Some t) ss r kept on = (kept.0, λ names. sym (on names))
 
-room_by : (n : ℕ) (u : Option StepTask) (ss : List Step) (r : Reply) → Kept n u ss → true ≡ is_played (heard u r) [] → n < length ss
+room_by : (n : ℕ) (u : Option StepTask) (ss : List Step) (r : Reply) → Kept n u ss → true ≡ is_played (heard u r) (no_names []) → n < length ss
 room_by n None ss r kept over = absurd (true≢false over)
 room_by n (Some t) ss r kept over = kept.0
 
 -- the step goes on
-on_by : (n : ℕ) (u : Option StepTask) (ss : List Step) (r : Reply) → u ≡ begun_by u (slice_get ss n) → (x : Option StepTask) → heard u r ≡ x → false ≡ is_played x [] → progress n x (drop n ss) ≡ after (progress n u (drop n ss)) r
+on_by : (n : ℕ) (u : Option StepTask) (ss : List Step) (r : Reply) → u ≡ begun_by u (slice_get ss n) → (x : Option StepTask) → heard u r ≡ x → false ≡ is_played x (no_names []) → progress n x (drop n ss) ≡ after (progress n u (drop n ss)) r
 on_by n None ss r is x told on = ap (λ (y : Option StepTask). progress n y (drop n ss)) (sym told) ∙ ended_after (slice_get ss n) refl
   where
     ended_after : (o : Option Step) → slice_get ss n ≡ o → begun_at n (drop n ss) ≡ after (begun_at n (drop n ss)) r
@@ -252,7 +253,7 @@ on_by n None ss r is x told on = ap (λ (y : Option StepTask). progress n y (dro
     ended_after (Some s) some = absurd (none-some (step.begun s) (is ∙ ap (option_map step.begun) some))
 on_by n (Some t) ss r is x told on =
     ap (λ (y : Option StepTask). progress n y (drop n ss)) (sym told)
-    ∙ ap (goes_on n (step.after t r) (drop 1 (drop n ss))) (on ∙ sym (ap (λ (y : Option StepTask). is_played y []) told))
+    ∙ ap (goes_on n (step.after t r) (drop 1 (drop n ss))) (on ∙ sym (ap (λ (y : Option StepTask). is_played y (no_names [])) told))
 
 twice : (t : Option StepTask) (o : Option Step) → begun_by t o ≡ begun_by (begun_by t o) o
 twice None None = refl
@@ -260,7 +261,7 @@ twice None (Some s) = refl
 twice (Some t) o = refl
 
 -- the step is finished, and the next one begins
-through_by : (n : ℕ) (u : Option StepTask) (ss : List Step) (r : Reply) → true ≡ is_played (heard u r) [] → begun_at (n + 1) (drop (n + 1) ss) ≡ after (progress n u (drop n ss)) r
+through_by : (n : ℕ) (u : Option StepTask) (ss : List Step) (r : Reply) → true ≡ is_played (heard u r) (no_names []) → begun_at (n + 1) (drop (n + 1) ss) ≡ after (progress n u (drop n ss)) r
 through_by n None ss r over = absurd (true≢false over)
 through_by n (Some t) ss r over = ap (begun_at (n + 1)) (drop_more n ss) ∙ ap (goes_on n (step.after t r) (drop 1 (drop n ss))) over
 
@@ -269,11 +270,11 @@ module _ (n : ℕ) (t v : Option StepTask) (ss : List Step) (r : Reply) (through
     (tells : (names : Names) → through ≡ is_played (told_by t (slice_get ss n) r) names) where
   -- the step that is through is one of the script
   pub has_room : Kept n t ss → through ≡ true → n < length ss
-  has_room kept over = room_by n (begun_by t (slice_get ss n)) ss r (kept_by n t ss kept) (sym over ∙ tells [])
+  has_room kept over = room_by n (begun_by t (slice_get ss n)) ss r (kept_by n t ss kept) (sym over ∙ tells (no_names []))
 
   pub told_through : through ≡ true → progress (n + 1) None (drop (n + 1) ss) ≡ after (progress n t (drop n ss)) r
   told_through over =
-      through_by n (begun_by t (slice_get ss n)) ss r (sym over ∙ tells []) ∙ ap (λ (x : Scripting). after x r) (begun_same n t ss)
+      through_by n (begun_by t (slice_get ss n)) ss r (sym over ∙ tells (no_names [])) ∙ ap (λ (x : Scripting). after x r) (begun_same n t ss)
 
   module _ (on : through ≡ false → v ≡ told_by t (slice_get ss n) r) (no : through ≡ false) where
     pub kept_told : Kept n t ss → Kept n v ss
@@ -284,7 +285,7 @@ module _ (n : ℕ) (t v : Option StepTask) (ss : List Step) (r : Reply) (through
     pub told_on : progress n v (drop n ss) ≡ after (progress n t (drop n ss)) r
     told_on =
         on_by n (begun_by t (slice_get ss n)) ss r (twice t (slice_get ss n)) v (sym (on no))
-        (sym no ∙ (tells [] ∙ ap (λ (x : Option StepTask). is_played x []) (sym (on no))))
+        (sym no ∙ (tells (no_names []) ∙ ap (λ (x : Option StepTask). is_played x (no_names [])) (sym (on no))))
         ∙ ap (λ (x : Scripting). after x r) (begun_same n t ss)
 
 -- What a reply makes of the step.

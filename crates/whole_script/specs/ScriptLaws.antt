@@ -9,7 +9,8 @@ use Rattle.net_base.specs.declared.world.Script.{Script}
 use Rattle.net_base.specs.declared.world.Step.{Step}
 use Rattle.net_base.specs.declared.world.Step.TheVariants as word
 use Rattle.net_base.specs.Next.{finished_by}
-use Rattle.net_base.specs.Steps.{Ask, Names, Play, Asks, Ends, position, play_of}
+use Rattle.net_base.specs.Steps.{Ask, Names, Play, Asks, Ends, no_names, position, play_of}
+use Rattle.net_base.specs.Versions.{Tuples}
 use Rattle.script_task.specs.declared.request.Request.{Request}
 use Rattle.script_task.specs.Fitting.{fits}
 use Rattle.script_task.specs.Requests.{head, planned, settled}
@@ -17,6 +18,10 @@ use Rattle.script_task.specs.Rest.{Continues, rest}
 use Rattle.script_task.specs.Task.{Heads, AsksSo, MovesSo, follow, fits_play}
 use Rattle.dial_lib.specs.declared.announce.AnnouncePhase.{AnnouncePhase}
 use Rattle.dial_lib.specs.declared.announce.AnnouncePhase.TheVariants as announce
+use Rattle.dial_lib.specs.declared.call.CallPhase.{CallPhase}
+use Rattle.dial_lib.specs.declared.call.CallPhase.TheVariants as call
+use Rattle.dial_lib.specs.declared.hwrite.HwritePhase.{HwritePhase}
+use Rattle.dial_lib.specs.declared.hwrite.HwritePhase.TheVariants as hwrite
 use Rattle.dial_lib.specs.declared.dial.DialPhase.{DialPhase}
 use Rattle.dial_lib.specs.declared.dial.DialPhase.TheVariants as dial
 use Rattle.dial_lib.specs.declared.step.StepTask.{StepTask}
@@ -24,7 +29,11 @@ use Rattle.dial_lib.specs.declared.step.StepTask.TheVariants as task
 use Rattle.dial_lib.specs.Slots.{HaveSlots}
 use Rattle.dial_lib.specs.Announce as announces
 use Rattle.dial_lib.specs.Beside as beside
+use Rattle.dial_lib.specs.Calls as calls
 use Rattle.dial_lib.specs.Dials as dials
+use Rattle.dial_lib.specs.Dns as dnses
+use Rattle.dial_lib.specs.Hread as hreads
+use Rattle.dial_lib.specs.Hwrite as hwrites
 use Rattle.dial_lib.specs.StepLaws as step_laws
 use Rattle.dial_lib.specs.StepTasks as step
 use Rattle.whole_script.specs.ScriptTasks.{Scripting, finished_in, AtStep, AtEnd, begun_at, goes_on, asks, after, after_all, then_play, plays_of, StandsFor, Plays}
@@ -52,6 +61,9 @@ begun_asks (word.Listen called from) names = refl
 begun_asks (word.Accept called from) names = refl
 begun_asks (word.Reject called) names = refl
 begun_asks (word.Hangup called) names = refl
+begun_asks (word.Hread called count) names = refl
+begun_asks (word.Hwrite called bytes) names = refl
+begun_asks (word.Dns called times) names = refl
 
 beside_alike : (to : FileName) (called from : List ℕ) (b : Bool) (m n : Names) → is_none (beside.asks_by to called from b m) ≡ is_none (beside.asks_by to called from b n)
 beside_alike to called from true m n = refl
@@ -74,6 +86,51 @@ dial_alike dial.Data called address lines m n = refl
 dial_alike dial.Close called address lines m n = refl
 dial_alike dial.Through called address lines m n = refl
 
+-- so it is with a call
+call_alike : (x : CallPhase) (called : List ℕ) (q : Option Request) (m n : Names) → is_none (calls.asks_by x called q m) ≡ is_none (calls.asks_by x called q n)
+call_alike call.Fresh called q m n = refl
+call_alike call.Data called q m n = refl
+call_alike call.Remote called q m n = refl
+call_alike call.TellRemote called q m n = refl
+call_alike call.CloseRemote called q m n = refl
+call_alike call.Local called q m n = refl
+call_alike call.TellLocal called q m n = refl
+call_alike call.CloseLocal called q m n = refl
+call_alike call.Read called q m n = refl
+call_alike call.Answer called q m n = refl
+call_alike call.LeaveData called q m n = refl
+call_alike call.LeaveCall called q m n = refl
+call_alike call.ShutRemote called q m n = refl
+call_alike call.ShutLocal called q m n = refl
+call_alike call.ShutData called q m n = refl
+call_alike call.ShutCall called q m n = refl
+call_alike call.Through called q m n = refl
+
+hwrite_alike : (x : HwritePhase) (called bytes : List ℕ) (m n : Names) → is_none (hwrites.asks_by x called bytes m) ≡ is_none (hwrites.asks_by x called bytes n)
+hwrite_alike hwrite.Write called bytes m n = refl
+hwrite_alike hwrite.LeaveData called bytes m n = refl
+hwrite_alike hwrite.LeaveCall called bytes m n = refl
+hwrite_alike hwrite.Through called bytes m n = refl
+
+dns_alike : (x : CallPhase) (called message : List ℕ) (m n : Names) → is_none (dnses.asks_by x called message m) ≡ is_none (dnses.asks_by x called message n)
+dns_alike call.Fresh called message m n = refl
+dns_alike call.Data called message m n = refl
+dns_alike call.Remote called message m n = refl
+dns_alike call.TellRemote called message m n = refl
+dns_alike call.CloseRemote called message m n = refl
+dns_alike call.Local called message m n = refl
+dns_alike call.TellLocal called message m n = refl
+dns_alike call.CloseLocal called message m n = refl
+dns_alike call.Read called message m n = refl
+dns_alike call.Answer called message m n = refl
+dns_alike call.LeaveData called message m n = refl
+dns_alike call.LeaveCall called message m n = refl
+dns_alike call.ShutRemote called message m n = refl
+dns_alike call.ShutLocal called message m n = refl
+dns_alike call.ShutData called message m n = refl
+dns_alike call.ShutCall called message m n = refl
+dns_alike call.Through called message m n = refl
+
 -- whether a step is through doesn't hang on the names
 pub asks_alike : (t : StepTask) (m n : Names) → is_none (step.asks t m) ≡ is_none (step.asks t n)
 asks_alike (task.OneRequest t) m n = refl
@@ -83,6 +140,9 @@ asks_alike (task.Listen t) m n = beside_alike file.Listen t.name t.from t.is_thr
 asks_alike (task.Accept t) m n = beside_alike file.Data t.name t.from t.is_through m n
 asks_alike (task.Announce t) m n = announce_alike t.phase t.name t.address t.lines m n
 asks_alike (task.Dial t) m n = dial_alike t.phase t.called t.address t.lines m n
+asks_alike (task.Hread t) m n = call_alike t.phase t.name (Some (hreads.reads t)) m n
+asks_alike (task.Hwrite t) m n = hwrite_alike t.phase t.name t.bytes m n
+asks_alike (task.Dns t) m n = dns_alike t.phase t.name t.message m n
 
 -- Plays, one after another.
 
@@ -146,7 +206,7 @@ moves_so h names (AtStep n t behind) p q r at asked fit =
     subst (λ (x : Play). StandsFor h (settled names q r) (after (AtStep n t behind) r) x) (sym is)
     (moves_by h n (settled names q r) (step.after t r) behind (follow at.step_play r)
     (step_laws.moves_so h names t at.step_play q r at.stands_for asked fits_step)
-    (is_none (step.asks (step.after t r) [])) (asks_alike (step.after t r) (settled names q r) []))
+    (is_none (step.asks (step.after t r) (no_names []))) (asks_alike (step.after t r) (settled names q r) (no_names [])))
 moves_so h names (AtEnd n) p q r at asked fit = absurd (none-some q asked)
 
 -- The script goes on.
@@ -155,11 +215,11 @@ append_one : (xs : List Reply) (r : Reply) (more : List Reply) → (xs ++ r ∷ 
 append_one [] r more = refl
 append_one (x ∷ xs) r more = ap (λ ys. x ∷ ys) (append_one xs r more)
 
-continues_on : (s : Script) (rs : List Reply) (p : Play) (r : Reply) → Continues s rs p → Continues s (rs ++ r ∷ []) (follow p r)
-continues_on s rs p r goes =
+continues_on : (zone : Tuples) (s : Script) (rs : List Reply) (p : Play) (r : Reply) → Continues zone s rs p → Continues zone s (rs ++ r ∷ []) (follow p r)
+continues_on zone s rs p r goes =
     record {
-      next_is = λ more. subst (λ (xs : List Reply). (position s.host s.steps [] xs).next ≡ head (rest p (r ∷ more))) (sym (append_one rs r more)) (goes.next_is (r ∷ more));
-      left_is = λ more. subst (λ (xs : List Reply). nat_lt 0 (length (position s.host s.steps [] xs).left) ≡ is_some (head (rest p (r ∷ more)))) (sym (append_one rs r more)) (goes.left_is (r ∷ more));
+      next_is = λ more. subst (λ (xs : List Reply). (position s.host s.steps (no_names zone) xs).next ≡ head (rest p (r ∷ more))) (sym (append_one rs r more)) (goes.next_is (r ∷ more));
+      left_is = λ more. subst (λ (xs : List Reply). nat_lt 0 (length (position s.host s.steps (no_names zone) xs).left) ≡ is_some (head (rest p (r ∷ more)))) (sym (append_one rs r more)) (goes.left_is (r ∷ more));
     }
 
 same_ask : (p : Play) (ask : Ask) (r : Reply) → head p ≡ Some ask → fits ask.event r ≡ true → fits_play p r ≡ true
@@ -167,19 +227,19 @@ same_ask (Asks a e next) ask r is fit = subst (λ (x : Ask). fits x.event r ≡ 
 same_ask (Ends names) ask r is fit = absurd (none-some ask is)
 
 -- after a reply that the event of its request can have, it plays the script on
-pub plays_on : (s : Script) (rs : List Reply) (names : Names) (t : Scripting) (q : Request) (ask : Ask) (r : Reply) → Plays s rs names t
-    → asks t names ≡ Some q → planned s.host names q ≡ Some ask → fits ask.event r ≡ true → Plays s (rs ++ r ∷ []) (settled names q r) (after t r)
-plays_on s rs names t q ask r at asked is fit =
+pub plays_on : (zone : Tuples) (s : Script) (rs : List Reply) (names : Names) (t : Scripting) (q : Request) (ask : Ask) (r : Reply) → Plays zone s rs names t
+    → asks t names ≡ Some q → planned s.host names q ≡ Some ask → fits ask.event r ≡ true → Plays zone s (rs ++ r ∷ []) (settled names q r) (after t r)
+plays_on zone s rs names t q ask r at asked is fit =
     let heads : Heads s.host names (Some q) at.play = subst (λ (o : Option Request). Heads s.host names o at.play) asked (asks_so s.host names t at.play at.stands_for) in
     let fits_it : fits_play at.play r ≡ true = same_ask at.play ask r (heads.1 ∙ sym heads.2 ∙ is) fit in
     record {
       play = follow at.play r;
       stands_for = moves_so s.host names t at.play q r at.stands_for asked fits_it;
-      continues = continues_on s rs at.play r at.continues;
-      counts = λ more fit_more. subst (λ (xs : List Reply). finished_in (after_all (after t r) more) ≡ finished_by xs s) (sym (append_one rs r more)) (at.counts (r ∷ more) (fits_it, fit_more));
+      continues = continues_on zone s rs at.play r at.continues;
+      counts = λ more fit_more. subst (λ (xs : List Reply). finished_in (after_all (after t r) more) ≡ finished_by zone xs s) (sym (append_one rs r more)) (at.counts (r ∷ more) (fits_it, fit_more));
     }
 
 -- it stands for a play that goes on where the script stands
-pub stands_there : (s : Script) (rs : List Reply) (names : Names) (t : Scripting) → Plays s rs names t
-    → (p : Play) × StandsFor s.host names t p × Continues s rs p
-stands_there s rs names t at = (at.play, at.stands_for, at.continues)
+pub stands_there : (zone : Tuples) (s : Script) (rs : List Reply) (names : Names) (t : Scripting) → Plays zone s rs names t
+    → (p : Play) × StandsFor s.host names t p × Continues zone s rs p
+stands_there zone s rs names t at = (at.play, at.stands_for, at.continues)

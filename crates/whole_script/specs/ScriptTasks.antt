@@ -4,7 +4,8 @@ use Rattle.net_base.specs.declared.reply.Reply.{Reply}
 use Rattle.net_base.specs.declared.world.Script.{Script}
 use Rattle.net_base.specs.declared.world.Step.{Step}
 use Rattle.net_base.specs.Next.{finished_by}
-use Rattle.net_base.specs.Steps.{Names, Play, Asks, Ends, play_of}
+use Rattle.net_base.specs.Steps.{Names, Play, Asks, Ends, no_names, play_of}
+use Rattle.net_base.specs.Versions.{Tuples}
 use Rattle.script_task.specs.declared.request.Request.{Request}
 use Rattle.script_task.specs.Rest.{Continues}
 use Rattle.script_task.specs.Task.{follow, fits_play}
@@ -64,7 +65,7 @@ goes_on n t behind true = begun_at (n + 1) behind
 
 -- the task after a reply; whether a step is through doesn't hang on the names
 abbrev pub after : Scripting → Reply → Scripting
-after (AtStep n t behind) r = goes_on n (step.after t r) behind (is_none (step.asks (step.after t r) []))
+after (AtStep n t behind) r = goes_on n (step.after t r) behind (is_none (step.asks (step.after t r) (no_names [])))
 after (AtEnd n) r = AtEnd n
 
 -- the same by parts: the step that has begun, if one has, after a reply
@@ -119,8 +120,8 @@ AllFit p (r ∷ rs) = (fits_play p r ≡ true) × AllFit (follow p r) rs
 
 -- After these replies, under these names, it plays the script: it stands for a play that goes on where they leave the
 -- script. Whatever replies come then, as many steps are finished as the script has finished.
-pub record Plays (s : Script) (rs : List Reply) (names : Names) (t : Scripting) : Type 0 where
+pub record Plays (zone : Tuples) (s : Script) (rs : List Reply) (names : Names) (t : Scripting) : Type 0 where
   pub play : Play
   pub stands_for : StandsFor s.host names t play
-  pub continues : Continues s rs play
-  pub counts : (more : List Reply) → AllFit play more → finished_in (after_all t more) ≡ finished_by (rs ++ more) s
+  pub continues : Continues zone s rs play
+  pub counts : (more : List Reply) → AllFit play more → finished_in (after_all t more) ≡ finished_by zone (rs ++ more) s

@@ -3,7 +3,8 @@ ghost use Rattle.std.specs.Prelude.{◌≡◌, ℕ, List, [], None, IfOk, OnOk, 
 ghost use Rattle.net_base.specs.declared.reply.Reply.{Reply};
 ghost use Rattle.net_base.specs.declared.world.Script.{Script};
 ghost use Rattle.net_base.specs.Next.{finished_by};
-ghost use Rattle.net_base.specs.Steps.{Names, Ends};
+ghost use Rattle.net_base.specs.Steps.{Names as AnyNames, Ends, no_names};
+ghost use Rattle.net_base.specs.Versions.{Tuples};
 ghost use Rattle.dial_lib.specs.StepTasks.{begun};
 ghost use Rattle.whole_script.specs.ScriptTasks as spec;
 
@@ -38,7 +39,7 @@ impl<'a> ScriptTask<'a> {
     /// The task of a script of which nothing is recorded. It takes no memory.
     #[tactic(auto, using(crate::proofs::Played::starts))]
     pub fn new(script: &'a Script) -> ScriptTask<'a>
-        ensures { spec.Plays script.now [] [] result }
+        ensures { (zone : Tuples) → spec.Plays zone script.now [] (no_names zone) result }
     {
         ScriptTask {
             steps: script.steps.as_slice(),
@@ -49,7 +50,7 @@ impl<'a> ScriptTask<'a> {
 
     /// The task of a script without steps.
     pub fn idle() -> ScriptTask<'a>
-        ensures { (h : ℕ) (names : Names) → spec.StandsFor h names result (Ends names) }
+        ensures { (h : ℕ) (names : AnyNames) → spec.StandsFor h names result (Ends names) }
     {
         ScriptTask {
             steps: &[],
@@ -60,8 +61,8 @@ impl<'a> ScriptTask<'a> {
 
     /// How many steps are finished.
     pub fn finished(&self) -> usize
-        ensures { (s : Script) (rs : List Reply) (names : Names)
-            → spec.Plays s rs names self.now → result ≡ finished_by rs s }
+        ensures { (zone : Tuples) (s : Script) (rs : List Reply) (names : AnyNames)
+            → spec.Plays zone s rs names self.now → result ≡ finished_by zone rs s }
     {
         self.finished
     }
@@ -141,7 +142,7 @@ fn take_reply(
     task: &mut Option<StepTask>,
     reply: Reply,
 ) -> Result<bool, AllocError>
-    ensures through { IfOk result (λ through. (names : Names)
+    ensures through { IfOk result (λ through. (names : AnyNames)
         → through ≡ spec.is_played (spec.told_by task.old (slice_get steps.now finished) reply) names) }
     ensures goes_on { IfOk result (λ through. through ≡ false
         → task.new ≡ spec.told_by task.old (slice_get steps.now finished) reply) }
@@ -158,7 +159,7 @@ fn take_reply(
 
 // Whether no step has begun, and the one behind so many is seen to be through after this reply.
 fn ends_at_once(steps: &[Step], finished: usize, task: &Option<StepTask>, reply: &Reply) -> bool
-    ensures { result ≡ true → (names : Names)
+    ensures { result ≡ true → (names : AnyNames)
         → spec.is_played (spec.told_by task.now (slice_get steps.now finished) reply.now) names ≡ true }
 {
     match task {
@@ -170,7 +171,7 @@ fn ends_at_once(steps: &[Step], finished: usize, task: &Option<StepTask>, reply:
 // Whether the step behind so many is seen to be through after this reply.
 #[tactic(auto, using(crate::proofs::Played::ends_step))]
 fn ends_first(steps: &[Step], finished: usize, reply: &Reply) -> bool
-    ensures { result ≡ true → (names : Names)
+    ensures { result ≡ true → (names : AnyNames)
         → spec.is_played (spec.told_by None (slice_get steps.now finished) reply.now) names ≡ true }
 {
     let Some(step) = steps.get(finished) else {
@@ -192,7 +193,7 @@ fn hear(alloc: Global, task: &mut Option<StepTask>, reply: Reply) -> Result<(), 
 
 // Whether a step has begun that is through.
 fn is_played(task: &Option<StepTask>) -> bool
-    ensures { (names : Names) → result ≡ spec.is_played task.now names }
+    ensures { (names : AnyNames) → result ≡ spec.is_played task.now names }
 {
     match task {
         Some(task) => task.is_through(),

@@ -18,7 +18,7 @@ use Rattle.net_base.specs.Steps.{Ask}
 
 -- the first duty's event, or the caller's next one where none is owed
 abbrev pub asked : World → Net → ℕ → List Duty → Option Ask
-asked w net c [] = next_of (caller_of w c) net.past c
+asked w net c [] = next_of w (caller_of w c) net.past c
 asked w net c (d ∷ ds) = Some (record { actor = d.actor; event = d.event })
 
 -- the entry of a step

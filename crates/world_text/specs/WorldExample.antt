@@ -1,6 +1,7 @@
 -- The text of the worked world of UDP, and a world with each kind of line.
 use Rattle.std.specs.Prelude.{ℕ, List, [], ◌∷◌, ◌++◌, Some, None, codes}
 use Rattle.net_base.specs.declared.address.Proto.TheVariants as proto
+use Rattle.net_base.specs.declared.headers.Headers.{Headers}
 use Rattle.net_base.specs.declared.names.Mode.TheVariants as mode
 use Rattle.net_base.specs.declared.world.Fate.TheVariants as fate
 use Rattle.net_base.specs.declared.world.HostSpec.{HostSpec}
@@ -9,6 +10,7 @@ use Rattle.net_base.specs.declared.world.Step.{Step}
 use Rattle.net_base.specs.declared.world.Step.TheVariants as step
 use Rattle.net_base.specs.declared.world.World.{World}
 use Rattle.net_base.specs.declared.timer.Timers.TheVariants.{Measured}
+use Rattle.net_base.specs.DatagramHeaders.{headers_bytes}
 use Rattle.worked_worlds.specs.Worked.{ip, script, small_bundle}
 
 -- The worked world of UDP.

@@ -4,7 +4,7 @@ use Rattle.whole_script.proofs.Played.{finished_right, progress_finished}
 use Rattle.whole_script.proofs.script.ScriptTask.finished.Goals as goal
 
 pub returns : goal.returns
-returns c = λ s rs names at.
+returns c = λ zone s rs names at.
     sym (progress_finished c.self.inside.finished c.self.inside.task (drop c.self.inside.finished c.self.inside.steps.now))
     ∙ ap spec.finished_in c.self.view_is
-    ∙ finished_right s rs names c.args.self.now at
+    ∙ finished_right zone s rs names c.args.self.now at
