@@ -12,7 +12,7 @@ use Rattle.dial_lib.specs.Announce as spec
 use Rattle.dial_lib.specs.Announce.{Stands, IsFresh, IsOpen, IsOver, IsWrite, IsClose, IsThrough, writing}
 use Rattle.dial_lib.specs.Moves.{MovesBy, moves_from, by_test, chosen, no_lines}
 use Rattle.dial_lib.specs.Names.{same_bytes, unbind_free}
-use Rattle.dial_lib.specs.Openings.{flip, Gave, Opens, Refuses, gave, path_range}
+use Rattle.dial_lib.specs.Openings.{unopened_no, Gave, Opens, Refuses, gave, path_range}
 use Rattle.dial_lib.specs.Puts.{puts_head, put_other, announces_other}
 use Rattle.script_task.specs.declared.request.Request.{Request}
 use Rattle.script_task.specs.declared.request.Request.TheVariants as request
@@ -56,7 +56,7 @@ move_fresh : (h : ℕ) (called address : List ℕ) (names : Names) (r : Reply) (
     → fits_play (if b then uses h called names else asks_cs h address (announces h called names)) r ≡ true
     → Stands h called address (settled names (if b then request.Unbound called else request.Cs (netmkaddr address (codes "net") (codes "9fs"))) r) phase.Open (lines_in r)
     (follow (if b then uses h called names else asks_cs h address (announces h called names)) r)
-move_fresh h called address names r true is fit = rw (no_lines r (flip (is_accepted r) fit)) IsOver
+move_fresh h called address names r true is fit = rw (no_lines r (unopened_no r fit)) IsOver
 move_fresh h called address names r false is fit = IsOpen (lines_in r) is
 
 move_line : (h : ℕ) (called address : List ℕ) (names : Names) (line : List ℕ) (lines : List (List ℕ)) (o : Option Fid) (r : Reply) → is_bound names called ≡ false → Gave mode.Both o r

@@ -14,7 +14,7 @@ use Rattle.dial_lib.specs.DialAsks.{made_found, still_free}
 use Rattle.dial_lib.specs.Dials.{Stands, IsFresh, IsOpen, IsOver, IsWrite, IsWait, IsRetry, IsData, IsClose, IsThrough, Free, Holds, asks_by, begins, opens_data, connecting, retrying, phase_after, lines_after}
 use Rattle.dial_lib.specs.Moves.{by_test, no_lines}
 use Rattle.dial_lib.specs.Names.{apart_too}
-use Rattle.dial_lib.specs.Openings.{flip, Gave, Opens, Refuses, gave, path_range}
+use Rattle.dial_lib.specs.Openings.{unopened_no, Gave, Opens, Refuses, gave, path_range}
 use Rattle.dial_lib.specs.Puts.{Put, Waits, Goes, put}
 use Rattle.script_task.specs.declared.request.Request.{Request}
 use Rattle.script_task.specs.Fitting.{is_opening}
@@ -27,8 +27,8 @@ unbind_front called base names made holds = front_left (dotted_name called) base
 move_fresh : (h : ℕ) (called address : List ℕ) (names : Names) (r : Reply) (b c : Bool) → is_bound names called ≡ b → is_bound names (dotted_name called) ≡ c
     → fits_play (if b then uses h called names else (if c then uses h (dotted_name called) names else asks_cs h address (dials h called names))) r ≡ true
     → Stands h called address names phase.Open (lines_in r) (follow (if b then uses h called names else (if c then uses h (dotted_name called) names else asks_cs h address (dials h called names))) r)
-move_fresh h called address names r true c is so fit = rw (no_lines r (flip (is_accepted r) fit)) IsOver
-move_fresh h called address names r false true is so fit = rw (no_lines r (flip (is_accepted r) fit)) IsOver
+move_fresh h called address names r true c is so fit = rw (no_lines r (unopened_no r fit)) IsOver
+move_fresh h called address names r false true is so fit = rw (no_lines r (unopened_no r fit)) IsOver
 move_fresh h called address names r false false is so fit = IsOpen (lines_in r) (record { name = is; dotted = so })
 
 settle_fresh : (names : Names) (called dotted address : List ℕ) (r : Reply) (b c : Bool) → is_bound names called ≡ b → is_bound names dotted ≡ c → settled names (begins names called dotted address) r ≡ names

@@ -22,6 +22,14 @@ pub mod Dials
 pub mod DialAsks
 pub mod DialMoves
 pub mod DialTasks
+pub mod Calls
+pub mod CallLaws
+pub mod Hread
+pub mod HreadLaws
+pub mod Hwrite
+pub mod HwriteLaws
+pub mod Dns
+pub mod DnsLaws
 pub mod StepTasks
 pub mod StepLaws
 pub use Rattle.net_base.specs.Steps

@@ -1,6 +1,7 @@
 -- What an open gives by a reply that it can have.
-use Rattle.std.proofs.Common.{◌≡◌, ℕ, ◌<◌, ◌==◌, Bool, true, false, not, List, Option, Some, None, if◌then◌else◌, refl, rules, tests}
+use Rattle.std.proofs.Common.{◌≡◌, ℕ, ◌<◌, ◌==◌, Bool, true, false, not, ◌||◌, List, Option, Some, None, if◌then◌else◌, refl, rules, tests}
 use Rattle.std.specs.List.{slice_split}
+use Rattle.std.proofs.lemmas.Bool.{false≢true}
 use Rattle.std.proofs.lemmas.Option.{none-some}
 use Rattle.net_base.specs.declared.names.FileName.{FileName}
 use Rattle.net_base.specs.declared.names.FileName.TheVariants as file
@@ -11,13 +12,33 @@ use Rattle.net_base.specs.declared.address.Proto.{Proto}
 use Rattle.net_base.specs.declared.reply.Reply.{Reply}
 use Rattle.net_base.specs.declared.reply.Reply.TheVariants as reply
 use Rattle.net_base.specs.Paths.{walk, node_of, checked, may_open, in_range}
-use Rattle.net_base.specs.Steps.{Fid, opened_fid, openable, open_event}
-use Rattle.script_task.specs.Fitting.{fits, is_opening, fits_reserve, fits_listen, fits_open}
+use Rattle.net_base.specs.Steps.{Fid, is_accepted, opened_fid, openable, open_event}
+use Rattle.script_task.specs.Fitting.{fits, fits_write, is_granted, is_opening, is_unopened, fits_reserve, fits_listen, fits_open}
 use Rattle.dial_lib.specs.Names.{below}
 
 pub flip : (b : Bool) → not b ≡ true → b ≡ false
 flip true is = absurd (search (rules, is))
 flip false is = refl
+
+-- a reply to what isn't open, or isn't so, is a refusal, and opens nothing
+pub unopened_no : (r : Reply) → is_unopened r ≡ true → is_accepted r ≡ false
+unopened_no reply.BadFid is = refl
+unopened_no reply.BadMode is = refl
+unopened_no r is = absurd (false≢true is)
+
+pub unopened_shut : (r : Reply) → is_unopened r ≡ true → is_opening r ≡ false
+unopened_shut reply.BadFid is = refl
+unopened_shut reply.BadMode is = refl
+unopened_shut r is = absurd (false≢true is)
+
+-- a write is granted no pair, and its file is open
+pub written_free : (r : Reply) → fits_write r ≡ true → (is_granted r ≡ false) × (is_unopened r ≡ false)
+written_free r fit = by (is_granted r) (is_unopened r) fit
+  where
+    by : (a b : Bool) → not (a || b) ≡ true → (a ≡ false) × (b ≡ false)
+    by true b is = absurd (false≢true is)
+    by false true is = absurd (false≢true is)
+    by false false is = (refl, refl)
 
 -- a file of a slot that there is, opened so, or none
 pub data Gave (m : Mode) (o : Option Fid) (r : Reply) : Type 0 where

@@ -15,7 +15,7 @@ use Rattle.net_base.specs.Steps.{Ask, Fid, Play, Asks, puts, controls, conversat
 use Rattle.script_task.specs.Fitting.{is_granted, fits_grant}
 use Rattle.script_task.specs.Requests.{head}
 use Rattle.script_task.specs.Task.{follow, fits_play}
-use Rattle.dial_lib.specs.Openings.{flip}
+use Rattle.dial_lib.specs.Openings.{flip, written_free}
 
 -- The event doesn't depend on what follows it.
 
@@ -71,7 +71,7 @@ put_control h f text (Err fault) r refused next fit = Goes (flip (is_granted r) 
 
 pub put : (h : ℕ) (f : Fid) (to : FileName) (text : List ℕ) (r : Reply) (refused next : Play)
     → fits_play (puts h f to text refused next) r ≡ true → Put h f r refused next (follow (puts h f to text refused next) r)
-put h f file.Data text r refused next fit = Goes (flip (is_granted r) fit) refl
+put h f file.Data text r refused next fit = Goes (written_free r fit).0 refl
 put h f file.Ctl text r refused next fit = put_control h f text (control.read text) r refused next fit
 put h f file.Err text r refused next fit = put_control h f text (control.read text) r refused next fit
 put h f file.Listen text r refused next fit = put_control h f text (control.read text) r refused next fit

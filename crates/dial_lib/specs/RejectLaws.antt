@@ -8,7 +8,7 @@ use Rattle.dial_lib.specs.declared.reject.Reject.{Reject}
 use Rattle.dial_lib.specs.declared.reject.RejectPhase.{RejectPhase}
 use Rattle.dial_lib.specs.declared.reject.RejectPhase.TheVariants as phase
 use Rattle.dial_lib.specs.Moves.{MovesBy, moves_from, by_test}
-use Rattle.dial_lib.specs.Openings.{flip}
+use Rattle.dial_lib.specs.Openings.{unopened_no}
 use Rattle.dial_lib.specs.Puts.{puts_head, put_other, hangs}
 use Rattle.dial_lib.specs.Reject as spec
 use Rattle.dial_lib.specs.Reject.{Stands, IsWrite, IsClose, IsThrough, closing}
@@ -44,12 +44,12 @@ move_mode : (h : ℕ) (names : Names) (called : List ℕ) (f : Fid) (r : Reply) 
 move_mode h names called f r true is fit =
     subst (λ (p : Play). Stands h names called (spec.phase_after phase.Write r) p) (sym (put_other h f f.file (codes "hangup") r (Ends names) (closing h names called f) hangs))
     (by_test (λ b p. Stands h names called (if b then phase.Close else phase.Through) p) (is_accepted r) (closing h names called f) (Ends names) (IsClose f is) IsThrough)
-move_mode h names called f r false is fit = rw (flip (is_accepted r) fit) IsThrough
+move_mode h names called f r false is fit = rw (unopened_no r fit) IsThrough
 
 move_write : (h : ℕ) (names : Names) (called : List ℕ) (r : Reply) (o : Option Fid) → fid_of called names ≡ o
     → fits_play (written h names called o (λ (f : Fid). closing h names called f)) r ≡ true
     → Stands h names called (spec.phase_after phase.Write r) (follow (written h names called o (λ (f : Fid). closing h names called f)) r)
-move_write h names called r None is fit = rw (flip (is_accepted r) fit) IsThrough
+move_write h names called r None is fit = rw (unopened_no r fit) IsThrough
 move_write h names called r (Some f) is fit = move_mode h names called f r (writes f.mode) is fit
 
 moves : (h : ℕ) (names : Names) (called : List ℕ) (ph : RejectPhase) (p : Play) (r : Reply) → Stands h names called ph p → fits_play p r ≡ true

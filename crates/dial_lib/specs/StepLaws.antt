@@ -1,5 +1,5 @@
 -- The task of a step stands for the step's play, and asks and moves as that does.
-use Rattle.std.proofs.Common.{◌≡◌, ℕ, Bool, true, false, List, [], ◌∷◌, Option, Some, None, bytes_eq, if◌then◌else◌, unwrap_or, refl, sym, subst, ap}
+use Rattle.std.proofs.Common.{◌≡◌, ℕ, ◌-◌, Bool, true, false, List, [], ◌∷◌, Option, Some, None, bytes_eq, if◌then◌else◌, unwrap_or, refl, sym, subst, ap}
 use Rattle.std.proofs.lemmas.Option.{none-some}
 use Rattle.net_base.specs.declared.names.Mode.{Mode}
 use Rattle.net_base.specs.declared.reply.Reply.{Reply}
@@ -13,10 +13,15 @@ use Rattle.dial_lib.specs.Announce as announce
 use Rattle.dial_lib.specs.AnnounceLaws as announce_laws
 use Rattle.dial_lib.specs.Beside as beside
 use Rattle.dial_lib.specs.BesideLaws as beside_laws
+use Rattle.dial_lib.specs.Calls as call
 use Rattle.dial_lib.specs.Dials as dial
 use Rattle.dial_lib.specs.DialTasks as dial_laws
+use Rattle.dial_lib.specs.DnsLaws as dns_laws
+use Rattle.dial_lib.specs.HreadLaws as hread_laws
+use Rattle.dial_lib.specs.Hwrite as hwrite
+use Rattle.dial_lib.specs.HwriteLaws as hwrite_laws
 use Rattle.dial_lib.specs.Moves.{heads_slots}
-use Rattle.dial_lib.specs.Names.{unbind_free}
+use Rattle.dial_lib.specs.Names.{none_bound, unbind_free}
 use Rattle.dial_lib.specs.OneRequest.{IsSingle, IsFresh}
 use Rattle.dial_lib.specs.OneRequestLaws as one_request_laws
 use Rattle.dial_lib.specs.Reject as reject
@@ -48,15 +53,6 @@ read_single : (h : ℕ) (names : Names) (called : List ℕ) (count : ℕ) (o : O
 read_single h names called count None is = rw is (_, refl, λ r. refl)
 read_single h names called count (Some f) is = read_mode h names called count f is (reads f.mode) refl
 
--- a name that is bound to nothing isn't bound
-none_bound : (called : List ℕ) (names : Names) → fid_of called names ≡ None → is_bound names called ≡ false
-none_bound called [] is = refl
-none_bound called (b ∷ bs) is = each (bytes_eq called b.called) refl is (none_bound called bs)
-  where
-    each : (t : Bool) → bytes_eq called b.called ≡ t → (if t then Some b.fid else fid_of called bs) ≡ None → (fid_of called bs ≡ None → is_bound bs called ≡ false) → is_bound (b ∷ bs) called ≡ false
-    each true same none ih = absurd (none-some b.fid (sym none))
-    each false apart none ih = rw (apart) (ih none)
-
 close_single : (h : ℕ) (names : Names) (called : List ℕ) (o : Option Fid) → fid_of called names ≡ o → IsSingle h names (request.Close called)
 close_single h names called None is = rw is (_, refl, λ r. ap Ends (sym (unbind_free called names (none_bound called names is))))
 close_single h names called (Some f) is = rw is (_, refl, λ r. refl)
@@ -79,6 +75,9 @@ begins_so h names (step.Listen called from) slots = beside.IsFresh slots
 begins_so h names (step.Accept called from) slots = beside.IsFresh slots
 begins_so h names (step.Reject called) slots = reject.IsWrite
 begins_so h names (step.Hangup called) slots = write_text.IsWrite
+begins_so h names (step.Hread called count) slots = call.IsFresh names _ _ slots
+begins_so h names (step.Hwrite called bytes) slots = hwrite.IsWrite names
+begins_so h names (step.Dns called times) slots = dns_laws.begun_so h names called (times - 1) slots
 
 -- what has begun stands for its step
 pub begun_stands : (t : StepTask) (s : Step) → t ≡ spec.begun s → (h : ℕ) (names : Names) → HaveSlots names → spec.StandsFor h names t (play_of h names s)
@@ -94,6 +93,9 @@ asks_by h names (task.Announce t) p stands = announce_laws.asks_so h names t p s
 asks_by h names (task.Listen t) p stands = beside_laws.listen_asks_so h names t p stands
 asks_by h names (task.Accept t) p stands = beside_laws.accept_asks_so h names t p stands
 asks_by h names (task.Reject t) p stands = reject_laws.asks_so h names t p stands
+asks_by h names (task.Hread t) p stands = hread_laws.asks_so h names t p stands
+asks_by h names (task.Hwrite t) p stands = hwrite_laws.asks_so h names t p stands
+asks_by h names (task.Dns t) p stands = dns_laws.asks_so h names t p stands
 
 pub asks_so : AsksSo StepTask spec.asks spec.StandsFor
 asks_so h names t p stands = asks_by h names t p stands.1
@@ -107,6 +109,9 @@ moves_by h names (task.Announce t) p q r stands asked fit = announce_laws.moves_
 moves_by h names (task.Listen t) p q r stands asked fit = beside_laws.listen_moves_so h names t p q r stands asked fit
 moves_by h names (task.Accept t) p q r stands asked fit = beside_laws.accept_moves_so h names t p q r stands asked fit
 moves_by h names (task.Reject t) p q r stands asked fit = reject_laws.moves_so h names t p q r stands asked fit
+moves_by h names (task.Hread t) p q r stands asked fit = hread_laws.moves_so h names t p q r stands asked fit
+moves_by h names (task.Hwrite t) p q r stands asked fit = hwrite_laws.moves_so h names t p q r stands asked fit
+moves_by h names (task.Dns t) p q r stands asked fit = dns_laws.moves_so h names t p q r stands asked fit
 
 moves_slots : (h : ℕ) (names : Names) (t : StepTask) (p : Play) (q : Request) (r : Reply) → spec.StandsFor h names t p → spec.asks t names ≡ Some q → fits_play p r ≡ true → HaveSlots (settled names q r)
 moves_slots h names t p q r stands asked fit = heads_slots h names q p r stands.0 (subst (λ (o : Option Request). Heads h names o p) asked (asks_by h names t p stands.1)) fit

@@ -11,6 +11,9 @@ use Rattle.dial_lib.specs.declared.write_text.WritePhase.TheVariants as write_ph
 use Rattle.dial_lib.specs.Accept as accept
 use Rattle.dial_lib.specs.Announce as announce
 use Rattle.dial_lib.specs.Dials as dial
+use Rattle.dial_lib.specs.Dns as dns
+use Rattle.dial_lib.specs.Hread as hread
+use Rattle.dial_lib.specs.Hwrite as hwrite
 use Rattle.dial_lib.specs.Listen as listen
 use Rattle.dial_lib.specs.OneRequest as one_request
 use Rattle.dial_lib.specs.Reject as reject
@@ -44,6 +47,9 @@ begun (step.Listen called from) = task.Listen (listen.begun called from)
 begun (step.Accept called from) = task.Accept (accept.begun called from)
 begun (step.Reject called) = task.Reject (reject.begun called)
 begun (step.Hangup called) = writes_text called (codes "hangup")
+begun (step.Hread called count) = task.Hread (hread.begun called count)
+begun (step.Hwrite called bytes) = task.Hwrite (hwrite.begun called bytes)
+begun (step.Dns called times) = task.Dns (dns.begun called times)
 
 -- Requests and replies.
 
@@ -56,6 +62,9 @@ asks (task.Announce t) names = announce.asks t names
 asks (task.Listen t) names = listen.asks t names
 asks (task.Accept t) names = accept.asks t names
 asks (task.Reject t) names = reject.asks t names
+asks (task.Hread t) names = hread.asks t names
+asks (task.Hwrite t) names = hwrite.asks t names
+asks (task.Dns t) names = dns.asks t names
 
 -- the task after a reply
 abbrev pub after : StepTask → Reply → StepTask
@@ -66,6 +75,9 @@ after (task.Announce t) r = task.Announce (announce.after t r)
 after (task.Listen t) r = task.Listen (listen.after t r)
 after (task.Accept t) r = task.Accept (accept.after t r)
 after (task.Reject t) r = task.Reject (reject.after t r)
+after (task.Hread t) r = task.Hread (hread.after t r)
+after (task.Hwrite t) r = task.Hwrite (hwrite.after t r)
+after (task.Dns t) r = task.Dns (dns.after t r)
 
 -- The play that it stands for.
 
@@ -77,6 +89,9 @@ stands_by h names (task.Announce t) p = announce.StandsFor h names t p
 stands_by h names (task.Listen t) p = listen.StandsFor h names t p
 stands_by h names (task.Accept t) p = accept.StandsFor h names t p
 stands_by h names (task.Reject t) p = reject.StandsFor h names t p
+stands_by h names (task.Hread t) p = hread.StandsFor h names t p
+stands_by h names (task.Hwrite t) p = hwrite.StandsFor h names t p
+stands_by h names (task.Dns t) p = dns.StandsFor h names t p
 
 -- under names that are bound to files of slots that there are
 abbrev pub StandsFor : ℕ → Names → StepTask → Play → Type 0

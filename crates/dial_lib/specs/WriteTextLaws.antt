@@ -7,7 +7,7 @@ use Rattle.dial_lib.specs.declared.write_text.WritePhase.{WritePhase}
 use Rattle.dial_lib.specs.declared.write_text.WritePhase.TheVariants as phase
 use Rattle.dial_lib.specs.declared.write_text.WriteText.{WriteText}
 use Rattle.dial_lib.specs.Moves.{MovesBy, moves_from}
-use Rattle.dial_lib.specs.Openings.{flip}
+use Rattle.dial_lib.specs.Openings.{unopened_no}
 use Rattle.dial_lib.specs.Puts.{Put, Waits, Goes, put, puts_head, granted_no}
 use Rattle.dial_lib.specs.WriteText as spec
 use Rattle.dial_lib.specs.WriteText.{Stands, IsWrite, IsWait, IsThrough}
@@ -62,8 +62,8 @@ move_put h names called text f r p bound (Goes granted is) = rw (granted, is) (e
 
 move_write : (h : ℕ) (names : Names) (called text : List ℕ) (p : Play) (r : Reply) → Through h names called (λ (f : Fid). puts h f f.file text (Ends names) (Ends names)) p → fits_play p r ≡ true
     → Stands h names called text (spec.phase_after phase.Write r) (follow p r)
-move_write h names called text _ r IsUnbound fit = rw (granted_no r (flip (is_accepted r) fit)) IsThrough
-move_write h names called text _ r IsMisused fit = rw (granted_no r (flip (is_accepted r) fit)) IsThrough
+move_write h names called text _ r IsUnbound fit = rw (granted_no r (unopened_no r fit)) IsThrough
+move_write h names called text _ r IsMisused fit = rw (granted_no r (unopened_no r fit)) IsThrough
 move_write h names called text _ r (IsOpen f is) fit = move_put h names called text f r _ is (put h f f.file text r (Ends names) (Ends names) fit)
 
 moves : (h : ℕ) (names : Names) (called text : List ℕ) (ph : WritePhase) (p : Play) (r : Reply) → Stands h names called text ph p → fits_play p r ≡ true

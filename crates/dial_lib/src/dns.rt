@@ -6,7 +6,7 @@ ghost use Rattle.dial_lib.specs.Dns as spec;
 
 use crate::call::{CallPhase, asked};
 use crate::reply::is_accepted;
-use crate::told::bytes_in;
+use crate::told::{bytes_in, taken_bytes};
 use ndb_dns::dns_answer;
 use net_base::{Octets, Reply};
 use script_task::{Names, Request, Task};
@@ -40,7 +40,7 @@ impl Dns {
 
     // Writes the answer to what was read, or closes the call where there is none.
     fn answer(&self, alloc: Global, fids: &Names) -> Result<Request, AllocError>
-        ensures { IfOk result (λ q. q ≡ spec.writes self.now fids.now.names) }
+        ensures { IfOk result (λ q. q ≡ spec.writes self.now.message fids.now.names) }
     {
         let name = Octets::from_slice(alloc, b".d")?;
         match dns_answer(alloc, fids.zone(), self.message.as_slice())? {
@@ -51,7 +51,7 @@ impl Dns {
 
     // What a phase that isn't the first one's asks for.
     fn request(&self, alloc: Global, fids: &Names) -> Result<Option<Request>, AllocError>
-        ensures { IfOk result (λ q. q ≡ spec.own_request self.now fids.now.names) }
+        ensures { IfOk result (λ q. q ≡ spec.own_request self.now.phase self.now.message fids.now.names) }
     {
         match self.phase {
             CallPhase::Answer => Ok(Some(self.answer(alloc, fids)?)),
@@ -113,13 +113,12 @@ impl Task for Dns {
         self.phase == CallPhase::Through
     }
 
-    fn told(&mut self, _alloc: Global, reply: Reply) -> Result<(), AllocError> {
+    fn told(&mut self, alloc: Global, reply: Reply) -> Result<(), AllocError> {
         let phase = self.phase_after(&reply);
-        if self.phase == CallPhase::LeaveCall && self.more != 0 {
-            self.more -= 1;
-        }
-        if let (CallPhase::Read, Reply::Bytes { bytes }) = (self.phase, reply) {
-            self.message = bytes;
+        match self.phase {
+            CallPhase::Read => self.message = taken_bytes(alloc, reply),
+            CallPhase::LeaveCall if self.more != 0 => self.more -= 1,
+            _ => {}
         }
         self.phase = phase;
         Ok(())

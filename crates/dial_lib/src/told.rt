@@ -4,7 +4,8 @@ ghost use Rattle.net_base.specs.Addresses.{parts_at};
 ghost use Rattle.net_base.specs.Steps as steps;
 
 use ctl_words::without_newline;
-use net_base::{Addr, Reply};
+use net_base::{Addr, Octets, Reply};
+use std::alloc::Global;
 use words::{address_in, number_in, two_parts};
 
 /// The address A!PORT that a reply tells, or 0.0.0.0!0 where it tells none.
@@ -24,6 +25,16 @@ pub fn bytes_in(reply: &Reply) -> &[u8]
     match reply {
         Reply::Bytes { bytes } => bytes.as_slice(),
         _ => &[],
+    }
+}
+
+/// The same. It takes no memory.
+pub fn taken_bytes(alloc: Global, reply: Reply) -> Octets
+    ensures { result ≡ steps.bytes_in reply }
+{
+    match reply {
+        Reply::Bytes { bytes } => bytes,
+        _ => Octets::new(alloc),
     }
 }
 
