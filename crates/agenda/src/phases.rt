@@ -6,6 +6,8 @@ ghost use Rattle.net_base.specs.Legal.{IsLegal, IsTimed};
 ghost use Rattle.net_base.specs.Net.{after};
 ghost use Rattle.net_base.specs.Summary.{answered_steps};
 ghost use Rattle.net_base.specs.World.{IsWorld};
+ghost use Rattle.net_base.specs.Next.{zone_of};
+ghost use Rattle.net_base.specs.Steps.{no_names};
 ghost use Rattle.net_model.specs.Headline.{Headline};
 ghost use Rattle.whole_script.specs.ScriptTasks.{Plays};
 ghost use Rattle.host_net.specs.Groups.{all_members, visits};
@@ -128,7 +130,7 @@ fn players_of<'a, J: Naming + Placing>(
     requires is { IsWorld world.now }
     requires roster { IsRosterOf J.world J.run.roster }
     requires some { 0 < deal.groups }
-    requires fresh { AreFresh 0 guests.items }
+    requires fresh { AreFresh (zone_of J.world) 0 guests.items }
     ensures { IfOk result (λ players. players.callers ≡ length guests.items) }
 {
     let Deal { groups, numbers } = deal;
@@ -142,7 +144,7 @@ fn players_of<'a, J: Naming + Placing>(
 
 // The task of a script, or one without steps for another caller.
 fn task_of<'a>(world: &'a World, caller: u32) -> ScriptTask<'a>
-    ensures { (s : AnyScript) → caller_of world.now caller ≡ IsScript s → Plays s [] [] result }
+    ensures { (s : AnyScript) → caller_of world.now caller ≡ IsScript s → Plays (zone_of world.now) s [] (no_names (zone_of world.now)) result }
 {
     match world.scripts.as_slice().get(caller as usize) {
         Some(script) => ScriptTask::new(script),

@@ -17,8 +17,9 @@ use Rattle.net_base.specs.Calm.{owes}
 use Rattle.net_base.specs.Callers.{IsClock, IsScript, caller_of, other_caller}
 use Rattle.net_base.specs.Duties.{Duty}
 use Rattle.net_base.specs.Net.{after}
-use Rattle.net_base.specs.Next.{answered, by, finished_by, own_replies}
+use Rattle.net_base.specs.Next.{answered, by, finished_by, own_replies, zone_of}
 use Rattle.net_base.specs.Stamped.{In, entries_from, of_caller}
+use Rattle.net_base.specs.Versions.{Tuples}
 use Rattle.net_base.specs.Steps.{Names}
 use Rattle.net_base.specs.Summary.{answered_by, answered_steps}
 use Rattle.guest_laws.specs.Works.{entries}
@@ -41,12 +42,12 @@ module _ {T : Type 0} (Plays : Script → List Reply → Names → T → Type 0)
     (is : IsCounted Plays w v t lost before) where
   -- what is owed belongs to the step of its last own event
   pub answered_owing : not (length v.owed == 0) ≡ true → IsAnswered w v before
-  answered_owing some = λ s script. is.before_is s script ∙ sym (ap (λ (b : Bool). answered (entries v.sight.seen) v.caller b s) some)
+  answered_owing some = λ s script. is.before_is s script ∙ sym (ap (λ (b : Bool). answered w (entries v.sight.seen) v.caller b s) some)
 
   pub answered_free : (n : ℕ) → lost ≡ false → not (length v.owed == 0) ≡ false
-      → ((s : Script) (rs : List Reply) (names : Names) → Plays s rs names t → n ≡ finished_by rs s) → IsAnswered w v n
+      → ((zone : Tuples) (s : Script) (rs : List Reply) (names : Names) → Plays zone s rs names t → n ≡ finished_by zone rs s) → IsAnswered w v n
   answered_free n told none counts = λ s script.
-      counts s (replies_of v) v.names (is.plays s script told) ∙ sym (ap (λ (b : Bool). answered (entries v.sight.seen) v.caller b s) none)
+      counts (zone_of w) s (replies_of v) v.names (is.plays s script told) ∙ sym (ap (λ (b : Bool). answered w (entries v.sight.seen) v.caller b s) none)
 
 -- whether it can tell
 owes_some : (ds : List Duty) → not (length ds == 0) ≡ true → ds ≢ []
@@ -99,12 +100,12 @@ answered_in w vs h v n s are there is script =
     same_owes ((after w h).owed v.caller) ∙ ap (λ (ds : List Duty). not (length ds == 0)) (are.owes v there) in
     let replies : own_replies h v.caller ≡ own_replies (entries v.sight.seen) v.caller =
     ap (λ (es : List Entry). map (λ (x : Entry). x.reply) (filter (λ (x : Entry). is_none x.cites) es)) same in
-    is s script ∙ (ap (λ (b : Bool). answered (entries v.sight.seen) v.caller b s) (sym owing) ∙ by_owes replies (owes (after w h) v.caller))
+    is s script ∙ (ap (λ (b : Bool). answered w (entries v.sight.seen) v.caller b s) (sym owing) ∙ by_owes replies (owes (after w h) v.caller))
   where
-    by_owes : own_replies h v.caller ≡ own_replies (entries v.sight.seen) v.caller → (b : Bool) → answered (entries v.sight.seen) v.caller b s
-        ≡ answered h v.caller b s
-    by_owes replies true = ap (λ (rs : List Reply). finished_by (take (length rs - 1) rs) s) (sym replies)
-    by_owes replies false = ap (λ (rs : List Reply). finished_by rs s) (sym replies)
+    by_owes : own_replies h v.caller ≡ own_replies (entries v.sight.seen) v.caller → (b : Bool) → answered w (entries v.sight.seen) v.caller b s
+        ≡ answered w h v.caller b s
+    by_owes replies true = ap (λ (rs : List Reply). finished_by (zone_of w) (take (length rs - 1) rs) s) (sym replies)
+    by_owes replies false = ap (λ (rs : List Reply). finished_by (zone_of w) rs s) (sym replies)
 
 -- Rows of scripts.
 

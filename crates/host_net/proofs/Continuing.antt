@@ -19,9 +19,10 @@ use Rattle.net_base.specs.Actors.{Actor, actor_step, opening_actor}
 use Rattle.net_base.specs.Callers.{Caller, IsScript, caller_of}
 use Rattle.net_base.specs.Net as nets
 use Rattle.net_base.specs.Net.{played, stepped_to}
-use Rattle.net_base.specs.Next.{next, next_of, own_replies}
+use Rattle.net_base.specs.Versions.{Tuples}
+use Rattle.net_base.specs.Next.{next, next_of, own_replies, zone_of}
 use Rattle.net_base.specs.Stamped.{at, at_from, matches}
-use Rattle.net_base.specs.Steps.{Ask, Play, Asks, Ends, position}
+use Rattle.net_base.specs.Steps.{Ask, Play, Asks, Ends, position, no_names}
 use Rattle.locked.specs.Acts.{left_by, state, state_at}
 use Rattle.script_task.specs.Fitting.{fits}
 use Rattle.script_task.specs.Requests.{head}
@@ -160,22 +161,22 @@ append_one : (xs : List Reply) (r : Reply) (more : List Reply) → (xs ++ r ∷ 
 append_one [] r more = refl
 append_one (x ∷ xs) r more = ap (λ ys. x ∷ ys) (append_one xs r more)
 
-pub continues_on : (s : Script) (rs : List Reply) (p : Play) (r : Reply) → Continues s rs p → Continues s (rs ++ r ∷ []) (follow p r)
-continues_on s rs p r goes =
+pub continues_on : (zone : Tuples) (s : Script) (rs : List Reply) (p : Play) (r : Reply) → Continues zone s rs p → Continues zone s (rs ++ r ∷ []) (follow p r)
+continues_on zone s rs p r goes =
     record {
-      next_is = λ more. subst (λ (xs : List Reply). (position s.host s.steps [] xs).next ≡ head (rest p (r ∷ more))) (sym (append_one rs r more))
+      next_is = λ more. subst (λ (xs : List Reply). (position s.host s.steps (no_names zone) xs).next ≡ head (rest p (r ∷ more))) (sym (append_one rs r more))
           (goes.next_is (r ∷ more));
-      left_is = λ more. subst (λ (xs : List Reply). nat_lt 0 (length (position s.host s.steps [] xs).left) ≡ is_some (head (rest p (r ∷ more))))
+      left_is = λ more. subst (λ (xs : List Reply). nat_lt 0 (length (position s.host s.steps (no_names zone) xs).left) ≡ is_some (head (rest p (r ∷ more))))
           (sym (append_one rs r more)) (goes.left_is (r ∷ more));
     }
 
 -- the script's next event is the play's
-pub next_head : (s : Script) (rs : List Reply) (p : Play) → Continues s rs p → (position s.host s.steps [] rs).next ≡ head p
-next_head s rs p goes = ap (λ (xs : List Reply). (position s.host s.steps [] xs).next) (sym (append_nothing rs)) ∙ goes.next_is []
+pub next_head : (zone : Tuples) (s : Script) (rs : List Reply) (p : Play) → Continues zone s rs p → (position s.host s.steps (no_names zone) rs).next ≡ head p
+next_head zone s rs p goes = ap (λ (xs : List Reply). (position s.host s.steps (no_names zone) xs).next) (sym (append_nothing rs)) ∙ goes.next_is []
 
-pub script_next : (w : World) (c : ℕ) (log : List Noted) (s : Script) (p : Play) → caller_of w c ≡ IsScript s → Continues s (own_replies (entries log) c) p
+pub script_next : (w : World) (c : ℕ) (log : List Noted) (s : Script) (p : Play) → caller_of w c ≡ IsScript s → Continues (zone_of w) s (own_replies (entries log) c) p
     → next w (entries log) c ≡ head p
-script_next w c log s p is goes = ap (λ (k : Caller). next_of k (entries log) c) is ∙ next_head s (own_replies (entries log) c) p goes
+script_next w c log s p is goes = ap (λ (k : Caller). next_of w k (entries log) c) is ∙ next_head (zone_of w) s (own_replies (entries log) c) p goes
 
 pub play_fits : (p : Play) (ask : Ask) (r : Reply) → head p ≡ Some ask → fits ask.event r ≡ true → fits_play p r ≡ true
 play_fits (Asks a e later) ask r is fit = subst (λ (x : Ask). fits x.event r ≡ true) (sym (same_Some (record { actor = a; event = e }) ask is)) fit

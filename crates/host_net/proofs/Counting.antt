@@ -8,8 +8,9 @@ use Rattle.net_base.specs.declared.reply.Reply.{Reply}
 use Rattle.net_base.specs.declared.world.Script.{Script}
 use Rattle.net_base.specs.declared.world.World.{World}
 use Rattle.net_base.specs.Callers.{IsCourier, IsScript, caller_of}
-use Rattle.net_base.specs.Next.{finished_by, own_replies}
-use Rattle.net_base.specs.Steps.{Names}
+use Rattle.net_base.specs.Next.{finished_by, own_replies, zone_of}
+use Rattle.net_base.specs.Versions.{Tuples}
+use Rattle.net_base.specs.Steps.{Names, no_names}
 use Rattle.locked.specs.Acts.{made, without_copy}
 use Rattle.script_task.specs.declared.request.Request.{Request}
 use Rattle.script_task.specs.Fitting.{fits}
@@ -60,9 +61,9 @@ module _ {T : Type 0} (Plays : Script → List Reply → Names → T → Type 0)
       let same : replies_of new ≡ replies_of old = ap (own_replies (entries new.sight.seen)) caller ∙ replies in
       record {
         plays = λ s script told.
-            subst (λ (rs : List Reply). Plays s rs new.names t) (sym same)
-            (subst (λ (l : Names). Plays s (replies_of old) l t) (sym names) (is.plays s (ap (caller_of w) (sym caller) ∙ script) told));
-        before_is = λ s script. is.before_is s (ap (caller_of w) (sym caller) ∙ script) ∙ ap (λ (rs : List Reply). finished_by (before_last rs) s) (sym same);
+            subst (λ (rs : List Reply). Plays (zone_of w) s rs new.names t) (sym same)
+            (subst (λ (l : Names). Plays (zone_of w) s (replies_of old) l t) (sym names) (is.plays s (ap (caller_of w) (sym caller) ∙ script) told));
+        before_is = λ s script. is.before_is s (ap (caller_of w) (sym caller) ∙ script) ∙ ap (λ (rs : List Reply). finished_by (zone_of w) (before_last rs) s) (sym same);
       }
 
   -- a player that doesn't count
@@ -77,19 +78,19 @@ module _ {T : Type 0} (Plays : Script → List Reply → Names → T → Type 0)
   counts_courier m v t lost before courier = counts_none v t lost before (λ s script. true≢false (ap is_script (sym script ∙ courier)))
 
   -- nothing is recorded yet
-  counts_first : (v : Visit) (t : T) (before : ℕ) → v.sight.seen ≡ [] → v.names ≡ [] → ((s : Script) → caller_of w v.caller ≡ IsScript s → Plays s [] [] t)
-      → ((s : Script) (rs : List Reply) (names : Names) → Plays s rs names t → before ≡ finished_by rs s) → IsCounted Plays w v t false before
+  counts_first : (v : Visit) (t : T) (before : ℕ) → v.sight.seen ≡ [] → v.names ≡ no_names (zone_of w) → ((s : Script) → caller_of w v.caller ≡ IsScript s → Plays (zone_of w) s [] (no_names (zone_of w)) t)
+      → ((zone : Tuples) (s : Script) (rs : List Reply) (names : Names) → Plays zone s rs names t → before ≡ finished_by zone rs s) → IsCounted Plays w v t false before
   counts_first v t before seen names plays counts =
       let none : replies_of v ≡ [] = ap (λ (l : List Noted). own_replies (entries l) v.caller) seen in
       record {
         plays = λ s script told.
-            subst (λ (rs : List Reply). Plays s rs v.names t) (sym none) (subst (λ (l : Names). Plays s [] l t) (sym names) (plays s script));
-        before_is = λ s script. counts s [] [] (plays s script) ∙ ap (λ (rs : List Reply). finished_by (before_last rs) s) (sym none);
+            subst (λ (rs : List Reply). Plays (zone_of w) s rs v.names t) (sym none) (subst (λ (l : Names). Plays (zone_of w) s [] l t) (sym names) (plays s script));
+        before_is = λ s script. counts (zone_of w) s [] (no_names (zone_of w)) (plays s script) ∙ ap (λ (rs : List Reply). finished_by (zone_of w) (before_last rs) s) (sym none);
       }
 
-  pub counts_fresh : (guest v : Visit) (task t : T) (lost : Bool) (before : ℕ) → v ≡ guest → t ≡ task → lost ≡ false → IsFresh guest.caller guest
-      → ((s : Script) → caller_of w guest.caller ≡ IsScript s → Plays s [] [] task)
-      → ((s : Script) (rs : List Reply) (names : Names) → Plays s rs names task → before ≡ finished_by rs s) → IsCounted Plays w v t lost before
+  pub counts_fresh : (guest v : Visit) (task t : T) (lost : Bool) (before : ℕ) → v ≡ guest → t ≡ task → lost ≡ false → IsFresh (zone_of w) guest.caller guest
+      → ((s : Script) → caller_of w guest.caller ≡ IsScript s → Plays (zone_of w) s [] (no_names (zone_of w)) task)
+      → ((zone : Tuples) (s : Script) (rs : List Reply) (names : Names) → Plays zone s rs names task → before ≡ finished_by zone rs s) → IsCounted Plays w v t lost before
   counts_fresh guest v task t lost before visit same told fresh plays counts =
       subst (λ (b : Bool). IsCounted Plays w v t b before) (sym told)
       (subst (λ (x : T). IsCounted Plays w v x false before) (sym same)
@@ -118,19 +119,19 @@ module _ {T : Type 0} (Plays : Script → List Reply → Names → T → Type 0)
         record {
           plays = λ s now again. plays_then result told s now again;
           before_is = λ s now.
-              counts s (replies_of old) old.names (is.plays s (was s now) keeps_told)
-              ∙ ap (λ (rs : List Reply). finished_by rs s)
+              counts (zone_of w) s (replies_of old) old.names (is.plays s (was s now) keeps_told)
+              ∙ ap (λ (rs : List Reply). finished_by (zone_of w) rs s)
               (sym (ap before_last (one_reply_more w old new same s.host q stamp r (does s (was s now))) ∙ all_but_last (replies_of old) r));
         }
       where
         plays_then : (p : Played) → Told after t lost r p t' lost' → (s : Script) → caller_of w new.caller ≡ IsScript s → lost' ≡ false
-            → Plays s (replies_of new) new.names t'
+            → Plays (zone_of w) s (replies_of new) new.names t'
         plays_then played.Recorded came s now again =
             let asked = does s (was s now) in
-            subst (λ (x : T). Plays s (replies_of new) new.names x) (sym came.0)
-            (subst (λ (l : Names). Plays s (replies_of new) l (after t r)) (sym asked.names)
-            (subst (λ (rs : List Reply). Plays s rs (settled old.names q r) (after t r)) (sym (one_reply_more w old new same s.host q stamp r asked))
-            (plays_on s (replies_of old) old.names t q asked.ask r (is.plays s (was s now) keeps_told) (sym asks_it) asked.asks
+            subst (λ (x : T). Plays (zone_of w) s (replies_of new) new.names x) (sym came.0)
+            (subst (λ (l : Names). Plays (zone_of w) s (replies_of new) l (after t r)) (sym asked.names)
+            (subst (λ (rs : List Reply). Plays (zone_of w) s rs (settled old.names q r) (after t r)) (sym (one_reply_more w old new same s.host q stamp r asked))
+            (plays_on (zone_of w) s (replies_of old) old.names t q asked.ask r (is.plays s (was s now) keeps_told) (sym asks_it) asked.asks
             (reply_fits w old new same s.host q stamp r asked keeps fit))))
         plays_then played.Waits came s now again = absurd came
         plays_then played.Memory came s now again = absurd (true≢false (sym came.1 ∙ again))

@@ -5,8 +5,8 @@ use Rattle.net_base.specs.declared.reply.Reply.{Reply}
 use Rattle.net_base.specs.declared.world.Script.{Script}
 use Rattle.net_base.specs.declared.world.World.{World}
 use Rattle.net_base.specs.Callers.{Caller, IsScript, caller_of}
-use Rattle.net_base.specs.Next.{next, next_of, own_replies}
-use Rattle.net_base.specs.Steps.{Ask, Names, Play, position}
+use Rattle.net_base.specs.Next.{next, next_of, own_replies, zone_of}
+use Rattle.net_base.specs.Steps.{Ask, Names, Play, position, no_names}
 use Rattle.script_task.specs.declared.request.Request.{Request}
 use Rattle.script_task.specs.Requests.{head, planned}
 use Rattle.script_task.specs.Rest.{Continues}
@@ -16,14 +16,14 @@ use Rattle.host_net.specs.Playing.{GoesOn}
 use Rattle.net_guests.specs.Visits.{Visit}
 
 next_is_head : (w : World) (v : Visit) (s : Script) (p : Play) → caller_of w v.caller ≡ IsScript s
-    → Continues s (own_replies (entries v.sight.seen) v.caller) p → next w (entries v.sight.seen) v.caller ≡ head p
+    → Continues (zone_of w) s (own_replies (entries v.sight.seen) v.caller) p → next w (entries v.sight.seen) v.caller ≡ head p
 next_is_head w v s p script goes =
-    ap (λ (k : Caller). next_of k (entries v.sight.seen) v.caller) script
-    ∙ (ap (λ (rs : List Reply). (position s.host s.steps [] rs).next) (sym (append-nil (own_replies (entries v.sight.seen) v.caller)))
+    ap (λ (k : Caller). next_of w k (entries v.sight.seen) v.caller) script
+    ∙ (ap (λ (rs : List Reply). (position s.host s.steps (no_names (zone_of w)) rs).next) (sym (append-nil (own_replies (entries v.sight.seen) v.caller)))
     ∙ goes.next_is [])
 
 module _ {T : Type 0} (asks : T → Names → Option Request) (Stands : ℕ → Names → T → Play → Type 0) (so : AsksSo T asks Stands)
-    (w : World) (v : Visit) (s : Script) (t : T) (script : caller_of w v.caller ≡ IsScript s) (goes : GoesOn Stands s v t) where
+    (w : World) (v : Visit) (s : Script) (t : T) (script : caller_of w v.caller ≡ IsScript s) (goes : GoesOn Stands (zone_of w) s v t) where
   -- the task is through
   pub nothing_next : asks t v.names ≡ None → None ≡ next w (entries v.sight.seen) v.caller
   nothing_next none =

@@ -4,6 +4,7 @@ use Rattle.std.proofs.Common.{filter, Option, Some, None, if◌then◌else◌, r
 use Rattle.std.specs.Option.{option_map_or}
 use Rattle.std.proofs.lemmas.Bool.{true≢false}
 use Rattle.std.proofs.lemmas.Bool.Decides.{nat_tests}
+use Rattle.net_base.specs.Versions.{Tuples}
 use Rattle.net_base.specs.declared.noted.Number.TheVariants as number
 use Rattle.net_base.specs.declared.world.Script.{Script}
 use Rattle.net_base.specs.declared.world.World.{World}
@@ -57,16 +58,16 @@ all_numbers (suc n) d lt = by_place (λ below. all_numbers n d below) (d == n) r
     by_place rec false is = inr (rec (less d n lt is))
 
 -- one guest more
-pub fresh_more : (n : ℕ) (vs : List Visit) (v : Visit) → AreFresh n vs → IsFresh (n + length vs) v → AreFresh n (vs ++ v ∷ [])
-fresh_more n [] v are is = (subst (λ (k : ℕ). IsFresh k v) (omega arith) is, tt)
-fresh_more n (x ∷ vs) v are is = (are.0, fresh_more (n + 1) vs v are.1 (subst (λ (k : ℕ). IsFresh k v) (omega arith) is))
+pub fresh_more : (zone : Tuples) (n : ℕ) (vs : List Visit) (v : Visit) → AreFresh zone n vs → IsFresh zone (n + length vs) v → AreFresh zone n (vs ++ v ∷ [])
+fresh_more zone n [] v are is = (subst (λ (k : ℕ). IsFresh zone k v) (omega arith) is, tt)
+fresh_more zone n (x ∷ vs) v are is = (are.0, fresh_more zone (n + 1) vs v are.1 (subst (λ (k : ℕ). IsFresh zone k v) (omega arith) is))
 
 -- the last of them
-pub fresh_last : (n : ℕ) (vs : List Visit) (v : Visit) → AreFresh n (vs ++ v ∷ []) → AreFresh n vs × IsFresh (n + length vs) v
-fresh_last n [] v are = (tt, subst (λ (k : ℕ). IsFresh k v) (omega arith) are.0)
-fresh_last n (x ∷ vs) v are =
-    let rest = fresh_last (n + 1) vs v are.1 in
-    ((are.0, rest.0), subst (λ (k : ℕ). IsFresh k v) (omega arith) rest.1)
+pub fresh_last : (zone : Tuples) (n : ℕ) (vs : List Visit) (v : Visit) → AreFresh zone n (vs ++ v ∷ []) → AreFresh zone n vs × IsFresh zone (n + length vs) v
+fresh_last zone n [] v are = (tt, subst (λ (k : ℕ). IsFresh zone k v) (omega arith) are.0)
+fresh_last zone n (x ∷ vs) v are =
+    let rest = fresh_last zone (n + 1) vs v are.1 in
+    ((are.0, rest.0), subst (λ (k : ℕ). IsFresh zone k v) (omega arith) rest.1)
 
 -- Scripts.
 

@@ -16,7 +16,7 @@ use Rattle.net_base.specs.Actors.{actor_step}
 use Rattle.net_base.specs.Callers.{Caller, IsClock, IsCourier, IsScript, caller_of}
 use Rattle.net_base.specs.Duties.{Duty}
 use Rattle.net_base.specs.Legal.{IsAsked}
-use Rattle.net_base.specs.Next.{next, next_of, own_replies}
+use Rattle.net_base.specs.Next.{next, next_of, own_replies, zone_of}
 use Rattle.net_base.specs.Stamped.{at}
 use Rattle.net_base.specs.Steps.{Ask, Names, Play}
 use Rattle.duties.specs.Queue.{work_of_duty}
@@ -134,15 +134,15 @@ is_script _ = false
 module _ {T : Type 0} (Stands : ℕ → Names → T → Play → Type 0) (w : World) (old new : Visit) (same : IsSame old new) where
   pub goes_stay : (s : Script) (t : T) → new.names ≡ old.names → own_replies (entries new.sight.seen) old.caller
       ≡ own_replies (entries old.sight.seen) old.caller
-      → GoesOn Stands s old t → GoesOn Stands s new t
+      → GoesOn Stands (zone_of w) s old t → GoesOn Stands (zone_of w) s new t
   goes_stay s t names replies goes = (
     goes.0,
     subst (λ (l : Names). Stands s.host l t goes.0) (sym names) goes.1,
-    subst (λ (rs : List Reply). Continues s rs goes.0) (sym (ap (own_replies (entries new.sight.seen)) same.caller ∙ replies)) goes.2,
+    subst (λ (rs : List Reply). Continues (zone_of w) s rs goes.0) (sym (ap (own_replies (entries new.sight.seen)) same.caller ∙ replies)) goes.2,
   )
 
   pub still_player : (who : Role) (t : T) (lost : Bool) → IsPlayer Stands w old who t lost → IsPlayed w new
-      → ((s : Script) → GoesOn Stands s old t → GoesOn Stands s new t) → IsPlayer Stands w new who t lost
+      → ((s : Script) → GoesOn Stands (zone_of w) s old t → GoesOn Stands (zone_of w) s new t) → IsPlayer Stands w new who t lost
   still_player who t lost is plays goes =
       record {
         role_is = subst (λ (c : ℕ). HasRole w c who) (sym same.caller) is.role_is;
@@ -193,7 +193,7 @@ module _ (w : World) (m : ℕ) (old new : Visit) (same : IsSame old new) (names 
     (courier : caller_of w old.caller ≡ IsCourier m) (free : old.owed ≡ [])
     (answer : Turn) (takes : Takes w (name.Medium m) (bare event.Take) None old answer new) where
   take_next : next w (entries old.sight.seen) old.caller ≡ Some (record { actor = name.Medium m; event = event.Take })
-  take_next = ap (λ (k : Caller). next_of k (entries old.sight.seen) old.caller) courier
+  take_next = ap (λ (k : Caller). next_of w k (entries old.sight.seen) old.caller) courier
 
   take_asked : (o : Outcome)
       → IsAsked old.owed (caller_of w old.caller) (next w (entries old.sight.seen) old.caller)
@@ -228,7 +228,7 @@ module _ (w : World) (m : ℕ) (old new : Visit) (same : IsSame old new) (names 
 
 pub clock_waits : (w : World) (v : Visit) → caller_of w v.caller ≡ IsClock → v.owed ≡ [] → IsWaiting w v
 clock_waits w v clock free =
-    let nothing : next w (entries v.sight.seen) v.caller ≡ None = ap (λ (k : Caller). next_of k (entries v.sight.seen) v.caller) clock in
+    let nothing : next w (entries v.sight.seen) v.caller ≡ None = ap (λ (k : Caller). next_of w k (entries v.sight.seen) v.caller) clock in
     inr (subst (λ (ds : List Duty). IsUnready w v ds) (sym free) (λ ask comes. absurd (none-some ask (sym nothing ∙ comes))))
 
 -- a turn that came to nothing

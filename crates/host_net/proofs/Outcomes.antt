@@ -17,7 +17,7 @@ use Rattle.net_base.specs.Actors.{Actor, actor_step}
 use Rattle.net_base.specs.Calm.{done, limited, movable, stopped, target}
 use Rattle.net_base.specs.Duties.{Duty, duties, ticks}
 use Rattle.net_base.specs.Net.{Net, after}
-use Rattle.net_base.specs.Next.{by, own_replies}
+use Rattle.net_base.specs.Next.{by, own_replies, zone_of}
 use Rattle.net_base.specs.Stamped.{In, at, at_from}
 use Rattle.net_base.specs.Steps.{Names, Play}
 use Rattle.journal.specs.declared.law.Roster.{Roster}
@@ -71,11 +71,11 @@ module _ {T : Type 0} (Stands : ℕ → Names → T → Play → Type 0) (w : Wo
         goes_on = λ s script told. goes_on s (is.goes_on s (ap (caller_of w) (sym caller) ∙ script) told);
       }
     where
-      goes_on : (s : Script) → GoesOn Stands s old t → GoesOn Stands s new t
+      goes_on : (s : Script) → GoesOn Stands (zone_of w) s old t → GoesOn Stands (zone_of w) s new t
       goes_on s on = (
         on.0,
         subst (λ (l : Names). Stands s.host l t on.0) (sym names) on.1,
-        subst (λ (rs : List Reply). Continues s rs on.0)
+        subst (λ (rs : List Reply). Continues (zone_of w) s rs on.0)
             (sym (ap (own_replies (entries new.sight.seen)) caller ∙ same_replies old.caller old.sight.seen new.sight.seen stays.alone)) on.2,
       )
 

@@ -9,7 +9,7 @@ use Rattle.net_base.specs.declared.world.World.{World}
 use Rattle.net_base.specs.Callers.{Caller, IsScript, caller_of}
 use Rattle.net_base.specs.Duties.{Duty}
 use Rattle.net_base.specs.Legal.{IsAsked}
-use Rattle.net_base.specs.Next.{next, own_replies}
+use Rattle.net_base.specs.Next.{next, own_replies, zone_of}
 use Rattle.net_base.specs.Steps.{Ask, Names, Play}
 use Rattle.locked.specs.Acts.{made}
 use Rattle.script_task.specs.declared.request.Request.{Request}
@@ -44,7 +44,7 @@ next_asked w old s ask script free is o =
 module _ {T : Type 0} (asks : T → Names → Option Request) (after : T → Reply → T) (Stands : ℕ → Names → T → Play → Type 0)
     (asks_so : AsksSo T asks Stands) (moves_so : MovesSo T asks after Stands) (w : World) where
   -- a script whose task is through has nothing that comes next
-  pub through_waits : (v : Visit) (s : Script) (t : T) → caller_of w v.caller ≡ IsScript s → v.owed ≡ [] → GoesOn Stands s v t → asks t v.names ≡ None
+  pub through_waits : (v : Visit) (s : Script) (t : T) → caller_of w v.caller ≡ IsScript s → v.owed ≡ [] → GoesOn Stands (zone_of w) s v t → asks t v.names ≡ None
       → IsWaiting w v
   through_waits v s t script free goes none =
       let ended : Heads s.host v.names None goes.0 = subst (λ (o : Option Request). Heads s.host v.names o goes.0) none
@@ -52,7 +52,7 @@ module _ {T : Type 0} (asks : T → Names → Option Request) (after : T → Rep
       let nothing : next w (entries v.sight.seen) v.caller ≡ None = script_next w v.caller v.sight.seen s goes.0 script goes.2 ∙ ap head ended in
       inr (subst (λ (ds : List Duty). IsUnready w v ds) (sym free) (λ ask comes. absurd (none-some ask (sym nothing ∙ comes))))
 
-  module _ (old new : Visit) (same : IsSame old new) (s : Script) (script : caller_of w old.caller ≡ IsScript s) (t : T) (goes : GoesOn Stands s old t)
+  module _ (old new : Visit) (same : IsSame old new) (s : Script) (script : caller_of w old.caller ≡ IsScript s) (t : T) (goes : GoesOn Stands (zone_of w) s old t)
       (q : Request) (asks_it : asks t old.names ≡ Some q) where
     asked_head : (ask : Ask) → planned s.host old.names q ≡ Some ask → head goes.0 ≡ Some ask
     asked_head ask is =
@@ -63,7 +63,7 @@ module _ {T : Type 0} (asks : T → Names → Option Request) (after : T → Rep
     asked_next : (ask : Ask) → planned s.host old.names q ≡ Some ask → next w (entries old.sight.seen) old.caller ≡ Some ask
     asked_next ask is = script_next w old.caller old.sight.seen s goes.0 script goes.2 ∙ asked_head ask is
 
-    pub recorded_goes : KeepsActors → FitWorks → (stamp : ℕ) (r : Reply) → Asked w s.host q old (turn.Recorded stamp r) new → GoesOn Stands s new (after t r)
+    pub recorded_goes : KeepsActors → FitWorks → (stamp : ℕ) (r : Reply) → Asked w s.host q old (turn.Recorded stamp r) new → GoesOn Stands (zone_of w) s new (after t r)
     recorded_goes keeps fit stamp r is =
         let fit_it : fits_play goes.0 r ≡ true = play_fits goes.0 is.ask r (asked_head is.ask is.asks)
         (reply_fits w old new same s.host q stamp r is keeps fit) in
@@ -71,8 +71,8 @@ module _ {T : Type 0} (asks : T → Names → Option Request) (after : T → Rep
         let replies = one_reply_more w old new same s.host q stamp r is in (
           follow goes.0 r,
           subst (λ (l : Names). Stands s.host l (after t r) (follow goes.0 r)) (sym is.names) stands,
-          subst (λ (rs : List Reply). Continues s rs (follow goes.0 r)) (sym replies)
-              (continues_on s (own_replies (entries old.sight.seen) old.caller) goes.0 r goes.2),
+          subst (λ (rs : List Reply). Continues (zone_of w) s rs (follow goes.0 r)) (sym replies)
+              (continues_on (zone_of w) s (own_replies (entries old.sight.seen) old.caller) goes.0 r goes.2),
         )
 
     -- the entry, and what isn't ready
@@ -88,7 +88,7 @@ module _ {T : Type 0} (asks : T → Names → Option Request) (after : T → Rep
         (λ unready stays owed. subst (λ (ds : List Duty). IsUnready w new ds) (sym (owed ∙ is.free))
         (unready_next w old new same is.ask unready stays (asked_next is.ask is.asks)))
 
-    pub asked_stays : Asked w s.host q old turn.NotReady new → GoesOn Stands s new t
+    pub asked_stays : Asked w s.host q old turn.NotReady new → GoesOn Stands (zone_of w) s new t
     asked_stays is = goes_stay Stands w old new same s t is.names (own_stays old.caller old.sight.seen new.sight.seen is.takes.0.stays.alone) goes
 
     pub asked_more : (stamp : ℕ) (r : Reply) → Asked w s.host q old (turn.Recorded stamp r) new → HasMore old new
@@ -101,7 +101,7 @@ module _ {T : Type 0} (asks : T → Names → Option Request) (after : T → Rep
     abbrev Operates : Turn → Type 0
     Operates answer = (s : Script) → caller_of w old.caller ≡ IsScript s → Operated w s.host q old answer new
 
-    goes_from : (s : Script) → caller_of w old.caller ≡ IsScript s → GoesOn Stands s old t
+    goes_from : (s : Script) → caller_of w old.caller ≡ IsScript s → GoesOn Stands (zone_of w) s old t
     goes_from s script = player.goes_on s script keeps_told
 
     kept_role : HasRole w new.caller who
@@ -116,7 +116,7 @@ module _ {T : Type 0} (asks : T → Names → Option Request) (after : T → Rep
           plays = asked_played old new same s script t (goes_from s script) q asks_it (turn.Recorded stamp r) (does s script) player.plays;
           goes_on = λ u is again.
               let was : caller_of w old.caller ≡ IsScript u = ap (caller_of w) (sym same.caller) ∙ is in
-              subst (λ (x : T). GoesOn Stands u new x) (sym told.0)
+              subst (λ (x : T). GoesOn Stands (zone_of w) u new x) (sym told.0)
               (recorded_goes old new same u was t (goes_from u was) q asks_it keeps fit stamp r (does u was));
         }
     tells s script stamp r does played.Waits t' lost' told = absurd told
@@ -141,7 +141,7 @@ module _ {T : Type 0} (asks : T → Names → Option Request) (after : T → Rep
         (asked_played old new same s script t (goes_from s script) q asks_it turn.NotReady (does s script) player.plays)
         (λ (u : Script) goes. stays_on u goes))
       where
-        stays_on : (u : Script) → GoesOn Stands u old t → GoesOn Stands u new t
+        stays_on : (u : Script) → GoesOn Stands (zone_of w) u old t → GoesOn Stands (zone_of w) u new t
         stays_on u goes =
             let is = does s script in
             goes_stay Stands w old new same u t is.names (own_stays old.caller old.sight.seen new.sight.seen is.takes.0.stays.alone) goes

@@ -23,7 +23,7 @@ pub record AreAfter (w : World) (vs : List Visit) (h : List Entry) : Type 0 wher
 abbrev pub IsAnswered : World → Visit → ℕ → Type 0
 IsAnswered w v n =
     (s : Script) → caller_of w v.caller ≡ IsScript s
-    → n ≡ answered (entries v.sight.seen) v.caller (not (length v.owed == 0)) s
+    → n ≡ answered w (entries v.sight.seen) v.caller (not (length v.owed == 0)) s
 
 module _ {T : Type 0} where
   -- its task plays a whole script, and it owes something or its task was told the last reply

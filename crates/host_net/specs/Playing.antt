@@ -10,9 +10,10 @@ use Rattle.net_base.specs.declared.world.World.{World}
 use Rattle.net_base.specs.Actors.{actor_step}
 use Rattle.net_base.specs.Callers.{IsScript, IsCourier, IsClock, caller_of}
 use Rattle.net_base.specs.Duties.{Duty}
-use Rattle.net_base.specs.Next.{finished_by, next, own_replies}
+use Rattle.net_base.specs.Next.{finished_by, next, own_replies, zone_of}
 use Rattle.net_base.specs.Steps.{Ask, Names, Play}
 use Rattle.net_base.specs.Stamped.{In}
+use Rattle.net_base.specs.Versions.{Tuples}
 use Rattle.duties.specs.Queue.{work_of_duty}
 use Rattle.script_task.specs.Rest.{Continues}
 use Rattle.guest_laws.specs.Own.{AreNext, AreTimely}
@@ -53,15 +54,15 @@ pub record Playing (T : Type 0) : Type 0 where
 
 module _ {T : Type 0} (Stands : ℕ → Names → T → Play → Type 0) where
   -- the task stands for a play that goes on where the own entries of the script leave it
-  abbrev pub GoesOn : Script → Visit → T → Type 0
-  GoesOn s v t = (p : Play) × Stands s.host v.names t p × Continues s (own_replies (entries v.sight.seen) v.caller) p
+  abbrev pub GoesOn : Tuples → Script → Visit → T → Type 0
+  GoesOn zone s v t = (p : Play) × Stands s.host v.names t p × Continues zone s (own_replies (entries v.sight.seen) v.caller) p
 
   -- what a player keeps: its role is who its caller is, what its caller recorded was its duties and what came next, and
   -- unless a reply was lost for want of memory, the task of a script goes on where its script stands
   pub record IsPlayer (w : World) (v : Visit) (who : Role) (t : T) (lost : Bool) : Type 0 where
     pub role_is : HasRole w v.caller who
     pub plays : IsPlayed w v
-    pub goes_on : (s : Script) → caller_of w v.caller ≡ IsScript s → lost ≡ false → GoesOn s v t
+    pub goes_on : (s : Script) → caller_of w v.caller ≡ IsScript s → lost ≡ false → GoesOn (zone_of w) s v t
 
 -- Steps.
 
@@ -77,13 +78,13 @@ before_last rs = take (length rs - 1) rs
 -- them so many of its steps were finished
 pub record IsCounted {T : Type 0} (Plays : Script → List Reply → Names → T → Type 0) (w : World) (v : Visit) (t : T) (lost : Bool)
     (before : ℕ) : Type 0 where
-  pub plays : (s : Script) → caller_of w v.caller ≡ IsScript s → lost ≡ false → Plays s (replies_of v) v.names t
-  pub before_is : (s : Script) → caller_of w v.caller ≡ IsScript s → before ≡ finished_by (before_last (replies_of v)) s
+  pub plays : (s : Script) → caller_of w v.caller ≡ IsScript s → lost ≡ false → Plays (zone_of w) s (replies_of v) v.names t
+  pub before_is : (s : Script) → caller_of w v.caller ≡ IsScript s → before ≡ finished_by (zone_of w) (before_last (replies_of v)) s
 
 -- what stands for the steps before the last reply after a turn: where that recorded an entry, the steps that were finished
-abbrev pub Counts : {T : Type 0} → (Script → List Reply → Names → T → Type 0) → T → ℕ → Turn → ℕ → Type 0
+abbrev pub Counts : {T : Type 0} → (Tuples → Script → List Reply → Names → T → Type 0) → T → ℕ → Turn → ℕ → Type 0
 Counts Plays t before (turn.Recorded stamp answer) before' =
-    (s : Script) (rs : List Reply) (names : Names) → Plays s rs names t → before' ≡ finished_by rs s
+    (zone : Tuples) (s : Script) (rs : List Reply) (names : Names) → Plays zone s rs names t → before' ≡ finished_by zone rs s
 Counts Plays t before answer before' = before' ≡ before
 
 -- Turns.

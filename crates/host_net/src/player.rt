@@ -2,8 +2,9 @@
 ghost use Rattle.std.specs.Prelude.{◌≡◌, ◌≢◌, ◌<◌, [], true, false, IfNone, IfSome, OnSome};
 ghost use Rattle.net_base.specs.declared.world.Script.{Script as AnyScript};
 ghost use Rattle.net_base.specs.Callers.{IsScript, caller_count, caller_of};
-ghost use Rattle.net_base.specs.Steps.{Play};
+ghost use Rattle.net_base.specs.Steps.{Play, no_names};
 ghost use Rattle.net_base.specs.World.{IsWorld};
+ghost use Rattle.net_base.specs.Next.{zone_of};
 ghost use Rattle.script_task.specs.Rest.{Continues};
 ghost use Rattle.host_net.specs.Answering.{CannotTell, CanTell, IsAnswered};
 ghost use Rattle.host_net.specs.Playing.{Counts, HasRole, IsPlayed, IsSamePlayer, PlaysOn, Heard, Told, played_by};
@@ -70,9 +71,9 @@ impl<J: Naming + Placing, T: WholeTask> Player<J, T> {
         requires world { J.world ≡ world.now }
         requires is { IsWorld world.now }
         requires roster { IsRosterOf J.world J.run.roster }
-        requires fresh { IsFresh guest.caller guest }
+        requires fresh { IsFresh (zone_of J.world) guest.caller guest }
         requires task { (s : AnyScript) → caller_of J.world guest.caller ≡ IsScript s
-            → (p : Play) × T.Stands s.host [] task p × Continues s [] p }
+            → (p : Play) × T.Stands s.host (no_names (zone_of J.world)) task p × Continues (zone_of J.world) s [] p }
         ensures visit { result.visit ≡ guest }
         ensures role { HasRole J.world guest.caller result.role }
         ensures task { result.task ≡ task }
@@ -96,8 +97,9 @@ impl<J: Naming + Placing, T: WholeTask> Player<J, T> {
         requires world { J.world ≡ world.now }
         requires is { IsWorld world.now }
         requires roster { IsRosterOf J.world J.run.roster }
-        requires fresh { IsFresh guest.caller guest }
-        requires plays { (s : AnyScript) → caller_of J.world guest.caller ≡ IsScript s → T.Plays s [] [] task }
+        requires fresh { IsFresh (zone_of J.world) guest.caller guest }
+        requires plays { (s : AnyScript) → caller_of J.world guest.caller ≡ IsScript s
+            → T.Plays (zone_of J.world) s [] (no_names (zone_of J.world)) task }
         ensures visit { result.visit ≡ guest }
         ensures role { HasRole J.world guest.caller result.role }
         ensures task { result.task ≡ task }

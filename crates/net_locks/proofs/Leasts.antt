@@ -125,14 +125,14 @@ module _ (w : World) (r : Roster) (p : Sight) (ss : List Standing) (stand : AllS
   abbrev net : Net
   net = noted_net w p.seen
 
-  awaits_so : (s : Standing) → StandsAt w r p s → awaited_moment (next_of (caller_of w s.caller) net.past s.caller) ≡ awaited_of s
-  awaits_so s st = ap (λ (h : List Entry). awaited_moment (next_of (caller_of w s.caller) h s.caller)) past ∙ ap awaited_moment (sym st.next_is)
+  awaits_so : (s : Standing) → StandsAt w r p s → awaited_moment (next_of w (caller_of w s.caller) net.past s.caller) ≡ awaited_of s
+  awaits_so s st = ap (λ (h : List Entry). awaited_moment (next_of w (caller_of w s.caller) h s.caller)) past ∙ ap awaited_moment (sym st.next_is)
 
   awaited_in : (m : ℕ) → IsAwaited w net m → In m (awaited_moments ss)
   awaited_in m is =
       let s = stand.all is.caller (subst (λ (n : ℕ). is.caller < n) (sym callers) is.known) in
       in_filter_map awaited_of ss s.0 m s.1
-      (sym (awaits_so s.0 (stand.each s.0 s.1)) ∙ (ap (λ (c : ℕ). awaited_moment (next_of (caller_of w c) net.past c)) s.2 ∙ is.awaits))
+      (sym (awaits_so s.0 (stand.each s.0 s.1)) ∙ (ap (λ (c : ℕ). awaited_moment (next_of w (caller_of w c) net.past c)) s.2 ∙ is.awaits))
 
   in_awaited : (m : ℕ) → In m (awaited_moments ss) → IsAwaited w net m
   in_awaited m there =

@@ -118,7 +118,7 @@ module _ (w : World) (r : Roster) (p : Sight) (s : Standing) (st : StandsAt w r 
   owes_so = ap (λ (ds : List Duty). nat_lt 0 (length ds)) st.guest.owed ∙ (positive (length st.owed) ∙ sym st.owes_is)
 
   goes_so : net.past ≡ entries p.seen → can_go_on w net s.caller ≡ is_ready w net (option_map ask_of s.next)
-  goes_so past = ap (λ (h : List Entry). is_ready w net (next_of (caller_of w s.caller) h s.caller)) past ∙ ap (is_ready w net) (sym st.next_is)
+  goes_so past = ap (λ (h : List Entry). is_ready w net (next_of w (caller_of w s.caller) h s.caller)) past ∙ ap (is_ready w net) (sym st.next_is)
 
   pub full_so : net.past ≡ entries p.seen → s.full ≡ is_full net s.caller
   full_so past =

@@ -109,9 +109,9 @@ module _ (w : World) (r : Roster) (p : Sight) (ss : List Standing) (stand : AllS
   unfinished_so : (s : Standing) → StandsAt w r p s → (script : Script) → slice_get w.scripts s.caller ≡ Some script → is_unfinished net.past s.caller script ≡ is_some s.next
   unfinished_so s st script is =
       let caller : caller_of w s.caller ≡ IsScript script = ap (λ (o : Option Script). option_map_or (λ (t : Script). IsScript t) o (other_caller w s.caller)) is in
-      ap (λ (h : List Entry). is_unfinished h s.caller script) past
+      ap (λ (h : List Entry). is_unfinished w h s.caller script) past
       ∙ (left_is script.host script.steps [] _
-      ∙ (ap (λ (k : Caller). is_some (next_of k (entries p.seen) s.caller)) (sym caller) ∙ (ap is_some (sym st.next_is) ∙ mapped s.next)))
+      ∙ (ap (λ (k : Caller). is_some (next_of w k (entries p.seen) s.caller)) (sym caller) ∙ (ap is_some (sym st.next_is) ∙ mapped s.next)))
 
   abbrev unfinished_at : ℕ × Script → Bool
   unfinished_at s = is_unfinished net.past s.0 s.1

@@ -1,6 +1,6 @@
 -- The events that scripts record are plain: the words of their steps are those of a world's file, and a dial opens lines of cs.
 use Rattle.std.proofs.Common.{◌≡◌, ◌≢◌, ℕ, zero, suc, ◌<◌, ◌==◌, ◌&&◌, ◌||◌, Bool, true, not, List, [], ◌∷◌, take, inl, inr, refl, arith}
-use Rattle.std.specs.Prelude.{nat_lt, length}
+use Rattle.std.specs.Prelude.{codes, nat_lt, length}
 use Rattle.std.specs.List.{list_all, position_or_len}
 use Rattle.std.proofs.lemmas.Bool.{and_from, and_parts, or_cases, false≢true}
 use Rattle.std.proofs.lemmas.Bool.Decides.{nat_tests}
@@ -11,8 +11,9 @@ use Rattle.net_base.specs.declared.reply.Reply.{Reply}
 use Rattle.net_base.specs.declared.reply.Reply.TheVariants as reply
 use Rattle.net_base.specs.declared.world.Step.{Step}
 use Rattle.net_base.specs.declared.world.Step.TheVariants as step
+use Rattle.net_base.specs.DatagramHeaders.{has_headers}
 use Rattle.net_base.specs.Plain.{IsClean, IsWord, IsLine, AreLines, AreBytes, IsPlainEvent, IsPlainReply}
-use Rattle.net_base.specs.Steps.{is_blank, clone_path, lines_in, dotted_name}
+use Rattle.net_base.specs.Steps.{call_names, is_blank, clone_path, lines_in, dotted_name}
 use Rattle.net_base.specs.World.{is_within, is_letter, is_name_byte, is_name, is_byte, is_text, is_word, is_step}
 use Rattle.history_laws.proofs.Ordered.{Each}
 use Rattle.net_model.proofs.PlainTexts.{IsText, ListsTexts}
@@ -133,6 +134,13 @@ fits_plain = record { other = λ a e own. plain_other e (own_other e own); diall
 named : (h : ℕ) (called : List ℕ) → is_name called ≡ true → IsNamed h PlainAt called
 named h called is = (name_word called is, name_word called is)
 
+-- so are the names of a call
+dotted_named : (h : ℕ) (called : List ℕ) → is_name called ≡ true → IsNamed h PlainAt (dotted_name called)
+dotted_named h called is = (dotted_word called is, dotted_word called is)
+
+calls_named : (h : ℕ) → Each (λ (called : List ℕ). IsNamed h PlainAt called) call_names
+calls_named h = (dotted_named h (codes "d") refl, (dotted_named h (codes "c") refl, (dotted_named h (codes "r") refl, (dotted_named h (codes "l") refl, tt))))
+
 -- a step that a file can say
 says_plain : (h : ℕ) (s : Step) → is_step s ≡ true → Says h PlainAt s
 says_plain h (step.Open called path m) is =
@@ -158,6 +166,9 @@ says_plain h (step.Accept called from) is =
     (named h called parts.0, named h from parts.1)
 says_plain h (step.Reject called) is = named h called is
 says_plain h (step.Hangup called) is = named h called is
+says_plain h (step.Hread called count) is = (named h called (and_parts (is_name called) (is_within 1 65536 count) is).0, calls_named h)
+says_plain h (step.Hwrite called bytes) is = (named h called (and_parts (is_name called) (list_all is_byte bytes && has_headers bytes) is).0, calls_named h)
+says_plain h (step.Dns called times) is = (named h called (and_parts (is_name called) (is_within 1 1000 times) is).0, calls_named h)
 
 pub steps_plain : (h : ℕ) (steps : List Step) → list_all is_step steps ≡ true → Each (λ (s : Step). Says h PlainAt s) steps
 steps_plain h [] all = tt

@@ -1,6 +1,7 @@
 -- Each step records an event, whatever names are bound.
-use Rattle.std.proofs.Common.{ℕ, Bool, true, false, List, [], Option, Some, None, Ok, Err}
+use Rattle.std.proofs.Common.{ℕ, zero, suc, ◌-◌, Bool, true, false, List, [], Option, Some, None, Ok, Err}
 use Rattle.std.specs.Prelude.{Result, if◌then◌else◌}
+use Rattle.net_base.specs.declared.address.Addr.{Addr}
 use Rattle.net_base.specs.declared.names.Ctl.{Ctl}
 use Rattle.net_base.specs.declared.names.Ctl.TheVariants as ctl
 use Rattle.net_base.specs.declared.names.FileName.{FileName}
@@ -9,7 +10,7 @@ use Rattle.net_base.specs.declared.world.Step.{Step}
 use Rattle.net_base.specs.declared.world.Step.TheVariants as step
 use Rattle.net_base.specs.ControlWords as control
 use Rattle.net_base.specs.Paths.{reads, writes}
-use Rattle.net_base.specs.Steps.{Names, Fid, Play, Ends, asks_cs, controls, dials, dotted_name, fid_of, is_bound, misuses, on_fid, play_of, puts, uses, with_bound, with_new, with_readable, with_writable}
+use Rattle.net_base.specs.Steps.{Names, Fid, Play, Ends, asks_cs, controls, dials, dotted_name, fid_of, is_bound, misuses, on_fid, play_of, puts, uses, with_bound, with_new, with_readable, with_writable, data_name, is_answer, on_taken, open_call, serves, taken_name, takes_call}
 use Rattle.net_model.specs.ScriptOrder.{Begins}
 
 -- the play asks first
@@ -58,6 +59,16 @@ putting h f file.Local text refused next = controlling h f text (control.read te
 putting h f file.Remote text refused next = controlling h f text (control.read text) refused next
 putting h f file.Status text refused next = controlling h f text (control.read text) refused next
 
+-- a call is taken
+calling : (h : ℕ) (called : List ℕ) (names : Names) (next : Fid → Fid → Addr → Addr → Play) (o : Option (List ℕ))
+    → Asking (on_taken o (λ (used : List ℕ). uses h used names) (with_bound h called names (λ (f : Fid). takes_call h f (Ends names) next)))
+calling h called names next None = bound h called names _ (λ f. tt)
+calling h called names next (Some used) = tt
+
+serving : (h : ℕ) (called : List ℕ) (names : Names) (more : ℕ) → Asking (serves h called names more)
+serving h called names zero = calling h called names _ (taken_name names)
+serving h called names (suc more) = calling h called names _ (taken_name names)
+
 pub step_asks : (h : ℕ) (names : Names) (s : Step) → Begins (play_of h names s) []
 step_asks h names (step.Open called path m) = new h called names _ tt
 step_asks h names (step.Read called count) = readable h called names _ (λ f. tt)
@@ -74,3 +85,6 @@ step_asks h names (step.Listen called from) = bound h from names _ (λ f. new h 
 step_asks h names (step.Accept called from) = bound h from names _ (λ f. new h called names _ tt)
 step_asks h names (step.Reject called) = writable h called names _ (λ f. putting h f f.file _ _ _)
 step_asks h names (step.Hangup called) = writable h called names _ (λ f. putting h f f.file _ _ _)
+step_asks h names (step.Hread called count) = calling h called names _ (taken_name names)
+step_asks h names (step.Hwrite called bytes) = on (open_call called names) (uses h data_name names) _ tt (λ f. either (is_answer bytes names.heard) _ _ tt tt)
+step_asks h names (step.Dns called times) = serving h called names (times - 1)

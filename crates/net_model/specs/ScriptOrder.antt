@@ -13,9 +13,9 @@ use Rattle.net_base.specs.Calm.{owes}
 use Rattle.net_base.specs.Duties.{Duty}
 use Rattle.net_base.specs.Legal.{asked_by}
 use Rattle.net_base.specs.Net.{after, owed}
-use Rattle.net_base.specs.Next.{answered, by, finished_by, own_replies}
+use Rattle.net_base.specs.Next.{answered, by, finished_by, own_replies, zone_of}
 use Rattle.net_base.specs.Stamped.{In}
-use Rattle.net_base.specs.Steps.{Names, Play, Asks, Ends, play_of}
+use Rattle.net_base.specs.Steps.{Names, Play, Asks, Ends, play_of, no_names}
 
 -- the entries of a caller that nothing owed, in order
 abbrev pub own_entries : List Entry → ℕ → List Entry
@@ -72,6 +72,6 @@ pub record IsOfLastStep (h : List Entry) (c : ℕ) (d : Duty) : Type 0 where
 -- what a history has of the script of a caller
 pub record KeepsScript (w : World) (h : List Entry) (c : ℕ) (s : Script) : Type 0 where
   -- the steps that are finished, and those that are answered
-  pub finished : StandInOrder s.host [] s.steps (finished_by (own_replies h c) s) (own_entries h c)
-  pub answered_is : StandInOrder s.host [] s.steps (answered h c (owes (after w h) c) s) (settled (owes (after w h) c) (own_entries h c))
+  pub finished : StandInOrder s.host (no_names (zone_of w)) s.steps (finished_by (zone_of w) (own_replies h c) s) (own_entries h c)
+  pub answered_is : StandInOrder s.host (no_names (zone_of w)) s.steps (answered w h c (owes (after w h) c) s) (settled (owes (after w h) c) (own_entries h c))
   pub owed_is : (d : Duty) → In d (owed w h c) → IsOfLastStep h c d

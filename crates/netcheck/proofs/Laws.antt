@@ -64,4 +64,4 @@ one_fault w h s t r q f g = by_order (cases_order s t)
 -- Nobody.
 
 pub nothing_next : (w : World) (h : List Entry) (c : ℕ) → caller_count w ≤ c → next w h c ≡ None
-nothing_next w h c past = ap (λ (k : Caller). next_of k h c) (is_nobody w c past)
+nothing_next w h c past = ap (λ (k : Caller). next_of w k h c) (is_nobody w c past)

@@ -14,8 +14,9 @@ use Rattle.net_base.specs.Calm.{is_ready}
 use Rattle.net_base.specs.Duties.{Duty}
 use Rattle.net_base.specs.Legal.{IsAsked, IsNext, asked_by, cites_of}
 use Rattle.net_base.specs.Net.{after, owed, with_of}
-use Rattle.net_base.specs.Next.{by, finished_by, next, next_of, own_replies}
-use Rattle.net_base.specs.Steps.{Ask, position}
+use Rattle.net_base.specs.Next.{by, finished_by, next, next_of, own_replies, zone_of}
+use Rattle.net_base.specs.Versions.{Tuples}
+use Rattle.net_base.specs.Steps.{Ask, position, no_names}
 use Rattle.script_player.specs.Players.{IsAt, Playing, next_after}
 use Rattle.script_task.specs.Fitting.{fits}
 use Rattle.plain_runner.specs.declared.caller.Caller.{Caller}
@@ -31,21 +32,21 @@ use Rattle.plain_runner.proofs.Replies.{before_last, duty_replies, next_replies}
 script_is : (w : World) (c : ℕ) (s : Script) → slice_get w.scripts c ≡ Some s → caller_of w c ≡ IsScript s
 script_is w c s is = rw is refl
 
-pub next_of_script : (w : World) (h : List Entry) (c : ℕ) (s : Script) → slice_get w.scripts c ≡ Some s → next w h c ≡ next_after s (own_replies h c)
-next_of_script w h c s is = ap (λ (k : Called). next_of k h c) (script_is w c s is)
+pub next_of_script : (w : World) (h : List Entry) (c : ℕ) (s : Script) → slice_get w.scripts c ≡ Some s → next w h c ≡ next_after (zone_of w) s (own_replies h c)
+next_of_script w h c s is = ap (λ (k : Called). next_of w k h c) (script_is w c s is)
 
-pub next_of_courier : (w : World) (h : List Entry) (c m : ℕ) → caller_of w c ≡ IsCourier m → next w h c ≡ next_of (IsCourier m) h c
-next_of_courier w h c m is = ap (λ (k : Called). next_of k h c) is
+pub next_of_courier : (w : World) (h : List Entry) (c m : ℕ) → caller_of w c ≡ IsCourier m → next w h c ≡ next_of w (IsCourier m) h c
+next_of_courier w h c m is = ap (λ (k : Called). next_of w k h c) is
 
 pub next_of_clock : (w : World) (h : List Entry) (c : ℕ) → caller_of w c ≡ IsClock → next w h c ≡ None
-next_of_clock w h c is = ap (λ (k : Called). next_of k h c) is
+next_of_clock w h c is = ap (λ (k : Called). next_of w k h c) is
 
 -- it goes by the replies to its own events
-next_alike : (k : Called) (h later : List Entry) (c : ℕ) → own_replies later c ≡ own_replies h c → next_of k later c ≡ next_of k h c
-next_alike (IsScript s) h later c same = ap (λ (rs : List Reply). (position s.host s.steps [] rs).next) same
-next_alike (IsCourier m) h later c same = refl
-next_alike IsClock h later c same = refl
-next_alike IsNobody h later c same = refl
+next_alike : (w : World) (k : Called) (h later : List Entry) (c : ℕ) → own_replies later c ≡ own_replies h c → next_of w k later c ≡ next_of w k h c
+next_alike w (IsScript s) h later c same = ap (λ (rs : List Reply). (position s.host s.steps (no_names (zone_of w)) rs).next) same
+next_alike w (IsCourier m) h later c same = refl
+next_alike w IsClock h later c same = refl
+next_alike w IsNobody h later c same = refl
 
 -- Whether it may record.
 
@@ -75,7 +76,7 @@ may_next : (w : World) (h : List Entry) (c : ℕ) (k : Caller) → (after w h).p
     → may_turn w h c ≡ is_ready w (after w h) (asks_of k.next)
 may_next w h c k past kept is =
     ap (λ (ds : List Duty). may_turn_by w (after w h) c ds) (owes_none w h c k kept is)
-    ∙ ap (λ (l : List Entry). is_ready w (after w h) (next_of (caller_of w c) l c)) past
+    ∙ ap (λ (l : List Entry). is_ready w (after w h) (next_of w (caller_of w c) l c)) past
     ∙ ap (λ (o : Option Ask). is_ready w (after w h) o) (sym kept.stands.next_is)
 
 own_work : (t : Turn) → IsOwn t → t.work ≡ record { event = t.work.event; with = given.Nothing }
@@ -115,20 +116,20 @@ turn_of_duty w h c ds d t of is =
         let e : d.event ≡ x.event = sym (event ∙ ap (λ (work : Work). work.event) of.work) in
         rw (a, e) refl
 
-asked_next : (k : Called) (h : List Entry) (c : ℕ) (x : Entry) → next_of k h c ≡ Some (asked_by x) → IsNext k (next_of k h c) x
-asked_next (IsScript s) h c x is = is
-asked_next (IsCourier m) h c x is = is
-asked_next IsClock h c x is = absurd (none-some _ is)
-asked_next IsNobody h c x is = is
+asked_next : (w : World) (k : Called) (h : List Entry) (c : ℕ) (x : Entry) → next_of w k h c ≡ Some (asked_by x) → IsNext k (next_of w k h c) x
+asked_next w (IsScript s) h c x is = is
+asked_next w (IsCourier m) h c x is = is
+asked_next w IsClock h c x is = absurd (none-some _ is)
+asked_next w IsNobody h c x is = is
 
-asked_own : (k : Called) (h : List Entry) (c : ℕ) (ds : List Duty) (x : Entry) → ds ≡ [] → next_of k h c ≡ Some (asked_by x)
-    → IsAsked ds k (next_of k h c) x
-asked_own k h c ds x none is = subst (λ (es : List Duty). IsAsked es k (next_of k h c) x) (sym none) (asked_next k h c x is)
+asked_own : (w : World) (k : Called) (h : List Entry) (c : ℕ) (ds : List Duty) (x : Entry) → ds ≡ [] → next_of w k h c ≡ Some (asked_by x)
+    → IsAsked ds k (next_of w k h c) x
+asked_own w k h c ds x none is = subst (λ (es : List Duty). IsAsked es k (next_of w k h c) x) (sym none) (asked_next w k h c x is)
 
 pub turn_of_next : (w : World) (h : List Entry) (c : ℕ) (t : Turn) → owed w h c ≡ [] → Some (ask_of t) ≡ next w h c → IsOwn t → IsTurn w h c t
 turn_of_next w h c t none is own =
     record {
-      asked = λ x actor event. asked_own (caller_of w c) h c (owed w h c) x none (sym is ∙ same_ask t x actor event);
+      asked = λ x actor event. asked_own w (caller_of w c) h c (owed w h c) x none (sym is ∙ same_ask t x actor event);
       cited = own.none ∙ sym (ap cites_of none);
       given = own.nothing ∙ sym (ap with_of none);
     }
@@ -155,8 +156,8 @@ role_alike : (w : World) (h later : List Entry) (c : ℕ) (r : Role) (before : �
 role_alike w h later c (role.Script s p) before same at =
     record {
       is = at.is;
-      at = subst (λ (rs : List Reply). IsAt s.now rs p) (sym same) at.at;
-      before_is = at.before_is ∙ ap (λ (rs : List Reply). finished_by (take (length rs - 1) rs) s.now) (sym same);
+      at = subst (λ (rs : List Reply). IsAt (zone_of w) s.now rs p) (sym same) at.at;
+      before_is = at.before_is ∙ ap (λ (rs : List Reply). finished_by (zone_of w) (take (length rs - 1) rs) s.now) (sym same);
     }
 role_alike w h later c (role.Courier m) before same at = at
 role_alike w h later c role.Clock before same at = at
@@ -173,33 +174,33 @@ goes_owed old (Some n) reply some =
           let same = duty_replies h x c n is.caller_is is.cites_is in
           record {
             role_is = role_alike w h (h ++ x ∷ []) c old.role old.before same turns.role_is;
-            next_is = turns.next_is refl ∙ sym (next_alike (caller_of w c) h (h ++ x ∷ []) c same);
+            next_is = turns.next_is refl ∙ sym (next_alike w (caller_of w c) h (h ++ x ∷ []) c same);
             own = turns.own refl;
           };
     }
 
 -- a player takes a reply that fits
 abbrev pub Tells : Script → Playing → Playing → Reply → Type 0
-Tells s p told reply = (rs : List Reply) (ask : Ask) → IsAt s rs p → next_after s rs ≡ Some ask → fits ask.event reply ≡ true
-    → IsAt s (rs ++ reply ∷ []) told
+Tells s p told reply = (zone : Tuples) (rs : List Reply) (ask : Ask) → IsAt zone s rs p → next_after zone s rs ≡ Some ask → fits ask.event reply ≡ true
+    → IsAt zone s (rs ++ reply ∷ []) told
 
 -- the reply of a script's event is told
 script_goes : (w : World) (h : List Entry) (c : ℕ) (s : Script) (p told : Playing) (reply : Reply) (x : Entry) (earlier : ℕ)
-    → Tells s p told reply → IsScriptAt w h c s p earlier → IsEntryOf w h c None reply x → IsAt s (own_replies (h ++ x ∷ []) c) told
+    → Tells s p told reply → IsScriptAt w h c s p earlier → IsEntryOf w h c None reply x → IsAt (zone_of w) s (own_replies (h ++ x ∷ []) c) told
 script_goes w h c s p told reply x earlier tells at is =
     let came : next w h c ≡ Some (asked_by x) = subst (λ (k : Called). IsNext k (next w h c) x) (script_is w c s at.is) (is.came_next refl) in
     let more : own_replies (h ++ x ∷ []) c ≡ own_replies h c ++ reply ∷ [] =
     next_replies h x c is.caller_is is.cites_is ∙ ap (λ (r : Reply). own_replies h c ++ r ∷ []) is.reply_is in
-    subst (λ (rs : List Reply). IsAt s rs told) (sym more)
-    (tells (own_replies h c) (asked_by x) at.at (sym (next_of_script w h c s at.is) ∙ came) is.fitting)
+    subst (λ (rs : List Reply). IsAt (zone_of w) s rs told) (sym more)
+    (tells (zone_of w) (own_replies h c) (asked_by x) at.at (sym (next_of_script w h c s at.is) ∙ came) is.fitting)
 
 -- what a script goes on as
 pub stands_script : (w : World) (h : List Entry) (c : ℕ) (s : Script) (p told asked : Playing) (earlier before : ℕ)
     → (event : Option Turn) (reply : Reply) (x : Entry)
-    → ((rs : List Reply) → IsAt s rs p → before ≡ finished_by rs s)
+    → ((zone : Tuples) (rs : List Reply) → IsAt zone s rs p → before ≡ finished_by zone rs s)
     → Tells s p told reply
-    → ((rs : List Reply) → IsAt s rs told → asks_of event ≡ next_after s rs)
-    → ((rs : List Reply) → IsAt s rs told → IsAt s rs asked)
+    → ((zone : Tuples) (rs : List Reply) → IsAt zone s rs told → asks_of event ≡ next_after zone s rs)
+    → ((zone : Tuples) (rs : List Reply) → IsAt zone s rs told → IsAt zone s rs asked)
     → IsScriptAt w h c s p earlier → IsEntryOf w h c None reply x
     → IsScriptAt w (h ++ x ∷ []) c s asked before × (asks_of event ≡ next w (h ++ x ∷ []) c)
 stands_script w h c s p told asked earlier before event reply x finished tells nexts same at is =
@@ -210,10 +211,10 @@ stands_script w h c s p told asked earlier before event reply x finished tells n
     ap (λ (rs : List Reply). take (length rs - 1) rs) more ∙ before_last (own_replies h c) reply in (
       record {
         is = at.is;
-        at = same (own_replies (h ++ x ∷ []) c) there;
-        before_is = finished (own_replies h c) at.at ∙ sym (ap (λ (rs : List Reply). finished_by rs s) last);
+        at = same (zone_of w) (own_replies (h ++ x ∷ []) c) there;
+        before_is = finished (zone_of w) (own_replies h c) at.at ∙ sym (ap (λ (rs : List Reply). finished_by (zone_of w) rs s) last);
       },
-      nexts (own_replies (h ++ x ∷ []) c) there ∙ sym (next_of_script w (h ++ x ∷ []) c s at.is),
+      nexts (zone_of w) (own_replies (h ++ x ∷ []) c) there ∙ sym (next_of_script w (h ++ x ∷ []) c s at.is),
     )
 
 pub cites_none : (o : Option ℕ) → is_some o ≡ false → o ≡ None

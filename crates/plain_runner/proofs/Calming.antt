@@ -39,7 +39,7 @@ clock_is w =
     other_is w (clock_number w) none ∙ rw (le-ltb (clock_number w) (clock_number w) (omega arith), eq-eqb (clock_number w) (clock_number w) refl) refl
 
 pub clock_waits : (w : World) (net : Net) → can_go_on w net (clock_number w) ≡ false
-clock_waits w net = ap (λ (k : Caller). is_ready w net (next_of k net.past (clock_number w))) (clock_is w)
+clock_waits w net = ap (λ (k : Caller). is_ready w net (next_of w k net.past (clock_number w))) (clock_is w)
 
 some_there : (xs : List Script) (i : ℕ) → i < length xs → slice_get xs i ≡ None → ⊥
 some_there [] i lt none = absurd (omega (arith, lt))
@@ -77,7 +77,7 @@ ready_take w net m = is_some (actor_step w (name.Medium m) (net.actors (name.Med
 
 courier_goes : (w : World) (net : Net) (m c : ℕ) → c ≡ length w.scripts + m → m < length w.media → can_go_on w net c ≡ ready_take w net m
 unfolding ready_take
-courier_goes w net m c at lt = ap (λ (k : Caller). is_ready w net (next_of k net.past c)) (courier_is w m c at lt)
+courier_goes w net m c at lt = ap (λ (k : Caller). is_ready w net (next_of w k net.past c)) (courier_is w m c at lt)
 
 medium_there : (w : World) (m : ℕ) → m < length w.media → (s : MediumSpec) × (slice_get w.media m ≡ Some s)
 medium_there w m lt = at w.media m lt

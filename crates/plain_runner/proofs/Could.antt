@@ -11,7 +11,7 @@ use Rattle.net_base.specs.Callers.{caller_count, clock_number}
 use Rattle.net_base.specs.Calm.{calm, callers, most_entries, movable, unfinished}
 use Rattle.net_base.specs.Duties.{Duty}
 use Rattle.net_base.specs.Net.{after, opening_net}
-use Rattle.net_base.specs.Next.{by, finished_by, is_unfinished, own_replies}
+use Rattle.net_base.specs.Next.{by, finished_by, is_unfinished, own_replies, zone_of}
 use Rattle.net_base.specs.Summary.{end_word}
 use Rattle.script_player.specs.Players.{IsAt, Playing, position_after}
 use Rattle.history_laws.proofs.Owed.{past_after}
@@ -141,33 +141,33 @@ no_courier w r c k s x st at is same other =
 
 pub finished_so : (w : World) (r : Runner) (c n : ℕ) (k : Caller) (s : Script) (t : Bor Script) (p : Playing) → Tracks w r
     → slice_get r.callers.items c ≡ Some k → slice_get w.scripts c ≡ Some s
-    → k.role ≡ role.Script t p → ((u : Script) (rs : List Reply) → IsAt u rs p → n ≡ finished_by rs u) → n ≡ finished_by (own_replies r.history.entries c) s
+    → k.role ≡ role.Script t p → ((zone : Tuples) (u : Script) (rs : List Reply) → IsAt zone u rs p → n ≡ finished_by zone rs u) → n ≡ finished_by (zone_of w) (own_replies r.history.entries c) s
 finished_so w r c n k s t p st at is same tells =
     let has : IsScriptAt w r.history.entries c t.now p k.before = subst (λ (x : Role). HasRole w r.history.entries c x k.before) same
     (st.callers_are.each c k at).stands.role_is in
-    tells t.now (own_replies r.history.entries c) has.at ∙ ap (λ (u : Script). finished_by (own_replies r.history.entries c) u) (same_Some t.now s (sym has.is ∙ is))
+    tells (zone_of w) t.now (own_replies r.history.entries c) has.at ∙ ap (λ (u : Script). finished_by (zone_of w) (own_replies r.history.entries c) u) (same_Some t.now s (sym has.is ∙ is))
 
 pub left_so : (w : World) (r : Runner) (c : ℕ) (b : Bool) (k : Caller) (s : Script) (t : Bor Script) (p : Playing) → Tracks w r
     → slice_get r.callers.items c ≡ Some k → slice_get w.scripts c ≡ Some s
-    → k.role ≡ role.Script t p → ((rs : List Reply) → IsAt t.now rs p → b ≡ nat_lt 0 (length (position_after t.now rs).left))
-    → b ≡ is_unfinished r.history.entries c s
+    → k.role ≡ role.Script t p → ((zone : Tuples) (rs : List Reply) → IsAt zone t.now rs p → b ≡ nat_lt 0 (length (position_after zone t.now rs).left))
+    → b ≡ is_unfinished w r.history.entries c s
 left_so w r c b k s t p st at is same tells =
     let has : IsScriptAt w r.history.entries c t.now p k.before = subst (λ (x : Role). HasRole w r.history.entries c x k.before) same
     (st.callers_are.each c k at).stands.role_is in
-    tells (own_replies r.history.entries c) has.at ∙ ap (λ (u : Script). is_unfinished r.history.entries c u) (same_Some t.now s (sym has.is ∙ is))
+    tells (zone_of w) (own_replies r.history.entries c) has.at ∙ ap (λ (u : Script). is_unfinished w r.history.entries c u) (same_Some t.now s (sym has.is ∙ is))
 
-left_there : (w : World) (h : List Entry) (n : ℕ) (s : Script) (b : Bool) → b ≡ is_unfinished h n s → is_unfinished (after w h).past n s ≡ b
-left_there w h n s b is = ap (λ (p : List Entry). is_unfinished p n s) (past_is w h) ∙ sym is
+left_there : (w : World) (h : List Entry) (n : ℕ) (s : Script) (b : Bool) → b ≡ is_unfinished w h n s → is_unfinished w (after w h).past n s ≡ b
+left_there w h n s b is = ap (λ (p : List Entry). is_unfinished w p n s) (past_is w h) ∙ sym is
 
 pub left_here : (w : World) (h : List Entry) (n : ℕ) (b v : Bool) → n < length w.scripts
-    → ((s : Script) → slice_get w.scripts n ≡ Some s → b ≡ is_unfinished h n s)
+    → ((s : Script) → slice_get w.scripts n ≡ Some s → b ≡ is_unfinished w h n s)
     → unfinished_from w h n ≡ v → b ≡ true → true ≡ v
 left_here w h n b v lt is all some =
     let s = script_at w.scripts n lt in
     sym (unfinished_more w h n s.0 s.1 ∙ ap (λ (c : Bool). c || unfinished_from w h (n + 1)) (left_there w h n s.0 b (is s.0 s.1) ∙ some)) ∙ all
 
 pub left_next : (w : World) (h : List Entry) (n : ℕ) (b v : Bool) → n < length w.scripts
-    → ((s : Script) → slice_get w.scripts n ≡ Some s → b ≡ is_unfinished h n s)
+    → ((s : Script) → slice_get w.scripts n ≡ Some s → b ≡ is_unfinished w h n s)
     → unfinished_from w h n ≡ v → b ≡ false → unfinished_from w h (n + 1) ≡ v
 left_next w h n b v lt is all none =
     let s = script_at w.scripts n lt in

@@ -130,15 +130,15 @@ some_step None is = absurd (false≢true is)
 
 -- an entry that may follow and is no move is its caller's turn
 turn_of : (w : World) (net : Net) (h : List Entry) (k : AnyCaller) (c : ℕ) (ds : List Duty) (x : Entry) → net.past ≡ h → caller_of w c ≡ k
-    → (IsMove x.actor x.event → ⊥) → IsAsked ds k (next_of k h c) x
+    → (IsMove x.actor x.event → ⊥) → IsAsked ds k (next_of w k h c) x
     → is_some (actor_step w x.actor (net.actors x.actor) net.moment (record { event = x.event; with = with_of ds })) ≡ true → may_turn_by w net c ds ≡ true
 turn_of w net h k c (d ∷ ds) x past is other asked ready =
     subst (λ (a : Ask). is_some (actor_step w a.actor (net.actors a.actor) net.moment (record { event = a.event; with = d.with })) ≡ true) (sym asked) ready
 turn_of w net h k c [] x past is other asked ready =
-    subst (λ (j : AnyCaller). is_ready w net (next_of j net.past c) ≡ true) (sym is)
-    (subst (λ (p : List Entry). is_ready w net (next_of k p c) ≡ true) (sym past) (by_kind k asked))
+    subst (λ (j : AnyCaller). is_ready w net (next_of w j net.past c) ≡ true) (sym is)
+    (subst (λ (p : List Entry). is_ready w net (next_of w k p c) ≡ true) (sym past) (by_kind k asked))
   where
-    by_kind : (j : AnyCaller) → IsNext j (next_of j h c) x → is_ready w net (next_of j h c) ≡ true
+    by_kind : (j : AnyCaller) → IsNext j (next_of w j h c) x → is_ready w net (next_of w j h c) ≡ true
     by_kind IsClock asked = absurd (other asked)
     by_kind (IsScript s) asked = subst (λ (o : Option Ask). is_ready w net o ≡ true) (sym asked) ready
     by_kind (IsCourier m) asked = subst (λ (o : Option Ask). is_ready w net o ≡ true) (sym asked) ready
@@ -174,7 +174,7 @@ clock_moves w h x m history known asked is = by_owed (owed w h x.caller) refl as
     kinds : Each (OfKind w) (owed w h x.caller)
     kinds = (steady_after w h history.world history.legal).kinds x.caller
 
-    not_next : (k : AnyCaller) → next_of k h x.caller ≡ Some (asked_by x) → IsClockMove w h x
+    not_next : (k : AnyCaller) → next_of w k h x.caller ≡ Some (asked_by x) → IsClockMove w h x
     not_next k asked = absurd (still_not x.event m is (next_still w k h x.caller (asked_by x) asked))
 
     by_kind : owed w h x.caller ≡ [] → Kind w x.caller → IsNext (caller_of w x.caller) (next w h x.caller) x → IsClockMove w h x

@@ -29,7 +29,7 @@ least_within last (m ∷ ms) = omega (arith, min-le_right m (least last ms), lea
 abbrev due_and_awaited : World → Net → List ℕ
 due_and_awaited w net =
     filter_map (λ (a : ActorName). due_of (net.actors a)) (conversations w)
-    ++ filter_map (λ (c : ℕ). awaited_moment (next_of (caller_of w c) net.past c)) (callers w)
+    ++ filter_map (λ (c : ℕ). awaited_moment (next_of w (caller_of w c) net.past c)) (callers w)
 
 event_within : (w : World) (net : Net) (e : Event) → IsInTime net w e → net.moment ≤ w.end → moment_after net.moment e ≤ w.end
 event_within w net (event.Move m) timed before = let e : least w.end (due_and_awaited w net) ≤ w.end = least_within w.end (due_and_awaited w net) in omega

@@ -12,7 +12,7 @@ use Rattle.net_base.specs.ActorStep.{Step}
 use Rattle.net_base.specs.Actors.{Actor}
 use Rattle.net_base.specs.Legal.{IsInTime}
 use Rattle.net_base.specs.Net.{Net, after, moment, moment_after, net_after, step_of}
-use Rattle.net_base.specs.Next.{by, finished_by, own_replies}
+use Rattle.net_base.specs.Next.{by, finished_by, own_replies, zone_of}
 use Rattle.duties.specs.WaysOf.{AreWaysOfWorld}
 use Rattle.net_actors.specs.Together.{AreActors}
 use Rattle.script_player.specs.Players.{IsAt}
@@ -54,8 +54,8 @@ role_stays w h l c (role.Script s p) before same is =
     let replies : own_replies l c ≡ own_replies h c = ap (λ (xs : List Entry). replies_in xs) same in
     record {
       is = is.is;
-      at = subst (λ (rs : List Reply). IsAt s.now rs p) (sym replies) is.at;
-      before_is = is.before_is ∙ ap (λ (rs : List Reply). finished_by (take (length rs - 1) rs) s.now) (sym replies);
+      at = subst (λ (rs : List Reply). IsAt (zone_of w) s.now rs p) (sym replies) is.at;
+      before_is = is.before_is ∙ ap (λ (rs : List Reply). finished_by (zone_of w) (take (length rs - 1) rs) s.now) (sym replies);
     }
 
 pub caller_stays : (w : World) (h : List Entry) (c : ℕ) (k : Caller) (x : Entry) → (x.caller ≡ c → ⊥) → IsCaller w h c k → IsCaller w (h ++ x ∷ []) c k

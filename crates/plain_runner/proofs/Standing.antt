@@ -10,7 +10,7 @@ use Rattle.net_base.specs.declared.world.World.{World}
 use Rattle.net_base.specs.Callers.{Caller as AnyCaller, IsScript}
 use Rattle.net_base.specs.Duties.{Duty}
 use Rattle.net_base.specs.Net.{after}
-use Rattle.net_base.specs.Next.{finished_by, is_unfinished, own_replies}
+use Rattle.net_base.specs.Next.{finished_by, is_unfinished, own_replies, zone_of}
 use Rattle.net_base.specs.Summary.{answered_by}
 use Rattle.script_player.specs.Players.{Playing}
 use Rattle.plain_runner.specs.Callers.{HasRole, IsScriptAt}
@@ -62,13 +62,13 @@ script_at (x ∷ xs) (suc n) lt = script_at xs n (omega (arith, lt))
 
 -- the scripts from the n-th on, of which some isn't finished
 abbrev pub unfinished_from : World → List Entry → ℕ → Bool
-unfinished_from w h n = list_any (λ (z : ℕ × Script). is_unfinished (after w h).past z.0 z.1) (enumerate_from n (drop n w.scripts))
+unfinished_from w h n = list_any (λ (z : ℕ × Script). is_unfinished w (after w h).past z.0 z.1) (enumerate_from n (drop n w.scripts))
 
 abbrev pub answered_from : World → List Entry → ℕ → ℕ
 answered_from w h n = sum_by (answered_by w h) (enumerate_from n (drop n w.scripts))
 
 pub unfinished_more : (w : World) (h : List Entry) (n : ℕ) (s : Script) → slice_get w.scripts n ≡ Some s
-    → unfinished_from w h n ≡ (is_unfinished (after w h).past n s || unfinished_from w h (n + 1))
+    → unfinished_from w h n ≡ (is_unfinished w (after w h).past n s || unfinished_from w h (n + 1))
 unfinished_more w h n s is = rw (next_one w.scripts n s is) refl
 
 answered_more : (w : World) (h : List Entry) (n : ℕ) (s : Script) → slice_get w.scripts n ≡ Some s
@@ -77,7 +77,7 @@ answered_more w h n s is = ap (λ (xs : List Script). sum_by (answered_by w h) (
     ∙ sum_by-cons (answered_by w h) (n, s) (enumerate_from (n + 1) (drop (n + 1) w.scripts))
 
 pub unfinished_none : (w : World) (h : List Entry) (n : ℕ) → length w.scripts ≤ n → unfinished_from w h n ≡ false
-unfinished_none w h n le = ap (λ (xs : List Script). list_any (λ (z : ℕ × Script). is_unfinished (after w h).past z.0 z.1) (enumerate_from n xs))
+unfinished_none w h n le = ap (λ (xs : List Script). list_any (λ (z : ℕ × Script). is_unfinished w (after w h).past z.0 z.1) (enumerate_from n xs))
     (past_all w.scripts n le)
 
 pub answered_next : (w : World) (h : List Entry) (n a x v : ℕ) → n < length w.scripts
@@ -109,7 +109,7 @@ answered_owing w r c s k b st at is empty some = by_owed (k.owed.list) refl (st.
 
 pub answered_free : (w : World) (r : Runner) (c n : ℕ) (s : Script) (k : Caller) (b : Bool) → Tracks w r → slice_get r.callers.items c ≡ Some k
     → slice_get w.scripts c ≡ Some s
-    → b ≡ (length k.owed.list == 0) → b ≡ true → n ≡ finished_by (own_replies r.history.entries c) s → n ≡ answered_by w r.history.entries (c, s)
+    → b ≡ (length k.owed.list == 0) → b ≡ true → n ≡ finished_by (zone_of w) (own_replies r.history.entries c) s → n ≡ answered_by w r.history.entries (c, s)
 answered_free w r c n s k b st at is empty none fin = by_owed (k.owed.list) refl (st.callers_are.each c k at).owes (sym empty ∙ none)
   where
     by_owed : (ds : List Duty) → k.owed.list ≡ ds → k.owed.list ≡ (after w r.history.entries).owed c → (length k.owed.list == 0) ≡ true

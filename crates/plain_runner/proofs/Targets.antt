@@ -128,4 +128,4 @@ target_is w r dues awaited moment s dues_are awaited_is is =
     ∙ ap (λ (ms : List ℕ). least (least w.end (awaited_moments w r.history.entries)) ms) (ap due_moments dues_are ∙ dues_agree w (after w r.history.entries).actors)
     ∙ sym (least_more w.end (filter_map (λ (a : ActorName). due_of ((after w r.history.entries).actors a)) (conversations w)) (awaited_moments w r.history.entries))
     ∙ ap (λ (p : List Entry). least w.end (filter_map (λ (a : ActorName). due_of ((after w r.history.entries).actors a)) (conversations w) ++ filter_map
-    (λ (c : ℕ). awaited_moment (next_of (caller_of w c) p c)) (callers w))) (sym (past_is w r.history.entries))
+    (λ (c : ℕ). awaited_moment (next_of w (caller_of w c) p c)) (callers w))) (sym (past_is w r.history.entries))

@@ -108,17 +108,17 @@ same_ask w net t a with asked gave ready still = record {
   still = subst (λ (b : Ask). IsStill b.event) asked still;
 }
 
-by_ask : (w : World) (net : Net) (h : List Entry) (c : ℕ) (k : Caller) (t : Turn) → net.past ≡ h → next_of k h c ≡ Some (asked_by (entry_for c t))
+by_ask : (w : World) (net : Net) (h : List Entry) (c : ℕ) (k : Caller) (t : Turn) → net.past ≡ h → next_of w k h c ≡ Some (asked_by (entry_for c t))
     → t.work.with ≡ given.Nothing
-    → is_ready w net (next_of k net.past c) ≡ true → IsReadyAsk w net t
+    → is_ready w net (next_of w k net.past c) ≡ true → IsReadyAsk w net t
 by_ask w net h c k t past asked gave ready =
     same_ask w net t (asked_by (entry_for c t)) given.Nothing refl gave
-    (subst (λ (o : Option Ask). is_ready w net o ≡ true) asked (subst (λ (p : List Entry). is_ready w net (next_of k p c) ≡ true) past ready))
+    (subst (λ (o : Option Ask). is_ready w net o ≡ true) asked (subst (λ (p : List Entry). is_ready w net (next_of w k p c) ≡ true) past ready))
     (next_still w k h c (asked_by (entry_for c t)) asked)
 
-by_next : (w : World) (net : Net) (h : List Entry) (c : ℕ) (k : Caller) (t : Turn) → net.past ≡ h → IsNext k (next_of k h c) (entry_for c t)
+by_next : (w : World) (net : Net) (h : List Entry) (c : ℕ) (k : Caller) (t : Turn) → net.past ≡ h → IsNext k (next_of w k h c) (entry_for c t)
     → t.work.with ≡ given.Nothing
-    → is_ready w net (next_of k net.past c) ≡ true → IsReadyAsk w net t
+    → is_ready w net (next_of w k net.past c) ≡ true → IsReadyAsk w net t
 by_next w net h c IsClock t past asked gave ready = absurd (false≢true ready)
 by_next w net h c (IsScript s) t past asked gave ready = by_ask w net h c (IsScript s) t past asked gave ready
 by_next w net h c (IsCourier m) t past asked gave ready = by_ask w net h c (IsCourier m) t past asked gave ready

@@ -9,7 +9,7 @@ use Rattle.net_base.specs.declared.world.World.{World}
 use Rattle.net_base.specs.Callers.{IsCourier, IsClock, caller_of}
 use Rattle.net_base.specs.Legal.{IsNext}
 use Rattle.net_base.specs.Net.{owed}
-use Rattle.net_base.specs.Next.{by, finished_by, next, own_replies}
+use Rattle.net_base.specs.Next.{by, finished_by, next, own_replies, zone_of}
 use Rattle.net_base.specs.Steps.{Ask}
 use Rattle.script_player.specs.Players.{IsAt, Playing}
 use Rattle.script_task.specs.Fitting.{fits}
@@ -22,8 +22,8 @@ use Rattle.plain_runner.specs.declared.turn.Turn.{Turn}
 -- a script as far as it was played, with how many steps were finished before its last own event
 pub record IsScriptAt (w : World) (h : List Entry) (c : ℕ) (script : Script) (p : Playing) (before : ℕ) : Type 0 where
   pub is : slice_get w.scripts c ≡ Some script
-  pub at : IsAt script (own_replies h c) p
-  pub before_is : before ≡ finished_by (take (length (own_replies h c) - 1) (own_replies h c)) script
+  pub at : IsAt (zone_of w) script (own_replies h c) p
+  pub before_is : before ≡ finished_by (zone_of w) (take (length (own_replies h c) - 1) (own_replies h c)) script
 
 -- who a caller is
 abbrev pub HasRole : World → List Entry → ℕ → Role → ℕ → Type 0

@@ -5,7 +5,7 @@ ghost use Rattle.net_base.specs.declared.world.World.{World as AnyWorld};
 ghost use Rattle.net_base.specs.declared.world.Script.{Script as AnyScript};
 ghost use Rattle.net_base.specs.Calm as calm;
 ghost use Rattle.net_base.specs.Net.{after};
-ghost use Rattle.net_base.specs.Next.{finished_by, is_unfinished, own_replies};
+ghost use Rattle.net_base.specs.Next.{finished_by, is_unfinished, own_replies, zone_of};
 ghost use Rattle.net_base.specs.Summary.{answered_by, answered_steps, end_word};
 ghost use Rattle.transcript.specs.RunStatus.{word_of};
 ghost use Rattle.plain_runner.specs.Waiting.{awaited_moments, could, due_moments};
@@ -105,7 +105,7 @@ impl<'a> Runner<'a> {
     fn has_left(&self, caller: usize) -> bool
         requires { caller < length self.now.callers.items }
         ensures { (w : AnyWorld) (s : AnyScript) → Tracks w self.now → slice_get w.scripts caller ≡ Some s
-            → result ≡ is_unfinished self.now.history.entries caller s }
+            → result ≡ is_unfinished w self.now.history.entries caller s }
     {
         match &self.callers[caller].role {
             Role::Script(script, player) => player.is_unfinished(script),
@@ -118,7 +118,7 @@ impl<'a> Runner<'a> {
     fn finished(&self, caller: usize) -> usize
         requires { caller < length self.now.callers.items }
         ensures { (w : AnyWorld) (s : AnyScript) → Tracks w self.now → slice_get w.scripts caller ≡ Some s
-            → result ≡ finished_by (own_replies self.now.history.entries caller) s }
+            → result ≡ finished_by (zone_of w) (own_replies self.now.history.entries caller) s }
     {
         match &self.callers[caller].role {
             Role::Script(_, player) => player.finished(),

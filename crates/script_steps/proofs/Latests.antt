@@ -17,17 +17,17 @@ latest_with false k stamps = refl
 pub latest_more : (w : World) (h past : List Entry) (k : ℕ) (x : Entry) (old new : List ((ℕ × ℕ) × Latest)) → past ≡ take k h → slice_get h k ≡ Some x
     → AreLatest w h k old
     → ((c : ℕ) (s : Script) (n : ℕ) → slice_get w.scripts c ≡ Some s
-    → latest_at new (c, n) ≡ cond (is_of past c s n x) (noted k (latest_at old (c, n))) (latest_at old (c, n)))
+    → latest_at new (c, n) ≡ cond (is_of w past c s n x) (noted k (latest_at old (c, n))) (latest_at old (c, n)))
     → AreLatest w h (k + 1) new
 latest_more w h past k x old new same at are more = λ c s n is.
-    let own : is_of past c s n x ≡ stands_there (take k h) c s n (slice_get h k) =
-    ap (λ (p : List Entry). is_of p c s n x) same ∙ ap (λ (o : Option Entry). stands_there (take k h) c s n o) (sym at) in
+    let own : is_of w past c s n x ≡ stands_there w (take k h) c s n (slice_get h k) =
+    ap (λ (p : List Entry). is_of w p c s n x) same ∙ ap (λ (o : Option Entry). stands_there w (take k h) c s n o) (sym at) in
     let e : suc k ≡ k + 1 = omega arith in
     more c s n is
-    ∙ ap (λ (o : Option Latest). cond (is_of past c s n x) (noted k o) o) (are c s n is)
-    ∙ latest_with (is_of past c s n x) k (stamps_below h c s n k)
-    ∙ ap (λ (b : Bool). latest_of (with_stamp b k (stamps_below h c s n k))) own
-    ∙ ap (λ (m : ℕ). latest_of (stamps_below h c s n m)) e
+    ∙ ap (λ (o : Option Latest). cond (is_of w past c s n x) (noted k o) o) (are c s n is)
+    ∙ latest_with (is_of w past c s n x) k (stamps_below w h c s n k)
+    ∙ ap (λ (b : Bool). latest_of (with_stamp b k (stamps_below w h c s n k))) own
+    ∙ ap (λ (m : ℕ). latest_of (stamps_below w h c s n m)) e
 
 -- An entry that nothing owed, of a caller at this step.
 

@@ -11,7 +11,7 @@ use Rattle.net_base.specs.Callers.{Caller as AnyCaller, IsScript, IsCourier, IsC
 use Rattle.net_base.specs.Calm.{owes}
 use Rattle.net_base.specs.Duties.{Duty}
 use Rattle.net_base.specs.Net.{after}
-use Rattle.net_base.specs.Next.{answered, finished_by, own_replies}
+use Rattle.net_base.specs.Next.{answered, finished_by, own_replies, zone_of}
 use Rattle.net_base.specs.Summary.{answered_by}
 use Rattle.script_player.specs.Players.{IsAt, Playing}
 use Rattle.plain_runner.specs.Callers.{HasRole, IsCaller, IsScriptAt}
@@ -47,12 +47,12 @@ role_players t u p q same = same_Some p q (ap player_in same)
 
 -- what its player tells of the steps that are finished
 pub finished_is : (w : World) (h : List Entry) (c : ℕ) (k : Caller) (s : Script) (t : Bor Script) (p : Playing) (n : ℕ) → k.role ≡ role.Script t p
-    → IsCaller w h c k → slice_get w.scripts c ≡ Some s → ((u : Script) (rs : List Reply) → IsAt u rs p → n ≡ finished_by rs u)
-    → n ≡ finished_by (own_replies h c) s
+    → IsCaller w h c k → slice_get w.scripts c ≡ Some s → ((zone : Tuples) (u : Script) (rs : List Reply) → IsAt zone u rs p → n ≡ finished_by zone rs u)
+    → n ≡ finished_by (zone_of w) (own_replies h c) s
 finished_is w h c k s t p n role_is is at tells =
     let kept = script_kept w h c k s is at in
     let same : kept.1 ≡ p = role_players kept.0 t kept.1 p (sym kept.2 ∙ role_is) in
-    tells s (own_replies h c) (subst (λ (q : Playing). IsAt s (own_replies h c) q) same kept.3.at)
+    tells (zone_of w) s (own_replies h c) (subst (λ (q : Playing). IsAt (zone_of w) s (own_replies h c) q) same kept.3.at)
 
 other_role : (t : Bor Script) (p : Playing) (r : Role) → r ≡ role.Script t p → player_in r ≡ Some p
 other_role t p r same = ap player_in same
@@ -72,11 +72,11 @@ pub answered_owing : (w : World) (h : List Entry) (c : ℕ) (k : Caller) (s : Sc
     → owes (after w h) c ≡ true → k.before ≡ answered_by w h (c, s)
 answered_owing w h c k s is at owing =
     let kept = script_kept w h c k s is at in
-    subst (λ (b : Bool). k.before ≡ answered h c b s) (sym owing) kept.3.before_is
+    subst (λ (b : Bool). k.before ≡ answered w h c b s) (sym owing) kept.3.before_is
 
-pub answered_free : (w : World) (h : List Entry) (c n : ℕ) (s : Script) → owes (after w h) c ≡ false → n ≡ finished_by (own_replies h c) s
+pub answered_free : (w : World) (h : List Entry) (c n : ℕ) (s : Script) → owes (after w h) c ≡ false → n ≡ finished_by (zone_of w) (own_replies h c) s
     → n ≡ answered_by w h (c, s)
-answered_free w h c n s free is = subst (λ (b : Bool). n ≡ answered h c b s) (sym free) is
+answered_free w h c n s free is = subst (λ (b : Bool). n ≡ answered w h c b s) (sym free) is
 
 -- something is owed where the queue isn't empty
 some_owed : (n : ℕ) → not (n == 0) ≡ nat_lt 0 n

@@ -64,7 +64,7 @@ waiting_text false ask = asked_text ask
 abbrev pub state_by : ℕ → World → List Entry → ℕ × Script → ℕ → List ℕ
 state_by answered w h cs n =
     if nat_lt n answered
-    then answered_text h (latest_of (stamps_of h cs.0 cs.1 n))
+    then answered_text h (latest_of (stamps_of w h cs.0 cs.1 n))
     else (if n == answered then waiting_text (owes (after w h) cs.0) (next w h cs.0) else codes "ahead")
 
 abbrev pub state_text : World → List Entry → ℕ × Script → ℕ → List ℕ

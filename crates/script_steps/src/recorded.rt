@@ -66,7 +66,7 @@ fn note_entry(
 ) -> Result<(), AllocError>
     requires { entry.now.caller < length runner.now.callers.items }
     ensures { OnOk result ((w : AnyWorld) (c : ℕ) (s : AnyScript) (n : ℕ) → Tracks w runner.now → slice_get w.scripts c ≡ Some s
-        → latest_at latest.new.entries (c, n) ≡ cond (is_of runner.now.history.entries c s n entry.now)
+        → latest_at latest.new.entries (c, n) ≡ cond (is_of w runner.now.history.entries c s n entry.now)
         (noted stamp (latest_at latest.old.entries (c, n))) (latest_at latest.old.entries (c, n))) }
 {
     if entry.cites.is_some() {

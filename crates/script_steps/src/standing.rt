@@ -5,7 +5,7 @@ ghost use Rattle.net_base.specs.declared.world.Script.{Script as AnyScript};
 ghost use Rattle.net_base.specs.declared.world.World.{World as AnyWorld};
 ghost use Rattle.net_base.specs.Calm.{owes};
 ghost use Rattle.net_base.specs.Net.{after};
-ghost use Rattle.net_base.specs.Next.{finished_by, own_replies};
+ghost use Rattle.net_base.specs.Next.{finished_by, own_replies, zone_of};
 ghost use Rattle.net_base.specs.Summary.{answered_by};
 ghost use Rattle.plain_runner.specs.Callers.{IsCaller};
 ghost use Rattle.plain_runner.specs.Tracks.{Tracks};
@@ -16,14 +16,14 @@ use plain_runner::{Caller, Role, Runner};
 pub fn finished(runner: &Runner<'_>, caller: u32) -> Option<usize>
     requires { caller < length runner.now.callers.items }
     ensures { (w : AnyWorld) (s : AnyScript) → Tracks w runner.now → slice_get w.scripts caller ≡ Some s
-        → result ≡ Some (finished_by (own_replies runner.now.history.entries caller) s) }
+        → result ≡ Some (finished_by (zone_of w) (own_replies runner.now.history.entries caller) s) }
 {
     finished_steps(&runner.callers[caller as usize])
 }
 
 fn finished_steps(caller: &Caller<'_>) -> Option<usize>
     ensures { (w : AnyWorld) (h : List AnyEntry) (c : ℕ) (s : AnyScript) → IsCaller w h c caller.now → slice_get w.scripts c ≡ Some s
-        → result ≡ Some (finished_by (own_replies h c) s) }
+        → result ≡ Some (finished_by (zone_of w) (own_replies h c) s) }
 {
     match &caller.role {
         Role::Script(_, player) => Some(player.finished()),

@@ -11,8 +11,8 @@ abbrev pub rest : Play → List Reply → Play
 rest p [] = p
 rest p (r ∷ rs) = rest (follow p r) rs
 
--- the play goes on where these replies leave the script, whose `dns` answers from this database: whatever comes after them, it records what the script records
--- next, and it has ended where every step is finished
+-- the play goes on where these replies leave the script, whose `dns` answers from this database: whatever comes after them, it
+-- records what the script records next, and it has ended where every step is finished
 pub record Continues (zone : Tuples) (s : Script) (rs : List Reply) (p : Play) : Type 0 where
   pub next_is : (more : List Reply) → (position s.host s.steps (no_names zone) (rs ++ more)).next ≡ head (rest p more)
   pub left_is : (more : List Reply)

@@ -3,6 +3,7 @@ use Rattle.std.proofs.Common.{◌≡◌, ℕ, zero, suc, ◌<◌, List, [], ◌�
 use Rattle.std.proofs.lemmas.List.{length-map}
 use Rattle.std.proofs.Math.Seq.{take-append_seam}
 use Rattle.net_base.specs.Stamped.{In}
+use Rattle.net_base.specs.Versions.{Tuples}
 use Rattle.net_guests.specs.Visits.{AreFresh, HasGuest, Visit}
 
 abbrev pub callers_of : List Visit → List ℕ
@@ -11,12 +12,12 @@ callers_of vs = map (λ (v : Visit). v.caller) vs
 abbrev pub AreThree : List Visit → Type 0
 AreThree vs = callers_of vs ≡ 0 ∷ 1 ∷ 2 ∷ []
 
-pub fresh_three : (vs : List Visit) → AreFresh 0 vs → length vs ≡ 3 → AreThree vs
-fresh_three [] fresh many = absurd (omega (arith, many))
-fresh_three (a ∷ []) fresh many = absurd (omega (arith, many))
-fresh_three (a ∷ b ∷ []) fresh many = absurd (omega (arith, many))
-fresh_three (a ∷ b ∷ k ∷ []) fresh many = rw (fresh.0.caller, fresh.1.0.caller, fresh.1.1.0.caller) refl
-fresh_three (a ∷ b ∷ k ∷ d ∷ vs) fresh many = absurd (omega (arith, many))
+pub fresh_three : (zone : Tuples) (vs : List Visit) → AreFresh zone 0 vs → length vs ≡ 3 → AreThree vs
+fresh_three zone [] fresh many = absurd (omega (arith, many))
+fresh_three zone (a ∷ []) fresh many = absurd (omega (arith, many))
+fresh_three zone (a ∷ b ∷ []) fresh many = absurd (omega (arith, many))
+fresh_three zone (a ∷ b ∷ k ∷ []) fresh many = rw (fresh.0.caller, fresh.1.0.caller, fresh.1.1.0.caller) refl
+fresh_three zone (a ∷ b ∷ k ∷ d ∷ vs) fresh many = absurd (omega (arith, many))
 
 many_three : (vs : List Visit) → AreThree vs → length vs ≡ 3
 many_three vs three = sym (length-map vs (λ (v : Visit). v.caller)) ∙ ap length three

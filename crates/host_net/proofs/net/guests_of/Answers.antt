@@ -1,6 +1,7 @@
 use Rattle.std.proofs.Common.{◌≡◌, ℕ, ◌+◌, ◌<◌, List, [], ◌∷◌, length, length-append, ap, sym, subst, ◌∙◌, arith}
 use Rattle.net_base.specs.declared.noted.Number.TheVariants as number
 use Rattle.net_base.specs.Callers.{caller_count as callers_in}
+use Rattle.net_base.specs.Next.{zone_of}
 use Rattle.net_base.specs.Stamped.{In}
 use Rattle.journal.specs.Rule.{Held}
 use Rattle.net_guests.specs.Visits.{AreFresh, IsFresh}
@@ -15,7 +16,7 @@ loop-caller-init g c = (
       (all_numbers g.J.Naming.run.roster.callers d
       (subst (λ (n : ℕ). d < n) (c.caller_count-callers.ensures ∙ (ap callers_in (sym c.requires.world) ∙ sym c.requires.callers)) lt)),
   ap length c.in_ok-guests.ensures.items,
-  subst (AreFresh 0) (sym c.in_ok-guests.ensures.items) tt,
+  subst (AreFresh (zone_of g.J.Placing.world) 0) (sym c.in_ok-guests.ensures.items) tt,
 )
 
 pub split_pass-own-requires : goal.split_pass-own-requires
@@ -35,7 +36,7 @@ loop-caller-preserved g c =
           subst (λ (hs : List Held). In (number.Caller d, []) hs) (sym c.split_pass-own.ensures.kept.1)
           (kept_later k d c.loop-caller.pass.held (omega (arith, le)) (c.loop-caller.invariant.1 d (omega (arith, le)) lt)),
       ap length c.in_ok-push.ensures.items ∙ (length-append c.loop-caller.guests.items (c.fresh.result ∷ []) ∙ ap (λ (n : ℕ). n + 1) c.loop-caller.invariant.2),
-      subst (AreFresh 0) (sym c.in_ok-push.ensures.items)
-          (fresh_more 0 c.loop-caller.guests.items c.fresh.result c.loop-caller.invariant.3
-          (subst (λ (n : ℕ). IsFresh n c.fresh.result) at c.fresh.ensures)),
+      subst (AreFresh (zone_of g.J.Placing.world) 0) (sym c.in_ok-push.ensures.items)
+          (fresh_more (zone_of g.J.Placing.world) 0 c.loop-caller.guests.items c.fresh.result c.loop-caller.invariant.3
+          (subst (λ (n : ℕ). IsFresh (zone_of g.J.Placing.world) n c.fresh.result) at c.fresh.ensures)),
     )

@@ -1,5 +1,6 @@
 use Rattle.std.proofs.Common.{◌≡◌, ℕ, ◌<◌, ◌≤◌, [], length}
 use Rattle.net_base.specs.declared.noted.Number.TheVariants as number
+use Rattle.net_base.specs.Next.{zone_of}
 use Rattle.net_base.specs.Stamped.{In}
 use Rattle.net_guests.specs.Visits.{AreFresh}
 use Rattle.host_net.proofs.net.guests_of.Given as goal
@@ -10,4 +11,4 @@ invariant-loop-caller g l =
     (l.pass.seen ≡ [])
     × ((d : ℕ) → l.caller ≤ d → d < l.callers → In (number.Caller d, []) l.pass.held)
     × (length l.guests.items ≡ l.caller)
-    × AreFresh 0 l.guests.items
+    × AreFresh (zone_of g.J.Placing.world) 0 l.guests.items

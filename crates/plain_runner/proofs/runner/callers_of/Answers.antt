@@ -1,6 +1,7 @@
 use Rattle.std.proofs.Common.{◌+◌, ℕ, List, length, slice_get, ◌≡◌, refl, ap, subst, sym, ◌∙◌, arith}
 use Rattle.net_base.specs.declared.world.Script.{Script}
 use Rattle.net_base.specs.Callers.{clock_number}
+use Rattle.net_actors.proofs.Said.{some_versions}
 use Rattle.plain_runner.proofs.Calming.{clock_is, courier_is}
 use Rattle.plain_runner.proofs.Opening.{AreFirst, all_callers, few_media, none_yet, one_more}
 use Rattle.plain_runner.proofs.Recorded.{got}
@@ -14,7 +15,7 @@ loop-script-preserved c =
     let w = c.args.world.now in
     let l = c.loop-script in
     subst (AreFirst w (l.script-index + 1)) (sym c.in_ok-push.ensures.items)
-    (one_more w l.script-index l.callers.items c.in_ok-script.field-0 l.invariant (c.in_ok-script.ensures w l.script-index
+    (one_more w l.script-index l.callers.items c.in_ok-script.field-0 l.invariant (c.in_ok-script.ensures w l.script-index (sym (c.in_ok-dbs.ensures ∙ c.requires.dbs))
     (ap (λ (ss : List Script). slice_get ss l.script-index) (sym c.as_slice-script-items.ensures)
     ∙ got c.as_slice-script-items.result.now l.script-index c.script-item.result c.loop-script-test.true c.script-item.is)))
 
@@ -35,7 +36,7 @@ loop-medium-preserved c =
     (c.courier.ensures w n (courier_is w l.medium n refl (omega (arith, c.loop-medium-test.true, c.len-medium-end.ensures))))))
 
 pub overflow_cast-medium : goal.overflow_cast-medium
-overflow_cast-medium c = omega (arith, few_media c.args.world.now c.requires, c.loop-medium-test.true, c.len-medium-end.ensures)
+overflow_cast-medium c = omega (arith, few_media c.args.world.now c.requires.is, c.loop-medium-test.true, c.len-medium-end.ensures)
 
 pub returns : goal.returns
 returns c =
@@ -47,3 +48,6 @@ returns c =
     (subst (AreFirst w (clock_number w + 1)) (sym c.in_ok-push-3.ensures.items)
     (one_more w (clock_number w) l.callers.items c.clock.result (subst (λ (m : ℕ). AreFirst w m l.callers.items) last l.invariant)
     (c.clock.ensures w (clock_number w) (clock_is w))))
+
+pub script-requires : goal.script-requires
+script-requires c = some_versions c.args.world.now _ c.requires.is (c.in_ok-dbs.ensures ∙ c.requires.dbs)
