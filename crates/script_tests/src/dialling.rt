@@ -1,8 +1,9 @@
 //! Steps along their accepted and their refused replies, and completed addresses.
+use crate::holding::no_names;
 use dial_lib::{Accept, Announce, Dial, Listen, Reject, StepTask, netmkaddr};
 use net_base::{Addr, FileName, Lines, Mode, Octets, Pair, Proto, Reply, Step};
-use net_tree::{Fid, Fids};
-use script_task::{Request, Task, settle};
+use net_tree::Fid;
+use script_task::{Names, Request, Task, settle};
 use std::alloc::{AllocError, Global};
 use std::process::Abort;
 use std::test::*;
@@ -72,18 +73,33 @@ reject d|n|write d hangup;end
 reject s|n|write s hangup;end
 reject x|n|write x hangup;end";
 
+// Calls of datagrams: each event of theirs refused, and none.
+const CALLS: &[u8] = b"hread c|n|open .c /net/udp/5/listen;end
+hread c|cnn|open .c /net/udp/5/listen;open .d /net/udp/4/data;close .c;end
+hread c|conkk|open .c /net/udp/5/listen;open .d /net/udp/4/data;read-only open .r /net/udp/4/remote;close .d;close .c;end
+hread c|coonnkk|open .c /net/udp/5/listen;open .d /net/udp/4/data;read-only open .r /net/udp/4/remote;read .r;close .r;close .d;close .c;end
+hread c|coobnkk|open .c /net/udp/5/listen;open .d /net/udp/4/data;read-only open .r /net/udp/4/remote;read .r;close .r;close .d;close .c;end
+hread c|coobkobkb|open .c /net/udp/5/listen;open .d /net/udp/4/data;read-only open .r /net/udp/4/remote;read .r;close .r;read-only open .l /net/udp/4/local;read .l;close .l;hear .d;end
+hread c|coobkobknkk|open .c /net/udp/5/listen;open .d /net/udp/4/data;read-only open .r /net/udp/4/remote;read .r;close .r;read-only open .l /net/udp/4/local;read .l;close .l;hear .d;close .d;close .c;end
+hread x|n|use x;end
+hwrite c 00|n|use .d;end
+dns c|coobkobkbkkn|open .c /net/udp/5/listen;open .d /net/udp/4/data;read-only open .r /net/udp/4/remote;read .r;close .r;read-only open .l /net/udp/4/local;read .l;close .l;read .d;close .d;close .c;open .c /net/udp/5/listen;end
+dns c|coobkobkqkkkn|open .c /net/udp/5/listen;open .d /net/udp/4/data;read-only open .r /net/udp/4/remote;read .r;close .r;read-only open .l /net/udp/4/local;read .l;close .l;read .d;write .d \x00\x00\x80\x01\x00\x00\x00\x00\x00\x00\x00\x00;close .d;close .c;open .c /net/udp/5/listen;end
+dns c|coobkobkqnkk|open .c /net/udp/5/listen;open .d /net/udp/4/data;read-only open .r /net/udp/4/remote;read .r;close .r;read-only open .l /net/udp/4/local;read .l;close .l;read .d;write .d \x00\x00\x80\x01\x00\x00\x00\x00\x00\x00\x00\x00;close .d;close .c;end
+dns x|n|use x;end";
+
 // Names and replies.
 
 // Names that are bound: `c` and `.g` to ctl files, `d` to a data file and `s` to a status file.
-fn bind_all(fids: &mut Fids) -> Result<(), AllocError> {
+fn bind_all(fids: &mut Names) -> Result<(), AllocError> {
     bind(fids, b"c", FileName::Ctl, Mode::Both)?;
     bind(fids, b".g", FileName::Ctl, Mode::Both)?;
     bind(fids, b"d", FileName::Data, Mode::Both)?;
     bind(fids, b"s", FileName::Status, Mode::Read)
 }
 
-fn names(alloc: Global) -> Result<Fids, AllocError> {
-    let mut fids = Fids::new(alloc);
+fn names(alloc: Global) -> Result<Names, AllocError> {
+    let mut fids = no_names(alloc)?;
     if bind_all(&mut fids).is_err() {
         drop(fids);
         return Err(AllocError);
@@ -91,7 +107,7 @@ fn names(alloc: Global) -> Result<Fids, AllocError> {
     Ok(fids)
 }
 
-fn bind(fids: &mut Fids, name: &[u8], file: FileName, mode: Mode) -> Result<(), AllocError> {
+fn bind(fids: &mut Names, name: &[u8], file: FileName, mode: Mode) -> Result<(), AllocError> {
     let fid = Fid {
         proto: Proto::Udp,
         slot: 5,
@@ -123,8 +139,16 @@ fn reply(alloc: Global, letter: u8) -> Result<Reply, AllocError> {
         b'g' => Ok(granted()),
         b'o' => Ok(Reply::Opened { generation: 7 }),
         b'k' => Ok(Reply::Ok),
+        b'b' => bytes(alloc, b"1.2.3.4!5\n"),
+        b'q' => bytes(alloc, &[0; 12]),
         _ => Ok(Reply::NoFile),
     }
+}
+
+fn bytes(alloc: Global, told: &[u8]) -> Result<Reply, AllocError> {
+    Ok(Reply::Bytes {
+        bytes: Octets::from_slice(alloc, told)?,
+    })
 }
 
 fn put_lines(alloc: Global, lines: &mut Lines) -> Result<(), AllocError> {
@@ -163,6 +187,7 @@ fn put(out: &mut Octets, request: &Request) -> Result<(), AllocError> {
         Request::Ls { path } => put_words(out, b"ls ", path, b""),
         Request::Until { .. } => out.append(b"until;"),
         Request::Refresh => out.append(b"refresh;"),
+        Request::Hear { name, .. } => put_words(out, b"hear ", name, b""),
         Request::Wait { name } => put_words(out, b"wait ", name, b""),
         Request::Unbound { name } => put_words(out, b"use ", name, b""),
         Request::Misuse { name } => put_words(out, b"misuse ", name, b""),
@@ -191,12 +216,12 @@ fn put_words(out: &mut Octets, word: &[u8], name: &Octets, rest: &[u8]) -> Resul
 // The reply by a letter to a request, which is put down and settled.
 fn answer(
     alloc: Global,
-    fids: &mut Fids,
+    fids: &mut Names,
     out: &mut Octets,
-    request: &Request,
+    request: Request,
     letter: u8,
 ) -> Result<Reply, AllocError> {
-    put(out, request)?;
+    put(out, &request)?;
     let reply = reply(alloc, letter)?;
     let settled = settle(fids, request, &reply);
     if settled.is_err() {
@@ -209,22 +234,21 @@ fn answer(
 fn turn<T: Task>(
     alloc: Global,
     task: &mut T,
-    fids: &mut Fids,
+    fids: &mut Names,
     out: &mut Octets,
     letter: u8,
 ) -> Result<(), AllocError> {
     let Some(request) = task.next(alloc, fids)? else {
         return Ok(());
     };
-    let reply = answer(alloc, fids, out, &request, letter);
-    drop(request);
-    task.told(alloc, reply?)
+    let reply = answer(alloc, fids, out, request, letter)?;
+    task.told(alloc, reply)
 }
 
 fn turns<T: Task>(
     alloc: Global,
     task: &mut T,
-    fids: &mut Fids,
+    fids: &mut Names,
     out: &mut Octets,
     letters: &[u8],
 ) -> Result<(), AllocError> {
@@ -240,7 +264,7 @@ fn turns<T: Task>(
 fn tells<T: Task>(
     alloc: Global,
     task: &mut T,
-    fids: &mut Fids,
+    fids: &mut Names,
     letters: &[u8],
     wanted: &[u8],
 ) -> Result<bool, AllocError> {
@@ -299,6 +323,7 @@ fn step_of_two(alloc: Global, word: &[u8], first: &[u8], last: &[u8]) -> Result<
             address: other,
         }),
         b"listen" => Ok(Step::Listen { name, from: other }),
+        b"hwrite" => Ok(Step::Hwrite { name, bytes: other }),
         _ => Ok(Step::Accept { name, from: other }),
     }
 }
@@ -312,6 +337,8 @@ fn step_of_one(alloc: Global, word: &[u8], first: &[u8]) -> Result<Step, AllocEr
         b"ls" => Ok(Step::Ls { path: name }),
         b"cs" => Ok(Step::Cs { query: name }),
         b"hangup" => Ok(Step::Hangup { name }),
+        b"hread" => Ok(Step::Hread { name, count: 100 }),
+        b"dns" => Ok(Step::Dns { name, times: 2 }),
         _ => Ok(Step::Reject { name }),
     }
 }
@@ -323,7 +350,7 @@ fn step(alloc: Global, words: &[u8]) -> Result<Step, AllocError> {
     match word {
         b"until" => Ok(Step::Until { moment: 9 }),
         b"refresh" => Ok(Step::Refresh),
-        b"read" | b"close" | b"ls" | b"cs" | b"hangup" | b"reject" => {
+        b"read" | b"close" | b"ls" | b"cs" | b"hangup" | b"reject" | b"hread" | b"dns" => {
             step_of_one(alloc, word, first)
         }
         _ => step_of_two(alloc, word, first, last),
@@ -428,6 +455,11 @@ fn steps_are_played(rt: HostRuntime) {
 #[test]
 fn long_steps_are_played(rt: HostRuntime) {
     play_rows(&rt, rt.alloc(), LONG_STEPS, true);
+}
+
+#[test]
+fn calls_are_played(rt: HostRuntime) {
+    play_rows(&rt, rt.alloc(), CALLS, false);
 }
 
 #[test]

@@ -6,6 +6,8 @@ mod controls;
 #[cfg(test)]
 mod dialling;
 #[cfg(test)]
+mod holding;
+#[cfg(test)]
 mod players;
 #[cfg(test)]
 mod requests;

@@ -1,4 +1,5 @@
 //! A script, from its first event to its last.
+use crate::holding::no_tuples;
 use net_base::{ActorName, Event, Octets, Reply, Script, Sequence, Step};
 use script_player::Player;
 use std::alloc::{AllocError, Global};
@@ -42,7 +43,7 @@ fn ends_refused(player: &mut Player, script: &Script) -> Result<bool, AllocError
 }
 
 fn ends(alloc: Global, script: &Script) -> Result<bool, AllocError> {
-    let mut player = Player::new(alloc);
+    let mut player = Player::new(alloc, no_tuples(alloc)?);
     let ends = ends_refused(&mut player, script);
     drop(player);
     ends

@@ -1,7 +1,8 @@
 //! The events of requests, and the names after their replies.
+use crate::holding::no_names;
 use net_base::{ActorName, Event, FileName, Mode, Node, Octets, Proto, Reply};
-use net_tree::{Fid, Fids};
-use script_task::{Effect, Planned, Request, event_of, plan, settle};
+use net_tree::Fid;
+use script_task::{Effect, Names, Planned, Request, event_of, plan, settle};
 use std::alloc::{AllocError, Global};
 use std::process::Abort;
 use std::test::*;
@@ -24,7 +25,7 @@ fn fid(slot: u32, generation: u64, file: FileName, mode: Mode) -> Fid {
 
 // Whether there was room for a ctl file `c`, a data file `d`, a status file `s` and a data file `w` that is open to write
 // alone.
-fn bind_all(fids: &mut Fids) -> bool {
+fn bind_all(fids: &mut Names) -> bool {
     let rows: [(&[u8], FileName, Mode); 4] = [
         (b"c", FileName::Ctl, Mode::Both),
         (b"d", FileName::Data, Mode::Both),
@@ -39,8 +40,8 @@ fn bind_all(fids: &mut Fids) -> bool {
     true
 }
 
-fn some_names(alloc: Global) -> Result<Fids, AllocError> {
-    let mut fids = Fids::new(alloc);
+fn some_names(alloc: Global) -> Result<Names, AllocError> {
+    let mut fids = no_names(alloc)?;
     if !bind_all(&mut fids) {
         drop(fids);
         return Err(AllocError);
@@ -82,7 +83,7 @@ fn is_planned(planned: &Planned, actor: ActorName, text: &[u8]) -> bool {
 }
 
 // Whether the request records this event there.
-fn records(fids: &Fids, request: Request, actor: ActorName, text: &[u8]) -> bool {
+fn records(fids: &Names, request: Request, actor: ActorName, text: &[u8]) -> bool {
     let planned = plan(2, fids, request);
     let told = is_planned(&planned, actor, text);
     drop(planned);
@@ -151,7 +152,7 @@ fn request(alloc: Global, ask: Ask) -> Result<Request, AllocError> {
 /// A request, the actor at which it is recorded, and its event.
 type Row = (Ask, ActorName, &'static [u8]);
 
-fn record(rt: &impl Abort, alloc: Global, fids: &Fids, rows: &[Row]) -> Result<(), AllocError> {
+fn record(rt: &impl Abort, alloc: Global, fids: &Names, rows: &[Row]) -> Result<(), AllocError> {
     for (i, row) in rows.iter().enumerate() {
         let (ask, actor, text) = *row;
         let request = request(alloc, ask)?;
@@ -259,7 +260,7 @@ fn other_requests_have_events(rt: HostRuntime) -> Result<(), AllocError> {
     record_all(&rt, rt.alloc(), OTHERS)
 }
 
-fn actor_of(fids: &Fids, request: &Request) -> Result<ActorName, AllocError> {
+fn actor_of(fids: &Names, request: &Request) -> Result<ActorName, AllocError> {
     let planned = event_of(2, fids, request)?;
     let actor = planned.actor;
     drop(planned);
@@ -269,7 +270,7 @@ fn actor_of(fids: &Fids, request: &Request) -> Result<ActorName, AllocError> {
 // The actor of a request that is kept.
 fn asked(alloc: Global) -> Result<ActorName, AllocError> {
     let request = request(alloc, Ask::Cs(b"net!helix!9fs"))?;
-    let fids = Fids::new(alloc);
+    let fids = no_names(alloc)?;
     let actor = actor_of(&fids, &request);
     drop(fids);
     drop(request);
@@ -289,11 +290,10 @@ fn opened(
     reply: &Reply,
 ) -> Result<Option<Fid>, AllocError> {
     let request = open(alloc, b"n", path, mode)?;
-    let mut fids = Fids::new(alloc);
-    let settled = settle(&mut fids, &request, reply);
+    let mut fids = no_names(alloc)?;
+    let settled = settle(&mut fids, request, reply);
     let fid = fids.get(b"n");
     drop(fids);
-    drop(request);
     settled?;
     Ok(fid)
 }
@@ -329,11 +329,9 @@ fn opens_bind_what_is_opened(rt: HostRuntime) {
     }
 }
 
-fn settles(alloc: Global, fids: &mut Fids, ask: Ask, reply: &Reply) -> Result<(), AllocError> {
+fn settles(alloc: Global, fids: &mut Names, ask: Ask, reply: &Reply) -> Result<(), AllocError> {
     let request = request(alloc, ask)?;
-    let settled = settle(fids, &request, reply);
-    drop(request);
-    settled
+    settle(fids, request, reply)
 }
 
 // What the names `c` and `d` are bound to after a reply to a request.
@@ -373,7 +371,7 @@ fn opens(alloc: Global) -> Result<Effect, AllocError> {
 }
 
 // Whether an open of a name is settled, where there is room for it.
-fn is_settled(fids: &mut Fids, effect: &Effect) -> bool {
+fn is_settled(fids: &mut Names, effect: Effect) -> bool {
     if fids.reserve(b"n").is_err() {
         return true;
     }
@@ -385,9 +383,8 @@ fn is_settled(fids: &mut Fids, effect: &Effect) -> bool {
 #[test]
 fn an_open_of_a_reserved_name_wants_no_memory(rt: HostRuntime) -> Result<(), AllocError> {
     let effect = opens(rt.alloc())?;
-    let mut fids = Fids::new(rt.alloc());
-    assert!(rt; is_settled(&mut fids, &effect));
+    let mut fids = no_names(rt.alloc())?;
+    assert!(rt; is_settled(&mut fids, effect));
     drop(fids);
-    drop(effect);
     Ok(())
 }

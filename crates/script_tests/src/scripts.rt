@@ -1,6 +1,6 @@
 //! A script, from its first request to its last.
+use crate::holding::no_names;
 use net_base::{Lines, Octets, Reply, Script, Sequence, Step};
-use net_tree::Fids;
 use script_task::{Request, Task};
 use std::alloc::{AllocError, Global};
 use std::test::*;
@@ -41,7 +41,7 @@ fn read_request(request: &Option<Request>) -> Asked {
 
 // What the next request asks for.
 fn asks<T: Task>(alloc: Global, task: &T) -> Result<Asked, AllocError> {
-    let fids = Fids::new(alloc);
+    let fids = no_names(alloc)?;
     let request = task.next(alloc, &fids);
     drop(fids);
     let request = request?;

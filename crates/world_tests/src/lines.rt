@@ -100,6 +100,10 @@ const STEPS: &[&[u8]] = &[
     b"accept c l",
     b"reject l",
     b"hangup c",
+    b"hread a 65536",
+    b"hwrite a 00000000000000000000ffff8768090600000000000000000000ffff8768091f00000000000000000000ffff8768091f13880035",
+    b"hwrite a 00000000000000000000ffff8768090600000000000000000000ffff8768091f00000000000000000000ffff8768091f1388003500ff",
+    b"dns a 1000",
 ];
 
 #[test]
@@ -167,6 +171,15 @@ const WRONG_STEPS: &[&[u8]] = &[
     b"announce a b c",
     b"listen l A",
     b"hangup C",
+    b"hread a",
+    b"hread a 0",
+    b"hread a 65537",
+    b"hwrite a -",
+    b"hwrite a 00000000000000000000ffff8768090600000000000000000000ffff8768091f00000000000000000000ffff8768091f138800",
+    b"hwrite a 01000000000000000000ffff8768090600000000000000000000ffff8768091f00000000000000000000ffff8768091f13880035",
+    b"dns a",
+    b"dns a 0",
+    b"dns a 1001",
 ];
 
 #[test]

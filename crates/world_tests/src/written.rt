@@ -163,6 +163,27 @@ fn hangup(alloc: Global) -> Result<Step, AllocError> {
     })
 }
 
+fn hread(alloc: Global) -> Result<Step, AllocError> {
+    Ok(Step::Hread {
+        name: text(alloc, b"a")?,
+        count: 512,
+    })
+}
+
+fn hwrite(alloc: Global) -> Result<Step, AllocError> {
+    Ok(Step::Hwrite {
+        name: text(alloc, b"a")?,
+        bytes: text(alloc, b"\x00\xff")?,
+    })
+}
+
+fn dns(alloc: Global) -> Result<Step, AllocError> {
+    Ok(Step::Dns {
+        name: text(alloc, b"a")?,
+        times: 1000,
+    })
+}
+
 /// Steps on files.
 fn add_files(alloc: Global, steps: &mut StepList) -> Result<(), AllocError> {
     steps.push(Step::Until { moment: 10 })?;
@@ -185,7 +206,10 @@ fn add_calls(alloc: Global, steps: &mut StepList) -> Result<(), AllocError> {
     steps.push(listen(alloc)?)?;
     steps.push(accept(alloc)?)?;
     steps.push(reject(alloc)?)?;
-    steps.push(hangup(alloc)?)
+    steps.push(hangup(alloc)?)?;
+    steps.push(hread(alloc)?)?;
+    steps.push(hwrite(alloc)?)?;
+    steps.push(dns(alloc)?)
 }
 
 /// A script with each step.
@@ -258,7 +282,7 @@ medium ether0 1500\nrates ether0 10 0 20\nfate ether0 1 lose\nfate ether0 3-5 de
 host gate udp il\nif ether1 10.0.0.1 255.0.0.0\nroute 0.0.0.0 0.0.0.0 10.0.0.2\nstart 4294967295\n\
 script gate\nuntil 10\nrefresh\nopen c /net/il/clone\nopen d /net/cs rw\nread d 8192\nwrite d two  words\n\
 writex d 000aff\nwritex d -\nclose d\nls /net\ncs net!$auth!9fs\ndial e il!helix!9fs\n\
-announce a il!*!9fs\nlisten l a\naccept f l\nreject l\nhangup e\n\
+announce a il!*!9fs\nlisten l a\naccept f l\nreject l\nhangup e\nhread a 512\nhwrite a 00ff\ndns a 1000\n\
 ndb\nsys=\"a gate\"\n%at 20\n";
 
 #[test]

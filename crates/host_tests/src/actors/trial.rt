@@ -4,6 +4,7 @@ ghost use Rattle.net_base.specs.World.{IsWorld};
 ghost use Rattle.net_actors.specs.Numbers.{is_among};
 ghost use Rattle.host_tests.specs.Tried.{tried_host, tried_medium, tried_world};
 
+use ndb_versions::IndexedVersions;
 use net_actors::{Actors, Due};
 use net_base::{
     ActorName, Db, Fates, HostSpec, Hosts, Iface, Ifaces, Media, MediumSpec, Nets, Octets, Proto,
@@ -11,6 +12,7 @@ use net_base::{
 };
 use std::alloc::{AllocError, Global};
 use std::marker::Model;
+use std::sync::Arc;
 
 pub const ANNA: u32 = 0x8768_0906;
 
@@ -206,7 +208,8 @@ impl Trial {
     #[tactic(auto, using(crate::proofs::Trying::none_led, crate::proofs::Trying::tried_is_world))]
     pub fn new(alloc: Global) -> Result<Trial, AllocError> {
         let world = world(alloc)?;
-        let actors = Actors::new(alloc, &world);
+        let dbs = Arc::new(alloc, IndexedVersions::new(alloc, world.dbs.as_slice())?)?;
+        let actors = Actors::new(alloc, &world, &dbs);
         drop(world);
         Ok(Trial {
             actors: actors?,
