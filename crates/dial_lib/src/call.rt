@@ -48,15 +48,43 @@ impl CallPhase {
         match self {
             CallPhase::Fresh => if_so(is_opening(reply), CallPhase::Data, CallPhase::Through),
             CallPhase::Data => if_so(is_opening(reply), CallPhase::Remote, CallPhase::ShutCall),
-            CallPhase::Remote => if_so(is_opening(reply), CallPhase::TellRemote, CallPhase::ShutData),
-            CallPhase::TellRemote => if_so(is_accepted(reply), CallPhase::CloseRemote, CallPhase::ShutRemote),
-            CallPhase::CloseRemote => if_so(is_accepted(reply), CallPhase::Local, CallPhase::ShutData),
+            CallPhase::Remote => if_so(
+                is_opening(reply),
+                CallPhase::TellRemote,
+                CallPhase::ShutData,
+            ),
+            CallPhase::TellRemote => if_so(
+                is_accepted(reply),
+                CallPhase::CloseRemote,
+                CallPhase::ShutRemote,
+            ),
+            CallPhase::CloseRemote => if_so(
+                is_accepted(reply),
+                CallPhase::Local,
+                CallPhase::ShutData,
+            ),
             CallPhase::Local => if_so(is_opening(reply), CallPhase::TellLocal, CallPhase::ShutData),
-            CallPhase::TellLocal => if_so(is_accepted(reply), CallPhase::CloseLocal, CallPhase::ShutLocal),
-            CallPhase::CloseLocal => if_so(is_accepted(reply), CallPhase::Read, CallPhase::ShutData),
+            CallPhase::TellLocal => if_so(
+                is_accepted(reply),
+                CallPhase::CloseLocal,
+                CallPhase::ShutLocal,
+            ),
+            CallPhase::CloseLocal => if_so(
+                is_accepted(reply),
+                CallPhase::Read,
+                CallPhase::ShutData,
+            ),
             CallPhase::Read => if_so(is_accepted(reply), read, CallPhase::ShutData),
-            CallPhase::Answer => if_so(is_accepted(reply), CallPhase::LeaveData, CallPhase::ShutData),
-            CallPhase::LeaveData => if_so(is_accepted(reply), CallPhase::LeaveCall, CallPhase::ShutCall),
+            CallPhase::Answer => if_so(
+                is_accepted(reply),
+                CallPhase::LeaveData,
+                CallPhase::ShutData,
+            ),
+            CallPhase::LeaveData => if_so(
+                is_accepted(reply),
+                CallPhase::LeaveCall,
+                CallPhase::ShutCall,
+            ),
             CallPhase::LeaveCall => CallPhase::Through,
             CallPhase::ShutRemote | CallPhase::ShutLocal => CallPhase::ShutData,
             CallPhase::ShutData => CallPhase::ShutCall,
@@ -69,11 +97,7 @@ impl CallPhase {
 fn if_so(is_so: bool, then: CallPhase, otherwise: CallPhase) -> CallPhase
     ensures { result ≡ spec.if_so is_so then otherwise }
 {
-    if is_so {
-        then
-    } else {
-        otherwise
-    }
+    if is_so { then } else { otherwise }
 }
 
 // What is asked for in a phase, where a read asks for this.
@@ -110,7 +134,13 @@ fn begin(alloc: Global, name: &Octets, fids: &Names) -> Result<Request, AllocErr
         return Ok(Request::Unbound { name });
     }
     match fids.get(name.as_slice()) {
-        Some(fid) => open_file(alloc, &Octets::from_slice(alloc, b".c")?, fid, FileName::Listen, Mode::Both),
+        Some(fid) => open_file(
+            alloc,
+            &Octets::from_slice(alloc, b".c")?,
+            fid,
+            FileName::Listen,
+            Mode::Both,
+        ),
         None => Ok(Request::Unbound {
             name: name.clone()?,
         }),

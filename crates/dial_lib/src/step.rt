@@ -170,7 +170,11 @@ fn begin(alloc: Global, step: &Step) -> Result<StepTask, AllocError>
 }
 
 /// What a step that has recorded nothing asks. Where its first request is in the step itself, no task is made for it.
-pub fn first_request(alloc: Global, fids: &Names, step: &Step) -> Result<Option<Request>, AllocError>
+pub fn first_request(
+    alloc: Global,
+    fids: &Names,
+    step: &Step,
+) -> Result<Option<Request>, AllocError>
     ensures { IfOk result (λ q. q ≡ spec.asks (spec.begun step.now) fids.now.names) }
 {
     match step {

@@ -5,8 +5,7 @@ ghost use Rattle.ndb_dns.specs.Keys.{key_seen};
 
 use crate::record::POINTER;
 use crate::reverse::reverse_of;
-use net_base::Question;
-use net_base::Octets;
+use net_base::{Octets, Question};
 use std::alloc::{AllocError, Global};
 
 /// An attribute with a value.

@@ -16,9 +16,9 @@ mod reverse;
 mod value;
 
 pub use answer::{dns_answer, dns_answer_counted};
-pub use net_base::Question;
 pub use fault::DnsError;
 pub use name::{Name, read_name};
+pub use net_base::Question;
 pub use question::read_question;
 
 #[cfg(test)]

@@ -4,8 +4,7 @@ ghost use Rattle.net_base.specs.DomainAnswers as spec;
 ghost use Rattle.ndb_dns.specs.Taken.{Adds, IsFew, Took};
 
 use crate::field::{put_word, word};
-use net_base::Question;
-use net_base::Octets;
+use net_base::{Octets, Question};
 use std::alloc::{AllocError, Global};
 
 /// The most bytes of a reply.

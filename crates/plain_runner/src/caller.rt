@@ -16,9 +16,9 @@ ghost use Rattle.plain_runner.specs.Turns.{AreOwn, IsOwn, OfDuty, ask_of, asks_o
 use crate::turn::Turn;
 use duties::{Duties, Duty};
 use history_laws::histories_grow;
+use ndb_versions::IndexedVersions;
 use net_actors::Actors;
 use net_base::{ActorName, Event, Reply, Script, With, Work};
-use ndb_versions::IndexedVersions;
 use script_player::Player;
 use std::alloc::{AllocError, Global};
 use std::sync::Arc;

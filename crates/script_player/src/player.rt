@@ -10,8 +10,8 @@ ghost use Rattle.script_task.specs.Fitting.{fits};
 ghost use Rattle.script_player.specs.Players as spec;
 
 use dial_lib::StepTask;
-use net_base::{ActorName, Event, Reply, Script};
 use ndb_versions::IndexedVersions;
+use net_base::{ActorName, Event, Reply, Script};
 use script_task::{Effect, Names, Planned, Task, plan};
 use std::alloc::{AllocError, Global};
 use std::marker::Model;
