@@ -24,7 +24,7 @@ use Rattle.net_base.specs.ControlWords as control
 use Rattle.net_base.specs.DatagramHeaders.{text_behind}
 use Rattle.net_base.specs.DomainAnswers.{dns_answer}
 use Rattle.net_base.specs.Paths.{walk, reads, writes as may_write}
-use Rattle.net_base.specs.Steps.{Fid, Names, fid_of, is_bound, bind, unbind, Play, Asks, Ends, is_accepted, if_accepted, ends_with, uses, misuses, on_fid, with_bound, with_new, with_readable, with_writable, conversation_of, default_mode, openable, open_actor, open_event, opened_fid, opens_node, opens, opens_beside, read_event, controls, puts, closes, closes_last, ls_actor, ls_event, netmkaddr, lines_in, asks_cs, clone_path, line_address, dotted_name, connected, dials, announces, data_name, call_name, call_names, first_bound, on_taken, closes_all, bytes_in, address_told, tells_address, takes_call, with_call, hears, is_answer, open_call, answers, leaves_call, answers_call, serves_call, serves, play_of, Ask, Stand, Asking, Finished, stands, Position, position_by, position}
+use Rattle.net_base.specs.Steps.{Fid, Names, fid_of, is_bound, bind, unbind, hearing, Play, Asks, Ends, is_accepted, if_accepted, ends_with, uses, misuses, on_fid, with_bound, with_new, with_readable, with_writable, conversation_of, default_mode, openable, open_actor, open_event, opened_fid, opens_node, opens, opens_beside, read_event, controls, puts, closes, closes_last, ls_actor, ls_event, netmkaddr, lines_in, asks_cs, clone_path, line_address, dotted_name, connected, dials, announces, data_name, call_name, call_names, first_bound, on_taken, closes_all, bytes_in, address_told, tells_address, takes_call, with_call, hears, is_answer, open_call, answers, leaves_call, answers_call, serves_call, serves, play_of, Ask, Stand, Asking, Finished, stands, Position, position_by, position}
 use Rattle.history_laws.proofs.Ordered.{Each}
 
 -- an event that neither opens a path at the desk, nor names what isn't open, nor waits for a moment
@@ -218,59 +218,107 @@ module _ (h : ℕ) (P : ActorName → Event → Type 0) (R : Reply → Type 0) (
   taken : (names : Names) (others : List (List ℕ)) (next : Play) → Each (λ (called : List ℕ). IsNamed h P called) others → Good next
       → Good (on_taken (first_bound others names) (λ (used : List ℕ). uses h used names) next)
   taken names [] next all f = f
-  taken names (called ∷ others) next all f = by (is_bound names called)
+  taken names (called ∷ others) next all f = by (is_bound names called) (taken names others next all.1 f)
     where
-      by : (b : Bool) → Good (on_taken (if b then Some called else first_bound others names) (λ (used : List ℕ). uses h used names) next)
-      by true = ending _ _ names all.0.0
-      by false = taken names others next all.1 f
+      by : (b : Bool) → Good (on_taken (first_bound others names) (λ (used : List ℕ). uses h used names) next)
+          → Good (on_taken (if b then Some called else first_bound others names) (λ (used : List ℕ). uses h used names) next)
+      by true rest = ending _ _ names all.0.0
+      by false rest = rest
 
   closing_all : (fs : List Fid) (next : Play) → Good next → Good (closes_all h fs next)
   closing_all [] next f = f
   closing_all (x ∷ xs) next f = (fits.other (conversation_of h x) (event.Close x.generation) tt, λ r fine. closing_all xs next f)
 
+  -- the plays of two open files that are left and of one that is answered
+  closing_both : (call data_file : Fid) (next : Play) → Good next → Good (closes_all h (data_file ∷ call ∷ []) next)
+  closing_both call data_file next f = closing_all (data_file ∷ call ∷ []) next f
+
+  told_by : (opened : Fid) (others : List Fid) (refused : Play) (next : Addr → Play) (r : Reply) → Good refused → ((a : Addr) → Good (next a))
+      → Good (if_accepted r (closes h opened (closes_all h others refused) (next (address_told (bytes_in r)))) (closes_all h (opened ∷ others) refused))
+  told_by opened others refused next r f g =
+      accepted r (closes h opened (closes_all h others refused) (next (address_told (bytes_in r)))) (closes_all h (opened ∷ others) refused)
+      (closing opened (closes_all h others refused) (next (address_told (bytes_in r))) (closing_all others refused f) (g (address_told (bytes_in r))))
+      (closing_all (opened ∷ others) refused f)
+
   telling : (x : Fid) (told : FileName) (others : List Fid) (refused : Play) (next : Addr → Play) → Good refused → ((a : Addr) → Good (next a)) → Good (tells_address h x told others refused next)
   telling x told others refused next f g =
       let n : Option Node = Some (node.File x.proto x.slot told) in
-      opens_at [] mode.Read n (closes_all h others refused) _ (open_beside (open_actor h n) mode.Read x.proto x.slot told) (closing_all others refused f) (λ opened.
-      (fits.other (conversation_of h opened) (event.File opened.generation told 64) tt, λ r fine.
-      accepted r _ _ (closing opened _ _ (closing_all others refused f) (g (address_told (bytes_in r)))) (closing_all (opened ∷ others) refused f)))
+      opens_at [] mode.Read n (closes_all h others refused)
+      (λ (opened : Fid).
+      Asks (conversation_of h opened) (event.File opened.generation told 64) (λ (r : Reply).
+      if_accepted r (closes h opened (closes_all h others refused) (next (address_told (bytes_in r)))) (closes_all h (opened ∷ others) refused)))
+      (open_beside (open_actor h n) mode.Read x.proto x.slot told) (closing_all others refused f)
+      (λ opened. (fits.other (conversation_of h opened) (event.File opened.generation told 64) tt, λ r fine. told_by opened others refused next r f g))
 
   taking : (x : Fid) (refused : Play) (next : Fid → Fid → Addr → Addr → Play) → Good refused → ((call data_file : Fid) (remote local : Addr) → Good (next call data_file remote local)) → Good (takes_call h x refused next)
   taking x refused next f g =
-      beside x file.Listen refused _ f (λ call.
-      beside call file.Data (closes_all h (call ∷ []) refused) _ (closing_all (call ∷ []) refused f) (λ data_file.
-      telling call file.Remote (data_file ∷ call ∷ []) refused _ f (λ remote.
-      telling call file.Local (data_file ∷ call ∷ []) refused _ f (λ local. g call data_file remote local))))
+      beside x file.Listen refused
+      (λ (call : Fid).
+      opens_beside h call file.Data (closes_all h (call ∷ []) refused) (λ (data_file : Fid).
+      tells_address h call file.Remote (data_file ∷ call ∷ []) refused (λ (remote : Addr).
+      tells_address h call file.Local (data_file ∷ call ∷ []) refused (λ (local : Addr). next call data_file remote local))))
+      f
+      (λ call.
+      beside call file.Data (closes_all h (call ∷ []) refused)
+      (λ (data_file : Fid).
+      tells_address h call file.Remote (data_file ∷ call ∷ []) refused (λ (remote : Addr).
+      tells_address h call file.Local (data_file ∷ call ∷ []) refused (λ (local : Addr). next call data_file remote local)))
+      (closing_all (call ∷ []) refused f)
+      (λ data_file.
+      telling call file.Remote (data_file ∷ call ∷ []) refused
+      (λ (remote : Addr). tells_address h call file.Local (data_file ∷ call ∷ []) refused (λ (local : Addr). next call data_file remote local))
+      f
+      (λ remote. telling call file.Local (data_file ∷ call ∷ []) refused (λ (local : Addr). next call data_file remote local) f (λ local. g call data_file remote local))))
 
   calling : (called : List ℕ) (names : Names) (next : Fid → Fid → Addr → Addr → Play) → IsNamed h P called → Each (λ (name : List ℕ). IsNamed h P name) call_names
       → ((call data_file : Fid) (remote local : Addr) → Good (next call data_file remote local)) → Good (with_call h called names next)
   calling called names next named all g =
-      taken names call_names _ all (bound called names _ named (λ x. taking x (Ends names) next tt g))
+      taken names call_names (with_bound h called names (λ (f : Fid). takes_call h f (Ends names) next)) all
+      (bound called names (λ (f : Fid). takes_call h f (Ends names) next) named (λ x. taking x (Ends names) next tt g))
 
   heard_so : (names : Names) (count : ℕ) (call data_file : Fid) (heard : Heard) → Good (hears h names count call data_file heard)
   heard_so names count call data_file heard =
-      (fits.other (conversation_of h data_file) (event.Read data_file.generation count) tt, λ r fine. accepted r _ _ tt (closing_all (data_file ∷ call ∷ []) _ tt))
+      tried (conversation_of h data_file) (event.Read data_file.generation count) (closes_all h (data_file ∷ call ∷ []) (Ends (hearing heard names)))
+      (Ends (bind data_name data_file (bind call_name call (hearing heard names)))) tt
+      (closing_both call data_file (Ends (hearing heard names)) tt)
+      tt
 
   answered_so : (names : Names) (text : List ℕ) (data_file : Fid) → IsNamed h P call_name → Good (answers h names text data_file)
   answered_so names text data_file named =
       (fits.other (conversation_of h data_file) (event.Write data_file.generation text) tt, λ r fine.
       (fits.other (conversation_of h data_file) (event.Close data_file.generation) tt, λ s fine.
-      bound call_name (unbind data_name names) _ named (λ call. ending _ _ (unbind call_name (unbind data_name names)) (fits.other (conversation_of h call) (event.Close call.generation) tt))))
+      bound call_name (unbind data_name names)
+      (λ (call : Fid). ends_with (conversation_of h call) (event.Close call.generation) (unbind call_name (unbind data_name names)))
+      named
+      (λ call. ending (conversation_of h call) (event.Close call.generation) (unbind call_name (unbind data_name names)) (fits.other (conversation_of h call) (event.Close call.generation) tt))))
 
   leaving : (call data_file : Fid) (refused next : Play) → Good refused → Good next → Good (leaves_call h call data_file refused next)
-  leaving call data_file refused next f g = closing data_file _ _ (closing_all (call ∷ []) refused f) (closing call refused next f g)
+  leaving call data_file refused next f g =
+      closing data_file (closes_all h (call ∷ []) refused) (closes h call refused next) (closing_all (call ∷ []) refused f) (closing call refused next f g)
 
   answering : (call data_file : Fid) (answer : Option (List ℕ)) (refused next : Play) → Good refused → Good next → Good (answers_call h call data_file answer refused next)
   answering call data_file None refused next f g = leaving call data_file refused next f g
   answering call data_file (Some text) refused next f g =
-      (fits.other (conversation_of h data_file) (event.Write data_file.generation text) tt, λ r fine.
-      accepted r _ _ (leaving call data_file refused next f g) (closing_all (data_file ∷ call ∷ []) refused f))
+      tried (conversation_of h data_file) (event.Write data_file.generation text) (closes_all h (data_file ∷ call ∷ []) refused)
+      (leaves_call h call data_file refused next) tt
+      (closing_both call data_file refused f)
+      (leaving call data_file refused next f g)
+
+  served_by : (names : Names) (call data_file : Fid) (next : Play) (r : Reply) → Good next
+      → Good (if_accepted r (answers_call h call data_file (dns_answer names.zone (bytes_in r)) (Ends names) next) (closes_all h (data_file ∷ call ∷ []) (Ends names)))
+  served_by names call data_file next r g =
+      accepted r (answers_call h call data_file (dns_answer names.zone (bytes_in r)) (Ends names) next) (closes_all h (data_file ∷ call ∷ []) (Ends names))
+      (answering call data_file (dns_answer names.zone (bytes_in r)) (Ends names) next tt g)
+      (closing_both call data_file (Ends names) tt)
 
   serving_one : (called : List ℕ) (names : Names) (next : Play) → IsNamed h P called → Each (λ (name : List ℕ). IsNamed h P name) call_names → Good next → Good (serves_call h called names next)
   serving_one called names next named all g =
-      calling called names _ named all (λ call data_file remote local.
-      (fits.other (conversation_of h data_file) (event.Read data_file.generation 8192) tt, λ r fine.
-      accepted r _ _ (answering call data_file (dns_answer names.zone (bytes_in r)) (Ends names) next tt g) (closing_all (data_file ∷ call ∷ []) (Ends names) tt)))
+      calling called names
+      (λ (call data_file : Fid) (remote local : Addr).
+      Asks (conversation_of h data_file) (event.Read data_file.generation 8192) (λ (r : Reply).
+      if_accepted r (answers_call h call data_file (dns_answer names.zone (bytes_in r)) (Ends names) next) (closes_all h (data_file ∷ call ∷ []) (Ends names))))
+      named all
+      (λ call data_file remote local. (fits.other (conversation_of h data_file) (event.Read data_file.generation 8192) tt, λ r fine. served_by names call data_file next r g))
 
   serving : (called : List ℕ) (names : Names) (more : ℕ) → IsNamed h P called → Each (λ (name : List ℕ). IsNamed h P name) call_names → Good (serves h called names more)
   serving called names zero named all = serving_one called names (Ends names) named all tt
@@ -297,10 +345,17 @@ module _ (h : ℕ) (P : ActorName → Event → Type 0) (R : Reply → Type 0) (
       writable called names _ says (λ f. put f f.file (codes "hangup") (Ends names) _ tt (ending _ _ (unbind called names) (fits.other (conversation_of h f) (event.Close f.generation) tt)))
   played names (step.Hangup called) says = writable called names _ says (λ f. put f f.file (codes "hangup") (Ends names) (Ends names) tt tt)
   played names (step.Hread called count) says =
-      calling called names _ says.0 says.1 (λ call data_file remote local. heard_so names count call data_file (record { name = called; remote = remote; local = local }))
+      calling called names
+      (λ (call data_file : Fid) (remote local : Addr). hears h names count call data_file (record { name = called; remote = remote; local = local }))
+      says.0 says.1
+      (λ call data_file remote local. heard_so names count call data_file (record { name = called; remote = remote; local = local }))
   played names (step.Hwrite called bytes) says =
-      on_found (open_call called names) (uses h data_name names) _ (ending _ _ names says.1.0.0) (λ data_file.
-      either (is_answer bytes names.heard) _ _ (answered_so names (text_behind bytes) data_file says.1.1.0) (ending _ _ names says.1.0.1))
+      on_found (open_call called names) (uses h data_name names)
+      (λ (data_file : Fid). if is_answer bytes names.heard then answers h names (text_behind bytes) data_file else misuses h data_name names)
+      (ending _ _ names says.1.0.0)
+      (λ data_file.
+      either (is_answer bytes names.heard) (answers h names (text_behind bytes) data_file) (misuses h data_name names)
+      (answered_so names (text_behind bytes) data_file says.1.1.0) (ending _ _ names says.1.0.1))
   played names (step.Dns called times) says = serving called names (times - 1) says.0 says.1
 
   -- where a play stands

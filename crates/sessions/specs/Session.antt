@@ -8,7 +8,7 @@ use Rattle.net_base.specs.declared.world.World.{World}
 use Rattle.net_base.specs.Calm.{owes}
 use Rattle.net_base.specs.Net.{after as net_after}
 use Rattle.net_base.specs.Next.{own_replies}
-use Rattle.net_base.specs.Steps.{Names, play_of}
+use Rattle.net_base.specs.Steps.{Names, no_names, play_of}
 use Rattle.ninep_wire.specs.declared.request.Tmsg.{Tmsg}
 use Rattle.ninep_wire.specs.Messages.{r_bytes}
 use Rattle.sessions.specs.Answers.{Found, found_after, found_by, replied, said}
@@ -16,14 +16,15 @@ use Rattle.sessions.specs.Script.{IsScript, after, step_of}
 use Rattle.sessions.specs.Server.{Doing, Gives, Server, answers_to, doing_of}
 use Rattle.sessions.specs.Table.{Table, opening}
 
--- the fids, what was found in cs, and the names that the script has bound
+-- the fids, what was found in cs, and what the steps of the script have left
 pub record State : Type 0 where
   pub table : Table
   pub found : Found
   pub names : Names
 
+-- no message is a step that asks a database
 abbrev pub first : State
-first = record { table = opening; found = λ (n : ℕ). []; names = [] }
+first = record { table = opening; found = λ (n : ℕ). []; names = no_names [] }
 
 -- after a message without a step
 abbrev pub told : State → Tmsg → Doing State
