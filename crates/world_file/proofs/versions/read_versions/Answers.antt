@@ -7,7 +7,9 @@ use Rattle.world_file.proofs.Bundled.{At, at_first, at_next, front_lines, front_
 use Rattle.world_file.proofs.versions.read_versions.Goals as goal
 
 pub loop-place-init : goal.loop-place-init
-loop-place-init c = at_first c.args.text.now c.args.number
+loop-place-init c =
+    subst (λ (vs : List Version). At c.args.text.now c.args.number c.args.number 0 vs c.args.text.now) (sym c.new-versions.ensures)
+    (at_first c.args.text.now c.args.number)
 
 pub bundle_before-requires : goal.bundle_before-requires
 bundle_before-requires c = front_within c.loop-place.rest.now c.in-Some.place c.in-Some.lines c.in-Some.ensures.some
@@ -35,13 +37,13 @@ pub loop-place-preserved : goal.loop-place-preserved
 loop-place-preserved c =
     let l = c.loop-place in
     let bundle = c.in_ok-db.ensures.ok in
-    let moment = c.in_ok-moment_behind.ensures.ok in
+    let moment = c.in_ok-moment.ensures.ok in
     let good : bad_line (take (c.in-Some.place - 1) l.rest.now) ≡ None = subst (λ (xs : List ℕ). bad_line xs ≡ None) c.bundle_before.ensures bundle.0 in
     let read : c.in_ok-db.db ≡ database (lines_of (take (c.in-Some.place - 1) l.rest.now)) = bundle.1 ∙ ap (λ (xs : List ℕ). database (lines_of xs)) c.bundle_before.ensures in
-    subst (λ (vs : List Version). At c.args.text.now c.args.number (l.before + (c.in-Some.lines + 1)) c.in_ok-moment_behind.result vs c.cut_line.result.1.now) (sym c.in_ok-push.ensures.ok)
+    subst (λ (vs : List Version). At c.args.text.now c.args.number (l.before + (c.in-Some.lines + 1)) c.in_ok-moment.moment vs c.cut_line.result.1.now) (sym c.in_ok-push.ensures.ok)
     (at_next c.args.text.now c.args.number l.before l.moment l.versions l.rest.now l.invariant c.in-Some.place c.in-Some.lines c.in-Some.ensures.some good c.cut_line.result.0.now c.cut_line.result.1.now
     (subst (λ (xs : List ℕ). cuts_of xs ≡ record { line = c.cut_line.result.0.now; behind = c.cut_line.result.1.now } ∷ cuts_of c.cut_line.result.1.now) c.from.ensures c.cut_line.ensures.cut) c.in_ok-db.db
-    c.in_ok-moment_behind.result read moment.0 moment.1)
+    c.in_ok-moment.moment read moment.0 moment.1)
 
 pub loop-place-smaller : goal.loop-place-smaller
 loop-place-smaller c =
