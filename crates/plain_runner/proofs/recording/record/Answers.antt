@@ -40,5 +40,5 @@ step-requires-clause-ready c =
       has = ready_has r.world r.past c.args.number t r.comes.ready;
       small = c.histories_are_short.ensures.small r.world r.past t.actor r.comes.history.world r.comes.history.legal;
       ready = subst (λ (now : ℕ). is_some (actor_step r.world t.actor ((after r.world r.past).actors t.actor) now t.work) ≡ true)
-      (sym r.comes.now_is) r.comes.ready.ready;
+          (sym r.comes.now_is) r.comes.ready.ready;
     }
