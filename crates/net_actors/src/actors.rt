@@ -52,7 +52,7 @@ impl Actors {
     ) -> Result<Actors, AllocError>
         requires is { IsWorld world.now }
         requires dbs { arc_value dbs.now ≡ world.now.dbs }
-        ensures { IfOk result (λ actors. AreActors world.now actors opening_actor) }
+        ensures { IfOk result (λ actors. AreActors world.now actors (opening_actor world.now.timers)) }
     {
         let hosts = world.hosts.len() as u32;
         let media = world.media.len() as u32;
