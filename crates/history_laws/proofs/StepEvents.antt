@@ -229,7 +229,7 @@ module _ (h : ℕ) (P : ActorName → Event → Type 0) (R : Reply → Type 0) (
   closing_all [] next f = f
   closing_all (x ∷ xs) next f = (fits.other (conversation_of h x) (event.Close x.generation) tt, λ r fine. closing_all xs next f)
 
-  -- the plays of two open files that are left and of one that is answered
+  -- the two files of a call are closed
   closing_both : (call data_file : Fid) (next : Play) → Good next → Good (closes_all h (data_file ∷ call ∷ []) next)
   closing_both call data_file next f = closing_all (data_file ∷ call ∷ []) next f
 
