@@ -38,8 +38,7 @@ def asking(queries):
 def pairs(crossed):
     """A world of PAIRS pairs of hosts, each pair on a medium of its own; each end writes MESSAGES messages in turn.
 
-    All callers come before all listeners, and so PAIRS workers have a pair each; crossed, each caller before its listener,
-    and so the ends of a pair go to two workers.
+    All callers come before all listeners; crossed, each caller before its listener, which is to make no difference.
     """
     head = "networld 1\nend 1000000000\nseed 3\n"
     media = "".join(f"medium ether{p} 1500\n" for p in range(PAIRS))

@@ -6,7 +6,7 @@ use Rattle.net_base.specs.Legal.{IsLegal, IsTimed}
 use Rattle.host_net.specs.Advancing.{IsHistoryOf}
 use Rattle.host_net.specs.Answering.{AreAfter}
 use Rattle.host_net.specs.Playing.{ArePlayed}
-use Rattle.host_net.specs.Visits.{Finished, Visit}
+use Rattle.net_guests.specs.Visits.{Finished, Visit}
 
 module _ (w : World) (vs : List Visit) (h : List Entry) (finished : Finished w vs h) (plays : ArePlayed w vs) where
   pub closed_legal : IsLegal w h

@@ -1,6 +1,6 @@
 -- Guests get their players one after the other.
 use Rattle.std.proofs.Common.{◌≡◌, ℕ, ◌+◌, List, ◌∷◌, length, refl, sym, ap, subst, arith}
-use Rattle.host_net.specs.Visits.{AreFresh, IsFresh, Visit}
+use Rattle.net_guests.specs.Visits.{AreFresh, IsFresh, Visit}
 
 -- The first n guests have players. These are left: those of the callers from n on.
 pub record Dealing (total n : ℕ) (left : List Visit) (len : ℕ) : Type 0 where

@@ -1,1 +1,2 @@
 pub mod Ending
+pub use Rattle.run_record.specs.Ends

@@ -1,20 +1,22 @@
 //! What a run leaves.
 
+use journal::ClosedBooks;
 use net_base::History;
+use run_record::RunEnd;
 use std::alloc::AllocError;
-
-/// How a run ends.
-#[derive(Clone, Copy, Debug, PartialEq, Eq)]
-pub enum RunEnd {
-    Done,
-    Stopped,
-    Limit,
-}
 
 /// A history, how many steps of its scripts are answered, and how it ends.
 #[derive(Debug, Drop)]
 pub struct Run {
     pub history: History,
+    pub answered: u128,
+    pub end: RunEnd,
+}
+
+/// The same with the history in the books.
+#[derive(Debug, Drop)]
+pub struct BookedRun {
+    pub books: ClosedBooks,
     pub answered: u128,
     pub end: RunEnd,
 }

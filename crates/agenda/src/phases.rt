@@ -10,16 +10,19 @@ ghost use Rattle.net_model.specs.Headline.{Headline};
 ghost use Rattle.whole_script.specs.ScriptTasks.{Plays};
 ghost use Rattle.host_net.specs.Groups.{all_members, visits};
 ghost use Rattle.net_locks.specs.Rosters.{IsRosterOf};
-ghost use Rattle.host_net.specs.Visits.{AreFresh};
-ghost use Rattle.agenda.specs.Ending.{EndAllSo, EndsSo};
+ghost use Rattle.net_guests.specs.Visits.{AreFresh};
+ghost use Rattle.run_record.specs.Ends.{EndsSo};
+ghost use Rattle.agenda.specs.Ending.{EndAllSo};
 
-use crate::outcome::{Run, RunEnd, RunError};
+use crate::deal::{Deal, deal_of};
+use crate::outcome::{BookedRun, Run, RunError};
 use actor_machines::{Placing, WorldActor};
 use host_net::{Advance, Guest, Net, NetOpened, Player, Players};
 use journal::Naming;
 use net_base::World;
 use net_model::legal_histories_keep_it;
 use outside::Gate;
+use run_record::RunEnd;
 use std::alloc::{AllocError, Global};
 use std::marker::Brand;
 use std::sync::Wait;
@@ -43,6 +46,36 @@ pub fn run<R: Threads + Wait + Sync, G: Gate + Sync>(
     ensures end { IfOk result (λ run. EndsSo world.now (after world.now run.history) run.end) }
     ensures headline { IfOk result (λ run. Headline world.now run.history) }
 {
+    let BookedRun {
+        books,
+        answered,
+        end,
+    } = run_in_books(rt, alloc, world, workers, gate)?;
+    let history = books.into_history(alloc)?;
+    Ok(Run {
+        history,
+        answered,
+        end,
+    })
+}
+
+/// The same, with each entry where its actor's book has it.
+pub fn run_in_books<R: Threads + Wait + Sync, G: Gate + Sync>(
+    rt: &R,
+    alloc: Global,
+    world: &World,
+    workers: u32,
+    gate: &G,
+) -> Result<BookedRun, RunError>
+    requires world { IsWorld world.now }
+    requires some { 0 < workers }
+    requires few { workers ≤ 16 }
+    ensures legal { IfOk result (λ run. IsLegal world.now run.books) }
+    ensures timed { IfOk result (λ run. IsTimed world.now run.books) }
+    ensures answered { IfOk result (λ run. run.answered ≡ answered_steps world.now run.books) }
+    ensures end { IfOk result (λ run. EndsSo world.now (after world.now run.books) run.end) }
+    ensures headline { IfOk result (λ run. Headline world.now run.books) }
+{
     let opened = NetOpened::new(alloc, world)?;
     Ok(run_named::<Brand, R, G>(rt, alloc, world, workers, gate, opened)?)
 }
@@ -55,49 +88,51 @@ fn run_named<J: Naming + Placing + Send + Sync, R: Threads + Wait + Sync, G: Gat
     workers: u32,
     gate: &G,
     opened: NetOpened,
-) -> Result<Run, AllocError>
+) -> Result<BookedRun, AllocError>
     requires name { opened ≡ J.run }
     requires world { J.world ≡ world.now }
     requires is { IsWorld world.now }
     requires roster { IsRosterOf J.world J.run.roster }
     requires some { 0 < workers }
-    ensures legal { IfOk result (λ run. IsLegal J.world run.history) }
-    ensures timed { IfOk result (λ run. IsTimed J.world run.history) }
-    ensures answered { IfOk result (λ run. run.answered ≡ answered_steps J.world run.history) }
-    ensures end { IfOk result (λ run. EndsSo J.world (after J.world run.history) run.end) }
-    ensures headline { IfOk result (λ run. Headline J.world run.history) }
+    ensures legal { IfOk result (λ run. IsLegal J.world run.books) }
+    ensures timed { IfOk result (λ run. IsTimed J.world run.books) }
+    ensures answered { IfOk result (λ run. run.answered ≡ answered_steps J.world run.books) }
+    ensures end { IfOk result (λ run. EndsSo J.world (after J.world run.books) run.end) }
+    ensures headline { IfOk result (λ run. Headline J.world run.books) }
 {
     legal_histories_keep_it();
     let (net, guests) = Net::<J, WorldActor<J>>::named(alloc, world, opened)?;
-    let mut players = players_of(alloc, world, guests, workers)?;
+    let deal = deal_of(rt, alloc, world, workers)?;
+    let mut players = players_of(alloc, world, guests, deal)?;
     let end = phases(rt, alloc, world, gate, &net, &mut players)?;
     let Some(answered) = players.answered(world) else {
         return Err(AllocError);
     };
     let played = players.into_guests(alloc)?;
-    let history = net.finish(alloc, played)?;
-    Ok(Run {
-        history,
+    let books = net.finish_in_books(alloc, played)?;
+    Ok(BookedRun {
+        books,
         answered,
         end,
     })
 }
 
-// A player for each guest, in so many groups.
+// A player for each guest, in its group.
 fn players_of<'a, J: Naming + Placing>(
     alloc: Global,
     world: &'a World,
     guests: Vec<Guest<J>>,
-    workers: u32,
+    deal: Deal,
 ) -> Result<Players<J, ScriptTask<'a>>, AllocError>
     requires world { J.world ≡ world.now }
     requires is { IsWorld world.now }
     requires roster { IsRosterOf J.world J.run.roster }
-    requires some { 0 < workers }
+    requires some { 0 < deal.groups }
     requires fresh { AreFresh 0 guests.items }
     ensures { IfOk result (λ players. players.callers ≡ length guests.items) }
 {
-    let mut players = Players::new(alloc, workers)?;
+    let Deal { groups, numbers } = deal;
+    let mut players = Players::new(alloc, groups, numbers)?;
     for guest in guests {
         let task = task_of(world, guest.caller());
         players.add(Player::counting(world, guest, task))?;

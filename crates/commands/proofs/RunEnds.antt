@@ -1,16 +1,16 @@
 -- A run ends in one way, and so has one status.
-use Rattle.std.proofs.Common.{◌≡◌, ◌==◌, ◌&&◌, not, Bool, true, false, refl, sym, inl, inr, arith}
+use Rattle.std.proofs.Common.{◌≡◌, ◌==◌, ◌&&◌, not, Some, Bool, true, false, refl, sym, inl, inr, arith}
 use Rattle.std.proofs.lemmas.Bool.{and_parts, true≢false}
 use Rattle.net_base.specs.declared.world.World.{World}
 use Rattle.net_base.specs.Calm.{calm, unfinished, limited, done, stopped}
 use Rattle.net_base.specs.Net.{Net}
 use Rattle.net_base.specs.Summary.{end_word}
-use Rattle.agenda.specs.Ending.{EndsSo}
-use Rattle.agenda.specs.declared.outcome.RunEnd.{RunEnd}
-use Rattle.agenda.specs.declared.outcome.RunEnd.TheVariants as ended
+use Rattle.run_record.specs.Ends.{EndsSo}
+use Rattle.run_record.specs.declared.end.RunEnd.{RunEnd}
+use Rattle.run_record.specs.declared.end.RunEnd.TheVariants as ended
 use Rattle.transcript.specs.RunStatus.{word_of}
 use Rattle.commands.specs.Built.{IsStatus}
-use Rattle.commands.specs.Runs.{end_of, status_of}
+use Rattle.commands.specs.Runs.{status_of}
 
 not_both : (b : Bool) → b ≡ true → not b ≡ true → ⊥
 not_both true is not_so = true≢false (sym not_so)
@@ -63,7 +63,7 @@ module _ (w : World) (net : Net) where
   is_false false no_ = refl
 
   -- the word of how a run ended
-  pub word_is : (end : RunEnd) → EndsSo w net end → word_of (end_of end) ≡ end_word w net
+  pub word_is : (end : RunEnd) → EndsSo w net end → word_of (Some end) ≡ end_word w net
   word_is ended.Done so = rw so refl
   word_is ended.Stopped so = rw (is_false (done w net) (λ is. done_or_stopped is so), so) refl
   word_is ended.Limit so =

@@ -9,17 +9,18 @@ ghost use Rattle.net_base.specs.Summary.{answered_steps, summary};
 ghost use Rattle.net_base.specs.Transcript.{history_text};
 ghost use Rattle.net_base.specs.World.{IsWorld};
 ghost use Rattle.commands.specs.Built.{IsRun, IsSummed};
-ghost use Rattle.commands.specs.Runs.{end_of, status_of};
-ghost use Rattle.agenda.specs.Ending.{EndsSo};
+ghost use Rattle.commands.specs.Runs.{status_of};
+ghost use Rattle.run_record.specs.Ends.{EndsSo};
 
-use agenda::{Run, RunEnd};
+use agenda::{BookedRun, RunEnd};
 use cs_resolver::CsError;
-use net_base::{History, Lines, Octets, World};
+use journal::ClosedBooks;
+use net_base::{Lines, Octets, World};
 use net_model::{legal_histories_are_plain, legal_histories_keep_it};
 use std::alloc::{AllocError, Global};
 use std::marker::Model;
 use std::thread::Threads;
-use transcript::{End, RunStatus, printed_runs_tell, summary_by, text_by};
+use transcript::{RunStatus, printed_runs_tell, summary_by, text_by};
 
 /// The words give no command.
 pub const USAGE: &str = "! usage\n";
@@ -129,27 +130,27 @@ impl Answer {
         alloc: Global,
         workers: u32,
         world: &World,
-        run: &Run,
+        run: &BookedRun,
     ) -> Result<Answer, AllocError>
         requires world { IsWorld world.now }
-        requires legal { IsLegal world.now run.now.history }
-        requires timed { IsTimed world.now run.now.history }
-        requires answered { run.now.answered ≡ answered_steps world.now run.now.history }
-        requires end { EndsSo world.now (after world.now run.now.history) run.now.end }
+        requires legal { IsLegal world.now run.now.books }
+        requires timed { IsTimed world.now run.now.books }
+        requires answered { run.now.answered ≡ answered_steps world.now run.now.books }
+        requires end { EndsSo world.now (after world.now run.now.books) run.now.end }
         ensures { IfOk result (λ answer. IsRun world.now answer) }
     {
         let lines = summary_of_run(alloc, world, run)?;
-        let text = text_by(rt, alloc, workers, &run.history)?;
-        Answer::of_history(world, &run.history, text, &lines, run.end)
+        let text = text_by(rt, alloc, workers, &run.books)?;
+        Answer::of_books(world, &run.books, text, &lines, run.end)
     }
 
     /// The summary of a run alone.
-    pub fn big(alloc: Global, world: &World, run: &Run) -> Result<Answer, AllocError>
+    pub fn big(alloc: Global, world: &World, run: &BookedRun) -> Result<Answer, AllocError>
         requires world { IsWorld world.now }
-        requires legal { IsLegal world.now run.now.history }
-        requires timed { IsTimed world.now run.now.history }
-        requires answered { run.now.answered ≡ answered_steps world.now run.now.history }
-        requires end { EndsSo world.now (after world.now run.now.history) run.now.end }
+        requires legal { IsLegal world.now run.now.books }
+        requires timed { IsTimed world.now run.now.books }
+        requires answered { run.now.answered ≡ answered_steps world.now run.now.books }
+        requires end { EndsSo world.now (after world.now run.now.books) run.now.end }
         ensures { IfOk result (λ answer. IsSummed world.now answer) }
     {
         legal_histories_keep_it();
@@ -161,19 +162,19 @@ impl Answer {
     }
 
     // The text of a history with the lines of its summary.
-    fn of_history(
+    fn of_books(
         world: &World,
-        history: &History,
+        books: &ClosedBooks,
         mut text: Octets,
         lines: &Octets,
         end: RunEnd,
     ) -> Result<Answer, AllocError>
         requires world { IsWorld world.now }
-        requires legal { IsLegal world.now history.now }
-        requires timed { IsTimed world.now history.now }
-        requires text { text ≡ history_text history.now }
-        requires lines { lines.now ≡ summary world.now history.now }
-        requires end { EndsSo world.now (after world.now history.now) end }
+        requires legal { IsLegal world.now books.now }
+        requires timed { IsTimed world.now books.now }
+        requires text { text ≡ history_text books.now }
+        requires lines { lines.now ≡ summary world.now books.now }
+        requires end { EndsSo world.now (after world.now books.now) end }
         ensures { IfOk result (λ answer. IsRun world.now answer) }
     {
         legal_histories_keep_it();
@@ -214,28 +215,17 @@ fn text_of_lines(alloc: Global, lines: &Lines) -> Result<Octets, AllocError>
 }
 
 /// The summary of a run, by what it knows.
-fn summary_of_run(alloc: Global, world: &World, run: &Run) -> Result<Octets, AllocError>
-    requires legal { IsLegal world.now run.now.history }
-    requires answered { run.now.answered ≡ answered_steps world.now run.now.history }
-    requires end { EndsSo world.now (after world.now run.now.history) run.now.end }
-    ensures { IfOk result (λ text. text ≡ summary world.now run.now.history) }
+fn summary_of_run(alloc: Global, world: &World, run: &BookedRun) -> Result<Octets, AllocError>
+    requires legal { IsLegal world.now run.now.books }
+    requires answered { run.now.answered ≡ answered_steps world.now run.now.books }
+    requires end { EndsSo world.now (after world.now run.now.books) run.now.end }
+    ensures { IfOk result (λ text. text ≡ summary world.now run.now.books) }
 {
     let status = RunStatus {
         answered: run.answered,
-        end: told_end(run.end),
+        end: Some(run.end),
     };
-    summary_by(alloc, world, &run.history, status)
-}
-
-/// The end that a summary tells.
-fn told_end(end: RunEnd) -> End
-    ensures { result ≡ end_of end }
-{
-    match end {
-        RunEnd::Done => End::Done,
-        RunEnd::Stopped => End::Stopped,
-        RunEnd::Limit => End::Limit,
-    }
+    summary_by(alloc, world, &run.books, status)
 }
 
 /// The status by how a run ends.

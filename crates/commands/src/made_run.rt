@@ -1,13 +1,16 @@
 //! The command `big`.
 ghost use Rattle.std.specs.Prelude.{[], IfOk};
 ghost use Rattle.net_model.specs.Words.{Big};
-ghost use Rattle.commands.specs.Built.{IsAnswer};
+ghost use Rattle.net_base.specs.World.{IsWorld};
+ghost use Rattle.commands.specs.Built.{IsAnswer, IsSummed};
 
 use crate::answer::Answer;
 use agenda::RunError;
 use made_world::make_world;
+use net_base::World;
 use outside::Gate;
 use std::alloc::{AllocError, Global};
+use std::mem;
 use std::sync::Wait;
 use std::thread::Threads;
 
@@ -24,8 +27,29 @@ pub fn big<R: Threads + Wait + Sync, G: Gate + Sync>(
     ensures { IfOk result (λ answer. IsAnswer (Big messages) [] answer) }
 {
     let world = make_world(alloc, messages)?;
-    match agenda::run(rt, alloc, &world, WORKERS, gate) {
-        Ok(run) => Answer::big(alloc, &world, &run),
+    let answer = run_made(rt, alloc, &world, gate);
+    // the program ends behind its one answer, and gives back all memory at once
+    mem::forget(world);
+    answer
+}
+
+/// The summary of a run of a world.
+fn run_made<R: Threads + Wait + Sync, G: Gate + Sync>(
+    rt: &R,
+    alloc: Global,
+    world: &World,
+    gate: &G,
+) -> Result<Answer, AllocError>
+    requires { IsWorld world.now }
+    ensures { IfOk result (λ answer. IsSummed world.now answer) }
+{
+    match agenda::run_in_books(rt, alloc, world, WORKERS, gate) {
+        Ok(run) => {
+            let answer = Answer::big(alloc, world, &run);
+            // the same as above
+            mem::forget(run);
+            answer
+        }
         Err(RunError::Memory) => Err(AllocError),
     }
 }

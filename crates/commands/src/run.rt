@@ -52,7 +52,7 @@ fn run_world<R: Threads + Wait + Sync, G: Gate + Sync>(
     requires few { workers ≤ 16 }
     ensures { IfOk result (λ answer. IsRun world.now answer) }
 {
-    match agenda::run(rt, alloc, world, workers, gate) {
+    match agenda::run_in_books(rt, alloc, world, workers, gate) {
         Ok(run) => {
             let answer = Answer::run(rt, alloc, workers, world, &run);
             // the same as above

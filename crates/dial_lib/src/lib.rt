@@ -18,5 +18,5 @@ pub use beside::{Accept, Listen};
 pub use dial::{Dial, DialPhase};
 pub use one_request::OneRequest;
 pub use reject::{Reject, RejectPhase};
-pub use step::StepTask;
+pub use step::{StepTask, ends_by, first_request};
 pub use write_text::{WritePhase, WriteText};

@@ -1,5 +1,5 @@
 //! The task of a step.
-ghost use Rattle.std.specs.Prelude.{◌≡◌, ℕ, List, IfOk, codes, if◌then◌else◌};
+ghost use Rattle.std.specs.Prelude.{◌≡◌, ℕ, List, None, IfOk, true, codes, if◌then◌else◌};
 ghost use Rattle.net_base.specs.Paths as paths;
 ghost use Rattle.net_base.specs.Steps as steps;
 ghost use Rattle.net_base.specs.Steps.{Bound};
@@ -13,6 +13,7 @@ use crate::beside::{Accept, Listen};
 use crate::dial::Dial;
 use crate::one_request::OneRequest;
 use crate::reject::Reject;
+use crate::reply::is_granted;
 use crate::write_text::WriteText;
 use net_base::{FileName, Mode, Node, Octets, Reply, Step};
 use net_tree::{Fids, walk};
@@ -99,7 +100,7 @@ fn begin(alloc: Global, step: &Step) -> Result<StepTask, AllocError>
     ensures { IfOk result (λ t. t ≡ spec.begun step.now) }
 {
     match step {
-        Step::Open { name, path, mode } => open(name, path, *mode),
+        Step::Open { name, path, mode } => Ok(once(open(name, path, *mode)?)),
         Step::Read { name, count } => Ok(once(Request::Read {
             name: name.clone()?,
             count: *count,
@@ -141,6 +142,45 @@ fn begin(alloc: Global, step: &Step) -> Result<StepTask, AllocError>
     }
 }
 
+/// What a step that has recorded nothing asks. Where its first request is in the step itself, no task is made for it.
+pub fn first_request(alloc: Global, fids: &Fids, step: &Step) -> Result<Option<Request>, AllocError>
+    ensures { IfOk result (λ q. q ≡ spec.asks (spec.begun step.now) fids.now.names) }
+{
+    match step {
+        Step::Open { name, path, mode } => Ok(Some(open(name, path, *mode)?)),
+        Step::Read { name, count } => Ok(Some(Request::Read {
+            name: name.clone()?,
+            count: *count,
+        })),
+        Step::Write { name, text } => Ok(Some(Request::Write {
+            name: name.clone()?,
+            text: text.clone()?,
+        })),
+        Step::Writex { name, text } => Ok(Some(Request::Write {
+            name: name.clone()?,
+            text: text.clone()?,
+        })),
+        Step::Until { moment } => Ok(Some(Request::Until { moment: *moment })),
+        _ => begin(alloc, step)?.next(alloc, fids),
+    }
+}
+
+/// Whether a step that has recorded nothing is seen, without its task, to be through after this reply.
+pub fn ends_by(step: &Step, reply: &Reply) -> bool
+    ensures { result ≡ true → (names : List Bound) → spec.asks (spec.after (spec.begun step.now) reply.now) names ≡ None }
+{
+    match step {
+        Step::Open { .. }
+        | Step::Read { .. }
+        | Step::Close { .. }
+        | Step::Ls { .. }
+        | Step::Cs { .. }
+        | Step::Until { .. } => true,
+        Step::Write { .. } | Step::Writex { .. } | Step::Hangup { .. } => !is_granted(reply),
+        _ => false,
+    }
+}
+
 // A step of one request.
 fn once(request: Request) -> StepTask
     ensures { result ≡ spec.asks_once request }
@@ -149,18 +189,18 @@ fn once(request: Request) -> StepTask
 }
 
 // Opens a path, in its own mode where the step names none.
-fn open(name: &Octets, path: &Octets, mode: Option<Mode>) -> Result<StepTask, AllocError>
-    ensures { IfOk result (λ t. t ≡ spec.begun (step.Open name.now path.now mode)) }
+fn open(name: &Octets, path: &Octets, mode: Option<Mode>) -> Result<Request, AllocError>
+    ensures { IfOk result (λ q. spec.begun (step.Open name.now path.now mode) ≡ spec.asks_once q) }
 {
     let mode = match mode {
         Some(mode) => mode,
         None => default_mode(path.as_slice()),
     };
-    Ok(once(Request::Open {
+    Ok(Request::Open {
         name: name.clone()?,
         path: path.clone()?,
         mode,
-    }))
+    })
 }
 
 // The mode of an open that names none.

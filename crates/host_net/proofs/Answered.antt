@@ -1,5 +1,5 @@
 -- How many steps of the scripts are answered.
-use Rattle.std.proofs.Common.{◌≡◌, ℕ, zero, suc, ◌+◌, ◌-◌, ◌<◌, ◌≤◌, ◌≢◌, ◌%◌, ◌==◌, ◌⊎◌, inl, inr, Bool, true, false, not, List, [], ◌∷◌}
+use Rattle.std.proofs.Common.{◌≡◌, ℕ, zero, suc, ◌+◌, ◌-◌, ◌<◌, ◌≤◌, ◌≢◌, ◌==◌, ◌⊎◌, inl, inr, Bool, true, false, not, List, [], ◌∷◌}
 use Rattle.std.proofs.Common.{◌++◌, length, drop, filter, map, take, Option, Some, None, IfNone, IfSome, is_none, nat_lt, slice_get}
 use Rattle.std.proofs.Common.{slice_index_or, sum_by, get_or, if◌then◌else◌, zero-add, refl, ap, sym, subst, ◌∙◌, arith}
 use Rattle.std.specs.List.{enumerate_from}
@@ -22,18 +22,18 @@ use Rattle.net_base.specs.Stamped.{In, entries_from, of_caller}
 use Rattle.net_base.specs.Steps.{Bound}
 use Rattle.net_base.specs.Summary.{answered_by, answered_steps}
 use Rattle.guest_laws.specs.Works.{entries}
-use Rattle.host_net.proofs.Handing.{apart_test, in_back, in_front}
+use Rattle.net_guests.proofs.Handing.{apart_test, in_back, in_front}
 use Rattle.host_net.proofs.Histories.{lists_are}
 use Rattle.host_net.proofs.Joining.{get_index}
-use Rattle.host_net.proofs.Passes.{last_or}
+use Rattle.net_guests.proofs.Passes.{last_or}
 use Rattle.host_net.proofs.Seating.{get_seats, in_parts, seats_long}
 use Rattle.host_net.proofs.Standings.{no_script, seats_in}
 use Rattle.host_net.proofs.Taking.{not_itself, visit_in, with_front}
 use Rattle.host_net.specs.Answering.{AreAfter, CannotTell, CannotTellOf, CanTell, IsAnswered, IsAnsweredOf}
-use Rattle.host_net.specs.Groups.{Grouped, IsDealt, NotIn, Seats, all_callers, all_members, all_seats, caller, callers_in, callers_of}
-use Rattle.host_net.specs.Groups.{members, seats, visits, with_last}
+use Rattle.host_net.specs.Groups.{Follows, Grouped, IsDealt, NotIn, Seats, all_callers, all_members, all_seats, caller, callers_in, callers_of}
+use Rattle.host_net.specs.Groups.{members, seat_of, seats, visits, with_last}
 use Rattle.host_net.specs.Playing.{IsCounted, Playing, replies_of}
-use Rattle.host_net.specs.Visits.{Visit}
+use Rattle.net_guests.specs.Visits.{Visit}
 
 -- One player.
 
@@ -206,11 +206,12 @@ module _ {T : Type 0} where
   some_one c ps i le none there = not_itself c (callers_of ps) (subst (λ (l : List (Playing T)). NotIn c (callers_of l)) (take_all i ps le) none) there
 
   -- the player of a script is one of its group
-  pub script_here : (w : World) (n : ℕ) (gs : List (Grouped T)) → IsDealt w n (all_seats gs) → (c : ℕ) (s : Script) → c < n → caller_of w c ≡ IsScript s
-      → (k : ℕ) (g : Grouped T) → slice_get gs k ≡ Some g → k ≡ c % length gs → In c (callers_of g.players)
-  script_here w n gs dealt c s lt script k g there is =
+  pub script_here : (w : World) (n : ℕ) (gs : List (Grouped T)) → IsDealt w n (all_seats gs) → (deal : List ℕ) → Follows deal (all_seats gs)
+      → (c : ℕ) (s : Script) → c < n → caller_of w c ≡ IsScript s
+      → (k : ℕ) (g : Grouped T) → slice_get gs k ≡ Some g → k ≡ seat_of deal c (length gs) → In c (callers_of g.players)
+  script_here w n gs dealt deal follows c s lt script k g there is =
       let placed = place_of (all_seats gs) c (dealt.callers.all c lt) in
-      let at_k : placed.0 ≡ k = sym (dealt.places placed.0 placed.1 c placed.2 placed.3) ∙ (ap (λ (m : ℕ). c % m) (seats_long gs) ∙ sym is) in
+      let at_k : placed.0 ≡ k = sym (follows placed.0 placed.1 c placed.2 placed.3) ∙ (ap (seat_of deal c) (seats_long gs) ∙ sym is) in
       let these : seats g ≡ placed.1 = same_Some (seats g) placed.1 (sym (get_seats gs k g there) ∙ (ap (slice_get (all_seats gs)) (sym at_k) ∙ placed.2)) in
       by_clock g.clock (dealt.seated (seats g) (seats_in gs k g there)).clock_is (subst (λ (x : Seats). In c (callers_in x)) (sym these) placed.3)
     where
@@ -246,6 +247,3 @@ module _ {T : Type 0} where
       → IfNone o (CannotTellOf c (all_members gs))
   none_in c gs k g p None there among is cannot = (p, group_in gs k g p there among, is, cannot)
   none_in c gs k g p (Some n) there among is cannot = tt
-
-  pub some_groups : (w : World) (n : ℕ) (gs : List (Grouped T)) → IsDealt w n (all_seats gs) → 0 < length gs
-  some_groups w n gs dealt = subst (λ (k : ℕ). 0 < k) (seats_long gs) dealt.some

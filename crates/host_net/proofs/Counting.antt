@@ -23,7 +23,7 @@ use Rattle.host_net.specs.declared.player.Role.TheVariants as role
 use Rattle.net_locks.specs.declared.turn.Turn.{Turn}
 use Rattle.net_locks.specs.declared.turn.Turn.TheVariants as turn
 use Rattle.host_net.specs.Playing.{Counts, HasRole, Heard, IsCounted, Told, before_last, replies_of}
-use Rattle.host_net.specs.Visits.{Asked, IsFresh, IsSame, Operated, Visit}
+use Rattle.net_guests.specs.Visits.{Asked, IsFresh, IsSame, Operated, Visit}
 use Rattle.net_locks.specs.Turns.{bare}
 use Rattle.host_net.proofs.Continuing.{FitWorks, KeepsActors, fits_there, own_reply, own_stays}
 use Rattle.host_net.proofs.Keeping.{is_script}

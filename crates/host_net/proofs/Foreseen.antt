@@ -13,7 +13,7 @@ use Rattle.script_task.specs.Rest.{Continues}
 use Rattle.script_task.specs.Task.{AsksSo, Heads}
 use Rattle.guest_laws.specs.Works.{entries}
 use Rattle.host_net.specs.Playing.{GoesOn}
-use Rattle.host_net.specs.Visits.{Visit}
+use Rattle.net_guests.specs.Visits.{Visit}
 
 next_is_head : (w : World) (v : Visit) (s : Script) (p : Play) → caller_of w v.caller ≡ IsScript s
     → Continues s (own_replies (entries v.sight.seen) v.caller) p → next w (entries v.sight.seen) v.caller ≡ head p

@@ -10,7 +10,7 @@ use Rattle.net_base.specs.declared.world.World.{World}
 use Rattle.net_base.specs.Callers.{Caller, IsClock, IsCourier, IsNobody, IsScript, clock_number, first_courier, other_caller}
 use Rattle.net_base.specs.Stamped.{In}
 use Rattle.journal.specs.Rule.{Held, caller_numbers, same_number}
-use Rattle.host_net.specs.Visits.{AreFresh, IsFresh, Visit}
+use Rattle.net_guests.specs.Visits.{AreFresh, IsFresh, Visit}
 
 in_filter : (test : Held → Bool) (h : Held) (hs : List Held) → In h hs → test h ≡ true → In h (filter test hs)
 in_filter test h [] none is = absurd none

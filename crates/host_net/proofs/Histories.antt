@@ -14,7 +14,7 @@ use Rattle.guest_laws.specs.Guests.{IsOfGuests}
 use Rattle.guest_laws.specs.Own.{IsLegalButScripts}
 use Rattle.guest_laws.specs.Works.{entries, noted_net}
 use Rattle.host_net.specs.Advancing.{AfterAll, IsHistoryOf}
-use Rattle.host_net.specs.Visits.{HasGuest, Visit}
+use Rattle.net_guests.specs.Visits.{HasGuest, Visit}
 use Rattle.net_locks.specs.Turns.{own}
 
 lists_from : (c n : ℕ) (log : List Noted) → entries_from (number.Caller c) n (entries log) ≡ map plain (at_from (number.Caller c) n log)

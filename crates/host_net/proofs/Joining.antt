@@ -1,14 +1,15 @@
 -- The next caller's player joins its group.
-use Rattle.std.proofs.Common.{◌≡◌, ℕ, zero, suc, ◌+◌, ◌<◌, ◌%◌, Result, Ok, Err, OnErr, List, [], ◌∷◌, ◌++◌, append_assoc, length, Option}
+use Rattle.std.proofs.Common.{◌≡◌, ℕ, zero, suc, ◌+◌, ◌<◌, Result, Ok, Err, OnErr, List, [], ◌∷◌, ◌++◌, append_assoc, length, Option}
 use Rattle.std.proofs.Common.{None, Some, ◌⊎◌, inl, inr, slice_get, slice_set, slice_index_or, take, drop, refl, ap, sym, subst, ◌∙◌, arith}
 use Rattle.net_base.specs.declared.world.World.{World}
 use Rattle.host_net.specs.declared.player.Role.{Role}
 use Rattle.host_net.specs.declared.player.Role.TheVariants as role
-use Rattle.host_net.specs.Groups.{Grouped, Grouping, IsDealt, all_seats, caller, callers_of, joined, joined_as, joined_at, visits, with_last}
+use Rattle.host_net.specs.Groups.{Follows, Grouped, Grouping, IsDealt, all_seats, caller, callers_of, joined, joined_as, joined_at, seat_of, visits}
+use Rattle.host_net.specs.Groups.{with_last}
 use Rattle.host_net.specs.Playing.{HasRole, Playing}
 use Rattle.host_net.proofs.Naming.{one_clock}
-use Rattle.host_net.proofs.Seating.{alone_at, dealt_more, set_joined, visits_more}
-use Rattle.host_net.specs.Visits.{Visit}
+use Rattle.host_net.proofs.Seating.{alone_at, dealt_more, follows_more, set_joined, visits_more}
+use Rattle.net_guests.specs.Visits.{Visit}
 use Rattle.std.proofs.lemmas.List.{append-nil}
 
 pub get_index : {A : Type 0} (xs : List A) (k : ℕ) (d : A) → k < length xs → slice_get xs k ≡ Some (slice_index_or xs k d)
@@ -21,24 +22,30 @@ pub on_error : {A E : Type 0} (r : Result A E) (P : Type 0) → P → OnErr r P
 on_error (Ok x) P p = tt
 on_error (Err e) P p = p
 
-abbrev pub grouping : {T : Type 0} → List (Grouped T) → ℕ → Grouping T
-grouping gs n = record { groups = gs; callers = n }
+abbrev pub grouping : {T : Type 0} → List (Grouped T) → ℕ → List ℕ → Grouping T
+grouping gs n deal = record { groups = gs; callers = n; deal = deal }
+
+pub groups_set : {T : Type 0} (gs : List (Grouped T)) (k : ℕ) (d : Grouped T) (p : Playing T) (new : Grouped T) → new ≡ joined (slice_index_or gs k d) p
+    → slice_set gs k new ≡ joined_at k gs p
+groups_set gs k d p new joins = ap (slice_set gs k) joins ∙ set_joined gs k d p
 
 module _ {T : Type 0} (w : World) (n : ℕ) (gs : List (Grouped T)) (dealt : IsDealt w n (all_seats gs)) (p : Playing T) (next : caller p ≡ n)
     (has : HasRole w (caller p) p.role)
-    (k : ℕ) (is : k ≡ n % length gs) (lt : k < length gs) (d : Grouped T) where
+    (k : ℕ) (lt : k < length gs) (d : Grouped T) where
   -- the group that the player joins
   pub alone_index : p.role ≡ role.Clock → (slice_index_or gs k d).clock ≡ None
-  alone_index = alone_at w n gs dealt p next has (one_clock w) (slice_index_or gs k d) (ap (slice_get gs) (sym is) ∙ get_index gs k d lt)
+  alone_index = alone_at w n gs dealt p next has k (one_clock w) (slice_index_or gs k d) (get_index gs k d lt)
 
   pub dealt_set : (new : Grouped T) → new ≡ joined (slice_index_or gs k d) p → IsDealt w (n + 1) (all_seats (slice_set gs k new))
   dealt_set new joins =
-      let set : slice_set gs k new ≡ joined_at (n % length gs) gs p = ap (slice_set gs k) joins ∙ (set_joined gs k d p ∙ ap (λ (i : ℕ). joined_at i gs p) is) in
-      subst (λ (l : List (Grouped T)). IsDealt w (n + 1) (all_seats l)) (sym set)
-      (dealt_more w n gs dealt p next has (subst (λ (i : ℕ). i < length gs) is lt) (alone_at w n gs dealt p next has (one_clock w)))
+      subst (λ (l : List (Grouped T)). IsDealt w (n + 1) (all_seats l)) (sym (groups_set gs k d p new joins))
+      (dealt_more w n gs dealt p next has k lt (alone_at w n gs dealt p next has k (one_clock w)))
 
-  pub groups_set : (new : Grouped T) → new ≡ joined (slice_index_or gs k d) p → slice_set gs k new ≡ joined_at (n % length gs) gs p
-  groups_set new joins = ap (slice_set gs k) joins ∙ (set_joined gs k d p ∙ ap (λ (i : ℕ). joined_at i gs p) is)
+  pub follows_set : (deal : List ℕ) → Follows deal (all_seats gs) → k ≡ seat_of deal n (length gs) → (new : Grouped T)
+      → new ≡ joined (slice_index_or gs k d) p → Follows deal (all_seats (slice_set gs k new))
+  follows_set deal follows is new joins =
+      subst (λ (l : List (Grouped T)). Follows deal (all_seats l)) (sym (groups_set gs k d p new joins))
+      (follows_more w n gs dealt p next has k deal follows is (alone_at w n gs dealt p next has k (one_clock w)))
 
 -- the players of a group, and then its clock
 pub group_visits : {T : Type 0} (vs : List Visit) (ps : List (Playing T)) (o : Option (Playing T)) → (vs ++ visits ps) ++ visits (with_last [] o) ≡ vs

@@ -31,7 +31,7 @@ use Rattle.host_net.specs.declared.player.Role.{Role}
 use Rattle.net_locks.specs.declared.turn.Turn.{Turn}
 use Rattle.net_locks.specs.declared.turn.Turn.TheVariants as turn
 use Rattle.host_net.specs.Playing.{GoesOn, HasMore, HasRole, IsPlayed, IsPlayer, IsUnmoved, IsUnready, IsWaiting, Playing, PlaysOn, played_by}
-use Rattle.host_net.specs.Visits.{IsSame, Takes, Visit}
+use Rattle.net_guests.specs.Visits.{IsSame, Takes, Visit}
 use Rattle.net_locks.specs.Turns.{IsFull, Recorded, Stays, Unready, bare, own}
 use Rattle.host_net.proofs.Continuing.{duty_replies, own_push, own_stays}
 

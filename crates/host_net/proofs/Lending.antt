@@ -14,9 +14,9 @@ use Rattle.net_locks.specs.declared.clock.Advance.{Advance}
 use Rattle.net_locks.specs.declared.clock.Standing.{Standing}
 use Rattle.host_net.specs.Advancing.{Advances, AreLent, IsStanding}
 use Rattle.net_locks.specs.Standings.{AllStand, StandsAt}
-use Rattle.host_net.specs.Deciding.{Decided}
+use Rattle.net_guests.specs.Deciding.{Decided}
 use Rattle.host_net.specs.Groups.{Grouped}
-use Rattle.host_net.specs.Visits.{IsWith, Visit}
+use Rattle.net_guests.specs.Visits.{IsWith, Visit}
 use Rattle.net_locks.specs.Turns.{own}
 
 module _ (w : World) (r : Roster) where

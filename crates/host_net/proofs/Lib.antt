@@ -1,9 +1,4 @@
-pub mod Asking
 pub mod Freshly
-pub mod Passes
-pub mod Firsts
-pub mod Operating
-pub mod Handing
 pub mod Lending
 pub mod Histories
 pub mod Taking
@@ -18,6 +13,5 @@ pub mod Telling
 pub mod Counting
 pub mod Seating
 pub mod Naming
-pub mod Decided
 pub mod Joining
 pub mod Answered

@@ -32,14 +32,14 @@ use Rattle.host_net.proofs.Taking.{all_lent, in_visits, visit_in}
 use Rattle.host_net.proofs.Histories.{AreOne, after_all, one_history}
 use Rattle.host_net.specs.Advancing.{Advanced, Advances, AfterAll, ClockRecords, GroupsAreBack, HasMoved, HasRested, IsHistoryOf}
 use Rattle.host_net.specs.Advancing.{StayAtOnce, moved, other_players}
-use Rattle.host_net.specs.Deciding.{Decided, Moves}
+use Rattle.net_guests.specs.Deciding.{Decided, Moves}
 use Rattle.net_locks.specs.Moving.{IsLeast}
 use Rattle.host_net.specs.Groups.{Grouped, all_members, visits}
 use Rattle.host_net.specs.Playing.{GoesOn, HasRole, IsPlayed, IsPlayer, Playing}
-use Rattle.host_net.specs.Visits.{HasGuest, IsWith, Visit}
+use Rattle.net_guests.specs.Visits.{HasGuest, IsWith, Visit}
 use Rattle.net_locks.specs.Turns.{Stays, bare, own}
 use Rattle.locked.specs.Acts.{made, without_copy}
-use Rattle.host_net.proofs.Handing.{same_number_is}
+use Rattle.net_guests.proofs.Handing.{same_number_is}
 
 -- A player stays one where its caller recorded nothing.
 

@@ -20,7 +20,7 @@ use Rattle.host_net.proofs.Taking.{none_left, others_stay, place_back, seats_kep
 use Rattle.host_net.specs.Advancing.{Advanced, Advances, AreLent, AreStandings, GroupsAreBack, GroupsAreKept, IsClockKept, IsTaken, StayAtOnce, other_players}
 use Rattle.host_net.specs.Groups.{Apart, AreUpTo, Grouped, IsDealt, all_callers, all_members, all_seats, caller, callers_of, visits}
 use Rattle.host_net.specs.Playing.{Playing}
-use Rattle.host_net.specs.Visits.{HasGuest, IsWith}
+use Rattle.net_guests.specs.Visits.{HasGuest, IsWith}
 
 set_there : {A : Type 0} (xs : List A) (n : ℕ) (x y : A) → slice_get xs n ≡ Some x → slice_get (slice_set xs n y) n ≡ Some y
 set_there [] n x y there = absurd (none-some x there)

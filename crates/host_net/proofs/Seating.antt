@@ -1,22 +1,24 @@
 -- The callers of groups, and what becomes of them.
-use Rattle.std.proofs.Common.{◌≡◌, ℕ, zero, suc, ◌+◌, ◌<◌, ◌≤◌, ◌%◌, ◌==◌, nat_lt, ◌⊎◌, inl, inr, Bool, true, false, ◌||◌, List, [], ◌∷◌}
+use Rattle.std.proofs.Common.{◌≡◌, ℕ, zero, suc, ◌+◌, ◌<◌, ◌≤◌, ◌==◌, nat_lt, ◌⊎◌, inl, inr, Bool, true, false, ◌||◌, List, [], ◌∷◌}
 use Rattle.std.proofs.Common.{◌++◌, length, map, take, option_map, Option, Some, None, IfSome, slice_get, slice_set, slice_index_or}
 use Rattle.std.proofs.Common.{reverse, refl, ap, sym, subst, ◌∙◌, append_assoc, arith}
 use Rattle.std.specs.List.{list_any}
+use Rattle.std.specs.Option.{option_map_or}
 use Rattle.std.proofs.lemmas.Bool.{true≢false}
 use Rattle.std.proofs.lemmas.Bool.Decides.{nat_tests}
 use Rattle.std.proofs.lemmas.List.{append-nil, reverse-append}
+use Rattle.std.proofs.lemmas.Nat.{mod_below}
 use Rattle.std.proofs.lemmas.Option.{none-some, same_Some}
 use Rattle.net_base.specs.declared.world.World.{World}
 use Rattle.net_base.specs.Callers.{Caller, IsClock, caller_of}
 use Rattle.net_base.specs.Stamped.{In}
 use Rattle.host_net.specs.declared.player.Role.{Role}
 use Rattle.host_net.specs.declared.player.Role.TheVariants as role
-use Rattle.host_net.specs.Groups.{Apart, AreUpTo, AreWaiting, Grouped, Inserts, IsDealt, IsSeated, NotIn, Seats, all_callers, all_members}
-use Rattle.host_net.specs.Groups.{all_seats, caller, callers_in, callers_of, joined, joined_as, joined_at, members, seats, visits}
+use Rattle.host_net.specs.Groups.{Apart, AreUpTo, AreWaiting, Follows, Grouped, Inserts, IsDealt, IsSeated, NotIn, Seats, all_callers, all_members}
+use Rattle.host_net.specs.Groups.{all_seats, caller, callers_in, callers_of, joined, joined_as, joined_at, members, seat_of, seats, visits}
 use Rattle.host_net.specs.Groups.{with_last}
 use Rattle.host_net.specs.Playing.{ArePlayed, HasRole, IsPlayed, IsWaiting, Playing}
-use Rattle.host_net.specs.Visits.{HasGuest, Visit}
+use Rattle.net_guests.specs.Visits.{HasGuest, Visit}
 
 -- Members of lists.
 
@@ -237,10 +239,7 @@ in_all (x ∷ ss) s c (inl here) there = in_first c (callers_in x) (all_callers 
 in_all (x ∷ ss) s c (inr behind) there = in_second c (callers_in x) (all_callers ss) (in_all ss s c behind there)
 
 module _ {T : Type 0} (w : World) (n : ℕ) (gs : List (Grouped T)) (dealt : IsDealt w n (all_seats gs)) (p : Playing T) (next : caller p ≡ n)
-    (has : HasRole w (caller p) p.role) where
-  abbrev place : ℕ
-  place = n % length gs
-
+    (has : HasRole w (caller p) p.role) (place : ℕ) where
   alone_from : (one : (a b : ℕ) → caller_of w a ≡ IsClock → caller_of w b ≡ IsClock → a ≡ b) → (g : Grouped T) → In (seats g) (all_seats gs)
       → p.role ≡ role.Clock → g.clock ≡ None
   alone_from one g there clock = by_clock g.clock refl
@@ -269,9 +268,6 @@ module _ {T : Type 0} (w : World) (n : ℕ) (gs : List (Grouped T)) (dealt : IsD
   seats_many : length (all_seats gs) ≡ length gs
   seats_many = seats_long gs
 
-  pub some_groups : 0 < length gs
-  some_groups = subst (λ (k : ℕ). 0 < k) seats_many dealt.some
-
   pub alone_at : ((a b : ℕ) → caller_of w a ≡ IsClock → caller_of w b ≡ IsClock → a ≡ b) → IsAlone place gs p
   alone_at one g is = alone_from one g (get_in (all_seats gs) place (seats g) (get_seats gs place g is))
 
@@ -281,10 +277,10 @@ module _ {T : Type 0} (w : World) (n : ℕ) (gs : List (Grouped T)) (dealt : IsD
       subst (λ (x : Seats). IsSeated w x) (sym new.is)
       (group_seated w p.role new.group p has (dealt.seated (seats new.group) (get_in (all_seats gs) j (seats new.group) (get_seats gs j new.group new.there))))
 
-  placed_at : IsAlone place gs p → (j : ℕ) (s : Seats) (c : ℕ) → (slice_get (all_seats gs) j ≡ Some s) ⊎ Joined place gs p j s → In c (callers_in s)
-      → c % length (all_seats gs) ≡ j
-  placed_at alone j s c (inl old) there = dealt.places j s c old there
-  placed_at alone j s c (inr new) there = which (inserted (caller p) c (callers_in (seats new.group)) (callers_in (seats (joined new.group p))) inserts among)
+  placed_at : (deal : List ℕ) → Follows deal (all_seats gs) → place ≡ seat_of deal n (length gs) → IsAlone place gs p → (j : ℕ) (s : Seats) (c : ℕ)
+      → (slice_get (all_seats gs) j ≡ Some s) ⊎ Joined place gs p j s → In c (callers_in s) → seat_of deal c (length (all_seats gs)) ≡ j
+  placed_at deal follows is alone j s c (inl old) there = follows j s c old there
+  placed_at deal follows is alone j s c (inr new) there = which (inserted (caller p) c (callers_in (seats new.group)) (callers_in (seats (joined new.group p))) inserts among)
     where
       inserts : Inserts (caller p) (callers_in (seats new.group)) (callers_in (seats (joined new.group p)))
       inserts = group_inserts p.role new.group p (alone new.group (subst (λ (i : ℕ). slice_get gs i ≡ Some new.group) new.here new.there))
@@ -292,9 +288,10 @@ module _ {T : Type 0} (w : World) (n : ℕ) (gs : List (Grouped T)) (dealt : IsD
       among : In c (callers_in (seats (joined new.group p)))
       among = subst (λ (x : Seats). In c (callers_in x)) new.is there
 
-      which : In c (callers_in (seats new.group)) ⊎ (c ≡ caller p) → c % length (all_seats gs) ≡ j
-      which (inl old) = dealt.places j (seats new.group) c (get_seats gs j new.group new.there) old
-      which (inr same) = ap (λ (d : ℕ). d % length (all_seats gs)) (same ∙ next) ∙ (ap (λ (m : ℕ). n % m) seats_many ∙ sym new.here)
+      which : In c (callers_in (seats new.group)) ⊎ (c ≡ caller p) → seat_of deal c (length (all_seats gs)) ≡ j
+      which (inl old) = follows j (seats new.group) c (get_seats gs j new.group new.there) old
+      which (inr same) =
+          ap (λ (d : ℕ). seat_of deal d (length (all_seats gs))) (same ∙ next) ∙ (ap (seat_of deal n) seats_many ∙ (sym is ∙ sym new.here))
 
   -- each caller so far has its place, the next one too
   pub dealt_more : place < length gs → IsAlone place gs p → IsDealt w (n + 1) (all_seats (joined_at place gs p))
@@ -306,8 +303,27 @@ module _ {T : Type 0} (w : World) (n : ℕ) (gs : List (Grouped T)) (dealt : IsD
         callers = up_to_more n (all_callers (all_seats gs)) (all_callers (all_seats (joined_at place gs p))) dealt.callers
             (subst (λ (c : ℕ). Inserts c (all_callers (all_seats gs)) (all_callers (all_seats (joined_at place gs p)))) next (all_inserts place gs p lt alone));
         seated = λ s there. let at_j = in_get (all_seats (joined_at place gs p)) s there in seated_at place at_j.0 s (seats_at place gs p at_j.0 s at_j.1);
-        places = λ j s c is there. ap (λ (m : ℕ). c % m) long ∙ placed_at alone j s c (seats_at place gs p j s is) there;
       }
+
+  -- and it is the one that the deal says
+  pub follows_more : (deal : List ℕ) → Follows deal (all_seats gs) → place ≡ seat_of deal n (length gs) → IsAlone place gs p
+      → Follows deal (all_seats (joined_at place gs p))
+  follows_more deal follows is alone j s c there among =
+      let long : length (all_seats (joined_at place gs p)) ≡ length (all_seats gs) = seats_long (joined_at place gs p)
+      ∙ (joined_long place gs p ∙ sym seats_many) in
+      ap (seat_of deal c) long ∙ placed_at deal follows is alone j s c (seats_at place gs p j s there) among
+
+-- A caller's seat is in one of the groups.
+
+pub some_groups : {T : Type 0} (w : World) (n : ℕ) (gs : List (Grouped T)) → IsDealt w n (all_seats gs) → 0 < length gs
+some_groups w n gs dealt = subst (λ (k : ℕ). 0 < k) (seats_long gs) dealt.some
+
+pub seat_same : (k : ℕ) (ds deal : List ℕ) (c n many m : ℕ) → k ≡ seat_of ds c many → ds ≡ deal → c ≡ n → many ≡ m → k ≡ seat_of deal n m
+seat_same k ds deal c n many m is same caller as_many =
+    is ∙ (ap (λ (l : List ℕ). seat_of l c many) same ∙ (ap (λ (i : ℕ). seat_of deal i many) caller ∙ ap (seat_of deal n) as_many))
+
+pub seat_within : (deal : List ℕ) (c many k : ℕ) → 0 < many → k ≡ seat_of deal c many → k < many
+seat_within deal c many k some is = subst (λ (i : ℕ). i < many) (sym is) (mod_below (option_map_or (λ (i : ℕ). i) (slice_get deal c) c) many some)
 
 -- No players at all.
 
@@ -349,8 +365,10 @@ none_dealt w gs some are =
       callers = subst (λ (l : List ℕ). AreUpTo 0 l) (sym (no_callers (all_seats gs) are))
           (record { all = λ c lt. absurd (omega (arith, lt)); known = λ c none. absurd none; apart = tt });
       seated = λ s there. no_others w s (are s there);
-      places = λ k s c is there. absurd (subst (λ (l : List ℕ). In c l) (are s (get_in (all_seats gs) k s is)) there);
     }
+
+pub none_follow : {T : Type 0} (deal : List ℕ) (gs : List (Grouped T)) → AreEmpty gs → Follows deal (all_seats gs)
+none_follow deal gs are k s c is there = absurd (subst (λ (l : List ℕ). In c l) (are s (get_in (all_seats gs) k s is)) there)
 
 -- What is set at a place.
 

@@ -13,13 +13,13 @@ use Rattle.net_base.specs.Callers.{Caller, IsScript, IsCourier, IsClock, IsNobod
 use Rattle.net_base.specs.Stamped.{In}
 use Rattle.journal.specs.declared.law.Roster.{Roster}
 use Rattle.net_locks.specs.declared.clock.Standing.{Standing}
-use Rattle.host_net.proofs.Handing.{apart_test}
+use Rattle.net_guests.proofs.Handing.{apart_test}
 use Rattle.host_net.proofs.Taking.{ClockIs, Clocks, all_callers_are, all_not, caller_in, in_visits, of_both, of_callers, others_apart, visit_in}
 use Rattle.host_net.specs.Advancing.{Adds, AreLent, AreStandings, IsStanding, other_players}
 use Rattle.host_net.specs.Groups.{Apart, AreUpTo, Grouped, IsSeated, Seats, all_callers, all_members, all_seats, caller, callers_of}
 use Rattle.host_net.specs.Groups.{members, seats, visits, with_last}
 use Rattle.host_net.specs.Playing.{Playing}
-use Rattle.host_net.specs.Visits.{HasGuest, IsWith, Visit}
+use Rattle.net_guests.specs.Visits.{HasGuest, IsWith, Visit}
 
 -- The clock's number.
 

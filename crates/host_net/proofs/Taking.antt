@@ -7,8 +7,8 @@ use Rattle.std.proofs.lemmas.List.{map-append}
 use Rattle.std.proofs.lemmas.Option.{none-some, same_Some}
 use Rattle.net_base.specs.declared.world.World.{World}
 use Rattle.net_base.specs.Stamped.{In}
-use Rattle.host_net.proofs.Handing.{in_back, in_front, none_more, same_number_is}
-use Rattle.host_net.proofs.Passes.{last_or}
+use Rattle.net_guests.proofs.Handing.{in_back, in_front, none_more, same_number_is}
+use Rattle.net_guests.proofs.Passes.{last_or}
 use Rattle.net_locks.specs.declared.clock.Advance.{Advance}
 use Rattle.net_locks.specs.declared.clock.Advance.TheVariants as advance
 use Rattle.host_net.specs.Advancing.{AreBack, AreKept, ClockStays, EachIsKept, GroupsAreBack, GroupsAreKept, IsBack, IsClockKept}
@@ -16,7 +16,7 @@ use Rattle.host_net.specs.Advancing.{IsGroupKept, IsKept, other_players}
 use Rattle.host_net.specs.Groups.{Apart, Grouped, NotIn, all_callers, all_members, all_seats, caller, callers_in, callers_of, members, seats, visits, with_last}
 use Rattle.host_net.specs.Playing.{Playing}
 use Rattle.net_locks.specs.Turns.{Stays}
-use Rattle.host_net.specs.Visits.{Visit}
+use Rattle.net_guests.specs.Visits.{Visit}
 
 -- Numbers.
 

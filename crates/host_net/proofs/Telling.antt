@@ -24,7 +24,7 @@ use Rattle.host_net.specs.declared.player.Role.TheVariants as role
 use Rattle.net_locks.specs.declared.turn.Turn.{Turn}
 use Rattle.net_locks.specs.declared.turn.Turn.TheVariants as turn
 use Rattle.host_net.specs.Playing.{GoesOn, HasMore, HasRole, Heard, IsPlayed, IsPlayer, IsUnmoved, IsUnready, IsWaiting, PlaysOn, Told}
-use Rattle.host_net.specs.Visits.{Asked, IsSame, Operated, Visit}
+use Rattle.net_guests.specs.Visits.{Asked, IsSame, Operated, Visit}
 use Rattle.net_locks.specs.Turns.{bare}
 use Rattle.host_net.proofs.Continuing.{FitWorks, KeepsActors, continues_on, own_stays, play_fits, script_next}
 use Rattle.host_net.proofs.Counting.{one_reply_more, reply_fits}

@@ -29,12 +29,12 @@ use Rattle.guest_laws.specs.Works.{entries}
 use Rattle.net_locks.specs.declared.clock.Advance.{Advance}
 use Rattle.net_locks.specs.declared.clock.Advance.TheVariants as advance
 use Rattle.net_locks.specs.declared.clock.Standing.{Standing}
-use Rattle.host_net.specs.Deciding.{Decided}
+use Rattle.net_guests.specs.Deciding.{Decided}
 use Rattle.net_locks.specs.Standings.{HasStanding, IsBare, ask_of}
 use Rattle.net_locks.specs.Moving.{IsLeast}
 use Rattle.host_net.specs.Groups.{Grouped, all_members, visits}
 use Rattle.host_net.specs.Playing.{Playing}
-use Rattle.host_net.specs.Visits.{Gathers, IsWith, Visit}
+use Rattle.net_guests.specs.Visits.{Gathers, IsWith, Visit}
 use Rattle.net_locks.specs.Turns.{Stays, bare, own}
 
 -- How a caller stands.

@@ -12,7 +12,7 @@ use Rattle.guest_laws.specs.Works.{entries}
 use Rattle.net_locks.specs.Turns.{own}
 use Rattle.host_net.specs.Groups.{caller}
 use Rattle.host_net.specs.Playing.{Playing}
-use Rattle.host_net.specs.Visits.{Visit}
+use Rattle.net_guests.specs.Visits.{Visit}
 
 -- each of these callers has in the history the entries that it knows, and owes after it what it knows
 pub record AreAfter (w : World) (vs : List Visit) (h : List Entry) : Type 0 where

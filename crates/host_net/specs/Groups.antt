@@ -1,13 +1,15 @@
 -- The players of all callers, in groups.
 --     Seats        the callers of a group
 --     IsDealt      each caller so far has its place in one group
+--     Follows      that is the group that the deal says
 use Rattle.std.specs.Prelude.{◌≡◌, ℕ, zero, suc, ◌+◌, ◌<◌, ◌++◌, ◌==◌, Bool, false, List, [], ◌∷◌, length, map, option_map, Option, Some}
 use Rattle.std.specs.Prelude.{None, IfSome, slice_get, ◌%◌}
+use Rattle.std.specs.Option.{option_map_or}
 use Rattle.net_base.specs.declared.world.World.{World}
 use Rattle.net_base.specs.Callers.{IsClock, caller_of}
 use Rattle.net_base.specs.Stamped.{In}
 use Rattle.host_net.specs.Playing.{IsWaiting, Playing}
-use Rattle.host_net.specs.Visits.{Visit}
+use Rattle.net_guests.specs.Visits.{Visit}
 use Rattle.host_net.specs.declared.player.Role.{Role}
 use Rattle.host_net.specs.declared.player.Role.TheVariants as role
 
@@ -17,10 +19,15 @@ pub record Grouped (T : Type 0) : Type 0 where
   pub clock : Option (Playing T)
   pub memory : Bool
 
--- what contracts see of all groups
+-- what contracts see of all groups, and of the deal, which has a number for each caller or for some first ones
 pub record Grouping (T : Type 0) : Type 0 where
   pub groups : List (Grouped T)
   pub callers : ℕ
+  pub deal : List ℕ
+
+-- the number of a caller's group, of so many: the deal's number for it, or its own where the deal has none, modulo theirs
+abbrev pub seat_of : List ℕ → ℕ → ℕ → ℕ
+seat_of deal c many = option_map_or (λ (k : ℕ). k) (slice_get deal c) c % many
 
 abbrev pub with_last : {A : Type 0} → List A → Option A → List A
 with_last xs None = xs
@@ -67,7 +74,7 @@ module _ {T : Type 0} where
 
   -- with the next caller's player in its group
   abbrev pub dealt : Grouping T → Playing T → Grouping T
-  dealt x p = record { groups = joined_at (x.callers % length x.groups) x.groups p; callers = x.callers + 1 }
+  dealt x p = record x { groups = joined_at (seat_of x.deal x.callers (length x.groups)) x.groups p; callers = x.callers + 1 }
 
 -- Callers.
 
@@ -111,12 +118,15 @@ pub record IsSeated (w : World) (s : Seats) : Type 0 where
   pub clock_is : IfSome s.clock (λ (c : ℕ). caller_of w c ≡ IsClock)
   pub others_are : (c : ℕ) → In c s.others → caller_of w c ≡ IsClock → ⊥
 
--- there are groups, and each caller below the number has its place in one of them: that of its number modulo theirs
+-- there are groups, and each caller below the number has its place in one of them
 pub record IsDealt (w : World) (n : ℕ) (ss : List Seats) : Type 0 where
   pub some : 0 < length ss
   pub callers : AreUpTo n (all_callers ss)
   pub seated : (s : Seats) → In s ss → IsSeated w s
-  pub places : (k : ℕ) (s : Seats) (c : ℕ) → slice_get ss k ≡ Some s → In c (callers_in s) → c % length ss ≡ k
+
+-- each caller stands in the group of its number by the deal
+abbrev pub Follows : List ℕ → List Seats → Type 0
+Follows deal ss = (k : ℕ) (s : Seats) (c : ℕ) → slice_get ss k ≡ Some s → In c (callers_in s) → seat_of deal c (length ss) ≡ k
 
 -- one number more stands somewhere among these
 pub record Inserts (c : ℕ) (old new : List ℕ) : Type 0 where

@@ -1,8 +1,8 @@
-pub mod Visits
-pub mod Deciding
 pub mod Playing
 pub mod Groups
 pub mod Advancing
 pub mod Answering
 pub use Rattle.guest_laws.specs.Guests
+pub use Rattle.net_guests.specs.Visits
+pub use Rattle.net_guests.specs.Deciding
 pub use Rattle.script_task.specs.Requests

@@ -1,19 +1,17 @@
 //! The calm clock: it may move where no caller can go on, and for that its guest gets the numbers of all callers.
 ghost use Rattle.std.specs.Prelude.{◌≡◌, ◌<◌, ◌++◌, ◌∷◌, ℕ, List, Some, None, length, option_map, slice_get, slice_set, IfOk, IfSome, IsNone, OnOk};
-ghost use Rattle.net_base.specs.declared.noted.Noted.{Noted};
 ghost use Rattle.net_base.specs.declared.world.Script.{Script as AnyScript};
 ghost use Rattle.net_base.specs.Callers.{IsClock, IsScript, caller_of};
 ghost use Rattle.net_base.specs.Next.{next};
 ghost use Rattle.net_base.specs.World.{IsWorld};
-ghost use Rattle.journal.specs.Tokens.{Holds};
-ghost use Rattle.guest_laws.specs.Guests.{HandsOver, IsGuest};
+ghost use Rattle.guest_laws.specs.Guests.{IsGuest};
 ghost use Rattle.guest_laws.specs.Works.{entries};
 ghost use Rattle.host_net.specs.Advancing.{Adds, Advanced, Advances, AreBack, AreLent, AreStandings, GroupsAreBack, GroupsAreKept};
 ghost use Rattle.host_net.specs.Advancing.{IsStanding, IsTaken, StayAtOnce, other_players};
 ghost use Rattle.net_locks.specs.Standings.{IsBare, ask_of};
 ghost use Rattle.host_net.specs.Groups.{Apart, Grouped, IsDealt, NotIn, all_members, all_seats, callers_of, members, visits};
 ghost use Rattle.net_locks.specs.Turns as turns;
-ghost use Rattle.host_net.specs.Visits.{IsWith, Visit};
+ghost use Rattle.net_guests.specs.Visits.{IsWith, Visit};
 
 use crate::guest::Guest;
 use crate::net::Net;
@@ -21,12 +19,12 @@ use crate::player::{Player, Role};
 use crate::players::{Group, Players};
 use actor_machines::{Placing, WorldActor};
 use calm_laws::histories_are_their_callers;
-use guest_laws::{guests_hand_over, histories_of_guests_are_legal};
-use journal::{Journal, Naming, Pass};
+use guest_laws::histories_of_guests_are_legal;
+use journal::Naming;
 use net_base::{ActorName, Event, With, Work, World};
-use net_locks::{Advance, Standing, calendars_stay_known};
+use net_locks::{Advance, Standing};
 use outside::Gate;
-use script_task::{Planned, event_of};
+use script_task::{Planned, plan};
 use std::alloc::{AllocError, Global};
 use std::sync::Wait;
 use whole_script::WholeTask;
@@ -49,9 +47,9 @@ fn standing_of<J: Naming + Placing, T: WholeTask>(
 {
     let guest = &player.guest;
     Ok(Standing {
-        caller: guest.caller,
+        caller: guest.caller(),
         owes: guest.owes(),
-        full: guest.pass.room(guest.caller) == 0,
+        full: guest.is_full(),
         next: next_of(alloc, player)?,
         touched: guest.touched(alloc)?,
     })
@@ -94,7 +92,7 @@ fn script_next<J: Naming + Placing, T: WholeTask>(
         actor,
         event,
         effect: _,
-    } = event_of(guest.host, guest.fids(), &request)?;
+    } = plan(guest.host(), guest.fids(), request);
     Ok(Some((actor, bare(event))))
 }
 
@@ -133,16 +131,7 @@ fn add_standings<J: Naming + Placing, T: WholeTask + Drop>(
 fn guest_keeps<J: Naming + Placing>(guest: &Guest<J>)
     ensures { IsGuest J.world J.run.roster guest.entry.now.caller guest.entry.now.sight guest.entry.now.owed }
 {
-    let _caller = guest.caller;
-}
-
-// A caller's number goes from one pass to another.
-fn hand_over<J: Naming>(journal: &Journal<J>, from: &mut Pass<J>, to: &mut Pass<J>, caller: u32)
-    requires { (es : List (ℕ × Noted)) × Holds from.old caller es }
-    ensures { HandsOver J.run.roster caller from.old to.old from.new to.new }
-{
-    let moved = journal.split_pass(from, caller);
-    journal.meet(to, moved);
+    let _bundle = &guest.bundle;
 }
 
 impl<J: Naming + Placing> Net<J, WorldActor<J>> {
@@ -161,6 +150,7 @@ impl<J: Naming + Placing> Net<J, WorldActor<J>> {
         requires is { IsWorld world.now }
         requires all { players.old.callers ≡ J.run.roster.callers }
         ensures callers { players.new.callers ≡ players.old.callers }
+        ensures deal { players.new.deal ≡ players.old.deal }
         ensures seats { all_seats players.new.groups ≡ all_seats players.old.groups }
         ensures kept { GroupsAreKept J.world players.old.groups result players.new.groups }
         ensures moment { StayAtOnce result (visits (all_members players.old.groups))
@@ -239,26 +229,12 @@ impl<J: Naming + Placing> Net<J, WorldActor<J>> {
         ensures players { AreBack J.world clock.new.now players.old players.new }
         ensures groups { GroupsAreBack J.world clock.new.now groups.old groups.new }
     {
-        calendars_stay_known();
-        guests_hand_over();
         match players.split_first_mut() {
             Some((first, others)) => {
-                let caller = first.guest.caller;
-                hand_over(
-                    self.locks.journal(),
-                    &mut first.guest.pass,
-                    &mut clock.pass,
-                    caller,
-                );
+                let journal = self.locks.journal();
+                first.guest.bundle.lend(journal, &mut clock.bundle);
                 let answer = self.with_all(rt, gate, world, standings, others, groups, clock);
-                hand_over(
-                    self.locks.journal(),
-                    &mut clock.pass,
-                    &mut first.guest.pass,
-                    caller,
-                );
-                first.guest.now = clock.now;
-                first.guest.touched.forget(clock.calendar.at);
+                first.guest.bundle.take_back(journal, &mut clock.bundle);
                 answer
             }
             None => match groups.split_first_mut() {

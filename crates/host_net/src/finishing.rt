@@ -1,9 +1,8 @@
 //! The end: the passes of all guests.
-ghost use Rattle.host_net.specs.Visits.{Gathers, IsWith, Visit};
+ghost use Rattle.net_guests.specs.Visits.{Gathers};
 
 use crate::guest::Guest;
 use actor_machines::Placing;
-use guest_laws::guests_meet;
 use journal::{Journal, Naming, Pass};
 
 // Takes the passes of the guests in.
@@ -15,15 +14,6 @@ pub(crate) fn gather<J: Naming + Placing>(
     ensures { Gathers J.world J.run.roster all.old guests.items all.new }
 {
     while let Some(guest) = guests.pop() {
-        take_in(journal, all, guest);
+        guest.meet(journal, all);
     }
-}
-
-// Takes the pass of a guest in.
-fn take_in<J: Naming + Placing>(journal: &Journal<J>, all: &mut Pass<J>, guest: Guest<J>)
-    ensures kept { (v : Visit) → IsWith J.world J.run.roster v all.old → IsWith J.world J.run.roster v all.new }
-    ensures taken { IsWith J.world J.run.roster guest all.new }
-{
-    guests_meet();
-    journal.meet(all, guest.into_pass());
 }

@@ -4,17 +4,15 @@ ghost use Rattle.net_base.specs.declared.noted.Number.TheVariants.{Caller};
 ghost use Rattle.net_base.specs.declared.world.Script.{Script};
 ghost use Rattle.net_base.specs.Callers.{IsScript, caller_of};
 ghost use Rattle.net_base.specs.Stamped.{In};
-ghost use Rattle.guest_laws.specs.Guests.{IsGuest};
 ghost use Rattle.due_moments.specs.Marks.{Covers};
-ghost use Rattle.host_net.specs.Visits.{IsFresh};
+ghost use Rattle.guest_laws.specs.Guests.{IsGuest};
+ghost use Rattle.net_guests.specs.Visits.{IsFresh, IsWith, Visit};
 ghost use Rattle.net_locks.specs.Turns.{own};
 
 use actor_machines::Placing;
 use due_moments::Touched;
-use duties::Duties;
-use guest_laws::guests_begin;
-use journal::{Naming, Pass};
-use net_locks::Calendar;
+use journal::{Journal, Naming, Pass};
+use net_guests::Bundle;
 use net_tree::Fids;
 use std::alloc::{AllocError, Global};
 use std::marker::Model;
@@ -22,26 +20,17 @@ use std::marker::Model;
 /// A caller's pass, what it owes, and the names that it has bound. Clauses see these, its number and the moment.
 #[derive(Drop)]
 pub struct Guest<J: Naming + Placing> {
-    pub(crate) pass: Pass<J>,
-    pub(crate) duties: Duties,
-    pub(crate) fids: Fids,
-    pub(crate) caller: u32,
-    pub(crate) host: u32,
-    pub(crate) now: u64,
-    // at which conversations something was recorded since the clock last moved
-    pub(crate) touched: Touched,
-    // when conversations are due, which the clock's guest alone keeps
-    pub(crate) calendar: Calendar,
+    pub(crate) bundle: Bundle<J>,
 }
 
 impl<J: Naming + Placing> Model for Guest<J> {
-    ghost use Rattle.host_net.specs.Visits.{IsVisit, Visit};
+    ghost use Rattle.net_guests.specs.Visits.{IsComplete, Visit};
 
     ghost Value = { Visit };
 
-    ghost view = { λ g. record { caller = g.caller; now = g.now; sight = g.pass; owed = g.duties.list; names = g.fids.names } };
+    ghost view = { λ g. g.bundle.visit };
 
-    ghost invariant = { λ g. IsVisit J.world J.run.roster g.caller g.now g.pass g.duties.list g.host g.touched g.calendar };
+    ghost invariant = { λ g. IsComplete J.world J.run.roster g.bundle };
 }
 
 impl<J: Naming + Placing> Guest<J> {
@@ -53,16 +42,8 @@ impl<J: Naming + Placing> Guest<J> {
         requires home { (s : Script) → caller_of J.world caller ≡ IsScript s → s.host ≡ host }
         ensures { IsFresh caller result }
     {
-        guests_begin();
         Guest {
-            pass,
-            duties: Duties::new(alloc),
-            fids: Fids::new(alloc),
-            caller,
-            host,
-            now: 0,
-            touched: Touched::new(alloc),
-            calendar: Calendar::new(alloc),
+            bundle: Bundle::fresh(alloc, pass, caller, host),
         }
     }
 
@@ -71,51 +52,65 @@ impl<J: Naming + Placing> Guest<J> {
         ensures same { result ≡ self.sight }
         ensures guest { IsGuest J.world J.run.roster self.caller result self.owed }
     {
-        let Guest {
-            pass,
-            duties: _,
-            fids: _,
-            caller: _,
-            host: _,
-            now: _,
-            touched: _,
-            calendar: _,
-        } = self;
-        pass
+        let Guest { bundle } = self;
+        bundle.into_pass()
+    }
+
+    // The pass takes that of this guest in.
+    pub(crate) fn meet(self, journal: &Journal<J>, all: &mut Pass<J>)
+        ensures kept { (v : Visit) → IsWith J.world J.run.roster v all.old → IsWith J.world J.run.roster v all.new }
+        ensures taken { IsWith J.world J.run.roster self all.new }
+    {
+        let Guest { bundle } = self;
+        bundle.meet(journal, all);
     }
 
     // The conversations at which something was recorded since the clock last moved.
     pub(crate) fn touched(&self, alloc: Global) -> Result<Touched, AllocError>
         ensures { IfOk result (Covers (own self.entry.now.caller self.entry.now.sight)) }
     {
-        self.touched.copy(alloc)
+        self.bundle.touched(alloc)
     }
 
     /// Which caller.
     pub fn caller(&self) -> u32
         ensures { result ≡ self.entry.now.caller }
     {
-        self.caller
+        self.bundle.caller()
+    }
+
+    // The host of a script.
+    pub(crate) fn host(&self) -> u32
+        ensures { (s : Script) → caller_of J.world self.entry.now.caller ≡ IsScript s → s.host ≡ result }
+    {
+        self.bundle.host()
     }
 
     /// The moment.
     pub fn now(&self) -> u64
         ensures { result ≡ self.entry.now.now }
     {
-        self.now
+        self.bundle.now()
     }
 
     /// Whether a duty is owed.
     pub fn owes(&self) -> bool
         ensures { result ≡ not (length self.entry.now.owed == 0) }
     {
-        !self.duties.is_empty()
+        self.bundle.owes()
+    }
+
+    // Whether the caller has recorded as much as it may.
+    pub(crate) fn is_full(&self) -> bool
+        ensures { result ≡ (length (own self.entry.now.caller self.entry.now.sight) == 131072) }
+    {
+        self.bundle.is_full()
     }
 
     /// The names that are bound.
     pub fn fids(&self) -> &Fids
         ensures { result.now.names ≡ self.entry.now.names }
     {
-        &self.fids
+        self.bundle.fids()
     }
 }

@@ -2,7 +2,6 @@
 #![tactic(auto)]
 
 mod advance;
-mod clock;
 mod finishing;
 mod guest;
 mod net;

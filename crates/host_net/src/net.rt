@@ -1,30 +1,31 @@
 //! The net behind locks, with a guest for each caller.
-ghost use Rattle.std.specs.Prelude.{◌≡◌, ◌≢◌, ◌<◌, ℕ, [], None, Some, IfOk, OnOk, slice_get, length};
-ghost use Rattle.net_base.specs.declared.reply.Reply.{Reply as AnyReply};
+ghost use Rattle.std.specs.Prelude.{◌≡◌, ◌≢◌, ◌<◌, ℕ, [], None, Some, IfOk, slice_get, length};
 ghost use Rattle.net_base.specs.declared.actor.ActorName.TheVariants as name;
 ghost use Rattle.net_base.specs.declared.event.Event.TheVariants as event;
 ghost use Rattle.net_base.specs.declared.world.Script.{Script as AnyScript};
-ghost use Rattle.net_base.specs.Callers.{IsCourier, IsScript, caller_count as callers_in, caller_of};
+ghost use Rattle.net_base.specs.Callers.{IsClock, IsCourier, IsScript, caller_count as callers_in, caller_of};
 ghost use Rattle.net_base.specs.Duties.{Duty as AnyDuty};
 ghost use Rattle.net_base.specs.World.{IsWorld};
 ghost use Rattle.journal.specs.Rule.{caller_numbers};
-ghost use Rattle.script_task.specs.Requests.{HasRoom as HasRoomFor, newly_bound};
 ghost use Rattle.duties.specs.Queue.{work_of_duty};
+ghost use Rattle.guest_laws.specs.Guests.{IsOfGuests};
 ghost use Rattle.net_locks.specs.Rosters.{IsRosterOf};
-ghost use Rattle.host_net.specs.Visits.{AreFresh, Finished, HasGuest, IsSame, Operated, Takes, names_after};
+ghost use Rattle.net_locks.specs.Standings.{AllStand};
+ghost use Rattle.net_guests.specs.Deciding.{Leaves};
+ghost use Rattle.net_guests.specs.Visits.{AreFresh, Finished, HasGuest, IsSame, Operated, Takes};
 ghost use Rattle.net_locks.specs.Turns.{bare};
 
 use crate::finishing::gather;
 use crate::guest::Guest;
 use actor_machines::{Placing, WorldActor};
-use guest_laws::{histories_of_guests_are_legal, turns_are_these};
-use journal::{Journal, Naming, Pass};
+use guest_laws::histories_of_guests_are_legal;
+use journal::{ClosedBooks, Journal, Naming, Pass};
 use locked::Machine;
-use net_base::{ActorName, Event, History, World};
-use net_locks::{Locks, NetOpened, Spot, Turn, calendars_stay_known, caller_count};
-use net_tree::Fids;
+use net_base::{History, World};
+use net_guests::first_spot;
+use net_locks::{Advance, Locks, NetOpened, Spot, Standing, Turn, caller_count};
 use outside::Gate;
-use script_task::{Request, event_of, settle};
+use script_task::Request;
 use std::alloc::{AllocError, Global};
 use std::sync::Wait;
 
@@ -55,10 +56,7 @@ impl<J: Naming + Placing> Net<J, WorldActor<J>> {
 
     // Where the actor of a guest's first duty stands.
     pub(crate) fn first_spot(&self, guest: &Guest<J>) -> Spot {
-        match guest.duties.first() {
-            Some(duty) => self.locks.spot_of(duty.actor),
-            None => Spot::nowhere(),
-        }
+        first_spot(&self.locks, &guest.bundle)
     }
 
     /// The first duty of a guest is recorded.
@@ -69,16 +67,7 @@ impl<J: Naming + Placing> Net<J, WorldActor<J>> {
         ensures turn { (d : AnyDuty) → slice_get guest.old.owed 0 ≡ Some d
             → Takes J.world d.actor (work_of_duty d) (Some d.cites) guest.old result guest.new }
     {
-        calendars_stay_known();
-        self.locks.serve(
-            rt,
-            gate,
-            &mut guest.pass,
-            &mut guest.duties,
-            &mut guest.touched,
-            guest.caller,
-            guest.now,
-        )
+        guest.bundle.serve(rt, gate, &self.locks)
     }
 
     /// A guest serves its first duty, or takes a copy of its medium where it owes nothing.
@@ -97,22 +86,7 @@ impl<J: Naming + Placing> Net<J, WorldActor<J>> {
         ensures free { guest.old.owed ≡ []
             → Takes J.world (name.Medium medium) (bare event.Take) None guest.old result guest.new }
     {
-        calendars_stay_known();
-        turns_are_these();
-        if guest.owes() {
-            return self.serve(rt, gate, guest);
-        }
-        self.locks.own(
-            rt,
-            gate,
-            &mut guest.pass,
-            &mut guest.duties,
-            &mut guest.touched,
-            guest.caller,
-            guest.now,
-            ActorName::Medium(medium),
-            Event::Take,
-        )
+        guest.bundle.courier_turn(rt, gate, &self.locks, medium)
     }
 
     /// The event of a request of a script is recorded, and the names are those after its reply.
@@ -128,55 +102,64 @@ impl<J: Naming + Placing> Net<J, WorldActor<J>> {
         ensures turn { (s : AnyScript) → caller_of J.world guest.old.caller ≡ IsScript s
             → Operated J.world s.host request.now guest.old result guest.new }
     {
-        self.operate_at(rt, gate, guest, request, &mut Spot::nowhere())
+        guest
+            .bundle
+            .operate(rt, gate, &self.locks, request, &mut Spot::nowhere())
     }
 
-    // The same. The spot is then that of the actor, where the turn came so far.
+    // The same of a request that nobody needs any longer. The spot is then that of the actor, where the turn came so far.
     pub(crate) fn operate_at<R: Wait, G: Gate>(
         &self,
         rt: &R,
         gate: &G,
         guest: &mut Guest<J>,
-        request: &Request,
+        request: Request,
         spot: &mut Spot,
     ) -> Turn
         requires script { (s : AnyScript) × (caller_of J.world guest.old.caller ≡ IsScript s) }
         ensures same { IsSame guest.old guest.new }
         ensures turn { (s : AnyScript) → caller_of J.world guest.old.caller ≡ IsScript s
-            → Operated J.world s.host request.now guest.old result guest.new }
+            → Operated J.world s.host request guest.old result guest.new }
     {
-        calendars_stay_known();
-        turns_are_these();
-        if guest.owes() {
-            return Turn::Owes;
-        }
-        if guest.pass.room(guest.caller) == 0 {
-            return Turn::Limit;
-        }
-        let Ok(planned) = event_of(guest.host, &guest.fids, request) else {
-            return Turn::Memory;
-        };
-        if reserve(&mut guest.fids, request).is_err() {
-            return Turn::Memory;
-        }
-        *spot = self.locks.spot_of(planned.actor);
-        let turn = self.locks.own(
-            rt,
-            gate,
-            &mut guest.pass,
-            &mut guest.duties,
-            &mut guest.touched,
-            guest.caller,
-            guest.now,
-            planned.actor,
-            planned.event,
-        );
-        settle_turn(&mut guest.fids, request, &turn);
-        turn
+        guest
+            .bundle
+            .operate_once(rt, gate, &self.locks, request, spot)
+    }
+
+    // What the clock does, where its guest's pass holds the numbers of all callers and they stand so.
+    pub(crate) fn decide<R: Wait, G: Gate>(
+        &self,
+        rt: &R,
+        gate: &G,
+        world: &World,
+        standings: &[Standing],
+        clock: &mut Guest<J>,
+    ) -> Advance
+        requires world { J.world ≡ world.now }
+        requires is { IsWorld world.now }
+        requires clock { caller_of J.world clock.old.caller ≡ IsClock }
+        requires all { AllStand J.world J.run.roster clock.old.sight standings.now }
+        ensures guests { IsOfGuests J.world J.run.roster clock.old.sight.seen }
+        ensures leaves { Leaves J.world J.run.roster clock.old result clock.new }
+    {
+        clock.bundle.decide(rt, gate, &self.locks, world, standings)
     }
 
     /// The history, by the guests of all callers.
-    pub fn finish(self, alloc: Global, mut guests: Vec<Guest<J>>) -> Result<History, AllocError>
+    pub fn finish(self, alloc: Global, guests: Vec<Guest<J>>) -> Result<History, AllocError>
+        requires all { (c : ℕ) → c < J.run.roster.callers → HasGuest c guests.items }
+        ensures { IfOk result (Finished J.world guests.items) }
+    {
+        let books = self.finish_in_books(alloc, guests)?;
+        books.into_history(alloc)
+    }
+
+    /// The same, with each entry where its actor's book has it.
+    pub fn finish_in_books(
+        self,
+        alloc: Global,
+        mut guests: Vec<Guest<J>>,
+    ) -> Result<ClosedBooks, AllocError>
         requires all { (c : ℕ) → c < J.run.roster.callers → HasGuest c guests.items }
         ensures { IfOk result (Finished J.world guests.items) }
     {
@@ -188,28 +171,7 @@ impl<J: Naming + Placing> Net<J, WorldActor<J>> {
         };
         let mut all = last.into_pass();
         gather(&journal, &mut all, guests);
-        journal.close(alloc, all, books)
-    }
-}
-
-// Room for the name that a request may bind.
-fn reserve(fids: &mut Fids, request: &Request) -> Result<(), AllocError>
-    ensures names { fids.new.names ≡ fids.old.names }
-    ensures ok { OnOk result ((r : AnyReply) → HasRoomFor fids.new (newly_bound fids.new.names request.now r)) }
-{
-    match request {
-        Request::Open { name, .. } => fids.reserve(name.as_slice()),
-        _ => Ok(()),
-    }
-}
-
-// The names after a turn with a request. There is room for what it binds.
-fn settle_turn(fids: &mut Fids, request: &Request, turn: &Turn)
-    requires { (r : AnyReply) → HasRoomFor fids.old (newly_bound fids.old.names request.now r) }
-    ensures { fids.new.names ≡ names_after fids.old.names request.now turn.now }
-{
-    if let Turn::Recorded { reply, .. } = turn {
-        let _ = settle(fids, request, reply);
+        journal.close_in_books(alloc, all, books)
     }
 }
 

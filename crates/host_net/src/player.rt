@@ -8,7 +8,7 @@ ghost use Rattle.script_task.specs.Rest.{Continues};
 ghost use Rattle.host_net.specs.Answering.{CannotTell, CanTell, IsAnswered};
 ghost use Rattle.host_net.specs.Playing.{Counts, HasRole, IsPlayed, IsSamePlayer, PlaysOn, Heard, Told, played_by};
 ghost use Rattle.net_locks.specs.Rosters.{IsRosterOf};
-ghost use Rattle.host_net.specs.Visits.{IsFresh};
+ghost use Rattle.net_guests.specs.Visits.{IsFresh};
 ghost use Rattle.host_net.specs.declared.player.Role.TheVariants as role;
 
 use crate::guest::Guest;
@@ -81,7 +81,7 @@ impl<J: Naming + Placing, T: WholeTask> Player<J, T> {
     {
         guests_begin();
         Player {
-            role: role_of(world, guest.caller),
+            role: role_of(world, guest.caller()),
             guest,
             task,
             lost: false,
@@ -352,7 +352,7 @@ impl<J: Naming + Placing> Net<J, WorldActor<J>> {
             Ok(None) => return Played::Waits,
             Err(_) => return Played::Memory,
         };
-        let turn = self.operate_at(rt, gate, &mut player.guest, &request, spot);
+        let turn = self.operate_at(rt, gate, &mut player.guest, request, spot);
         hear(
             &mut player.task,
             &mut player.lost,

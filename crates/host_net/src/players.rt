@@ -8,9 +8,9 @@ ghost use Rattle.net_base.specs.Callers.{IsScript, caller_of};
 ghost use Rattle.net_base.specs.Stamped.{In};
 ghost use Rattle.net_base.specs.Summary.{answered_steps};
 ghost use Rattle.host_net.specs.Answering.{AreAfter, CannotTellOf, IsAnsweredOf, SomeCannotTell};
-ghost use Rattle.host_net.specs.Groups.{AreWaiting, all_members, all_seats, caller, callers_of, dealt, joined, members, no_players, seats, visits, with_last};
+ghost use Rattle.host_net.specs.Groups.{AreWaiting, all_members, all_seats, caller, callers_of, dealt, joined, members, no_players, seat_of, seats, visits, with_last};
 ghost use Rattle.host_net.specs.Playing.{ArePlayed, IsSamePlayer, IsWaiting};
-ghost use Rattle.host_net.specs.Visits.{HasGuest};
+ghost use Rattle.net_guests.specs.Visits.{HasGuest};
 ghost use Rattle.host_net.specs.declared.player.Played.TheVariants as played;
 ghost use Rattle.host_net.specs.declared.player.Role.TheVariants as role;
 ghost use Rattle.host_net.specs.declared.players.Round.TheVariants.{Whole};
@@ -31,6 +31,9 @@ use std::thread::Threads;
 use whole_script::WholeTask as Task;
 use workers::{Crew, Pace, Shift};
 
+/// As how many calls in vain one counts whose workers waited for one another most of the time.
+const VAIN_CALLS: u32 = 8;
+
 /// The players of one worker. The clock's stands by itself, in one of the groups.
 #[derive(Drop)]
 pub struct Group<J: Naming + Placing, T: Task> {
@@ -48,24 +51,26 @@ impl<J: Naming + Placing, T: Task> Model for Group<J, T> {
     ghost view = { λ g. record { players = g.players.items; clock = g.clock; memory = g.memory } };
 }
 
-/// The players of all callers so far: the one of caller c stands in the group whose number is c modulo the number of
-/// groups.
+/// The players of all callers so far. A deal has a number for each caller; where it has none, that is the caller's own. The
+/// player stands in the group of this number, modulo the number of groups.
 #[derive(Drop)]
 pub struct Players<J: Naming + Placing, T: Task> {
     pub(crate) groups: Vec<Group<J, T>>,
     pub(crate) callers: usize,
+    deal: Vec<usize>,
     // how the phases went so far
     pace: Pace,
 }
 
 impl<J: Naming + Placing, T: Task> Model for Players<J, T> {
-    ghost use Rattle.host_net.specs.Groups.{Grouping, IsDealt, all_seats};
+    ghost use Rattle.host_net.specs.Groups.{Follows, Grouping, IsDealt, all_seats};
 
     ghost Value = { Grouping T };
 
-    ghost view = { λ p. record { groups = p.groups.items; callers = p.callers } };
+    ghost view = { λ p. record { groups = p.groups.items; callers = p.callers; deal = p.deal.items } };
 
-    ghost invariant = { λ p. IsDealt J.world p.callers (all_seats p.groups.items) };
+    ghost invariant = { λ p. IsDealt J.world p.callers (all_seats p.groups.items)
+        × Follows p.deal.items (all_seats p.groups.items) };
 }
 
 impl<J: Naming + Placing, T: Task + Drop> Group<J, T> {
@@ -110,20 +115,34 @@ fn player_of<J: Naming + Placing, T: Task>(players: &[Player<J, T>], caller: usi
     unreachable!()
 }
 
+// The number of a caller's group, of so many, by a deal.
+fn place_of(deal: &[usize], caller: usize, groups: usize) -> usize
+    requires { 0 < groups }
+    ensures { result ≡ seat_of deal.now caller groups }
+{
+    let number = match deal.get(caller) {
+        Some(number) => *number,
+        None => caller,
+    };
+    number % groups
+}
+
 impl<J: Naming + Placing, T: Task + Drop> Players<J, T> {
-    /// So many groups without players.
-    pub fn new(alloc: Global, workers: u32) -> Result<Players<J, T>, AllocError>
-        requires { 0 < workers }
-        ensures groups { IfOk result (λ p. length p.groups ≡ workers) }
+    /// So many groups without players, which are to join them by a deal.
+    pub fn new(alloc: Global, groups: usize, deal: Vec<usize>) -> Result<Players<J, T>, AllocError>
+        requires { 0 < groups }
+        ensures groups { IfOk result (λ p. length p.groups ≡ groups) }
         ensures empty { IfOk result (λ p. p.callers ≡ 0) }
+        ensures deal { IfOk result (λ p. p.deal ≡ deal.items) }
     {
-        let mut groups = Vec::with_capacity(alloc, workers as usize)?;
-        for _ in 0..workers {
-            groups.push(Group::new(alloc))?;
+        let mut all = Vec::with_capacity(alloc, groups)?;
+        for _ in 0..groups {
+            all.push(Group::new(alloc))?;
         }
         Ok(Players {
-            groups,
+            groups: all,
             callers: 0,
+            deal,
             pace: Pace::new(),
         })
     }
@@ -135,7 +154,7 @@ impl<J: Naming + Placing, T: Task + Drop> Players<J, T> {
         ensures err { OnErr result (self.new ≡ self.old) }
     {
         let caller = player.caller() as usize;
-        let place = caller % self.groups.len();
+        let place = place_of(self.deal.as_slice(), caller, self.groups.len());
         self.groups[place].add(player)?;
         self.callers = caller + 1;
         Ok(())
@@ -174,7 +193,8 @@ impl<J: Naming + Placing, T: Task + Drop> Players<J, T> {
         ensures count { IfSome result (λ n. IsAnsweredOf J.world script (all_members self.now.groups) n) }
         ensures none { IfNone result (CannotTellOf script (all_members self.now.groups)) }
     {
-        let group = &self.groups[script % self.groups.len()];
+        let place = place_of(self.deal.as_slice(), script, self.groups.len());
+        let group = &self.groups[place];
         player_of(&group.players, script).answered()
     }
 
@@ -187,6 +207,7 @@ impl<J: Naming + Placing, T: Task + Drop> Players<J, T> {
         let Players {
             mut groups,
             callers,
+            deal: _,
             pace: _,
         } = self;
         let mut guests = Vec::with_capacity(alloc, callers)?;
@@ -277,6 +298,17 @@ fn count(going: &mut usize, turns: Played) {
     }
 }
 
+// Whether a call paid. One whose workers waited for one another counts as several in vain.
+fn learn<R: Wait>(rt: &R, pace: &mut Pace, crew: &Crew) {
+    let waited = crew.has_waited(rt);
+    pace.learn(!waited && crew.has_paid(rt));
+    if waited {
+        for _ in 1..VAIN_CALLS {
+            pace.learn(false);
+        }
+    }
+}
+
 impl<J: Naming + Placing> Net<J, WorldActor<J>> {
     /// The caller plays all players, and where those of several groups go on for long, each group is played by a worker.
     /// Unless memory ran out, each player waits then.
@@ -290,6 +322,7 @@ impl<J: Naming + Placing> Net<J, WorldActor<J>> {
     where
         J: Send + Sync,
         ensures callers { players.new.callers ≡ players.old.callers }
+        ensures deal { players.new.deal ≡ players.old.deal }
         ensures seats { all_seats players.new.groups ≡ all_seats players.old.groups }
         ensures rest { list_any (λ g. g.memory) players.new.groups ≡ false
             → AreWaiting J.world (all_members players.new.groups) }
@@ -411,7 +444,7 @@ impl<J: Naming + Placing> Net<J, WorldActor<J>> {
         }
         let crew = Crew::new(groups.len());
         self.play_each_beside(rt, alloc, gate, &crew, groups);
-        pace.learn(crew.has_paid(rt));
+        learn(rt, pace, &crew);
     }
 
     fn play_each_beside<R: Threads + Wait + Sync, G: Gate + Sync, T: Task + Drop + Send>(
@@ -503,7 +536,9 @@ impl<J: Naming + Placing> Net<J, WorldActor<J>> {
         shift: &mut Shift,
         group: &Group<J, T>,
     ) -> bool {
-        crew.tell(rt, shift);
+        if !crew.tell(rt, shift) {
+            return false;
+        }
         for _ in rt.forever() {
             let (changes, looks) = crew.look(rt);
             if self.goes_on_soon(group, looks) {

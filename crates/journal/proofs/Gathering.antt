@@ -20,7 +20,7 @@ use Rattle.journal.specs.Rule.{Held, Lawful, Knows, Looks}
 use Rattle.journal.specs.Tokens.{stamped, sight, Agrees, HoldsAll}
 use Rattle.std.proofs.lemmas.List.{length-map}
 use Rattle.journal.proofs.After.{all_seen}
-use Rattle.journal.specs.Closing.{plain, Taken, Gathered, IsWhole, IsCover, IsLeft, AreOf, AreAt}
+use Rattle.journal.specs.Closing.{plain, Taken, Gathered, IsWhole, IsCover, IsLeft, AreOf, AreAllOf, AreAt}
 use Rattle.journal.proofs.Lists.{prefix_self, prefix_trans, in-append, in-left, in-right}
 use Rattle.journal.proofs.Names.{same_actor_refl}
 
@@ -119,17 +119,29 @@ covers r log v0 v books es g lists lawful actors = record {
 
 -- Lists of entries.
 
-pub of_none : AreOf [] []
-of_none e i = absurd i
+pub of_none : AreAllOf [] []
+of_none = record { only = λ e i. absurd i; all = λ e i. absurd i }
 
-left_append : (e : Stamped) (ls : List (List Stamped)) (l : List Stamped) → IsLeft e (ls ++ l ∷ []) → IsLeft e ls ⊎ In e l
+pub left_append : (e : Stamped) (ls : List (List Stamped)) (l : List Stamped) → IsLeft e (ls ++ l ∷ []) → IsLeft e ls ⊎ In e l
 left_append e [] l (inl i) = inr i
 left_append e [] l (inr i) = absurd i
 left_append e (k ∷ ls) l (inl i) = inl (inl i)
 left_append e (k ∷ ls) l (inr i) = ⊎_elim (λ j. inl (inr j)) (λ j. inr j) (left_append e ls l i)
 
-pub of_more : (es fs : List Stamped) (ls : List (List Stamped)) → AreOf es ls → AreOf (es ++ fs) (ls ++ fs ∷ [])
-of_more es fs ls are e i = ⊎_elim (λ j. in-left e es fs (are e j)) (λ j. in-right e es fs j) (left_append e ls fs i)
+left_of : (e : Stamped) (ls : List (List Stamped)) (l : List Stamped) → IsLeft e ls → IsLeft e (ls ++ l ∷ [])
+left_of e [] l i = absurd i
+left_of e (k ∷ ls) l (inl i) = inl i
+left_of e (k ∷ ls) l (inr i) = inr (left_of e ls l i)
+
+left_last : (e : Stamped) (ls : List (List Stamped)) (l : List Stamped) → In e l → IsLeft e (ls ++ l ∷ [])
+left_last e [] l i = inl i
+left_last e (k ∷ ls) l i = inr (left_last e ls l i)
+
+pub of_more : (es fs : List Stamped) (ls : List (List Stamped)) → AreAllOf es ls → AreAllOf (es ++ fs) (ls ++ fs ∷ [])
+of_more es fs ls are = record {
+  only = λ e i. ⊎_elim (λ j. in-left e es fs (are.only e j)) (λ j. in-right e es fs j) (left_append e ls fs i);
+  all = λ e i. ⊎_elim (λ j. left_of e ls fs (are.all e j)) (λ j. left_last e ls fs j) (in-append e es fs i);
+}
 
 module _ {A : Type 0} (f : A → List Stamped) where
   -- a list of which the first entries are gone
@@ -201,8 +213,9 @@ plain_from k n (x ∷ log) = next (matches k x) (plain_from k (n + 1) log)
 
 -- at the end the history is what the pass has seen, and the lists have its entries
 pub closes : (r : Roster) (v w0 w : View) (n : ℕ) (books : List Volume) (es : List Stamped) (log : List Noted) (ls : List (List Stamped)) → Agrees v → Looks r v n w0 → Gathered w0 books w es
-    → Knows r log w → Lawful r log → HoldsAll r (sight v) → map (λ (b : Volume). b.actor) books ≡ r.actors → AreOf es ls
+    → Knows r log w → Lawful r log → HoldsAll r (sight v) → map (λ (b : Volume). b.actor) books ≡ r.actors → AreAllOf es ls
     → (log ≡ v.seen) × (length (map (λ (z : Noted). z.entry) log) ≡ n) × AreAt (map (λ (z : Noted). z.entry) log) ls
+    × ((m : ℕ) (x : Entry) → get_elem? (map (λ (z : Noted). z.entry) log) m ≡ some x → IsLeft record { stamp = m; entry = x } ls)
 closes r v w0 w n books es log ls agrees d g known lawful holds actors are =
     let lists : (k : Number) (l : List (ℕ × Noted)) → In (k, l) w.held → l ≡ at k log = λ k l i. (known.lists k l i).1.0 in
     let stays : (k : Number) (l : List (ℕ × Noted)) → In (k, l) v.held → In (k, l) w0.held = λ k l i. subst (λ (hs : List Held). In (k, l) hs) (sym d.held) i in
@@ -210,7 +223,7 @@ closes r v w0 w n books es log ls agrees d g known lawful holds actors are =
     let before : w0.seen ≡ v.seen = all_seen r v w0.seen agrees d.lawful d.before (λ k l i. d.lists k l (stays k l i)) holds in
     let cover = covers r log w0 w books es g lists lawful actors in
     let long : length (map (λ (z : Noted). z.entry) log) ≡ n = length-map log (λ (z : Noted). z.entry) ∙ (ap length (there ∙ sym before) ∙ d.front) in
-    (there, long, at_stamps (map (λ (z : Noted). z.entry) log) es ls cover are)
+    (there, long, at_stamps (map (λ (z : Noted). z.entry) log) es ls cover are.only, λ m x h. are.all record { stamp = m; entry = x } (cover.all m x h))
 
 -- put together at the answer
 pub whole : (r : Roster) (p : Sight) (books : List Volume) (h : List Entry) (log : List Noted) → log ≡ p.seen → h ≡ map (λ (z : Noted). z.entry) log

@@ -7,3 +7,4 @@ pub mod After
 pub mod Counts
 pub mod Dealing
 pub mod Gathering
+pub mod Placing

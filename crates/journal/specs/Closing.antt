@@ -1,5 +1,5 @@
 -- What the whole history says of the pass and the books that it was made from.
-use Rattle.std.specs.Prelude.{◌≡◌, ℕ, ◌⊎◌, List, [], ◌∷◌, map, slice_set}
+use Rattle.std.specs.Prelude.{◌≡◌, ℕ, ◌⊎◌, List, [], ◌∷◌, map}
 use mathlib.Core.Option.{some}
 use mathlib.Core.List.{IsPrefix}
 use lib.ListN.{get_elem?}
@@ -59,11 +59,11 @@ IsLeft e (l ∷ ls) = In e l ⊎ IsLeft e ls
 abbrev pub AreOf : List Stamped → List (List Stamped) → Type 0
 AreOf es ls = (e : Stamped) → IsLeft e ls → In e es
 
+-- and all of them
+pub record AreAllOf (es : List Stamped) (ls : List (List Stamped)) : Type 0 where
+  pub only : AreOf es ls
+  pub all : (e : Stamped) → In e es → IsLeft e ls
+
 -- what is in these lists stands at its stamp
 abbrev pub AreAt : List Entry → List (List Stamped) → Type 0
 AreAt log ls = (e : Stamped) → IsLeft e ls → get_elem? log e.stamp ≡ some e.entry
-
--- an order, with one place at the stamp of each of these entries
-abbrev pub with_place : ℕ → List Stamped → List ℕ → List ℕ
-with_place place [] order = order
-with_place place (e ∷ es) order = with_place place es (slice_set order e.stamp place)

@@ -17,12 +17,12 @@ use crate::runner::Runner;
 use crate::turn::Turn;
 use duties::Due;
 use net_base::{Event, World};
+use run_record::RunEnd;
 use std::alloc::AllocError;
-use transcript::End;
 
 impl<'a> Runner<'a> {
-    /// How the run stands.
-    pub fn end(&self, world: &World) -> End
+    /// How the run has ended, if it has.
+    pub fn end(&self, world: &World) -> Option<RunEnd>
         requires { Tracks world.now self.now }
         ensures { word_of result ≡ end_word world.now (after world.now self.now.history.entries) }
     {
@@ -30,15 +30,15 @@ impl<'a> Runner<'a> {
             return self.busy_end();
         }
         if !self.is_unfinished(world) {
-            return End::Done;
+            return Some(RunEnd::Done);
         }
         if self.moment == world.end {
-            return End::Stopped;
+            return Some(RunEnd::Stopped);
         }
         if self.is_full(world.scripts.len() + world.media.len()) {
-            return End::Limit;
+            return Some(RunEnd::Limit);
         }
-        End::Unfinished
+        None
     }
 
     /// Whether the clock may move: nobody could record, a step of some script isn't finished, and the end moment isn't reached.
@@ -55,17 +55,17 @@ impl<'a> Runner<'a> {
         self.moment < world.end
     }
 
-    // How it stands where a caller owes a duty or its next event is ready.
-    fn busy_end(&self) -> End
+    // The same where a caller owes a duty or its next event is ready.
+    fn busy_end(&self) -> Option<RunEnd>
         ensures { (w : AnyWorld) → Tracks w self.now → calm.calm w (after w self.now.history.entries) ≡ false
             → word_of result ≡ end_word w (after w self.now.history.entries) }
     {
         for caller in 0..self.callers.len() {
             if self.is_full(caller) && self.could(caller) {
-                return End::Limit;
+                return Some(RunEnd::Limit);
             }
         }
-        End::Unfinished
+        None
     }
 
     // Whether a caller owes a duty, or its next event is ready.

@@ -2,6 +2,7 @@
 ghost use Rattle.std.specs.Prelude.{◌<◌, ◌≤◌};
 ghost use Rattle.net_base.specs.World.{IsWorld};
 
+use agenda::BookedRun;
 use net_base::{History, World};
 use netcheck::check;
 use outside::OpenGate;
@@ -119,7 +120,7 @@ fn told_of(before: u64, text: &[u8]) -> u64 {
     told
 }
 
-/// Whether the history of a run on so many workers keeps all rules.
+/// Whether the history of a run on so many workers keeps all rules, put together of its books.
 fn is_legal<R: Threads + Wait + Sync>(
     rt: &R,
     alloc: Global,
@@ -130,12 +131,19 @@ fn is_legal<R: Threads + Wait + Sync>(
     requires some { 0 < workers }
     requires few { workers ≤ 16 }
 {
-    let Ok(run) = agenda::run(rt, alloc, world, workers, &OpenGate) else {
+    let Ok(run) = agenda::run_in_books(rt, alloc, world, workers, &OpenGate) else {
         return Err(AllocError);
     };
-    let legal = check(alloc, world, &run.history).is_ok();
-    drop(run);
-    Ok(legal)
+    let BookedRun {
+        books,
+        answered: _,
+        end: _,
+    } = run;
+    let lent = books.get(0).is_some() && books.get(books.len()).is_none();
+    let history = books.into_history(alloc)?;
+    let legal = check(alloc, world, &history).is_ok();
+    drop(history);
+    Ok(lent && legal)
 }
 
 /// Whether that holds on two, four and sixteen.

@@ -3,7 +3,7 @@ use Rattle.std.proofs.Common.{◌≡◌, ℕ, zero, suc, ◌<◌, List, [], ◌�
 use Rattle.std.proofs.lemmas.List.{length-map}
 use Rattle.std.proofs.Math.Seq.{take-append_seam}
 use Rattle.net_base.specs.Stamped.{In}
-use Rattle.host_net.specs.Visits.{AreFresh, HasGuest, Visit}
+use Rattle.net_guests.specs.Visits.{AreFresh, HasGuest, Visit}
 
 abbrev pub callers_of : List Visit → List ℕ
 callers_of vs = map (λ (v : Visit). v.caller) vs

@@ -1,4 +1,5 @@
 pub mod Digits
+pub mod Part
 pub mod RunStatus
 pub mod Telling
 pub use Rattle.net_base.specs.Plain

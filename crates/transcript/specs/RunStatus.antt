@@ -1,20 +1,20 @@
 -- What a summary tells of the net behind a history.
-use Rattle.std.specs.Prelude.{◌≡◌, ℕ, List, [], ◌∷◌, ◌++◌, codes}
+use Rattle.std.specs.Prelude.{◌≡◌, ℕ, List, [], ◌∷◌, ◌++◌, Option, Some, None, codes}
 use Rattle.net_base.specs.declared.history.Entry.{Entry}
 use Rattle.net_base.specs.declared.world.World.{World}
 use Rattle.net_base.specs.Legal.{IsLegal}
 use Rattle.net_base.specs.Net.{after, moment_after}
 use Rattle.net_base.specs.Summary.{steps_line, totals_lines, totals, end_line, end_word, answered_steps, all_steps}
-use Rattle.transcript.specs.declared.summary.End.{End}
-use Rattle.transcript.specs.declared.summary.End.TheVariants as ends
+use Rattle.run_record.specs.declared.end.RunEnd.{RunEnd}
+use Rattle.run_record.specs.declared.end.RunEnd.TheVariants as ends
 use Rattle.transcript.specs.declared.summary.RunStatus.{RunStatus}
 
--- the word that an end prints as
-abbrev pub word_of : End → List ℕ
-word_of ends.Done = codes "done"
-word_of ends.Stopped = codes "stopped"
-word_of ends.Limit = codes "limit"
-word_of ends.Unfinished = codes "unfinished"
+-- the word that an end prints as, or that of a run which hasn't ended
+abbrev pub word_of : Option RunEnd → List ℕ
+word_of (Some ends.Done) = codes "done"
+word_of (Some ends.Stopped) = codes "stopped"
+word_of (Some ends.Limit) = codes "limit"
+word_of None = codes "unfinished"
 
 -- the moment of the last move among these entries, or the one before
 abbrev pub latest : ℕ → List Entry → ℕ

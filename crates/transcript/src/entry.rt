@@ -1,13 +1,15 @@
 //! Entries as lines, and histories as texts.
-ghost use Rattle.std.specs.Prelude.{◌≡◌, ◌+◌, ◌<◌, ◌^◌, ◌++◌, length, OnOk, IfOk};
+ghost use Rattle.std.specs.Prelude.{◌≡◌, ◌≤◌, ◌++◌, length, OnOk, IfOk};
 ghost use Rattle.net_base.specs.Transcript as spec;
 ghost use Rattle.net_base.specs.Transcript.{spaced, line_of, lines_from, history_text, header_words, way_words, body_words, entry_words, who_words, outcome_words, emitted_words, ended_words};
+ghost use Rattle.transcript.specs.Part.{part};
 
 use crate::event::put_event;
 use crate::line::{put_number, put_with_numbers, put_word};
 use crate::names::{put_actor, put_addr, put_number_or_dash};
 use crate::reply::put_reply;
 use net_base::{BodyHeader, Entry, Header, History, Octets};
+use run_record::Entries;
 use std::alloc::{AllocError, Global};
 use words::{kind_word, put_decimal};
 
@@ -18,25 +20,38 @@ const LINE: usize = 64;
 pub fn text_of(alloc: Global, history: &History) -> Result<Octets, AllocError>
     ensures { IfOk result (λ text. text ≡ history_text history.now) }
 {
-    text_from(alloc, 0, history.as_slice())
+    text_from(alloc, history, 0, history.len())
 }
 
-/// The text of entries, the first of which has this stamp.
-pub fn text_from(alloc: Global, first: usize, entries: &[Entry]) -> Result<Octets, AllocError>
-    requires { first + length entries.now < 2 ^ 64 }
-    ensures { IfOk result (λ text. text ≡ lines_from first entries.now) }
+/// The text of the entries from a stamp up to another.
+pub fn text_from<E: Entries>(
+    alloc: Global,
+    entries: &E,
+    first: usize,
+    last: usize,
+) -> Result<Octets, AllocError>
+    requires order { first ≤ last }
+    requires within { last ≤ length (E.list entries.now) }
+    ensures { IfOk result (λ text. text ≡ lines_from first (part first last (E.list entries.now))) }
 {
-    let mut out = Octets::from_vec(Vec::with_capacity(alloc, entries.len().saturating_mul(LINE))?);
-    put_lines(&mut out, first, entries)?;
+    let room = (last - first).saturating_mul(LINE);
+    let mut out = Octets::from_vec(Vec::with_capacity(alloc, room)?);
+    put_lines(&mut out, entries, first, last)?;
     Ok(out)
 }
 
-fn put_lines(out: &mut Octets, first: usize, entries: &[Entry]) -> Result<(), AllocError>
-    requires { first + length entries.now < 2 ^ 64 }
-    ensures { OnOk result (out.new ≡ out.old ++ lines_from first entries.now) }
+fn put_lines<E: Entries>(
+    out: &mut Octets,
+    entries: &E,
+    first: usize,
+    last: usize,
+) -> Result<(), AllocError>
+    requires order { first ≤ last }
+    requires within { last ≤ length (E.list entries.now) }
+    ensures { OnOk result (out.new ≡ out.old ++ lines_from first (part first last (E.list entries.now))) }
 {
-    for (place, entry) in entries.iter().enumerate() {
-        put_line(out, (first + place) as u64, entry)?;
+    for stamp in first..last {
+        put_line(out, stamp as u64, entries.entry(stamp))?;
     }
     Ok(())
 }

@@ -1,10 +1,12 @@
 //! The text of a history, made by several workers.
-ghost use Rattle.std.specs.Prelude.{◌≡◌, ◌+◌, ◌<◌, ◌^◌, ◌++◌, length, IfOk};
+ghost use Rattle.std.specs.Prelude.{◌≡◌, ◌≤◌, length, IfOk};
 ghost use Rattle.std.specs.Thread.{IsSync};
 ghost use Rattle.net_base.specs.Transcript.{history_text, lines_from};
+ghost use Rattle.transcript.specs.Part.{part};
 
 use crate::entry::text_from;
-use net_base::{Entry, History, Octets};
+use net_base::Octets;
+use run_record::Entries;
 use std::alloc::{AllocError, Global};
 use std::thread::{Threads, join};
 
@@ -12,44 +14,45 @@ use std::thread::{Threads, join};
 const FEW: usize = 256;
 
 /// The text of a history, by so many workers.
-pub fn text_by<R: Threads + Sync>(
+pub fn text_by<R: Threads + Sync, E: Entries + Sync>(
     rt: &R,
     alloc: Global,
     workers: u32,
-    history: &History,
+    entries: &E,
 ) -> Result<Octets, AllocError>
-    ensures { IfOk result (λ text. text ≡ history_text history.now) }
+    ensures { IfOk result (λ text. text ≡ history_text (E.list entries.now)) }
 {
-    text_by_halves(rt, alloc, workers, 0, history.as_slice())
+    text_by_halves(rt, alloc, workers, entries, 0, entries.count())
 }
 
-// The text of entries, the first of which has this stamp: that of either half, by half of the workers.
-#[tactic(auto, using(crate::proofs::Runs::lines_of_both))]
-fn text_by_halves<R: Threads + Sync>(
+// The text of the entries from a stamp up to another: that of either half, by half of the workers.
+#[tactic(auto, using(crate::proofs::Runs::lines_of_halves))]
+fn text_by_halves<R: Threads + Sync, E: Entries + Sync>(
     rt: &R,
     alloc: Global,
     workers: u32,
+    entries: &E,
     first: usize,
-    entries: &[Entry],
+    last: usize,
 ) -> Result<Octets, AllocError>
-    requires { first + length entries.now < 2 ^ 64 }
-    ensures { IfOk result (λ text. text ≡ lines_from first entries.now) }
+    requires order { first ≤ last }
+    requires within { last ≤ length (E.list entries.now) }
+    ensures { IfOk result (λ text. text ≡ lines_from first (part first last (E.list entries.now))) }
 {
-    if workers < 2 || entries.len() < FEW {
-        return text_from(alloc, first, entries);
+    if workers < 2 || last - first < FEW {
+        return text_from(alloc, entries, first, last);
     }
-    let (left, right) = entries.split_at(entries.len() / 2);
-    let middle = first + left.len();
+    let middle = first + (last - first) / 2;
     let (front, back) = join(
         rt,
         || -> Result<Octets, AllocError>
-            requires { IsSync R.row × (first + length left.now < 2 ^ 64) }
-            ensures { IfOk result (λ text. text ≡ lines_from first left.entry.now) }
-        { text_by_halves(rt, alloc, workers / 2, first, left) },
+            requires { IsSync R.row × IsSync E.row × (first ≤ middle) × (middle ≤ length (E.list entries.now)) }
+            ensures { IfOk result (λ text. text ≡ lines_from first (part first middle (E.list entries.entry.now))) }
+        { text_by_halves(rt, alloc, workers / 2, entries, first, middle) },
         || -> Result<Octets, AllocError>
-            requires { IsSync R.row × (middle + length right.now < 2 ^ 64) }
-            ensures { IfOk result (λ text. text ≡ lines_from middle right.entry.now) }
-        { text_by_halves(rt, alloc, workers / 2, middle, right) },
+            requires { IsSync R.row × IsSync E.row × (middle ≤ last) × (last ≤ length (E.list entries.now)) }
+            ensures { IfOk result (λ text. text ≡ lines_from middle (part middle last (E.list entries.entry.now))) }
+        { text_by_halves(rt, alloc, workers / 2, entries, middle, last) },
     );
     let mut text = front?;
     text.append(back?.as_slice())?;

@@ -15,5 +15,6 @@ pub use entry::text_of;
 pub use halves::text_by;
 pub use reply::put_reply;
 pub use law::{plain_texts_tell, printed_runs_tell, texts_tell_words};
-pub use summary::{End, RunStatus, summary_by};
+pub use run_record::RunEnd;
+pub use summary::{RunStatus, summary_by};
 pub use totals::{Totals, totals_of};

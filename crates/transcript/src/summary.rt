@@ -1,79 +1,51 @@
 //! The summary of a run.
 ghost use Rattle.std.specs.Prelude.{◌≡◌, ◌++◌, OnOk, IfOk, codes};
-ghost use Rattle.net_base.specs.Net as net;
 ghost use Rattle.net_base.specs.Summary as spec;
 ghost use Rattle.net_base.specs.Summary.{summary, steps_line, both_line, end_line};
-ghost use Rattle.transcript.specs.RunStatus.{IsStatusOf, lines_by, word_of, latest};
+ghost use Rattle.transcript.specs.RunStatus.{IsStatusOf, lines_by, word_of};
 
 use crate::totals::{Totals, totals_of};
-use net_base::{Event, History, Octets, World};
+use net_base::{Octets, World};
+use run_record::{Entries, RunEnd};
 use std::alloc::{AllocError, Global};
 use words::put_wide_decimal;
 
-/// How a run ends: all is done, the end moment came, a caller has no room, or none of these.
-#[derive(Clone, Copy, Debug, PartialEq, Eq)]
-pub enum End {
-    Done,
-    Stopped,
-    Limit,
-    Unfinished,
-}
-
-/// What the net behind a history tells: how many steps are answered, and how the run stands.
+/// What the net behind a history tells: how many steps are answered, and how the run has ended, if it has.
 #[derive(Clone, Copy, Debug, PartialEq, Eq)]
 pub struct RunStatus {
     pub answered: u128,
-    pub end: End,
+    pub end: Option<RunEnd>,
 }
 
 /// The summary of a history, for a caller that knows how its net stands. The status is printed as it is told.
 #[tactic(auto, using(crate::proofs::Summing::status_tells))]
-pub fn summary_by(
+pub fn summary_by<E: Entries>(
     alloc: Global,
     world: &World,
-    history: &History,
+    entries: &E,
     status: RunStatus,
 ) -> Result<Octets, AllocError>
-    ensures lines { IfOk result (λ text. text ≡ lines_by world.now history.now status) }
-    ensures summary { IsStatusOf world.now history.now status
-        → IfOk result (λ text. text ≡ summary world.now history.now) }
+    ensures lines { IfOk result (λ text. text ≡ lines_by world.now (E.list entries.now) status) }
+    ensures summary { IsStatusOf world.now (E.list entries.now) status
+        → IfOk result (λ text. text ≡ summary world.now (E.list entries.now)) }
 {
     let mut out = Octets::new(alloc);
-    put_summary(&mut out, world, history, status)?;
+    put_summary(&mut out, world, entries, status)?;
     Ok(out)
 }
 
-fn put_summary(
+fn put_summary<E: Entries>(
     out: &mut Octets,
     world: &World,
-    history: &History,
+    entries: &E,
     status: RunStatus,
 ) -> Result<(), AllocError>
-    ensures { OnOk result (out.new ≡ out.old ++ lines_by world.now history.now status) }
+    ensures { OnOk result (out.new ≡ out.old ++ lines_by world.now (E.list entries.now) status) }
 {
+    let totals = totals_of(entries);
     put_steps(out, status.answered, all_steps(world))?;
-    put_totals(out, totals_of(history))?;
-    put_end(out, status.end, moment_of(history))
-}
-
-// The moment of the last move, or 0.
-fn moment_of(history: &History) -> u64
-    ensures { result ≡ latest 0 history.now }
-{
-    let mut moment = 0;
-    for entry in history.as_slice() {
-        moment = moment_after(moment, &entry.event);
-    }
-    moment
-}
-
-fn moment_after(now: u64, event: &Event) -> u64
-    ensures { result ≡ net.moment_after now event.now }
-{
-    match event {
-        Event::Move { moment } => *moment,
-        _ => now,
-    }
+    put_totals(out, totals)?;
+    put_end(out, status.end, totals.moment)
 }
 
 fn all_steps(world: &World) -> u128
@@ -120,7 +92,7 @@ fn put_both(out: &mut Octets, word: &[u8], written: u128, read: u128) -> Result<
     out.append(b"\n")
 }
 
-fn put_end(out: &mut Octets, end: End, moment: u64) -> Result<(), AllocError>
+fn put_end(out: &mut Octets, end: Option<RunEnd>, moment: u64) -> Result<(), AllocError>
     ensures { OnOk result (out.new ≡ out.old ++ end_line (word_of end) moment) }
 {
     out.append(b"end ")?;
@@ -130,13 +102,13 @@ fn put_end(out: &mut Octets, end: End, moment: u64) -> Result<(), AllocError>
     out.append(b"\n")
 }
 
-fn end_word(end: End) -> &'static [u8]
+fn end_word(end: Option<RunEnd>) -> &'static [u8]
     ensures { result.now ≡ word_of end }
 {
     match end {
-        End::Done => b"done",
-        End::Stopped => b"stopped",
-        End::Limit => b"limit",
-        End::Unfinished => b"unfinished",
+        Some(RunEnd::Done) => b"done",
+        Some(RunEnd::Stopped) => b"stopped",
+        Some(RunEnd::Limit) => b"limit",
+        None => b"unfinished",
     }
 }

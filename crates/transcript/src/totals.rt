@@ -1,38 +1,56 @@
-//! What a history wrote and read.
+//! What a history wrote and read, and its moment.
 ghost use Rattle.std.specs.Prelude.{◌≡◌, ◌≤◌, length, nat_lt, if◌then◌else◌};
+ghost use Rattle.net_base.specs.Net as net;
 ghost use Rattle.net_base.specs.Summary.{sum_over, written_in, read_in, bytes_written_in, bytes_read_in};
+ghost use Rattle.transcript.specs.RunStatus.{latest};
 
-use net_base::{Entry, Event, History, Reply};
+use net_base::{Entry, Event, Reply};
+use run_record::Entries;
 
-/// How many messages were written and read, and how many bytes they have. A read of no bytes is no message.
+/// How many messages were written and read, and how many bytes they have; and the moment of the last move, or 0. A read
+/// of no bytes is no message.
 #[derive(Clone, Copy, Debug, PartialEq, Eq)]
 pub struct Totals {
     pub written: u64,
     pub read: u64,
     pub bytes_written: u128,
     pub bytes_read: u128,
+    pub moment: u64,
 }
 
 /// The totals of a history, in one pass.
-pub fn totals_of(history: &History) -> Totals
-    ensures written { result.written ≡ sum_over written_in history.now }
-    ensures read { result.read ≡ sum_over read_in history.now }
-    ensures bytes_written { result.bytes_written ≡ sum_over bytes_written_in history.now }
-    ensures bytes_read { result.bytes_read ≡ sum_over bytes_read_in history.now }
+pub fn totals_of<E: Entries>(entries: &E) -> Totals
+    ensures written { result.written ≡ sum_over written_in (E.list entries.now) }
+    ensures read { result.read ≡ sum_over read_in (E.list entries.now) }
+    ensures bytes_written { result.bytes_written ≡ sum_over bytes_written_in (E.list entries.now) }
+    ensures bytes_read { result.bytes_read ≡ sum_over bytes_read_in (E.list entries.now) }
+    ensures moment { result.moment ≡ latest 0 (E.list entries.now) }
 {
     let mut totals = Totals {
         written: 0,
         read: 0,
         bytes_written: 0,
         bytes_read: 0,
+        moment: 0,
     };
-    for entry in history.as_slice() {
+    for stamp in 0..entries.count() {
+        let entry = entries.entry(stamp);
         totals.written += messages_written(entry);
         totals.read += messages_read(entry);
         totals.bytes_written += bytes_written(entry) as u128;
         totals.bytes_read += bytes_read(entry) as u128;
+        totals.moment = moment_after(totals.moment, &entry.event);
     }
     totals
+}
+
+fn moment_after(now: u64, event: &Event) -> u64
+    ensures { result ≡ net.moment_after now event.now }
+{
+    match event {
+        Event::Move { moment } => *moment,
+        _ => now,
+    }
 }
 
 fn messages_written(entry: &Entry) -> u64

@@ -2,7 +2,7 @@
 use Rattle.std.proofs.Common.{◌≡◌, ℕ, zero, suc, ◌+◌, ◌<◌, ◌∙◌, Bool, true, false, List, [], ◌∷◌, ◌++◌, drop, length, Option, Some, None, slice_get, is_none, is_some, nat_lt, nat_le, option_map, refl, sym, ap, subst, rules, tests, arith}
 use Rattle.std.proofs.lemmas.Bool.Decides.{nat_tests}
 use Rattle.std.proofs.lemmas.Bool.{true≢false}
-use Rattle.std.proofs.lemmas.Option.{none-some, same_Some}
+use Rattle.std.proofs.lemmas.Option.{none-some}
 use Rattle.net_base.specs.declared.reply.Reply.{Reply}
 use Rattle.net_base.specs.declared.world.Script.{Script}
 use Rattle.net_base.specs.declared.world.Step.{Step}
@@ -17,7 +17,7 @@ use Rattle.dial_lib.specs.Slots.{HaveSlots}
 use Rattle.dial_lib.specs.StepLaws as step_laws
 use Rattle.dial_lib.specs.StepTasks as step
 use Rattle.whole_script.specs.ScriptLaws.{begun_asks, begins, asks_alike, ended_play, step_heads}
-use Rattle.whole_script.specs.ScriptTasks.{Scripting, finished_in, AtStep, AtEnd, begun_at, begun_by, progress, goes_on, Kept, asks, after, heard, is_played, after_all, AllFit, then_play, plays_of, Plays}
+use Rattle.whole_script.specs.ScriptTasks.{Scripting, finished_in, AtStep, AtEnd, begun_at, begun_by, progress, goes_on, Kept, asks, first_asked, after, heard, told_by, is_played, after_all, AllFit, then_play, plays_of, Plays}
 
 -- The play of the steps is the script's.
 
@@ -201,25 +201,16 @@ in_range n [] s is = absurd (none-some s is)
 in_range zero (x ∷ ss) s is = omega arith
 in_range (suc n) (x ∷ ss) s is = omega (arith, in_range n ss s is)
 
--- its task asks as the script's
-first_by : (n m : ℕ) (ss : List Step) (t : StepTask) → Some t ≡ option_map step.begun (slice_get ss n) → (names : List Bound) → step.asks t names ≡ asks (begun_at m (drop n ss)) names
-first_by n m [] t is names = absurd (none-some t (sym is))
-first_by zero m (x ∷ ss) t is names = ap (λ (u : StepTask). step.asks u names) (same_Some t (step.begun x) is)
-first_by (suc n) m (x ∷ ss) t is names = first_by n m ss t is names
+first_by : (n m : ℕ) (ss : List Step) (names : List Bound) → first_asked (slice_get ss n) names ≡ asks (begun_at m (drop n ss)) names
+first_by zero m [] names = refl
+first_by (suc n) m [] names = refl
+first_by zero m (s ∷ ss) names = refl
+first_by (suc n) m (s ∷ ss) names = first_by n m ss names
 
-pub first_asks : (n : ℕ) (o : Option StepTask) (ss : List Step) (t : StepTask) → o ≡ None → Some t ≡ option_map step.begun (slice_get ss n) → (names : List Bound)
-    → step.asks t names ≡ asks (progress n o (drop n ss)) names
-first_asks n o ss t none is names = first_by n n ss t is names ∙ ap (λ (u : Option StepTask). asks (progress n u (drop n ss)) names) (sym none)
-
-none_by : (n m : ℕ) (ss : List Step) → None ≡ option_map step.begun (slice_get ss n) → (names : List Bound) → None ≡ asks (begun_at m (drop n ss)) names
-none_by zero m [] is names = refl
-none_by (suc n) m [] is names = refl
-none_by zero m (x ∷ ss) is names = absurd (none-some (step.begun x) is)
-none_by (suc n) m (x ∷ ss) is names = none_by n m ss is names
-
-pub none_asks : (n : ℕ) (o : Option StepTask) (ss : List Step) → o ≡ None → None ≡ option_map step.begun (slice_get ss n) → (names : List Bound)
-    → None ≡ asks (progress n o (drop n ss)) names
-none_asks n o ss none is names = none_by n n ss is names ∙ ap (λ (u : Option StepTask). asks (progress n u (drop n ss)) names) (sym none)
+-- where none has begun, the script's task asks as the first of them does
+pub asks_first : (n : ℕ) (t : Option StepTask) (ss : List Step) → t ≡ None → (names : List Bound)
+    → first_asked (slice_get ss n) names ≡ asks (progress n t (drop n ss)) names
+asks_first n t ss none names = first_by n n ss names ∙ ap (λ (u : Option StepTask). asks (progress n u (drop n ss)) names) (sym none)
 
 -- A reply.
 
@@ -231,9 +222,15 @@ kept_by : (n : ℕ) (t : Option StepTask) (ss : List Step) → Kept n t ss → K
 kept_by n None ss kept = kept_first n ss (slice_get ss n) refl
 kept_by n (Some t) ss kept = kept
 
-pub kept_begun : (n : ℕ) (t u : Option StepTask) (ss : List Step) → Kept n t ss → u ≡ begun_by t (slice_get ss n)
-    → Kept n u ss
-kept_begun n t u ss kept is = subst (λ (x : Option StepTask). Kept n x ss) (sym is) (kept_by n t ss kept)
+-- begun as it was, it is kept
+pub kept_same : (n : ℕ) (t u : Option StepTask) (ss : List Step) → Kept n t ss → begun_by u (slice_get ss n) ≡ begun_by t (slice_get ss n) → Kept n u ss
+kept_same n t None ss kept is = tt
+kept_same n t (Some x) ss kept is = subst (λ (y : Option StepTask). Kept n y ss) (sym is) (kept_by n t ss kept)
+
+-- and stands for the same
+pub still_same : (n : ℕ) (t u : Option StepTask) (ss : List Step) → begun_by u (slice_get ss n) ≡ begun_by t (slice_get ss n)
+    → progress n u (drop n ss) ≡ progress n t (drop n ss)
+still_same n t u ss is = sym (begun_same n u ss) ∙ ap (λ (x : Option StepTask). progress n x (drop n ss)) is ∙ begun_same n t ss
 
 pub kept_none : (n : ℕ) (t : Option StepTask) (ss : List Step) → t ≡ None → Kept n t ss
 kept_none n t ss is = subst (λ (x : Option StepTask). Kept n x ss) (sym is) tt
@@ -242,23 +239,9 @@ heard_kept : (n : ℕ) (u : Option StepTask) (ss : List Step) (r : Reply) → Ke
 heard_kept n None ss r kept on = tt
 heard_kept n (Some t) ss r kept on = (kept.0, λ names. sym (on names))
 
-pub kept_told : (n : ℕ) (t u v : Option StepTask) (ss : List Step) (r : Reply) → Kept n t ss → u ≡ begun_by t (slice_get ss n) → v ≡ heard u r
-    → ((names : List Bound) → false ≡ is_played v names) → Kept n v ss
-kept_told n t u v ss r kept is told on =
-    subst (λ (x : Option StepTask). Kept n x ss) (sym told) (heard_kept n u ss r (kept_begun n t u ss kept is) (subst (λ (x : Option StepTask). (names : List Bound) → false ≡ is_played x names) told on))
-
 room_by : (n : ℕ) (u : Option StepTask) (ss : List Step) (r : Reply) → Kept n u ss → true ≡ is_played (heard u r) [] → n < length ss
 room_by n None ss r kept over = absurd (true≢false over)
 room_by n (Some t) ss r kept over = kept.0
-
-pub has_room : (n : ℕ) (t u v : Option StepTask) (ss : List Step) (r : Reply) → Kept n t ss → u ≡ begun_by t (slice_get ss n) → v ≡ heard u r
-    → ((names : List Bound) → true ≡ is_played v names) → n < length ss
-has_room n t u v ss r kept is told over =
-    room_by n u ss r (kept_begun n t u ss kept is) (subst (λ (x : Option StepTask). true ≡ is_played x []) told (over []))
-
--- begun as it is, the script's task is as before
-same_by : (n : ℕ) (t u : Option StepTask) (ss : List Step) → u ≡ begun_by t (slice_get ss n) → progress n u (drop n ss) ≡ progress n t (drop n ss)
-same_by n t u ss is = ap (λ (x : Option StepTask). progress n x (drop n ss)) is ∙ begun_same n t ss
 
 -- the step goes on
 on_by : (n : ℕ) (u : Option StepTask) (ss : List Step) (r : Reply) → u ≡ begun_by u (slice_get ss n) → (x : Option StepTask) → heard u r ≡ x → false ≡ is_played x [] → progress n x (drop n ss) ≡ after (progress n u (drop n ss)) r
@@ -276,18 +259,50 @@ twice None None = refl
 twice None (Some s) = refl
 twice (Some t) o = refl
 
-pub told_on : (n : ℕ) (t u v : Option StepTask) (ss : List Step) (r : Reply) → u ≡ begun_by t (slice_get ss n) → v ≡ heard u r → ((names : List Bound) → false ≡ is_played v names)
-    → progress n v (drop n ss) ≡ after (progress n t (drop n ss)) r
-told_on n t u v ss r is told on =
-    let again : u ≡ begun_by u (slice_get ss n) = subst (λ (x : Option StepTask). x ≡ begun_by x (slice_get ss n)) (sym is) (twice t (slice_get ss n)) in
-    on_by n u ss r again v (sym told) (on []) ∙ ap (λ (x : Scripting). after x r) (same_by n t u ss is)
-
 -- the step is finished, and the next one begins
 through_by : (n : ℕ) (u : Option StepTask) (ss : List Step) (r : Reply) → true ≡ is_played (heard u r) [] → begun_at (n + 1) (drop (n + 1) ss) ≡ after (progress n u (drop n ss)) r
 through_by n None ss r over = absurd (true≢false over)
 through_by n (Some t) ss r over = ap (begun_at (n + 1)) (drop_more n ss) ∙ ap (goes_on n (step.after t r) (drop 1 (drop n ss))) over
 
-pub told_through : (n : ℕ) (t u v : Option StepTask) (ss : List Step) (r : Reply) → u ≡ begun_by t (slice_get ss n) → v ≡ heard u r → ((names : List Bound) → true ≡ is_played v names)
-    → progress (n + 1) None (drop (n + 1) ss) ≡ after (progress n t (drop n ss)) r
-told_through n t u v ss r is told over =
-    through_by n u ss r (subst (λ (x : Option StepTask). true ≡ is_played x []) told (over [])) ∙ ap (λ (x : Scripting). after x r) (same_by n t u ss is)
+-- `through` tells whether the step is through after the reply, and where it isn't, `v` is its task then.
+module _ (n : ℕ) (t v : Option StepTask) (ss : List Step) (r : Reply) (through : Bool)
+    (tells : (names : List Bound) → through ≡ is_played (told_by t (slice_get ss n) r) names) where
+  -- the step that is through is one of the script
+  pub has_room : Kept n t ss → through ≡ true → n < length ss
+  has_room kept over = room_by n (begun_by t (slice_get ss n)) ss r (kept_by n t ss kept) (sym over ∙ tells [])
+
+  pub told_through : through ≡ true → progress (n + 1) None (drop (n + 1) ss) ≡ after (progress n t (drop n ss)) r
+  told_through over =
+      through_by n (begun_by t (slice_get ss n)) ss r (sym over ∙ tells []) ∙ ap (λ (x : Scripting). after x r) (begun_same n t ss)
+
+  module _ (on : through ≡ false → v ≡ told_by t (slice_get ss n) r) (no : through ≡ false) where
+    pub kept_told : Kept n t ss → Kept n v ss
+    kept_told kept =
+        subst (λ (x : Option StepTask). Kept n x ss) (sym (on no))
+        (heard_kept n (begun_by t (slice_get ss n)) ss r (kept_by n t ss kept) (λ names. sym no ∙ tells names))
+
+    pub told_on : progress n v (drop n ss) ≡ after (progress n t (drop n ss)) r
+    told_on =
+        on_by n (begun_by t (slice_get ss n)) ss r (twice t (slice_get ss n)) v (sym (on no))
+        (sym no ∙ (tells [] ∙ ap (λ (x : Option StepTask). is_played x []) (sym (on no))))
+        ∙ ap (λ (x : Scripting). after x r) (begun_same n t ss)
+
+-- What a reply makes of the step.
+
+-- it begins and isn't told: begun, it is the same
+pub begun_again : (t u v : Option StepTask) (o : Option Step) → u ≡ begun_by t o → v ≡ u → begun_by v o ≡ begun_by t o
+begun_again t u v o is same = ap (λ (x : Option StepTask). begun_by x o) (same ∙ is) ∙ sym (twice t o)
+
+-- it begins and is told
+pub begun_told : (t u v : Option StepTask) (o : Option Step) (r : Reply) → u ≡ begun_by t o → v ≡ heard u r → v ≡ told_by t o r
+begun_told t u v o r is told = told ∙ ap (λ (x : Option StepTask). heard x r) is
+
+pub tells_told : (t u v : Option StepTask) (o : Option Step) (r : Reply) (b : Bool) → u ≡ begun_by t o → v ≡ heard u r
+    → ((names : List Bound) → b ≡ is_played v names) → (names : List Bound) → b ≡ is_played (told_by t o r) names
+tells_told t u v o r b is told tells names = tells names ∙ ap (λ (x : Option StepTask). is_played x names) (begun_told t u v o r is told)
+
+-- no task is made of it
+pub ends_step : (o : Option Step) (s : Step) (r : Reply) (b : Bool) → o ≡ Some s
+    → (b ≡ true → (names : List Bound) → step.asks (step.after (step.begun s) r) names ≡ None)
+    → b ≡ true → (names : List Bound) → is_played (told_by None o r) names ≡ true
+ends_step o s r b is ends over names = ap (λ (x : Option Step). is_played (told_by None x r) names) is ∙ ap is_none (ends over names)

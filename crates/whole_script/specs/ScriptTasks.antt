@@ -44,6 +44,11 @@ abbrev pub asks : Scripting → List Bound → Option Request
 asks (AtStep n t behind) names = step.asks t names
 asks (AtEnd n) names = None
 
+-- what this step, if there is one, asks before it has recorded anything
+abbrev pub first_asked : Option Step → List Bound → Option Request
+first_asked None names = None
+first_asked (Some s) names = step.asks (step.begun s) names
+
 -- a step has a request, whatever the names
 abbrev pub GoesOn : StepTask → Type 0
 GoesOn t = (names : List Bound) → is_none (step.asks t names) ≡ false
@@ -66,6 +71,10 @@ after (AtEnd n) r = AtEnd n
 abbrev pub heard : Option StepTask → Reply → Option StepTask
 heard None r = None
 heard (Some t) r = Some (step.after t r)
+
+-- the same, where it begins if it hasn't
+abbrev pub told_by : Option StepTask → Option Step → Reply → Option StepTask
+told_by t o r = heard (begun_by t o) r
 
 -- a step has begun and is through
 abbrev pub is_played : Option StepTask → List Bound → Bool

@@ -1,5 +1,5 @@
 //! The task of a whole script.
-ghost use Rattle.std.specs.Prelude.{◌≡◌, ℕ, List, [], None, IfOk, OnOk, OnErr, option_map, slice_get};
+ghost use Rattle.std.specs.Prelude.{◌≡◌, ℕ, List, [], None, IfOk, OnOk, OnErr, option_map, slice_get, true, false};
 ghost use Rattle.net_base.specs.declared.reply.Reply.{Reply};
 ghost use Rattle.net_base.specs.declared.world.Script.{Script};
 ghost use Rattle.net_base.specs.Next.{finished_by};
@@ -8,7 +8,7 @@ ghost use Rattle.dial_lib.specs.StepTasks.{begun};
 ghost use Rattle.whole_script.specs.ScriptTasks as spec;
 
 use crate::whole::WholeTask;
-use dial_lib::StepTask;
+use dial_lib::{StepTask, ends_by, first_request};
 use net_base::{Reply, Script, Step};
 use net_tree::Fids;
 use script_task::{Request, Task};
@@ -81,14 +81,10 @@ impl Task for ScriptTask<'_> {
 
     ghost moves_so = { laws.moves_so };
 
-    #[tactic(auto, using(crate::proofs::Played::first_asks, crate::proofs::Played::none_asks))]
     fn next(&self, alloc: Global, fids: &Fids) -> Result<Option<Request>, AllocError> {
         match &self.task {
             Some(task) => task.next(alloc, fids),
-            None => match first(alloc, self.steps, self.finished)? {
-                Some(task) => task.next(alloc, fids),
-                None => Ok(None),
-            },
+            None => first_asked(alloc, fids, self.steps, self.finished),
         }
     }
 
@@ -97,11 +93,10 @@ impl Task for ScriptTask<'_> {
         self.steps.len() <= self.finished
     }
 
-    #[tactic(auto, using(crate::proofs::Played::begun_same, crate::proofs::Played::kept_begun, crate::proofs::Played::kept_none))]
+    #[tactic(auto, using(crate::proofs::Played::kept_same, crate::proofs::Played::still_same, crate::proofs::Played::kept_none))]
     fn told(&mut self, alloc: Global, reply: Reply) -> Result<(), AllocError> {
-        begin(alloc, self.steps, self.finished, &mut self.task)?;
-        hear(alloc, &mut self.task, reply)?;
-        if is_played(&self.task) {
+        let through = take_reply(alloc, self.steps, self.finished, &mut self.task, reply)?;
+        if through {
             self.finished += 1;
             forget(&mut self.task);
         }
@@ -121,6 +116,68 @@ impl WholeTask for ScriptTask<'_> {
     fn finished(&self) -> usize {
         ScriptTask::finished(self)
     }
+}
+
+// What the step behind so many asks first, if one is left.
+fn first_asked(
+    alloc: Global,
+    fids: &Fids,
+    steps: &[Step],
+    finished: usize,
+) -> Result<Option<Request>, AllocError>
+    ensures { IfOk result (λ q. q ≡ spec.first_asked (slice_get steps.now finished) fids.now.names) }
+{
+    let Some(step) = steps.get(finished) else {
+        return Ok(None);
+    };
+    first_request(alloc, fids, step)
+}
+
+// Takes a reply, and tells whether the step is through then. One that is through at once gets no task.
+#[tactic(auto, using(crate::proofs::Played::begun_again, crate::proofs::Played::begun_told, crate::proofs::Played::tells_told))]
+fn take_reply(
+    alloc: Global,
+    steps: &[Step],
+    finished: usize,
+    task: &mut Option<StepTask>,
+    reply: Reply,
+) -> Result<bool, AllocError>
+    ensures through { IfOk result (λ through. (names : List Bound)
+        → through ≡ spec.is_played (spec.told_by task.old (slice_get steps.now finished) reply) names) }
+    ensures goes_on { IfOk result (λ through. through ≡ false
+        → task.new ≡ spec.told_by task.old (slice_get steps.now finished) reply) }
+    ensures err { OnErr result (spec.begun_by task.new (slice_get steps.now finished)
+        ≡ spec.begun_by task.old (slice_get steps.now finished)) }
+{
+    if ends_at_once(steps, finished, task, &reply) {
+        return Ok(true);
+    }
+    begin(alloc, steps, finished, task)?;
+    hear(alloc, task, reply)?;
+    Ok(is_played(task))
+}
+
+// Whether no step has begun, and the one behind so many is seen to be through after this reply.
+fn ends_at_once(steps: &[Step], finished: usize, task: &Option<StepTask>, reply: &Reply) -> bool
+    ensures { result ≡ true → (names : List Bound)
+        → spec.is_played (spec.told_by task.now (slice_get steps.now finished) reply.now) names ≡ true }
+{
+    match task {
+        Some(_) => false,
+        None => ends_first(steps, finished, reply),
+    }
+}
+
+// Whether the step behind so many is seen to be through after this reply.
+#[tactic(auto, using(crate::proofs::Played::ends_step))]
+fn ends_first(steps: &[Step], finished: usize, reply: &Reply) -> bool
+    ensures { result ≡ true → (names : List Bound)
+        → spec.is_played (spec.told_by None (slice_get steps.now finished) reply.now) names ≡ true }
+{
+    let Some(step) = steps.get(finished) else {
+        return false;
+    };
+    ends_by(step, reply)
 }
 
 // Takes a reply, where a step has begun.

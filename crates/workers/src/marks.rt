@@ -6,7 +6,24 @@ use std::sync::atomic::{AtomicU64, Ordering};
 /// A count for each actor.
 #[derive(Drop)]
 pub struct Marks {
-    counts: Vec<AtomicU64>,
+    marks: Vec<Mark>,
+}
+
+// How many entries an actor has had. No other count is near enough to share its line of a cache: else each entry would slow
+// down whoever looks at another actor.
+#[derive(Drop)]
+struct Mark {
+    count: AtomicU64,
+    _apart: [u64; 7],
+}
+
+impl Mark {
+    fn new() -> Mark {
+        Mark {
+            count: AtomicU64::new(0),
+            _apart: [0; 7],
+        }
+    }
 }
 
 /// An actor, and how many entries it had when it was last looked at. Who waits there needn't ask again while it stands.
@@ -29,17 +46,17 @@ impl Spot {
 impl Marks {
     /// For so many actors, none of which has an entry.
     pub fn new(alloc: Global, actors: usize) -> Result<Marks, AllocError> {
-        let mut counts = Vec::with_capacity(alloc, actors)?;
+        let mut marks = Vec::with_capacity(alloc, actors)?;
         for _ in 0..actors {
-            counts.push(AtomicU64::new(0))?;
+            marks.push(Mark::new())?;
         }
-        Ok(Marks { counts })
+        Ok(Marks { marks })
     }
 
     /// The actor has an entry more.
     pub fn add(&self, place: usize) {
-        if let Some(count) = self.counts.get(place) {
-            count.fetch_add(1, Ordering::SeqCst);
+        if let Some(mark) = self.marks.get(place) {
+            mark.count.fetch_add(1, Ordering::SeqCst);
         }
     }
 
@@ -57,8 +74,8 @@ impl Marks {
     }
 
     fn count(&self, place: usize) -> u64 {
-        match self.counts.get(place) {
-            Some(count) => count.load(Ordering::SeqCst),
+        match self.marks.get(place) {
+            Some(mark) => mark.count.load(Ordering::SeqCst),
             None => 0,
         }
     }

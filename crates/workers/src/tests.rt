@@ -9,7 +9,7 @@ use std::thread::{Threads, join};
 fn work<R: Wait>(rt: &R, crew: &Crew) -> u64 {
     let mut shift = crew.begin(rt);
     crew.record(rt, &mut shift);
-    crew.tell(rt, &mut shift);
+    let _goes_on = crew.tell(rt, &mut shift);
     for _ in rt.forever() {
         let (changes, _) = crew.look(rt);
         if crew.rest(rt, changes) {
@@ -36,7 +36,7 @@ fn a_worker_alone_rests_at_once(rt: HostRuntime) -> Result<(), Fail> {
     assert_eq!(rt; crew.look(&rt), (0, 1));
     assert!(rt; crew.rest(&rt, 0));
     crew.leave(&rt, shift);
-    assert!(rt; !crew.has_paid(&rt));
+    assert!(rt; !crew.has_paid(&rt) && !crew.has_waited(&rt));
     Ok(())
 }
 
@@ -63,6 +63,21 @@ fn who_goes_on_alone_leaves_with_the_others(rt: HostRuntime) -> Result<(), Fail>
     assert!(rt; !records(&rt, &crew, &mut shift, 1));
     assert!(rt; crew.rest(&rt, 1));
     crew.leave(&rt, shift);
+    Ok(())
+}
+
+#[test]
+fn who_waits_after_each_round_leaves_with_the_others(rt: HostRuntime) -> Result<(), Fail> {
+    let crew = Crew::new(2);
+    let (mut one, two) = (crew.begin(&rt), crew.begin(&rt));
+    for _ in 0..63_u32 {
+        assert!(rt; crew.record(&rt, &mut one) && crew.tell(&rt, &mut one));
+    }
+    assert!(rt; crew.record(&rt, &mut one) && !crew.tell(&rt, &mut one));
+    assert!(rt; crew.rest(&rt, 64));
+    crew.leave(&rt, one);
+    crew.leave(&rt, two);
+    assert!(rt; crew.has_waited(&rt) && !crew.has_paid(&rt));
     Ok(())
 }
 

@@ -5,7 +5,7 @@ use net_base::{
     IlKind, Lines, Mode, Octets, Pair, Proto, Reply, StateName, World,
 };
 use std::alloc::{AllocError, Global};
-use transcript::{End, RunStatus, summary_by, text_of};
+use transcript::{RunEnd, RunStatus, summary_by, text_of};
 use world_file::read_world;
 
 /// What a history is made of.
@@ -585,7 +585,7 @@ const DONE: &str = "steps 8 of 8\nmessages 1 1\nbytes 2 2\nend done 0\n";
 fn datagram_is_summed(alloc: Global) -> Result<bool, AllocError> {
     let status = RunStatus {
         answered: 8,
-        end: End::Done,
+        end: Some(RunEnd::Done),
     };
     let mut history = History::new(alloc);
     let put = put_datagram(alloc, &mut history);
@@ -628,7 +628,7 @@ const STOPPED: &str = "steps 3 of 8\nmessages 0 0\nbytes 0 0\nend stopped 60000\
 fn refusals_are_summed(alloc: Global) -> Result<bool, AllocError> {
     let status = RunStatus {
         answered: 3,
-        end: End::Stopped,
+        end: Some(RunEnd::Stopped),
     };
     let mut history = History::new(alloc);
     let put = put_stops(alloc, &mut history);

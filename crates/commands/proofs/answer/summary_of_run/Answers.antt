@@ -1,6 +1,4 @@
-use Rattle.std.proofs.Common.{ap, ◌∙◌}
 use Rattle.net_base.specs.Net.{after}
-use Rattle.transcript.specs.RunStatus.{word_of}
 use Rattle.commands.proofs.RunEnds.{word_is}
 use Rattle.commands.proofs.answer.summary_of_run.Goals as goal
 
@@ -12,5 +10,5 @@ returns c =
     (record {
       legal = c.requires.legal;
       answered = c.requires.answered;
-      end = ap word_of c.told_end.ensures ∙ word_is w (after w run.history) run.end c.requires.end;
+      end = word_is w (after w run.books) run.end c.requires.end;
     })

@@ -3,6 +3,6 @@ use Rattle.std.proofs.lemmas.Result.{IfOk-weaker}
 use Rattle.commands.proofs.Given.{gives_summed}
 use Rattle.commands.proofs.made_run.big.Goals as goal
 
-pub returns-in-Ok : goal.returns-in-Ok
-returns-in-Ok g c =
-    IfOk-weaker _ _ _ (λ answer is. gives_summed c.args.messages [] c.in_ok-world.world answer c.in_ok-world.ensures.made is) c.big.ensures
+pub returns : goal.returns
+returns g c =
+    IfOk-weaker _ _ _ (λ answer is. gives_summed c.args.messages [] c.in_ok-world.world answer c.in_ok-world.ensures.made is) c.run_made-answer.ensures

@@ -7,7 +7,7 @@ use Rattle.script_task.specs.Requests.{planned}
 use Rattle.guest_laws.specs.Works.{entries}
 use Rattle.net_locks.specs.Standings.{ask_of}
 use Rattle.host_net.specs.Playing.{Playing}
-use Rattle.host_net.specs.Visits.{Visit}
+use Rattle.net_guests.specs.Visits.{Visit}
 use Rattle.host_net.proofs.Foreseen.{nothing_next, something_next}
 use Rattle.host_net.proofs.advance.script_next.Goals as goal
 
@@ -31,10 +31,10 @@ returns-clause-next g c =
     let seen : v ≡ c.args.player.now.visit = ap (λ (x : Playing g.row.T.Denot). x.visit) c.player.view_is in
     let script = ap (λ (u : Visit). caller_of w u.caller) seen ∙ c.requires.script.1 in
     let asks = ap (g.T.Task.asks c.player.inside.task) (sym c.fids.ensures) ∙ (sym c.in_ok-request.ensures ∙ c.in-Some.is) in
-    let home = c.guest.invariant.home s (ap (λ (u : Visit). caller_of w u.caller) c.guest.view_is ∙ script) in
-    let plans = ap (λ (l : List Bound). planned c.guest.inside.host l c.in-Some.request) (sym c.fids-2.ensures) ∙ c.in_ok-actor.ensures.event in
-    subst (λ (u : Visit). Some (ask_of (c.in_ok-actor.field-0.actor, c.bare.result)) ≡ next w (entries u.sight.seen) u.caller) seen
-    (ap (λ (x : Work). Some (record { actor = c.in_ok-actor.field-0.actor; event = x.event })) c.bare.ensures
+    let home = c.host.ensures s script in
+    let plans = ap (λ (l : List Bound). planned c.host.result l c.in-Some.request) (sym c.fids-2.ensures) ∙ c.plan-actor.ensures.event in
+    subst (λ (u : Visit). Some (ask_of (c.plan-actor.result.actor, c.bare.result)) ≡ next w (entries u.sight.seen) u.caller) seen
+    (ap (λ (x : Work). Some (record { actor = c.plan-actor.result.actor; event = x.event })) c.bare.ensures
     ∙ something_next g.T.Task.asks g.T.Task.Stands g.met.T.Task.asks_so w v s c.player.inside.task script
-    (c.player.invariant.0.goes_on s script c.if-player.false) c.guest.inside.host c.in-Some.request
-    (record { actor = c.in_ok-actor.field-0.actor; event = c.in_ok-actor.field-0.event }) home asks plans)
+    (c.player.invariant.0.goes_on s script c.if-player.false) c.host.result c.in-Some.request
+    (record { actor = c.plan-actor.result.actor; event = c.plan-actor.result.event }) home asks plans)

@@ -1,5 +1,5 @@
 use Rattle.std.proofs.Common.{◌≡◌, [], arith}
-use Rattle.host_net.proofs.Passes.{gathered, gathering, gathers_on, nil_of}
+use Rattle.net_guests.proofs.Passes.{gathered, gathering, gathers_on, nil_of}
 use Rattle.host_net.proofs.finishing.gather.Goals as goal
 
 pub loop-guest-init : goal.loop-guest-init
@@ -7,9 +7,9 @@ loop-guest-init g c = gathering g.J.Placing.world g.J.Naming.run.roster c.args.a
 
 pub loop-guest-preserved : goal.loop-guest-preserved
 loop-guest-preserved g c =
-    gathers_on g.J.Placing.world g.J.Naming.run.roster c.args.all.now c.args.guests.items c.loop-guest.all c.take_in.new.all c.loop-guest.guests.items
+    gathers_on g.J.Placing.world g.J.Naming.run.roster c.args.all.now c.args.guests.items c.loop-guest.all c.meet.new.all c.loop-guest.guests.items
     c.pop.new.self.items c.in-Some.guest
-    c.loop-guest.invariant c.in-Some.ensures.items c.take_in.ensures.kept c.take_in.ensures.taken
+    c.loop-guest.invariant c.in-Some.ensures.items c.meet.ensures.kept c.meet.ensures.taken
 
 pub returns : goal.returns
 returns g c =

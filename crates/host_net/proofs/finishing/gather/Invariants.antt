@@ -1,4 +1,4 @@
-use Rattle.host_net.specs.Visits.{Gathering}
+use Rattle.net_guests.specs.Visits.{Gathering}
 use Rattle.host_net.proofs.finishing.gather.Given as goal
 
 -- each guest is with the pass, or one of those that are left

@@ -3,7 +3,7 @@ use Rattle.net_base.specs.declared.noted.Number.TheVariants as number
 use Rattle.net_base.specs.Callers.{caller_count as callers_in}
 use Rattle.net_base.specs.Stamped.{In}
 use Rattle.journal.specs.Rule.{Held}
-use Rattle.host_net.specs.Visits.{AreFresh, IsFresh}
+use Rattle.net_guests.specs.Visits.{AreFresh, IsFresh}
 use Rattle.host_net.proofs.Freshly.{all_numbers, fresh_more, given_own, kept_later}
 use Rattle.host_net.proofs.net.guests_of.Goals as goal
 

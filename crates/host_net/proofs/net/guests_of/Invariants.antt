@@ -1,7 +1,7 @@
 use Rattle.std.proofs.Common.{◌≡◌, ℕ, ◌<◌, ◌≤◌, [], length}
 use Rattle.net_base.specs.declared.noted.Number.TheVariants as number
 use Rattle.net_base.specs.Stamped.{In}
-use Rattle.host_net.specs.Visits.{AreFresh}
+use Rattle.net_guests.specs.Visits.{AreFresh}
 use Rattle.host_net.proofs.net.guests_of.Given as goal
 
 -- the first callers have their guests, and the pass has the numbers of the others

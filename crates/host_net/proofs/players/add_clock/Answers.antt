@@ -2,7 +2,7 @@ use Rattle.std.proofs.Common.{◌++◌, ◌∷◌, List, [], ap, sym, subst, ◌
 use Rattle.std.proofs.lemmas.List.{append-nil}
 use Rattle.host_net.specs.Groups.{visits, with_last}
 use Rattle.host_net.specs.Playing.{ArePlayed}
-use Rattle.host_net.specs.Visits.{Visit}
+use Rattle.net_guests.specs.Visits.{Visit}
 use Rattle.host_net.proofs.Seating.{plays_more}
 use Rattle.host_net.proofs.players.add_clock.Goals as goal
 

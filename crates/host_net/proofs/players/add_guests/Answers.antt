@@ -1,6 +1,6 @@
 use Rattle.std.proofs.Common.{◌++◌, List, [], ap, ◌∙◌}
 use Rattle.host_net.specs.Groups.{members, visits, with_last}
-use Rattle.host_net.specs.Visits.{Visit}
+use Rattle.net_guests.specs.Visits.{Visit}
 use Rattle.host_net.proofs.Joining.{group_visits}
 use Rattle.host_net.proofs.players.add_guests.Goals as goal
 

@@ -2,8 +2,8 @@ use Rattle.std.proofs.Common.{◌≡◌, ◌++◌, List, [], ◌∷◌, length, 
 use Rattle.std.proofs.lemmas.List.{append-nil, reverse-reverse}
 use Rattle.host_net.specs.Groups.{visits}
 use Rattle.host_net.specs.Playing.{ArePlayed}
-use Rattle.host_net.specs.Visits.{Visit}
-use Rattle.host_net.proofs.Passes.{nil_of}
+use Rattle.net_guests.specs.Visits.{Visit}
+use Rattle.net_guests.proofs.Passes.{nil_of}
 use Rattle.host_net.proofs.Seating.{players_on, plays_more}
 use Rattle.host_net.proofs.players.add_players.Goals as goal
 

@@ -7,7 +7,7 @@ use Rattle.commands.proofs.answer.Answer.big.Goals as goal
 pub returns : goal.returns
 returns c =
     let w = c.args.world.now in
-    let h = c.args.run.now.history in
+    let h = c.args.run.now.books in
     record {
       history = h;
       legal = c.requires.legal;

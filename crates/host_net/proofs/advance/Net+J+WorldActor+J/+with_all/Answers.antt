@@ -1,61 +1,35 @@
-use Rattle.std.proofs.Common.{◌≡◌, ◌++◌, ◌∷◌, ◌+◌, ◌<◌, true, [], length, List, refl, ap, sym, subst, ◌∙◌, arith}
+use Rattle.std.proofs.Common.{◌≡◌, ◌==◌, ◌++◌, ◌∷◌, ◌+◌, ◌<◌, true, false, [], length, List, ap, sym, subst, ◌∙◌, arith}
 use Rattle.net_base.specs.Callers.{caller_of}
 use Rattle.host_net.specs.declared.player.Player.TheInside.{Inside}
 use Rattle.host_net.proofs.Continuing.{own_stays}
 use Rattle.host_net.proofs.Counting.{counts_stay}
 use Rattle.host_net.proofs.Lending.{advances_at, all_stand, players_left}
 use Rattle.host_net.proofs.Outcomes.{player_stays}
-use Rattle.host_net.proofs.Operating.{visit}
-use Rattle.host_net.proofs.Passes.{nil_of}
-use Rattle.host_net.proofs.Passing.{OthersStay, advances_here, are_back, clock_visits, clock_with, group_lists, me_back, me_visits}
-use Rattle.host_net.proofs.Passing.{next_apart, next_lent, others_stay_here, player, still_with}
+use Rattle.net_guests.proofs.Passes.{nil_of}
+use Rattle.host_net.proofs.Passing.{OthersStay, advances_here, are_back, group_lists, mine_caller, mine_names}
+use Rattle.host_net.proofs.Passing.{next_apart, next_lent, other, others_stay_here, player, still_with}
 use Rattle.host_net.specs.Advancing.{Advances, AreBack, AreLent, other_players}
 use Rattle.host_net.specs.Groups.{Grouped, callers_of, visits}
 use Rattle.host_net.specs.Playing.{IsCounted, IsPlayer, Playing}
-use Rattle.host_net.specs.Visits.{Visit}
+use Rattle.net_guests.specs.Visits.{Visit}
 use Rattle.host_net.proofs.advance.Net+J+WorldActor+J.+with_all.Goals as goal
-
-pub invariant_of-clock : goal.invariant_of-clock
-invariant_of-clock g t c =
-    let w = g.J.Placing.world in
-    let r = g.J.Naming.run.roster in
-    let law = c.guests_hand_over.ensures in
-    let me = c.first-inside.inside.0.0 in
-    let mine = visit me.caller me.now me.pass me.duties.list me.fids.names in
-    let clock = c.clock.inside in
-    let old = visit clock.caller clock.now clock.pass clock.duties.list clock.fids.names in
-    let one =
-    ap (λ (i : Inside g.row.J.Denot g.row.T.Denot). player i.guest i.role i.task i.lost i.counts) c.first-inside.view_is ∙ c.first.view_is in
-    clock_with w r (law.over w r) (law.there w r) (law.here w r) c.first-inside.inside.0.1.0 c.first-inside.inside.0.1.1.0
-    c.first-inside.inside.0.1.1.1.0 c.first-inside.inside.0.1.1.1.1.1.0 mine old
-    c.args.clock.now c.in-Some.first.now c.in-Some.others.now c.args.players.now c.args.groups.now one c.in-Some.ensures.cases.0 c.clock.view_is
-    c.args.standings.now
-    c.requires.apart c.requires.lent c.first-inside.invariant.guest c.hand_over.new.from c.hand_over.new.to c.hand_over.ensures
-    (c.calendars_stay_known.ensures w) clock.duties.list clock.host clock.touched clock.calendar c.clock.invariant
 
 pub with_all-answer-requires : goal.with_all-answer-requires
 with_all-answer-requires g t c κs within =
     let w = g.J.Placing.world in
     let r = g.J.Naming.run.roster in
-    let law = c.guests_hand_over.ensures in
-    let me = c.first-inside.inside.0.0 in
-    let mine = visit me.caller me.now me.pass me.duties.list me.fids.names in
-    let clock = c.clock.inside in
-    let old = visit clock.caller clock.now clock.pass clock.duties.list clock.fids.names in
+    let me = c.first-inside.inside.0.0.bundle in
+    let clock = c.clock.inside.bundle in
     let one =
     ap (λ (i : Inside g.row.J.Denot g.row.T.Denot). player i.guest i.role i.task i.lost i.counts) c.first-inside.view_is ∙ c.first.view_is in
-    let apart =
-    next_apart w r (law.over w r) (law.there w r) (law.here w r) c.first-inside.inside.0.1.0 c.first-inside.inside.0.1.1.0
-    c.first-inside.inside.0.1.1.1.0 c.first-inside.inside.0.1.1.1.1.1.0 mine old
+    let apart = next_apart w r c.first-inside.inside.0.1.0 c.first-inside.inside.0.1.1.0
+    c.first-inside.inside.0.1.1.1.0 c.first-inside.inside.0.1.1.1.1.1.0 me.visit clock.visit
     c.args.clock.now c.in-Some.first.now c.in-Some.others.now c.args.players.now c.args.groups.now one c.in-Some.ensures.cases.0 c.clock.view_is
-    c.args.standings.now
-    c.requires.apart c.requires.lent c.first-inside.invariant.guest c.hand_over.new.from c.hand_over.new.to c.hand_over.ensures in
-    let lent =
-    next_lent w r (law.over w r) (law.there w r) (law.here w r) c.first-inside.inside.0.1.0 c.first-inside.inside.0.1.1.0
-    c.first-inside.inside.0.1.1.1.0 c.first-inside.inside.0.1.1.1.1.1.0 mine old
+    c.args.standings.now c.requires.apart c.requires.lent c.lend.new.clock.visit c.lend.ensures.same c.lend.ensures.lent c.lend.ensures.others in
+    let lent = next_lent w r c.first-inside.inside.0.1.0 c.first-inside.inside.0.1.1.0
+    c.first-inside.inside.0.1.1.1.0 c.first-inside.inside.0.1.1.1.1.1.0 me.visit clock.visit
     c.args.clock.now c.in-Some.first.now c.in-Some.others.now c.args.players.now c.args.groups.now one c.in-Some.ensures.cases.0 c.clock.view_is
-    c.args.standings.now
-    c.requires.apart c.requires.lent c.first-inside.invariant.guest c.hand_over.new.from c.hand_over.new.to c.hand_over.ensures in
+    c.args.standings.now c.requires.apart c.requires.lent c.lend.new.clock.visit c.lend.ensures.same c.lend.ensures.lent c.lend.ensures.others in
     let less : length c.in-Some.others.now + players_left c.args.groups.now < t = omega (arith, c.in-Some.ensures.cases.1, c.decreases) in (
       less,
       (
@@ -66,120 +40,104 @@ with_all-answer-requires g t c κs within =
             within.1.1.0,
             (
               within.1.1.1,
-              (c.requires.world, (c.requires.is, (ap (λ (v : Visit). caller_of w v.caller) c.clock.view_is ∙ c.requires.clock, (apart, lent)))),
+              (
+                c.requires.world,
+                (
+                  c.requires.is,
+                  (
+                    ap (λ (v : Visit). caller_of w v.caller) c.lend.ensures.same
+                        ∙ (ap (λ (v : Visit). caller_of w v.caller) c.clock.view_is ∙ c.requires.clock),
+                    (apart, lent),
+                  ),
+                ),
+              ),
             ),
           ),
         ),
       ),
     )
 
-pub hand_over-requires-in-Some : goal.hand_over-requires-in-Some
-hand_over-requires-in-Some g t c =
+pub take_back-requires-clause-away : goal.take_back-requires-clause-away
+take_back-requires-clause-away g t c =
     let w = g.J.Placing.world in
     let r = g.J.Naming.run.roster in
-    let law = c.guests_hand_over.ensures in
-    let me = c.first-inside.inside.0.0 in
-    let mine = visit me.caller me.now me.pass me.duties.list me.fids.names in
-    let clock = c.clock.inside in
-    let old = visit clock.caller clock.now clock.pass clock.duties.list clock.fids.names in
+    let me = c.first-inside.inside.0.0.bundle in
+    let clock = c.clock.inside.bundle in
     let one =
     ap (λ (i : Inside g.row.J.Denot g.row.T.Denot). player i.guest i.role i.task i.lost i.counts) c.first-inside.view_is ∙ c.first.view_is in
-    let had = c.clock-in-Some.inside in
-    let after = visit had.caller had.now had.pass had.duties.list had.fids.names in
-    let is =
-    still_with w r (law.over w r) (law.there w r) (law.here w r) c.first-inside.inside.0.1.0 c.first-inside.inside.0.1.1.0
-    c.first-inside.inside.0.1.1.1.0 c.first-inside.inside.0.1.1.1.1.1.0 mine old
-    c.args.clock.now c.in-Some.first.now c.in-Some.others.now c.args.players.now c.args.groups.now one c.in-Some.ensures.cases.0 c.clock.view_is
-    c.args.standings.now
-    c.requires.apart c.requires.lent c.first-inside.invariant.guest c.hand_over.new.from c.hand_over.new.to c.hand_over.ensures
-    after c.with_all-answer.new.clock c.clock-in-Some.view_is c.with_all-answer.result
-    (visit clock.caller clock.now c.hand_over.new.to clock.duties.list clock.fids.names) refl
-    c.with_all-answer.ensures.others c.with_all-answer.ensures.clock in
-    (is.guest.list, is.guest.held)
+    let had = c.clock-in-Some.inside.bundle in (
+      me.visit,
+      c.lend.ensures.away,
+      still_with w r c.first-inside.inside.0.1.0 c.first-inside.inside.0.1.1.0
+          c.first-inside.inside.0.1.1.1.0 c.first-inside.inside.0.1.1.1.1.1.0 me.visit clock.visit
+          c.args.clock.now c.in-Some.first.now c.in-Some.others.now c.args.players.now c.args.groups.now one c.in-Some.ensures.cases.0 c.clock.view_is
+          c.args.standings.now c.requires.apart c.requires.lent c.lend.new.clock.visit c.lend.ensures.same c.lend.ensures.lent c.lend.ensures.others
+          had.visit c.with_all-answer.new.clock c.clock-in-Some.view_is c.with_all-answer.result c.with_all-answer.ensures.others
+          c.with_all-answer.ensures.clock,
+    )
 
-pub invariant_of-first-inside : goal.invariant_of-first-inside
-invariant_of-first-inside g t c =
+pub take_back-requires-clause-other : goal.take_back-requires-clause-other
+take_back-requires-clause-other g t c =
     let w = g.J.Placing.world in
     let r = g.J.Naming.run.roster in
-    let law = c.guests_hand_over.ensures in
-    let me = c.first-inside.inside.0.0 in
-    let mine = visit me.caller me.now me.pass me.duties.list me.fids.names in
-    let clock = c.clock.inside in
-    let old = visit clock.caller clock.now clock.pass clock.duties.list clock.fids.names in
+    let me = c.first-inside.inside.0.0.bundle in
+    let clock = c.clock.inside.bundle in
     let one =
     ap (λ (i : Inside g.row.J.Denot g.row.T.Denot). player i.guest i.role i.task i.lost i.counts) c.first-inside.view_is ∙ c.first.view_is in
-    let had = c.clock-in-Some.inside in
-    let after = visit had.caller had.now had.pass had.duties.list had.fids.names in
-    me_visits w r (law.over w r) (law.there w r) (law.here w r) c.first-inside.inside.0.1.0 c.first-inside.inside.0.1.1.0
-    c.first-inside.inside.0.1.1.1.0 c.first-inside.inside.0.1.1.1.1.1.0 mine old
+    let had = c.clock-in-Some.inside.bundle in
+    subst (λ (v : Visit). (had.visit.caller == v.caller) ≡ false) (sym c.lend.ensures.away.visit_is)
+    (other w r c.first-inside.inside.0.1.0 c.first-inside.inside.0.1.1.0
+    c.first-inside.inside.0.1.1.1.0 c.first-inside.inside.0.1.1.1.1.1.0 me.visit clock.visit
     c.args.clock.now c.in-Some.first.now c.in-Some.others.now c.args.players.now c.args.groups.now one c.in-Some.ensures.cases.0 c.clock.view_is
-    c.args.standings.now
-    c.requires.apart c.requires.lent c.first-inside.invariant.guest c.hand_over.new.from c.hand_over.new.to c.hand_over.ensures
-    after c.with_all-answer.new.clock c.clock-in-Some.view_is c.with_all-answer.result
-    (visit clock.caller clock.now c.hand_over.new.to clock.duties.list clock.fids.names) refl
-    c.with_all-answer.ensures.others c.with_all-answer.ensures.clock c.hand_over-in-Some.new.to c.hand_over-in-Some.new.from c.hand_over-in-Some.ensures
-    (c.calendars_stay_known.ensures w) had.duties.list had.host had.touched had.calendar c.clock-in-Some.invariant me.host me.touched
-    c.forget.new.self me.calendar c.first-inside.invariant.home
-    c.first-inside.invariant.covers c.forget.ensures.covers c.first-inside.invariant.known
+    c.args.standings.now c.requires.apart c.requires.lent c.lend.new.clock.visit c.lend.ensures.same c.lend.ensures.lent c.lend.ensures.others
+    had.visit c.with_all-answer.new.clock c.clock-in-Some.view_is c.with_all-answer.result c.with_all-answer.ensures.others
+    c.with_all-answer.ensures.clock)
 
 pub invariant_of-first : goal.invariant_of-first
 invariant_of-first g t c =
     let w = g.J.Placing.world in
     let r = g.J.Naming.run.roster in
-    let law = c.guests_hand_over.ensures in
-    let me = c.first-inside.inside.0.0 in
-    let mine = visit me.caller me.now me.pass me.duties.list me.fids.names in
-    let clock = c.clock.inside in
-    let old = visit clock.caller clock.now clock.pass clock.duties.list clock.fids.names in
+    let me = c.first-inside.inside.0.0.bundle in
+    let clock = c.clock.inside.bundle in
     let one =
     ap (λ (i : Inside g.row.J.Denot g.row.T.Denot). player i.guest i.role i.task i.lost i.counts) c.first-inside.view_is ∙ c.first.view_is in
-    let had = c.clock-in-Some.inside in
-    let after = visit had.caller had.now had.pass had.duties.list had.fids.names in
-    let back =
-    me_back w r (law.over w r) (law.there w r) (law.here w r) c.first-inside.inside.0.1.0 c.first-inside.inside.0.1.1.0
-    c.first-inside.inside.0.1.1.1.0 c.first-inside.inside.0.1.1.1.1.1.0 mine old
+    let had = c.clock-in-Some.inside.bundle in
+    let still = still_with w r c.first-inside.inside.0.1.0 c.first-inside.inside.0.1.1.0
+    c.first-inside.inside.0.1.1.1.0 c.first-inside.inside.0.1.1.1.1.1.0 me.visit clock.visit
     c.args.clock.now c.in-Some.first.now c.in-Some.others.now c.args.players.now c.args.groups.now one c.in-Some.ensures.cases.0 c.clock.view_is
-    c.args.standings.now
-    c.requires.apart c.requires.lent c.first-inside.invariant.guest c.hand_over.new.from c.hand_over.new.to c.hand_over.ensures
-    after c.with_all-answer.new.clock c.clock-in-Some.view_is c.with_all-answer.result
-    (visit clock.caller clock.now c.hand_over.new.to clock.duties.list clock.fids.names) refl
-    c.with_all-answer.ensures.others c.with_all-answer.ensures.clock c.hand_over-in-Some.new.to c.hand_over-in-Some.new.from c.hand_over-in-Some.ensures in
+    c.args.standings.now c.requires.apart c.requires.lent c.lend.new.clock.visit c.lend.ensures.same c.lend.ensures.lent c.lend.ensures.others
+    had.visit c.with_all-answer.new.clock c.clock-in-Some.view_is c.with_all-answer.result c.with_all-answer.ensures.others
+    c.with_all-answer.ensures.clock in
+    let back = c.take_back.ensures.with_itself me.visit c.lend.ensures.away still in
     let was =
     subst (λ (i : Inside g.row.J.Denot g.row.T.Denot). IsPlayer g.T.Task.Stands w i.guest i.role i.task i.lost) (sym c.first-inside.view_is)
     c.first.invariant.0 in
     let counted =
     subst (λ (i : Inside g.row.J.Denot g.row.T.Denot). i.counts ≡ true → IsCounted g.T.WholeTask.Plays w i.guest i.task i.lost i.before)
     (sym c.first-inside.view_is) c.first.invariant.1 in
-    let later = visit me.caller had.now c.hand_over-in-Some.new.to me.duties.list me.fids.names in (
-      player_stays g.T.Task.Stands w mine later
-          c.first-inside.inside.0.1.0 c.first-inside.inside.0.1.1.0 c.first-inside.inside.0.1.1.1.0 was refl refl back.stays,
-      λ counts. counts_stay g.T.WholeTask.Plays w mine later c.first-inside.inside.0.1.1.0 c.first-inside.inside.0.1.1.1.0
-          c.first-inside.inside.0.1.1.1.1.0 (counted counts) refl refl
-          (own_stays me.caller mine.sight.seen later.sight.seen back.stays.alone),
-    )
-
-pub invariant_of-clock-in-Some : goal.invariant_of-clock-in-Some
-invariant_of-clock-in-Some g t c =
-    let w = g.J.Placing.world in
-    let r = g.J.Naming.run.roster in
-    let law = c.guests_hand_over.ensures in
-    let me = c.first-inside.inside.0.0 in
-    let mine = visit me.caller me.now me.pass me.duties.list me.fids.names in
-    let clock = c.clock.inside in
-    let old = visit clock.caller clock.now clock.pass clock.duties.list clock.fids.names in
-    let one =
-    ap (λ (i : Inside g.row.J.Denot g.row.T.Denot). player i.guest i.role i.task i.lost i.counts) c.first-inside.view_is ∙ c.first.view_is in
-    let had = c.clock-in-Some.inside in
-    let after = visit had.caller had.now had.pass had.duties.list had.fids.names in
-    clock_visits w r (law.over w r) (law.there w r) (law.here w r) c.first-inside.inside.0.1.0 c.first-inside.inside.0.1.1.0
-    c.first-inside.inside.0.1.1.1.0 c.first-inside.inside.0.1.1.1.1.1.0 mine old
+    let later = c.take_back.new.self.visit in
+    let caller = mine_caller w r c.first-inside.inside.0.1.0 c.first-inside.inside.0.1.1.0
+    c.first-inside.inside.0.1.1.1.0 c.first-inside.inside.0.1.1.1.1.1.0 me.visit clock.visit
     c.args.clock.now c.in-Some.first.now c.in-Some.others.now c.args.players.now c.args.groups.now one c.in-Some.ensures.cases.0 c.clock.view_is
-    c.args.standings.now
-    c.requires.apart c.requires.lent c.first-inside.invariant.guest c.hand_over.new.from c.hand_over.new.to c.hand_over.ensures
-    after c.with_all-answer.new.clock c.clock-in-Some.view_is c.with_all-answer.result
-    (visit clock.caller clock.now c.hand_over.new.to clock.duties.list clock.fids.names) refl
-    c.with_all-answer.ensures.others c.with_all-answer.ensures.clock c.hand_over-in-Some.new.to c.hand_over-in-Some.new.from c.hand_over-in-Some.ensures
-    (c.calendars_stay_known.ensures w) had.duties.list had.host had.touched had.calendar c.clock-in-Some.invariant
+    c.args.standings.now c.requires.apart c.requires.lent c.lend.new.clock.visit c.lend.ensures.same c.lend.ensures.lent c.lend.ensures.others
+    had.visit c.with_all-answer.new.clock c.clock-in-Some.view_is c.with_all-answer.result c.with_all-answer.ensures.others
+    c.with_all-answer.ensures.clock
+    c.lend.new.self.visit c.take_back.new.self.visit c.take_back.new.clock.visit c.lend.ensures.away.visit_is c.take_back.ensures.back back
+    c.take_back.ensures.same c.take_back.ensures.seen c.take_back.ensures.others in
+    let names = mine_names w r c.first-inside.inside.0.1.0 c.first-inside.inside.0.1.1.0
+    c.first-inside.inside.0.1.1.1.0 c.first-inside.inside.0.1.1.1.1.1.0 me.visit clock.visit
+    c.args.clock.now c.in-Some.first.now c.in-Some.others.now c.args.players.now c.args.groups.now one c.in-Some.ensures.cases.0 c.clock.view_is
+    c.args.standings.now c.requires.apart c.requires.lent c.lend.new.clock.visit c.lend.ensures.same c.lend.ensures.lent c.lend.ensures.others
+    had.visit c.with_all-answer.new.clock c.clock-in-Some.view_is c.with_all-answer.result c.with_all-answer.ensures.others
+    c.with_all-answer.ensures.clock
+    c.lend.new.self.visit c.take_back.new.self.visit c.take_back.new.clock.visit c.lend.ensures.away.visit_is c.take_back.ensures.back back
+    c.take_back.ensures.same c.take_back.ensures.seen c.take_back.ensures.others in (
+      player_stays g.T.Task.Stands w me.visit later c.first-inside.inside.0.1.0 c.first-inside.inside.0.1.1.0 c.first-inside.inside.0.1.1.1.0 was caller names
+          back.stays,
+      λ counts. counts_stay g.T.WholeTask.Plays w me.visit later c.first-inside.inside.0.1.1.0 c.first-inside.inside.0.1.1.1.0
+          c.first-inside.inside.0.1.1.1.1.0 (counted counts) caller names
+          (own_stays me.visit.caller me.visit.sight.seen later.sight.seen back.stays.alone),
+    )
 
 pub decide-requires-clause-all : goal.decide-requires-clause-all
 decide-requires-clause-all g t c =
@@ -195,70 +153,79 @@ pub returns-in-Some-clause-others : goal.returns-in-Some-clause-others
 returns-in-Some-clause-others g t c =
     let w = g.J.Placing.world in
     let r = g.J.Naming.run.roster in
-    let law = c.guests_hand_over.ensures in
-    let me = c.first-inside.inside.0.0 in
-    let mine = visit me.caller me.now me.pass me.duties.list me.fids.names in
-    let clock = c.clock.inside in
-    let old = visit clock.caller clock.now clock.pass clock.duties.list clock.fids.names in
+    let me = c.first-inside.inside.0.0.bundle in
+    let clock = c.clock.inside.bundle in
     let one =
     ap (λ (i : Inside g.row.J.Denot g.row.T.Denot). player i.guest i.role i.task i.lost i.counts) c.first-inside.view_is ∙ c.first.view_is in
-    let had = c.clock-in-Some.inside in
-    let after = visit had.caller had.now had.pass had.duties.list had.fids.names in
-    others_stay_here w r (law.over w r) (law.there w r) (law.here w r) c.first-inside.inside.0.1.0 c.first-inside.inside.0.1.1.0
-    c.first-inside.inside.0.1.1.1.0 c.first-inside.inside.0.1.1.1.1.1.0 mine old
+    let had = c.clock-in-Some.inside.bundle in
+    let still = still_with w r c.first-inside.inside.0.1.0 c.first-inside.inside.0.1.1.0
+    c.first-inside.inside.0.1.1.1.0 c.first-inside.inside.0.1.1.1.1.1.0 me.visit clock.visit
     c.args.clock.now c.in-Some.first.now c.in-Some.others.now c.args.players.now c.args.groups.now one c.in-Some.ensures.cases.0 c.clock.view_is
-    c.args.standings.now
-    c.requires.apart c.requires.lent c.first-inside.invariant.guest c.hand_over.new.from c.hand_over.new.to c.hand_over.ensures
-    after c.with_all-answer.new.clock c.clock-in-Some.view_is c.with_all-answer.result
-    (visit clock.caller clock.now c.hand_over.new.to clock.duties.list clock.fids.names) refl
-    c.with_all-answer.ensures.others c.with_all-answer.ensures.clock c.hand_over-in-Some.new.to c.hand_over-in-Some.new.from c.hand_over-in-Some.ensures
+    c.args.standings.now c.requires.apart c.requires.lent c.lend.new.clock.visit c.lend.ensures.same c.lend.ensures.lent c.lend.ensures.others
+    had.visit c.with_all-answer.new.clock c.clock-in-Some.view_is c.with_all-answer.result c.with_all-answer.ensures.others
+    c.with_all-answer.ensures.clock in
+    let back = c.take_back.ensures.with_itself me.visit c.lend.ensures.away still in
+    others_stay_here w r c.first-inside.inside.0.1.0 c.first-inside.inside.0.1.1.0
+    c.first-inside.inside.0.1.1.1.0 c.first-inside.inside.0.1.1.1.1.1.0 me.visit clock.visit
+    c.args.clock.now c.in-Some.first.now c.in-Some.others.now c.args.players.now c.args.groups.now one c.in-Some.ensures.cases.0 c.clock.view_is
+    c.args.standings.now c.requires.apart c.requires.lent c.lend.new.clock.visit c.lend.ensures.same c.lend.ensures.lent c.lend.ensures.others
+    had.visit c.with_all-answer.new.clock c.clock-in-Some.view_is c.with_all-answer.result c.with_all-answer.ensures.others
+    c.with_all-answer.ensures.clock
+    c.lend.new.self.visit c.take_back.new.self.visit c.take_back.new.clock.visit c.lend.ensures.away.visit_is c.take_back.ensures.back back
+    c.take_back.ensures.same c.take_back.ensures.seen c.take_back.ensures.others
 
 pub returns-in-Some-clause-clock : goal.returns-in-Some-clause-clock
 returns-in-Some-clause-clock g t c =
     let w = g.J.Placing.world in
     let r = g.J.Naming.run.roster in
-    let law = c.guests_hand_over.ensures in
-    let me = c.first-inside.inside.0.0 in
-    let mine = visit me.caller me.now me.pass me.duties.list me.fids.names in
-    let clock = c.clock.inside in
-    let old = visit clock.caller clock.now clock.pass clock.duties.list clock.fids.names in
+    let me = c.first-inside.inside.0.0.bundle in
+    let clock = c.clock.inside.bundle in
     let one =
     ap (λ (i : Inside g.row.J.Denot g.row.T.Denot). player i.guest i.role i.task i.lost i.counts) c.first-inside.view_is ∙ c.first.view_is in
-    let had = c.clock-in-Some.inside in
-    let after = visit had.caller had.now had.pass had.duties.list had.fids.names in
-    advances_here w r (law.over w r) (law.there w r) (law.here w r) c.first-inside.inside.0.1.0 c.first-inside.inside.0.1.1.0
-    c.first-inside.inside.0.1.1.1.0 c.first-inside.inside.0.1.1.1.1.1.0 mine old
+    let had = c.clock-in-Some.inside.bundle in
+    let still = still_with w r c.first-inside.inside.0.1.0 c.first-inside.inside.0.1.1.0
+    c.first-inside.inside.0.1.1.1.0 c.first-inside.inside.0.1.1.1.1.1.0 me.visit clock.visit
     c.args.clock.now c.in-Some.first.now c.in-Some.others.now c.args.players.now c.args.groups.now one c.in-Some.ensures.cases.0 c.clock.view_is
-    c.args.standings.now
-    c.requires.apart c.requires.lent c.first-inside.invariant.guest c.hand_over.new.from c.hand_over.new.to c.hand_over.ensures
-    after c.with_all-answer.new.clock c.clock-in-Some.view_is c.with_all-answer.result
-    (visit clock.caller clock.now c.hand_over.new.to clock.duties.list clock.fids.names) refl
-    c.with_all-answer.ensures.others c.with_all-answer.ensures.clock c.hand_over-in-Some.new.to c.hand_over-in-Some.new.from c.hand_over-in-Some.ensures
+    c.args.standings.now c.requires.apart c.requires.lent c.lend.new.clock.visit c.lend.ensures.same c.lend.ensures.lent c.lend.ensures.others
+    had.visit c.with_all-answer.new.clock c.clock-in-Some.view_is c.with_all-answer.result c.with_all-answer.ensures.others
+    c.with_all-answer.ensures.clock in
+    let back = c.take_back.ensures.with_itself me.visit c.lend.ensures.away still in
+    advances_here w r c.first-inside.inside.0.1.0 c.first-inside.inside.0.1.1.0
+    c.first-inside.inside.0.1.1.1.0 c.first-inside.inside.0.1.1.1.1.1.0 me.visit clock.visit
+    c.args.clock.now c.in-Some.first.now c.in-Some.others.now c.args.players.now c.args.groups.now one c.in-Some.ensures.cases.0 c.clock.view_is
+    c.args.standings.now c.requires.apart c.requires.lent c.lend.new.clock.visit c.lend.ensures.same c.lend.ensures.lent c.lend.ensures.others
+    had.visit c.with_all-answer.new.clock c.clock-in-Some.view_is c.with_all-answer.result c.with_all-answer.ensures.others
+    c.with_all-answer.ensures.clock
+    c.lend.new.self.visit c.take_back.new.self.visit c.take_back.new.clock.visit c.lend.ensures.away.visit_is c.take_back.ensures.back back
+    c.take_back.ensures.same c.take_back.ensures.seen c.take_back.ensures.others
 
 pub returns-in-Some-clause-players : goal.returns-in-Some-clause-players
 returns-in-Some-clause-players g t c =
     let w = g.J.Placing.world in
     let r = g.J.Naming.run.roster in
-    let law = c.guests_hand_over.ensures in
-    let me = c.first-inside.inside.0.0 in
-    let mine = visit me.caller me.now me.pass me.duties.list me.fids.names in
-    let clock = c.clock.inside in
-    let old = visit clock.caller clock.now clock.pass clock.duties.list clock.fids.names in
+    let me = c.first-inside.inside.0.0.bundle in
+    let clock = c.clock.inside.bundle in
     let one =
     ap (λ (i : Inside g.row.J.Denot g.row.T.Denot). player i.guest i.role i.task i.lost i.counts) c.first-inside.view_is ∙ c.first.view_is in
-    let had = c.clock-in-Some.inside in
-    let after = visit had.caller had.now had.pass had.duties.list had.fids.names in
-    are_back w r (law.over w r) (law.there w r) (law.here w r) c.first-inside.inside.0.1.0 c.first-inside.inside.0.1.1.0
-    c.first-inside.inside.0.1.1.1.0 c.first-inside.inside.0.1.1.1.1.1.0 mine old
+    let had = c.clock-in-Some.inside.bundle in
+    let still = still_with w r c.first-inside.inside.0.1.0 c.first-inside.inside.0.1.1.0
+    c.first-inside.inside.0.1.1.1.0 c.first-inside.inside.0.1.1.1.1.1.0 me.visit clock.visit
     c.args.clock.now c.in-Some.first.now c.in-Some.others.now c.args.players.now c.args.groups.now one c.in-Some.ensures.cases.0 c.clock.view_is
-    c.args.standings.now
-    c.requires.apart c.requires.lent c.first-inside.invariant.guest c.hand_over.new.from c.hand_over.new.to c.hand_over.ensures
-    after c.with_all-answer.new.clock c.clock-in-Some.view_is c.with_all-answer.result
-    (visit clock.caller clock.now c.hand_over.new.to clock.duties.list clock.fids.names) refl
-    c.with_all-answer.ensures.others c.with_all-answer.ensures.clock c.hand_over-in-Some.new.to c.hand_over-in-Some.new.from c.hand_over-in-Some.ensures
-    had.now c.with_all-answer.new.players
-    (subst (λ (v : Visit). AreBack w v.now c.in-Some.others.now c.with_all-answer.new.players) (sym c.clock-in-Some.view_is)
-    c.with_all-answer.ensures.players) refl
+    c.args.standings.now c.requires.apart c.requires.lent c.lend.new.clock.visit c.lend.ensures.same c.lend.ensures.lent c.lend.ensures.others
+    had.visit c.with_all-answer.new.clock c.clock-in-Some.view_is c.with_all-answer.result c.with_all-answer.ensures.others
+    c.with_all-answer.ensures.clock in
+    let back = c.take_back.ensures.with_itself me.visit c.lend.ensures.away still in
+    are_back w r c.first-inside.inside.0.1.0 c.first-inside.inside.0.1.1.0
+    c.first-inside.inside.0.1.1.1.0 c.first-inside.inside.0.1.1.1.1.1.0 me.visit clock.visit
+    c.args.clock.now c.in-Some.first.now c.in-Some.others.now c.args.players.now c.args.groups.now one c.in-Some.ensures.cases.0 c.clock.view_is
+    c.args.standings.now c.requires.apart c.requires.lent c.lend.new.clock.visit c.lend.ensures.same c.lend.ensures.lent c.lend.ensures.others
+    had.visit c.with_all-answer.new.clock c.clock-in-Some.view_is c.with_all-answer.result c.with_all-answer.ensures.others
+    c.with_all-answer.ensures.clock
+    c.lend.new.self.visit c.take_back.new.self.visit c.take_back.new.clock.visit c.lend.ensures.away.visit_is c.take_back.ensures.back back
+    c.take_back.ensures.same c.take_back.ensures.seen c.take_back.ensures.others
+    c.with_all-answer.new.players
+    (subst (λ (v : Visit). AreBack w v.now c.in-Some.others.now c.with_all-answer.new.players)
+    (sym c.clock-in-Some.view_is) c.with_all-answer.ensures.players)
 
 pub returns-in-Some-split_first_mut-clause-others : goal.returns-in-Some-split_first_mut-clause-others
 returns-in-Some-split_first_mut-clause-others g t c =

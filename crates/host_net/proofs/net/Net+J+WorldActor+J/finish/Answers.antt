@@ -1,37 +1,10 @@
+use Rattle.std.proofs.Common.{List, sym, subst}
 use Rattle.std.proofs.lemmas.Result.{IfOk-weaker}
-use Rattle.journal.specs.Closing.{IsWhole}
-use Rattle.host_net.specs.Visits.{Finished}
-use Rattle.host_net.proofs.Passes.{all_with, finished, holds_all, itself, kept}
+use Rattle.net_base.specs.declared.history.Entry.{Entry}
+use Rattle.net_guests.specs.Visits.{Finished}
 use Rattle.host_net.proofs.net.Net+J+WorldActor+J.finish.Goals as goal
-
-pub close-requires-clause-callers : goal.close-requires-clause-callers
-close-requires-clause-callers g c =
-    let w = g.J.Placing.world in
-    let r = g.J.Naming.run.roster in
-    let mine = itself w r c.in-Some.last c.into_pass-all.result c.into_pass-all.ensures.same c.into_pass-all.ensures.guest in
-    let here = all_with w r c.args.guests.items c.gather.new.all c.pop.new.self.items c.in-Some.last c.into_pass-all.result c.in-Some.ensures.items
-    mine c.gather.ensures in
-    holds_all w r c.args.guests.items c.gather.new.all c.requires.all here
-
-pub close-requires-clause-actors : goal.close-requires-clause-actors
-close-requires-clause-actors g c = c.in_ok-journal.ensures.actors
 
 pub returns : goal.returns
 returns g c =
-    let w = g.J.Placing.world in
-    let r = g.J.Naming.run.roster in
-    let mine = itself w r c.in-Some.last c.into_pass-all.result c.into_pass-all.ensures.same c.into_pass-all.ensures.guest in
-    let here = all_with w r c.args.guests.items c.gather.new.all c.pop.new.self.items c.in-Some.last c.into_pass-all.result c.in-Some.ensures.items
-    mine c.gather.ensures in
-    let actors = c.in_ok-journal.ensures.known in
-    let callers = c.in_ok-journal.ensures.callers in
-    IfOk-weaker c.close.result (λ h. IsWhole r c.gather.new.all c.in_ok-journal.books.items h) (λ h. Finished w c.args.guests.items h)
-    (λ h whole.
-    finished w r actors callers c.args.guests.items c.gather.new.all c.in_ok-journal.books.items h c.requires.all here whole
-    (kept w r actors callers c.args.guests.items c.gather.new.all c.in_ok-journal.books.items h c.requires.all here whole
-    c.in_ok-journal.ensures.replayed c.in_ok-journal.ensures.each)
-    (c.histories_of_guests_are_legal.ensures.net w r c.gather.new.all.seen)
-    (c.histories_of_guests_are_legal.ensures.but_scripts w r c.gather.new.all.seen)
-    (c.histories_of_guests_are_legal.ensures.legal w r c.gather.new.all.seen)
-    (c.histories_of_guests_are_legal.ensures.timed w r c.gather.new.all.seen))
-    c.close.ensures
+    IfOk-weaker _ _ _ (λ h is. subst (λ (l : List Entry). Finished g.J.Placing.world c.args.guests.items l) (sym is) c.in_ok-books.ensures)
+    c.into_history.ensures

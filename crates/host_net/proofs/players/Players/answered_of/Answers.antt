@@ -1,11 +1,16 @@
-use Rattle.std.proofs.Common.{◌≡◌, ℕ, ◌<◌, ◌%◌, List, length, IfNone, IfSome, ap, sym, subst, ◌∙◌}
-use Rattle.std.proofs.lemmas.Nat.{mod_below}
+use Rattle.std.proofs.Common.{◌≡◌, ℕ, ◌<◌, List, length, IfNone, IfSome, refl, ap, sym, subst, ◌∙◌}
 use Rattle.net_base.specs.Stamped.{In}
 use Rattle.host_net.specs.Answering.{CannotTellOf, IsAnsweredOf}
-use Rattle.host_net.specs.Groups.{Grouped, Grouping, all_members, callers_of}
+use Rattle.host_net.specs.Groups.{Grouped, Grouping, all_members, callers_of, seat_of}
 use Rattle.host_net.specs.Playing.{Playing}
-use Rattle.host_net.proofs.Answered.{found_in, group_at, none_in, script_here, some_groups}
+use Rattle.host_net.proofs.Answered.{found_in, group_at, none_in, script_here}
+use Rattle.host_net.proofs.Seating.{seat_same, seat_within, some_groups}
 use Rattle.host_net.proofs.players.Players.answered_of.Goals as goal
+
+pub place_of-place-requires : goal.place_of-place-requires
+place_of-place-requires g c =
+    let gs = c.self.inside.groups.items in
+    subst (λ (m : ℕ). 0 < m) (sym (c.len.ensures ∙ c.self.inside.groups.ok.0)) (some_groups g.J.Placing.world c.self.inside.callers gs c.self.invariant.0)
 
 pub player_of-requires : goal.player_of-requires
 player_of-requires g c =
@@ -13,14 +18,18 @@ player_of-requires g c =
     let gs = c.self.inside.groups.items in
     let n = c.self.inside.callers in
     let script = c.args.script in
-    let k = script % c.len.result in
+    let k = c.place_of-place.result in
     let group = c.index-group.result.now in
-    let is : k ≡ script % length gs = ap (λ (m : ℕ). script % m) (c.len.ensures ∙ c.self.inside.groups.ok.0) in
-    let lt : k < length gs = subst (λ (m : ℕ). m < length gs) (sym is) (mod_below script (length gs) (some_groups w n gs c.self.invariant)) in
+    let deal = c.self.inside.deal.items in
+    let is : k ≡ seat_of deal script (length gs) =
+    seat_same k c.as_slice.result.now deal script script c.len.result (length gs) c.place_of-place.ensures c.as_slice.ensures.value refl
+    (c.len.ensures ∙ c.self.inside.groups.ok.0) in
+    let lt : k < length gs = seat_within deal script (length gs) k (some_groups w n gs c.self.invariant.0) is in
     let known : script < n = subst (λ (x : Grouping g.row.T.Denot). script < x.callers) (sym c.self.view_is) c.requires.known in
     let players = c.deref.ensures.value ∙ ap (λ (x : Grouped g.row.T.Denot). x.players) c.group.view_is in
     subst (λ (l : List (Playing g.row.T.Denot)). In script (callers_of l)) (sym players)
-    (script_here w n gs c.self.invariant script c.requires.script.0 known c.requires.script.1 k group (group_at gs k group group lt c.index-group.ensures) is)
+    (script_here w n gs c.self.invariant.0 deal c.self.invariant.1 script c.requires.script.0 known c.requires.script.1 k group
+    (group_at gs k group group lt c.index-group.ensures) is)
 
 pub returns-clause-count : goal.returns-clause-count
 returns-clause-count g c =
@@ -28,11 +37,14 @@ returns-clause-count g c =
     let gs = c.self.inside.groups.items in
     let n = c.self.inside.callers in
     let script = c.args.script in
-    let k = script % c.len.result in
+    let k = c.place_of-place.result in
     let group = c.index-group.result.now in
     let player = c.player_of.result.now in
-    let is : k ≡ script % length gs = ap (λ (m : ℕ). script % m) (c.len.ensures ∙ c.self.inside.groups.ok.0) in
-    let lt : k < length gs = subst (λ (m : ℕ). m < length gs) (sym is) (mod_below script (length gs) (some_groups w n gs c.self.invariant)) in
+    let deal = c.self.inside.deal.items in
+    let is : k ≡ seat_of deal script (length gs) =
+    seat_same k c.as_slice.result.now deal script script c.len.result (length gs) c.place_of-place.ensures c.as_slice.ensures.value refl
+    (c.len.ensures ∙ c.self.inside.groups.ok.0) in
+    let lt : k < length gs = seat_within deal script (length gs) k (some_groups w n gs c.self.invariant.0) is in
     let players = c.deref.ensures.value ∙ ap (λ (x : Grouped g.row.T.Denot). x.players) c.group.view_is in
     let among : In player group.players = subst (λ (l : List (Playing g.row.T.Denot)). In player l) players c.player_of.ensures.there in
     subst (λ (x : Grouping g.row.T.Denot). IfSome c.answered.result (λ (m : ℕ). IsAnsweredOf w script (all_members x.groups) m)) c.self.view_is
@@ -45,11 +57,14 @@ returns-clause-none g c =
     let gs = c.self.inside.groups.items in
     let n = c.self.inside.callers in
     let script = c.args.script in
-    let k = script % c.len.result in
+    let k = c.place_of-place.result in
     let group = c.index-group.result.now in
     let player = c.player_of.result.now in
-    let is : k ≡ script % length gs = ap (λ (m : ℕ). script % m) (c.len.ensures ∙ c.self.inside.groups.ok.0) in
-    let lt : k < length gs = subst (λ (m : ℕ). m < length gs) (sym is) (mod_below script (length gs) (some_groups w n gs c.self.invariant)) in
+    let deal = c.self.inside.deal.items in
+    let is : k ≡ seat_of deal script (length gs) =
+    seat_same k c.as_slice.result.now deal script script c.len.result (length gs) c.place_of-place.ensures c.as_slice.ensures.value refl
+    (c.len.ensures ∙ c.self.inside.groups.ok.0) in
+    let lt : k < length gs = seat_within deal script (length gs) k (some_groups w n gs c.self.invariant.0) is in
     let players = c.deref.ensures.value ∙ ap (λ (x : Grouped g.row.T.Denot). x.players) c.group.view_is in
     let among : In player group.players = subst (λ (l : List (Playing g.row.T.Denot)). In player l) players c.player_of.ensures.there in
     subst (λ (x : Grouping g.row.T.Denot). IfNone c.answered.result (CannotTellOf script (all_members x.groups))) c.self.view_is

@@ -2,8 +2,8 @@ use Rattle.std.proofs.Common.{◌≡◌, ◌++◌, List, [], ◌∷◌, length, 
 use Rattle.std.proofs.lemmas.List.{append-nil, reverse-reverse}
 use Rattle.host_net.specs.Groups.{IsDealt, all_members, all_seats, visits}
 use Rattle.host_net.specs.Playing.{ArePlayed}
-use Rattle.host_net.specs.Visits.{HasGuest, Visit}
-use Rattle.host_net.proofs.Passes.{nil_of}
+use Rattle.net_guests.specs.Visits.{HasGuest, Visit}
+use Rattle.net_guests.proofs.Passes.{nil_of}
 use Rattle.host_net.proofs.Seating.{groups_on, has_guest}
 use Rattle.host_net.proofs.players.Players.into_guests.Goals as goal
 
@@ -35,4 +35,4 @@ pub returns-clause-all : goal.returns-clause-all
 returns-clause-all g c k lt =
     subst (λ (l : List Visit). HasGuest k l) (sym (returns-clause-same g c))
     (has_guest g.J.Placing.world c.args.self.callers c.args.self.groups
-    (subst (λ x. IsDealt g.J.Placing.world x.callers (all_seats x.groups)) c.self.view_is c.self.invariant) k lt)
+    (subst (λ x. IsDealt g.J.Placing.world x.callers (all_seats x.groups)) c.self.view_is c.self.invariant.0) k lt)

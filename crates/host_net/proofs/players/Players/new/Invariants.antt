@@ -3,4 +3,4 @@ use Rattle.host_net.proofs.Seating.{AreEmpty}
 use Rattle.host_net.proofs.players.Players.new.Given as goal
 
 abbrev pub invariant-loop : goal.invariant-loop
-invariant-loop g l = (length l.groups.items ≡ l.counter) × AreEmpty l.groups.items
+invariant-loop g l = (length l.all.items ≡ l.counter) × AreEmpty l.all.items

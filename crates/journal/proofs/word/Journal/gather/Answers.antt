@@ -1,9 +1,9 @@
 use Rattle.std.proofs.Common.{refl, List, [], ◌∷◌, ◌++◌, map, ap, sym, subst, ◌∙◌, append_assoc}
 use Rattle.std.proofs.lemmas.List.{append-nil}
-use Rattle.std.specs.Vec.Iter.{into_iter_items}
 use Rattle.journal.specs.declared.tokens.Stamped.{Stamped}
 use Rattle.journal.specs.declared.tokens.Volume.{Volume}
-use Rattle.journal.specs.Closing.{AreOf}
+use Rattle.journal.specs.Closing.{AreAllOf}
+use Rattle.journal.specs.Places.{ArePlaced}
 use Rattle.journal.specs.Tokens.{stamped}
 use Rattle.journal.proofs.Gathering.{gathered_none, gathered_more, of_none, of_more}
 use Rattle.journal.proofs.word.Journal.gather.Goals as goal
@@ -12,7 +12,14 @@ pub loop-book-init : goal.loop-book-init
 loop-book-init g c = (
   c.requires.seat,
   refl,
-  ([], [], append-nil c.args.books.items, gathered_none c.args.all.now.me.0, subst (λ (ls : List (List Stamped)). AreOf [] ls) (sym (ap (map into_iter_items) c.requires.none)) of_none),
+  (
+    [],
+    [],
+    append-nil c.args.books.items,
+    gathered_none c.args.all.now.me.0,
+    subst (λ (ls : List (List Stamped)). AreAllOf [] ls) (sym c.requires.none) of_none,
+    subst (λ (ls : List (List Stamped)). ArePlaced ls c.args.places.now.items) (sym c.requires.none) (λ e i. absurd i),
+  ),
 )
 
 pub loop-book-preserved : goal.loop-book-preserved
@@ -30,7 +37,8 @@ loop-book-preserved g c =
         inv.1 ++ map stamped b.list,
         sym (append_assoc c.pop.new.self.items (b ∷ []) inv.0) ∙ (ap (λ (l : List Volume). l ++ inv.0) (sym c.in-Some.ensures.items) ∙ inv.2),
         gathered_more v c.loop-book.all.me.0 w inv.0 b inv.1 inv.3 mine.taken,
-        subst (λ (ls : List (List Stamped)). AreOf (inv.1 ++ map stamped b.list) ls) (sym mine.list)
-            (of_more inv.1 (map stamped b.list) (map into_iter_items c.loop-book.lists.items) inv.4),
+        subst (λ (ls : List (List Stamped)). AreAllOf (inv.1 ++ map stamped b.list) ls) (sym mine.list)
+            (of_more inv.1 (map stamped b.list) c.loop-book.lists.items inv.4),
+        mine.placed inv.5,
       ),
     )

@@ -1,0 +1,12 @@
+use Rattle.std.proofs.Common.{List, sym, subst}
+use Rattle.net_base.specs.declared.history.Entry.{Entry}
+use Rattle.net_base.specs.Legal.{IsLegal, IsTimed}
+use Rattle.agenda.proofs.phases.run.Goals as goal
+
+pub returns-clause-legal : goal.returns-clause-legal
+returns-clause-legal g c =
+    subst (λ (h : List Entry). IsLegal c.args.world.now h) (sym c.in_ok-history.ensures) c.in_ok-books.ensures.legal
+
+pub returns-clause-timed : goal.returns-clause-timed
+returns-clause-timed g c =
+    subst (λ (h : List Entry). IsTimed c.args.world.now h) (sym c.in_ok-history.ensures) c.in_ok-books.ensures.timed

@@ -1,0 +1,229 @@
+-- The parts of an answer, an element at a time.
+use Rattle.std.proofs.Common.{◌≡◌, ◌≢◌, ℕ, suc, ◌+◌, ◌*◌, ◌^◌, ◌<◌, ◌≤◌, ◌==◌, nat_eq, Bool, true, false, cond, ◌&&◌, List, [], ◌∷◌, ◌++◌, length, get_or, slice_get, take, map, Vec, vec_items, Option, Some, None, refl, sym, ap, ◌∙◌, arith, subst, append-nil, append_assoc}
+use Rattle.std.specs.Prelude.{nat_lt, nat_le, codes, filter_map, flat_map, option_map}
+use Rattle.std.specs.List.{list_all, list_any, cons_option}
+use Rattle.std.specs.Option.{option_map_or}
+use Rattle.std.proofs.lemmas.Bool.{true≢false, false≢true, and_parts, and_from, le-leb, lt-leb, lt-ltb, le-ltb, eq-eqb, ne_eqb, and_right}
+use Rattle.std.proofs.lemmas.List.{take_more, take_all, map-append, map_more, get_or-map}
+use Rattle.std.proofs.lemmas.List.Elements.{filter_map-append}
+use Rattle.std.proofs.lemmas.List.Concat.{flat_map-append}
+use Rattle.std.proofs.lemmas.Option.{none-some, same_Some, slice_get-map}
+use Rattle.net_base.specs.declared.ndb.NdbPair.{NdbPair}
+use Rattle.net_base.specs.Addresses.{read_address}
+use Rattle.net_base.specs.Cs.{once_each}
+use Rattle.net_base.specs.NdbBundle.{each_once}
+use Rattle.net_base.specs.NdbText.{is_empty}
+use Rattle.net_base.specs.Networks.{first_of}
+use Rattle.net_base.specs.Search.{all_beside, beside, or_where_empty, tuples_with}
+use Rattle.wire_text.specs.Bytes.{word_at}
+use Rattle.ndb_reader.specs.Names.{names_seen, with_name, with_names}
+use Rattle.ndb_reader.proofs.Groups.{name_put}
+use Rattle.ndb_reader.proofs.Once.{names_append}
+use Rattle.ndb_index.specs.declared.spot.Spot.{Spot}
+use Rattle.ndb_index.specs.Index.{found}
+use Rattle.ndb_index.specs.Kept.{spots_with}
+use Rattle.ndb_index.specs.Near.{spot_tuples}
+use Rattle.ndb_index.proofs.Nearby.{Db, spots_count, spots_found}
+use Rattle.cs_resolver.proofs.Once.{among, once_push, same_any, turned}
+use Rattle.dns_text.specs.declared.question.Question.{Question}
+use Rattle.dns_text.specs.Answers.{Key, address_record, address_records, addresses_named, alias_of, alias_records, answer_read, asked, dns_answer, is_unknown, key_of, naming_record, rcode_of, record_bytes, records_beside, records_found, records_of, reply_of}
+use Rattle.dns_text.specs.Labels.{name_in}
+use Rattle.dns_text.specs.Questions.{HasHeader, question_of}
+use Rattle.ndb_dns.specs.Looks.{looks_beside, looks_for, looks_of, most_looks}
+use Rattle.ndb_dns.specs.Refusals.{IsQuery}
+use Rattle.ndb_dns.specs.Taken.{Adds}
+use Rattle.ndb_dns.specs.declared.reply.Records.{Records}
+use Rattle.ndb_dns.proofs.Lowering.{is_valid, valid_at}
+
+-- ---- values at spots
+
+at_spots : (attr value other : List ℕ) (db : Db) → List Spot → List (List ℕ)
+at_spots attr value other db spots = flat_map (beside attr value other) (spot_tuples db spots)
+
+spots_join : (attr value other : List ℕ) (db : Db) (spots more : List Spot) → at_spots attr value other db (spots ++ more) ≡ at_spots attr value other db spots ++ at_spots attr value other db more
+unfolding at_spots
+spots_join attr value other db spots more =
+    ap (flat_map (beside attr value other)) (map-append (λ (spot : Spot). get_or db spot.place []) spots more)
+    ∙ flat_map-append (beside attr value other) (spot_tuples db spots) (spot_tuples db more)
+
+pub values_more : (attr value other : List ℕ) (db : Db) (spots : List Spot) (i : ℕ) (d : Spot) (tuple : List (List NdbPair)) (front old now : List (List ℕ)) → i < length spots → tuple ≡ get_or db (get_or spots i d).place [] → old ≡ front ++ flat_map (beside attr value other) (spot_tuples db (take i spots)) → now ≡ old ++ beside attr value other tuple → now ≡ front ++ flat_map (beside attr value other) (spot_tuples db (take (i + 1) spots))
+unfolding at_spots
+values_more attr value other db spots i d tuple front old now within is so_far put =
+    put
+    ∙ ap (λ (those : List (List ℕ)). those ++ beside attr value other tuple) so_far
+    ∙ append_assoc front (flat_map (beside attr value other) (spot_tuples db (take i spots))) (beside attr value other tuple)
+    ∙ ap (λ (more : List (List ℕ)). front ++ more)
+    (ap (λ (t : List (List NdbPair)). flat_map (beside attr value other) (spot_tuples db (take i spots)) ++ beside attr value other t) is
+    ∙ ap (λ (more : List (List ℕ)). flat_map (beside attr value other) (spot_tuples db (take i spots)) ++ more) (sym (append-nil (beside attr value other (get_or db (get_or spots i d).place []))))
+    ∙ sym (spots_join attr value other db (take i spots) (get_or spots i d ∷ []))
+    ∙ ap (λ (those : List Spot). flat_map (beside attr value other) (spot_tuples db those)) (sym (take_more spots i d within)))
+
+-- the values at all spots are those in all tuples with the pair
+pub values_are : (attr value other : List ℕ) (db : Db) (spots : List Spot) → spots ≡ spots_with attr value db → flat_map (beside attr value other) (spot_tuples db spots) ≡ all_beside attr value other db
+values_are attr value other db spots are =
+    ap (λ (those : List Spot). flat_map (beside attr value other) (spot_tuples db those)) are
+    ∙ ap (flat_map (beside attr value other)) (spots_found attr value db)
+
+-- ---- addresses
+
+address_step : (values : List (List ℕ)) (i : ℕ) (value : List ℕ) → i < length values → value ≡ get_or values i value → filter_map read_address (take (i + 1) values) ≡ filter_map read_address (take i values) ++ cons_option (read_address value) []
+address_step values i value within here =
+    ap (filter_map read_address) (take_more values i value within ∙ ap (λ (v : List ℕ). take i values ++ v ∷ []) (sym here))
+    ∙ filter_map-append read_address (take i values) (value ∷ [])
+
+pub address_less : (values : List (List ℕ)) (i : ℕ) (value : List ℕ) (keys : List ℕ) → i < length values → value ≡ get_or values i value → read_address value ≡ None → keys ≡ once_each (filter_map read_address (take i values)) → keys ≡ once_each (filter_map read_address (take (i + 1) values))
+address_less values i value keys within here none kept =
+    kept
+    ∙ ap once_each
+    (sym (append-nil (filter_map read_address (take i values)))
+    ∙ ap (λ (o : Option ℕ). filter_map read_address (take i values) ++ cons_option o []) (sym none)
+    ∙ sym (address_step values i value within here))
+
+pub address_more : (values : List (List ℕ)) (i : ℕ) (value : List ℕ) (ip : ℕ) (keys after : List ℕ) → i < length values → value ≡ get_or values i value → read_address value ≡ Some ip → keys ≡ once_each (filter_map read_address (take i values)) → after ≡ cond (list_any (nat_eq ip) keys) keys (keys ++ ip ∷ []) → after ≡ once_each (filter_map read_address (take (i + 1) values))
+address_more values i value ip keys after within here some kept put =
+    let so_far = filter_map read_address (take i values) in
+    put
+    ∙ ap (λ (had : Bool). cond had keys (keys ++ ip ∷ [])) (same_any (nat_eq ip) (λ m. m == ip) keys (λ m. turned m ip (m == ip) refl))
+    ∙ ap (λ (those : List ℕ). cond (among ip those) those (those ++ ip ∷ [])) kept
+    ∙ sym (once_push (filter_map read_address (take i values)) ip)
+    ∙ ap once_each
+    (ap (λ (o : Option ℕ). filter_map read_address (take i values) ++ cons_option o []) (sym some)
+    ∙ sym (address_step values i value within here))
+
+-- ---- names
+
+name_step : (values : List (List ℕ)) (i : ℕ) (value : List ℕ) → i < length values → value ≡ get_or values i value → filter_map name_in (take (i + 1) values) ≡ filter_map name_in (take i values) ++ cons_option (name_in value) []
+name_step values i value within here =
+    ap (filter_map name_in) (take_more values i value within ∙ ap (λ (v : List ℕ). take i values ++ v ∷ []) (sym here))
+    ∙ filter_map-append name_in (take i values) (value ∷ [])
+
+pub name_less : (values : List (List ℕ)) (i : ℕ) (value : List ℕ) (names : List (List ℕ)) → i < length values → value ≡ get_or values i value → None ≡ name_in value → names ≡ with_names [] (filter_map name_in (take i values)) → names ≡ with_names [] (filter_map name_in (take (i + 1) values))
+name_less values i value names within here none kept =
+    kept
+    ∙ ap (with_names [])
+    (sym (append-nil (filter_map name_in (take i values)))
+    ∙ ap (λ (o : Option (List ℕ)). filter_map name_in (take i values) ++ cons_option o []) none
+    ∙ sym (name_step values i value within here))
+
+pub name_more : (values : List (List ℕ)) (i : ℕ) (value name : List ℕ) (names after : List (List ℕ)) → i < length values → value ≡ get_or values i value → Some name ≡ name_in value → names ≡ with_names [] (filter_map name_in (take i values)) → after ≡ with_name names name → after ≡ with_names [] (filter_map name_in (take (i + 1) values))
+name_more values i value name names after within here some kept put =
+    put
+    ∙ ap (λ (those : List (List ℕ)). with_name those name) kept
+    ∙ sym (names_append [] (filter_map name_in (take i values)) (name ∷ []))
+    ∙ ap (with_names [])
+    (ap (λ (o : Option (List ℕ)). filter_map name_in (take i values) ++ cons_option o []) some
+    ∙ sym (name_step values i value within here))
+
+-- ---- records of names
+
+module _ {Z : Type 0} where
+  pub names_step : (kind : ℕ) (items : List (Vec ℕ Z)) (i : ℕ) (name : Vec ℕ Z) (entry : List ℕ) → i < length items → name ≡ get_or items i name → entry ≡ naming_record kind (vec_items name) → map (naming_record kind) (names_seen (take i items)) ++ entry ∷ [] ≡ map (naming_record kind) (names_seen (take (i + 1) items))
+  names_step kind items i name entry within here is =
+      ap (λ (e : List ℕ). map (naming_record kind) (names_seen (take i items)) ++ e ∷ []) is
+      ∙ sym (map-append (naming_record kind) (names_seen (take i items)) (vec_items name ∷ []))
+      ∙ ap (map (naming_record kind)) (sym (map-append vec_items (take i items) (name ∷ [])))
+      ∙ ap (λ (those : List (Vec ℕ Z)). map (naming_record kind) (names_seen those)) (ap (λ (v : Vec ℕ Z). take i items ++ v ∷ []) here ∙ sym (take_more items i name within))
+
+  pub valid_name : (items : List (Vec ℕ Z)) (i : ℕ) (name : Vec ℕ Z) (slice : List ℕ) → i < length items → name ≡ get_or items i name → list_all is_valid (names_seen items) ≡ true → slice ≡ vec_items name → is_valid slice ≡ true
+  valid_name items i name slice within here all is =
+      let size : i < length (names_seen items) = omega (arith, within, names_size items) in
+      ap is_valid (is ∙ ap vec_items here ∙ sym (get_or-map vec_items items i name [] within)) ∙ valid_at (names_seen items) i size all
+    where
+      names_size : (items : List (Vec ℕ Z)) → length (names_seen items) ≡ length items
+      names_size [] = refl
+      names_size (name ∷ items) = ap suc (names_size items)
+
+  pub first_name : (items : List (Vec ℕ Z)) (name : Vec ℕ Z) (names : List (List ℕ)) → Some name ≡ slice_get items 0 → names_seen items ≡ names → first_of names ≡ Some (vec_items name)
+  first_name items name names first are =
+      ap first_of (sym are) ∙ slice_get-map vec_items items 0 ∙ ap (option_map vec_items) (sym first)
+
+  pub no_first_name : (items : List (Vec ℕ Z)) (names : List (List ℕ)) → None ≡ slice_get items 0 → names_seen items ≡ names → first_of names ≡ None
+  no_first_name items names first are =
+      ap first_of (sym are) ∙ slice_get-map vec_items items 0 ∙ ap (option_map vec_items) (sym first)
+
+pub first_is_valid : (names : List (List ℕ)) (name : List ℕ) → first_of names ≡ Some name → list_all is_valid names ≡ true → is_valid name ≡ true
+first_is_valid [] name first all = absurd (none-some name first)
+first_is_valid (one ∷ names) name first all =
+    ap is_valid (sym (same_Some one name first)) ∙ (and_parts (is_valid one) (list_all is_valid names) all).0
+
+-- ---- records of addresses
+
+pub ip_step : (owner : List ℕ) (ips : List ℕ) (i d : ℕ) (entry : List ℕ) → i < length ips → entry ≡ address_record owner (get_or ips i d) → map (address_record owner) (take i ips) ++ entry ∷ [] ≡ map (address_record owner) (take (i + 1) ips)
+ip_step owner ips i d entry within is =
+    ap (λ (e : List ℕ). map (address_record owner) (take i ips) ++ e ∷ []) is ∙ sym (map_more (address_record owner) ips i d within)
+
+some_is : {A : Type 0} (x : A) (xs : List A) → (length (x ∷ xs) == 0) ≡ false
+some_is x xs = ne_eqb (suc (length xs)) 0 (λ (e : suc (length xs) ≡ 0). omega (arith, e))
+
+pub no_addresses : (name : List ℕ) (db : Db) (ips : List ℕ) → ips ≡ addresses_named name db → (length ips == 0) ≡ true → alias_records db (alias_of name db) ≡ address_records db name
+no_addresses name db [] are none = ap (λ (those : List ℕ). or_where_empty (map (address_record asked) those) (alias_records db (alias_of name db))) are
+no_addresses name db (ip ∷ ips) are none = absurd (false≢true (sym (some_is ip ips) ∙ none))
+
+pub some_addresses : (name : List ℕ) (db : Db) (ips : List ℕ) → ips ≡ addresses_named name db → (length ips == 0) ≡ false → map (address_record asked) ips ≡ address_records db name
+some_addresses name db [] are some = absurd (true≢false some)
+some_addresses name db (ip ∷ ips) are some = ap (λ (those : List ℕ). or_where_empty (map (address_record asked) those) (alias_records db (alias_of name db))) are
+
+-- ---- pairs that no tuple has
+
+empty_is : {A : Type 0} (xs : List A) → (length xs == 0) ≡ is_empty xs
+empty_is [] = refl
+empty_is (x ∷ xs) = ne_eqb (suc (length xs)) 0 (λ (e : suc (length xs) ≡ 0). omega (arith, e))
+
+pub unknown_is : (attr value : List ℕ) (db : Db) (spots : List Spot) → spots ≡ spots_with attr value db → (length spots == 0) ≡ is_empty (tuples_with attr value db)
+unknown_is attr value db spots are =
+    ap (λ (those : List Spot). length those == 0) are
+    ∙ ap (λ (n : ℕ). n == 0) (spots_count attr value db)
+    ∙ empty_is (tuples_with attr value db)
+
+pub spots_cost : (attr value : List ℕ) (db : Db) (spots : List Spot) → spots ≡ spots_with attr value db → length spots ≡ found attr value db
+spots_cost attr value db spots are = ap (λ (those : List Spot). length those) are ∙ spots_count attr value db
+
+-- ---- messages
+
+pub is_answered : (db : Db) (message : List ℕ) → 12 ≤ length message → word_at 2 message < 2 ^ 15 → dns_answer db message ≡ Some (answer_read db message (question_of message))
+is_answered db message header query =
+    ap (λ (b : Bool). cond b (Some (answer_read db message (question_of message))) None)
+    (and_from (nat_le 12 (length message)) (nat_lt (word_at 2 message) 32768) (le-leb 12 (length message) header) (lt-ltb (word_at 2 message) 32768 query))
+
+pub short_is_not : (db : Db) (message : List ℕ) → length message < 12 → None ≡ dns_answer db message
+short_is_not db message short =
+    sym (ap (λ (b : Bool). cond (b && nat_lt (word_at 2 message) 32768) (Some (answer_read db message (question_of message))) None) (lt-leb 12 (length message) short))
+
+pub response_is_not : (db : Db) (message : List ℕ) → 2 ^ 15 ≤ word_at 2 message → None ≡ dns_answer db message
+response_is_not db message response =
+    sym (ap (λ (b : Bool). cond b (Some (answer_read db message (question_of message))) None)
+    (and_right (nat_le 12 (length message)) (nat_lt (word_at 2 message) 32768) (le-ltb (word_at 2 message) 32768 response)))
+
+pub answered : (db : Db) (message : List ℕ) (q : Question) (reply : List ℕ) → IsQuery message → question_of message ≡ Some q → reply ≡ reply_of message q (rcode_of db q) (records_of db q) → Some reply ≡ dns_answer db message
+answered db message q reply query asks is =
+    ap Some is ∙ sym (is_answered db message query.0 query.1 ∙ ap (λ (o : Option Question). Some (answer_read db message o)) asks)
+
+pub looks_asked : (db : Db) (message : List ℕ) (q : Question) → question_of message ≡ Some q → most_looks db message ≡ looks_of db q
+looks_asked db message q asks = ap (λ (o : Option Question). option_map_or (looks_of db) o 0) asks
+
+-- ---- keys
+
+unknown : (db : Db) (key : Key) (spots : List Spot) (b : Bool) → spots ≡ spots_with key.attr key.value db → (length spots == 0) ≡ b → is_unknown db (Some key) ≡ b
+unknown db key spots b are is = sym (unknown_is key.attr key.value db spots are) ∙ is
+
+abbrev coded : Bool → ℕ
+coded b = cond b 3 0
+
+pub code_unknown : (db : Db) (key : Key) (o : Option Key) (spots : List Spot) → Some key ≡ o → spots ≡ spots_with key.attr key.value db → (length spots == 0) ≡ true → ◌≡◌ {A = ℕ} 3 (cond (is_unknown db o) 3 0)
+code_unknown db key o spots is are none =
+    sym (ap (λ (k : Option Key). coded (is_unknown db k)) (sym is) ∙ ap coded (unknown db key spots true are none))
+
+pub code_known : (db : Db) (key : Key) (o : Option Key) (spots : List Spot) → Some key ≡ o → spots ≡ spots_with key.attr key.value db → (length spots == 0) ≡ false → ◌≡◌ {A = ℕ} 0 (cond (is_unknown db o) 3 0)
+code_known db key o spots is are some =
+    sym (ap (λ (k : Option Key). coded (is_unknown db k)) (sym is) ∙ ap coded (unknown db key spots false are some))
+
+pub records_unknown : (db : Db) (kind : ℕ) (key : Key) (o : Option Key) (spots : List Spot) → Some key ≡ o → spots ≡ spots_with key.attr key.value db → (length spots == 0) ≡ true → [] ≡ records_found db kind o
+records_unknown db kind key o spots is are none =
+    sym (ap (records_found db kind) (sym is) ∙ ap (λ (b : Bool). cond b [] (records_beside db kind key.attr key.value)) (unknown db key spots true are none))
+
+pub records_known : (db : Db) (kind : ℕ) (key : Key) (o : Option Key) (spots : List Spot) → Some key ≡ o → spots ≡ spots_with key.attr key.value db → (length spots == 0) ≡ false → records_beside db kind key.attr key.value ≡ records_found db kind o
+records_known db kind key o spots is are some =
+    sym (ap (records_found db kind) (sym is) ∙ ap (λ (b : Bool). cond b [] (records_beside db kind key.attr key.value)) (unknown db key spots false are some))
+
+pub looks_are : (db : Db) (q : Question) (key : Key) → Some key ≡ key_of q → looks_beside db q.kind key.attr key.value ≡ looks_of db q
+looks_are db q key is = ap (looks_for db q.kind) is

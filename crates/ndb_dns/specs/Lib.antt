@@ -1,0 +1,12 @@
+pub use Rattle.net_base.specs.Search
+pub use Rattle.wire_text.specs.Bytes
+pub use Rattle.ndb_reader.specs.Names
+pub use Rattle.ndb_index.specs.Index
+pub use Rattle.dns_text.specs.Labels
+pub use Rattle.dns_text.specs.Questions
+pub use Rattle.dns_text.specs.Answers
+pub mod Keys
+pub mod Looks
+pub mod Refusals
+pub mod Runs
+pub mod Taken

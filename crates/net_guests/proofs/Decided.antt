@@ -1,0 +1,157 @@
+-- What was decided of the clock's guest.
+use Rattle.std.proofs.Common.{◌≡◌, ℕ, ◌^◌, ◌<◌, ◌≤◌, ◌==◌, nat_le, true, false, List, [], Option, refl, ap, sym, subst, ◌∙◌, arith}
+use Rattle.std.proofs.lemmas.Bool.{and_parts, leb-true}
+use Rattle.net_base.specs.declared.actor.ActorName.TheVariants as name
+use Rattle.net_base.specs.declared.event.Event.TheVariants as event
+use Rattle.net_base.specs.declared.history.Entry.{Entry}
+use Rattle.net_base.specs.declared.world.World.{World}
+use Rattle.net_base.specs.Callers.{Caller, IsClock, caller_of}
+use Rattle.net_base.specs.Calm.{target}
+use Rattle.net_base.specs.Duties.{Duty}
+use Rattle.net_base.specs.Legal.{IsAsked}
+use Rattle.net_base.specs.Stamped.{at, moment}
+use Rattle.net_base.specs.Steps.{Ask, Bound}
+use Rattle.net_base.specs.World.{is_moment}
+use Rattle.journal.specs.declared.law.Roster.{Roster}
+use Rattle.journal.specs.declared.tokens.Sight.{Sight}
+use Rattle.due_moments.specs.Marks.{Covers, Marks}
+use Rattle.guest_laws.specs.Guests.{IsGuest}
+use Rattle.guest_laws.specs.Own.{AreNext, AreTimely}
+use Rattle.guest_laws.specs.Works.{noted_net}
+use Rattle.net_locks.specs.declared.clock.Advance.{Advance}
+use Rattle.net_locks.specs.declared.clock.Advance.TheVariants as advance
+use Rattle.net_locks.specs.declared.calendar.Calendar.{Calendar}
+use Rattle.net_locks.specs.Knowing.{IsKnown}
+use Rattle.net_guests.specs.Deciding.{Decided, Leaves, Moves, net_of}
+use Rattle.net_locks.specs.Moving.{Keeps, LeavesMoved, MayMove}
+use Rattle.net_locks.specs.Turns.{Stays, own}
+use Rattle.net_guests.specs.Visits.{IsVisit, IsWith, Visit}
+use Rattle.net_guests.proofs.Operating.{visit}
+use Rattle.net_guests.proofs.Passes.{stays_on}
+
+pub keeps_decided : (w : World) (old new : Visit) (answer : Advance) → Keeps w (net_of w old) answer → new ≡ old → Decided w old answer new
+keeps_decided w old new (advance.Moved m) keeps same = absurd keeps
+keeps_decided w old new advance.Done keeps same = (keeps, same)
+keeps_decided w old new advance.Stopped keeps same = (keeps, same)
+keeps_decided w old new (advance.NotCalm c) keeps same = (keeps, same)
+keeps_decided w old new advance.Limit keeps same = (keeps, same)
+keeps_decided w old new advance.Memory keeps same = absurd keeps
+
+asked_move : (ds : List Duty) (k : Caller) (ask : Option Ask) (x : Entry) (m : ℕ) → ds ≡ [] → k ≡ IsClock → x.actor ≡ name.Clock
+    → x.event ≡ event.Move m → IsAsked ds k ask x
+asked_move ds k ask x m none clock at moves = rw (none, clock, at, moves) tt
+
+module _ (w : World) (old new : Visit) (clock : caller_of w old.caller ≡ IsClock) where
+  nexts_same : new ≡ old → AreNext w old.caller old.sight.seen → AreNext w old.caller new.sight.seen
+  nexts_same same nexts = subst (λ (v : Visit). AreNext w old.caller v.sight.seen) (sym same) nexts
+
+  timely_same : new ≡ old → AreTimely w old.caller old.sight.seen → AreTimely w old.caller new.sight.seen
+  timely_same same timely = subst (λ (v : Visit). AreTimely w old.caller v.sight.seen) (sym same) timely
+
+  -- its entries are as they should be still
+  pub nexts_on : (answer : Advance) → Decided w old answer new → AreNext w old.caller old.sight.seen → AreNext w old.caller new.sight.seen
+  nexts_on (advance.Moved m) d nexts = d.entry.turn.nexts (asked_move old.owed (caller_of w old.caller) _ _ m d.free clock refl refl) nexts
+  nexts_on advance.Done d nexts = nexts_same d.1 nexts
+  nexts_on advance.Stopped d nexts = nexts_same d.1 nexts
+  nexts_on (advance.NotCalm c) d nexts = nexts_same d.1 nexts
+  nexts_on advance.Limit d nexts = nexts_same d.1 nexts
+  nexts_on advance.Memory d nexts = nexts_same d nexts
+
+  pub timely_on : (answer : Advance) → Decided w old answer new → AreTimely w old.caller old.sight.seen → AreTimely w old.caller new.sight.seen
+  timely_on (advance.Moved m) d timely = d.entry.turn.timely timely
+  timely_on advance.Done d timely = timely_same d.1 timely
+  timely_on advance.Stopped d timely = timely_same d.1 timely
+  timely_on (advance.NotCalm c) d timely = timely_same d.1 timely
+  timely_on advance.Limit d timely = timely_same d.1 timely
+  timely_on advance.Memory d timely = timely_same d timely
+
+  -- it stays as it was
+  pub leaves_same : (r : Roster) (answer : Advance) → Decided w old answer new → new ≡ old → Leaves w r old answer new
+  leaves_same r answer d same =
+      record {
+        caller = ap (λ (v : Visit). v.caller) same;
+        names = ap (λ (v : Visit). v.names) same;
+        others = λ v is other. subst (λ (u : Visit). IsWith w r v u.sight) (sym same) is;
+        nexts = nexts_on answer d;
+        timely = timely_on answer d;
+        decided = d;
+      }
+
+  -- or it moved
+  pub leaves_moving : (r : Roster) (m : ℕ) → new.caller ≡ old.caller → new.names ≡ old.names
+      → ((v : Visit) → IsWith w r v old.sight → (v.caller == old.caller) ≡ false → IsWith w r v new.sight) → Moves w old m new
+      → Leaves w r old (advance.Moved m) new
+  leaves_moving r m caller names others moves =
+      record {
+        caller = caller;
+        names = names;
+        others = others;
+        nexts = nexts_on (advance.Moved m) moves;
+        timely = timely_on (advance.Moved m) moves;
+        decided = moves;
+      }
+
+-- another guest is with the pass still
+still_with : (w : World) (r : Roster) (v : Visit) (p p' : Sight) → IsWith w r v p → IsGuest w r v.caller p' v.owed × Stays w v.caller p p' → IsWith w r v p'
+still_with w r v p p' is on = record { guest = on.0; stays = stays_on w r v.caller v.sight p p' is.stays on.1 }
+
+-- By its parts.
+
+module _ (w : World) (r : Roster) (c now : ℕ) (p q : Sight) (ds : List Duty) (names : List Bound) (clock : caller_of w c ≡ IsClock) (seen : q ≡ p) where
+  abbrev old : Visit
+  old = visit c now p ds names
+
+  same_visit : (p' : Sight) (ds' : List Duty) → p' ≡ p → ds' ≡ ds → visit c now p' ds' names ≡ visit c now p ds names
+  same_visit p' ds' sight owed =
+      ap (λ (s : Sight). visit c now s ds' names) sight ∙ ap (λ (l : List Duty). visit c now p l names) owed
+
+  -- what keeps the clock
+  pub leaves_kept : (p' : Sight) → p' ≡ q → (answer : Advance) → Keeps w (noted_net w q.seen) answer → Leaves w r old answer (visit c now p' ds names)
+  leaves_kept p' same answer keeps =
+      let still = same_visit p' ds (same ∙ seen) refl in
+      leaves_same w old (visit c now p' ds names) clock r answer
+      (keeps_decided w old (visit c now p' ds names) answer (subst (λ (s : Sight). Keeps w (noted_net w s.seen) answer) seen keeps) still) still
+
+  -- no memory
+  pub leaves_none : (p' : Sight) (ds' : List Duty) → p' ≡ q → ds' ≡ ds → Leaves w r old advance.Memory (visit c now p' ds' names)
+  leaves_none p' ds' same owed =
+      let still = same_visit p' ds' (same ∙ seen) owed in
+      leaves_same w old (visit c now p' ds' names) clock r advance.Memory still still
+
+  -- its move
+  pub leaves_gone : (p' : Sight) (ds' : List Duty) (m : ℕ) → MayMove w c q → LeavesMoved w r c now m q ds p' ds' → m ≡ target w (noted_net w q.seen)
+      → Leaves w r old (advance.Moved m) (visit c m p' ds' names)
+  leaves_gone p' ds' m may moved at = at_sight q seen may moved at
+    where
+      at_sight : (s : Sight) → s ≡ p → MayMove w c s → LeavesMoved w r c now m s ds p' ds' → m ≡ target w (noted_net w s.seen)
+          → Leaves w r old (advance.Moved m) (visit c m p' ds' names)
+      at_sight s same may_s moved_s at_s =
+          let may_p = subst (λ (u : Sight). MayMove w c u) same may_s in
+          let moved_p = subst (λ (u : Sight). LeavesMoved w r c now m u ds p' ds') same moved_s in
+          leaves_moving w old (visit c m p' ds' names) clock r m refl refl
+          (λ v is other. still_with w r v p p' is (moved_p.others v.caller v.owed is.guest other))
+          (record {
+            may = may_p.may;
+            has_room = may_p.unlimited;
+            target_is = subst (λ (u : Sight). m ≡ target w (noted_net w u.seen)) same at_s;
+            free = moved_p.free;
+            entry = moved_p.entry;
+            now_is = refl;
+          })
+
+-- a guest as it was, but for what it knows of due moments
+pub visit_same : (w : World) (r : Roster) (c now : ℕ) (p p' : Sight) (ds ds' : List Duty) (host : ℕ) (m : Marks) (k k' : Calendar) → p' ≡ p → ds' ≡ ds
+    → IsKnown w p'.seen k' → IsVisit w r c now p ds host m k → IsVisit w r c now p' ds' host m k'
+visit_same w r c now p p' ds ds' host m k k' sight owed known is =
+    record {
+      guest = subst (λ (l : List Duty). IsGuest w r c p' l) (sym owed) (subst (λ (s : Sight). IsGuest w r c s ds) (sym sight) is.guest);
+      here = is.here ∙ ap (λ (s : Sight). moment s.seen) (sym sight);
+      early = is.early;
+      home = is.home;
+      covers = subst (λ (s : Sight). Covers (own c s) m) (sym sight) is.covers;
+      known = known;
+    }
+
+-- the moment of a world's end is early
+pub early_end : (m end : ℕ) → is_moment end ≡ true → m ≤ end → m < 2 ^ 63
+early_end m end is le = omega (arith, le, leb-true end 1000000000 (and_parts (nat_le 1 end) (nat_le end 1000000000) is).1)

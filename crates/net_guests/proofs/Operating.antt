@@ -1,0 +1,65 @@
+-- A guest after its turn, and what a request did.
+use Rattle.std.proofs.Common.{◌≡◌, ℕ, List, [], Some, None, refl, ap, ◌∙◌}
+use Rattle.net_base.specs.declared.world.World.{World}
+use Rattle.net_base.specs.Duties.{Duty}
+use Rattle.net_base.specs.Steps.{Ask, Bound}
+use Rattle.journal.specs.declared.tokens.Sight.{Sight}
+use Rattle.script_task.specs.declared.request.Request.{Request}
+use Rattle.net_base.specs.declared.reply.Reply.{Reply}
+use Rattle.net_tree.specs.Bindings.{Bindings}
+use Rattle.script_task.specs.Effects.{effect_of, opened, settles}
+use Rattle.script_task.specs.Requests.{planned, settled}
+use Rattle.net_locks.specs.declared.turn.Turn.{Turn}
+use Rattle.net_locks.specs.declared.turn.Turn.TheVariants as turn
+use mathlib.Core.List.{IsPrefix}
+use Rattle.net_base.specs.declared.noted.Noted.{Noted}
+use Rattle.net_base.specs.Stamped.{moment}
+use Rattle.journal.specs.declared.law.Roster.{Roster}
+use Rattle.due_moments.specs.Marks.{Covers, Marks}
+use Rattle.guest_laws.specs.Guests.{IsGuest}
+use Rattle.net_locks.specs.declared.calendar.Calendar.{Calendar}
+use Rattle.net_locks.specs.Knowing.{IsKnown}
+use Rattle.net_locks.specs.Turns.{Turned, bare, own}
+use Rattle.net_guests.specs.Visits.{IsVisit, Operated, Visit, names_after, settled_by}
+
+abbrev pub visit : ℕ → ℕ → Sight → List Duty → List Bound → Visit
+visit c now p ds names = record { caller = c; now = now; sight = p; owed = ds; names = names }
+
+same_visit : (c now : ℕ) (p p' : Sight) (ds ds' : List Duty) (names names' : List Bound) → p' ≡ p → ds' ≡ ds → names' ≡ names
+    → visit c now p' ds' names' ≡ visit c now p ds names
+same_visit c now p p' ds ds' names names' sight owed called =
+    ap (λ (q : Sight). visit c now q ds' names') sight
+    ∙ (ap (λ (l : List Duty). visit c now p l names') owed ∙ ap (λ (l : List Bound). visit c now p ds l) called)
+
+-- what is known of due moments is known after more entries
+abbrev pub StaysKnown : World → Type 0
+StaysKnown w = (log log' : List Noted) (k : Calendar) → IsPrefix log log' → IsKnown w log k → IsKnown w log' k
+
+pub visit_on : (w : World) (r : Roster) (c now : ℕ) (p p' : Sight) (ds ds' : List Duty) (host : ℕ) (m m' : Marks) (k : Calendar)
+    → StaysKnown w → IsVisit w r c now p ds host m k → IsGuest w r c p' ds' → now ≡ moment p'.seen → Covers (own c p') m' → IsPrefix p.seen p'.seen
+    → IsVisit w r c now p' ds' host m' k
+visit_on w r c now p p' ds ds' host m m' k stays is guest here covers grows =
+    record { guest = guest; here = here; early = is.early; home = is.home; covers = covers; known = stays p.seen p'.seen k grows is.known }
+
+-- the turn of a request that was planned
+pub operated : (w : World) (h : ℕ) (q : Request) (c now : ℕ) (p p' : Sight) (ds ds' : List Duty) (names names' : List Bound) (ask : Ask) (t : Turn) → ds ≡ []
+    → planned h names q ≡ Some ask → Turned w c now ask.actor (bare ask.event) None p ds t p' ds' → names' ≡ names_after names q t
+    → Operated w h q (visit c now p ds names) t (visit c now p' ds' names')
+operated w h q c now p p' ds ds' names names' ask (turn.Recorded stamp answer) free asks takes called =
+    record { free = free; ask = ask; asks = asks; takes = takes; names = called }
+operated w h q c now p p' ds ds' names names' ask turn.NotReady free asks takes called =
+    record { free = free; ask = ask; asks = asks; takes = takes; names = called }
+operated w h q c now p p' ds ds' names names' ask turn.Owes free asks takes called = absurd takes
+operated w h q c now p p' ds ds' names names' ask turn.Limit free asks takes called =
+    (free, takes.0, same_visit c now p p' ds ds' names names' takes.1 takes.2 called)
+operated w h q c now p p' ds ds' names names' ask turn.Memory free asks takes called =
+    (free, takes.0, same_visit c now p p' ds ds' names names' takes.1 takes.2 called)
+
+-- the effect of a request settles the names of a turn as its reply does
+pub settles_names : ((b : Bindings) (q : Request) (r : Reply) → (settles (effect_of b.names q) (opened (effect_of b.names q) r) b).names ≡ settled b.names q r)
+    → (b : Bindings) (q : Request) (t : Turn) → (settled_by (effect_of b.names q) t b).names ≡ names_after b.names q t
+settles_names law b q (turn.Recorded stamp answer) = law b q answer
+settles_names law b q turn.NotReady = refl
+settles_names law b q turn.Owes = refl
+settles_names law b q turn.Limit = refl
+settles_names law b q turn.Memory = refl

@@ -1,0 +1,5 @@
+pub mod Visits
+pub mod Deciding
+pub mod Lent
+pub use Rattle.guest_laws.specs.Guests
+pub use Rattle.script_task.specs.Requests

@@ -1,0 +1,151 @@
+//! A bundle: what a guest carries.
+ghost use Rattle.std.specs.Prelude.{◌≡◌, ◌<◌, [], not, length, ◌==◌, IfOk};
+ghost use Rattle.net_base.specs.declared.noted.Number.TheVariants.{Caller};
+ghost use Rattle.net_base.specs.declared.world.Script.{Script};
+ghost use Rattle.net_base.specs.Callers.{IsScript, caller_of};
+ghost use Rattle.net_base.specs.Stamped.{In};
+ghost use Rattle.due_moments.specs.Marks.{Covers};
+ghost use Rattle.guest_laws.specs.Guests.{IsGuest};
+ghost use Rattle.net_guests.specs.Visits.{IsComplete, IsFresh, IsWith, Visit};
+ghost use Rattle.net_locks.specs.Turns.{own};
+
+use actor_machines::Placing;
+use due_moments::Touched;
+use duties::Duties;
+use guest_laws::{guests_begin, guests_meet};
+use journal::{Journal, Naming, Pass};
+use net_locks::Calendar;
+use net_tree::Fids;
+use std::alloc::{AllocError, Global};
+use std::marker::Model;
+
+/// A caller's pass, what it owes, and the names that it has bound. Clauses see these, its number and the moment, and what else
+/// is known of it. It may be without its number while the clock has that, so whether it is complete is said of each call.
+#[derive(Drop)]
+pub struct Bundle<J: Naming + Placing> {
+    pub(crate) pass: Pass<J>,
+    pub(crate) duties: Duties,
+    pub(crate) fids: Fids,
+    pub(crate) caller: u32,
+    pub(crate) host: u32,
+    pub(crate) now: u64,
+    // at which conversations something was recorded since the clock last moved
+    pub(crate) touched: Touched,
+    // when conversations are due, which the clock's guest alone keeps
+    pub(crate) calendar: Calendar,
+}
+
+impl<J: Naming + Placing> Model for Bundle<J> {
+    ghost use Rattle.net_guests.specs.Visits.{Carried, Visit};
+
+    ghost Value = { Carried };
+
+    ghost view = { λ b. record {
+      visit = record { caller = b.caller; now = b.now; sight = b.pass; owed = b.duties.list; names = b.fids.names };
+      host = b.host;
+      touched = b.touched;
+      calendar = b.calendar;
+    } };
+}
+
+impl<J: Naming + Placing> Bundle<J> {
+    /// That of a caller to whom nothing has happened, of a script's host.
+    pub fn fresh(alloc: Global, pass: Pass<J>, caller: u32, host: u32) -> Bundle<J>
+        requires seen { pass.seen ≡ [] }
+        requires held { In (Caller caller, []) pass.held }
+        requires known { caller < J.run.roster.callers }
+        requires home { (s : Script) → caller_of J.world caller ≡ IsScript s → s.host ≡ host }
+        ensures complete { IsComplete J.world J.run.roster result }
+        ensures fresh { IsFresh caller result.visit }
+    {
+        guests_begin();
+        Bundle {
+            pass,
+            duties: Duties::new(alloc),
+            fids: Fids::new(alloc),
+            caller,
+            host,
+            now: 0,
+            touched: Touched::new(alloc),
+            calendar: Calendar::new(alloc),
+        }
+    }
+
+    /// The pass alone.
+    pub fn into_pass(self) -> Pass<J>
+        ensures same { result ≡ self.visit.sight }
+    {
+        let Bundle {
+            pass,
+            duties: _,
+            fids: _,
+            caller: _,
+            host: _,
+            now: _,
+            touched: _,
+            calendar: _,
+        } = self;
+        pass
+    }
+
+    /// The pass takes this one in: who was with it is still, and this caller is.
+    pub fn meet(self, journal: &Journal<J>, all: &mut Pass<J>)
+        requires complete { IsComplete J.world J.run.roster self }
+        ensures kept { (v : Visit) → IsWith J.world J.run.roster v all.old → IsWith J.world J.run.roster v all.new }
+        ensures taken { IsWith J.world J.run.roster self.visit all.new }
+    {
+        guests_meet();
+        journal.meet(all, self.into_pass());
+    }
+
+    /// The conversations at which something was recorded since the clock last moved.
+    pub fn touched(&self, alloc: Global) -> Result<Touched, AllocError>
+        requires complete { IsComplete J.world J.run.roster self.now }
+        ensures { IfOk result (Covers (own self.entry.now.visit.caller self.entry.now.visit.sight)) }
+    {
+        self.touched.copy(alloc)
+    }
+
+    /// Which caller.
+    pub fn caller(&self) -> u32
+        ensures { result ≡ self.entry.now.visit.caller }
+    {
+        self.caller
+    }
+
+    /// The host of a script.
+    pub fn host(&self) -> u32
+        ensures { result ≡ self.entry.now.host }
+    {
+        self.host
+    }
+
+    /// The moment.
+    pub fn now(&self) -> u64
+        ensures { result ≡ self.entry.now.visit.now }
+    {
+        self.now
+    }
+
+    /// Whether a duty is owed.
+    pub fn owes(&self) -> bool
+        ensures { result ≡ not (length self.entry.now.visit.owed == 0) }
+    {
+        !self.duties.is_empty()
+    }
+
+    /// Whether the caller has recorded as much as it may.
+    pub fn is_full(&self) -> bool
+        requires complete { IsComplete J.world J.run.roster self.now }
+        ensures { result ≡ (length (own self.entry.now.visit.caller self.entry.now.visit.sight) == 131072) }
+    {
+        self.pass.room(self.caller) == 0
+    }
+
+    /// The names that are bound.
+    pub fn fids(&self) -> &Fids
+        ensures { result.now.names ≡ self.entry.now.visit.names }
+    {
+        &self.fids
+    }
+}

@@ -1,0 +1,59 @@
+//! The calm clock: whether it may move, and where to.
+ghost use Rattle.std.specs.Prelude.{◌≡◌};
+ghost use Rattle.net_base.specs.Callers.{IsClock, caller_of};
+ghost use Rattle.net_base.specs.World.{IsWorld};
+ghost use Rattle.guest_laws.specs.Guests.{IsOfGuests};
+ghost use Rattle.net_locks.specs.Standings.{AllStand};
+ghost use Rattle.net_guests.specs.Deciding.{Leaves};
+ghost use Rattle.net_guests.specs.Visits.{IsComplete};
+
+use crate::bundle::Bundle;
+use actor_machines::{Placing, WorldActor};
+use journal::Naming;
+use net_base::World;
+use net_locks::{Advance, Locks, Standing};
+use outside::Gate;
+use std::sync::Wait;
+
+impl<J: Naming + Placing> Bundle<J> {
+    /// What the clock does, where its guest's pass holds the numbers of all callers and they stand so.
+    pub fn decide<R: Wait, G: Gate>(
+        &mut self,
+        rt: &R,
+        gate: &G,
+        locks: &Locks<J, WorldActor<J>>,
+        world: &World,
+        standings: &[Standing],
+    ) -> Advance
+        requires complete { IsComplete J.world J.run.roster self.old }
+        requires world { J.world ≡ world.now }
+        requires is { IsWorld world.now }
+        requires clock { caller_of J.world self.old.visit.caller ≡ IsClock }
+        requires all { AllStand J.world J.run.roster self.old.visit.sight standings.now }
+        ensures complete { IsComplete J.world J.run.roster self.new }
+        ensures guests { IsOfGuests J.world J.run.roster self.old.visit.sight.seen }
+        ensures leaves { Leaves J.world J.run.roster self.old.visit result self.new.visit }
+    {
+        let halt = locks.halt(rt, world, standings, &mut self.pass, self.caller, self.now);
+        if let Some(answer) = halt {
+            return answer;
+        }
+        let moved = locks.try_move(
+            rt,
+            gate,
+            world,
+            standings,
+            &mut self.pass,
+            &mut self.duties,
+            &mut self.calendar,
+            self.caller,
+            self.now,
+        );
+        let Some(moment) = moved else {
+            return Advance::Memory;
+        };
+        self.now = moment;
+        self.touched.forget(self.calendar.at);
+        Advance::Moved(moment)
+    }
+}

@@ -1,0 +1,13 @@
+use Rattle.std.proofs.Common.{◌≡◌, ◌∙◌, Option, subst, ap}
+use Rattle.std.specs.Prelude.{IfOk}
+use Rattle.script_task.specs.declared.request.Request.{Request}
+use Rattle.whole_script.specs.ScriptTasks as spec
+use Rattle.whole_script.proofs.Played.{asks_first}
+use Rattle.whole_script.proofs.script.ScriptTaskTask.next.Goals as goal
+
+pub returns-in-None : goal.returns-in-None
+returns-in-None c =
+    subst (λ (q : Option Request). IfOk c.first_asked.result (λ (asked : Option Request). asked ≡ q))
+    (asks_first c.self.inside.finished c.self.inside.task c.self.inside.steps.now c.in-None.is c.args.fids.now.names
+    ∙ ap (λ (s : spec.Scripting). spec.asks s c.args.fids.now.names) c.self.view_is)
+    c.first_asked.ensures
