@@ -8,10 +8,8 @@ ghost use Rattle.sessions.specs.Script.{AreMessages};
 ghost use Rattle.sessions.specs.Session as spec;
 
 use crate::followed::owes_after;
-use crate::replies::Replies;
-use crate::session::Session;
-use net_base::{History, Lines, Sequence, World};
-use session_script::{ExportError, first_message};
+use net_base::{History, Lines, World};
+use session_answers::answers_by;
 use std::alloc::{AllocError, Global};
 
 /// The answers to the messages of a session, which is this caller of a translated world, as far as the history has them.
@@ -31,31 +29,6 @@ pub fn answers(
 {
     let entries = history.as_slice();
     let owes = owes_after(alloc, world, entries, caller)?;
-    let mut replies = Replies::new(entries, caller, owes);
-    let mut session = Session::new(alloc, world.scripts.as_slice()[caller as usize].host);
-    answer_all(alloc, &mut session, bytes, &mut replies)
-}
-
-// The answers of a session that was served nothing yet.
-pub(crate) fn answer_all(
-    alloc: Global,
-    session: &mut Session,
-    bytes: &[u8],
-    replies: &mut Replies<'_>,
-) -> Result<Lines, AllocError> {
-    let mut answers = Sequence::new(alloc);
-    let mut rest = bytes;
-    while !rest.is_empty() {
-        let (message, behind) = match first_message(alloc, session.table.msize, rest) {
-            Ok(first) => first,
-            Err(ExportError::Memory) => return Err(AllocError),
-            Err(ExportError::BadStream) => return Ok(answers),
-        };
-        let Some(answer) = session.serve(&message, replies)? else {
-            return Ok(answers);
-        };
-        answers.push(answer)?;
-        rest = behind;
-    }
-    Ok(answers)
+    let host = world.scripts.as_slice()[caller as usize].host;
+    answers_by(alloc, host, bytes, caller, entries, owes)
 }

@@ -3,15 +3,6 @@
 
 mod answers;
 mod followed;
-mod found;
-mod printed;
-mod replied;
-mod replies;
-mod said;
-mod session;
 
 pub use answers::answers;
 pub use session_script::{ExportError, script_of};
-
-#[cfg(test)]
-mod tests;

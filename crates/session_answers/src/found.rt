@@ -1,7 +1,7 @@
 //! The lines of cs by fids.
 ghost use Rattle.std.specs.Prelude.{◌≡◌, [], OnOk};
 ghost use Rattle.sessions.specs.Answers.{with_found};
-ghost use Rattle.net_export.specs.Found.{lines_by};
+ghost use Rattle.session_answers.specs.Found.{lines_by};
 
 use indexmap::IndexMap;
 use net_base::Octets;

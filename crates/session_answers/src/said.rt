@@ -2,7 +2,7 @@
 ghost use Rattle.std.specs.Prelude.{◌≡◌, ◌<◌, map, IfOk};
 ghost use Rattle.ninep_wire.specs.declared.answer.Rmsg.TheVariants as r;
 ghost use Rattle.session_script.specs.Seen.{seen};
-ghost use Rattle.net_export.specs.Found.{lines_by};
+ghost use Rattle.session_answers.specs.Found.{lines_by};
 ghost use Rattle.sessions.specs.Answers as spec;
 ghost use Rattle.sessions.specs.Files as files;
 

@@ -1,6 +1,4 @@
-use crate::answers::answer_all;
-use crate::replies::Replies;
-use crate::session::Session;
+use crate::answers_by;
 use net_base::{ActorName, Entry, Event, FileName, Lines, Octets, Proto, Reply};
 use std::test::*;
 
@@ -86,9 +84,7 @@ fn history(rt: &HostRuntime) -> Result<Vec<Entry>, Fail> {
 }
 
 fn answered(rt: &HostRuntime, bytes: &[u8], entries: &[Entry], owes: bool) -> Result<Lines, Fail> {
-    let mut session = Session::new(rt.alloc(), 0);
-    let mut replies = Replies::new(entries, 0, owes);
-    Ok(answer_all(rt.alloc(), &mut session, bytes, &mut replies)?)
+    Ok(answers_by(rt.alloc(), 0, bytes, 0, entries, owes)?)
 }
 
 #[test]
