@@ -1,7 +1,14 @@
 //! The answers to the messages of a session.
+ghost use Rattle.std.specs.Prelude.{◌≡◌, List, IfOk};
+ghost use Rattle.ninep_wire.specs.declared.request.Tmsg.{Tmsg as AnyTmsg};
+ghost use Rattle.session_answers.specs.Served.{answered_of};
+ghost use Rattle.sessions.specs.Script.{AreMessages};
+ghost use Rattle.sessions.specs.Server.{answers_to};
+ghost use Rattle.sessions.specs.Session as spec;
+
 use crate::replies::Replies;
 use crate::session::Session;
-use net_base::{Entry, Lines, Sequence};
+use net_base::{Entry, Lines, Octets, Sequence};
 use session_script::{ExportError, first_message};
 use std::alloc::{AllocError, Global};
 
@@ -13,32 +20,37 @@ pub fn answers_by(
     caller: u32,
     entries: &[Entry],
     owes: bool,
-) -> Result<Lines, AllocError> {
+) -> Result<Lines, AllocError>
+    ensures { IfOk result (λ lines. (ms : List AnyTmsg) → AreMessages bytes.now ms
+        → lines ≡ answers_to (spec.session host) spec.first ms (answered_of owes entries.now caller)) }
+{
     let mut session = Session::new(alloc, host);
     let mut replies = Replies::new(entries, caller, owes);
-    answer_all(alloc, &mut session, bytes, &mut replies)
-}
-
-// The answers of a session that was served nothing yet.
-fn answer_all(
-    alloc: Global,
-    session: &mut Session,
-    bytes: &[u8],
-    replies: &mut Replies<'_>,
-) -> Result<Lines, AllocError> {
     let mut answers = Sequence::new(alloc);
     let mut rest = bytes;
     while !rest.is_empty() {
-        let (message, behind) = match first_message(alloc, session.table.msize, rest) {
-            Ok(first) => first,
-            Err(ExportError::Memory) => return Err(AllocError),
-            Err(ExportError::BadStream) => return Ok(answers),
-        };
-        let Some(answer) = session.serve(&message, replies)? else {
+        let Some((answer, behind)) = serve_first(alloc, &mut session, rest, &mut replies)? else {
             return Ok(answers);
         };
         answers.push(answer)?;
         rest = behind;
     }
     Ok(answers)
+}
+
+// Serves the first message: its answer, and the bytes behind it.
+fn serve_first<'a>(
+    alloc: Global,
+    session: &mut Session,
+    bytes: &'a [u8],
+    replies: &mut Replies<'_>,
+) -> Result<Option<(Octets, &'a [u8])>, AllocError> {
+    match first_message(alloc, session.table.msize, bytes) {
+        Ok((message, behind)) => match session.serve(&message, replies)? {
+            Some(answer) => Ok(Some((answer, behind))),
+            None => Ok(None),
+        },
+        Err(ExportError::Memory) => Err(AllocError),
+        Err(ExportError::BadStream) => Ok(None),
+    }
 }

@@ -1,7 +1,7 @@
 //! The answers to messages with a step, by the reply to its last event.
 ghost use Rattle.std.specs.Prelude.{◌≡◌, IfOk};
 ghost use Rattle.ninep_wire.specs.declared.request.Tmsg.TheVariants as t;
-ghost use Rattle.ninep_wire.specs.Messages.{t_tag};
+ghost use Rattle.ninep_wire.specs.Messages.{IsTmsg, t_tag};
 ghost use Rattle.sessions.specs.Answers as spec;
 ghost use Rattle.session_script.specs.Seen.{seen};
 
@@ -19,6 +19,7 @@ pub fn replied(
     message: &Tmsg,
     reply: &Reply,
 ) -> Result<Rmsg, AllocError>
+    requires { IsTmsg message.now }
     ensures { IfOk result (λ m. m ≡ spec.replied (seen table.now) message.now reply.now) }
 {
     if is_granting(reply) {
@@ -54,6 +55,7 @@ fn granted(
     message: &Tmsg,
     reply: &Reply,
 ) -> Result<Rmsg, AllocError>
+    requires { IsTmsg message.now }
     ensures { IfOk result (λ m. m ≡ spec.granted (seen table.now) message.now reply.now) }
 {
     match message {
@@ -77,8 +79,8 @@ fn granted(
     }
 }
 
-// The node of a fid, where it is known.
-fn node_at(table: &Table, fid: u32) -> Node
+/// The node of a fid, where it is known.
+pub fn node_at(table: &Table, fid: u32) -> Node
     ensures { result ≡ spec.node_at (seen table.now) fid }
 {
     match table.fids.get(fid) {
