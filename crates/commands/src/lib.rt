@@ -2,6 +2,7 @@
 #![tactic(auto)]
 
 mod answer;
+mod exporting;
 mod judgement;
 mod law;
 mod made_run;
@@ -11,6 +12,7 @@ mod resolving;
 mod run;
 
 pub use answer::{Answer, READ_FAULT, TOO_LONG, USAGE};
+pub use exporting::{export_over, translate};
 pub use judgement::check;
 pub use law::values_are_answers;
 pub use made_run::big;

@@ -2,7 +2,9 @@
 #![tactic(auto)]
 
 mod answers;
-mod followed;
+mod owing;
+mod translated;
 
-pub use answers::answers;
+pub use answers::{answers, answers_by_caller};
 pub use session_script::{ExportError, script_of};
+pub use translated::translate;

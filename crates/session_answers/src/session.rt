@@ -1,5 +1,5 @@
 //! A session as far as it was served.
-ghost use Rattle.std.specs.Prelude.{◌≡◌, ◌≤◌, ◌++◌, ◌&&◌, ℕ, List, codes, IfOk, OnOk, Some};
+ghost use Rattle.std.specs.Prelude.{◌≡◌, ◌≤◌, ◌++◌, ◌&&◌, ℕ, List, codes, IfOk, OnOk, Some, option_copied};
 ghost use Rattle.net_base.specs.Steps as steps;
 ghost use Rattle.net_base.specs.Transcript.{lines_of};
 ghost use Rattle.ninep_wire.specs.declared.request.Tmsg.TheVariants as t;
@@ -133,7 +133,7 @@ impl Session {
         replies: &mut Replies<'r>,
     ) -> Result<Option<&'r Reply>, AllocError>
         requires { IsServed step }
-        ensures plays { IfOk result (λ reply. Plays self.old.host self.old.names.names step replies.old self.new.names.names reply replies.new) }
+        ensures plays { IfOk result (λ reply. Plays self.old.host self.old.names.names step replies.old self.new.names.names (option_copied reply) replies.new) }
         ensures table { self.new.table ≡ self.old.table }
         ensures found { self.new.found ≡ self.old.found }
         ensures host { self.new.host ≡ self.old.host }

@@ -1,8 +1,11 @@
 pub mod Indexed
 pub mod Told
+pub mod SessionText
+pub mod SessionTold
 pub use Rattle.net_base.specs.World
 pub use Rattle.world_text.specs.LineCauses
 pub use Rattle.world_text.specs.LineFit
 pub use Rattle.world_text.specs.WorldLines
 pub use Rattle.world_text.specs.WorldSpelling
 pub use Rattle.world_text.specs.WorldText
+pub use Rattle.sessions.specs.Script

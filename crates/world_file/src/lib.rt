@@ -10,7 +10,12 @@ mod host;
 mod lines;
 mod medium;
 mod reader;
+mod session_text;
 
 pub use fault::WorldError;
 pub use net_base::World;
 pub use reader::read_world;
+pub use session_text::read_sessions;
+
+#[cfg(test)]
+mod tests;

@@ -54,7 +54,7 @@ fn read_lines(alloc: Global, bytes: &[u8]) -> Result<World, WorldError>
 }
 
 /// The world of a draft with the database that stands behind the line with this number.
-fn read_database(alloc: Global, draft: Draft, number: u64, text: &[u8]) -> Result<World, WorldError>
+pub(crate) fn read_database(alloc: Global, draft: Draft, number: u64, text: &[u8]) -> Result<World, WorldError>
     requires { number + length text.now < 2 ^ 63 }
     ensures ok { IfOk result (λ w. with_database number (spec.world_of draft) text.now (bad_line text.now) ≡ Ok w) }
     ensures bad { IfErr result (λ e. Tells e (with_database number (spec.world_of draft) text.now (bad_line text.now))) }
@@ -74,7 +74,7 @@ fn read_database(alloc: Global, draft: Draft, number: u64, text: &[u8]) -> Resul
 }
 
 /// The fault of the line with this number.
-fn at_line(fault: LineFault, number: u64) -> WorldError
+pub(crate) fn at_line(fault: LineFault, number: u64) -> WorldError
     ensures { TellsAt fault number result }
 {
     match fault {
@@ -87,7 +87,7 @@ fn at_line(fault: LineFault, number: u64) -> WorldError
 }
 
 /// The first line of a text, and what stands behind its newline.
-fn cut_line(text: &[u8]) -> (&[u8], &[u8])
+pub(crate) fn cut_line(text: &[u8]) -> (&[u8], &[u8])
     requires { 0 < length text.now }
     ensures cut { cuts_of text.now ≡ record { line = result.0.now; behind = result.1.now } ∷ cuts_of result.1.now }
     ensures less { length result.1.now < length text.now }

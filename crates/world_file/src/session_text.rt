@@ -1,0 +1,214 @@
+//! The text of a world with sessions, line by line.
+ghost use Rattle.std.specs.Prelude.{Ok, IfOk, IfErr};
+ghost use Rattle.world_file.specs.SessionText.{Says};
+ghost use Rattle.world_file.specs.SessionTold.{SaysBad};
+
+use crate::draft::Draft;
+use crate::fault::WorldError;
+use crate::reader::{at_line, cut_line, read_database};
+use net_base::{Octets, Sequence};
+use session_script::{ExportError, script_of};
+use sessions::{Session, SessionWorld};
+use std::alloc::{AllocError, Global};
+use words::{read_hex_word, single, split_first};
+use world_text::LineCause;
+
+/// The world with sessions that a text says, or its first bad line. It goes once through the bytes.
+pub fn read_sessions(alloc: Global, bytes: &[u8]) -> Result<SessionWorld, WorldError>
+    ensures ok { IfOk result (λ w. Says bytes.now (Ok w)) }
+    ensures bad { IfErr result (λ e. SaysBad bytes.now e) }
+{
+    let mut told = Told::new(alloc);
+    let mut number: u64 = 1;
+    let mut rest = bytes;
+    while !rest.is_empty() {
+        let (line, behind) = cut_line(rest);
+        if told.take_line(alloc, line, number)? {
+            return told.finish(alloc, number, behind);
+        }
+        number += 1;
+        rest = behind;
+    }
+    told.close(alloc)?;
+    Err(WorldError::Bad {
+        line: number,
+        cause: told.draft.missing().number(),
+    })
+}
+
+/// What the lines so far say.
+#[derive(Drop)]
+struct Told {
+    draft: Draft,
+    sessions: Vec<Session>,
+    // the number of the `session` line under which the next lines stand
+    under: Option<u64>,
+}
+
+/// Which line it is.
+enum Row<'a> {
+    Passes,
+    Feeds(Option<&'a [u8]>),
+    OpensSession,
+    Other,
+}
+
+impl Told {
+    fn new(alloc: Global) -> Told {
+        Told {
+            draft: Draft::new(alloc),
+            sessions: Vec::new(alloc),
+            under: None,
+        }
+    }
+
+    // Takes a line: whether it begins the bundle.
+    fn take_line(&mut self, alloc: Global, line: &[u8], number: u64) -> Result<bool, WorldError> {
+        match self.row_of(line) {
+            Row::Passes => Ok(false),
+            Row::Feeds(word) => self.take_feed(alloc, word, number),
+            Row::OpensSession => self.take_session(alloc, line, number),
+            Row::Other => self.take_other(alloc, line, number),
+        }
+    }
+
+    // The first line is `networld 1`, whatever its words.
+    fn row_of<'a>(&self, line: &'a [u8]) -> Row<'a> {
+        if line.is_empty() || line[0] == b'#' {
+            return Row::Passes;
+        }
+        if self.draft.group == 0 {
+            return Row::Other;
+        }
+        let (word, rest) = split_first(line, b' ');
+        if word == b"feed".as_slice() {
+            return Row::Feeds(only_word(rest));
+        }
+        if word == b"session".as_slice() {
+            return Row::OpensSession;
+        }
+        Row::Other
+    }
+
+    // `feed HEX` adds its bytes to the session under which it stands.
+    fn take_feed(
+        &mut self,
+        alloc: Global,
+        word: Option<&[u8]>,
+        number: u64,
+    ) -> Result<bool, WorldError> {
+        let Some(bytes) = bytes_of(alloc, word)? else {
+            return Err(bad(number, LineCause::WrongArgument));
+        };
+        if self.under.is_none() {
+            return Err(bad(number, LineCause::OutOfOrder));
+        }
+        let count = self.sessions.len();
+        if 0 < count {
+            self.sessions[count - 1].stream.append(bytes.as_slice())?;
+        }
+        Ok(false)
+    }
+
+    // `session HOST` is judged as `script HOST` is, and is a script without steps in its place.
+    fn take_session(
+        &mut self,
+        alloc: Global,
+        line: &[u8],
+        number: u64,
+    ) -> Result<bool, WorldError> {
+        self.close(alloc)?;
+        let place = self.draft.scripts.len() as u32;
+        let script = as_script(alloc, line)?;
+        if let Err(fault) = self.draft.take_text(alloc, script.as_slice()) {
+            return Err(at_line(fault, number));
+        }
+        self.sessions.push(Session {
+            place,
+            host: self.draft.last_host(),
+            stream: Octets::new(alloc),
+        })?;
+        self.under = Some(number);
+        Ok(false)
+    }
+
+    // A line of a world; a step doesn't stand under a session.
+    fn take_other(&mut self, alloc: Global, line: &[u8], number: u64) -> Result<bool, WorldError> {
+        self.close(alloc)?;
+        let taken = if self.under.is_some() {
+            self.draft.take_under_session(alloc, line)
+        } else {
+            self.draft.take_text(alloc, line)
+        };
+        self.under = None;
+        match taken {
+            Ok(begins) => Ok(begins),
+            Err(fault) => Err(at_line(fault, number)),
+        }
+    }
+
+    // The lines of a session end: its bytes are whole messages, or its line is bad.
+    fn close(&self, alloc: Global) -> Result<(), WorldError> {
+        let Some(line) = self.under else {
+            return Ok(());
+        };
+        let count = self.sessions.len();
+        if count == 0 {
+            return Ok(());
+        }
+        match script_of(alloc, self.sessions[count - 1].stream.as_slice()) {
+            Ok(_) => Ok(()),
+            Err(ExportError::Memory) => Err(WorldError::Memory),
+            Err(ExportError::BadStream) => Err(WorldError::Bad {
+                line,
+                cause: BAD_STREAM,
+            }),
+        }
+    }
+
+    // The world of the lines so far, with the database that stands behind the line with this number.
+    fn finish(self, alloc: Global, number: u64, text: &[u8]) -> Result<SessionWorld, WorldError> {
+        let Told {
+            draft,
+            sessions,
+            ..
+        } = self;
+        let world = read_database(alloc, draft, number, text)?;
+        Ok(SessionWorld {
+            world,
+            sessions: Sequence::from_vec(sessions),
+        })
+    }
+}
+
+/// The bytes of a session aren't whole messages.
+const BAD_STREAM: u32 = 51;
+
+fn bad(line: u64, cause: LineCause) -> WorldError {
+    WorldError::Bad {
+        line,
+        cause: cause.number(),
+    }
+}
+
+// The only word behind the first.
+fn only_word(rest: Option<&[u8]>) -> Option<&[u8]> {
+    single(rest?, b' ')
+}
+
+// The bytes that a word tells, if there is one and it tells some.
+fn bytes_of(alloc: Global, word: Option<&[u8]>) -> Result<Option<Octets>, AllocError> {
+    match word {
+        Some(word) => read_hex_word(alloc, word),
+        None => Ok(None),
+    }
+}
+
+// A line whose first word is `session`, with `script` in its place.
+fn as_script(alloc: Global, line: &[u8]) -> Result<Octets, AllocError> {
+    let mut text = Octets::from_slice(alloc, b"script")?;
+    if 7 <= line.len() {
+        text.append(&line[7..])?;
+    }
+    Ok(text)
+}
