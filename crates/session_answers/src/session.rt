@@ -1,5 +1,6 @@
 //! A session as far as it was served.
 ghost use Rattle.std.specs.Prelude.{◌≡◌, ◌≤◌, ◌++◌, ◌&&◌, ℕ, List, codes, IfOk, OnOk, Some, option_copied};
+ghost use Rattle.net_base.specs.declared.world.Step.TheVariants as step;
 ghost use Rattle.net_base.specs.Steps as steps;
 ghost use Rattle.net_base.specs.Transcript.{lines_of};
 ghost use Rattle.ninep_wire.specs.declared.request.Tmsg.TheVariants as t;
@@ -17,7 +18,7 @@ use crate::found::Found;
 use crate::replied::{node_at, replied};
 use crate::replies::Replies;
 use crate::said::said;
-use net_base::{Event, Lines, Octets, Reply, Step};
+use net_base::{Event, Lines, Mode, Octets, Reply, Step};
 use net_tree::Fids;
 use ninep_wire::{Tmsg, encode_r};
 use script_task::{Planned, Request, effects_settle, plan};
@@ -202,16 +203,21 @@ fn request_of(step: Step) -> Request
     ensures { result ≡ asked step }
 {
     match step {
-        Step::Open {
-            name,
-            path,
-            mode: Some(mode),
-        } => Request::Open { name, path, mode },
+        Step::Open { name, path, mode } => open_of(name, path, mode),
         Step::Read { name, count } => Request::Read { name, count },
         Step::Writex { name, text } => Request::Write { name, text },
         Step::Close { name } => Request::Close { name },
         Step::Cs { query } => Request::Cs { query },
         _ => Request::Until { moment: 0 },
+    }
+}
+
+fn open_of(name: Octets, path: Octets, mode: Option<Mode>) -> Request
+    ensures { result ≡ asked (step.Open name path mode) }
+{
+    match mode {
+        Some(mode) => Request::Open { name, path, mode },
+        None => Request::Until { moment: 0 },
     }
 }
 

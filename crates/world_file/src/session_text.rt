@@ -46,6 +46,7 @@ struct Told {
 }
 
 /// Which line it is.
+#[derive(Clone, Copy)]
 enum Row<'a> {
     Passes,
     Feeds(Option<&'a [u8]>),
@@ -123,11 +124,12 @@ impl Told {
         if let Err(fault) = self.draft.take_text(alloc, script.as_slice()) {
             return Err(at_line(fault, number));
         }
-        self.sessions.push(Session {
+        let session = Session {
             place,
             host: self.draft.last_host(),
             stream: Octets::new(alloc),
-        })?;
+        };
+        add(&mut self.sessions, session)?;
         self.under = Some(number);
         Ok(false)
     }
@@ -189,6 +191,11 @@ fn bad(line: u64, cause: LineCause) -> WorldError {
         line,
         cause: cause.number(),
     }
+}
+
+fn add(sessions: &mut Vec<Session>, session: Session) -> Result<(), AllocError> {
+    sessions.push(session)?;
+    Ok(())
 }
 
 // The only word behind the first.
