@@ -1,5 +1,5 @@
 -- The play of a session's step: one event, or two where a grant is accepted, after which the conversation is awaited.
-use Rattle.std.proofs.Common.{◌≡◌, ℕ, ◌&&◌, Bool, true, false, List, [], ◌∷◌, Option, Some, None, Result, Ok, Err, cond, bytes_eq, refl, sym, ◌∙◌, ap}
+use Rattle.std.proofs.Common.{◌≡◌, ℕ, ◌&&◌, Bool, true, false, List, [], ◌∷◌, Option, Some, None, Result, Ok, Err, cond, bytes_eq, option_copied, MatchOption, Bor, refl, sym, ◌∙◌, ap}
 use Rattle.net_base.specs.declared.actor.ActorName.{ActorName}
 use Rattle.net_base.specs.declared.address.Proto.{Proto}
 use Rattle.net_base.specs.declared.event.Event.{Event}
@@ -20,7 +20,12 @@ use Rattle.net_base.specs.Steps.{uses, misuses, ends_with, read_event, opens, As
 use Rattle.sessions.specs.Server.{Doing, Outcome, Waits, doing_of, outcome}
 use Rattle.sessions.specs.Session.{State}
 use Rattle.script_task.specs.declared.request.Request.{Request}
-use Rattle.script_task.specs.Requests.{bound_after, head, opened_names, request_play, settled}
+use Rattle.script_task.specs.declared.effect.Effect.{Effect}
+use Rattle.script_task.specs.declared.planned.Planned.{Planned}
+use Rattle.script_task.specs.Effects.{effect_of, opened, settles}
+use Rattle.script_task.specs.Planning.{ask_of}
+use Rattle.script_task.specs.Requests.{bound_after, head, opened_names, planned, request_play, settled}
+use Rattle.net_tree.specs.Bindings.{Bindings}
 use Rattle.session_answers.specs.Served.{IsServed, Plays, asked, is_grant, went}
 
 -- what a play does by its first event
@@ -245,3 +250,45 @@ pub two_wait : (h : ℕ) (names now : List Bound) (s : Step) → IsServed s → 
 two_wait h names now s is a e asks x rs left first more none behind =
     λ go_on. ap (λ (xs : List Reply). outcome (doing_of (play_of h names s) None go_on) xs) (first ∙ ap (λ (xs : List Reply). x ∷ xs) none)
         ∙ (two_replies (settled names (asked s)) (play_of h names s) (ahead h names s is) a e asks x more go_on).0
+
+-- ---- by what the code planned
+
+-- the request of a step was planned under these names
+pub record Plans (h : ℕ) (b : Bindings) (s : Step) (q : Request) (p : Planned) : Type 0 where
+  pub served : IsServed s
+  pub asked_is : q ≡ asked s
+  pub event_is : planned h b.names q ≡ Some (ask_of p)
+  pub effect_is : p.effect ≡ effect_of b.names q
+
+-- effects settle names as requests do
+abbrev pub SettlesSo : Type 0
+SettlesSo = (b : Bindings) (q : Request) (x : Reply) → (settles (effect_of b.names q) (opened (effect_of b.names q) x) b).names ≡ settled b.names q x
+
+heads : (h : ℕ) (b : Bindings) (s : Step) (q : Request) (p : Planned) → Plans h b s q p → head (play_of h b.names s) ≡ Some (ask_of p)
+heads h b s q p so = ap head (plays_as h b.names s so.served) ∙ ap (λ (r : Request). head (request_play h b.names r)) (sym so.asked_is) ∙ so.event_is
+
+names_settle : SettlesSo → (h : ℕ) (b now : Bindings) (s : Step) (q : Request) (p : Planned) → Plans h b s q p → (x : Reply) → now ≡ settles p.effect (opened p.effect x) b
+    → now.names ≡ settled b.names (asked s) x
+names_settle law h b now s q p so x is =
+    ap (λ (c : Bindings). c.names) is
+    ∙ ap (λ (e : Effect). (settles e (opened e x) b).names) so.effect_is
+    ∙ law b q x
+    ∙ ap (λ (r : Request). settled b.names r x) so.asked_is
+
+pub none_left : (h : ℕ) (b : Bindings) (s : Step) (q : Request) (p : Planned) → Plans h b s q p → (rs left : List Reply) → rs ≡ [] → Plays h b.names s rs b.names None left
+none_left h b s q p so rs left none = waits h b.names b.names s so.served rs left none
+
+pub one_done : SettlesSo → (h : ℕ) (b now : Bindings) (s : Step) (q : Request) (p : Planned) → Plans h b s q p → (x : Reply) (rs left : List Reply) → rs ≡ x ∷ left
+    → now ≡ settles p.effect (opened p.effect x) b → (test : Bool) → test ≡ (is_grant p.event && is_accepted x) → test ≡ false
+    → Plays h b.names s rs now.names (Some x) left
+one_done law h b now s q p so x rs left first is test told off =
+    one_played h b.names now.names s so.served p.actor p.event (heads h b s q p so) x rs left first (sym told ∙ off) (names_settle law h b now s q p so x is)
+
+pub two_done : SettlesSo → (h : ℕ) (b now : Bindings) (s : Step) (q : Request) (p : Planned) → Plans h b s q p → (x : Reply) (rs left : List Reply) → rs ≡ x ∷ left
+    → now ≡ settles p.effect (opened p.effect x) b → (test : Bool) → test ≡ (is_grant p.event && is_accepted x) → test ≡ true
+    → (o : Option (Bor Reply)) (behind : List Reply) → MatchOption o (left ≡ []) (λ (y : Bor Reply). left ≡ y.now ∷ behind)
+    → Plays h b.names s rs now.names (option_copied o) behind
+two_done law h b now s q p so x rs left first is test told on None behind next =
+    two_wait h b.names now.names s so.served p.actor p.event (heads h b s q p so) x rs left first (sym told ∙ on) next behind
+two_done law h b now s q p so x rs left first is test told on (Some y) behind next =
+    two_played h b.names now.names s so.served p.actor p.event (heads h b s q p so) x rs left first (sym told ∙ on) (names_settle law h b now s q p so x is) y.now behind next

@@ -1,25 +1,24 @@
-use Rattle.std.proofs.Common.{rules, ◌≡◌, ◌≤◌, ◌++◌, ◌&&◌, ℕ, List, codes, IfOk, OnOk, Some, option_copied, ◌+◌, ◌-◌, ◌*◌, ◌<◌, length, ◌/◌, ◌%◌, Bool, true, false, nat_eq, nat_lt, [], ◌∷◌, slice_index_or, slice_set, bit_and, bit_or, Fits, w8, w32, w64, Bor, MutBor}
-use Rattle.net_base.specs.Steps as steps
-use Rattle.net_base.specs.Transcript.{lines_of}
-use Rattle.ninep_wire.specs.Messages.{IsTmsg, longest}
-use Rattle.script_task.specs.Effects.{opened, settles}
-use Rattle.session_answers.specs.Found.{lines_by}
-use Rattle.session_answers.specs.Served.{IsServed, Plays, asked, is_grant, served, state_of}
-use Rattle.session_script.specs.Seen.{seen}
-use Rattle.sessions.specs.Answers.{found_after, found_by}
-use Rattle.sessions.specs.Script.{after}
-use Rattle.sessions.specs.Server.{Gives, outcome}
-use Rattle.sessions.specs.Session as spec
+use Rattle.std.proofs.Common.{refl}
+use Rattle.session_answers.proofs.Plays.{none_left, one_done, two_done}
 use Rattle.session_answers.proofs.session.Session.play.Goals as goal
 
--- src/session.rt:145:13
 pub returns-in_default-clause-plays : goal.returns-in_default-clause-plays
-returns-in_default-clause-plays c = ?
+returns-in_default-clause-plays c =
+    none_left c.args.self.now.host c.args.self.now.names c.args.step c.request_of.result c.plan.result
+    (record { served = c.requires; asked_is = c.request_of.ensures; event_is = c.plan.ensures.event; effect_is = c.plan.ensures.effect })
+    c.args.replies.now c.next.new.self (rw c.in_default.is at c.next.ensures)
 
--- src/session.rt:149:13
 pub returns-then-goes_on-clause-plays : goal.returns-then-goes_on-clause-plays
-returns-then-goes_on-clause-plays c = ?
+returns-then-goes_on-clause-plays c =
+    two_done c.effects_settle.ensures c.args.self.now.host c.args.self.now.names _ c.args.step c.request_of.result c.plan.result
+    (record { served = c.requires; asked_is = c.request_of.ensures; event_is = c.plan.ensures.event; effect_is = c.plan.ensures.effect })
+    c.in-Some.reply.now c.args.replies.now c.next.new.self (rw c.in-Some.is at c.next.ensures)
+    c.in_ok-settle.ensures c.goes_on.result c.goes_on.ensures c.if-goes_on.true
+    c.next-2.result c.next-2.new.self c.next-2.ensures
 
--- src/session.rt:130:5
 pub returns-clause-plays : goal.returns-clause-plays
-returns-clause-plays c = ?
+returns-clause-plays c =
+    one_done c.effects_settle.ensures c.args.self.now.host c.args.self.now.names _ c.args.step c.request_of.result c.plan.result
+    (record { served = c.requires; asked_is = c.request_of.ensures; event_is = c.plan.ensures.event; effect_is = c.plan.ensures.effect })
+    c.in-Some.reply.now c.args.replies.now c.next.new.self (rw c.in-Some.is at c.next.ensures)
+    c.in_ok-settle.ensures c.goes_on.result c.goes_on.ensures c.if-goes_on.false
