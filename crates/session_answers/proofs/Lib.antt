@@ -1,3 +1,5 @@
 mod Plays
 mod Walks
 mod Fits
+mod Own
+mod Answering

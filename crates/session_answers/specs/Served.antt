@@ -12,7 +12,7 @@ use Rattle.ninep_wire.specs.declared.request.Tmsg.{Tmsg}
 use Rattle.script_task.specs.declared.request.Request.{Request}
 use Rattle.script_task.specs.declared.request.Request.TheVariants as request
 use Rattle.session_script.specs.Seen.{seen}
-use Rattle.sessions.specs.Script.{IsStream}
+use Rattle.sessions.specs.Script.{Begins, IsStream, after}
 use Rattle.sessions.specs.Server.{Answered, Doing, Outcome, Waits, answers_to, doing_of, outcome}
 use Rattle.sessions.specs.Session.{State, session}
 use Rattle.session_answers.specs.declared.session.Session.{Session}
@@ -38,8 +38,8 @@ went go_on names (Some x) rs = outcome (go_on names (Some x)) rs
 
 -- the step was played as far as its last reply, after which these names are bound and these replies are left
 abbrev pub Plays : ℕ → List Bound → Step → List Reply → List Bound → Option Reply → List Reply → Type 0
-Plays h names s rs after last left =
-    (go_on : List Bound → Option Reply → Doing State) → outcome (doing_of (play_of h names s) None go_on) rs ≡ went go_on after last left
+Plays h names s rs now last left =
+    (go_on : List Bound → Option Reply → Doing State) → outcome (doing_of (play_of h names s) None go_on) rs ≡ went go_on now last left
 
 -- the step is of a kind that sessions have
 abbrev pub IsServed : Step → Type 0
@@ -63,6 +63,17 @@ asked _ = request.Until 0
 abbrev pub is_grant : Event → Bool
 is_grant (event.Grant n g remote port) = true
 is_grant _ = false
+
+-- the first message was served, and these bytes and replies are left
+pub record IsServedFirst (h : ℕ) (old new : State) (bytes behind answer : List ℕ) (rs left : List Reply) : Type 0 where
+  pub message : Tmsg
+  pub begins : Begins old.table.msize message bytes behind
+  pub heard : new.table ≡ after old.table message
+  pub answered : outcome ((session h).serves old message) rs ≡ Answered answer new left
+
+-- no message begins the bytes, or the first one waits
+abbrev pub IsLast : ℕ → State → List ℕ → List Reply → Type 0
+IsLast h s bytes rs = (m : Tmsg) (behind : List ℕ) → Begins s.table.msize m bytes behind → outcome ((session h).serves s m) rs ≡ Waits
 
 -- so many answers stand before those to what is left
 pub record Goes (h : ℕ) (all : List (List ℕ)) (answers : List (List ℕ)) (s : State) (ms : List Tmsg) (rest : List ℕ) (rs : List Reply) : Type 0 where

@@ -1,7 +1,9 @@
 //! The answers to the messages of a session.
-ghost use Rattle.std.specs.Prelude.{◌≡◌, List, IfOk};
+ghost use Rattle.std.specs.Prelude.{◌≡◌, ◌<◌, List, length, IfOk, IfSome, MatchOption};
 ghost use Rattle.ninep_wire.specs.declared.request.Tmsg.{Tmsg as AnyTmsg};
-ghost use Rattle.session_answers.specs.Served.{answered_of};
+ghost use Rattle.session_answers.specs.Served.{IsLast, IsServedFirst, answered_of, state_of};
+ghost use Rattle.session_script.specs.Seen.{seen};
+ghost use Rattle.sessions.specs.Table.{IsSound};
 ghost use Rattle.sessions.specs.Script.{AreMessages};
 ghost use Rattle.sessions.specs.Server.{answers_to};
 ghost use Rattle.sessions.specs.Session as spec;
@@ -44,7 +46,15 @@ fn serve_first<'a>(
     session: &mut Session,
     bytes: &'a [u8],
     replies: &mut Replies<'_>,
-) -> Result<Option<(Octets, &'a [u8])>, AllocError> {
+) -> Result<Option<(Octets, &'a [u8])>, AllocError>
+    requires sound { IsSound (seen session.old.table) }
+    ensures served { IfOk result (λ first. MatchOption first
+        (IsLast session.old.host (state_of session.old) bytes.now replies.old)
+        (λ x. IsServedFirst session.old.host (state_of session.old) (state_of session.new) bytes.now x.1.now x.0 replies.old replies.new)) }
+    ensures sound { IfOk result (λ first. IfSome first (λ x. IsSound (seen session.new.table))) }
+    ensures shorter { IfOk result (λ first. IfSome first (λ x. length x.1.now < length bytes.now)) }
+    ensures host { session.new.host ≡ session.old.host }
+{
     match first_message(alloc, session.table.msize, bytes) {
         Ok((message, behind)) => match session.serve(&message, replies)? {
             Some(answer) => Ok(Some((answer, behind))),

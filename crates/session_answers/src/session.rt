@@ -1,5 +1,5 @@
 //! A session as far as it was served.
-ghost use Rattle.std.specs.Prelude.{◌≡◌, ◌≤◌, ◌++◌, ◌&&◌, ℕ, List, codes, IfOk, OnOk, Some, option_copied};
+ghost use Rattle.std.specs.Prelude.{◌≡◌, ◌≤◌, ◌++◌, ◌&&◌, ℕ, List, codes, IfOk, OnOk, IfSome, Some, option_copied};
 ghost use Rattle.net_base.specs.declared.world.Step.TheVariants as step;
 ghost use Rattle.net_base.specs.Steps as steps;
 ghost use Rattle.net_base.specs.Transcript.{lines_of};
@@ -60,6 +60,7 @@ impl Session {
         requires short { self.old.table.msize ≤ longest }
         ensures served { IfOk result (λ answer.
             outcome ((spec.session self.old.host).serves (state_of self.old) message.now) replies.old ≡ served answer (state_of self.new) replies.new) }
+        ensures heard { IfOk result (λ answer. IfSome answer (λ bytes. seen self.new.table ≡ after (seen self.old.table) message.now)) }
         ensures host { self.new.host ≡ self.old.host }
     {
         match step_of(self.alloc, &self.table, message)? {
@@ -73,6 +74,7 @@ impl Session {
         requires message { IsTmsg message.now }
         requires short { self.old.table.msize ≤ longest }
         ensures told { IfOk result (λ answer. spec.told (state_of self.old) message.now ≡ Gives answer (state_of self.new)) }
+        ensures heard { OnOk result (seen self.new.table ≡ after (seen self.old.table) message.now) }
         ensures host { self.new.host ≡ self.old.host }
     {
         let answer = said(self.alloc, &self.table, &self.found, message)?;
@@ -93,6 +95,7 @@ impl Session {
         requires step { IsServed step }
         ensures served { IfOk result (λ answer.
             outcome (spec.serves_by self.old.host (state_of self.old) message.now (Some step)) replies.old ≡ served answer (state_of self.new) replies.new) }
+        ensures heard { IfOk result (λ answer. IfSome answer (λ bytes. seen self.new.table ≡ after (seen self.old.table) message.now)) }
         ensures host { self.new.host ≡ self.old.host }
     {
         match self.play(step, replies)? {
@@ -107,6 +110,7 @@ impl Session {
         requires short { self.old.table.msize ≤ longest }
         ensures told { IfOk result (λ answer.
             spec.by_last (state_of self.old) message.now self.old.names.names (Some reply.now) ≡ Gives answer (state_of self.new)) }
+        ensures heard { OnOk result (seen self.new.table ≡ after (seen self.old.table) message.now) }
         ensures host { self.new.host ≡ self.old.host }
     {
         let answer = replied(self.alloc, &self.table, message, reply)?;

@@ -1,3 +1,3 @@
 mod Tags
 mod WorkedSession
-mod Sayable
+pub mod Sayable

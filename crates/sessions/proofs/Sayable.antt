@@ -28,7 +28,7 @@ use Rattle.ninep_wire.specs.Messages.{IsTmsg, longest, t_bytes}
 use Rattle.sessions.specs.Files.{access, can_open, child, is_cs, is_data, is_directory, is_plain, parent, reached, step_to}
 use Rattle.sessions.specs.Script.{AreMessages, Begins, IsScript, IsStream, after, attaches, begins, bound_by, changed, close_step, cs_step, fid_name, gives_nothing, is_query, open_step, opened, opens, read_count, read_step, reads, room, source, step_of, steps_of, text_end, walks_from, write_step}
 use Rattle.sessions.specs.declared.target.Target.{Target}
-use Rattle.sessions.specs.Table.{Table, fresh, if_used, is_taken, opening, put, set, used, with_fid}
+use Rattle.sessions.specs.Table.{IsSound, Table, fresh, if_used, is_taken, opening, put, set, used, with_fid}
 
 both : (a b : Bool) → a ≡ true → b ≡ true → (a && b) ≡ true
 both a b p q = rw (p, q) refl
@@ -123,12 +123,6 @@ path_word (node.File proto.Il n f) is = last_word n f (slot_small n is)
 path_word (node.File proto.Udp n f) is = last_word n f (slot_small n is)
 
 -- ---- tables
-
--- what a session knows after any messages
-record IsSound (table : Table) : Type 0 where
-  least : 256 ≤ table.msize
-  most : table.msize ≤ longest
-  nodes : (fid : ℕ) (f : Target) → table.fids fid ≡ Some f → in_range f.node ≡ true
 
 -- it stands for a node whose slot is one
 abbrev Stands : Option Target → Type 0
@@ -254,10 +248,10 @@ changed_sound table (t.Remove tag fid) s = set_sound fid None table for_none s
 changed_sound table (t.Stat tag fid) s = s
 changed_sound table (t.Wstat tag fid stat) s = s
 
-after_sound : (table : Table) (m : Tmsg) → IsSound table → IsSound (after table m)
+pub after_sound : (table : Table) (m : Tmsg) → IsSound table → IsSound (after table m)
 after_sound table m s = let c = changed_sound table m s in record { least = c.least; most = c.most; nodes = c.nodes }
 
-opening_sound : IsSound opening
+pub opening_sound : IsSound opening
 opening_sound = record { least = omega arith; most = omega arith; nodes = λ fid. for_none }
 
 -- ---- steps
