@@ -3,3 +3,4 @@ mod Walks
 mod Fits
 mod Own
 mod Answering
+mod Serving
