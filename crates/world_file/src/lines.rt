@@ -96,7 +96,9 @@ fn is_ndb(line: &WorldLine) -> bool
 }
 
 /// Whether a line is a step.
-fn is_of_script(line: &WorldLine) -> bool {
+fn is_of_script(line: &WorldLine) -> bool
+    ensures { (d : spec.Draft) → under_session d (Ok line.now) ≡ (if result then spec.Bad LineCause.OutOfOrder else spec.judged_line d (Ok line.now)) }
+{
     match line {
         WorldLine::OfScript(_) => true,
         _ => false,

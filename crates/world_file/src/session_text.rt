@@ -1,7 +1,12 @@
 //! The text of a world with sessions, line by line.
-ghost use Rattle.std.specs.Prelude.{Ok, IfOk, IfErr};
+ghost use Rattle.std.specs.Prelude.{◌≡◌, ℕ, List, [], ◌∷◌, ◌+◌, ◌++◌, ◌<◌, ◌^◌, length, Ok, IfOk, IfErr, OnOk};
+ghost use Rattle.net_base.specs.NdbBundle.{bad_line};
+ghost use Rattle.world_text.specs.WorldLines as lines;
+ghost use Rattle.world_text.specs.WorldText.{with_database};
+ghost use Rattle.world_file.specs.SessionText as spec;
 ghost use Rattle.world_file.specs.SessionText.{Says};
-ghost use Rattle.world_file.specs.SessionTold.{SaysBad};
+ghost use Rattle.world_file.specs.SessionTold.{BundleBad, ClosesBad, IsClosed, SaysBad, Taken, TakenAs, row_seen, word_seen};
+ghost use Rattle.world_file.specs.Told.{IsSmall};
 
 use crate::draft::Draft;
 use crate::fault::WorldError;
@@ -10,6 +15,7 @@ use net_base::{Octets, Sequence};
 use session_script::{ExportError, script_of};
 use sessions::{Session, SessionWorld};
 use std::alloc::{AllocError, Global};
+use std::marker::Model;
 use words::{read_hex_word, single, split_first};
 use world_text::LineCause;
 
@@ -54,8 +60,18 @@ enum Row<'a> {
     Other,
 }
 
+impl Model for Told {
+    ghost use Rattle.world_file.specs.SessionText.{Told as AnyTold};
+
+    ghost Value = { AnyTold };
+
+    ghost view = { λ t. record { draft = t.draft; sessions = t.sessions.items; under = t.under } };
+}
+
 impl Told {
-    fn new(alloc: Global) -> Told {
+    fn new(alloc: Global) -> Told
+        ensures { result ≡ spec.opening_told }
+    {
         Told {
             draft: Draft::new(alloc),
             sessions: Vec::new(alloc),
@@ -64,7 +80,10 @@ impl Told {
     }
 
     // Takes a line: whether it begins the bundle.
-    fn take_line(&mut self, alloc: Global, line: &[u8], number: u64) -> Result<bool, WorldError> {
+    fn take_line(&mut self, alloc: Global, line: &[u8], number: u64) -> Result<bool, WorldError>
+        requires { IsSmall self.old.draft }
+        ensures { Taken self.old self.new number line.now result }
+    {
         match self.row_of(line) {
             Row::Passes => Ok(false),
             Row::Feeds(word) => self.take_feed(alloc, word, number),
@@ -74,7 +93,9 @@ impl Told {
     }
 
     // The first line is `networld 1`, whatever its words.
-    fn row_of<'a>(&self, line: &'a [u8]) -> Row<'a> {
+    fn row_of<'a>(&self, line: &'a [u8]) -> Row<'a>
+        ensures { row_seen result ≡ spec.row_of self.now.draft line.now }
+    {
         if line.is_empty() || line[0] == b'#' {
             return Row::Passes;
         }
@@ -97,7 +118,9 @@ impl Told {
         alloc: Global,
         word: Option<&[u8]>,
         number: u64,
-    ) -> Result<bool, WorldError> {
+    ) -> Result<bool, WorldError>
+        ensures { (line : List ℕ) → TakenAs (spec.Feeds (word_seen word)) self.old self.new number line result }
+    {
         let Some(bytes) = bytes_of(alloc, word)? else {
             return Err(bad(number, LineCause::WrongArgument));
         };
@@ -117,7 +140,10 @@ impl Told {
         alloc: Global,
         line: &[u8],
         number: u64,
-    ) -> Result<bool, WorldError> {
+    ) -> Result<bool, WorldError>
+        requires { IsSmall self.old.draft }
+        ensures { TakenAs spec.OpensSession self.old self.new number line.now result }
+    {
         self.close(alloc)?;
         let place = self.draft.scripts.len() as u32;
         let script = as_script(alloc, line)?;
@@ -135,7 +161,10 @@ impl Told {
     }
 
     // A line of a world; a step doesn't stand under a session.
-    fn take_other(&mut self, alloc: Global, line: &[u8], number: u64) -> Result<bool, WorldError> {
+    fn take_other(&mut self, alloc: Global, line: &[u8], number: u64) -> Result<bool, WorldError>
+        requires { IsSmall self.old.draft }
+        ensures { TakenAs spec.Other self.old self.new number line.now result }
+    {
         self.close(alloc)?;
         let taken = if self.under.is_some() {
             self.draft.take_under_session(alloc, line)
@@ -150,7 +179,10 @@ impl Told {
     }
 
     // The lines of a session end: its bytes are whole messages, or its line is bad.
-    fn close(&self, alloc: Global) -> Result<(), WorldError> {
+    fn close(&self, alloc: Global) -> Result<(), WorldError>
+        ensures ok { OnOk result (IsClosed self.now) }
+        ensures bad { IfErr result (ClosesBad self.now) }
+    {
         let Some(line) = self.under else {
             return Ok(());
         };
@@ -169,7 +201,11 @@ impl Told {
     }
 
     // The world of the lines so far, with the database that stands behind the line with this number.
-    fn finish(self, alloc: Global, number: u64, text: &[u8]) -> Result<SessionWorld, WorldError> {
+    fn finish(self, alloc: Global, number: u64, text: &[u8]) -> Result<SessionWorld, WorldError>
+        requires { number + length text.now < 2 ^ 63 }
+        ensures ok { IfOk result (λ w. spec.with_sessions self.sessions (with_database number (lines.world_of self.draft) text.now (bad_line text.now)) ≡ Ok w) }
+        ensures bad { IfErr result (BundleBad self number text.now) }
+    {
         let Told {
             draft,
             sessions,
@@ -193,7 +229,9 @@ fn bad(line: u64, cause: LineCause) -> WorldError {
     }
 }
 
-fn add(sessions: &mut Vec<Session>, session: Session) -> Result<(), AllocError> {
+fn add(sessions: &mut Vec<Session>, session: Session) -> Result<(), AllocError>
+    ensures { OnOk result (sessions.new.items ≡ sessions.old.items ++ session ∷ []) }
+{
     sessions.push(session)?;
     Ok(())
 }
@@ -204,7 +242,9 @@ fn only_word(rest: Option<&[u8]>) -> Option<&[u8]> {
 }
 
 // The bytes that a word tells, if there is one and it tells some.
-fn bytes_of(alloc: Global, word: Option<&[u8]>) -> Result<Option<Octets>, AllocError> {
+fn bytes_of(alloc: Global, word: Option<&[u8]>) -> Result<Option<Octets>, AllocError>
+    ensures { IfOk result (λ bytes. bytes ≡ word_seen word) }
+{
     match word {
         Some(word) => read_hex_word(alloc, word),
         None => Ok(None),
@@ -212,7 +252,9 @@ fn bytes_of(alloc: Global, word: Option<&[u8]>) -> Result<Option<Octets>, AllocE
 }
 
 // A line whose first word is `session`, with `script` in its place.
-fn as_script(alloc: Global, line: &[u8]) -> Result<Octets, AllocError> {
+fn as_script(alloc: Global, line: &[u8]) -> Result<Octets, AllocError>
+    ensures { IfOk result (λ text. text ≡ spec.as_script line.now) }
+{
     let mut text = Octets::from_slice(alloc, b"script")?;
     if 7 <= line.len() {
         text.append(&line[7..])?;
