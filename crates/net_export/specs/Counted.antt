@@ -1,5 +1,5 @@
 -- How many events an entry of a script owes, by what the entry shows.
-use Rattle.std.specs.Prelude.{ℕ, ◌+◌, Bool, true, false, List, length, Option, Some, None}
+use Rattle.std.specs.Prelude.{ℕ, ◌+◌, ◌-◌, ◌==◌, Bool, true, false, List, [], ◌∷◌, length, Option, Some, None, if◌then◌else◌}
 use Rattle.net_base.specs.declared.actor.ActorName.{ActorName}
 use Rattle.net_base.specs.declared.actor.ActorName.TheVariants as name
 use Rattle.net_base.specs.declared.event.Event.{Event}
@@ -33,10 +33,14 @@ at_directory event.Arrive (reply.To n g) = 1
 at_directory event.Arrive (reply.Born n g start limit) = 1
 at_directory _ _ = 0
 
+abbrev pub at_conversation : Event → Reply → ℕ
+at_conversation (event.Hangup g) reply.Left = 1
+at_conversation _ _ = 0
+
 -- what follows a reply
 abbrev pub follow_ups : ActorName → Event → Reply → ℕ
 follow_ups (name.Dir h p) e r = at_directory e r
-follow_ups (name.Conv h p n) (event.Hangup g) reply.Left = 1
+follow_ups (name.Conv h p n) e r = at_conversation e r
 follow_ups _ e r = 0
 
 -- the release of a conversation that ended
@@ -44,5 +48,11 @@ abbrev pub releases : ActorName → Bool → ℕ
 releases (name.Conv h p n) true = 1
 releases _ ended = 0
 
+-- all that an entry brings
 abbrev pub brought : World → Entry → ℕ
 brought w x = puts w x.actor x.emits + follow_ups x.actor x.event x.reply + releases x.actor x.ended
+
+-- how many events a caller owes after entries: each of its own does the first of them, and brings its own
+abbrev pub count_after : World → ℕ → ℕ → List Entry → ℕ
+count_after w c owed [] = owed
+count_after w c owed (x ∷ xs) = count_after w c (if x.caller == c then (owed - 1) + brought w x else owed) xs

@@ -2,9 +2,11 @@
 #![tactic(auto)]
 
 mod answers;
+mod law;
 mod owing;
 mod translated;
 
 pub use answers::{answers, answers_by_caller};
+pub use law::what_is_owed_is_counted;
 pub use session_script::{ExportError, script_of};
 pub use translated::translate;
