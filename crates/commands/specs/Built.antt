@@ -27,7 +27,7 @@ use Rattle.world_writer.specs.Written.{file_text}
 use Rattle.net_model.specs.Answers.{Answer, bad_input, lines_answer, cs_answer, input_limit}
 use Rattle.net_model.specs.Words.{Command, Cs, Query, Run, Make, Big, Check, Export, Translate, reads}
 use Rattle.net_base.specs.Numeral.{numeral}
-use Rattle.net_base.specs.Transcript.{hex_word}
+use Rattle.net_base.specs.Hexadecimal.{hex_word}
 use Rattle.ninep_wire.specs.declared.request.Tmsg.{Tmsg}
 use Rattle.sessions.specs.declared.world.Session.{Session}
 use Rattle.sessions.specs.declared.world.SessionWorld.{SessionWorld}
