@@ -158,7 +158,7 @@ IsJudged input answer = (handed : Handed input) → IsChecked handed.world hande
 
 -- a line `9p CALLER HEX` for an answer
 abbrev pub answer_line : ℕ → List ℕ → List ℕ
-answer_line c answer = codes "9p " ++ numeral c ++ codes " " ++ hex_word answer ++ codes "\n"
+answer_line c answer = codes "9p " ++ numeral c ++ codes " " ++ hex_word answer ++ 10 ∷ []
 
 -- the text is the lines of the answers of these sessions, in order
 abbrev pub AreAnswered : World → List Entry → List Session → List ℕ → Type 0

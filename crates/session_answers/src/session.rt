@@ -1,5 +1,5 @@
 //! A session as far as it was served.
-ghost use Rattle.std.specs.Prelude.{◌≡◌, ◌≤◌, ◌++◌, ◌&&◌, ℕ, List, codes, IfOk, OnOk, IfSome, Some, option_copied};
+ghost use Rattle.std.specs.Prelude.{◌≡◌, ◌≤◌, ◌++◌, ◌&&◌, ℕ, List, [], ◌∷◌, IfOk, OnOk, IfSome, Some, option_copied};
 ghost use Rattle.net_base.specs.declared.world.Step.TheVariants as step;
 ghost use Rattle.net_base.specs.Steps as steps;
 ghost use Rattle.net_base.specs.Transcript.{lines_of};
@@ -280,7 +280,7 @@ fn text_of(alloc: Global, lines: &Lines) -> Result<Octets, AllocError>
 }
 
 fn put_line(text: &mut Octets, line: &[u8]) -> Result<(), AllocError>
-    ensures { OnOk result (text.new ≡ text.old ++ (line.now ++ codes "\n")) }
+    ensures { OnOk result (text.new ≡ text.old ++ (line.now ++ 10 ∷ [])) }
 {
     text.append(line)?;
     text.append(b"\n")
