@@ -161,8 +161,9 @@ impl Answer {
         let summary = summary_by(alloc, world, &run.history, status)?;
         text.append(summary.as_slice())?;
         text.append(lines.as_slice())?;
+        let end = run.end;
         Ok(Answer {
-            status: run_status(run.end),
+            status: run_status(end),
             text,
         })
     }

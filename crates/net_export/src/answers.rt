@@ -42,7 +42,13 @@ pub fn answers_by_caller(
 ) -> Result<Vec<Lines>, AllocError> {
     let mut all = Vec::with_capacity(alloc, sessions.len())?;
     for session in sessions.as_slice() {
-        let lines = answers(alloc, world, session.stream.as_slice(), session.place, history)?;
+        let lines = answers(
+            alloc,
+            world,
+            session.stream.as_slice(),
+            session.place,
+            history,
+        )?;
         all.push(lines)?;
     }
     Ok(all)

@@ -111,13 +111,7 @@ fn releases(entry: &Entry) -> usize
     ensures { result ≡ spec.releases entry.now.actor entry.now.ended }
 {
     match entry.actor {
-        ActorName::Conv(_, _, _) => {
-            if entry.ended {
-                1
-            } else {
-                0
-            }
-        }
+        ActorName::Conv(_, _, _) => { if entry.ended { 1 } else { 0 } }
         _ => 0,
     }
 }

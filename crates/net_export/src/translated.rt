@@ -23,7 +23,11 @@ pub fn translate(alloc: Global, told: &mut SessionWorld) -> Result<(), AllocErro
 }
 
 // Puts a session's script in its place.
-fn put_script(alloc: Global, scripts: &mut Vec<Script>, session: &Session) -> Result<(), AllocError> {
+fn put_script(
+    alloc: Global,
+    scripts: &mut Vec<Script>,
+    session: &Session,
+) -> Result<(), AllocError> {
     match script_of(alloc, session.stream.as_slice()) {
         Ok(steps) => {
             scripts[session.place as usize].steps = steps;

@@ -228,7 +228,10 @@ pub fn netsh<R: Threads + Wait + Sync, S: Source, K: Sink, G: Gate + Sync>(
         Asked::Answered(status) => status,
         Asked::Run(workers) => tell_answer(sink, read_and_run(rt, alloc, workers, source, gate)),
         Asked::Big(messages) => tell_answer(sink, run_made(rt, alloc, messages, gate)),
-        Asked::Export(workers) => tell_answer(sink, read_and_export(rt, alloc, workers, source, gate)),
+        Asked::Export(workers) => tell_answer(
+            sink,
+            read_and_export(rt, alloc, workers, source, gate),
+        ),
     }
 }
 

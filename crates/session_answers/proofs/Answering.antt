@@ -36,16 +36,15 @@ answered_one h bytes all answers now s t rest behind answer rs left some k more 
     by (m ∷ ms) g =
         let one = one_beginning s.table.msize m k.message rest g.stream.0 behind g.stream.1 k.begins in
         let table : after s.table m ≡ t.table = ap (after s.table) one.0 ∙ sym k.heard in
-        let served : outcome ((session h).serves s m) rs ≡ Answered answer t left = ap (λ (x : Tmsg). outcome ((session h).serves s x) rs) one.0 ∙ k.answered in
-        (
+        let served : outcome ((session h).serves s m) rs ≡ Answered answer t left = ap (λ (x : Tmsg). outcome ((session h).serves s x) rs) one.0 ∙ k.answered in (
           ms,
           record {
             stream = subst (λ (xs : List ℕ). IsStream t.table ms xs) one.1 (subst (λ (x : Table). IsStream x ms g.stream.0) table g.stream.2);
             same =
-              g.same
-              ∙ ap (λ (o : Outcome State). answers ++ answers_by o (λ (later : State) (rest : List Reply). answers_to (session h) later ms rest)) served
-              ∙ sym (append_assoc answers (answer ∷ []) (answers_to (session h) t ms left))
-              ∙ ap (λ (xs : List (List ℕ)). xs ++ answers_to (session h) t ms left) (sym more);
+                g.same
+                ∙ ap (λ (o : Outcome State). answers ++ answers_by o (λ (later : State) (rest : List Reply). answers_to (session h) later ms rest)) served
+                ∙ sym (append_assoc answers (answer ∷ []) (answers_to (session h) t ms left))
+                ∙ ap (λ (xs : List (List ℕ)). xs ++ answers_to (session h) t ms left) (sym more);
           },
         )
 
@@ -58,9 +57,9 @@ answered_last h bytes all answers s rest rs some last a = λ ms are. let g = a m
     by [] g = absurd (omega (arith, some, ap (λ (xs : List ℕ). length xs) g.stream))
     by (m ∷ ms) g =
         sym (
-          g.same
-          ∙ ap (λ (o : Outcome State). answers ++ answers_by o (λ (later : State) (rest : List Reply). answers_to (session h) later ms rest)) (last m g.stream.0 g.stream.1)
-          ∙ append-nil answers
+        g.same
+        ∙ ap (λ (o : Outcome State). answers ++ answers_by o (λ (later : State) (rest : List Reply). answers_to (session h) later ms rest)) (last m g.stream.0 g.stream.1)
+        ∙ append-nil answers
         )
 
 -- all are answered

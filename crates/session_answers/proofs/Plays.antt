@@ -92,6 +92,7 @@ read_ahead h names called count = by (fid_of called names)
     event_no f file.Local = refl
     event_no f file.Remote = refl
     event_no f file.Status = refl
+
     by : (o : Option Fid) → Ahead (λ (x : Reply). names)
         (on_fid o (uses h called names)
         (λ (f : Fid). cond (reads f.mode) (ends_with (conversation_of h f) (read_event f count f.file) names) (misuses h called names)))
@@ -134,9 +135,11 @@ open_ahead h names called path m = by (is_bound names called)
     event_no (Some (node.File p n file.Local)) = refl
     event_no (Some (node.File p n file.Remote)) = refl
     event_no (Some (node.File p n file.Status)) = refl
+
     bound : (o : Option Fid) → on_fid o (Ends names) (λ (f : Fid). Ends (bind called f names)) ≡ Ends (bound_after called names o)
     bound None = refl
     bound (Some f) = refl
+
     by : (v : Bool) → Ahead (λ (x : Reply). cond v names (bound_after called names (opened_fid m (openable (walk path) m) x)))
         (cond v (uses h called names)
         (opens h path m (Ends names) (λ (f : Fid). Ends (bind called f names))))
@@ -188,7 +191,7 @@ none_waits after p (Two a e b f next last goes ends yes) go_on = refl
 pub waits : (h : ℕ) (names after : List Bound) (s : Step) → IsServed s → (rs left : List Reply) → rs ≡ [] → Plays h names s rs after None left
 waits h names after s is rs left none =
     λ go_on. ap (λ (xs : List Reply). outcome (doing_of (play_of h names s) None go_on) xs) none
-        ∙ none_waits (settled names (asked s)) (play_of h names s) (ahead h names s is) go_on
+    ∙ none_waits (settled names (asked s)) (play_of h names s) (ahead h names s is) go_on
 
 event_is : (a b : ActorName) (e f : Event) (next : Reply → Play) → head (Asks a e next) ≡ Some (record { actor = b; event = f }) → e ≡ f
 event_is a b e f next is = cc
@@ -211,8 +214,8 @@ pub one_played : (h : ℕ) (names now : List Bound) (s : Step) → IsServed s �
     → now ≡ settled names (asked s) x → Plays h names s rs now (Some x) left
 one_played h names now s is a e asks x rs left first through settles =
     λ go_on. ap (λ (xs : List Reply). outcome (doing_of (play_of h names s) None go_on) xs) first
-        ∙ one_reply (settled names (asked s)) (play_of h names s) (ahead h names s is) a e asks x left through go_on
-        ∙ ap (λ (ns : List Bound). outcome (go_on ns (Some x)) left) (sym settles)
+    ∙ one_reply (settled names (asked s)) (play_of h names s) (ahead h names s is) a e asks x left through go_on
+    ∙ ap (λ (ns : List Bound). outcome (go_on ns (Some x)) left) (sym settles)
 
 two_replies : (after : Reply → List Bound) (p : Play) → Ahead after p → (a : ActorName) (e : Event) → head p ≡ Some (record { actor = a; event = e })
     → (x : Reply) → (is_grant e && is_accepted x) ≡ true
@@ -225,8 +228,7 @@ two_replies after p (One a e next no ends) b f is x more go_on = absurd (never (
     never false v n t = absurd (cc)
 two_replies after p (Two a e b' f' next last goes ends yes) b f is x more go_on =
     let accepted : is_accepted x ≡ true = second (is_grant f) (is_accepted x) more in
-    let next_is : next x ≡ Asks b' f' last = goes x ∙ ap (λ (v : Bool). cond v (Asks b' f' last) (Ends (after x))) accepted in
-    (
+    let next_is : next x ≡ Asks b' f' last = goes x ∙ ap (λ (v : Bool). cond v (Asks b' f' last) (Ends (after x))) accepted in (
       ap (λ (q : Play). outcome (doing_of q (Some x) go_on) []) next_is,
       λ y left. ap (λ (q : Play). outcome (doing_of q (Some x) go_on) (y ∷ left)) next_is ∙ ap (λ (q : Play). outcome (doing_of q (Some y) go_on) left) (ends x y),
     )
@@ -241,15 +243,15 @@ pub two_played : (h : ℕ) (names now : List Bound) (s : Step) → IsServed s �
     → now ≡ settled names (asked s) x → (y : Reply) (behind : List Reply) → left ≡ y ∷ behind → Plays h names s rs now (Some y) behind
 two_played h names now s is a e asks x rs left first more settles y behind next =
     λ go_on. ap (λ (xs : List Reply). outcome (doing_of (play_of h names s) None go_on) xs) (first ∙ ap (λ (xs : List Reply). x ∷ xs) next)
-        ∙ (two_replies (settled names (asked s)) (play_of h names s) (ahead h names s is) a e asks x more go_on).1 y behind
-        ∙ ap (λ (ns : List Bound). outcome (go_on ns (Some y)) behind) (sym settles)
+    ∙ (two_replies (settled names (asked s)) (play_of h names s) (ahead h names s is) a e asks x more go_on).1 y behind
+    ∙ ap (λ (ns : List Bound). outcome (go_on ns (Some y)) behind) (sym settles)
 
 pub two_wait : (h : ℕ) (names now : List Bound) (s : Step) → IsServed s → (a : ActorName) (e : Event)
     → head (play_of h names s) ≡ Some (record { actor = a; event = e }) → (x : Reply) (rs left : List Reply) → rs ≡ x ∷ left → (is_grant e && is_accepted x) ≡ true
     → left ≡ [] → (behind : List Reply) → Plays h names s rs now None behind
 two_wait h names now s is a e asks x rs left first more none behind =
     λ go_on. ap (λ (xs : List Reply). outcome (doing_of (play_of h names s) None go_on) xs) (first ∙ ap (λ (xs : List Reply). x ∷ xs) none)
-        ∙ (two_replies (settled names (asked s)) (play_of h names s) (ahead h names s is) a e asks x more go_on).0
+    ∙ (two_replies (settled names (asked s)) (play_of h names s) (ahead h names s is) a e asks x more go_on).0
 
 -- ---- by what the code planned
 

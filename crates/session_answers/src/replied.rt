@@ -49,12 +49,7 @@ fn is_granting(reply: &Reply) -> bool
     }
 }
 
-fn granted(
-    alloc: Global,
-    table: &Table,
-    message: &Tmsg,
-    reply: &Reply,
-) -> Result<Rmsg, AllocError>
+fn granted(alloc: Global, table: &Table, message: &Tmsg, reply: &Reply) -> Result<Rmsg, AllocError>
     requires { IsTmsg message.now }
     ensures { IfOk result (λ m. m ≡ spec.granted (seen table.now) message.now reply.now) }
 {

@@ -54,7 +54,12 @@ fn read_lines(alloc: Global, bytes: &[u8]) -> Result<World, WorldError>
 }
 
 /// The world of a draft with the database that stands behind the line with this number.
-pub(crate) fn read_database(alloc: Global, draft: Draft, number: u64, text: &[u8]) -> Result<World, WorldError>
+pub(crate) fn read_database(
+    alloc: Global,
+    draft: Draft,
+    number: u64,
+    text: &[u8],
+) -> Result<World, WorldError>
     requires { number + length text.now < 2 ^ 63 }
     ensures ok { IfOk result (λ w. with_database number (spec.world_of draft) text.now (bad_line text.now) ≡ Ok w) }
     ensures bad { IfErr result (λ e. Tells e (with_database number (spec.world_of draft) text.now (bad_line text.now))) }

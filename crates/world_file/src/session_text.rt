@@ -135,12 +135,7 @@ impl Told {
     }
 
     // `session HOST` is judged as `script HOST` is, and is a script without steps in its place.
-    fn take_session(
-        &mut self,
-        alloc: Global,
-        line: &[u8],
-        number: u64,
-    ) -> Result<bool, WorldError>
+    fn take_session(&mut self, alloc: Global, line: &[u8], number: u64) -> Result<bool, WorldError>
         requires { IsSmall self.old.draft }
         ensures { TakenAs spec.OpensSession self.old self.new number line.now result }
     {

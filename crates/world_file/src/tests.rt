@@ -1,7 +1,8 @@
 use crate::{WorldError, read_sessions};
 use std::test::*;
 
-const HEAD: &str = "networld 1\nend 1000\nseed 1\nmedium ether0 1500\nhost anna il udp\nif ether0 10.0.1.1 255.255.255.0\n";
+const HEAD: &str =
+    "networld 1\nend 1000\nseed 1\nmedium ether0 1500\nhost anna il udp\nif ether0 10.0.1.1 255.255.255.0\n";
 
 // What comes of these lines behind the lines of a host: the line and the cause, or 0 and the number of sessions.
 fn outcome(rt: &HostRuntime, lines: &str) -> Result<(u64, u32), Fail> {
@@ -24,9 +25,18 @@ fn sessions_are_read(rt: HostRuntime) -> Result<(), Fail> {
     whole.push_str(version)?;
     whole.push_str("feed -\nscript anna\nuntil 5\nsession anna\nndb\nsys=anna\n")?;
     assert_eq!(rt; outcome(&rt, whole.as_str())?, (0, 2));
-    assert_eq!(rt; outcome(&rt, "session anna\nfeed 13000000\nndb\nsys=anna\n")?, (7, 51));
-    assert_eq!(rt; outcome(&rt, "session anna\nfeed 13000000\nscript nobody\n")?, (7, 51));
-    assert_eq!(rt; outcome(&rt, "session anna\nfeed 13\nfeed zz\nndb\n")?, (9, 13));
+    assert_eq!(rt;
+        outcome(&rt, "session anna\nfeed 13000000\nndb\nsys=anna\n")?,
+        (7, 51)
+    );
+    assert_eq!(rt;
+        outcome(&rt, "session anna\nfeed 13000000\nscript nobody\n")?,
+        (7, 51)
+    );
+    assert_eq!(rt;
+        outcome(&rt, "session anna\nfeed 13\nfeed zz\nndb\n")?,
+        (9, 13)
+    );
     assert_eq!(rt; outcome(&rt, "session anna\nfeed 13\n")?, (7, 51));
     assert_eq!(rt; outcome(&rt, "session anna\n")?, (8, 19));
     assert_eq!(rt; outcome(&rt, "session anna\nuntil 5\n")?, (8, 18));
