@@ -27,15 +27,15 @@ left_named : (a : ActorName) (s : Actor) (t : Option (Step Actor)) → left_by (
 left_named a s None = refl
 left_named a s (Some t) = refl
 
-state_from : (w : World) (a : ActorName) (s : Actor) (works : List (ℕ × Noted)) → state opening (answer_in w) (named a s) works ≡ named a (played w a s (plays works))
+state_from : (w : World) (a : ActorName) (s : Actor) (works : List (ℕ × Noted)) → state (opening w) (answer_in w) (named a s) works ≡ named a (played w a s (plays works))
 state_from w a s [] = refl
 state_from w a s (x ∷ xs) =
-    ap (λ (n : Named). state opening (answer_in w) n xs) (left_named a s (actor_step w a s x.1.entry.moment x.1.work))
+    ap (λ (n : Named). state (opening w) (answer_in w) n xs) (left_named a s (actor_step w a s x.1.entry.moment x.1.work))
     ∙ state_from w a (stepped_to s (actor_step w a s x.1.entry.moment x.1.work)) xs
 
 -- the state of the machine that works led to
-pub led_to : (w : World) (a : ActorName) (works : List (ℕ × Noted)) (s : Named) → s ≡ state opening (answer_in w) (opening a) works → s.actor ≡ played w a (opening_actor a) (plays works)
-led_to w a works s is = ap (λ (n : Named). n.actor) (is ∙ state_from w a (opening_actor a) works)
+pub led_to : (w : World) (a : ActorName) (works : List (ℕ × Noted)) (s : Named) → s ≡ state (opening w) (answer_in w) (opening w a) works → s.actor ≡ played w a (opening_actor w.timers a) (plays works)
+led_to w a works s is = ap (λ (n : Named). n.actor) (is ∙ state_from w a (opening_actor w.timers a) works)
 
 -- a step of the actor is one of the machine
 pub answers : (w : World) (a : ActorName) (s t : Actor) (now : ℕ) (work : Work) (o : Outcome) → actor_step w a s now work ≡ Some (record { state = t; outcome = o })

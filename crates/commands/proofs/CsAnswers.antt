@@ -9,7 +9,7 @@ use Rattle.net_base.specs.Cs.{CsAnswer, Refused, cs_list}
 use Rattle.cs_resolver.specs.Errors.{number_of, Tells}
 use Rattle.cs_resolver.specs.declared.error.CsError.{CsError}
 use Rattle.cs_resolver.specs.declared.error.CsError.TheVariants.{Memory, BadQuery, NoNet, NoHost, NoService, NoValue}
-use Rattle.commands.specs.Built.{unless_bad, cs_over, query_lines, query_over}
+use Rattle.commands.specs.Built.{unless_bad, cs_over, dns_lines, dns_over, query_lines, query_over}
 
 some_where : {X : Type 0} (holds : Bool) (x y : X) → (if holds then Some x else None) ≡ Some y → x ≡ y
 some_where true x y is = ap (λ o. unwrap_or o x) is
@@ -31,6 +31,13 @@ pub lines_over : (attr value : List ℕ) (other : Option (List ℕ)) (input : Li
 lines_over attr value other input db lines good is found =
     let by_bad : Option (ℕ × ℕ) → Answer = λ bad. unless_bad bad (lines_answer (query_lines attr value other (database (lines_of input))))
     in let by_db : List (List (List NdbPair)) → Answer = λ d. lines_answer (query_lines attr value other d)
+    in sym (ap by_bad good ∙ ap by_db (tuples_read input db is) ∙ ap lines_answer (sym found))
+
+-- the line of dns over what the reader read
+pub reply_over : (word input : List ℕ) (db : List (List (List NdbPair))) (lines : List (List ℕ)) → bad_line input ≡ None → reading input ≡ Some db → lines ≡ dns_lines word db → lines_answer lines ≡ dns_over word input
+reply_over word input db lines good is found =
+    let by_bad : Option (ℕ × ℕ) → Answer = λ bad. unless_bad bad (lines_answer (dns_lines word (database (lines_of input))))
+    in let by_db : List (List (List NdbPair)) → Answer = λ d. lines_answer (dns_lines word d)
     in sym (ap by_bad good ∙ ap by_db (tuples_read input db is) ∙ ap lines_answer (sym found))
 
 -- an error other than want of memory is the refusal

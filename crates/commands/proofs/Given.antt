@@ -3,9 +3,9 @@ use Rattle.std.proofs.Common.{◌≡◌, ℕ, ◌≤◌, List, length, Option, S
 use Rattle.net_base.specs.declared.world.World.{World}
 use Rattle.net_base.specs.NdbBundle as bundle
 use Rattle.net_model.specs.Answers.{Answer, bad_input, input_limit}
-use Rattle.net_model.specs.Words.{Command, Cs, Query, Run, Make, Big}
+use Rattle.net_model.specs.Words.{Command, Cs, Query, Dns, Run, Make, Big}
 use Rattle.world_text.specs.WorldText.{world_reading}
-use Rattle.commands.specs.Built.{cs_found, cs_over, made, query_found, query_over, unless_bad, IsAnswer, IsFound, IsGiven, IsRun, IsSummed, IsWorldOf}
+use Rattle.commands.specs.Built.{cs_found, cs_over, dns_found, dns_over, made, query_found, query_over, unless_bad, IsAnswer, IsFound, IsGiven, IsRun, IsSummed, IsWorldOf}
 use Rattle.checked_input.specs.Input.{bad_world}
 use Rattle.commands.proofs.Within.{answer_within, within_limit}
 
@@ -26,6 +26,11 @@ pub gives_query : (attr value : List ℕ) (other : Option (List ℕ)) (input : L
 gives_query attr value other input answer fits is =
     answer_within (Query attr value other) input answer (bundle.bad_line input) (within_limit (Query attr value other) input fits) refl (λ found told. told)
     (given_unless (Query attr value other) input answer (query_found attr value other input) (bundle.bad_line input) (λ found. found) is)
+
+pub gives_dns : (word input : List ℕ) (answer : Answer) → length input ≤ input_limit (Dns word) → answer ≡ dns_over word input → IsAnswer (Dns word) input answer
+gives_dns word input answer fits is =
+    answer_within (Dns word) input answer (bundle.bad_line input) (within_limit (Dns word) input fits) refl (λ found told. told)
+    (given_unless (Dns word) input answer (dns_found word input) (bundle.bad_line input) (λ found. found) is)
 
 pub gives_made : (messages : ℕ) (input : List ℕ) (answer : Answer) → answer ≡ made messages → IsAnswer (Make messages) input answer
 gives_made messages input answer is = answer_within (Make messages) input answer None refl refl (λ other told. told) is

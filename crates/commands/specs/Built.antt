@@ -4,7 +4,7 @@
 --     IsSummed      the summary of such a run alone
 --     IsWorldOf     the world that a command runs
 --     IsAnswer      an answer to a command and its input
-use Rattle.std.specs.Prelude.{◌≡◌, ◌↔◌, ◌⊎◌, ◌&&◌, ℕ, Bool, true, false, List, [], ◌∷◌, ◌++◌, length, map, flat_map, nat_lt, Option, Some, None, Ok, Err, codes}
+use Rattle.std.specs.Prelude.{◌≡◌, ◌↔◌, ◌⊎◌, ◌&&◌, ℕ, Bool, true, false, List, [], ◌∷◌, ◌++◌, length, map, flat_map, nat_lt, Option, Some, None, Ok, option_and_then, option_to_list, Err, codes}
 use Rattle.net_base.specs.declared.address.Proto.TheVariants.{Il, Udp}
 use Rattle.net_base.specs.declared.history.Entry.{Entry}
 use Rattle.net_base.specs.declared.world.World.{World}
@@ -16,6 +16,8 @@ use Rattle.net_base.specs.declared.ndb.NdbPair.{NdbPair}
 use Rattle.net_base.specs.Search.{tuples_with, all_beside}
 use Rattle.ndb_reader.specs.Written.{line_text}
 use Rattle.net_base.specs.Cs.{cs_list}
+use Rattle.net_base.specs.Hexadecimal.{hex_digits, hex_text}
+use Rattle.dns_text.specs.Answers.{dns_answer}
 use Rattle.net_base.specs.Net.{Net, after}
 use Rattle.net_base.specs.Plain.{IsPlain}
 use Rattle.net_base.specs.Summary.{summary}
@@ -25,7 +27,7 @@ use Rattle.made_world.specs.Made.{made_world}
 use Rattle.world_text.specs.WorldText.{world_reading}
 use Rattle.world_writer.specs.Written.{file_text}
 use Rattle.net_model.specs.Answers.{Answer, bad_input, lines_answer, cs_answer, input_limit}
-use Rattle.net_model.specs.Words.{Command, Cs, Query, Run, Make, Big, Check, Export, Translate, reads}
+use Rattle.net_model.specs.Words.{Command, Cs, Query, Dns, Run, Make, Big, Check, reads, Export, Translate}
 use Rattle.net_base.specs.Numeral.{numeral}
 use Rattle.net_base.specs.Hexadecimal.{hex_word}
 use Rattle.ninep_wire.specs.declared.request.Tmsg.{Tmsg}
@@ -53,6 +55,7 @@ IsBadTold input (Some bad) = Says input (Err bad)
 abbrev pub IsBadLine : Command → List ℕ → Option (ℕ × ℕ) → Type 0
 IsBadLine (Cs sys query) input found = found ≡ bundle.bad_line input
 IsBadLine (Query attr value other) input found = found ≡ bundle.bad_line input
+IsBadLine (Dns word) input found = found ≡ bundle.bad_line input
 IsBadLine (Run workers) input found = found ≡ bad_world (world_reading input)
 IsBadLine (Make messages) input found = found ≡ None
 IsBadLine (Big messages) input found = found ≡ None
@@ -101,6 +104,20 @@ query_found attr value other input = lines_answer (query_lines attr value other 
 -- the same over any input within the limit
 abbrev pub query_over : List ℕ → List ℕ → Option (List ℕ) → List ℕ → Answer
 query_over attr value other input = unless_bad (bundle.bad_line input) (query_found attr value other input)
+
+-- Answers of dns.
+
+-- the reply to a message as a line in hexadecimal, where it is answered
+abbrev pub dns_lines : List ℕ → List (List (List NdbPair)) → List (List ℕ)
+dns_lines word db = map hex_digits (option_to_list (option_and_then (dns_answer db) (hex_text word)))
+
+-- .. over the database that an input without a bad line is
+abbrev pub dns_found : List ℕ → List ℕ → Answer
+dns_found word input = lines_answer (dns_lines word (bundle.database (lines_of input)))
+
+-- the same over any input within the limit
+abbrev pub dns_over : List ℕ → List ℕ → Answer
+dns_over word input = unless_bad (bundle.bad_line input) (dns_found word input)
 
 -- Answers of run.
 
@@ -191,6 +208,7 @@ translation w = record { status = 0; text = file_text w }
 abbrev pub IsFound : Command → List ℕ → Answer → Type 0
 IsFound (Cs sys query) input answer = answer ≡ cs_found sys query input
 IsFound (Query attr value other) input answer = answer ≡ query_found attr value other input
+IsFound (Dns word) input answer = answer ≡ dns_found word input
 IsFound (Run workers) input answer = (w : World) × IsWorldOf (Run workers) input w × IsRun w answer
 IsFound (Make messages) input answer = answer ≡ made messages
 IsFound (Big messages) input answer = (w : World) × IsWorldOf (Big messages) input w × IsSummed w answer

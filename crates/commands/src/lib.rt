@@ -2,6 +2,7 @@
 #![tactic(auto)]
 
 mod answer;
+mod dns_reply;
 mod exporting;
 mod judgement;
 mod law;
@@ -12,6 +13,7 @@ mod resolving;
 mod run;
 
 pub use answer::{Answer, READ_FAULT, TOO_LONG, USAGE};
+pub use dns_reply::dns;
 pub use exporting::{export_over, translate};
 pub use judgement::check;
 pub use law::values_are_answers;

@@ -1,9 +1,20 @@
 //! What happens to an IL end. Moments are in ms.
+ghost use Rattle.net_base.specs.IlEnd as spec;
 ghost use Rattle.net_base.specs.IlTable as table;
 ghost use Rattle.il_machine.specs.Stands.{after_read};
 
 use crate::ghost_end::Change;
-use net_base::IlMsg;
+use net_base::{IlMsg, Timers};
+
+/// It was never connected, and has such timers.
+#[derive(Drop)]
+pub struct IsFresh {
+    pub timers: Timers,
+}
+
+impl Change for IsFresh {
+    ghost after = { λ c _. spec.fresh_end c.timers };
+}
 
 /// It is connected.
 #[derive(Drop)]

@@ -16,7 +16,7 @@ mod talk;
 use crate::control::is_refused;
 use crate::il::IlCore;
 use crate::parts::{Core, Stage};
-use net_base::{Addr, Event, Outcome, Pair, Proto, Work};
+use net_base::{Addr, Event, Outcome, Pair, Proto, Timers, Work};
 use std::alloc::{AllocError, Global};
 use std::marker::Model;
 use udp_core::UdpEnd;
@@ -65,12 +65,18 @@ impl Model for Conv {
 impl Conv {
     /// The conversation of a slot, before its first generation. Each actor is made by its whole name; no row of a conversation asks
     /// for the host, so nothing is kept of it.
-    pub fn new(alloc: Global, _host: u32, proto: Proto, slot: u32) -> Result<Conv, AllocError>
-        ensures opening { IfOk result (λ c. StandsFor c (opening_conv proto)) }
+    pub fn new(
+        alloc: Global,
+        _host: u32,
+        proto: Proto,
+        slot: u32,
+        timers: Timers,
+    ) -> Result<Conv, AllocError>
+        ensures opening { IfOk result (λ c. StandsFor c (opening_conv timers proto)) }
         ensures slot { IfOk result (λ c. slot_of c ≡ slot) }
     {
         let core = match proto {
-            Proto::Il => Core::Il(IlCore::fresh(alloc)?),
+            Proto::Il => Core::Il(IlCore::fresh(alloc, timers)?),
             Proto::Udp => Core::Udp(UdpEnd::fresh(alloc)?),
         };
         Ok(Conv {

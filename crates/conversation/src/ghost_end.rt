@@ -1,6 +1,7 @@
 //! The end of the definitions that an IL end stands for, as what only clauses see. At run time it is nothing.
 ghost use Rattle.std.specs.Prelude.{◌≡◌};
 ghost use Rattle.std.specs.Borrow.{ftrue};
+ghost use Rattle.net_base.specs.declared.timer.Timers.TheVariants.{Fixed};
 ghost use Rattle.net_base.specs.IlEnd.{End, fresh_end};
 
 use std::marker::{Model, PhantomData};
@@ -26,9 +27,9 @@ pub trait Change {
 }
 
 impl GhostEnd {
-    /// The end that was never connected.
+    /// The end that was never connected, with fixed timers.
     pub fn fresh() -> GhostEnd
-        ensures { result.end ≡ fresh_end }
+        ensures { result.end ≡ fresh_end Fixed }
     {
         GhostEnd {
             marker: PhantomData,

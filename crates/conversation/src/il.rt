@@ -7,10 +7,12 @@ ghost use Rattle.net_base.specs.declared.reply.Reply.TheVariants as reply;
 ghost use Rattle.net_base.specs.Conversation as conv;
 ghost use Rattle.net_base.specs.Timer as timer;
 
-use crate::changes::{Arrives, Connects, HangsUp, IsAnnounced, IsBorn, Reads, Ticks, Writes};
+use crate::changes::{
+    Arrives, Connects, HangsUp, IsAnnounced, IsBorn, IsFresh, Reads, Ticks, Writes,
+};
 use crate::ghost_end::GhostEnd;
 use il_machine::{Ask, HungupError, IlEnd};
-use net_base::{Cause, IlMsg, IlState};
+use net_base::{Cause, IlMsg, IlState, Timers};
 use std::alloc::{AllocError, Global};
 use std::marker::Model;
 
@@ -33,12 +35,12 @@ impl Model for IlCore {
 }
 
 impl IlCore {
-    pub fn fresh(alloc: Global) -> Result<IlCore, AllocError>
-        ensures { IfOk result (λ end. end ≡ spec.fresh_end) }
+    pub fn fresh(alloc: Global, timers: Timers) -> Result<IlCore, AllocError>
+        ensures { IfOk result (λ end. end ≡ spec.fresh_end timers) }
     {
         Ok(IlCore {
-            kept: IlEnd::fresh(alloc)?,
-            stood_for: GhostEnd::fresh(),
+            kept: IlEnd::fresh(alloc, timers)?,
+            stood_for: GhostEnd::fresh().after(&IsFresh { timers }),
         })
     }
 
@@ -64,6 +66,13 @@ impl IlCore {
         ensures { IsTrue result ↔ IsShort self.now }
     {
         self.kept.is_short()
+    }
+
+    /// Its kind of timers.
+    pub fn timers(&self) -> Timers
+        ensures { result ≡ self.now.timer.timers }
+    {
+        self.kept.timers()
     }
 
     pub fn may_read(&self) -> bool

@@ -28,13 +28,13 @@ pub enum Core {
 }
 
 impl Core {
-    /// An end of the same protocol that nothing happened to.
+    /// An end of the same protocol, with the same kind of timers, that nothing happened to.
     pub fn fresh_like(&self, alloc: Global) -> Result<Core, AllocError>
         ensures fresh { IfOk result (λ core. seen_core core ≡ spec.fresh_like (seen_core self.now)) }
         ensures kept { IfOk result (λ core. IsKept stage.Unused core) }
     {
         match self {
-            Core::Il(_) => Ok(Core::Il(IlCore::fresh(alloc)?)),
+            Core::Il(end) => Ok(Core::Il(IlCore::fresh(alloc, end.timers())?)),
             Core::Udp(_) => Ok(Core::Udp(UdpEnd::fresh(alloc)?)),
         }
     }

@@ -74,6 +74,7 @@ settle_slots h names (request.Write called text) r slots fit = slots
 settle_slots h names (request.Cs query) r slots fit = slots
 settle_slots h names (request.Ls path) r slots fit = slots
 settle_slots h names (request.Until moment) r slots fit = slots
+settle_slots h names request.Refresh r slots fit = slots
 settle_slots h names (request.Wait called) r slots fit = slots
 settle_slots h names (request.Unbound called) r slots fit = slots
 settle_slots h names (request.Misuse called) r slots fit = slots

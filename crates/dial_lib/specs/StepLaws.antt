@@ -72,6 +72,7 @@ begins_so h names (step.Close called) slots = IsFresh (close_single h names call
 begins_so h names (step.Ls path) slots = IsFresh (_, refl, λ r. refl)
 begins_so h names (step.Cs query) slots = IsFresh (_, refl, λ r. refl)
 begins_so h names (step.Until moment) slots = IsFresh (_, refl, λ r. refl)
+begins_so h names step.Refresh slots = IsFresh (_, refl, λ r. refl)
 begins_so h names (step.Dial called address) slots = dial.IsFresh []
 begins_so h names (step.Announce called address) slots = announce.IsFresh []
 begins_so h names (step.Listen called from) slots = beside.IsFresh slots

@@ -37,6 +37,7 @@ begun (step.Close called) = asks_once (request.Close called)
 begun (step.Ls path) = asks_once (request.Ls path)
 begun (step.Cs query) = asks_once (request.Cs query)
 begun (step.Until moment) = asks_once (request.Until moment)
+begun step.Refresh = asks_once request.Refresh
 begun (step.Dial called address) = task.Dial (dial.begun called address)
 begun (step.Announce called address) = task.Announce (announce.begun called address)
 begun (step.Listen called from) = task.Listen (listen.begun called from)

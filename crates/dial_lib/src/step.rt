@@ -117,6 +117,7 @@ fn begin(alloc: Global, step: &Step) -> Result<StepTask, AllocError>
             query: query.clone()?,
         })),
         Step::Until { moment } => Ok(once(Request::Until { moment: *moment })),
+        Step::Refresh => Ok(once(Request::Refresh)),
         Step::Dial { name, address } => Ok(StepTask::Dial(Dial::new(
             alloc,
             name.as_slice(),

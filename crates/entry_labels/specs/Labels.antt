@@ -35,6 +35,7 @@ abbrev pub reply_label : Reply → List ℕ
 reply_label (reply.Lines lines) = numbered (codes "lines") (length lines)
 reply_label (reply.CsRefused n) = numbered (codes "csrefused") n
 reply_label (reply.Names names) = numbered (codes "names") (length names)
+reply_label (reply.Version n) = numbered (codes "version") n
 reply_label (reply.Slot n g) = numbered (codes "slot") n
 reply_label (reply.WrongState s) = beside (codes "wrong") (state_word s)
 reply_label (reply.PairUsed k) = numbered (codes "pairused") k

@@ -23,6 +23,7 @@ pub fn put_event(out: &mut Octets, event: &Event) -> Result<(), AllocError>
         Event::OpenPath { .. } => out.append(b"open"),
         Event::Use { .. } => out.append(b"use"),
         Event::Misuse { .. } => out.append(b"misuse"),
+        Event::Refresh => out.append(b"refresh"),
         Event::Reserve => out.append(b"reserve"),
         Event::Grant { .. } => out.append(b"grant"),
         Event::Announce { .. } => out.append(b"announce"),

@@ -16,6 +16,7 @@ pub fn put_reply(out: &mut Octets, reply: &Reply) -> Result<(), AllocError>
         Reply::Lines { lines } => put_numbered(out, b"lines", lines.len() as u64),
         Reply::CsRefused { number } => put_numbered(out, b"csrefused", *number as u64),
         Reply::Names { names } => put_numbered(out, b"names", names.len() as u64),
+        Reply::Version { version } => put_numbered(out, b"version", *version),
         Reply::Slot { slot, .. } => put_numbered(out, b"slot", *slot as u64),
         Reply::WrongState { state } => put_beside(out, b"wrong", state_word(*state)),
         Reply::PairUsed { k } => put_numbered(out, b"pairused", *k),

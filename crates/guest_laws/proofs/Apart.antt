@@ -94,10 +94,10 @@ module _ (w : World) (c : ℕ) (K : Net → Noted → Type 0) where
       (λ rest. own_none (next_noted w net x) (n + 1) xs rest)
 
   own_stays : (log more : List Noted) → at_from (number.Caller c) (length log) more ≡ [] → EachOwn w c K log → EachOwn w c K (log ++ more)
-  own_stays log more none m = own-append opening_net log more m (own_none (noted_net w log) (length log) more none)
+  own_stays log more none m = own-append (opening_net w) log more m (own_none (noted_net w log) (length log) more none)
 
   own_push : (log : List Noted) (x : Noted) → EachOwn w c K log → K (noted_net w log) x → EachOwn w c K (log ++ x ∷ [])
-  own_push log x m is = own-append opening_net log (x ∷ []) m (λ same. is, tt)
+  own_push log x m is = own-append (opening_net w) log (x ∷ []) m (λ same. is, tt)
 
 -- with one entry more
 pub gains : (w : World) (c : ℕ) (log : List Noted) (x : Noted) → Gains w c log x (log ++ x ∷ [])
@@ -114,7 +114,7 @@ stands_by still w c log more same =
     let recorded : by (entries (log ++ more)) c ≡ by (entries log) c = by_from 0 c (log ++ more) ∙ (ap (map own) (sym same) ∙ sym (by_from 0 c log)) in
     let front : IsPrefix (entries log) (entries (log ++ more)) = (entries more, sym (entries-append log more)) in
     record {
-      owes = ap (λ (net : Net). net.owed c) (noted_from-append w opening_net log more) ∙ owed_from w (noted_net w log) (length log) more c none;
+      owes = ap (λ (net : Net). net.owed c) (noted_from-append w (opening_net w) log more) ∙ owed_from w (noted_net w log) (length log) more c none;
       comes_next = (still w (entries log) (entries (log ++ more)) c front recorded).comes_next;
       turns = own_stays w c (IsTurnOf w) log more none;
       nexts = own_stays w c (IsNextOf w) log more none;

@@ -136,4 +136,4 @@ each_away d (e ∷ es) away (inr is) = each_away d es away.1 is
 
 -- a duty that is owed isn't one at the clock
 pub owed_away : (w : World) (log : List Noted) (c : ℕ) (d : Duty) → In d (owed_in w log c) → same_actor d.actor name.Clock ≡ false
-owed_away w log c d is = each_away d (owed_in w log c) (from_away w c opening_net log tt) is
+owed_away w log c d is = each_away d (owed_in w log c) (from_away w c (opening_net w) log tt) is

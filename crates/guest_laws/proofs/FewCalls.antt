@@ -21,7 +21,6 @@ use Rattle.net_base.specs.declared.il.StateName.{StateName}
 use Rattle.net_base.specs.declared.il.StateName.TheVariants as state_name
 use Rattle.net_base.specs.declared.names.Mode.{Mode}
 use Rattle.net_base.specs.declared.names.Node.{Node}
-use Rattle.net_base.specs.declared.ndb.NdbPair.{NdbPair}
 use Rattle.net_base.specs.declared.noted.Noted.{Noted}
 use Rattle.net_base.specs.declared.packet.Body.{Body}
 use Rattle.net_base.specs.declared.packet.Body.TheVariants as body
@@ -30,13 +29,15 @@ use Rattle.net_base.specs.declared.reply.Reply.{Reply}
 use Rattle.net_base.specs.declared.reply.Reply.TheVariants as reply
 use Rattle.net_base.specs.declared.world.HostSpec.{HostSpec}
 use Rattle.net_base.specs.declared.world.MediumSpec.{MediumSpec}
+use Rattle.net_base.specs.declared.world.Version.{Version}
 use Rattle.net_base.specs.declared.world.World.{World}
 use Rattle.net_base.specs.ActorStep.{Step, when}
-use Rattle.net_base.specs.Actors.{Actor, IsDir, IsConv, IsMedium, IsPlain, actor_step, has_actor, plain_step, step_as, table_step}
+use Rattle.net_base.specs.Actors.{Actor, IsDesk, IsDir, IsConv, IsMedium, IsPlain, actor_step, has_actor, plain_step, step_as, table_step}
 use Rattle.net_base.specs.Directory.{Dir, Home, Slot, Taker, announces, arrives_at, binds, born_or_not, dir_answers, dir_step, first_slot, free_slot, gets, grants, grants_by, grants_pair, home_at, in_found_slot, is_free, is_live_with, is_of, is_reserved, listens, listens_at, match_of, may_bear, next_call, pair_of, pair_place, port_for, refused_or_dropped, reserves, taker_of}
 use Rattle.net_base.specs.Conversation.{Conv, conv_step, is_sync}
 use Rattle.net_base.specs.Cs.{CsAnswer, Lines, Refused, cs_list}
-use Rattle.net_base.specs.Desk.{clock_reply, cs_reply, desk_reply, open_refusal}
+use Rattle.net_base.specs.Versions.{database_of}
+use Rattle.net_base.specs.Desk.{Desk, clock_reply, cs_reply, desk_replies, desk_reply, desk_step, open_refusal}
 use Rattle.net_base.specs.Medium.{Medium, datagram_length, fate_of, lays, medium_leaves, medium_step, puts, takes}
 use Rattle.net_base.specs.Mirror.{mirror}
 use Rattle.net_base.specs.Net.{Net, opening_net, stepped_to}
@@ -209,6 +210,7 @@ table_few : (w : World) (h : ℕ) (p : Proto) (s : Actor) (now : ℕ) (work : Wo
 table_few w h p (IsDir d) now work few = as_dir (dir_step w h p work.event work.with d) (dir_few d few w h p work.event work.with)
 table_few w h p (IsConv c) now work few = tt
 table_few w h p (IsMedium m) now work few = tt
+table_few w h p (IsDesk d) now work few = tt
 table_few w h p IsPlain now work few = tt
 
 has_few : (b : Bool) (t : Option (Step Actor)) → FewAfter t → FewAfter (when b t)
@@ -241,7 +243,7 @@ module _ (equal : (a b : ActorName) → same_actor a b ≡ true → a ≡ b) (w 
   from_few net [] few = few
   from_few net (x ∷ xs) few = from_few (next_noted w net x) xs (next_net_few net x (same_actor x.entry.actor dir) refl few)
 
-  opens_few : FewAt (opening_net.actors dir)
+  opens_few : FewAt ((opening_net w).actors dir)
   opens_few = replicated 32
     where
       replicated : (n : ℕ) → FewSlots (replicate n free_slot)
@@ -256,7 +258,7 @@ module _ (equal : (a b : ActorName) → same_actor a b ≡ true → a ≡ b) (w 
       → actor_step w dir ((noted_net w log).actors dir) now work ≡ Some t
       → t.outcome.reply ≡ reply.Calls calls → length calls ≤ 10
   few_calls log now work t calls gives is =
-      let few = actor_few w h p ((noted_net w log).actors dir) now work (from_few opening_net log opens_few) in
+      let few = actor_few w h p ((noted_net w log).actors dir) now work (from_few (opening_net w) log opens_few) in
       told t calls (subst (λ (o : Option (Step Actor)). FewAfter o) gives few).1 is
 
 -- Elsewhere.
@@ -302,14 +304,15 @@ until_told : (b : Bool) → NoCalls (when b (Some reply.Ok))
 until_told true = refl
 until_told false = tt
 
-desk_told : (db : List (List (List NdbPair))) (h : HostSpec) (e : Event) (now : ℕ) → NoCalls (desk_reply db h e now)
-desk_told db h (event.Cs query) now = cs_told (cs_list db h.name h.nets query)
-desk_told db h (event.LsPath path) now = ls_told (bytes_eq path (codes "/net")) _
-desk_told db h (event.OpenPath path m) now = open_told m (walk path)
-desk_told db h (event.Use name) now = refl
-desk_told db h (event.Misuse name) now = refl
-desk_told db h (event.Until moment) now = until_told (nat_le moment now)
-desk_told db h _ now = tt
+desk_told : (dbs : List Version) (h : HostSpec) (e : Event) (now : ℕ) (d : Desk) → NoCalls (desk_reply dbs h e now d)
+desk_told dbs h (event.Cs query) now d = cs_told (cs_list (database_of dbs d.version) h.name h.nets query)
+desk_told dbs h (event.LsPath path) now d = ls_told (bytes_eq path (codes "/net")) _
+desk_told dbs h (event.OpenPath path m) now d = open_told m (walk path)
+desk_told dbs h (event.Use name) now d = refl
+desk_told dbs h (event.Misuse name) now d = refl
+desk_told dbs h (event.Until moment) now d = until_told (nat_le moment now)
+desk_told dbs h event.Refresh now d = refl
+desk_told dbs h _ now d = tt
 
 clock_told : (e : Event) → NoCalls (clock_reply e)
 clock_told (event.Move moment) = refl
@@ -333,9 +336,13 @@ medium_told s seed (event.Put to) (given.Packet p) m = puts_told s seed to p m
 medium_told s seed event.Take with m = takes_told m.queue m.held m
 medium_told s seed _ _ m = tt
 
-desk_at : (w : World) (now : ℕ) (e : Event) (o : Option HostSpec) → FewTold (option_and_then (λ (host : HostSpec). option_map plain_step (desk_reply w.db host e now)) o)
-desk_at w now e None = tt
-desk_at w now e (Some host) = plain_told (desk_reply w.db host e now) (desk_told w.db host e now)
+desk_tells : (d : Desk) (o : Option Reply) → NoCalls o → Tells (option_map (desk_replies d) o)
+desk_tells d None told = tt
+desk_tells d (Some r) told = told
+
+desk_at : (w : World) (now : ℕ) (e : Event) (d : Desk) (o : Option HostSpec) → FewTold (option_and_then (λ (host : HostSpec). step_as IsDesk (desk_step w.dbs host e now d)) o)
+desk_at w now e d None = tt
+desk_at w now e d (Some host) = any_told IsDesk (desk_step w.dbs host e now d) (desk_tells d (desk_reply w.dbs host e now d) (desk_told w.dbs host e now d))
 
 medium_at : (w : World) (m : Medium) (e : Event) (with : With) (o : Option MediumSpec)
     → FewTold (option_and_then (λ (spec : MediumSpec). step_as IsMedium (medium_step spec w.seed e with m)) o)
@@ -353,7 +360,7 @@ IsElsewhere _ = Unit {0}
 
 table_told : (w : World) (a : ActorName) (s : Actor) (now : ℕ) (work : Work) → IsElsewhere a → FewTold (table_step w a s now work)
 table_told w (name.Dir h p) s now work elsewhere = absurd elsewhere
-table_told w (name.Desk h) IsPlain now work elsewhere = desk_at w now work.event (slice_get w.hosts h)
+table_told w (name.Desk h) (IsDesk d) now work elsewhere = desk_at w now work.event d (slice_get w.hosts h)
 table_told w (name.Conv h p n) (IsConv c) now work elsewhere = any_told IsConv (conv_step n work.event work.with now c) (conv_plain n work.event work.with now c)
 table_told w (name.Medium m) (IsMedium s) now work elsewhere = medium_at w s work.event work.with (slice_get w.media m)
 table_told w name.Clock IsPlain now work elsewhere = plain_told (clock_reply work.event) (clock_told work.event)

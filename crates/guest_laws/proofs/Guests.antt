@@ -74,7 +74,7 @@ module _ (still : LaterStands) (w : World) (r : Roster) (c : ℕ) (p p' : Sight)
 
 -- an entry of its own
 module _ (still : LaterStands)
-    (state_is : (w : World) (log : List Noted) (a : ActorName) → state_at opening (answer_in w) a log ≡ named a ((noted_net w log).actors a))
+    (state_is : (w : World) (log : List Noted) (a : ActorName) → state_at (opening w) (answer_in w) a log ≡ named a ((noted_net w log).actors a))
     (w : World) (r : Roster) (c : ℕ) (p p' : Sight) (ds : List Duty) (a : ActorName) (now : ℕ) (work : Work) (cites : Option ℕ) (stamp : ℕ) (o : Outcome)
     (g : IsGuest w r c p ds) (t : IsTurn w c p ds a work cites) (d : Records w r a c now work cites p stamp o p') where
   abbrev the : Noted

@@ -1,6 +1,6 @@
 -- Only the clock answers a move.
 use Rattle.std.proofs.Common.{◌≡◌, ℕ, Bool, true, false, Option, Some, None, slice_get, if◌then◌else◌, refl, ap, sym, ◌∙◌}
-use Rattle.std.specs.Option.{option_map, option_and_then}
+use Rattle.std.specs.Option.{option_and_then}
 use Rattle.std.proofs.lemmas.Option.{none-some}
 use Rattle.std.proofs.lemmas.Bool.{true≢false}
 use Rattle.net_base.specs.declared.actor.ActorName.{ActorName}
@@ -14,8 +14,8 @@ use Rattle.net_base.specs.declared.world.HostSpec.{HostSpec}
 use Rattle.net_base.specs.declared.world.MediumSpec.{MediumSpec}
 use Rattle.net_base.specs.declared.world.World.{World}
 use Rattle.net_base.specs.ActorStep.{Step, when}
-use Rattle.net_base.specs.Actors.{Actor, IsDir, IsConv, IsMedium, IsPlain, has_actor, actor_step, table_step, plain_step, step_as}
-use Rattle.net_base.specs.Desk.{desk_reply}
+use Rattle.net_base.specs.Actors.{Actor, IsDesk, IsDir, IsConv, IsMedium, has_actor, actor_step, table_step, step_as}
+use Rattle.net_base.specs.Desk.{desk_step}
 use Rattle.net_base.specs.Legal.{IsInTime}
 use Rattle.net_base.specs.Medium.{medium_step}
 use Rattle.net_base.specs.Net.{Net, moment_after}
@@ -25,9 +25,9 @@ use Rattle.guest_laws.specs.Works.{step_by, moment_by}
 module _ (w : World) where
   no_move : (a : ActorName) (s : Actor) (now m : ℕ) (g : With) → same_actor a name.Clock ≡ false
       → table_step w a s now (record { event = event.Move m; with = g }) ≡ None
-  no_move (name.Desk h) IsPlain now m g other = by_host (slice_get w.hosts h)
+  no_move (name.Desk h) (IsDesk d) now m g other = by_host (slice_get w.hosts h)
     where
-      by_host : (host : Option HostSpec) → option_and_then (λ (host : HostSpec). option_map plain_step (desk_reply w.db host (event.Move m) now)) host ≡ None
+      by_host : (host : Option HostSpec) → option_and_then (λ (host : HostSpec). step_as IsDesk (desk_step w.dbs host (event.Move m) now d)) host ≡ None
       by_host None = refl
       by_host (Some host) = refl
   no_move (name.Dir h p) (IsDir d) now m g other = refl

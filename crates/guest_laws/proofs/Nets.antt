@@ -45,22 +45,22 @@ module _ (w : World) (equal : (a b : ActorName) → same_actor a b ≡ true → 
       ∙ ap (named a) (ap (λ (t : Option (Step Actor)). stepped_to (net.actors a) t) step ∙ sym (moved net x a (step_by w net x) same))
 
   state_more : (net : Net) (n : ℕ) (x : Noted) (rest : List (ℕ × Noted)) (a : ActorName) (end : Named) (b : Bool) → same_actor x.entry.actor a ≡ b
-      → state opening (answer_in w) (named a ((next_noted w net x).actors a)) rest ≡ end
-      → state opening (answer_in w) (named a (net.actors a)) (if b then (n, x) ∷ rest else rest) ≡ end
-  state_more net n x rest a end true same rec = ap (λ (s : Named). state opening (answer_in w) s rest) (named_moved net x a same) ∙ rec
+      → state (opening w) (answer_in w) (named a ((next_noted w net x).actors a)) rest ≡ end
+      → state (opening w) (answer_in w) (named a (net.actors a)) (if b then (n, x) ∷ rest else rest) ≡ end
+  state_more net n x rest a end true same rec = ap (λ (s : Named). state (opening w) (answer_in w) s rest) (named_moved net x a same) ∙ rec
   state_more net n x rest a end false other rec =
-      ap (λ (s : Actor). state opening (answer_in w) (named a s) rest) (sym (unmoved net x a (step_by w net x) other)) ∙ rec
+      ap (λ (s : Actor). state (opening w) (answer_in w) (named a s) rest) (sym (unmoved net x a (step_by w net x) other)) ∙ rec
 
   state_from : (net : Net) (n : ℕ) (xs : List Noted) (a : ActorName)
-      → state opening (answer_in w) (named a (net.actors a)) (at_from (number.Actor a) n xs) ≡ named a ((noted_from w net xs).actors a)
+      → state (opening w) (answer_in w) (named a (net.actors a)) (at_from (number.Actor a) n xs) ≡ named a ((noted_from w net xs).actors a)
   state_from net n [] a = refl
   state_from net n (x ∷ xs) a =
       state_more net n x (at_from (number.Actor a) (n + 1) xs) a (named a ((noted_from w (next_noted w net x) xs).actors a)) (same_actor x.entry.actor a) refl
       (state_from (next_noted w net x) (n + 1) xs a)
 
   -- what lies under an actor's lock is that actor of the net
-  pub state_is : (log : List Noted) (a : ActorName) → state_at opening (answer_in w) a log ≡ named a ((noted_net w log).actors a)
-  state_is log a = state_from opening_net 0 log a
+  pub state_is : (log : List Noted) (a : ActorName) → state_at (opening w) (answer_in w) a log ≡ named a ((noted_net w log).actors a)
+  state_is log a = state_from (opening_net w) 0 log a
 
 module _ (w : World) where
   pub noted_from-append : (net : Net) (xs ys : List Noted) → noted_from w net (xs ++ ys) ≡ noted_from w (noted_from w net xs) ys
@@ -68,7 +68,7 @@ module _ (w : World) where
   noted_from-append net (x ∷ xs) ys = noted_from-append (next_noted w net x) xs ys
 
   pub noted_push : (log : List Noted) (x : Noted) → noted_net w (log ++ x ∷ []) ≡ next_noted w (noted_net w log) x
-  noted_push log x = noted_from-append opening_net log (x ∷ [])
+  noted_push log x = noted_from-append (opening_net w) log (x ∷ [])
 
   past_from : (net : Net) (xs : List Noted) → (noted_from w net xs).past ≡ net.past ++ entries xs
   past_from net [] = sym (append-nil net.past)
@@ -82,7 +82,7 @@ module _ (w : World) where
 
   -- the net has these entries
   pub past_is : (log : List Noted) → (noted_net w log).past ≡ entries log
-  past_is log = past_from opening_net log
+  past_is log = past_from (opening_net w) log
 
   moment_one : (net : Net) (x : Noted) (t : Option (Step Actor)) → (noted_after w net x t).moment ≡ moment_by net.moment x
   moment_one net x None = refl
@@ -109,4 +109,4 @@ module _ (w : World) where
 
   -- and its moment is theirs
   pub moment_is : (log : List Noted) → (noted_net w log).moment ≡ stamped.moment log
-  moment_is log = moment_from opening_net 0 log
+  moment_is log = moment_from (opening_net w) 0 log

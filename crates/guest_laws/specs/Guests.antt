@@ -42,7 +42,7 @@ pub record IsTurn (w : World) (c : ℕ) (p : Sight) (ds : List Duty) (a : ActorN
 
 -- one entry of the caller was recorded at the actor's lock
 abbrev pub Records : World → Roster → ActorName → ℕ → ℕ → Work → Option ℕ → Sight → ℕ → Outcome → Sight → Type 0
-Records w r a c now work cites p stamp o p' = IsDone opening (answer_in w) r a c now work cites p stamp o p'
+Records w r a c now work cites p stamp o p' = IsDone (opening w) (answer_in w) r a c now work cites p stamp o p'
 
 -- after the later pass the caller stands as it stood after the earlier one, and is a guest of the same duties
 pub record StaysGuest (w : World) (r : Roster) (c : ℕ) (p : Sight) (ds : List Duty) (p' : Sight) : Type 0 where

@@ -16,8 +16,8 @@ abbrev pub named : ActorName → Actor → Named
 named a s = record { name = a; actor = s }
 
 -- the actor of this name, to which nothing has happened
-abbrev pub opening : ActorName → Named
-opening a = named a (opening_actor a)
+abbrev pub opening : World → ActorName → Named
+opening w a = named a (opening_actor w.timers a)
 
 -- the step of an actor, which keeps its name
 abbrev pub named_step : ActorName → Step Actor → Step Named

@@ -45,7 +45,7 @@ OwnFrom w c K net [] = Unit {0}
 OwnFrom w c K net (x ∷ xs) = ((x.entry.caller == c) ≡ true → K net x) × OwnFrom w c K (next_noted w net x) xs
 
 abbrev pub EachOwn : World → ℕ → (Net → Noted → Type 0) → List Noted → Type 0
-EachOwn w c K log = OwnFrom w c K opening_net log
+EachOwn w c K log = OwnFrom w c K (opening_net w) log
 
 -- each of the caller's entries is a turn of it
 abbrev pub AreTurns : World → ℕ → List Noted → Type 0

@@ -43,7 +43,7 @@ noted_from w net (x ∷ xs) = noted_from w (next_noted w net x) xs
 
 -- the net after these entries, each with its work
 abbrev pub noted_net : World → List Noted → Net
-noted_net w log = noted_from w opening_net log
+noted_net w log = noted_from w (opening_net w) log
 
 -- what a caller owes after them
 abbrev pub owed_in : World → List Noted → ℕ → List Duty

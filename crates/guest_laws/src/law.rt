@@ -44,14 +44,14 @@ pub fn nets_of_works_grow()
 /// What lies under an actor's lock is that actor of the net of the works.
 pub fn locks_keep_actors()
     ensures state { (w : World) (log : List Noted) (a : ActorName)
-        → state_at opening (answer_in w) a log ≡ named a ((noted_net w log).actors a) }
+        → state_at (opening w) (answer_in w) a log ≡ named a ((noted_net w log).actors a) }
     ensures ready { (w : World) (log : List Noted) (a : ActorName) (now : ℕ) (work : Work)
-        → is_some (answer_in w (state_at opening (answer_in w) a log) now work)
+        → is_some (answer_in w (state_at (opening w) (answer_in w) a log) now work)
         ≡ is_some (actor_step w a ((noted_net w log).actors a) now work) }
     ensures due { (w : World) (log : List Noted) (a : ActorName)
-        → due_of (state_at opening (answer_in w) a log) ≡ duties.due_of ((noted_net w log).actors a) }
+        → due_of (state_at (opening w) (answer_in w) a log) ≡ duties.due_of ((noted_net w log).actors a) }
     ensures generation { (w : World) (log : List Noted) (a : ActorName)
-        → generation_of (state_at opening (answer_in w) a log) ≡ duties.generation_of ((noted_net w log).actors a) }
+        → generation_of (state_at (opening w) (answer_in w) a log) ≡ duties.generation_of ((noted_net w log).actors a) }
 {
     same_actors_are_equal();
 }

@@ -69,14 +69,14 @@ module _ (w : World) (c : ℕ) where
   by_append h more = filter-append (λ (x : Entry). x.caller == c) h more
 
   pub owed_is_fold : (h : List Entry) → owed w h c ≡ owed_by w [] (own_steps w h c)
-  owed_is_fold h = folds opening_net h
+  owed_is_fold h = folds (opening_net w) h
 
   pub stands_still : (h more : List Entry) → by more c ≡ [] → StandsStill w c h (h ++ more)
   stands_still h more none =
       let same : by (h ++ more) c ≡ by h c = by_append h more ∙ (ap (λ (xs : List Entry). by h c ++ xs) none ∙ append-nil (by h c)) in
       record {
         recorded = same;
-        owes = ap (λ (net : Net). net.owed c) (net_of-append w opening_net h more) ∙ left (after w h) more none;
+        owes = ap (λ (net : Net). net.owed c) (net_of-append w (opening_net w) h more) ∙ left (after w h) more none;
         comes_next = next_alike (caller_of w c) h (h ++ more) same;
       }
 

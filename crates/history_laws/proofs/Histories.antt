@@ -47,7 +47,7 @@ net_of-append w net [] ys = refl
 net_of-append w net (x ∷ xs) ys = net_of-append w (next_net w net x) xs ys
 
 pub after_push : (w : World) (h : List Entry) (x : Entry) → after w (h ++ x ∷ []) ≡ next_net w (after w h) x
-after_push w h x = net_of-append w opening_net h (x ∷ [])
+after_push w h x = net_of-append w (opening_net w) h (x ∷ [])
 
 pub take_before : (h : List Entry) (x : Entry) (k : ℕ) → k ≤ length h → take k (h ++ x ∷ []) ≡ take k h
 take_before h x k le = take-append-le k h (x ∷ []) le
@@ -119,8 +119,8 @@ agrees w a net (x ∷ xs) = by_actor (same_actor x.actor a) refl (agrees w a (ne
         ap (λ (b : ActorName). stepped_to (net.actors a) (actor_step w b (net.actors b) net.moment (work_of net x))) (same_actor_is x.actor a is) in
         rw is (rest ∙ ap (λ (s : Actor). played w a s (works_from w a (next_net w net x) xs)) (next_same w net x a (step_of w net x) is ∙ own))
 
-pub state_is_fold : (w : World) (h : List Entry) (a : ActorName) → state w h a ≡ played w a (opening_actor a) (works w h a)
-state_is_fold w h a = agrees w a opening_net h
+pub state_is_fold : (w : World) (h : List Entry) (a : ActorName) → state w h a ≡ played w a (opening_actor w.timers a) (works w h a)
+state_is_fold w h a = agrees w a (opening_net w) h
 
 pub slice_get_take : (k : ℕ) (h : List Entry) (j : ℕ) (x : Entry) → slice_get (take k h) j ≡ Some x → (j < k) × (slice_get h j ≡ Some x)
 slice_get_take zero h j x is = absurd (none-some x is)

@@ -151,4 +151,4 @@ found h c (e ∷ es) d own (inr later) = found h c es d own.1 later
 -- each duty that a caller owes cites an earlier entry of its own
 pub cites_its_own : (w : World) (h : List Entry) (c : ℕ) (d : Duty) → In d (owed w h c) → (x : Entry) × (slice_get h d.cites ≡ Some x) × (x.caller ≡ c)
 cites_its_own w h c d there =
-    found h c (owed w h c) d (subst (λ (p : List Entry). Each (CitesOwn p c) (owed w h c)) (past_after w opening_net h) (owed_all w opening_net h c tt)) there
+    found h c (owed w h c) d (subst (λ (p : List Entry). Each (CitesOwn p c) (owed w h c)) (past_after w (opening_net w) h) (owed_all w (opening_net w) h c tt)) there

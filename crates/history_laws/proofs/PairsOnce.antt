@@ -22,7 +22,7 @@ use Rattle.net_base.specs.declared.reply.Reply.{Reply}
 use Rattle.net_base.specs.declared.reply.Reply.TheVariants as reply
 use Rattle.net_base.specs.declared.world.World.{World}
 use Rattle.net_base.specs.ActorStep.{Step, when}
-use Rattle.net_base.specs.Actors.{Actor, IsDir, IsConv, IsMedium, IsPlain, actor_step, step_as, has_actor}
+use Rattle.net_base.specs.Actors.{Actor, IsDesk, IsDir, IsConv, IsMedium, IsPlain, actor_step, step_as, has_actor}
 use Rattle.net_base.specs.Directory.{Dir, dir_step}
 use Rattle.net_base.specs.Legal.{IsLegal, MayFollow, Shows, Shown}
 use Rattle.net_base.specs.Net.{Net, after, next_net, net_of, net_after, step_of, work_of, opening_net}
@@ -71,6 +71,7 @@ pairs_grow w (name.Medium m) (IsDir d) now work s q is there = absurd (no_step w
 pairs_grow w name.Clock (IsDir d) now work s q is there = absurd (no_step w name.Clock s is)
 pairs_grow w a (IsConv c) now work s q is there = absurd there
 pairs_grow w a (IsMedium m) now work s q is there = absurd there
+pairs_grow w a (IsDesk d) now work s q is there = absurd there
 pairs_grow w a IsPlain now work s q is there = absurd there
 
 -- what an entry gives is new at its directory
@@ -111,6 +112,7 @@ new_of w (name.Dir h p) (IsDir d) now work s r g is same gift =
     subst (λ (c : Actor). NewAt (name.Dir h p) (IsDir d) c g) (sym t.1.1) (new_at_dir h p d work.event work.with r t.0 g (moves_of w h p d work t.0 t.1.0) replied gift)
 new_of w (name.Dir h p) (IsConv c) now work s r g is same gift = absurd (no_step w (name.Dir h p) s is)
 new_of w (name.Dir h p) (IsMedium m) now work s r g is same gift = absurd (no_step w (name.Dir h p) s is)
+new_of w (name.Dir h p) (IsDesk d) now work s r g is same gift = absurd (no_step w (name.Dir h p) s is)
 new_of w (name.Dir h p) IsPlain now work s r g is same gift = absurd (no_step w (name.Dir h p) s is)
 new_of w (name.Desk h) b now work s r g is same gift = absurd (none-some g gift)
 new_of w (name.Conv h p n) b now work s r g is same gift = absurd (none-some g gift)
@@ -222,7 +224,7 @@ all_kept w h legal = by_entries w (λ (p : List Entry). Kept (after w p) (given_
   where
     push : (p : List Entry) (x : Entry) → IsLegal w p → MayFollow w p x → Kept (after w p) (given_in w p) → Kept (after w (p ++ x ∷ [])) (given_in w (p ++ x ∷ []))
     push p x before may kept =
-        subst (Kept (after w (p ++ x ∷ []))) (sym (given_push w opening_net p x))
+        subst (Kept (after w (p ++ x ∷ []))) (sym (given_push w (opening_net w) p x))
         (subst (λ (net : Net). Kept net (given_in w p ++ option_to_list (gives x.actor (work_of (after w p) x) x.reply))) (sym (after_push w p x))
         (kept_step w (after w p) x (given_in w p) (step_of w (after w p) x) refl may.answers may.is_ready kept))
 

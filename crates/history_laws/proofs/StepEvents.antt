@@ -82,6 +82,7 @@ Says h P (step.Close called) = IsNamed h P called
 Says h P (step.Ls path) = Unit {0}
 Says h P (step.Cs query) = Unit {0}
 Says h P (step.Until moment) = P (name.Desk h) (event.Until moment)
+Says h P step.Refresh = Unit {0}
 Says h P (step.Dial called address) = IsNamed h P called × IsNamed h P (dotted_name called)
 Says h P (step.Announce called address) = IsNamed h P called
 Says h P (step.Listen called from) = IsNamed h P called × IsNamed h P from
@@ -214,6 +215,7 @@ module _ (h : ℕ) (P : ActorName → Event → Type 0) (R : Reply → Type 0) (
   played names (step.Ls path) says = ending _ _ names (ls_of (ls_actor h (walk path)) path (walk path))
   played names (step.Cs query) says = ending _ _ names (fits.other (name.Desk h) (event.Cs query) tt)
   played names (step.Until moment) says = ending _ _ names says
+  played names step.Refresh says = ending _ _ names (fits.other (name.Desk h) event.Refresh tt)
   played names (step.Dial called address) says =
       new called names _ says.0 (new (dotted_name called) names _ says.1 (asks_lines address (dials h called names) (dialling called names)))
   played names (step.Announce called address) says = new called names _ says (asks_lines address (announces h called names) (announcing called names))

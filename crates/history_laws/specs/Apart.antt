@@ -32,7 +32,7 @@ own_steps_from w c net (x ∷ xs) =
 
 -- the steps of a caller's entries
 abbrev pub own_steps : World → List Entry → ℕ → List OwnStep
-own_steps w h c = own_steps_from w c opening_net h
+own_steps w h c = own_steps_from w c (opening_net w) h
 
 -- its first duty is done, and the new ones are owed after the others; a step that isn't ready changes nothing
 abbrev pub owed_then : World → List Duty → OwnStep → Option (Step Actor) → List Duty

@@ -37,7 +37,7 @@ pub fn same_actors_are_equal()
 
 /// An actor's state is the fold of its own step over its own works, from its opening state.
 pub fn state_is_fold()
-    ensures { (w : World) (h : List Entry) (a : ActorName) → state w h a ≡ played w a (opening_actor a) (works w h a) }
+    ensures { (w : World) (h : List Entry) (a : ActorName) → state w h a ≡ played w a (opening_actor w.timers a) (works w h a) }
 {}
 
 /// A history with a fault isn't both legal and timed.

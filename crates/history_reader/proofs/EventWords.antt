@@ -198,7 +198,10 @@ other_rows_are = (
       row narrow_or_dash dashes (IfAny IsNarrow) narrow_or_dash_exact (λ to. event.Put to) event_words FitsEvent (codes "put") (λ to h. refl) (λ to h. (h, tt)),
       (
         of_long (λ m. event.Move m) (codes "move") (λ m. refl) (λ m h. (h, tt)),
-        (of_long (λ m. event.Until m) (codes "until") (λ m. refl) (λ m h. (h, tt)), tt),
+        (
+          of_long (λ m. event.Until m) (codes "until") (λ m. refl) (λ m h. (h, tt)),
+          (bare_row event.Refresh event_words FitsEvent (codes "refresh") refl (tt, tt), tt),
+        ),
       ),
     ),
   ),
@@ -360,6 +363,7 @@ event_back (event.Use (b ∷ n)) w p = (λ rest. refl, (bare (codes "use") refl 
 event_back (event.Misuse []) w p = absurd p
 event_back (event.Misuse (b ∷ n)) w p = (λ rest. refl, (bare (codes "misuse") refl refl, (clean_free (b ∷ n) p, tt)))
 event_back (event.Until g) w p = let b = of_generation (λ g. event.Until g) (codes "until") (bare (codes "until") refl refl) g w in (λ rest. b.0 (equals ∷ rest), b.1)
+event_back event.Refresh w p = (λ rest. refl, (bare (codes "refresh") refl refl, tt))
 event_back event.Reserve w p = (λ rest. refl, (bare (codes "reserve") refl refl, tt))
 event_back (event.Grant n g remote lport) w p = let b = back (both narrow (both long (both place port_or_dash))) grant_words grant_fits grant_exact spec.to_grant (codes "grant") (bare (codes "grant") refl refl) (n, (g, (remote, lport))) (w.0, (w.1, (w.2, w.3))) in (λ rest. b.0 (equals ∷ rest), b.1)
 event_back (event.Announce n g ip port) w p = let b = back (both narrow (both long (both ip_or_star port_or_star))) announce_words announce_fits announce_exact spec.to_announce (codes "announce") (bare (codes "announce") refl refl) (n, (g, (ip, port))) (w.0, (w.1, (w.2, w.3))) in (λ rest. b.0 (equals ∷ rest), b.1)

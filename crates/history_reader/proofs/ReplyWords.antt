@@ -289,10 +289,13 @@ number_rows_are = (
         (
           of_narrow (λ n. reply.BadCtl n) (codes "badctl") (λ n. refl) (λ n h. (h, tt)),
           (
-            of_wide (λ n. reply.Laid n) (codes "laid") (λ n. refl) (λ n h. (h, tt)),
+            of_wide (λ n. reply.Version n) (codes "version") (λ n. refl) (λ n h. (h, tt)),
             (
-              of_wide (λ n. reply.Copy n) (codes "copy") (λ n. refl) (λ n h. (h, tt)),
-              several_rows_are,
+              of_wide (λ n. reply.Laid n) (codes "laid") (λ n. refl) (λ n h. (h, tt)),
+              (
+                of_wide (λ n. reply.Copy n) (codes "copy") (λ n. refl) (λ n h. (h, tt)),
+                several_rows_are,
+              ),
             ),
           ),
         ),
@@ -391,6 +394,7 @@ reply_back reply.Took w p = (λ rest ends. refl, (bare (codes "took") refl refl,
 reply_back reply.Full w p = (λ rest ends. refl, (bare (codes "full") refl refl, tt))
 reply_back reply.Ticked w p = (λ rest ends. refl, (bare (codes "ticked") refl refl, tt))
 reply_back reply.NotDue w p = (λ rest ends. refl, (bare (codes "notdue") refl refl, tt))
+reply_back (reply.Version n) w p = let b = at_wide (λ n. reply.Version n) (codes "version") (bare (codes "version") refl refl) n w in (λ rest ends. b.0 rest, b.1)
 reply_back (reply.Laid n) w p = let b = at_wide (λ n. reply.Laid n) (codes "laid") (bare (codes "laid") refl refl) n w in (λ rest ends. b.0 rest, b.1)
 reply_back reply.TooBig w p = (λ rest ends. refl, (bare (codes "toobig") refl refl, tt))
 reply_back reply.NoStation w p = (λ rest ends. refl, (bare (codes "nostation") refl refl, tt))

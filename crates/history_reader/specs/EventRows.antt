@@ -35,6 +35,7 @@ other_rows =
     ∷ (codes "put", made narrow_or_dash (λ to. event.Put to))
     ∷ (codes "move", made long (λ m. event.Move m))
     ∷ (codes "until", made long (λ m. event.Until m))
+    ∷ (codes "refresh", λ words. Some (event.Refresh, words))
     ∷ []
 
 -- those that name a slot, and those behind them

@@ -98,6 +98,7 @@ number_rows =
     ∷ (codes "taken", made narrow (λ n. reply.PortTaken n))
     ∷ (codes "opened", made long (λ g. reply.Opened g))
     ∷ (codes "badctl", made narrow (λ n. reply.BadCtl n))
+    ∷ (codes "version", made long (λ n. reply.Version n))
     ∷ (codes "laid", made long (λ k. reply.Laid k))
     ∷ (codes "copy", made long (λ k. reply.Copy k))
     ∷ several_rows

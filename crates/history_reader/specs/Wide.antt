@@ -95,6 +95,7 @@ abbrev pub IsWideReply : Reply → Type 0
 IsWideReply (reply.Lines lines) = AreByteLines lines
 IsWideReply (reply.CsRefused n) = IsNarrow n
 IsWideReply (reply.Names names) = AreByteLines names
+IsWideReply (reply.Version n) = IsLong n
 IsWideReply (reply.Slot n g) = IsNarrow n × IsLong g
 IsWideReply (reply.Granted pair start limit) = IsPlace pair.local × IsPlace pair.remote × IsNarrow start × IsNarrow limit
 IsWideReply (reply.PairUsed k) = IsLong k

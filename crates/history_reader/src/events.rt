@@ -304,6 +304,8 @@ fn other_event<'a>(word: &[u8], words: &Words<'a>) -> Option<(Event, Words<'a>)>
     } else if word == b"until".as_slice() {
         let (moment, words) = long(words)?;
         Some((Event::Until { moment }, words))
+    } else if word == b"refresh".as_slice() {
+        Some((Event::Refresh, words.again()))
     } else {
         None
     }

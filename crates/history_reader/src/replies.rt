@@ -120,6 +120,9 @@ fn number_reply<'a>(word: &[u8], words: &Words<'a>) -> Option<(Reply, Words<'a>)
     } else if word == b"badctl".as_slice() {
         let (number, words) = narrow(words)?;
         Some((Reply::BadCtl { number }, words))
+    } else if word == b"version".as_slice() {
+        let (version, words) = long(words)?;
+        Some((Reply::Version { version }, words))
     } else if word == b"laid".as_slice() {
         let (frame, words) = long(words)?;
         Some((Reply::Laid { frame }, words))

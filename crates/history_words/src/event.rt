@@ -28,6 +28,7 @@ pub fn put_event(out: &mut Octets, world: &World, event: &Event) -> Result<(), A
         }
         Event::Misuse { name } => put_with_text(out, b"misuse of", name.as_slice()),
         Event::Until { moment } => put_moment(out, b"wait until", *moment),
+        Event::Refresh => put_word(out, b"read the database again"),
         Event::Reserve => put_word(out, b"reserve"),
         Event::Grant {
             slot,

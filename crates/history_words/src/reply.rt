@@ -27,6 +27,7 @@ pub fn put_reply(out: &mut Octets, reply: &Reply) -> Result<(), AllocError>
         Reply::BadMode => put_word(out, b"bad mode"),
         Reply::BadFid => put_word(out, b"bad fid"),
         Reply::Ok => put_word(out, b"ok"),
+        Reply::Version { version } => put_named(out, b"version", *version),
         Reply::Slot { slot, generation } => put_slot(out, *slot, *generation),
         Reply::NoSlot => put_word(out, b"no slot"),
         Reply::Granted { pair, start, limit } => {

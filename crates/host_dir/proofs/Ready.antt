@@ -58,6 +58,7 @@ ready_is w h p (event.OpenPath q m) with d = refl
 ready_is w h p (event.Use q) with d = refl
 ready_is w h p (event.Misuse q) with d = refl
 ready_is w h p (event.Until m) with d = refl
+ready_is w h p event.Refresh with d = refl
 ready_is w h p (event.Begin g) with d = refl
 ready_is w h p (event.Born g) with d = refl
 ready_is w h p (event.Claim g) with d = refl

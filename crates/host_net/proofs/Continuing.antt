@@ -133,25 +133,25 @@ named_left a s (Some t) = refl
 
 -- what is known of what lies under a lock, and of replies
 abbrev pub KeepsActors : Type 0
-KeepsActors = (w : World) (log : List Noted) (a : ActorName) → state_at opening (answer_in w) a log ≡ named a ((noted_net w log).actors a)
+KeepsActors = (w : World) (log : List Noted) (a : ActorName) → state_at (opening w) (answer_in w) a log ≡ named a ((noted_net w log).actors a)
 
 abbrev pub FitWorks : Type 0
 FitWorks = (w : World) (a : ActorName) (ps : List nets.Play) (now : ℕ) (work : Work) (t : Step Actor)
-    → actor_step w a (played w a (opening_actor a) ps) now work ≡ Some t → fits work.event t.outcome.reply ≡ true
+    → actor_step w a (played w a (opening_actor w.timers a) ps) now work ≡ Some t → fits work.event t.outcome.reply ≡ true
 
 module _ (w : World) (a : ActorName) where
-  state_played : (s : Actor) (xs : List (ℕ × Noted)) → state opening (answer_in w) (named a s) xs ≡ named a (played w a s (plays_of xs))
+  state_played : (s : Actor) (xs : List (ℕ × Noted)) → state (opening w) (answer_in w) (named a s) xs ≡ named a (played w a s (plays_of xs))
   state_played s [] = refl
   state_played s (x ∷ xs) =
       let t = actor_step w a s x.1.entry.moment x.1.work in
-      ap (λ (n : Named). state opening (answer_in w) n xs) (named_left a s t) ∙ state_played (stepped_to s t) xs
+      ap (λ (n : Named). state (opening w) (answer_in w) n xs) (named_left a s t) ∙ state_played (stepped_to s t) xs
 
   pub fits_there : KeepsActors → FitWorks → (log : List Noted) (now : ℕ) (work : Work) (t : Step Actor)
       → actor_step w a ((noted_net w log).actors a) now work ≡ Some t → fits work.event t.outcome.reply ≡ true
   fits_there keeps fit log now work t is =
       let ps = plays_of (at (number.Actor a) log) in
-      let same : (noted_net w log).actors a ≡ played w a (opening_actor a) ps =
-      ap (λ (n : Named). n.actor) (sym (keeps w log a) ∙ state_played (opening_actor a) (at (number.Actor a) log)) in
+      let same : (noted_net w log).actors a ≡ played w a (opening_actor w.timers a) ps =
+      ap (λ (n : Named). n.actor) (sym (keeps w log a) ∙ state_played (opening_actor w.timers a) (at (number.Actor a) log)) in
       fit w a ps now work t (ap (λ (s : Actor). actor_step w a s now work) (sym same) ∙ is)
 
 -- A play goes on.

@@ -1,15 +1,17 @@
 -- Actors to which so many works led.
 use Rattle.std.proofs.Common.{◌≡◌, ℕ, ◌+◌, ◌<◌, ◌≤◌, ◌^◌, Bool, true, false, is_some, List, [], ◌∷◌, ◌++◌, length, Some, if◌then◌else◌, refl, ap, sym, subst, ◌∙◌, arith, length-append}
+use Rattle.std.proofs.lemmas.List.Elements.{All-from_recursion}
 use Rattle.net_base.specs.declared.actor.ActorName.{ActorName}
 use Rattle.net_base.specs.declared.history.Outcome.{Outcome}
 use Rattle.net_base.specs.declared.history.Work.{Work}
+use Rattle.net_base.specs.declared.world.Version.{Version}
 use Rattle.net_base.specs.declared.world.World.{World}
 use Rattle.net_base.specs.ActorStep.{Step}
 use Rattle.net_base.specs.Actors.{Actor, actor_step, has_actor, opening_actor}
 use Rattle.net_base.specs.Net.{Play, actors_after, play, played, stepped_to}
 use Rattle.net_base.specs.Stamped.{same_actor}
 use Rattle.history_laws.proofs.Histories.{same_actor_is}
-use Rattle.net_base.specs.World.{IsWorld}
+use Rattle.net_base.specs.World.{IsDatabase, IsWorld}
 use Rattle.net_actors.specs.Numbers.{is_among}
 use Rattle.net_actors.specs.Small.{IsSmall}
 use Rattle.net_actors.specs.Together.{AreActors, CanStep, Numbered, Steps}
@@ -17,8 +19,8 @@ use Rattle.host_tests.specs.Tried.{AreLedTo, IsLedTo, tried_world}
 use Rattle.net_actors.proofs.FewWorks.{few_works}
 use Rattle.net_actors.proofs.Numbering.{among_is}
 
-pub none_led : (w : World) (v : Numbered) → AreActors w v opening_actor → AreLedTo w v 0
-none_led w v are = record { states = opening_actor; are = are; led = λ a. record { works = []; led = refl; few = omega arith } }
+pub none_led : (w : World) (v : Numbered) → AreActors w v (opening_actor w.timers) → AreLedTo w v 0
+none_led w v are = record { states = opening_actor w.timers; are = are; led = λ a. record { works = []; led = refl; few = omega arith } }
 
 pub can_step : (w : World) (v : Numbered) (n : ℕ) (a : ActorName) (now : ℕ) (work : Work) (told : Bool) → AreLedTo w v n → n < 2 ^ 20 → has_actor w a ≡ true → told ≡ true
     → ((u : World) (states : ActorName → Actor) → AreActors u v states → told ≡ is_some (actor_step u a (states a) now work)) → CanStep v a now work
@@ -47,7 +49,7 @@ one_more w a s t n now work o led step =
       works = led.works ++ p ∷ [];
       led =
           sym (ap (stepped_to s) step)
-          ∙ (ap (λ (x : Actor). play w a x p) led.led ∙ sym (played_more w a (opening_actor a) led.works p));
+          ∙ (ap (λ (x : Actor). play w a x p) led.led ∙ sym (played_more w a (opening_actor w.timers a) led.works p));
       few = omega (arith, more, count);
     }
 
@@ -78,7 +80,8 @@ tried_world_is = record {
   hosts_addressed = refl;
   few_scripts = refl;
   scripts = refl;
-  database = ([], refl, refl);
+  versions_timed = refl;
+  versions = All-from_recursion (λ (v : Version). IsDatabase v.db) tried_world.dbs (([], refl, refl), tt);
 }
 
 pub tried_is_world : (w : World) → w ≡ tried_world → IsWorld w

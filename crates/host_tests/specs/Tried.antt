@@ -5,6 +5,7 @@ use Rattle.net_base.specs.declared.address.Proto.TheVariants as proto
 use Rattle.net_base.specs.declared.world.HostSpec.{HostSpec}
 use Rattle.net_base.specs.declared.world.MediumSpec.{MediumSpec}
 use Rattle.net_base.specs.declared.world.World.{World}
+use Rattle.net_base.specs.declared.timer.Timers.TheVariants.{Fixed}
 use Rattle.net_base.specs.Actors.{Actor, opening_actor}
 use Rattle.net_base.specs.Net.{Play, played}
 use Rattle.net_actors.specs.Together.{AreActors, Numbered}
@@ -27,16 +28,17 @@ tried_world =
     record {
       end = 60000;
       seed = 7;
+      timers = Fixed;
       media = tried_medium ∷ [];
       hosts = tried_host (codes "anna") 2271742214 ∷ tried_host (codes "helix") 2271742239 ∷ [];
       scripts = [];
-      db = [];
+      dbs = record { moment = 0; db = [] } ∷ [];
     }
 
 -- at most n works led the actor to this state
 pub record IsLedTo (w : World) (a : ActorName) (s : Actor) (n : ℕ) : Type 0 where
   pub works : List Play
-  pub led : s ≡ played w a (opening_actor a) works
+  pub led : s ≡ played w a (opening_actor w.timers a) works
   pub few : length works ≤ n
 
 -- they are the actors of the world, and at most n works led to each

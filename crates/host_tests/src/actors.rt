@@ -128,6 +128,16 @@ const REFUSALS: &[Row] = &[
     (Who::Desk, Ask::Desk(AtDesk::Until(9)), Told::Ok),
 ];
 
+const REFRESHES: &[Row] = &[
+    (Who::Desk, Ask::Desk(AtDesk::Refresh), Told::Version(0)),
+    (Who::Clock, Ask::Desk(AtDesk::Refresh), Told::NotReady),
+];
+
+#[test]
+fn a_desk_reads_again(rt: HostRuntime) -> Result<(), AllocError> {
+    plays(&rt, rt.alloc(), REFRESHES)
+}
+
 #[test]
 fn a_desk_refuses_and_waits(rt: HostRuntime) -> Result<(), AllocError> {
     plays(&rt, rt.alloc(), REFUSALS)

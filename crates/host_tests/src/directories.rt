@@ -4,7 +4,7 @@ ghost use Rattle.std.specs.Prelude.{◌<◌, length, IfOk};
 use host_dir::Dir;
 use net_base::{
     Addr, Body, Event, HostSpec, Iface, IlKind, IlMsg, MediumSpec, Octets, Outcome, Packet, Proto,
-    Reply, RouteLine, Sequence, StateName, With, Work, World,
+    Reply, RouteLine, Sequence, StateName, Timers, With, Work, World,
 };
 use std::alloc::{AllocError, Global};
 use std::process::Abort;
@@ -199,10 +199,11 @@ fn world(alloc: Global) -> Result<World, AllocError>
     Ok(World {
         end: 60_000,
         seed: 1,
+        timers: Timers::Fixed,
         media: Sequence::from_vec(vec![in alloc; ether]?),
         hosts: Sequence::from_vec(vec![in alloc; host]?),
         scripts: Sequence::new(alloc),
-        db: Sequence::new(alloc),
+        dbs: Sequence::new(alloc),
     })
 }
 

@@ -2,7 +2,7 @@
 use duties::{Due, Duties, Duty, WorldWays, most_owed};
 use net_base::{
     ActorName, Addr, Body, Call, Event, HostSpec, Hosts, Iface, Media, MediumSpec, Octets, Outcome,
-    Packet, Pair, Proto, Reply, RouteLine, Sequence, Taken, With, Work, World,
+    Packet, Pair, Proto, Reply, RouteLine, Sequence, Taken, Timers, With, Work, World,
 };
 use std::alloc::{AllocError, Global};
 use std::process::Abort;
@@ -86,10 +86,11 @@ fn ways(alloc: Global) -> Result<WorldWays, AllocError> {
     let mut world = World {
         end: 60_000,
         seed: 1,
+        timers: Timers::Fixed,
         media: Sequence::new(alloc),
         hosts: Sequence::new(alloc),
         scripts: Sequence::new(alloc),
-        db: Sequence::new(alloc),
+        dbs: Sequence::new(alloc),
     };
     let made = put_parts(alloc, &mut world);
     let ways = WorldWays::new(alloc, &world);

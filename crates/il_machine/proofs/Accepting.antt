@@ -3,7 +3,7 @@ use Rattle.std.proofs.Common.{arith, subst, ◌≡◌, ℕ, zero, suc, ◌+◌, 
 use Rattle.net_base.specs.declared.il.IlMsg.{IlMsg}
 use Rattle.net_base.specs.Number.{number}
 use Rattle.net_base.specs.Timer.{Timer}
-use Rattle.net_base.specs.IlEnd.{End, rstart_of, backlog, early_at, without, becomes_early, comes_in_turn, come_in_turn, accepts, acked_to, hears, hears_ack, moves}
+use Rattle.net_base.specs.IlEnd.{End, rstart_of, backlog, early_at, without, becomes_early, comes_in_turn, come_in_turn, accepts, acked_to, hears, hears_ack, moves, acks}
 use Rattle.il_machine.specs.InTurn.{in_turn, with_turned}
 use Rattle.il_machine.specs.Windows.{AreWithin, Windows, rstart_kept, windows_of}
 use Rattle.il_machine.specs.Stands.{is_kept}
@@ -77,18 +77,18 @@ accepts_stamped m acked t e = stamped_of (number (rstart_of e) m.id (length e.go
 -- Taking the ack before or after is the same.
 
 acked_if : (now k : ℕ) (m : IlMsg) (e : End) (b : Bool)
-    → accepts m (if b then moves now (record e { acked = k }) else e) ≡ (if b then moves now (record (accepts m e) { acked = k }) else accepts m e)
+    → accepts m (if b then moves now (acks now k e) else e) ≡ (if b then moves now (acks now k (accepts m e)) else accepts m e)
 acked_if now k m e false = refl
 acked_if now k m e true =
-    accepts_stamped m k (moves now (record e { acked = k })).timer e
-    ∙ ap (λ (e' : End). stamped k (moves now (record e { acked = k })).timer e') (accepts_both m e)
-    ∙ sym (ap (λ (e' : End). moves now (record e' { acked = k })) (accepts_both m e))
+    accepts_stamped m k (moves now (acks now k e)).timer e
+    ∙ ap (λ (e' : End). stamped k (moves now (acks now k e)).timer e') (accepts_both m e)
+    ∙ sym (ap (λ (e' : End). moves now (acks now k e')) (accepts_both m e))
 
 accepts_acked : (now : ℕ) (o : Option ℕ) (m : IlMsg) (e : End) → accepts m (acked_to now o e) ≡ acked_to now o (accepts m e)
 accepts_acked now None m e = refl
 accepts_acked now (Some k) m e =
     acked_if now k m e (nat_le k (length e.sent))
-    ∙ ap (λ (sent : List (List ℕ)). if nat_le k (length sent) then moves now (record (accepts m e) { acked = k }) else accepts m e) (sym (ap (λ (e' : End). e'.sent) (accepts_both m e)))
+    ∙ ap (λ (sent : List (List ℕ)). if nat_le k (length sent) then moves now (acks now k (accepts m e)) else accepts m e) (sym (ap (λ (e' : End). e'.sent) (accepts_both m e)))
 
 pub accepts_hears_ack : (now : ℕ) (m : IlMsg) (e : End) → accepts m (hears_ack now m e) ≡ hears_ack now m (accepts m e)
 accepts_hears_ack now m e =
@@ -106,7 +106,7 @@ accepts_hears_ack now m e =
 pub hears_ack_got : (now : ℕ) (m : IlMsg) (e : End) → (hears_ack now m e).got ≡ e.got
 hears_ack_got now m e = got_of (number e.start m.ack e.acked) (hears now e)
   where
-    got_if : (k : ℕ) (e' : End) (b : Bool) → (if b then moves now (record e' { acked = k }) else e').got ≡ e'.got
+    got_if : (k : ℕ) (e' : End) (b : Bool) → (if b then moves now (acks now k e') else e').got ≡ e'.got
     got_if k e' true = refl
     got_if k e' false = refl
 

@@ -20,7 +20,7 @@ use crate::ask::Ask;
 use crate::fault::HungupError;
 use crate::in_turn::{add_early, come_in_turn};
 use il_queues::{Early, MOST_UNACKED, MOST_UNREAD, Timer, Unacked, Unread};
-use net_base::{Cause, IlKind, IlMsg, IlState, Octets, Tick, number};
+use net_base::{Cause, IlKind, IlMsg, IlState, Octets, Tick, Timers, number};
 use std::alloc::{AllocError, Global};
 use std::marker::Model;
 
@@ -173,21 +173,23 @@ impl IlEnd {
         self.hear(now);
         if let Some(k) = number(self.start, message.ack, self.acked()) {
             if k <= self.sent {
-                self.drop_acked(k);
+                self.drop_acked(now, k);
                 self.restart_timer(now);
             }
         }
     }
 
-    /// Drops the messages up to this one, which are acknowledged.
-    fn drop_acked(&mut self, k: u64)
+    /// Drops the messages up to this one, which are acknowledged, and measures the round trip of the probe among them.
+    fn drop_acked(&mut self, now: u64, k: u64)
+        requires in_time { now < 2 ^ 63 }
         requires more { self.old.acked ≤ k }
         requires sent { k ≤ self.old.sent }
-        ensures end { Becomes self.old self.new (λ e. record e { acked = k }) }
+        ensures end { Becomes self.old self.new (λ e. spec.acks now k e) }
         ensures got { self.new.got ≡ self.old.got }
     {
         let more = k - self.acked();
         self.unacked.drop_first(more as usize);
+        self.timer.acked(now, k);
     }
 
     /// Waits anew, where something still waits to be acknowledged.
@@ -326,9 +328,9 @@ impl IlEnd {
 
 #[tactic(auto, unfolding(crate::specs::Stands::StandsFor))]
 impl IlEnd {
-    /// An end that was never connected.
-    pub fn fresh(alloc: Global) -> Result<IlEnd, AllocError>
-        ensures { IfOk result (λ e. StandsFor e spec.fresh_end) }
+    /// An end that was never connected, with such timers.
+    pub fn fresh(alloc: Global, timers: Timers) -> Result<IlEnd, AllocError>
+        ensures { IfOk result (λ e. StandsFor e (spec.fresh_end timers)) }
     {
         Ok(IlEnd {
             alloc,
@@ -343,7 +345,7 @@ impl IlEnd {
             unread: Unread::new(alloc)?,
             closed_by_peer: false,
             cause: None,
-            timer: Timer::idle(),
+            timer: Timer::idle(timers),
         })
     }
 
@@ -431,6 +433,7 @@ impl IlEnd {
         // there is room for it
         let _ = self.unacked.push(kept);
         self.sent += 1;
+        self.timer.sent(now, self.sent);
         Ok(IlMsg {
             kind: IlKind::Data,
             spec: 0,
@@ -555,6 +558,13 @@ impl IlEnd {
         ensures { Says self.now result (λ e. e.timer.due) }
     {
         self.timer.due
+    }
+
+    /// Its kind of timers.
+    pub fn timers(&self) -> Timers
+        ensures { Says self.now result (λ e. e.timer.timers) }
+    {
+        self.timer.timers
     }
 
     /// Why the end is hung up.

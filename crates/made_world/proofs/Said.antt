@@ -6,9 +6,11 @@ use Rattle.std.proofs.lemmas.Bool.{and_from}
 use Rattle.std.proofs.lemmas.Bool.Decides.{nat_tests}
 use Rattle.std.proofs.lemmas.Fmt.{decimal_by_steps}
 use Rattle.std.proofs.lemmas.List.Folds.{list_all-append}
+use Rattle.std.proofs.lemmas.List.Elements.{All-from_recursion}
 use Rattle.net_base.specs.declared.world.Step.{Step}
 use Rattle.net_base.specs.NdbBundle.{reading}
-use Rattle.net_base.specs.World.{is_byte, is_step, is_text, IsWorld}
+use Rattle.net_base.specs.declared.world.Version.{Version}
+use Rattle.net_base.specs.World.{IsDatabase, is_byte, is_step, is_text, IsWorld}
 use Rattle.worked_worlds.specs.Worked.{small_bundle, tuples}
 use Rattle.made_world.specs.Made.{message, asking, answering, anna_steps, helix_steps, made_world}
 
@@ -74,5 +76,6 @@ module _ (n : ℕ) (small : n < 2 ^ 64) where
     hosts_addressed = refl;
     few_scripts = refl;
     scripts = and_from _ _ anna_said (and_from _ _ helix_said refl);
-    database = (small_bundle, refl, local_reads);
+    versions_timed = refl;
+    versions = All-from_recursion (λ (v : Version). IsDatabase v.db) (made_world n).dbs ((small_bundle, refl, local_reads), tt);
   }

@@ -7,6 +7,7 @@ use Rattle.net_base.specs.declared.world.Script.{Script}
 use Rattle.net_base.specs.declared.world.Step.{Step}
 use Rattle.net_base.specs.declared.world.Step.TheVariants as step
 use Rattle.net_base.specs.declared.world.World.{World}
+use Rattle.net_base.specs.declared.timer.Timers.TheVariants.{Fixed}
 use Rattle.worked_worlds.specs.Worked.{anna, helix, host, script, tuples}
 
 -- the text of the k-th message
@@ -52,8 +53,9 @@ made_world n =
     record {
       end = 1000000000;
       seed = n;
+      timers = Fixed;
       media = made_medium ∷ [];
       hosts = made_hosts;
       scripts = made_scripts n;
-      db = tuples;
+      dbs = record { moment = 0; db = tuples } ∷ [];
     }

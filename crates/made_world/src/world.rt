@@ -9,7 +9,7 @@ use crate::steps::{anna_steps, helix_steps};
 use ndb_reader::{NdbError, read_ndb};
 use net_base::{
     Db, Fates, HostSpec, Hosts, Iface, Ifaces, Media, MediumSpec, Nets, Octets, Proto, RouteLines,
-    Script, Scripts, Starts, World,
+    Script, Scripts, Starts, Timers, Version, Versions, World,
 };
 use std::alloc::{AllocError, Global};
 
@@ -108,6 +108,18 @@ fn database(alloc: Global) -> Result<Db, AllocError>
     }
 }
 
+/// The only version of the database.
+fn versions(alloc: Global) -> Result<Versions, AllocError>
+    ensures { IfOk result (λ versions. versions ≡ record { moment = 0; db = worked.tuples } ∷ []) }
+{
+    let mut versions = Versions::new(alloc);
+    versions.push(Version {
+        moment: 0,
+        db: database(alloc)?,
+    })?;
+    Ok(versions)
+}
+
 /// The world of `n` messages: anna writes the numbers 1 to `n` to helix, one after the other, and helix writes each back.
 pub fn make_world(alloc: Global, n: u32) -> Result<World, AllocError>
     ensures made { IfOk result (λ w. w ≡ spec.made_world n) }
@@ -119,9 +131,10 @@ pub fn make_world(alloc: Global, n: u32) -> Result<World, AllocError>
     Ok(World {
         end: END,
         seed: u64::from(n),
+        timers: Timers::Fixed,
         media,
         hosts: hosts(alloc)?,
         scripts: scripts(alloc, n)?,
-        db: database(alloc)?,
+        dbs: versions(alloc)?,
     })
 }

@@ -129,7 +129,6 @@ adds_taken r entry bytes few some whole fits put = record {
       taken_in start offered r (record { bytes = bytes; count = r.count + 1; room = r.room - length entry; cut = r.cut }) entry took whole fits put refl refl refl;
 }
 
-
 pub adds_none : (r : Records) → IsFew r → Adds r [] r
 adds_none r few = record { few = few; took = λ start offered took. subst (λ (os : List (List ℕ)). Took start os r) (sym (append-nil offered)) took }
 

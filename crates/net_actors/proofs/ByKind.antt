@@ -1,6 +1,8 @@
 -- What an actor keeps answers as the actor of the definitions.
-use Rattle.std.proofs.Common.{◌≡◌, ℕ, Bool, true, List, Option, Some, None, Result, Ok, Err, IfOk, OnErr, slice_get, is_some, refl, ap, sym, subst, ◌∙◌}
+use Rattle.std.proofs.Common.{◌≡◌, ℕ, Bool, true, false, List, Option, Some, None, Result, Ok, Err, IfOk, OnErr, slice_get, is_some, bytes_eq, codes, nat_le, cond, refl, ap, sym, subst, ◌∙◌}
+use Rattle.std.specs.Prelude.{IfSome}
 use Rattle.std.specs.Option.{option_map, option_and_then}
+use Rattle.std.proofs.lemmas.Bool.{cond_both, false≢true}
 use Rattle.std.proofs.lemmas.Option.{none-some, same_Some}
 use Rattle.net_base.specs.declared.actor.ActorName.{ActorName}
 use Rattle.net_base.specs.declared.actor.ActorName.TheVariants as name
@@ -9,32 +11,36 @@ use Rattle.net_base.specs.declared.event.Event.{Event}
 use Rattle.net_base.specs.declared.event.Event.TheVariants as event
 use Rattle.net_base.specs.declared.history.Outcome.{Outcome}
 use Rattle.net_base.specs.declared.history.Work.{Work}
-use Rattle.net_base.specs.declared.ndb.NdbPair.{NdbPair}
+use Rattle.net_base.specs.declared.names.Mode.{Mode}
+use Rattle.net_base.specs.declared.names.Node.{Node}
 use Rattle.net_base.specs.declared.reply.Reply.{Reply}
 use Rattle.net_base.specs.declared.world.HostSpec.{HostSpec}
 use Rattle.net_base.specs.declared.world.MediumSpec.{MediumSpec}
+use Rattle.net_base.specs.declared.world.Version.{Version}
 use Rattle.net_base.specs.declared.world.World.{World}
 use Rattle.net_base.specs.ActorStep.{Step, replies, when}
-use Rattle.net_base.specs.Actors.{Actor, IsConv, IsDir, IsMedium, IsPlain, actor_step, has_actor, plain_step, step_as, table_step}
+use Rattle.net_base.specs.Actors.{Actor, IsDesk, IsConv, IsDir, IsMedium, IsPlain, actor_step, has_actor, plain_step, step_as, table_step}
 use Rattle.net_base.specs.Conversation.{Conv, conv_step}
-use Rattle.net_base.specs.Cs.{cs_list}
-use Rattle.net_base.specs.Desk.{clock_reply, cs_reply, desk_reply}
+use Rattle.net_base.specs.Cs.{CsAnswer, Lines, Refused, cs_list}
+use Rattle.net_base.specs.Desk.{Desk, clock_reply, cs_reply, desk_after, desk_replies, desk_reply, desk_step, ls_reply, open_refusal}
 use Rattle.net_base.specs.Directory.{dir_step}
 use Rattle.net_base.specs.Duties.{due_of_core}
 use Rattle.net_base.specs.Medium.{medium_step}
+use Rattle.net_base.specs.Paths.{may_open, walk}
+use Rattle.net_base.specs.Versions.{database_of}
 use Rattle.conversation.specs.Kept.{Seat}
 use Rattle.conversation.specs.Memory.{work_takes}
 use Rattle.conversation.specs.Stands.{StandsFor, StandsForSome, Gives, IsShort, IsReady as IsTalkReady, Says, step_at}
 use Rattle.host_dir.specs.Ready.{is_ready}
 use Rattle.host_dir.proofs.Ready.{ready_is}
 use Rattle.medium.specs.OnMedium.{OnMedium, medium_of}
-use Rattle.net_actors.specs.AtDesk.{AtDesk, IsAtHost, IsAtSome, IsDeskOf, Replies, host_of}
+use Rattle.net_actors.specs.AtDesk.{AtDesk, IsAtHost, IsAtSome, IsDeskOf, Replies, desk_at, host_of, leaves_desk}
 use Rattle.net_actors.specs.Kept.{IsActorOf, IsMediumOf, Keeps, seen, state_of}
 use Rattle.net_actors.specs.Stepping.{IsReady, KindSteps, Steps, kind_ready}
 use Rattle.net_actors.specs.declared.actor.Actor.{Actor as Kept}
 use Rattle.net_actors.specs.declared.kind.Kind.{Kind}
 use Rattle.net_actors.specs.declared.kind.Kind.TheVariants as kind
-use Rattle.net_actors.proofs.Copied.{copied, dir_copies, medium_copies}
+use Rattle.net_actors.proofs.Copied.{copied, desk_copies, dir_copies, medium_copies}
 
 some_map : {A B : Type 0} (f : A → B) (t : Option A) → is_some t ≡ is_some (option_map f t)
 some_map f None = refl
@@ -42,16 +48,67 @@ some_map f (Some x) = refl
 
 -- Desks.
 
-same_desk : (db : List (List (List NdbPair))) (d : AtDesk) (h : HostSpec) (e : Event) (now : ℕ) → IsAtHost d h → desk_reply db h e now ≡ desk_reply db (host_of d) e now
-same_desk db d h (event.Cs q) now at =
-    ap (λ (x : List ℕ). Some (cs_reply (cs_list db x h.nets q))) (sym at.name_is) ∙ ap (λ (x : List Proto). Some (cs_reply (cs_list db d.name x q))) (sym at.nets_are)
-same_desk db d h _ now at = refl
+same_desk : (dbs : List Version) (d : AtDesk) (h : HostSpec) (e : Event) (now : ℕ) → IsAtHost d h → desk_reply dbs h e now (desk_at d) ≡ desk_reply dbs (host_of d) e now (desk_at d)
+same_desk dbs d h (event.Cs q) now at =
+    ap (λ (x : List ℕ). Some (cs_reply (cs_list (database_of dbs d.version) x h.nets q))) (sym at.name_is)
+    ∙ ap (λ (x : List Proto). Some (cs_reply (cs_list (database_of dbs d.version) d.name x q))) (sym at.nets_are)
+same_desk dbs d h _ now at = refl
 
-at_host : (w : World) (d : AtDesk) (h : Option HostSpec) (e : Event) (now : ℕ) → d.db ≡ w.db → IsAtSome d h
-    → option_and_then (λ (host : HostSpec). option_map plain_step (desk_reply w.db host e now)) h ≡ option_map plain_step (desk_reply d.db (host_of d) e now)
+at_host : (w : World) (d : AtDesk) (h : Option HostSpec) (e : Event) (now : ℕ) → d.dbs ≡ w.dbs → IsAtSome d h
+    → option_and_then (λ (host : HostSpec). step_as IsDesk (desk_step w.dbs host e now (desk_at d))) h ≡ step_as IsDesk (desk_step d.dbs (host_of d) e now (desk_at d))
 at_host w d None e now is at = absurd at
 at_host w d (Some h) e now is at =
-    ap (option_map plain_step) (same_desk w.db d h e now at) ∙ ap (λ (db : List (List (List NdbPair))). option_map plain_step (desk_reply db (host_of d) e now)) (sym is)
+    ap (λ (r : Option Reply). step_as IsDesk (option_map (desk_replies (desk_at d)) r)) (same_desk w.dbs d h e now at)
+    ∙ ap (λ (dbs : List Version). step_as IsDesk (desk_step dbs (host_of d) e now (desk_at d))) (sym is)
+
+-- with another version it is of the same host
+at_version : (d : AtDesk) (n : ℕ) (h : Option HostSpec) → IsAtSome d h → IsAtSome (record d { version = n }) h
+at_version d n None at = at
+at_version d n (Some h) at = record { name_is = at.name_is; nets_are = at.nets_are }
+
+desk_keeps : (w : World) (h : ℕ) (d : AtDesk) (n : ℕ) → IsDeskOf w h d → IsDeskOf w h (record d { version = n })
+desk_keeps w h d n keeps = record { databases = keeps.databases; host = at_version d n (slice_get w.hosts h) keeps.host }
+
+-- Only a version that is replied changes a desk.
+
+cs_stays : (answer : CsAnswer) (d : Desk) → desk_after (cs_reply answer) d ≡ d
+cs_stays (Lines lines) d = refl
+cs_stays (Refused n) d = refl
+
+ls_stays : (path : List ℕ) (d : Desk) → desk_after (ls_reply path) d ≡ d
+ls_stays path d = cond_both (bytes_eq path (codes "/net")) _ _ (λ (r : Reply). desk_after r d ≡ d) (λ _. refl) (λ _. refl)
+
+-- where there is a reply, it leaves the desk
+abbrev Stays : Desk → Option Reply → Type 0
+Stays d o = IfSome o (λ r. desk_after r d ≡ d)
+
+open_stays : (n : Option Node) (mode : Mode) (d : Desk) → Stays d (open_refusal n mode)
+open_stays None mode d = refl
+open_stays (Some n) mode d = cond_both (may_open n mode) _ _ (λ (o : Option Reply). Stays d o) (λ _. tt) (λ _. refl)
+
+reply_stays : (dbs : List Version) (h : HostSpec) (e : Event) (now : ℕ) (d : Desk) → leaves_desk e ≡ true → Stays d (desk_reply dbs h e now d)
+reply_stays dbs h (event.Cs query) now d leaves = cs_stays (cs_list (database_of dbs d.version) h.name h.nets query) d
+reply_stays dbs h (event.LsPath path) now d leaves = ls_stays path d
+reply_stays dbs h (event.OpenPath path mode) now d leaves = open_stays (walk path) mode d
+reply_stays dbs h (event.Use called) now d leaves = refl
+reply_stays dbs h (event.Misuse called) now d leaves = refl
+reply_stays dbs h (event.Until moment) now d leaves = cond_both (nat_le moment now) _ _ (λ (o : Option Reply). Stays d o) (λ _. refl) (λ _. tt)
+reply_stays dbs h event.Refresh now d leaves = absurd (false≢true leaves)
+reply_stays dbs h _ now d leaves = tt
+
+desk_gives : (d : Desk) (answer : Option Reply) (o : Outcome) → Stays d answer → Replies answer o → option_map (desk_replies d) answer ≡ Some (record { state = d; outcome = o })
+desk_gives d None o stays is = absurd (none-some _ is)
+desk_gives d (Some r) o stays is =
+    ap (λ (x : Desk). Some (record { state = x; outcome = replies r None })) stays
+    ∙ ap (λ (x : Outcome). Some (record { state = d; outcome = x })) (same_Some (replies r None) o is)
+
+-- what a desk tells is its step, where the event leaves it
+pub told_steps : {E : Type 0} (r : Result Outcome E) (dbs : List Version) (h : HostSpec) (e : Event) (now : ℕ) (d : Desk) → leaves_desk e ≡ true
+    → IfOk r (Replies (desk_reply dbs h e now d)) → IfOk r (λ (o : Outcome). desk_step dbs h e now d ≡ Some (record { state = d; outcome = o }))
+told_steps (Ok o) dbs h e now d leaves is = desk_gives d (desk_reply dbs h e now d) o (reply_stays dbs h e now d leaves) is
+told_steps (Err why) dbs h e now d leaves is = tt
+
+-- The clock.
 
 plain_gives : (answer : Option Reply) (o : Outcome) → Replies answer o → option_map plain_step answer ≡ Some (record { state = IsPlain; outcome = o })
 plain_gives None o is = absurd (none-some _ is)
@@ -119,8 +176,9 @@ in_world w a s now work has = ap (λ (b : Bool). when b (table_step w a s now wo
 -- what is kept tells whether the table answers
 table_ready : (w : World) (a : ActorName) (k : Kind) (now : ℕ) (work : Work) → Keeps w a k → kind_ready k now work ≡ is_some (table_step w a (seen k) now work)
 table_ready w (name.Desk h) (kind.Desk d) now work keeps =
-    some_map plain_step (desk_reply d.db (host_of d) work.event now)
-    ∙ ap (λ (t : Option (Step Actor)). is_some t) (sym (at_host w d (slice_get w.hosts h) work.event now keeps.database keeps.host))
+    some_map (desk_replies (desk_at d)) (desk_reply d.dbs (host_of d) work.event now (desk_at d))
+    ∙ (some_map _ (desk_step d.dbs (host_of d) work.event now (desk_at d))
+    ∙ ap (λ (t : Option (Step Actor)). is_some t) (sym (at_host w d (slice_get w.hosts h) work.event now keeps.databases keeps.host)))
 table_ready w (name.Dir h p) (kind.Dir d) now work keeps =
     ap (λ (q : Proto). is_ready q work.event work.with d.dir) keeps.proto_is
     ∙ (ready_is w h p work.event work.with d.dir ∙ some_map _ (dir_step w h p work.event work.with d.dir))
@@ -147,8 +205,8 @@ ready_of a now work r = told_of a now work r.0 r.1 ∙ r.2
 table_steps : (w : World) (a : ActorName) (k l : Kind) (now : ℕ) (work : Work) (o : Outcome) → Keeps w a k → KindSteps k l now work o
     → Keeps w a l × (table_step w a (seen k) now work ≡ Some (record { state = seen l; outcome = o }))
 table_steps w (name.Desk h) (kind.Desk d) (kind.Desk e) now work o keeps s = (
-  subst (IsDeskOf w h) (sym s.same) keeps,
-  at_host w d (slice_get w.hosts h) work.event now keeps.database keeps.host ∙ plain_gives (desk_reply d.db (host_of d) work.event now) o s.answers,
+  subst (IsDeskOf w h) (sym s.same) (desk_keeps w h d e.version keeps),
+  at_host w d (slice_get w.hosts h) work.event now keeps.databases keeps.host ∙ ap (step_as IsDesk) s.step,
 )
 table_steps w (name.Dir h p) (kind.Dir d) (kind.Dir e) now work o keeps s = let t = s w h p keeps in (t.0, ap (step_as IsDir) t.1)
 table_steps w (name.Conv h p n) (kind.Conv c) (kind.Conv d) now work o keeps s = (
@@ -176,7 +234,8 @@ steps_in a l now work o s w of =
 
 -- an outcome of what is kept has its reply twice
 kind_copies : (w : World) (a : ActorName) (k l : Kind) (now : ℕ) (work : Work) (o : Outcome) → Keeps w a k → KindSteps k l now work o → o.copy ≡ Some o.reply
-kind_copies w (name.Desk h) (kind.Desk d) (kind.Desk e) now work o keeps s = plain_copies (desk_reply d.db (host_of d) work.event now) o s.answers
+kind_copies w (name.Desk h) (kind.Desk d) (kind.Desk e) now work o keeps s =
+    copied (desk_step d.dbs (host_of d) work.event now (desk_at d)) (desk_at e) o s.step (desk_copies (desk_at d) (desk_reply d.dbs (host_of d) work.event now (desk_at d)))
 kind_copies w (name.Dir h p) (kind.Dir d) (kind.Dir e) now work o keeps s =
     copied (dir_step w h p work.event work.with d.dir) e.dir o (s w h p keeps).1 (dir_copies w h p work.event work.with d.dir)
 kind_copies w (name.Conv h p n) (kind.Conv c) (kind.Conv d) now work o keeps s = s.copy

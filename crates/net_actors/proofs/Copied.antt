@@ -1,5 +1,6 @@
--- The steps of directories and media give their reply twice.
+-- The steps of desks, directories and media give their reply twice.
 use Rattle.std.proofs.Common.{◌≡◌, ℕ, ◌==◌, Bool, true, false, List, [], ◌∷◌, Option, Some, None, slice_get, nat_lt, if◌then◌else◌, refl, subst}
+use Rattle.std.specs.Option.{option_map}
 use Rattle.net_base.specs.declared.actor.Call.{Call}
 use Rattle.net_base.specs.declared.address.Addr.{Addr}
 use Rattle.net_base.specs.declared.address.Pair.{Pair}
@@ -15,9 +16,11 @@ use Rattle.net_base.specs.declared.il.StateName.TheVariants as name
 use Rattle.net_base.specs.declared.packet.Body.{Body}
 use Rattle.net_base.specs.declared.packet.Body.TheVariants as body
 use Rattle.net_base.specs.declared.packet.Packet.{Packet}
+use Rattle.net_base.specs.declared.reply.Reply.{Reply}
 use Rattle.net_base.specs.declared.world.MediumSpec.{MediumSpec}
 use Rattle.net_base.specs.declared.world.World.{World}
 use Rattle.net_base.specs.ActorStep.{Step, when}
+use Rattle.net_base.specs.Desk.{Desk, desk_replies}
 use Rattle.net_base.specs.Directory as dir
 use Rattle.net_base.specs.Directory.{Dir, Home, Slot, Taker}
 use Rattle.net_base.specs.Medium.{Medium, datagram_length, medium_step, puts, takes}
@@ -123,6 +126,10 @@ pub medium_copies : (spec : MediumSpec) (seed : ℕ) (e : Event) (g : With) (m :
 medium_copies spec seed (event.Put to) (given.Packet p) m = putting spec seed to p m
 medium_copies spec seed event.Take g m = taking m.queue m.held m
 medium_copies spec seed _ _ m = tt
+
+pub desk_copies : (d : Desk) (answer : Option Reply) → CopiesSome (option_map (desk_replies d) answer)
+desk_copies d None = tt
+desk_copies d (Some r) = refl
 
 -- so does a step that is this one
 pub copied : {S : Type 0} (t : Option (Step S)) (s : S) (o : Outcome) → t ≡ Some (record { state = s; outcome = o }) → CopiesSome t → o.copy ≡ Some o.reply

@@ -3,6 +3,7 @@ use Rattle.std.proofs.Common.{◌≡◌, ℕ, zero, suc, ◌+◌, ◌<◌, ◌�
 use Rattle.std.specs.Prelude.{slice_get, ◌&&◌, ◌||◌}
 use Rattle.std.specs.Option.{option_map, option_and_then}
 use Rattle.std.proofs.lemmas.Option.{none-some}
+use Rattle.net_base.specs.declared.timer.Timers.{Timers}
 use Rattle.net_base.specs.declared.actor.ActorName.{ActorName}
 use Rattle.net_base.specs.declared.actor.ActorName.TheVariants as name
 use Rattle.net_base.specs.declared.address.Pair.{Pair}
@@ -29,11 +30,11 @@ use Rattle.net_base.specs.declared.world.HostSpec.{HostSpec}
 use Rattle.net_base.specs.declared.world.MediumSpec.{MediumSpec}
 use Rattle.net_base.specs.declared.world.World.{World}
 use Rattle.net_base.specs.ActorStep.{Step, when}
-use Rattle.net_base.specs.Actors.{Actor, IsDir, IsConv, IsMedium, IsPlain, actor_step, has_actor, opening_actor, plain_step, step_as, table_step}
+use Rattle.net_base.specs.Actors.{Actor, IsDesk, IsDir, IsConv, IsMedium, IsPlain, actor_step, has_actor, opening_actor, plain_step, step_as, table_step}
 use Rattle.net_base.specs.ControlWords as control
 use Rattle.net_base.specs.Conversation as conv
 use Rattle.net_base.specs.Conversation.{Conv, Core, Il, Udp, Stage, Unused, Listening, Connected}
-use Rattle.net_base.specs.Desk.{clock_reply, desk_reply}
+use Rattle.net_base.specs.Desk.{Desk, clock_reply, desk_step}
 use Rattle.net_base.specs.Directory.{Dir, dir_step}
 use Rattle.net_base.specs.IlEnd as end
 use Rattle.net_base.specs.IlEnd.{Early, End, Turn}
@@ -412,10 +413,14 @@ as_plain : (n : ℕ) (r : Option Reply) → Raises n (option_map plain_step r)
 as_plain n None = tt
 as_plain n (Some r) = nothing n
 
-at_desk : (w : World) (now : ℕ) (work : Work) (h : Option HostSpec)
-    → Raises 0 (option_and_then (λ (host : HostSpec). option_map plain_step (desk_reply w.db host work.event now)) h)
-at_desk w now work None = tt
-at_desk w now work (Some h) = as_plain 0 (desk_reply w.db h work.event now)
+as_desk : (n : ℕ) (t : Option (Step Desk)) → Raises n (step_as IsDesk t)
+as_desk n None = tt
+as_desk n (Some t) = nothing n
+
+at_desk : (w : World) (now : ℕ) (work : Work) (d : Desk) (h : Option HostSpec)
+    → Raises 0 (option_and_then (λ (host : HostSpec). step_as IsDesk (desk_step w.dbs host work.event now d)) h)
+at_desk w now work d None = tt
+at_desk w now work d (Some h) = as_desk 0 (desk_step w.dbs h work.event now d)
 
 at_medium : (w : World) (work : Work) (m : Medium) (spec : Option MediumSpec)
     → Raises m.frames (option_and_then (λ (spec : MediumSpec). step_as IsMedium (medium_step spec w.seed work.event work.with m)) spec)
@@ -423,7 +428,7 @@ at_medium w work m None = tt
 at_medium w work m (Some spec) = as_medium m.frames (medium_step spec w.seed work.event work.with m) (medium_lays spec w.seed work.event work.with m)
 
 table_raises : (w : World) (a : ActorName) (s : Actor) (now : ℕ) (work : Work) → Raises (size_of s) (table_step w a s now work)
-table_raises w (name.Desk h) IsPlain now work = at_desk w now work (slice_get w.hosts h)
+table_raises w (name.Desk h) (IsDesk d) now work = at_desk w now work d (slice_get w.hosts h)
 table_raises w (name.Dir h p) (IsDir d) now work = as_dir 0 (dir_step w h p work.event work.with d)
 table_raises w (name.Conv h p n) (IsConv c) now work = as_conv (core_size c.core) (conv.conv_step n work.event work.with now c) (conv_grows n work.event work.with now c)
 table_raises w (name.Medium m) (IsMedium s) now work = at_medium w work s (slice_get w.media m)
@@ -444,13 +449,13 @@ all_raise w a s (p ∷ ps) =
     let rest = all_raise w a (play w a s p) ps in
     omega (arith, one, rest)
 
-opens_empty : (a : ActorName) → size_of (opening_actor a) ≡ 0
-opens_empty (name.Desk h) = refl
-opens_empty (name.Dir h p) = refl
-opens_empty (name.Conv h proto.Il n) = refl
-opens_empty (name.Conv h proto.Udp n) = refl
-opens_empty (name.Medium m) = refl
-opens_empty name.Clock = refl
+opens_empty : (timers : Timers) (a : ActorName) → size_of (opening_actor timers a) ≡ 0
+opens_empty timers (name.Desk h) = refl
+opens_empty timers (name.Dir h p) = refl
+opens_empty timers (name.Conv h proto.Il n) = refl
+opens_empty timers (name.Conv h proto.Udp n) = refl
+opens_empty timers (name.Medium m) = refl
+opens_empty timers name.Clock = refl
 
 small_conv : (c : Conv) (k : Core) → c.core ≡ k → core_size k < 2 ^ 30 → IsSmall (IsConv c)
 small_conv c (Il e) is few = subst (λ (k : Core). IsSmall (IsConv (record c { core = k }))) (sym is) (record { few_sent = omega (arith, few); few_got = omega (arith, few) })
@@ -460,11 +465,12 @@ small_is : (s : Actor) → size_of s < 2 ^ 30 → IsSmall s
 small_is (IsConv c) few = small_conv c c.core refl few
 small_is (IsMedium m) few = omega (arith, few)
 small_is (IsDir d) few = tt
+small_is (IsDesk d) few = tt
 small_is IsPlain few = tt
 
 -- what few works led to is small
-pub few_works : (w : World) (a : ActorName) (ps : List Play) → length ps < 2 ^ 30 → IsSmall (played w a (opening_actor a) ps)
+pub few_works : (w : World) (a : ActorName) (ps : List Play) → length ps < 2 ^ 30 → IsSmall (played w a (opening_actor w.timers a) ps)
 few_works w a ps few =
-    let raised = all_raise w a (opening_actor a) ps in
-    let empty = opens_empty a in
-    small_is (played w a (opening_actor a) ps) (omega (arith, raised, empty, few))
+    let raised = all_raise w a (opening_actor w.timers a) ps in
+    let empty = opens_empty w.timers a in
+    small_is (played w a (opening_actor w.timers a) ps) (omega (arith, raised, empty, few))

@@ -2,6 +2,7 @@ pub mod ByKind
 pub mod Copied
 pub mod DuesOf
 pub mod FewWorks
+pub mod InForce
 pub mod Numbering
 pub mod Placed
 pub mod Said

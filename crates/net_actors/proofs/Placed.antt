@@ -194,13 +194,13 @@ get_push (z ∷ xs) y x (suc k) is = elim (get_push xs y x k is) [ inl there ↦
 pub none_first : (w : World) → AreFirst w 0 []
 none_first w = record { count = refl; place = λ k x is. absurd (none-some x is) }
 
-pub one_more : (w : World) (n : ℕ) (xs : List Kept) (y : Kept) → AreFirst w n xs → IsActorOf w y → has_actor w y.name ≡ true → number_in w y.name ≡ n → state_of y ≡ opening_actor y.name
+pub one_more : (w : World) (n : ℕ) (xs : List Kept) (y : Kept) → AreFirst w n xs → IsActorOf w y → has_actor w y.name ≡ true → number_in w y.name ≡ n → state_of y ≡ opening_actor w.timers y.name
     → AreFirst w (n + 1) (xs ++ y ∷ [])
 one_more w n xs y all of has number opening = record {
   count = let more = length-append xs (y ∷ []) in let so_far = all.count in omega (arith, more, so_far);
   place = λ k x is. elim (get_push xs y x k is) [
     | inl there ↦ all.place k x there
-    | inr here ↦ subst (λ (z : Kept). IsActorOf w z × (has_actor w z.name ≡ true) × (number_in w z.name ≡ k) × (state_of z ≡ opening_actor z.name)) here.1
+    | inr here ↦ subst (λ (z : Kept). IsActorOf w z × (has_actor w z.name ≡ true) × (number_in w z.name ≡ k) × (state_of z ≡ opening_actor w.timers z.name)) here.1
         (of, has, number ∙ (sym all.count ∙ sym here.0), opening)
   ];
 }
@@ -215,10 +215,10 @@ number_at w hosts media a n hosts_are media_are is =
     ap (λ (h : ℕ). number_of h (length w.media) a) (sym hosts_are) ∙ (ap (λ (m : ℕ). number_of hosts m a) (sym media_are) ∙ is)
 
 pub all_first : (w : World) (hosts media : ℕ) (xs : List Kept) → hosts ≡ length w.hosts → media ≡ length w.media → AreFirst w (count_in w) xs
-    → AreActors w (record { hosts = hosts; media = media; actors = xs }) opening_actor
+    → AreActors w (record { hosts = hosts; media = media; actors = xs }) (opening_actor w.timers)
 all_first w hosts media xs hosts_are media_are all = record { hosts_are = hosts_are; media_are = media_are; each = each }
   where
-    each : (a : ActorName) → has_actor w a ≡ true → IsAt w a (opening_actor a) (slice_get xs (number_in w a))
+    each : (a : ActorName) → has_actor w a ≡ true → IsAt w a (opening_actor w.timers a) (slice_get xs (number_in w a))
     each a has =
         let lt = below_in w a has in
         let count = all.count in
@@ -226,7 +226,7 @@ all_first w hosts media xs hosts_are media_are all = record { hosts_are = hosts_
         let x = some.0 in
         let at = all.place (number_in w a) x some.1 in
         let same = same_in w x.name a at.1 has at.2 in
-        subst (IsAt w a (opening_actor a)) (sym some.1) (at.0, same, at.3 ∙ ap opening_actor same)
+        subst (IsAt w a (opening_actor w.timers a)) (sym some.1) (at.0, same, at.3 ∙ ap (opening_actor w.timers) same)
 
 pub map_ok : {T E : Type 0} (r : Result T E) (P Q : T → Type 0) (R : E → Type 0) → ((x : T) → P x → Q x) → MatchResult r P R → IfOk r Q
 map_ok (Ok x) P Q R give is = give x is

@@ -5,12 +5,14 @@ use Rattle.std.proofs.lemmas.Bool.{and_parts, eqb-true, ltb-true, true≢false, 
 use Rattle.std.proofs.lemmas.Option.{slice_get_read}
 use Rattle.net_base.specs.declared.address.Proto.{Proto}
 use Rattle.net_base.specs.declared.address.Proto.TheVariants as proto
-use Rattle.net_base.specs.declared.ndb.NdbPair.{NdbPair}
 use Rattle.net_base.specs.declared.world.HostSpec.{HostSpec}
 use Rattle.net_base.specs.declared.world.MediumSpec.{MediumSpec}
+use Rattle.net_base.specs.declared.world.Version.{Version}
 use Rattle.net_base.specs.declared.world.World.{World}
+use Rattle.net_base.specs.Desk.{opening_desk}
+use Rattle.net_base.specs.Versions.{are_timed}
 use Rattle.net_base.specs.World.{IsWorld, are_media, is_host, is_medium, is_name, is_nets}
-use Rattle.net_actors.specs.AtDesk.{AreNets, AtDesk, IsAtSome, IsDeskOf}
+use Rattle.net_actors.specs.AtDesk.{AreNets, AtDesk, IsAtSome, IsDeskOf, desk_at}
 
 all_at : {A : Type 0} (p : A → Bool) (xs : List A) (i : ℕ) (d : A) → list_all p xs ≡ true → i < length xs → p (get_or xs i d) ≡ true
 all_at p [] i d all lt = absurd (omega (arith, lt))
@@ -59,12 +61,24 @@ host_nets w xs h s world has same at =
 read_at : {A : Type 0} (xs ys : List A) (i : ℕ) (s : A) → nat_lt i (length ys) ≡ true → xs ≡ ys → s ≡ get_or xs i s → slice_get ys i ≡ Some s
 read_at xs ys i s has same at = slice_get_read ys (length ys) i s refl (ltb-true i (length ys) has) (at ∙ ap (λ (zs : List _). get_or zs i s) same)
 
-pub desk_is : (w : World) (xs : List HostSpec) (h : ℕ) (s : HostSpec) (db : List (List (List NdbPair))) (d : AtDesk) → nat_lt h (length w.hosts) ≡ true → xs ≡ w.hosts → s ≡ get_or xs h s → db ≡ w.db
-    → d ≡ record { db = db; name = s.name; nets = s.nets } → IsDeskOf w h d
-desk_is w xs h s db d has same at is made = record {
-  database = ap (λ (e : AtDesk). e.db) made ∙ is;
+-- a world has a first version
+timed_some : (dbs : List Version) → are_timed dbs ≡ true → 0 < length dbs
+timed_some [] timed = absurd (false≢true timed)
+timed_some (v ∷ vs) timed = omega arith
+
+pub some_versions : (w : World) (dbs : List Version) → IsWorld w → dbs ≡ w.dbs → 0 < length dbs
+some_versions w dbs world is = subst (λ (vs : List Version). 0 < length vs) (sym is) (timed_some w.dbs world.versions_timed)
+
+pub desk_is : (w : World) (xs : List HostSpec) (h : ℕ) (s : HostSpec) (dbs : List Version) (d : AtDesk) → nat_lt h (length w.hosts) ≡ true → xs ≡ w.hosts → s ≡ get_or xs h s → dbs ≡ w.dbs
+    → d ≡ record { dbs = dbs; name = s.name; nets = s.nets; version = 0 } → IsDeskOf w h d
+desk_is w xs h s dbs d has same at is made = record {
+  databases = ap (λ (e : AtDesk). e.dbs) made ∙ is;
   host = subst (IsAtSome d) (sym (read_at xs w.hosts h s has same at)) (record { name_is = ap (λ (e : AtDesk). e.name) made; nets_are = ap (λ (e : AtDesk). e.nets) made });
 }
+
+-- the desk that was never asked to read again
+pub desk_opens : (dbs : List Version) (s : HostSpec) (d : AtDesk) → d ≡ record { dbs = dbs; name = s.name; nets = s.nets; version = 0 } → desk_at d ≡ opening_desk
+desk_opens dbs s d made = ap desk_at made
 
 -- Media.
 

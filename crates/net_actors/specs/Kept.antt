@@ -3,18 +3,18 @@ use Rattle.std.specs.Prelude.{◌≡◌, ℕ, true, Some, slice_get}
 use Rattle.net_base.specs.declared.actor.ActorName.{ActorName}
 use Rattle.net_base.specs.declared.actor.ActorName.TheVariants as name
 use Rattle.net_base.specs.declared.world.World.{World}
-use Rattle.net_base.specs.Actors.{Actor, IsDir, IsConv, IsMedium, IsPlain, has_actor}
+use Rattle.net_base.specs.Actors.{Actor, IsDesk, IsDir, IsConv, IsMedium, IsPlain, has_actor}
 use Rattle.conversation.specs.Stands.{slot_of}
 use Rattle.host_dir.specs.Kept.{IsDirOf}
 use Rattle.medium.specs.OnMedium.{OnMedium, medium_of}
-use Rattle.net_actors.specs.AtDesk.{IsDeskOf}
+use Rattle.net_actors.specs.AtDesk.{IsDeskOf, desk_at}
 use Rattle.net_actors.specs.declared.actor.Actor.{Actor as Kept}
 use Rattle.net_actors.specs.declared.kind.Kind.{Kind}
 use Rattle.net_actors.specs.declared.kind.Kind.TheVariants as kind
 
 -- the actor of the definitions
 abbrev pub seen : Kind → Actor
-seen (kind.Desk d) = IsPlain
+seen (kind.Desk d) = IsDesk (desk_at d)
 seen (kind.Dir d) = IsDir d.dir
 seen (kind.Conv c) = IsConv c.conv
 seen (kind.Medium m) = IsMedium (medium_of m)

@@ -8,4 +8,5 @@ pub use Rattle.net_base.specs.Actors
 pub use Rattle.net_base.specs.Desk
 pub use Rattle.net_base.specs.Duties
 pub use Rattle.net_base.specs.Net
+pub use Rattle.net_base.specs.Versions
 pub use Rattle.duties.specs.Ticking

@@ -8,7 +8,7 @@ use Rattle.net_base.specs.declared.history.With.TheVariants as given
 use Rattle.net_base.specs.declared.history.Work.{Work}
 use Rattle.net_base.specs.declared.world.World.{World}
 use Rattle.net_base.specs.Actors.{actor_step}
-use Rattle.net_base.specs.Desk.{clock_reply, desk_reply}
+use Rattle.net_base.specs.Desk.{clock_reply, desk_reply, desk_step}
 use Rattle.net_base.specs.Directory.{dir_step}
 use Rattle.net_base.specs.Medium.{datagram_length, medium_step, takes}
 use Rattle.conversation.specs.Kept.{Seat}
@@ -18,7 +18,7 @@ use Rattle.host_dir.specs.Kept.{Steps as DirSteps, Wants as DirWants}
 use Rattle.host_dir.specs.Ready.{is_ready}
 use Rattle.medium.specs.OnMedium.{OnMedium, medium_of}
 use Rattle.medium.specs.Replies.{NextHasText}
-use Rattle.net_actors.specs.AtDesk.{AtDesk, Replies, host_of}
+use Rattle.net_actors.specs.AtDesk.{AtDesk, Replies, desk_at, host_of}
 use Rattle.net_actors.specs.Kept.{IsActorOf, state_of}
 use Rattle.net_actors.specs.declared.actor.Actor.{Actor as Kept}
 use Rattle.net_actors.specs.declared.kind.Kind.{Kind}
@@ -45,16 +45,16 @@ medium_ready m work = is_some (medium_step m.spec m.seed work.event work.with (m
 
 -- its table answers the work
 abbrev pub kind_ready : Kind → ℕ → Work → Bool
-kind_ready (kind.Desk d) now work = is_some (desk_reply d.db (host_of d) work.event now)
+kind_ready (kind.Desk d) now work = is_some (desk_reply d.dbs (host_of d) work.event now (desk_at d))
 kind_ready (kind.Dir d) now work = is_ready d.proto work.event work.with d.dir
 kind_ready (kind.Conv c) now work = is_some (step_at c now work c.conv)
 kind_ready (kind.Medium m) now work = medium_ready m work
 kind_ready kind.Clock now work = is_some (clock_reply work.event)
 
--- the desk stays as it is
+-- what the world says of the desk stays
 pub record DeskSteps (old new : AtDesk) (now : ℕ) (work : Work) (o : Outcome) : Type 0 where
-  pub same : new ≡ old
-  pub answers : Replies (desk_reply old.db (host_of old) work.event now) o
+  pub same : new ≡ record old { version = new.version }
+  pub step : desk_step old.dbs (host_of old) work.event now (desk_at old) ≡ Some (record { state = desk_at new; outcome = o })
 
 -- a conversation steps in its slot
 pub record ConvSteps (old new : Seat) (now : ℕ) (work : Work) (o : Outcome) : Type 0 where

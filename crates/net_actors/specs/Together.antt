@@ -54,7 +54,7 @@ due_in_slot v h p n = option_to_list (due_at (state_in v) (name.Conv h p n))
 -- these are the first n actors of the world, to which nothing has happened
 pub record AreFirst (w : World) (n : ℕ) (actors : List Kept) : Type 0 where
   pub count : length actors ≡ n
-  pub place : (k : ℕ) (x : Kept) → slice_get actors k ≡ Some x → IsActorOf w x × (has_actor w x.name ≡ true) × (number_in w x.name ≡ k) × (state_of x ≡ opening_actor x.name)
+  pub place : (k : ℕ) (x : Kept) → slice_get actors k ≡ Some x → IsActorOf w x × (has_actor w x.name ≡ true) × (number_in w x.name ≡ k) × (state_of x ≡ opening_actor w.timers x.name)
 
 -- they are the actors of some world, and the table of this one there answers the work
 pub record CanStep (v : Numbered) (a : ActorName) (now : ℕ) (work : Work) : Type 0 where

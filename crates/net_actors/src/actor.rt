@@ -10,7 +10,7 @@ ghost use Rattle.net_actors.specs.Small.{IsSmall};
 ghost use Rattle.net_actors.specs.Stepping.{IsReady, ActorMayWant, Steps};
 
 use crate::kind::Kind;
-use ndb_index::Index;
+use crate::versions::IndexedVersions;
 use net_base::{ActorName, Outcome, Work, World};
 use std::alloc::{AllocError, Global};
 use std::sync::Arc;
@@ -31,17 +31,17 @@ impl Actor {
     pub fn new(
         alloc: Global,
         world: &World,
-        db: &Arc<Index, Global>,
+        dbs: &Arc<IndexedVersions, Global>,
         name: ActorName,
     ) -> Result<Actor, AllocError>
         requires world { IsWorld world.now }
         requires has { has_actor world.now name ≡ true }
-        requires db { arc_value db.now ≡ world.now.db }
+        requires dbs { arc_value dbs.now ≡ world.now.dbs }
         ensures of { IfOk result (IsActorOf world.now) }
         ensures name { IfOk result (λ a. a.name ≡ name) }
-        ensures opening { IfOk result (λ a. state_of a ≡ opening_actor name) }
+        ensures opening { IfOk result (λ a. state_of a ≡ opening_actor world.now.timers name) }
     {
-        let kind = Kind::new(alloc, world, db, name)?;
+        let kind = Kind::new(alloc, world, dbs, name)?;
         Ok(Actor { name, kind })
     }
 

@@ -13,9 +13,9 @@ ghost use Rattle.net_actors.specs.Together.{AreActors, AreFirst, CanStep, MayWan
 
 use crate::actor::Actor;
 use crate::number::{actor_at, actor_count, is_among, number_of};
+use crate::versions::IndexedVersions;
 use duties::Due;
-use ndb_index::Index;
-use net_base::{ActorName, Db, Outcome, Proto, Work, World};
+use net_base::{ActorName, Outcome, Proto, Work, World};
 use std::alloc::{AllocError, Global};
 use std::marker::Model;
 use std::sync::Arc;
@@ -51,8 +51,8 @@ impl Actors {
     {
         let hosts = world.hosts.len() as u32;
         let media = world.media.len() as u32;
-        let db = Arc::new(alloc, index_of(alloc, &world.db)?)?;
-        let actors = all_actors(alloc, world, &db, hosts, media)?;
+        let dbs = Arc::new(alloc, IndexedVersions::new(alloc, world.dbs.as_slice())?)?;
+        let actors = all_actors(alloc, world, &dbs, hosts, media)?;
         Ok(Actors {
             hosts,
             media,
@@ -167,36 +167,23 @@ impl Actors {
     }
 }
 
-fn copy_of(db: &Db) -> Result<Db, AllocError>
-    ensures { IfOk result (λ copy. copy ≡ db.now) }
-{
-    db.clone()
-}
-
-/// The index of a copy of the database.
-fn index_of(alloc: Global, db: &Db) -> Result<Index, AllocError>
-    ensures { IfOk result (λ index. index ≡ db.now) }
-{
-    Index::new(alloc, copy_of(db)?)
-}
-
 /// All actors of a world in the order of their numbers.
 fn all_actors(
     alloc: Global,
     world: &World,
-    db: &Arc<Index, Global>,
+    dbs: &Arc<IndexedVersions, Global>,
     hosts: u32,
     media: u32,
 ) -> Result<Vec<Actor>, AllocError>
     requires world { IsWorld world.now }
-    requires db { arc_value db.now ≡ world.now.db }
+    requires dbs { arc_value dbs.now ≡ world.now.dbs }
     requires hosts { hosts ≡ length world.now.hosts }
     requires media { media ≡ length world.now.media }
     ensures { IfOk result (λ actors. AreFirst world.now (count_in world.now) actors.items) }
 {
     let mut actors = Vec::new(alloc);
     for number in 0..actor_count(hosts, media) {
-        let actor = Actor::new(alloc, world, db, actor_at(hosts, media, number))?;
+        let actor = Actor::new(alloc, world, dbs, actor_at(hosts, media, number))?;
         actors.push(actor)?;
     }
     Ok(actors)

@@ -1,64 +1,73 @@
 //! The desk of a host.
-ghost use Rattle.std.specs.Prelude.{◌≡◌, IfOk, IsTrue, OnErr, bytes_eq, codes, is_some, Some, true};
+ghost use Rattle.std.specs.Prelude.{◌≡◌, ◌<◌, length, IfOk, IsTrue, OnErr, bytes_eq, codes, is_some, Some, true};
 ghost use Rattle.std.specs.Arc.{arc_value};
 ghost use Rattle.net_base.specs.declared.reply.Reply.TheVariants as reply;
 ghost use Rattle.net_base.specs.Cs.{cs_list};
 ghost use Rattle.net_base.specs.Desk as spec;
 ghost use Rattle.net_base.specs.Paths.{walk as node_at};
 ghost use Rattle.net_base.specs.World.{is_nets};
-ghost use Rattle.net_actors.specs.AtDesk.{Replies, host_of};
+ghost use Rattle.net_base.specs.Versions.{database_of, in_force};
+ghost use Rattle.net_actors.specs.AtDesk.{Replies, desk_at, host_of, leaves_desk};
 ghost use Rattle.net_actors.specs.Stepping.{desk_takes};
 
 use crate::outcome::answered;
+use crate::versions::IndexedVersions;
 use cs_resolver::{CsError, answer_indexed};
-use ndb_index::Index;
 use net_base::{Event, HostSpec, Lines, Mode, Nets, Node, Octets, Outcome, Reply};
 use net_tree::{may_open, names, walk};
 use std::alloc::{AllocError, Global};
 use std::marker::Model;
 use std::sync::Arc;
 
-/// The desk of a host, which keeps nothing but what the world says. The database stands once for all desks, with its
-/// index.
+/// The desk of a host, which keeps the number of the version that cs searches, and else what the world says. The
+/// versions of the database stand once for all desks, each with its index.
 ///
-/// Clauses see the database, and the name and the nets of the host.
+/// Clauses see the versions, the name and the nets of the host, and the number.
 #[derive(Drop)]
 pub struct Desk {
     alloc: Global,
-    db: Arc<Index, Global>,
+    dbs: Arc<IndexedVersions, Global>,
     name: Octets,
     nets: Nets,
+    version: u64,
 }
 
 impl Model for Desk {
+    ghost use Rattle.std.specs.Prelude.{◌<◌, length};
     ghost use Rattle.std.specs.Arc.{arc_value};
     ghost use Rattle.net_actors.specs.AtDesk.{AreNets, AtDesk};
 
     ghost Value = { AtDesk };
 
-    ghost view = { λ d. record { db = arc_value d.db; name = d.name; nets = d.nets } };
+    ghost view = { λ d. record { dbs = arc_value d.dbs; name = d.name; nets = d.nets; version = d.version } };
 
-    ghost invariant = { λ d. AreNets d.nets };
+    ghost invariant = { λ d. AreNets d.nets × (d.version < length (arc_value d.dbs)) };
 }
 
 impl Desk {
-    /// The desk of a host.
+    /// The desk of a host, which searches the first version.
     #[tactic(auto, using(crate::proofs::Said::are_nets))]
-    pub fn new(alloc: Global, db: &Arc<Index, Global>, host: &HostSpec) -> Result<Desk, AllocError>
-        requires { is_nets host.now.nets ≡ true }
-        ensures { IfOk result (λ d. d ≡ record { db = arc_value db.now; name = host.now.name; nets = host.now.nets }) }
+    pub fn new(
+        alloc: Global,
+        dbs: &Arc<IndexedVersions, Global>,
+        host: &HostSpec,
+    ) -> Result<Desk, AllocError>
+        requires nets { is_nets host.now.nets ≡ true }
+        requires some { 0 < length (arc_value dbs.now) }
+        ensures { IfOk result (λ d. d ≡ record { dbs = arc_value dbs.now; name = host.now.name; nets = host.now.nets; version = 0 }) }
     {
         Ok(Desk {
             alloc,
-            db: Arc::try_clone(db)?,
+            dbs: Arc::try_clone(dbs)?,
             name: host.name.clone()?,
             nets: host.nets.clone()?,
+            version: 0,
         })
     }
 
     /// Whether the desk has an answer at a moment, in ms.
     pub fn ready(&self, now: u64, event: &Event) -> bool
-        ensures { result ≡ is_some (spec.desk_reply self.now.db (host_of self.now) event.now now) }
+        ensures { result ≡ is_some (spec.desk_reply self.now.dbs (host_of self.now) event.now now (desk_at self.now)) }
     {
         match event {
             Event::Cs { .. } => true,
@@ -67,14 +76,32 @@ impl Desk {
             Event::Use { .. } => true,
             Event::Misuse { .. } => true,
             Event::Until { moment } => *moment <= now,
+            Event::Refresh => true,
             _ => false,
         }
     }
 
     /// The answer to an event, where there is one.
-    pub fn answer(&self, now: u64, event: &Event) -> Result<Outcome, AllocError>
-        requires { IsTrue (is_some (spec.desk_reply self.now.db (host_of self.now) event.now now)) }
-        ensures ok { IfOk result (Replies (spec.desk_reply self.now.db (host_of self.now) event.now now)) }
+    #[tactic(auto, using(crate::proofs::ByKind::told_steps))]
+    pub fn answer(&mut self, now: u64, event: &Event) -> Result<Outcome, AllocError>
+        requires { IsTrue (is_some (spec.desk_reply self.old.dbs (host_of self.old) event.now now (desk_at self.old))) }
+        ensures ok { IfOk result (λ o. spec.desk_step self.old.dbs (host_of self.old) event.now now (desk_at self.old)
+            ≡ Some (record { state = desk_at self.new; outcome = o })) }
+        ensures same { self.new ≡ record self.old { version = self.new.version } }
+        ensures err { OnErr result (self.new ≡ self.old) }
+        ensures memory { OnErr result (desk_takes event.now ≡ true) }
+    {
+        match event {
+            Event::Refresh => Ok(self.read_again(now)),
+            _ => self.tell(event, now),
+        }
+    }
+
+    /// The answer to an event that leaves the desk as it is.
+    fn tell(&self, event: &Event, now: u64) -> Result<Outcome, AllocError>
+        requires some { IsTrue (is_some (spec.desk_reply self.now.dbs (host_of self.now) event.now now (desk_at self.now))) }
+        requires leaves { leaves_desk event.now ≡ true }
+        ensures ok { IfOk result (Replies (spec.desk_reply self.now.dbs (host_of self.now) event.now now (desk_at self.now))) }
         ensures memory { OnErr result (desk_takes event.now ≡ true) }
     {
         match event {
@@ -88,13 +115,25 @@ impl Desk {
         }
     }
 
+    /// Has cs search the version that is in force at a moment.
+    #[tactic(auto, using(crate::proofs::InForce::in_force_below))]
+    fn read_again(&mut self, now: u64) -> Outcome
+        ensures tells { Replies (Some (reply.Version self.new.version)) result }
+        ensures version { self.new ≡ record self.old { version = in_force now self.old.dbs } }
+    {
+        let version = self.dbs.in_force(now);
+        self.version = version;
+        answered(Reply::Version { version }, Reply::Version { version })
+    }
+
     /// The lines of cs, or the number of what it refuses.
     fn resolve(&self, query: &[u8]) -> Result<Outcome, AllocError>
         ensures { IfOk result (Replies (Some (spec.cs_reply
-            (cs_list self.now.db self.now.name self.now.nets query.now)))) }
+            (cs_list (database_of self.now.dbs self.now.version) self.now.name self.now.nets query.now)))) }
     {
         let nets = self.nets.as_slice();
-        match answer_indexed(self.alloc, &self.db, self.name.as_slice(), nets, query) {
+        let db = self.dbs.index(self.version);
+        match answer_indexed(self.alloc, db, self.name.as_slice(), nets, query) {
             Ok(lines) => given(lines),
             Err(CsError::Memory) => Err(AllocError),
             Err(error) => Ok(refused(error.number())),

@@ -3,14 +3,14 @@ ghost use Rattle.std.specs.Prelude.{◌≡◌, ◌^◌, ◌<◌, IfOk, IsTrue, O
 ghost use Rattle.std.specs.Arc.{arc_value};
 ghost use Rattle.net_base.specs.declared.actor.ActorName.TheVariants as name;
 ghost use Rattle.net_base.specs.Actors.{has_actor, opening_actor, opening_conv};
-ghost use Rattle.net_base.specs.Desk.{clock_reply};
+ghost use Rattle.net_base.specs.Desk.{clock_reply, opening_desk};
 ghost use Rattle.net_base.specs.Duties as duties;
 ghost use Rattle.net_base.specs.Medium.{quiet_medium};
 ghost use Rattle.net_base.specs.World.{IsWorld};
 ghost use Rattle.conversation.specs.Memory.{work_takes};
 ghost use Rattle.conversation.specs.Stands.{IsShort, slot_of, step_at};
 ghost use Rattle.medium.specs.OnMedium.{medium_of as seen_medium};
-ghost use Rattle.net_actors.specs.AtDesk.{IsDeskOf, Replies};
+ghost use Rattle.net_actors.specs.AtDesk.{IsDeskOf, Replies, desk_at};
 ghost use Rattle.net_actors.specs.Kept.{IsMediumOf, Keeps, seen};
 ghost use Rattle.net_actors.specs.Small.{IsSmall};
 ghost use Rattle.net_actors.specs.Stepping.{ConvSteps, KindSteps, ActorMayWant, kind_ready};
@@ -18,11 +18,11 @@ ghost use Rattle.net_actors.specs.Stepping.{ConvSteps, KindSteps, ActorMayWant, 
 use crate::desk::Desk;
 use crate::media;
 use crate::outcome::answered;
+use crate::versions::IndexedVersions;
 use conversation::Conv;
 use host_dir::Dir;
 use medium::Medium;
-use ndb_index::Index;
-use net_base::{ActorName, Event, Outcome, Proto, Reply, Work, World};
+use net_base::{ActorName, Event, Outcome, Proto, Reply, Timers, Work, World};
 use std::alloc::{AllocError, Global};
 use std::sync::Arc;
 
@@ -41,20 +41,20 @@ impl Kind {
     pub fn new(
         alloc: Global,
         world: &World,
-        db: &Arc<Index, Global>,
+        dbs: &Arc<IndexedVersions, Global>,
         name: ActorName,
     ) -> Result<Kind, AllocError>
         requires world { IsWorld world.now }
         requires has { has_actor world.now name ≡ true }
-        requires db { arc_value db.now ≡ world.now.db }
+        requires dbs { arc_value dbs.now ≡ world.now.dbs }
         ensures keeps { IfOk result (Keeps world.now name) }
-        ensures opening { IfOk result (λ k. seen k ≡ opening_actor name) }
+        ensures opening { IfOk result (λ k. seen k ≡ opening_actor world.now.timers name) }
     {
         match name {
-            ActorName::Desk(host) => Ok(Kind::Desk(desk_of(alloc, world, db, host)?)),
+            ActorName::Desk(host) => Ok(Kind::Desk(desk_of(alloc, world, dbs, host)?)),
             ActorName::Dir(host, proto) => Ok(Kind::Dir(Dir::new(alloc, world, host, proto)?)),
             ActorName::Conv(host, proto, slot) => {
-                Ok(Kind::Conv(fresh_conv(alloc, host, proto, slot)?))
+                Ok(Kind::Conv(fresh_conv(alloc, host, proto, slot, world.timers)?))
             }
             ActorName::Medium(medium) => Ok(Kind::Medium(medium_of(alloc, world, medium)?)),
             ActorName::Clock => Ok(Kind::Clock),
@@ -114,28 +114,35 @@ impl Kind {
 }
 
 /// The desk of a host of the world.
-#[tactic(auto, using(crate::proofs::Said::host_nets, crate::proofs::Said::desk_is))]
+#[tactic(auto, using(crate::proofs::Said::host_nets, crate::proofs::Said::some_versions, crate::proofs::Said::desk_is, crate::proofs::Said::desk_opens))]
 fn desk_of(
     alloc: Global,
     world: &World,
-    db: &Arc<Index, Global>,
+    dbs: &Arc<IndexedVersions, Global>,
     host: u32,
 ) -> Result<Desk, AllocError>
     requires world { IsWorld world.now }
     requires has { has_actor world.now (name.Desk host) ≡ true }
-    requires db { arc_value db.now ≡ world.now.db }
-    ensures { IfOk result (IsDeskOf world.now host) }
+    requires dbs { arc_value dbs.now ≡ world.now.dbs }
+    ensures of { IfOk result (IsDeskOf world.now host) }
+    ensures opening { IfOk result (λ d. desk_at d ≡ opening_desk) }
 {
-    Desk::new(alloc, db, &world.hosts.as_slice()[host as usize])
+    Desk::new(alloc, dbs, &world.hosts.as_slice()[host as usize])
 }
 
 /// The conversation of a slot.
 #[tactic(auto, using(crate::proofs::ByKind::kept_is))]
-fn fresh_conv(alloc: Global, host: u32, proto: Proto, slot: u32) -> Result<Conv, AllocError>
+fn fresh_conv(
+    alloc: Global,
+    host: u32,
+    proto: Proto,
+    slot: u32,
+    timers: Timers,
+) -> Result<Conv, AllocError>
     ensures slot { IfOk result (λ c. slot_of c ≡ slot) }
-    ensures opening { IfOk result (λ c. c.conv ≡ opening_conv proto) }
+    ensures opening { IfOk result (λ c. c.conv ≡ opening_conv timers proto) }
 {
-    Conv::new(alloc, host, proto, slot)
+    Conv::new(alloc, host, proto, slot, timers)
 }
 
 /// A medium of the world.

@@ -10,5 +10,5 @@ ghost use Rattle.net_actors.specs.Small.{IsSmall};
 #[tactic(auto, using(crate::proofs::FewWorks::few_works))]
 pub fn few_works_are_small()
     ensures { (w : World) (a : ActorName) (ps : List Play) → length ps < 2 ^ 30
-        → IsSmall (played w a (opening_actor a) ps) }
+        → IsSmall (played w a (opening_actor w.timers a) ps) }
 {}

@@ -9,9 +9,11 @@ mod law;
 mod media;
 mod number;
 mod outcome;
+mod versions;
 
 pub use actor::Actor;
 pub use actors::Actors;
 pub use duties::Due;
 pub use law::few_works_are_small;
 pub use number::{actor_at, actor_count, is_among, number_of, numbers_are_apart};
+pub use versions::IndexedVersions;

@@ -7,12 +7,13 @@ use Rattle.net_base.specs.declared.address.Proto.{Proto}
 use Rattle.net_base.specs.declared.address.Proto.TheVariants as proto
 use Rattle.net_base.specs.declared.history.Work.{Work}
 use Rattle.net_base.specs.declared.reply.Reply.{Reply}
+use Rattle.net_base.specs.declared.timer.Timers.{Timers}
 use Rattle.net_base.specs.declared.world.HostSpec.{HostSpec}
 use Rattle.net_base.specs.declared.world.MediumSpec.{MediumSpec}
 use Rattle.net_base.specs.declared.world.World.{World}
 use Rattle.net_base.specs.ActorStep.{Step, replies, when}
 use Rattle.net_base.specs.Conversation.{Conv, Core, Il, Udp, Unused, nowhere, conv_step}
-use Rattle.net_base.specs.Desk.{desk_reply, clock_reply}
+use Rattle.net_base.specs.Desk.{Desk, opening_desk, desk_step, clock_reply}
 use Rattle.net_base.specs.Directory.{Dir, free_slot, dir_step}
 use Rattle.net_base.specs.IlEnd.{fresh_end}
 use Rattle.net_base.specs.Medium.{Medium, quiet_medium, medium_step}
@@ -36,22 +37,23 @@ has_actor w name.Clock = true
 
 -- the state of an actor
 pub data Actor : Type 0 where
+  IsDesk : Desk → Actor
   IsDir : Dir → Actor
   IsConv : Conv → Actor
   IsMedium : Medium → Actor
-  -- the desks and the clock keep nothing
+  -- the clock keeps nothing
   IsPlain : Actor
 
 abbrev pub opening_dir : Dir
 opening_dir = record { slots = replicate slot_count free_slot; pairs = []; ports = []; starts = 0 }
 
 -- an end to which nothing has happened
-abbrev pub opening_core : Proto → Core
-opening_core proto.Il = Il fresh_end
-opening_core proto.Udp = Udp fresh_udp
+abbrev pub opening_core : Timers → Proto → Core
+opening_core timers proto.Il = Il (fresh_end timers)
+opening_core timers proto.Udp = Udp fresh_udp
 
-abbrev pub opening_conv : Proto → Conv
-opening_conv p =
+abbrev pub opening_conv : Timers → Proto → Conv
+opening_conv timers p =
     record {
       generation = 0;
       opens = 0;
@@ -60,16 +62,16 @@ opening_conv p =
       ttl = 255;
       tos = 0;
       stage = Unused;
-      core = opening_core p;
+      core = opening_core timers p;
     }
 
--- the state from which an actor sets out
-abbrev pub opening_actor : ActorName → Actor
-opening_actor (name.Desk h) = IsPlain
-opening_actor (name.Dir h p) = IsDir opening_dir
-opening_actor (name.Conv h p n) = IsConv (opening_conv p)
-opening_actor (name.Medium m) = IsMedium quiet_medium
-opening_actor name.Clock = IsPlain
+-- the state from which an actor sets out, where the timers are of this kind
+abbrev pub opening_actor : Timers → ActorName → Actor
+opening_actor timers (name.Desk h) = IsDesk opening_desk
+opening_actor timers (name.Dir h p) = IsDir opening_dir
+opening_actor timers (name.Conv h p n) = IsConv (opening_conv timers p)
+opening_actor timers (name.Medium m) = IsMedium quiet_medium
+opening_actor timers name.Clock = IsPlain
 
 -- Their steps.
 
@@ -83,8 +85,8 @@ step_as {S} actor step = option_map (λ (s : Step S). record { state = actor s.s
 
 -- the table of an actor of the world at a moment; none where no row answers
 abbrev pub table_step : World → ActorName → Actor → ℕ → Work → Option (Step Actor)
-table_step w (name.Desk h) IsPlain now work =
-    option_and_then (λ (host : HostSpec). option_map plain_step (desk_reply w.db host work.event now)) (slice_get w.hosts h)
+table_step w (name.Desk h) (IsDesk d) now work =
+    option_and_then (λ (host : HostSpec). step_as IsDesk (desk_step w.dbs host work.event now d)) (slice_get w.hosts h)
 table_step w (name.Dir h p) (IsDir d) now work = step_as IsDir (dir_step w h p work.event work.with d)
 table_step w (name.Conv h p n) (IsConv c) now work = step_as IsConv (conv_step n work.event work.with now c)
 table_step w (name.Medium m) (IsMedium s) now work =

@@ -61,9 +61,9 @@ pub record Conv : Type 0 where
 abbrev pub nowhere : Addr
 nowhere = record { ip = 0; port = 0 }
 
--- an end of the same protocol that nothing happened to
+-- an end of the same protocol, with the same kind of timers, that nothing happened to
 abbrev pub fresh_like : Core → Core
-fresh_like (Il e) = Il fresh_end
+fresh_like (Il e) = Il (fresh_end e.timer.timers)
 fresh_like (Udp e) = Udp fresh_udp
 
 -- a conversation of this generation with one open file
@@ -174,7 +174,7 @@ born_to g limit p c = record (begun g c) { pair = record { local = p.dst; remote
 -- IL: the end is born; UDP: the datagram is unread
 abbrev pub brought_forth : Core → ℕ → ℕ → ℕ → ℕ → Packet → Body → Conv → Option (Step Conv)
 brought_forth (Il e) now g start limit p (body.Il m) c =
-    Some (turned c reply.Ok (is_born now start m.id fresh_end) (born_to g limit p c))
+    Some (turned c reply.Ok (is_born now start m.id (fresh_end e.timer.timers)) (born_to g limit p c))
 brought_forth (Udp e) now g start limit p (body.Udp text) c =
     Some (leaves c reply.Ok (record (born_to g limit p c) { core = Udp (datagram_comes text (udp_connects fresh_udp)) }) None)
 brought_forth _ now g start limit p _ c = None

@@ -8,6 +8,7 @@ use Rattle.net_base.specs.declared.il.IlMsg.{IlMsg}
 use Rattle.net_base.specs.declared.il.IlState.{IlState}
 use Rattle.net_base.specs.declared.il.IlState.TheVariants.{Closed, Established, Closing}
 use Rattle.net_base.specs.Number.{id_of, number}
+use Rattle.net_base.specs.declared.timer.Timers.{Timers}
 use Rattle.net_base.specs.Timer as timer
 use Rattle.net_base.specs.Timer.{Timer}
 
@@ -38,9 +39,9 @@ pub record End : Type 0 where
   pub cause : Option Cause
   pub timer : Timer
 
--- an end that was never connected
-abbrev pub fresh_end : End
-fresh_end =
+-- an end that was never connected, with such timers
+abbrev pub fresh_end : Timers → End
+fresh_end timers =
     record {
       state = Closed;
       fresh = true;
@@ -54,7 +55,7 @@ fresh_end =
       read_offset = 0;
       closed_by_peer = false;
       cause = None;
-      timer = timer.idle_timer;
+      timer = timer.idle_timer timers;
     }
 
 -- what a step leaves, and what it emits
@@ -125,7 +126,15 @@ abbrev pub is_closing : IlState → Bool
 is_closing Closing = true
 is_closing _ = false
 
--- the other end has acknowledged more
+-- the message with this number was sent for the first time
+abbrev pub sends_number : ℕ → ℕ → End → End
+sends_number now k e = record e { timer = timer.sends now k e.timer }
+
+-- the other end has acknowledged the messages up to k
+abbrev pub acks : ℕ → ℕ → End → End
+acks now k e = record e { acked = k; timer = timer.acks now k e.timer }
+
+-- the end waits anew, where it still waits
 abbrev pub moves : ℕ → End → End
 moves now e = record e { timer = timer.moves now (has_unacked e || is_closing e.state) e.timer }
 
@@ -139,10 +148,10 @@ closes why e = record e { state = Closed; cause = why; timer = timer.stops e.tim
 
 -- Taking the ack.
 
--- the first k messages are acknowledged, where so many were sent
+-- the first k messages are acknowledged, where so many were sent: the round trip of the probe comes before the wait
 abbrev pub acked_to : ℕ → Option ℕ → End → End
 acked_to now None e = e
-acked_to now (Some k) e = if nat_le k (length e.sent) then moves now (record e { acked = k }) else e
+acked_to now (Some k) e = if nat_le k (length e.sent) then moves now (acks now k e) else e
 
 -- the end hears a message and takes its ack
 abbrev pub hears_ack : ℕ → IlMsg → End → End

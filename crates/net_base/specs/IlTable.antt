@@ -11,7 +11,7 @@ use Rattle.net_base.specs.declared.timer.Tick.{Tick}
 use Rattle.net_base.specs.declared.timer.Tick.TheVariants as tick
 use Rattle.net_base.specs.Timer as timer
 use Rattle.net_base.specs.Timer.{Timer}
-use Rattle.net_base.specs.IlEnd.{End, Turn, rstart_of, next, recvd, has_unacked, message, silent, emitting, syncs, retransmits, starts, hears, establishes, closes, hears_ack, accepts}
+use Rattle.net_base.specs.IlEnd.{End, Turn, rstart_of, next, recvd, has_unacked, message, silent, emitting, syncs, retransmits, starts, sends_number, hears, establishes, closes, hears_ack, accepts}
 
 -- Fresh.
 
@@ -115,15 +115,15 @@ hangs_up now e = hangs_up_at e.state now e
 
 -- Writing.
 
--- the message is sent as data
-abbrev pub sends : List ℕ → End → Turn
-sends text e =
-    let after = record e { sent = e.sent ++ text ∷ [] } in
+-- the message is sent as data, and the timer has sent its number
+abbrev pub sends : ℕ → List ℕ → End → Turn
+sends now text e =
+    let after = sends_number now (length e.sent + 1) (record e { sent = e.sent ++ text ∷ [] }) in
     record { end = after; emits = Some (message Data (next after) (recvd after) text) }
 
 -- a message is written: in Established, where fewer than 20 are unacknowledged
 abbrev pub writes : ℕ → List ℕ → End → Turn
-writes now text e = if has_unacked e then sends text e else sends text (starts now e)
+writes now text e = if has_unacked e then sends now text e else sends now text (starts now e)
 
 -- Reading.
 

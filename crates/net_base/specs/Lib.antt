@@ -34,6 +34,7 @@ pub mod Steps
 pub mod Next
 pub mod Calm
 pub mod Legal
+pub mod Versions
 pub mod World
 pub mod Written
 pub mod Transcript

@@ -26,8 +26,9 @@ pub record Net : Type 0 where
   pub owed : ℕ → List Duty
   pub moment : ℕ
 
-abbrev pub opening_net : Net
-opening_net = record { past = []; actors = opening_actor; owed = λ _. []; moment = 0 }
+-- the net from which a world sets out
+abbrev pub opening_net : World → Net
+opening_net w = record { past = []; actors = opening_actor w.timers; owed = λ _. []; moment = 0 }
 
 -- An entry's work.
 
@@ -75,7 +76,7 @@ net_of w net (x ∷ xs) = net_of w (next_net w net x) xs
 
 -- the net after a history
 abbrev pub after : World → List Entry → Net
-after w h = net_of w opening_net h
+after w h = net_of w (opening_net w) h
 
 abbrev pub state : World → List Entry → ActorName → Actor
 state w h a = (after w h).actors a
@@ -110,7 +111,7 @@ works_from w a net (x ∷ xs) =
 
 -- the works of an actor's entries, with their moments
 abbrev pub works : World → List Entry → ActorName → List Play
-works w h a = works_from w a opening_net h
+works w h a = works_from w a (opening_net w) h
 
 -- a work that isn't ready changes nothing
 abbrev pub stepped_to : Actor → Option (Step Actor) → Actor

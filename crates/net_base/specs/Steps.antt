@@ -63,6 +63,7 @@ is_accepted (reply.Call n g) = true
 is_accepted (reply.Opened g) = true
 is_accepted reply.Ok = true
 is_accepted reply.Left = true
+is_accepted (reply.Version n) = true
 is_accepted (reply.Bytes bytes) = true
 is_accepted (reply.Count n) = true
 is_accepted (reply.Lines lines) = true
@@ -261,6 +262,7 @@ play_of h names (step.Close called) = with_bound h called names (λ (f : Fid). e
 play_of h names (step.Ls path) = ends_with (ls_actor h (walk path)) (ls_event path (walk path)) names
 play_of h names (step.Cs query) = ends_with (name.Desk h) (event.Cs query) names
 play_of h names (step.Until moment) = ends_with (name.Desk h) (event.Until moment) names
+play_of h names step.Refresh = ends_with (name.Desk h) event.Refresh names
 play_of h names (step.Dial called address) =
     with_new h called names (with_new h (dotted_name called) names (asks_cs h address (dials h called names)))
 play_of h names (step.Announce called address) = with_new h called names (asks_cs h address (announces h called names))

@@ -1,7 +1,7 @@
 -- Which worlds a file can say: each part is one that a line spells, none is missing, and they fit together.
 -- Moments are in ms, lengths in bytes, rates in thousandths.
 use Rattle.std.specs.Prelude.{◌≡◌, ℕ, ◌+◌, ◌^◌, ◌==◌, Bool, true, false, not, ◌&&◌, ◌||◌, List, [], ◌∷◌, length, map, flat_map, Some, is_some, nat_eq, nat_lt, nat_le, bit_and, bytes_eq}
-use Rattle.std.specs.List.{list_any, list_all}
+use Rattle.std.specs.List.{All, list_any, list_all}
 use Rattle.net_base.specs.declared.address.Proto.{Proto}
 use Rattle.net_base.specs.declared.address.Proto.TheVariants.{Il, Udp}
 use Rattle.net_base.specs.declared.ndb.NdbPair.{NdbPair}
@@ -13,10 +13,12 @@ use Rattle.net_base.specs.declared.world.RouteLine.{RouteLine}
 use Rattle.net_base.specs.declared.world.Script.{Script}
 use Rattle.net_base.specs.declared.world.Step.{Step}
 use Rattle.net_base.specs.declared.world.Step.TheVariants as step
+use Rattle.net_base.specs.declared.world.Version.{Version}
 use Rattle.net_base.specs.declared.world.World.{World}
 use Rattle.net_base.specs.NdbBundle.{reading}
 use Rattle.net_base.specs.Networks.{mask_bits}
 use Rattle.net_base.specs.Routes.{Route, matches, iface_routes, host_routes}
+use Rattle.net_base.specs.Versions.{are_timed}
 
 -- no two values of the list are alike
 abbrev pub all_apart : {A : Type 0} → (A → A → Bool) → List A → Bool
@@ -152,6 +154,7 @@ is_step (step.Close name) = is_name name
 is_step (step.Ls path) = is_word path
 is_step (step.Cs query) = is_text query
 is_step (step.Until moment) = is_moment moment
+is_step step.Refresh = true
 is_step (step.Dial name address) = is_name name && is_word address
 is_step (step.Announce name address) = is_name name && is_word address
 is_step (step.Listen name from) = is_name name && is_name from
@@ -185,4 +188,6 @@ pub record IsWorld (w : World) : Type 0 where
   -- at most 32 scripts
   pub few_scripts : nat_le (length w.scripts) 32 ≡ true
   pub scripts : list_all (is_script (length w.hosts)) w.scripts ≡ true
-  pub database : IsDatabase w.db
+  -- some versions of the database, the first from the moment 0 on
+  pub versions_timed : are_timed w.dbs ≡ true
+  pub versions : All (λ (v : Version). IsDatabase v.db) w.dbs

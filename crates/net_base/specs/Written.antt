@@ -67,7 +67,7 @@ given_from w net (x ∷ xs) = option_to_list (gives x.actor (work_of net x) x.re
 
 -- all that was granted or born, in order
 abbrev pub given_in : World → List Entry → List Given
-given_in w h = given_from w opening_net h
+given_in w h = given_from w (opening_net w) h
 
 abbrev pub same_conversation : Conversation → Conversation → Bool
 same_conversation e f = same_actor (actor_of e) (actor_of f) && (e.generation == f.generation)
@@ -134,7 +134,7 @@ stood_from w e net last (x ∷ xs) = stood_from w e (next_net w net x) (shown_in
 
 -- the IL end of a conversation as it last stood
 abbrev pub stood : World → List Entry → Conversation → End
-stood w h e = stood_from w e opening_net fresh_end h
+stood w h e = stood_from w e (opening_net w) (fresh_end w.timers) h
 
 -- Entries.
 

@@ -28,6 +28,7 @@ pub enum Event {
     Until {
         moment: u64,
     },
+    Refresh,
     Reserve,
     Grant {
         slot: u32,
@@ -154,6 +155,7 @@ impl Clone for Event {
                 name: name.clone()?,
             },
             Event::Until { moment } => Event::Until { moment: *moment },
+            Event::Refresh => Event::Refresh,
             Event::Reserve => Event::Reserve,
             Event::Grant {
                 slot,

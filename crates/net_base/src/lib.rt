@@ -31,9 +31,9 @@ pub use octets::{Lines, Octets};
 pub use packet::{Body, BodyHeader, Header, Packet};
 pub use reply::Reply;
 pub use sequence::Sequence;
-pub use timer::Tick;
+pub use timer::{Probe, Tick, Timers};
 pub use udp::UdpState;
 pub use world::{
     Fate, FateRange, Fates, HostSpec, Hosts, Iface, Ifaces, Media, MediumSpec, Nets, RouteLine,
-    RouteLines, Script, Scripts, Starts, Step, StepList, World,
+    RouteLines, Script, Scripts, Starts, Step, StepList, Version, Versions, World,
 };

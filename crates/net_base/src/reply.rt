@@ -20,6 +20,9 @@ pub enum Reply {
     BadMode,
     BadFid,
     Ok,
+    Version {
+        version: u64,
+    },
     Slot {
         slot: u32,
         generation: u64,

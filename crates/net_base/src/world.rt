@@ -6,6 +6,7 @@ use crate::names::Mode;
 use crate::ndb::Db;
 use crate::octets::Octets;
 use crate::sequence::Sequence;
+use crate::timer::Timers;
 use std::alloc::AllocError;
 
 /// What becomes of a frame.
@@ -127,6 +128,7 @@ pub enum Step {
     Until {
         moment: u64,
     },
+    Refresh,
     Dial {
         name: Octets,
         address: Octets,
@@ -162,13 +164,24 @@ pub struct Script {
 
 pub type Scripts = Sequence<Script>;
 
+/// A database, and the moment in ms from which on it is in force.
+#[derive(Debug, Drop)]
+pub struct Version {
+    pub moment: u64,
+    pub db: Db,
+}
+
+/// The databases of a world, in the order of their moments.
+pub type Versions = Sequence<Version>;
+
 /// All that a run starts from. `end` is the end moment in ms.
 #[derive(Debug, Drop)]
 pub struct World {
     pub end: u64,
     pub seed: u64,
+    pub timers: Timers,
     pub media: Media,
     pub hosts: Hosts,
     pub scripts: Scripts,
-    pub db: Db,
+    pub dbs: Versions,
 }

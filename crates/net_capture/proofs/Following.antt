@@ -31,7 +31,7 @@ laid_more w net (y ∷ h) x =
 shown_more : (w : World) (h : List Entry) (x : Entry) (medium : Option ℕ)
     → shown_frames w (h ++ x ∷ []) medium ≡ shown_frames w h medium ++ filter (is_shown medium) (laid_by (after w h) x)
 shown_more w h x medium =
-    ap (filter (is_shown medium)) (laid_more w opening_net h x) ∙ filter-append (is_shown medium) (frames w h) (laid_by (after w h) x)
+    ap (filter (is_shown medium)) (laid_more w (opening_net w) h x) ∙ filter-append (is_shown medium) (frames w h) (laid_by (after w h) x)
 
 records : List Frame → List ℕ
 records fs = flat_map packet_record (map seen fs)

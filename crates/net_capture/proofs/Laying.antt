@@ -19,7 +19,7 @@ use Rattle.net_base.specs.declared.reply.Reply.TheVariants as reply
 use Rattle.net_base.specs.declared.world.MediumSpec.{MediumSpec}
 use Rattle.net_base.specs.declared.world.World.{World}
 use Rattle.net_base.specs.ActorStep.{Step, when}
-use Rattle.net_base.specs.Actors.{Actor, IsDir, IsConv, IsMedium, IsPlain, actor_step, has_actor, step_as, table_step}
+use Rattle.net_base.specs.Actors.{Actor, IsDesk, IsDir, IsConv, IsMedium, IsPlain, actor_step, has_actor, step_as, table_step}
 use Rattle.net_base.specs.Legal.{Follows, MayFollow, Shown, Shows}
 use Rattle.net_base.specs.Medium.{Medium, datagram_length, fate_of, lays, medium_leaves, medium_step, puts, takes}
 use Rattle.net_base.specs.Net.{Net, after, outcome_in, owed, with_of, work_of}
@@ -115,6 +115,7 @@ module _ (w : World) (world : IsWorld w) (m k : ℕ) (g : With) (e : Event) (now
   by_actor (IsMedium st) so = by_spec st (slice_get w.media m) refl so
   by_actor (IsDir d) so = absurd (none_some o so)
   by_actor (IsConv c) so = absurd (none_some o so)
+  by_actor (IsDesk d) so = absurd (none_some o so)
   by_actor IsPlain so = absurd (none_some o so)
 
   by_having : (has : Bool) (a : Actor)

@@ -32,7 +32,7 @@ all_laid w h world legal = by_entries w (λ (k : List Entry). map place_of (fram
     more : (k : List Entry) (x : Entry) → IsLegal w k → MayFollow w k x → map place_of (frames w k) ≡ filter_map laid_at k
         → map place_of (frames w (k ++ x ∷ [])) ≡ filter_map laid_at (k ++ x ∷ [])
     more k x before may is =
-        ap (map place_of) (laid_more w opening_net k x)
+        ap (map place_of) (laid_more w (opening_net w) k x)
         ∙ (map-append place_of (frames w k) (laid_by (after w k) x)
         ∙ (ap (λ (ps : List Place). ps ++ map place_of (laid_by (after w k) x)) is
         ∙ (ap (λ (ps : List Place). filter_map laid_at k ++ ps) (laid_one w k x world may)

@@ -50,7 +50,7 @@ laid_from w net (x ∷ xs) = laid_by net x ++ laid_from w (next_net w net x) xs
 
 -- every frame of a history
 abbrev pub frames : World → List Entry → List Frame
-frames w h = laid_from w opening_net h
+frames w h = laid_from w (opening_net w) h
 
 -- when a frame was laid, and on which medium
 pub record Place : Type 0 where

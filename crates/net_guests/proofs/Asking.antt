@@ -72,6 +72,7 @@ request_away h names (request.Close called) = bound_away (fid_of called names) _
 request_away h names (request.Cs query) = refl
 request_away h names (request.Ls path) = ls_away h (walk path)
 request_away h names (request.Until moment) = refl
+request_away h names request.Refresh = refl
 request_away h names (request.Wait called) = bound_away (fid_of called names) _ _ refl (λ f. refl)
 request_away h names (request.Unbound called) = refl
 request_away h names (request.Misuse called) = refl

@@ -73,7 +73,7 @@ timely_within w n (x ∷ log) net known timely le =
 
 pub moment_within : (w : World) (r : Roster) (p : Sight) (ss : List Standing) → AllStand w r p ss → Lawful r p.seen → (noted_net w p.seen).moment ≤ w.end
 moment_within w r p ss stand lawful =
-    timely_within w r.callers p.seen opening_net
+    timely_within w r.callers p.seen (opening_net w)
     (λ x there. let parts = in_split p.seen x there in (lawful parts.0 x parts.1 parts.2).caller)
     (λ c lt. let s = stand.all c lt in subst (λ (k : ℕ). AreTimely w k p.seen) s.2 (stand.each s.0 s.1).timely)
     (omega arith)

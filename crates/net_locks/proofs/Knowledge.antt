@@ -6,6 +6,7 @@ use Rattle.std.proofs.lemmas.Bool.{true≢false}
 use Rattle.std.proofs.lemmas.Bool.Decides.{nat_tests}
 use Rattle.std.proofs.lemmas.List.{at_drop_more, length-append, take_more, take-append-drop, take-append-le, take_all}
 use mathlib.Core.List.{IsPrefix}
+use Rattle.net_base.specs.declared.timer.Timers.{Timers}
 use Rattle.net_base.specs.declared.actor.ActorName.{ActorName}
 use Rattle.net_base.specs.declared.actor.ActorName.TheVariants as name
 use Rattle.net_base.specs.declared.address.Proto.{Proto}
@@ -68,13 +69,13 @@ module _ (w : World) where
     dues_are = dues ∙ ap (λ (l : List Noted). dues_of w (noted_net w l).actors) (sym (take_all k.at log (omega (arith, at))));
   }
 
-none_due : (a : ActorName) → due_at opening_actor a ≡ None
-none_due (name.Conv h proto.Il n) = refl
-none_due (name.Conv h proto.Udp n) = refl
-none_due (name.Desk h) = refl
-none_due (name.Dir h p) = refl
-none_due (name.Medium m) = refl
-none_due name.Clock = refl
+none_due : (timers : Timers) (a : ActorName) → due_at (opening_actor timers) a ≡ None
+none_due timers (name.Conv h proto.Il n) = refl
+none_due timers (name.Conv h proto.Udp n) = refl
+none_due timers (name.Desk h) = refl
+none_due timers (name.Dir h p) = refl
+none_due timers (name.Medium m) = refl
+none_due timers name.Clock = refl
 
 none_first : {A : Type 0} (xs : List A) → take 0 xs ≡ []
 none_first [] = refl
@@ -85,7 +86,7 @@ pub known_first : (w : World) (log : List Noted) (k : Calendar) → k.at ≡ 0 �
 known_first w log k at dues = record {
   within = omega (arith, at);
   dues_are = dues
-      ∙ (sym (none_map (due_at opening_actor) (conversations w) none_due)
+      ∙ (sym (none_map (due_at (opening_actor w.timers)) (conversations w) (none_due w.timers))
       ∙ ap (λ (l : List Noted). dues_of w (noted_net w l).actors) (sym (ap (λ (n : ℕ). take n log) at ∙ none_first log)));
 }
 

@@ -55,8 +55,8 @@ absent w a s now work none = sym (ap (λ (b : Bool). is_some (when b (table_step
 
 module _ (w : World) (p p' : Sight) (same : p' ≡ p) (at_lock a : ActorName) (is : at_lock ≡ a) where
   -- whether a work is ready at it
-  pub ready_seen : (now : ℕ) (work : Work) (b : Bool) → b ≡ is_some (answer_in w (state_at opening (answer_in w) at_lock p'.seen) now work)
-      → is_some (answer_in w (state_at opening (answer_in w) at_lock p'.seen) now work) ≡ is_some (actor_step w at_lock ((noted_net w p'.seen).actors at_lock) now work)
+  pub ready_seen : (now : ℕ) (work : Work) (b : Bool) → b ≡ is_some (answer_in w (state_at (opening w) (answer_in w) at_lock p'.seen) now work)
+      → is_some (answer_in w (state_at (opening w) (answer_in w) at_lock p'.seen) now work) ≡ is_some (actor_step w at_lock ((noted_net w p'.seen).actors at_lock) now work)
       → b ≡ is_some (actor_step w a ((noted_net w p.seen).actors a) now work)
   ready_seen now work b told law =
       told

@@ -126,9 +126,9 @@ module _ (w : World) (r : Roster) (c : ℕ) (p : Sight) (ds : List Duty) (g : Is
   pub has_number : has_caller p.held ≡ true
   has_number = callers_hold p.held c g.list g.held
 
-  pub unready : (now : ℕ) (a : ActorName) (work : Work) (p' : Sight) (front : ℕ) → HasRoom c p → IsNotReady opening (answer_in w) r a now work p front p'
+  pub unready : (now : ℕ) (a : ActorName) (work : Work) (p' : Sight) (front : ℕ) → HasRoom c p → IsNotReady (opening w) (answer_in w) r a now work p front p'
       → StaysGuest w r c p ds p'
-      → is_some (answer_in w (state_at opening (answer_in w) a p'.seen) now work) ≡ is_some (actor_step w a ((noted_net w p'.seen).actors a) now work)
+      → is_some (answer_in w (state_at (opening w) (answer_in w) a p'.seen) now work) ≡ is_some (actor_step w a ((noted_net w p'.seen).actors a) now work)
       → Unready w c now a work p p'
   unready now a work p' front room n stays same =
       record {

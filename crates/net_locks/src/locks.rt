@@ -28,9 +28,8 @@ use duties::{Duties, WorldWays};
 use guest_laws::no_duty_is_the_clocks;
 use journal::{Book, Journal, Naming, Pass};
 use locked::{Locked, Machine};
-use ndb_index::Index;
-use net_actors::{Actor, is_among, number_of, numbers_are_apart};
-use net_base::{ActorName, Db, Event, With, Work, World};
+use net_actors::{Actor, IndexedVersions, is_among, number_of, numbers_are_apart};
+use net_base::{ActorName, Event, With, Work, World};
 use outside::Gate;
 use std::alloc::{AllocError, Global};
 use std::sync::{Arc, Wait};
@@ -261,43 +260,30 @@ fn locks_of<J: Naming + Placing>(
     requires blank { AreUnused books.items }
     ensures { IfOk result (λ locks. map (λ l. l.actor) locks.items ≡ map (λ b. b.actor) books.items) }
 {
-    let db = Arc::new(alloc, index_of(alloc, &world.db)?)?;
+    let dbs = Arc::new(alloc, IndexedVersions::new(alloc, world.dbs.as_slice())?)?;
     let mut locks = Vec::with_capacity(alloc, books.len())?;
     books.reverse();
     while let Some(book) = books.pop() {
-        let lock = lock_for(alloc, world, &db, book)?;
+        let lock = lock_for(alloc, world, &dbs, book)?;
         locks.push(lock)?;
     }
     Ok(locks)
-}
-
-fn copy_of(db: &Db) -> Result<Db, AllocError>
-    ensures { IfOk result (λ copy. copy ≡ db.now) }
-{
-    db.clone()
-}
-
-// The index of a copy of the database.
-fn index_of(alloc: Global, db: &Db) -> Result<Index, AllocError>
-    ensures { IfOk result (λ index. index ≡ db.now) }
-{
-    Index::new(alloc, copy_of(db)?)
 }
 
 // The actor of a book behind its lock.
 fn lock_for<J: Naming + Placing>(
     alloc: Global,
     world: &World,
-    db: &Arc<Index, Global>,
+    dbs: &Arc<IndexedVersions, Global>,
     book: Book<J>,
 ) -> Result<Locked<J, WorldActor<J>>, AllocError>
     requires world { J.world ≡ world.now }
     requires is { IsWorld world.now }
-    requires db { arc_value db.now ≡ world.now.db }
+    requires dbs { arc_value dbs.now ≡ world.now.dbs }
     requires has { has_actor J.world book.actor ≡ true }
     requires blank { book.list ≡ [] }
     ensures { IfOk result (λ l. l.actor ≡ book.actor) }
 {
-    let actor = Actor::new(alloc, world, db, book.actor())?;
+    let actor = Actor::new(alloc, world, dbs, book.actor())?;
     Ok(locked(actor, book))
 }

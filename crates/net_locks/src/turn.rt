@@ -170,7 +170,7 @@ fn act_first<J: Naming + Placing, R: Wait, G: Gate>(
     requires early { now < 2 ^ 63 }
     requires other { same_actor lock.now.actor Clock ≡ false }
     ensures { (d : AnyDuty) → slice_get duties.now.list 0 ≡ Some d
-        → Acted opening (answer_in J.world) J.run.roster lock.now.actor caller now (work_of_duty d)
+        → Acted (opening J.world) (answer_in J.world) J.run.roster lock.now.actor caller now (work_of_duty d)
         (Some d.cites) pass.old result pass.new }
 {
     let first = duties.first().unwrap();

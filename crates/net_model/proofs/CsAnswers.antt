@@ -1,87 +1,190 @@
--- An answer of cs is at the desk of a host of the world, and is its list.
-use Rattle.std.proofs.Common.{◌≡◌, ℕ, Bool, true, false, List, Option, Some, None, slice_get, refl, sym, ap, subst, ◌∙◌}
-use Rattle.std.specs.Prelude.{IsSome, take}
+-- An answer of cs is at the desk of a host of the world, and is the list of the version that the desk told last.
+use Rattle.std.proofs.Common.{◌≡◌, ℕ, Bool, true, false, List, [], ◌∷◌, ◌++◌, Option, Some, None, slice_get, append-nil, refl, sym, ap, subst, ◌∙◌}
+use Rattle.std.specs.Prelude.{IsSome, take, filter_map, unwrap_or}
+use Rattle.std.specs.List.{cons_option, last_or}
 use Rattle.std.specs.Option.{option_map, option_and_then}
 use Rattle.std.proofs.lemmas.Bool.{false≢true}
+use Rattle.std.proofs.lemmas.List.Elements.{filter_map-append}
+use Rattle.std.proofs.lemmas.Option.{none-some, same_Some}
 use Rattle.net_base.specs.declared.actor.ActorName.{ActorName}
 use Rattle.net_base.specs.declared.actor.ActorName.TheVariants as name
 use Rattle.net_base.specs.declared.event.Event.{Event}
 use Rattle.net_base.specs.declared.event.Event.TheVariants as event
 use Rattle.net_base.specs.declared.history.Entry.{Entry}
 use Rattle.net_base.specs.declared.history.With.{With}
+use Rattle.net_base.specs.declared.history.Work.{Work}
+use Rattle.net_base.specs.declared.reply.Reply.{Reply}
+use Rattle.net_base.specs.declared.reply.Reply.TheVariants as reply
 use Rattle.net_base.specs.declared.world.HostSpec.{HostSpec}
 use Rattle.net_base.specs.declared.world.MediumSpec.{MediumSpec}
 use Rattle.net_base.specs.declared.world.World.{World}
-use Rattle.net_base.specs.ActorStep.{Step, when}
-use Rattle.net_base.specs.Actors.{Actor, IsConv, IsDir, IsMedium, IsPlain, actor_step, has_actor, plain_step, table_step}
+use Rattle.net_base.specs.ActorStep.{Step, replies, when}
+use Rattle.net_base.specs.Actors.{Actor, IsDesk, IsConv, IsDir, IsMedium, IsPlain, actor_step, has_actor, step_as, table_step}
 use Rattle.net_base.specs.Cs.{cs_list}
-use Rattle.net_base.specs.Desk.{cs_reply, desk_reply}
-use Rattle.net_base.specs.Legal.{IsLegal, Shown, Shows}
-use Rattle.net_base.specs.Net.{after, step_of, with_of}
-use Rattle.net_model.specs.Headline.{AnswersCs}
+use Rattle.net_base.specs.Desk.{Desk, cs_reply, desk_after, desk_replies, desk_reply, desk_step}
+use Rattle.net_base.specs.Legal.{IsLegal, MayFollow, Shown, Shows}
+use Rattle.net_base.specs.Net.{Net, after, net_after, step_of, stepped_to, work_of, with_of}
+use Rattle.net_base.specs.Stamped.{same_actor}
+use Rattle.net_base.specs.Versions.{database_of}
+use Rattle.net_model.specs.Headline.{AnswersCs, last_version, version_in, version_told}
+use Rattle.history_laws.proofs.Histories.{after_push, by_entries, legal_take, next_other, next_same, same_actor_is}
 
--- where a table has an answer to a query, it is a desk's
-abbrev IsDesks : World → List ℕ → ActorName → Option (Step Actor) → Type 0
-IsDesks w query a None = Unit {0}
-IsDesks w query a (Some s) =
-    (n : ℕ) × (host : HostSpec) × (slice_get w.hosts n ≡ Some host) × (a ≡ name.Desk n) × (s.outcome.reply ≡ cs_reply (cs_list w.db host.name host.nets query))
+-- The version that a desk told last.
 
-at_host : (w : World) (query : List ℕ) (n now : ℕ) (o : Option HostSpec) → slice_get w.hosts n ≡ o
-    → IsDesks w query (name.Desk n) (option_and_then (λ (host : HostSpec). option_map plain_step (desk_reply w.db host (event.Cs query) now)) o)
-at_host w query n now None is = tt
-at_host w query n now (Some host) is = (n, host, is, refl, refl)
+last_more : (o : Option ℕ) (xs : List ℕ) (n : ℕ) → last_or o (xs ++ n ∷ []) ≡ Some n
+last_more o [] n = refl
+last_more o (x ∷ xs) n = last_more (Some x) xs n
 
-at_medium : (w : World) (query : List ℕ) (a : ActorName) (o : Option MediumSpec) (step : MediumSpec → Option (Step Actor)) → ((m : MediumSpec) → step m ≡ None)
-    → IsDesks w query a (option_and_then step o)
-at_medium w query a None step none = tt
-at_medium w query a (Some m) step none = rw (none m) tt
+version_push : (h : List Entry) (x : Entry) (a : ActorName) → last_version (h ++ x ∷ []) a ≡ unwrap_or (version_told a x) (last_version h a)
+version_push h x a =
+    ap (λ (ns : List ℕ). unwrap_or (last_or None ns) 0) (filter_map-append (version_told a) h (x ∷ []))
+    ∙ by (version_told a x) (filter_map (version_told a) h)
+  where
+    by : (o : Option ℕ) (xs : List ℕ) → unwrap_or (last_or None (xs ++ cons_option o [])) 0 ≡ unwrap_or o (unwrap_or (last_or None xs) 0)
+    by None xs = ap (λ (ns : List ℕ). unwrap_or (last_or None ns) 0) (append-nil xs)
+    by (Some n) xs = ap (λ (o : Option ℕ). unwrap_or o 0) (last_more None xs n)
+
+-- another actor's entry tells no version of this one
+other_version : (h : List Entry) (x : Entry) (a : ActorName) → same_actor x.actor a ≡ false → last_version (h ++ x ∷ []) a ≡ last_version h a
+other_version h x a other = version_push h x a ∙ rw other refl
+
+own_version : (h : List Entry) (x : Entry) (a : ActorName) → same_actor x.actor a ≡ true → last_version (h ++ x ∷ []) a ≡ unwrap_or (version_in x.reply) (last_version h a)
+own_version h x a same = version_push h x a ∙ rw same refl
+
+-- The version of a desk is the one that it told last.
+
+abbrev with_version : ℕ → Actor
+with_version n = IsDesk (record { version = n })
+
+reply_leaves : (r : Reply) (n : ℕ) → desk_after r (record { version = n }) ≡ record { version = unwrap_or (version_in r) n }
+reply_leaves (reply.Version m) n = refl
+reply_leaves _ n = refl
+
+-- what a desk's step leaves is told by its reply
+left_by : (w : World) (n v now : ℕ) (work : Work) (x : Entry) (has : Bool) (found : Option HostSpec) (o : Option (Step Actor))
+    → when has (option_and_then (λ (host : HostSpec). step_as IsDesk (desk_step w.dbs host work.event now (record { version = v }))) found) ≡ o
+    → IsSome (option_map (λ (s : Step Actor). s.outcome) o) → Shows (option_map (λ (s : Step Actor). s.outcome) o) x
+    → stepped_to (with_version v) o ≡ with_version (unwrap_or (version_in x.reply) v)
+left_by w n v now work x has found None is ready shows = absurd (false≢true ready)
+left_by w n v now work x false found (Some s) is ready shows = absurd (none-some s is)
+left_by w n v now work x true None (Some s) is ready shows = absurd (none-some s is)
+left_by w n v now work x true (Some host) (Some s) is ready shows = by (desk_reply w.dbs host work.event now (record { version = v })) is
+  where
+    replied : x.reply ≡ s.outcome.reply
+    replied = ap (λ (z : Shown). z.reply) shows
+
+    by : (answer : Option Reply) → step_as IsDesk (option_map (desk_replies (record { version = v })) answer) ≡ Some s → s.state ≡ with_version (unwrap_or (version_in x.reply) v)
+    by None none = absurd (none-some s none)
+    by (Some r) some =
+        let same = same_Some (record { state = IsDesk (desk_after r (record { version = v })); outcome = replies r None }) s some in
+        sym (ap (λ (t : Step Actor). t.state) same)
+        ∙ (ap (λ (d : Desk). IsDesk d) (reply_leaves r v)
+        ∙ ap (λ (answer : Reply). with_version (unwrap_or (version_in answer) v)) (ap (λ (t : Step Actor). t.outcome.reply) same ∙ sym replied))
+
+desk_next : (w : World) (n : ℕ) (h : List Entry) (x : Entry) → MayFollow w h x → (after w h).actors (name.Desk n) ≡ with_version (last_version h (name.Desk n))
+    → (net_after w (after w h) x (step_of w (after w h) x)).actors (name.Desk n) ≡ with_version (last_version (h ++ x ∷ []) (name.Desk n))
+desk_next w n h x may at = by (same_actor x.actor (name.Desk n)) refl
+  where
+    by : (b : Bool) → same_actor x.actor (name.Desk n) ≡ b
+        → (net_after w (after w h) x (step_of w (after w h) x)).actors (name.Desk n) ≡ with_version (last_version (h ++ x ∷ []) (name.Desk n))
+    by false other =
+        next_other w (after w h) x (name.Desk n) (step_of w (after w h) x) other
+        ∙ (at ∙ ap with_version (sym (other_version h x (name.Desk n) other)))
+    by true same =
+        let v = last_version h (name.Desk n) in
+        let step : actor_step w (name.Desk n) (with_version v) (after w h).moment (work_of (after w h) x) ≡ step_of w (after w h) x =
+        subst (λ (s : Actor). actor_step w (name.Desk n) s (after w h).moment (work_of (after w h) x) ≡ step_of w (after w h) x) at
+        (sym (ap (λ (a : ActorName). actor_step w a ((after w h).actors a) (after w h).moment (work_of (after w h) x)) (same_actor_is x.actor (name.Desk n) same))) in
+        next_same w (after w h) x (name.Desk n) (step_of w (after w h) x) same
+        ∙ (ap (λ (s : Actor). stepped_to s (step_of w (after w h) x)) at
+        ∙ (left_by w n v (after w h).moment (work_of (after w h) x) x (has_actor w (name.Desk n)) (slice_get w.hosts n) (step_of w (after w h) x) step may.is_ready may.answers
+        ∙ ap with_version (sym (own_version h x (name.Desk n) same))))
+
+pub desk_of : (w : World) (n : ℕ) (h : List Entry) → IsLegal w h → (after w h).actors (name.Desk n) ≡ with_version (last_version h (name.Desk n))
+desk_of w n h legal = by_entries w (λ (k : List Entry). (after w k).actors (name.Desk n) ≡ with_version (last_version k (name.Desk n))) refl push h legal
+  where
+    push : (k : List Entry) (x : Entry) → IsLegal w k → MayFollow w k x → (after w k).actors (name.Desk n) ≡ with_version (last_version k (name.Desk n))
+        → (after w (k ++ x ∷ [])).actors (name.Desk n) ≡ with_version (last_version (k ++ x ∷ []) (name.Desk n))
+    push k x before may at = ap (λ (net : Net). net.actors (name.Desk n)) (after_push w k x) ∙ desk_next w n k x may at
+
+-- Answers.
+
+abbrev version_of : Actor → ℕ
+version_of (IsDesk d) = d.version
+version_of _ = 0
+
+-- where a table has an answer to a query, it is a desk's, of this version
+abbrev IsDesks : World → List ℕ → ℕ → ActorName → Option (Step Actor) → Type 0
+IsDesks w query v a None = Unit {0}
+IsDesks w query v a (Some s) =
+    (n : ℕ) × (host : HostSpec) × (slice_get w.hosts n ≡ Some host) × (a ≡ name.Desk n) × (s.outcome.reply ≡ cs_reply (cs_list (database_of w.dbs v) host.name host.nets query))
+
+at_host : (w : World) (query : List ℕ) (n now : ℕ) (d : Desk) (o : Option HostSpec) → slice_get w.hosts n ≡ o
+    → IsDesks w query d.version (name.Desk n) (option_and_then (λ (host : HostSpec). step_as IsDesk (desk_step w.dbs host (event.Cs query) now d)) o)
+at_host w query n now d None is = tt
+at_host w query n now d (Some host) is = (n, host, is, refl, refl)
+
+at_medium : (w : World) (query : List ℕ) (v : ℕ) (a : ActorName) (o : Option MediumSpec) (step : MediumSpec → Option (Step Actor)) → ((m : MediumSpec) → step m ≡ None)
+    → IsDesks w query v a (option_and_then step o)
+at_medium w query v a None step none = tt
+at_medium w query v a (Some m) step none = rw (none m) tt
 
 by_table : (w : World) (query : List ℕ) (gift : With) (now : ℕ) (a : ActorName) (state : Actor)
-    → IsDesks w query a (table_step w a state now (record { event = event.Cs query; with = gift }))
-by_table w query gift now (name.Desk n) IsPlain = at_host w query n now (slice_get w.hosts n) refl
+    → IsDesks w query (version_of state) a (table_step w a state now (record { event = event.Cs query; with = gift }))
+by_table w query gift now (name.Desk n) (IsDesk d) = at_host w query n now d (slice_get w.hosts n) refl
 by_table w query gift now (name.Dir h p) (IsDir d) = tt
 by_table w query gift now (name.Conv h p n) (IsConv c) = tt
-by_table w query gift now (name.Medium m) (IsMedium s) = at_medium w query (name.Medium m) (slice_get w.media m) _ (λ spec. refl)
+by_table w query gift now (name.Medium m) (IsMedium s) = at_medium w query 0 (name.Medium m) (slice_get w.media m) _ (λ spec. refl)
 by_table w query gift now name.Clock IsPlain = tt
+by_table w query gift now (name.Desk n) IsPlain = tt
 by_table w query gift now (name.Desk n) (IsDir d) = tt
 by_table w query gift now (name.Desk n) (IsConv c) = tt
 by_table w query gift now (name.Desk n) (IsMedium m) = tt
+by_table w query gift now (name.Dir h p) (IsDesk d) = tt
 by_table w query gift now (name.Dir h p) IsPlain = tt
 by_table w query gift now (name.Dir h p) (IsConv c) = tt
 by_table w query gift now (name.Dir h p) (IsMedium m) = tt
+by_table w query gift now (name.Conv h p n) (IsDesk d) = tt
 by_table w query gift now (name.Conv h p n) IsPlain = tt
 by_table w query gift now (name.Conv h p n) (IsDir d) = tt
 by_table w query gift now (name.Conv h p n) (IsMedium m) = tt
+by_table w query gift now (name.Medium m) (IsDesk d) = tt
 by_table w query gift now (name.Medium m) IsPlain = tt
 by_table w query gift now (name.Medium m) (IsDir d) = tt
 by_table w query gift now (name.Medium m) (IsConv c) = tt
+by_table w query gift now name.Clock (IsDesk d) = tt
 by_table w query gift now name.Clock (IsDir d) = tt
 by_table w query gift now name.Clock (IsConv c) = tt
 by_table w query gift now name.Clock (IsMedium m) = tt
 
-by_actor : (w : World) (query : List ℕ) (a : ActorName) (b : Bool) (o : Option (Step Actor)) → IsDesks w query a o → IsDesks w query a (when b o)
-by_actor w query a true o desk = desk
-by_actor w query a false o desk = tt
+by_actor : (w : World) (query : List ℕ) (v : ℕ) (a : ActorName) (b : Bool) (o : Option (Step Actor)) → IsDesks w query v a o → IsDesks w query v a (when b o)
+by_actor w query v a true o desk = desk
+by_actor w query v a false o desk = tt
 
-shown : (w : World) (query : List ℕ) (x : Entry) (o : Option (Step Actor)) → IsDesks w query x.actor o
-    → IsSome (option_map (λ (s : Step Actor). s.outcome) o) → Shows (option_map (λ (s : Step Actor). s.outcome) o) x → AnswersCs w x query
-shown w query x None desk ready shows = absurd (false≢true ready)
-shown w query x (Some s) desk ready shows =
+shown : (w : World) (past : List Entry) (query : List ℕ) (v : ℕ) (x : Entry) (o : Option (Step Actor)) → IsDesks w query v x.actor o
+    → ((n : ℕ) → x.actor ≡ name.Desk n → v ≡ last_version past (name.Desk n))
+    → IsSome (option_map (λ (s : Step Actor). s.outcome) o) → Shows (option_map (λ (s : Step Actor). s.outcome) o) x → AnswersCs w past x query
+shown w past query v x None desk version ready shows = absurd (false≢true ready)
+shown w past query v x (Some s) desk version ready shows =
     record {
       number = desk.0;
       host = desk.1;
       host_is = desk.2;
       actor_is = desk.3;
-      reply_is = ap (λ (z : Shown). z.reply) shows ∙ desk.4;
+      reply_is =
+          ap (λ (z : Shown). z.reply) shows
+          ∙ (desk.4 ∙ ap (λ (n : ℕ). cs_reply (cs_list (database_of w.dbs n) desk.1.name desk.1.nets query)) (version desk.0 desk.3));
     }
 
-pub answers_cs : (w : World) (h : List Entry) (k : ℕ) (x : Entry) (query : List ℕ) → IsLegal w h → slice_get h k ≡ Some x → x.event ≡ event.Cs query → AnswersCs w x query
+pub answers_cs : (w : World) (h : List Entry) (k : ℕ) (x : Entry) (query : List ℕ) → IsLegal w h → slice_get h k ≡ Some x → x.event ≡ event.Cs query → AnswersCs w (take k h) x query
 answers_cs w h k x query legal stands is =
     let may = legal k x stands in
     let net = after w (take k h) in
     let gift = with_of (net.owed x.caller) in
     let state = net.actors x.actor in
-    let desk : IsDesks w query x.actor (step_of w net x) =
-    subst (λ (e : Event). IsDesks w query x.actor (actor_step w x.actor state net.moment (record { event = e; with = gift }))) (sym is)
-    (by_actor w query x.actor (has_actor w x.actor) _ (by_table w query gift net.moment x.actor state)) in
-    shown w query x (step_of w net x) desk may.is_ready may.answers
+    let desk : IsDesks w query (version_of state) x.actor (step_of w net x) =
+    subst (λ (e : Event). IsDesks w query (version_of state) x.actor (actor_step w x.actor state net.moment (record { event = e; with = gift }))) (sym is)
+    (by_actor w query (version_of state) x.actor (has_actor w x.actor) _ (by_table w query gift net.moment x.actor state)) in
+    shown w (take k h) query (version_of state) x (step_of w net x) desk
+    (λ n at. ap (λ (a : ActorName). version_of (net.actors a)) at ∙ ap version_of (desk_of w n (take k h) (legal_take w h k legal)))
+    may.is_ready may.answers

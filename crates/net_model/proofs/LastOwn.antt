@@ -122,7 +122,7 @@ from_last w c h legal = by_entries w (λ (k : List Entry). FromLast k c (owed w 
     push : (k : List Entry) (x : Entry) → IsLegal w k → MayFollow w k x → FromLast k c (owed w k c) → FromLast (k ++ x ∷ []) c (owed w (k ++ x ∷ []) c)
     push k x before may from =
         subst (λ (n : Net). FromLast (k ++ x ∷ []) c (n.owed c)) (sym (after_push w k x))
-        (from_next w k (after w k) x (step_of w (after w k) x) c (past_after w opening_net k) (is_ready (step_of w (after w k) x) may.is_ready) may.cites from)
+        (from_next w k (after w k) x (step_of w (after w k) x) c (past_after w (opening_net w) k) (is_ready (step_of w (after w k) x) may.is_ready) may.cites from)
 
 pub of_last_step : (w : World) (h : List Entry) (c : ℕ) → IsLegal w h → (d : Duty) → In d (owed w h c) → IsOfLastStep h c d
 of_last_step w h c legal d there =

@@ -15,4 +15,5 @@ pub mod LastOwn
 pub mod OwnEntries
 pub mod CsAnswers
 pub mod StepsAsk
+pub mod WrittenVersions
 pub mod WorldBack

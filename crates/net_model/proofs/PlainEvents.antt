@@ -145,6 +145,7 @@ says_plain h (step.Close called) is = named h called is
 says_plain h (step.Ls path) is = tt
 says_plain h (step.Cs query) is = tt
 says_plain h (step.Until moment) is = tt
+says_plain h step.Refresh is = tt
 says_plain h (step.Dial called address) is =
     let parts = and_parts (is_name called) (is_word address) is in
     (named h called parts.0, (dotted_word called parts.0, dotted_word called parts.0))

@@ -33,11 +33,11 @@ use Rattle.net_base.specs.declared.world.HostSpec.{HostSpec}
 use Rattle.net_base.specs.declared.world.MediumSpec.{MediumSpec}
 use Rattle.net_base.specs.declared.world.World.{World}
 use Rattle.net_base.specs.ActorStep.{Step}
-use Rattle.net_base.specs.Actors.{Actor, IsDir, IsConv, IsMedium, IsPlain, has_actor, plain_step, step_as, table_step}
+use Rattle.net_base.specs.Actors.{Actor, IsDesk, IsDir, IsConv, IsMedium, IsPlain, has_actor, plain_step, step_as, table_step}
 use Rattle.net_base.specs.ControlWords as control
 use Rattle.net_base.specs.Conversation as conv
 use Rattle.net_base.specs.Conversation.{Conv, Core, Il, Udp, Stage, Unused, Listening, Connected, conv_step}
-use Rattle.net_base.specs.Desk.{desk_reply, clock_reply}
+use Rattle.net_base.specs.Desk.{Desk, desk_replies, desk_reply, desk_step, clock_reply}
 use Rattle.net_base.specs.Directory as dir
 use Rattle.net_base.specs.Directory.{Dir, Slot, dir_step}
 use Rattle.net_base.specs.IlEnd.{End}
@@ -287,16 +287,20 @@ as_plain : (answer : Option Reply) → IfSome answer (λ r. ListsTexts r) → An
 as_plain None f = tt
 as_plain (Some r) f = f
 
-at_desk : (w : World) (found : Option HostSpec) (e : Event) (now : ℕ) → Answers (option_and_then (λ (host : HostSpec). option_map plain_step (desk_reply w.db host e now)) found)
-at_desk w None e now = tt
-at_desk w (Some host) e now = as_plain (desk_reply w.db host e now) (desk_texts w.db host e now)
+of_desk : (d : Desk) (answer : Option Reply) → IfSome answer (λ r. ListsTexts r) → Answers (option_map (desk_replies d) answer)
+of_desk d None f = tt
+of_desk d (Some r) f = f
+
+at_desk : (w : World) (found : Option HostSpec) (e : Event) (now : ℕ) (d : Desk) → Answers (option_and_then (λ (host : HostSpec). step_as IsDesk (desk_step w.dbs host e now d)) found)
+at_desk w None e now d = tt
+at_desk w (Some host) e now d = as_actor IsDesk (desk_step w.dbs host e now d) (of_desk d (desk_reply w.dbs host e now d) (desk_texts w.dbs host e now d))
 
 at_medium : (found : Option MediumSpec) (seed : ℕ) (work : Work) (m : Medium) → Answers (option_and_then (λ (spec : MediumSpec). step_as IsMedium (medium_step spec seed work.event work.with m)) found)
 at_medium None seed work m = tt
 at_medium (Some spec) seed work m = as_actor IsMedium (medium_step spec seed work.event work.with m) (medium_replies spec seed work.event work.with m)
 
 table_replies : (w : World) (a : ActorName) (s : Actor) (now : ℕ) (work : Work) → Answers (table_step w a s now work)
-table_replies w (name.Desk h) IsPlain now work = at_desk w (slice_get w.hosts h) work.event now
+table_replies w (name.Desk h) (IsDesk d) now work = at_desk w (slice_get w.hosts h) work.event now d
 table_replies w (name.Dir h p) (IsDir d) now work = as_actor IsDir (dir_step w h p work.event work.with d) (dir_replies w h p work.event work.with d)
 table_replies w (name.Conv h p n) (IsConv c) now work = as_actor IsConv (conv_step n work.event work.with now c) (conv_replies n work.event work.with now c)
 table_replies w (name.Medium m) (IsMedium s) now work = at_medium (slice_get w.media m) w.seed work s

@@ -16,10 +16,12 @@ use Rattle.net_base.specs.declared.ndb.NdbPair.{NdbPair}
 use Rattle.net_base.specs.declared.reply.Reply.{Reply}
 use Rattle.net_base.specs.declared.reply.Reply.TheVariants as reply
 use Rattle.net_base.specs.declared.world.HostSpec.{HostSpec}
+use Rattle.net_base.specs.declared.world.Version.{Version}
 use Rattle.net_base.specs.Addresses.{address_text}
 use Rattle.net_base.specs.Cs.{CsAnswer, Query, proto_name, nets_of, host_words, is_any, address_texts, host_addresses, ports_of, cs_line, lines_of, refused_where_empty, answer_query, answer_read, read_query}
-use Rattle.net_base.specs.Desk.{cs_reply, ls_reply, open_refusal, desk_reply, clock_reply}
+use Rattle.net_base.specs.Desk.{Desk, cs_reply, ls_reply, open_refusal, desk_reply, clock_reply}
 use Rattle.net_base.specs.Paths.{walk, may_open, names}
+use Rattle.net_base.specs.Versions.{database_of}
 use Rattle.net_base.specs.World.{is_text}
 use Rattle.net_model.proofs.CsLaws.{any_text}
 use Rattle.history_laws.proofs.Ordered.{Each, each_any, each_append, each_map, each_flat_map}
@@ -128,14 +130,15 @@ refusal_texts : (n : Option Node) (mode : Mode) → IfSome (open_refusal n mode)
 refusal_texts None mode = tt
 refusal_texts (Some n) mode = cond_both (may_open n mode) _ _ (λ (o : Option Reply). IfSome o (λ r. ListsTexts r)) (λ _. tt) (λ _. tt)
 
-pub desk_texts : (db : List (List (List NdbPair))) (host : HostSpec) (e : Event) (now : ℕ) → IfSome (desk_reply db host e now) (λ r. ListsTexts r)
-desk_texts db host (event.Cs query) now = cs_texts db host.name host.nets (read_query query)
-desk_texts db host (event.LsPath path) now = ls_texts path
-desk_texts db host (event.OpenPath path mode) now = refusal_texts (walk path) mode
-desk_texts db host (event.Use called) now = tt
-desk_texts db host (event.Misuse called) now = tt
-desk_texts db host (event.Until moment) now = cond_both (nat_le moment now) _ _ (λ (o : Option Reply). IfSome o (λ r. ListsTexts r)) (λ _. tt) (λ _. tt)
-desk_texts db host _ now = tt
+pub desk_texts : (dbs : List Version) (host : HostSpec) (e : Event) (now : ℕ) (d : Desk) → IfSome (desk_reply dbs host e now d) (λ r. ListsTexts r)
+desk_texts dbs host (event.Cs query) now d = cs_texts (database_of dbs d.version) host.name host.nets (read_query query)
+desk_texts dbs host (event.LsPath path) now d = ls_texts path
+desk_texts dbs host (event.OpenPath path mode) now d = refusal_texts (walk path) mode
+desk_texts dbs host (event.Use called) now d = tt
+desk_texts dbs host (event.Misuse called) now d = tt
+desk_texts dbs host (event.Until moment) now d = cond_both (nat_le moment now) _ _ (λ (o : Option Reply). IfSome o (λ r. ListsTexts r)) (λ _. tt) (λ _. tt)
+desk_texts dbs host event.Refresh now d = tt
+desk_texts dbs host _ now d = tt
 
 pub clock_texts : (e : Event) → IfSome (clock_reply e) (λ r. ListsTexts r)
 clock_texts (event.Move moment) = tt

@@ -67,6 +67,7 @@ step_asks h names (step.Close called) = bound h called names _ (λ f. tt)
 step_asks h names (step.Ls path) = tt
 step_asks h names (step.Cs query) = tt
 step_asks h names (step.Until moment) = tt
+step_asks h names step.Refresh = tt
 step_asks h names (step.Dial called address) = new h called names _ (new h (dotted_name called) names (asks_cs h address (dials h called names)) tt)
 step_asks h names (step.Announce called address) = new h called names _ tt
 step_asks h names (step.Listen called from) = bound h from names _ (λ f. new h called names _ tt)

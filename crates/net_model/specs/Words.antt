@@ -1,7 +1,8 @@
 -- The words of a command line and the commands that they give.
-use Rattle.std.specs.Prelude.{ℕ, Bool, true, false, ◌&&◌, List, [], ◌∷◌, Option, Some, None, if◌then◌else◌, bytes_eq, codes}
+use Rattle.std.specs.Prelude.{ℕ, Bool, true, false, ◌&&◌, nat_le, List, [], ◌∷◌, length, Option, Some, None, is_some, if◌then◌else◌, bytes_eq, codes}
 use Rattle.std.specs.Option.{option_map}
 use Rattle.net_base.specs.Addresses.{number_in}
+use Rattle.net_base.specs.Hexadecimal.{hex_text}
 
 -- a command
 pub data Command : Type 0 where
@@ -9,6 +10,8 @@ pub data Command : Type 0 where
   Cs : List ℕ → List ℕ → Command
   -- the tuples with a pair of attribute and value, or the values of another attribute beside the pair
   Query : List ℕ → List ℕ → Option (List ℕ) → Command
+  -- what a message of the domain name system, in hexadecimal, is answered from a database
+  Dns : List ℕ → Command
   -- the run of a world on so many workers
   Run : ℕ → Command
   -- the text of the made world of so many messages
@@ -35,7 +38,11 @@ messages_in word = number_in 1 9000 word
 unfoldable pub workers_in : List ℕ → Option ℕ
 workers_in word = number_in 1 16 word
 
--- the command that words give, where they are in a row: `check`, `translate`, `run WORKERS`, `export WORKERS`, `make N`, `big N`, `cs SYS QUERY`,
+-- a message: two digits in lower case for each byte, of which there are 1 to 1024
+unfoldable pub is_message : List ℕ → Bool
+is_message word = nat_le 2 (length word) && nat_le (length word) 2048 && is_some (hex_text word)
+
+-- the command that words give, where they are in a row: `check`, `translate`, `run WORKERS`, `export WORKERS`, `make N`, `big N`, `dns HEX`, `cs SYS QUERY`,
 -- `query ATTR VALUE`, or `query ATTR VALUE RATTR`
 abbrev pub command_of : List (List ℕ) → Option Command
 command_of (name ∷ []) = if bytes_eq name (codes "check") then Some Check else (if bytes_eq name (codes "translate") then Some Translate else None)
@@ -46,7 +53,9 @@ command_of (name ∷ number ∷ []) =
     then option_map Make (messages_in number)
     else (if bytes_eq name (codes "big")
     then option_map Big (messages_in number)
-    else (if bytes_eq name (codes "export") then option_map Export (workers_in number) else None)))
+    else (if bytes_eq name (codes "export")
+    then option_map Export (workers_in number)
+    else (if bytes_eq name (codes "dns") && is_message number then Some (Dns number) else None))))
 command_of (name ∷ sys ∷ query ∷ []) =
     if is_word sys && is_word query
     then (if bytes_eq name (codes "cs") then Some (Cs sys query) else (if bytes_eq name (codes "query") then Some (Query sys query None) else None))
@@ -59,6 +68,7 @@ command_of _ = None
 abbrev pub may_wait : Command → Bool
 may_wait (Cs sys query) = false
 may_wait (Query attr value other) = false
+may_wait (Dns word) = false
 may_wait (Run workers) = true
 may_wait (Make messages) = false
 may_wait (Big messages) = true
@@ -75,6 +85,7 @@ words_wait (Some command) = may_wait command
 abbrev pub reads : Command → Bool
 reads (Cs sys query) = true
 reads (Query attr value other) = true
+reads (Dns word) = true
 reads (Run workers) = true
 reads (Make messages) = false
 reads (Big messages) = false

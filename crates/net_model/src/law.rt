@@ -1,5 +1,5 @@
 //! Laws of the definitions.
-ghost use Rattle.std.specs.Prelude.{◌≡◌, [], List, ℕ, Some, slice_get};
+ghost use Rattle.std.specs.Prelude.{◌≡◌, [], List, ℕ, Some, slice_get, take};
 ghost use Rattle.net_base.specs.declared.event.Event.TheVariants as event;
 ghost use Rattle.net_base.specs.declared.history.Entry.{Entry};
 ghost use Rattle.net_base.specs.declared.world.World.{World};
@@ -27,9 +27,10 @@ pub fn steps_stand_in_order()
     ensures in_order { (w : World) (h : List Entry) (c : ℕ) (s : Script) → IsLegal w h → caller_of w c ≡ IsScript s → KeepsScript w h c s }
 {}
 
-/// Each answer to a query of cs is what the database lists for the host that asks, or why it lists nothing.
+/// Each answer to a query of cs is what the database of the version that the desk told last lists for the host that asks, or why
+/// it lists nothing.
 pub fn cs_answers_are_lists()
-    ensures { (w : World) (h : List Entry) (k : ℕ) (x : Entry) (query : List ℕ) → IsLegal w h → slice_get h k ≡ Some x → x.event ≡ event.Cs query → AnswersCs w x query }
+    ensures { (w : World) (h : List Entry) (k : ℕ) (x : Entry) (query : List ℕ) → IsLegal w h → slice_get h k ≡ Some x → x.event ≡ event.Cs query → AnswersCs w (take k h) x query }
 {}
 
 /// What every legal history of a world keeps.

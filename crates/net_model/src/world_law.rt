@@ -1,6 +1,8 @@
 //! Laws of the file of a world.
 ghost use Rattle.std.specs.Prelude.{◌≡◌, ℕ, ◌<◌, ◌^◌, Ok, true};
 ghost use Rattle.made_world.specs.Made.{made_world};
+ghost use Rattle.std.specs.List.{All};
+ghost use Rattle.net_base.specs.declared.world.Version.{Version};
 ghost use Rattle.net_base.specs.declared.world.World.{World};
 ghost use Rattle.net_base.specs.World.{IsWorld};
 ghost use Rattle.net_model.specs.NdbWhole.{is_whole};
@@ -12,10 +14,10 @@ use crate::ndb_law::written_databases_read_back;
 use made_world::made_worlds_are_worlds;
 use world_text::{worlds_are_spelled, worlds_have_texts};
 
-/// What is written of a world, with a whole database, says this world, and is read back as it.
+/// What is written of a world, with a whole database in each version, says this world, and is read back as it.
 pub fn written_worlds_read_back()
-    ensures spelled { (w : World) → IsWorld w → is_whole w.db ≡ true → IsWorldText (file_text w) w }
-    ensures read { (w : World) → IsWorld w → is_whole w.db ≡ true → world_reading (file_text w) ≡ Ok w }
+    ensures spelled { (w : World) → IsWorld w → All (λ (v : Version). is_whole v.db ≡ true) w.dbs → IsWorldText (file_text w) w }
+    ensures read { (w : World) → IsWorld w → All (λ (v : Version). is_whole v.db ≡ true) w.dbs → world_reading (file_text w) ≡ Ok w }
 {
     written_databases_read_back();
     worlds_have_texts();

@@ -137,6 +137,7 @@ never_waits : (question : Question) → may_wait (question_read question) ≡ fa
 never_waits (question.Cs sys query) = refl
 never_waits (question.Tuples attr value) = refl
 never_waits (question.Beside attr value other) = refl
+never_waits (question.Dns word) = refl
 never_waits (question.Make messages) = refl
 never_waits question.Check = refl
 

@@ -4,29 +4,33 @@ use Rattle.std.specs.Prelude.{bytes_eq, codes}
 use Rattle.std.specs.Option.{option_and_then, option_map}
 use Rattle.std.proofs.lemmas.Bool.Decides.{nat_tests}
 use Rattle.net_base.specs.Addresses.{is_padded, read_digits, within}
-use Rattle.net_model.specs.Words.{Check, Cs, Query, Run, Make, Big, is_word, messages_in, workers_in, command_of}
+use Rattle.net_model.specs.Words.{Check, Cs, Query, Dns, Run, Make, Big, is_message, is_word, messages_in, workers_in, command_of}
 
 -- What a chain of tests gives.
 
 none_run : (workers : ℕ) → None ≡ Some (Run workers) → ⊥
 none_run workers is = cc
 
-two_run : (b c d : Bool) (n m : Option ℕ) (workers : ℕ)
-    → (if b then option_map Run n else (if c then option_map Make m else (if d then option_map Big m else None))) ≡ Some (Run workers)
+two_run : (b c d e : Bool) (n m : Option ℕ) (word : List ℕ) (workers : ℕ)
+    → (if b then option_map Run n else (if c then option_map Make m else (if d then option_map Big m else (if e then Some (Dns word) else None)))) ≡ Some (Run workers)
     → n ≡ Some workers
-two_run true c d (Some k) m workers is = cc
-two_run true c d None m workers is = absurd (none_run workers is)
-two_run false true d n (Some k) workers is = absurd (apart is)
+two_run true c d e (Some k) m word workers is = cc
+two_run true c d e None m word workers is = absurd (none_run workers is)
+two_run false true d e n (Some k) word workers is = absurd (apart is)
   where
     apart : Some (Make k) ≡ Some (Run workers) → ⊥
     apart same = cc
-two_run false true d n None workers is = absurd (none_run workers is)
-two_run false false true n (Some k) workers is = absurd (apart is)
+two_run false true d e n None word workers is = absurd (none_run workers is)
+two_run false false true e n (Some k) word workers is = absurd (apart is)
   where
     apart : Some (Big k) ≡ Some (Run workers) → ⊥
     apart same = cc
-two_run false false true n None workers is = absurd (none_run workers is)
-two_run false false false n m workers is = absurd (none_run workers is)
+two_run false false true e n None word workers is = absurd (none_run workers is)
+two_run false false false true n m word workers is = absurd (apart is)
+  where
+    apart : Some (Dns word) ≡ Some (Run workers) → ⊥
+    apart same = cc
+two_run false false false false n m word workers is = absurd (none_run workers is)
 
 three_run : (b c d : Bool) (sys query : List ℕ) (workers : ℕ) → (if b then (if c then Some (Cs sys query) else (if d then Some (Query sys query None) else None)) else None) ≡ Some (Run workers) → ⊥
 three_run true true d sys query workers is = cc
@@ -70,8 +74,8 @@ workers_within [] workers is = absurd (none_run workers is)
 workers_within (name ∷ []) workers is = absurd (one_run (bytes_eq name (codes "check")) workers is)
 workers_within (name ∷ number ∷ []) workers is =
     said_within number workers
-    (two_run (bytes_eq name (codes "run")) (bytes_eq name (codes "make")) (bytes_eq name (codes "big")) (workers_in number)
-    (messages_in number) workers is)
+    (two_run (bytes_eq name (codes "run")) (bytes_eq name (codes "make")) (bytes_eq name (codes "big")) (bytes_eq name (codes "dns") && is_message number) (workers_in number)
+    (messages_in number) number workers is)
 workers_within (name ∷ sys ∷ query ∷ []) workers is =
     absurd (three_run (is_word sys && is_word query) (bytes_eq name (codes "cs")) (bytes_eq name (codes "query")) sys query workers is)
 workers_within (name ∷ attr ∷ value ∷ other ∷ []) workers is =

@@ -9,7 +9,7 @@ use Rattle.net_base.specs.Calm as calm
 use Rattle.net_base.specs.Cs.{CsAnswer, Lines, Refused}
 use Rattle.net_base.specs.Legal.{IsLegal, IsTimed}
 use Rattle.net_base.specs.Net.{Net, after}
-use Rattle.net_model.specs.Words.{Command, Cs, Query, Run, Make, Big, Check, may_wait, reads, words_read, words_wait}
+use Rattle.net_model.specs.Words.{Command, Cs, Query, Dns, Run, Make, Big, Check, may_wait, reads, words_read, words_wait}
 use Rattle.commands.specs.Built.{made, IsStatus, IsWorldOf, IsFound, IsFirstBad, IsGiven, IsAnswer}
 use Rattle.checked_input.specs.Input.{Handed}
 use Rattle.commands.specs.Checked.{BreaksOne, IsChecked, KeepsAll}
@@ -32,6 +32,7 @@ some_not_none bad h = cc
 bad_reads : (asked : Command) (input : List ℕ) (bad : ℕ × ℕ) → IsFirstBad asked input (Some bad) → reads asked ≡ true
 bad_reads (Cs sys query) input bad is = refl
 bad_reads (Query attr value other) input bad is = refl
+bad_reads (Dns word) input bad is = refl
 bad_reads (Run workers) input bad is = refl
 bad_reads (Make messages) input bad is = absurd (some_not_none bad is)
 bad_reads (Big messages) input bad is = absurd (some_not_none bad is)
@@ -79,6 +80,10 @@ of_query : (attr value : List ℕ) (other : Option (List ℕ)) (input : List ℕ
 of_query attr value other input answer [] good is = of_refusal good (ap (λ (a : Answer). a.status) is) refl
 of_query attr value other input answer (line ∷ lines) good is = of_lines good (ap (λ (a : Answer). a.status) is) refl
 
+of_dns : (word input : List ℕ) (answer : Answer) (lines : List (List ℕ)) → IsFirstBad (Dns word) input None → answer ≡ lines_answer lines → Of (Dns word) input answer
+of_dns word input answer [] good is = of_refusal good (ap (λ (a : Answer). a.status) is) refl
+of_dns word input answer (line ∷ lines) good is = of_lines good (ap (λ (a : Answer). a.status) is) refl
+
 made_status : (messages : ℕ) (answer : Answer) → answer ≡ made messages → answer.status ≡ 0
 unfolding made
 made_status messages answer is = ap (λ (a : Answer). a.status) is
@@ -86,6 +91,7 @@ made_status messages answer is = ap (λ (a : Answer). a.status) is
 of_found : (asked : Command) (input : List ℕ) (answer : Answer) → IsFirstBad asked input None → IsFound asked input answer → Of asked input answer
 of_found (Cs sys query) input answer good found = of_cs sys query input answer _ good found
 of_found (Query attr value other) input answer good found = of_query attr value other input answer _ good found
+of_found (Dns word) input answer good found = of_dns word input answer _ good found
 of_found (Run workers) input answer good found =
     of_run good (record {
       world = found.0;
@@ -149,6 +155,7 @@ check_well w h told answer checked = elim checked.judged [
 found_well : (asked : Command) (input : List ℕ) (answer : Answer) → IsFirstBad asked input None → IsFound asked input answer → EndsWell asked answer.status
 found_well (Cs sys query) input answer good found = cs_well answer _ found
 found_well (Query attr value other) input answer good found = query_well answer _ found
+found_well (Dns word) input answer good found = query_well answer _ found
 found_well (Run workers) input answer good found = found.2.status.ended
 found_well (Make messages) input answer good found = made_status messages answer found
 found_well (Big messages) input answer good found = found.2.status.ended

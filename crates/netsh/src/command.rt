@@ -1,6 +1,7 @@
 //! The words of the command line.
-ghost use Rattle.std.specs.Prelude.{◌≡◌, ◌∷◌, [], map, option_map, string_bytes};
-ghost use Rattle.net_model.specs.Words.{command_of, is_word, messages_in, reads, workers_in};
+ghost use Rattle.std.specs.Prelude.{◌≡◌, ◌∷◌, ◌&&◌, [], is_some, length, map, nat_le, option_map, string_bytes};
+ghost use Rattle.net_base.specs.Hexadecimal.{hex_bytes, hex_value};
+ghost use Rattle.net_model.specs.Words.{command_of, is_message, is_word, messages_in, reads, workers_in};
 ghost use Rattle.netsh.specs.Commands.{command_read, question_read};
 
 use words::number_in;
@@ -14,6 +15,8 @@ pub enum Question<'a> {
     Tuples(&'a [u8], &'a [u8]),
     /// `query ATTR VALUE RATTR`
     Beside(&'a [u8], &'a [u8], &'a [u8]),
+    /// `dns HEX`
+    Dns(&'a [u8]),
     /// `make N`
     Make(u32),
     /// `check`
@@ -43,6 +46,7 @@ pub fn has_input(question: Question<'_>) -> bool
         Question::Cs(_, _) => true,
         Question::Tuples(_, _) => true,
         Question::Beside(_, _, _) => true,
+        Question::Dns(_) => true,
         Question::Make(_) => false,
         Question::Check => true,
         Question::Translate => true,
@@ -96,7 +100,47 @@ fn read_two<'a>(name: &[u8], number: &'a [u8]) -> Option<Command<'a>>
     if name == b"export".as_slice() {
         return Some(Command::Export(read_workers(number)?));
     }
+    if name == b"dns".as_slice() && is_message(number) {
+        return Some(Command::Question(Question::Dns(number)));
+    }
     None
+}
+
+/// The most digits of a message, two a byte.
+const MOST_DIGITS: usize = 2048;
+
+/// Whether a word is a message in hexadecimal, of 1 to 1024 bytes.
+#[tactic(auto, using(crate::proofs::Messages::message_is))]
+fn is_message(word: &[u8]) -> bool
+    ensures { result ≡ is_message word.now }
+{
+    is_within(word) && are_pairs(word)
+}
+
+/// Whether a word is as long as one of 1 to 1024 bytes may be.
+fn is_within(word: &[u8]) -> bool
+    ensures { result ≡ (nat_le 2 (length word.now) && nat_le (length word.now) 2048) }
+{
+    2 <= word.len() && word.len() <= MOST_DIGITS
+}
+
+/// Whether all bytes are pairs of digits in lower case.
+#[tactic(auto, using(crate::proofs::Messages::pair_more))]
+fn are_pairs(digits: &[u8]) -> bool
+    ensures { result ≡ is_some (hex_bytes digits.now) }
+{
+    match digits {
+        [] => true,
+        [high, low, rest @ ..] => is_digit(*high) && is_digit(*low) && are_pairs(rest),
+        _ => false,
+    }
+}
+
+/// Whether a byte is a digit in lower case.
+fn is_digit(byte: u8) -> bool
+    ensures { result ≡ is_some (hex_value byte) }
+{
+    matches!(byte, b'0'..=b'9' | b'a'..=b'f')
 }
 
 /// The number of workers that a word says, 1 to 16.

@@ -10,7 +10,7 @@ ghost use Rattle.netsh.specs.Commands.{question_read};
 use crate::command::{Command, Question, has_input, read_words};
 use command_line::tell;
 use commands::{
-    Answer, READ_FAULT, TOO_LONG, USAGE, big, check, cs, export_over, make, query_beside,
+    Answer, READ_FAULT, TOO_LONG, USAGE, big, check, cs, dns, export_over, make, query_beside,
     query_tuples, run_over, translate, values_are_answers,
 };
 use outside::{Gate, Sink, Source, SureSink, SureSource, TakeError, read_to_end};
@@ -57,6 +57,7 @@ fn answer_over(alloc: Global, question: Question<'_>, input: &[u8]) -> Result<An
         Question::Cs(sys, query) => cs(alloc, sys, query, input),
         Question::Tuples(attr, value) => query_tuples(alloc, attr, value, input),
         Question::Beside(attr, value, other) => query_beside(alloc, attr, value, other, input),
+        Question::Dns(word) => dns(alloc, word, input),
         Question::Make(messages) => make(alloc, messages),
         Question::Check => check(alloc, input),
         Question::Translate => translate(alloc, input),
@@ -71,6 +72,7 @@ fn limit_of(question: Question<'_>) -> usize
         Question::Cs(_, _) => INPUT_LIMIT,
         Question::Tuples(_, _) => INPUT_LIMIT,
         Question::Beside(_, _, _) => INPUT_LIMIT,
+        Question::Dns(_) => INPUT_LIMIT,
         Question::Make(_) => INPUT_LIMIT,
         Question::Check => HISTORY_LIMIT,
         Question::Translate => INPUT_LIMIT,

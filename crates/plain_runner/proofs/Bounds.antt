@@ -88,7 +88,7 @@ works_within w a net (x ∷ xs) = by_actor (same_actor x.actor a) refl (works_wi
     by_actor false is rest = rw is (omega (arith, rest))
 
 pub few_works : Within → (w : World) (h : List Entry) (a : ActorName) → IsWorld w → IsLegal w h → length (works w h a) < 2 ^ 30
-few_works within w h a world legal = omega (arith, works_within w a opening_net h, few_entries within w h world legal)
+few_works within w h a world legal = omega (arith, works_within w a (opening_net w) h, few_entries within w h world legal)
 
 -- Moments.
 

@@ -11,7 +11,7 @@ use Rattle.net_base.specs.declared.world.MediumSpec.{MediumSpec}
 use Rattle.net_base.specs.declared.world.Script.{Script}
 use Rattle.net_base.specs.declared.world.World.{World}
 use Rattle.net_base.specs.ActorStep.{Step}
-use Rattle.net_base.specs.Actors.{Actor, IsConv, IsDir, IsMedium, IsPlain, actor_step, step_as}
+use Rattle.net_base.specs.Actors.{Actor, IsDesk, IsConv, IsDir, IsMedium, IsPlain, actor_step, step_as}
 use Rattle.net_base.specs.Callers.{Caller, IsScript, IsCourier, IsClock, caller_of, other_caller, caller_count, clock_number, first_courier}
 use Rattle.net_base.specs.Calm.{calm, can_go_on, is_quiet, is_ready, nothing_owed, nothing_pending, owes, scripts_wait}
 use Rattle.net_base.specs.Medium.{Medium, takes}
@@ -108,6 +108,7 @@ quiet_is w net m lt = by_actor (net.actors (name.Medium m))
     by_actor (IsMedium s) = rw (lt-ltb m (length w.media) lt, spec.1, as_so (takes s.queue s.held s)) (takes_so s.queue s.held s)
     by_actor (IsConv c) = rw (lt-ltb m (length w.media) lt) refl
     by_actor (IsDir d) = rw (lt-ltb m (length w.media) lt) refl
+    by_actor (IsDesk d) = rw (lt-ltb m (length w.media) lt) refl
     by_actor IsPlain = rw (lt-ltb m (length w.media) lt) refl
 
 -- The calm.

@@ -29,7 +29,7 @@ use Rattle.plain_runner.proofs.Ranges.{and_left, and_right, passed_range, unpass
 use Rattle.plain_runner.proofs.Standing.{script_at, script_role, unfinished_from, unfinished_more, unfinished_none}
 
 pub past_is : (w : World) (h : List Entry) → (after w h).past ≡ h
-past_is w h = past_after w opening_net h
+past_is w h = past_after w (opening_net w) h
 
 -- One caller.
 

@@ -52,7 +52,7 @@ all_callers w n ks is first = record { count = first.count ∙ is; each = first.
 pub few_media : (w : World) → IsWorld w → length w.media ≤ 4
 few_media w world = leb-true (length w.media) 4 (and_parts (nat_le 1 (length w.media)) (nat_le (length w.media) 4) world.some_media).1
 
-pub opening_tracks : (w : World) (r : Runner) → IsWorld w → r.history.entries ≡ [] → r.count ≡ 0 → r.moment ≡ 0 → AreCallers w [] r.callers.items → AreActors w r.net opening_actor
+pub opening_tracks : (w : World) (r : Runner) → IsWorld w → r.history.entries ≡ [] → r.count ≡ 0 → r.moment ≡ 0 → AreCallers w [] r.callers.items → AreActors w r.net (opening_actor w.timers)
     → AreWaysOfWorld w r.ways → Tracks w r
 opening_tracks w r world history none moment callers are ways = record {
   history = rw history record { world = world; legal = λ k x is. absurd (none-some x is); timed = λ k x is. absurd (none-some x is) };

@@ -65,6 +65,7 @@ fits_still = record {
 says_still : (h : ℕ) (s : Step) → Says h IsStillAt s
 says_still h (step.Open called path m) = ((tt, tt), λ a m. tt)
 says_still h (step.Until moment) = tt
+says_still h step.Refresh = tt
 says_still h (step.Ls path) = tt
 says_still h (step.Cs query) = tt
 says_still h (step.Dial called address) = ((tt, tt), (tt, tt))

@@ -128,7 +128,7 @@ sends_account g g' text n e e' own sent taken cut got closed_by_peer some = reco
 pub write_account : (g g' now : ℕ) (text : List ℕ) (n : ℕ) (e : End) → g' ≡ g → IsSized text → Account g (event.Write g' text) (reply.Count n) e (writes_end now text e).end
 write_account g g' now text n e own some =
     cond_both (has_unacked e) _ _ (λ (t : Turn). Account g (event.Write g' text) (reply.Count n) e t.end)
-    (λ _. sends_account g g' text n e (sends text e).end own refl refl refl refl refl some) (λ _. sends_account g g' text n e (sends text (starts now e)).end own refl refl refl refl refl some)
+    (λ _. sends_account g g' text n e (sends now text e).end own refl refl refl refl refl some) (λ _. sends_account g g' text n e (sends now text (starts now e)).end own refl refl refl refl refl some)
 
 pub joined-append : (xs ys : List (List ℕ)) → joined (xs ++ ys) ≡ joined xs ++ joined ys
 joined-append [] ys = refl

@@ -17,6 +17,7 @@ use Rattle.net_base.specs.declared.history.With.{With}
 use Rattle.net_base.specs.declared.history.With.TheVariants as given
 use Rattle.net_base.specs.IlEnd.{End, Turn, fresh_end, silent}
 use Rattle.net_base.specs.IlTable.{is_sized, at_closed, row, arrives, hangs_up_at, ticks_to}
+use Rattle.net_base.specs.declared.timer.Timers.{Timers}
 use Rattle.net_base.specs.Timer as timer
 use Rattle.net_base.specs.Timer.{ticks_at}
 use Rattle.net_base.specs.Conversation.{Conv, Stage, Connected}
@@ -133,14 +134,18 @@ idle_act now c e ev gift t (Reading count stage is) not idle = absurd (connected
 idle_act now c e ev gift t (Hanging is) not idle = subst (λ (u : Turn). Quiet u) (sym is) (idle_hangs e.state now e idle.0 idle)
 idle_act now c e ev gift t (Ticking is) not idle = subst (λ (u : Turn). Quiet u) (sym is) (idle_ticks e.timer.due now e idle.2 idle)
 
-pub fresh_idle : Idle fresh_end
-fresh_idle = (tt, refl, refl, refl, refl, refl)
+pub fresh_idle : (k : Timers) → Idle (fresh_end k)
+fresh_idle k = (tt, refl, refl, refl, refl, refl)
+
+-- an end that is fresh with some timers is so with its own
+pub fresh_again : (e : End) (k : Timers) → e ≡ fresh_end k → e ≡ fresh_end e.timer.timers
+fresh_again e k is = is ∙ ap (λ (x : Timers). fresh_end x) (sym (ap (λ (x : End). x.timer.timers) is))
 
 -- a fresh end stays fresh
-pub fresh_act : (now : ℕ) (c : Conv) (ev : Event) (gift : With) (t : Turn) → Act now c fresh_end ev gift t → is_connected c.stage ≡ false → t ≡ silent fresh_end
-fresh_act now c ev gift t (Rest is) not = is
-fresh_act now c ev gift t (Arrival p m event_is gift_is body_is is) not = is ∙ idle_arrives now m fresh_end fresh_idle
-fresh_act now c ev gift t (Writing text stage state_is is) not = absurd (connected_stage c.stage not stage)
-fresh_act now c ev gift t (Reading count stage is) not = absurd (connected_stage c.stage not stage)
-fresh_act now c ev gift t (Hanging is) not = is
-fresh_act now c ev gift t (Ticking is) not = is
+pub fresh_act : (k : Timers) (now : ℕ) (c : Conv) (ev : Event) (gift : With) (t : Turn) → Act now c (fresh_end k) ev gift t → is_connected c.stage ≡ false → t ≡ silent (fresh_end k)
+fresh_act k now c ev gift t (Rest is) not = is
+fresh_act k now c ev gift t (Arrival p m event_is gift_is body_is is) not = is ∙ idle_arrives now m (fresh_end k) (fresh_idle k)
+fresh_act k now c ev gift t (Writing text stage state_is is) not = absurd (connected_stage c.stage not stage)
+fresh_act k now c ev gift t (Reading count stage is) not = absurd (connected_stage c.stage not stage)
+fresh_act k now c ev gift t (Hanging is) not = is
+fresh_act k now c ev gift t (Ticking is) not = is

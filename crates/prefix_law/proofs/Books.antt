@@ -15,6 +15,7 @@ use Rattle.net_base.specs.declared.reply.Reply.{Reply}
 use Rattle.net_base.specs.declared.history.With.{With}
 use Rattle.net_base.specs.declared.history.With.TheVariants as given
 use Rattle.net_base.specs.declared.history.Entry.{Entry}
+use Rattle.net_base.specs.declared.timer.Timers.TheVariants.{Fixed}
 use Rattle.net_base.specs.IlEnd.{End, Turn, fresh_end, silent}
 use Rattle.net_base.specs.IlTable.{connects, is_born}
 use Rattle.prefix_law.proofs.Pairs.{Side, leaves}
@@ -268,12 +269,12 @@ module _ (k h n : ℕ) (t : Trace) (w : Owned k t) (now : ℕ) (c : Conv) (e : E
   stay_booked after Listening is has other turn st = quietly (ap is_connected (st.stage_is ∙ is)) (λ g. other.silent g (λ _. ap is_connected is))
 
   -- a pair that was never used begins
-  begins_booked : (p : Pair) (turn : Turn) (g : ℕ) → t.owner p ≡ owner_of h n g → t.side p ≡ empty_side → Leaves fresh_end turn.end → ((g' : ℕ) → Silent g' ev s.outcome.reply)
+  begins_booked : (p : Pair) (turn : Turn) (g : ℕ) → t.owner p ≡ owner_of h n g → t.side p ≡ empty_side → Leaves (fresh_end Fixed) turn.end → ((g' : ℕ) → Silent g' ev s.outcome.reply)
       → touched t p turn ≡ conv_trace s.state.stage s.state.core s.state s.outcome.emit t → IsBooked
   begins_booked p turn g is empty l silent same =
       subst (λ (u : Trace). Booked t u (actor.Conv h proto.Il n) ev s.outcome.reply) same
       (booked_touched h n ev s.outcome.reply k t p turn g w is
-      (subst (λ (x : Side). Account g ev s.outcome.reply x.end turn.end) (sym empty) (left_account g ev s.outcome.reply fresh_end turn.end l (silent g)))
+      (subst (λ (x : Side). Account g ev s.outcome.reply x.end turn.end) (sym empty) (left_account g ev s.outcome.reply (fresh_end Fixed) turn.end l (silent g)))
       (λ g' _. silent g')
       (λ m. absurd (both_ways m (ap (λ (x : Side). x.end.closed_by_peer) empty))))
 
@@ -284,16 +285,16 @@ module _ (k h n : ℕ) (t : Trace) (w : Owned k t) (now : ℕ) (c : Conv) (e : E
   conv_booked after fine gift_fine other (Join j) =
       let owner : t.owner j.pair ≡ owner_of h n c.generation = subst (λ (g : With). GiftFine t h n (event.Connect c.generation) g) j.given_is (subst (λ (x : Event). GiftFine t h n x gift) j.event_is gift_fine) in
       let has : HasEnd t h n (of_end c e) c.stage (Il e) = fine.0 in
-      let end_is : e ≡ fresh_end = rw j.was at has in
+      let end_is : e ≡ fresh_end e.timer.timers = rw j.was at has in
       begins_booked j.pair (connects now j.start e) c.generation owner (fine.1 j.pair c.generation owner (omega arith) (λ _. ap is_connected j.was))
-      (subst (λ (x : End). Leaves fresh_end (connects now j.start x).end) (sym end_is) (record { sent_is = refl; taken_is = refl; cut_is = refl; got_more = λ i u z. z; marked_stays = λ z. z }))
+      (subst (λ (x : End). Leaves (fresh_end Fixed) (connects now j.start x).end) (sym end_is) (record { sent_is = refl; taken_is = refl; cut_is = refl; got_more = λ i u z. z; marked_stays = λ z. z }))
       (λ g. subst (λ (x : Event). Silent g x s.outcome.reply) (sym j.event_is) (connect_silent g c.generation s.outcome.reply))
       (trace_touched t j.pair (connects now j.start e) s j.stage_is j.core_is j.pair_is j.emits)
   conv_booked after fine gift_fine other (Come x) =
       let p : Pair = record { local = x.packet.dst; remote = x.packet.src } in
       let g = c.generation + 1 in
       let gift' : GiftFine t h n (event.Born g) (given.Birth x.packet x.start x.limit) = subst (λ (y : With). GiftFine t h n (event.Born g) y) x.given_is (subst (λ (y : Event). GiftFine t h n y gift) x.event_is gift_fine) in
-      begins_booked p (is_born now x.start x.message.id fresh_end) g gift'.0 (fine.1 p g gift'.0 (omega arith) (λ is. absurd (omega arith)))
+      begins_booked p (is_born now x.start x.message.id (fresh_end e.timer.timers)) g gift'.0 (fine.1 p g gift'.0 (omega arith) (λ is. absurd (omega arith)))
       (record { sent_is = refl; taken_is = refl; cut_is = refl; got_more = λ i u z. z; marked_stays = λ z. z })
       (λ g'. subst (λ (y : Event). Silent g' y s.outcome.reply) (sym x.event_is) (born_silent g' g s.outcome.reply))
-      (trace_touched t p (is_born now x.start x.message.id fresh_end) s x.stage_is x.core_is x.pair_is x.emits)
+      (trace_touched t p (is_born now x.start x.message.id (fresh_end e.timer.timers)) s x.stage_is x.core_is x.pair_is x.emits)

@@ -57,12 +57,12 @@ pub record Stays (c : Conv) (e : End) (ev : Event) (t : Turn) (s : Step Conv) : 
   pub emits : Emits c.pair s.outcome.emit t.emits
   pub account : Account c.generation ev s.outcome.reply e t.end
 
-pub record Begins (c : Conv) (ev : Event) (s : Step Conv) : Type 0 where
+pub record Begins (c : Conv) (e : End) (ev : Event) (s : Step Conv) : Type 0 where
   pub event_is : ev ≡ event.Begin (c.generation + 1)
   pub generation_is : s.state.generation ≡ c.generation + 1
   pub stage_is : s.state.stage ≡ Unused
   pub limit_is : s.state.limit ≡ 0
-  pub core_is : s.state.core ≡ Il fresh_end
+  pub core_is : s.state.core ≡ Il (fresh_end e.timer.timers)
   pub emits_none : s.outcome.emit ≡ None
 
 pub record Joins (now : ℕ) (c : Conv) (e : End) (ev : Event) (gift : With) (s : Step Conv) : Type 0 where
@@ -79,7 +79,7 @@ pub record Joins (now : ℕ) (c : Conv) (e : End) (ev : Event) (gift : With) (s 
   pub core_is : s.state.core ≡ Il (connects now start e).end
   pub emits : Emits pair s.outcome.emit (connects now start e).emits
 
-pub record Comes (now : ℕ) (c : Conv) (ev : Event) (gift : With) (s : Step Conv) : Type 0 where
+pub record Comes (now : ℕ) (c : Conv) (e : End) (ev : Event) (gift : With) (s : Step Conv) : Type 0 where
   pub packet : Packet
   pub message : IlMsg
   pub start : ℕ
@@ -92,8 +92,8 @@ pub record Comes (now : ℕ) (c : Conv) (ev : Event) (gift : With) (s : Step Con
   pub pair_is : s.state.pair ≡ record { local = packet.dst; remote = packet.src }
   pub stage_is : s.state.stage ≡ Connected
   pub limited : s.state.limit ≤ 8192
-  pub core_is : s.state.core ≡ Il (is_born now start message.id fresh_end).end
-  pub emits : Emits (record { local = packet.dst; remote = packet.src }) s.outcome.emit (is_born now start message.id fresh_end).emits
+  pub core_is : s.state.core ≡ Il (is_born now start message.id (fresh_end e.timer.timers)).end
+  pub emits : Emits (record { local = packet.dst; remote = packet.src }) s.outcome.emit (is_born now start message.id (fresh_end e.timer.timers)).emits
 
 pub record Opens (c : Conv) (e : End) (ev : Event) (s : Step Conv) : Type 0 where
   pub event_is : ev ≡ event.Announced c.generation
@@ -106,9 +106,9 @@ pub record Opens (c : Conv) (e : End) (ev : Event) (s : Step Conv) : Type 0 wher
 
 pub data Move (now : ℕ) (c : Conv) (e : End) (ev : Event) (gift : With) (s : Step Conv) : Type 0 where
   Stay : (t : Turn) → Act now c e ev gift t → Stays c e ev t s → Move now c e ev gift s
-  Begin : Begins c ev s → Move now c e ev gift s
+  Begin : Begins c e ev s → Move now c e ev gift s
   Join : Joins now c e ev gift s → Move now c e ev gift s
-  Come : Comes now c ev gift s → Move now c e ev gift s
+  Come : Comes now c e ev gift s → Move now c e ev gift s
   Listen : Opens c e ev s → Move now c e ev gift s
 
 -- the conversation with this end

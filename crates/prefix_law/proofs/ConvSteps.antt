@@ -11,6 +11,8 @@ use Rattle.net_base.specs.declared.packet.Body.TheVariants as body
 use Rattle.net_base.specs.declared.packet.Packet.{Packet}
 use Rattle.net_base.specs.declared.history.With.{With}
 use Rattle.net_base.specs.declared.history.With.TheVariants as given
+use Rattle.net_base.specs.declared.timer.Timers.{Timers}
+use Rattle.net_base.specs.declared.timer.Timers.TheVariants.{Fixed}
 use Rattle.net_base.specs.IlEnd.{End, Turn, fresh_end, silent}
 use Rattle.net_base.specs.IlTable.{connects, is_born, announced}
 use Rattle.prefix_law.proofs.Pairs.{Side, is_sync}
@@ -21,7 +23,7 @@ use Rattle.prefix_law.proofs.Trace.{Trace, empty_side, conv_trace}
 use Rattle.prefix_law.proofs.Talking.{Sound, Link, Knows, Good}
 use Rattle.prefix_law.proofs.Rows.{Few}
 use Rattle.prefix_law.proofs.Deeds.{both_ways, EachSound, good_connects, good_is_born, sync_id}
-use Rattle.prefix_law.proofs.Acts.{Refusal, Told, Idle, Quiet, good_act, idle_act, fresh_act}
+use Rattle.prefix_law.proofs.Acts.{Refusal, Told, Idle, Quiet, good_act, idle_act, fresh_act, fresh_again}
 use Rattle.prefix_law.proofs.ConvMoves.{is_connected}
 use Rattle.prefix_law.proofs.ConvMoves.{Act, Emits, Stays, Begins, Joins, Comes, Opens, Move, Stay, Begin, Join, Come, Listen, of_end}
 use Rattle.prefix_law.proofs.Marks.{CloseComes, act_marked}
@@ -93,6 +95,10 @@ trace_touched t p turn s stage_is core_is pair_is emits =
 not_yet_stays : (t : Trace) (h n : ℕ) (c d : Conv) → d.generation ≡ c.generation → is_connected c.stage ≡ false → NotYet t h n c → NotYet t h n d
 not_yet_stays t h n c d same not f p g owner le _ = f p g owner (omega (arith, same)) (λ _. not)
 
+-- a turn that is good for a fresh end is so whatever its timers are
+good_of : (kind kind' : Timers) (e' : End) (turn : Turn) → Good (fresh_end kind) e' turn → Good (fresh_end kind') e' turn
+good_of kind kind' e' turn g = record { link = g.link; knows = g.knows; grows = g.grows; says = g.says }
+
 module _ (k h n : ℕ) (t : Trace) (few : k < 2 ^ 31) (w : Owned k t) (now : ℕ) (c : Conv) (e : End) (ev : Event) (gift : With) (s : Step Conv) where
   -- the two ends of a pair have written little
   few_at : (p : Pair) → Few (t.side p).end (t.side (mirror p)).end
@@ -127,9 +133,9 @@ module _ (k h n : ℕ) (t : Trace) (few : k < 2 ^ 31) (w : Owned k t) (now : ℕ
           told k t c.pair q.body m w body_is (subst (λ (r : Pair). EmittedAs t (mirror r) q.body) same fine.1)
   stay Unused is has not_yet gift_fine turn act st =
       let not : is_connected c.stage ≡ false = ap is_connected is in
-      let turn_is : turn ≡ silent fresh_end = fresh_act now c ev gift turn (subst (λ (x : End). Act now c x ev gift turn) has act) not in
+      let turn_is : turn ≡ silent (fresh_end e.timer.timers) = fresh_act e.timer.timers now c ev gift turn (subst (λ (x : End). Act now c x ev gift turn) has act) not in
       let stage_is : s.state.stage ≡ Unused = st.stage_is ∙ is in
-      let end_is : turn.end ≡ fresh_end = ap (λ (u : Turn). u.end) turn_is in
+      let end_is : turn.end ≡ fresh_end turn.end.timer.timers = fresh_again turn.end e.timer.timers (ap (λ (u : Turn). u.end) turn_is) in
       keeps k h n t s w (rw (stage_is, st.core_is) end_is, not_yet_stays t h n c s.state st.generation_is not not_yet) (ap is_connected stage_is)
       (none_emits c.pair s.outcome.emit turn.emits st.emits (ap (λ (u : Turn). u.emits) turn_is))
   stay Listening is has not_yet gift_fine turn act st =
@@ -139,14 +145,14 @@ module _ (k h n : ℕ) (t : Trace) (few : k < 2 ^ 31) (w : Owned k t) (now : ℕ
       keeps k h n t s w (rw (stage_is, st.core_is) quiet.idle, not_yet_stays t h n c s.state st.generation_is not not_yet) (ap is_connected stage_is)
       (none_emits c.pair s.outcome.emit turn.emits st.emits quiet.emits_none)
 
-  begin : NotYet t h n c → Begins c ev s → ConvStep k h n t (conv_trace s.state.stage s.state.core s.state s.outcome.emit t) s
+  begin : NotYet t h n c → Begins c e ev s → ConvStep k h n t (conv_trace s.state.stage s.state.core s.state s.outcome.emit t) s
   begin not_yet b =
       keeps k h n t s w (rw (b.stage_is, b.core_is) refl, λ p g owner le _. not_yet p g owner (omega (arith, b.generation_is)) (λ is. absurd (omega (arith, b.generation_is))))
       (ap is_connected b.stage_is) b.emits_none
 
   listen : HasEnd t h n (of_end c e) c.stage (Il e) → NotYet t h n c → Opens c e ev s → ConvStep k h n t (conv_trace s.state.stage s.state.core s.state s.outcome.emit t) s
   listen has not_yet o =
-      let end_is : e ≡ fresh_end = rw o.was at has in
+      let end_is : e ≡ fresh_end e.timer.timers = rw o.was at has in
       keeps k h n t s w (rw (o.stage_is, o.core_is) (subst (λ (x : End). Idle (announced x)) (sym end_is) (tt, refl, refl, refl, refl, refl)), not_yet_stays t h n c s.state o.generation_is (ap is_connected o.was) not_yet)
       (ap is_connected o.stage_is) o.emits_none
 
@@ -155,35 +161,41 @@ module _ (k h n : ℕ) (t : Trace) (few : k < 2 ^ 31) (w : Owned k t) (now : ℕ
   join has not_yet gift_fine j =
       let p = j.pair in
       let owner : t.owner p ≡ owner_of h n c.generation = subst (λ (g : With). GiftFine t h n (event.Connect c.generation) g) j.given_is (subst (λ (x : Event). GiftFine t h n x gift) j.event_is gift_fine) in
-      let end_is : e ≡ fresh_end = rw j.was at has in
+      let kind = e.timer.timers in
+      let end_is : e ≡ fresh_end kind = rw j.was at has in
       let empty : t.side p ≡ empty_side = not_yet p c.generation owner (omega arith) (λ _. ap is_connected j.was) in
-      let same : (t.side p).end ≡ e = ap (λ (x : Side). x.end) empty ∙ sym end_is in
-      let holds = w.talk p in
-      let good : Good (t.side p).end (t.side (mirror p)).end (connects now j.start e) =
-      subst (λ (x : End). Good (t.side p).end (t.side (mirror p)).end (connects now j.start x)) same
-      (good_connects now j.start (t.side p).end (t.side (mirror p)).end (ap (λ (x : Side). x.end.fresh) empty) (ap (λ (x : Side). x.end.cause) empty) holds.link holds.knows) in
+      let bare : (t.side p).end ≡ fresh_end Fixed = ap (λ (x : Side). x.end) empty in
+      let e' = (t.side (mirror p)).end in
+      let link : Link (fresh_end kind) e' = subst (λ (x : End). Link x e') bare (w.talk p).link in
+      let knows : Knows (fresh_end kind) = subst (λ (x : End). Knows x) bare (w.talk p).knows in
+      let good : Good (t.side p).end e' (connects now j.start e) =
+      subst (λ (x : End). Good (t.side p).end e' (connects now j.start x)) (sym end_is)
+      (subst (λ (x : End). Good x e' (connects now j.start (fresh_end kind))) (sym bare)
+      (good_of kind Fixed e' (connects now j.start (fresh_end kind)) (good_connects now j.start (fresh_end kind) e' refl refl link knows))) in
       subst (λ (u : Trace). ConvStep k h n t u s) (trace_touched t p (connects now j.start e) s j.stage_is j.core_is j.pair_is j.emits)
       (touches t p (connects now j.start e) k h n c.generation c s owner (omega arith) not_yet w good j.generation_is j.pair_is j.stage_is j.core_is j.emits
       (λ is_marked. absurd (both_ways is_marked (ap (λ (x : End). x.closed_by_peer) end_is))))
 
-  come : NotYet t h n c → GiftFine t h n ev gift → Comes now c ev gift s → ConvStep k h n t (conv_trace s.state.stage s.state.core s.state s.outcome.emit t) s
+  come : NotYet t h n c → GiftFine t h n ev gift → Comes now c e ev gift s → ConvStep k h n t (conv_trace s.state.stage s.state.core s.state s.outcome.emit t) s
   come not_yet gift_fine x =
       let p : Pair = record { local = x.packet.dst; remote = x.packet.src } in
       let g = c.generation + 1 in
-      let turn = is_born now x.start x.message.id fresh_end in
+      let kind = e.timer.timers in
+      let turn = is_born now x.start x.message.id (fresh_end kind) in
       let fine : GiftFine t h n (event.Born g) (given.Birth x.packet x.start x.limit) = subst (λ (y : With). GiftFine t h n (event.Born g) y) x.given_is (subst (λ (y : Event). GiftFine t h n y gift) x.event_is gift_fine) in
       let empty : t.side p ≡ empty_side = not_yet p g fine.0 (omega arith) (λ is. absurd (omega arith)) in
-      let same : (t.side p).end ≡ fresh_end = ap (λ (y : Side). y.end) empty in
-      let holds = w.talk p in
-      let from : Told (t.side (mirror p)).end x.message = told k t p x.packet.body x.message w x.body_is fine.1 in
-      let good : Good (t.side p).end (t.side (mirror p)).end turn =
-      subst (λ (y : End). Good (t.side p).end (t.side (mirror p)).end (is_born now x.start x.message.id y)) same (born holds.link holds.knows (ap (λ (y : Side). y.end.fresh) empty) (ap (λ (y : Side). y.end.cause) empty) from) in
+      let bare : (t.side p).end ≡ fresh_end Fixed = ap (λ (y : Side). y.end) empty in
+      let e' = (t.side (mirror p)).end in
+      let link : Link (fresh_end kind) e' = subst (λ (y : End). Link y e') bare (w.talk p).link in
+      let knows : Knows (fresh_end kind) = subst (λ (y : End). Knows y) bare (w.talk p).knows in
+      let from : Told e' x.message = told k t p x.packet.body x.message w x.body_is fine.1 in
+      let good : Good (t.side p).end e' turn = subst (λ (y : End). Good y e' turn) (sym bare) (good_of kind Fixed e' turn (born (fresh_end kind) e' link knows refl refl from)) in
       subst (λ (u : Trace). ConvStep k h n t u s) (trace_touched t p turn s x.stage_is x.core_is x.pair_is x.emits)
       (touches t p turn k h n g c s fine.0 (omega arith) not_yet w good x.generation_is x.pair_is x.stage_is x.core_is x.emits (λ is_marked. absurd (both_ways is_marked refl)))
     where
-      born : {a b : End} → Link a b → Knows a → a.fresh ≡ true → a.cause ≡ None → Told b x.message → Good a b (is_born now x.start x.message.id a)
-      born {a} {b} l knows fresh none (inl from) = good_is_born now x.start x.message.id a b fresh none from.0 (sync_id x.message.kind b x.message x.is_sync from.1) l knows
-      born {a} {b} l knows fresh none (inr refusal) = absurd (both_ways x.is_sync (ap is_sync refusal.0))
+      born : (a b : End) → Link a b → Knows a → a.fresh ≡ true → a.cause ≡ None → Told b x.message → Good a b (is_born now x.start x.message.id a)
+      born a b l knows fresh none (inl from) = good_is_born now x.start x.message.id a b fresh none from.0 (sync_id x.message.kind b x.message x.is_sync from.1) l knows
+      born a b l knows fresh none (inr refusal) = absurd (both_ways x.is_sync (ap is_sync refusal.0))
 
   pub conv_steps : ConvFine t h n (of_end c e) → GiftFine t h n ev gift → Move now c e ev gift s → ConvStep k h n t (conv_trace s.state.stage s.state.core s.state s.outcome.emit t) s
   conv_steps fine gift_fine (Stay turn act st) = stay c.stage refl fine.0 fine.1 gift_fine turn act st

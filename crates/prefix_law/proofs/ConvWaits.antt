@@ -4,6 +4,7 @@ use Rattle.std.specs.Option.{option_map, option_and_then}
 use Rattle.std.specs.Prelude.{IfSome, slice_get}
 use Rattle.std.proofs.lemmas.Bool.{cond_both, eq-eqb}
 use Rattle.std.proofs.lemmas.Option.{none-some, same_Some}
+use Rattle.net_base.specs.declared.timer.Timers.{Timers}
 use Rattle.net_base.specs.declared.actor.ActorName.{ActorName}
 use Rattle.net_base.specs.declared.actor.ActorName.TheVariants as name
 use Rattle.net_base.specs.declared.address.Proto.{Proto}
@@ -17,9 +18,9 @@ use Rattle.net_base.specs.declared.world.HostSpec.{HostSpec}
 use Rattle.net_base.specs.declared.world.MediumSpec.{MediumSpec}
 use Rattle.net_base.specs.declared.world.World.{World}
 use Rattle.net_base.specs.ActorStep.{Step, when}
-use Rattle.net_base.specs.Actors.{Actor, IsDir, IsConv, IsMedium, IsPlain, actor_step, step_as, has_actor, plain_step, opening_actor, opening_core}
+use Rattle.net_base.specs.Actors.{Actor, IsDesk, IsDir, IsConv, IsMedium, IsPlain, actor_step, step_as, has_actor, plain_step, opening_actor, opening_core}
 use Rattle.net_base.specs.Conversation.{Conv, Core, Il, Udp, conv_step, ticked}
-use Rattle.net_base.specs.Desk.{desk_reply, clock_reply}
+use Rattle.net_base.specs.Desk.{Desk, desk_step, clock_reply}
 use Rattle.net_base.specs.Directory.{dir_step}
 use Rattle.net_base.specs.Duties.{due_of, due_of_core, generation_of}
 use Rattle.net_base.specs.IlEnd.{End, Turn}
@@ -27,7 +28,7 @@ use Rattle.net_base.specs.Medium.{Medium, medium_step}
 use Rattle.prefix_law.proofs.ConvMoves.{Act, Rest, Arrival, Writing, Reading, Hanging, Ticking, Move, Stay, Begin, Join, Come, Listen, of_end, moves}
 use Rattle.prefix_law.proofs.Deeds.{both_ways}
 use Rattle.prefix_law.proofs.OtherSteps.{IsUdp, udp_steps}
-use Rattle.prefix_law.proofs.Waits.{Beyond, Runs, EndLater, end_kept, arrives_later, hangs_up_later, writes_later, reads_later, waits_later, ticks_wait}
+use Rattle.prefix_law.proofs.Waits.{Beyond, Runs, EndLater, end_kept, arrives_later, hangs_up_later, writes_later, reads_later, waits_later, ticks_wait, some_base}
 
 -- an IL conversation's limit is small, and what it waits for it has waited for a while
 abbrev pub Timed : Core → ℕ → Type 0
@@ -68,14 +69,18 @@ moved now c e ev gift s t (Begin begins) = record {
   timed = timed_as s.state _ 0 begins.core_is begins.limit_is (omega arith, tt);
   due = inr (beyond_as now s.state _ begins.core_is tt);
 }
-moved now c e ev gift s t (Join joins) = record {
-  timed = timed_as s.state _ s.state.limit joins.core_is refl (joins.limited, omega arith);
-  due = inr (beyond_as now s.state _ joins.core_is (omega arith));
-}
-moved now c e ev gift s t (Come comes) = record {
-  timed = timed_as s.state _ s.state.limit comes.core_is refl (comes.limited, omega arith);
-  due = inr (beyond_as now s.state _ comes.core_is (omega arith));
-}
+moved now c e ev gift s t (Join joins) =
+    let waits = some_base e.timer.timers e.timer.measured e.timer.mean e.timer.dev in
+    record {
+      timed = timed_as s.state _ s.state.limit joins.core_is refl (joins.limited, waits);
+      due = inr (beyond_as now s.state _ joins.core_is (omega (arith, waits)));
+    }
+moved now c e ev gift s t (Come comes) =
+    let waits = some_base e.timer.timers false 0 0 in
+    record {
+      timed = timed_as s.state _ s.state.limit comes.core_is refl (comes.limited, waits);
+      due = inr (beyond_as now s.state _ comes.core_is (omega (arith, waits)));
+    }
 moved now c e ev gift s t (Listen opens) = record {
   timed = timed_as s.state _ c.limit opens.core_is opens.limit_is t;
   due = inl (ap due_of_core opens.core_is, opens.generation_is);
@@ -136,9 +141,11 @@ plain_later now b false o s is = absurd (none-some s is)
 plain_later now b true None s is = absurd (none-some s is)
 plain_later now b true (Some r) s is = subst (λ (t : Step Actor). ActorLater now b t.state) (same_Some _ s is) (not_conv now b IsPlain tt refl)
 
-desk_later : (w : World) (h : ℕ) (work : Work) (now : ℕ) (b : Actor) (has : Bool) (found : Option HostSpec) (s : Step Actor) → when has (option_and_then (λ (host : HostSpec). option_map plain_step (desk_reply w.db host work.event now)) found) ≡ Some s → ActorLater now b s.state
-desk_later w h work now b has None s is = absurd (never has s is)
-desk_later w h work now b has (Some host) s is = plain_later now b has (desk_reply w.db host work.event now) s is
+desk_later : (w : World) (h : ℕ) (work : Work) (now : ℕ) (d : Desk) (has : Bool) (found : Option HostSpec) (s : Step Actor) → when has (option_and_then (λ (host : HostSpec). step_as IsDesk (desk_step w.dbs host work.event now d)) found) ≡ Some s → ActorLater now (IsDesk d) s.state
+desk_later w h work now d has None s is = absurd (never has s is)
+desk_later w h work now d has (Some host) s is =
+    let t = as_step IsDesk has (desk_step w.dbs host work.event now d) s (λ (x : Desk). Unit {0}) (any_some _) is in
+    subst (λ (x : Actor). ActorLater now (IsDesk d) x) (sym t.2) (not_conv now (IsDesk d) (IsDesk t.0) tt refl)
 
 medium_later : (w : World) (work : Work) (now : ℕ) (m : Medium) (has : Bool) (found : Option MediumSpec) (s : Step Actor) → when has (option_and_then (λ (spec : MediumSpec). step_as IsMedium (medium_step spec w.seed work.event work.with m)) found) ≡ Some s → ActorLater now (IsMedium m) s.state
 medium_later w work now m has None s is = absurd (never has s is)
@@ -152,22 +159,27 @@ actor_later w (name.Conv h p n) (IsConv c) now work s t is =
     subst (λ (x : Actor). ActorLater now (IsConv c) x) (sym u.2) (record { timed = u.1.timed; due = u.1.due })
 actor_later w (name.Conv h p n) (IsDir d) now work s t is = absurd (never (has_actor w (name.Conv h p n)) s is)
 actor_later w (name.Conv h p n) (IsMedium m) now work s t is = absurd (never (has_actor w (name.Conv h p n)) s is)
+actor_later w (name.Conv h p n) (IsDesk d) now work s t is = absurd (never (has_actor w (name.Conv h p n)) s is)
 actor_later w (name.Conv h p n) IsPlain now work s t is = absurd (never (has_actor w (name.Conv h p n)) s is)
 actor_later w (name.Dir h p) (IsDir d) now work s t is =
     let u = as_step IsDir (has_actor w (name.Dir h p)) (dir_step w h p work.event work.with d) s (λ x. Unit {0}) (any_some _) is in
     subst (λ (x : Actor). ActorLater now (IsDir d) x) (sym u.2) (not_conv now (IsDir d) (IsDir u.0) tt refl)
 actor_later w (name.Dir h p) (IsConv c) now work s t is = absurd (never (has_actor w (name.Dir h p)) s is)
 actor_later w (name.Dir h p) (IsMedium m) now work s t is = absurd (never (has_actor w (name.Dir h p)) s is)
+actor_later w (name.Dir h p) (IsDesk d) now work s t is = absurd (never (has_actor w (name.Dir h p)) s is)
 actor_later w (name.Dir h p) IsPlain now work s t is = absurd (never (has_actor w (name.Dir h p)) s is)
 actor_later w (name.Medium m) (IsMedium x) now work s t is = medium_later w work now x (has_actor w (name.Medium m)) (slice_get w.media m) s is
 actor_later w (name.Medium m) (IsConv c) now work s t is = absurd (never (has_actor w (name.Medium m)) s is)
 actor_later w (name.Medium m) (IsDir d) now work s t is = absurd (never (has_actor w (name.Medium m)) s is)
+actor_later w (name.Medium m) (IsDesk d) now work s t is = absurd (never (has_actor w (name.Medium m)) s is)
 actor_later w (name.Medium m) IsPlain now work s t is = absurd (never (has_actor w (name.Medium m)) s is)
-actor_later w (name.Desk h) IsPlain now work s t is = desk_later w h work now IsPlain (has_actor w (name.Desk h)) (slice_get w.hosts h) s is
+actor_later w (name.Desk h) (IsDesk d) now work s t is = desk_later w h work now d (has_actor w (name.Desk h)) (slice_get w.hosts h) s is
+actor_later w (name.Desk h) IsPlain now work s t is = absurd (never (has_actor w (name.Desk h)) s is)
 actor_later w (name.Desk h) (IsConv c) now work s t is = absurd (never (has_actor w (name.Desk h)) s is)
 actor_later w (name.Desk h) (IsDir d) now work s t is = absurd (never (has_actor w (name.Desk h)) s is)
 actor_later w (name.Desk h) (IsMedium x) now work s t is = absurd (never (has_actor w (name.Desk h)) s is)
 actor_later w name.Clock IsPlain now work s t is = plain_later now IsPlain (has_actor w name.Clock) (clock_reply work.event) s is
+actor_later w name.Clock (IsDesk d) now work s t is = absurd (never (has_actor w name.Clock) s is)
 actor_later w name.Clock (IsConv c) now work s t is = absurd (never (has_actor w name.Clock) s is)
 actor_later w name.Clock (IsDir d) now work s t is = absurd (never (has_actor w name.Clock) s is)
 actor_later w name.Clock (IsMedium x) now work s t is = absurd (never (has_actor w name.Clock) s is)
@@ -184,13 +196,13 @@ tick_later w (name.Conv h p n) (IsConv c) now with g s conv t mine is =
 tick_later w (name.Conv h p n) _ now with g s conv t mine is = absurd (never (has_actor w (name.Conv h p n)) s is)
 tick_later w _ b now with g s conv t mine is = absurd conv
 
-core_timed : (p : Proto) → Timed (opening_core p) 0
-core_timed proto.Il = (omega arith, tt)
-core_timed proto.Udp = tt
+core_timed : (timers : Timers) (p : Proto) → Timed (opening_core timers p) 0
+core_timed timers proto.Il = (omega arith, tt)
+core_timed timers proto.Udp = tt
 
-pub timed_opening : (a : ActorName) → TimedActor (opening_actor a)
-timed_opening (name.Conv h p n) = core_timed p
-timed_opening (name.Dir h p) = tt
-timed_opening (name.Medium m) = tt
-timed_opening (name.Desk h) = tt
-timed_opening name.Clock = tt
+pub timed_opening : (timers : Timers) (a : ActorName) → TimedActor (opening_actor timers a)
+timed_opening timers (name.Conv h p n) = core_timed timers p
+timed_opening timers (name.Dir h p) = tt
+timed_opening timers (name.Medium m) = tt
+timed_opening timers (name.Desk h) = tt
+timed_opening timers name.Clock = tt

@@ -14,6 +14,7 @@ use Rattle.net_base.specs.IlEnd.{End, Turn, fresh_end, has_unacked, silent, emit
 use Rattle.net_base.specs.IlTable.{arrives, connects, is_born, announced, sends, writes, reads, first_unread, hangs_up_at, hangs_up, asks_again, ticks_to, ticks}
 use Rattle.net_base.specs.declared.timer.Tick.{Tick}
 use Rattle.net_base.specs.declared.timer.Tick.TheVariants as tick
+use Rattle.net_base.specs.declared.timer.Timers.{Timers}
 use Rattle.net_base.specs.Timer as timer
 use Rattle.net_base.specs.Timer.{Timer}
 use Rattle.prefix_law.proofs.Pairs.{Side, Talk, Deed, Connects, Is_born, Is_announced, Writes, Reads, Arrives, Hangs_up, Ticks, Event, Near, Far, out_with, leaves, is_new, is_start, is_sync, may_write, born_from, comes_to, does, happens, run, opening, InOrder}
@@ -63,8 +64,8 @@ good_announced e e' fresh l knows = record {
   says = tt;
 }
 
-good_sends : (text : List ℕ) (e e0 e' : End) → Talking e0 e' e → e.sent ≡ e0.sent → e0.cause ≡ None → Good e0 e' (sends text e)
-good_sends text e e0 e' t same none =
+good_sends : (now : ℕ) (text : List ℕ) (e e0 e' : End) → Talking e0 e' e → e.sent ≡ e0.sent → e0.cause ≡ None → Good e0 e' (sends now text e)
+good_sends now text e e0 e' t same none =
     let after = record e { sent = e.sent ++ text ∷ [] } in
     let n : length after.sent ≡ length e.sent + 1 = length_push e.sent text in
     let met : HasMet after = t.1 in
@@ -84,7 +85,7 @@ good_sends text e e0 e' t same none =
 
 pub good_writes : (now : ℕ) (text : List ℕ) (e e' : End) → HasMet e → e.cause ≡ None → Link e e' → Knows e → Good e e' (writes now text e)
 good_writes now text e e' met none l knows =
-    good_if (has_unacked e) _ _ (λ _. good_sends text e e e' (talking e e' l met knows) refl none) (λ _. good_sends text (starts now e) e e' (talking e e' l met knows) refl none)
+    good_if (has_unacked e) _ _ (λ _. good_sends now text e e e' (talking e e' l met knows) refl none) (λ _. good_sends now text (starts now e) e e' (talking e e' l met knows) refl none)
 
 pub good_reads : (count : ℕ) (e e' : End) → Link e e' → Knows e → Good e e' (silent (reads count e))
 good_reads count e e' l knows =
@@ -253,19 +254,19 @@ kept_always (e ∷ es) n t few k =
     subst (λ (i : ℕ). Kept i (run (happens t e) es)) (omega arith) (kept_always es (n + 1) (happens t e) (omega arith) (kept_next n t e (omega arith) k))
 
 -- nothing holds of fresh ends but this
-pub nothing_yet : Holds (record { end = fresh_end; out = [] }) (record { end = fresh_end; out = [] })
-nothing_yet = record {
+pub nothing_yet : (k k' : Timers) → Holds (record { end = fresh_end k; out = [] }) (record { end = fresh_end k'; out = [] })
+nothing_yet k k' = record {
   link = record { rstart_is = λ r h. absurd (none-some r h); in_order = begins_itself []; early_is = tt; acked_got = omega arith; all_got = λ h. absurd (both_ways h refl) };
   knows = (tt, λ h. absurd (both_ways h refl), λ _. (refl, refl));
   out = tt;
 }
 
 pub in_order : InOrder
-in_order es few =
-    let start : Kept 0 opening = record { near = nothing_yet; far = nothing_yet; near_few = omega arith; far_few = omega arith } in
-    let k = kept_always es 0 opening (omega arith) start in (
-      begins_prefix (run opening es).near.end.got (run opening es).far.end.sent k.near.link.in_order,
-      begins_prefix (run opening es).far.end.got (run opening es).near.end.sent k.far.link.in_order,
-      k.near.link.acked_got,
-      k.far.link.acked_got,
+in_order k k' es few =
+    let start : Kept 0 (opening k k') = record { near = nothing_yet k k'; far = nothing_yet k' k; near_few = omega arith; far_few = omega arith } in
+    let kept = kept_always es 0 (opening k k') (omega arith) start in (
+      begins_prefix (run (opening k k') es).near.end.got (run (opening k k') es).far.end.sent kept.near.link.in_order,
+      begins_prefix (run (opening k k') es).far.end.got (run (opening k k') es).near.end.sent kept.far.link.in_order,
+      kept.near.link.acked_got,
+      kept.far.link.acked_got,
     )

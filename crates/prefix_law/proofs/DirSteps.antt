@@ -1,12 +1,11 @@
 -- Each step of a directory keeps what holds of all pairs.
-use Rattle.std.proofs.Common.{◌≡◌, ℕ, zero, suc, ◌+◌, ◌<◌, ◌≤◌, not, Bool, true, false, cond, List, [], ◌∷◌, ◌++◌, Option, Some, None, is_some, is_none, length, nat_lt, ◌&&◌, if◌then◌else◌, slice_get, ◌⊎◌, inl, inr, refl, sym, ap, subst, ◌∙◌, arith}
+use Rattle.std.proofs.Common.{◌≡◌, ℕ, zero, suc, ◌+◌, ◌<◌, ◌≤◌, not, Bool, true, false, cond, List, [], ◌∷◌, ◌++◌, Option, Some, None, is_some, slice_get, ◌⊎◌, inl, inr, refl, sym, ap, subst, ◌∙◌, arith}
 use Rattle.std.specs.Prelude.{slice_set, replicate}
-use Rattle.std.specs.Option.{option_map_or, option_and_then}
+use Rattle.std.specs.Option.{option_map_or}
 use Rattle.std.proofs.lemmas.Option.{none-some, same_Some}
-use Rattle.std.proofs.lemmas.Bool.{and_parts, cond_both}
+use Rattle.std.proofs.lemmas.Bool.{cond_both}
 use Rattle.net_base.specs.declared.address.Pair.{Pair}
 use Rattle.net_base.specs.declared.address.Proto.TheVariants as proto
-use Rattle.net_base.specs.declared.address.Addr.{Addr}
 use Rattle.net_base.specs.declared.il.StateName.{StateName}
 use Rattle.net_base.specs.declared.il.StateName.TheVariants as name
 use Rattle.net_base.specs.declared.actor.ActorName.{ActorName}
@@ -15,17 +14,15 @@ use Rattle.net_base.specs.declared.event.Event.{Event}
 use Rattle.net_base.specs.declared.event.Event.TheVariants as event
 use Rattle.net_base.specs.declared.history.With.{With}
 use Rattle.net_base.specs.declared.history.With.TheVariants as given
-use Rattle.net_base.specs.declared.packet.Packet.{Packet}
 use Rattle.net_base.specs.Same.{same_pair}
 use Rattle.net_base.specs.Mirror.{mirror}
 use Rattle.net_base.specs.declared.world.World.{World}
 use Rattle.net_base.specs.Routes.{has_address}
 use Rattle.net_base.specs.ActorStep.{Step}
 use Rattle.net_base.specs.Conversation.{Core, Il, Udp, Stage, Unused, Listening, Connected}
-use Rattle.net_base.specs.Directory.{Key, Slot, Dir, free_slot, is_free, is_reserved, is_announced, is_keyed, Exactly, ByPort, ByAny, key_at, match_of, or_else, first_slot, pair_place, Taker, taker_of, may_bear}
+use Rattle.net_base.specs.Directory.{Slot, Dir, free_slot, is_free, is_reserved, is_announced, pair_place}
 use Rattle.net_base.specs.Actors.{Actor, IsConv}
 use Rattle.net_base.specs.Duties.{Duty, follow_up}
-use Rattle.history_laws.proofs.Takers.{slot_found, match_at}
 use Rattle.prefix_law.proofs.Trace.{Owner, Trace, empty_side, put_at}
 use Rattle.prefix_law.proofs.Deeds.{both_ways}
 use Rattle.prefix_law.proofs.ConvMoves.{is_connected}

@@ -15,7 +15,7 @@ use Rattle.net_base.specs.declared.history.With.TheVariants as with_variants
 use Rattle.net_base.specs.declared.reply.Reply.{Reply}
 use Rattle.net_base.specs.declared.reply.Reply.TheVariants as reply
 use Rattle.net_base.specs.declared.world.World.{World}
-use Rattle.net_base.specs.Actors.{Actor, IsConv, IsDir, IsMedium, IsPlain}
+use Rattle.net_base.specs.Actors.{Actor, IsDesk, IsConv, IsDir, IsMedium, IsPlain}
 use Rattle.net_base.specs.Net.{Net, opening_net, next_net, net_of, after, work_of}
 use Rattle.net_base.specs.Same.{same_pair}
 use Rattle.net_base.specs.Written.{Conversation, Given, gave, given_from, given_in}
@@ -152,6 +152,7 @@ step_linked (name.Dir h proto.Udp) s ev gift o t gs later l = udp_dir_linked t g
 step_linked (name.Conv h proto.Il n) (IsConv c) ev gift o t gs later l = kept_linked t _ gs later (λ p. conv_trace_owner c.stage c.core c o.emit t p) l
 step_linked (name.Conv h proto.Il n) (IsDir d) ev gift o t gs later l = kept_linked t t gs later (λ q. refl) l
 step_linked (name.Conv h proto.Il n) (IsMedium m) ev gift o t gs later l = kept_linked t t gs later (λ q. refl) l
+step_linked (name.Conv h proto.Il n) (IsDesk d) ev gift o t gs later l = kept_linked t t gs later (λ q. refl) l
 step_linked (name.Conv h proto.Il n) IsPlain ev gift o t gs later l = kept_linked t t gs later (λ q. refl) l
 step_linked (name.Conv h proto.Udp n) s ev gift o t gs later l = kept_linked t t gs later (λ q. refl) l
 step_linked (name.Medium m) s ev gift o t gs later l = kept_linked t t gs later (λ q. refl) l
@@ -161,7 +162,7 @@ step_linked name.Clock s ev gift o t gs later l = kept_linked t t gs later (λ q
 -- The list, one entry more.
 
 pub given_push : (w : World) (h : List Entry) (x : Entry) → given_in w (h ++ x ∷ []) ≡ given_in w h ++ option_to_list (gave x.actor x.event (work_of (after w h) x).with x.reply)
-given_push w h x = go opening_net h
+given_push w h x = go (opening_net w) h
   where
     go : (net : Net) (xs : List Entry) → given_from w net (xs ++ x ∷ []) ≡ given_from w net xs ++ option_to_list (gave x.actor x.event (work_of (net_of w net xs) x).with x.reply)
     go net [] = last (option_to_list (gave x.actor x.event (work_of net x).with x.reply))

@@ -137,7 +137,7 @@ ticks_marked tick.TimedOut left e = refl
 ticks_marked tick.Again left e = asks_marked e.state (record e { timer = left })
 
 writes_marked : (now : ℕ) (text : List ℕ) (e : End) → (writes now text e).end.closed_by_peer ≡ e.closed_by_peer
-writes_marked now text e = cond_both (has_unacked e) (sends text e) (sends text (starts now e)) (λ (t : Turn). t.end.closed_by_peer ≡ e.closed_by_peer) (λ _. refl) (λ _. refl)
+writes_marked now text e = cond_both (has_unacked e) (sends now text e) (sends now text (starts now e)) (λ (t : Turn). t.end.closed_by_peer ≡ e.closed_by_peer) (λ _. refl) (λ _. refl)
 
 reads_marked : (count : ℕ) (e : End) → (reads count e).closed_by_peer ≡ e.closed_by_peer
 reads_marked count e = cond_both (nat_lt count (length (first_unread e))) _ _ (λ (x : End). x.closed_by_peer ≡ e.closed_by_peer) (λ _. refl) (λ _. refl)

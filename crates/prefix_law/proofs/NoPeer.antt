@@ -8,7 +8,7 @@ use Rattle.net_base.specs.declared.address.Proto.{Proto}
 use Rattle.net_base.specs.declared.address.Proto.TheVariants as proto
 use Rattle.net_base.specs.declared.history.Entry.{Entry}
 use Rattle.net_base.specs.declared.world.World.{World}
-use Rattle.net_base.specs.IlEnd.{End, fresh_end}
+use Rattle.net_base.specs.IlEnd.{End}
 use Rattle.net_base.specs.Legal.{IsLegal}
 use Rattle.net_base.specs.Mirror.{mirror}
 use Rattle.net_base.specs.Net.{after}
@@ -83,7 +83,7 @@ alone w h e world legal il is =
         last : Same (stood w h (conv_of o)) near
         last = (all_stood w world h legal).had p o owns
 
-        bond : Bond near.rstart near.acked near.got near.early near.closed_by_peer fresh_end.start fresh_end.fresh fresh_end.sent fresh_end.got fresh_end.cause
+        bond : Bond near.rstart near.acked near.got near.early near.closed_by_peer empty_side.end.start empty_side.end.fresh empty_side.end.sent empty_side.end.got empty_side.end.cause
         bond = subst (λ (s : Side). Bond near.rstart near.acked near.got near.early near.closed_by_peer s.end.start s.end.fresh s.end.sent s.end.got s.end.cause) empty (kept.fine.owned.talk p).link
 
         none : near.got ≡ []

@@ -5,6 +5,7 @@ use Rattle.net_base.specs.declared.il.IlKind.TheVariants.{Sync}
 use Rattle.net_base.specs.declared.il.IlMsg.{IlMsg}
 use Rattle.net_base.specs.declared.il.IlState.{IlState}
 use Rattle.net_base.specs.declared.il.IlState.TheVariants.{Established}
+use Rattle.net_base.specs.declared.timer.Timers.{Timers}
 use Rattle.net_base.specs.IlEnd.{End, Turn, fresh_end}
 use Rattle.net_base.specs.IlTable.{arrives, connects, is_born, announced, writes, reads, hangs_up, ticks}
 
@@ -84,8 +85,9 @@ abbrev pub run : Talk → List Event → Talk
 run t [] = t
 run t (e ∷ es) = run (happens t e) es
 
-abbrev pub opening : Talk
-opening = record { near = record { end = fresh_end; out = [] }; far = record { end = fresh_end; out = [] } }
+-- two ends that nothing happened to, with such timers
+abbrev pub opening : Timers → Timers → Talk
+opening k k' = record { near = record { end = fresh_end k; out = [] }; far = record { end = fresh_end k'; out = [] } }
 
 abbrev pub IsPrefixOf : List (List ℕ) → List (List ℕ) → Type 0
 IsPrefixOf xs ys = (rest : List (List ℕ)) × (xs ++ rest ≡ ys)
@@ -93,8 +95,8 @@ IsPrefixOf xs ys = (rest : List (List ℕ)) × (xs ++ rest ≡ ys)
 -- What was accepted at an end was written at the other, in order. What an end counts as acknowledged was accepted.
 abbrev pub InOrder : Type 0
 InOrder =
-    (es : List Event) → length es < 2 ^ 31
-    → IsPrefixOf (run opening es).near.end.got (run opening es).far.end.sent
-    × IsPrefixOf (run opening es).far.end.got (run opening es).near.end.sent
-    × ((run opening es).near.end.acked ≤ length (run opening es).far.end.got)
-    × ((run opening es).far.end.acked ≤ length (run opening es).near.end.got)
+    (k k' : Timers) (es : List Event) → length es < 2 ^ 31
+    → IsPrefixOf (run (opening k k') es).near.end.got (run (opening k k') es).far.end.sent
+    × IsPrefixOf (run (opening k k') es).far.end.got (run (opening k k') es).near.end.sent
+    × ((run (opening k k') es).near.end.acked ≤ length (run (opening k k') es).far.end.got)
+    × ((run (opening k k') es).far.end.acked ≤ length (run (opening k k') es).near.end.got)

@@ -21,10 +21,10 @@ use Rattle.net_base.specs.declared.world.MediumSpec.{MediumSpec}
 use Rattle.net_base.specs.declared.world.Script.{Script}
 use Rattle.net_base.specs.declared.world.World.{World}
 use Rattle.net_base.specs.ActorStep.{Step, when}
-use Rattle.net_base.specs.Actors.{Actor, IsDir, IsConv, IsMedium, IsPlain, actor_step, has_actor, opening_actor, plain_step, step_as, slot_count}
+use Rattle.net_base.specs.Actors.{Actor, IsDesk, IsDir, IsConv, IsMedium, actor_step, has_actor, opening_actor, step_as, slot_count}
 use Rattle.net_base.specs.Callers.{Caller, IsScript, caller_of, caller_count, other_caller, clock_number}
 use Rattle.net_base.specs.Calm.{owes as owes_some, is_ready, can_go_on, callers, nothing_owed, nothing_pending, scripts_wait, calm, unfinished, movable, awaited_moment, least, target}
-use Rattle.net_base.specs.Desk.{desk_reply}
+use Rattle.net_base.specs.Desk.{Desk, opening_desk, desk_step}
 use Rattle.net_base.specs.Duties.{Duty, duties, due_of, generation_of, has_come, slots_of, conversations, tick_at, ticks, emitted_put, follow_up, courier_duty, release}
 use Rattle.net_base.specs.Legal.{IsLegal, MayFollow, IsInTime, IsTimed, IsAsked}
 use Rattle.net_base.specs.Medium.{medium_step}
@@ -123,25 +123,30 @@ pub record Owed (w : World) (net : Net) (a : ActorName) : Type 0 where
 abbrev pub Awake : World → Net → ActorName → Type 0
 Awake w net a = Beyond net.moment (due_of (net.actors a)) ⊎ Owed w net a
 
+-- an actor is a desk
+abbrev IsDeskState : Actor → Type 0
+IsDeskState a = (d : Desk) × (a ≡ IsDesk d)
+
 pub record Rests (w : World) (net : Net) : Type 0 where
   pub timed : (a : ActorName) → TimedActor (net.actors a)
-  pub plain : (h : ℕ) → net.actors (name.Desk h) ≡ IsPlain
+  pub desks : (h : ℕ) → IsDeskState (net.actors (name.Desk h))
   pub awake : (a : ActorName) → In a (conversations w) → Awake w net a
 
--- Desks keep nothing.
+-- Desks stay desks.
 
-desk_plain : (w : World) (h : ℕ) (work : Work) (now : ℕ) (has : Bool) (found : Option HostSpec) (s : Step Actor) → when has (option_and_then (λ (host : HostSpec). option_map plain_step (desk_reply w.db host work.event now)) found) ≡ Some s → s.state ≡ IsPlain
-desk_plain w h work now false found s is = absurd (none-some s is)
-desk_plain w h work now true None s is = absurd (none-some s is)
-desk_plain w h work now true (Some host) s is = by (desk_reply w.db host work.event now) is
+desk_left : (w : World) (h : ℕ) (work : Work) (now : ℕ) (d : Desk) (has : Bool) (found : Option HostSpec) (s : Step Actor)
+    → when has (option_and_then (λ (host : HostSpec). step_as IsDesk (desk_step w.dbs host work.event now d)) found) ≡ Some s → IsDeskState s.state
+desk_left w h work now d false found s is = absurd (none-some s is)
+desk_left w h work now d true None s is = absurd (none-some s is)
+desk_left w h work now d true (Some host) s is = by (desk_step w.dbs host work.event now d) is
   where
-    by : (o : Option _) → option_map plain_step o ≡ Some s → s.state ≡ IsPlain
+    by : (o : Option (Step Desk)) → step_as IsDesk o ≡ Some s → IsDeskState s.state
     by None none = absurd (none-some s none)
-    by (Some r) some = ap (λ (t : Step Actor). t.state) (sym (same_Some _ s some))
+    by (Some t) some = (t.state, ap (λ (u : Step Actor). u.state) (sym (same_Some _ s some)))
 
-desk_stays : (w : World) (h : ℕ) (b : Actor) (now : ℕ) (work : Work) (s : Step Actor) → b ≡ IsPlain → actor_step w (name.Desk h) b now work ≡ Some s → s.state ≡ IsPlain
-desk_stays w h b now work s plain is =
-    desk_plain w h work now (has_actor w (name.Desk h)) (slice_get w.hosts h) s (subst (λ (c : Actor). actor_step w (name.Desk h) c now work ≡ Some s) plain is)
+desk_stays : (w : World) (h : ℕ) (b : Actor) (now : ℕ) (work : Work) (s : Step Actor) → IsDeskState b → actor_step w (name.Desk h) b now work ≡ Some s → IsDeskState s.state
+desk_stays w h b now work s desk is =
+    desk_left w h work now desk.0 (has_actor w (name.Desk h)) (slice_get w.hosts h) s (subst (λ (c : Actor). actor_step w (name.Desk h) c now work ≡ Some s) desk.1 is)
 
 -- One entry more.
 
@@ -179,14 +184,14 @@ never : (has : Bool) (s : Step Actor) → when has None ≡ Some s → ⊥
 never true s is = none-some s is
 never false s is = none-some s is
 
-desk_moves : (w : World) (m now : ℕ) (has : Bool) (found : Option HostSpec) (s : Step Actor) → when has (option_and_then (λ (host : HostSpec). option_map plain_step (desk_reply w.db host (event.Move m) now)) found) ≡ Some s → ⊥
-desk_moves w m now has None s is = never has s is
-desk_moves w m now has (Some host) s is = never has s is
+desk_moves : (w : World) (m now : ℕ) (d : Desk) (has : Bool) (found : Option HostSpec) (s : Step Actor) → when has (option_and_then (λ (host : HostSpec). step_as IsDesk (desk_step w.dbs host (event.Move m) now d)) found) ≡ Some s → ⊥
+desk_moves w m now d has None s is = never has s is
+desk_moves w m now d has (Some host) s is = never has s is
 
 -- the clock alone moves
 at_clock : (w : World) (a : ActorName) (b : Actor) (now m : ℕ) (with : With) (s : Step Actor) → actor_step w a b now (record { event = event.Move m; with = with }) ≡ Some s → a ≡ name.Clock
 at_clock w name.Clock b now m with s is = refl
-at_clock w (name.Desk h) IsPlain now m with s is = absurd (desk_moves w m now (has_actor w (name.Desk h)) (slice_get w.hosts h) s is)
+at_clock w (name.Desk h) (IsDesk d) now m with s is = absurd (desk_moves w m now d (has_actor w (name.Desk h)) (slice_get w.hosts h) s is)
 at_clock w (name.Desk h) _ now m with s is = absurd (never (has_actor w (name.Desk h)) s is)
 at_clock w (name.Dir h p) (IsDir d) now m with s is = absurd (never (has_actor w (name.Dir h p)) s is)
 at_clock w (name.Dir h p) _ now m with s is = absurd (never (has_actor w (name.Dir h p)) s is)
@@ -303,19 +308,19 @@ module _ (w : World) (net : Net) (x : Entry) (s : Step Actor) (rests : Rests w n
           subst TimedActor (sym (next_same w net x a (Some s) same)) (actor_later w a (net.actors a) net.moment (work_of net x) s (rests.timed a) (step_at a (same_actor_is x.actor a same))).timed
       by false other = subst TimedActor (sym (next_other w net x a (Some s) other)) (rests.timed a)
 
-  stays_plain : (h : ℕ) → then.actors (name.Desk h) ≡ IsPlain
-  stays_plain h = by (same_actor x.actor (name.Desk h)) refl
+  stay_desks : (h : ℕ) → IsDeskState (then.actors (name.Desk h))
+  stay_desks h = by (same_actor x.actor (name.Desk h)) refl
     where
-      by : (b : Bool) → same_actor x.actor (name.Desk h) ≡ b → then.actors (name.Desk h) ≡ IsPlain
+      by : (b : Bool) → same_actor x.actor (name.Desk h) ≡ b → IsDeskState (then.actors (name.Desk h))
       by true same =
-          next_same w net x (name.Desk h) (Some s) same
-          ∙ desk_stays w h (net.actors (name.Desk h)) net.moment (work_of net x) s (rests.plain h) (step_at (name.Desk h) (same_actor_is x.actor (name.Desk h) same))
-      by false other = next_other w net x (name.Desk h) (Some s) other ∙ rests.plain h
+          subst IsDeskState (sym (next_same w net x (name.Desk h) (Some s) same))
+          (desk_stays w h (net.actors (name.Desk h)) net.moment (work_of net x) s (rests.desks h) (step_at (name.Desk h) (same_actor_is x.actor (name.Desk h) same)))
+      by false other = subst IsDeskState (sym (next_other w net x (name.Desk h) (Some s) other)) (rests.desks h)
 
   rests_then : (ask : Option Ask) → IsAsked (net.owed x.caller) (caller_of w x.caller) ask x → Rests w then
   rests_then ask asked = record {
     timed = stays_timed;
-    plain = stays_plain;
+    desks = stay_desks;
     awake = elim (moves_or_not x.event) [
       | inl move ↦ moved_awake move.0 move.1
       | inr not ↦ stays_awake ask asked (not net.moment)
@@ -327,15 +332,15 @@ rests_next : (w : World) (net : Net) (x : Entry) (o : Option (Step Actor)) (ask 
 rests_next w net x None ask rests is below ready asked = absurd (false≢true ready)
 rests_next w net x (Some s) ask rests is below ready asked = rests_then w net x s rests is below ask asked
 
-opening_awake : (w : World) (a : ActorName) → IsConvName a → Beyond 0 (due_of (opening_actor a))
+opening_awake : (w : World) (a : ActorName) → IsConvName a → Beyond 0 (due_of (opening_actor w.timers a))
 opening_awake w (name.Conv h proto.Il n) conv = tt
 opening_awake w (name.Conv h proto.Udp n) conv = tt
 opening_awake w _ conv = absurd conv
 
-rests_opening : (w : World) → Rests w opening_net
+rests_opening : (w : World) → Rests w (opening_net w)
 rests_opening w = record {
-  timed = timed_opening;
-  plain = λ h. refl;
+  timed = timed_opening w.timers;
+  desks = λ h. (opening_desk, refl);
   awake = λ a there. inl (opening_awake w a (conv_named (range_with_len 0 (length w.hosts)) a there));
 }
 
@@ -384,7 +389,7 @@ module _ (w : World) (net : Net) (world : IsWorld w) (rests : Rests w net) (is_c
   until_ready h m lt come =
       let host = got w.hosts h lt in
       let has : nat_lt h (length w.hosts) ≡ true = grind (arith, nat_tests) in
-      rw (rests.plain h) (rw (has, host.1, come) refl)
+      rw ((rests.desks h).1) (rw (has, host.1, come) refl)
 
   by_event : (h : ℕ) (a : ActorName) (e : Event) → h < length w.hosts → UntilAt h a e → is_ready w net (Some (record { actor = a; event = e })) ≡ false → Beyond net.moment (awaited_moment (Some (record { actor = a; event = e })))
   by_event h a (event.Until m) lt at not_ready = by (nat_le m net.moment) refl

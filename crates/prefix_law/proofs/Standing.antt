@@ -7,8 +7,9 @@ use Rattle.net_base.specs.declared.actor.ActorName.TheVariants as actor
 use Rattle.net_base.specs.declared.address.Pair.{Pair}
 use Rattle.net_base.specs.declared.address.Proto.TheVariants as proto
 use Rattle.net_base.specs.declared.history.Entry.{Entry}
+use Rattle.net_base.specs.declared.timer.Timers.TheVariants.{Fixed}
 use Rattle.net_base.specs.declared.world.World.{World}
-use Rattle.net_base.specs.Actors.{Actor, IsConv, IsDir, IsMedium, IsPlain}
+use Rattle.net_base.specs.Actors.{Actor, IsDesk, IsConv, IsDir, IsMedium, IsPlain}
 use Rattle.net_base.specs.Conversation.{Conv, Core, Il, Udp, Stage, Unused, Listening, Connected}
 use Rattle.net_base.specs.IlEnd.{End, fresh_end}
 use Rattle.net_base.specs.Legal.{IsLegal, MayFollow}
@@ -36,7 +37,7 @@ same_from e e' is = record { sent_is = ap (λ (x : End). x.sent) is; got_is = ap
 
 pub record Stood (t : Trace) (last : Owner → End) : Type 0 where
   pub had : (p : Pair) (o : Owner) → t.owner p ≡ Some o → Same (last o) (t.side p).end
-  pub none : (o : Owner) → ((p : Pair) → t.owner p ≡ Some o → ⊥) → Same (last o) fresh_end
+  pub none : (o : Owner) → ((p : Pair) → t.owner p ≡ Some o → ⊥) → Same (last o) (fresh_end Fixed)
 
 -- The end that an actor shows.
 
@@ -53,7 +54,13 @@ module _ (t : Trace) (owned_unique : (p q : Pair) (o : Owner) → t.owner p ≡ 
 
       go : (s : Stage) (core : Core) → c.stage ≡ s → HasEnd t o.host o.slot c s core → Same (end_in core before) (t.side p).end
       go Connected (Il e) is has = same_from e (t.side p).end (sym has.1 ∙ ap (λ (q : Pair). (t.side q).end) (owned_unique c.pair p _ has.0 owns'))
-      go Unused (Il e) is has = same_from e (t.side p).end (has ∙ sym (ap (λ (x : Side). x.end) (empty (ap is_connected is))))
+      go Unused (Il e) is has =
+          let bare = ap (λ (x : Side). x.end) (empty (ap is_connected is)) in
+          record {
+            sent_is = ap (λ (x : End). x.sent) has ∙ sym (ap (λ (x : End). x.sent) bare);
+            got_is = ap (λ (x : End). x.got) has ∙ sym (ap (λ (x : End). x.got) bare);
+            acked_is = ap (λ (x : End). x.acked) has ∙ sym (ap (λ (x : End). x.acked) bare);
+          }
       go Listening (Il e) is has =
           let bare = ap (λ (x : Side). x.end) (empty (ap is_connected is)) in
           record { sent_is = has.3 ∙ sym (ap (λ (x : End). x.sent) bare); got_is = has.4 ∙ sym (ap (λ (x : End). x.got) bare); acked_is = has.5 ∙ sym (ap (λ (x : End). x.acked) bare) }
@@ -62,12 +69,12 @@ module _ (t : Trace) (owned_unique : (p q : Pair) (o : Owner) → t.owner p ≡ 
       go Listening (Udp e) is has = absurd has
 
   -- of a conversation that has no pair in its generation
-  bare_end : (o : Owner) (c : Conv) → ConvFine t o.host o.slot c → c.generation ≡ o.generation → ((p : Pair) → t.owner p ≡ Some o → ⊥) → (before : End) → Same (end_in c.core before) fresh_end
+  bare_end : (o : Owner) (c : Conv) → ConvFine t o.host o.slot c → c.generation ≡ o.generation → ((p : Pair) → t.owner p ≡ Some o → ⊥) → (before : End) → Same (end_in c.core before) (fresh_end Fixed)
   bare_end o c fine same alone before = go c.stage c.core fine.0
     where
-      go : (s : Stage) (core : Core) → HasEnd t o.host o.slot c s core → Same (end_in core before) fresh_end
+      go : (s : Stage) (core : Core) → HasEnd t o.host o.slot c s core → Same (end_in core before) (fresh_end Fixed)
       go Connected (Il e) has = absurd (alone c.pair (has.0 ∙ ap (λ (g : ℕ). Some (record { host = o.host; slot = o.slot; generation = g })) same))
-      go Unused (Il e) has = same_from e fresh_end has
+      go Unused (Il e) has = record { sent_is = ap (λ (x : End). x.sent) has; got_is = ap (λ (x : End). x.got) has; acked_is = ap (λ (x : End). x.acked) has }
       go Listening (Il e) has = record { sent_is = has.3; got_is = has.4; acked_is = has.5 }
       go Connected (Udp e) has = absurd has
       go Unused (Udp e) has = absurd has
@@ -76,7 +83,7 @@ module _ (t : Trace) (owned_unique : (p q : Pair) (o : Owner) → t.owner p ≡ 
 -- One entry more.
 
 pub stood_push : (w : World) (e : Conversation) (h : List Entry) (x : Entry) → stood w (h ++ x ∷ []) e ≡ shown_in e.generation ((after w (h ++ x ∷ [])).actors (actor_of e)) (stood w h e)
-stood_push w e h x = go opening_net fresh_end h ∙ ap (λ (net : Net). shown_in e.generation (net.actors (actor_of e)) (stood w h e)) (sym (after_push w h x))
+stood_push w e h x = go (opening_net w) (fresh_end w.timers) h ∙ ap (λ (net : Net). shown_in e.generation (net.actors (actor_of e)) (stood w h e)) (sym (after_push w h x))
   where
     go : (net : Net) (last : End) (xs : List Entry) → stood_from w e net last (xs ++ x ∷ []) ≡ shown_in e.generation ((next_net w (net_of w net xs) x).actors (actor_of e)) (stood_from w e net last xs)
     go net last [] = refl
@@ -100,6 +107,10 @@ shown_cases P g (IsDir d) before own other = other (λ c is gen. is_no_conv c is
 shown_cases P g (IsMedium m) before own other = other (λ c is gen. is_no_conv c is)
   where
     is_no_conv : (c : Conv) → IsMedium m ≡ IsConv c → ⊥
+    is_no_conv c is = cc
+shown_cases P g (IsDesk d) before own other = other (λ c is gen. is_no_conv c is)
+  where
+    is_no_conv : (c : Conv) → IsDesk d ≡ IsConv c → ⊥
     is_no_conv c is = cc
 shown_cases P g IsPlain before own other = other (λ c is gen. is_no_conv c is)
   where
@@ -152,10 +163,10 @@ module _ (w : World) (world : IsWorld w) where
           before not (inl old) = subst (λ (y : Side). Same (last h o) y.end) (sym (still p o old.0 not)) (s.had p o old.0)
           before not (inr new) = subst (λ (y : Side). Same (last h o) y.end) (sym (ap (λ (t : Trace). t.side p) d.trace_is ∙ new.1)) (s.none o new.0)
 
-      none : (o : Owner) → ((p : Pair) → (trace w h').owner p ≡ Some o → ⊥) → Same (last h' o) fresh_end
+      none : (o : Owner) → ((p : Pair) → (trace w h').owner p ≡ Some o → ⊥) → Same (last h' o) (fresh_end Fixed)
       none o alone =
-          subst (λ (e : End). Same e fresh_end) (sym (stood_push w (conv_of o) h x))
-          (shown_cases (λ (e : End). Same e fresh_end) o.generation ((after w h').actors (actor.Conv o.host proto.Il o.slot)) (last h o)
+          subst (λ (e : End). Same e (fresh_end Fixed)) (sym (stood_push w (conv_of o) h x))
+          (shown_cases (λ (e : End). Same e (fresh_end Fixed)) o.generation ((after w h').actors (actor.Conv o.host proto.Il o.slot)) (last h o)
           (λ c is gen. bare_end (trace w h') kept.fine.owned.unique o c (fine o c is) gen alone (last h o))
           (λ not. s.none o (d.leaves.booked.none o (λ p is. alone p (ap (λ (t : Trace). t.owner p) d.trace_is ∙ is))).0))
 

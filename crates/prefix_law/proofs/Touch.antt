@@ -66,7 +66,7 @@ emitted_later t u p later e = emitted_as_later p.body t u (record { local = p.sr
 -- what a conversation with an IL end has
 abbrev pub HasEnd : Trace → ℕ → ℕ → Conv → Stage → Core → Type 0
 HasEnd t h n c Connected (Il e) = (t.owner c.pair ≡ owner_of h n c.generation) × ((t.side c.pair).end ≡ e)
-HasEnd t h n c Unused (Il e) = e ≡ fresh_end
+HasEnd t h n c Unused (Il e) = e ≡ fresh_end e.timer.timers
 HasEnd t h n c Listening (Il e) = Idle e
 HasEnd t h n c _ _ = ⊥
 

@@ -17,6 +17,7 @@ use Rattle.net_base.specs.declared.history.With.TheVariants as given
 use Rattle.net_base.specs.declared.history.Work.{Work}
 use Rattle.net_base.specs.declared.history.Outcome.{Outcome}
 use Rattle.net_base.specs.declared.history.Entry.{Entry}
+use Rattle.net_base.specs.declared.timer.Timers.TheVariants.{Fixed}
 use Rattle.net_base.specs.IlEnd.{End, fresh_end}
 use Rattle.prefix_law.proofs.Pairs.{Side, out_with}
 use Rattle.net_base.specs.Same.{same_pair}
@@ -38,8 +39,9 @@ pub record Trace : Type 0 where
   pub side : Pair → Side
   pub owner : Pair → Option Owner
 
+-- an end that nothing happened to: no law compares kinds of timers, so they may be fixed
 abbrev pub empty_side : Side
-empty_side = record { end = fresh_end; out = [] }
+empty_side = record { end = fresh_end Fixed; out = [] }
 
 abbrev pub opening_trace : Trace
 opening_trace = record { side = λ _. empty_side; owner = λ _. None }
@@ -84,7 +86,7 @@ trace_of w net t [] = t
 trace_of w net t (x ∷ xs) = trace_of w (next_net w net x) (next_trace w net x t) xs
 
 abbrev pub trace : World → List Entry → Trace
-trace w h = trace_of w opening_net opening_trace h
+trace w h = trace_of w (opening_net w) opening_trace h
 
 -- an address has one host, and a way goes out by an address of its own host
 pub record HasPlaces (w : World) : Type 0 where

@@ -36,7 +36,7 @@ given_append w net (x ∷ xs) ys =
 known_later : (w : World) (h : List Entry) (k : ℕ) (g : Given) → Known w (take k h) g → Known w h g
 known_later w h k g there =
     subst (λ (xs : List Entry). In g (given_in w xs)) (take-append-drop k h)
-    (subst (λ (gs : List Given). In g gs) (sym (given_append w opening_net (take k h) (drop k h))) (in_more g (given_in w (take k h)) _ there))
+    (subst (λ (gs : List Given). In g gs) (sym (given_append w (opening_net w) (take k h) (drop k h))) (in_more g (given_in w (take k h)) _ there))
 
 module _ (w : World) (world : HasPlaces w) (h : List Entry) (legal : IsLegal w h) where
   -- the datagram that was read, in the beginning before the read

@@ -18,9 +18,9 @@ use Rattle.net_base.specs.declared.world.HostSpec.{HostSpec}
 use Rattle.net_base.specs.declared.world.MediumSpec.{MediumSpec}
 use Rattle.net_base.specs.declared.world.World.{World}
 use Rattle.net_base.specs.ActorStep.{Step}
-use Rattle.net_base.specs.Actors.{Actor, IsConv, IsDir, IsMedium, IsPlain, has_actor, plain_step, table_step, actor_step}
+use Rattle.net_base.specs.Actors.{Actor, IsDesk, IsConv, IsDir, IsMedium, IsPlain, has_actor, plain_step, step_as, table_step, actor_step}
 use Rattle.net_base.specs.Conversation.{Core, Il, Udp, Stage, Unused, Listening, Connected, Conv, conv_step, packet_of}
-use Rattle.net_base.specs.Desk.{desk_reply, clock_reply}
+use Rattle.net_base.specs.Desk.{Desk, desk_replies, desk_reply, desk_step, clock_reply}
 use Rattle.net_base.specs.Directory.{dir_step}
 use Rattle.net_base.specs.Duties.{follow_up}
 use Rattle.net_base.specs.IlEnd.{End}
@@ -171,20 +171,26 @@ module _ (w : World) (world : HasPlaces w) (K : Given → Type 0) (W : Pair → 
   plain_next a None f = tt
   plain_next a (Some r) f = f r
 
-  desk_next : (h : ℕ) (found : Option HostSpec) → IfSome (option_and_then (λ (host : HostSpec). option_map plain_step (desk_reply w.db host ev now)) found) (λ s. Leaves (actor.Desk h) s)
-  desk_next h None = tt
-  desk_next h (Some host) = plain_next (actor.Desk h) (desk_reply w.db host ev now) (λ r. record { fine = tt; new = tt; sent = tt; taken = tt; follow = tt; read = tt })
+  desk_answers : (h : ℕ) (d : Desk) (r : Option Reply) → IfSome (step_as IsDesk (option_map (desk_replies d) r)) (λ s. Leaves (actor.Desk h) s)
+  desk_answers h d None = tt
+  desk_answers h d (Some r) = record { fine = tt; new = tt; sent = tt; taken = tt; follow = tt; read = tt }
+
+  desk_next : (h : ℕ) (d : Desk) (found : Option HostSpec) → IfSome (option_and_then (λ (host : HostSpec). step_as IsDesk (desk_step w.dbs host ev now d)) found) (λ s. Leaves (actor.Desk h) s)
+  desk_next h d None = tt
+  desk_next h d (Some host) = desk_answers h d (desk_reply w.dbs host ev now d)
 
   table_next : (a : ActorName) (s : Actor) → StateFine K W a s → WithFine w K W a ev gift → LeavesIf a s
   table_next (actor.Conv h proto.Il n) s fine got = il_next h n s fine
   table_next (actor.Conv h proto.Udp n) s fine got = udp_next h n s fine got
   table_next (actor.Dir h p) s fine got = dir_next h p s fine got
   table_next (actor.Medium m) s fine got = medium_next m s fine got
-  table_next (actor.Desk h) IsPlain fine got = desk_next h (slice_get w.hosts h)
+  table_next (actor.Desk h) (IsDesk d) fine got = desk_next h d (slice_get w.hosts h)
+  table_next (actor.Desk h) IsPlain fine got = tt
   table_next (actor.Desk h) (IsDir d) fine got = tt
   table_next (actor.Desk h) (IsConv c) fine got = tt
   table_next (actor.Desk h) (IsMedium m) fine got = tt
   table_next actor.Clock IsPlain fine got = plain_next actor.Clock (clock_reply ev) (λ r. record { fine = tt; new = tt; sent = tt; taken = tt; follow = tt; read = tt })
+  table_next actor.Clock (IsDesk d) fine got = tt
   table_next actor.Clock (IsDir d) fine got = tt
   table_next actor.Clock (IsConv c) fine got = tt
   table_next actor.Clock (IsMedium m) fine got = tt

@@ -230,7 +230,7 @@ free_fine w h p n = record { has = λ q is. absurd (none-some q is); past = λ q
 opening_kept : (w : World) → Kept w []
 opening_kept w = record { states = states; duties_are = λ c. tt; placed = λ g there. absurd there; single = λ f g there. absurd there }
   where
-    states : (a : ActorName) → StateFine (Known w []) (Wrote w []) a (opening_actor a)
+    states : (a : ActorName) → StateFine (Known w []) (Wrote w []) a (opening_actor w.timers a)
     states (actor.Desk h) = tt
     states (actor.Dir h p) = λ n s is. subst (λ (x : Slot). SlotIsFine (Known w []) h p n x) (all_free slot_count n s is) (free_fine w h p n)
     states (actor.Conv h proto.Il n) = omega arith

@@ -32,6 +32,7 @@ fits_until h = record {
 says_until : (h : ℕ) (s : Step) → Says h (UntilAt h) s
 says_until h (step.Open called path m) = ((tt, tt), λ a m. tt)
 says_until h (step.Until moment) = refl
+says_until h step.Refresh = tt
 says_until h (step.Ls path) = tt
 says_until h (step.Cs query) = tt
 says_until h (step.Dial called address) = ((tt, tt), (tt, tt))

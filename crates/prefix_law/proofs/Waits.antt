@@ -7,6 +7,9 @@ use Rattle.net_base.specs.declared.il.IlKind.TheVariants.{Sync, Data, DataQuery,
 use Rattle.net_base.specs.declared.il.IlMsg.{IlMsg}
 use Rattle.net_base.specs.declared.il.IlState.{IlState}
 use Rattle.net_base.specs.declared.il.IlState.TheVariants.{Closed, Syncer, Syncee, Established, Listening, Closing}
+use Rattle.net_base.specs.declared.timer.Probe.{Probe}
+use Rattle.net_base.specs.declared.timer.Timers.{Timers}
+use Rattle.net_base.specs.declared.timer.Timers.TheVariants.{Fixed, Measured}
 use Rattle.net_base.specs.Number.{number}
 use Rattle.net_base.specs.IlEnd.{End, Turn, rstart_of, recvd, has_unacked, backlog, silent, hears, establishes, acked_to, hears_ack, early_at, becomes_early, comes_in_turn, come_in_turn, accepts, is_closing}
 use Rattle.net_base.specs.IlTable.{is_sized, refuses, at_established, at_syncer, at_syncee, at_closing, at_closed, row, arrives, hangs_up_at, hangs_up, asks_again, ticks_to, ticks, writes, reads, first_unread}
@@ -40,10 +43,16 @@ halts now t u none = record {
   due = inr (subst (λ (o : Option ℕ). Beyond now o) (sym none) tt);
 }
 
-pub restarts : (now : ℕ) (t u : Timer) → u.due ≡ Some (now + 500) → u.interval ≡ 500 → Later now t u
-restarts now t u due interval = record {
-  runs = λ r. subst (λ (o : Option ℕ). Runs o u.interval) (sym due) (omega (arith, interval));
-  due = inr (subst (λ (o : Option ℕ). Beyond now o) (sym due) (omega arith));
+-- an end waits for a while, whatever round trips were measured
+pub some_base : (kind : Timers) (measured : Bool) (mean dev : ℕ) → 0 < timer.base_by kind measured mean dev
+some_base Fixed measured mean dev = omega arith
+some_base Measured false mean dev = omega arith
+some_base Measured true mean dev = omega arith
+
+pub restarts : (now : ℕ) (t u : Timer) → 0 < u.interval → u.due ≡ Some (now + u.interval) → Later now t u
+restarts now t u some due = record {
+  runs = λ r. subst (λ (o : Option ℕ). Runs o u.interval) (sym due) some;
+  due = inr (subst (λ (o : Option ℕ). Beyond now o) (sym due) (omega (arith, some)));
 }
 
 both_later : (now : ℕ) (t u v : Timer) → Later now t u → Later now u v → Later now t v
@@ -69,15 +78,34 @@ end_kept now e = kept now e.timer e.timer refl refl
 turn_if : (now : ℕ) (e : End) (b : Bool) (x y : Turn) → EndLater now e x.end → EndLater now e y.end → EndLater now e (cond b x y).end
 turn_if now e b x y f g = cond_both b x y (λ (t : Turn). EndLater now e t.end) (λ _. f) (λ _. g)
 
+starts_later : (now : ℕ) (t : Timer) → Later now t (timer.starts now t)
+starts_later now t = restarts now t (timer.starts now t) (some_base t.timers t.measured t.mean t.dev) refl
+
+-- a message is sent, and the timer starts before
+sent_later : (now k : ℕ) (t : Timer) → Later now t (timer.sends now k (timer.starts now t))
+sent_later now k t = restarts now t _ (some_base t.timers t.measured t.mean t.dev) refl
+
 moves_later : (now : ℕ) (b : Bool) (t : Timer) → Later now t (timer.moves now b t)
-moves_later now true t = restarts now t (timer.moves now true t) refl refl
+moves_later now true t = restarts now t (timer.moves now true t) (some_base t.timers t.measured t.mean t.dev) refl
 moves_later now false t = halts now t (timer.moves now false t) refl
+
+-- a round trip that is measured changes nothing of what is due
+measured_later : (now s : ℕ) (b : Bool) (t : Timer) → Later now t (timer.measures s (record t { measured = b }))
+measured_later now s true t = kept now t _ refl refl
+measured_later now s false t = kept now t _ refl refl
+
+acks_later : (now k : ℕ) (probe : Option Probe) (t : Timer) → Later now t (timer.acks_probe probe now k t)
+acks_later now k None t = kept now t t refl refl
+acks_later now k (Some probe) t =
+    cond_both (nat_le probe.k k) _ _ (λ (u : Timer). Later now t u) (λ _. measured_later now (timer.round_trip now probe.at) t.measured t) (λ _. kept now t t refl refl)
 
 acked_later : (now : ℕ) (found : Option ℕ) (e f : End) → EndLater now e f → EndLater now e (acked_to now found f)
 acked_later now None e f l = l
 acked_later now (Some k) e f l =
     cond_both (nat_le k (length f.sent)) _ _ (λ (x : End). EndLater now e x)
-    (λ _. both_later now e.timer f.timer _ l (moves_later now (has_unacked (record f { acked = k }) || is_closing f.state) f.timer))
+    (λ _. both_later now e.timer f.timer _ l
+    (both_later now f.timer (timer.acks now k f.timer) _ (acks_later now k f.timer.probe f.timer)
+    (moves_later now (has_unacked (record f { acked = k }) || is_closing f.state) (timer.acks now k f.timer))))
     (λ _. l)
 
 heard : (now : ℕ) (m : IlMsg) (e : End) → EndLater now e (hears_ack now m e)
@@ -168,8 +196,8 @@ arrives_later now m e = turn_if now e (is_sized m.kind (length m.text)) _ _ (row
 
 hangs_later : (s : IlState) (now : ℕ) (e : End) → EndLater now e (hangs_up_at s now e).end
 hangs_later Syncer now e = halts now e.timer _ refl
-hangs_later Syncee now e = restarts now e.timer _ refl refl
-hangs_later Established now e = restarts now e.timer _ refl refl
+hangs_later Syncee now e = starts_later now e.timer
+hangs_later Established now e = starts_later now e.timer
 hangs_later Listening now e = halts now e.timer _ refl
 hangs_later _ now e = end_kept now e
 
@@ -177,7 +205,7 @@ pub hangs_up_later : (now : ℕ) (e : End) → EndLater now e (hangs_up now e).e
 hangs_up_later now e = hangs_later e.state now e
 
 pub writes_later : (now : ℕ) (text : List ℕ) (e : End) → EndLater now e (writes now text e).end
-writes_later now text e = turn_if now e (has_unacked e) _ _ (kept now e.timer e.timer refl refl) (restarts now e.timer _ refl refl)
+writes_later now text e = turn_if now e (has_unacked e) _ _ (kept now e.timer _ refl refl) (sent_later now (length e.sent + 1) e.timer)
 
 pub reads_later : (now count : ℕ) (e : End) → EndLater now e (reads count e)
 reads_later now count e = cond_both (nat_lt count (length (first_unread e))) _ _ (λ (x : End). EndLater now e x) (λ _. end_kept now e) (λ _. end_kept now e)

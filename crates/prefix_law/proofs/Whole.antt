@@ -20,6 +20,7 @@ use Rattle.net_base.specs.declared.history.With.{With}
 use Rattle.net_base.specs.declared.history.With.TheVariants as given
 use Rattle.net_base.specs.declared.history.Work.{Work}
 use Rattle.net_base.specs.declared.history.Entry.{Entry}
+use Rattle.net_base.specs.declared.timer.Timers.TheVariants.{Fixed}
 use Rattle.prefix_law.proofs.Pairs.{Side}
 use Rattle.net_base.specs.declared.world.World.{World}
 use Rattle.net_base.specs.Routes.{Way, way, has_address}
@@ -29,8 +30,8 @@ use Rattle.net_base.specs.ActorStep.{Step, when}
 use Rattle.net_base.specs.Conversation.{Core, Il, Udp, Stage, Unused, Listening, Connected, Conv, conv_step, packet_of as packet_by}
 use Rattle.net_base.specs.Medium.{medium_step}
 use Rattle.net_base.specs.Directory.{Dir, Slot, free_slot, dir_step}
-use Rattle.net_base.specs.Actors.{Actor, IsConv, IsDir, IsMedium, IsPlain, slot_count, has_actor, plain_step, table_step, actor_step}
-use Rattle.net_base.specs.Desk.{desk_reply, clock_reply}
+use Rattle.net_base.specs.Actors.{Actor, IsDesk, IsConv, IsDir, IsMedium, IsPlain, slot_count, has_actor, plain_step, step_as, table_step, actor_step}
+use Rattle.net_base.specs.Desk.{Desk, desk_replies, desk_reply, desk_step, clock_reply}
 use Rattle.net_base.specs.Callers.{Caller, caller_of}
 use Rattle.net_base.specs.Next.{next as next_ask}
 use Rattle.net_base.specs.Steps.{Ask}
@@ -342,13 +343,13 @@ module _ (w : World) (world : HasPlaces w) (k : ℕ) (few : k < 2 ^ 31) (net : N
   clock_next (event.Move m) is = quiet_leaves actor.Clock _ (record { convs = f.all.convs; udps = f.all.udps; dirs = f.all.dirs; media = f.all.media; limits = f.all.limits }) tt tt tt (λ o. record { written_none = refl; read_none = refl })
   clock_next _ is = tt
 
-  desk_next : (h : ℕ) (r : Option Reply) → IfSome (option_map plain_step r) (λ s. Leaves (actor.Desk h) t s)
-  desk_next h None = tt
-  desk_next h (Some r) = quiet_leaves (actor.Desk h) _ (record { convs = f.all.convs; udps = f.all.udps; dirs = f.all.dirs; media = f.all.media; limits = f.all.limits }) tt tt tt (λ o. record { written_none = refl; read_none = refl })
+  desk_next : (h : ℕ) (d : Desk) (r : Option Reply) → IfSome (step_as IsDesk (option_map (desk_replies d) r)) (λ s. Leaves (actor.Desk h) t s)
+  desk_next h d None = tt
+  desk_next h d (Some r) = quiet_leaves (actor.Desk h) _ (record { convs = f.all.convs; udps = f.all.udps; dirs = f.all.dirs; media = f.all.media; limits = f.all.limits }) tt tt tt (λ o. record { written_none = refl; read_none = refl })
 
-  desk_found : (h : ℕ) (found : Option HostSpec) → IfSome (option_and_then (λ (host : HostSpec). option_map plain_step (desk_reply w.db host ev net.moment)) found) (λ s. Leaves (actor.Desk h) t s)
-  desk_found h None = tt
-  desk_found h (Some host) = desk_next h (desk_reply w.db host ev net.moment)
+  desk_found : (h : ℕ) (d : Desk) (found : Option HostSpec) → IfSome (option_and_then (λ (host : HostSpec). step_as IsDesk (desk_step w.dbs host ev net.moment d)) found) (λ s. Leaves (actor.Desk h) t s)
+  desk_found h d None = tt
+  desk_found h d (Some host) = desk_next h d (desk_reply w.dbs host ev net.moment d)
 
   udp_dir_next : (h : ℕ) (a : Actor)
       → IfSome (table_step w (actor.Dir h proto.Udp) a net.moment (record { event = ev; with = gift })) (λ s. Leaves (actor.Dir h proto.Udp) t s)
@@ -367,6 +368,7 @@ module _ (w : World) (world : HasPlaces w) (k : ℕ) (few : k < 2 ^ 31) (net : N
       (harmless_emitted t s.outcome.emit x.emits) tt (udp_dir_follow w t h (length net.past) ev gift s.outcome.reply) (λ o. record { written_none = refl; read_none = refl })))
   udp_dir_next h (IsConv c) = tt
   udp_dir_next h (IsMedium m) = tt
+  udp_dir_next h (IsDesk d) = tt
   udp_dir_next h IsPlain = tt
 
   -- A directory of IL.
@@ -439,7 +441,8 @@ module _ (w : World) (world : HasPlaces w) (k : ℕ) (few : k < 2 ^ 31) (net : N
   table_next (actor.Desk h) fine = by_state (net.actors (actor.Desk h))
     where
       by_state : (a : Actor) → IfSome (table_step w (actor.Desk h) a net.moment (record { event = ev; with = gift })) (λ s. Leaves (actor.Desk h) t s)
-      by_state IsPlain = desk_found h (slice_get w.hosts h)
+      by_state (IsDesk d) = desk_found h d (slice_get w.hosts h)
+      by_state IsPlain = tt
       by_state (IsDir d) = tt
       by_state (IsConv c) = tt
       by_state (IsMedium m) = tt
@@ -447,6 +450,7 @@ module _ (w : World) (world : HasPlaces w) (k : ℕ) (few : k < 2 ^ 31) (net : N
     where
       by_state : (a : Actor) → IfSome (table_step w actor.Clock a net.moment (record { event = ev; with = gift })) (λ s. Leaves actor.Clock t s)
       by_state IsPlain = clock_next ev refl
+      by_state (IsDesk d) = tt
       by_state (IsDir d) = tt
       by_state (IsConv c) = tt
       by_state (IsMedium m) = tt
@@ -562,10 +566,10 @@ free_fine h n = record {
   unused = λ r p g is. absurd (none-some _ is);
 }
 
-opening_fine : (w : World) → Fine w 0 opening_net opening_trace
+opening_fine : (w : World) → Fine w 0 (opening_net w) opening_trace
 opening_fine w = record {
   owned = record {
-    talk = λ p. nothing_yet;
+    talk = λ p. nothing_yet Fixed Fixed;
     untouched = λ p is. refl;
     unique = λ p q o one two. absurd (none-some o one);
     apart = λ p o is. absurd (none-some o is);
@@ -585,7 +589,7 @@ opening_fine w = record {
 -- Legal histories.
 
 pub trace_push : (w : World) (h : List Entry) (x : Entry) → trace w (h ++ x ∷ []) ≡ next_trace w (after w h) x (trace w h)
-trace_push w h x = go opening_net opening_trace h
+trace_push w h x = go (opening_net w) opening_trace h
   where
     go : (net : Net) (t : Trace) (xs : List Entry) → trace_of w net t (xs ++ x ∷ []) ≡ next_trace w (net_of w net xs) x (trace_of w net t xs)
     go net t [] = refl

@@ -56,6 +56,7 @@ fits_silent = record {
 says_silent : (h : ℕ) (s : ScriptStep) → Says h Silent s
 says_silent h (step.Open called path m) = ((refl, refl), λ a m. refl)
 says_silent h (step.Until moment) = refl
+says_silent h step.Refresh = tt
 says_silent h (step.Ls path) = tt
 says_silent h (step.Cs query) = tt
 says_silent h (step.Dial called address) = ((refl, refl), (refl, refl))
@@ -95,7 +96,7 @@ free_generation zero k = refl
 free_generation (suc n) zero = refl
 free_generation (suc n) (suc k) = free_generation n k
 
-opening_of : (w : World) (a : ActorName) → IsActorOf w a (opening_actor a)
+opening_of : (w : World) (a : ActorName) → IsActorOf w a (opening_actor w.timers a)
 opening_of w (name.Dir h p) = record {
   count = length-replicate slot_count free_slot;
   calls = λ k s is. subst (λ (t : Slot). Each (IsCallIn (replicate slot_count free_slot)) t.calls) (free_at slot_count k s is) tt;
@@ -106,7 +107,7 @@ opening_of w (name.Medium m) = (tt, tt)
 opening_of w (name.Desk h) = tt
 opening_of w name.Clock = tt
 
-steady_first : (w : World) → Steady w opening_net
+steady_first : (w : World) → Steady w (opening_net w)
 steady_first w = record {
   actors = opening_of w;
   known = λ c far. refl;

@@ -5,6 +5,7 @@ use Rattle.std.specs.Option.{option_map_or, option_and_then}
 use Rattle.std.proofs.lemmas.Bool.{eqb-true, and_parts, true≢false, lt-ltb}
 use Rattle.std.proofs.lemmas.Bool.Decides.{eqb_tells}
 use Rattle.std.proofs.lemmas.Option.{none-some, same_Some, slice_get_within}
+use Rattle.net_base.specs.declared.timer.Timers.TheVariants.{Fixed}
 use Rattle.net_base.specs.declared.actor.ActorName.{ActorName}
 use Rattle.net_base.specs.declared.actor.ActorName.TheVariants as name
 use Rattle.net_base.specs.declared.actor.Call.{Call}
@@ -41,7 +42,7 @@ use Rattle.progress_law.proofs.Slots.{Rise, calls_stay, rises, sets, set_generat
 
 -- starts and limits of a directory are such that a conversation may connect
 abbrev pub MayGive : World → ℕ → Proto → Dir → Type 0
-MayGive w h p d = (limit : ℕ) → limit ≤ 8192 → may_connect (opening_core p) (start_of (home_at w h p) d) limit ≡ true
+MayGive w h p d = (limit : ℕ) → limit ≤ 8192 → may_connect (opening_core Fixed p) (start_of (home_at w h p) d) limit ≡ true
 
 -- a follow-up at the conversation of a slot
 pub record IsFollow (p : Proto) (slots news : List Slot) (n : ℕ) (e : Event) (with : With) : Type 0 where
@@ -281,7 +282,7 @@ release_moves h p n g s d with are is =
 
 -- Arrive.
 
-same_bears : (p : Proto) (b : Body) → is_of p b ≡ true → directory.may_bear b ≡ true → may_bear (opening_core p) b ≡ true
+same_bears : (p : Proto) (b : Body) → is_of p b ≡ true → directory.may_bear b ≡ true → may_bear (opening_core Fixed p) b ≡ true
 same_bears proto.Il (body.Il m) of may = (and_parts (is_sync m.kind) (m.ack == 0) may).0
 same_bears proto.Udp (body.Udp t) of may = refl
 same_bears proto.Il (body.Udp t) of may = absurd (true≢false (sym of))
@@ -371,7 +372,7 @@ born_moves : (w : World) (h : ℕ) (p : Proto) (packet : Packet) (d : Dir) (o : 
 born_moves w h p packet d None may are of is = refused_moves h p packet packet.body d are
 born_moves w h p packet d (Some t) may are of is = bear_moves w h p packet d t may are of (taker_found (pair_of packet) packet d t is)
 
-same_protocol_of : (p : Proto) (b : Body) → is_of p b ≡ true → has_protocol (opening_core p) b ≡ true
+same_protocol_of : (p : Proto) (b : Body) → is_of p b ≡ true → has_protocol (opening_core Fixed p) b ≡ true
 same_protocol_of proto.Il (body.Il m) of = refl
 same_protocol_of proto.Udp (body.Udp t) of = refl
 same_protocol_of proto.Il (body.Udp t) of = of

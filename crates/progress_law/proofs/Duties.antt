@@ -1,5 +1,6 @@
 -- What is kept of duties: each is of kind, cites rise in a queue, and the birth of each generation that a conversation still lacks is owed.
 use Rattle.std.specs.Prelude.{◌≡◌, ℕ, ◌+◌, ◌<◌, ◌≤◌, ◌⊎◌, Bool, true, false, ◌&&◌, List, [], ◌∷◌, length, Option, Some, None, slice_get, nat_lt, nat_le}
+use Rattle.net_base.specs.declared.timer.Timers.TheVariants.{Fixed}
 use Rattle.net_base.specs.declared.actor.ActorName.{ActorName}
 use Rattle.net_base.specs.declared.actor.ActorName.TheVariants as name
 use Rattle.net_base.specs.declared.actor.Call.{Call}
@@ -46,13 +47,13 @@ bears _ = false
 -- at a conversation of a protocol: what its row asks beside the generation
 abbrev pub IsConvKind : Proto → Event → With → Type 0
 IsConvKind p (event.Begin g) with = Unit {0}
-IsConvKind p (event.Born g) (given.Birth packet start limit) = (may_bear (opening_core p) packet.body ≡ true) × (may_connect (opening_core p) start limit ≡ true)
+IsConvKind p (event.Born g) (given.Birth packet start limit) = (may_bear (opening_core Fixed p) packet.body ≡ true) × (may_connect (opening_core Fixed p) start limit ≡ true)
 IsConvKind p (event.Claim g) with = Unit {0}
-IsConvKind p (event.Connect g) (given.Grant pair start limit) = may_connect (opening_core p) start limit ≡ true
+IsConvKind p (event.Connect g) (given.Grant pair start limit) = may_connect (opening_core Fixed p) start limit ≡ true
 IsConvKind p (event.Announced g) (given.Key ip port) = Unit {0}
 IsConvKind p (event.Bound g) (given.Key ip port) = Unit {0}
 IsConvKind p (event.Close g) with = Unit {0}
-IsConvKind p (event.ArriveAt g) (given.Packet packet) = has_protocol (opening_core p) packet.body ≡ true
+IsConvKind p (event.ArriveAt g) (given.Packet packet) = has_protocol (opening_core Fixed p) packet.body ≡ true
 IsConvKind p (event.Tick g) with = Unit {0}
 IsConvKind p _ _ = ⊥
 

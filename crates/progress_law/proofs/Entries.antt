@@ -20,7 +20,7 @@ use Rattle.net_base.specs.declared.world.Fate.{Fate}
 use Rattle.net_base.specs.declared.world.Fate.TheVariants as fate
 use Rattle.net_base.specs.declared.world.World.{World}
 use Rattle.net_base.specs.ActorStep.{Step, when}
-use Rattle.net_base.specs.Actors.{Actor, IsDir, IsConv, IsMedium, IsPlain, actor_step, slot_count}
+use Rattle.net_base.specs.Actors.{Actor, IsDesk, IsDir, IsConv, IsMedium, IsPlain, actor_step, slot_count}
 use Rattle.net_base.specs.Callers.{caller_count}
 use Rattle.net_base.specs.Conversation.{Conv, conv_step}
 use Rattle.net_base.specs.Directory.{Dir, dir_step}
@@ -211,6 +211,7 @@ medium_changes w net after c m e with t (IsMedium s) r is =
     (all_silent w net after c (name.Medium m) e with t r _ all)
 medium_changes w net after c m e with t (IsDir d) r is = absurd (subst (IsActorOf w (name.Medium m)) is (r.steady.actors (name.Medium m)))
 medium_changes w net after c m e with t (IsConv v) r is = absurd (subst (IsActorOf w (name.Medium m)) is (r.steady.actors (name.Medium m)))
+medium_changes w net after c m e with t (IsDesk d) r is = absurd (subst (IsActorOf w (name.Medium m)) is (r.steady.actors (name.Medium m)))
 medium_changes w net after c m e with t IsPlain r is = absurd (subst (IsActorOf w (name.Medium m)) is (r.steady.actors (name.Medium m)))
 
 -- Conversations.
@@ -219,6 +220,7 @@ conv_changes : (w : World) (net after : Net) (c h : ℕ) (p : Proto) (n : ℕ) (
     → Changes w net after c (duties w net.actors (name.Conv h p n) (length net.past) (record { event = e; with = with }) t)
 conv_changes w net after c h p n e with t (IsDir d) r is = absurd (subst (IsActorOf w (name.Conv h p n)) is (r.steady.actors (name.Conv h p n)))
 conv_changes w net after c h p n e with t (IsMedium m) r is = absurd (subst (IsActorOf w (name.Conv h p n)) is (r.steady.actors (name.Conv h p n)))
+conv_changes w net after c h p n e with t (IsDesk d) r is = absurd (subst (IsActorOf w (name.Conv h p n)) is (r.steady.actors (name.Conv h p n)))
 conv_changes w net after c h p n e with t IsPlain r is = absurd (subst (IsActorOf w (name.Conv h p n)) is (r.steady.actors (name.Conv h p n)))
 conv_changes w net after c h p n e with t (IsConv v) r is = record {
   known = r.known;
@@ -332,6 +334,7 @@ dir_changes : (w : World) (net after : Net) (c h : ℕ) (p : Proto) (e : Event) 
     → Changes w net after c (duties w net.actors (name.Dir h p) (length net.past) (record { event = e; with = with }) t)
 dir_changes w net after c h p e with t (IsConv v) r is = absurd (subst (IsActorOf w (name.Dir h p)) is (r.steady.actors (name.Dir h p)))
 dir_changes w net after c h p e with t (IsMedium m) r is = absurd (subst (IsActorOf w (name.Dir h p)) is (r.steady.actors (name.Dir h p)))
+dir_changes w net after c h p e with t (IsDesk d) r is = absurd (subst (IsActorOf w (name.Dir h p)) is (r.steady.actors (name.Dir h p)))
 dir_changes w net after c h p e with t IsPlain r is = absurd (subst (IsActorOf w (name.Dir h p)) is (r.steady.actors (name.Dir h p)))
 dir_changes w net after c h p e with t (IsDir d) r is = record {
   known = r.known;

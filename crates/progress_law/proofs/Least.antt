@@ -2,6 +2,7 @@
 use Rattle.std.proofs.Common.{◌≡◌, ℕ, zero, suc, ◌+◌, ◌<◌, ◌≤◌, ◌==◌, ◌⊎◌, Bool, true, false, List, [], ◌∷◌, length, Option, Some, None, slice_get, inl, inr, refl, sym, ap, subst, ◌∙◌, arith, nat_lt}
 use Rattle.std.specs.Prelude.{IsSome}
 use Rattle.std.proofs.lemmas.Bool.{true≢false, lt-ltb, eqb-true, eqb-false, ltb-true, ltb-false, cases_lt}
+use Rattle.net_base.specs.declared.timer.Timers.TheVariants.{Fixed}
 use Rattle.net_base.specs.declared.actor.ActorName.{ActorName}
 use Rattle.net_base.specs.declared.actor.ActorName.TheVariants as name
 use Rattle.net_base.specs.declared.address.Proto.{Proto}
@@ -15,7 +16,7 @@ use Rattle.net_base.specs.declared.world.HostSpec.{HostSpec}
 use Rattle.net_base.specs.declared.world.MediumSpec.{MediumSpec}
 use Rattle.net_base.specs.declared.world.World.{World}
 use Rattle.net_base.specs.ActorStep.{Step, when}
-use Rattle.net_base.specs.Actors.{Actor, IsDir, IsConv, IsMedium, IsPlain, actor_step, opening_core, slot_count, step_as}
+use Rattle.net_base.specs.Actors.{Actor, IsDesk, IsDir, IsConv, IsMedium, IsPlain, actor_step, opening_core, slot_count, step_as}
 use Rattle.net_base.specs.Callers.{caller_count}
 use Rattle.net_base.specs.Conversation.{Conv, Core, Il, Udp, in_generation, raises, conv_step, may_bear, may_connect, has_protocol, brought_forth, joined, taken_in}
 use Rattle.net_base.specs.Directory.{Dir, Slot, dir_step, in_found_slot}
@@ -155,7 +156,7 @@ raise_or g c step some = by (g == c.generation + 1) (nat_lt g c.generation) (g =
     by false false false next less same = inr (inr (omega (arith, eqb-false g (c.generation + 1) next, ltb-false g c.generation less, eqb-false g c.generation same)))
 
 -- what may bear a conversation of the protocol may bear one with this end
-same_bear : (p : Proto) (c : Core) (b : Body) → same_core p c → may_bear (opening_core p) b ≡ true → may_bear c b ≡ true
+same_bear : (p : Proto) (c : Core) (b : Body) → same_core p c → may_bear (opening_core Fixed p) b ≡ true → may_bear c b ≡ true
 same_bear proto.Il (Il e) (body.Il m) same is = is
 same_bear proto.Udp (Udp e) (body.Udp t) same is = is
 same_bear proto.Il (Il e) (body.Udp t) same is = is
@@ -163,13 +164,13 @@ same_bear proto.Udp (Udp e) (body.Il m) same is = is
 same_bear proto.Il (Udp e) b same is = absurd same
 same_bear proto.Udp (Il e) b same is = absurd same
 
-same_connect : (p : Proto) (c : Core) (start limit : ℕ) → same_core p c → may_connect (opening_core p) start limit ≡ true → may_connect c start limit ≡ true
+same_connect : (p : Proto) (c : Core) (start limit : ℕ) → same_core p c → may_connect (opening_core Fixed p) start limit ≡ true → may_connect c start limit ≡ true
 same_connect proto.Il (Il e) start limit same is = is
 same_connect proto.Udp (Udp e) start limit same is = is
 same_connect proto.Il (Udp e) start limit same is = absurd same
 same_connect proto.Udp (Il e) start limit same is = absurd same
 
-same_protocol : (p : Proto) (c : Core) (b : Body) → same_core p c → has_protocol (opening_core p) b ≡ true → has_protocol c b ≡ true
+same_protocol : (p : Proto) (c : Core) (b : Body) → same_core p c → has_protocol (opening_core Fixed p) b ≡ true → has_protocol c b ≡ true
 same_protocol proto.Il (Il e) (body.Il m) same is = is
 same_protocol proto.Udp (Udp e) (body.Udp t) same is = is
 same_protocol proto.Il (Il e) (body.Udp t) same is = is
@@ -254,12 +255,15 @@ actor_ready w (name.Medium m) (IsMedium s) now e with of kind =
     rw (lt-ltb m (length w.media) kind.0, spec.1) (some_or _ true (medium_step spec.0 w.seed e with s) refl (inl (medium_ready w spec.0 w.seed e with s kind.1)))
 actor_ready w (name.Conv h p n) (IsDir d) now e with of kind = absurd of
 actor_ready w (name.Conv h p n) (IsMedium s) now e with of kind = absurd of
+actor_ready w (name.Conv h p n) (IsDesk d) now e with of kind = absurd of
 actor_ready w (name.Conv h p n) IsPlain now e with of kind = absurd of
 actor_ready w (name.Dir h p) (IsConv c) now e with of kind = absurd of
 actor_ready w (name.Dir h p) (IsMedium s) now e with of kind = absurd of
+actor_ready w (name.Dir h p) (IsDesk d) now e with of kind = absurd of
 actor_ready w (name.Dir h p) IsPlain now e with of kind = absurd of
 actor_ready w (name.Medium m) (IsConv c) now e with of kind = absurd of
 actor_ready w (name.Medium m) (IsDir d) now e with of kind = absurd of
+actor_ready w (name.Medium m) (IsDesk d) now e with of kind = absurd of
 actor_ready w (name.Medium m) IsPlain now e with of kind = absurd of
 actor_ready w (name.Desk h) s now e with of kind = absurd kind
 actor_ready w name.Clock s now e with of kind = absurd kind

@@ -62,11 +62,29 @@ const STEPS: [&str; 15] = [
     "dial h udp!helix!echo\nwrite h x\n",
 ];
 
+/// How they go on where databases change.
+const AGAIN: [&str; 4] = [
+    "refresh\n",
+    "refresh\ncs net!helix!9fs\n",
+    "until 30\nrefresh\ndial k il!helix!9fs\nwrite k x\nwrite k y\n",
+    "write d hi\nuntil 40\nwrite d ho\nuntil 60\nwrite d hu\n",
+];
+
 const HOSTS: &str = "host anna il udp\nif ether0 135.104.9.6 255.255.255.0\n\
 host helix udp il\nif ether0 135.104.9.31 255.255.255.0\nstart 4294967290\n";
 
 const DATABASE: &str =
     "ndb\nsys=anna ip=135.104.9.6\nsys=helix ip=135.104.9.31\nil=9fs port=17008\nudp=echo port=7\n";
+
+/// How databases change.
+const VERSIONS: [&str; 5] = [
+    "",
+    "%at 20\nsys=anna ip=135.104.9.6\nsys=helix ip=135.104.9.31\nil=9fs port=564\n",
+    "%at 5\nsys=helix ip=135.104.9.99\nil=9fs port=17008\n\
+%at 700\nsys=helix ip=135.104.9.31\nil=9fs port=17008\nudp=echo port=7\n",
+    "%at 10\n%at 30\nsys=helix ip=135.104.9.31\nil=9fs port=17008\n",
+    "%at 8\ndatabase= file=b\n%file b\nsys=helix ip=135.104.9.31\nil=9fs port=17008\n%at 9001\n",
+];
 
 /// One of these.
 fn one_of<'a>(words: &mut Lcg64Xsh32, rows: &[&'a str]) -> &'a str {
@@ -77,38 +95,52 @@ fn one_of<'a>(words: &mut Lcg64Xsh32, rows: &[&'a str]) -> &'a str {
     }
 }
 
+/// A step, or some where databases change.
+fn put_step(words: &mut Lcg64Xsh32, changes: bool, text: &mut String) -> Result<(), AllocError> {
+    if changes && words.next_word() % 2 == 0 {
+        return text.push_str(one_of(words, &AGAIN));
+    }
+    text.push_str(one_of(words, &STEPS))
+}
+
 fn put_script(
     words: &mut Lcg64Xsh32,
     begins: &[&str],
+    changes: bool,
     text: &mut String,
 ) -> Result<(), AllocError> {
     text.push_str(one_of(words, begins))?;
     for _ in 0..words.next_word() % 4 {
-        text.push_str(one_of(words, &STEPS))?;
+        put_step(words, changes, text)?;
     }
     Ok(())
 }
 
-fn put_scripts(words: &mut Lcg64Xsh32, text: &mut String) -> Result<(), AllocError> {
-    put_script(words, &CALLERS, text)?;
-    put_script(words, &LISTENERS, text)?;
+fn put_scripts(words: &mut Lcg64Xsh32, changes: bool, text: &mut String) -> Result<(), AllocError> {
+    put_script(words, &CALLERS, changes, text)?;
+    put_script(words, &LISTENERS, changes, text)?;
     for _ in 0..words.next_word() % 2 {
-        put_script(words, &CALLERS, text)?;
+        put_script(words, &CALLERS, changes, text)?;
     }
     Ok(())
 }
 
-/// Adds a world of two hosts on a medium.
-fn put_world(words: &mut Lcg64Xsh32, text: &mut String) -> Result<(), AllocError> {
+/// Adds a world of two hosts on a medium: with fixed timers and one database, or with measured ones and versions.
+fn put_world(words: &mut Lcg64Xsh32, changes: bool, text: &mut String) -> Result<(), AllocError> {
     let seed = words.next_word();
+    let kind = if changes { 2 } else { 1 };
     write!(
         text,
-        "networld 1\nend 9000\nseed {seed}\nmedium ether0 1500\n"
+        "networld {kind}\nend 9000\nseed {seed}\nmedium ether0 1500\n"
     )?;
     text.push_str(one_of(words, &FATES))?;
     text.push_str(HOSTS)?;
-    put_scripts(words, text)?;
-    text.push_str(DATABASE)
+    put_scripts(words, changes, text)?;
+    text.push_str(DATABASE)?;
+    if changes {
+        text.push_str(one_of(words, &VERSIONS))?;
+    }
+    Ok(())
 }
 
 /// A number of a text, and of what was told before.
@@ -213,10 +245,11 @@ fn are_legal_next<R: Threads + Wait + Sync>(
     rt: &R,
     alloc: Global,
     words: &mut Lcg64Xsh32,
+    changes: bool,
     before: u64,
 ) -> Result<(bool, u64), AllocError> {
     let mut text = String::new(alloc);
-    put_world(words, &mut text)?;
+    put_world(words, changes, &mut text)?;
     are_legal_of(rt, alloc, &text, before)
 }
 
@@ -228,10 +261,26 @@ fn histories_of_random_worlds_are_legal(rt: HostRuntime) -> Result<(), AllocErro
     let mut words = Lcg64Xsh32::new(30, 1);
     let mut told = 0;
     for i in 0..300_u32 {
-        let (legal, next) = are_legal_next(&rt, rt.alloc(), &mut words, told)?;
+        let (legal, next) = are_legal_next(&rt, rt.alloc(), &mut words, false, told)?;
         assert!(rt; legal, "world {i}");
         told = next;
     }
     assert!(rt; told == TOLD);
+    Ok(())
+}
+
+/// The same of worlds with measured timers and versions.
+const TOLD_OF_CHANGES: u64 = 14_064_421_479_661_945_035;
+
+#[test]
+fn histories_of_changed_worlds_are_legal(rt: HostRuntime) -> Result<(), AllocError> {
+    let mut words = Lcg64Xsh32::new(45, 1);
+    let mut told = 0;
+    for i in 0..300_u32 {
+        let (legal, next) = are_legal_next(&rt, rt.alloc(), &mut words, true, told)?;
+        assert!(rt; legal, "world {i}");
+        told = next;
+    }
+    assert!(rt; told == TOLD_OF_CHANGES);
     Ok(())
 }

@@ -248,6 +248,7 @@ event_code (event.Tick n) = (32 ∷ n ∷ []) ∷ []
 event_code (event.Put o) = (33 ∷ []) ∷ option_code o ∷ []
 event_code event.Take = (34 ∷ []) ∷ []
 event_code (event.Move n) = (35 ∷ n ∷ []) ∷ []
+event_code event.Refresh = (36 ∷ []) ∷ []
 
 abbrev events_of : List (List ℕ) → List Event
 events_of c =
@@ -287,6 +288,7 @@ events_of c =
     ∷ event.Put (option_of (text c 1))
     ∷ event.Take
     ∷ event.Move (num c 1)
+    ∷ event.Refresh
     ∷ []
 
 abbrev event_of : List (List ℕ) → Event
@@ -329,6 +331,7 @@ same_event (event.Tick n) = refl
 same_event (event.Put o) = rw (same_option o) refl
 same_event event.Take = refl
 same_event (event.Move n) = refl
+same_event event.Refresh = refl
 
 -- Replies.
 
@@ -373,6 +376,7 @@ reply_code (reply.Laid n) = (36 ∷ n ∷ []) ∷ []
 reply_code reply.TooBig = (37 ∷ []) ∷ []
 reply_code reply.NoStation = (38 ∷ []) ∷ []
 reply_code (reply.Copy n) = (39 ∷ n ∷ []) ∷ []
+reply_code (reply.Version n) = (40 ∷ n ∷ []) ∷ []
 
 abbrev replys_of : List (List ℕ) → List Reply
 replys_of c =
@@ -416,6 +420,7 @@ replys_of c =
     ∷ reply.TooBig
     ∷ reply.NoStation
     ∷ reply.Copy (num c 1)
+    ∷ reply.Version (num c 1)
     ∷ []
 
 abbrev reply_of : List (List ℕ) → Reply
@@ -462,6 +467,7 @@ same_reply (reply.Laid n) = refl
 same_reply reply.TooBig = refl
 same_reply reply.NoStation = refl
 same_reply (reply.Copy n) = refl
+same_reply (reply.Version n) = refl
 
 -- Actors, headers.
 

@@ -75,6 +75,7 @@ begun_asks names (step.Close called) = refl
 begun_asks names (step.Ls path) = refl
 begun_asks names (step.Cs query) = refl
 begun_asks names (step.Until moment) = refl
+begun_asks names step.Refresh = refl
 begun_asks names (step.Dial called address) = refl
 begun_asks names (step.Announce called address) = refl
 begun_asks names (step.Listen called from) = refl

@@ -4,6 +4,7 @@ use Rattle.std.specs.Prelude.{if◌then◌else◌, IsSome}
 use Rattle.std.specs.Option.{option_map, option_and_then}
 use Rattle.std.proofs.lemmas.Bool.{true≢false, false≢true}
 use Rattle.std.proofs.lemmas.Option.{none-some, same_Some}
+use Rattle.net_base.specs.declared.timer.Timers.{Timers}
 use Rattle.net_base.specs.declared.actor.ActorName.{ActorName}
 use Rattle.net_base.specs.declared.actor.ActorName.TheVariants as name
 use Rattle.net_base.specs.declared.address.Pair.{Pair}
@@ -26,7 +27,6 @@ use Rattle.net_base.specs.declared.il.StateName.TheVariants as state_name
 use Rattle.net_base.specs.declared.names.FileName.{FileName}
 use Rattle.net_base.specs.declared.names.Mode.{Mode}
 use Rattle.net_base.specs.declared.names.Node.{Node}
-use Rattle.net_base.specs.declared.ndb.NdbPair.{NdbPair}
 use Rattle.net_base.specs.declared.packet.Body.{Body}
 use Rattle.net_base.specs.declared.packet.Body.TheVariants as body
 use Rattle.net_base.specs.declared.packet.Packet.{Packet}
@@ -36,15 +36,16 @@ use Rattle.net_base.specs.declared.timer.Tick.{Tick}
 use Rattle.net_base.specs.declared.timer.Tick.TheVariants as tick
 use Rattle.net_base.specs.declared.world.HostSpec.{HostSpec}
 use Rattle.net_base.specs.declared.world.MediumSpec.{MediumSpec}
+use Rattle.net_base.specs.declared.world.Version.{Version}
 use Rattle.net_base.specs.declared.world.World.{World}
 use Rattle.net_base.specs.ActorStep.{Step, when}
-use Rattle.net_base.specs.Actors.{Actor, IsDir, IsConv, IsMedium, IsPlain, opening_actor, opening_conv, actor_step, table_step, has_actor, step_as, plain_step}
+use Rattle.net_base.specs.Actors.{Actor, IsDesk, IsDir, IsConv, IsMedium, IsPlain, opening_actor, opening_conv, actor_step, table_step, has_actor, step_as, plain_step}
 use Rattle.net_base.specs.ControlWords as control
 use Rattle.net_base.specs.Conversation as conversation
 use Rattle.net_base.specs.Conversation.{Conv, Core, Il, Udp, Stage, Unused, Listening, Connected, conv_step}
 use Rattle.net_base.specs.Directory.{Dir}
 use Rattle.net_base.specs.Cs.{CsAnswer, Lines, Refused, cs_list}
-use Rattle.net_base.specs.Desk.{desk_reply, clock_reply, cs_reply, ls_reply, open_refusal}
+use Rattle.net_base.specs.Desk.{Desk, desk_replies, desk_reply, desk_step, clock_reply, cs_reply, ls_reply, open_refusal}
 use Rattle.net_base.specs.IlEnd.{End}
 use Rattle.net_base.specs.IlTable.{has_unread, may_go_on, is_closed, may_write}
 use Rattle.net_base.specs.Legal.{IsLegal, MayFollow, Shows, shown_of, shown_by, Shown}
@@ -53,6 +54,7 @@ use Rattle.net_base.specs.Net.{Net, after, works, played, stepped_to, Play, work
 use Rattle.net_base.specs.Paths.{walk, may_open}
 use Rattle.net_base.specs.Timer as timer
 use Rattle.net_base.specs.UdpEnd.{UdpEnd, is_hung_up, takes_datagram, udp_state_name}
+use Rattle.net_base.specs.Versions.{database_of}
 use Rattle.history_laws.proofs.Histories.{state_is_fold}
 use Rattle.script_task.specs.Fitting.{fits, is_granted}
 use Rattle.script_task.proofs.ConvReplies.{Answers, conv_answers}
@@ -103,14 +105,15 @@ waited : (moment : ℕ) (b : Bool) → Replies (event.Until moment) (when b (Som
 waited moment true = refl
 waited moment false = tt
 
-desk_answers : (db : List (List (List NdbPair))) (h : HostSpec) (e : Event) (now : ℕ) → Replies e (desk_reply db h e now)
-desk_answers db h (event.Cs query) now = cs_answered query (cs_list db h.name h.nets query)
-desk_answers db h (event.LsPath path) now = listed_at_desk path (bytes_eq path (codes "/net")) _
-desk_answers db h (event.OpenPath path m) now = not_opened path m (walk path)
-desk_answers db h (event.Use name) now = refl
-desk_answers db h (event.Misuse name) now = refl
-desk_answers db h (event.Until moment) now = waited moment (nat_le moment now)
-desk_answers db h _ now = tt
+desk_answers : (dbs : List Version) (h : HostSpec) (e : Event) (now : ℕ) (d : Desk) → Replies e (desk_reply dbs h e now d)
+desk_answers dbs h (event.Cs query) now d = cs_answered query (cs_list (database_of dbs d.version) h.name h.nets query)
+desk_answers dbs h (event.LsPath path) now d = listed_at_desk path (bytes_eq path (codes "/net")) _
+desk_answers dbs h (event.OpenPath path m) now d = not_opened path m (walk path)
+desk_answers dbs h (event.Use name) now d = refl
+desk_answers dbs h (event.Misuse name) now d = refl
+desk_answers dbs h (event.Until moment) now d = waited moment (nat_le moment now)
+desk_answers dbs h event.Refresh now d = refl
+desk_answers dbs h _ now d = tt
 
 clock_answers : (e : Event) → Replies e (clock_reply e)
 clock_answers (event.Move moment) = refl
@@ -148,9 +151,13 @@ plain_goes : (e : Event) (o : Option Reply) → Replies e o → Goes e (option_m
 plain_goes e None is = tt
 plain_goes e (Some r) is = (tt, is)
 
-desk_goes : (w : World) (now : ℕ) (e : Event) (o : Option HostSpec) → Goes e (option_and_then (λ (host : HostSpec). option_map plain_step (desk_reply w.db host e now)) o)
-desk_goes w now e None = tt
-desk_goes w now e (Some host) = plain_goes e _ (desk_answers w.db host e now)
+desk_tells : (d : Desk) (e : Event) (o : Option Reply) → Replies e o → Goes e (step_as IsDesk (option_map (desk_replies d) o))
+desk_tells d e None is = tt
+desk_tells d e (Some r) is = (tt, is)
+
+desk_goes : (w : World) (now : ℕ) (e : Event) (d : Desk) (o : Option HostSpec) → Goes e (option_and_then (λ (host : HostSpec). step_as IsDesk (desk_step w.dbs host e now d)) o)
+desk_goes w now e d None = tt
+desk_goes w now e d (Some host) = desk_tells d e (desk_reply w.dbs host e now d) (desk_answers w.dbs host e now d)
 
 medium_goes : (w : World) (m : Medium) (e : Event) (with : With) (o : Option MediumSpec)
     → Goes e (option_and_then (λ (spec : MediumSpec). step_as IsMedium (medium_step spec w.seed e with m)) o)
@@ -158,7 +165,7 @@ medium_goes w m e with None = tt
 medium_goes w m e with (Some spec) = others_go IsMedium e _ (λ s. tt) (medium_answers spec w.seed e with m)
 
 table_goes : (w : World) (a : ActorName) (s : Actor) (now : ℕ) (work : Work) → IsFine s → Goes work.event (table_step w a s now work)
-table_goes w (name.Desk h) IsPlain now work fine = desk_goes w now work.event (slice_get w.hosts h)
+table_goes w (name.Desk h) (IsDesk d) now work fine = desk_goes w now work.event d (slice_get w.hosts h)
 table_goes w (name.Dir h p) (IsDir d) now work fine = dir_goes work.event _ (dir_fits w h p work.event work.with d fine)
 table_goes w (name.Conv h p n) (IsConv c) now work fine = others_go IsConv work.event _ (λ s. tt) (conv_answers n work.event work.with now c)
 table_goes w (name.Medium m) (IsMedium s) now work fine = medium_goes w s work.event work.with (slice_get w.media m)
@@ -182,15 +189,15 @@ played_fine : (w : World) (a : ActorName) (s : Actor) (ps : List Play) → IsFin
 played_fine w a s [] fine = fine
 played_fine w a s (p ∷ ps) fine = played_fine w a (stepped_to s (actor_step w a s p.moment p.work)) ps (stays_fine s p.work.event (actor_step w a s p.moment p.work) fine (actor_goes w a s p.moment p.work fine))
 
-opening_is_fine : (a : ActorName) → IsFine (opening_actor a)
-opening_is_fine (name.Desk h) = tt
-opening_is_fine (name.Dir h p) = opening_fine
-opening_is_fine (name.Conv h p n) = tt
-opening_is_fine (name.Medium m) = tt
-opening_is_fine name.Clock = tt
+opening_is_fine : (timers : Timers) (a : ActorName) → IsFine (opening_actor timers a)
+opening_is_fine timers (name.Desk h) = tt
+opening_is_fine timers (name.Dir h p) = opening_fine
+opening_is_fine timers (name.Conv h p n) = tt
+opening_is_fine timers (name.Medium m) = tt
+opening_is_fine timers name.Clock = tt
 
 fine_after : (w : World) (h : List Entry) (a : ActorName) → IsFine ((after w h).actors a)
-fine_after w h a = subst IsFine (sym (state_is_fold w h a)) (played_fine w a (opening_actor a) (works w h a) (opening_is_fine a))
+fine_after w h a = subst IsFine (sym (state_is_fold w h a)) (played_fine w a (opening_actor w.timers a) (works w h a) (opening_is_fine w.timers a))
 
 goes_fits : (e : Event) (o : Option (Step Actor)) (t : Step Actor) → o ≡ Some t → Goes e o → fits e t.outcome.reply ≡ true
 goes_fits e None t is goes = absurd (none-some t is)
@@ -201,10 +208,10 @@ pub step_fits : (w : World) (h : List Entry) (a : ActorName) (now : ℕ) (work :
 step_fits w h a now work t is = goes_fits work.event (actor_step w a ((after w h).actors a) now work) t is (actor_goes w a ((after w h).actors a) now work (fine_after w h a))
 
 -- a step of an actor after any works
-pub played_fits : (w : World) (a : ActorName) (ps : List Play) (now : ℕ) (work : Work) (t : Step Actor) → actor_step w a (played w a (opening_actor a) ps) now work ≡ Some t → fits work.event t.outcome.reply ≡ true
+pub played_fits : (w : World) (a : ActorName) (ps : List Play) (now : ℕ) (work : Work) (t : Step Actor) → actor_step w a (played w a (opening_actor w.timers a) ps) now work ≡ Some t → fits work.event t.outcome.reply ≡ true
 played_fits w a ps now work t is =
-    goes_fits work.event (actor_step w a (played w a (opening_actor a) ps) now work) t is
-    (actor_goes w a (played w a (opening_actor a) ps) now work (played_fine w a (opening_actor a) ps (opening_is_fine a)))
+    goes_fits work.event (actor_step w a (played w a (opening_actor w.timers a) ps) now work) t is
+    (actor_goes w a (played w a (opening_actor w.timers a) ps) now work (played_fine w a (opening_actor w.timers a) ps (opening_is_fine w.timers a)))
 
 shown_fits : (x : Entry) (e : Event) (o : Option (Step Actor)) → Goes e o → IsSome (option_map (λ (s : Step Actor). s.outcome) o) → Shows (option_map (λ (s : Step Actor). s.outcome) o) x → fits e x.reply ≡ true
 shown_fits x e None goes ready shows = absurd (false≢true ready)

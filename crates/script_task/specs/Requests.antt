@@ -24,6 +24,7 @@ request_play h names (request.Close called) = play_of h names (step.Close called
 request_play h names (request.Cs query) = play_of h names (step.Cs query)
 request_play h names (request.Ls path) = play_of h names (step.Ls path)
 request_play h names (request.Until moment) = play_of h names (step.Until moment)
+request_play h names request.Refresh = play_of h names step.Refresh
 request_play h names (request.Wait called) = with_bound h called names (λ (f : Fid). ends_with (conversation_of h f) (event.Await f.generation) names)
 request_play h names (request.Unbound called) = uses h called names
 request_play h names (request.Misuse called) = misuses h called names

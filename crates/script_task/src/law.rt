@@ -23,7 +23,7 @@ pub fn replies_fit()
     ensures steps { (w : World) (h : List Entry) (a : ActorName) (now : ℕ) (work : Work) (t : Step Actor)
         → actor_step w a ((after w h).actors a) now work ≡ Some t → fits work.event t.outcome.reply ≡ true }
     ensures works { (w : World) (a : ActorName) (ps : List Play) (now : ℕ) (work : Work) (t : Step Actor)
-        → actor_step w a (played w a (opening_actor a) ps) now work ≡ Some t
+        → actor_step w a (played w a (opening_actor w.timers a) ps) now work ≡ Some t
         → fits work.event t.outcome.reply ≡ true }
 {}
 

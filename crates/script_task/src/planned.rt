@@ -46,6 +46,7 @@ pub fn plan(host: u32, fids: &Fids, request: Request) -> Planned
         Request::Cs { query } => at_desk(host, Event::Cs { query }),
         Request::Ls { path } => ls(host, path),
         Request::Until { moment } => at_desk(host, Event::Until { moment }),
+        Request::Refresh => at_desk(host, Event::Refresh),
         Request::Wait { name } => wait(host, fids, name),
         Request::Unbound { name } => at_desk(host, Event::Use { name }),
         Request::Misuse { name } => at_desk(host, Event::Misuse { name }),

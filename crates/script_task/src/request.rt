@@ -31,6 +31,8 @@ pub enum Request {
     Until {
         moment: u64,
     },
+    /// Has the connection server read its database again.
+    Refresh,
     /// Waits until the conversation is connected.
     Wait {
         name: Octets,

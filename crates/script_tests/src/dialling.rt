@@ -162,6 +162,7 @@ fn put(out: &mut Octets, request: &Request) -> Result<(), AllocError> {
         Request::Cs { query } => put_words(out, b"cs ", query, b""),
         Request::Ls { path } => put_words(out, b"ls ", path, b""),
         Request::Until { .. } => out.append(b"until;"),
+        Request::Refresh => out.append(b"refresh;"),
         Request::Wait { name } => put_words(out, b"wait ", name, b""),
         Request::Unbound { name } => put_words(out, b"use ", name, b""),
         Request::Misuse { name } => put_words(out, b"misuse ", name, b""),
@@ -321,6 +322,7 @@ fn step(alloc: Global, words: &[u8]) -> Result<Step, AllocError> {
     let (first, last) = cut(rest, b' ');
     match word {
         b"until" => Ok(Step::Until { moment: 9 }),
+        b"refresh" => Ok(Step::Refresh),
         b"read" | b"close" | b"ls" | b"cs" | b"hangup" | b"reject" => {
             step_of_one(alloc, word, first)
         }

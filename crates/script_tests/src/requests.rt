@@ -56,6 +56,7 @@ fn word(event: &Event) -> &'static [u8] {
         Event::Use { .. } => b"use",
         Event::Misuse { .. } => b"misuse",
         Event::Until { .. } => b"until",
+        Event::Refresh => b"refresh",
         Event::Reserve => b"reserve",
         Event::Grant { .. } => b"grant",
         Event::Announce { .. } => b"announce",
@@ -101,6 +102,7 @@ enum Ask {
     Ls(&'static [u8]),
     Cs(&'static [u8]),
     Until,
+    Refresh,
 }
 
 fn write(alloc: Global, name: &[u8], text: &[u8]) -> Result<Request, AllocError> {
@@ -142,6 +144,7 @@ fn request(alloc: Global, ask: Ask) -> Result<Request, AllocError> {
             query: Octets::from_slice(alloc, query)?,
         }),
         Ask::Until => Ok(Request::Until { moment: 10 }),
+        Ask::Refresh => Ok(Request::Refresh),
     }
 }
 
@@ -248,6 +251,7 @@ const OTHERS: &[Row] = &[
     (Ask::Ls(b"/net/tcp"), DESK, b"ls of a path"),
     (Ask::Cs(b"net!helix!9fs"), DESK, b"cs"),
     (Ask::Until, DESK, b"until"),
+    (Ask::Refresh, DESK, b"refresh"),
 ];
 
 #[test]

@@ -6,6 +6,7 @@ use Rattle.net_base.specs.declared.world.MediumSpec.{MediumSpec}
 use Rattle.net_base.specs.declared.world.Script.{Script}
 use Rattle.net_base.specs.declared.world.Step.TheVariants as step
 use Rattle.net_base.specs.declared.world.World.{World}
+use Rattle.net_base.specs.declared.timer.Timers.TheVariants.{Fixed}
 
 abbrev pub medium : MediumSpec
 medium = record { number = 0; name = codes "ether0"; mtu = 1500; loss = 0; twice = 0; later = 0; fates = [] }
@@ -23,4 +24,4 @@ abbrev pub script : Script
 script = record { host = 0; steps = step.Until 1 ∷ [] }
 
 abbrev pub echo_world : World
-echo_world = record { end = 60000; seed = 7; media = medium ∷ []; hosts = anna ∷ []; scripts = script ∷ []; db = [] }
+echo_world = record { end = 60000; seed = 7; timers = Fixed; media = medium ∷ []; hosts = anna ∷ []; scripts = script ∷ []; dbs = record { moment = 0; db = [] } ∷ [] }

@@ -11,7 +11,7 @@ use host_net::*;
 use journal::Naming;
 use net_base::{
     Db, Fates, History, HostSpec, Hosts, Iface, Ifaces, Media, MediumSpec, Mode, Nets, Octets,
-    Proto, RouteLines, Script, Scripts, Starts, Step, StepList, World,
+    Proto, RouteLines, Script, Scripts, Starts, Step, StepList, Timers, Version, Versions, World,
 };
 use outside::OpenGate;
 use script_task::Request;
@@ -78,6 +78,18 @@ fn scripts(alloc: Global) -> Result<Scripts, AllocError>
     Ok(scripts)
 }
 
+/// One version of the database, which is empty.
+fn versions(alloc: Global) -> Result<Versions, AllocError>
+    ensures { IfOk result (λ versions. versions ≡ record { moment = 0; db = [] } ∷ []) }
+{
+    let mut versions = Versions::new(alloc);
+    versions.push(Version {
+        moment: 0,
+        db: Db::new(alloc),
+    })?;
+    Ok(versions)
+}
+
 fn world(alloc: Global) -> Result<World, AllocError>
     ensures worked { IfOk result (λ w. w ≡ worked.echo_world) }
     ensures is { IfOk result IsWorld }
@@ -85,10 +97,11 @@ fn world(alloc: Global) -> Result<World, AllocError>
     Ok(World {
         end: 60000,
         seed: 7,
+        timers: Timers::Fixed,
         media: media(alloc)?,
         hosts: hosts(alloc)?,
         scripts: scripts(alloc)?,
-        db: Db::new(alloc),
+        dbs: versions(alloc)?,
     })
 }
 

@@ -37,6 +37,7 @@ rows =
     ∷ (codes "use", λ ws. (event.Use (at ws 0), drop 1 ws))
     ∷ (codes "misuse", λ ws. (event.Misuse (at ws 0), drop 1 ws))
     ∷ (codes "until", λ ws. (event.Until (number (at ws 0)), drop 1 ws))
+    ∷ (codes "refresh", λ ws. (event.Refresh, ws))
     ∷ (codes "reserve", λ ws. (event.Reserve, ws))
     ∷ (codes "grant", λ ws. (event.Grant (number (at ws 0)) (number (at ws 1)) (read_addr (at ws 2)) (read_number (at ws 3)), drop 4 ws))
     ∷ (codes "announce", λ ws. (event.Announce (number (at ws 0)) (number (at ws 1)) (read_ip (at ws 2)) (read_number (at ws 3)), drop 4 ws))
@@ -83,6 +84,7 @@ event_told (event.OpenPath path m) plain rest = rw (hex_is path plain, unhexed p
 event_told (event.Use called) plain rest = refl
 event_told (event.Misuse called) plain rest = refl
 event_told (event.Until m) plain rest = rw (number_told m) refl
+event_told event.Refresh plain rest = refl
 event_told event.Reserve plain rest = refl
 event_told (event.Grant n g remote lport) plain rest = rw (number_told n, number_told g, addr_told remote, dash_told lport) refl
 event_told (event.Announce n g ip port) plain rest = rw (number_told n, number_told g, ip_told ip, star_told port) refl
@@ -131,6 +133,7 @@ clean_event (event.OpenPath path m) plain = (clean (codes "open") refl, (clean_h
 clean_event (event.Use called) plain = (clean (codes "use") refl, (clean_word called plain, tt))
 clean_event (event.Misuse called) plain = (clean (codes "misuse") refl, (clean_word called plain, tt))
 clean_event (event.Until m) plain = (clean (codes "until") refl, (clean_numeral m, tt))
+clean_event event.Refresh plain = (clean (codes "refresh") refl, tt)
 clean_event event.Reserve plain = (clean (codes "reserve") refl, tt)
 clean_event (event.Grant n g remote lport) plain = (clean (codes "grant") refl, (clean_numeral n, (clean_numeral g, (clean_addr remote, (clean_dash lport, tt)))))
 clean_event (event.Announce n g ip port) plain = (clean (codes "announce") refl, (clean_numeral n, (clean_numeral g, (clean_ip ip, (clean_star port, tt)))))

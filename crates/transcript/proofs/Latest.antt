@@ -24,4 +24,4 @@ latest_is w net (x ∷ xs) ready =
     rw (sym first) (latest_is w (next_net w net x) xs (λ k y is. ready (suc k) y is))
 
 pub moment_of_legal : (w : World) (h : List Entry) → IsLegal w h → latest 0 h ≡ (after w h).moment
-moment_of_legal w h legal = latest_is w opening_net h (λ k x is. (legal k x is).is_ready)
+moment_of_legal w h legal = latest_is w (opening_net w) h (λ k x is. (legal k x is).is_ready)

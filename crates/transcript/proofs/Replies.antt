@@ -90,6 +90,7 @@ rows =
     ∷ (codes "full", λ ws. (reply.Full, ws))
     ∷ (codes "ticked", λ ws. (reply.Ticked, ws))
     ∷ (codes "notdue", λ ws. (reply.NotDue, ws))
+    ∷ (codes "version", λ ws. (reply.Version (number (at ws 0)), drop 1 ws))
     ∷ (codes "laid", λ ws. (reply.Laid (number (at ws 0)), drop 1 ws))
     ∷ (codes "toobig", λ ws. (reply.TooBig, ws))
     ∷ (codes "nostation", λ ws. (reply.NoStation, ws))
@@ -140,6 +141,7 @@ reply_told reply.Took plain rest ends = refl
 reply_told reply.Full plain rest ends = refl
 reply_told reply.Ticked plain rest ends = refl
 reply_told reply.NotDue plain rest ends = refl
+reply_told (reply.Version k) plain rest ends = rw (number_told k) refl
 reply_told (reply.Laid k) plain rest ends = rw (number_told k) refl
 reply_told reply.TooBig plain rest ends = refl
 reply_told reply.NoStation plain rest ends = refl
@@ -190,6 +192,7 @@ clean_reply reply.Took = (clean (codes "took") refl, tt)
 clean_reply reply.Full = (clean (codes "full") refl, tt)
 clean_reply reply.Ticked = (clean (codes "ticked") refl, tt)
 clean_reply reply.NotDue = (clean (codes "notdue") refl, tt)
+clean_reply (reply.Version k) = (clean (codes "version") refl, (clean_numeral k, tt))
 clean_reply (reply.Laid k) = (clean (codes "laid") refl, (clean_numeral k, tt))
 clean_reply reply.TooBig = (clean (codes "toobig") refl, tt)
 clean_reply reply.NoStation = (clean (codes "nostation") refl, tt)

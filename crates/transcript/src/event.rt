@@ -28,6 +28,7 @@ pub fn put_event(out: &mut Octets, event: &Event) -> Result<(), AllocError>
             put_word(out, name.as_slice())
         }
         Event::Until { moment } => put_with_number(out, b"until", *moment),
+        Event::Refresh => put_word(out, b"refresh"),
         Event::Reserve => put_word(out, b"reserve"),
         Event::Grant {
             slot,

@@ -23,6 +23,7 @@ pub fn put_reply(out: &mut Octets, reply: &Reply) -> Result<(), AllocError>
         Reply::BadMode => put_word(out, b"badmode"),
         Reply::BadFid => put_word(out, b"badfid"),
         Reply::Ok => put_word(out, b"ok"),
+        Reply::Version { version } => put_with_number(out, b"version", *version),
         Reply::Slot { slot, generation } => {
             put_with_numbers(out, b"slot", *slot as u64, *generation)
         }

@@ -45,6 +45,7 @@ begun_asks (word.Close called) names = refl
 begun_asks (word.Ls path) names = refl
 begun_asks (word.Cs query) names = refl
 begun_asks (word.Until moment) names = refl
+begun_asks word.Refresh names = refl
 begun_asks (word.Dial called address) names = refl
 begun_asks (word.Announce called address) names = refl
 begun_asks (word.Listen called from) names = refl

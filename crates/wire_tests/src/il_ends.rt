@@ -9,7 +9,7 @@ mod limits;
 mod talk;
 
 use il_machine::{Ask, HungupError, IlEnd};
-use net_base::{Cause, IlKind, IlMsg, IlState, Octets};
+use net_base::{Cause, IlKind, IlMsg, IlState, Octets, Timers};
 use std::alloc::{AllocError, Global};
 use std::process::Abort;
 use std::test::*;
@@ -78,10 +78,10 @@ struct Ends {
 }
 
 impl Ends {
-    fn fresh(alloc: Global) -> Result<Ends, AllocError> {
+    fn fresh(alloc: Global, timers: Timers) -> Result<Ends, AllocError> {
         Ok(Ends {
-            near: IlEnd::fresh(alloc)?,
-            far: IlEnd::fresh(alloc)?,
+            near: IlEnd::fresh(alloc, timers)?,
+            far: IlEnd::fresh(alloc, timers)?,
         })
     }
 }
@@ -277,7 +277,17 @@ fn play_all<R: Abort>(
 
 // The same at fresh ends.
 fn plays<R: Abort>(rt: &R, alloc: Global, tables: &[&[Row]]) -> Result<(), AllocError> {
-    let mut ends = Ends::fresh(alloc)?;
+    plays_with(rt, alloc, Timers::Fixed, tables)
+}
+
+// The same with ends of this kind of timers.
+fn plays_with<R: Abort>(
+    rt: &R,
+    alloc: Global,
+    timers: Timers,
+    tables: &[&[Row]],
+) -> Result<(), AllocError> {
+    let mut ends = Ends::fresh(alloc, timers)?;
     let played = play_all(rt, alloc, &mut ends, tables);
     drop(ends);
     played

@@ -2,7 +2,7 @@
 ghost use Rattle.std.specs.Prelude.{◌<◌};
 
 use il_queues::{Early, MOST_EARLY, MOST_UNACKED, MOST_UNREAD, Tick, Timer, Unacked, Unread};
-use net_base::{Octets, number};
+use net_base::{Octets, Probe, Timers, number};
 use std::alloc::{AllocError, Global};
 use std::test::*;
 
@@ -300,7 +300,7 @@ const SILENT_TICKS: &[(u64, Tick, Option<u64>)] = &[
 /// The waits double from half a second to eight, and end after thirty seconds of silence.
 #[test]
 fn a_timer_runs_out(rt: HostRuntime) {
-    let mut timer = Timer::idle();
+    let mut timer = Timer::idle(Timers::Fixed);
     assert!(rt; ticks(&mut timer, 5, Tick::NotDue, None));
     timer.start(10);
     for (now, says, due) in SILENT_TICKS {
@@ -308,9 +308,63 @@ fn a_timer_runs_out(rt: HostRuntime) {
     }
 }
 
+/// What a timer knows of round trips.
+fn knows(timer: &Timer, measured: bool, mean: u64, dev: u64, probe: Option<Probe>) -> bool {
+    (timer.measured, timer.mean, timer.dev, timer.probe) == (measured, mean, dev, probe)
+}
+
+/// A measured timer waits by the round trips of the messages that it has sent, from their first sending on.
+#[test]
+fn a_timer_follows_round_trips(rt: HostRuntime) {
+    let mut timer = Timer::idle(Timers::Measured);
+    timer.start(600);
+    timer.sent(600, 1);
+    // the second message is no probe while the first one is
+    timer.sent(610, 2);
+    assert!(rt; knows(&timer, false, 0, 0, Some(Probe { k: 1, at: 600 })));
+    assert!(rt; timer.due == Some(1100));
+    timer.acked(640, 1);
+    assert!(rt; knows(&timer, true, 40, 20, None));
+    timer.moved(640, false);
+    timer.start(700);
+    timer.sent(700, 3);
+    assert!(rt; timer.due == Some(820), "40 and four times 20");
+    // an ack below the probe measures nothing
+    timer.acked(720, 2);
+    assert!(rt; knows(&timer, true, 40, 20, Some(Probe { k: 3, at: 700 })));
+    timer.acked(1500, 3);
+    assert!(rt;
+        knows(&timer, true, 135, 205, None),
+        "(7 * 40 + 800) / 8, (3 * 20 + 760) / 4"
+    );
+}
+
+/// The base lies between 100 and 8,000; a probe that is later than now counts as 0.
+#[test]
+fn a_measured_wait_is_bounded(rt: HostRuntime) {
+    let mut quick = Timer::idle(Timers::Measured);
+    quick.sent(50, 1);
+    quick.acked(40, 1);
+    quick.start(40);
+    let least = quick.due;
+    let mut slow = Timer::idle(Timers::Measured);
+    slow.sent(0, 1);
+    slow.acked(4_000_000_000, 1);
+    slow.start(0);
+    let most = (slow.mean, slow.dev, slow.due);
+    let mut fixed = Timer::idle(Timers::Fixed);
+    fixed.sent(0, 1);
+    fixed.acked(40, 1);
+    fixed.start(0);
+    let as_before = (fixed.measured, fixed.probe, fixed.due);
+    assert!(rt; least == Some(140));
+    assert!(rt; most == (1_000_000_000, 500_000_000, Some(8000)));
+    assert!(rt; as_before == (false, None, Some(500)));
+}
+
 #[test]
 fn an_ack_starts_the_wait_anew(rt: HostRuntime) {
-    let mut timer = Timer::idle();
+    let mut timer = Timer::idle(Timers::Fixed);
     timer.start(10);
     let again = ticks(&mut timer, 510, Tick::Again, Some(1510));
     timer.heard(600);

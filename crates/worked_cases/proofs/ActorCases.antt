@@ -2,6 +2,8 @@
 use Rattle.std.proofs.Common.{◌≡◌, ℕ, ◌+◌, Bool, true, false, List, [], ◌∷◌, ◌++◌, map, replicate, Option, Some, None, option_map, codes, refl}
 use Rattle.std.specs.Fmt.{digits}
 use Rattle.rand_pcg.specs.Lcg.{state_after}
+use Rattle.net_base.specs.declared.timer.Timers.TheVariants.{Fixed}
+use Rattle.net_base.specs.declared.world.Version.{Version}
 use Rattle.net_base.specs.declared.address.Addr.{Addr}
 use Rattle.net_base.specs.declared.address.Proto.TheVariants as proto
 use Rattle.net_base.specs.declared.event.Event.{Event}
@@ -23,7 +25,7 @@ use Rattle.net_base.specs.IlEnd.{fresh_end, message}
 use Rattle.net_base.specs.UdpEnd.{fresh_udp}
 use Rattle.net_base.specs.Number.{number}
 use Rattle.net_base.specs.Conversation.{Conv, Core, Il, Udp, Unused, nowhere, conv_step}
-use Rattle.net_base.specs.Desk.{desk_reply}
+use Rattle.net_base.specs.Desk.{opening_desk, desk_reply}
 use Rattle.net_base.specs.Directory.{Dir, free_slot, dir_step}
 use Rattle.net_base.specs.Draws.{drawn_word}
 use Rattle.net_base.specs.Medium.{Medium, quiet_medium, medium_step}
@@ -188,96 +190,96 @@ packet_to kind = record { src = helix_9fs; dst = anna_5000; ttl = 255; tos = 0; 
 abbrev established : ℕ → Works
 established limit = granted_to limit ++ (event.ArriveAt 1, given.Packet (packet_to 0)) ∷ []
 
-pub the_longest_message : conv_answer (Il fresh_end) (established 538) (event.Write 1 (text_of 538)) given.Nothing ≡ Some (reply.Count 538)
+pub the_longest_message : conv_answer (Il (fresh_end Fixed)) (established 538) (event.Write 1 (text_of 538)) given.Nothing ≡ Some (reply.Count 538)
 unfolding number digits state_after
 the_longest_message = refl
 
-pub too_long : conv_answer (Il fresh_end) (established 538) (event.Write 1 (text_of 539)) given.Nothing ≡ Some (reply.TooLong 539 538)
+pub too_long : conv_answer (Il (fresh_end Fixed)) (established 538) (event.Write 1 (text_of 539)) given.Nothing ≡ Some (reply.TooLong 539 538)
 unfolding number digits state_after
 too_long = refl
 
-pub a_zero_write : conv_answer (Il fresh_end) (established 538) (event.Write 1 []) given.Nothing ≡ Some reply.ZeroWrite
+pub a_zero_write : conv_answer (Il (fresh_end Fixed)) (established 538) (event.Write 1 []) given.Nothing ≡ Some reply.ZeroWrite
 unfolding number digits state_after
 a_zero_write = refl
 
-pub too_soon : conv_answer (Il fresh_end) (plainly (event.Begin 1) ∷ []) (event.Write 1 (text_of 1)) given.Nothing ≡ Some (reply.WrongState name.Closed)
+pub too_soon : conv_answer (Il (fresh_end Fixed)) (plainly (event.Begin 1) ∷ []) (event.Write 1 (text_of 1)) given.Nothing ≡ Some (reply.WrongState name.Closed)
 unfolding number digits state_after
 too_soon = refl
 
-pub not_yet : conv_answer (Il fresh_end) (granted_to 538) (event.Write 1 (text_of 1)) given.Nothing ≡ None
+pub not_yet : conv_answer (Il (fresh_end Fixed)) (granted_to 538) (event.Write 1 (text_of 1)) given.Nothing ≡ None
 unfolding number digits state_after
 not_yet = refl
 
-pub it_still_connects : conv_answer (Il fresh_end) (granted_to 538) (event.Await 1) given.Nothing ≡ None
+pub it_still_connects : conv_answer (Il (fresh_end Fixed)) (granted_to 538) (event.Await 1) given.Nothing ≡ None
 unfolding number digits state_after
 it_still_connects = refl
 
-pub it_is_connected : conv_answer (Il fresh_end) (established 538) (event.Await 1) given.Nothing ≡ Some reply.Ok
+pub it_is_connected : conv_answer (Il (fresh_end Fixed)) (established 538) (event.Await 1) given.Nothing ≡ Some reply.Ok
 unfolding number digits state_after
 it_is_connected = refl
 
-pub the_generation_is_kept : conv_answer (Il fresh_end) (established 538) (event.Begin 1) given.Nothing ≡ None
+pub the_generation_is_kept : conv_answer (Il (fresh_end Fixed)) (established 538) (event.Begin 1) given.Nothing ≡ None
 unfolding number digits state_after
 the_generation_is_kept = refl
 
-pub an_older_one_is_stale : conv_answer (Il fresh_end) (established 538) (event.Begin 0) given.Nothing ≡ Some reply.Stale
+pub an_older_one_is_stale : conv_answer (Il (fresh_end Fixed)) (established 538) (event.Begin 0) given.Nothing ≡ Some reply.Stale
 unfolding number digits state_after
 an_older_one_is_stale = refl
 
-pub a_newer_one_waits : conv_answer (Il fresh_end) (established 538) (event.Close 2) given.Nothing ≡ None
+pub a_newer_one_waits : conv_answer (Il (fresh_end Fixed)) (established 538) (event.Close 2) given.Nothing ≡ None
 unfolding number digits state_after
 a_newer_one_waits = refl
 
-pub no_bytes_are_never_read : conv_answer (Il fresh_end) (established 538) (event.Read 0 0) given.Nothing ≡ None
+pub no_bytes_are_never_read : conv_answer (Il (fresh_end Fixed)) (established 538) (event.Read 0 0) given.Nothing ≡ None
 unfolding number digits state_after
 no_bytes_are_never_read = refl
 
-pub a_start_isnt_zero : conv_answer (Il fresh_end) (plainly (event.Begin 1) ∷ []) (event.Connect 1) (given.Grant (record { local = anna_5000; remote = helix_9fs }) 0 538) ≡ None
+pub a_start_isnt_zero : conv_answer (Il (fresh_end Fixed)) (plainly (event.Begin 1) ∷ []) (event.Connect 1) (given.Grant (record { local = anna_5000; remote = helix_9fs }) 0 538) ≡ None
 unfolding number digits state_after
 a_start_isnt_zero = refl
 
-pub local_is_said : conv_answer (Il fresh_end) (established 538) (event.File 1 file.Local 100) given.Nothing ≡ Some (reply.Bytes (codes "135.104.9.6!5000\n"))
+pub local_is_said : conv_answer (Il (fresh_end Fixed)) (established 538) (event.File 1 file.Local 100) given.Nothing ≡ Some (reply.Bytes (codes "135.104.9.6!5000\n"))
 unfolding number digits state_after
 local_is_said = refl
 
-pub the_slot_is_said : conv_answer (Il fresh_end) (established 538) (event.File 1 file.Ctl 100) given.Nothing ≡ Some (reply.Bytes (codes "3"))
+pub the_slot_is_said : conv_answer (Il (fresh_end Fixed)) (established 538) (event.File 1 file.Ctl 100) given.Nothing ≡ Some (reply.Bytes (codes "3"))
 unfolding number digits state_after
 the_slot_is_said = refl
 
-pub the_state_is_said : conv_answer (Il fresh_end) (established 538) (event.File 1 file.Status 4) given.Nothing ≡ Some (reply.Bytes (codes "Esta"))
+pub the_state_is_said : conv_answer (Il (fresh_end Fixed)) (established 538) (event.File 1 file.Status 4) given.Nothing ≡ Some (reply.Bytes (codes "Esta"))
 unfolding number digits state_after
 the_state_is_said = refl
 
-pub the_port_is_said : conv_answer (Il fresh_end) (plainly (event.Begin 1) ∷ (event.Bound 1, given.Key 0 564) ∷ []) (event.File 1 file.Local 100) given.Nothing ≡ Some (reply.Bytes (codes "0.0.0.0!564\n"))
+pub the_port_is_said : conv_answer (Il (fresh_end Fixed)) (plainly (event.Begin 1) ∷ (event.Bound 1, given.Key 0 564) ∷ []) (event.File 1 file.Local 100) given.Nothing ≡ Some (reply.Bytes (codes "0.0.0.0!564\n"))
 unfolding number digits state_after
 the_port_is_said = refl
 
-pub a_bad_word : conv_answer (Il fresh_end) (established 538) (event.Ctl 1 (codes "conect 1")) given.Nothing ≡ Some (reply.BadCtl 1)
+pub a_bad_word : conv_answer (Il (fresh_end Fixed)) (established 538) (event.Ctl 1 (codes "conect 1")) given.Nothing ≡ Some (reply.BadCtl 1)
 unfolding number digits state_after
 a_bad_word = refl
 
-pub a_good_word_isnt_answered : conv_answer (Il fresh_end) (established 538) (event.Ctl 1 (codes "hangup")) given.Nothing ≡ None
+pub a_good_word_isnt_answered : conv_answer (Il (fresh_end Fixed)) (established 538) (event.Ctl 1 (codes "hangup")) given.Nothing ≡ None
 unfolding number digits state_after
 a_good_word_isnt_answered = refl
 
 -- the last close hangs up: in Established the end is then Closing, and it hasn't ended
-pub it_is_left_closing : conv_ended (Il fresh_end) (established 538) (event.Close 1) ≡ Some false
+pub it_is_left_closing : conv_ended (Il (fresh_end Fixed)) (established 538) (event.Close 1) ≡ Some false
 unfolding number digits state_after
 it_is_left_closing = refl
 
-pub it_ends : conv_ended (Il fresh_end) (plainly (event.Begin 1) ∷ []) (event.Close 1) ≡ Some true
+pub it_ends : conv_ended (Il (fresh_end Fixed)) (plainly (event.Begin 1) ∷ []) (event.Close 1) ≡ Some true
 unfolding number digits state_after
 it_ends = refl
 
-pub it_ends_once : conv_ended (Il fresh_end) (plainly (event.Begin 1) ∷ plainly (event.Close 1) ∷ []) (event.Close 1) ≡ Some false
+pub it_ends_once : conv_ended (Il (fresh_end Fixed)) (plainly (event.Begin 1) ∷ plainly (event.Close 1) ∷ []) (event.Close 1) ≡ Some false
 unfolding number digits state_after
 it_ends_once = refl
 
-pub a_listener_is_left : conv_answer (Il fresh_end) (plainly (event.Begin 1) ∷ (event.Announced 1, given.Key 0 17008) ∷ []) (event.Hangup 1) given.Nothing ≡ Some reply.Left
+pub a_listener_is_left : conv_answer (Il (fresh_end Fixed)) (plainly (event.Begin 1) ∷ (event.Announced 1, given.Key 0 17008) ∷ []) (event.Hangup 1) given.Nothing ≡ Some reply.Left
 unfolding number digits state_after
 a_listener_is_left = refl
 
-pub its_cause : conv_answer (Il fresh_end) (plainly (event.Begin 1) ∷ (event.Announced 1, given.Key 0 17008) ∷ plainly (event.Hangup 1) ∷ []) (event.File 1 file.Err 100) given.Nothing ≡ Some (reply.Bytes (codes "hungup\n"))
+pub its_cause : conv_answer (Il (fresh_end Fixed)) (plainly (event.Begin 1) ∷ (event.Announced 1, given.Key 0 17008) ∷ plainly (event.Hangup 1) ∷ []) (event.File 1 file.Err 100) given.Nothing ≡ Some (reply.Bytes (codes "hungup\n"))
 unfolding number digits state_after
 its_cause = refl
 
@@ -396,31 +398,35 @@ the_gateway = refl
 
 -- The desk.
 
-pub the_names_in_net : desk_reply small_database anna (event.LsPath (codes "/net")) 0 ≡ Some (reply.Names (codes "cs" ∷ codes "il" ∷ codes "udp" ∷ []))
+-- the small database alone
+abbrev small_versions : List Version
+small_versions = record { moment = 0; db = small_database } ∷ []
+
+pub the_names_in_net : desk_reply small_versions anna (event.LsPath (codes "/net")) 0 opening_desk ≡ Some (reply.Names (codes "cs" ∷ codes "il" ∷ codes "udp" ∷ []))
 unfolding number digits state_after
 the_names_in_net = refl
 
-pub no_such_file : desk_reply small_database anna (event.OpenPath (codes "/net/tcp") mode.Read) 0 ≡ Some reply.NoFile
+pub no_such_file : desk_reply small_versions anna (event.OpenPath (codes "/net/tcp") mode.Read) 0 opening_desk ≡ Some reply.NoFile
 unfolding number digits state_after
 no_such_file = refl
 
-pub a_bad_mode : desk_reply small_database anna (event.OpenPath (codes "/net/il/3/err") mode.Both) 0 ≡ Some reply.BadMode
+pub a_bad_mode : desk_reply small_versions anna (event.OpenPath (codes "/net/il/3/err") mode.Both) 0 opening_desk ≡ Some reply.BadMode
 unfolding number digits state_after
 a_bad_mode = refl
 
-pub it_may_be_opened : desk_reply small_database anna (event.OpenPath (codes "/net/il/3/err") mode.Read) 0 ≡ None
+pub it_may_be_opened : desk_reply small_versions anna (event.OpenPath (codes "/net/il/3/err") mode.Read) 0 opening_desk ≡ None
 unfolding number digits state_after
 it_may_be_opened = refl
 
-pub not_until_then : desk_reply small_database anna (event.Until 10) 9 ≡ None
+pub not_until_then : desk_reply small_versions anna (event.Until 10) 9 opening_desk ≡ None
 unfolding number digits state_after
 not_until_then = refl
 
-pub until_then : desk_reply small_database anna (event.Until 10) 10 ≡ Some reply.Ok
+pub until_then : desk_reply small_versions anna (event.Until 10) 10 opening_desk ≡ Some reply.Ok
 unfolding number digits state_after
 until_then = refl
 
-pub both_nets : desk_reply small_database anna (event.Cs (codes "net!135.104.50.9!564")) 0
+pub both_nets : desk_reply small_versions anna (event.Cs (codes "net!135.104.50.9!564")) 0 opening_desk
     ≡ Some (reply.Lines (codes "/net/il/clone 135.104.50.9!564" ∷ codes "/net/udp/clone 135.104.50.9!564" ∷ []))
 unfolding number digits state_after
 both_nets = refl

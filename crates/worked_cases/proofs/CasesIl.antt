@@ -2,18 +2,20 @@
 use Rattle.std.proofs.Common.{◌≡◌, true, [], ◌∷◌, Some, codes, refl, arith}
 use Rattle.std.specs.Fmt.{digits}
 use Rattle.rand_pcg.specs.Lcg.{state_after}
+use Rattle.std.proofs.lemmas.List.Elements.{All-from_recursion}
 use Rattle.net_base.specs.Calm.{done}
 use Rattle.net_base.specs.Legal.{IsLegal, IsTimed}
 use Rattle.net_base.specs.Net.{after, opening_net}
 use Rattle.net_base.specs.Number.{number}
-use Rattle.net_base.specs.World.{IsWorld}
+use Rattle.net_base.specs.declared.world.Version.{Version}
+use Rattle.net_base.specs.World.{IsDatabase, IsWorld}
 use Rattle.net_base.specs.Written.{peer, reads, writes}
 use Rattle.worked_cases.specs.Rounds.{run_of}
 use Rattle.worked_worlds.specs.WorkedIl.{lossy_world, lossy_history, calling, called, refused_world, refused_history}
 use Rattle.worked_worlds.specs.Worked.{small_bundle}
 use Rattle.worked_cases.proofs.Walk.{Follow, InTime, is_legal, is_timed}
 
-lossy_follows : Follow lossy_world [] opening_net lossy_history
+lossy_follows : Follow lossy_world [] (opening_net lossy_world) lossy_history
 unfolding number digits state_after
 lossy_follows = (
   record { answers = refl; at_moment = refl; cites = refl; is_asked = refl; is_ready = refl; is_known = (refl, omega arith); has_room = omega arith },
@@ -167,7 +169,7 @@ lossy_follows = (
   ),
 )
 
-lossy_in_time : InTime lossy_world opening_net lossy_history
+lossy_in_time : InTime lossy_world (opening_net lossy_world) lossy_history
 unfolding number digits state_after
 lossy_in_time = (tt, (tt, (tt, (tt, (tt, ((refl, refl), (tt, (tt, (tt, (tt, (tt, (tt, (tt, (tt, (tt, (tt, (tt, (tt, (tt, (tt, (tt, (tt, (tt, (tt, (tt, (tt, (tt, (tt, (tt, (tt, (tt, (tt, ((refl, refl), (tt, (tt, (tt, (tt, (tt, (tt, (tt, (tt, (tt, (tt, (tt, (tt, (tt, (tt, (tt, (tt, (tt, (tt, tt)))))))))))))))))))))))))))))))))))))))))))))))))))
 
@@ -198,7 +200,8 @@ lossy_is_a_world = record {
   hosts_addressed = refl;
   few_scripts = refl;
   scripts = refl;
-  database = (small_bundle, refl, refl);
+  versions_timed = refl;
+  versions = All-from_recursion (λ (v : Version). IsDatabase v.db) lossy_world.dbs ((small_bundle, refl, refl), tt);
 }
 
 pub called_is_met : peer lossy_world lossy_history called ≡ Some calling
@@ -215,7 +218,7 @@ called_reads = refl
 pub calling_writes : writes lossy_history calling ≡ codes "hello" ∷ []
 calling_writes = refl
 
-refused_follows : Follow refused_world [] opening_net refused_history
+refused_follows : Follow refused_world [] (opening_net refused_world) refused_history
 unfolding number digits state_after
 refused_follows = (
   record { answers = refl; at_moment = refl; cites = refl; is_asked = tt; is_ready = refl; is_known = (refl, omega arith); has_room = omega arith },
@@ -267,7 +270,7 @@ refused_follows = (
   ),
 )
 
-refused_in_time : InTime refused_world opening_net refused_history
+refused_in_time : InTime refused_world (opening_net refused_world) refused_history
 unfolding number digits state_after
 refused_in_time = ((refl, refl), (tt, (tt, (tt, (tt, (tt, (tt, (tt, (tt, (tt, (tt, (tt, (tt, (tt, (tt, (tt, (tt, tt)))))))))))))))))
 

@@ -10,26 +10,26 @@ use Rattle.worked_worlds.specs.WorkedIl.{lossy_world, lossy_history}
 use Rattle.worked_worlds.specs.WorkedRuns.{callers_of, moves, nobody_world}
 use Rattle.worked_worlds.specs.WorkedUdp.{datagram_world, datagram_history}
 
-pub lossy_passed : callers_of (rounds_to 7 60 lossy_world opening_net).past ≡ callers_of (take 19 lossy_history) ++ (2 ∷ 2 ∷ 2 ∷ [])
+pub lossy_passed : callers_of (rounds_to 7 60 lossy_world (opening_net lossy_world)).past ≡ callers_of (take 19 lossy_history) ++ (2 ∷ 2 ∷ 2 ∷ [])
 unfolding number digits state_after
 lossy_passed = refl
 
-pub lossy_limited : limited_to 7 lossy_world (rounds_to 7 60 lossy_world opening_net) ≡ true
+pub lossy_limited : limited_to 7 lossy_world (rounds_to 7 60 lossy_world (opening_net lossy_world)) ≡ true
 unfolding number digits state_after
 lossy_limited = refl
 
-pub datagram_enough : (rounds_to 8 30 datagram_world opening_net).past ≡ datagram_history
+pub datagram_enough : (rounds_to 8 30 datagram_world (opening_net datagram_world)).past ≡ datagram_history
 unfolding number digits state_after
 datagram_enough = refl
 
-pub datagram_unlimited : limited_to 8 datagram_world (rounds_to 8 30 datagram_world opening_net) ≡ false
+pub datagram_unlimited : limited_to 8 datagram_world (rounds_to 8 30 datagram_world (opening_net datagram_world)) ≡ false
 unfolding number digits state_after
 datagram_unlimited = refl
 
-pub nobody_moves_less : moves (rounds_to 10 100 nobody_world opening_net).past ≡ 10 ∷ 510 ∷ 1510 ∷ 3510 ∷ []
+pub nobody_moves_less : moves (rounds_to 10 100 nobody_world (opening_net nobody_world)).past ≡ 10 ∷ 510 ∷ 1510 ∷ 3510 ∷ []
 unfolding number digits state_after
 nobody_moves_less = refl
 
-pub nobody_limited : limited_to 10 nobody_world (rounds_to 10 100 nobody_world opening_net) ≡ true
+pub nobody_limited : limited_to 10 nobody_world (rounds_to 10 100 nobody_world (opening_net nobody_world)) ≡ true
 unfolding number digits state_after
 nobody_limited = refl

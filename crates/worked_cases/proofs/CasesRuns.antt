@@ -53,27 +53,27 @@ pub nobody_kinds : kinds (run_of 100 nobody_world) ≡ Sync ∷ Sync ∷ Sync �
 unfolding number digits state_after
 nobody_kinds = refl
 
-pub hello_is_done : done hello_world (rounds 100 hello_world opening_net) ≡ true
+pub hello_is_done : done hello_world (rounds 100 hello_world (opening_net hello_world)) ≡ true
 unfolding number digits state_after
 hello_is_done = refl
 
-pub early_close_is_done : done early_close_world (rounds 100 early_close_world opening_net) ≡ true
+pub early_close_is_done : done early_close_world (rounds 100 early_close_world (opening_net early_close_world)) ≡ true
 unfolding number digits state_after
 early_close_is_done = refl
 
-pub repeated_is_done : done repeated_world (rounds 100 repeated_world opening_net) ≡ true
+pub repeated_is_done : done repeated_world (rounds 100 repeated_world (opening_net repeated_world)) ≡ true
 unfolding number digits state_after
 repeated_is_done = refl
 
-pub wrapping_is_done : done wrapping_world (rounds 100 wrapping_world opening_net) ≡ true
+pub wrapping_is_done : done wrapping_world (rounds 100 wrapping_world (opening_net wrapping_world)) ≡ true
 unfolding number digits state_after
 wrapping_is_done = refl
 
-pub cut_is_done : done cut_world (rounds 100 cut_world opening_net) ≡ true
+pub cut_is_done : done cut_world (rounds 100 cut_world (opening_net cut_world)) ≡ true
 unfolding number digits state_after
 cut_is_done = refl
 
-pub nobody_is_done : done nobody_world (rounds 100 nobody_world opening_net) ≡ true
+pub nobody_is_done : done nobody_world (rounds 100 nobody_world (opening_net nobody_world)) ≡ true
 unfolding number digits state_after
 nobody_is_done = refl
 
@@ -81,7 +81,7 @@ pub lost_moves : moves (run_of 200 lost_world) ≡ 10 ∷ 510 ∷ 1510 ∷ 3510 
 unfolding number digits state_after
 lost_moves = refl
 
-pub lost_is_stopped : stopped lost_world (rounds 200 lost_world opening_net) ≡ true
+pub lost_is_stopped : stopped lost_world (rounds 200 lost_world (opening_net lost_world)) ≡ true
 unfolding number digits state_after
 lost_is_stopped = refl
 
@@ -89,7 +89,7 @@ pub dropped_texts_read : texts_read (run_of 100 dropped_world) ≡ codes "he" �
 unfolding number digits state_after
 dropped_texts_read = refl
 
-pub dropped_is_stopped : stopped dropped_world (rounds 100 dropped_world opening_net) ≡ true
+pub dropped_is_stopped : stopped dropped_world (rounds 100 dropped_world (opening_net dropped_world)) ≡ true
 unfolding number digits state_after
 dropped_is_stopped = refl
 
@@ -97,6 +97,6 @@ pub two_calls_texts_read : texts_read (run_of 100 two_calls_world) ≡ codes "on
 unfolding number digits state_after
 two_calls_texts_read = refl
 
-pub two_calls_is_done : done two_calls_world (rounds 100 two_calls_world opening_net) ≡ true
+pub two_calls_is_done : done two_calls_world (rounds 100 two_calls_world (opening_net two_calls_world)) ≡ true
 unfolding number digits state_after
 two_calls_is_done = refl

@@ -18,7 +18,7 @@ pub datagram_is_the_run : run_of 30 datagram_world ≡ datagram_history
 unfolding number digits state_after
 datagram_is_the_run = refl
 
-follow : Follow datagram_world [] opening_net datagram_history
+follow : Follow datagram_world [] (opening_net datagram_world) datagram_history
 unfolding number digits state_after
 follow = (
   record { answers = refl; at_moment = refl; cites = refl; is_asked = refl; is_ready = refl; is_known = (refl, omega arith); has_room = omega arith },

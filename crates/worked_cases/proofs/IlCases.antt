@@ -1,5 +1,6 @@
 -- Worked calls on one IL end. Moments are in ms.
 use Rattle.std.proofs.Common.{◌≡◌, ℕ, zero, suc, ◌+◌, true, false, List, [], ◌∷◌, length, Some, None, codes, refl}
+use Rattle.net_base.specs.declared.timer.Timers.TheVariants.{Fixed}
 use Rattle.net_base.specs.declared.il.Cause.TheVariants as cause
 use Rattle.net_base.specs.declared.il.IlKind.TheVariants.{Sync, Data, DataQuery, Ack, Query, State, Close}
 use Rattle.net_base.specs.declared.il.IlState.TheVariants.{Closed, Established}
@@ -13,9 +14,9 @@ abbrev hello : List ℕ
 hello = codes "hello"
 
 abbrev syncer : End
-syncer = (connects 0 1 fresh_end).end
+syncer = (connects 0 1 (fresh_end Fixed)).end
 
-pub it_connects : (connects 0 1 fresh_end).emits ≡ Some (message Sync 1 0 [])
+pub it_connects : (connects 0 1 (fresh_end Fixed)).emits ≡ Some (message Sync 1 0 [])
 unfolding number
 it_connects = refl
 
@@ -97,9 +98,9 @@ an_old_id_has_no_number = refl
 -- What the other end hears: born at 0 from that sync, with 100 as its start.
 
 abbrev syncee : End
-syncee = (is_born 0 100 1 fresh_end).end
+syncee = (is_born 0 100 1 (fresh_end Fixed)).end
 
-pub it_is_born : (is_born 0 100 1 fresh_end).emits ≡ Some (message Sync 100 1 [])
+pub it_is_born : (is_born 0 100 1 (fresh_end Fixed)).emits ≡ Some (message Sync 100 1 [])
 unfolding number
 it_is_born = refl
 
@@ -178,11 +179,11 @@ pub a_syncee_hangs_up : (hangs_up 5 syncee).emits ≡ Some (message Close 100 1 
 unfolding number
 a_syncee_hangs_up = refl
 
-pub a_listener_hangs_up : (hangs_up 5 (announced fresh_end)).end.cause ≡ Some cause.Hungup
+pub a_listener_hangs_up : (hangs_up 5 (announced (fresh_end Fixed))).end.cause ≡ Some cause.Hungup
 unfolding number
 a_listener_hangs_up = refl
 
-pub a_fresh_end_hangs_up : hangs_up 5 fresh_end ≡ record { end = fresh_end; emits = None }
+pub a_fresh_end_hangs_up : hangs_up 5 (fresh_end Fixed) ≡ record { end = fresh_end Fixed; emits = None }
 unfolding number
 a_fresh_end_hangs_up = refl
 

@@ -24,13 +24,13 @@ legal_along w past net (x ∷ xs) is legal follow =
     let net_more : next_net w net x ≡ after w (past ++ x ∷ []) = ap (λ (n : Net). next_net w n x) is ∙ sym (after_push w past x) in
     subst (IsLegal w) (append_assoc past (x ∷ []) xs) (legal_along w (past ++ x ∷ []) (next_net w net x) xs net_more more follow.1)
 
-pub is_legal : (w : World) (h : List Entry) → Follow w [] opening_net h → IsLegal w h
-is_legal w h follow = legal_along w [] opening_net h refl (λ k x is. absurd (none-some x is)) follow
+pub is_legal : (w : World) (h : List Entry) → Follow w [] (opening_net w) h → IsLegal w h
+is_legal w h follow = legal_along w [] (opening_net w) h refl (λ k x is. absurd (none-some x is)) follow
 
 pub timed_along : (w : World) (net : Net) (h : List Entry) → InTime w net h → (k : ℕ) (x : Entry) → slice_get h k ≡ Some x → IsInTime (net_of w net (take k h)) w x.event
 timed_along w net [] in_time k x is = absurd (none-some x is)
 timed_along w net (y ∷ ys) in_time zero x is = subst (λ (z : Entry). IsInTime net w z.event) (same_Some y x is) in_time.0
 timed_along w net (y ∷ ys) in_time (suc k) x is = timed_along w (next_net w net y) ys in_time.1 k x is
 
-pub is_timed : (w : World) (h : List Entry) → InTime w opening_net h → IsTimed w h
-is_timed w h in_time = timed_along w opening_net h in_time
+pub is_timed : (w : World) (h : List Entry) → InTime w (opening_net w) h → IsTimed w h
+is_timed w h in_time = timed_along w (opening_net w) h in_time

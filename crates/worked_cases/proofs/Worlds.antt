@@ -1,14 +1,17 @@
 -- Two worlds of two hosts on one medium, over a small database.
 use Rattle.std.proofs.Common.{ℕ, List, [], ◌∷◌, ◌++◌, None, unwrap_or, codes, refl}
+use Rattle.std.proofs.lemmas.List.Elements.{All-from_recursion}
 use Rattle.net_base.specs.declared.address.Proto.TheVariants.{Il, Udp}
 use Rattle.net_base.specs.declared.ndb.NdbPair.{NdbPair}
 use Rattle.net_base.specs.declared.world.HostSpec.{HostSpec}
 use Rattle.net_base.specs.declared.world.MediumSpec.{MediumSpec}
 use Rattle.net_base.specs.declared.world.Script.{Script}
 use Rattle.net_base.specs.declared.world.Step.TheVariants as step
+use Rattle.net_base.specs.declared.world.Version.{Version}
 use Rattle.net_base.specs.declared.world.World.{World}
+use Rattle.net_base.specs.declared.timer.Timers.TheVariants.{Fixed}
 use Rattle.net_base.specs.NdbBundle.{reading}
-use Rattle.net_base.specs.World.{IsWorld}
+use Rattle.net_base.specs.World.{IsDatabase, IsWorld}
 
 abbrev pub small_text : List ℕ
 small_text =
@@ -62,10 +65,11 @@ two_hosts first second =
     record {
       end = 60000;
       seed = 7;
+      timers = Fixed;
       media = ether0 ∷ [];
       hosts = anna ∷ helix ∷ [];
       scripts = first ∷ second ∷ [];
-      db = small_database;
+      dbs = record { moment = 0; db = small_database } ∷ [];
     }
 
 -- a call over IL
@@ -121,7 +125,8 @@ il_world_is_said = record {
   hosts_addressed = refl;
   few_scripts = refl;
   scripts = refl;
-  database = (small_text, refl, refl);
+  versions_timed = refl;
+  versions = All-from_recursion (λ (v : Version). IsDatabase v.db) il_world.dbs ((small_text, refl, refl), tt);
 }
 
 pub udp_world_is_said : IsWorld udp_world
@@ -137,5 +142,6 @@ udp_world_is_said = record {
   hosts_addressed = refl;
   few_scripts = refl;
   scripts = refl;
-  database = (small_text, refl, refl);
+  versions_timed = refl;
+  versions = All-from_recursion (λ (v : Version). IsDatabase v.db) udp_world.dbs ((small_text, refl, refl), tt);
 }

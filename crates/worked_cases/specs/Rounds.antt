@@ -76,4 +76,4 @@ rounds n w net = rounds_to most_entries n w net
 
 -- the history of the run
 abbrev pub run_of : ℕ → World → List Entry
-run_of n w = (rounds n w opening_net).past
+run_of n w = (rounds n w (opening_net w)).past

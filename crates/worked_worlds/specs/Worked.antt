@@ -16,6 +16,7 @@ use Rattle.net_base.specs.declared.world.HostSpec.{HostSpec}
 use Rattle.net_base.specs.declared.world.Script.{Script}
 use Rattle.net_base.specs.declared.world.Step.{Step}
 use Rattle.net_base.specs.declared.world.World.{World}
+use Rattle.net_base.specs.declared.timer.Timers.TheVariants.{Fixed}
 
 -- Addresses.
 
@@ -71,10 +72,11 @@ world end fates hosts scripts =
     record {
       end = end;
       seed = 7;
+      timers = Fixed;
       media = record { number = 0; name = codes "ether0"; mtu = 1500; loss = 0; twice = 0; later = 0; fates = fates } ∷ [];
       hosts = hosts;
       scripts = scripts;
-      db = tuples;
+      dbs = record { moment = 0; db = tuples } ∷ [];
     }
 
 abbrev pub script : ℕ → List Step → Script

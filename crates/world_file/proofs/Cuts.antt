@@ -1,13 +1,17 @@
 -- A text that is read line by line.
-use Rattle.std.proofs.Common.{◌≡◌, ℕ, ◌+◌, ◌<◌, ◌≤◌, suc, Bool, true, false, not, cond, List, [], ◌∷◌, ◌++◌, length, take, drop, refl, sym, ap, ◌∙◌, arith, Option, Some, None, length-append}
+use Rattle.std.proofs.Common.{◌≡◌, ℕ, ◌+◌, ◌<◌, ◌≤◌, suc, Bool, true, false, not, cond, List, [], ◌∷◌, ◌++◌, length, take, drop, refl, sym, ap, subst, ◌∙◌, arith, Option, Some, None, length-append}
+use Rattle.std.specs.Prelude.{is_none}
 use Rattle.std.specs.List.{position_or_len}
 use Rattle.std.proofs.lemmas.Option.{none-some, same_Some}
 use Rattle.std.proofs.lemmas.List.Splits.{length-slice_split}
 use Rattle.std.proofs.lemmas.List.Sums.{count_by-le-length}
 use Rattle.net_base.specs.NdbText.{is_newline, lines_of}
-use Rattle.net_base.specs.NdbBundle.{first_bad, told, least, has_tuple, causes_of, bad_line}
+use Rattle.net_base.specs.declared.ndb.NdbPair.{NdbPair}
+use Rattle.net_base.specs.NdbBundle.{first_bad, told, least, has_tuple, causes_of, bad_line, database, reading}
 use Rattle.world_text.specs.WorldLines.{Draft, Verdict, line_verdict}
 use Rattle.world_text.specs.WorldText.{Cut, with_first, cuts_of, judged, reading_from}
+use Rattle.world_file.specs.declared.fault.WorldError.TheVariants as error
+use Rattle.world_file.specs.Told.{TellsBehind}
 
 abbrev cut_at : ℕ → ℕ → List ℕ → List Cut
 cut_at n m text = record { line = take n text; behind = drop m text } ∷ cuts_of (drop m text)
@@ -65,3 +69,12 @@ bad-within text n c e =
     let h = first-within [] (lines_of text) n c e in
     let l = length-slice_split is_newline text in
     let f = count_by-le-length is_newline text in omega (arith, h, l, f)
+
+-- a database that is read
+pub is_database : (text : List ℕ) (db : List (List (List NdbPair))) → bad_line text ≡ None → reading text ≡ Some db → db ≡ database (lines_of text)
+is_database text db good read =
+    sym (same_Some (database (lines_of text)) db (sym (ap (λ (o : Option (ℕ × ℕ)). cond (is_none o) (Some (database (lines_of text))) None) good) ∙ read))
+
+-- a bad line so many lines further on
+pub told_behind : (number line cause : ℕ) (bad : Option (ℕ × ℕ)) → bad ≡ Some (line, cause) → TellsBehind number (error.Bad (number + line) cause) bad
+told_behind number line cause bad is = subst (λ (o : Option (ℕ × ℕ)). TellsBehind number (error.Bad (number + line) cause) o) (sym is) (refl, refl)

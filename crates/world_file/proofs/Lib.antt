@@ -1,4 +1,6 @@
 pub mod Cuts
+pub mod Scanning
+pub mod Bundled
 pub mod Drained
 pub mod Drafts
 pub mod Placed

@@ -2,6 +2,7 @@ pub mod Indexed
 pub mod Told
 pub mod SessionText
 pub mod SessionTold
+pub mod Bundles
 pub use Rattle.net_base.specs.World
 pub use Rattle.world_text.specs.LineCauses
 pub use Rattle.world_text.specs.LineFit

@@ -8,7 +8,7 @@ use Rattle.std.specs.Option.{option_and_then, option_map_or}
 use Rattle.net_base.specs.declared.world.Script.{Script}
 use Rattle.net_base.specs.declared.world.Step.{Step}
 use Rattle.net_base.specs.declared.world.World.{World}
-use Rattle.net_base.specs.NdbBundle.{bad_line}
+use Rattle.world_text.specs.VersionLines.{bad_version_line}
 use Rattle.sessions.specs.declared.world.Session.{Session}
 use Rattle.sessions.specs.declared.world.SessionWorld.{SessionWorld}
 use Rattle.sessions.specs.Script.{IsBadStream, IsScript}
@@ -19,7 +19,7 @@ use Rattle.world_text.specs.declared.line.WorldLine.TheVariants as line
 use Rattle.world_text.specs.LineCauses.{number_of}
 use Rattle.world_text.specs.LineReading.{read_line}
 use Rattle.world_text.specs.WorldLines.{Bad, Begins, Draft, Goes, Verdict, at_last, is_passed, judged_line, line_verdict, opening_draft}
-use Rattle.world_text.specs.WorldText.{Cut, cuts_of, missing, with_database}
+use Rattle.world_text.specs.WorldText.{Cut, cuts_of, missing, with_versions}
 use Rattle.world_text.specs.WorldWords.{hex_text, one, words_of}
 
 -- cause 51: the bytes of a session aren't whole messages, each no longer than was agreed before it
@@ -107,7 +107,7 @@ Closes told Next r = by told.under
 -- the n-th line goes on, begins the bundle or is bad
 abbrev pub Judges : List Session → ℕ → List ℕ → Verdict → (Draft → Type 0) → Result SessionWorld (ℕ × ℕ) → Type 0
 Judges sessions n behind (Goes d) next r = next d
-Judges sessions n behind (Begins w) next r = r ≡ with_sessions sessions (with_database n w behind (bad_line behind))
+Judges sessions n behind (Begins w) next r = r ≡ with_sessions sessions (with_versions n w behind (bad_version_line behind))
 Judges sessions n behind (Bad c) next r = r ≡ Err (n, number_of c)
 
 -- a line `feed` adds its bytes to the session under which it stands

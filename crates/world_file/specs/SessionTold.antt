@@ -1,11 +1,11 @@
 -- What the reader of sessions makes of lines, and tells of a bad one.
 use Rattle.std.specs.Prelude.{◌≡◌, ℕ, ◌+◌, Bool, true, false, List, ◌∷◌, Option, Some, None, Result, Ok, Err, Bor, ⊤}
 use Rattle.std.specs.Option.{option_and_then}
-use Rattle.net_base.specs.NdbBundle.{bad_line}
+use Rattle.world_text.specs.VersionLines.{bad_version_line}
 use Rattle.sessions.specs.declared.world.SessionWorld.{SessionWorld}
 use Rattle.sessions.specs.Script.{IsBadStream}
 use Rattle.world_text.specs.WorldLines.{world_of}
-use Rattle.world_text.specs.WorldText.{Cut, with_database}
+use Rattle.world_text.specs.WorldText.{Cut, with_versions}
 use Rattle.world_text.specs.WorldWords.{hex_text}
 use Rattle.world_file.specs.declared.fault.WorldError.{WorldError}
 use Rattle.world_file.specs.declared.fault.WorldError.TheVariants as error
@@ -38,7 +38,7 @@ TakenAs row old new n line (Ok false) =
     (behind : List ℕ) (cs : List Cut) (r : Result SessionWorld (ℕ × ℕ)) → SaysFrom new (n + 1) cs r
     → Follows old n (cut line behind) row (λ (later : Told). SaysFrom later (n + 1) cs r) r
 TakenAs row old new n line (Ok true) =
-    (behind : List ℕ) (cs : List Cut) (r : Result SessionWorld (ℕ × ℕ)) → r ≡ with_sessions new.sessions (with_database n (world_of new.draft) behind (bad_line behind))
+    (behind : List ℕ) (cs : List Cut) (r : Result SessionWorld (ℕ × ℕ)) → r ≡ with_sessions new.sessions (with_versions n (world_of new.draft) behind (bad_version_line behind))
     → Follows old n (cut line behind) row (λ (later : Told). SaysFrom later (n + 1) cs r) r
 TakenAs row old new n line (Err error.Memory) = ⊤
 TakenAs row old new n line (Err (error.Bad l c)) =
@@ -64,4 +64,4 @@ ClosesBad told (error.Bad l c) = (told.under ≡ Some l) × (c ≡ bad_stream) �
 -- what the bundle's error tells
 abbrev pub BundleBad : Told → ℕ → List ℕ → WorldError → Type 0
 BundleBad told n text error.Memory = ⊤
-BundleBad told n text (error.Bad l c) = with_sessions told.sessions (with_database n (world_of told.draft) text (bad_line text)) ≡ Err (l, c)
+BundleBad told n text (error.Bad l c) = with_sessions told.sessions (with_versions n (world_of told.draft) text (bad_version_line text)) ≡ Err (l, c)

@@ -1,5 +1,5 @@
 -- What the reader tells of a bad line.
-use Rattle.std.specs.Prelude.{◌≡◌, ◌≤◌, ℕ, length, map, bytes_eq, true, Bool, Result, Err, ⊤, if◌then◌else◌}
+use Rattle.std.specs.Prelude.{◌≡◌, ◌≤◌, ℕ, ◌+◌, length, map, bytes_eq, true, Bool, Option, Some, None, Result, Err, ⊤, if◌then◌else◌}
 use Rattle.net_base.specs.declared.world.MediumSpec.{MediumSpec}
 use Rattle.net_base.specs.declared.world.World.{World}
 use Rattle.net_base.specs.World.{all_apart}
@@ -19,6 +19,12 @@ TellsCause (fault.Cause cause) verdict = verdict ≡ Bad cause
 abbrev pub Tells : WorldError → Result World (ℕ × ℕ) → Type 0
 Tells error.Memory reading = ⊤
 Tells (error.Bad line cause) reading = reading ≡ Err (line, cause)
+
+-- an error tells a bad line that stands so many lines further on, or nothing where memory ran out
+abbrev pub TellsBehind : ℕ → WorldError → Option (ℕ × ℕ) → Type 0
+TellsBehind number error.Memory bad = ⊤
+TellsBehind number (error.Bad line cause) None = ⊥
+TellsBehind number (error.Bad line cause) (Some told) = (line ≡ number + told.0) × (cause ≡ told.1)
 
 -- a line that begins the bundle, or goes on
 abbrev pub going : Bool → Draft → Verdict

@@ -44,7 +44,7 @@ impl Draft {
         ensures { result ≡ spec.line_cause self.now line.now }
     {
         match line {
-            WorldLine::Networld => Some(LineCause::OutOfOrder),
+            WorldLine::Networld(_) => Some(LineCause::OutOfOrder),
             WorldLine::End(_) => self.end_cause(),
             WorldLine::Seed(_) => self.seed_cause(),
             WorldLine::OfMedium(line) => self.medium_line_cause(line),

@@ -23,8 +23,9 @@ impl Draft {
         ensures { OnOk result (self.new ≡ spec.after self.old line) }
     {
         match line {
-            WorldLine::Networld => {
+            WorldLine::Networld(timers) => {
                 self.group = 1;
+                self.timers = timers;
                 Ok(())
             }
             WorldLine::End(moment) => {

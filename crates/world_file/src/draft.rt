@@ -8,7 +8,7 @@ ghost use Rattle.world_file.specs.SessionText.{host_of_last};
 
 use crate::host::HostDraft;
 use crate::medium::MediumDraft;
-use net_base::{HostSpec, MediumSpec, Octets, Script, Sequence, World};
+use net_base::{HostSpec, MediumSpec, Octets, Script, Sequence, Timers, World};
 use std::alloc::{AllocError, Global};
 use std::marker::Model;
 use world_text::LineCause;
@@ -20,6 +20,7 @@ pub(crate) struct Draft {
     pub(crate) group: u32,
     pub(crate) end: u64,
     pub(crate) seed: u64,
+    pub(crate) timers: Timers,
     pub(crate) media: Vec<MediumDraft>,
     /// The names of the media whose rates were set.
     pub(crate) rated: Vec<Octets>,
@@ -36,6 +37,7 @@ impl Model for Draft {
       group = d.group;
       end = d.end;
       seed = d.seed;
+      timers = d.timers;
       media = d.media.items;
       rated = d.rated.items;
       hosts = d.hosts.items;
@@ -52,6 +54,7 @@ impl Draft {
             group: 0,
             end: 1,
             seed: 0,
+            timers: Timers::Fixed,
             media: Vec::new(alloc),
             rated: Vec::new(alloc),
             hosts: Vec::new(alloc),
@@ -131,13 +134,14 @@ impl Draft {
         }
     }
 
-    /// The world, without its database.
+    /// The world, without its databases.
     pub(crate) fn finish(self, alloc: Global) -> Result<World, AllocError>
         ensures { IfOk result (λ w. w ≡ spec.world_of self) }
     {
         let Draft {
             end,
             seed,
+            timers,
             media,
             hosts,
             scripts,
@@ -146,10 +150,11 @@ impl Draft {
         Ok(World {
             end,
             seed,
+            timers,
             media: Sequence::from_vec(finish_media(alloc, media)?),
             hosts: Sequence::from_vec(finish_hosts(alloc, hosts)?),
             scripts: Sequence::from_vec(scripts),
-            db: Sequence::new(alloc),
+            dbs: Sequence::new(alloc),
         })
     }
 }

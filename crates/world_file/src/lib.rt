@@ -10,6 +10,7 @@ mod host;
 mod lines;
 mod medium;
 mod reader;
+mod versions;
 mod session_text;
 
 pub use fault::WorldError;

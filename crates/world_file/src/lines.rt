@@ -7,6 +7,7 @@ ghost use Rattle.world_file.specs.SessionText.{under_session};
 ghost use Rattle.world_file.specs.Told.{IsSmall, TellsCause, going};
 
 use crate::draft::Draft;
+use net_base::Timers;
 use std::alloc::Global;
 use world_text::{LineCause, WorldLine, lines_are_spelled};
 use world_words::{LineFault, read_line};
@@ -71,17 +72,21 @@ impl Draft {
         Ok(begins)
     }
 
-    /// `networld 1`, which is the first line.
+    /// `networld 1` or `networld 2`, one of which is the first line.
     fn take_first(&mut self, line: &[u8]) -> Result<bool, LineFault>
         ensures ok { IfOk result (λ begins. spec.first_line self.old line.now ≡ going begins self.new) }
         ensures bad { IfErr result (λ fault. TellsCause fault (spec.first_line self.old line.now)) }
     {
-        if line == b"networld 1".as_slice() {
-            self.group = 1;
-            Ok(false)
+        let timers = if line == b"networld 1".as_slice() {
+            Timers::Fixed
+        } else if line == b"networld 2".as_slice() {
+            Timers::Measured
         } else {
-            Err(LineFault::Cause(LineCause::FirstLine))
-        }
+            return Err(LineFault::Cause(LineCause::FirstLine));
+        };
+        self.group = 1;
+        self.timers = timers;
+        Ok(false)
     }
 }
 

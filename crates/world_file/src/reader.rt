@@ -2,16 +2,16 @@
 ghost use Rattle.std.specs.Prelude.{◌≡◌, ◌+◌, ◌^◌, ◌<◌, ◌∷◌, length, drop, Ok, IfOk, IfErr};
 ghost use Rattle.std.specs.List.{position_or_len};
 ghost use Rattle.net_base.specs.NdbText.{is_newline};
-ghost use Rattle.net_base.specs.NdbBundle.{bad_line};
 ghost use Rattle.net_base.specs.World.{IsWorld};
 ghost use Rattle.world_text.specs.WorldLines as spec;
 ghost use Rattle.world_text.specs.WorldSpelling.{IsWorldText};
-ghost use Rattle.world_text.specs.WorldText.{cuts_of, missing, with_database, world_reading};
+ghost use Rattle.world_text.specs.VersionLines.{bad_version_line};
+ghost use Rattle.world_text.specs.WorldText.{cuts_of, missing, with_versions, world_reading};
 ghost use Rattle.world_file.specs.Told.{Tells, TellsAt};
 
 use crate::draft::Draft;
 use crate::fault::WorldError;
-use ndb_reader::{NdbError, read_ndb};
+use crate::versions::read_versions;
 use net_base::World;
 use std::alloc::Global;
 use world_text::{worlds_are_spelled, worlds_so_far_are_small};
@@ -41,7 +41,7 @@ fn read_lines(alloc: Global, bytes: &[u8]) -> Result<World, WorldError>
         let (line, behind) = cut_line(rest);
         match draft.take_text(alloc, line) {
             Ok(false) => {}
-            Ok(true) => return read_database(alloc, draft, number, behind),
+            Ok(true) => return read_bundles(alloc, draft, number, behind),
             Err(fault) => return Err(at_line(fault, number)),
         }
         number += 1;
@@ -53,29 +53,15 @@ fn read_lines(alloc: Global, bytes: &[u8]) -> Result<World, WorldError>
     })
 }
 
-/// The world of a draft with the database that stands behind the line with this number.
-pub(crate) fn read_database(
-    alloc: Global,
-    draft: Draft,
-    number: u64,
-    text: &[u8],
-) -> Result<World, WorldError>
+/// The world of a draft with the versions that stand behind the line with this number.
+pub(crate) fn read_bundles(alloc: Global, draft: Draft, number: u64, text: &[u8]) -> Result<World, WorldError>
     requires { number + length text.now < 2 ^ 63 }
-    ensures ok { IfOk result (λ w. with_database number (spec.world_of draft) text.now (bad_line text.now) ≡ Ok w) }
-    ensures bad { IfErr result (λ e. Tells e (with_database number (spec.world_of draft) text.now (bad_line text.now))) }
+    ensures ok { IfOk result (λ w. with_versions number (spec.world_of draft) text.now (bad_version_line text.now) ≡ Ok w) }
+    ensures bad { IfErr result (λ e. Tells e (with_versions number (spec.world_of draft) text.now (bad_version_line text.now))) }
 {
     let mut world = draft.finish(alloc)?;
-    match read_ndb(alloc, text) {
-        Ok(db) => {
-            world.db = db;
-            Ok(world)
-        }
-        Err(NdbError::Memory) => Err(WorldError::Memory),
-        Err(NdbError::Bad { line, cause }) => Err(WorldError::Bad {
-            line: number + line,
-            cause,
-        }),
-    }
+    world.dbs = read_versions(alloc, number, text)?;
+    Ok(world)
 }
 
 /// The fault of the line with this number.

@@ -1,8 +1,8 @@
 //! The text of a world with sessions, line by line.
 ghost use Rattle.std.specs.Prelude.{◌≡◌, ℕ, List, [], ◌∷◌, ◌+◌, ◌++◌, ◌<◌, ◌^◌, length, Ok, IfOk, IfErr, OnOk};
-ghost use Rattle.net_base.specs.NdbBundle.{bad_line};
+ghost use Rattle.world_text.specs.VersionLines.{bad_version_line};
 ghost use Rattle.world_text.specs.WorldLines as lines;
-ghost use Rattle.world_text.specs.WorldText.{with_database};
+ghost use Rattle.world_text.specs.WorldText.{with_versions};
 ghost use Rattle.world_file.specs.SessionText as spec;
 ghost use Rattle.world_file.specs.SessionText.{Says};
 ghost use Rattle.world_file.specs.SessionTold.{BundleBad, ClosesBad, IsClosed, SaysBad, Taken, TakenAs, row_seen, word_seen};
@@ -10,7 +10,7 @@ ghost use Rattle.world_file.specs.Told.{IsSmall};
 
 use crate::draft::Draft;
 use crate::fault::WorldError;
-use crate::reader::{at_line, cut_line, read_database};
+use crate::reader::{at_line, cut_line, read_bundles};
 use net_base::{Octets, Sequence};
 use session_script::{ExportError, script_of};
 use sessions::{Session, SessionWorld};
@@ -198,7 +198,7 @@ impl Told {
     // The world of the lines so far, with the database that stands behind the line with this number.
     fn finish(self, alloc: Global, number: u64, text: &[u8]) -> Result<SessionWorld, WorldError>
         requires { number + length text.now < 2 ^ 63 }
-        ensures ok { IfOk result (λ w. spec.with_sessions self.sessions (with_database number (lines.world_of self.draft) text.now (bad_line text.now)) ≡ Ok w) }
+        ensures ok { IfOk result (λ w. spec.with_sessions self.sessions (with_versions number (lines.world_of self.draft) text.now (bad_version_line text.now)) ≡ Ok w) }
         ensures bad { IfErr result (BundleBad self number text.now) }
     {
         let Told {
@@ -206,7 +206,7 @@ impl Told {
             sessions,
             ..
         } = self;
-        let world = read_database(alloc, draft, number, text)?;
+        let world = read_bundles(alloc, draft, number, text)?;
         Ok(SessionWorld {
             world,
             sessions: Sequence::from_vec(sessions),

@@ -532,7 +532,8 @@ const NUMBERS: &str = "0 0 0 clock - cs 696c21 = csrefused 3\n\
 2 0 0 clock - tos 2 16 = ok\n\
 3 0 0 clock - put 7 = toobig\n\
 4 0 0 clock - until 10 = ok\n\
-5 0 0 clock - move 60000 = ok\n";
+5 0 0 clock - refresh = version 3\n\
+6 0 0 clock - move 60000 = ok\n";
 
 fn put_numbers(alloc: Global, history: &mut History) -> Result<(), AllocError> {
     let query = text(alloc, b"il!")?;
@@ -549,6 +550,7 @@ fn put_numbers(alloc: Global, history: &mut History) -> Result<(), AllocError> {
     put(history, tos, Reply::Ok)?;
     put(history, Event::Put { to: Some(7) }, Reply::TooBig)?;
     put(history, Event::Until { moment: 10 }, Reply::Ok)?;
+    put(history, Event::Refresh, Reply::Version { version: 3 })?;
     put(history, Event::Move { moment: 60000 }, Reply::Ok)
 }
 

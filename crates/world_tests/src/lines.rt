@@ -59,6 +59,7 @@ fn all_have(rt: &impl Abort, alloc: Global, lines: &[&[u8]], cause: u32) {
 
 const LINES: &[&[u8]] = &[
     b"networld 1",
+    b"networld 2",
     b"end 1000000000",
     b"seed 18446744073709551615",
     b"medium ether0 16384",
@@ -92,6 +93,7 @@ const STEPS: &[&[u8]] = &[
     b"ls /net",
     b"cs ",
     b"until 1000000000",
+    b"refresh",
     b"dial c il!anna!9fs",
     b"announce a udp!*!7",
     b"listen l a",
@@ -113,7 +115,11 @@ fn unknown_words_are_told(rt: HostRuntime) {
 }
 
 const WRONG_LINES: &[&[u8]] = &[
-    b"networld 2",
+    b"networld 3",
+    b"networld",
+    b"networld 1 2",
+    b"refresh x",
+    b"refresh ",
     b"end 0",
     b"end 01",
     b"seed 18446744073709551616",

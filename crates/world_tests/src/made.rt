@@ -13,7 +13,10 @@ fn has_steps(world: &World, first: usize, second: usize) -> bool {
 
 fn is_made(alloc: Global, messages: u32) -> Result<bool, AllocError> {
     let world = make_world(alloc, messages)?;
-    let head = world.end == 1000000000 && world.seed == 20 && world.db.len() == 7;
+    let head = world.end == 1000000000
+        && world.seed == 20
+        && world.dbs.len() == 1
+        && world.dbs.as_slice()[0].db.len() == 7;
     let steps = has_steps(&world, 43, 46);
     drop(world);
     Ok(head && steps)

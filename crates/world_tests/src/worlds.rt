@@ -150,7 +150,7 @@ fn has_two_scripts(world: &World) -> bool {
 
 fn is_worked(world: &World) -> bool {
     let head = world.end == 60000 && world.seed == 7;
-    let counts = world.media.len() == 1 && world.db.len() == 3;
+    let counts = world.media.len() == 1 && world.dbs.as_slice()[0].db.len() == 3;
     head && counts && has_two_hosts(world) && has_two_scripts(world)
 }
 
@@ -233,11 +233,12 @@ fn lines_stand_in_any_order(rt: HostRuntime) {
 
 const FIRST_LINES: &[Row] = &[
     (b"", b"", 1, 11),
-    (b"", b"#a\n\nnetworld 2\n", 3, 11),
+    (b"", b"#a\n\nnetworld 3\n", 3, 11),
     (b"", b"networld 1 ", 1, 11),
     (START, b" end 1", 2, 12),
     (START, b"#end\n\nends", 4, 12),
-    (START, b"networld 2", 2, 13),
+    (START, b"networld 3", 2, 13),
+    (START, b"networld 2", 2, 18),
     (START, b"end 1\nend 0", 3, 13),
     (START, b"networld 1", 2, 18),
     (START, b"end 1\nend 1", 3, 18),
@@ -356,6 +357,38 @@ const SCRIPTS: &[Row] = &[
     (SCRIPT, b"ndb\na=b\n\n\n=c", 13, 3),
     (HOSTS, b"ndb\na=b\n%file x\n\tc=d\n", 12, 1),
 ];
+
+const VERSIONS: &[Row] = &[
+    // a version begins at its own moment, above the one before
+    (HOSTS, b"ndb\n%at 20\n%at 20\n", 11, 24),
+    (HOSTS, b"ndb\n%at 20\n%at 19\n", 11, 24),
+    (HOSTS, b"ndb\n%at 0\n", 10, 13),
+    (HOSTS, b"ndb\n%at 1000000001\n", 10, 13),
+    (HOSTS, b"ndb\n%at", 10, 13),
+    (HOSTS, b"ndb\n%at ", 10, 13),
+    (HOSTS, b"ndb\n%at 20 ", 10, 13),
+    (HOSTS, b"ndb\n%at 20\r\n", 10, 13),
+    (HOSTS, b"ndb\n%at 2\x000\n", 10, 13),
+    (HOSTS, b"ndb\n%at 020\n", 10, 13),
+    // any other byte behind `%at` makes it a line of the bundle
+    (HOSTS, b"ndb\n%atx\n", 10, 6),
+    (HOSTS, b"ndb\n%at\t20\n", 10, 6),
+    (HOSTS, b"ndb\n%at\x00\n", 10, 5),
+    // each bundle is by itself
+    (HOSTS, b"ndb\na=b\n%at 20\n\tc=d\n", 12, 1),
+    (HOSTS, b"ndb\na=b\n%at 20\na=b\n\n=c\n", 14, 3),
+    // the first bad line is told
+    (HOSTS, b"ndb\n%at 20\n=c\n%at 20\n", 11, 3),
+    // the first line names the timers, and none goes back
+    (HOSTS, b"networld 2", 9, 18),
+    (HOSTS, b"networld 3", 9, 13),
+    (SCRIPT, b"refresh x", 9, 13),
+];
+
+#[test]
+fn versions_are_judged(rt: HostRuntime) {
+    none_wrong(&rt, first_wrong(rt.alloc(), VERSIONS));
+}
 
 #[test]
 fn scripts_are_judged(rt: HostRuntime) {

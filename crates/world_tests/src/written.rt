@@ -2,7 +2,7 @@
 use net_base::{
     Db, Fate, FateRange, Fates, HostSpec, Hosts, Iface, Ifaces, Line, Media, MediumSpec, Mode,
     NdbPair, Nets, Octets, Proto, RouteLine, RouteLines, Script, Scripts, Starts, Step, StepList,
-    Tuple, World,
+    Timers, Tuple, Version, Versions, World,
 };
 use std::alloc::{AllocError, Global};
 use world_writer::write_world;
@@ -166,6 +166,7 @@ fn hangup(alloc: Global) -> Result<Step, AllocError> {
 /// Steps on files.
 fn add_files(alloc: Global, steps: &mut StepList) -> Result<(), AllocError> {
     steps.push(Step::Until { moment: 10 })?;
+    steps.push(Step::Refresh)?;
     steps.push(open(alloc, b"c", b"/net/il/clone", None)?)?;
     steps.push(open(alloc, b"d", b"/net/cs", Some(Mode::Both))?)?;
     steps.push(read(alloc)?)?;
@@ -219,7 +220,13 @@ fn put_parts(alloc: Global, world: &mut World) -> Result<(), AllocError> {
     put_media(alloc, &mut world.media)?;
     world.hosts.push(gate(alloc)?)?;
     world.scripts.push(script(alloc)?)?;
-    put_tuple(alloc, &mut world.db)
+    let mut db = Db::new(alloc);
+    put_tuple(alloc, &mut db)?;
+    world.dbs.push(Version { moment: 0, db })?;
+    world.dbs.push(Version {
+        moment: 20,
+        db: Db::new(alloc),
+    })
 }
 
 fn has_file(alloc: Global, world: &World, lines: &str) -> Result<bool, AllocError> {
@@ -233,10 +240,11 @@ fn is_written(alloc: Global, lines: &str) -> Result<bool, AllocError> {
     let mut world = World {
         end: 60000,
         seed: 18446744073709551615,
+        timers: Timers::Measured,
         media: Media::new(alloc),
         hosts: Hosts::new(alloc),
         scripts: Scripts::new(alloc),
-        db: Db::new(alloc),
+        dbs: Versions::new(alloc),
     };
     let put = put_parts(alloc, &mut world);
     let written = has_file(alloc, &world, lines);
@@ -245,13 +253,13 @@ fn is_written(alloc: Global, lines: &str) -> Result<bool, AllocError> {
     written
 }
 
-const FILE: &str = "networld 1\nend 60000\nseed 18446744073709551615\n\
+const FILE: &str = "networld 2\nend 60000\nseed 18446744073709551615\n\
 medium ether0 1500\nrates ether0 10 0 20\nfate ether0 1 lose\nfate ether0 3-5 deliver\nmedium ether1 576\n\
 host gate udp il\nif ether1 10.0.0.1 255.0.0.0\nroute 0.0.0.0 0.0.0.0 10.0.0.2\nstart 4294967295\n\
-script gate\nuntil 10\nopen c /net/il/clone\nopen d /net/cs rw\nread d 8192\nwrite d two  words\n\
+script gate\nuntil 10\nrefresh\nopen c /net/il/clone\nopen d /net/cs rw\nread d 8192\nwrite d two  words\n\
 writex d 000aff\nwritex d -\nclose d\nls /net\ncs net!$auth!9fs\ndial e il!helix!9fs\n\
 announce a il!*!9fs\nlisten l a\naccept f l\nreject l\nhangup e\n\
-ndb\nsys=\"a gate\"\n";
+ndb\nsys=\"a gate\"\n%at 20\n";
 
 #[test]
 fn each_kind_of_line_is_written(rt: HostRuntime) {

@@ -2,6 +2,8 @@ pub mod Controls
 pub mod PathNames
 pub mod WorldNumbers
 pub mod WorldLists
+pub mod VersionCuts
+pub mod VersionTexts
 pub mod WorldMedia
 pub mod WorldMediums
 pub mod WorldHosts

@@ -1,10 +1,9 @@
 -- What a line spells is read as it, stands on one line and isn't passed over.
-use Rattle.std.proofs.Common.{◌≡◌, ℕ, ◌<◌, ◌≤◌, ◌^◌, ◌==◌, Bool, true, false, not, ◌&&◌, ◌||◌, List, [], ◌∷◌, ◌++◌, length, map, refl, sym, ap, subst, ◌∙◌, arith, Option, Some, None, Result, Ok, Err}
+use Rattle.std.proofs.Common.{◌≡◌, ℕ, ◌<◌, ◌≤◌, ◌^◌, ◌==◌, true, false, not, ◌&&◌, ◌||◌, List, [], ◌∷◌, ◌++◌, length, map, refl, sym, ap, subst, ◌∙◌, arith, Some, None, Ok}
 use Rattle.std.specs.Prelude.{⊤, codes, decimal, nat_le, nat_lt, option_map, if◌then◌else◌}
-use Rattle.std.specs.List.{join_with_byte, list_all, list_any, slice_split}
+use Rattle.std.specs.List.{list_all}
 use Rattle.std.specs.Option.{option_and_then}
 use Rattle.std.proofs.lemmas.Bool.{and_parts, false≢true, ltb-true, ne_eqb}
-use Rattle.std.proofs.lemmas.Bool.Decides.{nat_tests}
 use Rattle.std.proofs.lemmas.List.Elements.{All-append, All-nil}
 use Rattle.std.proofs.lemmas.List.Folds.{list_any_none}
 use Rattle.std.proofs.lemmas.List.Splits.{join_with_byte-slice_split, length-slice_split}
@@ -12,6 +11,8 @@ use Rattle.net_base.specs.declared.address.Proto.{Proto}
 use Rattle.net_base.specs.declared.address.Proto.TheVariants as proto
 use Rattle.net_base.specs.declared.names.Mode.{Mode}
 use Rattle.net_base.specs.declared.names.Mode.TheVariants as mode
+use Rattle.net_base.specs.declared.timer.Timers.{Timers}
+use Rattle.net_base.specs.declared.timer.Timers.TheVariants as timers
 use Rattle.net_base.specs.declared.world.Fate.{Fate}
 use Rattle.net_base.specs.declared.world.Fate.TheVariants as fate
 use Rattle.net_base.specs.declared.world.Step.{Step}
@@ -20,22 +21,18 @@ use Rattle.net_base.specs.Addresses.{parts_at}
 use Rattle.net_base.specs.ControlWords.{dotted}
 use Rattle.net_base.specs.NdbText.{is_newline}
 use Rattle.net_base.specs.Paths.{proto_name}
-use Rattle.net_base.specs.Hexadecimal.{hex_word}
 use Rattle.net_base.specs.Transcript.{mode_word}
-use Rattle.net_base.specs.World.{is_address, is_byte, is_letter, is_moment, is_name, is_name_byte, is_nets, is_step, is_text, is_within, is_word}
+use Rattle.net_base.specs.World.{is_address, is_byte, is_letter, is_name, is_name_byte, is_nets, is_step, is_text, is_within, is_word}
 use Rattle.net_base.proofs.Texts.{IsWithout, cut_at, decimal_without, one_part, without_one}
 use Rattle.world_text.specs.declared.line.Frames.{Frames}
 use Rattle.world_text.specs.declared.line.Frames.TheVariants as frames
-use Rattle.world_text.specs.declared.line.HostLine.{HostLine}
 use Rattle.world_text.specs.declared.line.HostLine.TheVariants as host
-use Rattle.world_text.specs.declared.line.LineCause.{LineCause}
-use Rattle.world_text.specs.declared.line.MediumLine.{MediumLine}
 use Rattle.world_text.specs.declared.line.MediumLine.TheVariants as medium
 use Rattle.world_text.specs.declared.line.WorldLine.{WorldLine}
 use Rattle.world_text.specs.declared.line.WorldLine.TheVariants as line
-use Rattle.world_text.specs.WorldWords.{address_in, hex_text, joined, mode_named, nets_named, number_in, words_of}
+use Rattle.world_text.specs.WorldWords.{address_in, joined, mode_named, nets_named, number_in}
 use Rattle.world_text.specs.LineReading.{argued, cs_of, fate_from, fate_named, frame_in, frames_in, frames_of, if_from, kept, named, range_from, rate_in, rates_from, read_line, route_from, step_read, words_line, write_of}
-use Rattle.world_text.specs.WorldSpelling.{fate_word, frames_spelled, is_line, spaced, speaks, spelling, words_of_line, words_of_step}
+use Rattle.world_text.specs.WorldSpelling.{fate_word, frames_spelled, is_line, spaced, speaks, spelling, timers_word, words_of_line, words_of_step}
 use Rattle.world_text.proofs.Controls.{dotted_is_without}
 use Rattle.world_text.specs.LineFit.{fit_frames, is_fit, is_frame, is_rate}
 use Rattle.world_text.proofs.Hexes.{hex-back, hex-without}
@@ -145,6 +142,7 @@ step-free s p (step.Close called) plain fit = (letters-free s p (codes "close") 
 step-free s p (step.Ls path) plain fit = (letters-free s p (codes "ls") refl, (p.path path fit, tt))
 step-free s p (step.Cs query) plain fit = absurd plain
 step-free s p (step.Until moment) plain fit = (letters-free s p (codes "until") refl, (number-free s p 1 1000000000 moment (omega arith) fit, tt))
+step-free s p step.Refresh plain fit = (letters-free s p (codes "refresh") refl, tt)
 step-free s p (step.Dial called address) plain fit =
     let both = and_parts (is_name called) (is_word address) fit in
     (letters-free s p (codes "dial") refl, (name-free s p called both.0, (p.path address both.1, tt)))
@@ -163,8 +161,15 @@ step-free s p (step.Hangup called) plain fit = (letters-free s p (codes "hangup"
 one-free : (s : ℕ) → Apart s → IsWithout s (codes "1")
 one-free s p = let low = p.low in without_one s 49 [] (ne_eqb 49 s (λ is. omega (arith, is, low))) (All-nil (λ (x : ℕ). (x == s) ≡ false))
 
+two-free : (s : ℕ) → Apart s → IsWithout s (codes "2")
+two-free s p = let low = p.low in without_one s 50 [] (ne_eqb 50 s (λ is. omega (arith, is, low))) (All-nil (λ (x : ℕ). (x == s) ≡ false))
+
+timers-free : (s : ℕ) → Apart s → (kind : Timers) → IsWithout s (timers_word kind)
+timers-free s p timers.Fixed = one-free s p
+timers-free s p timers.Measured = two-free s p
+
 line-free : (s : ℕ) → Apart s → (l : WorldLine) → IsPlain l → is_fit l ≡ true → AreFree s (words_of_line l)
-line-free s p line.Networld plain fit = (letters-free s p (codes "networld") refl, (one-free s p, tt))
+line-free s p (line.Networld kind) plain fit = (letters-free s p (codes "networld") refl, (timers-free s p kind, tt))
 line-free s p (line.End m) plain fit = (letters-free s p (codes "end") refl, (number-free s p 1 1000000000 m (omega arith) fit, tt))
 line-free s p (line.Seed n) plain fit = (letters-free s p (codes "seed") refl, (number-free s p 0 18446744073709551615 n (omega arith) fit, tt))
 line-free s p (line.OfMedium (medium.Medium called mtu)) plain fit =
@@ -286,6 +291,7 @@ step-back (step.Ls path) plain fit = kept-back (step.Ls path) fit
 step-back (step.Cs query) plain fit = absurd plain
 step-back (step.Until moment) plain fit =
     ap (λ o. step_read (Some (option_and_then (λ n. kept (step.Until n)) o))) (number-back 1 1000000000 moment (omega arith) fit) ∙ kept-back (step.Until moment) fit
+step-back step.Refresh plain fit = kept-back step.Refresh fit
 step-back (step.Dial called address) plain fit = kept-back (step.Dial called address) fit
 step-back (step.Announce called address) plain fit = kept-back (step.Announce called address) fit
 step-back (step.Listen called from) plain fit = kept-back (step.Listen called from) fit
@@ -294,7 +300,8 @@ step-back (step.Reject called) plain fit = kept-back (step.Reject called) fit
 step-back (step.Hangup called) plain fit = kept-back (step.Hangup called) fit
 
 words-back : (l : WorldLine) → IsPlain l → is_fit l ≡ true → words_line (words_of_line l) ≡ Ok l
-words-back line.Networld plain fit = refl
+words-back (line.Networld timers.Fixed) plain fit = refl
+words-back (line.Networld timers.Measured) plain fit = refl
 words-back (line.End m) plain fit = ap (λ o. argued (option_map (λ n. line.End n) o)) (number-back 1 1000000000 m (omega arith) fit)
 words-back (line.Seed n) plain fit = ap (λ o. argued (option_map (λ k. line.Seed k) o)) (number-back 0 18446744073709551615 n (omega arith) fit)
 words-back (line.OfMedium (medium.Medium called mtu)) plain fit =
@@ -368,6 +375,7 @@ back-step (step.Close called) fit = plain-back (line.OfScript (step.Close called
 back-step (step.Ls path) fit = plain-back (line.OfScript (step.Ls path)) tt fit _ refl (omega arith)
 back-step (step.Cs query) fit = cs-back query fit
 back-step (step.Until moment) fit = plain-back (line.OfScript (step.Until moment)) tt fit _ refl (omega arith)
+back-step step.Refresh fit = plain-back (line.OfScript step.Refresh) tt fit _ refl (omega arith)
 back-step (step.Dial called address) fit = plain-back (line.OfScript (step.Dial called address)) tt fit _ refl (omega arith)
 back-step (step.Announce called address) fit = plain-back (line.OfScript (step.Announce called address)) tt fit _ refl (omega arith)
 back-step (step.Listen called from) fit = plain-back (line.OfScript (step.Listen called from)) tt fit _ refl (omega arith)
@@ -376,7 +384,8 @@ back-step (step.Reject called) fit = plain-back (line.OfScript (step.Reject call
 back-step (step.Hangup called) fit = plain-back (line.OfScript (step.Hangup called)) tt fit _ refl (omega arith)
 
 pub back : (l : WorldLine) → is_fit l ≡ true → read_line (spelling l) ≡ Ok l
-back line.Networld fit = refl
+back (line.Networld timers.Fixed) fit = refl
+back (line.Networld timers.Measured) fit = refl
 back (line.End m) fit = plain-back (line.End m) tt fit _ refl (omega arith)
 back (line.Seed n) fit = plain-back (line.Seed n) tt fit _ refl (omega arith)
 back (line.OfMedium (medium.Medium called mtu)) fit = plain-back (line.OfMedium (medium.Medium called mtu)) tt fit _ refl (omega arith)
@@ -401,6 +410,7 @@ loud-step (step.Close called) = refl
 loud-step (step.Ls path) = refl
 loud-step (step.Cs query) = refl
 loud-step (step.Until moment) = refl
+loud-step step.Refresh = refl
 loud-step (step.Dial called address) = refl
 loud-step (step.Announce called address) = refl
 loud-step (step.Listen called from) = refl
@@ -409,7 +419,8 @@ loud-step (step.Reject called) = refl
 loud-step (step.Hangup called) = refl
 
 pub loud : (l : WorldLine) → speaks (spelling l) ≡ true
-loud line.Networld = refl
+loud (line.Networld timers.Fixed) = refl
+loud (line.Networld timers.Measured) = refl
 loud (line.End m) = refl
 loud (line.Seed n) = refl
 loud (line.OfMedium (medium.Medium called mtu)) = refl
@@ -440,6 +451,7 @@ one-step (step.Writex called bytes) fit = step-free 10 apart-newline (step.Write
 one-step (step.Close called) fit = step-free 10 apart-newline (step.Close called) tt fit
 one-step (step.Ls path) fit = step-free 10 apart-newline (step.Ls path) tt fit
 one-step (step.Until moment) fit = step-free 10 apart-newline (step.Until moment) tt fit
+one-step step.Refresh fit = step-free 10 apart-newline step.Refresh tt fit
 one-step (step.Dial called address) fit = step-free 10 apart-newline (step.Dial called address) tt fit
 one-step (step.Announce called address) fit = step-free 10 apart-newline (step.Announce called address) tt fit
 one-step (step.Listen called from) fit = step-free 10 apart-newline (step.Listen called from) tt fit
@@ -449,7 +461,7 @@ one-step (step.Hangup called) fit = step-free 10 apart-newline (step.Hangup call
 
 one-free-line : (l : WorldLine) → is_fit l ≡ true → AreFree 10 (words_of_line l)
 one-free-line (line.OfScript x) fit = one-step x fit
-one-free-line line.Networld fit = line-free 10 apart-newline line.Networld tt fit
+one-free-line (line.Networld kind) fit = line-free 10 apart-newline (line.Networld kind) tt fit
 one-free-line (line.End m) fit = line-free 10 apart-newline (line.End m) tt fit
 one-free-line (line.Seed n) fit = line-free 10 apart-newline (line.Seed n) tt fit
 one-free-line (line.OfMedium l) fit = line-free 10 apart-newline (line.OfMedium l) tt fit

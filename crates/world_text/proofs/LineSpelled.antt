@@ -1,5 +1,5 @@
 -- What is read of a line is what it spells.
-use Rattle.std.proofs.Common.{◌≡◌, ℕ, ◌<◌, ◌≤◌, ◌^◌, Bool, true, false, ◌&&◌, List, [], ◌∷◌, ◌++◌, map, refl, sym, ap, subst, ◌∙◌, arith, Option, Some, None, Result, Ok, Err}
+use Rattle.std.proofs.Common.{◌≡◌, ℕ, ◌<◌, ◌^◌, Bool, true, false, ◌&&◌, List, [], ◌∷◌, ◌++◌, map, refl, sym, ap, subst, ◌∙◌, arith, Option, Some, None, Result, Ok, Err}
 use Rattle.std.specs.Prelude.{⊤, codes, decimal, bytes_eq, nat_le, option_map, if◌then◌else◌}
 use Rattle.std.specs.List.{join_with_byte}
 use Rattle.std.specs.Option.{option_and_then, option_to_list}
@@ -10,6 +10,8 @@ use Rattle.net_base.specs.declared.address.Proto.{Proto}
 use Rattle.net_base.specs.declared.address.Proto.TheVariants as proto
 use Rattle.net_base.specs.declared.names.Mode.{Mode}
 use Rattle.net_base.specs.declared.names.Mode.TheVariants as mode
+use Rattle.net_base.specs.declared.timer.Timers.{Timers}
+use Rattle.net_base.specs.declared.timer.Timers.TheVariants as timers
 use Rattle.net_base.specs.declared.world.Fate.{Fate}
 use Rattle.net_base.specs.declared.world.Fate.TheVariants as fate
 use Rattle.net_base.specs.declared.world.Step.{Step}
@@ -18,20 +20,17 @@ use Rattle.net_base.specs.Addresses.{parts_at, read_digits, within}
 use Rattle.net_base.specs.ControlWords.{dotted}
 use Rattle.net_base.specs.Paths.{proto_name, proto_named}
 use Rattle.net_base.specs.Transcript.{mode_word}
-use Rattle.net_base.specs.World.{is_address, is_moment, is_name, is_nets, is_step, is_within}
+use Rattle.net_base.specs.World.{is_address, is_name, is_nets, is_step, is_within}
 use Rattle.world_text.specs.declared.line.Frames.{Frames}
 use Rattle.world_text.specs.declared.line.Frames.TheVariants as frames
-use Rattle.world_text.specs.declared.line.HostLine.{HostLine}
 use Rattle.world_text.specs.declared.line.HostLine.TheVariants as host
 use Rattle.world_text.specs.declared.line.LineCause.{LineCause}
-use Rattle.world_text.specs.declared.line.LineCause.TheVariants as cause
-use Rattle.world_text.specs.declared.line.MediumLine.{MediumLine}
 use Rattle.world_text.specs.declared.line.MediumLine.TheVariants as medium
 use Rattle.world_text.specs.declared.line.WorldLine.{WorldLine}
 use Rattle.world_text.specs.declared.line.WorldLine.TheVariants as line
 use Rattle.world_text.specs.WorldWords.{Four, Three, Two, address_in, both_nets, four, hex_text, is_padded, joined, mode_named, nets_named, number_in, one, three, two, words_of}
-use Rattle.world_text.specs.LineReading.{argued, cs_of, end_of, fate_from, fate_named, fate_of, frame_in, frames_in, frames_of, host_of, if_from, if_of, kept, medium_of, named, ndb_of, networld_of, of_one, of_two, open_of, other_of, range_from, rate_in, rates_from, rates_of, read_line, read_of, route_from, route_of, script_of, seed_of, start_of, step_of, step_read, until_of, words_line, write_of, writex_of}
-use Rattle.world_text.specs.WorldSpelling.{fate_word, frames_spelled, spelling, words_of_line}
+use Rattle.world_text.specs.LineReading.{argued, cs_of, end_of, fate_from, fate_named, fate_of, frame_in, frames_in, frames_of, host_of, if_from, if_of, kept, medium_of, named, ndb_of, networld_of, of_one, of_two, open_of, other_of, range_from, rate_in, rates_from, rates_of, read_line, read_of, refresh_of, route_from, route_of, script_of, seed_of, start_of, step_of, step_read, timers_named, until_of, words_line, write_of, writex_of}
+use Rattle.world_text.specs.WorldSpelling.{fate_word, frames_spelled, spelling, timers_word, words_of_line}
 use Rattle.world_text.specs.LineFit.{fit_frames, is_fit, is_frame, is_rate}
 use Rattle.world_text.proofs.Hexes.{hex-spelled}
 use Rattle.world_text.proofs.WorldMedia.{equal}
@@ -133,13 +132,21 @@ said-number word args least greatest make bound words fit =
 
 -- The first lines.
 
-said-networld : (args : List (List ℕ)) → Said (codes "networld" ∷ args) (networld_of args)
-said-networld args = said-then (codes "networld" ∷ args) (λ version. if bytes_eq version (codes "1") then Some line.Networld else None) (one args) (λ version e. by version e (bytes_eq version (codes "1")) refl)
+timers-is : (word : List ℕ) (kind : Timers) → timers_named word ≡ Some kind → word ≡ timers_word kind
+timers-is word kind e = by (bytes_eq word (codes "1")) refl (bytes_eq word (codes "2")) refl e
   where
-    by : (version : List ℕ) → one args ≡ Some version → (b : Bool) → bytes_eq version (codes "1") ≡ b → Said (codes "networld" ∷ args) (if b then Some line.Networld else None)
-    by version e true is =
-        spells (codes "networld" ∷ args) line.Networld (ap (λ (vs : List (List ℕ)). codes "networld" ∷ vs) (one-is args version e ∙ ap (λ (w : List ℕ). w ∷ []) (equal version (codes "1") is))) refl
-    by version e false is = tt
+    by : (a : Bool) → bytes_eq word (codes "1") ≡ a → (b : Bool) → bytes_eq word (codes "2") ≡ b
+        → (if a then Some timers.Fixed else (if b then Some timers.Measured else None)) ≡ Some kind → word ≡ timers_word kind
+    by true ea b eb f = equal word (codes "1") ea ∙ ap timers_word (same_Some timers.Fixed kind f)
+    by false ea true eb f = equal word (codes "2") eb ∙ ap timers_word (same_Some timers.Measured kind f)
+    by false ea false eb f = absurd (none-some kind f)
+
+said-networld : (args : List (List ℕ)) → Said (codes "networld" ∷ args) (networld_of args)
+said-networld args =
+    said-map (codes "networld" ∷ args) (λ (kind : Timers). line.Networld kind) (option_and_then timers_named (one args)) (λ kind e.
+    let t = then-some timers_named (one args) kind e in
+    spells (codes "networld" ∷ args) (line.Networld kind)
+    (ap (λ (vs : List (List ℕ)). codes "networld" ∷ vs) (one-is args t.0 t.1 ∙ ap (λ (w : List ℕ). w ∷ []) (timers-is t.0 kind t.2))) refl)
 
 said-ndb : (args : List (List ℕ)) → Said (codes "ndb" ∷ args) (ndb_of args)
 said-ndb [] = spells (codes "ndb" ∷ []) line.Ndb refl refl
@@ -370,6 +377,10 @@ said-until args = step-then (codes "until" ∷ args) (λ word. option_and_then (
     said-kept (codes "until" ∷ args) (step.Until moment)
     (ap (λ (vs : List (List ℕ)). joined (codes "until" ∷ vs)) (one-is args word e ∙ ap (λ (x : List ℕ). x ∷ []) (number-is 1 1000000000 word moment (omega arith) f)))))
 
+said-refresh : (args : List (List ℕ)) → SaidStep (codes "refresh" ∷ args) (refresh_of args)
+said-refresh [] = said-kept (codes "refresh" ∷ []) step.Refresh refl
+said-refresh (a ∷ args) = tt
+
 said-write : (args : List (List ℕ)) → SaidStep (codes "write" ∷ args) (write_of args)
 said-write [] = tt
 said-write (called ∷ []) = tt
@@ -411,12 +422,13 @@ own-if word args called o p here later = by (bytes_eq word called) refl
 said-other : (word : List ℕ) (args : List (List ℕ)) → SaidOwn (word ∷ args) (other_of word args)
 said-other word args =
     own-if word args (codes "until") (until_of args) _ (said-until args)
+    (own-if word args (codes "refresh") (refresh_of args) _ (said-refresh args)
     (own-if word args (codes "dial") (of_two (λ n a. step.Dial n a) args) _ (said-two (codes "dial") (λ n a. step.Dial n a) args (λ a b. refl))
     (own-if word args (codes "announce") (of_two (λ n a. step.Announce n a) args) _ (said-two (codes "announce") (λ n a. step.Announce n a) args (λ a b. refl))
     (own-if word args (codes "listen") (of_two (λ n f. step.Listen n f) args) _ (said-two (codes "listen") (λ n f. step.Listen n f) args (λ a b. refl))
     (own-if word args (codes "accept") (of_two (λ n f. step.Accept n f) args) _ (said-two (codes "accept") (λ n f. step.Accept n f) args (λ a b. refl))
     (own-if word args (codes "reject") (of_one (λ n. step.Reject n) args) _ (said-one (codes "reject") (λ n. step.Reject n) args (λ a. refl))
-    (own-if word args (codes "hangup") (of_one (λ n. step.Hangup n) args) None (said-one (codes "hangup") (λ n. step.Hangup n) args (λ a. refl)) tt))))))
+    (own-if word args (codes "hangup") (of_one (λ n. step.Hangup n) args) None (said-one (codes "hangup") (λ n. step.Hangup n) args (λ a. refl)) tt)))))))
 
 said-step : (word : List ℕ) (args : List (List ℕ)) → SaidOwn (word ∷ args) (step_of word args)
 said-step word args =

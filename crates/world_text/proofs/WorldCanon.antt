@@ -1,39 +1,25 @@
 -- The canonical lines of a world say it.
-use Rattle.std.proofs.Common.{◌≡◌, ℕ, ◌+◌, ◌<◌, ◌≤◌, ◌==◌, suc, zero, Bool, true, false, not, ◌&&◌, ◌||◌, cond, List, [], ◌∷◌, ◌++◌, length, map, get_or, refl, sym, ap, subst, ◌∙◌, arith, Option, Some, None, append-nil, append_assoc, length-append}
-use Rattle.std.specs.Prelude.{⊤, bytes_eq, codes, decimal, filter_map, flat_map, nat_lt, if◌then◌else◌}
-use Rattle.std.specs.List.{All, cons_option, list_all, list_any, position_or_len}
-use Rattle.std.proofs.lemmas.Bool.{and_parts, eqb-true, false≢true, ltb-true}
+use Rattle.std.proofs.Common.{◌≡◌, ℕ, ◌+◌, ◌==◌, Bool, true, false, not, ◌&&◌, ◌||◌, List, [], ◌∷◌, ◌++◌, map, get_or, refl, sym, ap, subst, ◌∙◌, Some, None, append-nil, append_assoc}
+use Rattle.std.specs.Prelude.{bytes_eq, codes, decimal, filter_map, flat_map, if◌then◌else◌}
+use Rattle.std.specs.List.{cons_option, list_any}
+use Rattle.std.proofs.lemmas.Bool.{and_parts, eqb-true}
 use Rattle.std.proofs.lemmas.Grind.{flat_map-append}
 use Rattle.std.proofs.lemmas.List.{map-append}
 use Rattle.std.proofs.lemmas.List.Elements.{filter_map-append}
-use Rattle.std.proofs.lemmas.List.Folds.{list_all-append, list_any-append}
-use Rattle.net_base.specs.declared.world.Fate.{Fate}
+use Rattle.std.proofs.lemmas.List.Folds.{list_any-append}
 use Rattle.net_base.specs.declared.world.FateRange.{FateRange}
-use Rattle.net_base.specs.declared.world.HostSpec.{HostSpec}
-use Rattle.net_base.specs.declared.world.Iface.{Iface}
 use Rattle.net_base.specs.declared.world.MediumSpec.{MediumSpec}
-use Rattle.net_base.specs.declared.world.RouteLine.{RouteLine}
-use Rattle.net_base.specs.declared.world.Script.{Script}
-use Rattle.net_base.specs.declared.world.Step.{Step}
-use Rattle.net_base.specs.declared.world.World.{World}
-use Rattle.net_base.specs.Routes.{iface_routes}
-use Rattle.net_base.specs.World.{IsWorld, all_apart, are_media, is_address, is_host, is_iface, is_mask, is_medium, is_route, is_script, is_step}
+use Rattle.net_base.specs.World.{all_apart, are_media, is_medium}
 use Rattle.world_text.specs.declared.line.Frames.{Frames}
 use Rattle.world_text.specs.declared.line.Frames.TheVariants as frames
-use Rattle.world_text.specs.declared.line.HostLine.{HostLine}
-use Rattle.world_text.specs.declared.line.HostLine.TheVariants as host
 use Rattle.world_text.specs.declared.line.MediumLine.{MediumLine}
 use Rattle.world_text.specs.declared.line.MediumLine.TheVariants as medium
-use Rattle.world_text.specs.declared.line.WorldLine.{WorldLine}
 use Rattle.world_text.specs.declared.line.WorldLine.TheVariants as line
-use Rattle.world_text.specs.WorldLines.{is_near, range_of}
-use Rattle.world_text.specs.WorldSpelling.{EachBehind, HostText, IsBehindMedium, IsReached, Rates, SaysMedium, ScriptText, fate_on, frames_spelled, fate_word, frames_word, host_names, host_said, iface_said, line_of_fate, line_of_iface, line_of_route, line_of_start, line_of_step, lines_of_host, lines_of_medium, lines_of_rates, lines_of_script, lines_of_steps, lines_of_text, lines_of_world, lines_said, media_named, media_said, medium_names, medium_said, name_at, name_said, no_rates, place_of, rated_name, rates_on, rates_said, route_said, script_said, spaced, spelling, start_said}
-use Rattle.world_text.proofs.WorldLists.{all-at, any-insert, apart-insert, each-none, each-push, false-of-not, or-parts, own-bytes, same-bytes}
+use Rattle.world_text.specs.WorldLines.{range_of}
+use Rattle.world_text.specs.WorldSpelling.{EachBehind, IsBehindMedium, Rates, SaysMedium, fate_on, fate_word, line_of_fate, lines_of_medium, lines_of_rates, media_named, media_said, medium_names, medium_said, name_said, no_rates, rated_name, rates_on, rates_said, spaced, spelling}
+use Rattle.world_text.proofs.WorldLists.{any-insert, apart-insert, each-none, each-push, false-of-not, or-parts, own-bytes, same-bytes}
 use Rattle.world_text.proofs.WorldMedia.{named-front, names}
-use Rattle.world_text.proofs.WorldMediums.{both}
-use Rattle.world_text.proofs.WorldHosts.{ifaces, routes, starts}
-use Rattle.world_text.proofs.WorldHostForms.{near-matches}
-use Rattle.world_text.proofs.WorldLed.{of_host, of_media, of_script}
+use Rattle.world_text.proofs.WorldLed.{of_media}
 
 -- Media.
 

@@ -1,18 +1,18 @@
 -- The hosts of a world are those that lines say which fit, and the other way round.
-use Rattle.std.proofs.Common.{◌≡◌, ℕ, ◌+◌, ◌-◌, ◌^◌, ◌<◌, ◌≤◌, ◌==◌, zero, suc, Bool, true, false, not, ◌&&◌, ◌||◌, cond, List, [], ◌∷◌, ◌++◌, length, map, refl, sym, ap, subst, ◌∙◌, arith, Option, Some, None, length-append}
+use Rattle.std.proofs.Common.{◌≡◌, ℕ, ◌+◌, ◌-◌, ◌^◌, ◌<◌, ◌≤◌, ◌==◌, zero, suc, Bool, true, false, not, ◌&&◌, ◌||◌, cond, List, [], ◌∷◌, ◌++◌, length, map, refl, sym, ap, subst, ◌∙◌, arith, Option, Some, None}
 use Rattle.std.specs.Prelude.{bit_and, bytes_eq, filter_map, find, flat_map, is_some, nat_eq, nat_le, nat_lt, option_map}
 use Rattle.std.specs.List.{cons_option, filter, list_all, list_any, range_with_len}
 use Rattle.std.proofs.lemmas.Bool.{and_parts, eqb-true, false≢true}
 use Rattle.std.proofs.lemmas.Bool.Decides.{nat_tests}
 use Rattle.std.proofs.lemmas.List.{map-append}
 use Rattle.std.proofs.lemmas.List.Elements.{filter_map-append}
-use Rattle.std.proofs.lemmas.List.Folds.{list_all-append, list_all-map, list_any-append}
+use Rattle.std.proofs.lemmas.List.Folds.{list_all-map, list_any-append}
 use Rattle.std.proofs.lemmas.Nat.{pow_pos}
 use Rattle.std.proofs.lemmas.Option.{none-some, same_Some}
 use Rattle.net_base.specs.declared.world.HostSpec.{HostSpec}
 use Rattle.net_base.specs.declared.world.Iface.{Iface}
 use Rattle.net_base.specs.declared.world.RouteLine.{RouteLine}
-use Rattle.net_base.specs.Networks.{mask_bits, mask_of}
+use Rattle.net_base.specs.Networks.{mask_of}
 use Rattle.net_base.specs.Routes.{Route, host_routes, iface_routes, line_route, longer, longest_match, matches}
 use Rattle.net_base.specs.World.{addresses, all_apart, is_address, is_host, is_iface, is_mask, is_name, is_nets, is_route, is_start, same_medium, same_network}
 use Rattle.world_text.specs.declared.line.HostLine.{HostLine}
@@ -20,10 +20,10 @@ use Rattle.world_text.specs.declared.line.HostLine.TheVariants as host
 use Rattle.world_text.specs.WorldLines.{is_near, is_net}
 use Rattle.world_text.specs.WorldSpelling.{EachBehind, HostText, IsReached, host_said, iface_said, place_of, route_said, start_said}
 use Rattle.world_text.specs.LineFit.{fit_host_line}
-use Rattle.world_text.proofs.WorldLists.{all-at, all-if, any-cong, apart-map, each-none, false-of-not, or-parts, place-there, same-numbers, true-of-not}
+use Rattle.world_text.proofs.WorldLists.{all-at, all-if, apart-map, false-of-not, or-parts, place-there}
 use Rattle.world_text.proofs.WorldMedia.{equal}
 use Rattle.world_text.proofs.WorldMediums.{all-found, both}
-use Rattle.world_text.proofs.WorldHosts.{EachFine, FineHost, FineHosts, all_addresses, bare_route, count-said, good_net, ifaces, names-said, networks, routes, saids, starts}
+use Rattle.world_text.proofs.WorldHosts.{FineHost, FineHosts, bare_route, count-said, good_net, ifaces, names-said, networks, routes, saids, starts}
 
 -- Lists.
 

@@ -1,15 +1,15 @@
 -- The lines of the hosts behind one another: the world so far is what they say, and each line fits exactly where all of them do.
-use Rattle.std.proofs.Common.{◌≡◌, ℕ, ◌+◌, ◌<◌, ◌≤◌, ◌==◌, suc, Bool, true, false, not, ◌&&◌, ◌||◌, cond, List, [], ◌∷◌, ◌++◌, length, map, refl, sym, ap, subst, ◌∙◌, arith, Option, Some, None, append-nil, append_assoc, length-append}
+use Rattle.std.proofs.Common.{◌≡◌, ℕ, ◌+◌, ◌<◌, ◌≤◌, ◌==◌, suc, Bool, true, false, not, ◌&&◌, ◌||◌, List, [], ◌∷◌, ◌++◌, length, map, refl, sym, ap, ◌∙◌, arith, Option, Some, None, append-nil, append_assoc, length-append}
 use Rattle.std.specs.Prelude.{bit_and, bytes_eq, filter_map, flat_map, is_none, nat_eq, nat_le, nat_lt, if◌then◌else◌}
 use Rattle.std.specs.List.{cons_option, last_or, list_all, list_any, position_or_len}
 use Rattle.std.specs.Option.{option_map_or}
-use Rattle.std.proofs.lemmas.Bool.{and_parts, eqb-true, false≢true}
-use Rattle.std.proofs.lemmas.Bool.Decides.{nat_tests}
+use Rattle.std.proofs.lemmas.Bool.{and_parts}
 use Rattle.std.proofs.lemmas.Grind.{flat_map-append}
 use Rattle.std.proofs.lemmas.List.{map-append}
 use Rattle.std.proofs.lemmas.List.Elements.{filter_map-append}
-use Rattle.std.proofs.lemmas.List.Folds.{list_all-append, list_any-append}
+use Rattle.std.proofs.lemmas.List.Folds.{list_any-append}
 use Rattle.net_base.specs.declared.address.Proto.{Proto}
+use Rattle.net_base.specs.declared.timer.Timers.{Timers}
 use Rattle.net_base.specs.declared.world.HostSpec.{HostSpec}
 use Rattle.net_base.specs.declared.world.Iface.{Iface}
 use Rattle.net_base.specs.declared.world.MediumSpec.{MediumSpec}
@@ -18,12 +18,11 @@ use Rattle.net_base.specs.Routes.{Route, has_ip, iface_routes}
 use Rattle.net_base.specs.World.{addresses, all_apart, is_address, is_iface, is_mask, is_name, is_nets, same_medium, same_network}
 use Rattle.world_text.specs.declared.line.HostLine.{HostLine}
 use Rattle.world_text.specs.declared.line.HostLine.TheVariants as host
-use Rattle.world_text.specs.declared.line.LineCause.{LineCause}
 use Rattle.world_text.specs.declared.line.LineCause.TheVariants as cause
 use Rattle.world_text.specs.WorldLines.{Draft, after_host_line, at_last, bare_host, has_host, has_iface_on, has_medium, host_cause, host_line_cause, host_under, is_before, is_host_named, is_medium_named, is_near, is_net, is_network, is_past, is_under, knows_network, leads_to, medium_number, reaches, with_host_line}
 use Rattle.world_text.specs.WorldSpelling.{EachBehind, HostText, IsReached, host_said, iface_said, medium_names, place_of, route_said, start_said}
 use Rattle.world_text.specs.LineFit.{fit_host_line}
-use Rattle.world_text.proofs.WorldLists.{all-parts, all-push, any-cong, any-map, apart-front, apart-insert, apart-push, at_last-push, each-front, each-last, each-none, each-push, false-of-not, last-push, or-parts, place-map, place-there, same-bytes, same-numbers, true-of-not}
+use Rattle.world_text.proofs.WorldLists.{all-parts, all-push, any-cong, any-map, apart-front, apart-insert, apart-push, at_last-push, each-front, each-last, each-none, each-push, false-of-not, last-push, place-map, place-there, same-bytes, same-numbers, true-of-not}
 use Rattle.world_text.proofs.WorldMedia.{passes, room-from, room-is, unrefused}
 use Rattle.world_text.proofs.WorldMediums.{both}
 
@@ -94,11 +93,12 @@ abbrev pub host_group : List HostText → ℕ
 host_group [] = 4
 host_group (h ∷ texts) = 5
 
-abbrev pub host_draft : ℕ → ℕ → List MediumSpec → List (List ℕ) → List HostText → Draft
-host_draft e s media rated texts = record {
+abbrev pub host_draft : Timers → ℕ → ℕ → List MediumSpec → List (List ℕ) → List HostText → Draft
+host_draft kind e s media rated texts = record {
   group = host_group texts;
   end = e;
   seed = s;
+  timers = kind;
   media = media;
   rated = rated;
   hosts = saids (medium_names media) texts;
@@ -115,15 +115,15 @@ bare_text called nets = record { name = called; nets = nets; under = [] }
 abbrev pub with_line : HostText → HostLine → HostText
 with_line h x = record h { under = h.under ++ x ∷ [] }
 
-abbrev draft_with : ℕ → ℕ → ℕ → List MediumSpec → List (List ℕ) → List HostSpec → Draft
-draft_with g e s media rated hosts = record { group = g; end = e; seed = s; media = media; rated = rated; hosts = hosts; scripts = [] }
+abbrev draft_with : ℕ → Timers → ℕ → ℕ → List MediumSpec → List (List ℕ) → List HostSpec → Draft
+draft_with g kind e s media rated hosts = record { group = g; end = e; seed = s; timers = kind; media = media; rated = rated; hosts = hosts; scripts = [] }
 
 -- a host behind the others
-pub host-after : (e s : ℕ) (media : List MediumSpec) (rated : List (List ℕ)) (texts : List HostText) (called : List ℕ) (nets : List Proto)
-    → draft_with 5 e s media rated (saids (medium_names media) texts ++ bare_host called nets ∷ []) ≡ host_draft e s media rated (texts ++ bare_text called nets ∷ [])
-host-after e s media rated texts called nets =
-    ap (draft_with 5 e s media rated) (sym (map-append (host_said (medium_names media)) texts (bare_text called nets ∷ [])))
-    ∙ ap (λ g. draft_with g e s media rated (saids (medium_names media) (texts ++ bare_text called nets ∷ []))) (sym (group-pushed texts (bare_text called nets)))
+pub host-after : (kind : Timers) (e s : ℕ) (media : List MediumSpec) (rated : List (List ℕ)) (texts : List HostText) (called : List ℕ) (nets : List Proto)
+    → draft_with 5 kind e s media rated (saids (medium_names media) texts ++ bare_host called nets ∷ []) ≡ host_draft kind e s media rated (texts ++ bare_text called nets ∷ [])
+host-after kind e s media rated texts called nets =
+    ap (draft_with 5 kind e s media rated) (sym (map-append (host_said (medium_names media)) texts (bare_text called nets ∷ [])))
+    ∙ ap (λ g. draft_with g kind e s media rated (saids (medium_names media) (texts ++ bare_text called nets ∷ []))) (sym (group-pushed texts (bare_text called nets)))
 
 -- what a host's lines say, with one line more
 more-ifaces : (ns : List (List ℕ)) (lines : List HostLine) (x : HostLine) (i : Iface) → iface_said ns x ≡ Some i → ifaces ns (lines ++ x ∷ []) ≡ ifaces ns lines ++ i ∷ []
@@ -177,32 +177,32 @@ saids-pushed : (ns : List (List ℕ)) (front : List HostText) (h : HostText) →
 saids-pushed ns front h = map-append (host_said ns) front (h ∷ [])
 
 -- a line under the last host
-pub line-after : (e s : ℕ) (media : List MediumSpec) (rated : List (List ℕ)) (front : List HostText) (h : HostText) (x : HostLine)
-    → after_host_line (host_draft e s media rated (front ++ h ∷ [])) x ≡ host_draft e s media rated (front ++ with_line h x ∷ [])
-line-after e s media rated front h x =
+pub line-after : (kind : Timers) (e s : ℕ) (media : List MediumSpec) (rated : List (List ℕ)) (front : List HostText) (h : HostText) (x : HostLine)
+    → after_host_line (host_draft kind e s media rated (front ++ h ∷ [])) x ≡ host_draft kind e s media rated (front ++ with_line h x ∷ [])
+line-after kind e s media rated front h x =
     let ns : List (List ℕ) = medium_names media in
-    ap (λ hs. draft_with (host_group (front ++ h ∷ [])) e s media rated (at_last (with_host_line (position_in media) x) hs)) (saids-pushed ns front h)
-    ∙ (ap (draft_with (host_group (front ++ h ∷ [])) e s media rated)
+    ap (λ hs. draft_with (host_group (front ++ h ∷ [])) kind e s media rated (at_last (with_host_line (position_in media) x) hs)) (saids-pushed ns front h)
+    ∙ (ap (draft_with (host_group (front ++ h ∷ [])) kind e s media rated)
     (at_last-push (with_host_line (position_in media) x) (saids ns front) (host_said ns h)
     ∙ (ap (λ y. saids ns front ++ y ∷ []) (said-pushed ns (position_in media) (same-number media) h x) ∙ sym (saids-pushed ns front (with_line h x))))
-    ∙ ap (λ g. draft_with g e s media rated (saids ns (front ++ with_line h x ∷ []))) (group-pushed front h ∙ sym (group-pushed front (with_line h x))))
+    ∙ ap (λ g. draft_with g kind e s media rated (saids ns (front ++ with_line h x ∷ []))) (group-pushed front h ∙ sym (group-pushed front (with_line h x))))
 
 -- The tests of a line, of what lines say.
 
 -- lines stand under the last host
-pub under-is : (e s : ℕ) (media : List MediumSpec) (rated : List (List ℕ)) (front : List HostText) (h : HostText)
-    → host_under (host_draft e s media rated (front ++ h ∷ [])) ≡ Some (host_said (medium_names media) h)
-under-is e s media rated front h =
+pub under-is : (kind : Timers) (e s : ℕ) (media : List MediumSpec) (rated : List (List ℕ)) (front : List HostText) (h : HostText)
+    → host_under (host_draft kind e s media rated (front ++ h ∷ [])) ≡ Some (host_said (medium_names media) h)
+under-is kind e s media rated front h =
     ap (λ g. if g == 5 then last_or None (saids (medium_names media) (front ++ h ∷ [])) else None) (group-pushed front h)
     ∙ (ap (last_or None) (saids-pushed (medium_names media) front h) ∙ last-push None (saids (medium_names media) front) (host_said (medium_names media) h))
 
-holds-under : (p : HostSpec → Bool) (e s : ℕ) (media : List MediumSpec) (rated : List (List ℕ)) (front : List HostText) (h : HostText)
-    → is_under p (host_draft e s media rated (front ++ h ∷ [])) ≡ p (host_said (medium_names media) h)
-holds-under p e s media rated front h = ap (λ o. option_map_or p o false) (under-is e s media rated front h)
+holds-under : (p : HostSpec → Bool) (kind : Timers) (e s : ℕ) (media : List MediumSpec) (rated : List (List ℕ)) (front : List HostText) (h : HostText)
+    → is_under p (host_draft kind e s media rated (front ++ h ∷ [])) ≡ p (host_said (medium_names media) h)
+holds-under p kind e s media rated front h = ap (λ o. option_map_or p o false) (under-is kind e s media rated front h)
 
-some-under : (e s : ℕ) (media : List MediumSpec) (rated : List (List ℕ)) (front : List HostText) (h : HostText)
-    → is_none (host_under (host_draft e s media rated (front ++ h ∷ []))) ≡ false
-some-under e s media rated front h = ap (λ o. is_none o) (under-is e s media rated front h)
+some-under : (kind : Timers) (e s : ℕ) (media : List MediumSpec) (rated : List (List ℕ)) (front : List HostText) (h : HostText)
+    → is_none (host_under (host_draft kind e s media rated (front ++ h ∷ []))) ≡ false
+some-under kind e s media rated front h = ap (λ o. is_none o) (under-is kind e s media rated front h)
 
 same-pair : (a b c d : ℕ) → ((a == b) && (c == d)) ≡ ((b == a) && (d == c))
 same-pair a b c d = ap (λ v. v && (c == d)) (same-numbers a b) ∙ ap (λ v. (b == a) && v) (same-numbers c d)
@@ -311,12 +311,12 @@ pub knows-medium : (media : List MediumSpec) (called : List ℕ) → list_any (i
 knows-medium media called =
     sym (any-map (bytes_eq called) (λ (m : MediumSpec). m.name) media) ∙ sym (place-there (bytes_eq called) (medium_names media))
 
-line_fits_if : (e s : ℕ) (media : List MediumSpec) (rated : List (List ℕ)) (front : List HostText) (h : HostText) (called : List ℕ) (ip mask : ℕ)
+line_fits_if : (kind : Timers) (e s : ℕ) (media : List MediumSpec) (rated : List (List ℕ)) (front : List HostText) (h : HostText) (called : List ℕ) (ip mask : ℕ)
     → FineHosts (medium_names media) (front ++ h ∷ []) → fit_host_line (host.If called ip mask) ≡ true
-    → host_line_cause (host_draft e s media rated (front ++ h ∷ [])) (host.If called ip mask) ≡ None → FineHosts (medium_names media) (front ++ with_line h (host.If called ip mask) ∷ [])
-line_fits_if e s media rated front h called ip mask k fit good =
+    → host_line_cause (host_draft kind e s media rated (front ++ h ∷ [])) (host.If called ip mask) ≡ None → FineHosts (medium_names media) (front ++ with_line h (host.If called ip mask) ∷ [])
+line_fits_if kind e s media rated front h called ip mask k fit good =
     let ns : List (List ℕ) = medium_names media in
-    let d : Draft = host_draft e s media rated (front ++ h ∷ []) in
+    let d : Draft = host_draft kind e s media rated (front ++ h ∷ []) in
     let x : HostLine = host.If called ip mask in
     let i : Iface = record { medium = place_of ns called; ip = ip; mask = mask } in
     let unknown = unrefused cause.UnknownName (not (has_medium called d)) _ good in
@@ -332,10 +332,10 @@ line_fits_if e s media rated front h called ip mask k fit good =
     let fresh : list_any (same_medium i) (ifaces ns h.under) ≡ false =
     any-cong (same_medium i) (λ (j : Iface). j.medium == place_of ns called) (λ j. same-numbers (place_of ns called) j.medium) (ifaces ns h.under)
     ∙ (ap (λ n. has_iface_on n (host_said ns h)) (sym (same-number media called))
-    ∙ (sym (holds-under (has_iface_on (medium_number called d)) e s media rated front h) ∙ twice.0)) in
+    ∙ (sym (holds-under (has_iface_on (medium_number called d)) kind e s media rated front h) ∙ twice.0)) in
     let new_net : list_any (same_network (record { net = bit_and ip mask; mask = mask; iface = 0 + length (ifaces ns h.under); next = None })) (networks ns h.under) ≡ false =
     any-networks ns h (record { net = bit_and ip mask; mask = mask; iface = 0 + length (ifaces ns h.under); next = None })
-    ∙ (sym (holds-under (knows_network (bit_and ip mask) mask) e s media rated front h) ∙ route.0) in
+    ∙ (sym (holds-under (knows_network (bit_and ip mask) mask) kind e s media rated front h) ∙ route.0) in
     let free : list_any (nat_eq ip) (all_addresses ns (front ++ h ∷ [])) ≡ false = sym (has-address ip (saids ns (front ++ h ∷ []))) ∙ address.0 in
     pushed-line ns front h x k
     (record {
@@ -353,21 +353,21 @@ line_fits_if e s media rated front h called ip mask k fit good =
     (ap (all_apart nat_eq) (if-addresses ns front h x i refl)
     ∙ (apart-push nat_eq same-numbers (all_addresses ns (front ++ h ∷ [])) ip ∙ (ap (λ b. not b && all_apart nat_eq (all_addresses ns (front ++ h ∷ []))) free ∙ k.addressed)))
 
-line_fits_route : (e s : ℕ) (media : List MediumSpec) (rated : List (List ℕ)) (front : List HostText) (h : HostText) (l : RouteLine)
+line_fits_route : (kind : Timers) (e s : ℕ) (media : List MediumSpec) (rated : List (List ℕ)) (front : List HostText) (h : HostText) (l : RouteLine)
     → FineHosts (medium_names media) (front ++ h ∷ []) → fit_host_line (host.Route l) ≡ true
-    → host_line_cause (host_draft e s media rated (front ++ h ∷ [])) (host.Route l) ≡ None → FineHosts (medium_names media) (front ++ with_line h (host.Route l) ∷ [])
-line_fits_route e s media rated front h l k fit good =
+    → host_line_cause (host_draft kind e s media rated (front ++ h ∷ [])) (host.Route l) ≡ None → FineHosts (medium_names media) (front ++ with_line h (host.Route l) ∷ [])
+line_fits_route kind e s media rated front h l k fit good =
     let ns : List (List ℕ) = medium_names media in
-    let d : Draft = host_draft e s media rated (front ++ h ∷ []) in
+    let d : Draft = host_draft kind e s media rated (front ++ h ∷ []) in
     let x : HostLine = host.Route l in
     let order = unrefused cause.OutOfOrder (is_none (host_under d)) _ good in
     let holes = unrefused cause.BadMask (not (is_net l.net l.mask)) _ order.1 in
     let route = unrefused cause.RouteTwice (is_under (knows_network l.net l.mask) d) _ holes.1 in
     let far = unrefused cause.FarGateway (not (is_under (reaches l.gateway) d)) None route.1 in
     let mine = each-last (EachFine ns) front h k.each in
-    let near : list_any (is_near l.gateway) (ifaces ns h.under) ≡ true = sym (holds-under (reaches l.gateway) e s media rated front h) ∙ true-of-not (is_under (reaches l.gateway) d) far.0 in
+    let near : list_any (is_near l.gateway) (ifaces ns h.under) ≡ true = sym (holds-under (reaches l.gateway) kind e s media rated front h) ∙ true-of-not (is_under (reaches l.gateway) d) far.0 in
     let new_net : list_any (same_network (bare_route l)) (networks ns h.under) ≡ false =
-    any-networks ns h (bare_route l) ∙ (sym (holds-under (knows_network l.net l.mask) e s media rated front h) ∙ route.0) in
+    any-networks ns h (bare_route l) ∙ (sym (holds-under (knows_network l.net l.mask) kind e s media rated front h) ∙ route.0) in
     pushed-line ns front h x k
     (record {
       head = mine.head;
@@ -398,12 +398,12 @@ line_fits_start ns front h start k fit =
     (ap (all_apart nat_eq) (other-addresses ns front h x refl) ∙ k.addressed)
 
 -- a line under the last host that isn't bad fits
-pub line-fits : (e s : ℕ) (media : List MediumSpec) (rated : List (List ℕ)) (front : List HostText) (h : HostText) (x : HostLine)
+pub line-fits : (kind : Timers) (e s : ℕ) (media : List MediumSpec) (rated : List (List ℕ)) (front : List HostText) (h : HostText) (x : HostLine)
     → FineHosts (medium_names media) (front ++ h ∷ []) → fit_host_line x ≡ true
-    → host_line_cause (host_draft e s media rated (front ++ h ∷ [])) x ≡ None → FineHosts (medium_names media) (front ++ with_line h x ∷ [])
-line-fits e s media rated front h (host.If called ip mask) k fit good = line_fits_if e s media rated front h called ip mask k fit good
-line-fits e s media rated front h (host.Route l) k fit good = line_fits_route e s media rated front h l k fit good
-line-fits e s media rated front h (host.Start start) k fit good = line_fits_start (medium_names media) front h start k fit
+    → host_line_cause (host_draft kind e s media rated (front ++ h ∷ [])) x ≡ None → FineHosts (medium_names media) (front ++ with_line h x ∷ [])
+line-fits kind e s media rated front h (host.If called ip mask) k fit good = line_fits_if kind e s media rated front h called ip mask k fit good
+line-fits kind e s media rated front h (host.Route l) k fit good = line_fits_route kind e s media rated front h l k fit good
+line-fits kind e s media rated front h (host.Start start) k fit good = line_fits_start (medium_names media) front h start k fit
 
 -- Back from lines that fit.
 
@@ -457,15 +457,15 @@ host-front ns h (host.Start start) k =
       reached = each-front (IsReached ns) h.under (x ∷ []) k.reached;
     }
 
-pub record GoodLine (e s : ℕ) (media : List MediumSpec) (rated : List (List ℕ)) (front : List HostText) (h : HostText) (x : HostLine) : Type 0 where
+pub record GoodLine (kind : Timers) (e s : ℕ) (media : List MediumSpec) (rated : List (List ℕ)) (front : List HostText) (h : HostText) (x : HostLine) : Type 0 where
   pub fine : FineHosts (medium_names media) (front ++ h ∷ [])
-  pub good : host_line_cause (host_draft e s media rated (front ++ h ∷ [])) x ≡ None
+  pub good : host_line_cause (host_draft kind e s media rated (front ++ h ∷ [])) x ≡ None
 
-good-if : (e s : ℕ) (media : List MediumSpec) (rated : List (List ℕ)) (front : List HostText) (h : HostText) (called : List ℕ) (ip mask : ℕ)
-    → FineHosts (medium_names media) (front ++ with_line h (host.If called ip mask) ∷ []) → GoodLine e s media rated front h (host.If called ip mask)
-good-if e s media rated front h called ip mask k =
+good-if : (kind : Timers) (e s : ℕ) (media : List MediumSpec) (rated : List (List ℕ)) (front : List HostText) (h : HostText) (called : List ℕ) (ip mask : ℕ)
+    → FineHosts (medium_names media) (front ++ with_line h (host.If called ip mask) ∷ []) → GoodLine kind e s media rated front h (host.If called ip mask)
+good-if kind e s media rated front h called ip mask k =
     let ns : List (List ℕ) = medium_names media in
-    let d : Draft = host_draft e s media rated (front ++ h ∷ []) in
+    let d : Draft = host_draft kind e s media rated (front ++ h ∷ []) in
     let x : HostLine = host.If called ip mask in
     let i : Iface = record { medium = place_of ns called; ip = ip; mask = mask } in
     let r : Route = record { net = bit_and ip mask; mask = mask; iface = 0 + length (ifaces ns h.under); next = None } in
@@ -482,21 +482,21 @@ good-if e s media rated front h called ip mask k =
       fine = line-front ns front h x k (host-front ns h x mine);
       good = passes cause.UnknownName (not (has_medium called d)) _ (ap not (knows-medium media called ∙ there.0))
           (passes cause.NameTwice (is_under (has_iface_on (medium_number called d)) d) _
-          (holds-under (has_iface_on (medium_number called d)) e s media rated front h
+          (holds-under (has_iface_on (medium_number called d)) kind e s media rated front h
           ∙ (ap (λ n. has_iface_on n (host_said ns h)) (same-number media called)
           ∙ (sym (any-cong (same_medium i) (λ (j : Iface). j.medium == place_of ns called) (λ j. same-numbers (place_of ns called) j.medium) (ifaces ns h.under)) ∙ false-of-not _ media_apart.0)))
           (passes cause.AddressTwice (list_any (has_ip ip) (saids ns (front ++ h ∷ []))) _ (has-address ip (saids ns (front ++ h ∷ [])) ∙ false-of-not _ addresses_apart.0)
-          (passes cause.OutOfOrder (is_none (host_under d)) _ (some-under e s media rated front h)
+          (passes cause.OutOfOrder (is_none (host_under d)) _ (some-under kind e s media rated front h)
           (passes cause.BadMask (not (is_mask mask)) _ (ap not ones.1)
           (passes cause.RouteTwice (is_under (knows_network (bit_and ip mask) mask) d) None
-          (holds-under (knows_network (bit_and ip mask) mask) e s media rated front h ∙ (sym (any-networks ns h r) ∙ false-of-not _ nets_apart.0)) refl)))));
+          (holds-under (knows_network (bit_and ip mask) mask) kind e s media rated front h ∙ (sym (any-networks ns h r) ∙ false-of-not _ nets_apart.0)) refl)))));
     }
 
-good-route : (e s : ℕ) (media : List MediumSpec) (rated : List (List ℕ)) (front : List HostText) (h : HostText) (l : RouteLine)
-    → FineHosts (medium_names media) (front ++ with_line h (host.Route l) ∷ []) → GoodLine e s media rated front h (host.Route l)
-good-route e s media rated front h l k =
+good-route : (kind : Timers) (e s : ℕ) (media : List MediumSpec) (rated : List (List ℕ)) (front : List HostText) (h : HostText) (l : RouteLine)
+    → FineHosts (medium_names media) (front ++ with_line h (host.Route l) ∷ []) → GoodLine kind e s media rated front h (host.Route l)
+good-route kind e s media rated front h l k =
     let ns : List (List ℕ) = medium_names media in
-    let d : Draft = host_draft e s media rated (front ++ h ∷ []) in
+    let d : Draft = host_draft kind e s media rated (front ++ h ∷ []) in
     let x : HostLine = host.Route l in
     let mine = each-last (EachFine ns) front (with_line h x) k.each in
     let net = (all-parts good_net (routes h.under) l (ap (list_all good_net) (sym (more-routes h.under l)) ∙ mine.nets_good)).1 in
@@ -504,29 +504,29 @@ good-route e s media rated front h l k =
     let near = each-last (IsReached ns) h.under x mine.reached in
     record {
       fine = line-front ns front h x k (host-front ns h x mine);
-      good = passes cause.OutOfOrder (is_none (host_under d)) _ (some-under e s media rated front h)
+      good = passes cause.OutOfOrder (is_none (host_under d)) _ (some-under kind e s media rated front h)
           (passes cause.BadMask (not (is_net l.net l.mask)) _ (ap not net)
           (passes cause.RouteTwice (is_under (knows_network l.net l.mask) d) _
-          (holds-under (knows_network l.net l.mask) e s media rated front h ∙ (sym (any-networks ns h (bare_route l)) ∙ false-of-not _ nets_apart.0))
-          (passes cause.FarGateway (not (is_under (reaches l.gateway) d)) None (ap not (holds-under (reaches l.gateway) e s media rated front h ∙ near)) refl)));
+          (holds-under (knows_network l.net l.mask) kind e s media rated front h ∙ (sym (any-networks ns h (bare_route l)) ∙ false-of-not _ nets_apart.0))
+          (passes cause.FarGateway (not (is_under (reaches l.gateway) d)) None (ap not (holds-under (reaches l.gateway) kind e s media rated front h ∙ near)) refl)));
     }
 
-good-start : (e s : ℕ) (media : List MediumSpec) (rated : List (List ℕ)) (front : List HostText) (h : HostText) (start : ℕ)
-    → FineHosts (medium_names media) (front ++ with_line h (host.Start start) ∷ []) → GoodLine e s media rated front h (host.Start start)
-good-start e s media rated front h start k =
+good-start : (kind : Timers) (e s : ℕ) (media : List MediumSpec) (rated : List (List ℕ)) (front : List HostText) (h : HostText) (start : ℕ)
+    → FineHosts (medium_names media) (front ++ with_line h (host.Start start) ∷ []) → GoodLine kind e s media rated front h (host.Start start)
+good-start kind e s media rated front h start k =
     let ns : List (List ℕ) = medium_names media in
     let mine = each-last (EachFine ns) front (with_line h (host.Start start)) k.each in
     record {
       fine = line-front ns front h (host.Start start) k (host-front ns h (host.Start start) mine);
-      good = passes cause.OutOfOrder (is_none (host_under (host_draft e s media rated (front ++ h ∷ [])))) None (some-under e s media rated front h) refl;
+      good = passes cause.OutOfOrder (is_none (host_under (host_draft kind e s media rated (front ++ h ∷ [])))) None (some-under kind e s media rated front h) refl;
     }
 
 -- behind lines that fit a line under the last host that does isn't bad
-pub line-good : (e s : ℕ) (media : List MediumSpec) (rated : List (List ℕ)) (front : List HostText) (h : HostText) (x : HostLine)
-    → FineHosts (medium_names media) (front ++ with_line h x ∷ []) → GoodLine e s media rated front h x
-line-good e s media rated front h (host.If called ip mask) k = good-if e s media rated front h called ip mask k
-line-good e s media rated front h (host.Route l) k = good-route e s media rated front h l k
-line-good e s media rated front h (host.Start start) k = good-start e s media rated front h start k
+pub line-good : (kind : Timers) (e s : ℕ) (media : List MediumSpec) (rated : List (List ℕ)) (front : List HostText) (h : HostText) (x : HostLine)
+    → FineHosts (medium_names media) (front ++ with_line h x ∷ []) → GoodLine kind e s media rated front h x
+line-good kind e s media rated front h (host.If called ip mask) k = good-if kind e s media rated front h called ip mask k
+line-good kind e s media rated front h (host.Route l) k = good-route kind e s media rated front h l k
+line-good kind e s media rated front h (host.Start start) k = good-start kind e s media rated front h start k
 
 -- Hosts behind one another.
 
@@ -557,11 +557,11 @@ same-addresses : (ns : List (List ℕ)) (texts : List HostText) (called : List �
 same-addresses ns texts called nets = addresses-append ns texts (bare_text called nets ∷ []) ∙ append-nil (all_addresses ns texts)
 
 -- a host that isn't bad fits behind hosts that do
-pub host-fits : (e s : ℕ) (media : List MediumSpec) (rated : List (List ℕ)) (texts : List HostText) (called : List ℕ) (nets : List Proto) → FineHosts (medium_names media) texts
-    → (is_name called && is_nets nets) ≡ true → host_cause (host_draft e s media rated texts) called ≡ None → FineHosts (medium_names media) (texts ++ bare_text called nets ∷ [])
-host-fits e s media rated texts called nets k fit good =
+pub host-fits : (kind : Timers) (e s : ℕ) (media : List MediumSpec) (rated : List (List ℕ)) (texts : List HostText) (called : List ℕ) (nets : List Proto) → FineHosts (medium_names media) texts
+    → (is_name called && is_nets nets) ≡ true → host_cause (host_draft kind e s media rated texts) called ≡ None → FineHosts (medium_names media) (texts ++ bare_text called nets ∷ [])
+host-fits kind e s media rated texts called nets k fit good =
     let ns : List (List ℕ) = medium_names media in
-    let name = unrefused cause.NameTwice (has_host called (host_draft e s media rated texts)) _ good in
+    let name = unrefused cause.NameTwice (has_host called (host_draft kind e s media rated texts)) _ good in
     let limit = unrefused cause.OverLimit (nat_le 8 (length (saids ns texts))) _ name.1 in
     let new : list_any (bytes_eq called) (text_names texts) ≡ false = sym (knows-host ns texts called) ∙ name.0 in
     record {
@@ -574,15 +574,15 @@ host-fits e s media rated texts called nets k fit good =
           let room = room-from 8 (length (saids ns texts)) limit.0 in omega (arith, len, count, room);
     }
 
-pub host-good : (e s : ℕ) (media : List MediumSpec) (rated : List (List ℕ)) (texts : List HostText) (called : List ℕ) (nets : List Proto)
-    → FineHosts (medium_names media) (texts ++ bare_text called nets ∷ []) → host_cause (host_draft e s media rated texts) called ≡ None
-host-good e s media rated texts called nets k =
+pub host-good : (kind : Timers) (e s : ℕ) (media : List MediumSpec) (rated : List (List ℕ)) (texts : List HostText) (called : List ℕ) (nets : List Proto)
+    → FineHosts (medium_names media) (texts ++ bare_text called nets ∷ []) → host_cause (host_draft kind e s media rated texts) called ≡ None
+host-good kind e s media rated texts called nets k =
     let ns : List (List ℕ) = medium_names media in
     let apart = and_parts (not (list_any (bytes_eq called) (text_names texts))) (all_apart bytes_eq (text_names texts))
     (sym (ap (all_apart bytes_eq) (map-append (λ (h : HostText). h.name) texts (bare_text called nets ∷ [])) ∙ apart-push bytes_eq same-bytes (text_names texts) called) ∙ k.named) in
     let room : length (saids ns texts) < 8 =
     let len = length-append texts (bare_text called nets ∷ []) in let count = count-said ns texts in let few = k.few in omega (arith, len, count, few) in
-    passes cause.NameTwice (has_host called (host_draft e s media rated texts)) _ (knows-host ns texts called ∙ false-of-not _ apart.0)
+    passes cause.NameTwice (has_host called (host_draft kind e s media rated texts)) _ (knows-host ns texts called ∙ false-of-not _ apart.0)
     (passes cause.OverLimit (nat_le 8 (length (saids ns texts))) _ (room-is 8 (length (saids ns texts)) room)
-    (passes cause.OutOfOrder (is_past 5 (host_draft e s media rated texts)) _ (not-past texts)
-    (passes cause.MissingPart (is_before 4 (host_draft e s media rated texts)) None (not-before texts) refl)))
+    (passes cause.OutOfOrder (is_past 5 (host_draft kind e s media rated texts)) _ (not-past texts)
+    (passes cause.MissingPart (is_before 4 (host_draft kind e s media rated texts)) None (not-before texts) refl)))

@@ -1,29 +1,27 @@
 -- The lines of a world, one behind another, lead to what all of them say.
-use Rattle.std.proofs.Common.{◌≡◌, ℕ, ◌+◌, ◌<◌, ◌≤◌, ◌==◌, suc, Bool, true, false, ◌&&◌, List, [], ◌∷◌, ◌++◌, length, map, refl, sym, ap, subst, ◌∙◌, arith, Option, Some, None, append-nil, append_assoc, length-append}
-use Rattle.std.specs.Prelude.{bytes_eq, filter_map, flat_map, nat_eq, nat_lt}
+use Rattle.std.proofs.Common.{◌≡◌, ℕ, ◌≤◌, true, List, [], ◌∷◌, ◌++◌, length, map, refl, sym, ap, subst, arith, None, append-nil, append_assoc}
+use Rattle.std.specs.Prelude.{filter_map, flat_map}
 use Rattle.std.specs.List.{list_all}
 use Rattle.std.proofs.lemmas.Bool.{and_parts}
-use Rattle.std.proofs.lemmas.List.{map-append}
-use Rattle.net_base.specs.declared.address.Proto.{Proto}
+use Rattle.net_base.specs.declared.timer.Timers.{Timers}
+use Rattle.net_base.specs.declared.timer.Timers.TheVariants.{Fixed}
 use Rattle.net_base.specs.declared.world.HostSpec.{HostSpec}
 use Rattle.net_base.specs.declared.world.MediumSpec.{MediumSpec}
 use Rattle.net_base.specs.declared.world.Step.{Step}
 use Rattle.net_base.specs.World.{is_host, is_moment, is_name, is_within}
 use Rattle.world_text.specs.declared.line.HostLine.{HostLine}
-use Rattle.world_text.specs.declared.line.LineCause.{LineCause}
-use Rattle.world_text.specs.declared.line.LineCause.TheVariants as cause
 use Rattle.world_text.specs.declared.line.MediumLine.{MediumLine}
 use Rattle.world_text.specs.declared.line.WorldLine.{WorldLine}
 use Rattle.world_text.specs.declared.line.WorldLine.TheVariants as line
 use Rattle.world_text.specs.WorldLines.{Draft, after, line_cause, opening_draft}
-use Rattle.world_text.specs.WorldSpelling.{HostText, ScriptText, host_names, host_said, lines_of_steps, lines_of_text, lines_said, media_said, medium_names, rated_name}
+use Rattle.world_text.specs.WorldSpelling.{HostText, ScriptText, host_names, lines_of_steps, lines_of_text, media_said, medium_names, rated_name}
 use Rattle.world_text.specs.LineFit.{fit_host_line, fit_medium_line, is_fit}
-use Rattle.world_text.proofs.WorldLists.{all-at, apart-front, each-front, each-last, each-push}
-use Rattle.world_text.proofs.WorldMedia.{FineMedia, GoodBehind, media-after, media-front, media-good, media_draft, media_group}
+use Rattle.world_text.proofs.WorldLists.{all-at, each-last}
+use Rattle.world_text.proofs.WorldMedia.{FineMedia, media-after, media-front, media-good, media_draft}
 use Rattle.world_text.proofs.WorldMediums.{both}
 use Rattle.world_text.proofs.WorldHosts.{EachFine, FineHosts, bare_text, host-after, host-good, host_draft, hosts-front, line-after, line-good, saids}
 use Rattle.world_text.proofs.WorldHostForms.{name-known}
-use Rattle.world_text.proofs.WorldScripts.{host-known, FineScripts, empty_text, script-after, script-good, script_draft, scripts-front, scripts_said, step-after, step-good, step-own, steps-front, with_one}
+use Rattle.world_text.proofs.WorldScripts.{host-known, FineScripts, empty_text, script-after, script-good, script_draft, scripts-front, step-after, step-good, step-own, steps-front}
 
 -- Lines that lead on.
 
@@ -47,17 +45,17 @@ of_script steps = map (λ (x : Step). line.OfScript x) steps
 
 -- Media.
 
-pub media-lead : (e s : ℕ) (before rest : List MediumLine) → FineMedia (before ++ rest) → Led (media_draft e s before) (of_media rest) (media_draft e s (before ++ rest))
-media-lead e s before [] k = ap (media_draft e s) (sym (append-nil before))
-media-lead e s before (x ∷ rest) k =
+pub media-lead : (kind : Timers) (e s : ℕ) (before rest : List MediumLine) → FineMedia (before ++ rest) → Led (media_draft kind e s before) (of_media rest) (media_draft kind e s (before ++ rest))
+media-lead kind e s before [] k = ap (media_draft kind e s) (sym (append-nil before))
+media-lead kind e s before (x ∷ rest) k =
     let same : (before ++ x ∷ []) ++ rest ≡ before ++ x ∷ rest = append_assoc before (x ∷ []) rest in
     let whole : FineMedia ((before ++ x ∷ []) ++ rest) = subst FineMedia (sym same) k in
     let some = media-front (before ++ x ∷ []) rest whole in
-    let g = media-good e s before x some in (
+    let g = media-good kind e s before x some in (
       all-at fit_medium_line (before ++ x ∷ rest) before x rest refl k.fit,
       g.good,
-      subst (λ (d : Draft). Led d (of_media rest) (media_draft e s (before ++ x ∷ rest))) (sym (media-after e s before x g.fine.behind g.behind g.new))
-          (subst (λ (ls : List MediumLine). Led (media_draft e s (before ++ x ∷ [])) (of_media rest) (media_draft e s ls)) same (media-lead e s (before ++ x ∷ []) rest whole)),
+      subst (λ (d : Draft). Led d (of_media rest) (media_draft kind e s (before ++ x ∷ rest))) (sym (media-after kind e s before x g.fine.behind g.behind g.new))
+          (subst (λ (ls : List MediumLine). Led (media_draft kind e s (before ++ x ∷ [])) (of_media rest) (media_draft kind e s ls)) same (media-lead kind e s (before ++ x ∷ []) rest whole)),
     )
 
 -- Hosts.
@@ -71,59 +69,59 @@ under-front : (media : List MediumSpec) (front : List HostText) (h : HostText) (
 under-front media front h us [] k = subst (λ (ls : List HostLine). FineHosts (medium_names media) (front ++ under_text h ls ∷ [])) (append-nil us) k
 under-front media front h us (v ∷ vs) k =
     let later = under-front media front h (us ++ v ∷ []) vs (subst (λ (ls : List HostLine). FineHosts (medium_names media) (front ++ under_text h ls ∷ [])) (sym (append_assoc us (v ∷ []) vs)) k) in
-    (line-good 0 0 media [] front (under_text h us) v later).fine
+    (line-good Fixed 0 0 media [] front (under_text h us) v later).fine
 
-under-lead : (e s : ℕ) (media : List MediumSpec) (rated : List (List ℕ)) (front : List HostText) (h : HostText) (before rest : List HostLine)
+under-lead : (kind : Timers) (e s : ℕ) (media : List MediumSpec) (rated : List (List ℕ)) (front : List HostText) (h : HostText) (before rest : List HostLine)
     → FineHosts (medium_names media) (front ++ under_text h (before ++ rest) ∷ [])
-    → Led (host_draft e s media rated (front ++ under_text h before ∷ [])) (of_host rest) (host_draft e s media rated (front ++ under_text h (before ++ rest) ∷ []))
-under-lead e s media rated front h before [] k = ap (λ ls. host_draft e s media rated (front ++ under_text h ls ∷ [])) (sym (append-nil before))
-under-lead e s media rated front h before (x ∷ rest) k =
+    → Led (host_draft kind e s media rated (front ++ under_text h before ∷ [])) (of_host rest) (host_draft kind e s media rated (front ++ under_text h (before ++ rest) ∷ []))
+under-lead kind e s media rated front h before [] k = ap (λ ls. host_draft kind e s media rated (front ++ under_text h ls ∷ [])) (sym (append-nil before))
+under-lead kind e s media rated front h before (x ∷ rest) k =
     let ns : List (List ℕ) = medium_names media in
     let same : (before ++ x ∷ []) ++ rest ≡ before ++ x ∷ rest = append_assoc before (x ∷ []) rest in
     let whole : FineHosts ns (front ++ under_text h ((before ++ x ∷ []) ++ rest) ∷ []) = subst (λ (ls : List HostLine). FineHosts ns (front ++ under_text h ls ∷ [])) (sym same) k in
     let some = under-front media front h (before ++ x ∷ []) rest whole in
-    let g = line-good e s media rated front (under_text h before) x some in
+    let g = line-good kind e s media rated front (under_text h before) x some in
     let mine = each-last (EachFine ns) front (under_text h (before ++ x ∷ rest)) k.each in (
       all-at fit_host_line (before ++ x ∷ rest) before x rest refl mine.fit,
       g.good,
-      subst (λ (d : Draft). Led d (of_host rest) (host_draft e s media rated (front ++ under_text h (before ++ x ∷ rest) ∷ []))) (sym (line-after e s media rated front (under_text h before) x))
-          (subst (λ (ls : List HostLine). Led (host_draft e s media rated (front ++ under_text h (before ++ x ∷ []) ∷ [])) (of_host rest) (host_draft e s media rated (front ++ under_text h ls ∷ []))) same
-          (under-lead e s media rated front h (before ++ x ∷ []) rest whole)),
+      subst (λ (d : Draft). Led d (of_host rest) (host_draft kind e s media rated (front ++ under_text h (before ++ x ∷ rest) ∷ []))) (sym (line-after kind e s media rated front (under_text h before) x))
+          (subst (λ (ls : List HostLine). Led (host_draft kind e s media rated (front ++ under_text h (before ++ x ∷ []) ∷ [])) (of_host rest) (host_draft kind e s media rated (front ++ under_text h ls ∷ []))) same
+          (under-lead kind e s media rated front h (before ++ x ∷ []) rest whole)),
     )
 
-pub hosts-lead : (e s : ℕ) (media : List MediumSpec) (rated : List (List ℕ)) (front rest : List HostText) → FineHosts (medium_names media) (front ++ rest)
-    → Led (host_draft e s media rated front) (flat_map lines_of_text rest) (host_draft e s media rated (front ++ rest))
-hosts-lead e s media rated front [] k = ap (host_draft e s media rated) (sym (append-nil front))
-hosts-lead e s media rated front (h ∷ rest) k =
+pub hosts-lead : (kind : Timers) (e s : ℕ) (media : List MediumSpec) (rated : List (List ℕ)) (front rest : List HostText) → FineHosts (medium_names media) (front ++ rest)
+    → Led (host_draft kind e s media rated front) (flat_map lines_of_text rest) (host_draft kind e s media rated (front ++ rest))
+hosts-lead kind e s media rated front [] k = ap (host_draft kind e s media rated) (sym (append-nil front))
+hosts-lead kind e s media rated front (h ∷ rest) k =
     let ns : List (List ℕ) = medium_names media in
     let same : (front ++ h ∷ []) ++ rest ≡ front ++ h ∷ rest = append_assoc front (h ∷ []) rest in
     let whole : FineHosts ns ((front ++ h ∷ []) ++ rest) = subst (FineHosts ns) (sym same) k in
     let some = hosts-front ns (front ++ h ∷ []) rest whole in
     let bare = under-front media front h [] h.under some in
     let mine = each-last (EachFine ns) front h some.each in
-    let later = subst (λ (ls : List HostText). Led (host_draft e s media rated (front ++ h ∷ [])) (flat_map lines_of_text rest) (host_draft e s media rated ls)) same (hosts-lead e s media rated (front ++ h ∷ []) rest whole) in
-    let under = under-lead e s media rated front h [] h.under some in
-    let all = led-more (host_draft e s media rated (front ++ bare_text h.name h.nets ∷ [])) (host_draft e s media rated (front ++ h ∷ [])) (host_draft e s media rated (front ++ h ∷ rest)) (of_host h.under) (flat_map lines_of_text rest) under later in (
+    let later = subst (λ (ls : List HostText). Led (host_draft kind e s media rated (front ++ h ∷ [])) (flat_map lines_of_text rest) (host_draft kind e s media rated ls)) same (hosts-lead kind e s media rated (front ++ h ∷ []) rest whole) in
+    let under = under-lead kind e s media rated front h [] h.under some in
+    let all = led-more (host_draft kind e s media rated (front ++ bare_text h.name h.nets ∷ [])) (host_draft kind e s media rated (front ++ h ∷ [])) (host_draft kind e s media rated (front ++ h ∷ rest)) (of_host h.under) (flat_map lines_of_text rest) under later in (
       mine.head,
-      host-good e s media rated front h.name h.nets bare,
-      subst (λ (d : Draft). Led d (of_host h.under ++ flat_map lines_of_text rest) (host_draft e s media rated (front ++ h ∷ rest))) (sym (host-after e s media rated front h.name h.nets)) all,
+      host-good kind e s media rated front h.name h.nets bare,
+      subst (λ (d : Draft). Led d (of_host h.under ++ flat_map lines_of_text rest) (host_draft kind e s media rated (front ++ h ∷ rest))) (sym (host-after kind e s media rated front h.name h.nets)) all,
     )
 
 -- Scripts.
 
-steps-lead : (e s : ℕ) (media : List MediumSpec) (rated : List (List ℕ)) (hosts : List HostSpec) (front : List ScriptText) (called : List ℕ) (before rest : List Step)
+steps-lead : (kind : Timers) (e s : ℕ) (media : List MediumSpec) (rated : List (List ℕ)) (hosts : List HostSpec) (front : List ScriptText) (called : List ℕ) (before rest : List Step)
     → FineScripts (host_names hosts) (front ++ record { host = called; steps = before ++ rest } ∷ [])
-    → Led (script_draft e s media rated hosts (front ++ record { host = called; steps = before } ∷ [])) (of_script rest) (script_draft e s media rated hosts (front ++ record { host = called; steps = before ++ rest } ∷ []))
-steps-lead e s media rated hosts front called before [] k = ap (λ xs. script_draft e s media rated hosts (front ++ record { host = called; steps = xs } ∷ [])) (sym (append-nil before))
-steps-lead e s media rated hosts front called before (x ∷ rest) k =
+    → Led (script_draft kind e s media rated hosts (front ++ record { host = called; steps = before } ∷ [])) (of_script rest) (script_draft kind e s media rated hosts (front ++ record { host = called; steps = before ++ rest } ∷ []))
+steps-lead kind e s media rated hosts front called before [] k = ap (λ xs. script_draft kind e s media rated hosts (front ++ record { host = called; steps = xs } ∷ [])) (sym (append-nil before))
+steps-lead kind e s media rated hosts front called before (x ∷ rest) k =
     let same : (before ++ x ∷ []) ++ rest ≡ before ++ x ∷ rest = append_assoc before (x ∷ []) rest in
     let t : ScriptText = record { host = called; steps = before } in
     let whole = subst (λ (xs : List Step). FineScripts (host_names hosts) (front ++ record { host = called; steps = xs } ∷ [])) (sym same) k in (
       step-own (host_names hosts) front called before x rest k,
-      step-good (script_draft e s media rated hosts (front ++ t ∷ [])) front t refl,
-      subst (λ (d : Draft). Led d (of_script rest) (script_draft e s media rated hosts (front ++ record { host = called; steps = before ++ x ∷ rest } ∷ []))) (sym (step-after e s media rated hosts front t x))
-          (subst (λ (xs : List Step). Led (script_draft e s media rated hosts (front ++ record { host = called; steps = before ++ x ∷ [] } ∷ [])) (of_script rest) (script_draft e s media rated hosts (front ++ record { host = called; steps = xs } ∷ []))) same
-          (steps-lead e s media rated hosts front called (before ++ x ∷ []) rest whole)),
+      step-good (script_draft kind e s media rated hosts (front ++ t ∷ [])) front t refl,
+      subst (λ (d : Draft). Led d (of_script rest) (script_draft kind e s media rated hosts (front ++ record { host = called; steps = before ++ x ∷ rest } ∷ []))) (sym (step-after kind e s media rated hosts front t x))
+          (subst (λ (xs : List Step). Led (script_draft kind e s media rated hosts (front ++ record { host = called; steps = before ++ x ∷ [] } ∷ [])) (of_script rest) (script_draft kind e s media rated hosts (front ++ record { host = called; steps = xs } ∷ []))) same
+          (steps-lead kind e s media rated hosts front called (before ++ x ∷ []) rest whole)),
     )
 
 -- the names of hosts are names
@@ -137,35 +135,35 @@ names-fit k (h ∷ hosts) all =
 script-named : (ns : List (List ℕ)) (front : List ScriptText) (called : List ℕ) → list_all is_name ns ≡ true → FineScripts ns (front ++ empty_text called ∷ []) → is_name called ≡ true
 script-named ns front called names k = name-known called ns names (host-known ns front called k)
 
-pub scripts-lead : (e s : ℕ) (media : List MediumSpec) (rated : List (List ℕ)) (hosts : List HostSpec) (front rest : List ScriptText) → list_all is_name (host_names hosts) ≡ true
-    → FineScripts (host_names hosts) (front ++ rest) → Led (script_draft e s media rated hosts front) (flat_map lines_of_steps rest) (script_draft e s media rated hosts (front ++ rest))
-scripts-lead e s media rated hosts front [] names k = ap (script_draft e s media rated hosts) (sym (append-nil front))
-scripts-lead e s media rated hosts front (t ∷ rest) names k =
+pub scripts-lead : (kind : Timers) (e s : ℕ) (media : List MediumSpec) (rated : List (List ℕ)) (hosts : List HostSpec) (front rest : List ScriptText) → list_all is_name (host_names hosts) ≡ true
+    → FineScripts (host_names hosts) (front ++ rest) → Led (script_draft kind e s media rated hosts front) (flat_map lines_of_steps rest) (script_draft kind e s media rated hosts (front ++ rest))
+scripts-lead kind e s media rated hosts front [] names k = ap (script_draft kind e s media rated hosts) (sym (append-nil front))
+scripts-lead kind e s media rated hosts front (t ∷ rest) names k =
     let ns : List (List ℕ) = host_names hosts in
     let same : (front ++ t ∷ []) ++ rest ≡ front ++ t ∷ rest = append_assoc front (t ∷ []) rest in
     let whole : FineScripts ns ((front ++ t ∷ []) ++ rest) = subst (FineScripts ns) (sym same) k in
     let some = scripts-front ns (front ++ t ∷ []) rest whole in
     let empty = steps-front ns front t.host [] t.steps some in
-    let later = subst (λ (ls : List ScriptText). Led (script_draft e s media rated hosts (front ++ t ∷ [])) (flat_map lines_of_steps rest) (script_draft e s media rated hosts ls)) same
-    (scripts-lead e s media rated hosts (front ++ t ∷ []) rest names whole) in
-    let steps = steps-lead e s media rated hosts front t.host [] t.steps some in
-    let all = led-more (script_draft e s media rated hosts (front ++ empty_text t.host ∷ [])) (script_draft e s media rated hosts (front ++ t ∷ [])) (script_draft e s media rated hosts (front ++ t ∷ rest))
+    let later = subst (λ (ls : List ScriptText). Led (script_draft kind e s media rated hosts (front ++ t ∷ [])) (flat_map lines_of_steps rest) (script_draft kind e s media rated hosts ls)) same
+    (scripts-lead kind e s media rated hosts (front ++ t ∷ []) rest names whole) in
+    let steps = steps-lead kind e s media rated hosts front t.host [] t.steps some in
+    let all = led-more (script_draft kind e s media rated hosts (front ++ empty_text t.host ∷ [])) (script_draft kind e s media rated hosts (front ++ t ∷ [])) (script_draft kind e s media rated hosts (front ++ t ∷ rest))
     (of_script t.steps) (flat_map lines_of_steps rest) steps later in (
       script-named ns front t.host names empty,
-      script-good (script_draft e s media rated hosts front) front t.host refl empty,
-      subst (λ (d : Draft). Led d (of_script t.steps ++ flat_map lines_of_steps rest) (script_draft e s media rated hosts (front ++ t ∷ rest))) (sym (script-after e s media rated hosts front t.host)) all,
+      script-good (script_draft kind e s media rated hosts front) front t.host refl empty,
+      subst (λ (d : Draft). Led d (of_script t.steps ++ flat_map lines_of_steps rest) (script_draft kind e s media rated hosts (front ++ t ∷ rest))) (sym (script-after kind e s media rated hosts front t.host)) all,
     )
 
 -- Worlds.
 
 -- behind the first line
-abbrev pub begun : Draft
-begun = after opening_draft line.Networld
+abbrev pub begun : Timers → Draft
+begun kind = after opening_draft (line.Networld kind)
 
 -- what all lines say
-abbrev pub whole_draft : ℕ → ℕ → List MediumLine → List HostText → List ScriptText → Draft
-whole_draft e s media hosts scripts =
-    script_draft e s (media_said media) (filter_map rated_name media) (saids (medium_names (media_said media)) hosts) scripts
+abbrev pub whole_draft : Timers → ℕ → ℕ → List MediumLine → List HostText → List ScriptText → Draft
+whole_draft kind e s media hosts scripts =
+    script_draft kind e s (media_said media) (filter_map rated_name media) (saids (medium_names (media_said media)) hosts) scripts
 
 pub record FineWorld (e s : ℕ) (media : List MediumLine) (hosts : List HostText) (scripts : List ScriptText) : Type 0 where
   pub end : is_moment e ≡ true
@@ -178,29 +176,29 @@ pub record FineWorld (e s : ℕ) (media : List MediumLine) (hosts : List HostTex
   pub scripts_fine : FineScripts (host_names (saids (medium_names (media_said media)) hosts)) scripts
 
 -- media behind which no host stands yet
-pub media-hosts : (e s : ℕ) (media : List MediumLine) → 1 ≤ length media → media_draft e s media ≡ host_draft e s (media_said media) (filter_map rated_name media) []
-media-hosts e s [] some = absurd (omega (arith, some))
-media-hosts e s (x ∷ media) some = refl
+pub media-hosts : (kind : Timers) (e s : ℕ) (media : List MediumLine) → 1 ≤ length media → media_draft kind e s media ≡ host_draft kind e s (media_said media) (filter_map rated_name media) []
+media-hosts kind e s [] some = absurd (omega (arith, some))
+media-hosts kind e s (x ∷ media) some = refl
 
 -- hosts behind which no script stands yet
-pub hosts-scripts : (e s : ℕ) (media : List MediumSpec) (rated : List (List ℕ)) (hosts : List HostText) → 1 ≤ length hosts
-    → host_draft e s media rated hosts ≡ script_draft e s media rated (saids (medium_names media) hosts) []
-hosts-scripts e s media rated [] some = absurd (omega (arith, some))
-hosts-scripts e s media rated (h ∷ hosts) some = refl
+pub hosts-scripts : (kind : Timers) (e s : ℕ) (media : List MediumSpec) (rated : List (List ℕ)) (hosts : List HostText) → 1 ≤ length hosts
+    → host_draft kind e s media rated hosts ≡ script_draft kind e s media rated (saids (medium_names media) hosts) []
+hosts-scripts kind e s media rated [] some = absurd (omega (arith, some))
+hosts-scripts kind e s media rated (h ∷ hosts) some = refl
 
 -- the lines behind the first one
-pub world-lead : (e s : ℕ) (media : List MediumLine) (hosts : List HostText) (scripts : List ScriptText) → FineWorld e s media hosts scripts
-    → Led begun (line.End e ∷ line.Seed s ∷ (of_media media ++ (flat_map lines_of_text hosts ++ flat_map lines_of_steps scripts))) (whole_draft e s media hosts scripts)
-world-lead e s media hosts scripts k =
+pub world-lead : (kind : Timers) (e s : ℕ) (media : List MediumLine) (hosts : List HostText) (scripts : List ScriptText) → FineWorld e s media hosts scripts
+    → Led (begun kind) (line.End e ∷ line.Seed s ∷ (of_media media ++ (flat_map lines_of_text hosts ++ flat_map lines_of_steps scripts))) (whole_draft kind e s media hosts scripts)
+world-lead kind e s media hosts scripts k =
     let ms : List MediumSpec = media_said media in
     let rated : List (List ℕ) = filter_map rated_name media in
     let hs : List HostSpec = saids (medium_names ms) hosts in
-    let first = media-lead e s [] media k.media_fine in
-    let second = subst (λ (d : Draft). Led d (flat_map lines_of_text hosts) (host_draft e s ms rated hosts)) (sym (media-hosts e s media k.some_media)) (hosts-lead e s ms rated [] hosts k.hosts_fine) in
-    let third = subst (λ (d : Draft). Led d (flat_map lines_of_steps scripts) (script_draft e s ms rated hs scripts)) (sym (hosts-scripts e s ms rated hosts k.some_hosts))
-    (scripts-lead e s ms rated hs [] scripts k.host_names_fit k.scripts_fine) in
-    let late = led-more (media_draft e s media) (host_draft e s ms rated hosts) (script_draft e s ms rated hs scripts) (flat_map lines_of_text hosts) (flat_map lines_of_steps scripts) second third in (
+    let first = media-lead kind e s [] media k.media_fine in
+    let second = subst (λ (d : Draft). Led d (flat_map lines_of_text hosts) (host_draft kind e s ms rated hosts)) (sym (media-hosts kind e s media k.some_media)) (hosts-lead kind e s ms rated [] hosts k.hosts_fine) in
+    let third = subst (λ (d : Draft). Led d (flat_map lines_of_steps scripts) (script_draft kind e s ms rated hs scripts)) (sym (hosts-scripts kind e s ms rated hosts k.some_hosts))
+    (scripts-lead kind e s ms rated hs [] scripts k.host_names_fit k.scripts_fine) in
+    let late = led-more (media_draft kind e s media) (host_draft kind e s ms rated hosts) (script_draft kind e s ms rated hs scripts) (flat_map lines_of_text hosts) (flat_map lines_of_steps scripts) second third in (
       k.end,
       refl,
-      (k.seed, refl, led-more (media_draft e s []) (media_draft e s media) (script_draft e s ms rated hs scripts) (of_media media) (flat_map lines_of_text hosts ++ flat_map lines_of_steps scripts) first late),
+      (k.seed, refl, led-more (media_draft kind e s []) (media_draft kind e s media) (script_draft kind e s ms rated hs scripts) (of_media media) (flat_map lines_of_text hosts ++ flat_map lines_of_steps scripts) first late),
     )

@@ -1,5 +1,5 @@
 -- The lines of the media behind one another: the world so far is what they say, and each line fits exactly where all of them do.
-use Rattle.std.proofs.Common.{◌≡◌, ℕ, ◌+◌, ◌<◌, ◌≤◌, suc, Bool, true, false, not, ◌&&◌, ◌||◌, cond, List, [], ◌∷◌, ◌++◌, length, map, refl, sym, ap, subst, ◌∙◌, arith, Option, Some, None, append-nil, length-append}
+use Rattle.std.proofs.Common.{◌≡◌, ℕ, ◌+◌, ◌<◌, ◌≤◌, suc, Bool, true, false, not, ◌&&◌, ◌||◌, List, [], ◌∷◌, ◌++◌, length, refl, sym, ap, ◌∙◌, arith, Option, Some, None, append-nil, length-append}
 use Rattle.std.specs.Prelude.{⊤, bytes_eq, filter_map, get_or, nat_le, nat_lt, if◌then◌else◌}
 use Rattle.std.specs.List.{cons_option, list_all, list_any}
 use Rattle.std.proofs.lemmas.Bool.{and_parts, false≢true}
@@ -10,6 +10,7 @@ use Rattle.std.proofs.lemmas.Option.{none-some}
 use Rattle.std.proofs.lemmas.Slice.Eq.{bytes_eq-Decides}
 use Rattle.net_base.specs.declared.world.Fate.{Fate}
 use Rattle.net_base.specs.declared.world.FateRange.{FateRange}
+use Rattle.net_base.specs.declared.timer.Timers.{Timers}
 use Rattle.net_base.specs.declared.world.MediumSpec.{MediumSpec}
 use Rattle.net_base.specs.World.{all_apart, overlap}
 use Rattle.world_text.specs.declared.line.Frames.{Frames}
@@ -18,7 +19,7 @@ use Rattle.world_text.specs.declared.line.LineCause.TheVariants as cause
 use Rattle.world_text.specs.declared.line.MediumLine.{MediumLine}
 use Rattle.world_text.specs.declared.line.MediumLine.TheVariants as medium
 use Rattle.world_text.specs.WorldLines.{Draft, after_medium_line, has_fate, has_medium, is_before, is_fated, is_medium_named, is_past, is_rated, medium_line_cause, on_medium, plain_medium, range_of, refuse, with_fate, with_rates}
-use Rattle.world_text.specs.WorldSpelling.{EachBehind, IsBehindMedium, Rates, SaysMedium, fate_on, media_named, media_said, medium_names, medium_said, name_said, no_rates, rated_name, rates_on, rates_said}
+use Rattle.world_text.specs.WorldSpelling.{EachBehind, IsBehindMedium, Rates, SaysMedium, fate_on, media_named, media_said, medium_names, medium_said, name_said, no_rates, rated_name, rates_on}
 use Rattle.world_text.specs.LineFit.{fit_medium_line}
 use Rattle.world_text.proofs.WorldLists.{all-parts, all-push, and-false, any-map, apart-front, apart-push, each-front, each-last, each-none, each-push, false-of-not, none-if, or-parts, own-bytes, same-bytes, true-of-not}
 
@@ -214,11 +215,12 @@ media_group [] = 3
 media_group (x ∷ lines) = 4
 
 -- what lines of media lead to
-abbrev pub media_draft : ℕ → ℕ → List MediumLine → Draft
-media_draft e s lines = record {
+abbrev pub media_draft : Timers → ℕ → ℕ → List MediumLine → Draft
+media_draft kind e s lines = record {
   group = media_group lines;
   end = e;
   seed = s;
+  timers = kind;
   media = media_said lines;
   rated = filter_map rated_name lines;
   hosts = [];
@@ -239,8 +241,8 @@ pub group-said : (called : List ℕ) (lines : List MediumLine) → SaysMedium ca
 group-said called [] says = absurd (false≢true says)
 group-said called (x ∷ lines) says = refl
 
-abbrev draft_with : ℕ → ℕ → ℕ → List MediumSpec → List (List ℕ) → Draft
-draft_with g e s media rated = record { group = g; end = e; seed = s; media = media; rated = rated; hosts = []; scripts = [] }
+abbrev draft_with : ℕ → Timers → ℕ → ℕ → List MediumSpec → List (List ℕ) → Draft
+draft_with g kind e s media rated = record { group = g; end = e; seed = s; timers = kind; media = media; rated = rated; hosts = []; scripts = [] }
 
 plain-said : (lines : List MediumLine) (n : ℕ) (called : List ℕ) (mtu : ℕ) → EachBehind IsBehindMedium lines → list_any (bytes_eq called) (names lines) ≡ false
     → medium_said lines n called mtu ≡ plain_medium n called mtu
@@ -252,29 +254,29 @@ from_zero : (n : ℕ) → n ≡ 0 + n
 from_zero n = omega arith
 
 -- a line that fits leads on to what all lines say
-pub media-after : (e s : ℕ) (lines : List MediumLine) (x : MediumLine) → EachBehind IsBehindMedium lines → IsBehindMedium lines x → IsNew lines x
-    → after_medium_line (media_draft e s lines) x ≡ media_draft e s (lines ++ x ∷ [])
-media-after e s lines (medium.Medium called mtu) behind here new =
-    ap (λ ms. draft_with 4 e s ms (filter_map rated_name lines))
+pub media-after : (kind : Timers) (e s : ℕ) (lines : List MediumLine) (x : MediumLine) → EachBehind IsBehindMedium lines → IsBehindMedium lines x → IsNew lines x
+    → after_medium_line (media_draft kind e s lines) x ≡ media_draft kind e s (lines ++ x ∷ [])
+media-after kind e s lines (medium.Medium called mtu) behind here new =
+    ap (λ ms. draft_with 4 kind e s ms (filter_map rated_name lines))
     (ap (λ k. media_said lines ++ plain_medium k called mtu ∷ []) (count-named lines 0 lines)
     ∙ (ap (λ m. media_said lines ++ m ∷ []) (sym (plain-said lines (length (names lines)) called mtu behind new))
     ∙ (ap (λ k. media_said lines ++ medium_said lines k called mtu ∷ []) (from_zero (length (names lines))) ∙ sym (medium-pushed lines called mtu 0 lines))))
-    ∙ (ap (λ g. draft_with g e s (media_said (lines ++ medium.Medium called mtu ∷ [])) (filter_map rated_name lines)) (sym (group-pushed lines (medium.Medium called mtu)))
-    ∙ ap (draft_with (media_group (lines ++ medium.Medium called mtu ∷ [])) e s (media_said (lines ++ medium.Medium called mtu ∷ [])))
+    ∙ (ap (λ g. draft_with g kind e s (media_said (lines ++ medium.Medium called mtu ∷ [])) (filter_map rated_name lines)) (sym (group-pushed lines (medium.Medium called mtu)))
+    ∙ ap (draft_with (media_group (lines ++ medium.Medium called mtu ∷ [])) kind e s (media_said (lines ++ medium.Medium called mtu ∷ [])))
     (sym (filter_map-append rated_name lines (medium.Medium called mtu ∷ []) ∙ append-nil (filter_map rated_name lines))))
-media-after e s lines (medium.Rates called loss twice later) behind here new =
-    ap (λ ms. draft_with (media_group lines) e s ms (filter_map rated_name lines ++ called ∷ []))
+media-after kind e s lines (medium.Rates called loss twice later) behind here new =
+    ap (λ ms. draft_with (media_group lines) kind e s ms (filter_map rated_name lines ++ called ∷ []))
     (sym (quiet (lines ++ medium.Rates called loss twice later ∷ []) (medium.Rates called loss twice later) 0 lines (λ m. refl)
     ∙ rates-pushed lines called loss twice later 0 lines (unrated called lines here.1)))
-    ∙ (ap (λ g. draft_with g e s (media_said (lines ++ medium.Rates called loss twice later ∷ [])) (filter_map rated_name lines ++ called ∷ []))
+    ∙ (ap (λ g. draft_with g kind e s (media_said (lines ++ medium.Rates called loss twice later ∷ [])) (filter_map rated_name lines ++ called ∷ []))
     (group-said called lines here.0 ∙ sym (group-pushed lines (medium.Rates called loss twice later)))
-    ∙ ap (draft_with (media_group (lines ++ medium.Rates called loss twice later ∷ [])) e s (media_said (lines ++ medium.Rates called loss twice later ∷ [])))
+    ∙ ap (draft_with (media_group (lines ++ medium.Rates called loss twice later ∷ [])) kind e s (media_said (lines ++ medium.Rates called loss twice later ∷ [])))
     (sym (filter_map-append rated_name lines (medium.Rates called loss twice later ∷ []))))
-media-after e s lines (medium.Fate called f x) behind here new =
-    ap (λ ms. draft_with (media_group lines) e s ms (filter_map rated_name lines))
+media-after kind e s lines (medium.Fate called f x) behind here new =
+    ap (λ ms. draft_with (media_group lines) kind e s ms (filter_map rated_name lines))
     (sym (quiet (lines ++ medium.Fate called f x ∷ []) (medium.Fate called f x) 0 lines (λ m. refl) ∙ fate-pushed lines called f x 0 lines))
-    ∙ (ap (λ g. draft_with g e s (media_said (lines ++ medium.Fate called f x ∷ [])) (filter_map rated_name lines)) (group-said called lines here ∙ sym (group-pushed lines (medium.Fate called f x)))
-    ∙ ap (draft_with (media_group (lines ++ medium.Fate called f x ∷ [])) e s (media_said (lines ++ medium.Fate called f x ∷ [])))
+    ∙ (ap (λ g. draft_with g kind e s (media_said (lines ++ medium.Fate called f x ∷ [])) (filter_map rated_name lines)) (group-said called lines here ∙ sym (group-pushed lines (medium.Fate called f x)))
+    ∙ ap (draft_with (media_group (lines ++ medium.Fate called f x ∷ [])) kind e s (media_said (lines ++ medium.Fate called f x ∷ [])))
     (sym (filter_map-append rated_name lines (medium.Fate called f x ∷ []) ∙ append-nil (filter_map rated_name lines))))
 
 -- Lines that fit.
@@ -362,8 +364,8 @@ any-fated called f all n (medium.Rates other a b c ∷ lines) = any-fated called
 any-fated called f all n (medium.Fate other g y ∷ lines) = any-fated called f all n lines
 
 -- the tests of a line, of what lines say
-knows : (e s : ℕ) (called : List ℕ) (lines : List MediumLine) → has_medium called (media_draft e s lines) ≡ list_any (bytes_eq called) (names lines)
-knows e s called lines = any-named called lines 0 lines
+knows : (kind : Timers) (e s : ℕ) (called : List ℕ) (lines : List MediumLine) → has_medium called (media_draft kind e s lines) ≡ list_any (bytes_eq called) (names lines)
+knows kind e s called lines = any-named called lines 0 lines
 
 not-past : (lines : List MediumLine) → nat_lt 4 (media_group lines) ≡ false
 not-past [] = refl
@@ -378,13 +380,13 @@ pub record FitsBehind (lines : List MediumLine) (x : MediumLine) : Type 0 where
   pub behind : IsBehindMedium lines x
   pub new : IsNew lines x
 
-fits-medium : (e s : ℕ) (lines : List MediumLine) (called : List ℕ) (mtu : ℕ) → FineMedia lines → fit_medium_line (medium.Medium called mtu) ≡ true
-    → medium_line_cause (media_draft e s lines) (medium.Medium called mtu) ≡ None → FitsBehind lines (medium.Medium called mtu)
-fits-medium e s lines called mtu k fit good =
+fits-medium : (kind : Timers) (e s : ℕ) (lines : List MediumLine) (called : List ℕ) (mtu : ℕ) → FineMedia lines → fit_medium_line (medium.Medium called mtu) ≡ true
+    → medium_line_cause (media_draft kind e s lines) (medium.Medium called mtu) ≡ None → FitsBehind lines (medium.Medium called mtu)
+fits-medium kind e s lines called mtu k fit good =
     let x : MediumLine = medium.Medium called mtu in
-    let name = unrefused cause.NameTwice (has_medium called (media_draft e s lines)) _ good in
+    let name = unrefused cause.NameTwice (has_medium called (media_draft kind e s lines)) _ good in
     let limit = unrefused cause.OverLimit (nat_le 4 (length (media_said lines))) _ name.1 in
-    let new : list_any (bytes_eq called) (names lines) ≡ false = sym (knows e s called lines) ∙ name.0 in
+    let new : list_any (bytes_eq called) (names lines) ≡ false = sym (knows kind e s called lines) ∙ name.0 in
     record {
       fine = record {
         fit = all-push fit_medium_line lines x k.fit fit;
@@ -402,15 +404,15 @@ fits-medium e s lines called mtu k fit good =
       new = new;
     }
 
-fits-rates : (e s : ℕ) (lines : List MediumLine) (called : List ℕ) (loss twice later : ℕ) → FineMedia lines → fit_medium_line (medium.Rates called loss twice later) ≡ true
-    → medium_line_cause (media_draft e s lines) (medium.Rates called loss twice later) ≡ None → FitsBehind lines (medium.Rates called loss twice later)
-fits-rates e s lines called loss twice later k fit good =
+fits-rates : (kind : Timers) (e s : ℕ) (lines : List MediumLine) (called : List ℕ) (loss twice later : ℕ) → FineMedia lines → fit_medium_line (medium.Rates called loss twice later) ≡ true
+    → medium_line_cause (media_draft kind e s lines) (medium.Rates called loss twice later) ≡ None → FitsBehind lines (medium.Rates called loss twice later)
+fits-rates kind e s lines called loss twice later k fit good =
     let x : MediumLine = medium.Rates called loss twice later in
-    let name = unrefused cause.UnknownName (not (has_medium called (media_draft e s lines))) _ good in
-    let order = unrefused cause.OutOfOrder (is_past 4 (media_draft e s lines) || is_rated called (media_draft e s lines)) _ name.1 in
+    let name = unrefused cause.UnknownName (not (has_medium called (media_draft kind e s lines))) _ good in
+    let order = unrefused cause.OutOfOrder (is_past 4 (media_draft kind e s lines) || is_rated called (media_draft kind e s lines)) _ name.1 in
     let total = unrefused cause.FateClash (nat_lt 1000 (loss + twice + later)) _ order.1 in
-    let says : SaysMedium called lines = sym (knows e s called lines) ∙ true-of-not (has_medium called (media_draft e s lines)) name.0 in
-    let once = (or-parts (is_past 4 (media_draft e s lines)) (is_rated called (media_draft e s lines)) order.0).1 in
+    let says : SaysMedium called lines = sym (knows kind e s called lines) ∙ true-of-not (has_medium called (media_draft kind e s lines)) name.0 in
+    let once = (or-parts (is_past 4 (media_draft kind e s lines)) (is_rated called (media_draft kind e s lines)) order.0).1 in
     record {
       fine = record {
         fit = all-push fit_medium_line lines x k.fit fit;
@@ -439,14 +441,14 @@ fated-pushed called f x lines other before free = by (bytes_eq other called) ref
         ∙ (ap (λ c. not (list_any (overlap r) (filter_map (fate_on c) lines)) && all_apart overlap (filter_map (fate_on other) lines)) (equal other called is)
         ∙ (ap (λ b. not b && all_apart overlap (filter_map (fate_on other) lines)) free ∙ before)))
 
-fits-fate : (e s : ℕ) (lines : List MediumLine) (called : List ℕ) (f : Frames) (x : Fate) → FineMedia lines → fit_medium_line (medium.Fate called f x) ≡ true
-    → medium_line_cause (media_draft e s lines) (medium.Fate called f x) ≡ None → FitsBehind lines (medium.Fate called f x)
-fits-fate e s lines called f x k fit good =
+fits-fate : (kind : Timers) (e s : ℕ) (lines : List MediumLine) (called : List ℕ) (f : Frames) (x : Fate) → FineMedia lines → fit_medium_line (medium.Fate called f x) ≡ true
+    → medium_line_cause (media_draft kind e s lines) (medium.Fate called f x) ≡ None → FitsBehind lines (medium.Fate called f x)
+fits-fate kind e s lines called f x k fit good =
     let l : MediumLine = medium.Fate called f x in
-    let name = unrefused cause.UnknownName (not (has_medium called (media_draft e s lines))) _ good in
-    let order = unrefused cause.OutOfOrder (is_past 4 (media_draft e s lines)) _ name.1 in
-    let clash = unrefused cause.FateClash (has_fate called (range_of f x) (media_draft e s lines)) _ order.1 in
-    let says : SaysMedium called lines = sym (knows e s called lines) ∙ true-of-not (has_medium called (media_draft e s lines)) name.0 in
+    let name = unrefused cause.UnknownName (not (has_medium called (media_draft kind e s lines))) _ good in
+    let order = unrefused cause.OutOfOrder (is_past 4 (media_draft kind e s lines)) _ name.1 in
+    let clash = unrefused cause.FateClash (has_fate called (range_of f x) (media_draft kind e s lines)) _ order.1 in
+    let says : SaysMedium called lines = sym (knows kind e s called lines) ∙ true-of-not (has_medium called (media_draft kind e s lines)) name.0 in
     let free : list_any (overlap (range_of f x)) (filter_map (fate_on called) lines) ≡ false =
     sym (any-fated called (range_of f x) lines 0 lines ∙ ap (λ b. b && list_any (overlap (range_of f x)) (filter_map (fate_on called) lines)) says) ∙ clash.0 in
     record {
@@ -463,10 +465,10 @@ fits-fate e s lines called f x k fit good =
     }
 
 -- a line that isn't bad fits behind lines that do
-pub media-fits : (e s : ℕ) (lines : List MediumLine) (x : MediumLine) → FineMedia lines → fit_medium_line x ≡ true → medium_line_cause (media_draft e s lines) x ≡ None → FitsBehind lines x
-media-fits e s lines (medium.Medium called mtu) k fit good = fits-medium e s lines called mtu k fit good
-media-fits e s lines (medium.Rates called loss twice later) k fit good = fits-rates e s lines called loss twice later k fit good
-media-fits e s lines (medium.Fate called f x) k fit good = fits-fate e s lines called f x k fit good
+pub media-fits : (kind : Timers) (e s : ℕ) (lines : List MediumLine) (x : MediumLine) → FineMedia lines → fit_medium_line x ≡ true → medium_line_cause (media_draft kind e s lines) x ≡ None → FitsBehind lines x
+media-fits kind e s lines (medium.Medium called mtu) k fit good = fits-medium kind e s lines called mtu k fit good
+media-fits kind e s lines (medium.Rates called loss twice later) k fit good = fits-rates kind e s lines called loss twice later k fit good
+media-fits kind e s lines (medium.Fate called f x) k fit good = fits-fate kind e s lines called f x k fit good
 
 -- Back from lines that fit.
 
@@ -484,14 +486,14 @@ media-front lines more k = record {
 }
 
 -- behind lines that fit a line that does isn't bad
-pub record GoodBehind (e s : ℕ) (lines : List MediumLine) (x : MediumLine) : Type 0 where
+pub record GoodBehind (kind : Timers) (e s : ℕ) (lines : List MediumLine) (x : MediumLine) : Type 0 where
   pub fine : FineMedia lines
-  pub good : medium_line_cause (media_draft e s lines) x ≡ None
+  pub good : medium_line_cause (media_draft kind e s lines) x ≡ None
   pub new : IsNew lines x
   pub behind : IsBehindMedium lines x
 
-good-medium : (e s : ℕ) (lines : List MediumLine) (called : List ℕ) (mtu : ℕ) → FineMedia (lines ++ medium.Medium called mtu ∷ []) → GoodBehind e s lines (medium.Medium called mtu)
-good-medium e s lines called mtu k =
+good-medium : (kind : Timers) (e s : ℕ) (lines : List MediumLine) (called : List ℕ) (mtu : ℕ) → FineMedia (lines ++ medium.Medium called mtu ∷ []) → GoodBehind kind e s lines (medium.Medium called mtu)
+good-medium kind e s lines called mtu k =
     let apart = and_parts (not (list_any (bytes_eq called) (names lines))) (all_apart bytes_eq (names lines))
     (sym (ap (all_apart bytes_eq) (names-pushed lines called mtu) ∙ apart-push bytes_eq same-bytes (names lines) called) ∙ k.apart) in
     let new = false-of-not (list_any (bytes_eq called) (names lines)) apart.0 in
@@ -502,29 +504,29 @@ good-medium e s lines called mtu k =
     let few = k.few in omega (arith, len, more, count, few) in
     record {
       fine = media-front lines (medium.Medium called mtu ∷ []) k;
-      good = passes cause.NameTwice (has_medium called (media_draft e s lines)) _ (knows e s called lines ∙ new)
+      good = passes cause.NameTwice (has_medium called (media_draft kind e s lines)) _ (knows kind e s called lines ∙ new)
           (passes cause.OverLimit (nat_le 4 (length (media_said lines))) _ (room-is 4 (length (media_said lines)) room)
-          (passes cause.OutOfOrder (is_past 4 (media_draft e s lines)) _ (not-past lines)
-          (passes cause.MissingPart (is_before 3 (media_draft e s lines)) None (not-before lines) refl)));
+          (passes cause.OutOfOrder (is_past 4 (media_draft kind e s lines)) _ (not-past lines)
+          (passes cause.MissingPart (is_before 3 (media_draft kind e s lines)) None (not-before lines) refl)));
       new = new;
       behind = tt;
     }
 
-good-rates : (e s : ℕ) (lines : List MediumLine) (called : List ℕ) (loss twice later : ℕ) → FineMedia (lines ++ medium.Rates called loss twice later ∷ []) → GoodBehind e s lines (medium.Rates called loss twice later)
-good-rates e s lines called loss twice later k =
+good-rates : (kind : Timers) (e s : ℕ) (lines : List MediumLine) (called : List ℕ) (loss twice later : ℕ) → FineMedia (lines ++ medium.Rates called loss twice later ∷ []) → GoodBehind kind e s lines (medium.Rates called loss twice later)
+good-rates kind e s lines called loss twice later k =
     let x : MediumLine = medium.Rates called loss twice later in
     let here = each-last IsBehindMedium lines x k.behind in
     record {
       fine = media-front lines (x ∷ []) k;
-      good = passes cause.UnknownName (not (has_medium called (media_draft e s lines))) _ (ap not (knows e s called lines) ∙ ap not here.0)
-          (passes cause.OutOfOrder (is_past 4 (media_draft e s lines) || is_rated called (media_draft e s lines)) _ (ap (λ b. b || is_rated called (media_draft e s lines)) (not-past lines) ∙ here.1)
+      good = passes cause.UnknownName (not (has_medium called (media_draft kind e s lines))) _ (ap not (knows kind e s called lines) ∙ ap not here.0)
+          (passes cause.OutOfOrder (is_past 4 (media_draft kind e s lines) || is_rated called (media_draft kind e s lines)) _ (ap (λ b. b || is_rated called (media_draft kind e s lines)) (not-past lines) ∙ here.1)
           (passes cause.FateClash (nat_lt 1000 (loss + twice + later)) None (lt-from-le (loss + twice + later) ((all-parts has_sum lines x k.sums).1)) refl));
       new = tt;
       behind = here;
     }
 
-good-fate : (e s : ℕ) (lines : List MediumLine) (called : List ℕ) (f : Frames) (x : Fate) → FineMedia (lines ++ medium.Fate called f x ∷ []) → GoodBehind e s lines (medium.Fate called f x)
-good-fate e s lines called f x k =
+good-fate : (kind : Timers) (e s : ℕ) (lines : List MediumLine) (called : List ℕ) (f : Frames) (x : Fate) → FineMedia (lines ++ medium.Fate called f x ∷ []) → GoodBehind kind e s lines (medium.Fate called f x)
+good-fate kind e s lines called f x k =
     let l : MediumLine = medium.Fate called f x in
     let r : FateRange = range_of f x in
     let says = each-last IsBehindMedium lines l k.behind in
@@ -533,16 +535,16 @@ good-fate e s lines called f x k =
     (sym (ap (all_apart overlap) (more-fates called lines l r (ap (λ v. if v then Some r else None) own)) ∙ apart-push overlap same-overlap (filter_map (fate_on called) lines) r) ∙ k.fated called) in
     record {
       fine = media-front lines (l ∷ []) k;
-      good = passes cause.UnknownName (not (has_medium called (media_draft e s lines))) _ (ap not (knows e s called lines) ∙ ap not says)
-          (passes cause.OutOfOrder (is_past 4 (media_draft e s lines)) _ (not-past lines)
-          (passes cause.FateClash (has_fate called r (media_draft e s lines)) None
+      good = passes cause.UnknownName (not (has_medium called (media_draft kind e s lines))) _ (ap not (knows kind e s called lines) ∙ ap not says)
+          (passes cause.OutOfOrder (is_past 4 (media_draft kind e s lines)) _ (not-past lines)
+          (passes cause.FateClash (has_fate called r (media_draft kind e s lines)) None
           (any-fated called r lines 0 lines
           ∙ (ap (λ b. list_any (bytes_eq called) (names lines) && b) (false-of-not (list_any (overlap r) (filter_map (fate_on called) lines)) apart.0) ∙ and-false (list_any (bytes_eq called) (names lines)))) refl));
       new = tt;
       behind = says;
     }
 
-pub media-good : (e s : ℕ) (lines : List MediumLine) (x : MediumLine) → FineMedia (lines ++ x ∷ []) → GoodBehind e s lines x
-media-good e s lines (medium.Medium called mtu) k = good-medium e s lines called mtu k
-media-good e s lines (medium.Rates called loss twice later) k = good-rates e s lines called loss twice later k
-media-good e s lines (medium.Fate called f x) k = good-fate e s lines called f x k
+pub media-good : (kind : Timers) (e s : ℕ) (lines : List MediumLine) (x : MediumLine) → FineMedia (lines ++ x ∷ []) → GoodBehind kind e s lines x
+media-good kind e s lines (medium.Medium called mtu) k = good-medium kind e s lines called mtu k
+media-good kind e s lines (medium.Rates called loss twice later) k = good-rates kind e s lines called loss twice later k
+media-good kind e s lines (medium.Fate called f x) k = good-fate kind e s lines called f x k

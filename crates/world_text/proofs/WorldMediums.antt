@@ -1,5 +1,5 @@
 -- The media of a world are those that lines say which fit, and the other way round.
-use Rattle.std.proofs.Common.{◌≡◌, ℕ, ◌+◌, ◌^◌, ◌<◌, ◌≤◌, ◌==◌, Bool, true, false, ◌&&◌, ◌||◌, List, [], ◌∷◌, ◌++◌, length, map, refl, sym, ap, subst, ◌∙◌, arith, Option, Some, None}
+use Rattle.std.proofs.Common.{◌≡◌, ℕ, ◌+◌, ◌^◌, ◌≤◌, ◌==◌, Bool, true, false, ◌&&◌, ◌||◌, List, [], ◌∷◌, ◌++◌, length, refl, sym, ap, ◌∙◌, arith, Option, Some, None}
 use Rattle.std.specs.Prelude.{bytes_eq, filter_map, get_or, nat_le, nat_lt, if◌then◌else◌}
 use Rattle.std.specs.List.{cons_option, list_all, list_any}
 use Rattle.std.proofs.lemmas.Bool.{and_parts, false≢true}
@@ -7,7 +7,6 @@ use Rattle.std.proofs.lemmas.Bool.Decides.{nat_tests}
 use Rattle.std.proofs.lemmas.List.Elements.{filter_map-append}
 use Rattle.std.proofs.lemmas.List.Folds.{list_all-append}
 use Rattle.net_base.specs.declared.world.Fate.{Fate}
-use Rattle.net_base.specs.declared.world.FateRange.{FateRange}
 use Rattle.net_base.specs.declared.world.MediumSpec.{MediumSpec}
 use Rattle.net_base.specs.World.{all_apart, are_media, is_medium, is_name, is_range, is_within, overlap}
 use Rattle.world_text.specs.declared.line.Frames.{Frames}
@@ -15,9 +14,9 @@ use Rattle.world_text.specs.declared.line.Frames.TheVariants as frames
 use Rattle.world_text.specs.declared.line.MediumLine.{MediumLine}
 use Rattle.world_text.specs.declared.line.MediumLine.TheVariants as medium
 use Rattle.world_text.specs.WorldLines.{range_of}
-use Rattle.world_text.specs.WorldSpelling.{EachBehind, IsBehindMedium, Rates, SaysMedium, fate_on, media_named, media_said, medium_names, medium_said, name_said, no_rates, rated_name, rates_on, rates_said}
+use Rattle.world_text.specs.WorldSpelling.{EachBehind, IsBehindMedium, Rates, SaysMedium, fate_on, media_named, media_said, medium_names, medium_said, no_rates, rated_name, rates_on, rates_said}
 use Rattle.world_text.specs.LineFit.{fit_frames, fit_medium_line, is_frame, is_rate}
-use Rattle.world_text.proofs.WorldLists.{all-if, any-at, own-bytes}
+use Rattle.world_text.proofs.WorldLists.{all-if, own-bytes}
 use Rattle.world_text.proofs.WorldMedia.{FineMedia, count-named, equal, has_sum, named-front, names, names-media, unfated, unrated}
 
 -- From lines to media.

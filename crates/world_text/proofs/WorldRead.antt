@@ -1,31 +1,32 @@
 -- A text that spells a world is read as it.
-use Rattle.std.proofs.Common.{◌≡◌, ℕ, ◌+◌, ◌^◌, ◌<◌, ◌≤◌, ◌==◌, inl, inr, suc, zero, Bool, true, false, ◌&&◌, List, [], ◌∷◌, ◌++◌, length, map, refl, sym, ap, subst, ◌∙◌, arith, Option, Some, None, Ok, Err, Result}
-use Rattle.std.specs.Prelude.{bytes_eq, codes, filter_map, flat_map, nat_eq, nat_le, nat_lt, if◌then◌else◌}
-use Rattle.std.specs.List.{All, filter, list_all}
-use Rattle.std.proofs.lemmas.Bool.{and_parts, false≢true, ltb-true}
+use Rattle.std.proofs.Common.{◌≡◌, ℕ, ◌+◌, ◌^◌, ◌≤◌, ◌==◌, inl, inr, suc, true, false, List, [], ◌∷◌, ◌++◌, length, map, refl, sym, ap, subst, ◌∙◌, arith, Some, None, Ok}
+use Rattle.std.specs.Prelude.{bytes_eq, codes, flat_map, nat_eq, nat_le, nat_lt, if◌then◌else◌}
+use Rattle.std.specs.List.{All, list_all}
+use Rattle.std.proofs.lemmas.Bool.{and_parts, false≢true}
 use Rattle.std.proofs.lemmas.Bool.Decides.{nat_tests}
 use Rattle.std.proofs.lemmas.List.Folds.{list_all-append}
-use Rattle.net_base.specs.declared.ndb.NdbPair.{NdbPair}
+use Rattle.net_base.specs.declared.timer.Timers.{Timers}
+use Rattle.net_base.specs.declared.timer.Timers.TheVariants.{Fixed, Measured}
 use Rattle.net_base.specs.declared.world.HostSpec.{HostSpec}
 use Rattle.net_base.specs.declared.world.MediumSpec.{MediumSpec}
 use Rattle.net_base.specs.declared.world.Script.{Script}
 use Rattle.net_base.specs.declared.world.Step.{Step}
+use Rattle.net_base.specs.declared.world.Version.{Version}
 use Rattle.net_base.specs.declared.world.World.{World}
-use Rattle.net_base.specs.NdbBundle.{bad_line, database}
 use Rattle.net_base.specs.NdbText.{is_hash, lines_of}
 use Rattle.net_base.specs.World.{IsWorld, addresses, all_apart, are_media, is_host, is_medium, is_name, is_script, is_within}
 use Rattle.world_text.specs.declared.line.HostLine.{HostLine}
-use Rattle.world_text.specs.declared.line.LineCause.{LineCause}
 use Rattle.world_text.specs.declared.line.LineCause.TheVariants as cause
 use Rattle.world_text.specs.declared.line.MediumLine.{MediumLine}
 use Rattle.world_text.specs.declared.line.MediumLine.TheVariants as medium
 use Rattle.world_text.specs.declared.line.WorldLine.{WorldLine}
 use Rattle.world_text.specs.declared.line.WorldLine.TheVariants as line
 use Rattle.world_text.specs.LineReading.{read_line}
+use Rattle.world_text.specs.VersionLines.{versions_in}
 use Rattle.world_text.specs.WorldLines.{Begins, Draft, Goes, after, first_line, good_line, judged_line, line_cause, line_verdict, opening_draft, unless, world_of}
 use Rattle.world_text.specs.WorldRefusal.{Leads}
-use Rattle.world_text.specs.WorldSpelling.{EachBehind, HostText, IsBehindMedium, IsHeaded, IsReached, IsWorldText, ScriptText, host_names, host_said, laid, lines_of_steps, lines_of_text, lines_said, media_named, media_said, medium_names, rated_name, script_said, speaks, spelling}
-use Rattle.world_text.specs.WorldText.{Cut, cuts_of, judged, reading_from, with_database, world_reading}
+use Rattle.world_text.specs.WorldSpelling.{EachBehind, HostText, IsBehindMedium, IsHeaded, IsReached, IsWorldText, ScriptText, host_names, host_said, laid, lines_of_steps, lines_of_text, lines_said, media_said, medium_names, script_said, speaks, spelling}
+use Rattle.world_text.specs.WorldText.{Cut, cuts_of, judged, reading_from, with_versions, world_reading}
 use Rattle.world_text.specs.LineFit.{is_fit}
 use Rattle.world_text.proofs.LineBack.{back, loud}
 use Rattle.world_text.proofs.WorldLists.{false-of-not}
@@ -35,12 +36,13 @@ use Rattle.world_text.proofs.WorldHosts.{count-said, saids}
 use Rattle.world_text.proofs.WorldHostForms.{AreHosts, lines-of-hosts}
 use Rattle.world_text.proofs.WorldLed.{FineWorld, Led, begun, names-fit, of_host, of_media, of_script, whole_draft, world-lead}
 use Rattle.world_text.proofs.WorldScripts.{script_group}
+use Rattle.world_text.proofs.VersionTexts.{versions-back}
 use Rattle.world_text.proofs.WorldTexts.{going, goes-on, leads-all, reading-lines}
 
 -- From lines to texts.
 
 later-group : (d : Draft) (l : WorldLine) → (d.group == 0) ≡ false → ((after d l).group == 0) ≡ false
-later-group d line.Networld e = refl
+later-group d (line.Networld kind) e = refl
 later-group d (line.End m) e = refl
 later-group d (line.Seed n) e = refl
 later-group d (line.OfMedium (medium.Medium called mtu)) e = refl
@@ -103,15 +105,20 @@ all-going media hosts scripts =
     (list_all-append going (flat_map lines_of_text hosts) (flat_map lines_of_steps scripts)
     ∙ both (list_all going (flat_map lines_of_text hosts)) (list_all going (flat_map lines_of_steps scripts)) (hosts-going hosts) (scripts-going scripts))
 
+-- its first line names its timers
+first-goes : (kind : Timers) → line_verdict opening_draft (spelling (line.Networld kind)) ≡ Goes (begun kind)
+first-goes Fixed = refl
+first-goes Measured = refl
+
 -- the spelled lines of a world lead to it
-pub world-leads : (e s : ℕ) (media : List MediumLine) (hosts : List HostText) (scripts : List ScriptText) → FineWorld e s media hosts scripts
-    → Leads opening_draft (map spelling (lines_said e s media hosts scripts)) (whole_draft e s media hosts scripts)
-world-leads e s media hosts scripts k = (
-  begun,
-  refl,
-  spelled-leads begun (whole_draft e s media hosts scripts)
+pub world-leads : (kind : Timers) (e s : ℕ) (media : List MediumLine) (hosts : List HostText) (scripts : List ScriptText) → FineWorld e s media hosts scripts
+    → Leads opening_draft (map spelling (lines_said kind e s media hosts scripts)) (whole_draft kind e s media hosts scripts)
+world-leads kind e s media hosts scripts k = (
+  begun kind,
+  first-goes kind,
+  spelled-leads (begun kind) (whole_draft kind e s media hosts scripts)
       (line.End e ∷ line.Seed s ∷ (of_media media ++ (flat_map lines_of_text hosts ++ flat_map lines_of_steps scripts))) refl (all-going media hosts scripts)
-      (world-lead e s media hosts scripts k),
+      (world-lead kind e s media hosts scripts k),
 )
 
 -- From worlds to lines.
@@ -220,23 +227,23 @@ fine-world w media hosts scripts t =
       };
     }
 
-abbrev with_parts : ℕ → ℕ → List MediumSpec → List HostSpec → List Script → List (List (List NdbPair)) → World
-with_parts e s ms hs xs db = record { end = e; seed = s; media = ms; hosts = hs; scripts = xs; db = db }
+abbrev with_parts : Timers → ℕ → ℕ → List MediumSpec → List HostSpec → List Script → List Version → World
+with_parts kind e s ms hs xs dbs = record { end = e; seed = s; timers = kind; media = ms; hosts = hs; scripts = xs; dbs = dbs }
 
--- the world of the lines, with the database of the bundle
+-- the world of the lines, with the versions behind them
 world-is : (text : List ℕ) (w : World) (t : IsWorldText text w)
-    → record (world_of (whole_draft w.end w.seed t.media t.hosts t.scripts)) { db = database (lines_of t.bundle) } ≡ w
+    → record (world_of (whole_draft w.timers w.end w.seed t.media t.hosts t.scripts)) { dbs = versions_in (lines_of t.bundle) } ≡ w
 world-is text w t =
     let ns : List (List ℕ) = medium_names (media_said t.media) in
     let hs : List HostSpec = saids ns t.hosts in
     let xs : List Script = map (script_said (host_names hs)) t.scripts in
-    let db : List (List (List NdbPair)) = database (lines_of t.bundle) in
+    let dbs : List Version = versions_in (lines_of t.bundle) in
     let hosts_are : w.hosts ≡ hs = t.hosts_are ∙ ap (λ (ms : List MediumSpec). saids (medium_names ms) t.hosts) t.media_are in
     let scripts_are : w.scripts ≡ xs = t.scripts_are ∙ ap (λ (gs : List HostSpec). map (script_said (host_names gs)) t.scripts) hosts_are in
-    ap (λ (ms : List MediumSpec). with_parts w.end w.seed ms hs xs db) (sym t.media_are)
-    ∙ (ap (λ (gs : List HostSpec). with_parts w.end w.seed w.media gs xs db) (sym hosts_are)
-    ∙ (ap (λ (ys : List Script). with_parts w.end w.seed w.media w.hosts ys db) (sym scripts_are)
-    ∙ ap (with_parts w.end w.seed w.media w.hosts w.scripts) (sym t.read)))
+    ap (λ (ms : List MediumSpec). with_parts w.timers w.end w.seed ms hs xs dbs) (sym t.media_are)
+    ∙ (ap (λ (gs : List HostSpec). with_parts w.timers w.end w.seed w.media gs xs dbs) (sym hosts_are)
+    ∙ (ap (λ (ys : List Script). with_parts w.timers w.end w.seed w.media w.hosts ys dbs) (sym scripts_are)
+    ∙ ap (with_parts w.timers w.end w.seed w.media w.hosts w.scripts) (sym (versions-back t.bundle w.dbs t.versions t.world.versions_timed).1)))
 
 script-late : (scripts : List ScriptText) → nat_lt (script_group scripts) 5 ≡ false
 script-late [] = refl
@@ -246,27 +253,27 @@ script-begun : (scripts : List ScriptText) → (script_group scripts == 0) ≡ f
 script-begun [] = refl
 script-begun (t ∷ scripts) = refl
 
-ndb-begins : (e s : ℕ) (media : List MediumLine) (hosts : List HostText) (scripts : List ScriptText)
-    → line_verdict (whole_draft e s media hosts scripts) (codes "ndb") ≡ Begins (world_of (whole_draft e s media hosts scripts))
-ndb-begins e s media hosts scripts =
-    let d : Draft = whole_draft e s media hosts scripts in
+ndb-begins : (kind : Timers) (e s : ℕ) (media : List MediumLine) (hosts : List HostText) (scripts : List ScriptText)
+    → line_verdict (whole_draft kind e s media hosts scripts) (codes "ndb") ≡ Begins (world_of (whole_draft kind e s media hosts scripts))
+ndb-begins kind e s media hosts scripts =
+    let d : Draft = whole_draft kind e s media hosts scripts in
     spelled-verdict d line.Ndb (script-begun scripts) refl (ap (λ v. if v then Some cause.MissingPart else None) (script-late scripts))
 
 pub spelled-read : (text : List ℕ) (w : World) → IsWorldText text w → world_reading text ≡ Ok w
 spelled-read text w t = by t.parts
   where
     d : Draft
-    d = whole_draft w.end w.seed t.media t.hosts t.scripts
+    d = whole_draft w.timers w.end w.seed t.media t.hosts t.scripts
 
     leads : Leads opening_draft t.head d
     leads =
         leads-all opening_draft d t.head
-        (subst (λ (lines : List (List ℕ)). Leads opening_draft lines d) (sym t.spelled) (world-leads w.end w.seed t.media t.hosts t.scripts (fine-world w t.media t.hosts t.scripts (said-by text w t))))
+        (subst (λ (lines : List (List ℕ)). Leads opening_draft lines d) (sym t.spelled) (world-leads w.timers w.end w.seed t.media t.hosts t.scripts (fine-world w t.media t.hosts t.scripts (said-by text w t))))
 
     bundle_read : (n : ℕ) (cuts : List Cut) → reading_from d n (record { line = codes "ndb"; behind = t.bundle } ∷ cuts) ≡ Ok w
     bundle_read n cuts =
-        ap (λ v. judged n t.bundle v (λ (next : Draft). reading_from next (n + 1) cuts)) (ndb-begins w.end w.seed t.media t.hosts t.scripts)
-        ∙ (ap (with_database n (world_of d) t.bundle) t.good ∙ ap (λ (x : World). Ok x) (world-is text w t))
+        ap (λ v. judged n t.bundle v (λ (next : Draft). reading_from next (n + 1) cuts)) (ndb-begins w.timers w.end w.seed t.media t.hosts t.scripts)
+        ∙ (ap (with_versions n (world_of d) t.bundle) (versions-back t.bundle w.dbs t.versions t.world.versions_timed).0 ∙ ap (λ (x : World). Ok x) (world-is text w t))
 
     behind : (tail : List ℕ) (cuts : List Cut) → text ≡ laid t.head ++ tail → cuts_of tail ≡ record { line = codes "ndb"; behind = t.bundle } ∷ cuts → world_reading text ≡ Ok w
     behind tail cuts is cut =

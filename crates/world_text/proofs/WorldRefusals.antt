@@ -6,20 +6,20 @@ use Rattle.std.proofs.lemmas.Bool.{and_parts, false≢true}
 use Rattle.std.proofs.lemmas.List.Folds.{list_all-append}
 use Rattle.std.proofs.lemmas.Slice.Eq.{bytes_eq-Decides}
 use Rattle.net_base.specs.declared.world.World.{World}
-use Rattle.net_base.specs.NdbBundle.{database, bad_line}
 use Rattle.net_base.specs.NdbText.{is_empty, is_newline, lines_of}
 use Rattle.world_text.specs.declared.line.LineCause.{LineCause}
 use Rattle.world_text.specs.declared.line.WorldLine.TheVariants as line
 use Rattle.world_text.specs.LineCauses.{number_of}
+use Rattle.world_text.specs.VersionLines.{bad_version_line, versions_in}
 use Rattle.world_text.specs.WorldLines.{Draft, opening_draft, Verdict, Goes, Begins, Bad, line_verdict}
 use Rattle.world_text.specs.WorldRefusal.{Leads, EndsLine, IsBadLine, IsBadBundle, IsUnended, IsRefused}
 use Rattle.world_text.specs.WorldSpelling.{laid, is_line, speaks, IsHeaded, IsWorldText}
-use Rattle.world_text.specs.WorldText.{Cut, with_first, cuts_of, with_database, judged, missing, reading_from, world_reading}
+use Rattle.world_text.specs.WorldText.{Cut, with_first, cuts_of, with_versions, judged, missing, reading_from, world_reading}
 use Rattle.world_text.proofs.WorldLists.{false-of-not, or-parts}
 use Rattle.world_text.proofs.WorldRead.{spelled-read}
 use Rattle.world_text.proofs.LineSpelled.{spelled}
 use Rattle.world_text.proofs.WorldSound.{err-ok, same-ok}
-use Rattle.world_text.proofs.WorldTexts.{Ends, Shape, cuts-line, ends, headed, judged-goes, last-parts, leads-all, no-cuts, passed-goes, reading-lines, shape}
+use Rattle.world_text.proofs.WorldTexts.{Shape, cuts-line, ends, headed, judged-goes, last-parts, leads-all, no-cuts, passed-goes, reading-lines, shape}
 
 -- A text says one world at most.
 
@@ -117,14 +117,14 @@ ndb-line : (d : Draft) (text : List ℕ) (v : World) → line_verdict d text ≡
 ndb-line d text v is = (spelled text line.Ndb ((ends d text v is).is_read)).0
 
 bundle-here : (d : Draft) (first : ℕ) (text : List ℕ) (c : Cut) (cs : List Cut) (v : World) (n cause : ℕ) → Shape text c cs → line_verdict d c.line ≡ Begins v
-    → with_database first v c.behind (bad_line c.behind) ≡ Err (n, cause) → IsBadBundle d first text n cause
-bundle-here d first text c cs v n cause s begins e = by (bad_line c.behind) refl e
+    → with_versions first v c.behind (bad_version_line c.behind) ≡ Err (n, cause) → IsBadBundle d first text n cause
+bundle-here d first text c cs v n cause s begins e = by (bad_version_line c.behind) refl e
   where
     is_ndb : c.line ≡ codes "ndb"
     is_ndb = ndb-line d c.line v begins
 
-    by : (o : Option (ℕ × ℕ)) → bad_line c.behind ≡ o → with_database first v c.behind o ≡ Err (n, cause) → IsBadBundle d first text n cause
-    by None is f = absurd (ok-err (record v { db = database (lines_of c.behind) }) (n, cause) f)
+    by : (o : Option (ℕ × ℕ)) → bad_version_line c.behind ≡ o → with_versions first v c.behind o ≡ Err (n, cause) → IsBadBundle d first text n cause
+    by None is f = absurd (ok-err (record v { dbs = versions_in (lines_of c.behind) }) (n, cause) f)
     by (Some bad) is f =
         let same = same-err (first + bad.0, bad.1) (n, cause) (Err (first + bad.0, bad.1)) refl f in
         let place = first-same (first + bad.0) n bad.1 cause same in
@@ -219,7 +219,7 @@ read-bundle d first text n c b = by b.parts
         ∙ (reading-lines d b.so_far first b.good tail b.whole b.leads
         ∙ (ap (reading_from b.so_far (first + length b.good)) cut
         ∙ (ap (λ v. judged (first + length b.good) b.bundle v (λ (next : Draft). reading_from next (first + length b.good + 1) cuts)) b.begins
-        ∙ (ap (with_database (first + length b.good) b.world b.bundle) b.bad ∙ ap (λ (m : ℕ). refusal m c) (sym b.place)))))
+        ∙ (ap (with_versions (first + length b.good) b.world b.bundle) b.bad ∙ ap (λ (m : ℕ). refusal m c) (sym b.place)))))
 
     by : IsHeaded text b.good b.bundle → reading_from d first (cuts_of text) ≡ Err (n, c)
     by (inl is) = behind (codes "ndb\n" ++ b.bundle) (cuts_of b.bundle) is refl
@@ -299,14 +299,14 @@ any-number : (d : Draft) (m n : ℕ) (cuts : List Cut) (w : World) → reading_f
 any-number d m n [] w e = absurd (err-ok (m, number_of (missing d)) w e)
 any-number d m n (c ∷ cs) w e = by (line_verdict d c.line) e (λ next f. any-number next (m + 1) (n + 1) cs w f)
   where
-    bundle : (v : World) (o : Option (ℕ × ℕ)) → with_database m v c.behind o ≡ Ok w → with_database n v c.behind o ≡ Ok w
+    bundle : (v : World) (o : Option (ℕ × ℕ)) → with_versions m v c.behind o ≡ Ok w → with_versions n v c.behind o ≡ Ok w
     bundle v None f = f
     bundle v (Some bad) f = absurd (err-ok (m + bad.0, bad.1) w f)
 
     by : (v : Verdict) → judged m c.behind v (λ (next : Draft). reading_from next (m + 1) cs) ≡ Ok w → ((next : Draft) → reading_from next (m + 1) cs ≡ Ok w → reading_from next (n + 1) cs ≡ Ok w)
         → judged n c.behind v (λ (next : Draft). reading_from next (n + 1) cs) ≡ Ok w
     by (Goes next) f go = go next f
-    by (Begins v) f go = bundle v (bad_line c.behind) f
+    by (Begins v) f go = bundle v (bad_version_line c.behind) f
     by (Bad cause) f go = absurd (err-ok (m, number_of cause) w f)
 
 -- lines before `ndb` of a text that says a world

@@ -1,18 +1,18 @@
 -- The lines of the scripts behind one another.
-use Rattle.std.proofs.Common.{◌≡◌, ℕ, ◌+◌, ◌<◌, ◌≤◌, ◌==◌, suc, Bool, true, false, not, ◌&&◌, List, [], ◌∷◌, ◌++◌, length, map, refl, sym, ap, ◌∙◌, arith, Option, Some, None, length-append}
+use Rattle.std.proofs.Common.{◌≡◌, ℕ, ◌<◌, ◌≤◌, suc, true, not, ◌&&◌, List, [], ◌∷◌, ◌++◌, length, map, refl, sym, ap, ◌∙◌, arith, None, length-append}
 use Rattle.std.specs.Prelude.{bytes_eq, nat_le, nat_lt}
 use Rattle.std.specs.List.{list_all, list_any, position_or_len}
 use Rattle.std.proofs.lemmas.Bool.{and_parts}
 use Rattle.std.proofs.lemmas.List.{map-append}
 use Rattle.std.proofs.lemmas.List.Folds.{list_all-append}
+use Rattle.net_base.specs.declared.timer.Timers.{Timers}
 use Rattle.net_base.specs.declared.world.HostSpec.{HostSpec}
 use Rattle.net_base.specs.declared.world.MediumSpec.{MediumSpec}
 use Rattle.net_base.specs.declared.world.Script.{Script}
 use Rattle.net_base.specs.declared.world.Step.{Step}
 use Rattle.net_base.specs.World.{is_script, is_step}
-use Rattle.world_text.specs.declared.line.LineCause.{LineCause}
 use Rattle.world_text.specs.declared.line.LineCause.TheVariants as cause
-use Rattle.world_text.specs.WorldLines.{Draft, at_last, empty_script, has_host, host_number, is_before, is_host_named, script_cause, step_cause, with_step}
+use Rattle.world_text.specs.WorldLines.{Draft, at_last, empty_script, has_host, is_before, is_host_named, script_cause, step_cause, with_step}
 use Rattle.world_text.specs.WorldSpelling.{ScriptText, host_names, place_of, script_said}
 use Rattle.world_text.proofs.WorldLists.{all-parts, any-map, at_last-push, place-map, place-there, true-of-not}
 use Rattle.world_text.proofs.WorldMedia.{passes, room-from, room-is, unrefused}
@@ -40,11 +40,12 @@ abbrev pub script_group : List ScriptText → ℕ
 script_group [] = 5
 script_group (s ∷ texts) = 6
 
-abbrev pub script_draft : ℕ → ℕ → List MediumSpec → List (List ℕ) → List HostSpec → List ScriptText → Draft
-script_draft e s media rated hosts texts = record {
+abbrev pub script_draft : Timers → ℕ → ℕ → List MediumSpec → List (List ℕ) → List HostSpec → List ScriptText → Draft
+script_draft kind e s media rated hosts texts = record {
   group = script_group texts;
   end = e;
   seed = s;
+  timers = kind;
   media = media;
   rated = rated;
   hosts = hosts;
@@ -55,8 +56,8 @@ group-pushed : (texts : List ScriptText) (t : ScriptText) → script_group (text
 group-pushed [] t = refl
 group-pushed (u ∷ texts) t = refl
 
-abbrev draft_with : ℕ → ℕ → ℕ → List MediumSpec → List (List ℕ) → List HostSpec → List Script → Draft
-draft_with g e s media rated hosts scripts = record { group = g; end = e; seed = s; media = media; rated = rated; hosts = hosts; scripts = scripts }
+abbrev draft_with : ℕ → Timers → ℕ → ℕ → List MediumSpec → List (List ℕ) → List HostSpec → List Script → Draft
+draft_with g kind e s media rated hosts scripts = record { group = g; end = e; seed = s; timers = kind; media = media; rated = rated; hosts = hosts; scripts = scripts }
 
 abbrev pub empty_text : List ℕ → ScriptText
 empty_text called = record { host = called; steps = [] }
@@ -71,23 +72,23 @@ same-host : (hosts : List HostSpec) (called : List ℕ) → host_in hosts called
 same-host hosts called = sym (place-map (bytes_eq called) (λ (h : HostSpec). h.name) hosts)
 
 -- a script behind the others
-pub script-after : (e s : ℕ) (media : List MediumSpec) (rated : List (List ℕ)) (hosts : List HostSpec) (texts : List ScriptText) (called : List ℕ)
-    → draft_with 6 e s media rated hosts (scripts_said (host_names hosts) texts ++ empty_script (host_in hosts called) ∷ []) ≡ script_draft e s media rated hosts (texts ++ empty_text called ∷ [])
-script-after e s media rated hosts texts called =
+pub script-after : (kind : Timers) (e s : ℕ) (media : List MediumSpec) (rated : List (List ℕ)) (hosts : List HostSpec) (texts : List ScriptText) (called : List ℕ)
+    → draft_with 6 kind e s media rated hosts (scripts_said (host_names hosts) texts ++ empty_script (host_in hosts called) ∷ []) ≡ script_draft kind e s media rated hosts (texts ++ empty_text called ∷ [])
+script-after kind e s media rated hosts texts called =
     let ns : List (List ℕ) = host_names hosts in
-    ap (λ n. draft_with 6 e s media rated hosts (scripts_said ns texts ++ empty_script n ∷ [])) (same-host hosts called)
-    ∙ (ap (draft_with 6 e s media rated hosts) (sym (map-append (script_said ns) texts (empty_text called ∷ [])))
-    ∙ ap (λ g. draft_with g e s media rated hosts (scripts_said ns (texts ++ empty_text called ∷ []))) (sym (group-pushed texts (empty_text called))))
+    ap (λ n. draft_with 6 kind e s media rated hosts (scripts_said ns texts ++ empty_script n ∷ [])) (same-host hosts called)
+    ∙ (ap (draft_with 6 kind e s media rated hosts) (sym (map-append (script_said ns) texts (empty_text called ∷ [])))
+    ∙ ap (λ g. draft_with g kind e s media rated hosts (scripts_said ns (texts ++ empty_text called ∷ []))) (sym (group-pushed texts (empty_text called))))
 
 -- a step of the last script
-pub step-after : (e s : ℕ) (media : List MediumSpec) (rated : List (List ℕ)) (hosts : List HostSpec) (front : List ScriptText) (t : ScriptText) (x : Step)
-    → draft_with (script_group (front ++ t ∷ [])) e s media rated hosts (at_last (with_step x) (scripts_said (host_names hosts) (front ++ t ∷ []))) ≡ script_draft e s media rated hosts (front ++ with_one t x ∷ [])
-step-after e s media rated hosts front t x =
+pub step-after : (kind : Timers) (e s : ℕ) (media : List MediumSpec) (rated : List (List ℕ)) (hosts : List HostSpec) (front : List ScriptText) (t : ScriptText) (x : Step)
+    → draft_with (script_group (front ++ t ∷ [])) kind e s media rated hosts (at_last (with_step x) (scripts_said (host_names hosts) (front ++ t ∷ []))) ≡ script_draft kind e s media rated hosts (front ++ with_one t x ∷ [])
+step-after kind e s media rated hosts front t x =
     let ns : List (List ℕ) = host_names hosts in
-    ap (λ ss. draft_with (script_group (front ++ t ∷ [])) e s media rated hosts (at_last (with_step x) ss)) (map-append (script_said ns) front (t ∷ []))
-    ∙ (ap (draft_with (script_group (front ++ t ∷ [])) e s media rated hosts)
+    ap (λ ss. draft_with (script_group (front ++ t ∷ [])) kind e s media rated hosts (at_last (with_step x) ss)) (map-append (script_said ns) front (t ∷ []))
+    ∙ (ap (draft_with (script_group (front ++ t ∷ [])) kind e s media rated hosts)
     (at_last-push (with_step x) (scripts_said ns front) (script_said ns t) ∙ sym (map-append (script_said ns) front (with_one t x ∷ [])))
-    ∙ ap (λ g. draft_with g e s media rated hosts (scripts_said ns (front ++ with_one t x ∷ []))) (group-pushed front t ∙ sym (group-pushed front (with_one t x))))
+    ∙ ap (λ g. draft_with g kind e s media rated hosts (scripts_said ns (front ++ with_one t x ∷ []))) (group-pushed front t ∙ sym (group-pushed front (with_one t x))))
 
 -- Tests.
 

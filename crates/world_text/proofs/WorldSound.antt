@@ -1,35 +1,32 @@
 -- What is read spells the world.
-use Rattle.std.proofs.Common.{◌≡◌, ℕ, ◌+◌, ◌≤◌, ◌<◌, ◌==◌, ◌⊎◌, inl, inr, suc, zero, Bool, true, false, ◌&&◌, cond, List, [], ◌∷◌, ◌++◌, length, map, get_or, refl, sym, ap, subst, ◌∙◌, arith, Option, Some, None, Ok, Err, Result, append-nil, append_assoc}
-use Rattle.std.specs.Prelude.{codes, is_none}
+use Rattle.std.proofs.Common.{◌≡◌, ℕ, ◌+◌, ◌==◌, ◌⊎◌, inl, inr, suc, zero, true, false, ◌&&◌, cond, List, [], ◌∷◌, ◌++◌, map, refl, sym, ap, subst, ◌∙◌, arith, Option, Some, None, Ok, Err, Result, append-nil, append_assoc}
 use Rattle.std.specs.List.{All, filter, list_all}
-use Rattle.std.proofs.lemmas.Bool.{and_parts, false≢true}
+use Rattle.std.proofs.lemmas.Bool.{false≢true}
 use Rattle.std.proofs.lemmas.List.{map-append}
 use Rattle.std.proofs.lemmas.List.Elements.{filter-append}
+use Rattle.net_base.specs.declared.timer.Timers.{Timers}
+use Rattle.net_base.specs.declared.world.Version.{Version}
 use Rattle.net_base.specs.declared.world.World.{World}
-use Rattle.net_base.specs.NdbBundle.{bad_line, database, reading}
 use Rattle.net_base.specs.NdbText.{lines_of}
-use Rattle.net_base.specs.World.{IsDatabase, IsWorld, is_byte}
-use Rattle.world_text.specs.declared.line.LineCause.{LineCause}
+use Rattle.net_base.specs.World.{IsWorld, is_byte}
 use Rattle.world_text.specs.declared.line.MediumLine.{MediumLine}
 use Rattle.world_text.specs.declared.line.WorldLine.{WorldLine}
 use Rattle.world_text.specs.declared.line.WorldLine.TheVariants as line
 use Rattle.world_text.specs.LineCauses.{number_of}
 use Rattle.world_text.specs.LineReading.{read_line}
+use Rattle.world_text.specs.VersionLines.{bad_version_line, versions_in}
 use Rattle.world_text.specs.WorldLines.{Bad, Begins, Draft, Goes, Verdict, after, good_line, line_cause, line_verdict, ndb_cause, opening_draft, world_of}
 use Rattle.world_text.specs.WorldRefusal.{Leads}
-use Rattle.world_text.specs.WorldSpelling.{EachBehind, HostText, IsHeaded, IsReached, IsWorldText, ScriptText, host_names, host_said, is_line, laid, lines_said, media_said, medium_names, script_said, speaks, spelling}
-use Rattle.world_text.specs.WorldText.{Cut, cuts_of, judged, missing, reading_from, with_database, world_reading}
+use Rattle.world_text.specs.WorldSpelling.{EachBehind, HostText, IsHeaded, IsReached, IsWorldText, ScriptText, is_line, media_said, medium_names, speaks, spelling}
+use Rattle.world_text.specs.WorldText.{Cut, cuts_of, judged, missing, reading_from, with_versions, world_reading}
 use Rattle.world_text.proofs.LineBack.{loud}
 use Rattle.world_text.proofs.LineSpelled.{spelled}
+use Rattle.world_text.proofs.VersionTexts.{versions-databases, versions-say, versions-timed}
 use Rattle.world_text.proofs.WorldMedia.{media_group}
-use Rattle.world_text.proofs.WorldHosts.{EachFine, FineHost, FineHosts}
-use Rattle.world_text.proofs.WorldLed.{begun}
+use Rattle.world_text.proofs.WorldHosts.{EachFine}
 use Rattle.world_text.proofs.WorldScripts.{script_draft}
-use Rattle.world_text.proofs.WorldStands.{AtEnd, AtFirst, AtRest, Complete, IsReady, So, Stands, complete, some-scripts, so-more, stands_draft}
-use Rattle.world_text.proofs.WorldTexts.{Ends, First, Good, Passed, Refused, Shape, View, bad-goes, begins-goes, bytes-behind, ends, headed, last-parts, leads-more, same-goes, shape, view}
-use Rattle.net_base.specs.declared.world.MediumSpec.{MediumSpec}
-use Rattle.net_base.specs.declared.world.HostSpec.{HostSpec}
-use Rattle.net_base.specs.declared.ndb.NdbPair.{NdbPair}
+use Rattle.world_text.proofs.WorldStands.{AtEnd, AtFirst, AtRest, Complete, So, complete, some-scripts, so-more, stands_draft}
+use Rattle.world_text.proofs.WorldTexts.{Ends, First, Good, Passed, Refused, Shape, View, bad-goes, begins-goes, bytes-behind, ends, headed, last-parts, same-goes, shape, view}
 use Rattle.world_text.specs.WorldSpelling.{rated_name}
 use Rattle.world_text.proofs.WorldHosts.{saids}
 use Rattle.std.specs.Prelude.{filter_map}
@@ -60,15 +57,15 @@ media-behind : (media : List MediumLine) → (media_group media == 0) ≡ false
 media-behind [] = refl
 media-behind (x ∷ media) = refl
 
-group-behind : (e s : ℕ) (media : List MediumLine) (hosts : List HostText) (scripts : List ScriptText) → ((stands_draft e s media hosts scripts).group == 0) ≡ false
-group-behind e s media [] [] = media-behind media
-group-behind e s media (h ∷ hosts) [] = refl
-group-behind e s media hosts (t ∷ scripts) = refl
+group-behind : (kind : Timers) (e s : ℕ) (media : List MediumLine) (hosts : List HostText) (scripts : List ScriptText) → ((stands_draft kind e s media hosts scripts).group == 0) ≡ false
+group-behind kind e s media [] [] = media-behind media
+group-behind kind e s media (h ∷ hosts) [] = refl
+group-behind kind e s media hosts (t ∷ scripts) = refl
 
 so-behind : (ls : List WorldLine) (d : Draft) → So ls d → (d.group == 0) ≡ false
-so-behind ls d (AtFirst lines draft) = ap (λ (f : Draft). f.group == 0) draft
-so-behind ls d (AtEnd m moment lines draft) = ap (λ (f : Draft). f.group == 0) draft
-so-behind ls d (AtRest k) = ap (λ (f : Draft). f.group == 0) k.draft ∙ group-behind k.end_at k.seed_at k.media k.hosts k.scripts
+so-behind ls d (AtFirst kind lines draft) = ap (λ (f : Draft). f.group == 0) draft
+so-behind ls d (AtEnd kind m moment lines draft) = ap (λ (f : Draft). f.group == 0) draft
+so-behind ls d (AtRest k) = ap (λ (f : Draft). f.group == 0) k.draft ∙ group-behind k.kind_at k.end_at k.seed_at k.media k.hosts k.scripts
 
 loud-pushed : (head : List (List ℕ)) (text : List ℕ) (ls : List WorldLine) (l : WorldLine) → filter speaks head ≡ map spelling ls → text ≡ spelling l → speaks text ≡ true
     → filter speaks (head ++ text ∷ []) ≡ map spelling (ls ++ l ∷ [])
@@ -95,7 +92,7 @@ read-more head d next text r e = by (view d text) r.stage
 
     made : (l : WorldLine) → good_line d l ≡ Goes next → after d l ≡ next
     made line.Ndb f = absurd (begins-goes (world_of d) next f)
-    made line.Networld f = same-goes (after d line.Networld) next f
+    made (line.Networld kind) f = same-goes (after d (line.Networld kind)) next f
     made (line.End m) f = same-goes (after d (line.End m)) next f
     made (line.Seed n) f = same-goes (after d (line.Seed n)) next f
     made (line.OfMedium l) f = same-goes (after d (line.OfMedium l)) next f
@@ -106,14 +103,14 @@ read-more head d next text r e = by (view d text) r.stage
 
     by : View d text (line_verdict d text) → Stage r.lines d → Read (head ++ text ∷ []) next
     by (Passed quiet is) stage = subst (Read (head ++ text ∷ [])) (same-goes d next (sym is ∙ e)) (record { lines = r.lines; said = quiet-pushed head text quiet ∙ r.said; stage = stage })
-    by (First none named is) (Opening lines draft) =
-        subst (Read (head ++ text ∷ [])) (same-goes (after d line.Networld) next (sym is ∙ e))
+    by (First kind none named is) (Opening lines draft) =
+        subst (Read (head ++ text ∷ [])) (same-goes (after d (line.Networld kind)) next (sym is ∙ e))
         (record {
-          lines = line.Networld ∷ [];
-          said = loud-pushed head text [] line.Networld (r.said ∙ ap (map spelling) lines) named (ap speaks named);
-          stage = Behind (AtFirst refl (ap (λ (f : Draft). after f line.Networld) draft));
+          lines = line.Networld kind ∷ [];
+          said = loud-pushed head text [] (line.Networld kind) (r.said ∙ ap (map spelling) lines) named (ap speaks named);
+          stage = Behind (AtFirst kind refl (ap (λ (f : Draft). after f (line.Networld kind)) draft));
         })
-    by (First none named is) (Behind so) = absurd (false≢true (sym (so-behind r.lines d so) ∙ none))
+    by (First kind none named is) (Behind so) = absurd (false≢true (sym (so-behind r.lines d so) ∙ none))
     by (Good l late is none same) (Opening lines draft) = absurd (false≢true (sym late ∙ ap (λ (f : Draft). f.group == 0) draft))
     by (Good l late is none same) (Behind so) = subst (Read (head ++ text ∷ [])) (made l (sym same ∙ e)) (good l (other l (sym same ∙ e)) is none so)
     by (Refused c is) stage = absurd (bad-goes c next (sym is ∙ e))
@@ -139,8 +136,8 @@ record Found (d : Draft) (text : List ℕ) (w : World) : Type 0 where
   pub leads : Leads d head so_far
   pub begun_so : (so_far.group == 0) ≡ false
   pub good : ndb_cause so_far ≡ None
-  pub fine : bad_line bundle ≡ None
-  pub is : record (world_of so_far) { db = database (lines_of bundle) } ≡ w
+  pub fine : bad_version_line bundle ≡ None
+  pub is : record (world_of so_far) { dbs = versions_in (lines_of bundle) } ≡ w
   pub all : list_all is_byte bundle ≡ true
 
 found-more : (d next : Draft) (text line behind : List ℕ) (w : World) → is_line line ≡ true → text ≡ line ++ (10 ∷ behind) → line_verdict d line ≡ Goes next → Found next behind w → Found d text w
@@ -159,10 +156,10 @@ found-more d next text line behind w whole is goes f = record {
 }
 
 found-last : (d : Draft) (n : ℕ) (text : List ℕ) (c : Cut) (cs : List Cut) (v w : World) → Shape text c cs → list_all is_byte text ≡ true → Ends d c.line v
-    → with_database n v c.behind (bad_line c.behind) ≡ Ok w → Found d text w
-found-last d n text c cs v w s all end e = by (bad_line c.behind) refl e
+    → with_versions n v c.behind (bad_version_line c.behind) ≡ Ok w → Found d text w
+found-last d n text c cs v w s all end e = by (bad_version_line c.behind) refl e
   where
-    by : (o : Option (ℕ × ℕ)) → bad_line c.behind ≡ o → with_database n v c.behind o ≡ Ok w → Found d text w
+    by : (o : Option (ℕ × ℕ)) → bad_version_line c.behind ≡ o → with_versions n v c.behind o ≡ Ok w → Found d text w
     by None fine f =
         record {
           head = [];
@@ -174,8 +171,8 @@ found-last d n text c cs v w s all end e = by (bad_line c.behind) refl e
           begun_so = end.begun;
           good = end.good;
           fine = fine;
-          is = ap (λ (x : World). record x { db = database (lines_of c.behind) }) (sym end.world)
-              ∙ same-ok (record v { db = database (lines_of c.behind) }) w (Ok (record v { db = database (lines_of c.behind) })) refl f;
+          is = ap (λ (x : World). record x { dbs = versions_in (lines_of c.behind) }) (sym end.world)
+              ∙ same-ok (record v { dbs = versions_in (lines_of c.behind) }) w (Ok (record v { dbs = versions_in (lines_of c.behind) })) refl f;
           all = bytes-behind text c cs s all;
         }
     by (Some bad) some f = absurd (err-ok (n + bad.0, bad.1) w f)
@@ -198,30 +195,26 @@ found d n (c ∷ cs) text w cut all e =
     by (Begins v) h f s go = found-last d n text c cs v w s all (ends d c.line v h) f
     by (Bad cause) h f s go = absurd (err-ok (n, number_of cause) w f)
 
--- a database that is read
-pub database-read : (text : List ℕ) → bad_line text ≡ None → reading text ≡ Some (database (lines_of text))
-database-read text good = ap (λ (bad : Option (ℕ × ℕ)). cond (is_none bad) (Some (database (lines_of text))) None) good
-
 all-routes : (ns : List (List ℕ)) (texts : List HostText) → EachBehind (EachFine ns) texts → All (λ (h : HostText). EachBehind (IsReached ns) h.under) texts
 all-routes ns [] each k d lt = absurd (omega (arith, lt))
 all-routes ns (h ∷ texts) each zero d lt = (each [] h texts refl).reached
 all-routes ns (h ∷ texts) each (suc k) d lt =
     all-routes ns texts (λ before x rest e. each (h ∷ before) x rest (ap (λ ts. h ∷ ts) e)) k d (omega (arith, lt))
 
--- the world that these lines say, with this database
-abbrev world_said : ℕ → ℕ → List MediumLine → List HostText → List ScriptText → List (List (List NdbPair)) → World
-world_said e s media hosts scripts db =
-    record (world_of (script_draft e s (media_said media) (filter_map rated_name media) (saids (medium_names (media_said media)) hosts) scripts)) { db = db }
+-- the world that these lines say, with these versions
+abbrev world_said : Timers → ℕ → ℕ → List MediumLine → List HostText → List ScriptText → List Version → World
+world_said kind e s media hosts scripts dbs =
+    record (world_of (script_draft kind e s (media_said media) (filter_map rated_name media) (saids (medium_names (media_said media)) hosts) scripts)) { dbs = dbs }
 
 spells-world : (head : List (List ℕ)) (text bundle : List ℕ) (ls : List WorldLine) (d : Draft) (c : Complete ls d) → IsHeaded text head bundle → list_all is_line head ≡ true → filter speaks head ≡ map spelling ls
-    → bad_line bundle ≡ None → list_all is_byte bundle ≡ true → IsWorldText text (record (world_of d) { db = database (lines_of bundle) })
+    → bad_version_line bundle ≡ None → list_all is_byte bundle ≡ true → IsWorldText text (record (world_of d) { dbs = versions_in (lines_of bundle) })
 spells-world head text bundle ls d c parts whole said fine all =
     let k = c.stands in
-    let db : List (List (List NdbPair)) = database (lines_of bundle) in
-    let is : d ≡ script_draft k.end_at k.seed_at (media_said k.media) (filter_map rated_name k.media) (saids (medium_names (media_said k.media)) k.hosts) k.scripts =
-    k.draft ∙ some-scripts k.end_at k.seed_at k.media k.hosts k.scripts c.hosts_there in
-    let same : record (world_of d) { db = db } ≡ world_said k.end_at k.seed_at k.media k.hosts k.scripts db = ap (λ (f : Draft). record (world_of f) { db = db }) is in
-    let t : IsWorldText text (world_said k.end_at k.seed_at k.media k.hosts k.scripts db) = record {
+    let dbs : List Version = versions_in (lines_of bundle) in
+    let is : d ≡ script_draft k.kind_at k.end_at k.seed_at (media_said k.media) (filter_map rated_name k.media) (saids (medium_names (media_said k.media)) k.hosts) k.scripts =
+    k.draft ∙ some-scripts k.kind_at k.end_at k.seed_at k.media k.hosts k.scripts c.hosts_there in
+    let same : record (world_of d) { dbs = dbs } ≡ world_said k.kind_at k.end_at k.seed_at k.media k.hosts k.scripts dbs = ap (λ (f : Draft). record (world_of f) { dbs = dbs }) is in
+    let t : IsWorldText text (world_said k.kind_at k.end_at k.seed_at k.media k.hosts k.scripts dbs) = record {
       head = head;
       bundle = bundle;
       parts = parts;
@@ -235,9 +228,8 @@ spells-world head text bundle ls d c parts whole said fine all =
       hosts_are = refl;
       routes_in_order = all-routes (medium_names (media_said k.media)) k.hosts k.hosts_fine.each;
       scripts_are = refl;
-      good = fine;
-      read = refl;
-      world = subst IsWorld same (c.is_ready db (bundle, all, database-read bundle fine));
+      versions = versions-say bundle fine;
+      world = subst IsWorld same (c.is_ready dbs (versions-timed bundle fine) (versions-databases bundle all fine));
     } in
     subst (IsWorldText text) (sym same) t
 

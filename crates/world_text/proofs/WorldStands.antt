@@ -1,20 +1,22 @@
 -- What lines lead to is what all of them say, and a world where none is missing.
-use Rattle.std.proofs.Common.{◌≡◌, ℕ, ◌+◌, ◌^◌, ◌<◌, ◌≤◌, ◌==◌, suc, Bool, true, false, not, ◌&&◌, ◌||◌, List, [], ◌∷◌, ◌++◌, length, map, refl, sym, ap, subst, ◌∙◌, arith, Option, Some, None, append-nil, append_assoc, length-append}
-use Rattle.std.specs.Prelude.{⊤, bytes_eq, filter_map, flat_map, is_none, nat_eq, nat_le, nat_lt, if◌then◌else◌}
-use Rattle.std.specs.List.{last_or, list_all, list_any}
+use Rattle.std.proofs.Common.{◌≡◌, ℕ, ◌^◌, ◌≤◌, suc, Bool, true, false, not, ◌||◌, List, [], ◌∷◌, ◌++◌, length, map, refl, sym, ap, subst, ◌∙◌, arith, Some, None, append-nil, append_assoc, length-append}
+use Rattle.std.specs.Prelude.{filter_map, flat_map, is_none, nat_le, nat_lt}
+use Rattle.std.specs.List.{All, list_all, list_any}
 use Rattle.std.proofs.lemmas.Bool.{and_parts, false≢true}
 use Rattle.std.proofs.lemmas.Bool.Decides.{nat_tests}
 use Rattle.std.proofs.lemmas.Grind.{flat_map-append}
 use Rattle.std.proofs.lemmas.List.{map-append}
 use Rattle.std.proofs.lemmas.Option.{none-some}
 use Rattle.net_base.specs.declared.address.Proto.{Proto}
-use Rattle.net_base.specs.declared.ndb.NdbPair.{NdbPair}
+use Rattle.net_base.specs.declared.timer.Timers.{Timers}
 use Rattle.net_base.specs.declared.world.HostSpec.{HostSpec}
 use Rattle.net_base.specs.declared.world.MediumSpec.{MediumSpec}
 use Rattle.net_base.specs.declared.world.Step.{Step}
+use Rattle.net_base.specs.declared.world.Version.{Version}
 use Rattle.net_base.specs.declared.world.World.{World}
 use Rattle.net_base.specs.Routes.{has_ip}
-use Rattle.net_base.specs.World.{IsDatabase, IsWorld, is_host, is_moment, is_name, is_nets, is_script, is_step, is_within}
+use Rattle.net_base.specs.Versions.{are_timed}
+use Rattle.net_base.specs.World.{IsDatabase, IsWorld, is_host, is_moment, is_script, is_within}
 use Rattle.world_text.specs.declared.line.HostLine.{HostLine}
 use Rattle.world_text.specs.declared.line.HostLine.TheVariants as host
 use Rattle.world_text.specs.declared.line.LineCause.{LineCause}
@@ -23,39 +25,40 @@ use Rattle.world_text.specs.declared.line.MediumLine.{MediumLine}
 use Rattle.world_text.specs.declared.line.MediumLine.TheVariants as medium
 use Rattle.world_text.specs.declared.line.WorldLine.{WorldLine}
 use Rattle.world_text.specs.declared.line.WorldLine.TheVariants as line
-use Rattle.world_text.specs.WorldLines.{Draft, after, has_fate, has_host, has_iface_on, has_medium, host_cause, host_line_cause, host_under, is_before, is_host_named, is_past, is_rated, is_under, line_cause, medium_line_cause, medium_number, ndb_cause, opening_draft, range_of, script_cause, world_of}
-use Rattle.world_text.specs.WorldSpelling.{HostText, IsBehindMedium, SaysMedium, ScriptText, host_names, host_said, lines_of_steps, lines_of_text, lines_said, media_said, medium_names, rated_name, script_said}
-use Rattle.world_text.specs.LineFit.{fit_host_line, fit_medium_line, is_fit}
+use Rattle.world_text.specs.WorldLines.{Draft, after, has_host, has_iface_on, has_medium, host_cause, host_line_cause, host_under, is_before, is_host_named, is_past, is_rated, is_under, line_cause, medium_line_cause, medium_number, ndb_cause, script_cause, world_of}
+use Rattle.world_text.specs.WorldSpelling.{HostText, ScriptText, host_names, lines_of_steps, lines_of_text, lines_said, media_said, medium_names, rated_name, script_said}
+use Rattle.world_text.specs.LineFit.{is_fit}
 use Rattle.world_text.proofs.WorldLists.{Ending, Empty, Pushed, ending, or-parts, true-of-not}
-use Rattle.world_text.proofs.WorldMedia.{FineMedia, FitsBehind, count-named, fine-none, media-after, media-fits, media_draft, media_group, names, unrefused}
-use Rattle.world_text.proofs.WorldMediums.{AreMedia, both, media-of-lines}
+use Rattle.world_text.proofs.WorldMedia.{FineMedia, count-named, fine-none, media-after, media-fits, media_draft, media_group, names, unrefused}
+use Rattle.world_text.proofs.WorldMediums.{both, media-of-lines}
 use Rattle.world_text.proofs.WorldHosts.{FineHosts, bare_text, count-said, host-after, host-fits, host_draft, hosts-none, line-after, line-fits, saids, with_line}
-use Rattle.world_text.proofs.WorldHostForms.{AreHosts, hosts-of-lines}
+use Rattle.world_text.proofs.WorldHostForms.{hosts-of-lines}
 use Rattle.world_text.proofs.WorldScripts.{FineScripts, empty_text, script-after, script-fits, script_draft, scripts-none, scripts_said, step-after, step-fits, with_one}
-use Rattle.world_text.proofs.WorldLed.{begun, of_host, of_media, of_script}
+use Rattle.world_text.proofs.WorldLed.{begun, of_media}
 
 -- Lines so far.
 
-abbrev hosts_stand : ℕ → ℕ → List MediumLine → List HostText → Draft
-hosts_stand e s media [] = media_draft e s media
-hosts_stand e s media (h ∷ hosts) = host_draft e s (media_said media) (filter_map rated_name media) (h ∷ hosts)
+abbrev hosts_stand : Timers → ℕ → ℕ → List MediumLine → List HostText → Draft
+hosts_stand kind e s media [] = media_draft kind e s media
+hosts_stand kind e s media (h ∷ hosts) = host_draft kind e s (media_said media) (filter_map rated_name media) (h ∷ hosts)
 
 abbrev pub hosts_of : List MediumLine → List HostText → List HostSpec
 hosts_of media hosts = saids (medium_names (media_said media)) hosts
 
 -- what these lines lead to
-abbrev pub stands_draft : ℕ → ℕ → List MediumLine → List HostText → List ScriptText → Draft
-stands_draft e s media hosts [] = hosts_stand e s media hosts
-stands_draft e s media hosts (t ∷ scripts) = script_draft e s (media_said media) (filter_map rated_name media) (hosts_of media hosts) (t ∷ scripts)
+abbrev pub stands_draft : Timers → ℕ → ℕ → List MediumLine → List HostText → List ScriptText → Draft
+stands_draft kind e s media hosts [] = hosts_stand kind e s media hosts
+stands_draft kind e s media hosts (t ∷ scripts) = script_draft kind e s (media_said media) (filter_map rated_name media) (hosts_of media hosts) (t ∷ scripts)
 
 pub record Stands (ls : List WorldLine) (d : Draft) : Type 0 where
+  pub kind_at : Timers
   pub end_at : ℕ
   pub seed_at : ℕ
   pub media : List MediumLine
   pub hosts : List HostText
   pub scripts : List ScriptText
-  pub lines : ls ≡ lines_said end_at seed_at media hosts scripts
-  pub draft : d ≡ stands_draft end_at seed_at media hosts scripts
+  pub lines : ls ≡ lines_said kind_at end_at seed_at media hosts scripts
+  pub draft : d ≡ stands_draft kind_at end_at seed_at media hosts scripts
   pub moment : is_moment end_at ≡ true
   pub number : is_within 0 18446744073709551615 seed_at ≡ true
   pub media_fine : FineMedia media
@@ -66,8 +69,8 @@ pub record Stands (ls : List WorldLine) (d : Draft) : Type 0 where
 
 -- the lines behind which a world so far stands
 pub data So (ls : List WorldLine) (d : Draft) : Type 0 where
-  AtFirst : ls ≡ line.Networld ∷ [] → d ≡ begun → So ls d
-  AtEnd : (m : ℕ) → is_moment m ≡ true → ls ≡ line.Networld ∷ line.End m ∷ [] → d ≡ record begun { group = 2; end = m } → So ls d
+  AtFirst : (kind : Timers) → ls ≡ line.Networld kind ∷ [] → d ≡ begun kind → So ls d
+  AtEnd : (kind : Timers) (m : ℕ) → is_moment m ≡ true → ls ≡ line.Networld kind ∷ line.End m ∷ [] → d ≡ record (begun kind) { group = 2; end = m } → So ls d
   AtRest : Stands ls d → So ls d
 
 -- Refusals.
@@ -109,114 +112,114 @@ host-there d (host.Start start) e = (unrefused cause.OutOfOrder (is_none (host_u
 -- The first lines.
 
 -- no line but `end` is good behind the first
-first-only : (l : WorldLine) → line_cause begun l ≡ None → (m : ℕ) × (l ≡ line.End m)
-first-only line.Networld e = never cause.OutOfOrder e
-first-only (line.End m) e = (m, refl)
-first-only (line.Seed s) e = never cause.MissingPart e
-first-only (line.OfMedium (medium.Medium called mtu)) e = never cause.MissingPart e
-first-only (line.OfMedium (medium.Rates called loss twice later)) e = never cause.UnknownName e
-first-only (line.OfMedium (medium.Fate called f x)) e = never cause.UnknownName e
-first-only (line.Host called nets) e = never cause.MissingPart e
-first-only (line.OfHost (host.If called ip mask)) e = never cause.UnknownName e
-first-only (line.OfHost (host.Route l)) e = never cause.OutOfOrder e
-first-only (line.OfHost (host.Start n)) e = never cause.OutOfOrder e
-first-only (line.Script called) e = never cause.UnknownName e
-first-only (line.OfScript x) e = never cause.OutOfOrder e
-first-only line.Ndb e = never cause.MissingPart e
+first-only : (kind : Timers) (l : WorldLine) → line_cause (begun kind) l ≡ None → (m : ℕ) × (l ≡ line.End m)
+first-only kind (line.Networld other) e = never cause.OutOfOrder e
+first-only kind (line.End m) e = (m, refl)
+first-only kind (line.Seed s) e = never cause.MissingPart e
+first-only kind (line.OfMedium (medium.Medium called mtu)) e = never cause.MissingPart e
+first-only kind (line.OfMedium (medium.Rates called loss twice later)) e = never cause.UnknownName e
+first-only kind (line.OfMedium (medium.Fate called f x)) e = never cause.UnknownName e
+first-only kind (line.Host called nets) e = never cause.MissingPart e
+first-only kind (line.OfHost (host.If called ip mask)) e = never cause.UnknownName e
+first-only kind (line.OfHost (host.Route l)) e = never cause.OutOfOrder e
+first-only kind (line.OfHost (host.Start n)) e = never cause.OutOfOrder e
+first-only kind (line.Script called) e = never cause.UnknownName e
+first-only kind (line.OfScript x) e = never cause.OutOfOrder e
+first-only kind line.Ndb e = never cause.MissingPart e
 
 -- no line but `seed` is good behind `end`
-second-only : (m : ℕ) (l : WorldLine) → line_cause (record begun { group = 2; end = m }) l ≡ None → (s : ℕ) × (l ≡ line.Seed s)
-second-only m line.Networld e = never cause.OutOfOrder e
-second-only m (line.End n) e = never cause.OutOfOrder e
-second-only m (line.Seed s) e = (s, refl)
-second-only m (line.OfMedium (medium.Medium called mtu)) e = never cause.MissingPart e
-second-only m (line.OfMedium (medium.Rates called loss twice later)) e = never cause.UnknownName e
-second-only m (line.OfMedium (medium.Fate called f x)) e = never cause.UnknownName e
-second-only m (line.Host called nets) e = never cause.MissingPart e
-second-only m (line.OfHost (host.If called ip mask)) e = never cause.UnknownName e
-second-only m (line.OfHost (host.Route l)) e = never cause.OutOfOrder e
-second-only m (line.OfHost (host.Start n)) e = never cause.OutOfOrder e
-second-only m (line.Script called) e = never cause.UnknownName e
-second-only m (line.OfScript x) e = never cause.OutOfOrder e
-second-only m line.Ndb e = never cause.MissingPart e
+second-only : (kind : Timers) (m : ℕ) (l : WorldLine) → line_cause (record (begun kind) { group = 2; end = m }) l ≡ None → (s : ℕ) × (l ≡ line.Seed s)
+second-only kind m (line.Networld other) e = never cause.OutOfOrder e
+second-only kind m (line.End n) e = never cause.OutOfOrder e
+second-only kind m (line.Seed s) e = (s, refl)
+second-only kind m (line.OfMedium (medium.Medium called mtu)) e = never cause.MissingPart e
+second-only kind m (line.OfMedium (medium.Rates called loss twice later)) e = never cause.UnknownName e
+second-only kind m (line.OfMedium (medium.Fate called f x)) e = never cause.UnknownName e
+second-only kind m (line.Host called nets) e = never cause.MissingPart e
+second-only kind m (line.OfHost (host.If called ip mask)) e = never cause.UnknownName e
+second-only kind m (line.OfHost (host.Route l)) e = never cause.OutOfOrder e
+second-only kind m (line.OfHost (host.Start n)) e = never cause.OutOfOrder e
+second-only kind m (line.Script called) e = never cause.UnknownName e
+second-only kind m (line.OfScript x) e = never cause.OutOfOrder e
+second-only kind m line.Ndb e = never cause.MissingPart e
 
 -- Lines of a group.
 
-abbrev first_three : ℕ → ℕ → List WorldLine → List WorldLine
-first_three e s ls = line.Networld ∷ line.End e ∷ line.Seed s ∷ ls
+abbrev first_three : Timers → ℕ → ℕ → List WorldLine → List WorldLine
+first_three kind e s ls = line.Networld kind ∷ line.End e ∷ line.Seed s ∷ ls
 
-lines-media : (e s : ℕ) (media : List MediumLine) (x : MediumLine) → lines_said e s (media ++ x ∷ []) [] [] ≡ lines_said e s media [] [] ++ line.OfMedium x ∷ []
-lines-media e s media x =
-    ap (first_three e s)
+lines-media : (kind : Timers) (e s : ℕ) (media : List MediumLine) (x : MediumLine) → lines_said kind e s (media ++ x ∷ []) [] [] ≡ lines_said kind e s media [] [] ++ line.OfMedium x ∷ []
+lines-media kind e s media x =
+    ap (first_three kind e s)
     (append-nil (of_media (media ++ x ∷ []))
     ∙ (map-append (λ (l : MediumLine). line.OfMedium l) media (x ∷ []) ∙ ap (λ ls. ls ++ line.OfMedium x ∷ []) (sym (append-nil (of_media media)))))
 
-lines-hosts : (e s : ℕ) (media : List MediumLine) (hosts : List HostText) (h : HostText) → lines_said e s media (hosts ++ h ∷ []) [] ≡ lines_said e s media hosts [] ++ lines_of_text h
-lines-hosts e s media hosts h =
-    ap (first_three e s)
+lines-hosts : (kind : Timers) (e s : ℕ) (media : List MediumLine) (hosts : List HostText) (h : HostText) → lines_said kind e s media (hosts ++ h ∷ []) [] ≡ lines_said kind e s media hosts [] ++ lines_of_text h
+lines-hosts kind e s media hosts h =
+    ap (first_three kind e s)
     (ap (λ ls. of_media media ++ ls)
     (append-nil (flat_map lines_of_text (hosts ++ h ∷ []))
     ∙ (flat_map-append lines_of_text hosts (h ∷ [])
     ∙ (ap (λ ls. flat_map lines_of_text hosts ++ ls) (append-nil (lines_of_text h)) ∙ ap (λ ls. ls ++ lines_of_text h) (sym (append-nil (flat_map lines_of_text hosts))))))
     ∙ sym (append_assoc (of_media media) (flat_map lines_of_text hosts ++ []) (lines_of_text h)))
 
-lines-under : (e s : ℕ) (media : List MediumLine) (front : List HostText) (h : HostText) (x : HostLine)
-    → lines_said e s media (front ++ with_line h x ∷ []) [] ≡ lines_said e s media (front ++ h ∷ []) [] ++ line.OfHost x ∷ []
-lines-under e s media front h x =
-    lines-hosts e s media front (with_line h x)
-    ∙ (ap (λ ls. lines_said e s media front [] ++ (line.Host h.name h.nets ∷ ls)) (map-append (λ (l : HostLine). line.OfHost l) h.under (x ∷ []))
-    ∙ (sym (append_assoc (lines_said e s media front []) (lines_of_text h) (line.OfHost x ∷ [])) ∙ ap (λ ls. ls ++ line.OfHost x ∷ []) (sym (lines-hosts e s media front h))))
+lines-under : (kind : Timers) (e s : ℕ) (media : List MediumLine) (front : List HostText) (h : HostText) (x : HostLine)
+    → lines_said kind e s media (front ++ with_line h x ∷ []) [] ≡ lines_said kind e s media (front ++ h ∷ []) [] ++ line.OfHost x ∷ []
+lines-under kind e s media front h x =
+    lines-hosts kind e s media front (with_line h x)
+    ∙ (ap (λ ls. lines_said kind e s media front [] ++ (line.Host h.name h.nets ∷ ls)) (map-append (λ (l : HostLine). line.OfHost l) h.under (x ∷ []))
+    ∙ (sym (append_assoc (lines_said kind e s media front []) (lines_of_text h) (line.OfHost x ∷ [])) ∙ ap (λ ls. ls ++ line.OfHost x ∷ []) (sym (lines-hosts kind e s media front h))))
 
-lines-scripts : (e s : ℕ) (media : List MediumLine) (hosts : List HostText) (scripts : List ScriptText) (t : ScriptText)
-    → lines_said e s media hosts (scripts ++ t ∷ []) ≡ lines_said e s media hosts scripts ++ lines_of_steps t
-lines-scripts e s media hosts scripts t =
-    ap (first_three e s)
+lines-scripts : (kind : Timers) (e s : ℕ) (media : List MediumLine) (hosts : List HostText) (scripts : List ScriptText) (t : ScriptText)
+    → lines_said kind e s media hosts (scripts ++ t ∷ []) ≡ lines_said kind e s media hosts scripts ++ lines_of_steps t
+lines-scripts kind e s media hosts scripts t =
+    ap (first_three kind e s)
     (ap (λ ls. of_media media ++ ls)
     (ap (λ ls. flat_map lines_of_text hosts ++ ls) (flat_map-append lines_of_steps scripts (t ∷ []) ∙ ap (λ ls. flat_map lines_of_steps scripts ++ ls) (append-nil (lines_of_steps t)))
     ∙ sym (append_assoc (flat_map lines_of_text hosts) (flat_map lines_of_steps scripts) (lines_of_steps t)))
     ∙ sym (append_assoc (of_media media) (flat_map lines_of_text hosts ++ flat_map lines_of_steps scripts) (lines_of_steps t)))
 
-lines-steps : (e s : ℕ) (media : List MediumLine) (hosts : List HostText) (front : List ScriptText) (t : ScriptText) (x : Step)
-    → lines_said e s media hosts (front ++ with_one t x ∷ []) ≡ lines_said e s media hosts (front ++ t ∷ []) ++ line.OfScript x ∷ []
-lines-steps e s media hosts front t x =
-    lines-scripts e s media hosts front (with_one t x)
-    ∙ (ap (λ ls. lines_said e s media hosts front ++ (line.Script t.host ∷ ls)) (map-append (λ (y : Step). line.OfScript y) t.steps (x ∷ []))
-    ∙ (sym (append_assoc (lines_said e s media hosts front) (lines_of_steps t) (line.OfScript x ∷ [])) ∙ ap (λ ls. ls ++ line.OfScript x ∷ []) (sym (lines-scripts e s media hosts front t))))
+lines-steps : (kind : Timers) (e s : ℕ) (media : List MediumLine) (hosts : List HostText) (front : List ScriptText) (t : ScriptText) (x : Step)
+    → lines_said kind e s media hosts (front ++ with_one t x ∷ []) ≡ lines_said kind e s media hosts (front ++ t ∷ []) ++ line.OfScript x ∷ []
+lines-steps kind e s media hosts front t x =
+    lines-scripts kind e s media hosts front (with_one t x)
+    ∙ (ap (λ ls. lines_said kind e s media hosts front ++ (line.Script t.host ∷ ls)) (map-append (λ (y : Step). line.OfScript y) t.steps (x ∷ []))
+    ∙ (sym (append_assoc (lines_said kind e s media hosts front) (lines_of_steps t) (line.OfScript x ∷ [])) ∙ ap (λ ls. ls ++ line.OfScript x ∷ []) (sym (lines-scripts kind e s media hosts front t))))
 
 -- Drafts.
 
 some-pushed : {A : Type 0} (xs : List A) (x : A) → 1 ≤ length (xs ++ x ∷ [])
 some-pushed xs x = let len = length-append xs (x ∷ []) in omega (arith, len)
 
-some-hosts : (e s : ℕ) (media : List MediumLine) (hosts : List HostText) → 1 ≤ length hosts → hosts_stand e s media hosts ≡ host_draft e s (media_said media) (filter_map rated_name media) hosts
-some-hosts e s media [] some = absurd (omega (arith, some))
-some-hosts e s media (h ∷ hosts) some = refl
+some-hosts : (kind : Timers) (e s : ℕ) (media : List MediumLine) (hosts : List HostText) → 1 ≤ length hosts → hosts_stand kind e s media hosts ≡ host_draft kind e s (media_said media) (filter_map rated_name media) hosts
+some-hosts kind e s media [] some = absurd (omega (arith, some))
+some-hosts kind e s media (h ∷ hosts) some = refl
 
-some-media : (e s : ℕ) (media : List MediumLine) (hosts : List HostText) → 1 ≤ length media → hosts_stand e s media hosts ≡ host_draft e s (media_said media) (filter_map rated_name media) hosts
-some-media e s [] hosts some = absurd (omega (arith, some))
-some-media e s (x ∷ media) [] some = refl
-some-media e s (x ∷ media) (h ∷ hosts) some = refl
+some-media : (kind : Timers) (e s : ℕ) (media : List MediumLine) (hosts : List HostText) → 1 ≤ length media → hosts_stand kind e s media hosts ≡ host_draft kind e s (media_said media) (filter_map rated_name media) hosts
+some-media kind e s [] hosts some = absurd (omega (arith, some))
+some-media kind e s (x ∷ media) [] some = refl
+some-media kind e s (x ∷ media) (h ∷ hosts) some = refl
 
-pub some-scripts : (e s : ℕ) (media : List MediumLine) (hosts : List HostText) (scripts : List ScriptText) → 1 ≤ length hosts
-    → stands_draft e s media hosts scripts ≡ script_draft e s (media_said media) (filter_map rated_name media) (hosts_of media hosts) scripts
-some-scripts e s media [] scripts some = absurd (omega (arith, some))
-some-scripts e s media (h ∷ hosts) [] some = refl
-some-scripts e s media (h ∷ hosts) (t ∷ scripts) some = refl
+pub some-scripts : (kind : Timers) (e s : ℕ) (media : List MediumLine) (hosts : List HostText) (scripts : List ScriptText) → 1 ≤ length hosts
+    → stands_draft kind e s media hosts scripts ≡ script_draft kind e s (media_said media) (filter_map rated_name media) (hosts_of media hosts) scripts
+some-scripts kind e s media [] scripts some = absurd (omega (arith, some))
+some-scripts kind e s media (h ∷ hosts) [] some = refl
+some-scripts kind e s media (h ∷ hosts) (t ∷ scripts) some = refl
 
-any-scripts : (e s : ℕ) (media : List MediumLine) (hosts : List HostText) (scripts : List ScriptText) → 1 ≤ length scripts
-    → stands_draft e s media hosts scripts ≡ script_draft e s (media_said media) (filter_map rated_name media) (hosts_of media hosts) scripts
-any-scripts e s media hosts [] some = absurd (omega (arith, some))
-any-scripts e s media hosts (t ∷ scripts) some = refl
+any-scripts : (kind : Timers) (e s : ℕ) (media : List MediumLine) (hosts : List HostText) (scripts : List ScriptText) → 1 ≤ length scripts
+    → stands_draft kind e s media hosts scripts ≡ script_draft kind e s (media_said media) (filter_map rated_name media) (hosts_of media hosts) scripts
+any-scripts kind e s media hosts [] some = absurd (omega (arith, some))
+any-scripts kind e s media hosts (t ∷ scripts) some = refl
 
 late-media : (media : List MediumLine) → nat_lt 2 (media_group media) ≡ true
 late-media [] = refl
 late-media (x ∷ media) = refl
 
 -- the group behind the seed
-late : (e s : ℕ) (media : List MediumLine) (hosts : List HostText) (scripts : List ScriptText) → nat_lt 2 (stands_draft e s media hosts scripts).group ≡ true
-late e s media [] [] = late-media media
-late e s media (h ∷ hosts) [] = refl
-late e s media hosts (t ∷ scripts) = refl
+late : (kind : Timers) (e s : ℕ) (media : List MediumLine) (hosts : List HostText) (scripts : List ScriptText) → nat_lt 2 (stands_draft kind e s media hosts scripts).group ≡ true
+late kind e s media [] [] = late-media media
+late kind e s media (h ∷ hosts) [] = refl
+late kind e s media hosts (t ∷ scripts) = refl
 
 later-still : (n : ℕ) → nat_lt 2 n ≡ true → nat_lt 1 n ≡ true
 later-still n e = grind (arith, nat_tests)
@@ -226,22 +229,23 @@ later-still n e = grind (arith, nat_tests)
 with-medium : (ls : List WorldLine) (d : Draft) (x : MediumLine) (k : Stands ls d) → (hosts : List HostText) (scripts : List ScriptText) → k.hosts ≡ hosts → k.scripts ≡ scripts
     → is_fit (line.OfMedium x) ≡ true → line_cause d (line.OfMedium x) ≡ None → Stands (ls ++ line.OfMedium x ∷ []) (after d (line.OfMedium x))
 with-medium ls d x k hosts (t ∷ scripts) eh es fit good =
-    absurd (false≢true (sym (media-early (stands_draft k.end_at k.seed_at k.media k.hosts (t ∷ scripts)) x (ap (λ (f : Draft). medium_line_cause f x) (sym (k.draft ∙ ap (stands_draft k.end_at k.seed_at k.media k.hosts) es)) ∙ good))))
+    absurd (false≢true (sym (media-early (stands_draft k.kind_at k.end_at k.seed_at k.media k.hosts (t ∷ scripts)) x (ap (λ (f : Draft). medium_line_cause f x) (sym (k.draft ∙ ap (stands_draft k.kind_at k.end_at k.seed_at k.media k.hosts) es)) ∙ good))))
 with-medium ls d x k (h ∷ hosts) [] eh es fit good =
-    absurd (false≢true (sym (media-early (stands_draft k.end_at k.seed_at k.media (h ∷ hosts) []) x
-    (ap (λ (f : Draft). medium_line_cause f x) (sym (k.draft ∙ (ap (stands_draft k.end_at k.seed_at k.media k.hosts) es ∙ ap (λ hs. stands_draft k.end_at k.seed_at k.media hs []) eh))) ∙ good))))
+    absurd (false≢true (sym (media-early (stands_draft k.kind_at k.end_at k.seed_at k.media (h ∷ hosts) []) x
+    (ap (λ (f : Draft). medium_line_cause f x) (sym (k.draft ∙ (ap (stands_draft k.kind_at k.end_at k.seed_at k.media k.hosts) es ∙ ap (λ hs. stands_draft k.kind_at k.end_at k.seed_at k.media hs []) eh))) ∙ good))))
 with-medium ls d x k [] [] eh es fit good =
-    let is : d ≡ media_draft k.end_at k.seed_at k.media = k.draft ∙ (ap (stands_draft k.end_at k.seed_at k.media k.hosts) es ∙ ap (λ hs. stands_draft k.end_at k.seed_at k.media hs []) eh) in
-    let f = media-fits k.end_at k.seed_at k.media x k.media_fine fit (ap (λ (g : Draft). medium_line_cause g x) (sym is) ∙ good) in
+    let is : d ≡ media_draft k.kind_at k.end_at k.seed_at k.media = k.draft ∙ (ap (stands_draft k.kind_at k.end_at k.seed_at k.media k.hosts) es ∙ ap (λ hs. stands_draft k.kind_at k.end_at k.seed_at k.media hs []) eh) in
+    let f = media-fits k.kind_at k.end_at k.seed_at k.media x k.media_fine fit (ap (λ (g : Draft). medium_line_cause g x) (sym is) ∙ good) in
     record {
+      kind_at = k.kind_at;
       end_at = k.end_at;
       seed_at = k.seed_at;
       media = k.media ++ x ∷ [];
       hosts = [];
       scripts = [];
-      lines = ap (λ (ms : List WorldLine). ms ++ line.OfMedium x ∷ []) (k.lines ∙ (ap (lines_said k.end_at k.seed_at k.media k.hosts) es ∙ ap (λ hs. lines_said k.end_at k.seed_at k.media hs []) eh))
-          ∙ sym (lines-media k.end_at k.seed_at k.media x);
-      draft = ap (λ (g : Draft). after g (line.OfMedium x)) is ∙ media-after k.end_at k.seed_at k.media x k.media_fine.behind f.behind f.new;
+      lines = ap (λ (ms : List WorldLine). ms ++ line.OfMedium x ∷ []) (k.lines ∙ (ap (lines_said k.kind_at k.end_at k.seed_at k.media k.hosts) es ∙ ap (λ hs. lines_said k.kind_at k.end_at k.seed_at k.media hs []) eh))
+          ∙ sym (lines-media k.kind_at k.end_at k.seed_at k.media x);
+      draft = ap (λ (g : Draft). after g (line.OfMedium x)) is ∙ media-after k.kind_at k.end_at k.seed_at k.media x k.media_fine.behind f.behind f.new;
       moment = k.moment;
       number = k.number;
       media_fine = f.fine;
@@ -252,79 +256,81 @@ with-medium ls d x k [] [] eh es fit good =
     }
 
 -- media stand where a host may
-media-there : (e s : ℕ) (media : List MediumLine) (hosts : List HostText) → (1 ≤ length hosts → 1 ≤ length media) → nat_lt (hosts_stand e s media hosts).group 4 ≡ false → 1 ≤ length media
-media-there e s media (h ∷ hosts) order e4 = order (omega arith)
-media-there e s [] [] order e4 = absurd (false≢true (sym e4))
-media-there e s (x ∷ media) [] order e4 = omega arith
+media-there : (kind : Timers) (e s : ℕ) (media : List MediumLine) (hosts : List HostText) → (1 ≤ length hosts → 1 ≤ length media) → nat_lt (hosts_stand kind e s media hosts).group 4 ≡ false → 1 ≤ length media
+media-there kind e s media (h ∷ hosts) order e4 = order (omega arith)
+media-there kind e s [] [] order e4 = absurd (false≢true (sym e4))
+media-there kind e s (x ∷ media) [] order e4 = omega arith
 
 with-host : (ls : List WorldLine) (d : Draft) (called : List ℕ) (nets : List Proto) (k : Stands ls d) → (scripts : List ScriptText) → k.scripts ≡ scripts
     → is_fit (line.Host called nets) ≡ true → line_cause d (line.Host called nets) ≡ None → Stands (ls ++ line.Host called nets ∷ []) (after d (line.Host called nets))
 with-host ls d called nets k (t ∷ scripts) es fit good =
-    absurd (false≢true (sym (host-early (stands_draft k.end_at k.seed_at k.media k.hosts (t ∷ scripts)) called
-    (ap (λ (f : Draft). host_cause f called) (sym (k.draft ∙ ap (stands_draft k.end_at k.seed_at k.media k.hosts) es)) ∙ good)).0))
+    absurd (false≢true (sym (host-early (stands_draft k.kind_at k.end_at k.seed_at k.media k.hosts (t ∷ scripts)) called
+    (ap (λ (f : Draft). host_cause f called) (sym (k.draft ∙ ap (stands_draft k.kind_at k.end_at k.seed_at k.media k.hosts) es)) ∙ good)).0))
 with-host ls d called nets k [] es fit good =
     let ms : List MediumSpec = media_said k.media in
     let rated : List (List ℕ) = filter_map rated_name k.media in
-    let stand : Draft = hosts_stand k.end_at k.seed_at k.media k.hosts in
-    let first : d ≡ stand = k.draft ∙ ap (stands_draft k.end_at k.seed_at k.media k.hosts) es in
+    let stand : Draft = hosts_stand k.kind_at k.end_at k.seed_at k.media k.hosts in
+    let first : d ≡ stand = k.draft ∙ ap (stands_draft k.kind_at k.end_at k.seed_at k.media k.hosts) es in
     let early = host-early stand called (ap (λ (f : Draft). host_cause f called) (sym first) ∙ good) in
-    let some = media-there k.end_at k.seed_at k.media k.hosts k.hosts_order early.1 in
-    let is : d ≡ host_draft k.end_at k.seed_at ms rated k.hosts = first ∙ some-media k.end_at k.seed_at k.media k.hosts some in
+    let some = media-there k.kind_at k.end_at k.seed_at k.media k.hosts k.hosts_order early.1 in
+    let is : d ≡ host_draft k.kind_at k.end_at k.seed_at ms rated k.hosts = first ∙ some-media k.kind_at k.end_at k.seed_at k.media k.hosts some in
     let more : List HostText = k.hosts ++ bare_text called nets ∷ [] in
     record {
+      kind_at = k.kind_at;
       end_at = k.end_at;
       seed_at = k.seed_at;
       media = k.media;
       hosts = more;
       scripts = [];
-      lines = ap (λ (xs : List WorldLine). xs ++ line.Host called nets ∷ []) (k.lines ∙ ap (lines_said k.end_at k.seed_at k.media k.hosts) es)
-          ∙ sym (lines-hosts k.end_at k.seed_at k.media k.hosts (bare_text called nets));
+      lines = ap (λ (xs : List WorldLine). xs ++ line.Host called nets ∷ []) (k.lines ∙ ap (lines_said k.kind_at k.end_at k.seed_at k.media k.hosts) es)
+          ∙ sym (lines-hosts k.kind_at k.end_at k.seed_at k.media k.hosts (bare_text called nets));
       draft = ap (λ (g : Draft). after g (line.Host called nets)) is
-          ∙ (host-after k.end_at k.seed_at ms rated k.hosts called nets ∙ sym (some-hosts k.end_at k.seed_at k.media more (some-pushed k.hosts (bare_text called nets))));
+          ∙ (host-after k.kind_at k.end_at k.seed_at ms rated k.hosts called nets ∙ sym (some-hosts k.kind_at k.end_at k.seed_at k.media more (some-pushed k.hosts (bare_text called nets))));
       moment = k.moment;
       number = k.number;
       media_fine = k.media_fine;
-      hosts_fine = host-fits k.end_at k.seed_at ms rated k.hosts called nets k.hosts_fine fit (ap (λ (f : Draft). host_cause f called) (sym is) ∙ good);
+      hosts_fine = host-fits k.kind_at k.end_at k.seed_at ms rated k.hosts called nets k.hosts_fine fit (ap (λ (f : Draft). host_cause f called) (sym is) ∙ good);
       scripts_fine = scripts-none (host_names (hosts_of k.media more));
       hosts_order = λ _. some;
       scripts_order = λ some_scripts. absurd (omega (arith, some_scripts));
     }
 
 -- no line stands under a host before there is one
-no-under : (e s : ℕ) (media : List MediumLine) → is_none (host_under (media_draft e s media)) ≡ true
-no-under e s [] = refl
-no-under e s (x ∷ media) = refl
+no-under : (kind : Timers) (e s : ℕ) (media : List MediumLine) → is_none (host_under (media_draft kind e s media)) ≡ true
+no-under kind e s [] = refl
+no-under kind e s (x ∷ media) = refl
 
 with-under : (ls : List WorldLine) (d : Draft) (x : HostLine) (k : Stands ls d) → (scripts : List ScriptText) → k.scripts ≡ scripts → Ending k.hosts
     → is_fit (line.OfHost x) ≡ true → line_cause d (line.OfHost x) ≡ None → Stands (ls ++ line.OfHost x ∷ []) (after d (line.OfHost x))
 with-under ls d x k (t ∷ scripts) es end fit good =
-    let g : Draft = stands_draft k.end_at k.seed_at k.media k.hosts (t ∷ scripts) in
-    absurd (false≢true (sym (host-there g x (ap (λ (f : Draft). host_line_cause f x) (sym (k.draft ∙ ap (stands_draft k.end_at k.seed_at k.media k.hosts) es)) ∙ good))))
+    let g : Draft = stands_draft k.kind_at k.end_at k.seed_at k.media k.hosts (t ∷ scripts) in
+    absurd (false≢true (sym (host-there g x (ap (λ (f : Draft). host_line_cause f x) (sym (k.draft ∙ ap (stands_draft k.kind_at k.end_at k.seed_at k.media k.hosts) es)) ∙ good))))
 with-under ls d x k [] es (Empty none) fit good =
-    let is : d ≡ media_draft k.end_at k.seed_at k.media =
-    k.draft ∙ (ap (stands_draft k.end_at k.seed_at k.media k.hosts) es ∙ ap (λ hs. hosts_stand k.end_at k.seed_at k.media hs) none) in
-    absurd (false≢true (sym (host-there (media_draft k.end_at k.seed_at k.media) x (ap (λ (f : Draft). host_line_cause f x) (sym is) ∙ good)) ∙ no-under k.end_at k.seed_at k.media))
+    let is : d ≡ media_draft k.kind_at k.end_at k.seed_at k.media =
+    k.draft ∙ (ap (stands_draft k.kind_at k.end_at k.seed_at k.media k.hosts) es ∙ ap (λ hs. hosts_stand k.kind_at k.end_at k.seed_at k.media hs) none) in
+    absurd (false≢true (sym (host-there (media_draft k.kind_at k.end_at k.seed_at k.media) x (ap (λ (f : Draft). host_line_cause f x) (sym is) ∙ good)) ∙ no-under k.kind_at k.end_at k.seed_at k.media))
 with-under ls d x k [] es (Pushed front h at) fit good =
     let ms : List MediumSpec = media_said k.media in
     let rated : List (List ℕ) = filter_map rated_name k.media in
-    let is : d ≡ host_draft k.end_at k.seed_at ms rated (front ++ h ∷ []) =
-    k.draft ∙ (ap (stands_draft k.end_at k.seed_at k.media k.hosts) es
-    ∙ (ap (λ hs. hosts_stand k.end_at k.seed_at k.media hs) at ∙ some-hosts k.end_at k.seed_at k.media (front ++ h ∷ []) (some-pushed front h))) in
+    let is : d ≡ host_draft k.kind_at k.end_at k.seed_at ms rated (front ++ h ∷ []) =
+    k.draft ∙ (ap (stands_draft k.kind_at k.end_at k.seed_at k.media k.hosts) es
+    ∙ (ap (λ hs. hosts_stand k.kind_at k.end_at k.seed_at k.media hs) at ∙ some-hosts k.kind_at k.end_at k.seed_at k.media (front ++ h ∷ []) (some-pushed front h))) in
     let more : List HostText = front ++ with_line h x ∷ [] in
     record {
+      kind_at = k.kind_at;
       end_at = k.end_at;
       seed_at = k.seed_at;
       media = k.media;
       hosts = more;
       scripts = [];
-      lines = ap (λ (xs : List WorldLine). xs ++ line.OfHost x ∷ []) (k.lines ∙ (ap (lines_said k.end_at k.seed_at k.media k.hosts) es ∙ ap (λ hs. lines_said k.end_at k.seed_at k.media hs []) at))
-          ∙ sym (lines-under k.end_at k.seed_at k.media front h x);
+      lines = ap (λ (xs : List WorldLine). xs ++ line.OfHost x ∷ []) (k.lines ∙ (ap (lines_said k.kind_at k.end_at k.seed_at k.media k.hosts) es ∙ ap (λ hs. lines_said k.kind_at k.end_at k.seed_at k.media hs []) at))
+          ∙ sym (lines-under k.kind_at k.end_at k.seed_at k.media front h x);
       draft = ap (λ (g : Draft). after g (line.OfHost x)) is
-          ∙ (line-after k.end_at k.seed_at ms rated front h x ∙ sym (some-hosts k.end_at k.seed_at k.media more (some-pushed front (with_line h x))));
+          ∙ (line-after k.kind_at k.end_at k.seed_at ms rated front h x ∙ sym (some-hosts k.kind_at k.end_at k.seed_at k.media more (some-pushed front (with_line h x))));
       moment = k.moment;
       number = k.number;
       media_fine = k.media_fine;
-      hosts_fine = line-fits k.end_at k.seed_at ms rated front h x (subst (FineHosts (medium_names ms)) at k.hosts_fine) fit (ap (λ (f : Draft). host_line_cause f x) (sym is) ∙ good);
+      hosts_fine = line-fits k.kind_at k.end_at k.seed_at ms rated front h x (subst (FineHosts (medium_names ms)) at k.hosts_fine) fit (ap (λ (f : Draft). host_line_cause f x) (sym is) ∙ good);
       scripts_fine = scripts-none (host_names (hosts_of k.media more));
       hosts_order = λ _. k.hosts_order (subst (λ (hs : List HostText). 1 ≤ length hs) (sym at) (some-pushed front h));
       scripts_order = λ some. absurd (omega (arith, some));
@@ -334,10 +340,10 @@ some-any : {A : Type 0} (p : A → Bool) (xs : List A) → list_any p xs ≡ tru
 some-any p [] e = absurd (false≢true e)
 some-any p (x ∷ xs) e = omega arith
 
-pub hosts-are : (e s : ℕ) (media : List MediumLine) (hosts : List HostText) (scripts : List ScriptText) → (stands_draft e s media hosts scripts).hosts ≡ hosts_of media hosts
-hosts-are e s media [] [] = refl
-hosts-are e s media (h ∷ hosts) [] = refl
-hosts-are e s media hosts (t ∷ scripts) = refl
+pub hosts-are : (kind : Timers) (e s : ℕ) (media : List MediumLine) (hosts : List HostText) (scripts : List ScriptText) → (stands_draft kind e s media hosts scripts).hosts ≡ hosts_of media hosts
+hosts-are kind e s media [] [] = refl
+hosts-are kind e s media (h ∷ hosts) [] = refl
+hosts-are kind e s media hosts (t ∷ scripts) = refl
 
 with-script : (ls : List WorldLine) (d : Draft) (called : List ℕ) (k : Stands ls d) → is_fit (line.Script called) ≡ true → line_cause d (line.Script called) ≡ None
     → Stands (ls ++ line.Script called ∷ []) (after d (line.Script called))
@@ -348,56 +354,58 @@ with-script ls d called k fit good =
     let known = true-of-not (has_host called d) (unrefused cause.UnknownName (not (has_host called d)) _ good).0 in
     let some : 1 ≤ length k.hosts =
     let there = some-any (is_host_named called) d.hosts known in
-    let same = ap (λ (xs : List HostSpec). length xs) (ap (λ (f : Draft). f.hosts) k.draft ∙ hosts-are k.end_at k.seed_at k.media k.hosts k.scripts) in
+    let same = ap (λ (xs : List HostSpec). length xs) (ap (λ (f : Draft). f.hosts) k.draft ∙ hosts-are k.kind_at k.end_at k.seed_at k.media k.hosts k.scripts) in
     let count = count-said (medium_names ms) k.hosts in omega (arith, there, same, count) in
-    let is : d ≡ script_draft k.end_at k.seed_at ms rated hs k.scripts = k.draft ∙ some-scripts k.end_at k.seed_at k.media k.hosts k.scripts some in
+    let is : d ≡ script_draft k.kind_at k.end_at k.seed_at ms rated hs k.scripts = k.draft ∙ some-scripts k.kind_at k.end_at k.seed_at k.media k.hosts k.scripts some in
     let more : List ScriptText = k.scripts ++ empty_text called ∷ [] in
     record {
+      kind_at = k.kind_at;
       end_at = k.end_at;
       seed_at = k.seed_at;
       media = k.media;
       hosts = k.hosts;
       scripts = more;
-      lines = ap (λ (xs : List WorldLine). xs ++ line.Script called ∷ []) k.lines ∙ sym (lines-scripts k.end_at k.seed_at k.media k.hosts k.scripts (empty_text called));
+      lines = ap (λ (xs : List WorldLine). xs ++ line.Script called ∷ []) k.lines ∙ sym (lines-scripts k.kind_at k.end_at k.seed_at k.media k.hosts k.scripts (empty_text called));
       draft = ap (λ (g : Draft). after g (line.Script called)) is
-          ∙ (script-after k.end_at k.seed_at ms rated hs k.scripts called ∙ sym (any-scripts k.end_at k.seed_at k.media k.hosts more (some-pushed k.scripts (empty_text called))));
+          ∙ (script-after k.kind_at k.end_at k.seed_at ms rated hs k.scripts called ∙ sym (any-scripts k.kind_at k.end_at k.seed_at k.media k.hosts more (some-pushed k.scripts (empty_text called))));
       moment = k.moment;
       number = k.number;
       media_fine = k.media_fine;
       hosts_fine = k.hosts_fine;
-      scripts_fine = script-fits (script_draft k.end_at k.seed_at ms rated hs k.scripts) k.scripts called refl k.scripts_fine (ap (λ (f : Draft). script_cause f called) (sym is) ∙ good);
+      scripts_fine = script-fits (script_draft k.kind_at k.end_at k.seed_at ms rated hs k.scripts) k.scripts called refl k.scripts_fine (ap (λ (f : Draft). script_cause f called) (sym is) ∙ good);
       hosts_order = k.hosts_order;
       scripts_order = λ _. some;
     }
 
 -- no step stands under a script before there is one
-no-steps : (e s : ℕ) (media : List MediumLine) (hosts : List HostText) → nat_lt (hosts_stand e s media hosts).group 6 ≡ true
-no-steps e s [] [] = refl
-no-steps e s (x ∷ media) [] = refl
-no-steps e s media (h ∷ hosts) = refl
+no-steps : (kind : Timers) (e s : ℕ) (media : List MediumLine) (hosts : List HostText) → nat_lt (hosts_stand kind e s media hosts).group 6 ≡ true
+no-steps kind e s [] [] = refl
+no-steps kind e s (x ∷ media) [] = refl
+no-steps kind e s media (h ∷ hosts) = refl
 
 with-step : (ls : List WorldLine) (d : Draft) (x : Step) (k : Stands ls d) → Ending k.scripts → is_fit (line.OfScript x) ≡ true → line_cause d (line.OfScript x) ≡ None
     → Stands (ls ++ line.OfScript x ∷ []) (after d (line.OfScript x))
 with-step ls d x k (Empty none) fit good =
-    let is : d ≡ hosts_stand k.end_at k.seed_at k.media k.hosts = k.draft ∙ ap (stands_draft k.end_at k.seed_at k.media k.hosts) none in
-    absurd (false≢true (sym (unrefused cause.OutOfOrder (is_before 6 d) None good).0 ∙ (ap (λ (f : Draft). nat_lt f.group 6) is ∙ no-steps k.end_at k.seed_at k.media k.hosts)))
+    let is : d ≡ hosts_stand k.kind_at k.end_at k.seed_at k.media k.hosts = k.draft ∙ ap (stands_draft k.kind_at k.end_at k.seed_at k.media k.hosts) none in
+    absurd (false≢true (sym (unrefused cause.OutOfOrder (is_before 6 d) None good).0 ∙ (ap (λ (f : Draft). nat_lt f.group 6) is ∙ no-steps k.kind_at k.end_at k.seed_at k.media k.hosts)))
 with-step ls d x k (Pushed front t at) fit good =
     let ms : List MediumSpec = media_said k.media in
     let rated : List (List ℕ) = filter_map rated_name k.media in
     let hs : List HostSpec = hosts_of k.media k.hosts in
-    let is : d ≡ script_draft k.end_at k.seed_at ms rated hs (front ++ t ∷ []) =
-    k.draft ∙ (ap (stands_draft k.end_at k.seed_at k.media k.hosts) at ∙ any-scripts k.end_at k.seed_at k.media k.hosts (front ++ t ∷ []) (some-pushed front t)) in
+    let is : d ≡ script_draft k.kind_at k.end_at k.seed_at ms rated hs (front ++ t ∷ []) =
+    k.draft ∙ (ap (stands_draft k.kind_at k.end_at k.seed_at k.media k.hosts) at ∙ any-scripts k.kind_at k.end_at k.seed_at k.media k.hosts (front ++ t ∷ []) (some-pushed front t)) in
     let more : List ScriptText = front ++ with_one t x ∷ [] in
     record {
+      kind_at = k.kind_at;
       end_at = k.end_at;
       seed_at = k.seed_at;
       media = k.media;
       hosts = k.hosts;
       scripts = more;
-      lines = ap (λ (xs : List WorldLine). xs ++ line.OfScript x ∷ []) (k.lines ∙ ap (lines_said k.end_at k.seed_at k.media k.hosts) at)
-          ∙ sym (lines-steps k.end_at k.seed_at k.media k.hosts front t x);
+      lines = ap (λ (xs : List WorldLine). xs ++ line.OfScript x ∷ []) (k.lines ∙ ap (lines_said k.kind_at k.end_at k.seed_at k.media k.hosts) at)
+          ∙ sym (lines-steps k.kind_at k.end_at k.seed_at k.media k.hosts front t x);
       draft = ap (λ (g : Draft). after g (line.OfScript x)) is
-          ∙ (step-after k.end_at k.seed_at ms rated hs front t x ∙ sym (any-scripts k.end_at k.seed_at k.media k.hosts more (some-pushed front (with_one t x))));
+          ∙ (step-after k.kind_at k.end_at k.seed_at ms rated hs front t x ∙ sym (any-scripts k.kind_at k.end_at k.seed_at k.media k.hosts more (some-pushed front (with_one t x))));
       moment = k.moment;
       number = k.number;
       media_fine = k.media_fine;
@@ -408,11 +416,11 @@ with-step ls d x k (Pushed front t at) fit good =
     }
 
 group-late : (ls : List WorldLine) (d : Draft) (k : Stands ls d) → nat_lt 2 d.group ≡ true
-group-late ls d k = ap (λ (f : Draft). nat_lt 2 f.group) k.draft ∙ late k.end_at k.seed_at k.media k.hosts k.scripts
+group-late ls d k = ap (λ (f : Draft). nat_lt 2 f.group) k.draft ∙ late k.kind_at k.end_at k.seed_at k.media k.hosts k.scripts
 
 -- a line that isn't bad, behind the seed
 stands-more : (ls : List WorldLine) (d : Draft) (l : WorldLine) → (l ≡ line.Ndb → ⊥) → Stands ls d → is_fit l ≡ true → line_cause d l ≡ None → Stands (ls ++ l ∷ []) (after d l)
-stands-more ls d line.Networld other k fit good = never cause.OutOfOrder good
+stands-more ls d (line.Networld kind) other k fit good = never cause.OutOfOrder good
 stands-more ls d (line.End m) other k fit good =
     absurd (false≢true (sym (unrefused cause.OutOfOrder (is_past 1 d) None good).0 ∙ later-still d.group (group-late ls d k)))
 stands-more ls d (line.Seed s) other k fit good = absurd (false≢true (sym (unrefused cause.OutOfOrder (is_past 2 d) _ good).0 ∙ group-late ls d k))
@@ -424,20 +432,21 @@ stands-more ls d (line.OfScript x) other k fit good = with-step ls d x k (ending
 stands-more ls d line.Ndb other k fit good = absurd (other refl)
 
 pub so-more : (ls : List WorldLine) (d : Draft) (l : WorldLine) → (l ≡ line.Ndb → ⊥) → So ls d → is_fit l ≡ true → line_cause d l ≡ None → So (ls ++ l ∷ []) (after d l)
-so-more ls d l other (AtFirst lines draft) fit good =
-    let f = first-only l (ap (λ (g : Draft). line_cause g l) (sym draft) ∙ good) in
-    AtEnd f.0 (ap is_fit (sym f.1) ∙ fit) (ap (λ (xs : List WorldLine). xs ++ l ∷ []) lines ∙ ap (λ (x : WorldLine). line.Networld ∷ x ∷ []) f.1)
-    (ap (λ (g : Draft). after g l) draft ∙ ap (after begun) f.1)
-so-more ls d l other (AtEnd m moment lines draft) fit good =
-    let f = second-only m l (ap (λ (g : Draft). line_cause g l) (sym draft) ∙ good) in
+so-more ls d l other (AtFirst kind lines draft) fit good =
+    let f = first-only kind l (ap (λ (g : Draft). line_cause g l) (sym draft) ∙ good) in
+    AtEnd kind f.0 (ap is_fit (sym f.1) ∙ fit) (ap (λ (xs : List WorldLine). xs ++ l ∷ []) lines ∙ ap (λ (x : WorldLine). line.Networld kind ∷ x ∷ []) f.1)
+    (ap (λ (g : Draft). after g l) draft ∙ ap (after (begun kind)) f.1)
+so-more ls d l other (AtEnd kind m moment lines draft) fit good =
+    let f = second-only kind m l (ap (λ (g : Draft). line_cause g l) (sym draft) ∙ good) in
     AtRest (record {
+      kind_at = kind;
       end_at = m;
       seed_at = f.0;
       media = [];
       hosts = [];
       scripts = [];
-      lines = ap (λ (xs : List WorldLine). xs ++ l ∷ []) lines ∙ ap (λ (x : WorldLine). line.Networld ∷ line.End m ∷ x ∷ []) f.1;
-      draft = ap (λ (g : Draft). after g l) draft ∙ ap (after (record begun { group = 2; end = m })) f.1;
+      lines = ap (λ (xs : List WorldLine). xs ++ l ∷ []) lines ∙ ap (λ (x : WorldLine). line.Networld kind ∷ line.End m ∷ x ∷ []) f.1;
+      draft = ap (λ (g : Draft). after g l) draft ∙ ap (after (record (begun kind) { group = 2; end = m })) f.1;
       moment = moment;
       number = ap is_fit (sym f.1) ∙ fit;
       media_fine = fine-none;
@@ -450,16 +459,16 @@ so-more ls d l other (AtRest k) fit good = AtRest (stands-more ls d l other k fi
 
 -- Worlds.
 
--- what is left to say of a world is its database
+-- what is left to say of a world are its databases
 abbrev pub IsReady : World → Type 0
-IsReady w = (db : List (List (List NdbPair))) → IsDatabase db → IsWorld (record w { db = db })
+IsReady w = (dbs : List Version) → are_timed dbs ≡ true → All (λ (v : Version). IsDatabase v.db) dbs → IsWorld (record w { dbs = dbs })
 
 -- hosts stand where the bundle may begin
-hosts-there : (e s : ℕ) (media : List MediumLine) (hosts : List HostText) (scripts : List ScriptText) → (1 ≤ length scripts → 1 ≤ length hosts) → nat_lt (stands_draft e s media hosts scripts).group 5 ≡ false → 1 ≤ length hosts
-hosts-there e s media hosts (t ∷ scripts) order e5 = order (omega arith)
-hosts-there e s media (h ∷ hosts) [] order e5 = omega arith
-hosts-there e s [] [] [] order e5 = absurd (false≢true (sym e5))
-hosts-there e s (x ∷ media) [] [] order e5 = absurd (false≢true (sym e5))
+hosts-there : (kind : Timers) (e s : ℕ) (media : List MediumLine) (hosts : List HostText) (scripts : List ScriptText) → (1 ≤ length scripts → 1 ≤ length hosts) → nat_lt (stands_draft kind e s media hosts scripts).group 5 ≡ false → 1 ≤ length hosts
+hosts-there kind e s media hosts (t ∷ scripts) order e5 = order (omega arith)
+hosts-there kind e s media (h ∷ hosts) [] order e5 = omega arith
+hosts-there kind e s [] [] [] order e5 = absurd (false≢true (sym e5))
+hosts-there kind e s (x ∷ media) [] [] order e5 = absurd (false≢true (sym e5))
 
 -- the first line of the media says one
 some-named : (media : List MediumLine) → FineMedia media → 1 ≤ length media → 1 ≤ length (names media)
@@ -484,8 +493,8 @@ length-map : {A B : Type 0} (f : A → B) (xs : List A) → length (map f xs) �
 length-map f [] = refl
 length-map f (x ∷ xs) = ap (λ n. suc n) (length-map f xs)
 
-ready-whole : (ls : List WorldLine) (d : Draft) (k : Stands ls d) → 1 ≤ length k.hosts → IsReady (world_of (stands_draft k.end_at k.seed_at k.media k.hosts k.scripts))
-ready-whole ls d k some db text =
+ready-whole : (ls : List WorldLine) (d : Draft) (k : Stands ls d) → 1 ≤ length k.hosts → IsReady (world_of (stands_draft k.kind_at k.end_at k.seed_at k.media k.hosts k.scripts))
+ready-whole ls d k some dbs timed databases =
     let ms : List MediumSpec = media_said k.media in
     let hs : List HostSpec = hosts_of k.media k.hosts in
     let media_some = k.hosts_order some in
@@ -500,7 +509,7 @@ ready-whole ls d k some db text =
     let count_hosts = count-said (medium_names ms) k.hosts in
     let count_scripts = length-map (script_said (host_names hs)) k.scripts in
     let few_scripts = k.scripts_fine.few in
-    let w : World = record (world_of (script_draft k.end_at k.seed_at ms (filter_map rated_name k.media) hs k.scripts)) { db = db } in
+    let w : World = record (world_of (script_draft k.kind_at k.end_at k.seed_at ms (filter_map rated_name k.media) hs k.scripts)) { dbs = dbs } in
     let is : IsWorld w = record {
       end = k.moment;
       seed = seed-small k.seed_at k.number;
@@ -513,9 +522,10 @@ ready-whole ls d k some db text =
       hosts_addressed = hosted.addressed;
       few_scripts = le-is (length (scripts_said (host_names hs) k.scripts)) 32 (omega (arith, count_scripts, few_scripts));
       scripts = ap (λ n. list_all (is_script n) (scripts_said (host_names hs) k.scripts)) (sym same_hosts) ∙ k.scripts_fine.fit;
-      database = text;
+      versions_timed = timed;
+      versions = databases;
     } in
-    subst (λ (f : Draft). IsWorld (record (world_of f) { db = db })) (sym (some-scripts k.end_at k.seed_at k.media k.hosts k.scripts some)) is
+    subst (λ (f : Draft). IsWorld (record (world_of f) { dbs = dbs })) (sym (some-scripts k.kind_at k.end_at k.seed_at k.media k.hosts k.scripts some)) is
   where
     le-is : (a b : ℕ) → a ≤ b → nat_le a b ≡ true
     le-is a b h = grind (arith, nat_tests)
@@ -529,10 +539,10 @@ pub record Complete (ls : List WorldLine) (d : Draft) : Type 0 where
 pub complete-stands : (ls : List WorldLine) (d : Draft) (k : Stands ls d) → ndb_cause d ≡ None → Complete ls d
 complete-stands ls d k good =
     let late_so = (unrefused cause.MissingPart (is_before 5 d) None good).0 in
-    let some = hosts-there k.end_at k.seed_at k.media k.hosts k.scripts k.scripts_order (ap (λ (f : Draft). nat_lt f.group 5) (sym k.draft) ∙ late_so) in
+    let some = hosts-there k.kind_at k.end_at k.seed_at k.media k.hosts k.scripts k.scripts_order (ap (λ (f : Draft). nat_lt f.group 5) (sym k.draft) ∙ late_so) in
     record { stands = k; hosts_there = some; is_ready = subst (λ (f : Draft). IsReady (world_of f)) (sym k.draft) (ready-whole ls d k some) }
 
 pub complete : (ls : List WorldLine) (d : Draft) → So ls d → ndb_cause d ≡ None → Complete ls d
-complete ls d (AtFirst lines draft) good = never cause.MissingPart (ap (λ (f : Draft). ndb_cause f) (sym draft) ∙ good)
-complete ls d (AtEnd m moment lines draft) good = never cause.MissingPart (ap (λ (f : Draft). ndb_cause f) (sym draft) ∙ good)
+complete ls d (AtFirst kind lines draft) good = never cause.MissingPart (ap (λ (f : Draft). ndb_cause f) (sym draft) ∙ good)
+complete ls d (AtEnd kind m moment lines draft) good = never cause.MissingPart (ap (λ (f : Draft). ndb_cause f) (sym draft) ∙ good)
 complete ls d (AtRest k) good = complete-stands ls d k good

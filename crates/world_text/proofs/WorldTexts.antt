@@ -1,9 +1,11 @@
 -- A text by its lines, and what any line makes of the world so far.
-use Rattle.std.proofs.Common.{◌≡◌, ℕ, ◌+◌, ◌==◌, ◌⊎◌, inl, inr, Bool, true, false, not, ◌&&◌, ◌||◌, cond, List, [], ◌∷◌, ◌++◌, length, refl, sym, ap, subst, ◌∙◌, arith, Option, Some, None, Result, Ok, Err, append_assoc}
+use Rattle.std.proofs.Common.{◌≡◌, ℕ, ◌+◌, ◌==◌, ◌⊎◌, inl, inr, Bool, true, false, not, ◌||◌, cond, List, [], ◌∷◌, ◌++◌, length, refl, sym, ap, subst, ◌∙◌, arith, Option, Some, None, Result, Ok, Err, append_assoc}
 use Rattle.std.specs.Prelude.{bytes_eq, codes, get_or, if◌then◌else◌}
 use Rattle.std.specs.List.{filter, list_all, list_any}
 use Rattle.std.proofs.lemmas.Bool.{and_parts, eqb-true, false≢true}
 use Rattle.std.proofs.lemmas.List.Folds.{list_all-append}
+use Rattle.net_base.specs.declared.timer.Timers.{Timers}
+use Rattle.net_base.specs.declared.timer.Timers.TheVariants.{Fixed, Measured}
 use Rattle.net_base.specs.declared.world.World.{World}
 use Rattle.net_base.specs.NdbText.{is_hash, is_newline}
 use Rattle.net_base.specs.World.{is_byte}
@@ -14,7 +16,7 @@ use Rattle.world_text.specs.declared.line.WorldLine.TheVariants as line
 use Rattle.world_text.specs.LineReading.{read_line}
 use Rattle.world_text.specs.WorldLines.{Bad, Begins, Draft, Goes, Verdict, after, first_line, good_line, is_passed, judged_line, line_cause, line_verdict, ndb_cause, unless, world_of}
 use Rattle.world_text.specs.WorldRefusal.{Leads}
-use Rattle.world_text.specs.WorldSpelling.{IsHeaded, is_line, laid, speaks}
+use Rattle.world_text.specs.WorldSpelling.{IsHeaded, is_line, laid, line_of_timers, speaks}
 use Rattle.world_text.specs.WorldText.{Cut, cuts_of, judged, reading_from, with_first}
 use Rattle.world_text.proofs.WorldLists.{false-of-not, or-parts, true-of-not}
 use Rattle.world_text.proofs.WorldMedia.{equal}
@@ -142,7 +144,7 @@ reading-lines d e n (line ∷ lines) tail all h =
 -- the kinds of lines, with what comes of each
 pub data View (d : Draft) (text : List ℕ) (v : Verdict) : Type 0 where
   Passed : speaks text ≡ false → v ≡ Goes d → View d text v
-  First : (d.group == 0) ≡ true → text ≡ codes "networld 1" → v ≡ Goes (after d line.Networld) → View d text v
+  First : (kind : Timers) → (d.group == 0) ≡ true → text ≡ line_of_timers kind → v ≡ Goes (after d (line.Networld kind)) → View d text v
   Good : (l : WorldLine) → (d.group == 0) ≡ false → read_line text ≡ Ok l → line_cause d l ≡ None → v ≡ good_line d l → View d text v
   Refused : (c : LineCause) → v ≡ Bad c → View d text v
 
@@ -161,9 +163,14 @@ view d text = by (is_passed text) refl
     read (Ok l) late is = good l (line_cause d l) late is refl
     read (Err c) late is = Refused c refl
 
-    first : (b : Bool) → (d.group == 0) ≡ true → bytes_eq text (codes "networld 1") ≡ b → View d text (if b then Goes (after d line.Networld) else Bad cause.FirstLine)
-    first true none is = First none (equal text (codes "networld 1") is) refl
-    first false none is = Refused cause.FirstLine refl
+    second : (b : Bool) → (d.group == 0) ≡ true → bytes_eq text (codes "networld 2") ≡ b → View d text (if b then Goes (after d (line.Networld Measured)) else Bad cause.FirstLine)
+    second true none is = First Measured none (equal text (codes "networld 2") is) refl
+    second false none is = Refused cause.FirstLine refl
+
+    first : (b : Bool) → (d.group == 0) ≡ true → bytes_eq text (codes "networld 1") ≡ b
+        → View d text (if b then Goes (after d (line.Networld Fixed)) else (if bytes_eq text (codes "networld 2") then Goes (after d (line.Networld Measured)) else Bad cause.FirstLine))
+    first true none is = First Fixed none (equal text (codes "networld 1") is) refl
+    first false none is = second (bytes_eq text (codes "networld 2")) none refl
 
     loud : (b : Bool) → (d.group == 0) ≡ b → View d text (if b then first_line d text else judged_line d (read_line text))
     loud true e = first (bytes_eq text (codes "networld 1")) e refl
@@ -200,7 +207,7 @@ pub record Ends (d : Draft) (text : List ℕ) (w : World) : Type 0 where
 
 ends-at : (d : Draft) (text : List ℕ) (w : World) (l : WorldLine) → (d.group == 0) ≡ false → read_line text ≡ Ok l → line_cause d l ≡ None → good_line d l ≡ Begins w → Ends d text w
 ends-at d text w line.Ndb late is none e = record { is_read = is; begun = late; good = none; world = sym (same-begins (world_of d) w e) }
-ends-at d text w line.Networld late is none e = absurd (goes-begins (after d line.Networld) w e)
+ends-at d text w (line.Networld kind) late is none e = absurd (goes-begins (after d (line.Networld kind)) w e)
 ends-at d text w (line.End m) late is none e = absurd (goes-begins (after d (line.End m)) w e)
 ends-at d text w (line.Seed n) late is none e = absurd (goes-begins (after d (line.Seed n)) w e)
 ends-at d text w (line.OfMedium l) late is none e = absurd (goes-begins (after d (line.OfMedium l)) w e)
@@ -214,7 +221,7 @@ ends d text w e = by (view d text)
   where
     by : View d text (line_verdict d text) → Ends d text w
     by (Passed quiet is) = absurd (goes-begins d w (sym is ∙ e))
-    by (First none named is) = absurd (goes-begins (after d line.Networld) w (sym is ∙ e))
+    by (First kind none named is) = absurd (goes-begins (after d (line.Networld kind)) w (sym is ∙ e))
     by (Good l late is none same) = ends-at d text w l late is none (sym same ∙ e)
     by (Refused c is) = absurd (bad-begins c w (sym is ∙ e))
 
@@ -225,7 +232,7 @@ going _ = true
 
 pub goes-on : (d : Draft) (l : WorldLine) → going l ≡ true → good_line d l ≡ Goes (after d l)
 goes-on d line.Ndb e = absurd (false≢true e)
-goes-on d line.Networld e = refl
+goes-on d (line.Networld kind) e = refl
 goes-on d (line.End m) e = refl
 goes-on d (line.Seed n) e = refl
 goes-on d (line.OfMedium l) e = refl

@@ -1,10 +1,12 @@
 -- Each world has a text: its canonical lines say it.
-use Rattle.std.proofs.Common.{◌≡◌, ℕ, ◌+◌, ◌<◌, ◌≤◌, ◌==◌, inl, suc, zero, Bool, true, false, not, ◌&&◌, ◌||◌, cond, List, [], ◌∷◌, ◌++◌, length, map, get_or, refl, sym, ap, subst, ◌∙◌, arith, Option, Some, None, append-nil, append_assoc}
+use Rattle.std.proofs.Common.{◌≡◌, ℕ, ◌+◌, ◌<◌, ◌==◌, inl, suc, zero, Bool, true, false, not, ◌&&◌, cond, List, [], ◌∷◌, ◌++◌, length, map, get_or, refl, sym, ap, subst, ◌∙◌, arith, Option, None, append-nil, append_assoc}
 use Rattle.std.specs.Prelude.{bit_and, bytes_eq, codes, filter_map, flat_map, nat_le, nat_lt}
-use Rattle.std.specs.List.{All, cons_option, filter, list_all, list_any, position_or_len}
-use Rattle.std.proofs.lemmas.Bool.{and_parts, false≢true, ltb-true}
+use Rattle.std.specs.List.{All, filter, list_all, list_any, position_or_len}
+use Rattle.std.proofs.lemmas.Bool.{and_parts, ltb-true}
 use Rattle.std.proofs.lemmas.List.{map-append}
 use Rattle.std.proofs.lemmas.List.Elements.{filter_map-append}
+use Rattle.net_base.specs.declared.timer.Timers.{Timers}
+use Rattle.net_base.specs.declared.timer.Timers.TheVariants.{Fixed, Measured}
 use Rattle.net_base.specs.declared.world.HostSpec.{HostSpec}
 use Rattle.net_base.specs.declared.world.Iface.{Iface}
 use Rattle.net_base.specs.declared.world.MediumSpec.{MediumSpec}
@@ -12,7 +14,6 @@ use Rattle.net_base.specs.declared.world.RouteLine.{RouteLine}
 use Rattle.net_base.specs.declared.world.Script.{Script}
 use Rattle.net_base.specs.declared.world.Step.{Step}
 use Rattle.net_base.specs.declared.world.World.{World}
-use Rattle.net_base.specs.NdbBundle.{bad_line, database}
 use Rattle.net_base.specs.NdbText.{lines_of}
 use Rattle.net_base.specs.Routes.{iface_routes, matches}
 use Rattle.net_base.specs.World.{IsWorld, all_apart, is_address, is_host, is_iface, is_mask, is_name, is_nets, is_route, is_script, is_step, same_medium}
@@ -21,11 +22,12 @@ use Rattle.world_text.specs.declared.line.HostLine.TheVariants as host
 use Rattle.world_text.specs.declared.line.MediumLine.{MediumLine}
 use Rattle.world_text.specs.declared.line.WorldLine.{WorldLine}
 use Rattle.world_text.specs.declared.line.WorldLine.TheVariants as line
-use Rattle.world_text.specs.WorldLines.{Draft, after, is_near, line_cause, opening_draft}
-use Rattle.world_text.specs.WorldSpelling.{EachBehind, HostText, IsReached, IsWorldText, ScriptText, host_names, host_said, iface_said, is_line, laid, line_of_iface, line_of_route, line_of_start, line_of_step, lines_of_host, lines_of_medium, lines_of_script, lines_of_steps, lines_of_text, lines_of_world, lines_said, medium_names, name_at, place_of, route_said, script_said, speaks, spelling, start_said}
-use Rattle.world_text.specs.LineFit.{is_fit}
+use Rattle.world_text.specs.VersionLines.{bad_version_line, versions_in}
+use Rattle.world_text.specs.WorldLines.{Draft, after, is_near}
+use Rattle.world_text.specs.WorldSpelling.{EachBehind, HostText, IsReached, IsWorldText, SaysVersions, ScriptText, host_names, host_said, iface_said, is_line, laid, line_of_iface, line_of_route, line_of_start, line_of_step, line_of_timers, lines_of_host, lines_of_medium, lines_of_script, lines_of_steps, lines_of_text, lines_of_world, lines_said, medium_names, name_at, place_of, route_said, script_said, speaks, spelling, start_said}
 use Rattle.world_text.proofs.LineBack.{loud, one_line}
-use Rattle.world_text.proofs.WorldLists.{any-at, each-none, each-push, false-of-not, own-bytes, same-bytes, or-parts}
+use Rattle.world_text.proofs.WorldLists.{each-none, each-push, false-of-not, own-bytes, same-bytes, or-parts}
+use Rattle.world_text.proofs.VersionTexts.{versions-say}
 use Rattle.world_text.proofs.WorldMediums.{both}
 use Rattle.world_text.proofs.WorldHosts.{ifaces, routes, starts}
 use Rattle.world_text.proofs.WorldHostForms.{near-matches}
@@ -278,7 +280,7 @@ canon-said w is =
 
 -- they are spelled so
 canon-spelled : (w : World) → IsWorld w
-    → map spelling (lines_said w.end w.seed (media_lines w.media) (map (host_text (medium_names w.media)) w.hosts) (map (script_text (host_names w.hosts)) w.scripts)) ≡ lines_of_world w
+    → map spelling (lines_said w.timers w.end w.seed (media_lines w.media) (map (host_text (medium_names w.media)) w.hosts) (map (script_text (host_names w.hosts)) w.scripts)) ≡ lines_of_world w
 canon-spelled w is =
     let ns : List (List ℕ) = medium_names w.media in
     let hns : List (List ℕ) = host_names w.hosts in
@@ -286,7 +288,7 @@ canon-spelled w is =
     let b : List WorldLine = flat_map lines_of_text (map (host_text ns) w.hosts) in
     let c : List WorldLine = flat_map lines_of_steps (map (script_text hns) w.scripts) in
     let m = canon-media w.media is.media is.media_named in
-    ap (λ ls. codes "networld 1" ∷ spelling (line.End w.end) ∷ spelling (line.Seed w.seed) ∷ ls)
+    ap (λ ls. line_of_timers w.timers ∷ spelling (line.End w.end) ∷ spelling (line.Seed w.seed) ∷ ls)
     (map-append spelling a (b ++ c)
     ∙ (ap (λ ls. ls ++ map spelling (b ++ c)) m.spelled
     ∙ ap (λ ls. flat_map lines_of_medium w.media ++ ls)
@@ -297,22 +299,28 @@ whole-lines : (d e : Draft) (ls : List WorldLine) → Led d ls e → list_all is
 whole-lines d e [] led = refl
 whole-lines d e (l ∷ ls) led = both (is_line (spelling l)) (list_all is_line (map spelling ls)) (one_line l led.0) (whole-lines (after d l) e ls led.2)
 
+first-whole : (kind : Timers) → is_line (spelling (line.Networld kind)) ≡ true
+first-whole Fixed = refl
+first-whole Measured = refl
+
 loud-lines : (ls : List WorldLine) → filter speaks (map spelling ls) ≡ map spelling ls
 loud-lines [] = refl
 loud-lines (l ∷ ls) =
     ap (λ v. cond v (spelling l ∷ filter speaks (map spelling ls)) (filter speaks (map spelling ls))) (loud l) ∙ ap (λ xs. spelling l ∷ xs) (loud-lines ls)
 
-pub written : (w : World) (bundle : List ℕ) → IsWorld w → bad_line bundle ≡ None → w.db ≡ database (lines_of bundle) → IsWorldText (laid (lines_of_world w) ++ (codes "ndb\n" ++ bundle)) w
+pub written : (w : World) (bundle : List ℕ) → IsWorld w → bad_version_line bundle ≡ None → w.dbs ≡ versions_in (lines_of bundle) → IsWorldText (laid (lines_of_world w) ++ (codes "ndb\n" ++ bundle)) w
 written w bundle is fine read =
     let media : List MediumLine = media_lines w.media in
     let hosts : List HostText = map (host_text (medium_names w.media)) w.hosts in
     let scripts : List ScriptText = map (script_text (host_names w.hosts)) w.scripts in
-    let ls : List WorldLine = lines_said w.end w.seed media hosts scripts in
+    let ls : List WorldLine = lines_said w.timers w.end w.seed media hosts scripts in
     let s = canon-said w is in
-    let led = world-lead w.end w.seed media hosts scripts (fine-world w media hosts scripts s) in
+    let led = world-lead w.timers w.end w.seed media hosts scripts (fine-world w media hosts scripts s) in
     let same = canon-spelled w is in
-    let whole : list_all is_line (map spelling ls) ≡ true = whole-lines begun (whole_draft w.end w.seed media hosts scripts)
-    (line.End w.end ∷ line.Seed w.seed ∷ (of_media media ++ (flat_map lines_of_text hosts ++ flat_map lines_of_steps scripts))) led in
+    let rest : List WorldLine = line.End w.end ∷ line.Seed w.seed ∷ (of_media media ++ (flat_map lines_of_text hosts ++ flat_map lines_of_steps scripts)) in
+    let whole : list_all is_line (map spelling ls) ≡ true =
+    both (is_line (spelling (line.Networld w.timers))) (list_all is_line (map spelling rest)) (first-whole w.timers)
+    (whole-lines (begun w.timers) (whole_draft w.timers w.end w.seed media hosts scripts) rest led) in
     record {
       head = lines_of_world w;
       bundle = bundle;
@@ -327,7 +335,6 @@ written w bundle is fine read =
       hosts_are = s.hosts_are;
       routes_in_order = s.routes_in_order;
       scripts_are = s.scripts_are;
-      good = fine;
-      read = read;
+      versions = subst (SaysVersions bundle) (sym read) (versions-say bundle fine);
       world = is;
     }

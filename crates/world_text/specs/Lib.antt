@@ -3,6 +3,7 @@ pub mod LineCauses
 pub mod LineReading
 pub mod LineFit
 pub mod WorldLines
+pub mod VersionLines
 pub mod WorldText
 pub mod WorldSpelling
 pub mod WorldRefusal

@@ -17,3 +17,4 @@ number_of cause.BadMask = 20
 number_of cause.RouteTwice = 21
 number_of cause.FarGateway = 22
 number_of cause.FateClash = 23
+number_of cause.EarlyVersion = 24

@@ -31,7 +31,7 @@ fit_host_line (host.Route l) = is_address l.net && (is_address l.mask && is_addr
 fit_host_line (host.Start start) = is_within 1 4294967295 start
 
 abbrev pub is_fit : WorldLine → Bool
-is_fit line.Networld = true
+is_fit (line.Networld kind) = true
 is_fit (line.End moment) = is_moment moment
 is_fit (line.Seed seed) = is_within 0 18446744073709551615 seed
 is_fit (line.OfMedium l) = fit_medium_line l

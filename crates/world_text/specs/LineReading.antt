@@ -5,6 +5,8 @@
 use Rattle.std.specs.Prelude.{ℕ, ◌&&◌, List, [], ◌∷◌, codes, bytes_eq, Option, Some, None, Result, Ok, Err, nat_le, option_map, if◌then◌else◌}
 use Rattle.std.specs.Option.{option_and_then}
 use Rattle.net_base.specs.declared.names.Mode.{Mode}
+use Rattle.net_base.specs.declared.timer.Timers.{Timers}
+use Rattle.net_base.specs.declared.timer.Timers.TheVariants as timers
 use Rattle.net_base.specs.declared.world.Fate.{Fate}
 use Rattle.net_base.specs.declared.world.Fate.TheVariants as fate
 use Rattle.net_base.specs.declared.world.Step.{Step}
@@ -13,11 +15,9 @@ use Rattle.net_base.specs.Addresses.{parts_at}
 use Rattle.net_base.specs.World.{is_name, is_nets, is_step}
 use Rattle.world_text.specs.declared.line.Frames.{Frames}
 use Rattle.world_text.specs.declared.line.Frames.TheVariants as frames
-use Rattle.world_text.specs.declared.line.HostLine.{HostLine}
 use Rattle.world_text.specs.declared.line.HostLine.TheVariants as host
 use Rattle.world_text.specs.declared.line.LineCause.{LineCause}
 use Rattle.world_text.specs.declared.line.LineCause.TheVariants as cause
-use Rattle.world_text.specs.declared.line.MediumLine.{MediumLine}
 use Rattle.world_text.specs.declared.line.MediumLine.TheVariants as medium
 use Rattle.world_text.specs.declared.line.WorldLine.{WorldLine}
 use Rattle.world_text.specs.declared.line.WorldLine.TheVariants as line
@@ -29,8 +29,15 @@ named word read = if is_name word then read else None
 
 -- The first lines.
 
+-- the kind of timers that a number names
+abbrev pub timers_named : List ℕ → Option Timers
+timers_named word =
+    if bytes_eq word (codes "1") then Some timers.Fixed
+    else (if bytes_eq word (codes "2") then Some timers.Measured
+    else None)
+
 abbrev pub networld_of : List (List ℕ) → Option WorldLine
-networld_of args = option_and_then (λ version. if bytes_eq version (codes "1") then Some line.Networld else None) (one args)
+networld_of args = option_map (λ (kind : Timers). line.Networld kind) (option_and_then timers_named (one args))
 
 abbrev pub end_of : List (List ℕ) → Option WorldLine
 end_of args = option_map (λ moment. line.End moment) (option_and_then (number_in 1 1000000000) (one args))
@@ -161,16 +168,22 @@ abbrev pub of_two : (List ℕ → List ℕ → Step) → List (List ℕ) → Opt
 of_two make (word ∷ other ∷ []) = kept (make word other)
 of_two make _ = None
 
+-- `refresh` has no words
+abbrev pub refresh_of : List (List ℕ) → Option Step
+refresh_of [] = kept step.Refresh
+refresh_of _ = None
+
 abbrev pub other_of : List ℕ → List (List ℕ) → Option (Option Step)
 other_of word args =
     if bytes_eq word (codes "until") then Some (until_of args)
+    else (if bytes_eq word (codes "refresh") then Some (refresh_of args)
     else (if bytes_eq word (codes "dial") then Some (of_two (λ n a. step.Dial n a) args)
     else (if bytes_eq word (codes "announce") then Some (of_two (λ n a. step.Announce n a) args)
     else (if bytes_eq word (codes "listen") then Some (of_two (λ n f. step.Listen n f) args)
     else (if bytes_eq word (codes "accept") then Some (of_two (λ n f. step.Accept n f) args)
     else (if bytes_eq word (codes "reject") then Some (of_one (λ n. step.Reject n) args)
     else (if bytes_eq word (codes "hangup") then Some (of_one (λ n. step.Hangup n) args)
-    else None))))))
+    else None)))))))
 
 -- the step of a word and its arguments, which are wrong where there is none
 abbrev pub step_of : List ℕ → List (List ℕ) → Option (Option Step)

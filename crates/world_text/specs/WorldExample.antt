@@ -8,6 +8,7 @@ use Rattle.net_base.specs.declared.world.MediumSpec.{MediumSpec}
 use Rattle.net_base.specs.declared.world.Step.{Step}
 use Rattle.net_base.specs.declared.world.Step.TheVariants as step
 use Rattle.net_base.specs.declared.world.World.{World}
+use Rattle.net_base.specs.declared.timer.Timers.TheVariants.{Measured}
 use Rattle.worked_worlds.specs.Worked.{ip, script, small_bundle}
 
 -- The worked world of UDP.
@@ -63,6 +64,7 @@ all_steps =
     ∷ step.Close (codes "d")
     ∷ step.Ls (codes "/net")
     ∷ step.Cs (codes "net!$auth!9fs")
+    ∷ step.Refresh
     ∷ step.Dial (codes "e") (codes "il!helix!9fs")
     ∷ step.Announce (codes "a") (codes "il!*!9fs")
     ∷ step.Listen (codes "l") (codes "a")
@@ -72,4 +74,4 @@ all_steps =
     ∷ []
 
 abbrev pub every_line : World
-every_line = record { end = 60000; seed = 18446744073709551615; media = lossy_medium ∷ plain_medium ∷ []; hosts = gate ∷ []; scripts = script 0 all_steps ∷ []; db = [] }
+every_line = record { end = 60000; seed = 18446744073709551615; timers = Measured; media = lossy_medium ∷ plain_medium ∷ []; hosts = gate ∷ []; scripts = script 0 all_steps ∷ []; dbs = record { moment = 0; db = [] } ∷ record { moment = 20; db = [] } ∷ [] }

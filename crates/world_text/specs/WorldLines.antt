@@ -15,6 +15,8 @@ use Rattle.net_base.specs.declared.world.RouteLine.{RouteLine}
 use Rattle.net_base.specs.declared.world.Script.{Script}
 use Rattle.net_base.specs.declared.world.Step.{Step}
 use Rattle.net_base.specs.declared.world.World.{World}
+use Rattle.net_base.specs.declared.timer.Timers.{Timers}
+use Rattle.net_base.specs.declared.timer.Timers.TheVariants.{Fixed, Measured}
 use Rattle.net_base.specs.NdbText.{begins, is_hash, is_empty}
 use Rattle.net_base.specs.Routes.{has_ip}
 use Rattle.net_base.specs.World.{is_mask, overlap}
@@ -37,6 +39,7 @@ pub record Draft : Type 0 where
   pub group : ℕ
   pub end : ℕ
   pub seed : ℕ
+  pub timers : Timers
   pub media : List MediumSpec
   -- the names of the media whose rates were set
   pub rated : List (List ℕ)
@@ -45,7 +48,7 @@ pub record Draft : Type 0 where
 
 -- what no line has said stands at its least value
 abbrev pub opening_draft : Draft
-opening_draft = record { group = 0; end = 1; seed = 0; media = []; rated = []; hosts = []; scripts = [] }
+opening_draft = record { group = 0; end = 1; seed = 0; timers = Fixed; media = []; rated = []; hosts = []; scripts = [] }
 
 -- the last group is a later one, to which no line goes back
 abbrev pub is_past : ℕ → Draft → Bool
@@ -272,7 +275,7 @@ ndb_cause d = refuse cause.MissingPart (is_before 5 d) None
 
 -- the least cause for which a line is bad behind the lines that made this world so far, if there is one
 abbrev pub line_cause : Draft → WorldLine → Option LineCause
-line_cause d line.Networld = again_cause d
+line_cause d (line.Networld kind) = again_cause d
 line_cause d (line.End moment) = end_cause d
 line_cause d (line.Seed seed) = seed_cause d
 line_cause d (line.OfMedium l) = medium_line_cause d l
@@ -284,7 +287,7 @@ line_cause d line.Ndb = ndb_cause d
 
 -- the world so far behind a line that isn't bad
 abbrev pub after : Draft → WorldLine → Draft
-after d line.Networld = record d { group = 1 }
+after d (line.Networld kind) = record d { group = 1; timers = kind }
 after d (line.End moment) = record d { group = 2; end = moment }
 after d (line.Seed seed) = record d { group = 3; seed = seed }
 after d (line.OfMedium l) = after_medium_line d l
@@ -294,9 +297,9 @@ after d (line.Script called) = record d { group = 6; scripts = d.scripts ++ empt
 after d (line.OfScript s) = record d { scripts = at_last (with_step s) d.scripts }
 after d line.Ndb = d
 
--- the world, without its database
+-- the world, without its databases
 abbrev pub world_of : Draft → World
-world_of d = record { end = d.end; seed = d.seed; media = d.media; hosts = d.hosts; scripts = d.scripts; db = [] }
+world_of d = record { end = d.end; seed = d.seed; timers = d.timers; media = d.media; hosts = d.hosts; scripts = d.scripts; dbs = [] }
 
 -- what a line is: it goes on with the world so far, or it begins the bundle of the world, or it is bad
 pub data Verdict : Type 0 where
@@ -321,8 +324,12 @@ judged_line d (Err c) = Bad c
 abbrev pub is_passed : List ℕ → Bool
 is_passed text = is_empty text || begins is_hash text
 
+-- the first line names the kind of timers
 abbrev pub first_line : Draft → List ℕ → Verdict
-first_line d text = if bytes_eq text (codes "networld 1") then Goes (after d line.Networld) else Bad cause.FirstLine
+first_line d text =
+    if bytes_eq text (codes "networld 1") then Goes (after d (line.Networld Fixed))
+    else (if bytes_eq text (codes "networld 2") then Goes (after d (line.Networld Measured))
+    else Bad cause.FirstLine)
 
 -- what a line is, behind the lines that made this world so far
 abbrev pub line_verdict : Draft → List ℕ → Verdict

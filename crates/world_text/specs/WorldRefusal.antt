@@ -2,10 +2,10 @@
 use Rattle.std.specs.Prelude.{◌≡◌, ℕ, ◌+◌, ◌⊎◌, true, false, List, [], ◌∷◌, ◌++◌, length, codes, Some}
 use Rattle.std.specs.List.{list_all}
 use Rattle.net_base.specs.declared.world.World.{World}
-use Rattle.net_base.specs.NdbBundle.{bad_line}
 use Rattle.net_base.specs.NdbText.{is_empty}
 use Rattle.world_text.specs.declared.line.LineCause.{LineCause}
 use Rattle.world_text.specs.LineCauses.{number_of}
+use Rattle.world_text.specs.VersionLines.{bad_version_line}
 use Rattle.world_text.specs.WorldLines.{Draft, Goes, Begins, Bad, line_verdict}
 use Rattle.world_text.specs.WorldSpelling.{laid, is_line, IsHeaded}
 use Rattle.world_text.specs.WorldText.{missing}
@@ -34,7 +34,7 @@ pub record IsBadLine (d : Draft) (first : ℕ) (text : List ℕ) (n c : ℕ) : T
   pub number : c ≡ number_of cause
   pub place : n ≡ first + length good
 
--- the lines up to `ndb` are good, and a line of the database behind it is bad
+-- the lines up to `ndb` are good, and a line of the versions behind it is bad
 pub record IsBadBundle (d : Draft) (first : ℕ) (text : List ℕ) (n c : ℕ) : Type 0 where
   pub good : List (List ℕ)
   pub bundle : List ℕ
@@ -45,7 +45,7 @@ pub record IsBadBundle (d : Draft) (first : ℕ) (text : List ℕ) (n c : ℕ) :
   pub whole : list_all is_line good ≡ true
   pub leads : Leads d good so_far
   pub begins : line_verdict so_far (codes "ndb") ≡ Begins world
-  pub bad : bad_line bundle ≡ Some (line, c)
+  pub bad : bad_version_line bundle ≡ Some (line, c)
   pub place : n ≡ first + length good + line
 
 -- all lines are good, and none is `ndb`: the number is one past the last line

@@ -12,9 +12,12 @@ use Rattle.net_base.specs.declared.world.RouteLine.{RouteLine}
 use Rattle.net_base.specs.declared.world.Script.{Script}
 use Rattle.net_base.specs.declared.world.Step.{Step}
 use Rattle.net_base.specs.declared.world.Step.TheVariants as step
+use Rattle.net_base.specs.declared.world.Version.{Version}
 use Rattle.net_base.specs.declared.world.World.{World}
+use Rattle.net_base.specs.declared.timer.Timers.{Timers}
+use Rattle.net_base.specs.declared.timer.Timers.TheVariants as timers
 use Rattle.net_base.specs.ControlWords.{dotted}
-use Rattle.net_base.specs.NdbBundle.{database, bad_line}
+use Rattle.net_base.specs.NdbBundle.{database, causes_of, first_bad}
 use Rattle.net_base.specs.NdbText.{is_newline, is_hash, lines_of}
 use Rattle.net_base.specs.Paths.{proto_name}
 use Rattle.net_base.specs.Transcript.{hex_word, mode_word}
@@ -39,13 +42,23 @@ spaced words = join_with_byte 32 words
 abbrev pub name_at : List (List ℕ) → ℕ → List ℕ
 name_at names n = get_or names n []
 
--- Media.
+-- The first lines.
+
+-- the number of a kind of timers
+abbrev pub timers_word : Timers → List ℕ
+timers_word timers.Fixed = codes "1"
+timers_word timers.Measured = codes "2"
+
+abbrev pub line_of_timers : Timers → List ℕ
+line_of_timers kind = spaced (codes "networld" ∷ timers_word kind ∷ [])
 
 abbrev pub line_of_end : ℕ → List ℕ
 line_of_end moment = spaced (codes "end" ∷ decimal moment ∷ [])
 
 abbrev pub line_of_seed : ℕ → List ℕ
 line_of_seed seed = spaced (codes "seed" ∷ decimal seed ∷ [])
+
+-- Media.
 
 abbrev pub line_of_medium : MediumSpec → List ℕ
 line_of_medium s = spaced (codes "medium" ∷ s.name ∷ decimal s.mtu ∷ [])
@@ -110,6 +123,7 @@ words_of_step (step.Close called) = codes "close" ∷ called ∷ []
 words_of_step (step.Ls path) = codes "ls" ∷ path ∷ []
 words_of_step (step.Cs query) = codes "cs" ∷ query ∷ []
 words_of_step (step.Until moment) = codes "until" ∷ decimal moment ∷ []
+words_of_step step.Refresh = codes "refresh" ∷ []
 words_of_step (step.Dial called address) = codes "dial" ∷ called ∷ address ∷ []
 words_of_step (step.Announce called address) = codes "announce" ∷ called ∷ address ∷ []
 words_of_step (step.Listen called from) = codes "listen" ∷ called ∷ from ∷ []
@@ -129,7 +143,7 @@ lines_of_script hosts s = spaced (codes "script" ∷ name_at hosts s.host ∷ []
 -- the lines of a world before `ndb`, in the order of their groups
 abbrev pub lines_of_world : World → List (List ℕ)
 lines_of_world w =
-    codes "networld 1"
+    line_of_timers w.timers
     ∷ line_of_end w.end
     ∷ line_of_seed w.seed
     ∷ (flat_map lines_of_medium w.media
@@ -296,9 +310,9 @@ abbrev pub lines_of_steps : ScriptText → List WorldLine
 lines_of_steps s = line.Script s.host ∷ map (λ (x : Step). line.OfScript x) s.steps
 
 -- all lines before `ndb`, in their groups
-abbrev pub lines_said : ℕ → ℕ → List MediumLine → List HostText → List ScriptText → List WorldLine
-lines_said moment seed media hosts scripts =
-    line.Networld ∷ line.End moment ∷ line.Seed seed
+abbrev pub lines_said : Timers → ℕ → ℕ → List MediumLine → List HostText → List ScriptText → List WorldLine
+lines_said kind moment seed media hosts scripts =
+    line.Networld kind ∷ line.End moment ∷ line.Seed seed
     ∷ (map (λ (l : MediumLine). line.OfMedium l) media ++ (flat_map lines_of_text hosts ++ flat_map lines_of_steps scripts))
 
 -- Spellings.
@@ -318,7 +332,7 @@ words_of_host_line (host.Route l) = codes "route" ∷ dotted l.net ∷ dotted l.
 words_of_host_line (host.Start start) = codes "start" ∷ decimal start ∷ []
 
 abbrev pub words_of_line : WorldLine → List (List ℕ)
-words_of_line line.Networld = codes "networld" ∷ codes "1" ∷ []
+words_of_line (line.Networld kind) = codes "networld" ∷ timers_word kind ∷ []
 words_of_line (line.End moment) = codes "end" ∷ decimal moment ∷ []
 words_of_line (line.Seed seed) = codes "seed" ∷ decimal seed ∷ []
 words_of_line (line.OfMedium l) = words_of_medium_line l
@@ -332,9 +346,41 @@ words_of_line line.Ndb = codes "ndb" ∷ []
 abbrev pub spelling : WorldLine → List ℕ
 spelling l = spaced (words_of_line l)
 
+-- Versions.
+
+-- a later version: its moment, and the lines of its bundle
+pub record LaterText : Type 0 where
+  pub moment : ℕ
+  pub bundle : List (List ℕ)
+
+-- `%at M`
+abbrev pub line_of_moment : ℕ → List ℕ
+line_of_moment moment = spaced (codes "%at" ∷ decimal moment ∷ [])
+
+-- the line that begins a later version, and its bundle
+abbrev pub lines_of_later : LaterText → List (List ℕ)
+lines_of_later v = line_of_moment v.moment ∷ v.bundle
+
+-- the version from this moment on that a bundle says
+abbrev pub version_said : ℕ → List (List ℕ) → Version
+version_said moment bundle = record { moment = moment; db = database bundle }
+
+-- no line of the bundle is bad, so none begins a version
+abbrev pub IsGoodBundle : List (List ℕ) → Type 0
+IsGoodBundle bundle = first_bad causes_of [] bundle ≡ None
+
+-- the text says the versions: the first bundle, and behind each line `%at M` another one
+pub record SaysVersions (text : List ℕ) (versions : List Version) : Type 0 where
+  pub first : List (List ℕ)
+  pub later : List LaterText
+  pub lines_are : lines_of text ≡ first ++ flat_map lines_of_later later
+  pub first_good : IsGoodBundle first
+  pub later_good : All (λ (v : LaterText). IsGoodBundle v.bundle) later
+  pub said : versions ≡ version_said 0 first ∷ map (λ (v : LaterText). version_said v.moment v.bundle) later
+
 -- the text says the world
 pub record IsWorldText (text : List ℕ) (w : World) : Type 0 where
-  -- the lines before `ndb`, and the text of the database
+  -- the lines before `ndb`, and the text of the versions behind it
   pub head : List (List ℕ)
   pub bundle : List ℕ
   pub parts : IsHeaded text head bundle
@@ -343,13 +389,12 @@ pub record IsWorldText (text : List ℕ) (w : World) : Type 0 where
   pub media : List MediumLine
   pub hosts : List HostText
   pub scripts : List ScriptText
-  pub spelled : filter speaks head ≡ map spelling (lines_said w.end w.seed media hosts scripts)
+  pub spelled : filter speaks head ≡ map spelling (lines_said w.timers w.end w.seed media hosts scripts)
   pub media_are : w.media ≡ media_said media
   pub media_in_order : EachBehind IsBehindMedium media
   pub hosts_are : w.hosts ≡ map (host_said (medium_names w.media)) hosts
   pub routes_in_order : All (λ (h : HostText). EachBehind (IsReached (medium_names w.media)) h.under) hosts
   pub scripts_are : w.scripts ≡ map (script_said (host_names w.hosts)) scripts
-  pub good : bad_line bundle ≡ None
-  pub read : w.db ≡ database (lines_of bundle)
+  pub versions : SaysVersions bundle w.dbs
   -- it is a world that a file can say
   pub world : IsWorld w

@@ -1,11 +1,11 @@
--- The text of a world: lines, and behind the line `ndb` the text of a database.
+-- The text of a world: lines, and behind the line `ndb` the versions of its database.
 use Rattle.std.specs.Prelude.{ℕ, ◌+◌, ◌==◌, List, [], ◌∷◌, Option, Some, None, Result, Ok, Err, if◌then◌else◌}
 use Rattle.net_base.specs.declared.world.World.{World}
 use Rattle.net_base.specs.NdbText.{is_newline, lines_of}
-use Rattle.net_base.specs.NdbBundle.{database, bad_line}
 use Rattle.world_text.specs.declared.line.LineCause.{LineCause}
 use Rattle.world_text.specs.declared.line.LineCause.TheVariants as cause
 use Rattle.world_text.specs.LineCauses.{number_of}
+use Rattle.world_text.specs.VersionLines.{bad_version_line, versions_in}
 use Rattle.world_text.specs.WorldLines.{Draft, opening_draft, Verdict, Goes, Begins, Bad, line_verdict}
 
 -- a line with what stands behind its newline
@@ -26,15 +26,15 @@ cuts_of (b ∷ bytes) = if is_newline b then record { line = []; behind = bytes 
 abbrev pub missing : Draft → LineCause
 missing d = if d.group == 0 then cause.FirstLine else cause.MissingPart
 
--- a world with the database that stands behind its n-th line
-abbrev pub with_database : ℕ → World → List ℕ → Option (ℕ × ℕ) → Result World (ℕ × ℕ)
-with_database n w text None = Ok (record w { db = database (lines_of text) })
-with_database n w text (Some bad) = Err (n + bad.0, bad.1)
+-- a world with the versions that stand behind its n-th line
+abbrev pub with_versions : ℕ → World → List ℕ → Option (ℕ × ℕ) → Result World (ℕ × ℕ)
+with_versions n w text None = Ok (record w { dbs = versions_in (lines_of text) })
+with_versions n w text (Some bad) = Err (n + bad.0, bad.1)
 
 -- what comes of the n-th line and of those behind it
 abbrev pub judged : ℕ → List ℕ → Verdict → (Draft → Result World (ℕ × ℕ)) → Result World (ℕ × ℕ)
 judged n behind (Goes d) next = next d
-judged n behind (Begins w) next = with_database n w behind (bad_line behind)
+judged n behind (Begins w) next = with_versions n w behind (bad_version_line behind)
 judged n behind (Bad c) next = Err (n, number_of c)
 
 -- what comes of lines that begin with the n-th, behind the lines that made this world so far

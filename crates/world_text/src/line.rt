@@ -2,12 +2,12 @@
 ghost use Rattle.std.specs.Prelude.{◌≡◌};
 ghost use Rattle.world_text.specs.LineCauses.{number_of};
 
-use net_base::{Fate, Nets, Octets, RouteLine, Step};
+use net_base::{Fate, Nets, Octets, RouteLine, Step, Timers};
 
 /// Why a line is bad, in the order in which causes are told.
 #[derive(Clone, Copy, Debug, PartialEq, Eq)]
 pub enum LineCause {
-    /// The first line isn't `networld 1`.
+    /// The first line is neither `networld 1` nor `networld 2`.
     FirstLine,
     UnknownWord,
     WrongArgument,
@@ -28,10 +28,12 @@ pub enum LineCause {
     FarGateway,
     /// Fates overlap, or the rates of a medium are over 1000.
     FateClash,
+    /// The moment of a version of the database isn't above the one before.
+    EarlyVersion,
 }
 
 impl LineCause {
-    /// The cause's number, 11 to 23.
+    /// The cause's number, 11 to 24.
     pub fn number(self) -> u32
         ensures { result ≡ number_of self }
     {
@@ -49,6 +51,7 @@ impl LineCause {
             LineCause::RouteTwice => 21,
             LineCause::FarGateway => 22,
             LineCause::FateClash => 23,
+            LineCause::EarlyVersion => 24,
         }
     }
 }
@@ -92,7 +95,8 @@ pub enum HostLine {
 /// A line of a world.
 #[derive(Debug, Drop)]
 pub enum WorldLine {
-    Networld,
+    /// The kind of timers: fixed for 1, measured for 2.
+    Networld(Timers),
     End(u64),
     Seed(u64),
     OfMedium(MediumLine),

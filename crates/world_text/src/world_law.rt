@@ -4,7 +4,7 @@ ghost use Rattle.std.specs.List.{filter, list_all, list_any};
 ghost use Rattle.net_base.specs.declared.world.World.{World};
 ghost use Rattle.net_base.specs.declared.world.MediumSpec.{MediumSpec};
 ghost use Rattle.net_base.specs.World.{IsWorld, all_apart, is_byte};
-ghost use Rattle.net_base.specs.NdbBundle.{database, bad_line};
+ghost use Rattle.world_text.specs.VersionLines.{bad_version_line, versions_in};
 ghost use Rattle.net_base.specs.NdbText.{lines_of};
 ghost use Rattle.worked_worlds.specs.WorkedUdp.{datagram_world};
 ghost use Rattle.world_text.specs.declared.line.WorldLine.{WorldLine};
@@ -33,10 +33,10 @@ pub fn texts_say_one_world()
     ensures { (text : List ℕ) (v w : World) → IsWorldText text v → IsWorldText text w → v ≡ w }
 {}
 
-/// Each world has a text: its lines, `ndb`, a text of its database.
+/// Each world has a text: its lines, `ndb`, a text of its versions.
 pub fn worlds_have_texts()
     ensures { (w : World) (bundle : List ℕ) → IsWorld w
-        → bad_line bundle ≡ None → w.db ≡ database (lines_of bundle)
+        → bad_version_line bundle ≡ None → w.dbs ≡ versions_in (lines_of bundle)
         → IsWorldText (laid (lines_of_world w) ++ (codes "ndb\n" ++ bundle)) w }
 {}
 
@@ -70,12 +70,12 @@ pub fn worked_world_lines()
     ensures one_datagram { laid (lines_of_world datagram_world) ≡ datagram_head }
     ensures its_text { world_reading datagram_text ≡ Ok datagram_world }
     ensures every_line { laid (lines_of_world every_line)
-        ≡ codes "networld 1\nend 60000\nseed 18446744073709551615\nmedium ether0 1500\n"
+        ≡ codes "networld 2\nend 60000\nseed 18446744073709551615\nmedium ether0 1500\n"
         ++ (codes "rates ether0 10 0 20\nfate ether0 1 lose\nfate ether0 3-5 deliver\n"
         ++ (codes "medium ether1 576\nhost gate udp il\nif ether1 10.0.0.1 255.0.0.0\n"
         ++ (codes "if ether0 135.104.9.1 255.255.255.0\nroute 0.0.0.0 0.0.0.0 10.0.0.2\nstart 7\n"
         ++ (codes "start 4294967295\nscript gate\nuntil 10\nopen c /net/il/clone\n"
         ++ (codes "open d /net/cs rw\nread d 8192\nwrite d two  words\nwritex d 000aff\n"
-        ++ (codes "writex d -\nclose d\nls /net\ncs net!$auth!9fs\ndial e il!helix!9fs\n"
+        ++ (codes "writex d -\nclose d\nls /net\ncs net!$auth!9fs\nrefresh\ndial e il!helix!9fs\n"
         ++ (codes "announce a il!*!9fs\nlisten l a\naccept f l\nreject l\nhangup e\n"))))))) }
 {}

@@ -4,18 +4,27 @@ ghost use Rattle.world_text.specs.LineReading as spec;
 
 use crate::arguments::Arguments;
 use crate::names::is_name;
-use net_base::{Fate, Octets};
+use net_base::{Fate, Octets, Timers};
 use std::alloc::{AllocError, Global};
 use words::{number_in, single, two_parts};
 use world_text::{Frames, MediumLine, WorldLine};
 
-/// `networld 1`
+/// `networld 1` or `networld 2`
 pub(crate) fn read_networld(args: &Arguments<'_>) -> Option<WorldLine>
     ensures { result ≡ spec.networld_of args.now }
 {
-    let version = args.one()?;
-    if version == b"1".as_slice() {
-        Some(WorldLine::Networld)
+    let timers = timers_named(args.one()?)?;
+    Some(WorldLine::Networld(timers))
+}
+
+/// The kind of timers that a number names.
+fn timers_named(word: &[u8]) -> Option<Timers>
+    ensures { result ≡ spec.timers_named word.now }
+{
+    if word == b"1".as_slice() {
+        Some(Timers::Fixed)
+    } else if word == b"2".as_slice() {
+        Some(Timers::Measured)
     } else {
         None
     }

@@ -47,6 +47,8 @@ fn read_other(
 {
     if word == b"until".as_slice() {
         Ok(Some(read_until(args)))
+    } else if word == b"refresh".as_slice() {
+        Ok(Some(read_refresh(args)))
     } else if word == b"dial".as_slice() {
         Ok(Some(read_dial(alloc, args)?))
     } else if word == b"announce".as_slice() {
@@ -61,6 +63,17 @@ fn read_other(
         Ok(Some(read_hangup(alloc, args)?))
     } else {
         Ok(None)
+    }
+}
+
+/// `refresh`, which has no words.
+fn read_refresh(args: &Arguments<'_>) -> Option<Step>
+    ensures { result ≡ spec.refresh_of args.now }
+{
+    if args.is_empty() {
+        kept(Step::Refresh)
+    } else {
+        None
     }
 }
 
@@ -87,6 +100,7 @@ fn is_step(step: &Step) -> bool
         Step::Ls { path } => is_word(path.as_slice()),
         Step::Cs { query } => is_text(query.as_slice()),
         Step::Until { moment } => 1 <= *moment && *moment <= 1_000_000_000,
+        Step::Refresh => true,
         Step::Dial { name, address } => is_name(name.as_slice()) && is_word(address.as_slice()),
         Step::Announce { name, address } => is_name(name.as_slice()) && is_word(address.as_slice()),
         Step::Listen { name, from } => is_name(name.as_slice()) && is_name(from.as_slice()),

@@ -5,9 +5,10 @@ use Rattle.net_base.specs.declared.world.Iface.{Iface}
 use Rattle.net_base.specs.declared.world.MediumSpec.{MediumSpec}
 use Rattle.net_base.specs.declared.world.RouteLine.{RouteLine}
 use Rattle.net_base.specs.declared.world.Script.{Script}
+use Rattle.net_base.specs.declared.world.Version.{Version}
 use Rattle.net_base.specs.declared.world.World.{World}
 use Rattle.ndb_reader.specs.Written.{db_text}
-use Rattle.world_text.specs.WorldSpelling.{laid, line_of_iface, line_of_route, line_of_start, lines_of_host, lines_of_medium, lines_of_script, lines_of_world, host_names, medium_names}
+use Rattle.world_text.specs.WorldSpelling.{laid, line_of_iface, line_of_route, line_of_moment, line_of_start, lines_of_host, lines_of_medium, lines_of_script, lines_of_world, host_names, medium_names}
 
 -- words with a blank before each
 abbrev pub behind : List (List ℕ) → List ℕ
@@ -30,6 +31,15 @@ lines_of_parts media hosts scripts =
     ++ (flat_map (lines_of_host (medium_names media)) hosts
     ++ flat_map (lines_of_script (host_names hosts)) scripts)
 
--- its lines, `ndb`, and the text of its database
+-- a later version: the line `%at M`, and the text of its database, which may be empty
+abbrev pub later_text : Version → List ℕ
+later_text v = laid (line_of_moment v.moment ∷ []) ++ db_text v.db
+
+-- the text of the first version, and the later ones
+abbrev pub versions_text : List Version → List ℕ
+versions_text [] = []
+versions_text (first ∷ later) = db_text first.db ++ flat_map later_text later
+
+-- its lines, `ndb`, and the text of its versions
 abbrev pub file_text : World → List ℕ
-file_text w = laid (lines_of_world w) ++ (codes "ndb\n" ++ db_text w.db)
+file_text w = laid (lines_of_world w) ++ (codes "ndb\n" ++ versions_text w.dbs)

@@ -43,6 +43,7 @@ fn put_step(out: &mut Octets, step: &Step) -> Result<(), AllocError>
             out.append(b"until")?;
             put_number(out, *moment)
         }
+        Step::Refresh => out.append(b"refresh"),
         Step::Dial { name, address } => {
             put_three(out, b"dial", name.as_slice(), address.as_slice())
         }

@@ -11,7 +11,7 @@ use crate::conv::{Conv, NOWHERE};
 use crate::il::IlCore;
 use crate::parts::{Core, Stage};
 use crate::reply_and_copy::ReplyAndCopy;
-use net_base::{Addr, Body, Octets, Outcome, Packet, Pair, StateName};
+use net_base::{Addr, Body, Octets, Outcome, Packet, Pair, StateName, Timers};
 use std::alloc::AllocError;
 use udp_core::UdpEnd;
 
@@ -74,9 +74,9 @@ impl Conv {
             remote: packet.src,
         };
         match (&self.core, &packet.body) {
-            (Core::Il(_), Body::Il(message)) => {
-                let id = message.id;
-                Ok(Some(self.born_il(now, generation, pair, start, limit, id)?))
+            (Core::Il(end), Body::Il(message)) => {
+                let (timers, id) = (end.timers(), message.id);
+                Ok(Some(self.born_il(now, generation, pair, start, limit, id, timers)?))
             }
             (Core::Udp(_), Body::Udp(text)) => Ok(Some(self.born_udp(
                 generation, pair, limit, text,
@@ -85,7 +85,7 @@ impl Conv {
         }
     }
 
-    // The end is born from the sync with this id.
+    // The end is born from the sync with this id, with such timers.
     fn born_il(
         &mut self,
         now: u64,
@@ -94,13 +94,14 @@ impl Conv {
         start: u32,
         limit: u32,
         id: u32,
+        timers: Timers,
     ) -> Result<Outcome, AllocError>
         requires { now < 2 ^ 63 }
-        ensures ok { IfOk result (λ outcome. spec.turned self.old.conv reply.Ok (table.is_born now start id end_spec.fresh_end) (record (spec.begun generation self.old.conv) { pair = pair; limit = limit; stage = spec.Connected }) ≡ record { state = self.new.conv; outcome = outcome }) }
+        ensures ok { IfOk result (λ outcome. spec.turned self.old.conv reply.Ok (table.is_born now start id (end_spec.fresh_end timers)) (record (spec.begun generation self.old.conv) { pair = pair; limit = limit; stage = spec.Connected }) ≡ record { state = self.new.conv; outcome = outcome }) }
         ensures slot { self.new.slot ≡ self.old.slot }
         ensures err { OnErr result (self.new ≡ self.old) }
     {
-        let mut end = IlCore::fresh(self.alloc)?;
+        let mut end = IlCore::fresh(self.alloc, timers)?;
         let sync = end.born(now, start, id);
         let was_over = self.is_over();
         self.become_new(generation, Stage::Connected, pair, limit, Core::Il(end));

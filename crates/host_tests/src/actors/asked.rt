@@ -14,6 +14,7 @@ pub enum AtDesk {
     Use(&'static [u8]),
     Misuse(&'static [u8]),
     Until(u64),
+    Refresh,
 }
 
 /// Of a directory, at the first generation of slot 0.
@@ -120,6 +121,7 @@ fn desk_event(alloc: Global, ask: AtDesk) -> Result<Event, AllocError> {
             name: text(alloc, name)?,
         }),
         AtDesk::Until(moment) => Ok(Event::Until { moment }),
+        AtDesk::Refresh => Ok(Event::Refresh),
     }
 }
 

@@ -7,7 +7,7 @@ ghost use Rattle.host_tests.specs.Tried.{tried_host, tried_medium, tried_world};
 use net_actors::{Actors, Due};
 use net_base::{
     ActorName, Db, Fates, HostSpec, Hosts, Iface, Ifaces, Media, MediumSpec, Nets, Octets, Proto,
-    Reply, RouteLines, Scripts, Starts, Work, World,
+    Reply, RouteLines, Scripts, Starts, Timers, Version, Versions, Work, World,
 };
 use std::alloc::{AllocError, Global};
 use std::marker::Model;
@@ -24,6 +24,7 @@ pub enum Told {
     NoFile,
     BadMode,
     BadFid,
+    Version(u64),
     Lines(usize),
     CsRefused(u32),
     Names(usize),
@@ -50,6 +51,7 @@ fn read_reply(reply: &Reply) -> Told {
         Reply::NoFile => Told::NoFile,
         Reply::BadMode => Told::BadMode,
         Reply::BadFid => Told::BadFid,
+        Reply::Version { version } => Told::Version(*version),
         Reply::Lines { lines } => Told::Lines(lines.len()),
         Reply::CsRefused { number } => Told::CsRefused(*number),
         Reply::Names { names } => Told::Names(names.len()),
@@ -100,7 +102,8 @@ fn key(told: Told) -> (u8, u32, u64) {
         Told::Stale => (19, 0, 0),
         Told::Laid(frame) => (20, 0, frame),
         Told::Copy(frame) => (21, 0, frame),
-        Told::Other => (22, 0, 0),
+        Told::Version(version) => (22, 0, version),
+        Told::Other => (23, 0, 0),
     }
 }
 
@@ -155,16 +158,29 @@ fn hosts(alloc: Global) -> Result<Hosts, AllocError>
     Ok(hosts)
 }
 
+/// One version of the database, which is empty.
+fn versions(alloc: Global) -> Result<Versions, AllocError>
+    ensures { IfOk result (λ versions. versions ≡ record { moment = 0; db = [] } ∷ []) }
+{
+    let mut versions = Versions::new(alloc);
+    versions.push(Version {
+        moment: 0,
+        db: Db::new(alloc),
+    })?;
+    Ok(versions)
+}
+
 fn world(alloc: Global) -> Result<World, AllocError>
     ensures { IfOk result (λ w. w ≡ tried_world) }
 {
     Ok(World {
         end: 60000,
         seed: 7,
+        timers: Timers::Fixed,
         media: media(alloc)?,
         hosts: hosts(alloc)?,
         scripts: Scripts::new(alloc),
-        db: Db::new(alloc),
+        dbs: versions(alloc)?,
     })
 }
 

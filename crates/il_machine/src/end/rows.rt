@@ -7,7 +7,6 @@ ghost use Rattle.net_base.specs.IlTable as table;
 ghost use Rattle.il_machine.specs.Stands.{IsFew, Says, StandsFor, Turns, closing_takes, established_takes, handshake_completed, takes_in};
 
 use crate::end::IlEnd;
-use il_queues::Timer;
 use net_base::{Cause, IlKind, IlMsg, IlState};
 use std::alloc::AllocError;
 
@@ -68,11 +67,7 @@ impl IlEnd {
         ensures err { OnErr result (self.new ≡ self.old) }
         ensures memory { OnErr result (Says self.old true (established_takes message.now.kind now message.now)) }
     {
-        let timer = Timer {
-            due: self.timer.due,
-            interval: self.timer.interval,
-            heard: self.timer.heard,
-        };
+        let timer = self.timer.copied();
         self.hear(now);
         self.establish();
         let answer = self.arrive_at_established(now, message);

@@ -1,7 +1,7 @@
 //! Many calls, and calls that come late.
 use super::rows::{Deed, NOTHING, Row, Sent, Told, plays, run};
 use conversation::Conv;
-use net_base::{IlKind, Proto};
+use net_base::{IlKind, Proto, Timers};
 use std::alloc::{AllocError, Global};
 use std::process::Abort;
 use std::test::*;
@@ -29,7 +29,7 @@ fn open_many(rt: &impl Abort, alloc: Global, conv: &mut Conv) -> Result<(), Allo
 }
 
 fn open_many_of_one(rt: &impl Abort, alloc: Global) -> Result<(), AllocError> {
-    let mut conv = Conv::new(alloc, 0, Proto::Udp, 0)?;
+    let mut conv = Conv::new(alloc, 0, Proto::Udp, 0, Timers::Fixed)?;
     let played = open_many(rt, alloc, &mut conv);
     drop(conv);
     played

@@ -5,7 +5,7 @@ ghost use Rattle.conversation.specs.Stands.{IsReady};
 use conversation::Conv;
 use net_base::{
     Addr, Body, Cause, Event, FileName, IlKind, IlMsg, Mode, Octets, Outcome, Packet, Pair, Proto,
-    Reply, StateName, With, Work,
+    Reply, StateName, Timers, With, Work,
 };
 use std::alloc::{AllocError, Global};
 use std::process::Abort;
@@ -317,7 +317,7 @@ pub fn plays(
     slot: u32,
     tables: &[&[Row]],
 ) -> Result<(), AllocError> {
-    let mut conv = Conv::new(alloc, 0, proto, slot)?;
+    let mut conv = Conv::new(alloc, 0, proto, slot, Timers::Fixed)?;
     let played = run_all(rt, alloc, &mut conv, tables);
     drop(conv);
     played

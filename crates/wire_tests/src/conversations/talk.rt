@@ -1,7 +1,7 @@
 //! What is written, read and comes.
 use super::rows::{Came, Deed, NOTHING, Row, SYNC, Sent, Told, plays, run};
 use conversation::Conv;
-use net_base::{Cause, FileName, IlKind, Proto, StateName};
+use net_base::{Cause, FileName, IlKind, Proto, StateName, Timers};
 use std::alloc::{AllocError, Global};
 use std::process::Abort;
 use std::test::*;
@@ -282,7 +282,7 @@ fn fill(rt: &impl Abort, alloc: Global, conv: &mut Conv) -> Result<(), AllocErro
 }
 
 fn fill_one(rt: &impl Abort, alloc: Global) -> Result<(), AllocError> {
-    let mut conv = Conv::new(alloc, 0, Proto::Udp, 0)?;
+    let mut conv = Conv::new(alloc, 0, Proto::Udp, 0, Timers::Fixed)?;
     let played = fill(rt, alloc, &mut conv);
     drop(conv);
     played

@@ -2,10 +2,10 @@
 use super::Deed::*;
 use super::Said::*;
 use super::Side::*;
-use super::{Row, Said, plays};
-use net_base::Cause;
+use super::{Row, Said, plays, plays_with};
 use net_base::IlKind::{Ack, DataQuery, Query, State, Sync};
 use net_base::IlState::{Closed, Closing, Established, Listening, Syncee, Syncer};
+use net_base::{Cause, Timers};
 use std::alloc::AllocError;
 use std::test::*;
 
@@ -28,6 +28,27 @@ const ALONE: &[Row] = &[
 #[test]
 fn one_end_connects_and_writes(rt: HostRuntime) -> Result<(), AllocError> {
     plays(&rt, rt.alloc(), &[ALONE])
+}
+
+const MEASURED: &[Row] = &[
+    (Near, 0, Connect(1), Bare(Sync, 1, 0)),
+    (Near, 499, Tick, Quiet),
+    (Near, 500, Tick, Bare(Sync, 1, 0)),
+    (Near, 500, Look(Syncer, Some(1500)), Quiet),
+    (Near, 600, Hear(Bare(Sync, 100, 1)), Bare(Ack, 1, 100)),
+    (Near, 600, Look(Established, None), Quiet),
+    (Near, 600, Write(b"hello"), Data(2, 100, b"hello")),
+    (Near, 600, Look(Established, Some(1100)), Quiet),
+    (Near, 640, Hear(Bare(Ack, 100, 2)), Quiet),
+    (Near, 640, Look(Established, None), Quiet),
+    // a round trip of 40, which lies 20 around it: 40 and four times 20
+    (Near, 700, Write(b"x"), Data(3, 100, b"x")),
+    (Near, 700, Look(Established, Some(820)), Quiet),
+];
+
+#[test]
+fn a_measured_end_waits_by_its_round_trips(rt: HostRuntime) -> Result<(), AllocError> {
+    plays_with(&rt, rt.alloc(), Timers::Measured, &[MEASURED])
 }
 
 const SYNC: Said = Bare(Sync, 7, 0);

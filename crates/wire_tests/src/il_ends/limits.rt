@@ -6,6 +6,7 @@ use super::{Ends, Row, play};
 use il_machine::Ask::{Read as ToRead, Write as ToWrite};
 use net_base::IlKind::{Ack, DataQuery, State, Sync};
 use net_base::IlState::Established;
+use net_base::Timers;
 use std::alloc::{AllocError, Global};
 use std::process::Abort;
 use std::test::*;
@@ -19,7 +20,7 @@ enum Limit {
 }
 
 fn fill<R: Abort>(rt: &R, alloc: Global, limit: Limit) -> Result<(), AllocError> {
-    let mut ends = Ends::fresh(alloc)?;
+    let mut ends = Ends::fresh(alloc, Timers::Fixed)?;
     let filled = fill_ends(rt, alloc, &mut ends, limit);
     drop(ends);
     filled

@@ -14,10 +14,10 @@ loop-value-preserved c =
     let told = c.in_ok-name.ensures ∙ ap name_in c.as_slice.ensures in
     elim c.match-branch-2.branch [
       | in-Some+in_ok-insert w ↦ rw w.names-is
-      (name_more c.args.values.now c.loop-value.value-index c.value-item.result w.in-Some.name (names_seen c.loop-value.names.keys) (names_seen w.insert.new.self.keys) c.loop-value-test.true c.value-item.is (sym w.in-Some.is ∙ told) c.loop-value.invariant
-      (name_put c.loop-value.names.keys w.insert.new.self.keys w.into_vec.result w.in-Some.name w.into_vec.ensures w.in_ok-insert.ensures.keys))
+          (name_more c.args.values.now c.loop-value.value-index c.value-item.result w.in-Some.name (names_seen c.loop-value.names.keys) (names_seen w.insert.new.self.keys) c.loop-value-test.true c.value-item.is (sym w.in-Some.is ∙ told) c.loop-value.invariant
+          (name_put c.loop-value.names.keys w.insert.new.self.keys w.into_vec.result w.in-Some.name w.into_vec.ensures w.in_ok-insert.ensures.keys))
       | in_default w ↦ rw w.names-is
-      (name_less c.args.values.now c.loop-value.value-index c.value-item.result (names_seen c.loop-value.names.keys) c.loop-value-test.true c.value-item.is (sym w.in_default.is ∙ told) c.loop-value.invariant)
+          (name_less c.args.values.now c.loop-value.value-index c.value-item.result (names_seen c.loop-value.names.keys) c.loop-value-test.true c.value-item.is (sym w.in_default.is ∙ told) c.loop-value.invariant)
     ]
 
 pub returns : goal.returns

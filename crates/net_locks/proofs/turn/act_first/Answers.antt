@@ -16,5 +16,5 @@ returns g c d is =
     let first : c.unwrap-first.result.now ≡ d = same_Some c.unwrap-first.result.now d (ap option_copied (sym c.unwrap-first.ensures) ∙ (c.first.ensures ∙ is)) in
     let work : c.work.result.now ≡ work_of_duty d = c.work.ensures ∙ ap work_of_duty first in
     let cites : c.first-2.inside.cites ≡ d.cites = ap (λ (q : Duty). q.cites) (c.first-2.view_is ∙ first) in
-    subst (λ (x : Work). Acted opening (answer_in w) r a c.args.caller c.args.now x (Some d.cites) c.args.pass.now c.act.result c.act.new.pass) work
-    (subst (λ (n : ℕ). Acted opening (answer_in w) r a c.args.caller c.args.now c.work.result.now (Some n) c.args.pass.now c.act.result c.act.new.pass) cites c.act.ensures)
+    subst (λ (x : Work). Acted (opening w) (answer_in w) r a c.args.caller c.args.now x (Some d.cites) c.args.pass.now c.act.result c.act.new.pass) work
+    (subst (λ (n : ℕ). Acted (opening w) (answer_in w) r a c.args.caller c.args.now c.work.result.now (Some n) c.args.pass.now c.act.result c.act.new.pass) cites c.act.ensures)

@@ -1,7 +1,8 @@
 use Rattle.std.proofs.Common.{refl}
 use Rattle.made_world.specs.Made.{made_world}
+use Rattle.net_model.proofs.WorldBack.{only-whole}
 use Rattle.net_model.proofs.world_law.made_worlds_read_back.Goals as goal
 
 pub returns : goal.returns
 returns c = λ n small.
-    c.written_worlds_read_back.ensures.read (made_world n) (c.made_worlds_are_worlds.ensures n small) refl
+    c.written_worlds_read_back.ensures.read (made_world n) (c.made_worlds_are_worlds.ensures n small) (only-whole _ refl)

@@ -25,6 +25,13 @@ returns-in-Beside c =
     c.requires)
     c.query_beside.ensures
 
+pub returns-in-Dns : goal.returns-in-Dns
+returns-in-Dns c =
+    IfOk-weaker _ _ _
+    (λ answer is. by_question c.args.question _ c.in-Dns.is c.args.input.now answer
+    (λ fits. c.values_are_answers.ensures.dns c.in-Dns.word.now c.args.input.now answer fits is) c.requires)
+    c.dns.ensures
+
 pub returns-in-Make : goal.returns-in-Make
 returns-in-Make c =
     IfOk-weaker _ _ _

@@ -13,7 +13,7 @@ step-requires-clause-small g c =
     let w = g.P.Placing.world in
     let kept = c.self.inside.actor in
     let r = c.requires.reached in
-    let led : state_of kept ≡ played w r.0 (opening_actor r.0) (plays r.1) = led_to w r.0 r.1 (named kept.name (state_of kept)) (c.self.view_is ∙ r.3) in
+    let led : state_of kept ≡ played w r.0 (opening_actor w.timers r.0) (plays r.1) = led_to w r.0 r.1 (named kept.name (state_of kept)) (c.self.view_is ∙ r.3) in
     subst (λ (s : Actor). IsSmall s) (sym led) (c.few_works_are_small.ensures w r.0 (plays r.1) (subst (λ (n : ℕ). n < 2 ^ 30) (sym (as_many r.1)) r.2))
 
 pub step-requires-clause-ready : goal.step-requires-clause-ready

@@ -13,6 +13,7 @@ use denote.Signature.{types_at}
 use denote.Steps.{nothing}
 use denote.Triple.Entry.{alive}
 use denote.Triple.Walked.{says, walk_of, ends_at}
+use Rattle.net_base.specs.declared.timer.Timers.TheVariants.{Fixed}
 use Rattle.net_base.specs.IlEnd.{fresh_end}
 use Rattle.conversation.proofs.NoBytes.{nothing_in, owned, made}
 use Rattle.conversation.specs.contracts.ghost_end.GhostEnd as GhostEnd
@@ -24,7 +25,7 @@ pub fresh_spec : {M : Type 1} → statement M
 fresh_spec 𝓤 𝓛 𝓜 𝓡 wired =
     let c = f.clauses 𝓛 𝓜.mem 𝓡.returns in let 𝓣 = tables 𝓤 𝓛.H 𝓜 𝓡 𝓡.env in
     proved 𝓛 f.ended tt c 𝓜 𝓡 tt f.Key.name code.function (code.unfolded 𝓤 𝓛.H 𝓜 𝓡 wired) (λ κs. tt) (λ κs. tt) (λ κs qs bounds a gh are.
-    let r : GhostEnd.the_row.Denot = record { marker = record {}; end = fresh_end } in
+    let r : GhostEnd.the_row.Denot = record { marker = record {}; end = fresh_end Fixed } in
     let y : (walk_of 𝓛 f.ended tt c).Ghost = ((κs, qs, bounds, a, tt), gh) in let Post : Val → SProp 𝓤 = (walk_of 𝓛 f.ended tt c).post y in
     qed 𝓛 ((raw (alive 𝓛 f.ended.signature κs qs) ⊛ ‵ (owns (types_at f.ended.signature.params κs) a y.0.4)) ∷ raw ((c κs a).requires gh) ∷ []) ∵ split ! $ keep ! (0 ∷ []) $
     enter ! 𝓣.C 𝓣.Λ code.function [] Post $ alloc_all ! (λ l. pass_all ! refl tt $

@@ -1,6 +1,6 @@
 use Rattle.std.proofs.Common.{arith}
 use Rattle.world_file.proofs.Cuts.{bad-within}
-use Rattle.world_file.proofs.reader.read_database.Goals as goal
+use Rattle.world_file.proofs.versions.read_bundle.Goals as goal
 
 pub overflow_add-result : goal.overflow_add-result
 overflow_add-result c =
