@@ -1,0 +1,3 @@
+pub mod FreeEvents
+pub mod Lengths
+pub mod Counting
