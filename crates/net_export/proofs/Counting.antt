@@ -34,7 +34,7 @@ count_push w c n (y ∷ h) x = count_push w c (counted w c n y) h x
 
 -- What a script records is free.
 
-stands_below : (ss : List Script) (c : ℕ) → c < length ss → (s : Script) × (slice_get ss c ≡ Some s)
+pub stands_below : (ss : List Script) (c : ℕ) → c < length ss → (s : Script) × (slice_get ss c ≡ Some s)
 stands_below [] c below = absurd (omega arith)
 stands_below (s ∷ ss) zero below = (s, refl)
 stands_below (s ∷ ss) (suc c) below = stands_below ss c (omega arith)

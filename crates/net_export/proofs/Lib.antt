@@ -1,3 +1,4 @@
 pub mod FreeEvents
 pub mod Lengths
 pub mod Counting
+pub mod Placing
