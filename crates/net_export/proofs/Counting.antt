@@ -106,8 +106,8 @@ push : (w : World) (c : ℕ) → c < length w.scripts → (h : List Entry) (x : 
 push w c below h x legal may kept =
     record {
       count =
-      ap (λ (net : Net). length (net.owed c)) (after_push w h x)
-      ∙ (pushed w c below h x may kept (x.caller == c) refl ∙ sym (count_push w c 0 h x));
+          ap (λ (net : Net). length (net.owed c)) (after_push w h x)
+          ∙ (pushed w c below h x may kept (x.caller == c) refl ∙ sym (count_push w c 0 h x));
       free = subst (λ (net : Net). Each IsFreeDuty (net.owed c)) (sym (after_push w h x)) (free_after w (after w h) x c (step_of w (after w h) x) kept.free);
     }
 

@@ -2,3 +2,4 @@ pub mod FreeEvents
 pub mod Lengths
 pub mod Counting
 pub mod Placing
+pub mod SessionAnswers

@@ -13,6 +13,8 @@ use Rattle.sessions.specs.declared.world.Session.{Session}
 use Rattle.sessions.specs.declared.world.SessionWorld.{SessionWorld}
 use Rattle.sessions.specs.Script.{IsScript}
 use Rattle.sessions.specs.Worlds.{HaveStreams, IsTranslated, Translates, same_place}
+use Rattle.net_base.specs.declared.world.World.{World}
+use Rattle.net_export.specs.Answered.{ArePlayed, HaveHosts}
 use Rattle.net_export.specs.Placed.{PlaysSession, PutsSession}
 use Rattle.net_export.proofs.Counting.{stands_below}
 
@@ -41,7 +43,7 @@ last_more (z ∷ ss) zero x is = inl (sym (same_Some z x is))
 last_more (z ∷ ss) (suc n) x is = inr (last_more ss n x is)
 
 -- it is one of all
-in_all : (ss : List Session) (n : ℕ) (x : Session) → slice_get ss n ≡ Some x → In x ss
+pub in_all : (ss : List Session) (n : ℕ) (x : Session) → slice_get ss n ≡ Some x → In x ss
 in_all [] n x is = absurd (none-some x is)
 in_all (z ∷ ss) zero x is = inl (sym (same_Some z x is))
 in_all (z ∷ ss) (suc n) x is = inr (in_all ss n x is)
@@ -82,8 +84,8 @@ placing_none s is =
     record {
       count = refl;
       each = λ c before after one two.
-      let same : after ≡ before = same_Some after before (sym two ∙ one) in
-      record { host = ap (λ (x : Script). x.host) same; script = λ none. same; session = λ x there at. absurd there };
+          let same : after ≡ before = same_Some after before (sym two ∙ one) in
+          record { host = ap (λ (x : Script). x.host) same; script = λ none. same; session = λ x there at. absurd there };
       sayable = is.scripts;
     }
 
@@ -186,3 +188,12 @@ stream_at s n x streams is = streams.streams x (in_all s.sessions n x is)
 -- behind the last one
 pub past_all : (s : SessionWorld) (items : List Session) (n : ℕ) → items ≡ s.sessions → length items ≤ n → length s.sessions ≤ n
 past_all s items n all past = omega (arith, past, ap (λ (xs : List Session). length xs) all)
+
+-- Sessions of the translated world.
+
+pub are_played : (s : SessionWorld) (w : World) → HaveStreams s → HaveHosts s → IsTranslated s w → ArePlayed w s.sessions
+are_played s w streams hosts is x there =
+    let before = stands_below s.world.scripts x.place (streams.places x there) in
+    let after = stands_below w.scripts x.place (omega (arith, streams.places x there, is.count)) in
+    let now = is.each x.place before.0 after.0 before.1 after.1 in
+    record { as_script = after.0; stands = after.1; host = now.host ∙ hosts x before.0 there before.1; plays = now.session x there refl }

@@ -29,11 +29,7 @@ pub fn translate(alloc: Global, told: &mut SessionWorld) -> Result<(), AllocErro
 }
 
 // Puts a session's script in its place.
-fn put_script(
-    alloc: Global,
-    scripts: &mut Vec<Script>,
-    session: &Session,
-) -> Result<(), AllocError>
+fn put_script(alloc: Global, scripts: &mut Vec<Script>, session: &Session) -> Result<(), AllocError>
     requires place { session.now.place < length scripts.old.items }
     requires stream { (steps : List AnyStep) × IsScript session.now.stream steps }
     ensures { OnOk result (PutsSession session.now scripts.old.items scripts.new.items) }
