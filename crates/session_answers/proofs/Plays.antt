@@ -156,6 +156,7 @@ ahead h names (step.Close called) is = close_ahead h names called
 ahead h names (step.Ls path) is = absurd is
 ahead h names (step.Cs query) is = One _ _ _ refl (λ x. refl)
 ahead h names (step.Until moment) is = absurd is
+ahead h names step.Refresh is = absurd is
 ahead h names (step.Dial called address) is = absurd is
 ahead h names (step.Announce called address) is = absurd is
 ahead h names (step.Listen called from) is = absurd is
@@ -174,6 +175,7 @@ plays_as h names (step.Close called) is = refl
 plays_as h names (step.Ls path) is = absurd is
 plays_as h names (step.Cs query) is = refl
 plays_as h names (step.Until moment) is = absurd is
+plays_as h names step.Refresh is = absurd is
 plays_as h names (step.Dial called address) is = absurd is
 plays_as h names (step.Announce called address) is = absurd is
 plays_as h names (step.Listen called from) is = absurd is
@@ -184,8 +186,8 @@ plays_as h names (step.Hangup called) is = absurd is
 -- ---- replies
 
 none_waits : (after : Reply → List Bound) (p : Play) → Ahead after p → (go_on : List Bound → Option Reply → Doing State) → outcome (doing_of p None go_on) [] ≡ Waits
-none_waits after p (One a e next no ends) go_on = refl
-none_waits after p (Two a e b f next last goes ends yes) go_on = refl
+none_waits after p (One a e next other ends) go_on = refl
+none_waits after p (Two a e b f next last goes ends grants) go_on = refl
 
 -- without a reply the step waits
 pub waits : (h : ℕ) (names after : List Bound) (s : Step) → IsServed s → (rs left : List Reply) → rs ≡ [] → Plays h names s rs after None left
@@ -193,15 +195,20 @@ waits h names after s is rs left none =
     λ go_on. ap (λ (xs : List Reply). outcome (doing_of (play_of h names s) None go_on) xs) none
     ∙ none_waits (settled names (asked s)) (play_of h names s) (ahead h names s is) go_on
 
+-- the event of an ask, where there is one
+abbrev event_in : Event → Option Ask → Event
+event_in e None = e
+event_in e (Some x) = x.event
+
 event_is : (a b : ActorName) (e f : Event) (next : Reply → Play) → head (Asks a e next) ≡ Some (record { actor = b; event = f }) → e ≡ f
-event_is a b e f next is = cc
+event_is a b e f next is = ap (event_in e) is
 
 one_reply : (after : Reply → List Bound) (p : Play) → Ahead after p → (a : ActorName) (e : Event) → head p ≡ Some (record { actor = a; event = e })
     → (x : Reply) (left : List Reply) → (is_grant e && is_accepted x) ≡ false
     → (go_on : List Bound → Option Reply → Doing State) → outcome (doing_of p None go_on) (x ∷ left) ≡ outcome (go_on (after x) (Some x)) left
-one_reply after p (One a e next no ends) b f is x left through go_on = ap (λ (q : Play). outcome (doing_of q (Some x) go_on) left) (ends x)
-one_reply after p (Two a e b' f' next last goes ends yes) b f is x left through go_on =
-    let refused : is_accepted x ≡ false = accepted (is_grant f) (is_accepted x) (ap is_grant (sym (event_is a b e f next is)) ∙ yes) through in
+one_reply after p (One a e next other ends) b f is x left through go_on = ap (λ (q : Play). outcome (doing_of q (Some x) go_on) left) (ends x)
+one_reply after p (Two a e b' f' next last goes ends grants) b f is x left through go_on =
+    let refused : is_accepted x ≡ false = accepted (is_grant f) (is_accepted x) (ap is_grant (sym (event_is a b e f next is)) ∙ grants) through in
     ap (λ (q : Play). outcome (doing_of q (Some x) go_on) left) (goes x ∙ ap (λ (v : Bool). cond v (Asks b' f' last) (Ends (after x))) refused)
   where
     accepted : (u v : Bool) → u ≡ true → (u && v) ≡ false → v ≡ false
@@ -221,12 +228,12 @@ two_replies : (after : Reply → List Bound) (p : Play) → Ahead after p → (a
     → (x : Reply) → (is_grant e && is_accepted x) ≡ true
     → (go_on : List Bound → Option Reply → Doing State)
     → ((outcome (doing_of p None go_on) (x ∷ []) ≡ Waits) × ((y : Reply) (left : List Reply) → outcome (doing_of p None go_on) (x ∷ y ∷ left) ≡ outcome (go_on (after x) (Some y)) left))
-two_replies after p (One a e next no ends) b f is x more go_on = absurd (never (is_grant f) (is_accepted x) (ap is_grant (sym (event_is a b e f next is)) ∙ no) more)
+two_replies after p (One a e next other ends) b f is x more go_on = absurd (never (is_grant f) (is_accepted x) (ap is_grant (sym (event_is a b e f next is)) ∙ other) more)
   where
     never : (u v : Bool) → u ≡ false → (u && v) ≡ true → ⊥
     never true v n t = absurd (cc)
     never false v n t = absurd (cc)
-two_replies after p (Two a e b' f' next last goes ends yes) b f is x more go_on =
+two_replies after p (Two a e b' f' next last goes ends grants) b f is x more go_on =
     let accepted : is_accepted x ≡ true = second (is_grant f) (is_accepted x) more in
     let next_is : next x ≡ Asks b' f' last = goes x ∙ ap (λ (v : Bool). cond v (Asks b' f' last) (Ends (after x))) accepted in (
       ap (λ (q : Play). outcome (doing_of q (Some x) go_on) []) next_is,
