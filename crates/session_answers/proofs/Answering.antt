@@ -1,10 +1,10 @@
 -- The answers to a session's messages, one after the other.
-use Rattle.std.proofs.Common.{◌≡◌, ◌<◌, ℕ, List, Option, None, [], ◌∷◌, ◌++◌, length, refl, sym, subst, ◌∙◌, ap, append_assoc, append-nil, arith}
+use Rattle.std.proofs.Common.{◌≡◌, ◌<◌, ℕ, List, Option, None, [], ◌∷◌, ◌++◌, length, sym, subst, ◌∙◌, ap, append_assoc, append-nil, arith}
 use Rattle.std.proofs.lemmas.List.{nil_from_length}
 use Rattle.net_base.specs.declared.reply.Reply.{Reply}
 use Rattle.ninep_wire.specs.declared.request.Tmsg.{Tmsg}
 use Rattle.sessions.specs.Script.{AreMessages, Begins, IsStream, after}
-use Rattle.sessions.specs.Server.{Answered, Outcome, Waits, answers_by, answers_to, outcome}
+use Rattle.sessions.specs.Server.{Answered, Outcome, answers_by, answers_to, outcome}
 use Rattle.sessions.specs.Session.{State, first, session}
 use Rattle.sessions.specs.Table.{IsSound, Table}
 use Rattle.sessions.proofs.Sayable.{after_sound}

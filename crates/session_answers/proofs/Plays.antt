@@ -1,7 +1,6 @@
 -- The play of a session's step: one event, or two where a grant is accepted, after which the conversation is awaited.
 use Rattle.std.proofs.Common.{◌≡◌, ℕ, ◌&&◌, Bool, true, false, List, [], ◌∷◌, Option, Some, None, Result, Ok, Err, cond, bytes_eq, option_copied, MatchOption, Bor, refl, sym, ◌∙◌, ap}
 use Rattle.net_base.specs.declared.actor.ActorName.{ActorName}
-use Rattle.net_base.specs.declared.address.Proto.{Proto}
 use Rattle.net_base.specs.declared.event.Event.{Event}
 use Rattle.net_base.specs.declared.event.Event.TheVariants as event
 use Rattle.net_base.specs.declared.names.Ctl.{Ctl}
@@ -16,17 +15,17 @@ use Rattle.net_base.specs.declared.world.Step.{Step}
 use Rattle.net_base.specs.declared.world.Step.TheVariants as step
 use Rattle.net_base.specs.ControlWords as control
 use Rattle.net_base.specs.Paths.{reads, walk, writes}
-use Rattle.net_base.specs.Steps.{uses, misuses, ends_with, read_event, opens, Ask, Asks, Bound, Ends, Fid, Play, bind, controls, conversation_of, fid_of, if_accepted, is_accepted, is_bound, on_fid, open_actor, open_event, openable, opened_fid, play_of, puts, unbind}
-use Rattle.sessions.specs.Server.{Doing, Outcome, Waits, doing_of, outcome}
+use Rattle.net_base.specs.Steps.{uses, misuses, ends_with, read_event, opens, Ask, Asks, Bound, Ends, Fid, Play, bind, controls, conversation_of, fid_of, if_accepted, is_accepted, is_bound, on_fid, open_event, openable, opened_fid, play_of, puts, unbind}
+use Rattle.sessions.specs.Server.{Doing, Waits, doing_of, outcome}
 use Rattle.sessions.specs.Session.{State}
 use Rattle.script_task.specs.declared.request.Request.{Request}
 use Rattle.script_task.specs.declared.effect.Effect.{Effect}
 use Rattle.script_task.specs.declared.planned.Planned.{Planned}
 use Rattle.script_task.specs.Effects.{effect_of, opened, settles}
 use Rattle.script_task.specs.Planning.{ask_of}
-use Rattle.script_task.specs.Requests.{bound_after, head, opened_names, planned, request_play, settled}
+use Rattle.script_task.specs.Requests.{bound_after, head, planned, request_play, settled}
 use Rattle.net_tree.specs.Bindings.{Bindings}
-use Rattle.session_answers.specs.Served.{IsServed, Plays, asked, is_grant, went}
+use Rattle.session_answers.specs.Served.{IsServed, Plays, asked, is_grant}
 
 -- what a play does by its first event
 data Ahead (after : Reply → List Bound) : Play → Type 0 where

@@ -23,7 +23,7 @@ loop-replies-preserved c =
     let t : State = state_of c.serve_first.new.session in
     let served : IsServedFirst l.session.host s t l.rest.now c.in-Some.behind.now c.in-Some.answer l.replies c.serve_first.new.replies = rw c.in-Some.is at c.in_ok-answer.ensures.served in
     let at_host : IsServedFirst c.args.host s t l.rest.now c.in-Some.behind.now c.in-Some.answer l.replies c.serve_first.new.replies =
-        subst (λ (h : ℕ). IsServedFirst h s t l.rest.now c.in-Some.behind.now c.in-Some.answer l.replies c.serve_first.new.replies) l.invariant.host served in
+    subst (λ (h : ℕ). IsServedFirst h s t l.rest.now c.in-Some.behind.now c.in-Some.answer l.replies c.serve_first.new.replies) l.invariant.host served in
     record {
       so_far = answered_one c.args.host c.args.bytes.now (answered_of c.args.owes c.args.entries.now c.args.caller) l.answers c.push.new.self s t l.rest.now c.in-Some.behind.now
           c.in-Some.answer l.replies c.serve_first.new.replies (grind (arith, nat_tests)) at_host c.in_ok-push.ensures.ok l.invariant.so_far;

@@ -1,4 +1,3 @@
-use Rattle.std.proofs.Common.{refl}
 use Rattle.session_answers.proofs.Plays.{none_left, one_done, two_done}
 use Rattle.session_answers.proofs.session.Session.play.Goals as goal
 
