@@ -49,7 +49,8 @@ next_free s None x free is = absurd (none-some _ is)
 next_free s (Some ask) x free is = subst (λ (a : Ask). IsFree a.event) (same_Some ask (asked_by x) is) free
 
 -- its first duty, or its next event
-asked_free : (ds : List Duty) (k : Caller) (s : Script) (h : List Entry) (c : ℕ) (x : Entry) → k ≡ IsScript s → Each IsFreeDuty ds → IsAsked ds k (next_of k h c) x → IsFree x.event
+asked_free : (ds : List Duty) (k : Caller) (s : Script) (h : List Entry) (c : ℕ) (x : Entry) → k ≡ IsScript s → Each IsFreeDuty ds
+    → IsAsked ds k (next_of k h c) x → IsFree x.event
 asked_free (d ∷ ds) k s h c x script free is = subst (λ (a : Ask). IsFree a.event) is free.0
 asked_free [] k s h c x script free is =
     next_free s (position s.host s.steps [] (own_replies h c)).next x (script_free s (own_replies h c))
@@ -72,7 +73,8 @@ by_itself w net x c (Some s) is own free shows ready =
     ∙ sym (ap (λ (y : Shown). (puts w x.actor y.emits + follow_ups x.actor x.event y.reply) + releases x.actor y.ended) shows) in
     rw own (length-append (drop 1 (net.owed c)) new ∙ omega (arith, brings, length-drop 1 (net.owed c)))
 
-free_after : (w : World) (net : Net) (x : Entry) (c : ℕ) (o : Option (Step Actor)) → Each IsFreeDuty (net.owed c) → Each IsFreeDuty ((net_after w net x o).owed c)
+free_after : (w : World) (net : Net) (x : Entry) (c : ℕ) (o : Option (Step Actor)) → Each IsFreeDuty (net.owed c)
+    → Each IsFreeDuty ((net_after w net x o).owed c)
 free_after w net x c None free = free
 free_after w net x c (Some s) free = by (x.caller == c)
   where

@@ -70,7 +70,8 @@ either false ds es one two = two
 courier_free : (w : World) (a : ActorName) (s : ℕ) (o : Option Taken) → Each IsFreeDuty (courier_duty w a s o)
 courier_free w (name.Medium m) s (Some t) =
     either (has_address w t.to t.packet.dst.ip) _ (forwarded w t.to s t.packet) (tt, tt)
-    (either (nat_lt 1 t.packet.ttl) (put_by (way w t.to t.packet.dst.ip) s (record t.packet { ttl = t.packet.ttl - 1 })) [] (put_free (way w t.to t.packet.dst.ip) s _) tt)
+    (either (nat_lt 1 t.packet.ttl) (put_by (way w t.to t.packet.dst.ip) s (record t.packet { ttl = t.packet.ttl - 1 })) []
+    (put_free (way w t.to t.packet.dst.ip) s _) tt)
 courier_free w _ s _ = tt
 
 tick_free : (actors : ActorName → Actor) (s now : ℕ) (a : ActorName) → Each IsFreeDuty (tick_at actors s now a)
@@ -84,7 +85,8 @@ release_free : (a : ActorName) (s : ℕ) (b : Actor) (ended : Bool) → Each IsF
 release_free (name.Conv h p n) s (IsConv c) true = (tt, tt)
 release_free _ s _ _ = tt
 
-pub duties_free : (w : World) (actors : ActorName → Actor) (a : ActorName) (s : ℕ) (work : Work) (step : Step Actor) → Each IsFreeDuty (duties w actors a s work step)
+pub duties_free : (w : World) (actors : ActorName → Actor) (a : ActorName) (s : ℕ) (work : Work) (step : Step Actor)
+    → Each IsFreeDuty (duties w actors a s work step)
 duties_free w actors a s work step =
     each_append IsFreeDuty _ (release a s step.state step.outcome.ended)
     (each_append IsFreeDuty _ (ticks w actors a s work.event)
@@ -110,7 +112,11 @@ own_free (event.Move m) own = own
 own_free _ own = tt
 
 fits_free : Fits FreeAt AnyReply
-fits_free = record { other = λ a e own. own_free e own; dialled = λ r fine. each_any (λ (line : List ℕ). IsOpened FreeAt (clone_path line)) (λ line a m. tt) (lines_in r) }
+fits_free =
+    record {
+      other = λ a e own. own_free e own;
+      dialled = λ r fine. each_any (λ (line : List ℕ). IsOpened FreeAt (clone_path line)) (λ line a m. tt) (lines_in r);
+    }
 
 says_free : (h : ℕ) (s : ScriptStep) → Says h FreeAt s
 says_free h (step.Open called path m) = ((tt, tt), λ a m. tt)

@@ -21,7 +21,7 @@ use Rattle.net_base.specs.declared.reply.Reply.TheVariants as reply
 use Rattle.net_base.specs.declared.world.MediumSpec.{MediumSpec}
 use Rattle.net_base.specs.declared.world.World.{World}
 use Rattle.net_base.specs.ActorStep.{Step, when}
-use Rattle.net_base.specs.Actors.{Actor, IsDir, IsConv, IsMedium, actor_step, has_actor, table_step}
+use Rattle.net_base.specs.Actors.{Actor, IsDir, IsConv, IsMedium, actor_step, has_actor, step_as, table_step}
 use Rattle.net_base.specs.Conversation.{Conv, conv_step}
 use Rattle.net_base.specs.Directory.{Dir, dir_step}
 use Rattle.net_base.specs.Duties.{Duty, duties, put_by, emitted_put, close_calls, follow_up, courier_duty, ticks, release}
@@ -148,14 +148,15 @@ in_directory w h p event.Arrive (given.Birth packet start limit) d s is = absurd
 in_directory w h p _ gift d s is = tt
 
 as_dir : (w : World) (h : ℕ) (p : Proto) (e : Event) (gift : With) (o : Option (Step Dir)) (s : Step Actor) → ((t : Step Dir) → o ≡ Some t → IsGiven e gift)
-    → option_map (λ (t : Step Dir). record { state = IsDir t.state; outcome = t.outcome }) o ≡ Some s → IsPart (name.Dir h p) e gift s
+    → step_as IsDir o ≡ Some s → IsPart (name.Dir h p) e gift s
 as_dir w h p e gift None s given is = absurd (none-some s is)
 as_dir w h p e gift (Some t) s given is = record { given = given t refl; state = tt; takes = tt }
 
 as_conv : (h : ℕ) (p : Proto) (n : ℕ) (e : Event) (gift : With) (o : Option (Step Conv)) (s : Step Actor)
-    → option_map (λ (t : Step Conv). record { state = IsConv t.state; outcome = t.outcome }) o ≡ Some s → IsPart (name.Conv h p n) e gift s
+    → step_as IsConv o ≡ Some s → IsPart (name.Conv h p n) e gift s
 as_conv h p n e gift None s is = absurd (none-some s is)
-as_conv h p n e gift (Some t) s is = record { given = tt; state = subst (λ (u : Step Actor). IsStateOf (name.Conv h p n) u.state) (same_Some _ s is) tt; takes = tt }
+as_conv h p n e gift (Some t) s is =
+    record { given = tt; state = subst (λ (u : Step Actor). IsStateOf (name.Conv h p n) u.state) (same_Some _ s is) tt; takes = tt }
 
 abbrev LeavesNothing : Option (Step Medium) → Type 0
 LeavesNothing None = Unit {0}
@@ -175,7 +176,7 @@ medium_nothing spec seed event.Take gift m free = absurd free
 medium_nothing spec seed _ _ m free = tt
 
 as_medium : (n : ℕ) (e : Event) (gift : With) (o : Option (Step Medium)) (s : Step Actor) → LeavesNothing o
-    → option_map (λ (t : Step Medium). record { state = IsMedium t.state; outcome = t.outcome }) o ≡ Some s → IsPart (name.Medium n) e gift s
+    → step_as IsMedium o ≡ Some s → IsPart (name.Medium n) e gift s
 as_medium n e gift None s nothing is = absurd (none-some s is)
 as_medium n e gift (Some t) s nothing is =
     record {
@@ -189,12 +190,13 @@ as_medium n e gift (Some t) s nothing is =
     none_taken (Some x) none = absurd (none-some x (sym none))
 
 of_medium : (w : World) (n : ℕ) (e : Event) (gift : With) (o : Option MediumSpec) (m : Medium) (s : Step Actor) → IsFree e
-    → option_and_then (λ (spec : MediumSpec). option_map (λ (t : Step Medium). record { state = IsMedium t.state; outcome = t.outcome }) (medium_step spec w.seed e gift m)) o ≡ Some s
+    → option_and_then (λ (spec : MediumSpec). step_as IsMedium (medium_step spec w.seed e gift m)) o ≡ Some s
     → IsPart (name.Medium n) e gift s
 of_medium w n e gift None m s free is = absurd (none-some s is)
 of_medium w n e gift (Some spec) m s free is = as_medium n e gift (medium_step spec w.seed e gift m) s (medium_nothing spec w.seed e gift m free) is
 
-in_table : (w : World) (a : ActorName) (before : Actor) (now : ℕ) (work : Work) (s : Step Actor) → IsFree work.event → table_step w a before now work ≡ Some s → IsPart a work.event work.with s
+in_table : (w : World) (a : ActorName) (before : Actor) (now : ℕ) (work : Work) (s : Step Actor) → IsFree work.event
+    → table_step w a before now work ≡ Some s → IsPart a work.event work.with s
 in_table w (name.Desk h) before now work s free is = record { given = tt; state = tt; takes = tt }
 in_table w (name.Dir h p) (IsDir d) now work s free is =
     as_dir w h p work.event work.with (dir_step w h p work.event work.with d) s (λ t. in_directory w h p work.event work.with d t) is
@@ -205,7 +207,8 @@ in_table w (name.Dir h p) _ now work s free is = absurd (none-some s is)
 in_table w (name.Conv h p n) _ now work s free is = absurd (none-some s is)
 in_table w (name.Medium m) _ now work s free is = absurd (none-some s is)
 
-is_part : (w : World) (a : ActorName) (before : Actor) (now : ℕ) (work : Work) (s : Step Actor) → IsFree work.event → actor_step w a before now work ≡ Some s → IsPart a work.event work.with s
+is_part : (w : World) (a : ActorName) (before : Actor) (now : ℕ) (work : Work) (s : Step Actor) → IsFree work.event
+    → actor_step w a before now work ≡ Some s → IsPart a work.event work.with s
 is_part w a before now work s free is = in_table w a before now work s free (given_when (has_actor w a) (table_step w a before now work) s is)
   where
     given_when : (b : Bool) (o : Option (Step Actor)) (x : Step Actor) → when b o ≡ Some x → o ≡ Some x
@@ -243,11 +246,15 @@ in_all put follow courier ticked free x y z one two three four five =
     ∙ omega (arith, one, two, five, length-append put follow, length-append (put ++ follow) [], length-append ((put ++ follow) ++ []) []))
 
 -- an entry that is ready owes as many events as what it shows brings
-pub duties_length : (w : World) (actors : ActorName → Actor) (a : ActorName) (now stamp : ℕ) (work : Work) (s : Step Actor) → IsFree work.event → actor_step w a (actors a) now work ≡ Some s
-    → length (duties w actors a stamp work s) ≡ (puts w a (option_map header s.outcome.emit) + follow_ups a work.event s.outcome.reply) + releases a s.outcome.ended
+pub duties_length : (w : World) (actors : ActorName → Actor) (a : ActorName) (now stamp : ℕ) (work : Work) (s : Step Actor) → IsFree work.event
+    → actor_step w a (actors a) now work ≡ Some s
+    → length (duties w actors a stamp work s)
+    ≡ (puts w a (option_map header s.outcome.emit) + follow_ups a work.event s.outcome.reply) + releases a s.outcome.ended
 duties_length w actors a now stamp work s free is =
     let part = is_part w a (actors a) now work s free is in
-    in_all (emitted_put w a stamp s.outcome.emit) (follow_up a stamp work.event work.with s.outcome.reply) (courier_duty w a stamp s.outcome.taken) (ticks w actors a stamp work.event)
+    in_all (emitted_put w a stamp s.outcome.emit) (follow_up a stamp work.event work.with s.outcome.reply) (courier_duty w a stamp s.outcome.taken)
+    (ticks w actors a stamp work.event)
     (release a stamp s.state s.outcome.ended) _ _ _
-    (emitted_length w a stamp s.outcome.emit) (follow_length a stamp work.event work.with s.outcome.reply part.given) (courier_none w a stamp s.outcome.taken part.takes)
+    (emitted_length w a stamp s.outcome.emit) (follow_length a stamp work.event work.with s.outcome.reply part.given)
+    (courier_none w a stamp s.outcome.taken part.takes)
     (ticks_none w actors a stamp work.event free) (release_length a stamp s.state s.outcome.ended part.state)

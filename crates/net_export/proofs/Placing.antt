@@ -76,7 +76,8 @@ first_of n s = record s { sessions = take n s.sessions }
 
 pub record Placing (s : SessionWorld) (n : ℕ) (now : List Script) : Type 0 where
   pub count : length now ≡ length s.world.scripts
-  pub each : (c : ℕ) (before after : Script) → slice_get s.world.scripts c ≡ Some before → slice_get now c ≡ Some after → Translates (first_of n s) c before after
+  pub each : (c : ℕ) (before after : Script) → slice_get s.world.scripts c ≡ Some before → slice_get now c ≡ Some after
+      → Translates (first_of n s) c before after
   pub sayable : list_all (is_script (length s.world.hosts)) now ≡ true
 
 pub placing_none : (s : SessionWorld) → IsWorld s.world → Placing s 0 s.world.scripts
@@ -101,23 +102,29 @@ here_or_not c d = by (c == d) refl
     by true is = inl (eqb-true c d is)
     by false is = inr (eqb-false c d is)
 
-sayable_more : (hosts : ℕ) (x : Session) (old new : List Script) → PutsSession x old new → list_all (is_script hosts) old ≡ true → list_all (is_script hosts) new ≡ true
+sayable_more : (hosts : ℕ) (x : Session) (old new : List Script) → PutsSession x old new → list_all (is_script hosts) old ≡ true
+    → list_all (is_script hosts) new ≡ true
 sayable_more hosts x old new puts all = all_from (is_script hosts) new (λ c y is. each c y is (here_or_not c x.place))
   where
     each : (c : ℕ) (y : Script) → slice_get new c ≡ Some y → (c ≡ x.place) ⊎ (c ≡ x.place → ⊥) → is_script hosts y ≡ true
     each c y is (inr other) = all_at (is_script hosts) old c y all (sym (puts.others c other) ∙ is)
     each c y is (inl same) =
         let stood = stands_below old c (omega (arith, slice_get_within new c y is, puts.count)) in
-        let own : PlaysSession x stood.0 y = puts.own stood.0 y (ap (λ (k : ℕ). slice_get old k) (sym same) ∙ stood.1) (ap (λ (k : ℕ). slice_get new k) (sym same) ∙ is) in
+        let own : PlaysSession x stood.0 y = puts.own stood.0 y (ap (λ (k : ℕ). slice_get old k) (sym same) ∙ stood.1)
+        (ap (λ (k : ℕ). slice_get new k) (sym same) ∙ is) in
         let host : nat_lt y.host hosts ≡ true =
-        subst (λ (h : ℕ). nat_lt h hosts ≡ true) (sym own.host) (and_parts (nat_lt stood.0.host hosts) (list_all is_step stood.0.steps) (all_at (is_script hosts) old c stood.0 all stood.1)).0 in
+        subst (λ (h : ℕ). nat_lt h hosts ≡ true) (sym own.host)
+        (and_parts (nat_lt stood.0.host hosts) (list_all is_step stood.0.steps) (all_at (is_script hosts) old c stood.0 all stood.1)).0 in
         and_from (nat_lt y.host hosts) (list_all is_step y.steps) host own.sayable
 
-translates_more : (s : SessionWorld) (n : ℕ) (x : Session) (old new : List Script) → HaveStreams s → slice_get s.sessions n ≡ Some x → Placing s n old → PutsSession x old new
-    → (c : ℕ) (before after : Script) → slice_get s.world.scripts c ≡ Some before → slice_get new c ≡ Some after → (c ≡ x.place) ⊎ (c ≡ x.place → ⊥) → Translates (first_of (suc n) s) c before after
+translates_more : (s : SessionWorld) (n : ℕ) (x : Session) (old new : List Script) → HaveStreams s → slice_get s.sessions n ≡ Some x
+    → Placing s n old → PutsSession x old new
+    → (c : ℕ) (before after : Script) → slice_get s.world.scripts c ≡ Some before → slice_get new c ≡ Some after → (c ≡ x.place) ⊎ (c ≡ x.place → ⊥)
+    → Translates (first_of (suc n) s) c before after
 translates_more s n x old new streams is placing puts c before after one two (inl same) =
     let stood = stands_below old c (omega (arith, slice_get_within new c after two, puts.count)) in
-    let own : PlaysSession x stood.0 after = puts.own stood.0 after (ap (λ (k : ℕ). slice_get old k) (sym same) ∙ stood.1) (ap (λ (k : ℕ). slice_get new k) (sym same) ∙ two) in
+    let own : PlaysSession x stood.0 after = puts.own stood.0 after (ap (λ (k : ℕ). slice_get old k) (sym same) ∙ stood.1)
+    (ap (λ (k : ℕ). slice_get new k) (sym same) ∙ two) in
     let so_far = placing.each c before stood.0 one stood.1 in
     record {
       host = own.host ∙ so_far.host;
@@ -138,9 +145,23 @@ translates_more s n x old new streams is placing puts c before after one two (in
       ];
     }
 
--- a session more
-pub placing_more : (s : SessionWorld) (n : ℕ) (x : Session) (old new : List Script) → HaveStreams s → slice_get s.sessions n ≡ Some x → Placing s n old → PutsSession x old new → Placing s (n + 1) new
-placing_more s n x old new streams is placing puts =
+-- The session that a loop is at.
+
+pub session_at : (s : SessionWorld) (items : List Session) (n : ℕ) (x : Session) → items ≡ s.sessions → n < length items → x ≡ get_or items n x
+    → slice_get s.sessions n ≡ Some x
+session_at s items n x all below is = subst (λ (xs : List Session). slice_get xs n ≡ Some x) all (slice_get_read items (length items) n x refl below is)
+
+pub has_place : (s : SessionWorld) (n : ℕ) (x : Session) (now : List Script) → HaveStreams s → Placing s n now → slice_get s.sessions n ≡ Some x
+    → x.place < length now
+has_place s n x now streams placing is = omega (arith, streams.places x (in_all s.sessions n x is), placing.count)
+
+pub stream_at : (s : SessionWorld) (n : ℕ) (x : Session) → HaveStreams s → slice_get s.sessions n ≡ Some x → (steps : List Step) × IsScript x.stream steps
+stream_at s n x streams is = streams.streams x (in_all s.sessions n x is)
+
+-- its script was put in its place
+pub placing_more : (s : SessionWorld) (n : ℕ) (x : Session) (old new : List Script) → HaveStreams s → Placing s n old → PutsSession x old new
+    → slice_get s.sessions n ≡ Some x → Placing s (n + 1) new
+placing_more s n x old new streams placing puts is =
     let more : Placing s (suc n) new =
     record {
       count = puts.count ∙ placing.count;
@@ -149,15 +170,19 @@ placing_more s n x old new streams is placing puts =
     } in
     subst (λ (k : ℕ). Placing s k new) (omega arith) more
 
-pub has_place : (s : SessionWorld) (n : ℕ) (x : Session) (now : List Script) → HaveStreams s → slice_get s.sessions n ≡ Some x → Placing s n now → x.place < length now
-has_place s n x now streams is placing = omega (arith, streams.places x (in_all s.sessions n x is), placing.count)
+-- Behind the last one.
 
-pub all_placed : (s : SessionWorld) (n : ℕ) (now : List Script) → length s.sessions ≤ n → Placing s n now → IsTranslated s (record s.world { scripts = now })
-all_placed s n now all placing =
+pub past_all : (s : SessionWorld) (items : List Session) (n : ℕ) → items ≡ s.sessions → length items ≤ n → length s.sessions ≤ n
+past_all s items n all past = omega (arith, past, ap (λ (xs : List Session). length xs) all)
+
+pub all_placed : (s : SessionWorld) (n : ℕ) (now : List Script) → Placing s n now → length s.sessions ≤ n → IsTranslated s (record s.world { scripts = now })
+all_placed s n now placing all =
     record {
       others = refl;
       count = placing.count;
-      each = λ c before after one two. subst (λ (ss : List Session). Translates (record s { sessions = ss }) c before after) (take_all n s.sessions all) (placing.each c before after one two);
+      each =
+          λ c before after one two. subst (λ (ss : List Session). Translates (record s { sessions = ss }) c before after) (take_all n s.sessions all)
+          (placing.each c before after one two);
     }
 
 pub is_world : (s : SessionWorld) (n : ℕ) (now : List Script) → IsWorld s.world → Placing s n now → IsWorld (record s.world { scripts = now })
@@ -177,17 +202,6 @@ is_world s n now is placing =
       versions_timed = is.versions_timed;
       versions = is.versions;
     }
-
--- the session that a loop is at
-pub session_at : (s : SessionWorld) (items : List Session) (n : ℕ) (x : Session) → items ≡ s.sessions → n < length items → x ≡ get_or items n x → slice_get s.sessions n ≡ Some x
-session_at s items n x all below is = subst (λ (xs : List Session). slice_get xs n ≡ Some x) all (slice_get_read items (length items) n x refl below is)
-
-pub stream_at : (s : SessionWorld) (n : ℕ) (x : Session) → HaveStreams s → slice_get s.sessions n ≡ Some x → (steps : List Step) × IsScript x.stream steps
-stream_at s n x streams is = streams.streams x (in_all s.sessions n x is)
-
--- behind the last one
-pub past_all : (s : SessionWorld) (items : List Session) (n : ℕ) → items ≡ s.sessions → length items ≤ n → length s.sessions ≤ n
-past_all s items n all past = omega (arith, past, ap (λ (xs : List Session). length xs) all)
 
 -- Sessions of the translated world.
 

@@ -10,5 +10,5 @@ owes_after-requires-clause-legal c = subst (λ (k : List Entry). IsLegal c.args.
 
 pub returns : goal.returns
 returns c =
-    in_history c.args.world.now c.as_slice-entries.result.now c.args.history.now c.args.bytes.now c.args.caller c.host_of.result c.in_ok-owes.owes c.answers_by.result
-    c.as_slice-entries.ensures c.in_ok-owes.ensures c.host_of.ensures c.answers_by.ensures
+    in_history c.args.world.now c.as_slice-entries.result.now c.args.history.now c.args.bytes.now c.args.caller c.host_of.result c.in_ok-owes.owes
+    c.answers_by.result c.as_slice-entries.ensures c.in_ok-owes.ensures c.host_of.ensures c.answers_by.ensures
