@@ -4,7 +4,7 @@
 --     IsSummed      the summary of such a run alone
 --     IsWorldOf     the world that a command runs
 --     IsAnswer      an answer to a command and its input
-use Rattle.std.specs.Prelude.{◌≡◌, ◌↔◌, ◌⊎◌, ◌&&◌, ℕ, Bool, true, false, List, [], ◌∷◌, ◌++◌, length, map, flat_map, nat_lt, Option, Some, None, Ok, option_and_then, option_to_list}
+use Rattle.std.specs.Prelude.{◌≡◌, ◌↔◌, ◌⊎◌, ◌&&◌, ℕ, Bool, true, false, List, [], ◌∷◌, ◌++◌, length, map, flat_map, nat_lt, Option, Some, None, Ok, option_and_then, option_to_list, Err, codes}
 use Rattle.net_base.specs.declared.address.Proto.TheVariants.{Il, Udp}
 use Rattle.net_base.specs.declared.history.Entry.{Entry}
 use Rattle.net_base.specs.declared.world.World.{World}
@@ -27,7 +27,16 @@ use Rattle.made_world.specs.Made.{made_world}
 use Rattle.world_text.specs.WorldText.{world_reading}
 use Rattle.world_writer.specs.Written.{file_text}
 use Rattle.net_model.specs.Answers.{Answer, bad_input, lines_answer, cs_answer, input_limit}
-use Rattle.net_model.specs.Words.{Command, Cs, Query, Dns, Run, Make, Big, Check, reads}
+use Rattle.net_model.specs.Words.{Command, Cs, Query, Dns, Run, Make, Big, Check, reads, Export, Translate}
+use Rattle.net_base.specs.Numeral.{numeral}
+use Rattle.net_base.specs.Hexadecimal.{hex_word}
+use Rattle.ninep_wire.specs.declared.request.Tmsg.{Tmsg}
+use Rattle.sessions.specs.declared.world.Session.{Session}
+use Rattle.sessions.specs.declared.world.SessionWorld.{SessionWorld}
+use Rattle.sessions.specs.Script.{AreMessages}
+use Rattle.sessions.specs.Session.{answers}
+use Rattle.sessions.specs.Worlds.{IsTranslated}
+use Rattle.world_file.specs.SessionText.{Says}
 use Rattle.checked_input.specs.Input.{Handed, IsBadHanded, bad_world, parts_of}
 use Rattle.commands.specs.Checked.{IsChecked}
 
@@ -36,6 +45,11 @@ use Rattle.commands.specs.Checked.{IsChecked}
 -- whether a command has an input that is over its limit
 abbrev pub is_over : Command → List ℕ → Bool
 is_over asked input = reads asked && nat_lt (input_limit asked) (length input)
+
+-- the first bad line of a text of a world with sessions
+abbrev pub IsBadTold : List ℕ → Option (ℕ × ℕ) → Type 0
+IsBadTold input None = (s : SessionWorld) × Says input (Ok s)
+IsBadTold input (Some bad) = Says input (Err bad)
 
 -- the first bad line of an input within the limit, and its least cause, if a line is bad
 abbrev pub IsBadLine : Command → List ℕ → Option (ℕ × ℕ) → Type 0
@@ -46,6 +60,8 @@ IsBadLine (Run workers) input found = found ≡ bad_world (world_reading input)
 IsBadLine (Make messages) input found = found ≡ None
 IsBadLine (Big messages) input found = found ≡ None
 IsBadLine Check input found = IsBadHanded (parts_of input) input found
+IsBadLine (Export workers) input found = IsBadTold input found
+IsBadLine Translate input found = IsBadTold input found
 
 -- the same of any input: one over the limit has cause 9 at line 0
 abbrev pub IsBadOf : Bool → Command → List ℕ → Option (ℕ × ℕ) → Type 0
@@ -140,6 +156,7 @@ pub record IsSummed (w : World) (answer : Answer) : Type 0 where
 abbrev pub IsWorldOf : Command → List ℕ → World → Type 0
 IsWorldOf (Run workers) input w = world_reading input ≡ Ok w
 IsWorldOf (Big messages) input w = w ≡ made_world messages
+IsWorldOf (Export workers) input w = (s : SessionWorld) × Says input (Ok s) × IsTranslated s w
 IsWorldOf _ input w = ⊥
 
 -- Answers of make.
@@ -154,6 +171,37 @@ made messages = record { status = 0; text = file_text (made_world messages) }
 abbrev pub IsJudged : List ℕ → Answer → Type 0
 IsJudged input answer = (handed : Handed input) → IsChecked handed.world handed.history handed.told answer
 
+-- Answers of export and translate.
+
+-- a line `9p CALLER HEX` for an answer
+abbrev pub answer_line : ℕ → List ℕ → List ℕ
+answer_line c answer = codes "9p " ++ numeral c ++ codes " " ++ hex_word answer ++ 10 ∷ []
+
+-- the text is the lines of the answers of these sessions, in order
+abbrev pub AreAnswered : World → List Entry → List Session → List ℕ → Type 0
+AreAnswered w h [] text = text ≡ []
+AreAnswered w h (s ∷ ss) text =
+    (ms : List Tmsg) × AreMessages s.stream ms
+    × (rest : List ℕ) × (text ≡ flat_map (answer_line s.place) (answers w s.host ms s.place h) ++ rest) × AreAnswered w h ss rest
+
+-- the text of one legal and timed history of the translated world with its summary and the answers of its sessions, and the
+-- status by how it ends
+pub record IsExported (s : SessionWorld) (answer : Answer) : Type 0 where
+  pub world : World
+  pub translated : IsTranslated s world
+  pub history : List Entry
+  pub legal : IsLegal world history
+  pub timed : IsTimed world history
+  pub headline : Headline world history
+  pub lines : List ℕ
+  pub answered : AreAnswered world history s.sessions lines
+  pub text : answer.text ≡ history_text history ++ summary world history ++ lines
+  pub status : IsStatus world (after world history) answer.status
+
+-- the text of a translated world
+abbrev pub translation : World → Answer
+translation w = record { status = 0; text = file_text w }
+
 -- Answers.
 
 -- an answer to an input without a bad line
@@ -165,6 +213,8 @@ IsFound (Run workers) input answer = (w : World) × IsWorldOf (Run workers) inpu
 IsFound (Make messages) input answer = answer ≡ made messages
 IsFound (Big messages) input answer = (w : World) × IsWorldOf (Big messages) input w × IsSummed w answer
 IsFound Check input answer = IsJudged input answer
+IsFound (Export workers) input answer = (s : SessionWorld) × Says input (Ok s) × IsExported s answer
+IsFound Translate input answer = (s : SessionWorld) × Says input (Ok s) × (w : World) × IsTranslated s w × (answer ≡ translation w)
 
 -- an answer to an input with this first bad line, if any
 abbrev pub IsGiven : Option (ℕ × ℕ) → Command → List ℕ → Answer → Type 0

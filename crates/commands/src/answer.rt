@@ -12,7 +12,7 @@ ghost use Rattle.commands.specs.Built.{IsRun, IsSummed};
 ghost use Rattle.commands.specs.Runs.{status_of};
 ghost use Rattle.run_record.specs.Ends.{EndsSo};
 
-use agenda::{BookedRun, RunEnd};
+use agenda::{BookedRun, Run, RunEnd};
 use cs_resolver::CsError;
 use journal::ClosedBooks;
 use net_base::{Lines, Octets, World};
@@ -142,6 +142,30 @@ impl Answer {
         let lines = summary_of_run(alloc, world, run)?;
         let text = text_by(rt, alloc, workers, &run.books)?;
         Answer::of_books(world, &run.books, text, &lines, run.end)
+    }
+
+    /// The text of a run with its summary, and the lines behind them.
+    pub fn export<R: Threads + Sync>(
+        rt: &R,
+        alloc: Global,
+        workers: u32,
+        world: &World,
+        run: &Run,
+        lines: &Octets,
+    ) -> Result<Answer, AllocError> {
+        let mut text = text_by(rt, alloc, workers, &run.history)?;
+        let status = RunStatus {
+            answered: run.answered,
+            end: Some(run.end),
+        };
+        let summary = summary_by(alloc, world, &run.history, status)?;
+        text.append(summary.as_slice())?;
+        text.append(lines.as_slice())?;
+        let end = run.end;
+        Ok(Answer {
+            status: run_status(end),
+            text,
+        })
     }
 
     /// The summary of a run alone.

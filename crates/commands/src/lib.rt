@@ -3,6 +3,7 @@
 
 mod answer;
 mod dns_reply;
+mod exporting;
 mod judgement;
 mod law;
 mod made_run;
@@ -13,6 +14,7 @@ mod run;
 
 pub use answer::{Answer, READ_FAULT, TOO_LONG, USAGE};
 pub use dns_reply::dns;
+pub use exporting::{export_over, translate};
 pub use judgement::check;
 pub use law::values_are_answers;
 pub use made_run::big;

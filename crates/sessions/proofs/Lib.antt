@@ -1,2 +1,3 @@
 mod Tags
 mod WorkedSession
+pub mod Sayable

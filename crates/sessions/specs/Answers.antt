@@ -119,9 +119,9 @@ is_granting (reply.Count n) = true
 is_granting (reply.Lines lines) = true
 is_granting _ = false
 
--- the reply as a history prints it
+-- the reply as a history prints it, cut where it has no room in a message; no reply to a session's events is so long
 abbrev pub printed : Reply → List ℕ
-printed x = drop 1 (spaced (reply_words x))
+printed x = take 8192 (drop 1 (spaced (reply_words x)))
 
 -- what was opened: of clone and listen it is the ctl file of the slot
 abbrev pub now_open : Node → Reply → Node

@@ -13,6 +13,7 @@ mod totals;
 
 pub use entry::text_of;
 pub use halves::text_by;
+pub use reply::put_reply;
 pub use law::{plain_texts_tell, printed_runs_tell, texts_tell_words};
 pub use run_record::RunEnd;
 pub use summary::{RunStatus, summary_by};

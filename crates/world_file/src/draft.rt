@@ -4,6 +4,7 @@ ghost use Rattle.std.specs.List.{list_any, last_or, position_or_len};
 ghost use Rattle.net_base.specs.Routes.{has_ip};
 ghost use Rattle.world_text.specs.WorldLines as spec;
 ghost use Rattle.world_text.specs.WorldText.{missing};
+ghost use Rattle.world_file.specs.SessionText.{host_of_last};
 
 use crate::host::HostDraft;
 use crate::medium::MediumDraft;
@@ -109,6 +110,16 @@ impl Draft {
             last_host(self.hosts.as_slice())
         } else {
             None
+        }
+    }
+
+    /// The host of the last script, 0 without one.
+    pub(crate) fn last_host(&self) -> u32
+        ensures { result ≡ host_of_last self.now }
+    {
+        match self.scripts.as_slice().last() {
+            Some(script) => script.host,
+            None => 0,
         }
     }
 

@@ -11,7 +11,12 @@ mod lines;
 mod medium;
 mod reader;
 mod versions;
+mod session_text;
 
 pub use fault::WorldError;
 pub use net_base::World;
 pub use reader::read_world;
+pub use session_text::read_sessions;
+
+#[cfg(test)]
+mod tests;

@@ -1,7 +1,9 @@
 //! A line of a text, behind those before it.
-ghost use Rattle.std.specs.Prelude.{◌≡◌, IfOk, IfErr};
+ghost use Rattle.std.specs.Prelude.{◌≡◌, true, Ok, IfOk, IfErr};
+ghost use Rattle.world_text.specs.LineFit.{is_fit};
 ghost use Rattle.world_text.specs.LineReading.{read_line};
 ghost use Rattle.world_text.specs.WorldLines as spec;
+ghost use Rattle.world_file.specs.SessionText.{under_session};
 ghost use Rattle.world_file.specs.Told.{IsSmall, TellsCause, going};
 
 use crate::draft::Draft;
@@ -34,6 +36,34 @@ impl Draft {
     {
         lines_are_spelled();
         let line = read_line(alloc, text)?;
+        self.take_judged(alloc, line)
+    }
+
+    /// A line of a world under a session, where no step stands.
+    pub(crate) fn take_under_session(
+        &mut self,
+        alloc: Global,
+        text: &[u8],
+    ) -> Result<bool, LineFault>
+        requires { IsSmall self.old }
+        ensures ok { IfOk result (λ begins. under_session self.old (read_line text.now) ≡ going begins self.new) }
+        ensures bad { IfErr result (λ fault. TellsCause fault (under_session self.old (read_line text.now))) }
+    {
+        lines_are_spelled();
+        let line = read_line(alloc, text)?;
+        if is_of_script(&line) {
+            return Err(LineFault::Cause(LineCause::OutOfOrder));
+        }
+        self.take_judged(alloc, line)
+    }
+
+    /// A line that was read, behind those so far.
+    fn take_judged(&mut self, alloc: Global, line: WorldLine) -> Result<bool, LineFault>
+        requires small { IsSmall self.old }
+        requires fit { is_fit line ≡ true }
+        ensures ok { IfOk result (λ begins. spec.judged_line self.old (Ok line) ≡ going begins self.new) }
+        ensures bad { IfErr result (λ fault. TellsCause fault (spec.judged_line self.old (Ok line))) }
+    {
         if let Some(cause) = self.line_cause(&line) {
             return Err(LineFault::Cause(cause));
         }
@@ -66,6 +96,16 @@ fn is_ndb(line: &WorldLine) -> bool
 {
     match line {
         WorldLine::Ndb => true,
+        _ => false,
+    }
+}
+
+/// Whether a line is a step.
+fn is_of_script(line: &WorldLine) -> bool
+    ensures { (d : spec.Draft) → under_session d (Ok line.now) ≡ (if result then spec.Bad LineCause.OutOfOrder else spec.judged_line d (Ok line.now)) }
+{
+    match line {
+        WorldLine::OfScript(_) => true,
         _ => false,
     }
 }
