@@ -6,7 +6,6 @@ use Rattle.std.specs.Option.{option_map_or}
 use Rattle.net_base.specs.declared.names.Node.{Node}
 use Rattle.net_base.specs.declared.names.Node.TheVariants as node
 use Rattle.net_base.specs.declared.reply.Reply.{Reply}
-use Rattle.net_base.specs.Transcript.{reply_words, spaced}
 use Rattle.ninep_wire.specs.declared.answer.Rmsg.{Rmsg}
 use Rattle.ninep_wire.specs.declared.answer.Rmsg.TheVariants as r
 use Rattle.ninep_wire.specs.declared.qid.Qid.{Qid}
@@ -14,7 +13,7 @@ use Rattle.ninep_wire.specs.declared.request.Tmsg.{Tmsg}
 use Rattle.ninep_wire.specs.declared.request.Tmsg.TheVariants as t
 use Rattle.ninep_wire.specs.Fields.{qid}
 use Rattle.ninep_wire.specs.Messages.{IsTmsg, longest, r_bytes, r_fields, r_qids, t_tag}
-use Rattle.sessions.specs.Answers.{Found, attach_answer, bad_fid, bad_mode, bad_use, bytes_in, found_answer, granted, is_granting, node_at, not_served, of_known, of_used, open_answer, piece, printed, read_answer, replied, said, skipped, spoken, version_answer, walk_answer}
+use Rattle.sessions.specs.Answers.{Found, attach_answer, bad_fid, bad_mode, bad_use, bytes_in, found_answer, granted, is_granting, node_at, not_served, of_known, of_used, open_answer, piece, longest_text, printed, read_answer, replied, reply_text, said, skipped, spoken, version_answer, walk_answer}
 use Rattle.sessions.specs.declared.target.Target.{Target}
 use Rattle.sessions.specs.Files.{can_open, is_cs, qid_of, step_to, walked}
 use Rattle.sessions.specs.Script.{begins, gives_nothing, nofid, room}
@@ -151,7 +150,7 @@ granted_short table (t.Wstat tag fid stat) x short = error_fits tag not_served (
 replied_short : (table : Table) (m : Tmsg) (x : Reply) → table.msize ≤ longest → Fits (replied table m x)
 replied_short table m x short =
     either (is_granting x) (granted table m x) (r.Error (t_tag m) (printed x)) (granted_short table m x short)
-    (error_fits (t_tag m) (printed x) (took_few 8192 (drop 1 (spaced (reply_words x)))))
+    (error_fits (t_tag m) (printed x) (took_few longest_text (reply_text x)))
 
 whole_short : (m : Rmsg) → length (r_fields m) ≤ 8209 → length (r_bytes m) ≤ longest
 unfolding r_bytes

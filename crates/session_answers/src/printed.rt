@@ -28,7 +28,7 @@ fn behind_first(bytes: &[u8]) -> &[u8]
 }
 
 fn first_bytes(bytes: &[u8]) -> &[u8]
-    ensures { result.now ≡ take 8192 bytes.now }
+    ensures { result.now ≡ take spec.longest_text bytes.now }
 {
     if bytes.len() <= LONGEST_TEXT {
         return bytes;

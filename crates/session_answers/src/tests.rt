@@ -62,23 +62,30 @@ fn entry(actor: ActorName, event: Event, cites: Option<u64>, reply: Reply) -> En
     }
 }
 
-// A ctl file is reserved, begun and read.
-fn history(rt: &HostRuntime) -> Result<Vec<Entry>, Fail> {
+// A ctl file is reserved and begun.
+fn opened(rt: &HostRuntime) -> Result<Vec<Entry>, Fail> {
     let dir = ActorName::Dir(0, Proto::Udp);
     let conv = ActorName::Conv(0, Proto::Udp, 0);
     let slot = Reply::Slot {
         slot: 0,
         generation: 1,
     };
+    let mut entries = Vec::new(rt.alloc());
+    entries.push(entry(dir, Event::Reserve, None, slot))?;
+    entries.push(entry(conv, Event::Begin { generation: 1 }, Some(0), Reply::Ok))?;
+    Ok(entries)
+}
+
+// .. and read.
+fn history(rt: &HostRuntime) -> Result<Vec<Entry>, Fail> {
+    let conv = ActorName::Conv(0, Proto::Udp, 0);
     let read = Event::File {
         generation: 1,
         file: FileName::Ctl,
         count: 32,
     };
     let bytes = Octets::from_slice(rt.alloc(), b"0")?;
-    let mut entries = Vec::new(rt.alloc());
-    entries.push(entry(dir, Event::Reserve, None, slot))?;
-    entries.push(entry(conv, Event::Begin { generation: 1 }, Some(0), Reply::Ok))?;
+    let mut entries = opened(rt)?;
     entries.push(entry(conv, read, None, Reply::Bytes { bytes }))?;
     Ok(entries)
 }
@@ -105,11 +112,12 @@ fn a_session_is_answered(rt: HostRuntime) -> Result<(), Fail> {
 #[test]
 fn answers_end_at_a_step_that_is_not_answered(rt: HostRuntime) -> Result<(), Fail> {
     let bytes = stream(&rt, &[&VERSION, &ATTACH, &WALK, &OPEN, &READ, &VERSION])?;
-    let entries = history(&rt)?;
-    let answers = answered(&rt, &bytes, &entries[..2], true)?;
+    let entries = opened(&rt)?;
+    let answers = answered(&rt, &bytes, &entries, true)?;
     assert_eq!(rt; answers.len(), 3);
-    let answers = answered(&rt, &bytes, &entries[..2], false)?;
+    let answers = answered(&rt, &bytes, &entries, false)?;
     assert_eq!(rt; answers.len(), 4);
+    let entries = history(&rt)?;
     let answers = answered(&rt, &bytes, &entries, true)?;
     assert_eq!(rt; answers.len(), 4);
     let answers = answered(&rt, &bytes, &entries, false)?;

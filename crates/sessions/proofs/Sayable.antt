@@ -1,10 +1,10 @@
 -- The steps of a session are steps that a world file can say.
-use Rattle.std.proofs.Common.{◌≡◌, ◌≤◌, ◌<◌, ℕ, zero, suc, ◌+◌, ◌-◌, ◌%◌, ◌^◌, ◌==◌, ◌&&◌, ◌||◌, min, not, Bool, true, false, List, [], ◌∷◌, ◌++◌, length, map, Option, Some, None, option_map, cond, refl, sym, ◌∙◌, ap, subst, arith, decimal}
+use Rattle.std.proofs.Common.{◌≡◌, ◌≤◌, ◌<◌, ℕ, zero, suc, ◌+◌, ◌%◌, ◌^◌, ◌==◌, ◌&&◌, ◌||◌, min, not, Bool, true, false, List, [], ◌∷◌, ◌++◌, length, map, Option, Some, None, option_map, cond, refl, sym, ◌∙◌, ap, subst, arith, decimal}
 use Rattle.std.specs.Prelude.{codes, option_to_list, nat_lt, nat_le}
 use Rattle.std.specs.List.{list_all, list_any, slice_split}
 use Rattle.std.specs.Option.{option_and_then}
 use Rattle.std.specs.Int.Digits.{digits_of}
-use Rattle.std.proofs.lemmas.Bool.{and_parts, and_from}
+use Rattle.std.proofs.lemmas.Bool.{and_parts}
 use Rattle.std.proofs.lemmas.Bool.Decides.{nat_tests}
 use Rattle.std.proofs.lemmas.Fmt.{decimal_by_steps}
 use Rattle.std.proofs.lemmas.Int.Digits.{length-digits_of-le}
@@ -19,16 +19,16 @@ use Rattle.net_base.specs.declared.world.Step.{Step}
 use Rattle.net_base.specs.declared.world.Step.TheVariants as step
 use Rattle.net_base.specs.Numeral.{numeral}
 use Rattle.net_base.specs.Paths.{checked, file_name, in_range, is_named, node_of, path_of, walk}
-use Rattle.net_base.specs.World.{is_byte, is_letter, is_name, is_name_byte, is_step, is_text, is_within, is_word}
+use Rattle.net_base.specs.World.{is_byte, is_name, is_name_byte, is_step, is_text, is_within, is_word}
 use Rattle.words.proofs.Numerals.{numeral_by_steps}
 use Rattle.ninep_wire.specs.declared.request.Tmsg.{Tmsg}
 use Rattle.ninep_wire.specs.declared.request.Tmsg.TheVariants as t
 use Rattle.ninep_wire.specs.Fields.{Holds, number}
 use Rattle.ninep_wire.specs.Messages.{IsTmsg, longest, t_bytes}
-use Rattle.sessions.specs.Files.{access, can_open, child, is_cs, is_data, is_directory, is_plain, parent, reached, step_to}
-use Rattle.sessions.specs.Script.{AreMessages, Begins, IsScript, IsStream, after, attaches, begins, bound_by, changed, close_step, cs_step, fid_name, gives_nothing, is_query, open_step, opened, opens, read_count, read_step, reads, room, source, step_of, steps_of, text_end, walks_from, write_step}
+use Rattle.sessions.specs.Files.{access, can_open, child, is_cs, is_plain, parent, reached, step_to}
+use Rattle.sessions.specs.Script.{Begins, IsScript, IsStream, after, attaches, begins, bound_by, changed, close_step, cs_step, fid_name, gives_nothing, is_query, open_step, opened, opens, read_count, read_step, reads, room, source, step_of, steps_of, text_end, walks_from, write_step}
 use Rattle.sessions.specs.declared.target.Target.{Target}
-use Rattle.sessions.specs.Table.{IsSound, Table, fresh, if_used, is_taken, opening, put, set, used, with_fid}
+use Rattle.sessions.specs.Table.{IsSound, Table, fresh, is_taken, opening, put, set, used}
 
 both : (a b : Bool) → a ≡ true → b ≡ true → (a && b) ≡ true
 both a b p q = rw (p, q) refl

@@ -1,13 +1,14 @@
 //! What the definitions of sessions say together.
-ghost use Rattle.std.specs.Prelude.{◌≡◌, ℕ, List, Some, true, map, flat_map};
+ghost use Rattle.std.specs.Prelude.{◌≡◌, ◌≤◌, ℕ, List, Some, true, map, flat_map, length, nat_le};
 ghost use Rattle.std.specs.List.{list_all};
 ghost use Rattle.net_base.specs.Hexadecimal.{hex_digits};
+ghost use Rattle.net_base.specs.Transcript.{reply_words};
 ghost use Rattle.net_base.specs.World.{is_byte, is_step};
 ghost use Rattle.net_base.specs.declared.reply.Reply.{Reply};
 ghost use Rattle.net_base.specs.declared.world.Step.{Step};
 ghost use Rattle.ninep_wire.specs.declared.request.Tmsg.{Tmsg};
 ghost use Rattle.ninep_wire.specs.Messages.{r_tag, t_bytes, t_tag};
-ghost use Rattle.sessions.specs.Answers.{Found, replied, said};
+ghost use Rattle.sessions.specs.Answers.{Found, printed, replied, reply_text, said};
 ghost use Rattle.sessions.specs.Script.{AreMessages, IsScript, script};
 ghost use Rattle.sessions.specs.Server.{answers_to};
 ghost use Rattle.sessions.specs.Session.{first, session};
@@ -18,6 +19,12 @@ ghost use Rattle.sessions.specs.Worked as worked;
 pub fn answers_have_the_tag()
     ensures said { (table : Table) (found : Found) (m : Tmsg) → r_tag (said table found m) ≡ t_tag m }
     ensures replied { (table : Table) (m : Tmsg) (x : Reply) → r_tag (replied table m x) ≡ t_tag m }
+{}
+
+/// A reply of at most 80 words of at most 100 bytes is told whole.
+pub fn short_replies_are_told_whole()
+    ensures { (x : Reply) → list_all (λ (word : List ℕ). nat_le (length word) 100) (reply_words x) ≡ true
+        → length (reply_words x) ≤ 80 → printed x ≡ reply_text x }
 {}
 
 /// A session that opens the clone file of UDP and reads its number has two steps, and five answers.
