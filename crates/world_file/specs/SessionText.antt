@@ -2,12 +2,13 @@
 --     row_of           which line it is
 --     Follows          what comes of a line behind those before it
 --     Says             what comes of a text: a world with its sessions, or the first bad line and its least cause
-use Rattle.std.specs.Prelude.{◌≡◌, ◌⊎◌, ℕ, ◌+◌, ◌==◌, Bool, List, [], ◌∷◌, ◌++◌, length, drop, codes, bytes_eq, Option, Some, None, Result, Ok, Err, if◌then◌else◌}
+use Rattle.std.specs.Prelude.{◌≡◌, ◌⊎◌, ℕ, ◌+◌, ◌==◌, Bool, List, [], ◌∷◌, ◌++◌, length, drop, slice_get, codes, bytes_eq, Option, Some, None, Result, Ok, Err, if◌then◌else◌}
 use Rattle.std.specs.List.{last_or}
 use Rattle.std.specs.Option.{option_and_then, option_map_or}
 use Rattle.net_base.specs.declared.world.Script.{Script}
 use Rattle.net_base.specs.declared.world.Step.{Step}
 use Rattle.net_base.specs.declared.world.World.{World}
+use Rattle.net_base.specs.Stamped.{In}
 use Rattle.world_text.specs.VersionLines.{bad_version_line}
 use Rattle.sessions.specs.declared.world.Session.{Session}
 use Rattle.sessions.specs.declared.world.SessionWorld.{SessionWorld}
@@ -97,12 +98,9 @@ IsStreamOf bytes = (steps : List Step) × IsScript bytes steps
 -- ---- what comes of the lines
 
 -- a session's lines end here: its bytes are whole messages, or its line is bad
-abbrev pub Closes : Told → Type 0 → Result SessionWorld (ℕ × ℕ) → Type 0
-Closes told Next r = by told.under
-  where
-    by : Option ℕ → Type 0
-    by None = Next
-    by (Some n) = (IsStreamOf (last_stream told.sessions) × Next) ⊎ (IsBadStream (last_stream told.sessions) × (r ≡ Err (n, bad_stream)))
+abbrev pub Closes : List Session → Option ℕ → Type 0 → Result SessionWorld (ℕ × ℕ) → Type 0
+Closes sessions None Next r = Next
+Closes sessions (Some n) Next r = (IsStreamOf (last_stream sessions) × Next) ⊎ (IsBadStream (last_stream sessions) × (r ≡ Err (n, bad_stream)))
 
 -- the n-th line goes on, begins the bundle or is bad
 abbrev pub Judges : List Session → ℕ → List ℕ → Verdict → (Draft → Type 0) → Result SessionWorld (ℕ × ℕ) → Type 0
@@ -121,18 +119,22 @@ abbrev pub Follows : Told → ℕ → Cut → Row → (Told → Type 0) → Resu
 Follows told n c Passes next r = next told
 Follows told n c (Feeds bytes) next r = Extends told n told.under bytes next r
 Follows told n c OpensSession next r =
-    Closes told
+    Closes told.sessions told.under
     (Judges told.sessions n c.behind (line_verdict told.draft (as_script c.line))
     (λ (d : Draft). next (record { draft = d; sessions = told.sessions ++ opened_at told.draft (host_of_last d) ∷ []; under = Some n })) r) r
 Follows told n c Other next r =
-    Closes told
+    Closes told.sessions told.under
     (Judges told.sessions n c.behind (other_verdict told.under told.draft c.line) (λ (d : Draft). next (record { draft = d; sessions = told.sessions; under = None })) r) r
 
 -- what comes of lines that begin with the n-th
 abbrev pub SaysFrom : Told → ℕ → List Cut → Result SessionWorld (ℕ × ℕ) → Type 0
-SaysFrom told n [] r = Closes told (r ≡ Err (n, number_of (missing told.draft))) r
+SaysFrom told n [] r = Closes told.sessions told.under (r ≡ Err (n, number_of (missing told.draft))) r
 SaysFrom told n (c ∷ cs) r = Follows told n c (row_of told.draft c.line) (λ (later : Told). SaysFrom later (n + 1) cs r) r
 
 -- what a text says: a world with its sessions, or its first bad line, counted from 1, and that line's least cause
 abbrev pub Says : List ℕ → Result SessionWorld (ℕ × ℕ) → Type 0
 Says text r = SaysFrom opening_told 1 (cuts_of text) r
+
+-- in the place of each session stands a script of its host
+abbrev pub HaveHosts : SessionWorld → Type 0
+HaveHosts w = (x : Session) (s : Script) → In x w.sessions → slice_get w.world.scripts x.place ≡ Some s → s.host ≡ x.host

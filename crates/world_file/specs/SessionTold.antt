@@ -2,6 +2,7 @@
 use Rattle.std.specs.Prelude.{◌≡◌, ℕ, ◌+◌, Bool, true, false, List, ◌∷◌, Option, Some, None, Result, Ok, Err, Bor, ⊤}
 use Rattle.std.specs.Option.{option_and_then}
 use Rattle.world_text.specs.VersionLines.{bad_version_line}
+use Rattle.sessions.specs.declared.world.Session.{Session}
 use Rattle.sessions.specs.declared.world.SessionWorld.{SessionWorld}
 use Rattle.sessions.specs.Script.{IsBadStream}
 use Rattle.world_text.specs.WorldLines.{world_of}
@@ -49,12 +50,9 @@ abbrev pub Taken : Told → Told → ℕ → List ℕ → Result Bool WorldError
 Taken old new n line taken = TakenAs (row_of old.draft line) old new n line taken
 
 -- the session that lines stand under, if they do, is of whole messages
-abbrev pub IsClosed : Told → Type 0
-IsClosed told = by told.under
-  where
-    by : Option ℕ → Type 0
-    by None = ⊤
-    by (Some n) = IsStreamOf (last_stream told.sessions)
+abbrev pub IsClosed : List Session → Option ℕ → Type 0
+IsClosed sessions None = ⊤
+IsClosed sessions (Some n) = IsStreamOf (last_stream sessions)
 
 -- its line is bad
 abbrev pub ClosesBad : Told → WorldError → Type 0

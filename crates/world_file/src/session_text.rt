@@ -1,29 +1,46 @@
 //! The text of a world with sessions, line by line.
 ghost use Rattle.std.specs.Prelude.{◌≡◌, ℕ, List, [], ◌∷◌, ◌+◌, ◌++◌, ◌<◌, ◌^◌, length, Ok, IfOk, IfErr, OnOk};
+ghost use Rattle.net_base.specs.World.{IsWorld};
+ghost use Rattle.sessions.specs.Worlds.{HaveStreams};
 ghost use Rattle.world_text.specs.VersionLines.{bad_version_line};
 ghost use Rattle.world_text.specs.WorldLines as lines;
 ghost use Rattle.world_text.specs.WorldText.{with_versions};
 ghost use Rattle.world_file.specs.SessionText as spec;
-ghost use Rattle.world_file.specs.SessionText.{Says};
+ghost use Rattle.world_file.specs.SessionText.{HaveHosts, Says};
 ghost use Rattle.world_file.specs.SessionTold.{BundleBad, ClosesBad, IsClosed, SaysBad, Taken, TakenAs, row_seen, word_seen};
 ghost use Rattle.world_file.specs.Told.{IsSmall};
 
 use crate::draft::Draft;
 use crate::fault::WorldError;
 use crate::reader::{at_line, cut_line, read_bundles};
+use crate::session_law::sessions_have_places;
 use net_base::{Octets, Sequence};
 use session_script::{ExportError, script_of};
 use sessions::{Session, SessionWorld};
 use std::alloc::{AllocError, Global};
 use std::marker::Model;
 use words::{read_hex_word, single, split_first};
-use world_text::LineCause;
+use world_text::{LineCause, worlds_so_far_are_small};
+use world_words::are_bytes;
 
 /// The world with sessions that a text says, or its first bad line. It goes once through the bytes.
 pub fn read_sessions(alloc: Global, bytes: &[u8]) -> Result<SessionWorld, WorldError>
     ensures ok { IfOk result (λ w. Says bytes.now (Ok w)) }
     ensures bad { IfErr result (λ e. SaysBad bytes.now e) }
+    ensures world { IfOk result (λ w. IsWorld w.world) }
+    ensures streams { IfOk result (λ w. HaveStreams w) }
+    ensures hosts { IfOk result (λ w. HaveHosts w) }
 {
+    sessions_have_places();
+    are_bytes(bytes);
+    read_session_lines(alloc, bytes)
+}
+
+fn read_session_lines(alloc: Global, bytes: &[u8]) -> Result<SessionWorld, WorldError>
+    ensures ok { IfOk result (λ w. Says bytes.now (Ok w)) }
+    ensures bad { IfErr result (λ e. SaysBad bytes.now e) }
+{
+    worlds_so_far_are_small();
     let mut told = Told::new(alloc);
     let mut number: u64 = 1;
     let mut rest = bytes;
@@ -175,7 +192,7 @@ impl Told {
 
     // The lines of a session end: its bytes are whole messages, or its line is bad.
     fn close(&self, alloc: Global) -> Result<(), WorldError>
-        ensures ok { OnOk result (IsClosed self.now) }
+        ensures ok { OnOk result (IsClosed self.now.sessions self.now.under) }
         ensures bad { IfErr result (ClosesBad self.now) }
     {
         let Some(line) = self.under else {
