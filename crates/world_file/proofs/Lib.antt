@@ -10,3 +10,4 @@ pub mod Spelled
 pub mod SessionLaws
 pub mod SessionLines
 pub mod SessionWorlds
+pub mod SessionRows

@@ -30,7 +30,7 @@ use Rattle.world_text.proofs.WorldTexts.{Ends, ends}
 use Rattle.world_text.specs.declared.line.LineCause.{LineCause}
 use Rattle.world_text.specs.declared.line.WorldLine.{WorldLine}
 use Rattle.world_text.specs.declared.line.WorldLine.TheVariants as line
-use Rattle.world_file.specs.SessionText.{Closes, Extends, Feeds, Follows, HaveHosts, IsStreamOf, Judges, OpensSession, Other, Passes, Row, Says, SaysFrom, Told, as_script, bad_stream, host_of_last, last_stream, opened_at, opening_told, other_verdict, row_by, row_of, under_session, with_bytes, with_sessions}
+use Rattle.world_file.specs.SessionText.{Closes, Extends, Feeds, Follows, HaveHosts, IsStreamOf, Judges, OpensSession, Other, Passes, Row, Says, SaysFrom, Told, as_script, bad_stream, extended, host_of_last, last_stream, opened_at, opening_told, other_verdict, row_by, row_of, under_session, with_bytes, with_sessions}
 use Rattle.world_file.proofs.SessionLines.{Grows, Opens, grows, hosts_of, map-at_last, opened, opens}
 
 -- ---- lists
@@ -176,7 +176,7 @@ ended told k n text behind v w whole all begins is = by (bad_version_line behind
 
 -- ---- lines
 
-fed : (told : Told) (line : ℕ) (bytes : List ℕ) → told.under ≡ Some line → Kept told → Kept (record told { sessions = at_last (with_bytes bytes) told.sessions })
+fed : (told : Told) (line : ℕ) (bytes : List ℕ) → told.under ≡ Some line → Kept told → Kept (extended bytes told)
 fed told line bytes under k = record {
   lines = k.lines;
   led = k.led;

@@ -83,6 +83,10 @@ host_of_last d = option_map_or (λ (s : Script). s.host) (last_or None d.scripts
 abbrev pub with_bytes : List ℕ → Session → Session
 with_bytes bytes s = record s { stream = s.stream ++ bytes }
 
+-- the last session has these bytes more
+abbrev pub extended : List ℕ → Told → Told
+extended bytes told = record told { sessions = at_last (with_bytes bytes) told.sessions }
+
 -- the bytes of the last session
 abbrev pub last_stream : List Session → List ℕ
 last_stream sessions = option_map_or (λ (s : Session). s.stream) (last_or None sessions) []
@@ -112,7 +116,7 @@ Judges sessions n behind (Bad c) next r = r ≡ Err (n, number_of c)
 abbrev pub Extends : Told → ℕ → Option ℕ → Option (List ℕ) → (Told → Type 0) → Result SessionWorld (ℕ × ℕ) → Type 0
 Extends told n under None next r = r ≡ Err (n, number_of cause.WrongArgument)
 Extends told n None (Some bytes) next r = r ≡ Err (n, number_of cause.OutOfOrder)
-Extends told n (Some line) (Some bytes) next r = next (record told { sessions = at_last (with_bytes bytes) told.sessions })
+Extends told n (Some line) (Some bytes) next r = next (extended bytes told)
 
 -- what comes of the n-th line, and of those behind it
 abbrev pub Follows : Told → ℕ → Cut → Row → (Told → Type 0) → Result SessionWorld (ℕ × ℕ) → Type 0

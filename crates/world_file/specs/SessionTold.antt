@@ -1,5 +1,6 @@
 -- What the reader of sessions makes of lines, and tells of a bad one.
-use Rattle.std.specs.Prelude.{◌≡◌, ℕ, ◌+◌, Bool, true, false, List, ◌∷◌, Option, Some, None, Result, Ok, Err, Bor, ⊤}
+use Rattle.std.specs.Prelude.{◌≡◌, ℕ, ◌+◌, Bool, true, false, List, [], ◌∷◌, Option, Some, None, Result, Ok, Err, ⊤}
+use Rattle.std.specs.Borrow.{Bor}
 use Rattle.std.specs.Option.{option_and_then}
 use Rattle.world_text.specs.VersionLines.{bad_version_line}
 use Rattle.sessions.specs.declared.world.Session.{Session}
@@ -7,7 +8,7 @@ use Rattle.sessions.specs.declared.world.SessionWorld.{SessionWorld}
 use Rattle.sessions.specs.Script.{IsBadStream}
 use Rattle.world_text.specs.WorldLines.{world_of}
 use Rattle.world_text.specs.WorldText.{Cut, with_versions}
-use Rattle.world_text.specs.WorldWords.{hex_text}
+use Rattle.world_text.specs.WorldWords.{hex_text, words_of}
 use Rattle.world_file.specs.declared.fault.WorldError.{WorldError}
 use Rattle.world_file.specs.declared.fault.WorldError.TheVariants as error
 use Rattle.world_file.specs.declared.session_text.Row.{Row as CodeRow}
@@ -22,6 +23,11 @@ SaysBad text (error.Bad line cause) = Says text (Err (line, cause))
 abbrev pub word_seen : Option (Bor (List ℕ)) → Option (List ℕ)
 word_seen None = None
 word_seen (Some word) = hex_text word.now
+
+-- the words of what stands behind the first one, where something does
+abbrev pub args_of : Option (Bor (List ℕ)) → List (List ℕ)
+args_of None = []
+args_of (Some rest) = words_of rest.now
 
 -- the row as the code has it
 abbrev pub row_seen : CodeRow → Row
@@ -53,6 +59,11 @@ Taken old new n line taken = TakenAs (row_of old.draft line) old new n line take
 abbrev pub IsClosed : List Session → Option ℕ → Type 0
 IsClosed sessions None = ⊤
 IsClosed sessions (Some n) = IsStreamOf (last_stream sessions)
+
+-- what the bytes of the session at this line are told to be
+abbrev pub StreamBad : ℕ → List ℕ → WorldError → Type 0
+StreamBad line bytes error.Memory = ⊤
+StreamBad line bytes (error.Bad l c) = (l ≡ line) × (c ≡ bad_stream) × IsBadStream bytes
 
 -- its line is bad
 abbrev pub ClosesBad : Told → WorldError → Type 0

@@ -1,5 +1,5 @@
 //! A line of a text, behind those before it.
-ghost use Rattle.std.specs.Prelude.{◌≡◌, true, Ok, IfOk, IfErr};
+ghost use Rattle.std.specs.Prelude.{◌≡◌, true, Ok, IfOk, IfErr, if◌then◌else◌};
 ghost use Rattle.world_text.specs.LineFit.{is_fit};
 ghost use Rattle.world_text.specs.LineReading.{read_line};
 ghost use Rattle.world_text.specs.WorldLines as spec;

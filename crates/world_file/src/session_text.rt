@@ -1,13 +1,20 @@
 //! The text of a world with sessions, line by line.
-ghost use Rattle.std.specs.Prelude.{◌≡◌, ℕ, List, [], ◌∷◌, ◌+◌, ◌++◌, ◌<◌, ◌^◌, length, Ok, IfOk, IfErr, OnOk};
+ghost use Rattle.std.specs.Prelude.{◌≡◌, ℕ, List, [], ◌∷◌, ◌+◌, ◌++◌, ◌<◌, ◌^◌, length, Ok, IfOk, IfErr, OnOk, MatchOption, None, Some};
+ghost use Rattle.std.specs.List.{last_or};
+ghost use Rattle.std.specs.Option.{option_and_then};
 ghost use Rattle.net_base.specs.World.{IsWorld};
 ghost use Rattle.sessions.specs.Worlds.{HaveStreams};
 ghost use Rattle.world_text.specs.VersionLines.{bad_version_line};
+ghost use Rattle.world_text.specs.LineCauses.{number_of};
 ghost use Rattle.world_text.specs.WorldLines as lines;
+ghost use Rattle.world_text.specs.WorldLines.{at_last};
 ghost use Rattle.world_text.specs.WorldText.{with_versions};
+ghost use Rattle.world_text.specs.WorldWords.{hex_text, one};
 ghost use Rattle.world_file.specs.SessionText as spec;
-ghost use Rattle.world_file.specs.SessionText.{HaveHosts, Says};
-ghost use Rattle.world_file.specs.SessionTold.{BundleBad, ClosesBad, IsClosed, SaysBad, Taken, TakenAs, row_seen, word_seen};
+ghost use Rattle.world_file.specs.SessionText.{HaveHosts, IsStreamOf, Says};
+ghost use Rattle.session_script.specs.declared.fault.ExportError.TheVariants as fault;
+ghost use Rattle.world_file.specs.declared.fault.WorldError.TheVariants as told;
+ghost use Rattle.world_file.specs.SessionTold.{StreamBad, args_of, BundleBad, ClosesBad, IsClosed, SaysBad, Taken, TakenAs, row_seen, word_seen};
 ghost use Rattle.world_file.specs.Told.{IsSmall};
 
 use crate::draft::Draft;
@@ -103,13 +110,14 @@ impl Told {
     {
         match self.row_of(line) {
             Row::Passes => Ok(false),
-            Row::Feeds(word) => self.take_feed(alloc, word, number),
+            Row::Feeds(word) => self.take_word(alloc, word, number),
             Row::OpensSession => self.take_session(alloc, line, number),
             Row::Other => self.take_other(alloc, line, number),
         }
     }
 
-    // The first line is `networld 1`, whatever its words.
+    // The first line names the timers, whatever its words.
+    #[tactic(auto, using(crate::proofs::SessionRows::row_of_words))]
     fn row_of<'a>(&self, line: &'a [u8]) -> Row<'a>
         ensures { row_seen result ≡ spec.row_of self.now.draft line.now }
     {
@@ -120,35 +128,42 @@ impl Told {
             return Row::Other;
         }
         let (word, rest) = split_first(line, b' ');
-        if word == b"feed".as_slice() {
-            return Row::Feeds(only_word(rest));
-        }
-        if word == b"session".as_slice() {
-            return Row::OpensSession;
-        }
-        Row::Other
+        row_by(word, rest)
     }
 
-    // `feed HEX` adds its bytes to the session under which it stands.
-    fn take_feed(
+    // A line `feed` with this word, or with a wrong argument.
+    fn take_word(
         &mut self,
         alloc: Global,
         word: Option<&[u8]>,
         number: u64,
     ) -> Result<bool, WorldError>
-        ensures { (line : List ℕ) → TakenAs (spec.Feeds (word_seen word)) self.old self.new number line result }
+        ensures { (line : List ℕ) → TakenAs (spec.Feeds (word_seen word.entry)) self.old self.new number line result }
     {
-        let Some(bytes) = bytes_of(alloc, word)? else {
+        let bytes = bytes_of(alloc, word)?;
+        self.take_feed(bytes, number)
+    }
+
+    // `feed HEX` adds its bytes to the session under which it stands.
+    #[tactic(auto, using(crate::proofs::SessionRows::taken_wrong, crate::proofs::SessionRows::taken_stray, crate::proofs::SessionRows::taken_fed))]
+    fn take_feed(&mut self, bytes: Option<Octets>, number: u64) -> Result<bool, WorldError>
+        ensures { (line : List ℕ) → TakenAs (spec.Feeds bytes) self.old self.new number line result }
+    {
+        let Some(bytes) = bytes else {
             return Err(bad(number, LineCause::WrongArgument));
         };
         if self.under.is_none() {
             return Err(bad(number, LineCause::OutOfOrder));
         }
-        let count = self.sessions.len();
-        if 0 < count {
-            self.sessions[count - 1].stream.append(bytes.as_slice())?;
-        }
+        self.extend(bytes.as_slice())?;
         Ok(false)
+    }
+
+    // Adds bytes to the last session.
+    fn extend(&mut self, bytes: &[u8]) -> Result<(), AllocError>
+        ensures { OnOk result (self.new ≡ spec.extended bytes.now self.old) }
+    {
+        extend_last(&mut self.sessions, bytes)
     }
 
     // `session HOST` is judged as `script HOST` is, and is a script without steps in its place.
@@ -195,20 +210,19 @@ impl Told {
         ensures ok { OnOk result (IsClosed self.now.sessions self.now.under) }
         ensures bad { IfErr result (ClosesBad self.now) }
     {
-        let Some(line) = self.under else {
-            return Ok(());
-        };
-        let count = self.sessions.len();
-        if count == 0 {
-            return Ok(());
+        match self.under {
+            Some(line) => judge_stream(alloc, self.last_stream(), line),
+            None => Ok(()),
         }
-        match script_of(alloc, self.sessions[count - 1].stream.as_slice()) {
-            Ok(_) => Ok(()),
-            Err(ExportError::Memory) => Err(WorldError::Memory),
-            Err(ExportError::BadStream) => Err(WorldError::Bad {
-                line,
-                cause: BAD_STREAM,
-            }),
+    }
+
+    // The bytes of the last session.
+    fn last_stream(&self) -> &[u8]
+        ensures { result.now ≡ spec.last_stream self.now.sessions }
+    {
+        match last_session(self.sessions.as_slice()) {
+            Some(session) => session.stream.as_slice(),
+            None => &[],
         }
     }
 
@@ -234,10 +248,50 @@ impl Told {
 /// The bytes of a session aren't whole messages.
 const BAD_STREAM: u32 = 51;
 
-fn bad(line: u64, cause: LineCause) -> WorldError {
+fn bad(line: u64, cause: LineCause) -> WorldError
+    ensures { result ≡ told.Bad line (number_of cause) }
+{
     WorldError::Bad {
         line,
         cause: cause.number(),
+    }
+}
+
+// The last session.
+#[tactic(auto, using(crate::proofs::Placed::last_is, crate::proofs::Placed::none_last))]
+fn last_session(sessions: &[Session]) -> Option<&Session>
+    ensures { MatchOption result (last_or None sessions.now ≡ None) (λ session. last_or None sessions.now ≡ Some session.now) }
+{
+    let count = sessions.len();
+    if 0 < count {
+        Some(&sessions[count - 1])
+    } else {
+        None
+    }
+}
+
+// Whether the bytes of the session at this line are whole messages.
+fn judge_stream(alloc: Global, bytes: &[u8], line: u64) -> Result<(), WorldError>
+    ensures ok { OnOk result (IsStreamOf bytes.now) }
+    ensures bad { IfErr result (StreamBad line bytes.now) }
+{
+    match script_of(alloc, bytes) {
+        Ok(_) => Ok(()),
+        Err(error) => Err(at_session(error, line)),
+    }
+}
+
+// The fault of the session at this line.
+fn at_session(error: ExportError, line: u64) -> WorldError
+    ensures memory { error ≡ fault.Memory → result ≡ told.Memory }
+    ensures bad { error ≡ fault.BadStream → result ≡ told.Bad line spec.bad_stream }
+{
+    match error {
+        ExportError::Memory => WorldError::Memory,
+        ExportError::BadStream => WorldError::Bad {
+            line,
+            cause: BAD_STREAM,
+        },
     }
 }
 
@@ -248,14 +302,42 @@ fn add(sessions: &mut Vec<Session>, session: Session) -> Result<(), AllocError>
     Ok(())
 }
 
+// Which line it is by its first word, and by what stands behind that.
+fn row_by<'a>(word: &'a [u8], rest: Option<&'a [u8]>) -> Row<'a>
+    ensures { row_seen result ≡ spec.row_by (word.now ∷ args_of rest.entry) }
+{
+    if word == b"feed".as_slice() {
+        return Row::Feeds(only_word(rest));
+    }
+    if word == b"session".as_slice() {
+        return Row::OpensSession;
+    }
+    Row::Other
+}
+
+// Adds bytes to the last session, if there is one.
+#[tactic(auto, using(crate::proofs::Placed::last_set, crate::proofs::Placed::no_last))]
+fn extend_last(sessions: &mut Vec<Session>, bytes: &[u8]) -> Result<(), AllocError>
+    ensures { OnOk result (sessions.new.items ≡ at_last (spec.with_bytes bytes.now) sessions.old.items) }
+{
+    let count = sessions.len();
+    if 0 < count {
+        sessions[count - 1].stream.append(bytes)?;
+    }
+    Ok(())
+}
+
 // The only word behind the first.
-fn only_word(rest: Option<&[u8]>) -> Option<&[u8]> {
+#[tactic(auto, using(crate::proofs::SessionRows::none_seen, crate::proofs::SessionRows::single_seen))]
+fn only_word(rest: Option<&[u8]>) -> Option<&[u8]>
+    ensures { word_seen result ≡ option_and_then hex_text (one (args_of rest.entry)) }
+{
     single(rest?, b' ')
 }
 
 // The bytes that a word tells, if there is one and it tells some.
 fn bytes_of(alloc: Global, word: Option<&[u8]>) -> Result<Option<Octets>, AllocError>
-    ensures { IfOk result (λ bytes. bytes ≡ word_seen word) }
+    ensures { IfOk result (λ bytes. bytes ≡ word_seen word.entry) }
 {
     match word {
         Some(word) => read_hex_word(alloc, word),
