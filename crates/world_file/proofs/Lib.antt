@@ -11,3 +11,4 @@ pub mod SessionLaws
 pub mod SessionLines
 pub mod SessionWorlds
 pub mod SessionRows
+pub mod SessionTaken

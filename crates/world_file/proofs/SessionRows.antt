@@ -1,18 +1,12 @@
 -- Which row a line is.
-use Rattle.std.proofs.Common.{◌≡◌, ◌≢◌, ℕ, ◌==◌, Bool, true, false, List, [], ◌∷◌, length, ◌+◌, refl, subst, Ok, Err, Result, sym, ap, ◌∙◌, Option, Some, None, Bor}
+use Rattle.std.proofs.Common.{◌≡◌, ◌≢◌, ℕ, ◌==◌, Bool, true, false, List, [], ◌∷◌, length, refl, sym, ap, ◌∙◌, Option, Some, None, Bor}
 use Rattle.std.specs.Prelude.{MatchOption, bytes_eq, codes, if◌then◌else◌}
-use Rattle.std.specs.Prelude.{is_none}
 use Rattle.std.specs.Option.{option_and_then}
-use Rattle.std.proofs.lemmas.Bool.{false≢true}
 use Rattle.net_base.specs.Addresses.{parts_at}
 use Rattle.world_text.specs.WorldLines.{Draft, is_passed}
-use Rattle.world_text.specs.declared.line.LineCause.TheVariants as cause
-use Rattle.world_text.specs.LineCauses.{number_of}
 use Rattle.world_text.specs.WorldWords.{hex_text, one, words_of}
-use Rattle.world_file.specs.declared.fault.WorldError.{WorldError}
-use Rattle.world_file.specs.declared.fault.WorldError.TheVariants as error
-use Rattle.world_file.specs.SessionText.{Extends, Feeds, SaysFrom, Told, extended, OpensSession, Other, Passes, Row, row_by, row_of}
-use Rattle.world_file.specs.SessionTold.{TakenAs, args_of, word_seen}
+use Rattle.world_file.specs.SessionText.{Feeds, OpensSession, Other, Passes, Row, row_by, row_of}
+use Rattle.world_file.specs.SessionTold.{args_of, word_seen}
 
 pub none_seen : (r : Option (Bor (List ℕ))) → r ≡ None → word_seen r ≡ None
 none_seen r is = ap word_seen is
@@ -38,23 +32,3 @@ by_words d line words spoken late are =
 pub row_of_words : (d : Draft) (line word : List ℕ) (o : Option (Bor (List ℕ))) (row : Row) → is_passed line ≡ false → (d.group == 0) ≡ false
     → MatchOption o (parts_at 32 line ≡ word ∷ []) (λ (rest : Bor (List ℕ)). parts_at 32 line ≡ word ∷ parts_at 32 rest.now) → row ≡ row_by (word ∷ args_of o) → row ≡ row_of d line
 row_of_words d line word o row spoken late split is = is ∙ sym (by_words d line (word ∷ args_of o) spoken late (split_words o line word split))
-
--- ---- lines of bytes
-
-pub taken_wrong : (old new : Told) (n : ℕ) (e : WorldError) → e ≡ error.Bad n (number_of cause.WrongArgument) → (line : List ℕ) → TakenAs (Feeds None) old new n line (Err e)
-taken_wrong old new n e is line = subst (λ (x : WorldError). TakenAs (Feeds None) old new n line (Err x)) (sym is) (λ behind cs. refl)
-
-pub taken_stray : (old new : Told) (n : ℕ) (bytes : List ℕ) (e : WorldError) → is_none old.under ≡ true → e ≡ error.Bad n (number_of cause.OutOfOrder) → (line : List ℕ)
-    → TakenAs (Feeds (Some bytes)) old new n line (Err e)
-taken_stray old new n bytes e none is line = subst (λ (x : WorldError). TakenAs (Feeds (Some bytes)) old new n line (Err x)) (sym is) (λ behind cs. by old.under none _)
-  where
-    by : (o : Option ℕ) → is_none o ≡ true → (P : Told → Type 0) → Extends old n o (Some bytes) P (Err (n, number_of cause.OutOfOrder))
-    by None none P = refl
-    by (Some m) none P = absurd (false≢true none)
-
-pub taken_fed : (old new : Told) (n : ℕ) (bytes : List ℕ) → is_none old.under ≡ false → new ≡ extended bytes old → (line : List ℕ) → TakenAs (Feeds (Some bytes)) old new n line (Ok false)
-taken_fed old new n bytes some is line behind cs r says = by old.under some _ (subst (λ (t : Told). SaysFrom t (n + 1) cs r) is says)
-  where
-    by : (o : Option ℕ) → is_none o ≡ false → (P : Told → Type 0) → P (extended bytes old) → Extends old n o (Some bytes) P r
-    by None some P p = absurd (false≢true (sym some))
-    by (Some m) some P p = p

@@ -28,9 +28,10 @@ use Rattle.world_text.proofs.WorldSound.{Behind, Opening, Read, Stage, read-all}
 use Rattle.world_text.proofs.WorldStands.{complete}
 use Rattle.world_text.proofs.WorldTexts.{Ends, ends}
 use Rattle.world_text.specs.declared.line.LineCause.{LineCause}
+use Rattle.world_text.specs.declared.line.LineCause.TheVariants as cause
 use Rattle.world_text.specs.declared.line.WorldLine.{WorldLine}
 use Rattle.world_text.specs.declared.line.WorldLine.TheVariants as line
-use Rattle.world_file.specs.SessionText.{Closes, Extends, Feeds, Follows, HaveHosts, IsStreamOf, Judges, OpensSession, Other, Passes, Row, Says, SaysFrom, Told, as_script, bad_stream, extended, host_of_last, last_stream, opened_at, opening_told, other_verdict, row_by, row_of, under_session, with_bytes, with_sessions}
+use Rattle.world_file.specs.SessionText.{Closes, Extends, Feeds, Follows, HaveHosts, IsStreamOf, Judges, OpensSession, Other, Passes, Row, Says, SaysFrom, Told, as_script, bad_stream, extended, host_of_last, is_step_read, last_stream, opened_at, opening_told, other_verdict, row_by, row_of, under_session, with_bytes, with_sessions}
 use Rattle.world_file.proofs.SessionLines.{Grows, Opens, grows, hosts_of, map-at_last, opened, opens}
 
 -- ---- lists
@@ -93,13 +94,12 @@ Whole (Some n) xs = GoesOn xs
 pub record Kept (told : Told) : Type 0 where
   pub lines : List (List ℕ)
   pub led : Leads opening_draft lines told.draft
-  pub begun : (n : ℕ) → told.under ≡ Some n → (told.draft.group == 0) ≡ false
   pub sit : (x : Session) → In x told.sessions → Sits (hosts_of told.draft.scripts) x
   pub apart : all_apart same_place told.sessions ≡ true
   pub whole : Whole told.under told.sessions
 
 kept-first : Kept opening_told
-kept-first = record { lines = []; led = refl; begun = λ n is. absurd (none-some n is); sit = λ x none. absurd none; apart = refl; whole = λ x none. absurd none }
+kept-first = record { lines = []; led = refl; sit = λ x none. absurd none; apart = refl; whole = λ x none. absurd none }
 
 ok-err : (w : SessionWorld) (bad : ℕ × ℕ) (r : Result SessionWorld (ℕ × ℕ)) → r ≡ Ok w → r ≡ Err bad → ⊥
 ok-err w bad r e f = cc
@@ -180,7 +180,6 @@ fed : (told : Told) (line : ℕ) (bytes : List ℕ) → told.under ≡ Some line
 fed told line bytes under k = record {
   lines = k.lines;
   led = k.led;
-  begun = k.begun;
   sit = λ x i. sits x (in-at_last (with_bytes bytes) x told.sessions i);
   apart = sym (apart-map (λ (a b : ℕ). a == b) (λ (s : Session). s.place) (at_last (with_bytes bytes) told.sessions))
       ∙ (ap (all_apart (λ (a b : ℕ). a == b)) (map-at_last (λ (s : Session). s.place) (with_bytes bytes) (λ s. refl) told.sessions)
@@ -204,7 +203,6 @@ begun-session : (told : Told) (n : ℕ) (text : List ℕ) (e : Draft) → Kept t
 begun-session told n text e k whole row goes = record {
   lines = k.lines ++ as_script text ∷ [];
   led = led-next k.lines (as_script text) d e k.led goes;
-  begun = λ m is. ap (λ (f : Draft). f.group == 0) o.1;
   sit = λ x i. sits x (in-push x told.sessions new i);
   apart = apart-push same_place (λ x y. same-numbers x.place y.place) told.sessions new
       ∙ (ap (λ b. not b && all_apart same_place told.sessions) (any-none (same_place new) told.sessions other) ∙ k.apart);
@@ -240,38 +238,19 @@ begun-session told n text e k whole row goes = record {
     sits x (inl i) = grown d e x (grows d e (as_script text) goes) (k.sit x i)
     sits x (inr is) = subst (Sits (hosts_of e.scripts)) (sym is) last
 
--- a line under no session, or under one that isn't a step, is judged as it is without sessions
-under-good : (d : Draft) (r : Result WorldLine LineCause) (v : Verdict) → under_session d r ≡ v → ((c : LineCause) → v ≡ Bad c → ⊥) → judged_line d r ≡ v
-under-good d (Err c) v e good = e
-under-good d (Ok (line.OfScript s)) v e good = absurd (good _ (sym e))
-under-good d (Ok (line.Networld kind)) v e good = e
-under-good d (Ok (line.End m)) v e good = e
-under-good d (Ok (line.Seed n)) v e good = e
-under-good d (Ok (line.OfMedium l)) v e good = e
-under-good d (Ok (line.Host called nets)) v e good = e
-under-good d (Ok (line.OfHost l)) v e good = e
-under-good d (Ok (line.Script called)) v e good = e
-under-good d (Ok line.Ndb) v e good = e
-
-spoken : (d : Draft) (text : List ℕ) → row_of d text ≡ Other → is_passed text ≡ false
-spoken d text is = by (is_passed text) is
+-- a good line under no session, or under one, is judged as it is without sessions
+other-line : (d : Draft) (text : List ℕ) (o : Option ℕ) (v : Verdict) → other_verdict o d text ≡ v → ((c : LineCause) → v ≡ Bad c → ⊥) → line_verdict d text ≡ v
+other-line d text None v e good = e
+other-line d text (Some n) v e good = by (is_step_read (read_line text)) e
   where
-    by : (b : Bool) → (if b then Passes else (if d.group == 0 then Other else row_by (words_of text))) ≡ Other → b ≡ false
-    by true e = absurd (cc)
-    by false e = refl
-
-other-line : (d : Draft) (text : List ℕ) (o : Option ℕ) (v : Verdict) → ((n : ℕ) → o ≡ Some n → (d.group == 0) ≡ false) → row_of d text ≡ Other → other_verdict o d text ≡ v
-    → ((c : LineCause) → v ≡ Bad c → ⊥) → line_verdict d text ≡ v
-other-line d text None v begun row e good = e
-other-line d text (Some n) v begun row e good =
-    ap (λ b. if b then Goes d else (if d.group == 0 then first_line d text else judged_line d (read_line text))) (spoken d text row)
-    ∙ (ap (λ b. if b then first_line d text else judged_line d (read_line text)) (begun n refl) ∙ under-good d (read_line text) v e good)
+    by : (b : Bool) → (if b then Bad cause.OutOfOrder else line_verdict d text) ≡ v → line_verdict d text ≡ v
+    by true f = absurd (good cause.OutOfOrder (sym f))
+    by false f = f
 
 went : (told : Told) (text : List ℕ) (e : Draft) → Kept told → AllWhole told.sessions → line_verdict told.draft text ≡ Goes e → Kept (record { draft = e; sessions = told.sessions; under = None })
 went told text e k whole goes = record {
   lines = k.lines ++ text ∷ [];
   led = led-next k.lines text told.draft e k.led goes;
-  begun = λ m is. absurd (none-some m is);
   sit = λ x i. grown told.draft e x (grows told.draft e text goes) (k.sit x i);
   apart = k.apart;
   whole = whole;
@@ -316,15 +295,15 @@ follows-session : (told : Told) (n : ℕ) (c : Cut) (P : Told → Type 0) (w : S
     → Next w P → Fine w
 follows-session told n c P w (Goes e) all row k whole goes j go = go _ (begun-session told n c.line e k whole row goes) j
 follows-session told n c P w (Begins v) all row k whole begins j go = ended told k n (as_script c.line) c.behind v w whole all begins j
-follows-session told n c P w (Bad cause) all row k whole bad j go = absurd (ok-err w _ (Ok w) refl j)
+follows-session told n c P w (Bad why) all row k whole bad j go = absurd (ok-err w _ (Ok w) refl j)
 
-follows-other : (told : Told) (n : ℕ) (c : Cut) (P : Told → Type 0) (w : SessionWorld) (v : Verdict) → list_all is_byte c.behind ≡ true → row_of told.draft c.line ≡ Other → Kept told
+follows-other : (told : Told) (n : ℕ) (c : Cut) (P : Told → Type 0) (w : SessionWorld) (v : Verdict) → list_all is_byte c.behind ≡ true → Kept told
     → AllWhole told.sessions → other_verdict told.under told.draft c.line ≡ v → Judges told.sessions n c.behind v (λ (d : Draft). P (record { draft = d; sessions = told.sessions; under = None })) (Ok w)
     → Next w P → Fine w
-follows-other told n c P w (Goes e) all row k whole goes j go = go _ (went told c.line e k whole (other-line told.draft c.line told.under (Goes e) k.begun row goes (goes-bad e))) j
-follows-other told n c P w (Begins v) all row k whole begins j go =
-    ended told k n c.line c.behind v w whole all (other-line told.draft c.line told.under (Begins v) k.begun row begins (begins-bad v)) j
-follows-other told n c P w (Bad cause) all row k whole bad j go = absurd (ok-err w _ (Ok w) refl j)
+follows-other told n c P w (Goes e) all k whole goes j go = go _ (went told c.line e k whole (other-line told.draft c.line told.under (Goes e) goes (goes-bad e))) j
+follows-other told n c P w (Begins v) all k whole begins j go =
+    ended told k n c.line c.behind v w whole all (other-line told.draft c.line told.under (Begins v) begins (begins-bad v)) j
+follows-other told n c P w (Bad why) all k whole bad j go = absurd (ok-err w _ (Ok w) refl j)
 
 follows : (told : Told) (n : ℕ) (c : Cut) (P : Told → Type 0) (w : SessionWorld) (row : Row) → list_all is_byte c.behind ≡ true → row_of told.draft c.line ≡ row → Kept told → Follows told n c row P (Ok w) → Next w P
     → Fine w
@@ -333,7 +312,7 @@ follows told n c P w (Feeds bytes) all is k f go = follows-feed told n told.unde
 follows told n c P w OpensSession all is k f go =
     let closing = closes-ok told.sessions told.under _ w k.whole f in follows-session told n c P w (line_verdict told.draft (as_script c.line)) all is k closing.0 refl closing.1 go
 follows told n c P w Other all is k f go =
-    let closing = closes-ok told.sessions told.under _ w k.whole f in follows-other told n c P w (other_verdict told.under told.draft c.line) all is k closing.0 refl closing.1 go
+    let closing = closes-ok told.sessions told.under _ w k.whole f in follows-other told n c P w (other_verdict told.under told.draft c.line) all k closing.0 refl closing.1 go
 
 said : (told : Told) (n : ℕ) (cs : List Cut) (w : SessionWorld) → AllBytes cs → Kept told → SaysFrom told n cs (Ok w) → Fine w
 said told n [] w all k says = absurd (ok-err w _ (Ok w) refl (closes-ok told.sessions told.under _ w k.whole says).1)

@@ -2,7 +2,7 @@
 --     row_of           which line it is
 --     Follows          what comes of a line behind those before it
 --     Says             what comes of a text: a world with its sessions, or the first bad line and its least cause
-use Rattle.std.specs.Prelude.{◌≡◌, ◌⊎◌, ℕ, ◌+◌, ◌==◌, Bool, List, [], ◌∷◌, ◌++◌, length, drop, slice_get, codes, bytes_eq, Option, Some, None, Result, Ok, Err, if◌then◌else◌}
+use Rattle.std.specs.Prelude.{◌≡◌, ◌⊎◌, ℕ, ◌+◌, ◌==◌, Bool, true, false, List, [], ◌∷◌, ◌++◌, length, drop, slice_get, codes, bytes_eq, Option, Some, None, Result, Ok, Err, if◌then◌else◌}
 use Rattle.std.specs.List.{last_or}
 use Rattle.std.specs.Option.{option_and_then, option_map_or}
 use Rattle.net_base.specs.declared.world.Script.{Script}
@@ -19,7 +19,7 @@ use Rattle.world_text.specs.declared.line.WorldLine.{WorldLine}
 use Rattle.world_text.specs.declared.line.WorldLine.TheVariants as line
 use Rattle.world_text.specs.LineCauses.{number_of}
 use Rattle.world_text.specs.LineReading.{read_line}
-use Rattle.world_text.specs.WorldLines.{Bad, Begins, Draft, Goes, Verdict, at_last, is_passed, judged_line, line_verdict, opening_draft}
+use Rattle.world_text.specs.WorldLines.{Bad, Begins, Draft, Goes, Verdict, at_last, is_passed, line_verdict, opening_draft}
 use Rattle.world_text.specs.WorldText.{Cut, cuts_of, missing, with_versions}
 use Rattle.world_text.specs.WorldWords.{hex_text, one, words_of}
 
@@ -61,14 +61,18 @@ as_script text = codes "script" ++ drop 7 text
 
 -- ---- verdicts
 
--- a step doesn't stand under a session
-abbrev pub under_session : Draft → Result WorldLine LineCause → Verdict
-under_session d (Ok (line.OfScript s)) = Bad cause.OutOfOrder
-under_session d read = judged_line d read
+abbrev pub is_step_read : Result WorldLine LineCause → Bool
+is_step_read (Ok (line.OfScript s)) = true
+is_step_read read = false
 
+-- a step doesn't stand under a session
+abbrev pub under_session : Draft → List ℕ → Verdict
+under_session d text = if is_step_read (read_line text) then Bad cause.OutOfOrder else line_verdict d text
+
+-- a line that ends a session, or one where none goes on
 abbrev pub other_verdict : Option ℕ → Draft → List ℕ → Verdict
 other_verdict None d text = line_verdict d text
-other_verdict (Some n) d text = under_session d (read_line text)
+other_verdict (Some n) d text = under_session d text
 
 -- ---- sessions
 

@@ -10,9 +10,9 @@ mod host;
 mod lines;
 mod medium;
 mod reader;
-mod versions;
 mod session_law;
 mod session_text;
+mod versions;
 
 pub use fault::WorldError;
 pub use net_base::World;

@@ -1,5 +1,5 @@
 //! The text of a world with sessions, line by line.
-ghost use Rattle.std.specs.Prelude.{◌≡◌, ℕ, List, [], ◌∷◌, ◌+◌, ◌++◌, ◌<◌, ◌^◌, length, Ok, IfOk, IfErr, OnOk, MatchOption, None, Some};
+ghost use Rattle.std.specs.Prelude.{◌≡◌, ℕ, List, [], ◌∷◌, ◌+◌, ◌++◌, ◌<◌, ◌≤◌, ◌^◌, length, Ok, IfOk, IfErr, OnOk, MatchOption, None, Some};
 ghost use Rattle.std.specs.List.{last_or};
 ghost use Rattle.std.specs.Option.{option_and_then};
 ghost use Rattle.net_base.specs.World.{IsWorld};
@@ -7,15 +7,15 @@ ghost use Rattle.sessions.specs.Worlds.{HaveStreams};
 ghost use Rattle.world_text.specs.VersionLines.{bad_version_line};
 ghost use Rattle.world_text.specs.LineCauses.{number_of};
 ghost use Rattle.world_text.specs.WorldLines as lines;
-ghost use Rattle.world_text.specs.WorldLines.{at_last};
+ghost use Rattle.world_text.specs.WorldLines.{at_last, line_verdict};
 ghost use Rattle.world_text.specs.WorldText.{with_versions};
 ghost use Rattle.world_text.specs.WorldWords.{hex_text, one};
 ghost use Rattle.world_file.specs.SessionText as spec;
 ghost use Rattle.world_file.specs.SessionText.{HaveHosts, IsStreamOf, Says};
 ghost use Rattle.session_script.specs.declared.fault.ExportError.TheVariants as fault;
 ghost use Rattle.world_file.specs.declared.fault.WorldError.TheVariants as told;
-ghost use Rattle.world_file.specs.SessionTold.{StreamBad, args_of, BundleBad, ClosesBad, IsClosed, SaysBad, Taken, TakenAs, row_seen, word_seen};
-ghost use Rattle.world_file.specs.Told.{IsSmall};
+ghost use Rattle.world_file.specs.SessionTold.{StreamBad, session_at, args_of, BundleBad, ClosesBad, IsClosed, SaysBad, Taken, TakenAs, row_seen, word_seen};
+ghost use Rattle.world_file.specs.Told.{IsSmall, TellsCause, going};
 
 use crate::draft::Draft;
 use crate::fault::WorldError;
@@ -27,8 +27,8 @@ use sessions::{Session, SessionWorld};
 use std::alloc::{AllocError, Global};
 use std::marker::Model;
 use words::{read_hex_word, single, split_first};
-use world_text::{LineCause, worlds_so_far_are_small};
-use world_words::are_bytes;
+use world_text::LineCause;
+use world_words::{LineFault, are_bytes};
 
 /// The world with sessions that a text says, or its first bad line. It goes once through the bytes.
 pub fn read_sessions(alloc: Global, bytes: &[u8]) -> Result<SessionWorld, WorldError>
@@ -43,27 +43,28 @@ pub fn read_sessions(alloc: Global, bytes: &[u8]) -> Result<SessionWorld, WorldE
     read_session_lines(alloc, bytes)
 }
 
+#[tactic(auto, using(crate::proofs::SessionTaken::so_first, crate::proofs::SessionTaken::so_next, crate::proofs::SessionTaken::so_bad, crate::proofs::SessionTaken::so_ok, crate::proofs::SessionTaken::so_unread, crate::proofs::SessionTaken::end_unclosed, crate::proofs::SessionTaken::end_missing))]
 fn read_session_lines(alloc: Global, bytes: &[u8]) -> Result<SessionWorld, WorldError>
     ensures ok { IfOk result (λ w. Says bytes.now (Ok w)) }
     ensures bad { IfErr result (λ e. SaysBad bytes.now e) }
 {
-    worlds_so_far_are_small();
     let mut told = Told::new(alloc);
     let mut number: u64 = 1;
     let mut rest = bytes;
     while !rest.is_empty() {
         let (line, behind) = cut_line(rest);
-        if told.take_line(alloc, line, number)? {
-            return told.finish(alloc, number, behind);
+        match told.take_line(alloc, line, number) {
+            Ok(false) => {}
+            Ok(true) => return told.finish(alloc, number, behind),
+            Err(error) => return Err(error),
         }
         number += 1;
         rest = behind;
     }
-    told.close(alloc)?;
-    Err(WorldError::Bad {
-        line: number,
-        cause: told.draft.missing().number(),
-    })
+    if let Err(error) = told.close(alloc) {
+        return Err(error);
+    }
+    Err(bad(number, told.draft.missing()))
 }
 
 /// What the lines so far say.
@@ -104,8 +105,10 @@ impl Told {
     }
 
     // Takes a line: whether it begins the bundle.
+    #[tactic(auto, using(crate::proofs::SessionTaken::taken_by, crate::proofs::SessionTaken::taken_passed))]
     fn take_line(&mut self, alloc: Global, line: &[u8], number: u64) -> Result<bool, WorldError>
-        requires { IsSmall self.old.draft }
+        requires small { IsSmall self.old.draft }
+        requires few { length self.old.draft.scripts ≤ 32 }
         ensures { Taken self.old self.new number line.now result }
     {
         match self.row_of(line) {
@@ -145,7 +148,7 @@ impl Told {
     }
 
     // `feed HEX` adds its bytes to the session under which it stands.
-    #[tactic(auto, using(crate::proofs::SessionRows::taken_wrong, crate::proofs::SessionRows::taken_stray, crate::proofs::SessionRows::taken_fed))]
+    #[tactic(auto, using(crate::proofs::SessionTaken::taken_wrong, crate::proofs::SessionTaken::taken_stray, crate::proofs::SessionTaken::taken_fed))]
     fn take_feed(&mut self, bytes: Option<Octets>, number: u64) -> Result<bool, WorldError>
         ensures { (line : List ℕ) → TakenAs (spec.Feeds bytes) self.old self.new number line result }
     {
@@ -167,16 +170,40 @@ impl Told {
     }
 
     // `session HOST` is judged as `script HOST` is, and is a script without steps in its place.
+    #[tactic(auto, using(crate::proofs::SessionTaken::session_taken, crate::proofs::SessionTaken::session_begins, crate::proofs::SessionTaken::session_bad, crate::proofs::SessionTaken::session_unclosed))]
     fn take_session(&mut self, alloc: Global, line: &[u8], number: u64) -> Result<bool, WorldError>
-        requires { IsSmall self.old.draft }
+        requires small { IsSmall self.old.draft }
+        requires few { length self.old.draft.scripts ≤ 32 }
         ensures { TakenAs spec.OpensSession self.old self.new number line.now result }
     {
-        self.close(alloc)?;
-        let place = self.draft.scripts.len() as u32;
-        let script = as_script(alloc, line)?;
-        if let Err(fault) = self.draft.take_text(alloc, script.as_slice()) {
-            return Err(at_line(fault, number));
+        if let Err(error) = self.close(alloc) {
+            return Err(error);
         }
+        let place = self.draft.scripts.len() as u32;
+        match self.take_script(alloc, line) {
+            Ok(false) => {}
+            Ok(true) => return Ok(true),
+            Err(fault) => return Err(at_line(fault, number)),
+        }
+        self.open(alloc, place, number)?;
+        Ok(false)
+    }
+
+    // A line `session`, as a line `script`.
+    fn take_script(&mut self, alloc: Global, line: &[u8]) -> Result<bool, LineFault>
+        requires { IsSmall self.old.draft }
+        ensures ok { IfOk result (λ begins. line_verdict self.old.draft (spec.as_script line.now) ≡ going begins self.new.draft) }
+        ensures bad { IfErr result (λ fault. TellsCause fault (line_verdict self.old.draft (spec.as_script line.now))) }
+        ensures same { self.new ≡ record self.old { draft = self.new.draft } }
+    {
+        let script = as_script(alloc, line)?;
+        self.draft.take_text(alloc, script.as_slice())
+    }
+
+    // Opens the session of the script in this place.
+    fn open(&mut self, alloc: Global, place: u32, number: u64) -> Result<(), AllocError>
+        ensures { OnOk result (self.new ≡ record { draft = self.old.draft; sessions = self.old.sessions ++ session_at place self.old.draft ∷ []; under = Some number }) }
+    {
         let session = Session {
             place,
             host: self.draft.last_host(),
@@ -184,25 +211,33 @@ impl Told {
         };
         add(&mut self.sessions, session)?;
         self.under = Some(number);
-        Ok(false)
+        Ok(())
     }
 
     // A line of a world; a step doesn't stand under a session.
+    #[tactic(auto, using(crate::proofs::SessionTaken::other_taken, crate::proofs::SessionTaken::other_bad, crate::proofs::SessionTaken::other_unclosed))]
     fn take_other(&mut self, alloc: Global, line: &[u8], number: u64) -> Result<bool, WorldError>
         requires { IsSmall self.old.draft }
         ensures { TakenAs spec.Other self.old self.new number line.now result }
     {
-        self.close(alloc)?;
-        let taken = if self.under.is_some() {
-            self.draft.take_under_session(alloc, line)
-        } else {
-            self.draft.take_text(alloc, line)
-        };
-        self.under = None;
-        match taken {
+        if let Err(error) = self.close(alloc) {
+            return Err(error);
+        }
+        match self.take_under(alloc, line) {
             Ok(begins) => Ok(begins),
             Err(fault) => Err(at_line(fault, number)),
         }
+    }
+
+    // The line by itself, behind which no session goes on.
+    fn take_under(&mut self, alloc: Global, line: &[u8]) -> Result<bool, LineFault>
+        requires { IsSmall self.old.draft }
+        ensures ok { IfOk result (λ begins. spec.other_verdict self.old.under self.old.draft line.now ≡ going begins self.new.draft) }
+        ensures bad { IfErr result (λ fault. TellsCause fault (spec.other_verdict self.old.under self.old.draft line.now)) }
+        ensures same { self.new ≡ record { draft = self.new.draft; sessions = self.old.sessions; under = None } }
+    {
+        let session = self.under.take();
+        self.draft.take_under(alloc, session, line)
     }
 
     // The lines of a session end: its bytes are whole messages, or its line is bad.
@@ -226,7 +261,8 @@ impl Told {
         }
     }
 
-    // The world of the lines so far, with the database that stands behind the line with this number.
+    // The world of the lines so far, with the databases that stand behind the line with this number.
+    #[tactic(auto, using(crate::proofs::SessionTaken::bundle_bad))]
     fn finish(self, alloc: Global, number: u64, text: &[u8]) -> Result<SessionWorld, WorldError>
         requires { number + length text.now < 2 ^ 63 }
         ensures ok { IfOk result (λ w. spec.with_sessions self.sessions (with_versions number (lines.world_of self.draft) text.now (bad_version_line text.now)) ≡ Ok w) }
@@ -237,11 +273,13 @@ impl Told {
             sessions,
             ..
         } = self;
-        let world = read_bundles(alloc, draft, number, text)?;
-        Ok(SessionWorld {
-            world,
-            sessions: Sequence::from_vec(sessions),
-        })
+        match read_bundles(alloc, draft, number, text) {
+            Ok(world) => Ok(SessionWorld {
+                world,
+                sessions: Sequence::from_vec(sessions),
+            }),
+            Err(error) => Err(error),
+        }
     }
 }
 
