@@ -1,14 +1,11 @@
-use Rattle.std.proofs.Common.{◌≡◌, ℕ, List, IfOk, MatchResult, Result, Ok, Err, ap, ◌∙◌}
+use Rattle.std.proofs.Common.{◌≡◌, ℕ, List, ap, ◌∙◌}
 use Rattle.net_base.specs.declared.ndb.NdbPair.{NdbPair}
-use Rattle.net_locks.proofs.locks.copy_of.Goals as goal
+use Rattle.net_actors.proofs.Placed.{map_ok}
+use Rattle.net_actors.proofs.versions.copy_of.Goals as goal
 
 same_pair : (a b : NdbPair) → b.attr ≡ a.attr → b.value ≡ a.value → b ≡ a
 same_pair a b attr value =
     ap (λ (t : List ℕ). record b { attr = t }) attr ∙ ap (λ (t : List ℕ). record a { value = t }) value
-
-map_ok : {T E : Type 0} (r : Result T E) (P Q : T → Type 0) (R : E → Type 0) → ((x : T) → P x → Q x) → MatchResult r P R → IfOk r Q
-map_ok (Ok x) P Q R give is = give x is
-map_ok (Err e) P Q R give is = tt
 
 pub returns : goal.returns
 returns c =
