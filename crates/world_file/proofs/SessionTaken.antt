@@ -70,11 +70,11 @@ closes_bad told N l c under is bad = subst (λ (o : Option ℕ). Closes told.ses
 
 pub session_unclosed : (old new : Told) (n : ℕ) (line : List ℕ) (e : WorldError) → ClosesBad old e → TakenAs OpensSession old new n line (Err e)
 session_unclosed old new n line error.Memory bad = tt
-session_unclosed old new n line (error.Bad l c) bad behind cs = closes_bad old _ l c bad.0 bad.1 bad.2
+session_unclosed old new n line (error.Bad l c) bad = λ behind cs. closes_bad old _ l c bad.0 bad.1 bad.2
 
 pub other_unclosed : (old new : Told) (n : ℕ) (line : List ℕ) (e : WorldError) → ClosesBad old e → TakenAs Other old new n line (Err e)
 other_unclosed old new n line error.Memory bad = tt
-other_unclosed old new n line (error.Bad l c) bad behind cs = closes_bad old _ l c bad.0 bad.1 bad.2
+other_unclosed old new n line (error.Bad l c) bad = λ behind cs. closes_bad old _ l c bad.0 bad.1 bad.2
 
 -- ---- other lines
 
@@ -104,8 +104,8 @@ other_taken old new n line false closed verdict same = (
   λ behind cs r says. closes_in old.sessions old.under (Other-judged old n behind cs r (other_verdict old.under old.draft line)) r closed
       (subst (Other-judged old n behind cs r) (sym verdict) (subst (λ (t : Told). SaysFrom t (n + 1) cs r) same says)),
 )
-other_taken old new n line true closed verdict same behind cs r is =
-    closes_in old.sessions old.under (Other-judged old n behind cs r (other_verdict old.under old.draft line)) r closed
+other_taken old new n line true closed verdict same =
+    λ behind cs r is. closes_in old.sessions old.under (Other-judged old n behind cs r (other_verdict old.under old.draft line)) r closed
     (subst (Other-judged old n behind cs r) (sym verdict)
     (is ∙ ap (λ (t : Told). with_sessions t.sessions (with_versions n (world_of new.draft) behind (bad_version_line behind))) same))
 
@@ -238,3 +238,8 @@ end_missing bytes told n rest e so none closed is =
     subst (SaysBad bytes) (sym is)
     (at-end bytes told n rest (Err (n, number_of (missing told.draft))) so none
     (closes_in told.sessions told.under (Err (n, number_of (missing told.draft)) ≡ Err (n, number_of (missing told.draft))) (Err (n, number_of (missing told.draft))) closed refl))
+
+-- what holds of each world that a text says
+pub holds : (P : SessionWorld → Type 0) (answer : Result SessionWorld WorldError) (text : List ℕ) → ((w : SessionWorld) → Says text (Ok w) → P w) → IfOk answer (λ (w : SessionWorld). Says text (Ok w)) → IfOk answer P
+holds P (Ok w) text says is = says w is
+holds P (Err e) text says is = is

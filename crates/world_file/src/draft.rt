@@ -113,6 +113,14 @@ impl Draft {
         }
     }
 
+    /// How many scripts there are.
+    pub(crate) fn script_count(&self) -> u32
+        requires { length self.now.scripts ≤ 32 }
+        ensures { result ≡ length self.now.scripts }
+    {
+        self.scripts.len() as u32
+    }
+
     /// The host of the last script, 0 without one.
     pub(crate) fn last_host(&self) -> u32
         ensures { result ≡ host_of_last self.now }

@@ -179,7 +179,7 @@ impl Told {
         if let Err(error) = self.close(alloc) {
             return Err(error);
         }
-        let place = self.draft.scripts.len() as u32;
+        let place = self.draft.script_count();
         match self.take_script(alloc, line) {
             Ok(false) => {}
             Ok(true) => return Ok(true),
