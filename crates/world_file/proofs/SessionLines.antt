@@ -1,25 +1,24 @@
 -- What a line makes of the scripts so far, and how `session HOST` is read.
-use Rattle.std.proofs.Common.{◌≡◌, ◌≢◌, ℕ, ◌==◌, zero, suc, Bool, true, false, cond, List, [], ◌∷◌, ◌++◌, map, drop, length, refl, sym, ap, subst, ◌∙◌, arith, Option, Some, None, Result, Ok, Err, append-nil}
-use Rattle.std.specs.Prelude.{bytes_eq, codes, slice_get, if◌then◌else◌}
+use Rattle.std.proofs.Common.{◌≡◌, ℕ, ◌==◌, Bool, true, false, List, [], ◌∷◌, ◌++◌, map, refl, sym, ap, subst, ◌∙◌, Option, Some, None, Ok, append-nil}
+use Rattle.std.specs.Prelude.{bytes_eq, codes, if◌then◌else◌}
 use Rattle.std.specs.List.{join_with_byte}
 use Rattle.std.proofs.lemmas.Bool.{false≢true}
 use Rattle.std.proofs.lemmas.List.{map-append}
 use Rattle.std.proofs.lemmas.List.Splits.{join_with_byte-slice_split}
 use Rattle.net_base.specs.declared.world.Script.{Script}
 use Rattle.net_base.specs.World.{is_name}
-use Rattle.net_base.proofs.Texts.{cut_at, one_part}
-use Rattle.world_text.specs.declared.line.LineCause.{LineCause}
+use Rattle.net_base.proofs.Texts.{cut_at}
 use Rattle.world_text.specs.declared.line.MediumLine.{MediumLine}
 use Rattle.world_text.specs.declared.line.MediumLine.TheVariants as medium
 use Rattle.world_text.specs.declared.line.WorldLine.{WorldLine}
 use Rattle.world_text.specs.declared.line.WorldLine.TheVariants as line
 use Rattle.world_text.specs.LineReading.{argued, read_line, script_of, words_line}
-use Rattle.world_text.specs.WorldLines.{Begins, Draft, Goes, after, at_last, good_line, host_number, is_passed, line_verdict, with_step, world_of}
+use Rattle.world_text.specs.WorldLines.{Draft, Goes, after, at_last, good_line, host_number, is_passed, line_verdict, with_step, world_of}
 use Rattle.world_text.specs.WorldWords.{words_of}
 use Rattle.world_text.proofs.WorldLists.{without-none}
 use Rattle.world_text.proofs.WorldMedia.{equal}
 use Rattle.world_text.proofs.WorldTexts.{First, Good, Passed, Refused, View, bad-goes, begins-goes, same-goes, view}
-use Rattle.world_file.specs.SessionText.{Feeds, OpensSession, Other, Passes, Row, as_script, row_by, row_of}
+use Rattle.world_file.specs.SessionText.{Feeds, OpensSession, Other, Passes, as_script, row_by, row_of}
 
 -- ---- scripts
 

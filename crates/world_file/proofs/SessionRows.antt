@@ -1,11 +1,11 @@
 -- Which row a line is.
-use Rattle.std.proofs.Common.{◌≡◌, ◌≢◌, ℕ, ◌==◌, Bool, true, false, List, [], ◌∷◌, length, refl, sym, ap, ◌∙◌, Option, Some, None, Bor}
-use Rattle.std.specs.Prelude.{MatchOption, bytes_eq, codes, if◌then◌else◌}
+use Rattle.std.proofs.Common.{◌≡◌, ◌≢◌, ℕ, ◌==◌, false, List, [], ◌∷◌, length, refl, sym, ap, ◌∙◌, Option, Some, None, Bor}
+use Rattle.std.specs.Prelude.{MatchOption, if◌then◌else◌}
 use Rattle.std.specs.Option.{option_and_then}
 use Rattle.net_base.specs.Addresses.{parts_at}
 use Rattle.world_text.specs.WorldLines.{Draft, is_passed}
 use Rattle.world_text.specs.WorldWords.{hex_text, one, words_of}
-use Rattle.world_file.specs.SessionText.{Feeds, OpensSession, Other, Passes, Row, row_by, row_of}
+use Rattle.world_file.specs.SessionText.{Other, Passes, Row, row_by, row_of}
 use Rattle.world_file.specs.SessionTold.{args_of, word_seen}
 
 pub none_seen : (r : Option (Bor (List ℕ))) → r ≡ None → word_seen r ≡ None

@@ -18,8 +18,8 @@ use Rattle.world_words.specs.declared.fault.LineFault.{LineFault}
 use Rattle.world_words.specs.declared.fault.LineFault.TheVariants as fault
 use Rattle.world_file.specs.declared.fault.WorldError.{WorldError}
 use Rattle.world_file.specs.declared.fault.WorldError.TheVariants as error
-use Rattle.world_file.specs.SessionText.{Closes, Extends, Feeds, Follows, Judges, OpensSession, Other, Passes, Row, Says, SaysFrom, Told, as_script, bad_stream, extended, host_of_last, is_step_read, last_stream, opened_at, opening_told, other_verdict, row_of, with_sessions}
-use Rattle.world_file.specs.SessionTold.{BundleBad, ClosesBad, Comes, IsClosed, LeadsOn, SaysBad, Taken, TakenAs, cut, session_at}
+use Rattle.world_file.specs.SessionText.{Closes, Extends, Feeds, Judges, OpensSession, Other, Passes, Row, Says, SaysFrom, Told, as_script, bad_stream, extended, host_of_last, is_step_read, last_stream, opened_at, opening_told, other_verdict, with_sessions}
+use Rattle.world_file.specs.SessionTold.{BundleBad, ClosesBad, IsClosed, LeadsOn, SaysBad, Taken, TakenAs, session_at}
 use Rattle.world_file.specs.Told.{IsSmall, Tells, TellsAt, TellsCause, going}
 
 abbrev Outcome : Type 0

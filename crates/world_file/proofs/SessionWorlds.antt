@@ -1,7 +1,7 @@
 -- What a text of sessions says has a script of its host in the place of each session, and is a world.
-use Rattle.std.proofs.Common.{◌≡◌, ◌⊎◌, inl, inr, ℕ, ◌+◌, ◌<◌, ◌==◌, zero, suc, Bool, true, false, not, ◌&&◌, ◌||◌, cond, List, [], ◌∷◌, ◌++◌, map, length, refl, sym, ap, subst, ◌∙◌, arith, Option, Some, None, Result, Ok, Err}
-use Rattle.std.specs.Prelude.{nat_eq, slice_get, option_map, if◌then◌else◌}
-use Rattle.std.specs.List.{last_or, list_all, list_any}
+use Rattle.std.proofs.Common.{◌≡◌, ◌⊎◌, inl, inr, ℕ, ◌+◌, ◌==◌, zero, suc, Bool, true, false, not, ◌&&◌, ◌||◌, List, [], ◌∷◌, ◌++◌, length, refl, sym, ap, subst, ◌∙◌, arith, Option, Some, None, Result, Ok, Err}
+use Rattle.std.specs.Prelude.{slice_get, option_map, if◌then◌else◌}
+use Rattle.std.specs.List.{list_all, list_any}
 use Rattle.std.specs.Option.{option_map_or}
 use Rattle.std.proofs.lemmas.Bool.{and_parts, false≢true, ne_eqb}
 use Rattle.std.proofs.lemmas.List.{map-append}
@@ -14,25 +14,23 @@ use Rattle.net_base.specs.declared.world.World.{World}
 use Rattle.sessions.specs.declared.world.Session.{Session}
 use Rattle.sessions.specs.declared.world.SessionWorld.{SessionWorld}
 use Rattle.sessions.specs.Worlds.{HaveStreams, same_place}
-use Rattle.world_text.specs.LineCauses.{number_of}
 use Rattle.world_text.specs.LineReading.{read_line}
 use Rattle.world_text.specs.VersionLines.{bad_version_line, versions_in}
-use Rattle.world_text.specs.WorldLines.{Bad, Begins, Draft, Goes, Verdict, after, at_last, empty_script, first_line, host_number, is_passed, judged_line, line_verdict, opening_draft, world_of}
+use Rattle.world_text.specs.WorldLines.{Bad, Begins, Draft, Goes, Verdict, after, at_last, empty_script, host_number, line_verdict, opening_draft, world_of}
 use Rattle.world_text.specs.WorldRefusal.{Leads}
-use Rattle.world_text.specs.WorldText.{Cut, cuts_of, missing, with_first, with_versions}
-use Rattle.world_text.specs.WorldWords.{words_of}
+use Rattle.world_text.specs.WorldText.{Cut, cuts_of, with_first, with_versions}
 use Rattle.world_text.proofs.VersionTexts.{versions-databases, versions-timed}
 use Rattle.world_text.proofs.WorldLists.{apart-map, apart-push, at_last-push, last-push, same-numbers}
 use Rattle.world_text.proofs.WorldSmall.{led-next}
-use Rattle.world_text.proofs.WorldSound.{Behind, Opening, Read, Stage, read-all}
+use Rattle.world_text.proofs.WorldSound.{Behind, Opening, Stage, read-all}
 use Rattle.world_text.proofs.WorldStands.{complete}
 use Rattle.world_text.proofs.WorldTexts.{Ends, ends}
 use Rattle.world_text.specs.declared.line.LineCause.{LineCause}
 use Rattle.world_text.specs.declared.line.LineCause.TheVariants as cause
 use Rattle.world_text.specs.declared.line.WorldLine.{WorldLine}
 use Rattle.world_text.specs.declared.line.WorldLine.TheVariants as line
-use Rattle.world_file.specs.SessionText.{Closes, Extends, Feeds, Follows, HaveHosts, IsStreamOf, Judges, OpensSession, Other, Passes, Row, Says, SaysFrom, Told, as_script, bad_stream, extended, host_of_last, is_step_read, last_stream, opened_at, opening_told, other_verdict, row_by, row_of, under_session, with_bytes, with_sessions}
-use Rattle.world_file.proofs.SessionLines.{Grows, Opens, grows, hosts_of, map-at_last, opened, opens}
+use Rattle.world_file.specs.SessionText.{Closes, Extends, Feeds, Follows, HaveHosts, IsStreamOf, Judges, OpensSession, Other, Passes, Row, Says, SaysFrom, Told, as_script, bad_stream, extended, host_of_last, is_step_read, last_stream, opened_at, opening_told, other_verdict, row_of, with_bytes, with_sessions}
+use Rattle.world_file.proofs.SessionLines.{Grows, grows, hosts_of, map-at_last, opened, opens}
 
 -- ---- lists
 
