@@ -1,5 +1,5 @@
 //! Whether a caller owes something after a history, by its entries alone.
-ghost use Rattle.std.specs.Prelude.{◌≡◌, ◌<◌, length, IfOk};
+ghost use Rattle.std.specs.Prelude.{◌≡◌, ◌<◌, ◌≤◌, ◌+◌, ◌^◌, length, IfOk};
 ghost use Rattle.duties.specs.WaysOf.{AreWaysOfWorld};
 ghost use Rattle.net_base.specs.declared.world.World.{World as AnyWorld};
 ghost use Rattle.net_base.specs.Calm.{owes};
@@ -44,12 +44,13 @@ fn owed_count(ways: &WorldWays, history: &[Entry], caller: u32) -> u128
 
 // How many events an entry of a script owes: the put of what it emits, what follows its reply, and the release of what ended.
 fn brought(ways: &WorldWays, entry: &Entry) -> u128
-    ensures { (w : AnyWorld) → AreWaysOfWorld w ways.now → result ≡ spec.brought w entry.now }
+    ensures counted { (w : AnyWorld) → AreWaysOfWorld w ways.now → result ≡ spec.brought w entry.now }
+    ensures few { result ≤ 2 ^ 64 + 510 }
 {
     puts(ways, entry) as u128 + follow_ups(entry) as u128 + releases(entry) as u128
 }
 
-fn puts(ways: &WorldWays, entry: &Entry) -> usize
+fn puts(ways: &WorldWays, entry: &Entry) -> u8
     ensures { (w : AnyWorld) → AreWaysOfWorld w ways.now → result ≡ spec.puts w entry.now.actor entry.now.emits }
 {
     let Some(header) = entry.emits else {
@@ -62,7 +63,7 @@ fn puts(ways: &WorldWays, entry: &Entry) -> usize
     }
 }
 
-fn count_way(ways: &WorldWays, host: u32, ip: u32) -> usize
+fn count_way(ways: &WorldWays, host: u32, ip: u32) -> u8
     ensures { (w : AnyWorld) → AreWaysOfWorld w ways.now → result ≡ spec.if_way (way w host ip) }
 {
     match ways.way(host, ip) {
@@ -107,7 +108,7 @@ fn at_conversation(event: &Event, reply: &Reply) -> usize
     }
 }
 
-fn releases(entry: &Entry) -> usize
+fn releases(entry: &Entry) -> u8
     ensures { result ≡ spec.releases entry.now.actor entry.now.ended }
 {
     match entry.actor {

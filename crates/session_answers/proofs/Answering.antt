@@ -1,14 +1,26 @@
 -- The answers to a session's messages, one after the other.
-use Rattle.std.proofs.Common.{◌≡◌, ◌<◌, ℕ, List, [], ◌∷◌, ◌++◌, length, refl, sym, subst, ◌∙◌, ap, append_assoc, append-nil, arith}
+use Rattle.std.proofs.Common.{◌≡◌, ◌<◌, ℕ, List, Option, None, [], ◌∷◌, ◌++◌, length, sym, subst, ◌∙◌, ap, append_assoc, append-nil, arith}
 use Rattle.std.proofs.lemmas.List.{nil_from_length}
 use Rattle.net_base.specs.declared.reply.Reply.{Reply}
 use Rattle.ninep_wire.specs.declared.request.Tmsg.{Tmsg}
 use Rattle.sessions.specs.Script.{AreMessages, Begins, IsStream, after}
-use Rattle.sessions.specs.Server.{Answered, Outcome, Waits, answers_by, answers_to, outcome}
+use Rattle.sessions.specs.Server.{Answered, Outcome, answers_by, answers_to, outcome}
 use Rattle.sessions.specs.Session.{State, first, session}
-use Rattle.sessions.specs.Table.{Table}
+use Rattle.sessions.specs.Table.{IsSound, Table}
+use Rattle.sessions.proofs.Sayable.{after_sound}
 use Rattle.session_script.proofs.Messages.{none_begins, one_beginning}
-use Rattle.session_answers.specs.Served.{Goes, IsLast, IsServedFirst}
+use Rattle.session_answers.specs.Served.{Goes, IsLast, IsServedFirst, served}
+
+pub still_sound : (old now : Table) (m : Tmsg) → IsSound old → now ≡ after old m → IsSound now
+still_sound old now m sound heard = subst IsSound (sym heard) (after_sound old m sound)
+
+-- the message that the bytes begin with waits, and no other one begins them
+pub first_waits : (h : ℕ) (s now : State) (m : Tmsg) (bytes behind : List ℕ) (rs left : List Reply) (answer : Option (List ℕ)) → Begins s.table.msize m bytes behind
+    → outcome ((session h).serves s m) rs ≡ served answer now left → answer ≡ None → IsLast h s bytes rs
+first_waits h s now m bytes behind rs left answer begins told none =
+    λ n after starts. ap (λ (x : Tmsg). outcome ((session h).serves s x) rs) (one_beginning s.table.msize n m bytes after behind starts begins).0
+    ∙ told
+    ∙ ap (λ (o : Option (List ℕ)). served o now left) none
 
 -- whatever the messages of the bytes are, those that are left are answered behind these answers
 abbrev pub Answering : ℕ → List ℕ → List Reply → List (List ℕ) → State → List ℕ → List Reply → Type 0

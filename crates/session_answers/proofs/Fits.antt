@@ -1,5 +1,6 @@
 -- Answers have room in a message.
-use Rattle.std.proofs.Common.{◌≡◌, ◌≤◌, ◌<◌, ℕ, ◌+◌, ◌-◌, ◌*◌, ◌==◌, min, Bool, true, false, List, [], ◌∷◌, ◌++◌, length, map, take, drop, Option, Some, None, is_some, cond, bytes_eq, refl, sym, subst, ap, ◌∙◌, arith, length-append}
+use Rattle.std.proofs.Common.{◌≡◌, ◌≤◌, ◌<◌, ℕ, ◌*◌, ◌==◌, min, Bool, true, false, List, [], ◌∷◌, length, map, take, drop, Option, Some, None, is_some, cond, bytes_eq, refl, sym, subst, ◌∙◌, arith, length-append}
+use Rattle.std.proofs.lemmas.List.{length-take}
 use Rattle.std.specs.Prelude.{codes, flat_map}
 use Rattle.std.specs.Option.{option_map_or}
 use Rattle.net_base.specs.declared.names.Node.{Node}
@@ -45,7 +46,7 @@ used tag o answer each =
 -- ---- reads
 
 took_few : (n : ℕ) (bytes : List ℕ) → length (take n bytes) ≤ n
-took_few n bytes = omega arith
+took_few n bytes = omega (arith, length-take n bytes)
 
 piece_few : (table : Table) (offset count : ℕ) (bytes : List ℕ) → table.msize ≤ longest → length (piece offset (room table count) bytes) ≤ 8192
 piece_few table offset count bytes short = omega (arith, short, took_few (room table count) (drop offset bytes))

@@ -1,6 +1,5 @@
 mod Plays
 mod Walks
 mod Fits
-mod Own
 mod Answering
 mod Serving

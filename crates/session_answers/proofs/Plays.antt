@@ -1,7 +1,6 @@
 -- The play of a session's step: one event, or two where a grant is accepted, after which the conversation is awaited.
 use Rattle.std.proofs.Common.{◌≡◌, ℕ, ◌&&◌, Bool, true, false, List, [], ◌∷◌, Option, Some, None, Result, Ok, Err, cond, bytes_eq, option_copied, MatchOption, Bor, refl, sym, ◌∙◌, ap}
 use Rattle.net_base.specs.declared.actor.ActorName.{ActorName}
-use Rattle.net_base.specs.declared.address.Proto.{Proto}
 use Rattle.net_base.specs.declared.event.Event.{Event}
 use Rattle.net_base.specs.declared.event.Event.TheVariants as event
 use Rattle.net_base.specs.declared.names.Ctl.{Ctl}
@@ -16,17 +15,17 @@ use Rattle.net_base.specs.declared.world.Step.{Step}
 use Rattle.net_base.specs.declared.world.Step.TheVariants as step
 use Rattle.net_base.specs.ControlWords as control
 use Rattle.net_base.specs.Paths.{reads, walk, writes}
-use Rattle.net_base.specs.Steps.{uses, misuses, ends_with, read_event, opens, Ask, Asks, Bound, Ends, Fid, Play, bind, controls, conversation_of, fid_of, if_accepted, is_accepted, is_bound, on_fid, open_actor, open_event, openable, opened_fid, play_of, puts, unbind}
-use Rattle.sessions.specs.Server.{Doing, Outcome, Waits, doing_of, outcome}
+use Rattle.net_base.specs.Steps.{uses, misuses, ends_with, read_event, opens, Ask, Asks, Bound, Ends, Fid, Play, bind, controls, conversation_of, fid_of, if_accepted, is_accepted, is_bound, on_fid, open_event, openable, opened_fid, play_of, puts, unbind}
+use Rattle.sessions.specs.Server.{Doing, Waits, doing_of, outcome}
 use Rattle.sessions.specs.Session.{State}
 use Rattle.script_task.specs.declared.request.Request.{Request}
 use Rattle.script_task.specs.declared.effect.Effect.{Effect}
 use Rattle.script_task.specs.declared.planned.Planned.{Planned}
 use Rattle.script_task.specs.Effects.{effect_of, opened, settles}
 use Rattle.script_task.specs.Planning.{ask_of}
-use Rattle.script_task.specs.Requests.{bound_after, head, opened_names, planned, request_play, settled}
+use Rattle.script_task.specs.Requests.{bound_after, head, planned, request_play, settled}
 use Rattle.net_tree.specs.Bindings.{Bindings}
-use Rattle.session_answers.specs.Served.{IsServed, Plays, asked, is_grant, went}
+use Rattle.session_answers.specs.Served.{IsServed, Plays, asked, is_grant}
 
 -- what a play does by its first event
 data Ahead (after : Reply → List Bound) : Play → Type 0 where
@@ -156,6 +155,7 @@ ahead h names (step.Close called) is = close_ahead h names called
 ahead h names (step.Ls path) is = absurd is
 ahead h names (step.Cs query) is = One _ _ _ refl (λ x. refl)
 ahead h names (step.Until moment) is = absurd is
+ahead h names step.Refresh is = absurd is
 ahead h names (step.Dial called address) is = absurd is
 ahead h names (step.Announce called address) is = absurd is
 ahead h names (step.Listen called from) is = absurd is
@@ -174,6 +174,7 @@ plays_as h names (step.Close called) is = refl
 plays_as h names (step.Ls path) is = absurd is
 plays_as h names (step.Cs query) is = refl
 plays_as h names (step.Until moment) is = absurd is
+plays_as h names step.Refresh is = absurd is
 plays_as h names (step.Dial called address) is = absurd is
 plays_as h names (step.Announce called address) is = absurd is
 plays_as h names (step.Listen called from) is = absurd is
@@ -184,8 +185,8 @@ plays_as h names (step.Hangup called) is = absurd is
 -- ---- replies
 
 none_waits : (after : Reply → List Bound) (p : Play) → Ahead after p → (go_on : List Bound → Option Reply → Doing State) → outcome (doing_of p None go_on) [] ≡ Waits
-none_waits after p (One a e next no ends) go_on = refl
-none_waits after p (Two a e b f next last goes ends yes) go_on = refl
+none_waits after p (One a e next other ends) go_on = refl
+none_waits after p (Two a e b f next last goes ends grants) go_on = refl
 
 -- without a reply the step waits
 pub waits : (h : ℕ) (names after : List Bound) (s : Step) → IsServed s → (rs left : List Reply) → rs ≡ [] → Plays h names s rs after None left
@@ -193,15 +194,20 @@ waits h names after s is rs left none =
     λ go_on. ap (λ (xs : List Reply). outcome (doing_of (play_of h names s) None go_on) xs) none
     ∙ none_waits (settled names (asked s)) (play_of h names s) (ahead h names s is) go_on
 
+-- the event of an ask, where there is one
+abbrev event_in : Event → Option Ask → Event
+event_in e None = e
+event_in e (Some x) = x.event
+
 event_is : (a b : ActorName) (e f : Event) (next : Reply → Play) → head (Asks a e next) ≡ Some (record { actor = b; event = f }) → e ≡ f
-event_is a b e f next is = cc
+event_is a b e f next is = ap (event_in e) is
 
 one_reply : (after : Reply → List Bound) (p : Play) → Ahead after p → (a : ActorName) (e : Event) → head p ≡ Some (record { actor = a; event = e })
     → (x : Reply) (left : List Reply) → (is_grant e && is_accepted x) ≡ false
     → (go_on : List Bound → Option Reply → Doing State) → outcome (doing_of p None go_on) (x ∷ left) ≡ outcome (go_on (after x) (Some x)) left
-one_reply after p (One a e next no ends) b f is x left through go_on = ap (λ (q : Play). outcome (doing_of q (Some x) go_on) left) (ends x)
-one_reply after p (Two a e b' f' next last goes ends yes) b f is x left through go_on =
-    let refused : is_accepted x ≡ false = accepted (is_grant f) (is_accepted x) (ap is_grant (sym (event_is a b e f next is)) ∙ yes) through in
+one_reply after p (One a e next other ends) b f is x left through go_on = ap (λ (q : Play). outcome (doing_of q (Some x) go_on) left) (ends x)
+one_reply after p (Two a e b' f' next last goes ends grants) b f is x left through go_on =
+    let refused : is_accepted x ≡ false = accepted (is_grant f) (is_accepted x) (ap is_grant (sym (event_is a b e f next is)) ∙ grants) through in
     ap (λ (q : Play). outcome (doing_of q (Some x) go_on) left) (goes x ∙ ap (λ (v : Bool). cond v (Asks b' f' last) (Ends (after x))) refused)
   where
     accepted : (u v : Bool) → u ≡ true → (u && v) ≡ false → v ≡ false
@@ -221,12 +227,12 @@ two_replies : (after : Reply → List Bound) (p : Play) → Ahead after p → (a
     → (x : Reply) → (is_grant e && is_accepted x) ≡ true
     → (go_on : List Bound → Option Reply → Doing State)
     → ((outcome (doing_of p None go_on) (x ∷ []) ≡ Waits) × ((y : Reply) (left : List Reply) → outcome (doing_of p None go_on) (x ∷ y ∷ left) ≡ outcome (go_on (after x) (Some y)) left))
-two_replies after p (One a e next no ends) b f is x more go_on = absurd (never (is_grant f) (is_accepted x) (ap is_grant (sym (event_is a b e f next is)) ∙ no) more)
+two_replies after p (One a e next other ends) b f is x more go_on = absurd (never (is_grant f) (is_accepted x) (ap is_grant (sym (event_is a b e f next is)) ∙ other) more)
   where
     never : (u v : Bool) → u ≡ false → (u && v) ≡ true → ⊥
     never true v n t = absurd (cc)
     never false v n t = absurd (cc)
-two_replies after p (Two a e b' f' next last goes ends yes) b f is x more go_on =
+two_replies after p (Two a e b' f' next last goes ends grants) b f is x more go_on =
     let accepted : is_accepted x ≡ true = second (is_grant f) (is_accepted x) more in
     let next_is : next x ≡ Asks b' f' last = goes x ∙ ap (λ (v : Bool). cond v (Asks b' f' last) (Ends (after x))) accepted in (
       ap (λ (q : Play). outcome (doing_of q (Some x) go_on) []) next_is,

@@ -1,19 +1,17 @@
 -- A message is served: it is told an answer, or its step is played.
-use Rattle.std.proofs.Common.{◌≡◌, ℕ, Bool, true, false, List, [], ◌∷◌, Option, Some, None, option_map, cond, refl, ◌∙◌, ap, subst}
+use Rattle.std.proofs.Common.{◌≡◌, ℕ, Bool, true, false, List, Option, Some, None, option_map, cond, ◌∙◌, ap, subst}
 use Rattle.std.specs.Option.{option_and_then}
-use Rattle.net_base.specs.declared.names.FileName.TheVariants as file
 use Rattle.net_base.specs.declared.names.Mode.{Mode}
-use Rattle.net_base.specs.declared.names.Node.{Node}
-use Rattle.net_base.specs.declared.names.Node.TheVariants as node
 use Rattle.net_base.specs.declared.reply.Reply.{Reply}
 use Rattle.net_base.specs.declared.world.Step.{Step}
 use Rattle.net_base.specs.declared.world.Step.TheVariants as step
 use Rattle.net_base.specs.Steps.{Bound}
 use Rattle.ninep_wire.specs.declared.request.Tmsg.{Tmsg}
 use Rattle.ninep_wire.specs.declared.request.Tmsg.TheVariants as t
+use Rattle.sessions.specs.Answers.{Found}
 use Rattle.sessions.specs.Files.{access, is_cs, is_plain}
 use Rattle.sessions.specs.Script.{close_step, cs_step, fid_name, gives_nothing, is_query, open_step, opens, read_count, read_step, reads, room, step_of, write_step}
-use Rattle.sessions.specs.Server.{Answered, Doing, Gives, Waits, outcome}
+use Rattle.sessions.specs.Server.{Doing, Gives, outcome}
 use Rattle.sessions.specs.Session.{State, by_last, serves_by, told}
 use Rattle.sessions.specs.declared.target.Target.{Target}
 use Rattle.sessions.specs.Table.{Table, used}
@@ -72,6 +70,16 @@ all_serve table (t.Wstat tag fid stat) = tt
 
 pub step_served : (table : Table) (m : Tmsg) (s : Step) → step_of table m ≡ Some s → IsServed s
 step_served table m s is = subst Serves is (all_serve table m)
+
+-- ---- states
+
+-- a state of these parts
+abbrev pub known_so : Table → Found → List Bound → State
+known_so table found names = record { table = table; found = found; names = names }
+
+pub same_state : (table old : Table) (found was : Found) (names before : List Bound) → table ≡ old → found ≡ was → names ≡ before → known_so table found names ≡ known_so old was before
+same_state table old found was names before a b c =
+    ap (λ (x : Table). known_so x found names) a ∙ ap (λ (x : Found). known_so old x names) b ∙ ap (λ (x : List Bound). known_so old was x) c
 
 -- ---- answers
 

@@ -251,6 +251,7 @@ fn is_accepted(reply: &Reply) -> bool
         Reply::Opened { .. } => true,
         Reply::Ok => true,
         Reply::Left => true,
+        Reply::Version { .. } => true,
         Reply::Bytes { .. } => true,
         Reply::Count { .. } => true,
         Reply::Lines { .. } => true,
