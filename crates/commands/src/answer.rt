@@ -1,6 +1,7 @@
 //! The answers: a status, and the text that is written, made whole.
 ghost use Rattle.std.specs.Prelude.{◌≡◌, ◌≢◌, ◌++◌, flat_map, true, IfOk, OnOk};
 ghost use Rattle.net_model.specs.Answers as spec;
+ghost use Rattle.net_model.specs.Headline.{Headline};
 ghost use Rattle.net_base.specs.Cs.{Lines as ListOf, Refused};
 ghost use Rattle.cs_resolver.specs.Errors.{number_of};
 ghost use Rattle.net_base.specs.Legal.{IsLegal, IsTimed};
@@ -157,21 +158,21 @@ impl Answer {
         sessions: &Sessions,
         run: &Run,
     ) -> Result<Answer, AllocError>
-        requires world { IsWorld world.now }
         requires played { ArePlayed world.now sessions.now }
         requires legal { IsLegal world.now run.now.history }
         requires timed { IsTimed world.now run.now.history }
         requires answered { run.now.answered ≡ answered_steps world.now run.now.history }
+        requires headline { Headline world.now run.now.history }
         requires end { EndsSo world.now (after world.now run.now.history) run.now.end }
         ensures { IfOk result (λ answer. IsExported world.now sessions.now answer) }
     {
-        legal_histories_keep_it();
         let all = answers_by_caller(alloc, world, sessions, &run.history)?;
         let mut text = text_by(rt, alloc, workers, &run.history)?;
         put_ending(alloc, &mut text, world, run)?;
         put_sessions(&mut text, sessions.as_slice(), all.as_slice())?;
+        let end = run.end;
         Ok(Answer {
-            status: run_status(run.end),
+            status: run_status(end),
             text,
         })
     }
