@@ -163,3 +163,10 @@ returns-clause-complete g c =
           (gone.0.covers me.touched (subst (λ (q : Sight). Covers (own me.caller q) me.touched) (sym c.halt-halt.ensures.same) is.covers));
       known = c.try_move-moved.ensures.known;
     }
+
+pub try_move-moved-requires-clause-may : goal.try_move-moved-requires-clause-may
+try_move-moved-requires-clause-may g c =
+    let w = g.J.Placing.world in
+    let k = c.self.inside.caller in
+    subst (λ (q : Sight). MayMove w k q) (sym c.halt-halt.ensures.same)
+    (subst (λ (o : Option Advance). Halts w k c.self.inside.pass o) c.in_default.is c.halt-halt.ensures.halts)

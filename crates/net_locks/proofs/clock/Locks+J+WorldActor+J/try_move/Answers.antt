@@ -100,3 +100,11 @@ returns-clause-known g c =
     known_on w p.seen c.record_move-moved.new.pass.seen c.catch_up.new.calendar
     (recorded_grows w c.args.caller c.args.now name.Clock (bare (event.Move m)) _ p c.record_move-moved.new.pass c.args.duties.now.list c.record_move-moved.new.duties.list
     moved.entry.stamp moved.entry.reply moved.entry.turn) c.catch_up.ensures.known
+
+pub returns-then-not-catch_up-clause-known : goal.returns-then-not-catch_up-clause-known
+returns-then-not-catch_up-clause-known g c =
+    subst (λ (q : Sight). IsKnown g.J.Placing.world q.seen c.catch_up.new.calendar) (sym c.catch_up.ensures.same) c.catch_up.ensures.known
+
+pub returns-then-is_err-clause-known : goal.returns-then-is_err-clause-known
+returns-then-is_err-clause-known g c =
+    subst (λ (q : Sight). IsKnown g.J.Placing.world q.seen c.catch_up.new.calendar) (sym c.catch_up.ensures.same) c.catch_up.ensures.known
