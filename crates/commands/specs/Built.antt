@@ -2,9 +2,10 @@
 --     IsFirstBad    the first bad line of an input, for a command
 --     IsRun         what a run over a world prints, and its status
 --     IsSummed      the summary of such a run alone
+--     IsExported    what a run over a translated world prints, with the answers of its sessions
 --     IsWorldOf     the world that a command runs
 --     IsAnswer      an answer to a command and its input
-use Rattle.std.specs.Prelude.{◌≡◌, ◌↔◌, ◌⊎◌, ◌&&◌, ℕ, Bool, true, false, List, [], ◌∷◌, ◌++◌, length, map, flat_map, nat_lt, Option, Some, None, Ok, option_and_then, option_to_list, Err, codes}
+use Rattle.std.specs.Prelude.{◌≡◌, ◌↔◌, ◌⊎◌, ◌&&◌, ℕ, Bool, true, false, List, [], ◌∷◌, ◌++◌, length, map, flat_map, nat_lt, Option, Some, None, Ok, option_and_then, option_to_list, Err}
 use Rattle.net_base.specs.declared.address.Proto.TheVariants.{Il, Udp}
 use Rattle.net_base.specs.declared.history.Entry.{Entry}
 use Rattle.net_base.specs.declared.world.World.{World}
@@ -28,16 +29,13 @@ use Rattle.world_text.specs.WorldText.{world_reading}
 use Rattle.world_writer.specs.Written.{file_text}
 use Rattle.net_model.specs.Answers.{Answer, bad_input, lines_answer, cs_answer, input_limit}
 use Rattle.net_model.specs.Words.{Command, Cs, Query, Dns, Run, Make, Big, Check, reads, Export, Translate}
-use Rattle.net_base.specs.Numeral.{numeral}
-use Rattle.net_base.specs.Hexadecimal.{hex_word}
-use Rattle.ninep_wire.specs.declared.request.Tmsg.{Tmsg}
 use Rattle.sessions.specs.declared.world.Session.{Session}
 use Rattle.sessions.specs.declared.world.SessionWorld.{SessionWorld}
-use Rattle.sessions.specs.Script.{AreMessages}
-use Rattle.sessions.specs.Session.{answers}
 use Rattle.sessions.specs.Worlds.{IsTranslated}
 use Rattle.world_file.specs.SessionText.{Says}
 use Rattle.checked_input.specs.Input.{Handed, IsBadHanded, bad_world, parts_of}
+use Rattle.net_export.specs.Answered.{AreAnswersOf}
+use Rattle.commands.specs.AnswerLines.{answer_lines}
 use Rattle.commands.specs.Checked.{IsChecked}
 
 -- Bad lines.
@@ -173,30 +171,18 @@ IsJudged input answer = (handed : Handed input) → IsChecked handed.world hande
 
 -- Answers of export and translate.
 
--- a line `9p CALLER HEX` for an answer
-abbrev pub answer_line : ℕ → List ℕ → List ℕ
-answer_line c answer = codes "9p " ++ numeral c ++ codes " " ++ hex_word answer ++ 10 ∷ []
-
--- the text is the lines of the answers of these sessions, in order
-abbrev pub AreAnswered : World → List Entry → List Session → List ℕ → Type 0
-AreAnswered w h [] text = text ≡ []
-AreAnswered w h (s ∷ ss) text =
-    (ms : List Tmsg) × AreMessages s.stream ms
-    × (rest : List ℕ) × (text ≡ flat_map (answer_line s.place) (answers w s.host ms s.place h) ++ rest) × AreAnswered w h ss rest
-
--- the text of one legal and timed history of the translated world with its summary and the answers of its sessions, and the
--- status by how it ends
-pub record IsExported (s : SessionWorld) (answer : Answer) : Type 0 where
-  pub world : World
-  pub translated : IsTranslated s world
+-- the text of one legal and timed history of the world with its summary and the answers of its sessions, and the status by how
+-- it ends; the history has what each legal one keeps
+pub record IsExported (w : World) (sessions : List Session) (answer : Answer) : Type 0 where
   pub history : List Entry
-  pub legal : IsLegal world history
-  pub timed : IsTimed world history
-  pub headline : Headline world history
-  pub lines : List ℕ
-  pub answered : AreAnswered world history s.sessions lines
-  pub text : answer.text ≡ history_text history ++ summary world history ++ lines
-  pub status : IsStatus world (after world history) answer.status
+  pub legal : IsLegal w history
+  pub timed : IsTimed w history
+  pub headline : Headline w history
+  -- each session's answers, by that history
+  pub answers : List (List (List ℕ))
+  pub answered : AreAnswersOf w history sessions answers
+  pub text : answer.text ≡ history_text history ++ summary w history ++ answer_lines sessions answers
+  pub status : IsStatus w (after w history) answer.status
 
 -- the text of a translated world
 abbrev pub translation : World → Answer
@@ -213,7 +199,7 @@ IsFound (Run workers) input answer = (w : World) × IsWorldOf (Run workers) inpu
 IsFound (Make messages) input answer = answer ≡ made messages
 IsFound (Big messages) input answer = (w : World) × IsWorldOf (Big messages) input w × IsSummed w answer
 IsFound Check input answer = IsJudged input answer
-IsFound (Export workers) input answer = (s : SessionWorld) × Says input (Ok s) × IsExported s answer
+IsFound (Export workers) input answer = (s : SessionWorld) × Says input (Ok s) × (w : World) × IsTranslated s w × IsExported w s.sessions answer
 IsFound Translate input answer = (s : SessionWorld) × Says input (Ok s) × (w : World) × IsTranslated s w × (answer ≡ translation w)
 
 -- an answer to an input with this first bad line, if any

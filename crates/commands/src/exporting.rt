@@ -1,21 +1,25 @@
 //! The commands over worlds with sessions: `translate` and `export`.
-ghost use Rattle.std.specs.Prelude.{◌<◌, ◌≤◌, length, IfOk};
-ghost use Rattle.commands.specs.Built.{IsAnswer};
+ghost use Rattle.std.specs.Prelude.{◌≡◌, ◌×◌, ◌<◌, ◌≤◌, length, IfOk};
+ghost use Rattle.commands.specs.Built.{IsAnswer, IsExported, translation};
+ghost use Rattle.net_base.specs.World.{IsWorld};
+ghost use Rattle.net_base.specs.declared.world.World.{World as AnyWorld};
+ghost use Rattle.net_export.specs.Answered.{ArePlayed};
 ghost use Rattle.net_model.specs.Answers.{input_limit};
 ghost use Rattle.net_model.specs.Words.{Export, Translate};
+ghost use Rattle.sessions.specs.Worlds.{HaveStreams, IsTranslated};
+ghost use Rattle.world_file.specs.SessionText.{HaveHosts};
 
 use crate::answer::Answer;
-use agenda::{Run, RunError};
-use net_base::{Lines, Octets};
-use net_export::{answers_by_caller, translate as translate_world};
+use agenda::RunError;
+use net_base::World;
+use net_export::{sessions_are_played, translate as translate_world};
 use outside::Gate;
 use sessions::{SessionWorld, Sessions};
 use std::alloc::{AllocError, Global};
 use std::mem;
 use std::sync::Wait;
 use std::thread::Threads;
-use words::{put_decimal, put_hex_word};
-use world_file::{WorldError, read_sessions};
+use world_file::{WorldError, read_sessions, texts_of_sessions_say_one};
 use world_writer::write_world;
 
 /// The text of the world that a world with sessions is translated to.
@@ -23,15 +27,25 @@ pub fn translate(alloc: Global, input: &[u8]) -> Result<Answer, AllocError>
     requires { length input.now ≤ input_limit Translate }
     ensures { IfOk result (λ answer. IsAnswer Translate input.now answer) }
 {
-    let mut told = match read_sessions(alloc, input) {
-        Ok(told) => told,
-        Err(WorldError::Bad { line, cause }) => return Answer::bad_input(alloc, line, cause),
-        Err(WorldError::Memory) => return Err(AllocError),
-    };
-    translate_world(alloc, &mut told)?;
-    let text = write_world(alloc, &told.world)?;
+    texts_of_sessions_say_one();
+    match read_sessions(alloc, input) {
+        Ok(told) => translate_told(alloc, told),
+        Err(WorldError::Bad { line, cause }) => Answer::bad_input(alloc, line, cause),
+        Err(WorldError::Memory) => Err(AllocError),
+    }
+}
+
+// The text of the world that this one is translated to.
+fn translate_told(alloc: Global, told: SessionWorld) -> Result<Answer, AllocError>
+    requires world { IsWorld told.world }
+    requires streams { HaveStreams told }
+    ensures { IfOk result (λ answer. (w : AnyWorld) × IsTranslated told w × (answer ≡ translation w)) }
+{
+    let mut world = told;
+    translate_world(alloc, &mut world)?;
+    let text = write_world(alloc, &world.world)?;
     // the program ends behind its one answer, and gives back all memory at once
-    mem::forget(told);
+    mem::forget(world);
     Ok(Answer::whole(text))
 }
 
@@ -48,70 +62,60 @@ pub fn export_over<R: Threads + Wait + Sync, G: Gate + Sync>(
     requires few { workers ≤ 16 }
     ensures { IfOk result (λ answer. IsAnswer (Export workers) input.now answer) }
 {
-    let mut told = match read_sessions(alloc, input) {
-        Ok(told) => told,
-        Err(WorldError::Bad { line, cause }) => return Answer::bad_input(alloc, line, cause),
-        Err(WorldError::Memory) => return Err(AllocError),
-    };
-    translate_world(alloc, &mut told)?;
-    let answer = export_world(rt, alloc, workers, &told, gate);
-    // the same as above
-    mem::forget(told);
-    answer
+    texts_of_sessions_say_one();
+    match read_sessions(alloc, input) {
+        Ok(told) => export_told(rt, alloc, workers, told, gate),
+        Err(WorldError::Bad { line, cause }) => Answer::bad_input(alloc, line, cause),
+        Err(WorldError::Memory) => Err(AllocError),
+    }
 }
 
 // What a run over the translated world prints.
+fn export_told<R: Threads + Wait + Sync, G: Gate + Sync>(
+    rt: &R,
+    alloc: Global,
+    workers: u32,
+    told: SessionWorld,
+    gate: &G,
+) -> Result<Answer, AllocError>
+    requires world { IsWorld told.world }
+    requires streams { HaveStreams told }
+    requires hosts { HaveHosts told }
+    requires some { 0 < workers }
+    requires few { workers ≤ 16 }
+    ensures { IfOk result (λ answer. (w : AnyWorld) × IsTranslated told w × IsExported w told.sessions answer) }
+{
+    sessions_are_played();
+    let mut world = told;
+    translate_world(alloc, &mut world)?;
+    let answer = export_world(rt, alloc, workers, &world.world, &world.sessions, gate);
+    // the same as above
+    mem::forget(world);
+    answer
+}
+
+// What a run of a world on so many workers prints, with the answers of sessions that are scripts there.
 fn export_world<R: Threads + Wait + Sync, G: Gate + Sync>(
     rt: &R,
     alloc: Global,
     workers: u32,
-    told: &SessionWorld,
+    world: &World,
+    sessions: &Sessions,
     gate: &G,
-) -> Result<Answer, AllocError> {
-    match agenda::run(rt, alloc, &told.world, workers, gate) {
+) -> Result<Answer, AllocError>
+    requires world { IsWorld world.now }
+    requires played { ArePlayed world.now sessions.now }
+    requires some { 0 < workers }
+    requires few { workers ≤ 16 }
+    ensures { IfOk result (λ answer. IsExported world.now sessions.now answer) }
+{
+    match agenda::run(rt, alloc, world, workers, gate) {
         Ok(run) => {
-            let answer = answer_run(rt, alloc, workers, told, &run);
+            let answer = Answer::export(rt, alloc, workers, world, sessions, &run);
             // the same as above
             mem::forget(run);
             answer
         }
         Err(RunError::Memory) => Err(AllocError),
     }
-}
-
-// The text of a run, with its summary and the answers of the sessions.
-fn answer_run<R: Threads + Sync>(
-    rt: &R,
-    alloc: Global,
-    workers: u32,
-    told: &SessionWorld,
-    run: &Run,
-) -> Result<Answer, AllocError> {
-    let all = answers_by_caller(alloc, &told.world, &told.sessions, &run.history)?;
-    let mut lines = Octets::new(alloc);
-    put_sessions(&mut lines, &told.sessions, all.as_slice())?;
-    Answer::export(rt, alloc, workers, &told.world, run, &lines)
-}
-
-// A line `9p CALLER HEX` for each answer, by caller.
-fn put_sessions(out: &mut Octets, sessions: &Sessions, all: &[Lines]) -> Result<(), AllocError> {
-    for (session, answers) in sessions.as_slice().iter().zip(all.iter()) {
-        put_answers(out, session.place, answers)?;
-    }
-    Ok(())
-}
-
-fn put_answers(out: &mut Octets, caller: u32, answers: &Lines) -> Result<(), AllocError> {
-    for answer in answers.as_slice() {
-        put_answer(out, caller, answer.as_slice())?;
-    }
-    Ok(())
-}
-
-fn put_answer(out: &mut Octets, caller: u32, answer: &[u8]) -> Result<(), AllocError> {
-    out.append(b"9p ")?;
-    put_decimal(out, caller as u64)?;
-    out.append(b" ")?;
-    put_hex_word(out, answer)?;
-    out.push(b'\n')
 }

@@ -2,6 +2,7 @@
 #![tactic(auto)]
 
 mod answer;
+mod answer_lines;
 mod dns_reply;
 mod exporting;
 mod judgement;

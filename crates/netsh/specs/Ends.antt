@@ -105,7 +105,7 @@ pub record IsHanded (command : Option Command) (intake : Intake) (output : Outpu
   pub good : IsFirstBad Check input None
 
 -- how a command ends whose answer is written and whose input, where it has one, has no bad line: cs, query and dns have lines or none,
--- a run is done, stopped or limited, `make` has its text, and what check is handed keeps all rules or breaks one
+-- a run is done, stopped or limited, `make` and `translate` have their text, and what check is handed keeps all rules or breaks one
 abbrev pub EndsWell : Command → ℕ → Type 0
 EndsWell (Cs sys query) status = (status ≡ 0) ⊎ (status ≡ 5)
 EndsWell (Query attr value other) status = (status ≡ 0) ⊎ (status ≡ 5)

@@ -2,12 +2,13 @@
 --     row_of           which line it is
 --     Follows          what comes of a line behind those before it
 --     Says             what comes of a text: a world with its sessions, or the first bad line and its least cause
-use Rattle.std.specs.Prelude.{◌≡◌, ◌⊎◌, ℕ, ◌+◌, ◌==◌, Bool, List, [], ◌∷◌, ◌++◌, length, drop, codes, bytes_eq, Option, Some, None, Result, Ok, Err, if◌then◌else◌}
+use Rattle.std.specs.Prelude.{◌≡◌, ◌⊎◌, ℕ, ◌+◌, ◌==◌, Bool, true, false, List, [], ◌∷◌, ◌++◌, length, drop, slice_get, codes, bytes_eq, Option, Some, None, Result, Ok, Err, if◌then◌else◌}
 use Rattle.std.specs.List.{last_or}
 use Rattle.std.specs.Option.{option_and_then, option_map_or}
 use Rattle.net_base.specs.declared.world.Script.{Script}
 use Rattle.net_base.specs.declared.world.Step.{Step}
 use Rattle.net_base.specs.declared.world.World.{World}
+use Rattle.net_base.specs.Stamped.{In}
 use Rattle.world_text.specs.VersionLines.{bad_version_line}
 use Rattle.sessions.specs.declared.world.Session.{Session}
 use Rattle.sessions.specs.declared.world.SessionWorld.{SessionWorld}
@@ -18,7 +19,7 @@ use Rattle.world_text.specs.declared.line.WorldLine.{WorldLine}
 use Rattle.world_text.specs.declared.line.WorldLine.TheVariants as line
 use Rattle.world_text.specs.LineCauses.{number_of}
 use Rattle.world_text.specs.LineReading.{read_line}
-use Rattle.world_text.specs.WorldLines.{Bad, Begins, Draft, Goes, Verdict, at_last, is_passed, judged_line, line_verdict, opening_draft}
+use Rattle.world_text.specs.WorldLines.{Bad, Begins, Draft, Goes, Verdict, at_last, is_passed, line_verdict, opening_draft}
 use Rattle.world_text.specs.WorldText.{Cut, cuts_of, missing, with_versions}
 use Rattle.world_text.specs.WorldWords.{hex_text, one, words_of}
 
@@ -60,14 +61,18 @@ as_script text = codes "script" ++ drop 7 text
 
 -- ---- verdicts
 
--- a step doesn't stand under a session
-abbrev pub under_session : Draft → Result WorldLine LineCause → Verdict
-under_session d (Ok (line.OfScript s)) = Bad cause.OutOfOrder
-under_session d read = judged_line d read
+abbrev pub is_step_read : Result WorldLine LineCause → Bool
+is_step_read (Ok (line.OfScript s)) = true
+is_step_read read = false
 
+-- a step doesn't stand under a session
+abbrev pub under_session : Draft → List ℕ → Verdict
+under_session d text = if is_step_read (read_line text) then Bad cause.OutOfOrder else line_verdict d text
+
+-- a line that ends a session, or one where none goes on
 abbrev pub other_verdict : Option ℕ → Draft → List ℕ → Verdict
 other_verdict None d text = line_verdict d text
-other_verdict (Some n) d text = under_session d (read_line text)
+other_verdict (Some n) d text = under_session d text
 
 -- ---- sessions
 
@@ -81,6 +86,10 @@ host_of_last d = option_map_or (λ (s : Script). s.host) (last_or None d.scripts
 
 abbrev pub with_bytes : List ℕ → Session → Session
 with_bytes bytes s = record s { stream = s.stream ++ bytes }
+
+-- the last session has these bytes more
+abbrev pub extended : List ℕ → Told → Told
+extended bytes told = record told { sessions = at_last (with_bytes bytes) told.sessions }
 
 -- the bytes of the last session
 abbrev pub last_stream : List Session → List ℕ
@@ -97,12 +106,9 @@ IsStreamOf bytes = (steps : List Step) × IsScript bytes steps
 -- ---- what comes of the lines
 
 -- a session's lines end here: its bytes are whole messages, or its line is bad
-abbrev pub Closes : Told → Type 0 → Result SessionWorld (ℕ × ℕ) → Type 0
-Closes told Next r = by told.under
-  where
-    by : Option ℕ → Type 0
-    by None = Next
-    by (Some n) = (IsStreamOf (last_stream told.sessions) × Next) ⊎ (IsBadStream (last_stream told.sessions) × (r ≡ Err (n, bad_stream)))
+abbrev pub Closes : List Session → Option ℕ → Type 0 → Result SessionWorld (ℕ × ℕ) → Type 0
+Closes sessions None Next r = Next
+Closes sessions (Some n) Next r = (IsStreamOf (last_stream sessions) × Next) ⊎ (IsBadStream (last_stream sessions) × (r ≡ Err (n, bad_stream)))
 
 -- the n-th line goes on, begins the bundle or is bad
 abbrev pub Judges : List Session → ℕ → List ℕ → Verdict → (Draft → Type 0) → Result SessionWorld (ℕ × ℕ) → Type 0
@@ -114,25 +120,29 @@ Judges sessions n behind (Bad c) next r = r ≡ Err (n, number_of c)
 abbrev pub Extends : Told → ℕ → Option ℕ → Option (List ℕ) → (Told → Type 0) → Result SessionWorld (ℕ × ℕ) → Type 0
 Extends told n under None next r = r ≡ Err (n, number_of cause.WrongArgument)
 Extends told n None (Some bytes) next r = r ≡ Err (n, number_of cause.OutOfOrder)
-Extends told n (Some line) (Some bytes) next r = next (record told { sessions = at_last (with_bytes bytes) told.sessions })
+Extends told n (Some line) (Some bytes) next r = next (extended bytes told)
 
 -- what comes of the n-th line, and of those behind it
 abbrev pub Follows : Told → ℕ → Cut → Row → (Told → Type 0) → Result SessionWorld (ℕ × ℕ) → Type 0
 Follows told n c Passes next r = next told
 Follows told n c (Feeds bytes) next r = Extends told n told.under bytes next r
 Follows told n c OpensSession next r =
-    Closes told
+    Closes told.sessions told.under
     (Judges told.sessions n c.behind (line_verdict told.draft (as_script c.line))
     (λ (d : Draft). next (record { draft = d; sessions = told.sessions ++ opened_at told.draft (host_of_last d) ∷ []; under = Some n })) r) r
 Follows told n c Other next r =
-    Closes told
+    Closes told.sessions told.under
     (Judges told.sessions n c.behind (other_verdict told.under told.draft c.line) (λ (d : Draft). next (record { draft = d; sessions = told.sessions; under = None })) r) r
 
 -- what comes of lines that begin with the n-th
 abbrev pub SaysFrom : Told → ℕ → List Cut → Result SessionWorld (ℕ × ℕ) → Type 0
-SaysFrom told n [] r = Closes told (r ≡ Err (n, number_of (missing told.draft))) r
+SaysFrom told n [] r = Closes told.sessions told.under (r ≡ Err (n, number_of (missing told.draft))) r
 SaysFrom told n (c ∷ cs) r = Follows told n c (row_of told.draft c.line) (λ (later : Told). SaysFrom later (n + 1) cs r) r
 
 -- what a text says: a world with its sessions, or its first bad line, counted from 1, and that line's least cause
 abbrev pub Says : List ℕ → Result SessionWorld (ℕ × ℕ) → Type 0
 Says text r = SaysFrom opening_told 1 (cuts_of text) r
+
+-- in the place of each session stands a script of its host
+abbrev pub HaveHosts : SessionWorld → Type 0
+HaveHosts w = (x : Session) (s : Script) → In x w.sessions → slice_get w.world.scripts x.place ≡ Some s → s.host ≡ x.host

@@ -1,14 +1,13 @@
 //! A line of a text, behind those before it.
-ghost use Rattle.std.specs.Prelude.{◌≡◌, true, Ok, IfOk, IfErr};
-ghost use Rattle.world_text.specs.LineFit.{is_fit};
+ghost use Rattle.std.specs.Prelude.{◌≡◌, Ok, IfOk, IfErr};
 ghost use Rattle.world_text.specs.LineReading.{read_line};
 ghost use Rattle.world_text.specs.WorldLines as spec;
-ghost use Rattle.world_file.specs.SessionText.{under_session};
+ghost use Rattle.world_file.specs.SessionText.{is_step_read, other_verdict, under_session};
 ghost use Rattle.world_file.specs.Told.{IsSmall, TellsCause, going};
 
 use crate::draft::Draft;
 use net_base::Timers;
-use std::alloc::Global;
+use std::alloc::{AllocError, Global};
 use world_text::{LineCause, WorldLine, lines_are_spelled};
 use world_words::{LineFault, read_line};
 
@@ -28,6 +27,35 @@ impl Draft {
         self.take_read(alloc, line)
     }
 
+    /// The same of a line that ends a session, or of one where none goes on.
+    pub(crate) fn take_under(
+        &mut self,
+        alloc: Global,
+        session: Option<u64>,
+        line: &[u8],
+    ) -> Result<bool, LineFault>
+        requires { IsSmall self.old }
+        ensures ok { IfOk result (λ begins. other_verdict session self.old line.now ≡ going begins self.new) }
+        ensures bad { IfErr result (λ fault. TellsCause fault (other_verdict session self.old line.now)) }
+    {
+        match session {
+            Some(_) => self.take_under_session(alloc, line),
+            None => self.take_text(alloc, line),
+        }
+    }
+
+    /// A line under a session, where no step stands.
+    fn take_under_session(&mut self, alloc: Global, line: &[u8]) -> Result<bool, LineFault>
+        requires { IsSmall self.old }
+        ensures ok { IfOk result (λ begins. under_session self.old line.now ≡ going begins self.new) }
+        ensures bad { IfErr result (λ fault. TellsCause fault (under_session self.old line.now)) }
+    {
+        if is_step(alloc, line)? {
+            return Err(LineFault::Cause(LineCause::OutOfOrder));
+        }
+        self.take_text(alloc, line)
+    }
+
     /// A line behind the first that isn't passed over.
     fn take_read(&mut self, alloc: Global, text: &[u8]) -> Result<bool, LineFault>
         requires { IsSmall self.old }
@@ -36,34 +64,6 @@ impl Draft {
     {
         lines_are_spelled();
         let line = read_line(alloc, text)?;
-        self.take_judged(alloc, line)
-    }
-
-    /// A line of a world under a session, where no step stands.
-    pub(crate) fn take_under_session(
-        &mut self,
-        alloc: Global,
-        text: &[u8],
-    ) -> Result<bool, LineFault>
-        requires { IsSmall self.old }
-        ensures ok { IfOk result (λ begins. under_session self.old (read_line text.now) ≡ going begins self.new) }
-        ensures bad { IfErr result (λ fault. TellsCause fault (under_session self.old (read_line text.now))) }
-    {
-        lines_are_spelled();
-        let line = read_line(alloc, text)?;
-        if is_of_script(&line) {
-            return Err(LineFault::Cause(LineCause::OutOfOrder));
-        }
-        self.take_judged(alloc, line)
-    }
-
-    /// A line that was read, behind those so far.
-    fn take_judged(&mut self, alloc: Global, line: WorldLine) -> Result<bool, LineFault>
-        requires small { IsSmall self.old }
-        requires fit { is_fit line ≡ true }
-        ensures ok { IfOk result (λ begins. spec.judged_line self.old (Ok line) ≡ going begins self.new) }
-        ensures bad { IfErr result (λ fault. TellsCause fault (spec.judged_line self.old (Ok line))) }
-    {
         if let Some(cause) = self.line_cause(&line) {
             return Err(LineFault::Cause(cause));
         }
@@ -100,19 +100,29 @@ fn is_ndb(line: &WorldLine) -> bool
     }
 }
 
-/// Whether a line is a step.
-fn is_of_script(line: &WorldLine) -> bool
-    ensures { (d : spec.Draft) → under_session d (Ok line.now) ≡ (if result then spec.Bad LineCause.OutOfOrder else spec.judged_line d (Ok line.now)) }
-{
-    match line {
-        WorldLine::OfScript(_) => true,
-        _ => false,
-    }
-}
-
 /// Empty lines and comments.
 fn is_passed(line: &[u8]) -> bool
     ensures { result ≡ spec.is_passed line.now }
 {
     line.is_empty() || line[0] == b'#'
+}
+
+/// Whether a line is a step.
+fn is_step(alloc: Global, line: &[u8]) -> Result<bool, AllocError>
+    ensures { IfOk result (λ told. told ≡ is_step_read (read_line line.now)) }
+{
+    match read_line(alloc, line) {
+        Ok(read) => Ok(is_of_script(&read)),
+        Err(LineFault::Memory) => Err(AllocError),
+        Err(LineFault::Cause(_)) => Ok(false),
+    }
+}
+
+fn is_of_script(line: &WorldLine) -> bool
+    ensures { result ≡ is_step_read (Ok line.now) }
+{
+    match line {
+        WorldLine::OfScript(_) => true,
+        _ => false,
+    }
 }

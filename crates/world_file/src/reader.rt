@@ -54,7 +54,12 @@ fn read_lines(alloc: Global, bytes: &[u8]) -> Result<World, WorldError>
 }
 
 /// The world of a draft with the versions that stand behind the line with this number.
-pub(crate) fn read_bundles(alloc: Global, draft: Draft, number: u64, text: &[u8]) -> Result<World, WorldError>
+pub(crate) fn read_bundles(
+    alloc: Global,
+    draft: Draft,
+    number: u64,
+    text: &[u8],
+) -> Result<World, WorldError>
     requires { number + length text.now < 2 ^ 63 }
     ensures ok { IfOk result (λ w. with_versions number (spec.world_of draft) text.now (bad_version_line text.now) ≡ Ok w) }
     ensures bad { IfErr result (λ e. Tells e (with_versions number (spec.world_of draft) text.now (bad_version_line text.now))) }
