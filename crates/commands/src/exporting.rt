@@ -6,8 +6,7 @@ ghost use Rattle.net_base.specs.declared.world.World.{World as AnyWorld};
 ghost use Rattle.net_export.specs.Answered.{ArePlayed};
 ghost use Rattle.net_model.specs.Answers.{input_limit};
 ghost use Rattle.net_model.specs.Words.{Export, Translate};
-ghost use Rattle.sessions.specs.Worlds.{HaveStreams, IsTranslated};
-ghost use Rattle.world_file.specs.SessionText.{HaveHosts};
+ghost use Rattle.sessions.specs.Worlds.{HaveHosts, HaveStreams, IsTranslated};
 
 use crate::answer::Answer;
 use agenda::RunError;

@@ -12,9 +12,9 @@ use Rattle.history_laws.proofs.Ordered.{all_at}
 use Rattle.sessions.specs.declared.world.Session.{Session}
 use Rattle.sessions.specs.declared.world.SessionWorld.{SessionWorld}
 use Rattle.sessions.specs.Script.{IsScript}
-use Rattle.sessions.specs.Worlds.{HaveStreams, IsTranslated, Translates, same_place}
+use Rattle.sessions.specs.Worlds.{HaveHosts, HaveStreams, IsTranslated, Translates, same_place}
 use Rattle.net_base.specs.declared.world.World.{World}
-use Rattle.net_export.specs.Answered.{ArePlayed, HaveHosts}
+use Rattle.net_export.specs.Answered.{ArePlayed}
 use Rattle.net_export.specs.Placed.{PlaysSession, PutsSession}
 use Rattle.net_export.proofs.Counting.{stands_below}
 

@@ -6,7 +6,6 @@ use Rattle.net_base.specs.declared.world.World.{World}
 use Rattle.net_base.specs.Stamped.{In}
 use Rattle.ninep_wire.specs.declared.request.Tmsg.{Tmsg}
 use Rattle.sessions.specs.declared.world.Session.{Session}
-use Rattle.sessions.specs.declared.world.SessionWorld.{SessionWorld}
 use Rattle.sessions.specs.Script.{AreMessages, IsScript}
 use Rattle.sessions.specs.Session.{answers}
 
@@ -19,10 +18,6 @@ pub record IsPlayed (w : World) (x : Session) : Type 0 where
 
 abbrev pub ArePlayed : World → List Session → Type 0
 ArePlayed w ss = (x : Session) → In x ss → IsPlayed w x
-
--- in the place of each session stands a script of its host
-abbrev pub HaveHosts : SessionWorld → Type 0
-HaveHosts s = (x : Session) (b : Script) → In x s.sessions → slice_get s.world.scripts x.place ≡ Some b → b.host ≡ x.host
 
 -- these are the answers to the messages of the session, as far as the history has them
 abbrev pub AreAnswersTo : World → List Entry → Session → List (List ℕ) → Type 0

@@ -4,10 +4,10 @@ ghost use Rattle.net_base.specs.declared.history.Entry.{Entry};
 ghost use Rattle.net_base.specs.declared.world.World.{World};
 ghost use Rattle.net_base.specs.Legal.{IsLegal};
 ghost use Rattle.net_base.specs.Net.{owed};
-ghost use Rattle.net_export.specs.Answered.{ArePlayed, HaveHosts};
+ghost use Rattle.net_export.specs.Answered.{ArePlayed};
 ghost use Rattle.net_export.specs.Counted.{count_after};
 ghost use Rattle.sessions.specs.declared.world.SessionWorld.{SessionWorld};
-ghost use Rattle.sessions.specs.Worlds.{HaveStreams, IsTranslated};
+ghost use Rattle.sessions.specs.Worlds.{HaveHosts, HaveStreams, IsTranslated};
 
 /// In a legal history, timed or not, a script owes as many events as its entries count.
 pub fn what_is_owed_is_counted()

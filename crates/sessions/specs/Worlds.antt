@@ -26,6 +26,10 @@ pub record HaveStreams (s : SessionWorld) : Type 0 where
   pub places : (x : Session) → In x s.sessions → x.place < length s.world.scripts
   pub apart : all_apart same_place s.sessions ≡ true
 
+-- in the place of each session stands a script of its host
+abbrev pub HaveHosts : SessionWorld → Type 0
+HaveHosts s = (x : Session) (c : Script) → In x s.sessions → slice_get s.world.scripts x.place ≡ Some c → c.host ≡ x.host
+
 -- the world with each session's script in its place
 pub record IsTranslated (s : SessionWorld) (w : World) : Type 0 where
   pub others : w ≡ record s.world { scripts = w.scripts }

@@ -13,7 +13,7 @@ use Rattle.net_base.specs.declared.world.Script.{Script}
 use Rattle.net_base.specs.declared.world.World.{World}
 use Rattle.sessions.specs.declared.world.Session.{Session}
 use Rattle.sessions.specs.declared.world.SessionWorld.{SessionWorld}
-use Rattle.sessions.specs.Worlds.{HaveStreams, same_place}
+use Rattle.sessions.specs.Worlds.{HaveHosts, HaveStreams, same_place}
 use Rattle.world_text.specs.LineReading.{read_line}
 use Rattle.world_text.specs.VersionLines.{bad_version_line, versions_in}
 use Rattle.world_text.specs.WorldLines.{Bad, Begins, Draft, Goes, Verdict, after, at_last, empty_script, host_number, line_verdict, opening_draft, world_of}
@@ -29,7 +29,7 @@ use Rattle.world_text.specs.declared.line.LineCause.{LineCause}
 use Rattle.world_text.specs.declared.line.LineCause.TheVariants as cause
 use Rattle.world_text.specs.declared.line.WorldLine.{WorldLine}
 use Rattle.world_text.specs.declared.line.WorldLine.TheVariants as line
-use Rattle.world_file.specs.SessionText.{Closes, Extends, Feeds, Follows, HaveHosts, IsStreamOf, Judges, OpensSession, Other, Passes, Row, Says, SaysFrom, Told, as_script, bad_stream, extended, host_of_last, is_step_read, last_stream, opened_at, opening_told, other_verdict, row_of, with_bytes, with_sessions}
+use Rattle.world_file.specs.SessionText.{Closes, Extends, Feeds, Follows, IsStreamOf, Judges, OpensSession, Other, Passes, Row, Says, SaysFrom, Told, as_script, bad_stream, extended, host_of_last, is_step_read, last_stream, opened_at, opening_told, other_verdict, row_of, with_bytes, with_sessions}
 use Rattle.world_file.proofs.SessionLines.{Grows, grows, hosts_of, map-at_last, opened, opens}
 
 -- ---- lists

@@ -2,13 +2,12 @@
 --     row_of           which line it is
 --     Follows          what comes of a line behind those before it
 --     Says             what comes of a text: a world with its sessions, or the first bad line and its least cause
-use Rattle.std.specs.Prelude.{◌≡◌, ◌⊎◌, ℕ, ◌+◌, ◌==◌, Bool, true, false, List, [], ◌∷◌, ◌++◌, length, drop, slice_get, codes, bytes_eq, Option, Some, None, Result, Ok, Err, if◌then◌else◌}
+use Rattle.std.specs.Prelude.{◌≡◌, ◌⊎◌, ℕ, ◌+◌, ◌==◌, Bool, true, false, List, [], ◌∷◌, ◌++◌, length, drop, codes, bytes_eq, Option, Some, None, Result, Ok, Err, if◌then◌else◌}
 use Rattle.std.specs.List.{last_or}
 use Rattle.std.specs.Option.{option_and_then, option_map_or}
 use Rattle.net_base.specs.declared.world.Script.{Script}
 use Rattle.net_base.specs.declared.world.Step.{Step}
 use Rattle.net_base.specs.declared.world.World.{World}
-use Rattle.net_base.specs.Stamped.{In}
 use Rattle.world_text.specs.VersionLines.{bad_version_line}
 use Rattle.sessions.specs.declared.world.Session.{Session}
 use Rattle.sessions.specs.declared.world.SessionWorld.{SessionWorld}
@@ -51,7 +50,7 @@ abbrev pub row_by : List (List ℕ) → Row
 row_by (word ∷ args) = if bytes_eq word (codes "feed") then Feeds (option_and_then hex_text (one args)) else (if bytes_eq word (codes "session") then OpensSession else Other)
 row_by [] = Other
 
--- the first line is `networld 1`, whatever its words
+-- the first line names the timers, whatever its words
 abbrev pub row_of : Draft → List ℕ → Row
 row_of d text = if is_passed text then Passes else (if d.group == 0 then Other else row_by (words_of text))
 
@@ -142,7 +141,3 @@ SaysFrom told n (c ∷ cs) r = Follows told n c (row_of told.draft c.line) (λ (
 -- what a text says: a world with its sessions, or its first bad line, counted from 1, and that line's least cause
 abbrev pub Says : List ℕ → Result SessionWorld (ℕ × ℕ) → Type 0
 Says text r = SaysFrom opening_told 1 (cuts_of text) r
-
--- in the place of each session stands a script of its host
-abbrev pub HaveHosts : SessionWorld → Type 0
-HaveHosts w = (x : Session) (s : Script) → In x w.sessions → slice_get w.world.scripts x.place ≡ Some s → s.host ≡ x.host

@@ -3,8 +3,8 @@ ghost use Rattle.std.specs.Prelude.{◌≡◌, ℕ, List, Result, Ok, true};
 ghost use Rattle.std.specs.List.{list_all};
 ghost use Rattle.net_base.specs.World.{IsWorld, is_byte};
 ghost use Rattle.sessions.specs.declared.world.SessionWorld.{SessionWorld};
-ghost use Rattle.sessions.specs.Worlds.{HaveStreams};
-ghost use Rattle.world_file.specs.SessionText.{HaveHosts, Says};
+ghost use Rattle.sessions.specs.Worlds.{HaveHosts, HaveStreams};
+ghost use Rattle.world_file.specs.SessionText.{Says};
 
 /// A text says one world with sessions, or one bad line.
 pub fn texts_of_sessions_say_one()

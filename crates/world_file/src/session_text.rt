@@ -3,7 +3,7 @@ ghost use Rattle.std.specs.Prelude.{◌≡◌, ℕ, List, [], ◌∷◌, ◌+◌
 ghost use Rattle.std.specs.List.{last_or};
 ghost use Rattle.std.specs.Option.{option_and_then};
 ghost use Rattle.net_base.specs.World.{IsWorld};
-ghost use Rattle.sessions.specs.Worlds.{HaveStreams};
+ghost use Rattle.sessions.specs.Worlds.{HaveHosts, HaveStreams};
 ghost use Rattle.world_text.specs.VersionLines.{bad_version_line};
 ghost use Rattle.world_text.specs.LineCauses.{number_of};
 ghost use Rattle.world_text.specs.WorldLines as lines;
@@ -11,7 +11,7 @@ ghost use Rattle.world_text.specs.WorldLines.{at_last, line_verdict};
 ghost use Rattle.world_text.specs.WorldText.{with_versions};
 ghost use Rattle.world_text.specs.WorldWords.{hex_text, one};
 ghost use Rattle.world_file.specs.SessionText as spec;
-ghost use Rattle.world_file.specs.SessionText.{HaveHosts, IsStreamOf, Says};
+ghost use Rattle.world_file.specs.SessionText.{IsStreamOf, Says};
 ghost use Rattle.session_script.specs.declared.fault.ExportError.TheVariants as fault;
 ghost use Rattle.world_file.specs.declared.fault.WorldError.TheVariants as told;
 ghost use Rattle.world_file.specs.SessionTold.{StreamBad, session_at, args_of, BundleBad, ClosesBad, IsClosed, SaysBad, Taken, TakenAs, row_seen, word_seen};
