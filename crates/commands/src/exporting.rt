@@ -1,5 +1,5 @@
 //! The commands over worlds with sessions: `translate` and `export`.
-ghost use Rattle.std.specs.Prelude.{◌≡◌, ◌×◌, ◌<◌, ◌≤◌, length, IfOk};
+ghost use Rattle.std.specs.Prelude.{◌≡◌, ◌<◌, ◌≤◌, length, IfOk};
 ghost use Rattle.commands.specs.Built.{IsAnswer, IsExported, translation};
 ghost use Rattle.net_base.specs.World.{IsWorld};
 ghost use Rattle.net_base.specs.declared.world.World.{World as AnyWorld};
