@@ -1,17 +1,18 @@
-use crate::{WorldError, read_sessions};
+//! Worlds with sessions as they are read.
 use std::test::*;
+use world_file::{WorldError, read_sessions};
 
 const HEAD: &str =
     "networld 1\nend 1000\nseed 1\nmedium ether0 1500\nhost anna il udp\nif ether0 10.0.1.1 255.255.255.0\n";
 
 // What comes of these lines behind the lines of a host: the line and the cause, or 0 and the number of sessions.
-fn outcome(rt: &HostRuntime, lines: &str) -> Result<(u64, u32), Fail> {
+fn outcome(rt: &HostRuntime, lines: &str) -> Result<(u64, u64), Fail> {
     let mut text = Vec::new(rt.alloc());
     text.extend_from_slice(HEAD.as_bytes())?;
     text.extend_from_slice(lines.as_bytes())?;
     match read_sessions(rt.alloc(), text.as_slice()) {
-        Ok(told) => Ok((0, told.sessions.len() as u32)),
-        Err(WorldError::Bad { line, cause }) => Ok((line, cause)),
+        Ok(told) => Ok((0, told.sessions.len() as u64)),
+        Err(WorldError::Bad { line, cause }) => Ok((line, u64::from(cause))),
         Err(WorldError::Memory) => Ok((0, 0)),
     }
 }
