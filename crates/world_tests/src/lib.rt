@@ -19,7 +19,7 @@ mod reading;
 #[cfg(test)]
 mod searches;
 #[cfg(test)]
-mod sessions;
+mod session_texts;
 #[cfg(test)]
 mod texts;
 #[cfg(test)]
