@@ -1,4 +1,4 @@
-use Rattle.std.proofs.Common.{List, ℕ, ap, ◌++◌, ◌∙◌}
+use Rattle.std.proofs.Common.{rules}
 use Rattle.net_base.specs.Net.{after}
 use Rattle.commands.proofs.RunEnds.{word_is}
 use Rattle.commands.proofs.answer.put_ending.Goals as goal

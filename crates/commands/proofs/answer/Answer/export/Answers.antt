@@ -6,7 +6,8 @@ use Rattle.commands.proofs.RunEnds.{status_is}
 use Rattle.commands.proofs.answer.Answer.export.Goals as goal
 
 pub put_sessions-requires : goal.put_sessions-requires
-put_sessions-requires g c = same_count c.args.world.now c.args.run.now.history c.args.sessions.now c.in_ok-all.all.items c.in_ok-all.ensures
+put_sessions-requires g c =
+    rw (c.as_slice-2.ensures.value, c.as_slice.ensures) (same_count c.args.world.now c.args.run.now.history c.args.sessions.now c.in_ok-all.all.items c.in_ok-all.ensures)
 
 pub returns : goal.returns
 returns g c =
