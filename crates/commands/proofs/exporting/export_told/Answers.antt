@@ -6,7 +6,7 @@ use Rattle.net_export.specs.Answered.{ArePlayed}
 use Rattle.commands.proofs.exporting.export_told.Goals as goal
 
 pub export_world-answer-requires-clause-played : goal.export_world-answer-requires-clause-played
-export_world-answer-requires-clause-played g c =
+export_world-answer-requires-clause-played g c κs within =
     let w = c.translate.new.told.world in
     subst (λ (ss : List Session). ArePlayed w ss) (sym c.in_ok-translate.ensures.sessions)
     (c.sessions_are_played.ensures c.args.told w c.requires.streams c.requires.hosts c.in_ok-translate.ensures.translated)

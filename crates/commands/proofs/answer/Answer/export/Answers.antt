@@ -20,6 +20,6 @@ returns g c =
       headline = c.requires.headline;
       answers = c.in_ok-all.all.items;
       answered = c.in_ok-all.ensures;
-      text = export_text w h c.args.sessions.now c.in_ok-all.all.items _ _ _ c.in_ok-text.ensures c.in_ok-put_ending.ensures c.in_ok-put_sessions.ensures;
+      text = export_text w h c.args.sessions.now c.in_ok-all.all.items _ _ _ c.in_ok-text.ensures c.in_ok-put_ending.ensures (rw (c.as_slice-2.ensures.value, c.as_slice.ensures) at c.in_ok-put_sessions.ensures);
       status = subst (IsStatus w (after w h)) (sym c.run_status.ensures) (status_is w (after w h) c.args.run.now.end c.requires.end);
     }
