@@ -1,3 +1,4 @@
+use Rattle.std.proofs.Common.{rules}
 use Rattle.commands.proofs.exporting.translate_told.Goals as goal
 
 pub returns : goal.returns
