@@ -1,11 +1,14 @@
 -- What each command gives is an answer to its input.
-use Rattle.std.proofs.Common.{◌≡◌, ℕ, ◌≤◌, List, length, Option, Some, None, Ok, Err, refl, sym, ◌∙◌, ap}
+use Rattle.std.proofs.Common.{◌≡◌, ℕ, ◌≤◌, List, length, Option, Some, None, Ok, Err, Result, refl, sym, ◌∙◌, ap}
 use Rattle.net_base.specs.declared.world.World.{World}
 use Rattle.net_base.specs.NdbBundle as bundle
 use Rattle.net_model.specs.Answers.{Answer, bad_input, input_limit}
-use Rattle.net_model.specs.Words.{Command, Cs, Query, Dns, Run, Make, Big}
+use Rattle.net_model.specs.Words.{Command, Cs, Query, Dns, Run, Make, Big, Export, Translate}
+use Rattle.sessions.specs.declared.world.SessionWorld.{SessionWorld}
+use Rattle.sessions.specs.Worlds.{IsTranslated}
 use Rattle.world_text.specs.WorldText.{world_reading}
-use Rattle.commands.specs.Built.{cs_found, cs_over, dns_found, dns_over, made, query_found, query_over, unless_bad, IsAnswer, IsFound, IsGiven, IsRun, IsSummed, IsWorldOf}
+use Rattle.world_file.specs.SessionText.{Says}
+use Rattle.commands.specs.Built.{cs_found, cs_over, dns_found, dns_over, made, query_found, query_over, translation, unless_bad, IsAnswer, IsBadTold, IsExported, IsFound, IsGiven, IsRun, IsSummed, IsWorldOf}
 use Rattle.checked_input.specs.Input.{bad_world}
 use Rattle.commands.proofs.Within.{answer_within, within_limit}
 
@@ -53,3 +56,43 @@ pub gives_bad_run : (workers : ℕ) (input : List ℕ) (line cause : ℕ) (answe
 gives_bad_run workers input line cause answer fits is bad =
     let found : bad_world (world_reading input) ≡ Some (line, cause) = ap bad_world is in
     answer_within (Run workers) input answer (Some (line, cause)) (within_limit (Run workers) input fits) (sym found) (λ other told. told ∙ found) bad
+
+-- ---- worlds with sessions
+
+-- a text of sessions says one thing
+abbrev pub SayOne : Type 0
+SayOne = (text : List ℕ) (r s : Result SessionWorld (ℕ × ℕ)) → Says text r → Says text s → r ≡ s
+
+ok_or_bad : (s : SessionWorld) (bad : ℕ × ℕ) (r : Result SessionWorld (ℕ × ℕ)) → r ≡ Ok s → r ≡ Err bad → ⊥
+ok_or_bad s bad r is not = cc
+
+same_bad : (bad other : ℕ × ℕ) (r : Result SessionWorld (ℕ × ℕ)) → r ≡ Err bad → r ≡ Err other → other ≡ bad
+same_bad bad other r is also = cc
+
+told_one : SayOne → (input : List ℕ) (found other : Option (ℕ × ℕ)) → IsBadTold input found → IsBadTold input other → other ≡ found
+told_one one input None None told again = refl
+told_one one input None (Some bad) told again = absurd (ok_or_bad told.0 bad (Ok told.0) refl (one input (Ok told.0) (Err bad) told.1 again))
+told_one one input (Some bad) None told again = absurd (ok_or_bad again.0 bad (Ok again.0) refl (one input (Ok again.0) (Err bad) again.1 told))
+told_one one input (Some bad) (Some other) told again = ap (λ (b : ℕ × ℕ). Some b) (same_bad bad other (Err bad) refl (one input (Err bad) (Err other) told again))
+
+-- the text of the world that an input is translated to
+pub gives_translation : SayOne → (input : List ℕ) (s : SessionWorld) (answer : Answer) → length input ≤ input_limit Translate → Says input (Ok s)
+    → (w : World) × IsTranslated s w × (answer ≡ translation w) → IsAnswer Translate input answer
+gives_translation one input s answer fits says is =
+    answer_within Translate input answer None (within_limit Translate input fits) (s, says) (λ other told. told_one one input None other (s, says) told) (s, says, is.0, is.1, is.2)
+
+pub gives_bad_translation : SayOne → (input : List ℕ) (line cause : ℕ) (answer : Answer) → length input ≤ input_limit Translate → Says input (Err (line, cause))
+    → answer ≡ bad_input line cause → IsAnswer Translate input answer
+gives_bad_translation one input line cause answer fits says bad =
+    answer_within Translate input answer (Some (line, cause)) (within_limit Translate input fits) says (λ other told. told_one one input (Some (line, cause)) other says told) bad
+
+-- a run over it, with the answers of its sessions
+pub gives_export : SayOne → (workers : ℕ) (input : List ℕ) (s : SessionWorld) (answer : Answer) → length input ≤ input_limit (Export workers) → Says input (Ok s)
+    → (w : World) × IsTranslated s w × IsExported w s.sessions answer → IsAnswer (Export workers) input answer
+gives_export one workers input s answer fits says is =
+    answer_within (Export workers) input answer None (within_limit (Export workers) input fits) (s, says) (λ other told. told_one one input None other (s, says) told) (s, says, is.0, is.1, is.2)
+
+pub gives_bad_export : SayOne → (workers : ℕ) (input : List ℕ) (line cause : ℕ) (answer : Answer) → length input ≤ input_limit (Export workers) → Says input (Err (line, cause))
+    → answer ≡ bad_input line cause → IsAnswer (Export workers) input answer
+gives_bad_export one workers input line cause answer fits says bad =
+    answer_within (Export workers) input answer (Some (line, cause)) (within_limit (Export workers) input fits) says (λ other told. told_one one input (Some (line, cause)) other says told) bad

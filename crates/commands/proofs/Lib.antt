@@ -1,5 +1,6 @@
 pub mod Appended
 pub mod CsAnswers
+pub mod Exported
 pub mod Given
 pub mod Judging
 pub mod MadeText

@@ -2,9 +2,10 @@
 --     IsFirstBad    the first bad line of an input, for a command
 --     IsRun         what a run over a world prints, and its status
 --     IsSummed      the summary of such a run alone
+--     IsExported    what a run over a translated world prints, with the answers of its sessions
 --     IsWorldOf     the world that a command runs
 --     IsAnswer      an answer to a command and its input
-use Rattle.std.specs.Prelude.{◌≡◌, ◌↔◌, ◌⊎◌, ◌&&◌, ℕ, Bool, true, false, List, [], ◌∷◌, ◌++◌, length, map, flat_map, nat_lt, Option, Some, None, Ok, option_and_then, option_to_list}
+use Rattle.std.specs.Prelude.{◌≡◌, ◌↔◌, ◌⊎◌, ◌&&◌, ℕ, Bool, true, false, List, [], ◌∷◌, ◌++◌, length, map, flat_map, nat_lt, Option, Some, None, Ok, option_and_then, option_to_list, Err}
 use Rattle.net_base.specs.declared.address.Proto.TheVariants.{Il, Udp}
 use Rattle.net_base.specs.declared.history.Entry.{Entry}
 use Rattle.net_base.specs.declared.world.World.{World}
@@ -27,8 +28,14 @@ use Rattle.made_world.specs.Made.{made_world}
 use Rattle.world_text.specs.WorldText.{world_reading}
 use Rattle.world_writer.specs.Written.{file_text}
 use Rattle.net_model.specs.Answers.{Answer, bad_input, lines_answer, cs_answer, input_limit}
-use Rattle.net_model.specs.Words.{Command, Cs, Query, Dns, Run, Make, Big, Check, reads}
+use Rattle.net_model.specs.Words.{Command, Cs, Query, Dns, Run, Make, Big, Check, reads, Export, Translate}
+use Rattle.sessions.specs.declared.world.Session.{Session}
+use Rattle.sessions.specs.declared.world.SessionWorld.{SessionWorld}
+use Rattle.sessions.specs.Worlds.{IsTranslated}
+use Rattle.world_file.specs.SessionText.{Says}
 use Rattle.checked_input.specs.Input.{Handed, IsBadHanded, bad_world, parts_of}
+use Rattle.net_export.specs.Answered.{AreAnswersOf}
+use Rattle.commands.specs.AnswerLines.{answer_lines}
 use Rattle.commands.specs.Checked.{IsChecked}
 
 -- Bad lines.
@@ -36,6 +43,11 @@ use Rattle.commands.specs.Checked.{IsChecked}
 -- whether a command has an input that is over its limit
 abbrev pub is_over : Command → List ℕ → Bool
 is_over asked input = reads asked && nat_lt (input_limit asked) (length input)
+
+-- the first bad line of a text of a world with sessions
+abbrev pub IsBadTold : List ℕ → Option (ℕ × ℕ) → Type 0
+IsBadTold input None = (s : SessionWorld) × Says input (Ok s)
+IsBadTold input (Some bad) = Says input (Err bad)
 
 -- the first bad line of an input within the limit, and its least cause, if a line is bad
 abbrev pub IsBadLine : Command → List ℕ → Option (ℕ × ℕ) → Type 0
@@ -46,6 +58,8 @@ IsBadLine (Run workers) input found = found ≡ bad_world (world_reading input)
 IsBadLine (Make messages) input found = found ≡ None
 IsBadLine (Big messages) input found = found ≡ None
 IsBadLine Check input found = IsBadHanded (parts_of input) input found
+IsBadLine (Export workers) input found = IsBadTold input found
+IsBadLine Translate input found = IsBadTold input found
 
 -- the same of any input: one over the limit has cause 9 at line 0
 abbrev pub IsBadOf : Bool → Command → List ℕ → Option (ℕ × ℕ) → Type 0
@@ -140,6 +154,7 @@ pub record IsSummed (w : World) (answer : Answer) : Type 0 where
 abbrev pub IsWorldOf : Command → List ℕ → World → Type 0
 IsWorldOf (Run workers) input w = world_reading input ≡ Ok w
 IsWorldOf (Big messages) input w = w ≡ made_world messages
+IsWorldOf (Export workers) input w = (s : SessionWorld) × Says input (Ok s) × IsTranslated s w
 IsWorldOf _ input w = ⊥
 
 -- Answers of make.
@@ -154,6 +169,25 @@ made messages = record { status = 0; text = file_text (made_world messages) }
 abbrev pub IsJudged : List ℕ → Answer → Type 0
 IsJudged input answer = (handed : Handed input) → IsChecked handed.world handed.history handed.told answer
 
+-- Answers of export and translate.
+
+-- the text of one legal and timed history of the world with its summary and the answers of its sessions, and the status by how
+-- it ends; the history has what each legal one keeps
+pub record IsExported (w : World) (sessions : List Session) (answer : Answer) : Type 0 where
+  pub history : List Entry
+  pub legal : IsLegal w history
+  pub timed : IsTimed w history
+  pub headline : Headline w history
+  -- each session's answers, by that history
+  pub answers : List (List (List ℕ))
+  pub answered : AreAnswersOf w history sessions answers
+  pub text : answer.text ≡ history_text history ++ summary w history ++ answer_lines sessions answers
+  pub status : IsStatus w (after w history) answer.status
+
+-- the text of a translated world
+abbrev pub translation : World → Answer
+translation w = record { status = 0; text = file_text w }
+
 -- Answers.
 
 -- an answer to an input without a bad line
@@ -165,6 +199,8 @@ IsFound (Run workers) input answer = (w : World) × IsWorldOf (Run workers) inpu
 IsFound (Make messages) input answer = answer ≡ made messages
 IsFound (Big messages) input answer = (w : World) × IsWorldOf (Big messages) input w × IsSummed w answer
 IsFound Check input answer = IsJudged input answer
+IsFound (Export workers) input answer = (s : SessionWorld) × Says input (Ok s) × (w : World) × IsTranslated s w × IsExported w s.sessions answer
+IsFound Translate input answer = (s : SessionWorld) × Says input (Ok s) × (w : World) × IsTranslated s w × (answer ≡ translation w)
 
 -- an answer to an input with this first bad line, if any
 abbrev pub IsGiven : Option (ℕ × ℕ) → Command → List ℕ → Answer → Type 0

@@ -1,3 +1,4 @@
+pub mod AnswerLines
 pub mod Built
 pub mod Checked
 pub mod Runs

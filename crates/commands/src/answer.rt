@@ -1,6 +1,7 @@
 //! The answers: a status, and the text that is written, made whole.
-ghost use Rattle.std.specs.Prelude.{◌≡◌, ◌≢◌, flat_map, true, IfOk, OnOk};
+ghost use Rattle.std.specs.Prelude.{◌≡◌, ◌≢◌, ◌++◌, flat_map, true, IfOk, OnOk};
 ghost use Rattle.net_model.specs.Answers as spec;
+ghost use Rattle.net_model.specs.Headline.{Headline};
 ghost use Rattle.net_base.specs.Cs.{Lines as ListOf, Refused};
 ghost use Rattle.cs_resolver.specs.Errors.{number_of};
 ghost use Rattle.net_base.specs.Legal.{IsLegal, IsTimed};
@@ -8,15 +9,19 @@ ghost use Rattle.net_base.specs.Net.{after};
 ghost use Rattle.net_base.specs.Summary.{answered_steps, summary};
 ghost use Rattle.net_base.specs.Transcript.{history_text};
 ghost use Rattle.net_base.specs.World.{IsWorld};
-ghost use Rattle.commands.specs.Built.{IsRun, IsSummed};
+ghost use Rattle.net_export.specs.Answered.{ArePlayed};
+ghost use Rattle.commands.specs.Built.{IsExported, IsRun, IsSummed};
 ghost use Rattle.commands.specs.Runs.{status_of};
 ghost use Rattle.run_record.specs.Ends.{EndsSo};
 
-use agenda::{BookedRun, RunEnd};
+use crate::answer_lines::put_sessions;
+use agenda::{BookedRun, Run, RunEnd};
 use cs_resolver::CsError;
 use journal::ClosedBooks;
 use net_base::{Lines, Octets, World};
+use net_export::answers_by_caller;
 use net_model::{legal_histories_are_plain, legal_histories_keep_it};
+use sessions::Sessions;
 use std::alloc::{AllocError, Global};
 use std::marker::Model;
 use std::thread::Threads;
@@ -144,6 +149,34 @@ impl Answer {
         Answer::of_books(world, &run.books, text, &lines, run.end)
     }
 
+    /// The text of a run: its history, made by so many workers, with its summary and the answers of sessions.
+    pub fn export<R: Threads + Sync>(
+        rt: &R,
+        alloc: Global,
+        workers: u32,
+        world: &World,
+        sessions: &Sessions,
+        run: &Run,
+    ) -> Result<Answer, AllocError>
+        requires played { ArePlayed world.now sessions.now }
+        requires legal { IsLegal world.now run.now.history }
+        requires timed { IsTimed world.now run.now.history }
+        requires answered { run.now.answered ≡ answered_steps world.now run.now.history }
+        requires headline { Headline world.now run.now.history }
+        requires end { EndsSo world.now (after world.now run.now.history) run.now.end }
+        ensures { IfOk result (λ answer. IsExported world.now sessions.now answer) }
+    {
+        let all = answers_by_caller(alloc, world, sessions, &run.history)?;
+        let mut text = text_by(rt, alloc, workers, &run.history)?;
+        put_ending(alloc, &mut text, world, run)?;
+        put_sessions(&mut text, sessions.as_slice(), all.as_slice())?;
+        let end = run.end;
+        Ok(Answer {
+            status: run_status(end),
+            text,
+        })
+    }
+
     /// The summary of a run alone.
     pub fn big(alloc: Global, world: &World, run: &BookedRun) -> Result<Answer, AllocError>
         requires world { IsWorld world.now }
@@ -226,6 +259,21 @@ fn summary_of_run(alloc: Global, world: &World, run: &BookedRun) -> Result<Octet
         end: Some(run.end),
     };
     summary_by(alloc, world, &run.books, status)
+}
+
+/// Adds the summary of a run, by what it knows.
+fn put_ending(alloc: Global, text: &mut Octets, world: &World, run: &Run) -> Result<(), AllocError>
+    requires legal { IsLegal world.now run.now.history }
+    requires answered { run.now.answered ≡ answered_steps world.now run.now.history }
+    requires end { EndsSo world.now (after world.now run.now.history) run.now.end }
+    ensures { OnOk result (text.new ≡ text.old ++ summary world.now run.now.history) }
+{
+    let status = RunStatus {
+        answered: run.answered,
+        end: Some(run.end),
+    };
+    let lines = summary_by(alloc, world, &run.history, status)?;
+    text.append(lines.as_slice())
 }
 
 /// The status by how a run ends.

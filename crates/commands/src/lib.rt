@@ -2,7 +2,9 @@
 #![tactic(auto)]
 
 mod answer;
+mod answer_lines;
 mod dns_reply;
+mod exporting;
 mod judgement;
 mod law;
 mod made_run;
@@ -13,6 +15,7 @@ mod run;
 
 pub use answer::{Answer, READ_FAULT, TOO_LONG, USAGE};
 pub use dns_reply::dns;
+pub use exporting::{export_over, translate};
 pub use judgement::check;
 pub use law::values_are_answers;
 pub use made_run::big;

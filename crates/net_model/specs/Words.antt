@@ -20,6 +20,10 @@ pub data Command : Type 0 where
   Big : ℕ → Command
   -- the judgement of a history that is handed in with its world
   Check : Command
+  -- the run of a world with sessions on so many workers, and their answers
+  Export : ℕ → Command
+  -- the world that a world with sessions is translated to
+  Translate : Command
 
 -- a word that has bytes
 abbrev pub is_word : List ℕ → Bool
@@ -38,10 +42,10 @@ workers_in word = number_in 1 16 word
 unfoldable pub is_message : List ℕ → Bool
 is_message word = nat_le 2 (length word) && nat_le (length word) 2048 && is_some (hex_text word)
 
--- the command that words give, where they are in a row: `check`, `run WORKERS`, `make N`, `big N`, `dns HEX`, `cs SYS QUERY`,
+-- the command that words give, where they are in a row: `check`, `translate`, `run WORKERS`, `export WORKERS`, `make N`, `big N`, `dns HEX`, `cs SYS QUERY`,
 -- `query ATTR VALUE`, or `query ATTR VALUE RATTR`
 abbrev pub command_of : List (List ℕ) → Option Command
-command_of (name ∷ []) = if bytes_eq name (codes "check") then Some Check else None
+command_of (name ∷ []) = if bytes_eq name (codes "check") then Some Check else (if bytes_eq name (codes "translate") then Some Translate else None)
 command_of (name ∷ number ∷ []) =
     if bytes_eq name (codes "run")
     then option_map Run (workers_in number)
@@ -49,7 +53,9 @@ command_of (name ∷ number ∷ []) =
     then option_map Make (messages_in number)
     else (if bytes_eq name (codes "big")
     then option_map Big (messages_in number)
-    else (if bytes_eq name (codes "dns") && is_message number then Some (Dns number) else None)))
+    else (if bytes_eq name (codes "export")
+    then option_map Export (workers_in number)
+    else (if bytes_eq name (codes "dns") && is_message number then Some (Dns number) else None))))
 command_of (name ∷ sys ∷ query ∷ []) =
     if is_word sys && is_word query
     then (if bytes_eq name (codes "cs") then Some (Cs sys query) else (if bytes_eq name (codes "query") then Some (Query sys query None) else None))
@@ -67,6 +73,8 @@ may_wait (Run workers) = true
 may_wait (Make messages) = false
 may_wait (Big messages) = true
 may_wait Check = false
+may_wait (Export workers) = true
+may_wait Translate = false
 
 -- whether words give a command that may wait
 abbrev pub words_wait : Option Command → Bool
@@ -82,6 +90,8 @@ reads (Run workers) = true
 reads (Make messages) = false
 reads (Big messages) = false
 reads Check = true
+reads (Export workers) = true
+reads Translate = true
 
 -- whether words give a command that has an input
 abbrev pub words_read : Option Command → Bool

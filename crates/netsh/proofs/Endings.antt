@@ -140,6 +140,7 @@ never_waits (question.Beside attr value other) = refl
 never_waits (question.Dns word) = refl
 never_waits (question.Make messages) = refl
 never_waits question.Check = refl
+never_waits question.Translate = refl
 
 -- words that were answered
 pub words_answered :

@@ -9,7 +9,7 @@ use Rattle.net_base.specs.Calm as calm
 use Rattle.net_base.specs.Cs.{CsAnswer, Lines, Refused}
 use Rattle.net_base.specs.Legal.{IsLegal, IsTimed}
 use Rattle.net_base.specs.Net.{Net, after}
-use Rattle.net_model.specs.Words.{Command, Cs, Query, Dns, Run, Make, Big, Check, may_wait, reads, words_read, words_wait}
+use Rattle.net_model.specs.Words.{Command, Cs, Query, Dns, Run, Make, Big, Check, Export, Translate, may_wait, reads, words_read, words_wait}
 use Rattle.commands.specs.Built.{made, IsStatus, IsWorldOf, IsFound, IsFirstBad, IsGiven, IsAnswer}
 use Rattle.checked_input.specs.Input.{Handed}
 use Rattle.commands.specs.Checked.{BreaksOne, IsChecked, KeepsAll}
@@ -36,6 +36,8 @@ bad_reads (Dns word) input bad is = refl
 bad_reads (Run workers) input bad is = refl
 bad_reads (Make messages) input bad is = absurd (some_not_none bad is)
 bad_reads (Big messages) input bad is = absurd (some_not_none bad is)
+bad_reads (Export workers) input bad is = refl
+bad_reads Translate input bad is = refl
 bad_reads Check input bad is = refl
 
 -- what a command took, by whether it has an input
@@ -111,6 +113,16 @@ of_found (Big messages) input answer good found =
       timed = found.2.timed;
       status = found.2.status;
     })
+of_found (Export workers) input answer good found =
+    of_run good (record {
+      world = found.2;
+      history = found.4.history;
+      is_world = (found.0, found.1, found.3);
+      legal = found.4.legal;
+      timed = found.4.timed;
+      status = found.4.status;
+    })
+of_found Translate input answer good found = of_lines good (ap (λ (a : Answer). a.status) found.4) refl
 of_found Check input answer good found = of_checked (handed_in input good) (found (handed_in input good))
   where
     of_checked : (handed : Handed input) → IsChecked handed.world handed.history handed.told answer → Of Check input answer
@@ -159,6 +171,8 @@ found_well (Dns word) input answer good found = query_well answer _ found
 found_well (Run workers) input answer good found = found.2.status.ended
 found_well (Make messages) input answer good found = made_status messages answer found
 found_well (Big messages) input answer good found = found.2.status.ended
+found_well (Export workers) input answer good found = found.4.status.ended
+found_well Translate input answer good found = ap (λ (a : Answer). a.status) found.4
 found_well Check input answer good found =
     let handed = handed_in input good in check_well handed.world handed.history handed.told answer (found handed)
 

@@ -7,7 +7,7 @@ use Rattle.net_model.specs.Answers.{Answer, bad_input, usage, read_fault, input_
 use Rattle.net_base.specs.Calm as calm
 use Rattle.net_base.specs.Legal.{IsLegal, IsTimed}
 use Rattle.net_base.specs.Net.{Net, after}
-use Rattle.net_model.specs.Words.{Command, Cs, Query, Dns, Run, Make, Big, Check, reads, words_read, words_wait}
+use Rattle.net_model.specs.Words.{Command, Cs, Query, Dns, Run, Make, Big, Check, reads, words_read, words_wait, Export, Translate}
 use Rattle.outside.specs.Streams.{Rose}
 use Rattle.outside.specs.declared.fault.TakeError.{TakeError}
 use Rattle.outside.specs.declared.fault.TakeError.TheVariants as error
@@ -105,7 +105,7 @@ pub record IsHanded (command : Option Command) (intake : Intake) (output : Outpu
   pub good : IsFirstBad Check input None
 
 -- how a command ends whose answer is written and whose input, where it has one, has no bad line: cs, query and dns have lines or none,
--- a run is done, stopped or limited, `make` has its text, and what check is handed keeps all rules or breaks one
+-- a run is done, stopped or limited, `make` and `translate` have their text, and what check is handed keeps all rules or breaks one
 abbrev pub EndsWell : Command → ℕ → Type 0
 EndsWell (Cs sys query) status = (status ≡ 0) ⊎ (status ≡ 5)
 EndsWell (Query attr value other) status = (status ≡ 0) ⊎ (status ≡ 5)
@@ -114,6 +114,8 @@ EndsWell (Run workers) status = (status ≡ 0) ⊎ (status ≡ 3) ⊎ (status �
 EndsWell (Make messages) status = status ≡ 0
 EndsWell (Big messages) status = (status ≡ 0) ⊎ (status ≡ 3) ⊎ (status ≡ 4)
 EndsWell Check status = (status ≡ 0) ⊎ (status ≡ 5)
+EndsWell (Export workers) status = (status ≡ 0) ⊎ (status ≡ 3) ⊎ (status ≡ 4)
+EndsWell Translate status = status ≡ 0
 
 -- how else it may end: with a bad line or a fault of the source, where it has an input, with a fault of the sink, or without memory
 abbrev pub EndsIll : Bool → ℕ → Type 0

@@ -21,6 +21,8 @@ pub enum Question<'a> {
     Make(u32),
     /// `check`
     Check,
+    /// `translate`
+    Translate,
 }
 
 /// A command.
@@ -32,6 +34,8 @@ pub enum Command<'a> {
     Run(u32),
     /// `big N`
     Big(u32),
+    /// `export WORKERS`
+    Export(u32),
 }
 
 /// Whether a command that never waits has an input.
@@ -45,6 +49,7 @@ pub fn has_input(question: Question<'_>) -> bool
         Question::Dns(_) => true,
         Question::Make(_) => false,
         Question::Check => true,
+        Question::Translate => true,
     }
 }
 
@@ -73,6 +78,9 @@ fn read_one(name: &[u8]) -> Option<Command<'_>>
     if name == b"check".as_slice() {
         return Some(Command::Question(Question::Check));
     }
+    if name == b"translate".as_slice() {
+        return Some(Command::Question(Question::Translate));
+    }
     None
 }
 
@@ -88,6 +96,9 @@ fn read_two<'a>(name: &[u8], number: &'a [u8]) -> Option<Command<'a>>
     }
     if name == b"big".as_slice() {
         return Some(Command::Big(read_messages(number)?));
+    }
+    if name == b"export".as_slice() {
+        return Some(Command::Export(read_workers(number)?));
     }
     if name == b"dns".as_slice() && is_message(number) {
         return Some(Command::Question(Question::Dns(number)));

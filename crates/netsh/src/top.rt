@@ -1,6 +1,6 @@
 //! The top call: words and an input in, a status and a text out.
 ghost use Rattle.std.specs.Prelude.{◌≡◌, ◌≢◌, ◌<◌, ◌≤◌, ◌↔◌, ◌⊎◌, ◌+◌, ℕ, map, string_bytes, length, IsNone, IfNone, IfSome, IfOk, IsTrue, Some, None, Err, false};
-ghost use Rattle.net_model.specs.Words.{Big as AnyBig, Command as AnyCommand, Run as AnyRun, command_of, reads, words_wait};
+ghost use Rattle.net_model.specs.Words.{Big as AnyBig, Command as AnyCommand, Export as AnyExport, Run as AnyRun, command_of, reads, words_wait};
 ghost use Rattle.command_line.specs.Calls.{Intake, IsUnread};
 ghost use Rattle.netsh.specs.Ends.{Causes, Ends, EndsWell, HasGood, IsAnswered, most_reads};
 ghost use Rattle.net_model.specs.Answers.{input_limit};
@@ -10,8 +10,8 @@ ghost use Rattle.netsh.specs.Commands.{question_read};
 use crate::command::{Command, Question, has_input, read_words};
 use command_line::tell;
 use commands::{
-    Answer, READ_FAULT, TOO_LONG, USAGE, big, check, cs, dns, make, query_beside, query_tuples,
-    run_over, values_are_answers,
+    Answer, READ_FAULT, TOO_LONG, USAGE, big, check, cs, dns, export_over, make, query_beside,
+    query_tuples, run_over, translate, values_are_answers,
 };
 use outside::{Gate, Sink, Source, SureSink, SureSource, TakeError, read_to_end};
 use std::alloc::{AllocError, Global};
@@ -60,6 +60,7 @@ fn answer_over(alloc: Global, question: Question<'_>, input: &[u8]) -> Result<An
         Question::Dns(word) => dns(alloc, word, input),
         Question::Make(messages) => make(alloc, messages),
         Question::Check => check(alloc, input),
+        Question::Translate => translate(alloc, input),
     }
 }
 
@@ -74,6 +75,7 @@ fn limit_of(question: Question<'_>) -> usize
         Question::Dns(_) => INPUT_LIMIT,
         Question::Make(_) => INPUT_LIMIT,
         Question::Check => HISTORY_LIMIT,
+        Question::Translate => INPUT_LIMIT,
     }
 }
 
@@ -112,6 +114,24 @@ fn read_and_run<R: Threads + Wait + Sync, S: Source, G: Gate + Sync>(
     Ok(run_over(rt, alloc, workers, input.as_slice(), gate)?)
 }
 
+/// Reads a world with sessions, runs it, and answers its sessions.
+fn read_and_export<R: Threads + Wait + Sync, S: Source, G: Gate + Sync>(
+    rt: &R,
+    alloc: Global,
+    workers: u32,
+    source: &mut S,
+    gate: &G,
+) -> Result<Answer, TakeError>
+    requires some { 0 < workers }
+    requires few { workers ≤ 16 }
+    ensures answered { IsAnswered (AnyExport workers)
+        (record { left = S.left source.old; rest = S.left source.new; before = S.faults source.old; after = S.faults source.new }) result }
+    ensures reads { S.reads source.new ≤ S.reads source.old + most_reads (Some (AnyExport workers)) }
+{
+    let input = read_to_end(alloc, source, INPUT_LIMIT)?;
+    Ok(export_over(rt, alloc, workers, input.as_slice(), gate)?)
+}
+
 /// Runs the made world of so many messages. Nothing is read.
 fn run_made<R: Threads + Wait + Sync, G: Gate + Sync>(
     rt: &R,
@@ -132,6 +152,8 @@ enum Asked {
     Run(u32),
     /// They ask for a run of the made world of so many messages, which is still to do.
     Big(u32),
+    /// They ask for a run over a world with sessions on so many workers, which is still to do.
+    Export(u32),
 }
 
 /// Does the command of these words, unless it may wait, or tells the usage.
@@ -149,6 +171,8 @@ fn ask_words<S: Source, K: Sink>(
         × (source.new ≡ source.old) × (sink.new ≡ sink.old) }
     ensures big { (messages : ℕ) → result ≡ Asked.Big messages → (command_of (map string_bytes words.now) ≡ Some (AnyBig messages))
         × (source.new ≡ source.old) × (sink.new ≡ sink.old) }
+    ensures export { (workers : ℕ) → result ≡ Asked.Export workers → (command_of (map string_bytes words.now) ≡ Some (AnyExport workers))
+        × (source.new ≡ source.old) × (sink.new ≡ sink.old) }
     ensures reads { S.reads source.new ≤ S.reads source.old + most_reads (command_of (map string_bytes words.now)) }
 {
     match read_words(words) {
@@ -157,6 +181,7 @@ fn ask_words<S: Source, K: Sink>(
         }
         Some(Command::Run(workers)) => Asked::Run(workers),
         Some(Command::Big(messages)) => Asked::Big(messages),
+        Some(Command::Export(workers)) => Asked::Export(workers),
         None => Asked::Answered(tell(sink, 1, USAGE.as_bytes())),
     }
 }
@@ -180,7 +205,7 @@ pub fn ask<S: Source, K: Sink>(
 {
     match ask_words(alloc, words, source, sink) {
         Asked::Answered(status) => Some(status),
-        Asked::Run(_) | Asked::Big(_) => None,
+        Asked::Run(_) | Asked::Big(_) | Asked::Export(_) => None,
     }
 }
 
@@ -205,6 +230,10 @@ pub fn netsh<R: Threads + Wait + Sync, S: Source, K: Sink, G: Gate + Sync>(
         Asked::Answered(status) => status,
         Asked::Run(workers) => tell_answer(sink, read_and_run(rt, alloc, workers, source, gate)),
         Asked::Big(messages) => tell_answer(sink, run_made(rt, alloc, messages, gate)),
+        Asked::Export(workers) => tell_answer(
+            sink,
+            read_and_export(rt, alloc, workers, source, gate),
+        ),
     }
 }
 

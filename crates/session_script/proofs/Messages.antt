@@ -40,7 +40,7 @@ length_is k m bytes rest b = ap (λ (xs : List ℕ). length xs) b.whole ∙ leng
 pub has_header : (k : ℕ) (m : Tmsg) (bytes rest : List ℕ) → Begins k m bytes rest → 7 + length rest ≤ length bytes
 has_header k m bytes rest b = omega (arith, length_is k m bytes rest b, long m)
 
-none_begins : (k : ℕ) (m : Tmsg) (bytes rest : List ℕ) → bytes ≡ [] → Begins k m bytes rest → ⊥
+pub none_begins : (k : ℕ) (m : Tmsg) (bytes rest : List ℕ) → bytes ≡ [] → Begins k m bytes rest → ⊥
 none_begins k m bytes rest none b = absurd (omega (arith, has_header k m bytes rest b, ap (λ (xs : List ℕ). length xs) none))
 
 some_same : {A : Type 0} (x y : A) → Some x ≡ Some y → x ≡ y
@@ -51,7 +51,7 @@ same_spelled : (m n : Tmsg) → SpellsT m (t_bytes m) → SpellsT n (t_bytes n) 
 same_spelled m n a b e = some_same m n (sym (t_only m (t_bytes m) a) ∙ t_only n (t_bytes m) (subst (SpellsT n) (sym e) b))
 
 -- bytes begin with one message
-one_beginning : (k : ℕ) (m n : Tmsg) (bytes p q : List ℕ) → Begins k m bytes p → Begins k n bytes q → (m ≡ n) × (p ≡ q)
+pub one_beginning : (k : ℕ) (m n : Tmsg) (bytes p q : List ℕ) → Begins k m bytes p → Begins k n bytes q → (m ≡ n) × (p ≡ q)
 one_beginning k m n bytes p q a b =
     let sizes : length (t_bytes m) ≡ length (t_bytes n) = sym (size_is k m bytes p a) ∙ size_is k n bytes q b in
     let both : t_bytes m ++ p ≡ t_bytes n ++ q = sym a.whole ∙ b.whole in

@@ -1,6 +1,8 @@
 //! The messages of a session's bytes.
-ghost use Rattle.std.specs.Prelude.{◌≡◌, ◌<◌, ◌≤◌, ◌++◌, ℕ, List, length, option_to_list, IfOk, OnOk, IfSome, IfNone, IsErrOf};
+ghost use Rattle.std.specs.Prelude.{◌≡◌, ◌<◌, ◌≤◌, ◌++◌, ℕ, true, List, length, option_to_list, IfOk, OnOk, IfSome, IfNone, IsErrOf};
+ghost use Rattle.std.specs.List.{list_all};
 ghost use Rattle.byteorder.specs.Endian.{little_number};
+ghost use Rattle.net_base.specs.World.{is_step};
 ghost use Rattle.ninep_wire.specs.declared.request.Tmsg.{Tmsg as AnyTmsg};
 ghost use Rattle.ninep_wire.specs.Messages.{SpellsT};
 ghost use Rattle.sessions.specs.Script as spec;
@@ -14,14 +16,19 @@ use crate::table::Table;
 use byteorder::{ByteOrder, LittleEndian};
 use net_base::{Sequence, Step, StepList};
 use ninep_wire::{NinepError, Tmsg, decode_t};
+use sessions::scripts_can_be_said;
 use std::alloc::{AllocError, Global};
+use world_words::are_bytes;
 
 /// The script of a session with these bytes.
 pub fn script_of(alloc: Global, bytes: &[u8]) -> Result<StepList, ExportError>
     ensures found { IfOk result (IsScript bytes.now) }
     ensures only { (ms : List AnyTmsg) → AreMessages bytes.now ms → IfOk result (λ steps. steps ≡ spec.script ms) }
     ensures bad { IsErrOf result ExportError.BadStream → IsBadStream bytes.now }
+    ensures sayable { IfOk result (λ steps. list_all is_step steps ≡ true) }
 {
+    scripts_can_be_said();
+    are_bytes(bytes);
     let mut table = Table::new(alloc);
     let mut steps = Sequence::new(alloc);
     let mut rest = bytes;

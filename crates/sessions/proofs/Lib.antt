@@ -1,2 +1,4 @@
 mod Tags
+mod Words
 mod WorkedSession
+pub mod Sayable

@@ -120,8 +120,16 @@ is_granting (reply.Lines lines) = true
 is_granting _ = false
 
 -- the reply as a history prints it
+abbrev pub reply_text : Reply → List ℕ
+reply_text x = drop 1 (spaced (reply_words x))
+
+-- the text of an error has room in a message
+abbrev pub longest_text : ℕ
+longest_text = 8192
+
+-- the reply, cut where it has no room; what refuses a session's events are a few short words, which are told whole
 abbrev pub printed : Reply → List ℕ
-printed x = drop 1 (spaced (reply_words x))
+printed x = take longest_text (reply_text x)
 
 -- what was opened: of clone and listen it is the ctl file of the slot
 abbrev pub now_open : Node → Reply → Node

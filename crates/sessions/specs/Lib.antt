@@ -5,3 +5,4 @@ pub mod Answers
 pub mod Server
 pub mod Session
 pub mod Worked
+pub mod Worlds

@@ -1,7 +1,8 @@
 -- What a session knows: the longest message, and the fids with what they stand for.
-use Rattle.std.specs.Prelude.{ℕ, ◌==◌, ◌&&◌, Bool, true, false, not, Option, Some, None, is_some, if◌then◌else◌}
+use Rattle.std.specs.Prelude.{◌≡◌, ◌≤◌, ℕ, ◌==◌, ◌&&◌, Bool, true, false, not, Option, Some, None, is_some, if◌then◌else◌}
 use Rattle.std.specs.Option.{option_and_then}
 use Rattle.net_base.specs.declared.names.Node.{Node}
+use Rattle.net_base.specs.Paths.{in_range}
 use Rattle.ninep_wire.specs.Messages.{longest}
 use Rattle.sessions.specs.declared.target.Target.{Target}
 
@@ -40,3 +41,9 @@ used t n = option_and_then if_used (t.fids n)
 -- a walk to newfid finds it taken: it is another fid than fid, and known
 abbrev pub is_taken : Table → ℕ → ℕ → Bool
 is_taken t fid newfid = not (fid == newfid) && is_some (t.fids newfid)
+
+-- what a session knows after any messages
+pub record IsSound (t : Table) : Type 0 where
+  pub least : 256 ≤ t.msize
+  pub most : t.msize ≤ longest
+  pub nodes : (fid : ℕ) (f : Target) → t.fids fid ≡ Some f → in_range f.node ≡ true

@@ -1,11 +1,15 @@
 //! What the definitions of sessions say together.
-ghost use Rattle.std.specs.Prelude.{◌≡◌, ℕ, List, Some, map, flat_map};
+ghost use Rattle.std.specs.Prelude.{◌≡◌, ◌≤◌, ℕ, List, Some, true, map, flat_map, length, nat_le};
+ghost use Rattle.std.specs.List.{list_all};
 ghost use Rattle.net_base.specs.Hexadecimal.{hex_digits};
+ghost use Rattle.net_base.specs.Transcript.{reply_words};
+ghost use Rattle.net_base.specs.World.{is_byte, is_step};
 ghost use Rattle.net_base.specs.declared.reply.Reply.{Reply};
+ghost use Rattle.net_base.specs.declared.world.Step.{Step};
 ghost use Rattle.ninep_wire.specs.declared.request.Tmsg.{Tmsg};
 ghost use Rattle.ninep_wire.specs.Messages.{r_tag, t_bytes, t_tag};
-ghost use Rattle.sessions.specs.Answers.{Found, replied, said};
-ghost use Rattle.sessions.specs.Script.{AreMessages, script};
+ghost use Rattle.sessions.specs.Answers.{Found, printed, replied, reply_text, said};
+ghost use Rattle.sessions.specs.Script.{AreMessages, IsScript, script};
 ghost use Rattle.sessions.specs.Server.{answers_to};
 ghost use Rattle.sessions.specs.Session.{first, session};
 ghost use Rattle.sessions.specs.Table.{Table};
@@ -17,10 +21,21 @@ pub fn answers_have_the_tag()
     ensures replied { (table : Table) (m : Tmsg) (x : Reply) → r_tag (replied table m x) ≡ t_tag m }
 {}
 
+/// A reply of at most 80 words of at most 100 bytes is told whole.
+pub fn short_replies_are_told_whole()
+    ensures { (x : Reply) → list_all (λ (word : List ℕ). nat_le (length word) 100) (reply_words x) ≡ true
+        → length (reply_words x) ≤ 80 → printed x ≡ reply_text x }
+{}
+
 /// A session that opens the clone file of UDP and reads its number has two steps, and five answers.
 pub fn a_session_is_answered()
     ensures messages { hex_digits (flat_map t_bytes worked.messages) ≡ worked.feed }
     ensures stream { AreMessages (flat_map t_bytes worked.messages) worked.messages }
     ensures script { script worked.messages ≡ worked.steps }
     ensures answers { map hex_digits (answers_to (session 0) first worked.messages worked.replies) ≡ worked.answers }
+{}
+
+/// Each step of a session's script is one that a world file can say.
+pub fn scripts_can_be_said()
+    ensures { (bytes : List ℕ) (steps : List Step) → list_all is_byte bytes ≡ true → IsScript bytes steps → list_all is_step steps ≡ true }
 {}

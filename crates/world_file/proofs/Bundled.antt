@@ -1,7 +1,6 @@
 -- Bundles that were read make the versions of a text, and the first bad line of one is that of the text.
-use Rattle.std.proofs.Common.{◌≡◌, ℕ, ◌+◌, ◌-◌, ◌<◌, ◌≤◌, ◌⊎◌, inl, inr, Bool, true, false, List, [], ◌∷◌, ◌++◌, length, take, drop, get_or, refl, sym, ap, subst, ◌∙◌, arith, Option, Some, None, append-nil, append_assoc, length-append, length-take}
-use Rattle.std.specs.Prelude.{unwrap_or}
-use Rattle.std.specs.List.{before_first, join_with_byte, list_all, list_any}
+use Rattle.std.proofs.Common.{◌≡◌, ℕ, ◌+◌, ◌-◌, ◌<◌, ◌≤◌, ◌⊎◌, inl, inr, true, List, [], ◌∷◌, ◌++◌, length, take, drop, get_or, refl, sym, ap, subst, ◌∙◌, arith, Option, Some, None, append-nil, append_assoc, length-append}
+use Rattle.std.specs.List.{join_with_byte, list_all}
 use Rattle.std.proofs.Math.Seq.{drop-append_seam, take-append_seam}
 use Rattle.std.proofs.lemmas.Bool.{and_parts}
 use Rattle.net_base.specs.declared.ndb.NdbPair.{NdbPair}
@@ -9,7 +8,7 @@ use Rattle.net_base.specs.declared.world.Version.{Version}
 use Rattle.net_base.specs.NdbBundle.{bad_line, causes_of, database, first_bad}
 use Rattle.net_base.specs.NdbText.{lines_of}
 use Rattle.net_base.proofs.Texts.{cut_at, one_part}
-use Rattle.world_text.specs.VersionLines.{at_causes, bad_version_line, begins_at, first_bad_version, is_at_line, last_moment, later_versions, moment_of, own_lines, version_from, versions_in, with_version}
+use Rattle.world_text.specs.VersionLines.{at_causes, bad_version_line, first_bad_version, is_at_line, last_moment, later_versions, moment_of, own_lines, version_from, versions_in, with_version}
 use Rattle.world_text.specs.WorldSpelling.{is_line, laid}
 use Rattle.world_text.specs.WorldText.{Cut, cuts_of}
 use Rattle.world_text.proofs.VersionCuts.{Free, any-free, before-all, before-at, begins-some, bundle-told, free-later, last-at, last-free, moved, or_else, own-at, version-bad, version-goes, versions-append}

@@ -7,3 +7,8 @@ pub mod Placed
 pub mod Overlaps
 pub mod Networks
 pub mod Spelled
+pub mod SessionLaws
+pub mod SessionLines
+pub mod SessionWorlds
+pub mod SessionRows
+pub mod SessionTaken

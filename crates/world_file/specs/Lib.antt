@@ -1,5 +1,7 @@
 pub mod Indexed
 pub mod Told
+pub mod SessionText
+pub mod SessionTold
 pub mod Bundles
 pub use Rattle.net_base.specs.World
 pub use Rattle.world_text.specs.LineCauses
@@ -7,3 +9,4 @@ pub use Rattle.world_text.specs.LineFit
 pub use Rattle.world_text.specs.WorldLines
 pub use Rattle.world_text.specs.WorldSpelling
 pub use Rattle.world_text.specs.WorldText
+pub use Rattle.sessions.specs.Script

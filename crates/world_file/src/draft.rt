@@ -4,6 +4,7 @@ ghost use Rattle.std.specs.List.{list_any, last_or, position_or_len};
 ghost use Rattle.net_base.specs.Routes.{has_ip};
 ghost use Rattle.world_text.specs.WorldLines as spec;
 ghost use Rattle.world_text.specs.WorldText.{missing};
+ghost use Rattle.world_file.specs.SessionText.{host_of_last};
 
 use crate::host::HostDraft;
 use crate::medium::MediumDraft;
@@ -112,6 +113,24 @@ impl Draft {
         }
     }
 
+    /// How many scripts there are.
+    pub(crate) fn script_count(&self) -> u32
+        requires { length self.now.scripts ≤ 32 }
+        ensures { result ≡ length self.now.scripts }
+    {
+        self.scripts.len() as u32
+    }
+
+    /// The host of the last script, 0 without one.
+    pub(crate) fn last_host(&self) -> u32
+        ensures { result ≡ host_of_last self.now }
+    {
+        match last_script(self.scripts.as_slice()) {
+            Some(script) => script.host,
+            None => 0,
+        }
+    }
+
     /// The cause for which a text without `ndb` is bad.
     pub(crate) fn missing(&self) -> LineCause
         ensures { result ≡ missing self.now }
@@ -202,6 +221,19 @@ fn last_host(hosts: &[HostDraft]) -> Option<&HostDraft>
     let count = hosts.len();
     if 0 < count {
         Some(&hosts[count - 1])
+    } else {
+        None
+    }
+}
+
+/// The last script.
+#[tactic(auto, using(crate::proofs::Placed::last_is, crate::proofs::Placed::none_last))]
+fn last_script(scripts: &[Script]) -> Option<&Script>
+    ensures { MatchOption result (last_or None scripts.now ≡ None) (λ script. last_or None scripts.now ≡ Some script.now) }
+{
+    let count = scripts.len();
+    if 0 < count {
+        Some(&scripts[count - 1])
     } else {
         None
     }

@@ -1,12 +1,13 @@
 //! A line of a text, behind those before it.
-ghost use Rattle.std.specs.Prelude.{◌≡◌, IfOk, IfErr};
+ghost use Rattle.std.specs.Prelude.{◌≡◌, Ok, IfOk, IfErr};
 ghost use Rattle.world_text.specs.LineReading.{read_line};
 ghost use Rattle.world_text.specs.WorldLines as spec;
+ghost use Rattle.world_file.specs.SessionText.{is_step_read, other_verdict, under_session};
 ghost use Rattle.world_file.specs.Told.{IsSmall, TellsCause, going};
 
 use crate::draft::Draft;
 use net_base::Timers;
-use std::alloc::Global;
+use std::alloc::{AllocError, Global};
 use world_text::{LineCause, WorldLine, lines_are_spelled};
 use world_words::{LineFault, read_line};
 
@@ -24,6 +25,35 @@ impl Draft {
             return self.take_first(line);
         }
         self.take_read(alloc, line)
+    }
+
+    /// The same of a line that ends a session, or of one where none goes on.
+    pub(crate) fn take_under(
+        &mut self,
+        alloc: Global,
+        session: Option<u64>,
+        line: &[u8],
+    ) -> Result<bool, LineFault>
+        requires { IsSmall self.old }
+        ensures ok { IfOk result (λ begins. other_verdict session self.old line.now ≡ going begins self.new) }
+        ensures bad { IfErr result (λ fault. TellsCause fault (other_verdict session self.old line.now)) }
+    {
+        match session {
+            Some(_) => self.take_under_session(alloc, line),
+            None => self.take_text(alloc, line),
+        }
+    }
+
+    /// A line under a session, where no step stands.
+    fn take_under_session(&mut self, alloc: Global, line: &[u8]) -> Result<bool, LineFault>
+        requires { IsSmall self.old }
+        ensures ok { IfOk result (λ begins. under_session self.old line.now ≡ going begins self.new) }
+        ensures bad { IfErr result (λ fault. TellsCause fault (under_session self.old line.now)) }
+    {
+        if is_step(alloc, line)? {
+            return Err(LineFault::Cause(LineCause::OutOfOrder));
+        }
+        self.take_text(alloc, line)
     }
 
     /// A line behind the first that isn't passed over.
@@ -75,4 +105,24 @@ fn is_passed(line: &[u8]) -> bool
     ensures { result ≡ spec.is_passed line.now }
 {
     line.is_empty() || line[0] == b'#'
+}
+
+/// Whether a line is a step.
+fn is_step(alloc: Global, line: &[u8]) -> Result<bool, AllocError>
+    ensures { IfOk result (λ told. told ≡ is_step_read (read_line line.now)) }
+{
+    match read_line(alloc, line) {
+        Ok(read) => Ok(is_of_script(&read)),
+        Err(LineFault::Memory) => Err(AllocError),
+        Err(LineFault::Cause(_)) => Ok(false),
+    }
+}
+
+fn is_of_script(line: &WorldLine) -> bool
+    ensures { result ≡ is_step_read (Ok line.now) }
+{
+    match line {
+        WorldLine::OfScript(_) => true,
+        _ => false,
+    }
 }

@@ -54,7 +54,12 @@ fn read_lines(alloc: Global, bytes: &[u8]) -> Result<World, WorldError>
 }
 
 /// The world of a draft with the versions that stand behind the line with this number.
-fn read_bundles(alloc: Global, draft: Draft, number: u64, text: &[u8]) -> Result<World, WorldError>
+pub(crate) fn read_bundles(
+    alloc: Global,
+    draft: Draft,
+    number: u64,
+    text: &[u8],
+) -> Result<World, WorldError>
     requires { number + length text.now < 2 ^ 63 }
     ensures ok { IfOk result (λ w. with_versions number (spec.world_of draft) text.now (bad_version_line text.now) ≡ Ok w) }
     ensures bad { IfErr result (λ e. Tells e (with_versions number (spec.world_of draft) text.now (bad_version_line text.now))) }
@@ -65,7 +70,7 @@ fn read_bundles(alloc: Global, draft: Draft, number: u64, text: &[u8]) -> Result
 }
 
 /// The fault of the line with this number.
-fn at_line(fault: LineFault, number: u64) -> WorldError
+pub(crate) fn at_line(fault: LineFault, number: u64) -> WorldError
     ensures { TellsAt fault number result }
 {
     match fault {

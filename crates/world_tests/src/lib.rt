@@ -19,6 +19,8 @@ mod reading;
 #[cfg(test)]
 mod searches;
 #[cfg(test)]
+mod session_texts;
+#[cfg(test)]
 mod texts;
 #[cfg(test)]
 mod transcripts;

@@ -1,5 +1,5 @@
 use Rattle.std.proofs.Common.{map, refl, string_bytes, sym}
-use Rattle.netsh.proofs.RunWords.{workers_within}
+use Rattle.netsh.proofs.RunWords.{export_within, workers_within}
 use Rattle.netsh.proofs.Statuses.{causes_of}
 use Rattle.netsh.proofs.top.netsh.Goals as goal
 
@@ -30,3 +30,17 @@ returns-in-Big-clause-ends g c =
 
 pub returns-in-Big-clause-causes : goal.returns-in-Big-clause-causes
 returns-in-Big-clause-causes g c = causes_of _ _ _ _ (returns-in-Big-clause-ends g c)
+
+pub read_and_export-requires-clause-some : goal.read_and_export-requires-clause-some
+read_and_export-requires-clause-some g c κs within = (export_within (map string_bytes c.args.words.now) c.in-Export.workers (c.in-Export.ensures.export c.in-Export.workers refl).0).0
+
+pub read_and_export-requires-clause-few : goal.read_and_export-requires-clause-few
+read_and_export-requires-clause-few g c κs within = (export_within (map string_bytes c.args.words.now) c.in-Export.workers (c.in-Export.ensures.export c.in-Export.workers refl).0).1
+
+pub returns-in-Export-clause-ends : goal.returns-in-Export-clause-ends
+returns-in-Export-clause-ends g c =
+    let run = c.in-Export.ensures.export c.in-Export.workers refl in
+    rw (run.0) (rw (sym run.1, sym run.2) (c.tell_answer-in-Export.ensures _ _ c.read_and_export.ensures.answered))
+
+pub returns-in-Export-clause-causes : goal.returns-in-Export-clause-causes
+returns-in-Export-clause-causes g c = causes_of _ _ _ _ (returns-in-Export-clause-ends g c)

@@ -26,3 +26,8 @@ pub returns-clause-only : goal.returns-clause-only
 returns-clause-only c = λ ms are.
     let l = c.loop-rest in
     one_script c.args.bytes.now l.steps ms (ends c.args.bytes.now (seen l.table) l.steps l.rest.now (grind (arith, nat_tests)) l.invariant) are
+
+pub returns-clause-sayable : goal.returns-clause-sayable
+returns-clause-sayable c =
+    let l = c.loop-rest in
+    c.scripts_can_be_said.ensures c.args.bytes.now l.steps c.are_bytes.ensures (ends c.args.bytes.now (seen l.table) l.steps l.rest.now (grind (arith, nat_tests)) l.invariant)

@@ -1,4 +1,4 @@
-use Rattle.std.proofs.Common.{ℕ, length}
+use Rattle.std.proofs.Common.{length}
 use Rattle.world_file.proofs.Scanning.{Scan}
 use Rattle.world_file.proofs.versions.next_version.Given as goal
 

@@ -1,4 +1,4 @@
-use Rattle.std.proofs.Common.{ℕ, length}
+use Rattle.std.proofs.Common.{length}
 use Rattle.world_file.proofs.Bundled.{At}
 use Rattle.world_file.proofs.versions.read_versions.Given as goal
 

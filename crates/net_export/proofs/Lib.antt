@@ -1,0 +1,5 @@
+pub mod FreeEvents
+pub mod Lengths
+pub mod Counting
+pub mod Placing
+pub mod SessionAnswers

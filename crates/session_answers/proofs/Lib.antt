@@ -1,0 +1,5 @@
+mod Plays
+mod Walks
+mod Fits
+mod Answering
+mod Serving

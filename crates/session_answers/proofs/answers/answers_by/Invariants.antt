@@ -1,0 +1,17 @@
+use Rattle.std.proofs.Common.{◌≡◌, length}
+use Rattle.session_answers.specs.Served.{answered_of, state_of}
+use Rattle.session_answers.proofs.Answering.{Answering}
+use Rattle.session_script.specs.Seen.{seen}
+use Rattle.sessions.specs.Table.{IsSound}
+use Rattle.session_answers.proofs.answers.answers_by.Given as goal
+
+-- the answers so far stand before those to what is left
+abbrev pub invariant-loop-replies : goal.invariant-loop-replies
+invariant-loop-replies l = record {
+  so_far : Answering l.host l.bytes (answered_of l.owes l.entries l.caller) l.answers (state_of l.session) l.rest l.replies;
+  sound : IsSound (seen l.session.table);
+  host : l.session.host ≡ l.host;
+}
+
+abbrev pub decreases-loop-replies : goal.decreases-loop-replies
+decreases-loop-replies l = length l.rest

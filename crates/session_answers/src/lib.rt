@@ -1,0 +1,15 @@
+//! The answers to the messages of a session of 9P, by the replies to its script's events.
+#![tactic(auto)]
+
+mod answers;
+mod found;
+mod printed;
+mod replied;
+mod replies;
+mod said;
+mod session;
+
+pub use answers::answers_by;
+
+#[cfg(test)]
+mod tests;

@@ -1,0 +1,288 @@
+//! A session as far as it was served.
+ghost use Rattle.std.specs.Prelude.{◌≡◌, ◌≤◌, ◌++◌, ◌&&◌, ℕ, List, [], ◌∷◌, IfOk, OnOk, IfSome, Some, option_copied};
+ghost use Rattle.net_base.specs.declared.world.Step.TheVariants as step;
+ghost use Rattle.net_base.specs.Steps as steps;
+ghost use Rattle.net_base.specs.Transcript.{lines_of};
+ghost use Rattle.ninep_wire.specs.declared.request.Tmsg.TheVariants as t;
+ghost use Rattle.ninep_wire.specs.Messages.{IsTmsg, longest};
+ghost use Rattle.script_task.specs.Effects.{opened, settles};
+ghost use Rattle.session_answers.specs.Found.{lines_by};
+ghost use Rattle.session_answers.specs.Served.{IsServed, Plays, asked, is_grant, served, state_of};
+ghost use Rattle.session_script.specs.Seen.{seen};
+ghost use Rattle.sessions.specs.Answers.{found_after, found_by};
+ghost use Rattle.sessions.specs.Script.{after};
+ghost use Rattle.sessions.specs.Server.{Gives, outcome};
+ghost use Rattle.sessions.specs.Session as spec;
+
+use crate::found::Found;
+use crate::replied::{node_at, replied};
+use crate::replies::Replies;
+use crate::said::said;
+use net_base::{Event, Lines, Mode, Octets, Reply, Step};
+use net_tree::Fids;
+use ninep_wire::{Tmsg, encode_r};
+use script_task::{Planned, Request, effects_settle, plan};
+use session_script::{Table, is_cs, step_of};
+use std::alloc::{AllocError, Global};
+
+/// What was heard, the lines of cs, and the names that the script has bound.
+#[derive(Drop)]
+pub struct Session {
+    pub table: Table,
+    pub found: Found,
+    pub names: Fids,
+    pub host: u32,
+    alloc: Global,
+}
+
+impl Session {
+    /// A session of a host before its first message.
+    pub fn new(alloc: Global, host: u32) -> Session
+        ensures state { state_of result ≡ spec.first }
+        ensures host { result.host ≡ host }
+    {
+        Session {
+            table: Table::new(alloc),
+            found: Found::new(alloc),
+            names: Fids::new(alloc),
+            host,
+            alloc,
+        }
+    }
+
+    /// Serves a message: the bytes of its answer, or none where its step isn't answered.
+    pub fn serve(
+        &mut self,
+        message: &Tmsg,
+        replies: &mut Replies<'_>,
+    ) -> Result<Option<Octets>, AllocError>
+        requires message { IsTmsg message.now }
+        requires short { self.old.table.msize ≤ longest }
+        ensures served { IfOk result (λ answer.
+            outcome ((spec.session self.old.host).serves (state_of self.old) message.now) replies.old ≡ served answer (state_of self.new) replies.new) }
+        ensures heard { IfOk result (λ answer. IfSome answer (λ bytes. seen self.new.table ≡ after (seen self.old.table) message.now)) }
+        ensures host { self.new.host ≡ self.old.host }
+    {
+        match step_of(self.alloc, &self.table, message)? {
+            None => Ok(Some(self.tell(message)?)),
+            Some(step) => self.play_and_answer(step, message, replies),
+        }
+    }
+
+    // The answer to a message without a step.
+    fn tell(&mut self, message: &Tmsg) -> Result<Octets, AllocError>
+        requires message { IsTmsg message.now }
+        requires short { self.old.table.msize ≤ longest }
+        ensures told { IfOk result (λ answer. spec.told (state_of self.old) message.now ≡ Gives answer (state_of self.new)) }
+        ensures heard { OnOk result (seen self.new.table ≡ after (seen self.old.table) message.now) }
+        ensures host { self.new.host ≡ self.old.host }
+    {
+        let answer = said(self.alloc, &self.table, &self.found, message)?;
+        let bytes = encode_r(self.alloc, &answer)?;
+        self.hear(message)?;
+        Ok(bytes)
+    }
+
+    // Plays the step of a message and answers it.
+    fn play_and_answer(
+        &mut self,
+        step: Step,
+        message: &Tmsg,
+        replies: &mut Replies<'_>,
+    ) -> Result<Option<Octets>, AllocError>
+        requires message { IsTmsg message.now }
+        requires short { self.old.table.msize ≤ longest }
+        requires step { IsServed step }
+        ensures served { IfOk result (λ answer.
+            outcome (spec.serves_by self.old.host (state_of self.old) message.now (Some step)) replies.old ≡ served answer (state_of self.new) replies.new) }
+        ensures heard { IfOk result (λ answer. IfSome answer (λ bytes. seen self.new.table ≡ after (seen self.old.table) message.now)) }
+        ensures host { self.new.host ≡ self.old.host }
+    {
+        match self.play(step, replies)? {
+            None => Ok(None),
+            Some(reply) => Ok(Some(self.answer(message, reply)?)),
+        }
+    }
+
+    // The answer to a message by the last reply of its step.
+    fn answer(&mut self, message: &Tmsg, reply: &Reply) -> Result<Octets, AllocError>
+        requires message { IsTmsg message.now }
+        requires short { self.old.table.msize ≤ longest }
+        ensures told { IfOk result (λ answer.
+            spec.by_last (state_of self.old) message.now self.old.names.names (Some reply.now) ≡ Gives answer (state_of self.new)) }
+        ensures heard { OnOk result (seen self.new.table ≡ after (seen self.old.table) message.now) }
+        ensures host { self.new.host ≡ self.old.host }
+    {
+        let answer = replied(self.alloc, &self.table, message, reply)?;
+        let bytes = encode_r(self.alloc, &answer)?;
+        self.keep_lines(message, reply)?;
+        self.table.hear(self.alloc, message)?;
+        Ok(bytes)
+    }
+
+    // Takes a message that had no step.
+    fn hear(&mut self, message: &Tmsg) -> Result<(), AllocError>
+        ensures table { OnOk result (seen self.new.table ≡ after (seen self.old.table) message.now) }
+        ensures found { OnOk result (lines_by self.new.found ≡ found_after (lines_by self.old.found) message.now) }
+        ensures names { self.new.names ≡ self.old.names }
+        ensures host { self.new.host ≡ self.old.host }
+    {
+        self.drop_lines(message);
+        self.table.hear(self.alloc, message)
+    }
+
+    // Plays a step: the reply to its last event.
+    fn play<'r>(
+        &mut self,
+        step: Step,
+        replies: &mut Replies<'r>,
+    ) -> Result<Option<&'r Reply>, AllocError>
+        requires { IsServed step }
+        ensures plays { IfOk result (λ reply. Plays self.old.host self.old.names.names step replies.old self.new.names.names (option_copied reply) replies.new) }
+        ensures table { self.new.table ≡ self.old.table }
+        ensures found { self.new.found ≡ self.old.found }
+        ensures host { self.new.host ≡ self.old.host }
+    {
+        effects_settle();
+        let request = request_of(step);
+        let planned = plan(self.host, &self.names, request);
+        let Some(reply) = replies.next() else {
+            return Ok(None);
+        };
+        settle(&mut self.names, &planned, reply)?;
+        if goes_on(&planned.event, reply) {
+            return Ok(replies.next());
+        }
+        Ok(Some(reply))
+    }
+
+    // A write to cs leaves its lines to be read, and they go with their fid.
+    fn keep_lines(&mut self, message: &Tmsg, reply: &Reply) -> Result<(), AllocError>
+        ensures found { OnOk result (lines_by self.new.found ≡ found_by (seen self.old.table) (lines_by self.old.found) message.now reply.now) }
+        ensures table { self.new.table ≡ self.old.table }
+        ensures names { self.new.names ≡ self.old.names }
+        ensures host { self.new.host ≡ self.old.host }
+    {
+        match message {
+            Tmsg::Write { fid, .. } => self.keep_written(*fid, reply),
+            _ => {
+                self.drop_lines(message);
+                Ok(())
+            }
+        }
+    }
+
+    fn keep_written(&mut self, fid: u32, reply: &Reply) -> Result<(), AllocError>
+        ensures found { (tag offset : ℕ) (bytes : List ℕ) → OnOk result (lines_by self.new.found
+            ≡ found_by (seen self.old.table) (lines_by self.old.found) (t.Write tag fid offset bytes) reply.now) }
+        ensures table { self.new.table ≡ self.old.table }
+        ensures names { self.new.names ≡ self.old.names }
+        ensures host { self.new.host ≡ self.old.host }
+    {
+        if !is_cs(node_at(&self.table, fid)) {
+            return Ok(());
+        }
+        let lines = lines_in(self.alloc, reply)?;
+        self.found.set(fid, lines)
+    }
+
+    // The lines of cs go with their fid.
+    fn drop_lines(&mut self, message: &Tmsg)
+        ensures found { lines_by self.new.found ≡ found_after (lines_by self.old.found) message.now }
+        ensures table { self.new.table ≡ self.old.table }
+        ensures names { self.new.names ≡ self.old.names }
+        ensures host { self.new.host ≡ self.old.host }
+    {
+        match message {
+            Tmsg::Clunk { fid, .. } => self.found.forget(*fid),
+            Tmsg::Remove { fid, .. } => self.found.forget(*fid),
+            _ => {}
+        }
+    }
+}
+
+// What a step of a session asks for.
+fn request_of(step: Step) -> Request
+    requires { IsServed step }
+    ensures { result ≡ asked step }
+{
+    match step {
+        Step::Open { name, path, mode } => open_of(name, path, mode),
+        Step::Read { name, count } => Request::Read { name, count },
+        Step::Writex { name, text } => Request::Write { name, text },
+        Step::Close { name } => Request::Close { name },
+        Step::Cs { query } => Request::Cs { query },
+        _ => Request::Until { moment: 0 },
+    }
+}
+
+fn open_of(name: Octets, path: Octets, mode: Option<Mode>) -> Request
+    ensures { result ≡ asked (step.Open name path mode) }
+{
+    match mode {
+        Some(mode) => Request::Open { name, path, mode },
+        None => Request::Until { moment: 0 },
+    }
+}
+
+// The names after the reply to a request.
+fn settle(names: &mut Fids, planned: &Planned, reply: &Reply) -> Result<(), AllocError>
+    ensures { OnOk result (names.new ≡ settles planned.now.effect (opened planned.now.effect reply.now) names.old) }
+{
+    let opened = planned.effect.opened(reply);
+    planned.effect.settle(names, opened)
+}
+
+// After a grant that isn't refused the conversation is awaited.
+fn goes_on(event: &Event, reply: &Reply) -> bool
+    ensures { result ≡ (is_grant event.now && steps.is_accepted reply.now) }
+{
+    matches!(event, Event::Grant { .. }) && is_accepted(reply)
+}
+
+// Whether the reply isn't a refusal.
+fn is_accepted(reply: &Reply) -> bool
+    ensures { result ≡ steps.is_accepted reply.now }
+{
+    match reply {
+        Reply::Slot { .. } => true,
+        Reply::Granted { .. } => true,
+        Reply::Call { .. } => true,
+        Reply::Opened { .. } => true,
+        Reply::Ok => true,
+        Reply::Left => true,
+        Reply::Version { .. } => true,
+        Reply::Bytes { .. } => true,
+        Reply::Count { .. } => true,
+        Reply::Lines { .. } => true,
+        Reply::Names { .. } => true,
+        _ => false,
+    }
+}
+
+// The lines of a reply, with a newline after each.
+fn lines_in(alloc: Global, reply: &Reply) -> Result<Octets, AllocError>
+    ensures { IfOk result (λ text. text ≡ lines_of (steps.lines_in reply.now)) }
+{
+    match reply {
+        Reply::Lines { lines } => text_of(alloc, lines),
+        _ => Ok(Octets::new(alloc)),
+    }
+}
+
+fn text_of(alloc: Global, lines: &Lines) -> Result<Octets, AllocError>
+    ensures { IfOk result (λ text. text ≡ lines_of lines.now) }
+{
+    let mut text = Octets::new(alloc);
+    for line in lines.as_slice() {
+        put_line(&mut text, line.as_slice())?;
+    }
+    Ok(text)
+}
+
+fn put_line(text: &mut Octets, line: &[u8]) -> Result<(), AllocError>
+    ensures { OnOk result (text.new ≡ text.old ++ (line.now ++ 10 ∷ [])) }
+{
+    text.append(line)?;
+    text.append(b"\n")
+}
