@@ -26,7 +26,7 @@ pub fn answers_by(
     ensures { IfOk result (λ lines. (ms : List AnyTmsg) → AreMessages bytes.now ms
         → lines ≡ answers_to (spec.session host) spec.first ms (answered_of owes entries.now caller)) }
 {
-    let mut session = Session::new(alloc, host);
+    let mut session = Session::new(alloc, host)?;
     let mut replies = Replies::new(entries, caller, owes);
     let mut answers = Sequence::new(alloc);
     let mut rest = bytes;

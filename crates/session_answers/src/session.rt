@@ -18,36 +18,37 @@ use crate::found::Found;
 use crate::replied::{node_at, replied};
 use crate::replies::Replies;
 use crate::said::said;
-use net_base::{Event, Lines, Mode, Octets, Reply, Step};
-use net_tree::Fids;
+use net_base::{Event, Lines, Mode, Octets, Reply, Sequence, Step, Version};
+use ndb_versions::IndexedVersions;
 use ninep_wire::{Tmsg, encode_r};
-use script_task::{Planned, Request, effects_settle, plan};
+use script_task::{Effect, Names, Request, effects_settle, plan};
 use session_script::{Table, is_cs, step_of};
 use std::alloc::{AllocError, Global};
+use std::sync::Arc;
 
 /// What was heard, the lines of cs, and the names that the script has bound.
 #[derive(Drop)]
 pub struct Session {
     pub table: Table,
     pub found: Found,
-    pub names: Fids,
+    pub names: Names,
     pub host: u32,
     alloc: Global,
 }
 
 impl Session {
     /// A session of a host before its first message.
-    pub fn new(alloc: Global, host: u32) -> Session
-        ensures state { state_of result ≡ spec.first }
-        ensures host { result.host ≡ host }
+    pub fn new(alloc: Global, host: u32) -> Result<Session, AllocError>
+        ensures state { IfOk result (λ s. state_of s ≡ spec.first) }
+        ensures host { IfOk result (λ s. s.host ≡ host) }
     {
-        Session {
+        Ok(Session {
             table: Table::new(alloc),
             found: Found::new(alloc),
-            names: Fids::new(alloc),
+            names: no_names(alloc)?,
             host,
             alloc,
-        }
+        })
     }
 
     /// Serves a message: the bytes of its answer, or none where its step isn't answered.
@@ -149,8 +150,9 @@ impl Session {
         let Some(reply) = replies.next() else {
             return Ok(None);
         };
-        settle(&mut self.names, &planned, reply)?;
-        if goes_on(&planned.event, reply) {
+        let more = goes_on(&planned.event, reply);
+        settle(&mut self.names, planned.effect, reply)?;
+        if more {
             return Ok(replies.next());
         }
         Ok(Some(reply))
@@ -201,6 +203,18 @@ impl Session {
     }
 }
 
+// No name, and a database without a tuple: no message is a step that asks one.
+fn no_names(alloc: Global) -> Result<Names, AllocError>
+    ensures { IfOk result (λ names. names.names ≡ steps.no_names []) }
+{
+    let empty = Version {
+        moment: 0,
+        db: Sequence::new(alloc),
+    };
+    let dbs = IndexedVersions::new(alloc, &[empty])?;
+    Ok(Names::new(alloc, Arc::new(alloc, dbs)?))
+}
+
 // What a step of a session asks for.
 fn request_of(step: Step) -> Request
     requires { IsServed step }
@@ -226,11 +240,11 @@ fn open_of(name: Octets, path: Octets, mode: Option<Mode>) -> Request
 }
 
 // The names after the reply to a request.
-fn settle(names: &mut Fids, planned: &Planned, reply: &Reply) -> Result<(), AllocError>
-    ensures { OnOk result (names.new ≡ settles planned.now.effect (opened planned.now.effect reply.now) names.old) }
+fn settle(names: &mut Names, effect: Effect, reply: &Reply) -> Result<(), AllocError>
+    ensures { OnOk result (names.new ≡ settles effect (opened effect reply.now) names.old) }
 {
-    let opened = planned.effect.opened(reply);
-    planned.effect.settle(names, opened)
+    let opened = effect.opened(reply);
+    effect.settle(names, opened)
 }
 
 // After a grant that isn't refused the conversation is awaited.
