@@ -30,11 +30,11 @@ use Rattle.net_model.specs.Answers.{Answer, bad_input, lines_answer, cs_answer, 
 use Rattle.net_model.specs.Words.{Command, Cs, Query, Dns, Run, Make, Big, Check, reads, Export, Translate}
 use Rattle.net_base.specs.Numeral.{numeral}
 use Rattle.net_base.specs.Hexadecimal.{hex_word}
-use Rattle.ninep_wire.specs.declared.request.Tmsg.{Tmsg}
+use Rattle.net_base.specs.declared.ninep.Tmsg.{Tmsg}
 use Rattle.sessions.specs.declared.world.Session.{Session}
 use Rattle.sessions.specs.declared.world.SessionWorld.{SessionWorld}
-use Rattle.sessions.specs.Script.{AreMessages}
-use Rattle.sessions.specs.Session.{answers}
+use Rattle.net_base.specs.SessionScript.{AreMessages}
+use Rattle.sessions.specs.InHistory.{answers}
 use Rattle.sessions.specs.Worlds.{IsTranslated}
 use Rattle.world_file.specs.SessionText.{Says}
 use Rattle.checked_input.specs.Input.{Handed, IsBadHanded, bad_world, parts_of}

@@ -251,7 +251,7 @@ announces h called names (line ∷ lines) =
 
 -- The steps.
 
--- the play of a step of a host's script, where these names are bound
+-- the play of a step of a host's script, where these names are bound; the steps that need more have theirs in Scripts
 abbrev pub play_of : ℕ → List Bound → Step → Play
 play_of h names (step.Open called path m) =
     with_new h called names (opens h path (unwrap_or m (default_mode (walk path))) (Ends names) (λ (f : Fid). Ends (bind called f names)))
@@ -275,6 +275,7 @@ play_of h names (step.Accept called from) =
 play_of h names (step.Reject called) =
     with_writable h called names (λ (f : Fid). puts h f f.file (codes "hangup") (Ends names) (ends_with (conversation_of h f) (event.Close f.generation) (unbind called names)))
 play_of h names (step.Hangup called) = with_writable h called names (λ (f : Fid). puts h f f.file (codes "hangup") (Ends names) (Ends names))
+play_of h names _ = Ends names
 
 -- Scripts.
 
@@ -302,8 +303,3 @@ pub record Position : Type 0 where
 abbrev pub position_by : Stand → List Step → (List Bound → List Reply → Position) → Position
 position_by (Asking ask) steps go_on = record { next = Some ask; left = steps }
 position_by (Finished names rs) steps go_on = go_on names rs
-
--- after these replies to the events of its steps
-abbrev pub position : ℕ → List Step → List Bound → List Reply → Position
-position h [] names rs = record { next = None; left = [] }
-position h (s ∷ ss) names rs = position_by (stands (play_of h names s) rs) (s ∷ ss) (λ (after : List Bound) (later : List Reply). position h ss after later)

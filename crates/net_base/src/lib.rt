@@ -6,8 +6,10 @@ mod address;
 mod event;
 mod history;
 mod il;
+mod left;
 mod names;
 mod ndb;
+mod ninep;
 mod noted;
 mod numbers;
 mod octets;
@@ -15,6 +17,7 @@ mod packet;
 mod reply;
 mod sequence;
 mod timer;
+mod tops;
 mod udp;
 mod world;
 
@@ -23,8 +26,10 @@ pub use address::{Addr, Pair, Proto, mirror};
 pub use event::Event;
 pub use history::{Entry, History, Outcome, Taken, With, Work};
 pub use il::{Cause, IlKind, IlMsg, IlState, StateName};
+pub use left::{Left, Remote, Remotes};
 pub use names::{Ctl, FileName, Mode, Node};
 pub use ndb::{Db, Line, NdbPair, Tuple};
+pub use ninep::{Qid, Qids, Rmsg, Target, Tmsg};
 pub use noted::{Noted, Number};
 pub use numbers::number;
 pub use octets::{Lines, Octets};
@@ -32,6 +37,7 @@ pub use packet::{Body, BodyHeader, Header, Packet};
 pub use reply::Reply;
 pub use sequence::Sequence;
 pub use timer::{Probe, Tick, Timers};
+pub use tops::all_tops;
 pub use udp::UdpState;
 pub use world::{
     Fate, FateRange, Fates, HostSpec, Hosts, Iface, Ifaces, Media, MediumSpec, Nets, RouteLine,

@@ -151,6 +151,30 @@ pub enum Step {
     Hangup {
         name: Octets,
     },
+    // imports
+    Export {
+        name: Octets,
+    },
+    Import {
+        name: Octets,
+    },
+    Ropen {
+        name: Octets,
+        call: Octets,
+        path: Octets,
+        mode: Mode,
+    },
+    Rread {
+        name: Octets,
+        count: u32,
+    },
+    Rwrite {
+        name: Octets,
+        text: Octets,
+    },
+    Rclose {
+        name: Octets,
+    },
 }
 
 pub type StepList = Sequence<Step>;

@@ -1,11 +1,11 @@
 //! Reading the fields of a message, from left to right.
 ghost use Rattle.std.specs.Prelude.{◌≡◌, ◌<◌};
-ghost use Rattle.ninep_wire.specs.Reading.{Gives, bytes_at, counted_at, list_at, many_at, number_at, qid_at};
+ghost use Rattle.ninep_wire.specs.Reading.{Gives};
+ghost use Rattle.net_base.specs.NinepReading.{bytes_at, counted_at, list_at, many_at, number_at, qid_at};
 
 use crate::fault::NinepError;
-use crate::qid::{Qid, Qids};
+use net_base::{Lines, Octets, Qid, Qids};
 use byteorder::{ByteOrder, LittleEndian};
-use net_base::{Lines, Octets};
 use std::alloc::Global;
 
 /// No walk has more names, and no answer to one more qids.

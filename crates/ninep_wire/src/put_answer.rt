@@ -1,10 +1,9 @@
 //! Writing what a server answers.
 ghost use Rattle.std.specs.Prelude.{◌≡◌, ◌<◌, ◌≤◌, ◌++◌, length, IfOk, OnOk};
-ghost use Rattle.ninep_wire.specs.Messages.{SpellsR, IsRmsg, longest, r_bytes, r_fields, r_qids, r_tag, r_type};
+ghost use Rattle.net_base.specs.NinepMessages.{SpellsR, IsRmsg, longest, r_bytes, r_fields, r_qids, r_tag, r_type};
 
-use crate::answer::Rmsg;
+use net_base::{Octets, Rmsg};
 use crate::put::{framed, put_data, put_long, put_qid, put_qids, put_string};
-use net_base::Octets;
 use std::alloc::{AllocError, Global};
 
 /// The bytes of the message.

@@ -1,11 +1,12 @@
 //! Reading what a server answers.
 ghost use Rattle.std.specs.Prelude.{◌≡◌, ◌≢◌, ◌<◌, ◌≤◌, ◌⊎◌, ◌↔◌, length, IfErr, IfOk, IsErrOf, false};
-ghost use Rattle.ninep_wire.specs.declared.answer.Rmsg.{Rmsg};
-ghost use Rattle.ninep_wire.specs.Faults.{HasHeader, HasSize, HasRType, is_r_type, size_field, type_field};
-ghost use Rattle.ninep_wire.specs.Messages.{SpellsR, longest, r_bytes, r_qids};
-ghost use Rattle.ninep_wire.specs.Reading.{Gives, all_of, r_at, r_attach, r_auth, r_create, r_error, r_open, r_read, r_stat, r_version, r_walk, r_write};
+ghost use Rattle.net_base.specs.declared.ninep.Rmsg.{Rmsg};
+ghost use Rattle.net_base.specs.NinepFaults.{HasHeader, HasSize, HasRType, is_r_type, size_field, type_field};
+ghost use Rattle.net_base.specs.NinepMessages.{SpellsR, longest, r_bytes, r_qids};
+ghost use Rattle.ninep_wire.specs.Reading.{Gives};
+ghost use Rattle.net_base.specs.NinepReading.{all_of, r_at, r_attach, r_auth, r_create, r_error, r_open, r_read, r_stat, r_version, r_walk, r_write};
 
-use crate::answer::Rmsg;
+use net_base::Rmsg;
 use crate::fault::NinepError;
 use crate::fields::{data, long, qid, qids, string};
 use crate::header::{header_of, is_answer};

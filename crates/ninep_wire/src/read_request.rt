@@ -1,15 +1,16 @@
 //! Reading what a client asks.
 ghost use Rattle.std.specs.Prelude.{◌≡◌, ◌≢◌, ◌<◌, ◌≤◌, ◌⊎◌, ◌↔◌, length, IfErr, IfOk, IsErrOf, false};
-ghost use Rattle.ninep_wire.specs.declared.request.Tmsg.{Tmsg};
-ghost use Rattle.ninep_wire.specs.Faults.{HasHeader, HasSize, HasTType, is_t_type, size_field, type_field};
-ghost use Rattle.ninep_wire.specs.Messages.{SpellsT, longest, t_bytes, t_names};
-ghost use Rattle.ninep_wire.specs.Reading.{Gives, all_of, t_at};
-ghost use Rattle.ninep_wire.specs.Reading.{t_attach, t_auth, t_clunk, t_create, t_flush, t_open, t_read, t_remove, t_stat, t_version, t_walk, t_write, t_wstat};
+ghost use Rattle.net_base.specs.declared.ninep.Tmsg.{Tmsg};
+ghost use Rattle.net_base.specs.NinepFaults.{HasHeader, HasSize, HasTType, is_t_type, size_field, type_field};
+ghost use Rattle.net_base.specs.NinepMessages.{SpellsT, longest, t_bytes, t_names};
+ghost use Rattle.ninep_wire.specs.Reading.{Gives};
+ghost use Rattle.net_base.specs.NinepReading.{all_of, t_at};
+ghost use Rattle.net_base.specs.NinepReading.{t_attach, t_auth, t_clunk, t_create, t_flush, t_open, t_read, t_remove, t_stat, t_version, t_walk, t_write, t_wstat};
 
 use crate::fault::NinepError;
 use crate::fields::{byte, data, long, string, strings, vast, word};
 use crate::header::{header_of, is_request};
-use crate::request::Tmsg;
+use net_base::Tmsg;
 use std::alloc::Global;
 
 /// The Tmsg that the bytes spell.

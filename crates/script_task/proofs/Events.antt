@@ -11,18 +11,19 @@ use Rattle.net_base.specs.Paths.{walk, writes}
 use Rattle.net_base.specs.Steps as steps
 use Rattle.net_base.specs.Steps.{Bound, Fid, Play, Ends, fid_of, is_bound, puts, uses, misuses, on_fid}
 use Rattle.script_task.specs.declared.request.Request.TheVariants as request
+use Rattle.net_base.specs.Asks as asked
 use Rattle.script_task.specs.Planning as spec
 use Rattle.script_task.specs.Requests.{head, planned}
 
-pub open_is : (h : ℕ) (names : List Bound) (called path : List ℕ) (m : Mode) → planned h names (request.Open called path m) ≡ Some (spec.opens_path h names called path m)
+pub open_is : (h : ℕ) (names : List Bound) (called path : List ℕ) (m : Mode) → planned h names (request.Open called path m) ≡ Some (asked.opens_path h names called path m)
 open_is h names called path m = by (is_bound names called)
   where
     by : (b : Bool) → head (if b then uses h called names else steps.opens h path m (Ends names) (λ (f : Fid). Ends (steps.bind called f names)))
-        ≡ Some (if b then spec.at_desk h (event.Use called) else spec.asks (steps.open_actor h (steps.openable (walk path) m)) (steps.open_event path m (steps.openable (walk path) m)))
+        ≡ Some (if b then asked.at_desk h (event.Use called) else asked.asks (steps.open_actor h (steps.openable (walk path) m)) (steps.open_event path m (steps.openable (walk path) m)))
     by true = refl
     by false = refl
 
-controls_are : (h : ℕ) (f : Fid) (text : List ℕ) (said : Result Ctl ℕ) (refused next : Play) → head (steps.controls h f text said refused next) ≡ Some (spec.controls_by h f text said)
+controls_are : (h : ℕ) (f : Fid) (text : List ℕ) (said : Result Ctl ℕ) (refused next : Play) → head (steps.controls h f text said refused next) ≡ Some (asked.controls_by h f text said)
 controls_are h f text (Ok (ctl.Connect remote lport)) refused next = refl
 controls_are h f text (Ok (ctl.Announce ip port)) refused next = refl
 controls_are h f text (Ok (ctl.Bind port)) refused next = refl
@@ -31,7 +32,7 @@ controls_are h f text (Ok (ctl.Ttl n)) refused next = refl
 controls_are h f text (Ok (ctl.Tos n)) refused next = refl
 controls_are h f text (Err fault) refused next = refl
 
-puts_are : (h : ℕ) (f : Fid) (to : FileName) (text : List ℕ) (refused next : Play) → head (puts h f to text refused next) ≡ Some (spec.put h f text to)
+puts_are : (h : ℕ) (f : Fid) (to : FileName) (text : List ℕ) (refused next : Play) → head (puts h f to text refused next) ≡ Some (asked.put h f text to)
 puts_are h f file.Data text refused next = refl
 puts_are h f file.Ctl text refused next = controls_are h f text (control.read text) refused next
 puts_are h f file.Err text refused next = controls_are h f text (control.read text) refused next
@@ -40,16 +41,16 @@ puts_are h f file.Local text refused next = controls_are h f text (control.read 
 puts_are h f file.Remote text refused next = controls_are h f text (control.read text) refused next
 puts_are h f file.Status text refused next = controls_are h f text (control.read text) refused next
 
-pub write_is : (h : ℕ) (names : List Bound) (called text : List ℕ) → planned h names (request.Write called text) ≡ Some (spec.write h called text (fid_of called names))
+pub write_is : (h : ℕ) (names : List Bound) (called text : List ℕ) → planned h names (request.Write called text) ≡ Some (asked.write h called text (fid_of called names))
 write_is h names called text = found (fid_of called names)
   where
     put : Fid → Play
     put f = puts h f f.file text (Ends names) (Ends names)
 
-    open_so : (f : Fid) (b : Bool) → head (if b then put f else misuses h called names) ≡ Some (if b then spec.put h f text f.file else spec.at_desk h (event.Misuse called))
+    open_so : (f : Fid) (b : Bool) → head (if b then put f else misuses h called names) ≡ Some (if b then asked.put h f text f.file else asked.at_desk h (event.Misuse called))
     open_so f true = puts_are h f f.file text (Ends names) (Ends names)
     open_so f false = refl
 
-    found : (o : Option Fid) → head (on_fid o (uses h called names) (λ (f : Fid). if writes f.mode then put f else misuses h called names)) ≡ Some (spec.write h called text o)
+    found : (o : Option Fid) → head (on_fid o (uses h called names) (λ (f : Fid). if writes f.mode then put f else misuses h called names)) ≡ Some (asked.write h called text o)
     found None = refl
     found (Some f) = open_so f (writes f.mode)

@@ -1,6 +1,6 @@
 //! The lines of cs by fids.
 ghost use Rattle.std.specs.Prelude.{◌≡◌, [], OnOk};
-ghost use Rattle.sessions.specs.Answers.{with_found};
+ghost use Rattle.net_base.specs.SessionAnswers.{with_found};
 ghost use Rattle.session_answers.specs.Found.{lines_by};
 
 use indexmap::IndexMap;

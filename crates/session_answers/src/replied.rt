@@ -1,8 +1,8 @@
 //! The answers to messages with a step, by the reply to its last event.
 ghost use Rattle.std.specs.Prelude.{◌≡◌, IfOk};
-ghost use Rattle.ninep_wire.specs.declared.request.Tmsg.TheVariants as t;
-ghost use Rattle.ninep_wire.specs.Messages.{IsTmsg, t_tag};
-ghost use Rattle.sessions.specs.Answers as spec;
+ghost use Rattle.net_base.specs.declared.ninep.Tmsg.TheVariants as t;
+ghost use Rattle.net_base.specs.NinepMessages.{IsTmsg, t_tag};
+ghost use Rattle.net_base.specs.SessionAnswers as spec;
 ghost use Rattle.session_script.specs.Seen.{seen};
 
 use crate::printed::printed;

@@ -3,16 +3,16 @@ ghost use Rattle.std.specs.Prelude.{◌≡◌, ◌≤◌, ◌++◌, ◌&&◌, �
 ghost use Rattle.net_base.specs.declared.world.Step.TheVariants as step;
 ghost use Rattle.net_base.specs.Steps as steps;
 ghost use Rattle.net_base.specs.Transcript.{lines_of};
-ghost use Rattle.ninep_wire.specs.declared.request.Tmsg.TheVariants as t;
-ghost use Rattle.ninep_wire.specs.Messages.{IsTmsg, longest};
+ghost use Rattle.net_base.specs.declared.ninep.Tmsg.TheVariants as t;
+ghost use Rattle.net_base.specs.NinepMessages.{IsTmsg, longest};
 ghost use Rattle.script_task.specs.Effects.{opened, settles};
 ghost use Rattle.session_answers.specs.Found.{lines_by};
 ghost use Rattle.session_answers.specs.Served.{IsServed, Plays, asked, is_grant, served, state_of};
 ghost use Rattle.session_script.specs.Seen.{seen};
-ghost use Rattle.sessions.specs.Answers.{found_after, found_by};
-ghost use Rattle.sessions.specs.Script.{after};
-ghost use Rattle.sessions.specs.Server.{Gives, outcome};
-ghost use Rattle.sessions.specs.Session as spec;
+ghost use Rattle.net_base.specs.SessionAnswers.{found_after, found_by};
+ghost use Rattle.net_base.specs.SessionScript.{after};
+ghost use Rattle.net_base.specs.Server.{Gives, outcome};
+ghost use Rattle.net_base.specs.Session as spec;
 
 use crate::found::Found;
 use crate::replied::{node_at, replied};

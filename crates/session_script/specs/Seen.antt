@@ -1,8 +1,8 @@
 -- The table of the definitions, as the code keeps it.
 use Rattle.std.specs.Prelude.{ℕ, Option, nat_eq}
 use Rattle.indexmap.specs.IndexMap.{get}
-use Rattle.sessions.specs.declared.target.Target.{Target}
-use Rattle.sessions.specs.Table.{Table as Known}
+use Rattle.net_base.specs.declared.ninep.Target.{Target}
+use Rattle.net_base.specs.SessionTable.{Table as Known}
 use Rattle.session_script.specs.declared.fids.Fids.{Fids}
 use Rattle.session_script.specs.declared.table.Table.{Table}
 

@@ -1,10 +1,10 @@
 //! Fids and what they stand for.
 ghost use Rattle.std.specs.Prelude.{◌≡◌, Some, None, OnOk};
-ghost use Rattle.sessions.specs.Table.{with_fid};
+ghost use Rattle.net_base.specs.SessionTable.{with_fid};
 ghost use Rattle.session_script.specs.Seen.{stands};
 
 use indexmap::IndexMap;
-use sessions::Target;
+use net_base::Target;
 use std::alloc::{AllocError, Global};
 
 /// The fids that are known. Clauses say of it what each number stands for.

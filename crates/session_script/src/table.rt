@@ -1,14 +1,12 @@
 //! What a session knows after its messages.
 ghost use Rattle.std.specs.Prelude.{◌≡◌, OnOk};
-ghost use Rattle.sessions.specs.Script as spec;
-ghost use Rattle.sessions.specs.Table as known;
+ghost use Rattle.net_base.specs.SessionScript as spec;
+ghost use Rattle.net_base.specs.SessionTable as known;
 ghost use Rattle.session_script.specs.Seen.{seen};
 
 use crate::fids::Fids;
 use crate::files::{can_open, reached};
-use net_base::{Lines, Node};
-use ninep_wire::Tmsg;
-use sessions::Target;
+use net_base::{Lines, Node, Target, Tmsg};
 use std::alloc::{AllocError, Global};
 
 /// No message is longer.
@@ -33,6 +31,17 @@ impl Table {
         Table {
             is_first: true,
             msize: LONGEST,
+            fids: Fids::new(alloc),
+        }
+    }
+
+    /// The same, where no message is longer than this.
+    pub fn shorter(alloc: Global, msize: u32) -> Table
+        ensures { seen result ≡ record known.opening { msize = msize } }
+    {
+        Table {
+            is_first: true,
+            msize,
             fids: Fids::new(alloc),
         }
     }
@@ -94,7 +103,7 @@ impl Table {
         ensures { seen self.new ≡ spec.heard (seen self.old) msize }
     {
         if self.is_first && 256 <= msize {
-            self.msize = msize.min(LONGEST);
+            self.msize = msize.min(self.msize);
         }
     }
 

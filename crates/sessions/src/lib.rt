@@ -2,9 +2,7 @@
 #![tactic(auto)]
 
 mod law;
-mod target;
 mod world;
 
 pub use law::{a_session_is_answered, answers_have_the_tag, scripts_can_be_said};
-pub use target::Target;
 pub use world::{Session, SessionWorld, Sessions};

@@ -3,7 +3,7 @@ use Rattle.std.specs.Prelude.{◌≡◌, ℕ, ◌+◌, Bool, true, false, List, 
 use Rattle.std.specs.Option.{option_and_then}
 use Rattle.world_text.specs.VersionLines.{bad_version_line}
 use Rattle.sessions.specs.declared.world.SessionWorld.{SessionWorld}
-use Rattle.sessions.specs.Script.{IsBadStream}
+use Rattle.net_base.specs.SessionScript.{IsBadStream}
 use Rattle.world_text.specs.WorldLines.{world_of}
 use Rattle.world_text.specs.WorldText.{Cut, with_versions}
 use Rattle.world_text.specs.WorldWords.{hex_text}

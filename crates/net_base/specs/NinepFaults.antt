@@ -2,7 +2,7 @@
 use Rattle.std.specs.Prelude.{◌≡◌, ◌≤◌, ℕ, Bool, true, List, ◌∷◌, [], length, drop, slice_index, nat_eq}
 use Rattle.std.specs.List.{list_any}
 use Rattle.byteorder.specs.Endian.{little_number}
-use Rattle.ninep_wire.specs.Messages.{longest}
+use Rattle.net_base.specs.NinepMessages.{longest}
 
 -- the size that the bytes tell
 abbrev pub size_field : List ℕ → ℕ

@@ -3,13 +3,13 @@ use Rattle.std.specs.Prelude.{◌≡◌, ◌≤◌, ℕ, ◌==◌, ◌&&◌, Boo
 use Rattle.std.specs.Option.{option_and_then}
 use Rattle.net_base.specs.declared.names.Node.{Node}
 use Rattle.net_base.specs.Paths.{in_range}
-use Rattle.ninep_wire.specs.Messages.{longest}
-use Rattle.sessions.specs.declared.target.Target.{Target}
+use Rattle.net_base.specs.NinepMessages.{longest}
+use Rattle.net_base.specs.declared.ninep.Target.{Target}
 
 pub record Table : Type 0 where
   -- no message was heard yet
   pub is_first : Bool
-  -- no message is longer
+  -- no message is longer: what the first Tversion agrees on is no more than this is before it
   pub msize : ℕ
   pub fids : ℕ → Option Target
 

@@ -10,12 +10,12 @@ use Rattle.net_base.specs.declared.world.Step.{Step}
 use Rattle.net_base.specs.declared.world.Step.TheVariants as step
 use Rattle.net_base.specs.Numeral.{numeral}
 use Rattle.net_base.specs.Paths.{path_of}
-use Rattle.ninep_wire.specs.declared.request.Tmsg.{Tmsg}
-use Rattle.ninep_wire.specs.declared.request.Tmsg.TheVariants as t
-use Rattle.ninep_wire.specs.Messages.{SpellsT, longest, t_bytes}
-use Rattle.sessions.specs.Files.{access, can_open, is_cs, is_data, is_directory, is_plain, reached}
-use Rattle.sessions.specs.declared.target.Target.{Target}
-use Rattle.sessions.specs.Table.{Table, fresh, is_taken, opening, put, set, used}
+use Rattle.net_base.specs.declared.ninep.Tmsg.{Tmsg}
+use Rattle.net_base.specs.declared.ninep.Tmsg.TheVariants as t
+use Rattle.net_base.specs.NinepMessages.{SpellsT, t_bytes}
+use Rattle.net_base.specs.SessionFiles.{access, can_open, is_cs, is_data, is_directory, is_plain, reached}
+use Rattle.net_base.specs.declared.ninep.Target.{Target}
+use Rattle.net_base.specs.SessionTable.{Table, fresh, is_taken, opening, put, set, used}
 
 -- ---- steps
 
@@ -109,7 +109,7 @@ abbrev pub opened : ℕ → Target → Option Target
 opened mode f = if can_open f.node mode then Some (record f { is_used = true }) else None
 
 abbrev pub heard : Table → ℕ → Table
-heard table msize = if begins table msize then record table { msize = min msize longest } else table
+heard table msize = if begins table msize then record table { msize = min msize table.msize } else table
 
 abbrev pub attached : Table → ℕ → ℕ → Table
 attached table fid afid = if attaches table fid afid then set fid (Some (fresh node.Root)) table else table

@@ -8,11 +8,12 @@ pub data Doing (S : Type 0) : Type 0 where
   Does : Ask → (Reply → Doing S) → Doing S
   Gives : List ℕ → S → Doing S
 
--- a session: its state at first, the names that are bound in a state, and what it does with a request
+-- a session: its state at first, the names that are bound in a state, what it does with a request, and what is played at its end
 pub record Server (S R : Type 0) : Type 0 where
   pub opening : S
   pub names : S → List Bound
   pub serves : S → R → Doing S
+  pub closes : S → Play
 
 -- the play of a step as what a request does, which goes on by the names and the last reply
 abbrev pub doing_of : {S : Type 0} → Play → Option Reply → (List Bound → Option Reply → Doing S) → Doing S

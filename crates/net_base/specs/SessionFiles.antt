@@ -11,7 +11,7 @@ use Rattle.net_base.specs.declared.names.Mode.TheVariants as mode
 use Rattle.net_base.specs.declared.names.Node.{Node}
 use Rattle.net_base.specs.declared.names.Node.TheVariants as node
 use Rattle.net_base.specs.Paths.{path_of, walk}
-use Rattle.ninep_wire.specs.declared.qid.Qid.{Qid}
+use Rattle.net_base.specs.declared.ninep.Qid.{Qid}
 
 -- ---- kinds of files
 

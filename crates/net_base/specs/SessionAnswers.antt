@@ -8,15 +8,15 @@ use Rattle.net_base.specs.declared.reply.Reply.{Reply}
 use Rattle.net_base.specs.declared.reply.Reply.TheVariants as reply
 use Rattle.net_base.specs.Steps.{lines_in}
 use Rattle.net_base.specs.Transcript.{lines_of, reply_words, spaced}
-use Rattle.ninep_wire.specs.declared.answer.Rmsg.{Rmsg}
-use Rattle.ninep_wire.specs.declared.answer.Rmsg.TheVariants as r
-use Rattle.ninep_wire.specs.declared.request.Tmsg.{Tmsg}
-use Rattle.ninep_wire.specs.declared.request.Tmsg.TheVariants as t
-use Rattle.ninep_wire.specs.Messages.{longest, t_tag}
-use Rattle.sessions.specs.Files.{can_open, is_cs, is_data, qid_of, walked}
-use Rattle.sessions.specs.Script.{begins, gives_nothing, nofid, room}
-use Rattle.sessions.specs.declared.target.Target.{Target}
-use Rattle.sessions.specs.Table.{Table, is_taken}
+use Rattle.net_base.specs.declared.ninep.Rmsg.{Rmsg}
+use Rattle.net_base.specs.declared.ninep.Rmsg.TheVariants as r
+use Rattle.net_base.specs.declared.ninep.Tmsg.{Tmsg}
+use Rattle.net_base.specs.declared.ninep.Tmsg.TheVariants as t
+use Rattle.net_base.specs.NinepMessages.{t_tag}
+use Rattle.net_base.specs.SessionFiles.{can_open, is_cs, is_data, qid_of, walked}
+use Rattle.net_base.specs.SessionScript.{begins, gives_nothing, nofid, room}
+use Rattle.net_base.specs.declared.ninep.Target.{Target}
+use Rattle.net_base.specs.SessionTable.{Table, is_taken}
 
 -- what a read of cs finds by each fid: the lines of its last write
 abbrev pub Found : Type 0
@@ -55,7 +55,7 @@ abbrev pub spoken : List ℕ → List ℕ
 spoken version = if bytes_eq version (codes "9P2000") then codes "9P2000" else codes "unknown"
 
 abbrev pub version_answer : Table → ℕ → ℕ → List ℕ → Rmsg
-version_answer table tag msize version = if begins table msize then r.Version tag (min msize longest) (spoken version) else r.Error tag bad_use
+version_answer table tag msize version = if begins table msize then r.Version tag (min msize table.msize) (spoken version) else r.Error tag bad_use
 
 abbrev pub attach_answer : Table → ℕ → ℕ → ℕ → Rmsg
 attach_answer table tag fid afid =

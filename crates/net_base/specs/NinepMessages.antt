@@ -1,11 +1,11 @@
 -- The messages of 9P2000 as bytes: size[4] type[1] tag[2], and then the fields of the type.
 use Rattle.std.specs.Prelude.{◌≡◌, ◌≤◌, ℕ, ◌+◌, List, [], ◌++◌, length}
-use Rattle.ninep_wire.specs.declared.request.Tmsg.{Tmsg}
-use Rattle.ninep_wire.specs.declared.request.Tmsg.TheVariants as t
-use Rattle.ninep_wire.specs.declared.answer.Rmsg.{Rmsg}
-use Rattle.ninep_wire.specs.declared.answer.Rmsg.TheVariants as r
-use Rattle.ninep_wire.specs.declared.qid.Qid.{Qid}
-use Rattle.ninep_wire.specs.Fields.{number, counted, string, qid, many, Holds, Counts, IsQid, AreFew}
+use Rattle.net_base.specs.declared.ninep.Tmsg.{Tmsg}
+use Rattle.net_base.specs.declared.ninep.Tmsg.TheVariants as t
+use Rattle.net_base.specs.declared.ninep.Rmsg.{Rmsg}
+use Rattle.net_base.specs.declared.ninep.Rmsg.TheVariants as r
+use Rattle.net_base.specs.declared.ninep.Qid.{Qid}
+use Rattle.net_base.specs.NinepFields.{number, counted, string, qid, many, Holds, Counts, IsQid, AreFew}
 
 -- no message of this network is longer
 abbrev pub longest : ℕ

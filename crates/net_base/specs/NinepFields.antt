@@ -2,7 +2,7 @@
 use Rattle.std.specs.Prelude.{ℕ, ◌<◌, ◌^◌, List, ◌++◌, length}
 use Rattle.std.specs.List.{flat_map, AllByRecursion}
 use Rattle.byteorder.specs.Endian.{little_bytes}
-use Rattle.ninep_wire.specs.declared.qid.Qid.{Qid}
+use Rattle.net_base.specs.declared.ninep.Qid.{Qid}
 
 -- ---- spelling
 
