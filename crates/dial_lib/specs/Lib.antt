@@ -22,8 +22,6 @@ pub mod Dials
 pub mod DialAsks
 pub mod DialMoves
 pub mod DialTasks
-pub mod StepTasks
-pub mod StepLaws
 pub use Rattle.net_base.specs.Steps
 pub use Rattle.script_task.specs.Task
 pub use Rattle.script_task.specs.Requests

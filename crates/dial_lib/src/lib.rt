@@ -9,7 +9,6 @@ mod lines;
 mod one_request;
 mod reject;
 mod reply;
-mod step;
 mod write_text;
 
 pub use address::netmkaddr;
@@ -18,5 +17,4 @@ pub use beside::{Accept, Listen};
 pub use dial::{Dial, DialPhase};
 pub use one_request::OneRequest;
 pub use reject::{Reject, RejectPhase};
-pub use step::{StepTask, ends_by, first_request};
 pub use write_text::{WritePhase, WriteText};

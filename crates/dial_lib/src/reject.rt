@@ -3,10 +3,9 @@ ghost use Rattle.std.specs.Prelude.{◌≡◌, IfOk};
 ghost use Rattle.net_base.specs.declared.world.Step.TheVariants as step;
 ghost use Rattle.dial_lib.specs.Reject as spec;
 
-use crate::reply::is_accepted;
 use net_base::{Octets, Reply};
 use net_tree::Fids;
-use script_task::{Request, Task};
+use script_task::{Request, Task, is_accepted};
 use std::alloc::{AllocError, Global};
 
 /// What a reject does next.

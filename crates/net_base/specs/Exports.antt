@@ -117,11 +117,11 @@ closes_each h (n ∷ ns) names = and_then (play_of h names (step.Close (dotted_f
 abbrev pub unheard : List Bound → State
 unheard names = record first { table = record opening { msize = longest_exported }; names = names }
 
--- the session of a step of a host, where these names are bound before
-abbrev pub exported : ℕ → List Bound → Server State (List ℕ)
-exported h names =
+-- the session of a step of a host
+abbrev pub exported : ℕ → Server State (List ℕ)
+exported h =
     record {
-      opening = unheard names;
+      opening = unheard [];
       names = λ (s : State). s.names;
       serves = λ (s : State) (text : List ℕ). serves_text h s (read_t text);
       closes = λ (s : State). closes_each h (open_fids s.names) s.names;
@@ -129,4 +129,4 @@ exported h names =
 
 -- the play of the step
 abbrev pub export_play : ℕ → List ℕ → List Bound → Play
-export_play h called names = exports (exported h names) (own_of h called names) most_requests (unheard names)
+export_play h called names = exports (exported h) (own_of h called names) most_requests (unheard names)

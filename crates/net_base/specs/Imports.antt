@@ -12,7 +12,7 @@ use Rattle.net_base.specs.declared.reply.Reply.{Reply}
 use Rattle.net_base.specs.Exports.{Own, asks, by_text, longest_exported, own_of}
 use Rattle.net_base.specs.NinepMessages.{r_qids, r_tag, r_type, t_bytes}
 use Rattle.net_base.specs.NinepReading.{read_r}
-use Rattle.net_base.specs.Remotes.{free_fid, path_names, remote_of, with_remote}
+use Rattle.net_base.specs.Remotes.{free_fid, is_remote_path, path_names, remote_of, with_remote}
 use Rattle.net_base.specs.SessionAnswers.{bytes_in}
 use Rattle.net_base.specs.SessionScript.{nofid}
 use Rattle.net_base.specs.Steps.{Bound, Fid, Play, Ends, is_accepted, uses, with_bound, with_new}
@@ -96,19 +96,30 @@ abbrev pub sends_by : ℕ → List ℕ → List Bound → Option Remote → (ℕ
 sends_by h called names None message = uses h called names
 sends_by h called names (Some r) message = sends_once (own_of h r.call names) (message r.fid) (Ends names)
 
+-- no text that is written is longer
+abbrev pub longest_text : ℕ
+longest_text = 488
+
+-- the plays of the steps; a path or a text that no world says asks for the name alone
+
 abbrev pub import_play : ℕ → List ℕ → List Bound → Play
 import_play h call names = imports (own_of h call names) (Ends names)
 
 abbrev pub ropen_play : ℕ → Left → List ℕ → List ℕ → List ℕ → Mode → List Bound → Play
 ropen_play h left called call path m names =
-    with_bound h call names (λ (f : Fid). with_new h called names
+    if is_remote_path path
+    then with_bound h call names (λ (f : Fid). with_new h called names
     (opens_remote (own_of h call names) (free_fid left call) path m (Ends names)))
+    else uses h called names
 
 abbrev pub rread_play : ℕ → Left → List ℕ → ℕ → List Bound → Play
 rread_play h left called count names = sends_by h called names (remote_of called left) (λ (fid : ℕ). read_message fid count)
 
 abbrev pub rwrite_play : ℕ → Left → List ℕ → List ℕ → List Bound → Play
-rwrite_play h left called text names = sends_by h called names (remote_of called left) (λ (fid : ℕ). write_message fid text)
+rwrite_play h left called text names =
+    if nat_le (length text) longest_text
+    then sends_by h called names (remote_of called left) (λ (fid : ℕ). write_message fid text)
+    else uses h called names
 
 abbrev pub rclose_play : ℕ → Left → List ℕ → List Bound → Play
 rclose_play h left called names = sends_by h called names (remote_of called left) clunk_message

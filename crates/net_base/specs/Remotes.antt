@@ -3,6 +3,7 @@ use Rattle.std.specs.Prelude.{ℕ, ◌+◌, ◌==◌, ◌&&◌, Bool, false, not
 use Rattle.std.specs.List.{list_all, list_any, range_with_len}
 use Rattle.net_base.specs.declared.left.Left.{Left}
 use Rattle.net_base.specs.declared.left.Remote.{Remote}
+use Rattle.net_base.specs.Addresses.{parts_at}
 
 -- ---- names
 
@@ -34,18 +35,9 @@ free_fid left call = unwrap_or (find (λ (n : ℕ). not (has_fid left call n)) (
 
 -- ---- paths
 
-abbrev pub onto_first : ℕ → List (List ℕ) → List (List ℕ)
-onto_first b [] = (b ∷ []) ∷ []
-onto_first b (p ∷ ps) = (b ∷ p) ∷ ps
-
--- what stands between the slashes of a text, and before and behind them
-abbrev pub pieces : List ℕ → List (List ℕ)
-pieces [] = [] ∷ []
-pieces (b ∷ bs) = if b == 47 then [] ∷ pieces bs else onto_first b (pieces bs)
-
 -- the names behind `/net`
 abbrev pub path_names : List ℕ → List (List ℕ)
-path_names path = drop 2 (pieces path)
+path_names path = drop 2 (parts_at 47 path)
 
 -- a name of 1 to 27 bytes
 abbrev pub is_remote_name : List ℕ → Bool
@@ -57,4 +49,4 @@ are_net _ = false
 
 -- `/net`, and at most 16 names behind it, each after a slash
 abbrev pub is_remote_path : List ℕ → Bool
-is_remote_path path = are_net (pieces path)
+is_remote_path path = are_net (parts_at 47 path)

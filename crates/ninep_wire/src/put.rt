@@ -3,8 +3,8 @@ ghost use Rattle.std.specs.Prelude.{◌≡◌, ◌<◌, ◌++◌, length, All, I
 ghost use Rattle.net_base.specs.NinepFields as spec;
 ghost use Rattle.net_base.specs.NinepMessages as messages;
 
-use net_base::{Lines, Octets, Qid, Qids};
 use byteorder::{ByteOrder, LittleEndian};
+use net_base::{Lines, Octets, Qid, Qids};
 use std::alloc::{AllocError, Global};
 
 /// A message with this type, this tag and these fields.

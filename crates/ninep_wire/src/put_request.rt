@@ -10,7 +10,7 @@ use net_base::{Octets, Tmsg};
 use std::alloc::{AllocError, Global};
 
 /// The bytes of the message.
-#[tactic(auto, unfolding(crate::specs::Messages::t_bytes))]
+#[tactic(auto, unfolding(net_base::specs::NinepMessages::t_bytes))]
 pub fn encode_t(alloc: Global, message: &Tmsg) -> Result<Octets, AllocError>
     requires short { length (t_bytes message.now) ≤ longest }
     requires few { length (t_names message.now) < 17 }

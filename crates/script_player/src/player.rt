@@ -7,12 +7,12 @@ ghost use Rattle.net_base.specs.Steps.{Ask};
 ghost use Rattle.script_task.specs.Fitting.{fits};
 ghost use Rattle.script_player.specs.Players as spec;
 
-use dial_lib::StepTask;
-use net_base::{ActorName, Event, Reply, Script};
+use net_base::{ActorName, Event, Left, Reply, Script};
 use net_tree::Fids;
 use script_task::{Effect, Planned, Task, plan};
 use std::alloc::{AllocError, Global};
 use std::marker::Model;
+use step_task::StepTask;
 
 /// A script that is being played: how many steps are finished, what it is at, and the names that are bound.
 ///
@@ -25,6 +25,8 @@ pub struct Player {
     task: Option<StepTask>,
     // what the reply to its next event does to the names, where it was asked for
     effect: Option<Effect>,
+    // what the finished steps leave for later ones
+    left: Left,
     alloc: Global,
 }
 
@@ -35,7 +37,7 @@ impl Model for Player {
 
     ghost Value = { Playing };
 
-    ghost view = { λ p. record { bindings = p.fids; finished = p.finished; task = p.task; effect = p.effect } };
+    ghost view = { λ p. record { bindings = p.fids; finished = p.finished; task = p.task; effect = p.effect; left = p.left } };
 
     ghost invariant = { λ p. IfSome p.effect (λ e. HasRoom e p.fids) };
 }
@@ -51,6 +53,7 @@ impl Player {
             finished: 0,
             task: None,
             effect: None,
+            left: Left::new(alloc),
             alloc,
         }
     }
@@ -116,7 +119,7 @@ impl Player {
         let Some(step) = script.steps.as_slice().get(self.finished) else {
             return Ok(());
         };
-        let task = StepTask::new(self.alloc, step)?;
+        let task = StepTask::new(self.alloc, step, &self.left)?;
         self.task = Some(task);
         self.effect = None;
         Ok(())
@@ -180,7 +183,7 @@ impl Player {
             return Ok(());
         };
         let opened = effect.opened(&reply);
-        task.told(self.alloc, reply)?;
+        task.hear(self.alloc, reply, &mut self.left)?;
         // there is room for the name
         let _ = effect.settle(&mut self.fids, opened);
         self.effect = None;

@@ -6,6 +6,7 @@ mod law;
 mod names;
 mod paths;
 mod planned;
+mod reply;
 mod request;
 mod task;
 
@@ -13,5 +14,6 @@ pub use effect::Effect;
 pub use law::{effects_settle, replies_fit};
 pub use names::settle;
 pub use planned::{Planned, event_of, plan};
+pub use reply::{bytes_in, is_accepted, is_granted, is_opening};
 pub use request::Request;
 pub use task::Task;

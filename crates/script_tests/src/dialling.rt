@@ -1,11 +1,12 @@
 //! Steps along their accepted and their refused replies, and completed addresses.
-use dial_lib::{Accept, Announce, Dial, Listen, Reject, StepTask, netmkaddr};
-use net_base::{Addr, FileName, Lines, Mode, Octets, Pair, Proto, Reply, Step};
+use dial_lib::{Accept, Announce, Dial, Listen, Reject, netmkaddr};
+use net_base::{Addr, FileName, Left, Lines, Mode, Octets, Pair, Proto, Reply, Step};
 use net_tree::{Fid, Fids};
 use script_task::{Request, Task, settle};
 use std::alloc::{AllocError, Global};
 use std::process::Abort;
 use std::test::*;
+use step_task::StepTask;
 use words::split_first;
 
 // Rows of tests: a step, the letters of its replies, and its requests, with `end` where it is through then.
@@ -332,8 +333,10 @@ fn step(alloc: Global, words: &[u8]) -> Result<Step, AllocError> {
 
 fn task_of(alloc: Global, words: &[u8]) -> Result<StepTask, AllocError> {
     let step = step(alloc, words)?;
-    let task = StepTask::new(alloc, &step);
+    let left = Left::new(alloc);
+    let task = StepTask::new(alloc, &step, &left);
     drop(step);
+    drop(left);
     task
 }
 

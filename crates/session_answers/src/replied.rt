@@ -9,6 +9,7 @@ use crate::printed::printed;
 use crate::said::{error, piece, qid_of};
 use net_base::{FileName, Node, Octets, Reply};
 use ninep_wire::{Rmsg, Tmsg};
+use script_task::bytes_in;
 use session_script::{Table, is_data};
 use std::alloc::{AllocError, Global};
 
@@ -118,15 +119,6 @@ fn read(
     };
     let bytes = Octets::from_slice(alloc, piece(bytes_in(reply), skipped, table.room(count)))?;
     Ok(Rmsg::Read { tag, bytes })
-}
-
-fn bytes_in(reply: &Reply) -> &[u8]
-    ensures { result.now ≡ spec.bytes_in reply.now }
-{
-    match reply {
-        Reply::Bytes { bytes } => bytes.as_slice(),
-        _ => &[],
-    }
 }
 
 /// The tag of a request.

@@ -21,7 +21,7 @@ use crate::said::said;
 use net_base::{Event, Lines, Mode, Octets, Reply, Step};
 use net_tree::Fids;
 use ninep_wire::{Tmsg, encode_r};
-use script_task::{Planned, Request, effects_settle, plan};
+use script_task::{Planned, Request, effects_settle, is_accepted, plan};
 use session_script::{Table, is_cs, step_of};
 use std::alloc::{AllocError, Global};
 
@@ -201,8 +201,8 @@ impl Session {
     }
 }
 
-// What a step of a session asks for.
-fn request_of(step: Step) -> Request
+/// What a step of a session asks for.
+pub fn request_of(step: Step) -> Request
     requires { IsServed step }
     ensures { result ≡ asked step }
 {
@@ -240,27 +240,8 @@ fn goes_on(event: &Event, reply: &Reply) -> bool
     matches!(event, Event::Grant { .. }) && is_accepted(reply)
 }
 
-// Whether the reply isn't a refusal.
-fn is_accepted(reply: &Reply) -> bool
-    ensures { result ≡ steps.is_accepted reply.now }
-{
-    match reply {
-        Reply::Slot { .. } => true,
-        Reply::Granted { .. } => true,
-        Reply::Call { .. } => true,
-        Reply::Opened { .. } => true,
-        Reply::Ok => true,
-        Reply::Left => true,
-        Reply::Bytes { .. } => true,
-        Reply::Count { .. } => true,
-        Reply::Lines { .. } => true,
-        Reply::Names { .. } => true,
-        _ => false,
-    }
-}
-
-// The lines of a reply, with a newline after each.
-fn lines_in(alloc: Global, reply: &Reply) -> Result<Octets, AllocError>
+/// The lines of a reply, with a newline after each.
+pub fn lines_in(alloc: Global, reply: &Reply) -> Result<Octets, AllocError>
     ensures { IfOk result (λ text. text ≡ lines_of (steps.lines_in reply.now)) }
 {
     match reply {

@@ -71,6 +71,12 @@ all_steps =
     ∷ step.Accept (codes "f") (codes "l")
     ∷ step.Reject (codes "l")
     ∷ step.Hangup (codes "e")
+    ∷ step.Import (codes "e")
+    ∷ step.Ropen (codes "r") (codes "e") (codes "/net/udp/clone") mode.Both
+    ∷ step.Rread (codes "r") 32
+    ∷ step.Rwrite (codes "r") (codes "two  words")
+    ∷ step.Rclose (codes "r")
+    ∷ step.Export (codes "f")
     ∷ []
 
 abbrev pub every_line : World

@@ -130,6 +130,13 @@ words_of_step (step.Listen called from) = codes "listen" ∷ called ∷ from ∷
 words_of_step (step.Accept called from) = codes "accept" ∷ called ∷ from ∷ []
 words_of_step (step.Reject called) = codes "reject" ∷ called ∷ []
 words_of_step (step.Hangup called) = codes "hangup" ∷ called ∷ []
+-- imports
+words_of_step (step.Export called) = codes "export" ∷ called ∷ []
+words_of_step (step.Import called) = codes "import" ∷ called ∷ []
+words_of_step (step.Ropen called call path m) = codes "ropen" ∷ called ∷ call ∷ path ∷ mode_word m ∷ []
+words_of_step (step.Rread called count) = codes "rread" ∷ called ∷ decimal count ∷ []
+words_of_step (step.Rwrite called text) = codes "rwrite" ∷ called ∷ text ∷ []
+words_of_step (step.Rclose called) = codes "rclose" ∷ called ∷ []
 
 abbrev pub line_of_step : Step → List ℕ
 line_of_step s = spaced (words_of_step s)
