@@ -1,14 +1,19 @@
 -- The task of a step stands for the step's play, and asks and moves as that does.
 use Rattle.std.proofs.Common.{◌≡◌, ℕ, Bool, true, false, List, [], ◌∷◌, Option, Some, None, bytes_eq, if◌then◌else◌, unwrap_or, refl, sym, subst, ap}
+use Rattle.std.specs.Prelude.{find, is_none, length, nat_le}
 use Rattle.std.proofs.lemmas.Option.{none-some}
+use Rattle.net_base.specs.declared.left.Left.{Left}
 use Rattle.net_base.specs.declared.names.Mode.{Mode}
 use Rattle.net_base.specs.declared.reply.Reply.{Reply}
 use Rattle.net_base.specs.declared.world.Step.{Step}
 use Rattle.net_base.specs.declared.world.Step.TheVariants as step
 use Rattle.net_base.specs.Paths.{walk, reads}
-use Rattle.net_base.specs.Steps.{Bound, Fid, Play, Ends, fid_of, is_bound, bind, on_fid, opened_fid, openable, default_mode, play_of}
-use Rattle.dial_lib.specs.declared.step.StepTask.{StepTask}
-use Rattle.dial_lib.specs.declared.step.StepTask.TheVariants as task
+use Rattle.net_base.specs.Steps.{Bound, Fid, Play, Ends, fid_of, is_bound, bind, on_fid, opened_fid, openable, default_mode}
+use Rattle.net_base.specs.Imports.{longest_text, ropen_play, rwrite_play}
+use Rattle.net_base.specs.Remotes.{is_remote, is_remote_path}
+use Rattle.net_base.specs.Scripts.{new_names, own_play, play_by, step_play}
+use Rattle.step_task.specs.declared.step.StepTask.{StepTask}
+use Rattle.step_task.specs.declared.step.StepTask.TheVariants as task
 use Rattle.dial_lib.specs.Announce as announce
 use Rattle.dial_lib.specs.AnnounceLaws as announce_laws
 use Rattle.dial_lib.specs.Beside as beside
@@ -22,9 +27,15 @@ use Rattle.dial_lib.specs.OneRequestLaws as one_request_laws
 use Rattle.dial_lib.specs.Reject as reject
 use Rattle.dial_lib.specs.RejectLaws as reject_laws
 use Rattle.dial_lib.specs.Slots.{HaveSlots}
-use Rattle.dial_lib.specs.StepTasks as spec
+use Rattle.step_task.specs.StepTasks as spec
 use Rattle.dial_lib.specs.WriteText as write_text
 use Rattle.dial_lib.specs.WriteTextLaws as write_text_laws
+use Rattle.net_export.specs.ExportLaws as export_laws
+use Rattle.net_import.specs.ErrandLaws as errand_laws
+use Rattle.net_import.specs.Errands as errand
+use Rattle.net_import.specs.ImportLaws as import_laws
+use Rattle.net_import.specs.RopenLaws as ropen_laws
+use Rattle.net_import.specs.Ropening as ropen
 use Rattle.script_task.specs.declared.request.Request.{Request}
 use Rattle.script_task.specs.declared.request.Request.TheVariants as request
 use Rattle.script_task.specs.Requests.{settled, bound_after}
@@ -63,26 +74,52 @@ close_single h names called (Some f) is = rw is (_, refl, λ r. refl)
 
 -- The beginning.
 
-pub begins_so : (h : ℕ) (names : List Bound) (s : Step) → HaveSlots names → spec.stands_by h names (spec.begun s) (play_of h names s)
-begins_so h names (step.Open called path m) slots = IsFresh (open_single h names called path (unwrap_or m (default_mode (walk path))) (is_bound names called) refl)
-begins_so h names (step.Read called count) slots = IsFresh (read_single h names called count (fid_of called names) refl)
-begins_so h names (step.Write called text) slots = write_text.IsWrite
-begins_so h names (step.Writex called text) slots = write_text.IsWrite
-begins_so h names (step.Close called) slots = IsFresh (close_single h names called (fid_of called names) refl)
-begins_so h names (step.Ls path) slots = IsFresh (_, refl, λ r. refl)
-begins_so h names (step.Cs query) slots = IsFresh (_, refl, λ r. refl)
-begins_so h names (step.Until moment) slots = IsFresh (_, refl, λ r. refl)
-begins_so h names step.Refresh slots = IsFresh (_, refl, λ r. refl)
-begins_so h names (step.Dial called address) slots = dial.IsFresh []
-begins_so h names (step.Announce called address) slots = announce.IsFresh []
-begins_so h names (step.Listen called from) slots = beside.IsFresh slots
-begins_so h names (step.Accept called from) slots = beside.IsFresh slots
-begins_so h names (step.Reject called) slots = reject.IsWrite
-begins_so h names (step.Hangup called) slots = write_text.IsWrite
+begins_own : (h : ℕ) (names : List Bound) (left : Left) (s : Step) → HaveSlots names → spec.stands_by h names (spec.begun_own left s) (own_play h (record { names = names; left = left }) s)
+begins_own h names left (step.Open called path m) slots = IsFresh (open_single h names called path (unwrap_or m (default_mode (walk path))) (is_bound names called) refl)
+begins_own h names left (step.Read called count) slots = IsFresh (read_single h names called count (fid_of called names) refl)
+begins_own h names left (step.Write called text) slots = write_text.IsWrite
+begins_own h names left (step.Writex called text) slots = write_text.IsWrite
+begins_own h names left (step.Close called) slots = IsFresh (close_single h names called (fid_of called names) refl)
+begins_own h names left (step.Ls path) slots = IsFresh (_, refl, λ r. refl)
+begins_own h names left (step.Cs query) slots = IsFresh (_, refl, λ r. refl)
+begins_own h names left (step.Until moment) slots = IsFresh (_, refl, λ r. refl)
+begins_own h names left step.Refresh slots = IsFresh (_, refl, λ r. refl)
+begins_own h names left (step.Dial called address) slots = dial.IsFresh []
+begins_own h names left (step.Announce called address) slots = announce.IsFresh []
+begins_own h names left (step.Listen called from) slots = beside.IsFresh slots
+begins_own h names left (step.Accept called from) slots = beside.IsFresh slots
+begins_own h names left (step.Reject called) slots = reject.IsWrite
+begins_own h names left (step.Hangup called) slots = write_text.IsWrite
+-- imports
+begins_own h names left (step.Export called) slots = export_laws.begins h names called
+begins_own h names left (step.Import call) slots = refl
+begins_own h names left (step.Ropen called call path m) slots = ropen_by (is_remote_path path) refl
+  where
+    ropen_by : (b : Bool) → is_remote_path path ≡ b → spec.stands_by h names (spec.or_unbound called b (task.Ropen (ropen.begun called call path m left))) (ropen_play h left called call path m names)
+    ropen_by true is = ropen_laws.begins h names called call path m left is
+    ropen_by false is = rw is (IsFresh (_, refl, λ r. refl))
+begins_own h names left (step.Rread called count) slots = errand_laws.rread_begins h names called count left
+begins_own h names left (step.Rwrite called text) slots = rwrite_by (nat_le (length text) longest_text) refl
+  where
+    rwrite_by : (b : Bool) → nat_le (length text) longest_text ≡ b
+        → spec.stands_by h names (spec.or_unbound called b (task.Rwrite (record { errand = errand.writes called text left }))) (rwrite_play h left called text names)
+    rwrite_by true is = errand_laws.rwrite_begins h names called text left is
+    rwrite_by false is = rw is (IsFresh (_, refl, λ r. refl))
+begins_own h names left (step.Rclose called) slots = errand_laws.rclose_begins h names called left
+
+begins_by : (h : ℕ) (names : List Bound) (left : Left) (s : Step) (o : Option (List ℕ)) → HaveSlots names
+    → spec.stands_by h names (spec.begun_by left s o) (play_by h (record { names = names; left = left }) s o)
+begins_by h names left s None slots = begins_own h names left s slots
+begins_by h names left s (Some called) slots = IsFresh (_, refl, λ r. refl)
+
+pub begins_so : (h : ℕ) (names : List Bound) (left : Left) (s : Step) → HaveSlots names → spec.stands_by h names (spec.begun left s) (step_play h (record { names = names; left = left }) s)
+begins_so h names left s slots = begins_by h names left s (find (is_remote left) (new_names s)) slots
 
 -- what has begun stands for its step
-pub begun_stands : (t : StepTask) (s : Step) → t ≡ spec.begun s → (h : ℕ) (names : List Bound) → HaveSlots names → spec.StandsFor h names t (play_of h names s)
-begun_stands t s is h names slots = (slots, subst (λ (u : StepTask). spec.stands_by h names u (play_of h names s)) (sym is) (begins_so h names s slots))
+pub begun_stands : (t : StepTask) (left : Left) (s : Step) → t ≡ spec.begun left s → (h : ℕ) (names : List Bound) → HaveSlots names
+    → spec.StandsFor h names t (step_play h (record { names = names; left = left }) s)
+begun_stands t left s is h names slots =
+    (slots, subst (λ (u : StepTask). spec.stands_by h names u (step_play h (record { names = names; left = left }) s)) (sym is) (begins_so h names left s slots))
 
 -- Requests and replies.
 
@@ -94,6 +131,12 @@ asks_by h names (task.Announce t) p stands = announce_laws.asks_so h names t p s
 asks_by h names (task.Listen t) p stands = beside_laws.listen_asks_so h names t p stands
 asks_by h names (task.Accept t) p stands = beside_laws.accept_asks_so h names t p stands
 asks_by h names (task.Reject t) p stands = reject_laws.asks_so h names t p stands
+asks_by h names (task.Export t) p stands = export_laws.asks_so h names t p stands
+asks_by h names (task.Import t) p stands = import_laws.asks_so h names t p stands
+asks_by h names (task.Ropen t) p stands = ropen_laws.asks_so h names t p stands
+asks_by h names (task.Rread t) p stands = errand_laws.asks_so h names t.errand p stands
+asks_by h names (task.Rwrite t) p stands = errand_laws.asks_so h names t.errand p stands
+asks_by h names (task.Rclose t) p stands = errand_laws.asks_so h names t.errand p stands
 
 pub asks_so : AsksSo StepTask spec.asks spec.StandsFor
 asks_so h names t p stands = asks_by h names t p stands.1
@@ -107,9 +150,29 @@ moves_by h names (task.Announce t) p q r stands asked fit = announce_laws.moves_
 moves_by h names (task.Listen t) p q r stands asked fit = beside_laws.listen_moves_so h names t p q r stands asked fit
 moves_by h names (task.Accept t) p q r stands asked fit = beside_laws.accept_moves_so h names t p q r stands asked fit
 moves_by h names (task.Reject t) p q r stands asked fit = reject_laws.moves_so h names t p q r stands asked fit
+moves_by h names (task.Export t) p q r stands asked fit = export_laws.moves_so h names t p q r stands asked fit
+moves_by h names (task.Import t) p q r stands asked fit = import_laws.moves_so h names t p q r stands asked fit
+moves_by h names (task.Ropen t) p q r stands asked fit = ropen_laws.moves_so h names t p q r stands asked fit
+moves_by h names (task.Rread t) p q r stands asked fit = errand_laws.moves_so h names t.errand p q r stands asked fit
+moves_by h names (task.Rwrite t) p q r stands asked fit = errand_laws.moves_so h names t.errand p q r stands asked fit
+moves_by h names (task.Rclose t) p q r stands asked fit = errand_laws.moves_so h names t.errand p q r stands asked fit
 
 moves_slots : (h : ℕ) (names : List Bound) (t : StepTask) (p : Play) (q : Request) (r : Reply) → spec.StandsFor h names t p → spec.asks t names ≡ Some q → fits_play p r ≡ true → HaveSlots (settled names q r)
 moves_slots h names t p q r stands asked fit = heads_slots h names q p r stands.0 (subst (λ (o : Option Request). Heads h names o p) asked (asks_by h names t p stands.1)) fit
 
 pub moves_so : MovesSo StepTask spec.asks spec.after spec.StandsFor
 moves_so h names t p q r stands asked fit = (moves_slots h names t p q r stands asked fit, moves_by h names t p q r stands.1 asked fit)
+
+-- What is left.
+
+-- a task that is neither of the two that leave something leaves nothing
+leaves_none : (t : StepTask) (left : Left) → spec.leaves t left ≡ left → spec.left_by t left ≡ left
+leaves_none t left same = by (is_none (spec.asks t []))
+  where
+    by : (b : Bool) → (if b then spec.leaves t left else left) ≡ left
+    by true = same
+    by false = refl
+
+-- .. and is of the same kind after a reply
+pub leaves_nothing : (t : StepTask) (r : Reply) (left : Left) → ((u : StepTask) → u ≡ spec.after t r → spec.leaves u left ≡ left) → spec.left_by (spec.after t r) left ≡ left
+leaves_nothing t r left same = leaves_none (spec.after t r) left (same (spec.after t r) refl)
