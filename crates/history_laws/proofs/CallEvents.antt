@@ -1,5 +1,5 @@
 -- What holds of each event that the steps over calls record, and so of each event of a script.
-use Rattle.std.proofs.Common.{◌≡◌, ℕ, zero, suc, Bool, true, false, cond, List, [], ◌∷◌, ◌++◌, Option, Some, None, Result, Ok, Err, refl, sym, subst}
+use Rattle.std.proofs.Common.{◌≡◌, ℕ, zero, suc, Bool, true, false, ◌&&◌, cond, List, [], ◌∷◌, ◌++◌, Option, Some, None, Result, Ok, Err, refl, sym, subst}
 use Rattle.std.specs.Prelude.{find, option_map, nat_le, length, not, bytes_eq, filter}
 use Rattle.std.specs.Option.{option_and_then}
 use Rattle.std.proofs.lemmas.Option.{none-some, same_Some}
@@ -37,7 +37,7 @@ use Rattle.net_base.specs.SessionAnswers.{bytes_in}
 use Rattle.net_base.specs.SessionFiles.{access, is_cs, is_plain}
 use Rattle.net_base.specs.SessionScript.{close_step, cs_step, fid_name, gives_nothing, is_query, open_step, opens, read_count, read_step, reads as reads_fid, room, step_of, write_step}
 use Rattle.net_base.specs.SessionTable.{Table, used}
-use Rattle.net_base.specs.Steps.{Ask, Bound, Fid, Play, Asks, Ends, Position, Stand, conversation_of, fid_of, is_accepted, play_of, position_by, stands, uses, with_bound, with_new, read_event}
+use Rattle.net_base.specs.Steps.{Ask, Bound, Fid, Play, Asks, Ends, Position, Stand, conversation_of, fid_of, is_accepted, is_bound, play_of, position_by, stands, uses, read_event}
 use Rattle.history_laws.proofs.Ordered.{Each}
 use Rattle.history_laws.proofs.StepEvents as one
 use Rattle.history_laws.proofs.StepEvents.{Fits, IsExporting, IsNamed, IsNextEvent, IsOwn, Records, Says}
@@ -247,9 +247,8 @@ module _ (h : ℕ) (P : ActorName → Event → Type 0) (R : Reply → Type 0) (
   own_good k (step.Export called) fine says = export_good called k.names says.0 says.1
   own_good k (step.Import call) fine says = imports_good (own_of h call k.names) k.names (own_well call k.names says)
   own_good k (step.Ropen called call path m) fine says =
-      one.either h P R fits (is_remote_path path) _ (uses h called k.names)
-      (one.bound h P R fits call k.names _ says.1 (λ f. one.new h P R fits called k.names _ says.0
-      (opens_good (own_of h call k.names) (free_fid k.left call) path m k.names (own_well call k.names says.1))))
+      one.either h P R fits (is_remote_path path && not (is_bound k.names call && is_bound k.names called)) _ (uses h called k.names)
+      (opens_good (own_of h call k.names) (free_fid k.left call) path m k.names (own_well call k.names says.1))
       (one.ending h P R fits _ _ k.names says.0.0)
   own_good k (step.Rread called count) fine says = remote_good called k.names k.left (λ (fid : ℕ). read_message fid count) says fine
   own_good k (step.Rwrite called text) fine says =

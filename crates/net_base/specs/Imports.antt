@@ -1,5 +1,5 @@
 -- Importing over a call: each message is a write and then a read of 8,192 bytes.
-use Rattle.std.specs.Prelude.{ℕ, ◌==◌, ◌&&◌, Bool, false, List, [], ◌∷◌, length, Option, Some, None, codes, nat_le, if◌then◌else◌}
+use Rattle.std.specs.Prelude.{ℕ, ◌==◌, ◌&&◌, Bool, false, not, List, [], ◌∷◌, length, Option, Some, None, codes, nat_le, if◌then◌else◌}
 use Rattle.std.specs.Option.{option_map_or}
 use Rattle.net_base.specs.declared.left.Left.{Left}
 use Rattle.net_base.specs.declared.left.Remote.{Remote}
@@ -15,7 +15,7 @@ use Rattle.net_base.specs.NinepReading.{read_r}
 use Rattle.net_base.specs.Remotes.{free_fid, is_remote_path, path_names, remote_of, with_remote}
 use Rattle.net_base.specs.SessionAnswers.{bytes_in}
 use Rattle.net_base.specs.SessionScript.{nofid}
-use Rattle.net_base.specs.Steps.{Bound, Fid, Play, Ends, is_accepted, uses, with_bound, with_new}
+use Rattle.net_base.specs.Steps.{Bound, Play, Ends, is_accepted, is_bound, uses}
 
 -- ---- messages
 
@@ -100,16 +100,16 @@ sends_by h called names (Some r) message = sends_once (own_of h r.call names) (m
 abbrev pub longest_text : ℕ
 longest_text = 488
 
--- the plays of the steps; a path or a text that no world says asks for the name alone
+-- The plays of the steps. A call that isn't bound is asked for before a new name that is. A path or a text that no world says asks for
+-- the name alone.
 
 abbrev pub import_play : ℕ → List ℕ → List Bound → Play
 import_play h call names = imports (own_of h call names) (Ends names)
 
 abbrev pub ropen_play : ℕ → Left → List ℕ → List ℕ → List ℕ → Mode → List Bound → Play
 ropen_play h left called call path m names =
-    if is_remote_path path
-    then with_bound h call names (λ (f : Fid). with_new h called names
-    (opens_remote (own_of h call names) (free_fid left call) path m (Ends names)))
+    if is_remote_path path && not (is_bound names call && is_bound names called)
+    then opens_remote (own_of h call names) (free_fid left call) path m (Ends names)
     else uses h called names
 
 abbrev pub rread_play : ℕ → Left → List ℕ → ℕ → List Bound → Play

@@ -9,6 +9,7 @@ use Rattle.net_base.specs.Scripts.{Kept, step_play}
 use Rattle.net_base.specs.SessionAnswers.{bytes_in}
 use Rattle.net_base.specs.Steps.{Bound, Play, Ends}
 use Rattle.net_import.specs.declared.import.Import.{Import}
+use Rattle.net_import.specs.declared.talk.TalkPhase.TheVariants as phase
 use Rattle.net_import.specs.Standings.{Talks}
 use Rattle.net_import.specs.Talks as talk
 use Rattle.script_task.specs.declared.request.Request.{Request}
@@ -21,13 +22,21 @@ asks t names = talk.asks t.talk
 
 -- the reply agrees on the version
 abbrev pub agrees : Import → Reply → Bool
-agrees t r = if t.attaches then false else (if talk.is_reading t.talk.phase then is_version (bytes_in r) else false)
+agrees t r = not t.attaches && (talk.is_reading t.talk.phase && is_version (bytes_in r))
 
 abbrev pub after : Import → Reply → Import
 after t r =
     if agrees t r
     then record { talk = talk.begun t.talk.call (t_bytes attach_message); attaches = true }
     else record t { talk = talk.after t.talk r }
+
+-- once the version is agreed on
+abbrev pub attaching : List ℕ → Import
+attaching call = record { talk = talk.begun call (t_bytes attach_message); attaches = true }
+
+-- once nothing more is sent
+abbrev pub over : List ℕ → List ℕ → Bool → Import
+over call message attaches = record { talk = record { call = call; message = message; phase = phase.Over }; attaches = attaches }
 
 -- what follows the message that is sent
 abbrev pub follows : Own → List Bound → Bool → List ℕ → Play

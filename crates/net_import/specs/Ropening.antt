@@ -1,5 +1,5 @@
 -- The task of `ropen`: its requests, its replies, what it leaves, and the plays that it stands for.
-use Rattle.std.specs.Prelude.{◌≡◌, ℕ, ◌&&◌, ◌||◌, Bool, true, false, not, List, Option, Some, None, if◌then◌else◌}
+use Rattle.std.specs.Prelude.{◌≡◌, ℕ, ◌&&◌, ◌||◌, Bool, true, false, List, Option, Some, None, if◌then◌else◌}
 use Rattle.net_base.specs.declared.left.Left.{Left}
 use Rattle.net_base.specs.declared.names.Mode.{Mode}
 use Rattle.net_base.specs.declared.reply.Reply.{Reply}
@@ -39,7 +39,7 @@ is_walk _ = false
 
 -- nothing is recorded yet
 abbrev pub is_beginning : Ropen → Bool
-is_beginning t = is_walk t.stage && not (talk.is_reading t.talk.phase)
+is_beginning t = is_walk t.stage && talk.is_writing t.talk.phase
 
 -- the name is bound, be it to a remote file; a call that isn't bound is asked for before
 abbrev pub is_taken : Ropen → List Bound → Bool

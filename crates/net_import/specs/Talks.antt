@@ -20,6 +20,10 @@ asks_by phase.Over call message = None
 abbrev pub asks : Talk → Option Request
 asks t = asks_by t.phase t.call t.message
 
+abbrev pub is_writing : TalkPhase → Bool
+is_writing phase.Write = true
+is_writing _ = false
+
 abbrev pub is_reading : TalkPhase → Bool
 is_reading phase.Read = true
 is_reading _ = false

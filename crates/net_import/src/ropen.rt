@@ -99,7 +99,7 @@ impl Ropen {
     fn begins(&self) -> bool
         ensures { result ≡ spec.is_beginning self.now }
     {
-        self.stage == RopenStage::Walk && !self.talk.reads()
+        self.stage == RopenStage::Walk && self.talk.writes()
     }
 
     // Whether the name is bound, be it to a remote file. A call that isn't bound is asked for before.

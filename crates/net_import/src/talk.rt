@@ -66,6 +66,13 @@ impl Talk {
         }
     }
 
+    /// Whether the message is still to be written.
+    pub(crate) fn writes(&self) -> bool
+        ensures { result ≡ spec.is_writing self.now.phase }
+    {
+        self.phase == TalkPhase::Write
+    }
+
     /// Whether the message went out, and its reply is still to be read.
     pub(crate) fn reads(&self) -> bool
         ensures { result ≡ spec.is_reading self.now.phase }

@@ -74,46 +74,46 @@ close_single h names called (Some f) is = rw is (_, refl, λ r. refl)
 
 -- The beginning.
 
-begins_own : (h : ℕ) (names : List Bound) (left : Left) (s : Step) → HaveSlots names → spec.stands_by h names (spec.begun_own left s) (own_play h (record { names = names; left = left }) s)
-begins_own h names left (step.Open called path m) slots = IsFresh (open_single h names called path (unwrap_or m (default_mode (walk path))) (is_bound names called) refl)
-begins_own h names left (step.Read called count) slots = IsFresh (read_single h names called count (fid_of called names) refl)
-begins_own h names left (step.Write called text) slots = write_text.IsWrite
-begins_own h names left (step.Writex called text) slots = write_text.IsWrite
-begins_own h names left (step.Close called) slots = IsFresh (close_single h names called (fid_of called names) refl)
-begins_own h names left (step.Ls path) slots = IsFresh (_, refl, λ r. refl)
-begins_own h names left (step.Cs query) slots = IsFresh (_, refl, λ r. refl)
-begins_own h names left (step.Until moment) slots = IsFresh (_, refl, λ r. refl)
-begins_own h names left step.Refresh slots = IsFresh (_, refl, λ r. refl)
-begins_own h names left (step.Dial called address) slots = dial.IsFresh []
-begins_own h names left (step.Announce called address) slots = announce.IsFresh []
-begins_own h names left (step.Listen called from) slots = beside.IsFresh slots
-begins_own h names left (step.Accept called from) slots = beside.IsFresh slots
-begins_own h names left (step.Reject called) slots = reject.IsWrite
-begins_own h names left (step.Hangup called) slots = write_text.IsWrite
+begins_own : (h : ℕ) (names : List Bound) (left : Left) (s : Step) → HaveSlots names → find (is_remote left) (new_names s) ≡ None → spec.stands_by h names (spec.begun_own left s) (own_play h (record { names = names; left = left }) s)
+begins_own h names left (step.Open called path m) slots free = IsFresh (open_single h names called path (unwrap_or m (default_mode (walk path))) (is_bound names called) refl)
+begins_own h names left (step.Read called count) slots free = IsFresh (read_single h names called count (fid_of called names) refl)
+begins_own h names left (step.Write called text) slots free = write_text.IsWrite
+begins_own h names left (step.Writex called text) slots free = write_text.IsWrite
+begins_own h names left (step.Close called) slots free = IsFresh (close_single h names called (fid_of called names) refl)
+begins_own h names left (step.Ls path) slots free = IsFresh (_, refl, λ r. refl)
+begins_own h names left (step.Cs query) slots free = IsFresh (_, refl, λ r. refl)
+begins_own h names left (step.Until moment) slots free = IsFresh (_, refl, λ r. refl)
+begins_own h names left step.Refresh slots free = IsFresh (_, refl, λ r. refl)
+begins_own h names left (step.Dial called address) slots free = dial.IsFresh []
+begins_own h names left (step.Announce called address) slots free = announce.IsFresh []
+begins_own h names left (step.Listen called from) slots free = beside.IsFresh slots
+begins_own h names left (step.Accept called from) slots free = beside.IsFresh slots
+begins_own h names left (step.Reject called) slots free = reject.IsWrite
+begins_own h names left (step.Hangup called) slots free = write_text.IsWrite
 -- imports
-begins_own h names left (step.Export called) slots = export_laws.begins h names called
-begins_own h names left (step.Import call) slots = refl
-begins_own h names left (step.Ropen called call path m) slots = ropen_by (is_remote_path path) refl
+begins_own h names left (step.Export called) slots free = export_laws.begins h names called
+begins_own h names left (step.Import call) slots free = refl
+begins_own h names left (step.Ropen called call path m) slots free = ropen_by (is_remote_path path) refl
   where
     ropen_by : (b : Bool) → is_remote_path path ≡ b → spec.stands_by h names (spec.or_unbound called b (task.Ropen (ropen.begun called call path m left))) (ropen_play h left called call path m names)
-    ropen_by true is = ropen_laws.begins h names called call path m left is
+    ropen_by true is = ropen_laws.begins h names called call path m left is (ropen_laws.free_in left called free)
     ropen_by false is = rw is (IsFresh (_, refl, λ r. refl))
-begins_own h names left (step.Rread called count) slots = errand_laws.rread_begins h names called count left
-begins_own h names left (step.Rwrite called text) slots = rwrite_by (nat_le (length text) longest_text) refl
+begins_own h names left (step.Rread called count) slots free = errand_laws.rread_begins h names called count left
+begins_own h names left (step.Rwrite called text) slots free = rwrite_by (nat_le (length text) longest_text) refl
   where
     rwrite_by : (b : Bool) → nat_le (length text) longest_text ≡ b
         → spec.stands_by h names (spec.or_unbound called b (task.Rwrite (record { errand = errand.writes called text left }))) (rwrite_play h left called text names)
     rwrite_by true is = errand_laws.rwrite_begins h names called text left is
     rwrite_by false is = rw is (IsFresh (_, refl, λ r. refl))
-begins_own h names left (step.Rclose called) slots = errand_laws.rclose_begins h names called left
+begins_own h names left (step.Rclose called) slots free = errand_laws.rclose_begins h names called left
 
-begins_by : (h : ℕ) (names : List Bound) (left : Left) (s : Step) (o : Option (List ℕ)) → HaveSlots names
+begins_by : (h : ℕ) (names : List Bound) (left : Left) (s : Step) (o : Option (List ℕ)) → HaveSlots names → find (is_remote left) (new_names s) ≡ o
     → spec.stands_by h names (spec.begun_by left s o) (play_by h (record { names = names; left = left }) s o)
-begins_by h names left s None slots = begins_own h names left s slots
-begins_by h names left s (Some called) slots = IsFresh (_, refl, λ r. refl)
+begins_by h names left s None slots free = begins_own h names left s slots free
+begins_by h names left s (Some called) slots taken = IsFresh (_, refl, λ r. refl)
 
 pub begins_so : (h : ℕ) (names : List Bound) (left : Left) (s : Step) → HaveSlots names → spec.stands_by h names (spec.begun left s) (step_play h (record { names = names; left = left }) s)
-begins_so h names left s slots = begins_by h names left s (find (is_remote left) (new_names s)) slots
+begins_so h names left s slots = begins_by h names left s (find (is_remote left) (new_names s)) slots refl
 
 -- what has begun stands for its step
 pub begun_stands : (t : StepTask) (left : Left) (s : Step) → t ≡ spec.begun left s → (h : ℕ) (names : List Bound) → HaveSlots names
