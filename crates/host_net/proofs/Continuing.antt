@@ -21,7 +21,8 @@ use Rattle.net_base.specs.Net as nets
 use Rattle.net_base.specs.Net.{played, stepped_to}
 use Rattle.net_base.specs.Next.{next, next_of, own_replies}
 use Rattle.net_base.specs.Stamped.{at, at_from, matches}
-use Rattle.net_base.specs.Steps.{Ask, Play, Asks, Ends, position}
+use Rattle.net_base.specs.Scripts.{at_first, position}
+use Rattle.net_base.specs.Steps.{Ask, Play, Asks, Ends}
 use Rattle.locked.specs.Acts.{left_by, state, state_at}
 use Rattle.script_task.specs.Fitting.{fits}
 use Rattle.script_task.specs.Requests.{head}
@@ -163,15 +164,15 @@ append_one (x ∷ xs) r more = ap (λ ys. x ∷ ys) (append_one xs r more)
 pub continues_on : (s : Script) (rs : List Reply) (p : Play) (r : Reply) → Continues s rs p → Continues s (rs ++ r ∷ []) (follow p r)
 continues_on s rs p r goes =
     record {
-      next_is = λ more. subst (λ (xs : List Reply). (position s.host s.steps [] xs).next ≡ head (rest p (r ∷ more))) (sym (append_one rs r more))
+      next_is = λ more. subst (λ (xs : List Reply). (position s.host s.steps at_first xs).next ≡ head (rest p (r ∷ more))) (sym (append_one rs r more))
           (goes.next_is (r ∷ more));
-      left_is = λ more. subst (λ (xs : List Reply). nat_lt 0 (length (position s.host s.steps [] xs).left) ≡ is_some (head (rest p (r ∷ more))))
+      left_is = λ more. subst (λ (xs : List Reply). nat_lt 0 (length (position s.host s.steps at_first xs).left) ≡ is_some (head (rest p (r ∷ more))))
           (sym (append_one rs r more)) (goes.left_is (r ∷ more));
     }
 
 -- the script's next event is the play's
-pub next_head : (s : Script) (rs : List Reply) (p : Play) → Continues s rs p → (position s.host s.steps [] rs).next ≡ head p
-next_head s rs p goes = ap (λ (xs : List Reply). (position s.host s.steps [] xs).next) (sym (append_nothing rs)) ∙ goes.next_is []
+pub next_head : (s : Script) (rs : List Reply) (p : Play) → Continues s rs p → (position s.host s.steps at_first rs).next ≡ head p
+next_head s rs p goes = ap (λ (xs : List Reply). (position s.host s.steps at_first xs).next) (sym (append_nothing rs)) ∙ goes.next_is []
 
 pub script_next : (w : World) (c : ℕ) (log : List Noted) (s : Script) (p : Play) → caller_of w c ≡ IsScript s → Continues s (own_replies (entries log) c) p
     → next w (entries log) c ≡ head p

@@ -6,7 +6,8 @@ use Rattle.net_base.specs.declared.world.Script.{Script}
 use Rattle.net_base.specs.declared.world.World.{World}
 use Rattle.net_base.specs.Callers.{Caller, IsScript, caller_of}
 use Rattle.net_base.specs.Next.{next, next_of, own_replies}
-use Rattle.net_base.specs.Steps.{Ask, Bound, Play, position}
+use Rattle.net_base.specs.Scripts.{at_first, position}
+use Rattle.net_base.specs.Steps.{Ask, Bound, Play}
 use Rattle.script_task.specs.declared.request.Request.{Request}
 use Rattle.script_task.specs.Requests.{head, planned}
 use Rattle.script_task.specs.Rest.{Continues}
@@ -19,7 +20,7 @@ next_is_head : (w : World) (v : Visit) (s : Script) (p : Play) → caller_of w v
     → Continues s (own_replies (entries v.sight.seen) v.caller) p → next w (entries v.sight.seen) v.caller ≡ head p
 next_is_head w v s p script goes =
     ap (λ (k : Caller). next_of k (entries v.sight.seen) v.caller) script
-    ∙ (ap (λ (rs : List Reply). (position s.host s.steps [] rs).next) (sym (append-nil (own_replies (entries v.sight.seen) v.caller)))
+    ∙ (ap (λ (rs : List Reply). (position s.host s.steps at_first rs).next) (sym (append-nil (own_replies (entries v.sight.seen) v.caller)))
     ∙ goes.next_is [])
 
 module _ {T : Type 0} (asks : T → List Bound → Option Request) (Stands : ℕ → List Bound → T → Play → Type 0) (so : AsksSo T asks Stands)

@@ -44,7 +44,7 @@ impl Model for Export {
 
     ghost Value = { Exporting };
 
-    ghost view = { λ e. record { name = e.name; serving = seen e.serving; phase = e.phase; left = e.left } };
+    ghost view = { λ e. record { name = e.name; session = seen e.serving; phase = e.phase; left = e.left } };
 
     ghost invariant = { λ e. IsServing (seen e.serving) };
 }
@@ -66,7 +66,7 @@ impl Export {
 
     // It takes what was read. At the end of file, and where the read was refused, it closes.
     fn hear(&mut self, alloc: Global, text: &[u8]) -> Result<(), AllocError>
-        ensures ok { OnOk result (self.new ≡ spec.heard self.old text.now) }
+        ensures ok { OnOk result (self.new ≡ spec.heard_text self.old text.now) }
         ensures err { OnErr result (self.new ≡ self.old) }
     {
         if text.is_empty() {

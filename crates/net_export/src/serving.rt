@@ -34,7 +34,7 @@ pub struct Serving {
 impl Serving {
     /// Nothing was heard yet.
     pub(crate) fn new(alloc: Global) -> Serving
-        ensures { spec.seen result ≡ spec.fresh }
+        ensures { spec.seen result ≡ spec.fresh_serving }
     {
         Serving {
             table: Table::shorter(alloc, LONGEST),

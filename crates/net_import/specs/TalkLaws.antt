@@ -1,35 +1,19 @@
 -- A message asks and moves as its play does.
 use Rattle.std.proofs.Common.{◌≡◌, ℕ, Bool, true, false, List, [], ◌∷◌, Option, Some, None, if◌then◌else◌, refl, sym, subst, ap, ◌∙◌}
 use Rattle.std.proofs.lemmas.Option.{none-some, same_Some}
-use Rattle.net_base.specs.declared.event.Event.TheVariants as event
 use Rattle.net_base.specs.declared.reply.Reply.{Reply}
-use Rattle.net_base.specs.Asks as asked
 use Rattle.net_base.specs.Exports.{Own, asks as asks_for, by_text, own_of}
-use Rattle.net_base.specs.Paths.{reads}
 use Rattle.net_base.specs.SessionAnswers.{bytes_in}
-use Rattle.net_base.specs.Steps.{Ask, Bound, Fid, Play, Ends, conversation_of, ends_with, fid_of, is_accepted, misuses, on_fid, read_event, uses}
+use Rattle.net_base.specs.Steps.{Bound, Play, Ends, is_accepted}
 use Rattle.net_import.specs.declared.talk.TalkPhase.{TalkPhase}
 use Rattle.net_import.specs.declared.talk.TalkPhase.TheVariants as phase
 use Rattle.net_import.specs.Standings.{TalksBy, reading, writing}
 use Rattle.net_import.specs.Talks as talk
-use Rattle.script_task.proofs.Events.{write_is}
+use Rattle.script_task.proofs.Events.{read_is, write_is}
 use Rattle.script_task.specs.declared.request.Request.{Request}
 use Rattle.script_task.specs.declared.request.Request.TheVariants as request
-use Rattle.script_task.specs.Requests.{head, planned, settled}
+use Rattle.script_task.specs.Requests.{settled}
 use Rattle.script_task.specs.Task.{Heads, follow}
-
--- what a read of a file asks
-pub read_is : (h : ℕ) (names : List Bound) (called : List ℕ) (count : ℕ) → planned h names (request.Read called count) ≡ Some (asked.read h called count (fid_of called names))
-read_is h names called count = found (fid_of called names)
-  where
-    open_so : (f : Fid) (b : Bool) → head (if b then ends_with (conversation_of h f) (read_event f count f.file) names else misuses h called names)
-        ≡ Some (if b then asked.at_file h f (read_event f count f.file) else asked.at_desk h (event.Misuse called))
-    open_so f true = refl
-    open_so f false = refl
-
-    found : (o : Option Fid) → head (on_fid o (uses h called names) (λ (f : Fid). if reads f.mode then ends_with (conversation_of h f) (read_event f count f.file) names else misuses h called names)) ≡ Some (asked.read h called count o)
-    found None = refl
-    found (Some f) = open_so f (reads f.mode)
 
 -- its requests
 pub heads : (h : ℕ) (names : List Bound) (call message : List ℕ) (next : List ℕ → Play) (ph : TalkPhase) (p : Play)

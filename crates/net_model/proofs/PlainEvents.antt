@@ -12,11 +12,14 @@ use Rattle.net_base.specs.declared.reply.Reply.TheVariants as reply
 use Rattle.net_base.specs.declared.world.Step.{Step}
 use Rattle.net_base.specs.declared.world.Step.TheVariants as step
 use Rattle.net_base.specs.Plain.{IsClean, IsWord, IsLine, AreLines, AreBytes, IsPlainEvent, IsPlainReply}
+use Rattle.net_base.specs.Exports.{dotted_fid}
+use Rattle.net_base.specs.Paths.{path_of}
+use Rattle.net_base.specs.Remotes.{is_remote_path}
 use Rattle.net_base.specs.Steps.{is_blank, clone_path, lines_in, dotted_name}
 use Rattle.net_base.specs.World.{is_within, is_letter, is_name_byte, is_name, is_byte, is_text, is_word, is_step}
 use Rattle.history_laws.proofs.Ordered.{Each}
 use Rattle.net_model.proofs.PlainTexts.{IsText, ListsTexts}
-use Rattle.history_laws.proofs.StepEvents.{IsOther, own_other, IsOpened, IsNamed, Fits, Says}
+use Rattle.history_laws.proofs.StepEvents.{IsOther, own_other, IsOpened, IsNamed, Fits, IsExporting, Says}
 
 -- The words of a file.
 
@@ -133,6 +136,13 @@ fits_plain = record { other = λ a e own. plain_other e (own_other e own); diall
 named : (h : ℕ) (called : List ℕ) → is_name called ≡ true → IsNamed h PlainAt called
 named h called is = (name_word called is, name_word called is)
 
+-- a name with a dot and a number is a word, and the path of a node is made of bytes
+exporting_plain : (h : ℕ) → IsExporting h PlainAt
+exporting_plain h = record {
+  named = λ n. (numbered_word n, numbered_word n);
+  opened = λ at a m. path_bytes at;
+}
+
 -- a step that a file can say
 says_plain : (h : ℕ) (s : Step) → is_step s ≡ true → Says h PlainAt s
 says_plain h (step.Open called path m) is =
@@ -158,6 +168,15 @@ says_plain h (step.Accept called from) is =
     (named h called parts.0, named h from parts.1)
 says_plain h (step.Reject called) is = named h called is
 says_plain h (step.Hangup called) is = named h called is
+-- imports
+says_plain h (step.Export called) is = (named h called is, exporting_plain h)
+says_plain h (step.Import call) is = named h call is
+says_plain h (step.Ropen called call path m) is =
+    let parts = and_parts (is_name called) (is_name call && (is_word path && is_remote_path path)) is in
+    (named h called parts.0, named h call (and_parts (is_name call) (is_word path && is_remote_path path) parts.1).0)
+says_plain h (step.Rread called count) is = named h called (and_parts (is_name called) (is_within 1 488 count) is).0
+says_plain h (step.Rwrite called text) is = named h called (and_parts (is_name called) (is_text text && is_within 1 488 (length text)) is).0
+says_plain h (step.Rclose called) is = named h called is
 
 pub steps_plain : (h : ℕ) (steps : List Step) → list_all is_step steps ≡ true → Each (λ (s : Step). Says h PlainAt s) steps
 steps_plain h [] all = tt

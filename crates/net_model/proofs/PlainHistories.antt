@@ -25,7 +25,9 @@ use Rattle.history_laws.proofs.Owed.{owed_each}
 use Rattle.net_model.proofs.PlainEvents.{PlainAt, plain_other, plain_reply, fits_plain, steps_plain}
 use Rattle.net_model.proofs.PlainReplies.{entry_replies}
 use Rattle.net_model.proofs.PlainTexts.{ListsTexts}
-use Rattle.history_laws.proofs.StepEvents.{IsNextEvent, next_event}
+use Rattle.net_base.specs.Scripts.{at_first}
+use Rattle.history_laws.proofs.CallEvents.{next_event}
+use Rattle.history_laws.proofs.StepEvents.{IsNextEvent}
 
 -- What a caller records next.
 
@@ -34,7 +36,7 @@ script_next w h c s world is fine =
     let one = all_at (is_script (length w.hosts)) w.scripts c s world.scripts is in
     let steps = (and_parts (nat_lt s.host (length w.hosts)) (list_all is_step s.steps) one).1 in
     let replies = each_map ListsTexts (λ (x : Entry). x.reply) _ (each_filter (λ (x : Entry). ListsTexts x.reply) (λ (x : Entry). is_none x.cites) (by h c) (each_filter (λ (x : Entry). ListsTexts x.reply) (λ (x : Entry). x.caller == c) h fine)) in
-    next_event s.host PlainAt ListsTexts fits_plain s.steps [] (own_replies h c) (steps_plain s.host s.steps steps) replies
+    next_event s.host PlainAt ListsTexts fits_plain s.steps at_first (own_replies h c) tt (steps_plain s.host s.steps steps) replies
 
 caller_next : (w : World) (h : List Entry) (c : ℕ) (found : Option Script) → IsWorld w → slice_get w.scripts c ≡ found → Each (λ (x : Entry). ListsTexts x.reply) h → IsNextEvent PlainAt (next_of (option_map_or (λ (s : Script). IsScript s) found (other_caller w c)) h c)
 caller_next w h c (Some s) world is fine = script_next w h c s world is fine

@@ -5,7 +5,7 @@ ghost use Rattle.net_base.specs.declared.history.Entry.{Entry};
 ghost use Rattle.net_base.specs.declared.world.World.{World};
 ghost use Rattle.net_model.specs.Headline.{AnswersCs, Headline};
 ghost use Rattle.net_model.specs.ScriptOrder.{Begins, KeepsScript};
-ghost use Rattle.net_base.specs.Steps.{Bound, play_of};
+ghost use Rattle.net_base.specs.Scripts.{Kept, step_play};
 ghost use Rattle.net_base.specs.declared.world.Step.{Step};
 ghost use Rattle.net_base.specs.declared.world.Script.{Script};
 ghost use Rattle.net_base.specs.World.{IsWorld};
@@ -23,7 +23,7 @@ pub fn legal_histories_are_plain()
 /// The events of a script's steps are its caller's own entries, in order and each once, at least one a step. So many steps are
 /// finished, and so many answered, as the definitions count.
 pub fn steps_stand_in_order()
-    ensures each { (h : ℕ) (names : List Bound) (s : Step) → Begins (play_of h names s) [] }
+    ensures each { (h : ℕ) (k : Kept) (s : Step) → Begins (step_play h k s) [] }
     ensures in_order { (w : World) (h : List Entry) (c : ℕ) (s : Script) → IsLegal w h → caller_of w c ≡ IsScript s → KeepsScript w h c s }
 {}
 

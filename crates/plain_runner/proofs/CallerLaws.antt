@@ -15,7 +15,8 @@ use Rattle.net_base.specs.Duties.{Duty}
 use Rattle.net_base.specs.Legal.{IsAsked, IsNext, asked_by, cites_of}
 use Rattle.net_base.specs.Net.{after, owed, with_of}
 use Rattle.net_base.specs.Next.{by, finished_by, next, next_of, own_replies}
-use Rattle.net_base.specs.Steps.{Ask, position}
+use Rattle.net_base.specs.Scripts.{at_first, position}
+use Rattle.net_base.specs.Steps.{Ask}
 use Rattle.script_player.specs.Players.{IsAt, Playing, next_after}
 use Rattle.script_task.specs.Fitting.{fits}
 use Rattle.plain_runner.specs.declared.caller.Caller.{Caller}
@@ -42,7 +43,7 @@ next_of_clock w h c is = ap (λ (k : Called). next_of k h c) is
 
 -- it goes by the replies to its own events
 next_alike : (k : Called) (h later : List Entry) (c : ℕ) → own_replies later c ≡ own_replies h c → next_of k later c ≡ next_of k h c
-next_alike (IsScript s) h later c same = ap (λ (rs : List Reply). (position s.host s.steps [] rs).next) same
+next_alike (IsScript s) h later c same = ap (λ (rs : List Reply). (position s.host s.steps at_first rs).next) same
 next_alike (IsCourier m) h later c same = refl
 next_alike IsClock h later c same = refl
 next_alike IsNobody h later c same = refl

@@ -21,10 +21,12 @@ use Rattle.net_base.specs.Duties.{Duty}
 use Rattle.net_base.specs.Legal.{IsAsked, IsInTime, IsNext, asked_by}
 use Rattle.net_base.specs.Net.{Net, after, moment, owed, with_of}
 use Rattle.net_base.specs.Next.{by, next, next_of, own_replies}
-use Rattle.net_base.specs.Steps.{Ask, clone_path, lines_in, position}
+use Rattle.net_base.specs.Scripts.{at_first, position}
+use Rattle.net_base.specs.Steps.{Ask, clone_path, lines_in}
 use Rattle.history_laws.proofs.Ordered.{Each, each_any}
 use Rattle.history_laws.proofs.Owed.{past_after}
-use Rattle.history_laws.proofs.StepEvents.{Fits, IsNextEvent, IsOpened, IsOwn, Says, next_event}
+use Rattle.history_laws.proofs.CallEvents.{next_event}
+use Rattle.history_laws.proofs.StepEvents.{Fits, IsNextEvent, IsOpened, IsOwn, Says}
 use Rattle.progress_law.proofs.Always.{steady_after}
 use Rattle.progress_law.proofs.Duties.{IsKind, OfKind}
 use Rattle.plain_runner.specs.Recording.{IsHistory}
@@ -71,11 +73,14 @@ says_still h (step.Cs query) = tt
 says_still h (step.Dial called address) = ((tt, tt), (tt, tt))
 says_still h (step.Listen called from) = ((tt, tt), (tt, tt))
 says_still h (step.Accept called from) = ((tt, tt), (tt, tt))
+-- imports
+says_still h (step.Export called) = ((tt, tt), record { named = λ n. (tt, tt); opened = λ at a m. tt })
+says_still h (step.Ropen called call path m) = ((tt, tt), (tt, tt))
 says_still h _ = (tt, tt)
 
-position_still : (h : ℕ) (steps : List Step) (rs : List Reply) → IsNextEvent IsStillAt (position h steps [] rs).next
+position_still : (h : ℕ) (steps : List Step) (rs : List Reply) → IsNextEvent IsStillAt (position h steps at_first rs).next
 position_still h steps rs =
-    next_event h IsStillAt (λ (r : Reply). Unit {0}) fits_still steps [] rs
+    next_event h IsStillAt (λ (r : Reply). Unit {0}) fits_still steps at_first rs tt
     (each_any (λ (s : Step). Says h IsStillAt s) (says_still h) steps)
     (each_any (λ (r : Reply). Unit {0}) (λ r. tt) rs)
 

@@ -7,9 +7,11 @@ use Rattle.net_base.specs.declared.event.Event.TheVariants as event
 use Rattle.net_base.specs.declared.reply.Reply.{Reply}
 use Rattle.net_base.specs.declared.world.Step.{Step}
 use Rattle.net_base.specs.declared.world.Step.TheVariants as step
-use Rattle.net_base.specs.Steps.{Bound, clone_path, lines_in, Ask, position}
+use Rattle.net_base.specs.Scripts.{at_first, position}
+use Rattle.net_base.specs.Steps.{clone_path, lines_in, Ask}
 use Rattle.history_laws.proofs.Ordered.{each_any}
-use Rattle.history_laws.proofs.StepEvents.{IsOther, own_other, IsOpened, Fits, Says, IsNextEvent, next_event}
+use Rattle.history_laws.proofs.CallEvents.{next_event}
+use Rattle.history_laws.proofs.StepEvents.{IsOther, own_other, IsOpened, Fits, Says, IsNextEvent}
 
 -- a wait for a moment is recorded at the host's desk
 abbrev pub UntilAt : ℕ → ActorName → Event → Type 0
@@ -38,11 +40,14 @@ says_until h (step.Cs query) = tt
 says_until h (step.Dial called address) = ((tt, tt), (tt, tt))
 says_until h (step.Listen called from) = ((tt, tt), (tt, tt))
 says_until h (step.Accept called from) = ((tt, tt), (tt, tt))
+-- imports
+says_until h (step.Export called) = ((tt, tt), record { named = λ n. (tt, tt); opened = λ at a m. tt })
+says_until h (step.Ropen called call path m) = ((tt, tt), (tt, tt))
 says_until h _ = (tt, tt)
 
 -- what a script records next
-pub fine_position : (h : ℕ) (steps : List Step) (names : List Bound) (rs : List Reply) → FineNext h (position h steps names rs).next
-fine_position h steps names rs =
-    next_event h (UntilAt h) (λ (r : Reply). Unit {0}) (fits_until h) steps names rs
+pub fine_position : (h : ℕ) (steps : List Step) (rs : List Reply) → FineNext h (position h steps at_first rs).next
+fine_position h steps rs =
+    next_event h (UntilAt h) (λ (r : Reply). Unit {0}) (fits_until h) steps at_first rs tt
     (each_any (λ (s : Step). Says h (UntilAt h) s) (says_until h) steps)
     (each_any (λ (r : Reply). Unit {0}) (λ r. tt) rs)

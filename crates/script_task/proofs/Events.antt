@@ -7,7 +7,7 @@ use Rattle.net_base.specs.declared.names.FileName.{FileName}
 use Rattle.net_base.specs.declared.names.FileName.TheVariants as file
 use Rattle.net_base.specs.declared.names.Mode.{Mode}
 use Rattle.net_base.specs.ControlWords as control
-use Rattle.net_base.specs.Paths.{walk, writes}
+use Rattle.net_base.specs.Paths.{reads, walk, writes}
 use Rattle.net_base.specs.Steps as steps
 use Rattle.net_base.specs.Steps.{Bound, Fid, Play, Ends, fid_of, is_bound, puts, uses, misuses, on_fid}
 use Rattle.script_task.specs.declared.request.Request.TheVariants as request
@@ -54,3 +54,16 @@ write_is h names called text = found (fid_of called names)
     found : (o : Option Fid) → head (on_fid o (uses h called names) (λ (f : Fid). if writes f.mode then put f else misuses h called names)) ≡ Some (asked.write h called text o)
     found None = refl
     found (Some f) = open_so f (writes f.mode)
+
+-- what a read of a file asks
+pub read_is : (h : ℕ) (names : List Bound) (called : List ℕ) (count : ℕ) → planned h names (request.Read called count) ≡ Some (asked.read h called count (fid_of called names))
+read_is h names called count = found (fid_of called names)
+  where
+    open_so : (f : Fid) (b : Bool) → head (if b then steps.ends_with (steps.conversation_of h f) (steps.read_event f count f.file) names else misuses h called names)
+        ≡ Some (if b then asked.at_file h f (steps.read_event f count f.file) else asked.at_desk h (event.Misuse called))
+    open_so f true = refl
+    open_so f false = refl
+
+    found : (o : Option Fid) → head (on_fid o (uses h called names) (λ (f : Fid). if reads f.mode then steps.ends_with (steps.conversation_of h f) (steps.read_event f count f.file) names else misuses h called names)) ≡ Some (asked.read h called count o)
+    found None = refl
+    found (Some f) = open_so f (reads f.mode)

@@ -9,7 +9,8 @@ use Rattle.net_base.specs.declared.world.Script.{Script}
 use Rattle.net_base.specs.declared.world.Step.{Step}
 use Rattle.net_base.specs.declared.world.Step.TheVariants as word
 use Rattle.net_base.specs.Next.{finished_by}
-use Rattle.net_base.specs.Steps.{Ask, Bound, Play, Asks, Ends, position, play_of}
+use Rattle.net_base.specs.Scripts.{at_first, position}
+use Rattle.net_base.specs.Steps.{Ask, Bound, Play, Asks, Ends, play_of}
 use Rattle.script_task.specs.declared.request.Request.{Request}
 use Rattle.script_task.specs.Fitting.{fits}
 use Rattle.script_task.specs.Requests.{head, planned, settled}
@@ -158,8 +159,8 @@ append_one (x ∷ xs) r more = ap (λ ys. x ∷ ys) (append_one xs r more)
 continues_on : (s : Script) (rs : List Reply) (p : Play) (r : Reply) → Continues s rs p → Continues s (rs ++ r ∷ []) (follow p r)
 continues_on s rs p r goes =
     record {
-      next_is = λ more. subst (λ (xs : List Reply). (position s.host s.steps [] xs).next ≡ head (rest p (r ∷ more))) (sym (append_one rs r more)) (goes.next_is (r ∷ more));
-      left_is = λ more. subst (λ (xs : List Reply). nat_lt 0 (length (position s.host s.steps [] xs).left) ≡ is_some (head (rest p (r ∷ more)))) (sym (append_one rs r more)) (goes.left_is (r ∷ more));
+      next_is = λ more. subst (λ (xs : List Reply). (position s.host s.steps at_first xs).next ≡ head (rest p (r ∷ more))) (sym (append_one rs r more)) (goes.next_is (r ∷ more));
+      left_is = λ more. subst (λ (xs : List Reply). nat_lt 0 (length (position s.host s.steps at_first xs).left) ≡ is_some (head (rest p (r ∷ more)))) (sym (append_one rs r more)) (goes.left_is (r ∷ more));
     }
 
 same_ask : (p : Play) (ask : Ask) (r : Reply) → head p ≡ Some ask → fits ask.event r ≡ true → fits_play p r ≡ true
