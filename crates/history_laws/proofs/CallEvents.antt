@@ -132,11 +132,12 @@ module _ (h : ℕ) (P : ActorName → Event → Type 0) (R : Reply → Type 0) (
 
   found_fine : (called : List ℕ) (rs : List Remote) → Each (λ (r : Remote). IsNamed h P r.call) rs → (r : Remote) → find (λ (x : Remote). bytes_eq called x.name) rs ≡ Some r → IsNamed h P r.call
   found_fine called [] fine r is = absurd (none-some r is)
-  found_fine called (x ∷ xs) fine r is = by_case (bytes_eq called x.name) is
+  found_fine called (x ∷ xs) fine r is = by_case (bytes_eq called x.name) is (λ same. found_fine called xs fine.1 r same)
     where
-      by_case : (b : Bool) → cond b (Some x) (find (λ (y : Remote). bytes_eq called y.name) xs) ≡ Some r → IsNamed h P r.call
-      by_case true same = subst (λ (y : Remote). IsNamed h P y.call) (same_Some x r same) fine.0
-      by_case false same = found_fine called xs fine.1 r same
+      by_case : (b : Bool) → cond b (Some x) (find (λ (y : Remote). bytes_eq called y.name) xs) ≡ Some r
+          → (find (λ (y : Remote). bytes_eq called y.name) xs ≡ Some r → IsNamed h P r.call) → IsNamed h P r.call
+      by_case true same later = subst (λ (y : Remote). IsNamed h P y.call) (same_Some x r same) fine.0
+      by_case false same later = later same
 
   sends_by_good : (called : List ℕ) (names : List Bound) (o : Option Remote) (message : ℕ → Tmsg) → IsNamed h P called → ((r : Remote) → o ≡ Some r → IsNamed h P r.call) → Good (sends_by h called names o message)
   sends_by_good called names None message named fine = one.ending h P R fits _ _ names named.0
@@ -269,11 +270,11 @@ module _ (h : ℕ) (P : ActorName → Event → Type 0) (R : Reply → Type 0) (
 
   each_found : (test : List ℕ → Bool) (xs : List (List ℕ)) → Each (λ (called : List ℕ). IsNamed h P called) xs → (x : List ℕ) → find test xs ≡ Some x → IsNamed h P x
   each_found test [] each x is = absurd (none-some x is)
-  each_found test (y ∷ ys) each x is = by_case (test y) is
+  each_found test (y ∷ ys) each x is = by_case (test y) is (λ same. each_found test ys each.1 x same)
     where
-      by_case : (b : Bool) → cond b (Some y) (find test ys) ≡ Some x → IsNamed h P x
-      by_case true same = subst (λ (z : List ℕ). IsNamed h P z) (same_Some y x same) each.0
-      by_case false same = each_found test ys each.1 x same
+      by_case : (b : Bool) → cond b (Some y) (find test ys) ≡ Some x → (find test ys ≡ Some x → IsNamed h P x) → IsNamed h P x
+      by_case true same later = subst (λ (z : List ℕ). IsNamed h P z) (same_Some y x same) each.0
+      by_case false same later = later same
 
   by_taken : (k : Kept) (s : Step) (o : Option (List ℕ)) → ((x : List ℕ) → o ≡ Some x → IsNamed h P x) → FineLeft k.left → Says h P s → Good (play_by h k s o)
   by_taken k s None named fine says = own_good k s fine says
