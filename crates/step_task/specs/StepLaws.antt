@@ -1,19 +1,27 @@
 -- The task of a step stands for the step's play, and asks and moves as that does.
 use Rattle.std.proofs.Common.{◌≡◌, ℕ, Bool, true, false, List, [], ◌∷◌, Option, Some, None, bytes_eq, if◌then◌else◌, unwrap_or, refl, sym, subst, ap}
-use Rattle.std.specs.Prelude.{find, is_none, length, nat_le}
+use Rattle.std.specs.Prelude.{◌&&◌, find, is_none, length, nat_le}
 use Rattle.std.proofs.lemmas.Option.{none-some}
 use Rattle.net_base.specs.declared.left.Left.{Left}
+use Rattle.net_base.specs.declared.left.Remote.{Remote}
+use Rattle.net_base.specs.declared.names.FileName.{FileName}
+use Rattle.net_base.specs.declared.names.FileName.TheVariants as file
+use Rattle.net_base.specs.declared.ninep.Tmsg.{Tmsg}
 use Rattle.net_base.specs.declared.names.Mode.{Mode}
 use Rattle.net_base.specs.declared.reply.Reply.{Reply}
 use Rattle.net_base.specs.declared.world.Step.{Step}
 use Rattle.net_base.specs.declared.world.Step.TheVariants as step
 use Rattle.net_base.specs.Paths.{walk, reads}
 use Rattle.net_base.specs.Steps.{Bound, Fid, Play, Ends, fid_of, is_bound, bind, on_fid, opened_fid, openable, default_mode}
-use Rattle.net_base.specs.Imports.{longest_text, ropen_play, rwrite_play}
-use Rattle.net_base.specs.Remotes.{is_remote, is_remote_path}
+use Rattle.net_base.specs.Imports.{clunk_message, longest_text, read_message, ropen_play, rwrite_play, write_message}
+use Rattle.net_base.specs.Remotes.{is_remote, is_remote_path, remote_of}
 use Rattle.net_base.specs.Scripts.{new_names, own_play, play_by, step_play}
 use Rattle.step_task.specs.declared.step.StepTask.{StepTask}
 use Rattle.step_task.specs.declared.step.StepTask.TheVariants as task
+use Rattle.dial_lib.specs.declared.announce.AnnouncePhase.{AnnouncePhase}
+use Rattle.dial_lib.specs.declared.announce.AnnouncePhase.TheVariants as announce_phase
+use Rattle.dial_lib.specs.declared.dial.DialPhase.{DialPhase}
+use Rattle.dial_lib.specs.declared.dial.DialPhase.TheVariants as dial_phase
 use Rattle.dial_lib.specs.Announce as announce
 use Rattle.dial_lib.specs.AnnounceLaws as announce_laws
 use Rattle.dial_lib.specs.Beside as beside
@@ -31,11 +39,14 @@ use Rattle.step_task.specs.StepTasks as spec
 use Rattle.dial_lib.specs.WriteText as write_text
 use Rattle.dial_lib.specs.WriteTextLaws as write_text_laws
 use Rattle.net_export.specs.ExportLaws as export_laws
+use Rattle.net_import.specs.declared.errand.Errand.{Errand}
+use Rattle.net_import.specs.declared.errand.Errand.TheVariants as errands
 use Rattle.net_import.specs.ErrandLaws as errand_laws
 use Rattle.net_import.specs.Errands as errand
 use Rattle.net_import.specs.ImportLaws as import_laws
 use Rattle.net_import.specs.RopenLaws as ropen_laws
 use Rattle.net_import.specs.Ropening as ropen
+use Rattle.net_import.specs.Talks as talk
 use Rattle.script_task.specs.declared.request.Request.{Request}
 use Rattle.script_task.specs.declared.request.Request.TheVariants as request
 use Rattle.script_task.specs.Requests.{settled, bound_after}
@@ -176,3 +187,104 @@ leaves_none t left same = by (is_none (spec.asks t []))
 -- .. and is of the same kind after a reply
 pub leaves_nothing : (t : StepTask) (r : Reply) (left : Left) → ((u : StepTask) → u ≡ spec.after t r → spec.leaves u left ≡ left) → spec.left_by (spec.after t r) left ≡ left
 leaves_nothing t r left same = leaves_none (spec.after t r) left (same (spec.after t r) refl)
+
+-- Whether it is through.
+
+unbound_asks : (called : List ℕ) (b : Bool) (t : StepTask) (names : List Bound) → is_none (spec.asks t names) ≡ false → is_none (spec.asks (spec.or_unbound called b t) names) ≡ false
+unbound_asks called true t names is = is
+unbound_asks called false t names is = refl
+
+ropen_some : (o : Option Request) (b : Bool) (called : List ℕ) → is_none o ≡ false → is_none (ropen.asks_by o b called) ≡ false
+ropen_some None b called is = is
+ropen_some (Some q) true called is = refl
+ropen_some (Some q) false called is = refl
+
+errand_some : (called : List ℕ) (o : Option Remote) (message : ℕ → Tmsg) (names : List Bound) → is_none (errand.asks (errand.sends_by called o message) names) ≡ false
+errand_some called None message names = refl
+errand_some called (Some r) message names = refl
+
+begun_own_asks : (left : Left) (s : Step) (names : List Bound) → is_none (spec.asks (spec.begun_own left s) names) ≡ false
+begun_own_asks left (step.Open called path m) names = refl
+begun_own_asks left (step.Read called count) names = refl
+begun_own_asks left (step.Write called text) names = refl
+begun_own_asks left (step.Writex called text) names = refl
+begun_own_asks left (step.Close called) names = refl
+begun_own_asks left (step.Ls path) names = refl
+begun_own_asks left (step.Cs query) names = refl
+begun_own_asks left (step.Until moment) names = refl
+begun_own_asks left step.Refresh names = refl
+begun_own_asks left (step.Dial called address) names = refl
+begun_own_asks left (step.Announce called address) names = refl
+begun_own_asks left (step.Listen called from) names = refl
+begun_own_asks left (step.Accept called from) names = refl
+begun_own_asks left (step.Reject called) names = refl
+begun_own_asks left (step.Hangup called) names = refl
+-- imports
+begun_own_asks left (step.Export called) names = refl
+begun_own_asks left (step.Import call) names = refl
+begun_own_asks left (step.Ropen called call path m) names =
+    unbound_asks called (is_remote_path path) (task.Ropen (ropen.begun called call path m left)) names
+    (ropen_some _ (ropen.is_beginning (ropen.begun called call path m left) && ropen.is_taken (ropen.begun called call path m left) names) called refl)
+begun_own_asks left (step.Rread called count) names = errand_some called (remote_of called left) (λ (fid : ℕ). read_message fid count) names
+begun_own_asks left (step.Rwrite called text) names =
+    unbound_asks called (nat_le (length text) longest_text) (task.Rwrite (record { errand = errand.writes called text left })) names
+    (errand_some called (remote_of called left) (λ (fid : ℕ). write_message fid text) names)
+begun_own_asks left (step.Rclose called) names = errand_some called (remote_of called left) clunk_message names
+
+begun_by_asks : (left : Left) (s : Step) (o : Option (List ℕ)) (names : List Bound) → is_none (spec.asks (spec.begun_by left s o) names) ≡ false
+begun_by_asks left s None names = begun_own_asks left s names
+begun_by_asks left s (Some called) names = refl
+
+-- a step that has begun isn't through
+pub begun_asks : (left : Left) (s : Step) (names : List Bound) → is_none (spec.asks (spec.begun left s) names) ≡ false
+begun_asks left s names = begun_by_asks left s (find (is_remote left) (new_names s)) names
+
+beside_alike : (to : FileName) (called from : List ℕ) (b : Bool) (m n : List Bound) → is_none (beside.asks_by to called from b m) ≡ is_none (beside.asks_by to called from b n)
+beside_alike to called from true m n = refl
+beside_alike to called from false m n = refl
+
+announce_alike : (x : AnnouncePhase) (called address : List ℕ) (lines : List (List ℕ)) (m n : List Bound) → is_none (announce.asks_by x called address lines m) ≡ is_none (announce.asks_by x called address lines n)
+announce_alike announce_phase.Fresh called address lines m n = refl
+announce_alike announce_phase.Open called address lines m n = refl
+announce_alike announce_phase.Write called address lines m n = refl
+announce_alike announce_phase.Close called address lines m n = refl
+announce_alike announce_phase.Through called address lines m n = refl
+
+dial_alike : (x : DialPhase) (called address : List ℕ) (lines : List (List ℕ)) (m n : List Bound) → is_none (dial.asks_by x called address lines m) ≡ is_none (dial.asks_by x called address lines n)
+dial_alike dial_phase.Fresh called address lines m n = refl
+dial_alike dial_phase.Open called address lines m n = refl
+dial_alike dial_phase.Write called address lines m n = refl
+dial_alike dial_phase.Wait called address lines m n = refl
+dial_alike dial_phase.Retry called address lines m n = refl
+dial_alike dial_phase.Data called address lines m n = refl
+dial_alike dial_phase.Close called address lines m n = refl
+dial_alike dial_phase.Through called address lines m n = refl
+
+ropen_alike : (o : Option Request) (a b : Bool) (called : List ℕ) → is_none (ropen.asks_by o a called) ≡ is_none (ropen.asks_by o b called)
+ropen_alike None a b called = refl
+ropen_alike (Some q) true true called = refl
+ropen_alike (Some q) true false called = refl
+ropen_alike (Some q) false true called = refl
+ropen_alike (Some q) false false called = refl
+
+errand_alike : (e : Errand) (m n : List Bound) → is_none (errand.asks e m) ≡ is_none (errand.asks e n)
+errand_alike (errands.Unbound called true) m n = refl
+errand_alike (errands.Unbound called false) m n = refl
+errand_alike (errands.Talks t) m n = refl
+
+-- whether a step is through doesn't hang on the names
+pub asks_alike : (t : StepTask) (m n : List Bound) → is_none (spec.asks t m) ≡ is_none (spec.asks t n)
+asks_alike (task.OneRequest t) m n = refl
+asks_alike (task.WriteText t) m n = refl
+asks_alike (task.Reject t) m n = refl
+asks_alike (task.Listen t) m n = beside_alike file.Listen t.name t.from t.is_through m n
+asks_alike (task.Accept t) m n = beside_alike file.Data t.name t.from t.is_through m n
+asks_alike (task.Announce t) m n = announce_alike t.phase t.name t.address t.lines m n
+asks_alike (task.Dial t) m n = dial_alike t.phase t.called t.address t.lines m n
+-- imports
+asks_alike (task.Export t) m n = refl
+asks_alike (task.Import t) m n = refl
+asks_alike (task.Ropen t) m n = ropen_alike (talk.asks t.talk) (ropen.is_beginning t && ropen.is_taken t m) (ropen.is_beginning t && ropen.is_taken t n) t.name
+asks_alike (task.Rread t) m n = errand_alike t.errand m n
+asks_alike (task.Rwrite t) m n = errand_alike t.errand m n
+asks_alike (task.Rclose t) m n = errand_alike t.errand m n

@@ -77,5 +77,6 @@ pub fn worked_world_lines()
         ++ (codes "start 4294967295\nscript gate\nuntil 10\nopen c /net/il/clone\n"
         ++ (codes "open d /net/cs rw\nread d 8192\nwrite d two  words\nwritex d 000aff\n"
         ++ (codes "writex d -\nclose d\nls /net\ncs net!$auth!9fs\nrefresh\ndial e il!helix!9fs\n"
-        ++ (codes "announce a il!*!9fs\nlisten l a\naccept f l\nreject l\nhangup e\n"))))))) }
+        ++ (codes "announce a il!*!9fs\nlisten l a\naccept f l\nreject l\nhangup e\n"
+        ++ (codes "import e\nropen r e /net/udp/clone rw\nrread r 32\nrwrite r two  words\nrclose r\nexport f\n")))))))) }
 {}
