@@ -65,7 +65,8 @@ fn put_step(out: &mut Octets, step: &Step) -> Result<(), AllocError>
         } => {
             put_three(out, b"ropen", name.as_slice(), call.as_slice())?;
             put_word(out, path.as_slice())?;
-            put_word(out, mode_word(*mode))
+            let word = mode_word(*mode);
+            put_word(out, word)
         }
         Step::Rread { name, count } => {
             put_two(out, b"rread", name.as_slice())?;
