@@ -17,3 +17,4 @@ pub mod CsAnswers
 pub mod StepsAsk
 pub mod WrittenVersions
 pub mod WorldBack
+pub mod Imported

@@ -8,11 +8,13 @@ use Rattle.net_base.specs.declared.actor.ActorName.{ActorName}
 use Rattle.net_base.specs.declared.event.Event.{Event}
 use Rattle.net_base.specs.declared.history.Entry.{Entry}
 use Rattle.net_base.specs.declared.reply.Reply.{Reply}
+use Rattle.net_base.specs.declared.world.Script.{Script}
 use Rattle.net_base.specs.declared.world.Step.{Step}
 use Rattle.net_base.specs.Legal.{asked_by}
 use Rattle.net_base.specs.Scripts.{Kept, heard, kept_after, position, step_play}
 use Rattle.net_base.specs.Steps.{Ask, Bound, Play, Asks, Ends, Position, Stand, Asking, Finished, position_by, stands}
-use Rattle.net_model.specs.ScriptOrder.{Begins, Finishes, IsPlayed, StandInOrder}
+use Rattle.import_law.specs.Order.{Begins, Finishes, IsPlayed, StandInOrder}
+use Rattle.import_law.specs.Scripted.{scripted}
 
 abbrev pub replies : List Entry → List Reply
 replies xs = map (λ (x : Entry). x.reply) xs
@@ -78,63 +80,63 @@ played_take (Asks a e next) (x ∷ xs) bound (suc k) lt played = (played.0, play
 -- Steps.
 
 -- the entries stand in order, some of the steps finished
-abbrev pub Stood : ℕ → Kept → List Step → List Entry → Type 0
-Stood h k ss xs = (n : ℕ) × StandInOrder h k ss n xs
+abbrev pub Stood : Script → Kept → List Step → List Entry → Type 0
+Stood sc k ss xs = (n : ℕ) × StandInOrder (scripted sc) k ss n xs
 
-pub none_stood : (h : ℕ) (k : Kept) (ss : List Step) → Stood h k ss []
-none_stood h k [] = (0, (refl, refl))
-none_stood h k (s ∷ ss) = by (no_entry (step_play h k s)) (λ bound. none_stood h (kept_after k s bound []) ss)
+pub none_stood : (sc : Script) (k : Kept) (ss : List Step) → Stood sc k ss []
+none_stood sc k [] = (0, (refl, refl))
+none_stood sc k (s ∷ ss) = by (no_entry (step_play sc.host k s)) (λ bound. none_stood sc (kept_after k s bound []) ss)
   where
-    by : Goes (step_play h k s) [] → ((bound : List Bound) → Stood h (kept_after k s bound []) ss []) → Stood h k (s ∷ ss) []
+    by : Goes (step_play sc.host k s) [] → ((bound : List Bound) → Stood sc (kept_after k s bound []) ss []) → Stood sc k (s ∷ ss) []
     by (inl first) later = (0, first)
     by (inr over) later =
         let rest = later over.0 in
         (suc rest.0, record { own = []; rest = []; bound = over.0; all = refl; played = over.1; later = rest.1 })
 
-position_at : (h : ℕ) (k : Kept) (s : Step) (ss : List Step) (rs : List Reply) (at : Stand) → stands (step_play h k s) rs ≡ at
-    → position h (s ∷ ss) k rs ≡ position_by at (s ∷ ss) (λ (bound : List Bound) (later : List Reply). position h ss (kept_after k s bound (heard (step_play h k s) rs)) later)
-position_at h k s ss rs at is = ap (λ (stand : Stand). position_by stand (s ∷ ss) (λ (bound : List Bound) (later : List Reply). position h ss (kept_after k s bound (heard (step_play h k s) rs)) later)) is
+position_at : (sc : Script) (k : Kept) (s : Step) (ss : List Step) (rs : List Reply) (at : Stand) → stands (step_play sc.host k s) rs ≡ at
+    → position sc.host (s ∷ ss) k rs ≡ position_by at (s ∷ ss) (λ (bound : List Bound) (later : List Reply). position sc.host ss (kept_after k s bound (heard (step_play sc.host k s) rs)) later)
+position_at sc k s ss rs at is = ap (λ (stand : Stand). position_by stand (s ∷ ss) (λ (bound : List Bound) (later : List Reply). position sc.host ss (kept_after k s bound (heard (step_play sc.host k s) rs)) later)) is
 
 -- where a step is finished, the later steps go on by the other replies
-goes_on : (h : ℕ) (k : Kept) (s : Step) (ss : List Step) (n : ℕ) (xs : List Entry)
-    → (f : Finishes (step_play h k s) (λ bound own rest. StandInOrder h (kept_after k s bound (replies own)) ss n rest) xs) → position h (s ∷ ss) k (replies xs) ≡ position h ss (kept_after k s f.bound (replies f.own)) (replies f.rest)
-goes_on h k s ss n xs f =
-    position_at h k s ss (replies xs) (Finished f.bound (replies f.rest)) finished
-    ∙ ap (λ (rs : List Reply). position h ss (kept_after k s f.bound rs) (replies f.rest)) heard_own
+goes_on : (sc : Script) (k : Kept) (s : Step) (ss : List Step) (n : ℕ) (xs : List Entry)
+    → (f : Finishes (step_play sc.host k s) (λ bound own rest. StandInOrder (scripted sc) (kept_after k s bound (replies own)) ss n rest) xs) → position sc.host (s ∷ ss) k (replies xs) ≡ position sc.host ss (kept_after k s f.bound (replies f.own)) (replies f.rest)
+goes_on sc k s ss n xs f =
+    position_at sc k s ss (replies xs) (Finished f.bound (replies f.rest)) finished
+    ∙ ap (λ (rs : List Reply). position sc.host ss (kept_after k s f.bound rs) (replies f.rest)) heard_own
   where
-    heard_own : heard (step_play h k s) (replies xs) ≡ replies f.own
+    heard_own : heard (step_play sc.host k s) (replies xs) ≡ replies f.own
     heard_own =
-        ap (λ (ys : List Entry). heard (step_play h k s) (replies ys)) f.all
-        ∙ (ap (λ (rs : List Reply). heard (step_play h k s) rs) (map-append (λ (x : Entry). x.reply) f.own f.rest)
-        ∙ played_heard (step_play h k s) f.own f.bound (replies f.rest) f.played)
+        ap (λ (ys : List Entry). heard (step_play sc.host k s) (replies ys)) f.all
+        ∙ (ap (λ (rs : List Reply). heard (step_play sc.host k s) rs) (map-append (λ (x : Entry). x.reply) f.own f.rest)
+        ∙ played_heard (step_play sc.host k s) f.own f.bound (replies f.rest) f.played)
 
-    finished : stands (step_play h k s) (replies xs) ≡ Finished f.bound (replies f.rest)
+    finished : stands (step_play sc.host k s) (replies xs) ≡ Finished f.bound (replies f.rest)
     finished =
-        ap (λ (ys : List Entry). stands (step_play h k s) (replies ys)) f.all
-        ∙ (ap (λ (rs : List Reply). stands (step_play h k s) rs) (map-append (λ (x : Entry). x.reply) f.own f.rest)
-        ∙ played_finishes (step_play h k s) f.own f.bound (replies f.rest) f.played)
+        ap (λ (ys : List Entry). stands (step_play sc.host k s) (replies ys)) f.all
+        ∙ (ap (λ (rs : List Reply). stands (step_play sc.host k s) rs) (map-append (λ (x : Entry). x.reply) f.own f.rest)
+        ∙ played_finishes (step_play sc.host k s) f.own f.bound (replies f.rest) f.played)
 
-pub stood_push : (h : ℕ) (k : Kept) (ss : List Step) (n : ℕ) (xs : List Entry) (x : Entry)
-    → StandInOrder h k ss n xs → (position h ss k (replies xs)).next ≡ Some (asked_by x) → Stood h k ss (xs ++ x ∷ [])
-stood_push h k [] n xs x there is = absurd (none-some (asked_by x) is)
-stood_push h k (s ∷ ss) zero xs x first is = by (play_push (step_play h k s) xs x first asks)
+pub stood_push : (sc : Script) (k : Kept) (ss : List Step) (n : ℕ) (xs : List Entry) (x : Entry)
+    → StandInOrder (scripted sc) k ss n xs → (position sc.host ss k (replies xs)).next ≡ Some (asked_by x) → Stood sc k ss (xs ++ x ∷ [])
+stood_push sc k [] n xs x there is = absurd (none-some (asked_by x) is)
+stood_push sc k (s ∷ ss) zero xs x first is = by (play_push (step_play sc.host k s) xs x first asks)
   where
-    asking : (ask : Ask) × (stands (step_play h k s) (replies xs) ≡ Asking ask)
-    asking = begins_asks (step_play h k s) xs first
+    asking : (ask : Ask) × (stands (step_play sc.host k s) (replies xs) ≡ Asking ask)
+    asking = begins_asks (step_play sc.host k s) xs first
 
-    asks : stands (step_play h k s) (replies xs) ≡ Asking (asked_by x)
+    asks : stands (step_play sc.host k s) (replies xs) ≡ Asking (asked_by x)
     asks =
         asking.1
         ∙ ap (λ (ask : Ask). Asking ask)
-        (same_Some asking.0 (asked_by x) (sym (ap (λ (p : Position). p.next) (position_at h k s ss (replies xs) (Asking asking.0) asking.1)) ∙ is))
+        (same_Some asking.0 (asked_by x) (sym (ap (λ (p : Position). p.next) (position_at sc k s ss (replies xs) (Asking asking.0) asking.1)) ∙ is))
 
-    by : Goes (step_play h k s) (xs ++ x ∷ []) → Stood h k (s ∷ ss) (xs ++ x ∷ [])
+    by : Goes (step_play sc.host k s) (xs ++ x ∷ []) → Stood sc k (s ∷ ss) (xs ++ x ∷ [])
     by (inl more) = (0, more)
     by (inr over) =
-        let rest = none_stood h (kept_after k s over.0 (replies (xs ++ x ∷ []))) ss in
+        let rest = none_stood sc (kept_after k s over.0 (replies (xs ++ x ∷ []))) ss in
         (suc rest.0, record { own = xs ++ x ∷ []; rest = []; bound = over.0; all = sym (append-nil (xs ++ x ∷ [])); played = over.1; later = rest.1 })
-stood_push h k (s ∷ ss) (suc n) xs x f is =
-    let rest = stood_push h (kept_after k s f.bound (replies f.own)) ss n f.rest x f.later (sym (ap (λ (p : Position). p.next) (goes_on h k s ss n xs f)) ∙ is) in (
+stood_push sc k (s ∷ ss) (suc n) xs x f is =
+    let rest = stood_push sc (kept_after k s f.bound (replies f.own)) ss n f.rest x f.later (sym (ap (λ (p : Position). p.next) (goes_on sc k s ss n xs f)) ∙ is) in (
       suc rest.0,
       record {
         own = f.own;
@@ -147,39 +149,39 @@ stood_push h k (s ∷ ss) (suc n) xs x f is =
     )
 
 -- the steps that aren't finished are left
-pub counted : (h : ℕ) (k : Kept) (ss : List Step) (n : ℕ) (xs : List Entry)
-    → StandInOrder h k ss n xs → length (position h ss k (replies xs)).left + n ≡ length ss
-counted h k [] n xs there = omega (arith, there.0)
-counted h k (s ∷ ss) zero xs first =
-    let asking = begins_asks (step_play h k s) xs first in
-    let left : length (position h (s ∷ ss) k (replies xs)).left ≡ length (s ∷ ss) =
-    ap (λ (p : Position). length p.left) (position_at h k s ss (replies xs) (Asking asking.0) asking.1) in
+pub counted : (sc : Script) (k : Kept) (ss : List Step) (n : ℕ) (xs : List Entry)
+    → StandInOrder (scripted sc) k ss n xs → length (position sc.host ss k (replies xs)).left + n ≡ length ss
+counted sc k [] n xs there = omega (arith, there.0)
+counted sc k (s ∷ ss) zero xs first =
+    let asking = begins_asks (step_play sc.host k s) xs first in
+    let left : length (position sc.host (s ∷ ss) k (replies xs)).left ≡ length (s ∷ ss) =
+    ap (λ (p : Position). length p.left) (position_at sc k s ss (replies xs) (Asking asking.0) asking.1) in
     omega (arith, left)
-counted h k (s ∷ ss) (suc n) xs f =
-    let rest = counted h (kept_after k s f.bound (replies f.own)) ss n f.rest f.later in
-    let left : length (position h (s ∷ ss) k (replies xs)).left ≡ length (position h ss (kept_after k s f.bound (replies f.own)) (replies f.rest)).left =
-    ap (λ (p : Position). length p.left) (goes_on h k s ss n xs f) in
+counted sc k (s ∷ ss) (suc n) xs f =
+    let rest = counted sc (kept_after k s f.bound (replies f.own)) ss n f.rest f.later in
+    let left : length (position sc.host (s ∷ ss) k (replies xs)).left ≡ length (position sc.host ss (kept_after k s f.bound (replies f.own)) (replies f.rest)).left =
+    ap (λ (p : Position). length p.left) (goes_on sc k s ss n xs f) in
     omega (arith, rest, left)
 
 -- the first entries stand in order too
-pub stood_take : (h : ℕ) (k : Kept) (ss : List Step) (n : ℕ) (xs : List Entry) (many : ℕ) → StandInOrder h k ss n xs → Stood h k ss (take many xs)
-stood_take h k [] n xs many there = (0, (refl, ap (λ (ys : List Entry). take many ys) there.1 ∙ of_none many))
+pub stood_take : (sc : Script) (k : Kept) (ss : List Step) (n : ℕ) (xs : List Entry) (many : ℕ) → StandInOrder (scripted sc) k ss n xs → Stood sc k ss (take many xs)
+stood_take sc k [] n xs many there = (0, (refl, ap (λ (ys : List Entry). take many ys) there.1 ∙ of_none many))
   where
     of_none : (j : ℕ) → take {A = Entry} j [] ≡ []
     of_none zero = refl
     of_none (suc j) = refl
-stood_take h k (s ∷ ss) zero xs many first = (0, begins_take (step_play h k s) xs many first)
-stood_take h k (s ∷ ss) (suc n) xs many f = by (nat_lt many (length f.own)) refl (λ j. stood_take h (kept_after k s f.bound (replies f.own)) ss n f.rest j f.later)
+stood_take sc k (s ∷ ss) zero xs many first = (0, begins_take (step_play sc.host k s) xs many first)
+stood_take sc k (s ∷ ss) (suc n) xs many f = by (nat_lt many (length f.own)) refl (λ j. stood_take sc (kept_after k s f.bound (replies f.own)) ss n f.rest j f.later)
   where
     cut : take many xs ≡ take many (f.own ++ f.rest)
     cut = ap (λ (ys : List Entry). take many ys) f.all
 
-    by : (b : Bool) → nat_lt many (length f.own) ≡ b → ((j : ℕ) → Stood h (kept_after k s f.bound (replies f.own)) ss (take j f.rest)) → Stood h k (s ∷ ss) (take many xs)
+    by : (b : Bool) → nat_lt many (length f.own) ≡ b → ((j : ℕ) → Stood sc (kept_after k s f.bound (replies f.own)) ss (take j f.rest)) → Stood sc k (s ∷ ss) (take many xs)
     by true is later =
         let lt = ltb-true many (length f.own) is in (
           0,
-          subst (Begins (step_play h k s)) (sym (cut ∙ take-append-le many f.own f.rest (omega (arith, lt))))
-              (played_take (step_play h k s) f.own f.bound many lt f.played),
+          subst (Begins (step_play sc.host k s)) (sym (cut ∙ take-append-le many f.own f.rest (omega (arith, lt))))
+              (played_take (step_play sc.host k s) f.own f.bound many lt f.played),
         )
     by false is later =
         let le = ltb-false many (length f.own) is in

@@ -15,7 +15,7 @@ use Rattle.net_base.specs.Paths.{reads, writes}
 use Rattle.net_base.specs.Remotes.{is_remote, is_remote_path, remote_of}
 use Rattle.net_base.specs.Scripts.{Kept, new_names, own_play, play_by, step_play}
 use Rattle.net_base.specs.Steps.{Bound, Fid, Play, Ends, asks_cs, controls, dials, dotted_name, fid_of, is_bound, misuses, on_fid, puts, uses, with_bound, with_new, with_readable, with_writable}
-use Rattle.net_model.specs.ScriptOrder.{Begins}
+use Rattle.import_law.specs.Order.{Begins}
 
 -- the play asks first
 abbrev Asking : Play → Type 0

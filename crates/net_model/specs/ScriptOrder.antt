@@ -16,44 +16,9 @@ use Rattle.net_base.specs.Legal.{asked_by}
 use Rattle.net_base.specs.Net.{after, owed}
 use Rattle.net_base.specs.Next.{answered, by, finished_by, own_replies}
 use Rattle.net_base.specs.Stamped.{In}
-use Rattle.net_base.specs.Scripts.{Kept, at_first, kept_after, step_play}
-use Rattle.net_base.specs.Steps.{Bound, Play, Asks, Ends}
-
--- the entries of a caller that nothing owed, in order
-abbrev pub own_entries : List Entry → ℕ → List Entry
-own_entries h c = filter (λ (x : Entry). is_none x.cites) (by h c)
-
--- the play records exactly these entries, each by the replies before it, and ends with these names bound
-abbrev pub IsPlayed : Play → List Entry → List Bound → Type 0
-IsPlayed (Ends names) [] bound = names ≡ bound
-IsPlayed (Ends names) (x ∷ xs) bound = ⊥
-IsPlayed (Asks a e next) [] bound = ⊥
-IsPlayed (Asks a e next) (x ∷ xs) bound = (asked_by x ≡ record { actor = a; event = e }) × IsPlayed (next x.reply) xs bound
-
--- these are the first entries of the play, which records another after them
-abbrev pub Begins : Play → List Entry → Type 0
-Begins (Ends names) xs = ⊥
-Begins (Asks a e next) [] = Unit {0}
-Begins (Asks a e next) (x ∷ xs) = (asked_by x ≡ record { actor = a; event = e }) × Begins (next x.reply) xs
-
--- a step is finished: its play's entries stand first, and those of later steps after them
-pub record Finishes (play : Play) (Later : List Bound → List Entry → List Entry → Type 0) (entries : List Entry) : Type 0 where
-  pub own : List Entry
-  pub rest : List Entry
-  pub bound : List Bound
-  pub all : entries ≡ own ++ rest
-  pub played : IsPlayed play own bound
-  pub later : Later bound own rest
-
-abbrev pub replies_of : List Entry → List Reply
-replies_of xs = map (λ (x : Entry). x.reply) xs
-
--- the entries of these steps of a host's script, where this is kept: so many steps are finished, the next one, if any, isn't over, and
--- those after it have no entry
-abbrev pub StandInOrder : ℕ → Kept → List Step → ℕ → List Entry → Type 0
-StandInOrder h k [] n xs = (n ≡ 0) × (xs ≡ [])
-StandInOrder h k (s ∷ ss) zero xs = Begins (step_play h k s) xs
-StandInOrder h k (s ∷ ss) (suc n) xs = Finishes (step_play h k s) (λ bound own rest. StandInOrder h (kept_after k s bound (replies_of own)) ss n rest) xs
+use Rattle.net_base.specs.Scripts.{at_first}
+use Rattle.import_law.specs.Order.{StandInOrder, own_entries}
+use Rattle.import_law.specs.Scripted.{scripted}
 
 -- the entries of steps of which a caller owes nothing: what it owes is of the step of its last own entry
 abbrev pub settled : Bool → List Entry → List Entry
@@ -77,6 +42,6 @@ pub record IsOfLastStep (h : List Entry) (c : ℕ) (d : Duty) : Type 0 where
 -- what a history has of the script of a caller
 pub record KeepsScript (w : World) (h : List Entry) (c : ℕ) (s : Script) : Type 0 where
   -- the steps that are finished, and those that are answered
-  pub finished : StandInOrder s.host at_first s.steps (finished_by (own_replies h c) s) (own_entries h c)
-  pub answered_is : StandInOrder s.host at_first s.steps (answered h c (owes (after w h) c) s) (settled (owes (after w h) c) (own_entries h c))
+  pub finished : StandInOrder (scripted s) at_first s.steps (finished_by (own_replies h c) s) (own_entries h c)
+  pub answered_is : StandInOrder (scripted s) at_first s.steps (answered h c (owes (after w h) c) s) (settled (owes (after w h) c) (own_entries h c))
   pub owed_is : (d : Duty) → In d (owed w h c) → IsOfLastStep h c d

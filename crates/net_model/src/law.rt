@@ -4,7 +4,8 @@ ghost use Rattle.net_base.specs.declared.event.Event.TheVariants as event;
 ghost use Rattle.net_base.specs.declared.history.Entry.{Entry};
 ghost use Rattle.net_base.specs.declared.world.World.{World};
 ghost use Rattle.net_model.specs.Headline.{AnswersCs, Headline};
-ghost use Rattle.net_model.specs.ScriptOrder.{Begins, KeepsScript};
+ghost use Rattle.import_law.specs.Order.{Begins};
+ghost use Rattle.net_model.specs.ScriptOrder.{KeepsScript};
 ghost use Rattle.net_base.specs.Scripts.{Kept, step_play};
 ghost use Rattle.net_base.specs.declared.world.Step.{Step};
 ghost use Rattle.net_base.specs.declared.world.Script.{Script};
@@ -13,6 +14,7 @@ ghost use Rattle.net_base.specs.Callers.{IsScript, caller_of};
 ghost use Rattle.net_base.specs.Legal.{IsLegal};
 ghost use Rattle.net_base.specs.Plain.{IsPlain};
 
+use import_law::imports_are_answered;
 use prefix_law::prefix_law;
 
 /// Every legal history of a world is plain: names are words, lines have no newline, and paths are made of bytes.
@@ -38,4 +40,5 @@ pub fn legal_histories_keep_it()
     ensures { (w : World) (h : List Entry) → IsWorld w → IsLegal w h → Headline w h }
 {
     prefix_law();
+    imports_are_answered();
 }

@@ -107,7 +107,7 @@ moves_so h names (AtStep n left t behind) p q r at asked fit =
     subst (λ (x : Play). StandsFor h (settled names q r) (after (AtStep n left t behind) r) x) (sym is)
     (moves_by h n (settled names q r) left (step.after t r) behind (follow at.step_play r) at.step_is (at.said ++ r ∷ [])
     (step_laws.moves_so h names t at.step_play q r at.stands_for asked fits_step) told
-    (leaving.leaves_so left at.step_is at.said r t (settled names q r) at.told (step_laws.asks_alike t names [] ∙ at.asks_on))
+    (leaving.leaves_so left at.step_is at.said r t (settled names q r) at.told (sym (step_laws.asks_alike t names []) ∙ at.asks_on))
     (is_none (step.asks (step.after t r) [])) (step_laws.asks_alike (step.after t r) (settled names q r) []))
 moves_so h names (AtEnd n left) p q r at asked fit = absurd (none-some q asked)
 
