@@ -7,8 +7,10 @@ mod event;
 mod headers;
 mod history;
 mod il;
+mod left;
 mod names;
 mod ndb;
+mod ninep;
 mod noted;
 mod numbers;
 mod octets;
@@ -17,6 +19,7 @@ mod question;
 mod reply;
 mod sequence;
 mod timer;
+mod tops;
 mod udp;
 mod world;
 
@@ -26,8 +29,10 @@ pub use event::Event;
 pub use headers::{Headers, Heard};
 pub use history::{Entry, History, Outcome, Taken, With, Work};
 pub use il::{Cause, IlKind, IlMsg, IlState, StateName};
+pub use left::{Left, Remote, Remotes};
 pub use names::{Ctl, FileName, Mode, Node};
 pub use ndb::{Db, Line, NdbPair, Tuple};
+pub use ninep::{Qid, Qids, Rmsg, Target, Tmsg};
 pub use noted::{Noted, Number};
 pub use numbers::number;
 pub use octets::{Lines, Octets};
@@ -36,6 +41,7 @@ pub use question::Question;
 pub use reply::Reply;
 pub use sequence::Sequence;
 pub use timer::{Probe, Tick, Timers};
+pub use tops::all_tops;
 pub use udp::UdpState;
 pub use world::{
     Fate, FateRange, Fates, HostSpec, Hosts, Iface, Ifaces, Media, MediumSpec, Nets, RouteLine,

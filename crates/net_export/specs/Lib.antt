@@ -1,3 +1,7 @@
 pub mod Counted
 pub mod Placed
 pub mod Answered
+pub mod Rows
+pub mod Serving
+pub mod Exporting
+pub mod ExportLaws

@@ -18,3 +18,4 @@ pub mod StepsAsk
 pub mod VersionInForce
 pub mod WrittenVersions
 pub mod WorldBack
+pub mod Imported

@@ -15,8 +15,10 @@ use Rattle.net_base.specs.Duties.{Duty}
 use Rattle.net_base.specs.Legal.{IsAsked, IsLegal, MayFollow, asked_by, cites_of}
 use Rattle.net_base.specs.Net.{after, owed}
 use Rattle.net_base.specs.Next.{answered, by, finished_by, next, next_of, own_replies, standing, zone_of}
-use Rattle.net_base.specs.Steps.{no_names}
-use Rattle.net_model.specs.ScriptOrder.{KeepsScript, StandInOrder, own_entries, settled}
+use Rattle.net_base.specs.Scripts.{at_first}
+use Rattle.import_law.specs.Order.{StandInOrder, own_entries}
+use Rattle.import_law.specs.Scripted.{scripted}
+use Rattle.net_model.specs.ScriptOrder.{KeepsScript, settled}
 use Rattle.history_laws.proofs.Histories.{by_entries}
 use Rattle.net_model.proofs.LastOwn.{of_last_step}
 use Rattle.net_model.proofs.Plays.{Stood, counted, none_stood, replies, stood_push, stood_take}
@@ -37,7 +39,7 @@ one_own x is = rw is refl
 
 module _ (w : World) (c : ℕ) (s : Script) (caller_is : caller_of w c ≡ IsScript s) where
   abbrev HasStood : List Entry → Type 0
-  HasStood xs = Stood s.host (no_names (zone_of w)) s.steps xs
+  HasStood xs = Stood (zone_of w) s (at_first (zone_of w)) s.steps xs
 
   push : (h : List Entry) (x : Entry) → IsLegal w h → MayFollow w h x → HasStood (own_entries h c) → HasStood (own_entries (h ++ x ∷ []) c)
   push h x legal may there = subst HasStood (sym (own_push h c x)) (by_caller (x.caller == c) refl)
@@ -49,7 +51,7 @@ module _ (w : World) (c : ℕ) (s : Script) (caller_is : caller_of w c ≡ IsScr
       by_cites (Some k) is same = rw is unmoved
       by_cites None is same =
           subst HasStood (ap (λ (xs : List Entry). own_entries h c ++ xs) (sym (one_own x is)))
-          (stood_push s.host (no_names (zone_of w)) s.steps there.0 (own_entries h c) x there.1
+          (stood_push (zone_of w) s (at_first (zone_of w)) s.steps there.0 (own_entries h c) x there.1
           (asks_next w h (owed w h c) (caller_of w c) c s x (sym is ∙ subst (λ (d : ℕ). x.cites ≡ cites_of (owed w h d)) same may.cites) caller_is
           (subst (λ (d : ℕ). IsAsked (owed w h d) (caller_of w d) (next w h d) x) same may.is_asked)))
 
@@ -58,21 +60,21 @@ module _ (w : World) (c : ℕ) (s : Script) (caller_is : caller_of w c ≡ IsScr
       by_caller true is = rw is (by_cites x.cites refl (eqb-true x.caller c is))
 
   stood : (h : List Entry) → IsLegal w h → HasStood (own_entries h c)
-  stood h legal = by_entries w (λ (k : List Entry). HasStood (own_entries k c)) (none_stood s.host (no_names (zone_of w)) s.steps) push h legal
+  stood h legal = by_entries w (λ (k : List Entry). HasStood (own_entries k c)) (none_stood (zone_of w) s (at_first (zone_of w)) s.steps) push h legal
 
   -- so many steps are finished
-  finished : (xs : List Entry) → HasStood xs → StandInOrder s.host (no_names (zone_of w)) s.steps (finished_by (zone_of w) (replies xs) s) xs
+  finished : (xs : List Entry) → HasStood xs → StandInOrder (scripted (zone_of w) s) (at_first (zone_of w)) s.steps (finished_by (zone_of w) (replies xs) s) xs
   finished xs there =
-      let count = counted s.host (no_names (zone_of w)) s.steps there.0 xs there.1 in
+      let count = counted (zone_of w) s (at_first (zone_of w)) s.steps there.0 xs there.1 in
       let is : there.0 ≡ finished_by (zone_of w) (replies xs) s = omega (arith, count) in
-      subst (λ (n : ℕ). StandInOrder s.host (no_names (zone_of w)) s.steps n xs) is there.1
+      subst (λ (n : ℕ). StandInOrder (scripted (zone_of w) s) (at_first (zone_of w)) s.steps n xs) is there.1
 
   -- the same of the entries of steps of which nothing is owed
-  answers : (h : List Entry) (b : Bool) → HasStood (own_entries h c) → StandInOrder s.host (no_names (zone_of w)) s.steps (answered w h c b s) (settled b (own_entries h c))
+  answers : (h : List Entry) (b : Bool) → HasStood (own_entries h c) → StandInOrder (scripted (zone_of w) s) (at_first (zone_of w)) s.steps (answered w h c b s) (settled b (own_entries h c))
   answers h false there = finished (own_entries h c) there
   answers h true there =
-      subst (λ (rs : List Reply). StandInOrder s.host (no_names (zone_of w)) s.steps (finished_by (zone_of w) rs s) (settled true (own_entries h c))) cut
-      (finished (settled true (own_entries h c)) (stood_take s.host (no_names (zone_of w)) s.steps there.0 (own_entries h c) (length (own_entries h c) - 1) there.1))
+      subst (λ (rs : List Reply). StandInOrder (scripted (zone_of w) s) (at_first (zone_of w)) s.steps (finished_by (zone_of w) rs s) (settled true (own_entries h c))) cut
+      (finished (settled true (own_entries h c)) (stood_take (zone_of w) s (at_first (zone_of w)) s.steps there.0 (own_entries h c) (length (own_entries h c) - 1) there.1))
     where
       cut : replies (settled true (own_entries h c)) ≡ take (length (own_replies h c) - 1) (own_replies h c)
       cut =

@@ -14,10 +14,13 @@ use Rattle.net_base.specs.declared.world.Step.TheVariants as step
 use Rattle.net_base.specs.DatagramHeaders.{has_headers}
 use Rattle.net_base.specs.Plain.{IsClean, IsWord, IsLine, AreLines, AreBytes, IsPlainEvent, IsPlainReply}
 use Rattle.net_base.specs.Steps.{call_names, is_blank, clone_path, lines_in, dotted_name}
+use Rattle.net_base.specs.Exports.{dotted_fid}
+use Rattle.net_base.specs.Paths.{path_of}
+use Rattle.net_base.specs.Remotes.{is_remote_path}
 use Rattle.net_base.specs.World.{is_within, is_letter, is_name_byte, is_name, is_byte, is_text, is_word, is_step}
 use Rattle.history_laws.proofs.Ordered.{Each}
 use Rattle.net_model.proofs.PlainTexts.{IsText, ListsTexts}
-use Rattle.history_laws.proofs.StepEvents.{IsOther, own_other, IsOpened, IsNamed, Fits, Says}
+use Rattle.history_laws.proofs.StepEvents.{IsOther, own_other, IsOpened, IsNamed, Fits, IsExporting, Says}
 
 -- The words of a file.
 
@@ -141,6 +144,13 @@ dotted_named h called is = (dotted_word called is, dotted_word called is)
 calls_named : (h : ℕ) → Each (λ (called : List ℕ). IsNamed h PlainAt called) call_names
 calls_named h = (dotted_named h (codes "d") refl, (dotted_named h (codes "c") refl, (dotted_named h (codes "r") refl, (dotted_named h (codes "l") refl, tt))))
 
+-- a name with a dot and a number is a word, and the path of a node is made of bytes
+exporting_plain : (h : ℕ) → IsExporting h PlainAt
+exporting_plain h = record {
+  named = λ n. (numbered_word n, numbered_word n);
+  opened = λ at a m. path_bytes at;
+}
+
 -- a step that a file can say
 says_plain : (h : ℕ) (s : Step) → is_step s ≡ true → Says h PlainAt s
 says_plain h (step.Open called path m) is =
@@ -169,6 +179,15 @@ says_plain h (step.Hangup called) is = named h called is
 says_plain h (step.Hread called count) is = (named h called (and_parts (is_name called) (is_within 1 65536 count) is).0, calls_named h)
 says_plain h (step.Hwrite called bytes) is = (named h called (and_parts (is_name called) (list_all is_byte bytes && has_headers bytes) is).0, calls_named h)
 says_plain h (step.Dns called times) is = (named h called (and_parts (is_name called) (is_within 1 1000 times) is).0, calls_named h)
+-- imports
+says_plain h (step.Export called) is = (named h called is, exporting_plain h)
+says_plain h (step.Import call) is = named h call is
+says_plain h (step.Ropen called call path m) is =
+    let parts = and_parts (is_name called) (is_name call && (is_word path && is_remote_path path)) is in
+    (named h called parts.0, named h call (and_parts (is_name call) (is_word path && is_remote_path path) parts.1).0)
+says_plain h (step.Rread called count) is = named h called (and_parts (is_name called) (is_within 1 488 count) is).0
+says_plain h (step.Rwrite called text) is = named h called (and_parts (is_name called) (is_text text && is_within 1 488 (length text)) is).0
+says_plain h (step.Rclose called) is = named h called is
 
 pub steps_plain : (h : ℕ) (steps : List Step) → list_all is_step steps ≡ true → Each (λ (s : Step). Says h PlainAt s) steps
 steps_plain h [] all = tt

@@ -415,7 +415,7 @@ module _ (w : World) (net : Net) (world : IsWorld w) (rests : Rests w net) (is_c
       let waits = all_in (λ (k : ℕ). not (can_go_on w net k)) (range_with_len 0 (length w.scripts)) c all_wait (in_range 0 (length w.scripts) c (omega arith) (omega (arith, slice_get_within w.scripts c s is))) in
       let waits_so : not (is_ready w net (next_of w (IsScript s) net.past c)) ≡ true =
       subst (λ (o : Option Script). not (is_ready w net (next_of w (option_map_or (λ (t : Script). IsScript t) o (other_caller w c)) net.past c)) ≡ true) is waits in
-      by_ask s.host (next_of w (IsScript s) net.past c) lt (fine_position s.host s.steps (no_names (zone_of w)) (own_replies net.past c)) (not_is (is_ready w net (next_of w (IsScript s) net.past c)) waits_so)
+      by_ask s.host (next_of w (IsScript s) net.past c) lt (fine_position s.host s.steps (zone_of w) (own_replies net.past c)) (not_is (is_ready w net (next_of w (IsScript s) net.past c)) waits_so)
 
   -- the clock's target is beyond the moment, where the end is
   rises : net.moment < w.end → net.moment < target w net

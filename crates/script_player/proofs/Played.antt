@@ -19,10 +19,10 @@ use Rattle.script_task.specs.Fitting.{fits}
 use Rattle.script_task.specs.Requests.{head, planned, settled}
 use Rattle.script_task.specs.Task.{Heads, follow, fits_play}
 use Rattle.script_task.proofs.Settling.{settles_so}
-use Rattle.dial_lib.specs.declared.step.StepTask.{StepTask}
+use Rattle.step_task.specs.declared.step.StepTask.{StepTask}
 use Rattle.dial_lib.specs.Slots.{HaveSlots}
-use Rattle.dial_lib.specs.StepTasks.{StandsFor, asks, after, begun}
-use Rattle.dial_lib.specs.StepLaws.{begun_stands, asks_so, moves_so}
+use Rattle.step_task.specs.StepTasks.{StandsFor, asks, after, begun}
+use Rattle.step_task.specs.StepLaws.{begun_stands, asks_so, moves_so}
 use Rattle.script_player.specs.Players.{Playing, asked, position_after, next_after, Plays, Leaves, Knows, InStep, Between, IsAtBy, IsAt, begun_by, begun_in, request_by, request_of, asked_by, asked_at, with_room, prepared_by, prepared, expected_by, expected_in, heard_by, heard, left_by, left}
 
 -- Lists.

@@ -16,8 +16,8 @@ use Rattle.net_base.specs.declared.world.Step.TheVariants as step
 use Rattle.net_base.specs.ControlWords as control
 use Rattle.net_base.specs.Paths.{reads, walk, writes}
 use Rattle.net_base.specs.Steps.{uses, misuses, ends_with, read_event, opens, Ask, Asks, Bound, Ends, Fid, Play, bind, controls, conversation_of, fid_of, if_accepted, is_accepted, is_bound, on_fid, open_event, openable, opened_fid, play_of, puts, unbind}
-use Rattle.sessions.specs.Server.{Doing, Waits, doing_of, outcome}
-use Rattle.sessions.specs.Session.{State}
+use Rattle.net_base.specs.Server.{Doing, Waits, doing_of, outcome}
+use Rattle.net_base.specs.Session.{State}
 use Rattle.script_task.specs.declared.request.Request.{Request}
 use Rattle.script_task.specs.declared.effect.Effect.{Effect}
 use Rattle.script_task.specs.declared.planned.Planned.{Planned}

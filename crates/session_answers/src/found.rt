@@ -1,6 +1,6 @@
 //! The lines of cs by fids.
-ghost use Rattle.std.specs.Prelude.{◌≡◌, [], OnOk};
-ghost use Rattle.sessions.specs.Answers.{with_found};
+ghost use Rattle.std.specs.Prelude.{◌≡◌, [], OnErr, OnOk};
+ghost use Rattle.net_base.specs.SessionAnswers.{with_found};
 ghost use Rattle.session_answers.specs.Found.{lines_by};
 
 use indexmap::IndexMap;
@@ -35,7 +35,8 @@ impl Found {
 
     /// A fid has these lines.
     pub fn set(&mut self, fid: u32, lines: Octets) -> Result<(), AllocError>
-        ensures { OnOk result (lines_by self.new ≡ with_found fid lines (lines_by self.old)) }
+        ensures ok { OnOk result (lines_by self.new ≡ with_found fid lines (lines_by self.old)) }
+        ensures err { OnErr result (self.new.entries.entries ≡ self.old.entries.entries) }
     {
         self.entries.insert(fid, lines)?;
         Ok(())

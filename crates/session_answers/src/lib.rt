@@ -10,6 +10,10 @@ mod said;
 mod session;
 
 pub use answers::answers_by;
+pub use found::Found;
+pub use replied::{node_at, replied};
+pub use said::{error, said};
+pub use session::{lines_in, request_of};
 
 #[cfg(test)]
 mod tests;

@@ -1,6 +1,6 @@
 //! Replies as a history prints them.
 ghost use Rattle.std.specs.Prelude.{◌≡◌, drop, take, IfOk};
-ghost use Rattle.sessions.specs.Answers as spec;
+ghost use Rattle.net_base.specs.SessionAnswers as spec;
 
 use net_base::{Octets, Reply};
 use std::alloc::{AllocError, Global};

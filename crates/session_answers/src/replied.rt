@@ -1,14 +1,15 @@
 //! The answers to messages with a step, by the reply to its last event.
 ghost use Rattle.std.specs.Prelude.{◌≡◌, IfOk};
-ghost use Rattle.ninep_wire.specs.declared.request.Tmsg.TheVariants as t;
-ghost use Rattle.ninep_wire.specs.Messages.{IsTmsg, t_tag};
-ghost use Rattle.sessions.specs.Answers as spec;
+ghost use Rattle.net_base.specs.declared.ninep.Tmsg.TheVariants as t;
+ghost use Rattle.net_base.specs.NinepMessages.{IsTmsg, t_tag};
+ghost use Rattle.net_base.specs.SessionAnswers as spec;
 ghost use Rattle.session_script.specs.Seen.{seen};
 
 use crate::printed::printed;
 use crate::said::{error, piece, qid_of};
 use net_base::{FileName, Node, Octets, Reply};
 use ninep_wire::{Rmsg, Tmsg};
+use script_task::bytes_in;
 use session_script::{Table, is_data};
 use std::alloc::{AllocError, Global};
 
@@ -118,15 +119,6 @@ fn read(
     };
     let bytes = Octets::from_slice(alloc, piece(bytes_in(reply), skipped, table.room(count)))?;
     Ok(Rmsg::Read { tag, bytes })
-}
-
-fn bytes_in(reply: &Reply) -> &[u8]
-    ensures { result.now ≡ spec.bytes_in reply.now }
-{
-    match reply {
-        Reply::Bytes { bytes } => bytes.as_slice(),
-        _ => &[],
-    }
 }
 
 /// The tag of a request.

@@ -1,10 +1,10 @@
 //! The answers to messages without a step.
 ghost use Rattle.std.specs.Prelude.{◌≡◌, ◌<◌, map, IfOk};
-ghost use Rattle.ninep_wire.specs.declared.answer.Rmsg.TheVariants as r;
+ghost use Rattle.net_base.specs.declared.ninep.Rmsg.TheVariants as r;
 ghost use Rattle.session_script.specs.Seen.{seen};
 ghost use Rattle.session_answers.specs.Found.{lines_by};
-ghost use Rattle.sessions.specs.Answers as spec;
-ghost use Rattle.sessions.specs.Files as files;
+ghost use Rattle.net_base.specs.SessionAnswers as spec;
+ghost use Rattle.net_base.specs.SessionFiles as files;
 
 use crate::found::Found;
 use net_base::{FileName, Lines, Node, Octets, Proto, Sequence};
@@ -89,7 +89,7 @@ fn version_answer(
     let version = Octets::from_slice(alloc, spoken(version.as_slice()))?;
     Ok(Rmsg::Version {
         tag,
-        msize: msize.min(8216),
+        msize: msize.min(table.msize),
         version,
     })
 }

@@ -3,16 +3,16 @@ ghost use Rattle.std.specs.Prelude.{◌≡◌, ◌≤◌, ◌++◌, ◌&&◌, �
 ghost use Rattle.net_base.specs.declared.world.Step.TheVariants as step;
 ghost use Rattle.net_base.specs.Steps as steps;
 ghost use Rattle.net_base.specs.Transcript.{lines_of};
-ghost use Rattle.ninep_wire.specs.declared.request.Tmsg.TheVariants as t;
-ghost use Rattle.ninep_wire.specs.Messages.{IsTmsg, longest};
+ghost use Rattle.net_base.specs.declared.ninep.Tmsg.TheVariants as t;
+ghost use Rattle.net_base.specs.NinepMessages.{IsTmsg, longest};
 ghost use Rattle.script_task.specs.Effects.{opened, settles};
 ghost use Rattle.session_answers.specs.Found.{lines_by};
 ghost use Rattle.session_answers.specs.Served.{IsServed, Plays, asked, is_grant, served, state_of};
 ghost use Rattle.session_script.specs.Seen.{seen};
-ghost use Rattle.sessions.specs.Answers.{found_after, found_by};
-ghost use Rattle.sessions.specs.Script.{after};
-ghost use Rattle.sessions.specs.Server.{Gives, outcome};
-ghost use Rattle.sessions.specs.Session as spec;
+ghost use Rattle.net_base.specs.SessionAnswers.{found_after, found_by};
+ghost use Rattle.net_base.specs.SessionScript.{after};
+ghost use Rattle.net_base.specs.Server.{Gives, outcome};
+ghost use Rattle.net_base.specs.Session as spec;
 
 use crate::found::Found;
 use crate::replied::{node_at, replied};
@@ -21,7 +21,7 @@ use crate::said::said;
 use net_base::{Event, Lines, Mode, Octets, Reply, Sequence, Step, Version};
 use ndb_versions::IndexedVersions;
 use ninep_wire::{Tmsg, encode_r};
-use script_task::{Effect, Names, Request, effects_settle, plan};
+use script_task::{Effect, Names, Request, effects_settle, is_accepted, plan};
 use session_script::{Table, is_cs, step_of};
 use std::alloc::{AllocError, Global};
 use std::sync::Arc;
@@ -215,8 +215,8 @@ fn no_names(alloc: Global) -> Result<Names, AllocError>
     Ok(Names::new(alloc, Arc::new(alloc, dbs)?))
 }
 
-// What a step of a session asks for.
-fn request_of(step: Step) -> Request
+/// What a step of a session asks for.
+pub fn request_of(step: Step) -> Request
     requires { IsServed step }
     ensures { result ≡ asked step }
 {
@@ -254,28 +254,8 @@ fn goes_on(event: &Event, reply: &Reply) -> bool
     matches!(event, Event::Grant { .. }) && is_accepted(reply)
 }
 
-// Whether the reply isn't a refusal.
-fn is_accepted(reply: &Reply) -> bool
-    ensures { result ≡ steps.is_accepted reply.now }
-{
-    match reply {
-        Reply::Slot { .. } => true,
-        Reply::Granted { .. } => true,
-        Reply::Call { .. } => true,
-        Reply::Opened { .. } => true,
-        Reply::Ok => true,
-        Reply::Left => true,
-        Reply::Version { .. } => true,
-        Reply::Bytes { .. } => true,
-        Reply::Count { .. } => true,
-        Reply::Lines { .. } => true,
-        Reply::Names { .. } => true,
-        _ => false,
-    }
-}
-
-// The lines of a reply, with a newline after each.
-fn lines_in(alloc: Global, reply: &Reply) -> Result<Octets, AllocError>
+/// The lines of a reply, with a newline after each.
+pub fn lines_in(alloc: Global, reply: &Reply) -> Result<Octets, AllocError>
     ensures { IfOk result (λ text. text ≡ lines_of (steps.lines_in reply.now)) }
 {
     match reply {

@@ -1,7 +1,7 @@
 -- Tables that are alike.
 use Rattle.std.proofs.Common.{◌≡◌, ℕ, Bool, true, Option, None, ap}
-use Rattle.sessions.specs.declared.target.Target.{Target}
-use Rattle.sessions.specs.Table.{Table, opening}
+use Rattle.net_base.specs.declared.ninep.Target.{Target}
+use Rattle.net_base.specs.SessionTable.{Table, opening}
 
 abbrev pub table_of : Bool → ℕ → (ℕ → Option Target) → Table
 table_of is_first msize fids = record { is_first = is_first; msize = msize; fids = fids }

@@ -13,10 +13,10 @@ use Rattle.script_task.specs.declared.request.Request.{Request}
 use Rattle.script_task.specs.Requests.{head, settled}
 use Rattle.script_task.specs.Rest.{rest}
 use Rattle.script_task.specs.Task.{Heads}
-use Rattle.dial_lib.specs.declared.step.StepTask.{StepTask}
+use Rattle.step_task.specs.declared.step.StepTask.{StepTask}
 use Rattle.dial_lib.specs.Slots.{HaveSlots}
-use Rattle.dial_lib.specs.StepLaws as step_laws
-use Rattle.dial_lib.specs.StepTasks as step
+use Rattle.step_task.specs.StepLaws as step_laws
+use Rattle.step_task.specs.StepTasks as step
 use Rattle.whole_script.specs.ScriptLaws.{begun_asks, begins, asks_alike, ended_play, step_heads}
 use Rattle.whole_script.specs.ScriptTasks.{Scripting, finished_in, AtStep, AtEnd, begun_at, begun_by, progress, goes_on, Kept, asks, first_asked, after, heard, told_by, is_played, after_all, AllFit, then_play, plays_of, Plays}
 

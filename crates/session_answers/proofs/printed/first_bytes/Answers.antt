@@ -1,6 +1,6 @@
 use Rattle.std.proofs.Common.{sym, arith}
 use Rattle.std.proofs.lemmas.List.{length-take-le, take_all}
-use Rattle.sessions.specs.Answers.{longest_text}
+use Rattle.net_base.specs.SessionAnswers.{longest_text}
 use Rattle.session_answers.proofs.printed.first_bytes.Goals as goal
 
 pub returns-then-bytes-le-LONGEST_TEXT : goal.returns-then-bytes-le-LONGEST_TEXT

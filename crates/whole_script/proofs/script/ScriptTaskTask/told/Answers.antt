@@ -1,5 +1,5 @@
 use Rattle.std.proofs.Common.{◌+◌, ◌<◌, ◌∙◌, Option, drop, length, ap, arith}
-use Rattle.dial_lib.specs.declared.step.StepTask.{StepTask}
+use Rattle.step_task.specs.declared.step.StepTask.{StepTask}
 use Rattle.whole_script.specs.ScriptTasks as spec
 use Rattle.whole_script.proofs.Played.{has_room, kept_told, told_on, told_through}
 use Rattle.whole_script.proofs.script.ScriptTaskTask.told.Goals as goal

@@ -1,0 +1,69 @@
+//! The fids for which a file is open.
+ghost use Rattle.std.specs.Prelude.{◌≡◌, ◌≤◌, [], drop, length, OnErr, OnOk};
+ghost use Rattle.net_base.specs.Exports.{put_in};
+ghost use Rattle.net_export.specs.Rows as spec;
+
+use std::alloc::{AllocError, Global};
+
+/// Fids in descending order: the last one is the least.
+#[derive(Debug, Drop)]
+pub struct OpenFids {
+    fids: Vec<u32>,
+}
+
+impl OpenFids {
+    /// None, which take no memory yet.
+    pub(crate) fn new(alloc: Global) -> OpenFids
+        ensures { spec.rising result ≡ [] }
+    {
+        OpenFids {
+            fids: Vec::new(alloc),
+        }
+    }
+
+    /// The least of them.
+    pub(crate) fn least(&self) -> Option<u32>
+        ensures { result ≡ spec.first_of (spec.rising self.now) }
+    {
+        self.fids.last().copied()
+    }
+
+    /// Without the least of them.
+    pub(crate) fn drop_least(&mut self)
+        ensures { spec.rising self.new ≡ drop 1 (spec.rising self.old) }
+    {
+        self.fids.pop();
+    }
+
+    /// A file is open for this one, too.
+    pub(crate) fn add(&mut self, fid: u32) -> Result<(), AllocError>
+        ensures ok { OnOk result (spec.rising self.new ≡ put_in fid (spec.rising self.old)) }
+        ensures err { OnErr result (spec.rising self.new ≡ spec.rising self.old) }
+    {
+        let place = self.place_of(fid);
+        self.fids.insert(place, fid)?;
+        Ok(())
+    }
+
+    /// No file is open for this one any longer.
+    pub(crate) fn remove(&mut self, fid: u32)
+        ensures { spec.rising self.new ≡ spec.without fid (spec.rising self.old) }
+    {
+        let place = self.place_of(fid);
+        if self.fids.get(place) == Some(&fid) {
+            self.fids.remove(place);
+        }
+    }
+
+    // How many are greater.
+    fn place_of(&self, fid: u32) -> usize
+        ensures { result ≤ length self.now.fids.items }
+    {
+        for (place, other) in self.fids.iter().enumerate() {
+            if *other <= fid {
+                return place;
+            }
+        }
+        self.fids.len()
+    }
+}

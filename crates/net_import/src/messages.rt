@@ -1,0 +1,193 @@
+//! The messages of importing steps, as bytes, and what their replies say.
+ghost use Rattle.std.specs.Prelude.{◌≡◌, ◌≤◌, [], IfOk, length, true};
+ghost use Rattle.std.specs.Option.{option_map_or};
+ghost use Rattle.net_base.specs.Addresses.{parts_at};
+ghost use Rattle.net_base.specs.Imports as spec;
+ghost use Rattle.net_base.specs.NinepMessages.{t_bytes};
+ghost use Rattle.net_base.specs.NinepReading.{read_r};
+ghost use Rattle.net_base.specs.Remotes as remotes;
+
+use net_base::{Lines, Mode, Octets, Rmsg, Tmsg};
+use ninep_wire::{NinepError, decode_r, encode_t};
+use std::alloc::{AllocError, Global};
+use words::split_first;
+
+/// No fid.
+const NOFID: u32 = 0xffff_ffff;
+
+/// The longest message that is agreed on.
+const LONGEST: u32 = 512;
+
+/// The tag of a version, and that of all other messages.
+const NO_TAG: u16 = 0xffff;
+
+const TAG: u16 = 1;
+
+pub(crate) fn version(alloc: Global) -> Result<Octets, AllocError>
+    ensures { IfOk result (λ bytes. bytes ≡ t_bytes spec.version_message) }
+{
+    let version = Octets::from_slice(alloc, b"9P2000")?;
+    let message = Tmsg::Version {
+        tag: NO_TAG,
+        msize: LONGEST,
+        version,
+    };
+    encode_t(alloc, &message)
+}
+
+pub(crate) fn attach(alloc: Global) -> Result<Octets, AllocError>
+    ensures { IfOk result (λ bytes. bytes ≡ t_bytes spec.attach_message) }
+{
+    let message = Tmsg::Attach {
+        tag: TAG,
+        fid: 0,
+        afid: NOFID,
+        uname: Octets::new(alloc),
+        aname: Octets::new(alloc),
+    };
+    encode_t(alloc, &message)
+}
+
+/// A walk from the root by the names of a path.
+pub(crate) fn walk(alloc: Global, fid: u32, path: &[u8]) -> Result<Octets, AllocError>
+    requires { remotes.is_remote_path path.now ≡ true }
+    ensures { IfOk result (λ bytes. bytes ≡ t_bytes (spec.walk_message fid path.now)) }
+{
+    let names = path_names(alloc, path)?;
+    let message = Tmsg::Walk {
+        tag: TAG,
+        fid: 0,
+        newfid: fid,
+        names,
+    };
+    encode_t(alloc, &message)
+}
+
+pub(crate) fn open(alloc: Global, fid: u32, mode: Mode) -> Result<Octets, AllocError>
+    ensures { IfOk result (λ bytes. bytes ≡ t_bytes (spec.open_message fid mode)) }
+{
+    let mode = mode_number(mode);
+    encode_t(
+        alloc,
+        &Tmsg::Open {
+            tag: TAG,
+            fid,
+            mode,
+        },
+    )
+}
+
+pub(crate) fn read(alloc: Global, fid: u32, count: u32) -> Result<Octets, AllocError>
+    ensures { IfOk result (λ bytes. bytes ≡ t_bytes (spec.read_message fid count)) }
+{
+    encode_t(
+        alloc,
+        &Tmsg::Read {
+            tag: TAG,
+            fid,
+            offset: 0,
+            count,
+        },
+    )
+}
+
+pub(crate) fn write(alloc: Global, fid: u32, text: &[u8]) -> Result<Octets, AllocError>
+    requires { length text.now ≤ 488 }
+    ensures { IfOk result (λ bytes. bytes ≡ t_bytes (spec.write_message fid text.now)) }
+{
+    let bytes = Octets::from_slice(alloc, text)?;
+    encode_t(
+        alloc,
+        &Tmsg::Write {
+            tag: TAG,
+            fid,
+            offset: 0,
+            bytes,
+        },
+    )
+}
+
+pub(crate) fn clunk(alloc: Global, fid: u32) -> Result<Octets, AllocError>
+    ensures { IfOk result (λ bytes. bytes ≡ t_bytes (spec.clunk_message fid)) }
+{
+    encode_t(alloc, &Tmsg::Clunk { tag: TAG, fid })
+}
+
+fn mode_number(mode: Mode) -> u8
+    ensures { result ≡ spec.mode_number mode }
+{
+    match mode {
+        Mode::Read => 0,
+        Mode::Write => 1,
+        Mode::Both => 2,
+    }
+}
+
+// The names behind `/net`.
+fn path_names(alloc: Global, path: &[u8]) -> Result<Lines, AllocError>
+    ensures { IfOk result (λ names. names ≡ remotes.path_names path.now) }
+{
+    let (_, rest) = split_first(path, b'/');
+    let Some(rest) = rest else {
+        return Ok(Lines::new(alloc));
+    };
+    let (_, names) = split_first(rest, b'/');
+    parts(alloc, names)
+}
+
+// What stands between the slashes of a text, if there is one.
+fn parts(alloc: Global, text: Option<&[u8]>) -> Result<Lines, AllocError>
+    ensures { IfOk result (λ names. names ≡ option_map_or (λ t. parts_at 47 t.now) text []) }
+{
+    let mut names = Lines::new(alloc);
+    let mut rest = text;
+    while let Some(text) = rest {
+        let (name, behind) = split_first(text, b'/');
+        names.push(Octets::from_slice(alloc, name)?)?;
+        rest = behind;
+    }
+    Ok(names)
+}
+
+// ---- replies
+
+// The message that a text spells, if it spells one.
+fn answer(alloc: Global, text: &[u8]) -> Result<Option<Rmsg>, AllocError>
+    ensures { IfOk result (λ answer. answer ≡ read_r text.now) }
+{
+    match decode_r(alloc, text) {
+        Ok(message) => Ok(Some(message)),
+        Err(NinepError::Memory) => Err(AllocError),
+        Err(_) => Ok(None),
+    }
+}
+
+pub(crate) fn is_version(alloc: Global, text: &[u8]) -> Result<bool, AllocError>
+    ensures { IfOk result (λ is. is ≡ spec.is_version text.now) }
+{
+    match answer(alloc, text)? {
+        Some(Rmsg::Version { tag, .. }) => Ok(tag == NO_TAG),
+        _ => Ok(false),
+    }
+}
+
+/// Whether all names of the path were walked.
+pub(crate) fn is_whole(alloc: Global, path: &[u8], text: &[u8]) -> Result<bool, AllocError>
+    ensures { IfOk result (λ is. is ≡ spec.is_whole path.now text.now) }
+{
+    match answer(alloc, text)? {
+        Some(Rmsg::Walk { tag, qids }) => {
+            Ok(tag == TAG && path_names(alloc, path)?.len() <= qids.len())
+        }
+        _ => Ok(false),
+    }
+}
+
+pub(crate) fn is_open(alloc: Global, text: &[u8]) -> Result<bool, AllocError>
+    ensures { IfOk result (λ is. is ≡ spec.is_open text.now) }
+{
+    match answer(alloc, text)? {
+        Some(Rmsg::Open { tag, .. }) => Ok(tag == TAG),
+        _ => Ok(false),
+    }
+}

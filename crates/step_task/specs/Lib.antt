@@ -1,0 +1,2 @@
+pub mod StepTasks
+pub mod StepLaws
