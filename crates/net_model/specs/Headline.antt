@@ -1,4 +1,4 @@
--- What every legal history keeps: the steps of scripts in order, what is read at a peer, the lists of cs, and that its text tells it.
+-- What every legal history keeps: the steps of scripts in order, what is answered and read, and that its text tells it.
 use Rattle.std.specs.Prelude.{ℕ, ◌≡◌, List, Option, Some, None, filter_map, slice_get, take, unwrap_or, if◌then◌else◌}
 use Rattle.std.specs.List.{last_or}
 use Rattle.net_base.specs.declared.actor.ActorName.{ActorName}
