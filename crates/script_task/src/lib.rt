@@ -7,7 +7,7 @@ mod names;
 mod paths;
 mod planned;
 mod request;
-mod settle;
+mod settling;
 mod task;
 
 pub use effect::Effect;
@@ -15,5 +15,5 @@ pub use law::{effects_settle, replies_fit};
 pub use names::Names;
 pub use planned::{Planned, event_of, plan};
 pub use request::Request;
-pub use settle::settle;
+pub use settling::settle;
 pub use task::Task;
