@@ -14,7 +14,7 @@ use Rattle.net_base.specs.declared.world.World.{World}
 use Rattle.net_base.specs.Callers.{Caller, IsScript, caller_count, caller_of, other_caller}
 use Rattle.net_base.specs.Calm.{unfinished}
 use Rattle.net_base.specs.Net.{Net}
-use Rattle.net_base.specs.Next.{is_unfinished, next_of}
+use Rattle.net_base.specs.Next.{is_unfinished, next_of, zone_of}
 use Rattle.net_base.specs.Stamped.{In}
 use Rattle.net_base.specs.Scripts.{Kept, at_first, heard, kept_after, position, step_play}
 use Rattle.net_base.specs.Steps.{Names, Stand, Asking, Finished, position_by, stands}

@@ -23,12 +23,12 @@ replies xs = map (λ (x : Entry). x.reply) xs
 -- Plays.
 
 -- a play that isn't over asks
-begins_asks : (p : Play) (xs : List Entry) → Begins p xs → (ask : Ask) × (stands p (replies xs) ≡ Asking ask)
+pub begins_asks : (p : Play) (xs : List Entry) → Begins p xs → (ask : Ask) × (stands p (replies xs) ≡ Asking ask)
 begins_asks (Ends names) xs first = absurd first
 begins_asks (Asks a e next) [] first = (record { actor = a; event = e }, refl)
 begins_asks (Asks a e next) (x ∷ xs) first = begins_asks (next x.reply) xs first.1
 
-played_finishes : (p : Play) (xs : List Entry) (bound : Names) (rs : List Reply) → IsPlayed p xs bound → stands p (replies xs ++ rs) ≡ Finished bound rs
+pub played_finishes : (p : Play) (xs : List Entry) (bound : Names) (rs : List Reply) → IsPlayed p xs bound → stands p (replies xs ++ rs) ≡ Finished bound rs
 played_finishes (Ends names) [] bound rs played = ap (λ (ns : Names). Finished ns rs) played
 played_finishes (Ends names) (x ∷ xs) bound rs played = absurd played
 played_finishes (Asks a e next) [] bound rs played = absurd played
@@ -99,7 +99,7 @@ position_at : (zone : Tuples) (sc : Script) (k : Kept) (s : Step) (ss : List Ste
 position_at zone sc k s ss rs at is = ap (λ (stand : Stand). position_by stand (s ∷ ss) (λ (bound : Names) (later : List Reply). position sc.host ss (kept_after k s bound (heard (step_play sc.host k s) rs)) later)) is
 
 -- where a step is finished, the later steps go on by the other replies
-goes_on : (zone : Tuples) (sc : Script) (k : Kept) (s : Step) (ss : List Step) (n : ℕ) (xs : List Entry)
+pub goes_on : (zone : Tuples) (sc : Script) (k : Kept) (s : Step) (ss : List Step) (n : ℕ) (xs : List Entry)
     → (f : Finishes (step_play sc.host k s) (λ bound own rest. StandInOrder (scripted zone sc) (kept_after k s bound (replies own)) ss n rest) xs) → position sc.host (s ∷ ss) k (replies xs) ≡ position sc.host ss (kept_after k s f.bound (replies f.own)) (replies f.rest)
 goes_on zone sc k s ss n xs f =
     position_at zone sc k s ss (replies xs) (Finished f.bound (replies f.rest)) finished

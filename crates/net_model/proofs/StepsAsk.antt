@@ -1,19 +1,23 @@
 -- Each step records an event, whatever names are bound.
-use Rattle.std.proofs.Common.{ℕ, zero, suc, ◌-◌, Bool, true, false, List, [], Option, Some, None, Ok, Err}
+use Rattle.std.proofs.Common.{ℕ, zero, suc, ◌-◌, Bool, true, false, List, [], ◌∷◌, Option, Some, None, Ok, Err}
 use Rattle.std.specs.Prelude.{◌&&◌, Result, find, length, nat_le, not, if◌then◌else◌}
 use Rattle.net_base.specs.declared.address.Addr.{Addr}
 use Rattle.net_base.specs.declared.left.Remote.{Remote}
+use Rattle.net_base.specs.declared.event.Event.TheVariants as event
 use Rattle.net_base.specs.declared.names.Ctl.{Ctl}
 use Rattle.net_base.specs.declared.names.Ctl.TheVariants as ctl
 use Rattle.net_base.specs.declared.names.FileName.{FileName}
 use Rattle.net_base.specs.declared.names.FileName.TheVariants as file
+use Rattle.net_base.specs.declared.reply.Reply.{Reply}
 use Rattle.net_base.specs.declared.world.Step.{Step}
 use Rattle.net_base.specs.declared.world.Step.TheVariants as step
 use Rattle.net_base.specs.ControlWords as control
 use Rattle.net_base.specs.declared.ninep.Tmsg.{Tmsg}
 use Rattle.net_base.specs.Imports.{clunk_message, longest_text, read_message, sends_by, write_message}
+use Rattle.net_base.specs.DatagramHeaders.{text_behind}
+use Rattle.net_base.specs.DomainAnswers.{dns_answer}
 use Rattle.net_base.specs.Paths.{reads, writes}
-use Rattle.net_base.specs.Steps.{Names, Fid, Play, Ends, asks_cs, controls, dials, dotted_name, fid_of, is_bound, misuses, on_fid, puts, uses, with_bound, with_new, with_readable, with_writable, data_name, is_answer, on_taken, open_call, serves, taken_name, takes_call}
+use Rattle.net_base.specs.Steps.{Names, Fid, Play, Asks, Ends, answers, answers_call, asks_cs, bytes_in, closes_all, controls, conversation_of, data_name, dials, dotted_name, fid_of, hears, if_accepted, is_answer, is_bound, misuses, on_fid, on_taken, open_call, puts, serves, serves_call, taken_name, takes_call, uses, with_bound, with_call, with_new, with_readable, with_writable}
 use Rattle.net_base.specs.Remotes.{is_remote, is_remote_path, remote_of}
 use Rattle.net_base.specs.Scripts.{Kept, new_names, own_play, play_by, step_play}
 use Rattle.import_law.specs.Order.{Begins}
@@ -65,14 +69,24 @@ putting h f file.Remote text refused next = controlling h f text (control.read t
 putting h f file.Status text refused next = controlling h f text (control.read text) refused next
 
 -- a call is taken
-calling : (h : ℕ) (called : List ℕ) (names : Names) (next : Fid → Fid → Addr → Addr → Play) (o : Option (List ℕ))
-    → Asking (on_taken o (λ (used : List ℕ). uses h used names) (with_bound h called names (λ (f : Fid). takes_call h f (Ends names) next)))
-calling h called names next None = bound h called names _ (λ f. tt)
-calling h called names next (Some used) = tt
+calling : (h : ℕ) (called : List ℕ) (names : Names) (next : Fid → Fid → Addr → Addr → Play) → Asking (with_call h called names next)
+calling h called names next = by (taken_name names)
+  where
+    by : (o : Option (List ℕ))
+        → Asking (on_taken o (λ (used : List ℕ). uses h used names) (with_bound h called names (λ (f : Fid). takes_call h f (Ends names) next)))
+    by None = bound h called names (λ (f : Fid). takes_call h f (Ends names) next) (λ f. tt)
+    by (Some used) = tt
+
+serving_one : (h : ℕ) (called : List ℕ) (names : Names) (next : Play) → Asking (serves_call h called names next)
+serving_one h called names next =
+    calling h called names
+    (λ (call data_file : Fid) (remote local : Addr).
+    Asks (conversation_of h data_file) (event.Read data_file.generation 8192) (λ (r : Reply).
+    if_accepted r (answers_call h call data_file (dns_answer names.zone (bytes_in r)) (Ends names) next) (closes_all h (data_file ∷ call ∷ []) (Ends names))))
 
 serving : (h : ℕ) (called : List ℕ) (names : Names) (more : ℕ) → Asking (serves h called names more)
-serving h called names zero = calling h called names _ (taken_name names)
-serving h called names (suc more) = calling h called names _ (taken_name names)
+serving h called names zero = serving_one h called names (Ends names)
+serving h called names (suc more) = serving_one h called names (serves h called names more)
 
 remote : (h : ℕ) (called : List ℕ) (names : Names) (o : Option Remote) (message : ℕ → Tmsg) → Asking (sends_by h called names o message)
 remote h called names None message = tt
@@ -94,8 +108,14 @@ own_asks h k (step.Listen called from) = bound h from k.names _ (λ f. new h cal
 own_asks h k (step.Accept called from) = bound h from k.names _ (λ f. new h called k.names _ tt)
 own_asks h k (step.Reject called) = writable h called k.names _ (λ f. putting h f f.file _ _ _)
 own_asks h k (step.Hangup called) = writable h called k.names _ (λ f. putting h f f.file _ _ _)
-own_asks h k (step.Hread called count) = calling h called k.names _ (taken_name k.names)
-own_asks h k (step.Hwrite called bytes) = on (open_call called k.names) (uses h data_name k.names) _ tt (λ f. either (is_answer bytes k.names.heard) _ _ tt tt)
+own_asks h k (step.Hread called count) =
+    calling h called k.names
+    (λ (call data_file : Fid) (remote local : Addr). hears h k.names count call data_file (record { name = called; remote = remote; local = local }))
+own_asks h k (step.Hwrite called bytes) =
+    on (open_call called k.names) (uses h data_name k.names)
+    (λ (data_file : Fid). if is_answer bytes k.names.heard then answers h k.names (text_behind bytes) data_file else misuses h data_name k.names)
+    tt
+    (λ data_file. either (is_answer bytes k.names.heard) (answers h k.names (text_behind bytes) data_file) (misuses h data_name k.names) tt tt)
 own_asks h k (step.Dns called times) = serving h called k.names (times - 1)
 -- imports
 own_asks h k (step.Export called) = tt
