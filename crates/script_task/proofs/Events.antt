@@ -13,7 +13,6 @@ use Rattle.net_base.specs.Steps as steps
 use Rattle.net_base.specs.Steps.{Names, Fid, Play, Ends, fid_of, is_bound, puts, uses, misuses, on_fid}
 use Rattle.script_task.specs.declared.request.Request.TheVariants as request
 use Rattle.net_base.specs.Asks as asked
-use Rattle.script_task.specs.Planning as spec
 use Rattle.script_task.specs.Requests.{head, planned}
 
 pub open_is : (h : ℕ) (names : Names) (called path : List ℕ) (m : Mode) → planned h names (request.Open called path m) ≡ Some (asked.opens_path h names called path m)
@@ -83,10 +82,10 @@ read_is h names called count = found (fid_of called names)
     found None = refl
     found (Some f) = open_so f (reads f.mode)
 
-pub close_is : (h : ℕ) (names : Names) (called : List ℕ) → planned h names (request.Close called) ≡ Some (spec.close h called (fid_of called names))
+pub close_is : (h : ℕ) (names : Names) (called : List ℕ) → planned h names (request.Close called) ≡ Some (asked.close h called (fid_of called names))
 close_is h names called = found (fid_of called names)
   where
     found : (o : Option Fid)
-        → head (on_fid o (uses h called names) (λ (f : Fid). steps.ends_with (steps.conversation_of h f) (event.Close f.generation) (steps.unbind called names))) ≡ Some (spec.close h called o)
+        → head (on_fid o (uses h called names) (λ (f : Fid). steps.ends_with (steps.conversation_of h f) (event.Close f.generation) (steps.unbind called names))) ≡ Some (asked.close h called o)
     found None = refl
     found (Some f) = refl
