@@ -10,8 +10,7 @@ use Rattle.net_base.specs.declared.world.Step.TheVariants as step
 use Rattle.net_base.specs.Exports.{by_text, own_of}
 use Rattle.net_base.specs.Imports.{clunk_message, longest_text, read_message, rwrite_play, sends_by, write_message}
 use Rattle.net_base.specs.Remotes.{remote_of}
-use Rattle.net_base.specs.Steps.{Names, bytes_in}
-use Rattle.net_base.specs.Steps.{Names, Play, Ends}
+use Rattle.net_base.specs.Steps.{Names, bytes_in, Play, Ends}
 use Rattle.net_import.specs.declared.errand.Errand.{Errand}
 use Rattle.net_import.specs.declared.errand.Errand.TheVariants as errand
 use Rattle.net_import.specs.declared.errand.Rclose.{Rclose}

@@ -7,8 +7,7 @@ use Rattle.net_base.specs.Exports.{Own, by_text, own_of}
 use Rattle.net_base.specs.Imports.{attach_message, is_version, sends_once, version_message}
 use Rattle.net_base.specs.NinepMessages.{t_bytes}
 use Rattle.net_base.specs.Scripts.{Kept}
-use Rattle.net_base.specs.Steps.{Names, bytes_in}
-use Rattle.net_base.specs.Steps.{Names, Play, Ends}
+use Rattle.net_base.specs.Steps.{Names, bytes_in, Play, Ends}
 use Rattle.net_import.specs.declared.import.Import.{Import}
 use Rattle.net_import.specs.declared.talk.TalkPhase.{TalkPhase}
 use Rattle.net_import.specs.declared.talk.TalkPhase.TheVariants as phase

@@ -6,8 +6,7 @@ use Rattle.net_base.specs.Exports.{Own, own_of}
 use Rattle.net_base.specs.Imports.{attach_message, is_version, sends_for, sends_once, version_message}
 use Rattle.net_base.specs.NinepMessages.{t_bytes}
 use Rattle.net_base.specs.Scripts.{Kept, step_play}
-use Rattle.net_base.specs.Steps.{Names, bytes_in}
-use Rattle.net_base.specs.Steps.{Names, Play, Ends}
+use Rattle.net_base.specs.Steps.{Names, bytes_in, Play, Ends}
 use Rattle.net_import.specs.declared.import.Import.{Import}
 use Rattle.net_import.specs.declared.talk.TalkPhase.TheVariants as phase
 use Rattle.net_import.specs.Standings.{Talks}

@@ -9,8 +9,7 @@ use Rattle.net_base.specs.Imports.{clunk_message, is_open, is_whole, open_messag
 use Rattle.net_base.specs.NinepMessages.{t_bytes}
 use Rattle.net_base.specs.Remotes.{free_fid, is_remote, with_remote}
 use Rattle.net_base.specs.Scripts.{Kept, step_play}
-use Rattle.net_base.specs.Steps.{Names, bytes_in}
-use Rattle.net_base.specs.Steps.{Names, Play, Ends, is_bound, uses, with_bound, with_new}
+use Rattle.net_base.specs.Steps.{Names, bytes_in, Play, Ends, is_bound, uses, with_bound, with_new}
 use Rattle.net_import.specs.declared.ropen.Ropen.{Ropen}
 use Rattle.net_import.specs.declared.ropen.RopenStage.{RopenStage}
 use Rattle.net_import.specs.declared.ropen.RopenStage.TheVariants as stage

@@ -2,8 +2,7 @@
 use Rattle.std.specs.Prelude.{◌≡◌, ℕ, List, if◌then◌else◌}
 use Rattle.net_base.specs.declared.reply.Reply.{Reply}
 use Rattle.net_base.specs.Exports.{Own, asks, by_text, own_of}
-use Rattle.net_base.specs.Steps.{Names, bytes_in}
-use Rattle.net_base.specs.Steps.{Names, Play, is_accepted}
+use Rattle.net_base.specs.Steps.{Names, bytes_in, Play, is_accepted}
 use Rattle.net_import.specs.declared.talk.Talk.{Talk}
 use Rattle.net_import.specs.declared.talk.TalkPhase.{TalkPhase}
 use Rattle.net_import.specs.declared.talk.TalkPhase.TheVariants as phase

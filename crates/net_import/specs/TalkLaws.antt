@@ -3,8 +3,7 @@ use Rattle.std.proofs.Common.{◌≡◌, ℕ, Bool, true, false, List, [], ◌�
 use Rattle.std.proofs.lemmas.Option.{none-some, same_Some}
 use Rattle.net_base.specs.declared.reply.Reply.{Reply}
 use Rattle.net_base.specs.Exports.{Own, asks as asks_for, by_text, own_of}
-use Rattle.net_base.specs.Steps.{Names, bytes_in}
-use Rattle.net_base.specs.Steps.{Names, Play, Ends, is_accepted}
+use Rattle.net_base.specs.Steps.{Names, bytes_in, Play, Ends, is_accepted}
 use Rattle.net_import.specs.declared.talk.TalkPhase.{TalkPhase}
 use Rattle.net_import.specs.declared.talk.TalkPhase.TheVariants as phase
 use Rattle.net_import.specs.Standings.{TalksBy, reading, writing}

@@ -1,5 +1,5 @@
 -- The task of a script asks and moves as the plays of its steps do, one after another.
-use Rattle.std.proofs.Common.{◌≡◌, ℕ, ◌+◌, ◌∙◌, Bool, true, false, List, [], ◌∷◌, ◌++◌, ◌⊎◌, inl, inr, Option, Some, None, is_none, is_some, length, nat_lt, refl, sym, ap, subst}
+use Rattle.std.proofs.Common.{◌≡◌, ℕ, ◌+◌, ◌∙◌, Bool, true, false, List, [], ◌∷◌, ◌++◌, Option, Some, None, is_none, is_some, length, nat_lt, refl, sym, ap, subst}
 use Rattle.std.proofs.lemmas.Bool.{true≢false, false≢true}
 use Rattle.std.proofs.lemmas.Option.{none-some, same_Some}
 use Rattle.net_base.specs.declared.left.Left.{Left}
@@ -78,13 +78,12 @@ ended_play h names t p stands is = subst (λ (o : Option Request). Heads h names
 
 -- the step goes on, or the next one begins
 moves_by : (h n : ℕ) (names : Names) (left : Left) (t : StepTask) (behind : List Step) (p : Play) (s : Step) (said : List Reply) → step.StandsFor h names t p
-    → t ≡ step.after_all (step.begun left s) said → step.leaves t left ≡ left_after left s said ⊎ (is_none (step.asks t names) ≡ false)
+    → t ≡ step.after_all (step.begun left s) said → step.leaves t left ≡ left_after left s said
     → (through : Bool) → is_none (step.asks t names) ≡ through
     → StandsFor h names (goes_on n left t behind through) (then_play said p (plays_behind h behind left s))
 moves_by h n names left t behind p s said stands told leaves false is =
     record { step_is = s; said = said; told = told; step_play = p; stands_for = stands; asks_on = is; play_is = refl }
-moves_by h n names left t behind p s said stands told (inr on) true is = absurd (true≢false (sym is ∙ on))
-moves_by h n names left t behind p s said stands told (inl leaves) true is =
+moves_by h n names left t behind p s said stands told leaves true is =
     subst (λ (x : Play). StandsFor h names (begun_at (n + 1) (step.leaves t left) behind) (then_play said x (plays_behind h behind left s))) (sym (ended_play h names t p stands is))
     (subst (λ (l : Left). StandsFor h names (begun_at (n + 1) (step.leaves t left) behind) (plays_of h behind (record { names = names; left = l }))) leaves
     (begins h (n + 1) names (step.leaves t left) behind stands.0))
@@ -93,22 +92,17 @@ moves_by h n names left t behind p s said stands told (inl leaves) true is =
 pub step_heads : (h : ℕ) (names : Names) (t : StepTask) (p : Play) (q : Request) → step.StandsFor h names t p → step.asks t names ≡ Some q → Heads h names (Some q) p
 step_heads h names t p q stands asked = subst (λ (o : Option Request). Heads h names o p) asked (step_laws.asks_so h names t p stands)
 
--- one reply more
-after_one : (t : StepTask) (said : List Reply) (r : Reply) → step.after (step.after_all t said) r ≡ step.after_all t (said ++ r ∷ [])
-after_one t [] r = refl
-after_one t (x ∷ xs) r = after_one (step.after t x) xs r
-
 pub moves_so : MovesSo Scripting asks after StandsFor
 moves_so h names (AtStep n left t behind) p q r at asked fit =
     let later = plays_behind h behind left at.step_is in
     let heads : Heads h names (Some q) at.step_play = step_heads h names t at.step_play q at.stands_for asked in
     let fits_step : fits_play at.step_play r ≡ true = fits_then at.said at.step_play later heads.0 r heads.1 (subst (λ (x : Play). fits_play x r ≡ true) at.play_is fit) in
     let is : follow p r ≡ then_play (at.said ++ r ∷ []) (follow at.step_play r) later = ap (λ (x : Play). follow x r) at.play_is ∙ follow_then at.said at.step_play later heads.0 r heads.1 in
-    let told : step.after t r ≡ step.after_all (step.begun left at.step_is) (at.said ++ r ∷ []) = ap (λ (u : StepTask). step.after u r) at.told ∙ after_one (step.begun left at.step_is) at.said r in
+    let told : step.after t r ≡ step.after_all (step.begun left at.step_is) (at.said ++ r ∷ []) = ap (λ (u : StepTask). step.after u r) at.told ∙ leaving.after_one (step.begun left at.step_is) at.said r in
     subst (λ (x : Play). StandsFor h (settled names q r) (after (AtStep n left t behind) r) x) (sym is)
     (moves_by h n (settled names q r) left (step.after t r) behind (follow at.step_play r) at.step_is (at.said ++ r ∷ [])
     (step_laws.moves_so h names t at.step_play q r at.stands_for asked fits_step) told
-    (leaving.leaves_so left at.step_is at.said r t (settled names q r) at.told (sym (step_laws.asks_alike t names (no_names [])) ∙ at.asks_on))
+    (leaving.leaves_so left at.step_is at.said r t at.told (sym (step_laws.asks_alike t names (no_names [])) ∙ at.asks_on))
     (is_none (step.asks (step.after t r) (no_names []))) (step_laws.asks_alike (step.after t r) (settled names q r) (no_names [])))
 moves_so h names (AtEnd n left) p q r at asked fit = absurd (none-some q asked)
 

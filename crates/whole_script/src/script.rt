@@ -147,7 +147,8 @@ fn first_asked(
 }
 
 // Takes a reply, and tells whether the step is through then. One that is through at once gets no task.
-#[tactic(auto, using(crate::proofs::Played::begun_again, crate::proofs::Played::begun_told, crate::proofs::Played::tells_told))]
+#[tactic(auto, using(crate::proofs::Played::begun_again, crate::proofs::Played::begun_told, crate::proofs::Played::tells_told,
+    crate::proofs::Played::left_told))]
 fn take_reply(
     alloc: Global,
     steps: &[Step],
@@ -175,8 +176,10 @@ fn take_reply(
 
 // Whether no step has begun, and the one behind so many is seen to be through after this reply.
 fn ends_at_once(steps: &[Step], finished: usize, task: &Option<StepTask>, reply: &Reply) -> bool
-    ensures { result ≡ true → (left : AnyLeft) (names : AnyNames)
+    ensures through { result ≡ true → (left : AnyLeft) (names : AnyNames)
         → spec.is_played (spec.told_by left task.now (slice_get steps.now finished) reply.now) names ≡ true }
+    ensures keeps { result ≡ true → (left : AnyLeft)
+        → spec.left_by (spec.told_by left task.now (slice_get steps.now finished) reply.now) left ≡ left }
 {
     match task {
         Some(_) => false,
@@ -185,10 +188,12 @@ fn ends_at_once(steps: &[Step], finished: usize, task: &Option<StepTask>, reply:
 }
 
 // Whether the step behind so many is seen to be through after this reply.
-#[tactic(auto, using(crate::proofs::Played::ends_step))]
+#[tactic(auto, using(crate::proofs::Played::ends_step, crate::proofs::Played::ends_keep))]
 fn ends_first(steps: &[Step], finished: usize, reply: &Reply) -> bool
-    ensures { result ≡ true → (left : AnyLeft) (names : AnyNames)
+    ensures through { result ≡ true → (left : AnyLeft) (names : AnyNames)
         → spec.is_played (spec.told_by left None (slice_get steps.now finished) reply.now) names ≡ true }
+    ensures keeps { result ≡ true → (left : AnyLeft)
+        → spec.left_by (spec.told_by left None (slice_get steps.now finished) reply.now) left ≡ left }
 {
     let Some(step) = steps.get(finished) else {
         return false;
