@@ -1,2 +1,3 @@
 pub mod StepTasks
 pub mod StepLaws
+pub mod Leaving

@@ -371,9 +371,12 @@ pub fn first_request(
 }
 
 /// Whether a step that has recorded nothing is seen, without its task, to be through after this reply.
+#[tactic(auto, using(crate::specs::Leaving::ends_keep))]
 pub fn ends_by(step: &Step, reply: &Reply) -> bool
-    ensures { result ≡ true → (left : AnyLeft) (names : AnyNames)
+    ensures through { result ≡ true → (left : AnyLeft) (names : AnyNames)
         → spec.asks (spec.after (spec.begun left step.now) reply.now) names ≡ None }
+    ensures keeps { result ≡ true → (left : AnyLeft)
+        → spec.leaves (spec.after (spec.begun left step.now) reply.now) left ≡ left }
 {
     match step {
         Step::Open { .. }
