@@ -24,7 +24,7 @@ use Rattle.net_base.specs.declared.world.Step.{Step}
 use Rattle.net_base.specs.declared.world.Step.TheVariants as step
 use Rattle.net_base.specs.Asks as asked
 use Rattle.net_base.specs.ControlWords as control
-use Rattle.net_base.specs.Exports.{Own, and_then, asks, bad_message, by_text, closes_each, dotted_fid, dotted_step, export_play, exported, exports, most_requests, open_fids, own_of, serves_text, then_play, unheard}
+use Rattle.net_base.specs.Exports.{Own, and_then, asks, bad_message, by_text, closes_each, dotted_fid, dotted_step, export_play, exported, exports, is_dotted, most_requests, own_of, serves_text, sharing, then_play, unheard, Sharing}
 use Rattle.net_base.specs.Imports.{attach_message, clunk_message, import_play, imports, is_open, is_version, is_whole, left_open, longest_text, open_message, opens_remote, rclose_play, read_message, ropen_play, rread_play, rwrite_play, sends, sends_by, sends_for, sends_once, version_message, walk_message, was_opened, write_message}
 use Rattle.net_base.specs.NinepMessages.{t_bytes}
 use Rattle.net_base.specs.NinepReading.{read_t}
@@ -224,9 +224,14 @@ module _ (h : ℕ) (P : ActorName → Event → Type 0) (R : Reply → Type 0) (
         on_last names None = tt
         on_last names (Some r) = tt
 
-    on_text : (s : State) (o : Option Tmsg) → DoingRecords (serves_text h s o)
+    shared : (open : List ℕ) (m : Tmsg) (last : Option Reply) (d : Doing State) → DoingRecords d → DoingRecords (sharing open m last d)
+    shared open m last (Does ask next) own = (own.0, λ r fine. shared open m (Some r) (next r) (own.1 r fine))
+    shared open m last (Gives answer later) own = tt
+
+    on_text : (s : Sharing) (o : Option Tmsg) → DoingRecords (serves_text h s o)
     on_text s None = tt
-    on_text s (Some m) = by_step s m (step_of s.table m) (on_step s.table m)
+    on_text s (Some m) =
+        shared s.open m None (serves_by h s.session m (option_map dotted_step (step_of s.session.table m))) (by_step s.session m (step_of s.session.table m) (on_step s.session.table m))
 
     then_each : (p : Play) (go_on : Names → Play) → Good p → ((names : Names) → Good (go_on names)) → Good (and_then p go_on)
     then_each (Ends names) go_on f g = g names
@@ -239,7 +244,8 @@ module _ (h : ℕ) (P : ActorName → Event → Type 0) (R : Reply → Type 0) (
 
   export_good : (called : List ℕ) (names : Names) → IsNamed h P called → IsExporting h P → Good (export_play h called names)
   export_good called names named is =
-      exports_good (exported h) (own_of h called names) (own_well called names named) (λ s text. on_text is s (read_t text)) (λ s. closing is (open_fids s.names) s.names) most_requests (unheard names)
+      one.either h P R fits (is_dotted called) (uses h called names) (exports (exported h) (own_of h called names) most_requests (unheard names)) (one.ending h P R fits _ _ names named.0)
+      (exports_good (exported h) (own_of h called names) (own_well called names named) (λ s text. on_text is s (read_t text)) (λ s. closing is s.open s.session.names) most_requests (unheard names))
 
   -- ---- steps
 

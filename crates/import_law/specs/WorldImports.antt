@@ -1,5 +1,5 @@
 -- What is imported and exported in a history of a world, by scripts.
-use Rattle.std.specs.Prelude.{◌≡◌, ℕ, List, Some, slice_get}
+use Rattle.std.specs.Prelude.{◌≡◌, ℕ, false, List, Some, slice_get}
 use Rattle.net_base.specs.declared.history.Entry.{Entry}
 use Rattle.net_base.specs.declared.names.FileName.TheVariants as file
 use Rattle.net_base.specs.declared.names.Mode.{Mode}
@@ -7,10 +7,9 @@ use Rattle.net_base.specs.declared.world.Script.{Script}
 use Rattle.net_base.specs.declared.world.Step.{Step}
 use Rattle.net_base.specs.declared.world.Step.TheVariants as step
 use Rattle.net_base.specs.declared.world.World.{World}
-use Rattle.net_base.specs.Exports.{exported, unheard}
+use Rattle.net_base.specs.Exports.{Sharing, exported, is_dotted, unheard}
 use Rattle.net_base.specs.Next.{zone_of}
 use Rattle.net_base.specs.Scripts.{Kept}
-use Rattle.net_base.specs.Session.{State}
 use Rattle.net_base.specs.Steps.{fid_of}
 use Rattle.net_base.specs.Written.{Conversation}
 use Rattle.import_law.specs.ImportLaw.{AreAll, Served, calls, of_steps, replies}
@@ -29,6 +28,8 @@ pub record AllExported (w : World) (h : List Entry) (s : ℕ) (far : Script) (f 
   pub stands : slice_get (spans (scripted (zone_of w) far) (own_of h s)) number ≡ Some span
   pub called : List ℕ
   pub exports : span.step ≡ step.Export called
+  -- as each name of a world
+  pub plain : is_dotted called ≡ false
   pub mode : Mode
   pub bound : fid_of called span.kept.names ≡ Some (record { proto = f.proto; slot = f.slot; generation = f.generation; file = file.Data; mode = mode })
   pub here : far.host ≡ f.host
@@ -37,4 +38,4 @@ pub record AllExported (w : World) (h : List Entry) (s : ℕ) (far : Script) (f 
 -- the requests that were served begin the calls, the replies begin what was answered, and each reply is the session's answer to its call
 abbrev pub AnsweredInOrder : (w : World) (h : List Entry) (c s : ℕ) (near far : Script) (e f : Conversation) → AllExported w h s far f → Type 0
 AnsweredInOrder w h c s near far e f x =
-    Served {S = State} (exported far.host) (unheard x.span.kept.names) f (calls h c e (scripted (zone_of w) near) is_importing) (replies h c e (scripted (zone_of w) near) is_importing) x.span.entries
+    Served {S = Sharing} (exported far.host) (unheard x.span.kept.names) f (calls h c e (scripted (zone_of w) near) is_importing) (replies h c e (scripted (zone_of w) near) is_importing) x.span.entries

@@ -1,11 +1,10 @@
 -- Exporting over a call: a request is read, served and answered, again and again.
-use Rattle.std.specs.Prelude.{ℕ, zero, suc, ◌==◌, ◌&&◌, List, [], ◌∷◌, ◌++◌, Option, Some, None, option_map, filter_map, drop, length, codes, slice_index, nat_lt, nat_le, if◌then◌else◌}
-use Rattle.std.specs.List.{list_all}
-use Rattle.std.specs.Char.{is_ascii_digit}
-use Rattle.std.specs.Str.Parse.{digits_value}
+use Rattle.std.specs.Prelude.{ℕ, zero, suc, ◌==◌, Bool, true, false, not, List, [], ◌∷◌, ◌++◌, Option, Some, None, option_map, filter, drop, codes, nat_le, if◌then◌else◌}
 use Rattle.net_base.specs.declared.ninep.Rmsg.TheVariants as r
 use Rattle.net_base.specs.declared.ninep.Tmsg.{Tmsg}
+use Rattle.net_base.specs.declared.ninep.Tmsg.TheVariants as t
 use Rattle.net_base.specs.declared.reply.Reply.{Reply}
+use Rattle.net_base.specs.declared.reply.Reply.TheVariants as reply
 use Rattle.net_base.specs.declared.world.Step.{Step}
 use Rattle.net_base.specs.declared.world.Step.TheVariants as step
 use Rattle.net_base.specs.Asks as asked
@@ -16,7 +15,7 @@ use Rattle.net_base.specs.Server.{Doing, Does, Gives, Server}
 use Rattle.net_base.specs.Session.{State, first, serves_by}
 use Rattle.net_base.specs.SessionScript.{step_of}
 use Rattle.net_base.specs.SessionTable.{opening}
-use Rattle.net_base.specs.Steps.{Ask, Bound, Names, Play, Asks, Ends, bytes_in, fid_of, is_accepted, no_names, play_of}
+use Rattle.net_base.specs.Steps.{Ask, Names, Play, Asks, Ends, bytes_in, fid_of, is_accepted, no_names, play_of, uses}
 
 -- ---- plays
 
@@ -84,28 +83,46 @@ dotted_fid n = codes "." ++ numeral n
 abbrev pub bad_message : List ℕ
 bad_message = r_bytes (r.Error 65535 (codes "bad message"))
 
-abbrev pub serves_text : ℕ → State → Option Tmsg → Doing State
-serves_text h s None = Gives bad_message s
-serves_text h s (Some m) = serves_by h s m (option_map dotted_step (step_of s.table m))
-
--- the number of a fid's name
-abbrev pub fid_named : List ℕ → Option ℕ
-fid_named called =
-    if nat_lt 1 (length called) && ((slice_index called 0 == 46) && list_all is_ascii_digit (drop 1 called))
-    then Some (digits_value 10 (drop 1 called)) else None
-
 -- a number in its place among rising ones
 abbrev pub put_in : ℕ → List ℕ → List ℕ
 put_in n [] = n ∷ []
 put_in n (m ∷ ms) = if nat_le n m then n ∷ m ∷ ms else m ∷ put_in n ms
 
-abbrev pub in_order : List ℕ → List ℕ
-in_order [] = []
-in_order (n ∷ ns) = put_in n (in_order ns)
+abbrev pub without : ℕ → List ℕ → List ℕ
+without n ns = filter (λ (m : ℕ). not (m == n)) ns
 
--- the fids for which a file is open, in ascending order
-abbrev pub open_fids : Names → List ℕ
-open_fids names = in_order (filter_map (λ (b : Bound). fid_named b.called) names.bound)
+-- the replies that open a file
+abbrev pub opens_file : Reply → Bool
+opens_file (reply.Slot n g) = true
+opens_file (reply.Call n g) = true
+opens_file (reply.Opened g) = true
+opens_file _ = false
+
+-- a session, and the fids for which a file is open, in ascending order
+pub record Sharing : Type 0 where
+  pub session : State
+  pub open : List ℕ
+
+-- a file is open for a fid from a Topen that opens it to its Tclunk, or Tremove, whatever these are replied
+abbrev pub open_by : List ℕ → Tmsg → Reply → List ℕ
+open_by open (t.Open tag fid mode) x = if opens_file x then put_in fid open else open
+open_by open (t.Clunk tag fid) x = without fid open
+open_by open (t.Remove tag fid) x = without fid open
+open_by open _ x = open
+
+-- by the last reply to the events of the message's step, if it has one
+abbrev pub open_after : List ℕ → Tmsg → Option Reply → List ℕ
+open_after open m None = open
+open_after open m (Some x) = open_by open m x
+
+-- what a message does, where a file is open for these before it
+abbrev pub sharing : List ℕ → Tmsg → Option Reply → Doing State → Doing Sharing
+sharing open m last (Does ask next) = Does ask (λ (r : Reply). sharing open m (Some r) (next r))
+sharing open m last (Gives answer s) = Gives answer (record { session = s; open = open_after open m last })
+
+abbrev pub serves_text : ℕ → Sharing → Option Tmsg → Doing Sharing
+serves_text h s None = Gives bad_message s
+serves_text h s (Some m) = sharing s.open m None (serves_by h s.session m (option_map dotted_step (step_of s.session.table m)))
 
 -- their files are closed one after another, whatever the replies
 abbrev pub closes_each : ℕ → List ℕ → Names → Play
@@ -113,19 +130,24 @@ closes_each h [] names = Ends names
 closes_each h (n ∷ ns) names = and_then (play_of h names (step.Close (dotted_fid n))) (closes_each h ns)
 
 -- nothing was heard yet, and these names are bound
-abbrev pub unheard : Names → State
-unheard names = record first { table = record opening { msize = longest_exported }; names = names }
+abbrev pub unheard : Names → Sharing
+unheard names = record { session = record first { table = record opening { msize = longest_exported }; names = names }; open = [] }
 
 -- the session of a step of a host
-abbrev pub exported : ℕ → Server State (List ℕ)
+abbrev pub exported : ℕ → Server Sharing (List ℕ)
 exported h =
     record {
       opening = unheard (no_names []);
-      names = λ (s : State). s.names;
-      serves = λ (s : State) (text : List ℕ). serves_text h s (read_t text);
-      closes = λ (s : State). closes_each h (open_fids s.names) s.names;
+      names = λ (s : Sharing). s.session.names;
+      serves = λ (s : Sharing) (text : List ℕ). serves_text h s (read_t text);
+      closes = λ (s : Sharing). closes_each h s.open s.session.names;
     }
 
--- the play of the step
+-- so the names of these files begin, and none that a world says
+abbrev pub is_dotted : List ℕ → Bool
+is_dotted [] = false
+is_dotted (b ∷ bs) = b == 46
+
+-- the play of the step; a name with a dot is asked for alone
 abbrev pub export_play : ℕ → List ℕ → Names → Play
-export_play h called names = exports (exported h) (own_of h called names) most_requests (unheard names)
+export_play h called names = if is_dotted called then uses h called names else exports (exported h) (own_of h called names) most_requests (unheard names)

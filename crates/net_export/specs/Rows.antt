@@ -1,5 +1,5 @@
 -- The fids for which a file is open, and the requests of an exporting step's messages.
-use Rattle.std.specs.Prelude.{ℕ, ◌==◌, not, List, [], ◌∷◌, filter, reverse, Option, Some, None}
+use Rattle.std.specs.Prelude.{ℕ, List, [], ◌∷◌, reverse, Option, Some, None}
 use Rattle.net_base.specs.Exports.{dotted}
 use Rattle.net_export.specs.declared.open_fids.OpenFids.{OpenFids}
 use Rattle.script_task.specs.declared.request.Request.{Request}
@@ -12,9 +12,6 @@ rising o = reverse o.fids.items
 abbrev pub first_of : List ℕ → Option ℕ
 first_of [] = None
 first_of (n ∷ ns) = Some n
-
-abbrev pub without : ℕ → List ℕ → List ℕ
-without n ns = filter (λ (m : ℕ). not (m == n)) ns
 
 -- `.N` in place of `fN`
 abbrev pub dotted_request : Request → Request

@@ -8,7 +8,7 @@ use Rattle.net_base.specs.declared.ninep.Tmsg.{Tmsg}
 use Rattle.net_base.specs.declared.ninep.Tmsg.TheVariants as t
 use Rattle.net_base.specs.declared.reply.Reply.{Reply}
 use Rattle.net_base.specs.declared.world.Step.{Step}
-use Rattle.net_base.specs.Exports.{bad_message, closes_each, dotted_fid, longest_exported, open_fids, put_in}
+use Rattle.net_base.specs.Exports.{Sharing, bad_message, closes_each, dotted_fid, longest_exported, put_in, sharing, without}
 use Rattle.net_base.specs.NinepMessages.{IsTmsg, longest, r_bytes}
 use Rattle.net_base.specs.NinepReading.{read_t}
 use Rattle.net_base.specs.SessionAnswers.{Found, replied, said}
@@ -18,11 +18,11 @@ use Rattle.net_base.specs.SessionScript.{step_of}
 use Rattle.net_base.specs.SessionScript as script
 use Rattle.net_base.specs.SessionTable.{Table, fresh}
 use Rattle.net_base.specs.Server.{Doing, Gives, doing_of}
-use Rattle.net_base.specs.Session.{State, by_last}
+use Rattle.net_base.specs.Session.{by_last}
 use Rattle.net_base.specs.Steps.{Names, Play, lines_in}
 use Rattle.net_base.specs.Transcript.{lines_of}
 use Rattle.net_export.specs.declared.serving.Serving.{Serving as Code}
-use Rattle.net_export.specs.Rows.{dotted_request, first_of, rising, without}
+use Rattle.net_export.specs.Rows.{dotted_request, first_of, rising}
 use Rattle.script_task.specs.declared.request.Request.{Request}
 use Rattle.script_task.specs.declared.request.Request.TheVariants as request
 use Rattle.script_task.specs.Fitting.{is_granted, is_opening}
@@ -160,25 +160,25 @@ closed_one s = record s { open = drop 1 s.open }
 -- ---- what it stands for
 
 -- its tables and its open files are those of a state of the definitions
-pub record StandsAs (names : Names) (v : Serving) (s : State) : Type 0 where
-  pub table : table_of v.table ≡ s.table
-  pub found : lines_in_table v.found ≡ s.found
-  pub names_are : s.names ≡ names
-  pub open : v.open ≡ open_fids names
+pub record StandsAs (names : Names) (v : Serving) (s : Sharing) : Type 0 where
+  pub table : table_of v.table ≡ s.session.table
+  pub found : lines_in_table v.found ≡ s.session.found
+  pub names_are : s.session.names ≡ names
+  pub open : v.open ≡ s.open
 
 -- between requests
-abbrev pub Rests : ℕ → Names → Serving → State → Type 0
+abbrev pub Rests : ℕ → Names → Serving → Sharing → Type 0
 Rests h names v s = StandsAs names v s
 
 -- while a request is served: what is still done of it
-pub data Serves (h : ℕ) (names : Names) (v : Serving) : Doing State → Type 0 where
-  IsAnswered : (s : State) → v.request ≡ None → StandsAs names v s → Serves h names v (Gives v.answer s)
-  IsAsking : (s : State) (m : Tmsg) (q : Request) → v.request ≡ Some q → v.message ≡ Some m → StandsAs names v s
-      → Serves h names v (doing_of (request_play h names q) None (by_last s m))
+pub data Serves (h : ℕ) (names : Names) (v : Serving) : Doing Sharing → Type 0 where
+  IsAnswered : (s : Sharing) → v.request ≡ None → StandsAs names v s → Serves h names v (Gives v.answer s)
+  IsAsking : (s : Sharing) (m : Tmsg) (q : Request) → v.request ≡ Some q → v.message ≡ Some m → StandsAs names v s
+      → Serves h names v (sharing s.open m None (doing_of (request_play h names q) None (by_last s.session m)))
   -- the conversation of a file is awaited
-  IsWaiting : (s : State) (m : Tmsg) (called : List ℕ) (last : Reply) → v.request ≡ Some (request.Wait called) → v.message ≡ Some m → StandsAs names v s
-      → Serves h names v (doing_of (request_play h names (request.Wait called)) (Some last) (by_last s m))
+  IsWaiting : (s : Sharing) (m : Tmsg) (called : List ℕ) (last : Reply) → v.request ≡ Some (request.Wait called) → v.message ≡ Some m → StandsAs names v s
+      → Serves h names v (sharing s.open m (Some last) (doing_of (request_play h names (request.Wait called)) (Some last) (by_last s.session m)))
 
 -- at the end
 abbrev pub Closes : ℕ → Names → Serving → Play → Type 0
-Closes h names v p = (v.open ≡ open_fids names) × (p ≡ closes_each h v.open names)
+Closes h names v p = p ≡ closes_each h v.open names

@@ -27,7 +27,7 @@ use Rattle.net_base.specs.ControlWords as control
 use Rattle.net_base.specs.DatagramHeaders.{text_behind}
 use Rattle.net_base.specs.DomainAnswers.{dns_answer}
 use Rattle.net_base.specs.Callers.{IsScript, caller_of}
-use Rattle.net_base.specs.Exports.{Own, and_then, asks, by_text, closes_each, dotted_fid, dotted_step, exported, exports, most_requests, open_fids, own_of, serves_text, then_play, unheard}
+use Rattle.net_base.specs.Exports.{Own, and_then, asks, by_text, closes_each, dotted_fid, dotted_step, exported, exports, is_dotted, most_requests, own_of, serves_text, sharing, then_play, unheard, Sharing}
 use Rattle.net_base.specs.Imports.{attach_message, clunk_message, is_open, is_version, is_whole, longest_text, open_message, opens_remote, read_message, sends, sends_by, sends_for, sends_once, version_message, walk_message, write_message}
 use Rattle.net_base.specs.Legal.{IsAsked, IsLegal, MayFollow, asked_by, cites_of}
 use Rattle.net_base.specs.Net.{owed}
@@ -273,12 +273,21 @@ module _ (z : Tuples) (h : ℕ) where
   served_by st m None is = is
   served_by st m (Some t) is = step_doing (play_of h st.names t) None (by_last st m) (leaves st.names is t) (λ names o after. last_doing st m is names o after)
 
-  served : (st : State) (o : Option Tmsg) → st.names.zone ≡ z → DoingLeaves (serves_text h st o)
-  served st None is = is
-  served st (Some m) is = served_by st m (option_map dotted_step (step_of st.table m)) is
+  abbrev SharingLeaves : Doing Sharing → Type 0
+  SharingLeaves (Does ask next) = (r : Reply) → SharingLeaves (next r)
+  SharingLeaves (Gives answer later) = later.session.names.zone ≡ z
 
-  then_leaves : (d : Doing State) (go_on : List ℕ → State → Play) → DoingLeaves d
-      → ((answer : List ℕ) (later : State) → later.names.zone ≡ z → Leaves z (go_on answer later)) → Leaves z (then_play d go_on)
+  shared : (open : List ℕ) (m : Tmsg) (last : Option Reply) (d : Doing State) → DoingLeaves d → SharingLeaves (sharing open m last d)
+  shared open m last (Does ask next) is = λ r. shared open m (Some r) (next r) (is r)
+  shared open m last (Gives answer later) is = is
+
+  served : (st : Sharing) (o : Option Tmsg) → st.session.names.zone ≡ z → SharingLeaves (serves_text h st o)
+  served st None is = is
+  served st (Some m) is =
+      shared st.open m None (serves_by h st.session m (option_map dotted_step (step_of st.session.table m))) (served_by st.session m (option_map dotted_step (step_of st.session.table m)) is)
+
+  then_leaves : (d : Doing Sharing) (go_on : List ℕ → Sharing → Play) → SharingLeaves d
+      → ((answer : List ℕ) (later : Sharing) → later.session.names.zone ≡ z → Leaves z (go_on answer later)) → Leaves z (then_play d go_on)
   then_leaves (Does ask next) go_on is rest = λ r. then_leaves (next r) go_on (is r) rest
   then_leaves (Gives answer later) go_on is rest = rest answer later is
 
@@ -291,16 +300,18 @@ module _ (z : Tuples) (h : ℕ) where
   closing (n ∷ ns) names is =
       after_leaves (play_of h names (step.Close (dotted_fid n))) (closes_each h ns) (leaves names is (step.Close (dotted_fid n))) (λ bound after. closing ns bound after)
 
-  exporting : (own : Own) (n : ℕ) (st : State) → st.names.zone ≡ z → Leaves z (exports (exported h) own n st)
+  exporting : (own : Own) (n : ℕ) (st : Sharing) → st.session.names.zone ≡ z → Leaves z (exports (exported h) own n st)
   exporting own zero st is = is
   exporting own (suc n) st is =
-      λ r. by_text_leaves (bytes_in r) (closes_each h (open_fids st.names) st.names) _ (closing (open_fids st.names) st.names is) (λ text.
+      λ r. by_text_leaves (bytes_in r) (closes_each h st.open st.session.names) _ (closing st.open st.session.names is) (λ text.
       then_leaves (serves_text h st (read_t text)) _ (served st (read_t text) is) (λ answer later later_is written.
-      either (is_accepted written) (exports (exported h) own n later) (closes_each h (open_fids later.names) later.names) (exporting own n later later_is)
-      (closing (open_fids later.names) later.names later_is)))
+      either (is_accepted written) (exports (exported h) own n later) (closes_each h later.open later.session.names) (exporting own n later later_is)
+      (closing later.open later.session.names later_is)))
 
   own_leaves : (k : Kept) → k.names.zone ≡ z → (t : Step) → Leaves z (own_play h k t)
-  own_leaves k is (step.Export called) = exporting (own_of h called k.names) most_requests (unheard k.names) is
+  own_leaves k is (step.Export called) =
+      either (is_dotted called) (s.uses h called k.names) (exports (exported h) (own_of h called k.names) most_requests (unheard k.names)) (λ r. is)
+      (exporting (own_of h called k.names) most_requests (unheard k.names) is)
   own_leaves k is (step.Import call) = imports_leave (own_of h call k.names) k.names is
   own_leaves k is (step.Ropen called call path m) =
       either (is_remote_path path && not (is_bound k.names call && is_bound k.names called)) (opens_remote (own_of h call k.names) (free_fid k.left call) path m (Ends k.names)) (s.uses h called k.names)

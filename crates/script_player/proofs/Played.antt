@@ -217,7 +217,7 @@ play_fits (Ends names) ask r is fit = refl
 record Moved (zone : Tuples) (s : Script) (rs : List Reply) (p : Playing) (t : StepTask) (step : InStep zone s rs p t) (r : Reply) (names : Names) : Type 0 where
   stands_for : StandsFor s.host names (after t r) (follow step.play r)
   told : after t r ≡ after_all (begun p.left step.step) (step.said ++ r ∷ [])
-  leaves_so : leaves (after t r) p.left ≡ left_after p.left step.step (step.said ++ r ∷ [])
+  leaving_so : leaves (after t r) p.left ≡ left_after p.left step.step (step.said ++ r ∷ [])
   plays : Plays zone s (rs ++ r ∷ []) (step.said ++ r ∷ []) p.left (follow step.play r) step.step step.rest
 
 moved : (zone : Tuples) (s : Script) (rs : List Reply) (p : Playing) (t : StepTask) (step : InStep zone s rs p t) (e : Effect) (ask : Ask) (r : Reply) → Knows p.holdings.names t (Some e) → next_after zone s rs ≡ Some ask → fits ask.event r ≡ true
@@ -232,7 +232,7 @@ moved zone s rs p t step e ask r knows is fit =
     record {
       stands_for = subst (λ (ns : Names). StandsFor s.host ns (after t r) (follow step.play r)) names_are (moves_so s.host p.holdings.names t step.play q r step.stands_for knows.1 fits_it);
       told = ap (λ (u : StepTask). after u r) step.told ∙ after_one (begun p.left step.step) step.said r;
-      leaves_so = leaves_so p.left step.step step.said r t step.told (sym (asks_alike t p.holdings.names (no_names [])) ∙ step.goes_on);
+      leaving_so = leaves_so p.left step.step step.said r t step.told (sym (asks_alike t p.holdings.names (no_names [])) ∙ step.goes_on);
       plays = plays_on zone s rs step.said p.left step.play step.step step.rest heading.0 r heading.1 step.plays;
     }
 
@@ -269,7 +269,7 @@ goes_on zone s rs p t step r b moves true is l same =
     let said : List Reply = step.said ++ r ∷ [] in
     let ends : follow step.play r ≡ Ends b.names =
     subst (λ (o : Option Request). Heads s.host b.names o (follow step.play r)) (none_is (asks (after t r) b.names) is) (asks_so s.host b.names (after t r) (follow step.play r) moves.stands_for) in
-    let left_is_so : left_after p.left step.step said ≡ l = sym moves.leaves_so ∙ sym same in
+    let left_is_so : left_after p.left step.step said ≡ l = sym moves.leaving_so ∙ sym same in
     let next : Between zone s (rs ++ r ∷ []) (record p { holdings = b; effect = None; left = l; finished = p.finished + 1; task = None }) =
     record {
       slots = moves.stands_for.0;
