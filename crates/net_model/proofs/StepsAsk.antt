@@ -13,6 +13,7 @@ use Rattle.net_base.specs.declared.world.Step.{Step}
 use Rattle.net_base.specs.declared.world.Step.TheVariants as step
 use Rattle.net_base.specs.ControlWords as control
 use Rattle.net_base.specs.declared.ninep.Tmsg.{Tmsg}
+use Rattle.net_base.specs.Exports.{Own, Sharing, exported, exports, is_dotted, most_requests, own_of, unheard}
 use Rattle.net_base.specs.Imports.{clunk_message, longest_text, read_message, sends_by, write_message}
 use Rattle.net_base.specs.DatagramHeaders.{text_behind}
 use Rattle.net_base.specs.DomainAnswers.{dns_answer}
@@ -92,6 +93,10 @@ remote : (h : ℕ) (called : List ℕ) (names : Names) (o : Option Remote) (mess
 remote h called names None message = tt
 remote h called names (Some r) message = tt
 
+exporting : (h : ℕ) (own : Own) (s : Sharing) → Asking (exports (exported h) own most_requests s)
+unfolding most_requests
+exporting h own s = tt
+
 own_asks : (h : ℕ) (k : Kept) (s : Step) → Asking (own_play h k s)
 own_asks h k (step.Open called path m) = new h called k.names _ tt
 own_asks h k (step.Read called count) = readable h called k.names _ (λ f. tt)
@@ -118,7 +123,8 @@ own_asks h k (step.Hwrite called bytes) =
     (λ data_file. either (is_answer bytes k.names.heard) (answers h k.names (text_behind bytes) data_file) (misuses h data_name k.names) tt tt)
 own_asks h k (step.Dns called times) = serving h called k.names (times - 1)
 -- imports
-own_asks h k (step.Export called) = tt
+own_asks h k (step.Export called) =
+    either (is_dotted called) (uses h called k.names) (exports (exported h) (own_of h called k.names) most_requests (unheard k.names)) tt (exporting h (own_of h called k.names) (unheard k.names))
 own_asks h k (step.Import call) = tt
 own_asks h k (step.Ropen called call path m) = either (is_remote_path path && not (is_bound k.names call && is_bound k.names called)) _ (uses h called k.names) tt tt
 own_asks h k (step.Rread called count) = remote h called k.names (remote_of called k.left) (λ (fid : ℕ). read_message fid count)

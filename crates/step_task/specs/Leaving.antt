@@ -1,13 +1,13 @@
 -- What a task leaves once it is through is what the replies leave that it was told.
 use Rattle.std.proofs.Common.{◌≡◌, ℕ, Bool, true, false, ◌&&◌, List, [], ◌∷◌, ◌++◌, Option, Some, None, if◌then◌else◌, refl, sym, ap, subst, ◌∙◌}
-use Rattle.std.specs.Prelude.{find, is_none, length, nat_le}
+use Rattle.std.specs.Prelude.{find, is_none, length, nat_le, not}
 use Rattle.std.proofs.lemmas.Bool.{true≢false}
 use Rattle.net_base.specs.declared.left.Left.{Left}
 use Rattle.net_base.specs.declared.names.Mode.{Mode}
 use Rattle.net_base.specs.declared.reply.Reply.{Reply}
 use Rattle.net_base.specs.declared.world.Step.{Step}
 use Rattle.net_base.specs.declared.world.Step.TheVariants as step
-use Rattle.net_base.specs.Exports.{by_text}
+use Rattle.net_base.specs.Exports.{by_text, is_dotted}
 use Rattle.net_base.specs.Imports.{clunk_message, is_open, is_whole, left_open, longest_text, open_message, was_opened}
 use Rattle.net_base.specs.NinepMessages.{t_bytes}
 use Rattle.net_base.specs.Remotes.{free_fid, is_remote, is_remote_path, with_remote, without_remote}
@@ -19,6 +19,7 @@ use Rattle.net_import.specs.declared.ropen.RopenStage.{RopenStage}
 use Rattle.net_import.specs.declared.ropen.RopenStage.TheVariants as stage
 use Rattle.net_import.specs.declared.talk.TalkPhase.{TalkPhase}
 use Rattle.net_import.specs.declared.talk.TalkPhase.TheVariants as phase
+use Rattle.net_export.specs.Exporting as export
 use Rattle.net_import.specs.Errands as errand
 use Rattle.net_import.specs.Ropening as ropen
 use Rattle.net_import.specs.Talks as talk
@@ -355,7 +356,7 @@ own_none left (step.Hangup called) is = refl
 own_none left (step.Hread called count) is = refl
 own_none left (step.Hwrite called bytes) is = refl
 own_none left (step.Dns called times) is = refl
-own_none left (step.Export called) is = refl
+own_none left (step.Export called) is = unbound_none called (not (is_dotted called)) (task.Export (export.begun called)) refl
 own_none left (step.Import call) is = refl
 own_none left (step.Ropen called call path m) is = absurd (true≢false is)
 own_none left (step.Rread called count) is = refl

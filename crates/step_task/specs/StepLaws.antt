@@ -1,6 +1,6 @@
 -- The task of a step stands for the step's play, and asks and moves as that does.
 use Rattle.std.proofs.Common.{◌≡◌, ℕ, ◌-◌, Bool, true, false, List, [], ◌∷◌, Option, Some, None, bytes_eq, if◌then◌else◌, unwrap_or, refl, sym, subst, ap}
-use Rattle.std.specs.Prelude.{◌&&◌, find, is_none, length, nat_le}
+use Rattle.std.specs.Prelude.{◌&&◌, find, is_none, length, nat_le, not}
 use Rattle.net_base.specs.declared.left.Left.{Left}
 use Rattle.net_base.specs.declared.left.Remote.{Remote}
 use Rattle.net_base.specs.declared.names.FileName.{FileName}
@@ -12,6 +12,7 @@ use Rattle.net_base.specs.declared.world.Step.{Step}
 use Rattle.net_base.specs.declared.world.Step.TheVariants as step
 use Rattle.net_base.specs.Paths.{walk, reads}
 use Rattle.net_base.specs.Steps.{Names, Fid, Play, Ends, fid_of, is_bound, bind, on_fid, opened_fid, openable, default_mode, no_names}
+use Rattle.net_base.specs.Exports.{export_play, is_dotted}
 use Rattle.net_base.specs.Imports.{clunk_message, longest_text, read_message, ropen_play, rwrite_play, write_message}
 use Rattle.net_base.specs.Remotes.{is_remote, is_remote_path, remote_of}
 use Rattle.net_base.specs.Scripts.{new_names, own_play, play_by, step_play}
@@ -49,6 +50,7 @@ use Rattle.step_task.specs.StepTasks as spec
 use Rattle.dial_lib.specs.WriteText as write_text
 use Rattle.dial_lib.specs.WriteTextLaws as write_text_laws
 use Rattle.net_export.specs.ExportLaws as export_laws
+use Rattle.net_export.specs.Exporting as export
 use Rattle.net_import.specs.declared.errand.Errand.{Errand}
 use Rattle.net_import.specs.declared.errand.Errand.TheVariants as errands
 use Rattle.net_import.specs.ErrandLaws as errand_laws
@@ -106,7 +108,11 @@ begins_own h names left (step.Hread called count) slots free = call.IsFresh name
 begins_own h names left (step.Hwrite called bytes) slots free = hwrite.IsWrite names
 begins_own h names left (step.Dns called times) slots free = dns_laws.begun_so h names called (times - 1) slots
 -- imports
-begins_own h names left (step.Export called) slots free = export_laws.begins h names called
+begins_own h names left (step.Export called) slots free = export_by (is_dotted called) refl
+  where
+    export_by : (b : Bool) → is_dotted called ≡ b → spec.stands_by h names (spec.or_unbound called (not b) (task.Export (export.begun called))) (export_play h called names)
+    export_by true is = rw is (IsFresh (_, refl, λ r. refl))
+    export_by false is = rw is (export_laws.begins h names called)
 begins_own h names left (step.Import call) slots free = refl
 begins_own h names left (step.Ropen called call path m) slots free = ropen_by (is_remote_path path) refl
   where
@@ -233,7 +239,7 @@ begun_own_asks left (step.Hread called count) names = refl
 begun_own_asks left (step.Hwrite called bytes) names = refl
 begun_own_asks left (step.Dns called times) names = refl
 -- imports
-begun_own_asks left (step.Export called) names = refl
+begun_own_asks left (step.Export called) names = unbound_asks called (not (is_dotted called)) (task.Export (export.begun called)) names (export_laws.begun_asks called names)
 begun_own_asks left (step.Import call) names = refl
 begun_own_asks left (step.Ropen called call path m) names =
     unbound_asks called (is_remote_path path) (task.Ropen (ropen.begun called call path m left)) names

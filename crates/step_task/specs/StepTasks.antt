@@ -1,10 +1,11 @@
 -- The task of a step: what it begins with, its requests, what a reply makes of it, and the plays that it stands for.
-use Rattle.std.specs.Prelude.{ℕ, Bool, true, false, List, [], ◌∷◌, Option, Some, None, find, is_none, length, nat_le, codes, unwrap_or, if◌then◌else◌}
+use Rattle.std.specs.Prelude.{ℕ, Bool, true, false, List, [], ◌∷◌, Option, Some, None, find, is_none, length, nat_le, not, codes, unwrap_or, if◌then◌else◌}
 use Rattle.net_base.specs.declared.left.Left.{Left}
 use Rattle.net_base.specs.declared.reply.Reply.{Reply}
 use Rattle.net_base.specs.declared.world.Step.{Step}
 use Rattle.net_base.specs.declared.world.Step.TheVariants as step
 use Rattle.net_base.specs.Paths.{walk}
+use Rattle.net_base.specs.Exports.{is_dotted}
 use Rattle.net_base.specs.Imports.{longest_text}
 use Rattle.net_base.specs.Remotes.{is_remote, is_remote_path}
 use Rattle.net_base.specs.Scripts.{new_names, step_play}
@@ -64,7 +65,7 @@ begun_own left (step.Hread called count) = task.Hread (hread.begun called count)
 begun_own left (step.Hwrite called bytes) = task.Hwrite (hwrite.begun called bytes)
 begun_own left (step.Dns called times) = task.Dns (dns.begun called times)
 -- imports
-begun_own left (step.Export called) = task.Export (export.begun called)
+begun_own left (step.Export called) = or_unbound called (not (is_dotted called)) (task.Export (export.begun called))
 begun_own left (step.Import call) = task.Import (import.begun call)
 begun_own left (step.Ropen called call path m) = or_unbound called (is_remote_path path) (task.Ropen (ropen.begun called call path m left))
 begun_own left (step.Rread called count) = task.Rread (record { errand = errand.reads called count left })

@@ -1,6 +1,7 @@
 //! The task of a step.
 ghost use Rattle.std.specs.Prelude.{◌≡◌, ◌∷◌, [], List, None, IfOk, OnErr, OnOk, find, true, codes, if◌then◌else◌};
 ghost use Rattle.net_base.specs.Paths as paths;
+ghost use Rattle.net_base.specs.Exports as exports;
 ghost use Rattle.net_base.specs.Steps as steps;
 ghost use Rattle.net_base.specs.Steps.{Names as AnyNames};
 ghost use Rattle.net_base.specs.declared.names.Mode.TheVariants as mode;
@@ -278,7 +279,7 @@ fn begin_import(alloc: Global, step: &Step, left: &Left) -> Result<StepTask, All
     ensures { spec.is_import step.now ≡ true → IfOk result (λ t. t ≡ spec.begun_own left.now step.now) }
 {
     match step {
-        Step::Export { name } => Ok(StepTask::Export(Export::new(alloc, name.as_slice())?)),
+        Step::Export { name } => export(alloc, name),
         Step::Import { name } => Ok(StepTask::Import(Import::new(alloc, name.as_slice())?)),
         Step::Ropen {
             name,
@@ -295,6 +296,26 @@ fn begin_import(alloc: Global, step: &Step, left: &Left) -> Result<StepTask, All
         Step::Rwrite { name, text } => rwrite(alloc, name, text, left),
         Step::Rclose { name } => Ok(StepTask::Rclose(Rclose::new(alloc, name.as_slice(), left)?)),
         _ => Ok(once(Request::Refresh)),
+    }
+}
+
+// Exports over a call. A name that no world says is asked for alone.
+fn export(alloc: Global, name: &Octets) -> Result<StepTask, AllocError>
+    ensures { (left : AnyLeft) → IfOk result (λ t. t ≡ spec.begun_own left (step.Export name.now)) }
+{
+    if is_dotted(name.as_slice()) {
+        return unbound(name);
+    }
+    Ok(StepTask::Export(Export::new(alloc, name.as_slice())?))
+}
+
+// Whether a name begins with a dot.
+fn is_dotted(name: &[u8]) -> bool
+    ensures { result ≡ exports.is_dotted name.now }
+{
+    match name.first() {
+        Some(byte) => *byte == b'.',
+        None => false,
     }
 }
 
