@@ -1,5 +1,6 @@
 //! Exporting over a call.
-ghost use Rattle.std.specs.Prelude.{◌≡◌, IfOk, OnErr, OnOk};
+ghost use Rattle.std.specs.Prelude.{◌≡◌, IfOk, OnErr, OnOk, false};
+ghost use Rattle.net_base.specs.Exports.{is_dotted};
 ghost use Rattle.net_base.specs.Steps.{bytes_in};
 ghost use Rattle.net_base.specs.declared.world.Step.TheVariants as step;
 ghost use Rattle.net_export.specs.Exporting as spec;
@@ -52,6 +53,7 @@ impl Export {
     /// Exports over the call that the name is bound to.
     #[tactic(auto, using(crate::specs::ExportLaws::fresh))]
     pub fn new(alloc: Global, name: &[u8]) -> Result<Export, AllocError>
+        requires plain { is_dotted name.now ≡ false }
         ensures value { IfOk result (λ t. t ≡ spec.begun name.now) }
         ensures stands { IfOk result (λ t. spec.Begins t (step.Export name.now)) }
     {
