@@ -1,5 +1,5 @@
 -- What an actor keeps answers as the actor of the definitions.
-use Rattle.std.proofs.Common.{◌≡◌, ℕ, Bool, true, false, List, Option, Some, None, Result, Ok, Err, IfOk, OnErr, slice_get, is_some, bytes_eq, codes, nat_le, cond, refl, ap, sym, subst, ◌∙◌}
+use Rattle.std.proofs.Common.{◌≡◌, ℕ, Bool, true, List, Option, Some, None, Result, Ok, Err, IfOk, OnErr, slice_get, is_some, bytes_eq, codes, nat_le, refl, ap, sym, subst, ◌∙◌}
 use Rattle.std.specs.Prelude.{IfSome}
 use Rattle.std.specs.Option.{option_map, option_and_then}
 use Rattle.std.proofs.lemmas.Bool.{cond_both, false≢true}
@@ -101,6 +101,11 @@ desk_gives d None o stays is = absurd (none-some _ is)
 desk_gives d (Some r) o stays is =
     ap (λ (x : Desk). Some (record { state = x; outcome = replies r None })) stays
     ∙ ap (λ (x : Outcome). Some (record { state = d; outcome = x })) (same_Some (replies r None) o is)
+
+-- any other event leaves the desk as it is
+pub leaves_but : (e : Event) → (e ≡ event.Refresh → ⊥) → leaves_desk e ≡ true
+leaves_but event.Refresh other = absurd (other refl)
+leaves_but _ other = refl
 
 -- what a desk tells is its step, where the event leaves it
 pub told_steps : {E : Type 0} (r : Result Outcome E) (dbs : List Version) (h : HostSpec) (e : Event) (now : ℕ) (d : Desk) → leaves_desk e ≡ true

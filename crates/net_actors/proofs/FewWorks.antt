@@ -182,11 +182,11 @@ hung_up_at state.Listening now e = one_more (end_size e)
 hung_up_at state.Closed now e = one_more (end_size e)
 hung_up_at state.Closing now e = one_more (end_size e)
 
-sent_one : (text : List ℕ) (e : End) → Fits e (table.sends text e)
-sent_one text e = let more = length-append e.sent (text ∷ []) in omega (arith, more)
+sent_one : (now : ℕ) (text : List ℕ) (e : End) → Fits e (table.sends now text e)
+sent_one now text e = let more = length-append e.sent (text ∷ []) in omega (arith, more)
 
 written : (now : ℕ) (text : List ℕ) (e : End) → Fits e (table.writes now text e)
-written now text e = either (Fits e) (end.has_unacked e) _ _ (sent_one text e) (sent_one text (end.starts now e))
+written now text e = either (Fits e) (end.has_unacked e) _ _ (sent_one now text e) (sent_one now text (end.starts now e))
 
 read_some : (count : ℕ) (e : End) → end_size (table.reads count e) ≤ end_size e + 1
 read_some count e =

@@ -47,7 +47,7 @@ impl Actors {
     /// The actors of a world, to which nothing has happened, with one database for all desks.
     pub fn new(alloc: Global, world: &World) -> Result<Actors, AllocError>
         requires { IsWorld world.now }
-        ensures { IfOk result (λ actors. AreActors world.now actors opening_actor) }
+        ensures { IfOk result (λ actors. AreActors world.now actors (opening_actor world.now.timers)) }
     {
         let hosts = world.hosts.len() as u32;
         let media = world.media.len() as u32;

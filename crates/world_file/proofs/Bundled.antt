@@ -78,7 +78,7 @@ front-text (line ∷ lines) rest whole =
     let lines_are = ap lines_of text ∙ joined-lines line lines whole in
     record { bad = ap (first_bad causes_of []) lines_are; read = ap database lines_are }
 
-pub front_same : (text : List ℕ) (place lines : ℕ) (f : IsFront text place lines) → Same (take (place - 1) text) f.front
+front_same : (text : List ℕ) (place lines : ℕ) (f : IsFront text place lines) → Same (take (place - 1) text) f.front
 front_same text place lines f =
     subst (λ (xs : List ℕ). Same (take (place - 1) xs) f.front) (sym f.text_is)
     (subst (λ (k : ℕ). Same (take (k - 1) (laid f.front ++ f.rest)) f.front) (sym f.place_is) (front-text f.front f.rest f.whole))

@@ -10,7 +10,7 @@ use Rattle.world_text.specs.VersionLines.{is_at_line}
 use Rattle.world_text.specs.WorldSpelling.{is_line, laid}
 use Rattle.world_text.specs.WorldText.{cuts_of}
 use Rattle.world_text.proofs.WorldLists.{false-of-not, or-parts}
-use Rattle.world_text.proofs.WorldTexts.{Shape, laid-more, shape}
+use Rattle.world_text.proofs.WorldTexts.{Shape, shape}
 use Rattle.world_file.specs.Bundles.{IsFront, IsLast}
 
 -- Lines of a text.
@@ -26,7 +26,7 @@ pub laid_lines : (front : List (List ℕ)) (rest : List ℕ) → list_all is_lin
 laid_lines [] rest whole = refl
 laid_lines (line ∷ front) rest whole =
     let parts = and_parts (is_line line) (list_all is_line front) whole in
-    ap lines_of (laid-more line front rest)
+    ap lines_of (append_assoc line (10 ∷ laid front) rest)
     ∙ cut_at 10 line (laid front ++ rest) (front ++ lines_of rest) (line_without line parts.0) (laid_lines front rest parts.1)
 
 -- the first line of a text with those behind it: there are none where the line has no newline

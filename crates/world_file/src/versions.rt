@@ -17,7 +17,6 @@ use words::number_in;
 use world_text::LineCause;
 
 /// The versions that stand behind the line with this number, or their first bad line.
-#[tactic(auto, using(crate::proofs::Bundled::end_ok, crate::proofs::Bundled::end_bad, crate::proofs::Bundled::front_bad, crate::proofs::Bundled::moment_bad))]
 pub(crate) fn read_versions(alloc: Global, number: u64, text: &[u8]) -> Result<Versions, WorldError>
     requires { number + length text.now < 2 ^ 63 }
     ensures ok { IfOk result (λ versions. (spec.bad_version_line text.now ≡ None) × (versions ≡ spec.versions_in (lines_of text.now))) }
@@ -41,7 +40,6 @@ pub(crate) fn read_versions(alloc: Global, number: u64, text: &[u8]) -> Result<V
 }
 
 /// How many bytes and lines stand before the first line that begins a version, if one does.
-#[tactic(auto, using(crate::proofs::Scanning::scan_found, crate::proofs::Scanning::scan_end))]
 fn next_version(text: &[u8]) -> Option<(usize, u64)>
     requires { length text.now < 2 ^ 63 }
     ensures some { IfSome result (λ found. IsFront text.now found.0 found.1) }

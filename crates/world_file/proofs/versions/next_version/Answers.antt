@@ -11,10 +11,10 @@ loop-rest-preserved c =
     let l = c.loop-rest in
     scan_next c.args.text.now l.rest.now c.cut_line.result.0.now c.cut_line.result.1.now l.lines l.invariant (grind (arith, nat_tests)) c.cut_line.ensures.cut (sym c.is_at_line.ensures ∙ c.if-is_at_line.false)
 
-pub returns-in-loop-rest : goal.returns-in-loop-rest
-returns-in-loop-rest c =
+pub returns-then-is_at_line-clause-some : goal.returns-then-is_at_line-clause-some
+returns-then-is_at_line-clause-some c =
     let l = c.loop-rest in
     scan_found c.args.text.now l.rest.now c.cut_line.result.0.now c.cut_line.result.1.now l.lines l.invariant (grind (arith, nat_tests)) c.cut_line.ensures.cut (sym c.is_at_line.ensures ∙ c.if-is_at_line.true)
 
-pub returns : goal.returns
-returns c = let l = c.loop-rest in scan_end c.args.text.now l.rest.now l.lines l.invariant (grind (arith, nat_tests))
+pub returns-clause-none : goal.returns-clause-none
+returns-clause-none c = let l = c.loop-rest in scan_end c.args.text.now l.rest.now l.lines l.invariant (grind (arith, nat_tests))

@@ -1,7 +1,7 @@
 use Rattle.std.proofs.Common.{◌≡◌, ℕ, List, ap, ◌∙◌}
 use Rattle.net_base.specs.declared.ndb.NdbPair.{NdbPair}
 use Rattle.net_actors.proofs.Placed.{map_ok}
-use Rattle.net_actors.proofs.actors.copy_of.Goals as goal
+use Rattle.net_actors.proofs.versions.copy_of.Goals as goal
 
 same_pair : (a b : NdbPair) → b.attr ≡ a.attr → b.value ≡ a.value → b ≡ a
 same_pair a b attr value =
