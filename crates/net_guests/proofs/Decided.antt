@@ -25,7 +25,7 @@ use Rattle.net_locks.specs.Knowing.{IsKnown}
 use Rattle.net_guests.specs.Deciding.{Decided, Leaves, Moves, net_of}
 use Rattle.net_locks.specs.Moving.{Keeps, LeavesMoved, MayMove}
 use Rattle.net_locks.specs.Turns.{Stays, own}
-use Rattle.net_guests.specs.Visits.{IsVisit, IsWith, Visit}
+use Rattle.net_guests.specs.Visits.{IsHosted, IsWith, Visit}
 use Rattle.net_guests.proofs.Operating.{visit}
 use Rattle.net_guests.proofs.Passes.{stays_on}
 
@@ -141,15 +141,17 @@ module _ (w : World) (r : Roster) (c now : ℕ) (p q : Sight) (ds : List Duty) (
 
 -- a guest as it was, but for what it knows of due moments
 pub visit_same : (w : World) (r : Roster) (c now : ℕ) (p p' : Sight) (ds ds' : List Duty) (host : ℕ) (m : Marks) (k k' : Calendar) → p' ≡ p → ds' ≡ ds
-    → IsKnown w p'.seen k' → IsVisit w r c now p ds host m k → IsVisit w r c now p' ds' host m k'
+    → IsKnown w p'.seen k' → IsHosted w r c now p ds host m k → IsHosted w r c now p' ds' host m k'
 visit_same w r c now p p' ds ds' host m k k' sight owed known is =
     record {
-      guest = subst (λ (l : List Duty). IsGuest w r c p' l) (sym owed) (subst (λ (s : Sight). IsGuest w r c s ds) (sym sight) is.guest);
-      here = is.here ∙ ap (λ (s : Sight). moment s.seen) (sym sight);
-      early = is.early;
+      visit = record {
+        guest = subst (λ (l : List Duty). IsGuest w r c p' l) (sym owed) (subst (λ (s : Sight). IsGuest w r c s ds) (sym sight) is.visit.guest);
+        here = is.visit.here ∙ ap (λ (s : Sight). moment s.seen) (sym sight);
+        early = is.visit.early;
+        covers = subst (λ (s : Sight). Covers (own c s) m) (sym sight) is.visit.covers;
+        known = known;
+      };
       home = is.home;
-      covers = subst (λ (s : Sight). Covers (own c s) m) (sym sight) is.covers;
-      known = known;
     }
 
 -- the moment of a world's end is early

@@ -29,6 +29,7 @@ use Rattle.net_locks.specs.declared.turn.Turn.{Turn}
 use Rattle.net_locks.specs.declared.turn.Turn.TheVariants as turn
 use Rattle.net_locks.specs.Knowing.{IsKnown}
 use Rattle.net_locks.specs.Rosters.{IsReplayed}
+use Rattle.net_locks.specs.Visitors.{IsVisit}
 use Rattle.net_locks.specs.Turns.{HasRoom, IsFull, Stays, Turned, bare, own}
 
 -- a caller, the moment, its pass, what it owes, and the names that it has bound
@@ -39,16 +40,11 @@ pub record Visit : Type 0 where
   pub owed : List Duty
   pub names : List Bound
 
--- a guest knows its duties and the moment, a script's the host on which it runs, at which conversations it recorded
--- something, and when conversations were due
-pub record IsVisit (w : World) (r : Roster) (c now : ℕ) (p : Sight) (ds : List Duty) (host : ℕ) (m : Marks) (k : Calendar)
+-- a guest knows what a visit keeps, and a script's the host on which it runs
+pub record IsHosted (w : World) (r : Roster) (c now : ℕ) (p : Sight) (ds : List Duty) (host : ℕ) (m : Marks) (k : Calendar)
     : Type 0 where
-  pub guest : IsGuest w r c p ds
-  pub here : now ≡ moment p.seen
-  pub early : now < 2 ^ 63
+  pub visit : IsVisit w r c now p ds m k
   pub home : (s : Script) → caller_of w c ≡ IsScript s → s.host ≡ host
-  pub covers : Covers (own c p) m
-  pub known : IsKnown w p.seen k
 
 -- what contracts see of what a guest carries: beside its visit the host of a script, at which conversations it recorded
 -- something, and when conversations were due
@@ -60,7 +56,7 @@ pub record Carried : Type 0 where
 
 -- a guest may carry it: it knows all this of its caller, whose number its pass has
 abbrev pub IsComplete : World → Roster → Carried → Type 0
-IsComplete w r b = IsVisit w r b.visit.caller b.visit.now b.visit.sight b.visit.owed b.host b.touched b.calendar
+IsComplete w r b = IsHosted w r b.visit.caller b.visit.now b.visit.sight b.visit.owed b.host b.touched b.calendar
 
 -- Turns.
 

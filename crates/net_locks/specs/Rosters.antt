@@ -39,7 +39,7 @@ AreUnused (b ∷ bs) = (b.list ≡ []) × AreUnused bs
 
 -- each of these entries was a step of the actor, in the state to which those before it led
 abbrev pub IsReplayed : World → ActorName → List (ℕ × Noted) → Type 0
-IsReplayed w a list = Replays (opening w) (answer_in w) (opening a) list
+IsReplayed w a list = Replays (opening w) (answer_in w) (opening w a) list
 
 -- each of these books is so
 abbrev pub AreReplayed : World → List Volume → Type 0

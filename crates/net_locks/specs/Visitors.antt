@@ -1,7 +1,7 @@
 -- What a caller has with it at the locks, and what its turn leaves of that.
---     IsVisitor      what is known of it
+--     IsVisit        what is known of it
 --     Visited        what its turn did
-use Rattle.std.specs.Prelude.{◌≡◌, ℕ, ◌×◌, ◌<◌, ◌≤◌, ◌^◌, List, Option, Result, Ok, Err}
+use Rattle.std.specs.Prelude.{◌≡◌, ℕ, ◌<◌, ◌≤◌, ◌^◌, List, Option, Result, Ok, Err}
 use Rattle.net_base.specs.declared.actor.ActorName.{ActorName}
 use Rattle.net_base.specs.declared.history.Outcome.{Outcome}
 use Rattle.net_base.specs.declared.history.Work.{Work}
@@ -10,23 +10,29 @@ use Rattle.net_base.specs.Duties.{Duty}
 use Rattle.net_base.specs.Legal.{IsInTime}
 use Rattle.net_base.specs.Stamped.{moment}
 use Rattle.journal.specs.declared.law.Roster.{Roster}
-use Rattle.due_moments.specs.Marks.{Covers}
+use Rattle.journal.specs.declared.tokens.Sight.{Sight}
+use Rattle.due_moments.specs.Marks.{Covers, Marks}
 use Rattle.duties.specs.Owing.{most_owed}
 use Rattle.guest_laws.specs.Guests.{HasRecorded, IsGuest, IsTurn, Records}
 use Rattle.guest_laws.specs.Works.{noted_net}
+use Rattle.net_locks.specs.declared.calendar.Calendar.{Calendar}
 use Rattle.net_locks.specs.declared.turn.Turn.{Turn}
 use Rattle.net_locks.specs.declared.visitor.Bearer.{Bearer}
 use Rattle.net_locks.specs.declared.visitor.Visitor.{Visitor}
 use Rattle.net_locks.specs.Knowing.{IsKnown}
 use Rattle.net_locks.specs.Turns.{Turned, own}
 
--- it knows its duties and the moment, at which conversations it recorded something, and when conversations were due
-pub record IsVisitor {J : Type 0} (w : World) (r : Roster) (v : Visitor J) : Type 0 where
-  pub guest : IsGuest w r v.bearer.caller v.bearer.pass v.duties.list
-  pub here : v.bearer.now ≡ moment v.bearer.pass.seen
-  pub early : v.bearer.now < 2 ^ 63
-  pub covers : Covers (own v.bearer.caller v.bearer.pass) v.touched
-  pub known : IsKnown w v.bearer.pass.seen v.calendar
+-- a caller knows its duties and the moment, at which conversations it recorded something, and when conversations were due
+pub record IsVisit (w : World) (r : Roster) (c now : ℕ) (p : Sight) (ds : List Duty) (m : Marks) (k : Calendar) : Type 0 where
+  pub guest : IsGuest w r c p ds
+  pub here : now ≡ moment p.seen
+  pub early : now < 2 ^ 63
+  pub covers : Covers (own c p) m
+  pub known : IsKnown w p.seen k
+
+-- a visitor may have it all: it knows this of its caller, whose number its pass has
+abbrev pub IsVisitor : {J : Type 0} → World → Roster → Visitor J → Type 0
+IsVisitor w r v = IsVisit w r v.bearer.caller v.bearer.now v.bearer.pass v.duties.list v.touched v.calendar
 
 -- the same caller at the same moment
 pub record IsSameBearer {J : Type 0} (old new : Bearer J) : Type 0 where

@@ -231,7 +231,9 @@ impl<J: Naming + Placing> Locks<J, WorldActor<J>> {
         ensures go { MayGo J.world J.run.roster visitor.old.bearer.caller visitor.old.bearer.now
             visitor.old.bearer.pass visitor.old.duties.list result visitor.new.bearer.pass visitor.new.duties.list }
     {
-        let moment = self.reach(rt, gate, world, standings, visitor)?;
+        let Some(moment) = self.reach(rt, gate, world, standings, visitor) else {
+            return None;
+        };
         visitor.bearer.now = moment;
         visitor.touched.forget(visitor.calendar.at);
         Some(moment)

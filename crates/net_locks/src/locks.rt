@@ -20,8 +20,8 @@ ghost use Rattle.net_locks.specs.Turns.{Turned, bare, own};
 ghost use Rattle.due_moments.specs.Marks.{Covers};
 
 use crate::finishing::books_of;
-use crate::opening::NetOpened;
 use crate::machine::{WorldActor, locked};
+use crate::opening::NetOpened;
 use crate::placing::Placing;
 use due_moments::Touched;
 use duties::{Duties, WorldWays};

@@ -53,7 +53,7 @@ impl<P: Placing> WorldActor<P> {
 impl<P: Placing> Machine for WorldActor<P> {
     ghost use Rattle.guest_laws.specs.Named.{opening, answer_in, due_of, generation_of};
 
-    ghost begin = { opening };
+    ghost begin = { opening P.world };
 
     ghost answer = { λ s now work. answer_in P.world s now work };
 

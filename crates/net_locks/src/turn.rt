@@ -210,9 +210,11 @@ fn lacks_room<J: Naming + Placing>(
     requires { IsGuest J.world J.run.roster bearer.now.caller bearer.now.pass duties.old.list }
     ensures list { duties.new.list ≡ duties.old.list }
     ensures covers { (own : List (ℕ × Noted)) → Covers own touched.old → Covers own touched.new }
-    ensures none { IsNone result → HasRoom bearer.now.caller bearer.now.pass × (13 ≤ duties.new.room) × (0 < touched.new.room) }
+    ensures none { IsNone result → HasRoom bearer.entry.now.caller bearer.entry.now.pass
+        × (13 ≤ duties.new.room) × (0 < touched.new.room) }
     ensures some { IfSome result (λ t. (now : ℕ) (a : Name) (work : AnyWork) (cites : Option ℕ)
-        → Turned J.world bearer.now.caller now a work cites bearer.now.pass duties.old.list t bearer.now.pass duties.new.list) }
+        → Turned J.world bearer.entry.now.caller now a work cites bearer.entry.now.pass duties.old.list t
+        bearer.entry.now.pass duties.new.list) }
 {
     if bearer.pass.room(bearer.caller) == 0 {
         return Some(Turn::Limit);
