@@ -1,5 +1,5 @@
 //! The calm clock: whether it may move, and where to.
-ghost use Rattle.std.specs.Prelude.{◌≡◌, ◌==◌, ◌<◌, ◌≤◌, ◌^◌, ◌++◌, ◌∷◌, ℕ, Bool, true, false, not, [], List, length, min, option_to_list, None, is_some};
+ghost use Rattle.std.specs.Prelude.{◌≡◌, ◌==◌, ◌<◌, ◌≤◌, ◌^◌, ◌++◌, ◌∷◌, ℕ, Bool, true, false, not, [], List, length, min, option_to_list, unwrap_or, None, is_some};
 ghost use Rattle.std.specs.List.{list_any};
 ghost use Rattle.std.specs.Option.{option_map_or};
 ghost use Rattle.net_base.specs.declared.event.Event.TheVariants as event;
@@ -227,7 +227,7 @@ impl<J: Naming + Placing> Locks<J, WorldActor<J>> {
         requires may { MayMove J.world visitor.old.bearer.caller visitor.old.bearer.pass }
         ensures complete { IsVisitor J.world J.run.roster visitor.new }
         ensures caller { visitor.new.bearer.caller ≡ visitor.old.bearer.caller }
-        ensures now { visitor.new.bearer.now ≡ option_or visitor.old.bearer.now result }
+        ensures now { visitor.new.bearer.now ≡ unwrap_or result visitor.old.bearer.now }
         ensures go { MayGo J.world J.run.roster visitor.old.bearer.caller visitor.old.bearer.now
             visitor.old.bearer.pass visitor.old.duties.list result visitor.new.bearer.pass visitor.new.duties.list }
     {

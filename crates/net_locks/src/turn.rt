@@ -59,6 +59,7 @@ impl<J: Naming + Placing> Locks<J, WorldActor<J>> {
             → Visited J.world d.actor (work_of_duty d) (Some d.cites) visitor.old result visitor.new }
     {
         calendars_stay_known();
+        no_duty_is_the_clocks();
         turns_are_these();
         let bearer = &visitor.bearer;
         if let Some(turn) = lacks_room(bearer, &mut visitor.duties, &mut visitor.touched) {

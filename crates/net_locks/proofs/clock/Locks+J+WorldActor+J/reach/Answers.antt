@@ -63,6 +63,14 @@ record_move-requires-clause-in_time g c =
     (c.least_awaited-awaited.ensures ∙ ap (λ (v : World). least v.end (awaited_moments c.args.standings.now)) (sym c.requires.world)) c.least_due-moment.ensures in
     subst (λ (q : Sight). IsInTime (noted_net w q.seen) w (event.Move c.least_due-moment.result)) (sym c.catch_up.ensures.same) (c.requires.may.may, t.0)
 
+pub returns-then-not-catch_up-clause-known : goal.returns-then-not-catch_up-clause-known
+returns-then-not-catch_up-clause-known g c =
+    subst (λ (q : Sight). IsKnown g.J.Placing.world q.seen c.catch_up.new.calendar) (sym c.catch_up.ensures.same) c.catch_up.ensures.known
+
+pub returns-then-is_err-clause-known : goal.returns-then-is_err-clause-known
+returns-then-is_err-clause-known g c =
+    subst (λ (q : Sight). IsKnown g.J.Placing.world q.seen c.catch_up.new.calendar) (sym c.catch_up.ensures.same) c.catch_up.ensures.known
+
 pub returns-then-not-record_move-clause-go : goal.returns-then-not-record_move-clause-go
 returns-then-not-record_move-clause-go g c =
     unmoved_so g.J.Placing.world g.J.Naming.run.roster c.args.visitor.now.bearer.caller c.args.visitor.now.bearer.now c.least_due-moment.result c.args.visitor.now.bearer.pass c.catch_up.new.pass c.record_move.new.bearer.pass
