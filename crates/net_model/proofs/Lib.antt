@@ -15,5 +15,6 @@ pub mod LastOwn
 pub mod OwnEntries
 pub mod CsAnswers
 pub mod StepsAsk
+pub mod VersionInForce
 pub mod WrittenVersions
 pub mod WorldBack

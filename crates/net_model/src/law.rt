@@ -12,6 +12,7 @@ ghost use Rattle.net_base.specs.World.{IsWorld};
 ghost use Rattle.net_base.specs.Callers.{IsScript, caller_of};
 ghost use Rattle.net_base.specs.Legal.{IsLegal};
 ghost use Rattle.net_base.specs.Plain.{IsPlain};
+ghost use Rattle.net_base.specs.Versions.{IsInForce, in_force};
 
 use prefix_law::prefix_law;
 
@@ -31,6 +32,11 @@ pub fn steps_stand_in_order()
 /// it lists nothing.
 pub fn cs_answers_are_lists()
     ensures { (w : World) (h : List Entry) (k : ℕ) (x : Entry) (query : List ℕ) → IsLegal w h → slice_get h k ≡ Some x → x.event ≡ event.Cs query → AnswersCs w (take k h) x query }
+{}
+
+/// Of the versions of a world's database one is in force at each moment: the last one whose own moment has come.
+pub fn one_version_is_in_force()
+    ensures { (w : World) (now : ℕ) → IsWorld w → IsInForce w.dbs now (in_force now w.dbs) }
 {}
 
 /// What every legal history of a world keeps.

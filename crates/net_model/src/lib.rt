@@ -23,6 +23,7 @@ pub use history_laws::what_is_ready_is_known;
 pub use law::cs_answers_are_lists;
 pub use law::legal_histories_are_plain;
 pub use law::legal_histories_keep_it;
+pub use law::one_version_is_in_force;
 pub use law::steps_stand_in_order;
 pub use ndb_law::bad_lines_are_first;
 pub use ndb_law::bundles_are_spelled;

@@ -40,7 +40,7 @@ has_by : (b : Bool) (o : Option (Step Actor)) → is_some (when b o) ≡ true �
 has_by true o ready = refl
 has_by false o ready = absurd (false≢true ready)
 
-ready_has : (w : World) (h : List Entry) (c : ℕ) (t : Turn) → IsReadyTurn w h c t → has_actor w t.actor ≡ true
+pub ready_has : (w : World) (h : List Entry) (c : ℕ) (t : Turn) → IsReadyTurn w h c t → has_actor w t.actor ≡ true
 ready_has w h c t ready = has_by (has_actor w t.actor) (table_step w t.actor ((after w h).actors t.actor) (moment w h) t.work) ready.ready
 
 -- The net after the entry.

@@ -1,12 +1,14 @@
-use Rattle.std.proofs.Common.{◌≡◌, Option, sym, ap, subst, ◌∙◌}
+use Rattle.std.proofs.Common.{◌≡◌, ℕ, true, Option, is_some, sym, ap, subst, ◌∙◌}
 use Rattle.std.proofs.lemmas.Option.{same_Some}
 use Rattle.net_base.specs.declared.history.Outcome.{Outcome}
 use Rattle.net_base.specs.declared.reply.Reply.{Reply}
+use Rattle.net_base.specs.Actors.{actor_step}
+use Rattle.net_base.specs.Net.{after}
 use Rattle.duties.specs.declared.shown.Shown.{Shown}
 use Rattle.duties.specs.Showing.{shown_entry}
 use Rattle.plain_runner.specs.Callers.{GoesOn}
 use Rattle.plain_runner.specs.Recording.{OwesAll}
-use Rattle.plain_runner.proofs.Growing.{records_so}
+use Rattle.plain_runner.proofs.Growing.{ready_has, records_so}
 use Rattle.plain_runner.proofs.recording.record.Goals as goal
 
 pub returns : goal.returns
@@ -26,3 +28,17 @@ returns c =
     reply c.in_ok-recorded.ensures)
     (c.entry_of.ensures.entry
     ∙ ap (λ (s : Shown). shown_entry c.args.turn.actor c.args.number c.args.now c.args.turn.cites s) c.in_ok-shown.ensures.shown)
+
+pub step-requires-clause-ready : goal.step-requires-clause-ready
+step-requires-clause-ready c =
+    let r = c.requires in
+    let t = c.args.turn in
+    record {
+      world = r.world;
+      states = (after r.world r.past).actors;
+      are = r.comes.are;
+      has = ready_has r.world r.past c.args.number t r.comes.ready;
+      small = c.histories_are_short.ensures.small r.world r.past t.actor r.comes.history.world r.comes.history.legal;
+      ready = subst (λ (now : ℕ). is_some (actor_step r.world t.actor ((after r.world r.past).actors t.actor) now t.work) ≡ true)
+          (sym r.comes.now_is) r.comes.ready.ready;
+    }
