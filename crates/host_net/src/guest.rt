@@ -9,10 +9,10 @@ ghost use Rattle.guest_laws.specs.Guests.{IsGuest};
 ghost use Rattle.net_guests.specs.Visits.{IsFresh, IsWith, Visit};
 ghost use Rattle.net_locks.specs.Turns.{own};
 
-use actor_machines::Placing;
 use due_moments::Touched;
 use journal::{Journal, Naming, Pass};
 use net_guests::Bundle;
+use net_locks::Placing;
 use net_tree::Fids;
 use std::alloc::{AllocError, Global};
 use std::marker::Model;

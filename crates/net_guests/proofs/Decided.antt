@@ -1,5 +1,5 @@
 -- What was decided of the clock's guest.
-use Rattle.std.proofs.Common.{◌≡◌, ℕ, ◌^◌, ◌<◌, ◌≤◌, ◌==◌, nat_le, true, false, List, [], Option, refl, ap, sym, subst, ◌∙◌, arith}
+use Rattle.std.proofs.Common.{◌≡◌, ℕ, ◌^◌, ◌<◌, ◌≤◌, ◌==◌, nat_le, true, false, List, [], Option, Some, None, refl, ap, sym, subst, ◌∙◌, arith}
 use Rattle.std.proofs.lemmas.Bool.{and_parts, leb-true}
 use Rattle.net_base.specs.declared.actor.ActorName.TheVariants as name
 use Rattle.net_base.specs.declared.event.Event.TheVariants as event
@@ -23,7 +23,8 @@ use Rattle.net_locks.specs.declared.clock.Advance.TheVariants as advance
 use Rattle.net_locks.specs.declared.calendar.Calendar.{Calendar}
 use Rattle.net_locks.specs.Knowing.{IsKnown}
 use Rattle.net_guests.specs.Deciding.{Decided, Leaves, Moves, net_of}
-use Rattle.net_locks.specs.Moving.{Keeps, LeavesMoved, MayMove}
+use Rattle.net_locks.specs.declared.visitor.Bearer.{Bearer}
+use Rattle.net_locks.specs.Moving.{Keeps, LeavesMoved, MayGo, MayMove}
 use Rattle.net_locks.specs.Turns.{Stays, own}
 use Rattle.net_guests.specs.Visits.{IsHosted, IsWith, Visit}
 use Rattle.net_guests.proofs.Operating.{visit}
@@ -139,21 +140,34 @@ module _ (w : World) (r : Roster) (c now : ℕ) (p q : Sight) (ds : List Duty) (
             now_is = refl;
           })
 
--- a guest as it was, but for what it knows of due moments
-pub visit_same : (w : World) (r : Roster) (c now : ℕ) (p p' : Sight) (ds ds' : List Duty) (host : ℕ) (m : Marks) (k k' : Calendar) → p' ≡ p → ds' ≡ ds
-    → IsKnown w p'.seen k' → IsHosted w r c now p ds host m k → IsHosted w r c now p' ds' host m k'
-visit_same w r c now p p' ds ds' host m k k' sight owed known is =
-    record {
-      visit = record {
-        guest = subst (λ (l : List Duty). IsGuest w r c p' l) (sym owed) (subst (λ (s : Sight). IsGuest w r c s ds) (sym sight) is.visit.guest);
-        here = is.visit.here ∙ ap (λ (s : Sight). moment s.seen) (sym sight);
-        early = is.visit.early;
-        covers = subst (λ (s : Sight). Covers (own c s) m) (sym sight) is.visit.covers;
-        known = known;
-      };
-      home = is.home;
-    }
+-- By its bearer, which was looked at first.
+module _ {J : Type 0} (w : World) (r : Roster) (b h : Bearer J) (ds : List Duty) (names : List Bound) (clock : caller_of w b.caller ≡ IsClock) (same : h ≡ b) where
+  pub halted : (answer : Advance) → Keeps w (noted_net w b.pass.seen) answer
+      → Leaves w r (visit b.caller b.now b.pass ds names) answer (visit h.caller h.now h.pass ds names)
+  halted answer keeps =
+      subst (λ (x : Bearer J). Leaves w r (visit b.caller b.now b.pass ds names) answer (visit x.caller x.now x.pass ds names)) (sym same)
+      (leaves_kept w r b.caller b.now b.pass b.pass ds names clock refl b.pass refl answer keeps)
 
--- the moment of a world's end is early
-pub early_end : (m end : ℕ) → is_moment end ≡ true → m ≤ end → m < 2 ^ 63
-early_end m end is le = omega (arith, le, leb-true end 1000000000 (and_parts (nat_le 1 end) (nat_le end 1000000000) is).1)
+  pub held : (host : ℕ) (t : Marks) (k : Calendar) → IsHosted w r b.caller b.now b.pass ds host t k → IsHosted w r h.caller h.now h.pass ds host t k
+  held host t k is = subst (λ (x : Bearer J). IsHosted w r x.caller x.now x.pass ds host t k) (sym same) is
+
+  module _ (b' : Bearer J) (ds' : List Duty) (caller : b'.caller ≡ h.caller) where
+    by_caller : (answer : Advance) (n : ℕ) → b'.now ≡ n → Leaves w r (visit b.caller b.now b.pass ds names) answer (visit b.caller n b'.pass ds' names)
+        → Leaves w r (visit b.caller b.now b.pass ds names) answer (visit b'.caller b'.now b'.pass ds' names)
+    by_caller answer n at leaves =
+        subst (λ (c : ℕ). Leaves w r (visit b.caller b.now b.pass ds names) answer (visit c b'.now b'.pass ds' names))
+        (sym (caller ∙ ap (λ (x : Bearer J). x.caller) same))
+        (subst (λ (m : ℕ). Leaves w r (visit b.caller b.now b.pass ds names) answer (visit b.caller m b'.pass ds' names)) (sym at) leaves)
+
+    pub unmoved : b'.now ≡ h.now → MayGo w r h.caller h.now h.pass ds None b'.pass ds'
+        → Leaves w r (visit b.caller b.now b.pass ds names) advance.Memory (visit b'.caller b'.now b'.pass ds' names)
+    unmoved now go =
+        let still = subst (λ (x : Bearer J). MayGo w r x.caller x.now x.pass ds None b'.pass ds') same go in
+        by_caller advance.Memory b.now (now ∙ ap (λ (x : Bearer J). x.now) same)
+        (leaves_none w r b.caller b.now b.pass b.pass ds names clock refl b'.pass ds' still.0 still.1)
+
+    pub gone : (m : ℕ) → b'.now ≡ m → MayMove w b.caller b.pass → MayGo w r h.caller h.now h.pass ds (Some m) b'.pass ds'
+        → Leaves w r (visit b.caller b.now b.pass ds names) (advance.Moved m) (visit b'.caller b'.now b'.pass ds' names)
+    gone m now may go =
+        let moved = subst (λ (x : Bearer J). MayGo w r x.caller x.now x.pass ds (Some m) b'.pass ds') same go in
+        by_caller (advance.Moved m) m now (leaves_gone w r b.caller b.now b.pass b.pass ds names clock refl b'.pass ds' m may moved.0 moved.1)

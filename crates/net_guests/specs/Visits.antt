@@ -29,6 +29,7 @@ use Rattle.net_locks.specs.declared.turn.Turn.{Turn}
 use Rattle.net_locks.specs.declared.turn.Turn.TheVariants as turn
 use Rattle.net_locks.specs.Knowing.{IsKnown}
 use Rattle.net_locks.specs.Rosters.{IsReplayed}
+use Rattle.net_locks.specs.declared.visitor.Visitor.{Visitor}
 use Rattle.net_locks.specs.Visitors.{IsVisit}
 use Rattle.net_locks.specs.Turns.{HasRoom, IsFull, Stays, Turned, bare, own}
 
@@ -39,6 +40,11 @@ pub record Visit : Type 0 where
   pub sight : Sight
   pub owed : List Duty
   pub names : List Bound
+
+-- the visit of what a caller has at the locks, with the names that it has bound
+abbrev pub visit_of : {J : Type 0} → Visitor J → List Bound → Visit
+visit_of v names =
+    record { caller = v.bearer.caller; now = v.bearer.now; sight = v.bearer.pass; owed = v.duties.list; names = names }
 
 -- a guest knows what a visit keeps, and a script's the host on which it runs
 pub record IsHosted (w : World) (r : Roster) (c now : ℕ) (p : Sight) (ds : List Duty) (host : ℕ) (m : Marks) (k : Calendar)

@@ -19,6 +19,7 @@ use Rattle.net_base.specs.Actors.{Actor, has_actor, opening_actor}
 use Rattle.net_base.specs.Duties.{conversations, due_of, generation_of}
 use Rattle.net_base.specs.Net.{Net}
 use Rattle.net_base.specs.Stamped.{In, at, at_from, same_actor}
+use Rattle.journal.specs.declared.tokens.Sight.{Sight}
 use Rattle.duties.specs.declared.due.Due.{Due}
 use Rattle.duties.specs.Ticking.{due_at, dues_of}
 use Rattle.due_moments.specs.Marks.{Covers, is_among, is_conversation}
@@ -195,10 +196,19 @@ touched_parts [] s = append-nil s.touched.actors
 touched_parts (x ∷ xs) s =
     ap (λ (l : List ActorName). x.touched.actors ++ l) (touched_parts xs s) ∙ sym (append_assoc x.touched.actors (all_touched xs) s.touched.actors)
 
+-- what is mixed stays so where the sight and the names are the same
+pub mixed_on : (w : World) (old : ActorName → Actor) (p q : Sight) (as' bs : List ActorName) (ds : List Due) → AreMixed w (noted_net w q.seen).actors old as' ds → q ≡ p → as' ≡ bs
+    → AreMixed w (noted_net w p.seen).actors old bs ds
+mixed_on w old p q as' bs ds are sight names =
+    subst (λ (s : Sight). AreMixed w (noted_net w s.seen).actors old bs ds) sight (subst (λ (l : List ActorName). AreMixed w (noted_net w q.seen).actors old l ds) names are)
+
 pub touched_next : (ss : List Standing) (i : ℕ) (s : Standing) → i < length ss → s ≡ get_or ss i s
     → all_touched (take (i + 1) ss) ≡ all_touched (take i ss) ++ s.touched.actors
 touched_next ss i s lt is =
     ap all_touched (take_more ss i s lt) ∙ (touched_parts (take i ss) (get_or ss i s) ∙ ap (λ (x : Standing). all_touched (take i ss) ++ x.touched.actors) (sym is))
+
+pub all_touched_all : (ss : List Standing) (i : ℕ) → length ss ≤ i → all_touched (take i ss) ≡ all_touched ss
+all_touched_all ss i le = ap all_touched (take_all i ss le)
 
 pub count_next : (ss : List Standing) (i : ℕ) (s : Standing) → i < length ss → s ≡ get_or ss i s
     → touched_count (drop i ss) ≡ length s.touched.actors + touched_count (drop (i + 1) ss)

@@ -1,5 +1,6 @@
 -- Visitors after their turns, and after a move of the clock.
-use Rattle.std.proofs.Common.{◌≡◌, ℕ, ◌<◌, ◌≤◌, ◌^◌, false, List, ◌∷◌, ◌++◌, [], drop, Option, Some, None, refl, ap, sym, subst, ◌∙◌}
+use Rattle.std.proofs.Common.{◌≡◌, ℕ, ◌<◌, ◌≤◌, ◌^◌, nat_le, arith, true, false, List, ◌∷◌, ◌++◌, [], drop, Option, Some, None, refl, ap, sym, subst, ◌∙◌}
+use Rattle.std.proofs.lemmas.Bool.{and_parts, leb-true}
 use mathlib.Core.List.{IsPrefix}
 use Rattle.net_base.specs.declared.actor.ActorName.{ActorName}
 use Rattle.net_base.specs.declared.actor.ActorName.TheVariants as name
@@ -10,6 +11,7 @@ use Rattle.net_base.specs.declared.world.World.{World}
 use Rattle.net_base.specs.Duties as spec
 use Rattle.net_base.specs.Duties.{Duty}
 use Rattle.net_base.specs.Stamped.{moment, same_actor}
+use Rattle.net_base.specs.World.{is_moment}
 use Rattle.journal.specs.declared.law.Roster.{Roster}
 use Rattle.journal.specs.declared.tokens.Sight.{Sight}
 use Rattle.ip_route.specs.Kept.{HostWays}
@@ -86,3 +88,7 @@ module _ {J : Type 0} (w : World) (r : Roster) (a : ActorName) (work : Work) (ci
         (subst (λ (es : List (ℕ × Noted)). Covers es k) (sym m.alone) covers)
         (stays v.bearer.pass.seen b'.pass.seen v.calendar
         (turned_grows w v.bearer.caller v.bearer.now a work cites v.bearer.pass b'.pass v.duties.list v.duties.list t m.turned) is.known)
+
+-- the moment of a world's end is early
+pub early_end : (m end : ℕ) → is_moment end ≡ true → m ≤ end → m < 2 ^ 63
+early_end m end is le = omega (arith, le, leb-true end 1000000000 (and_parts (nat_le 1 end) (nat_le end 1000000000) is).1)

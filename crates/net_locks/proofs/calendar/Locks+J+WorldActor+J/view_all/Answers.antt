@@ -1,10 +1,10 @@
-use Rattle.std.proofs.Common.{◌++◌, ◌<◌, List, length, take, ap, sym, subst, ◌∙◌, arith}
+use Rattle.std.proofs.Common.{◌++◌, ◌<◌, List, length, take, ap, refl, sym, subst, ◌∙◌, arith}
 use Rattle.net_base.specs.declared.actor.ActorName.{ActorName}
 use Rattle.journal.specs.declared.tokens.Sight.{Sight}
 use Rattle.journal.specs.Tokens.{HoldsAll}
 use Rattle.guest_laws.specs.Works.{noted_net}
 use Rattle.net_locks.specs.Knowing.{AreMixed, all_touched}
-use Rattle.net_locks.proofs.Knowledge.{count_next, touched_next}
+use Rattle.net_locks.proofs.Knowledge.{all_touched_all, count_next, mixed_on, touched_next}
 use Rattle.net_locks.proofs.calendar.Locks+J+WorldActor+J.view_all.Goals as goal
 
 pub view_each-requires-clause-numbers : goal.view_each-requires-clause-numbers
@@ -27,3 +27,10 @@ loop-standing-preserved g c =
           (c.view_each.ensures.dues old (all_touched (take i ss))
           (subst (λ (q : Sight). AreMixed w (noted_net w q.seen).actors old (all_touched (take i ss)) c.loop-standing.dues.list) (sym inv.0) (inv.2 old are)))),
     )
+
+pub returns-clause-dues : goal.returns-clause-dues
+returns-clause-dues g c = λ old are.
+    let w = g.J.Placing.world in
+    let l = c.loop-standing in
+    mixed_on w old c.args.pass.now c.args.pass.now (all_touched (take l.standing-index c.args.standings.now)) (all_touched c.args.standings.now) l.dues.list
+    (l.invariant.2 old are) refl (all_touched_all c.args.standings.now l.standing-index (omega (arith, c.loop-standing-test.false)))

@@ -1,10 +1,10 @@
-use Rattle.std.proofs.Common.{◌≡◌, ℕ, false, List, take, ap, sym, subst, ◌∙◌}
+use Rattle.std.proofs.Common.{◌≡◌, ℕ, false, List, take, ap, sym, subst, ◌∙◌, arith}
 use Rattle.journal.specs.declared.tokens.Sight.{Sight}
 use Rattle.journal.specs.Tokens.{HoldsAll}
 use Rattle.calm_laws.specs.Could.{could, is_full}
 use Rattle.guest_laws.specs.Works.{noted_net}
 use Rattle.net_locks.specs.Standings.{Finds, StandsAt, callers_of}
-use Rattle.net_locks.proofs.Found.{callers_more, finds_less, in_at}
+use Rattle.net_locks.proofs.Found.{callers_all, callers_more, finds_less, in_at}
 use Rattle.net_locks.proofs.Sighted.{full_so}
 use Rattle.net_locks.proofs.clock.Locks+J+WorldActor+J.busy.Goals as goal
 
@@ -47,3 +47,11 @@ loop-standing-preserved g c =
           (c.with-busy.ensures (could w (noted_net w p.seen)) (is_full (noted_net w p.seen)) (callers_of (take l.standing-index ss)) l.invariant.1 goes
           (full_so w g.J.Naming.run.roster p s st (c.nets_of_works_grow.ensures.past w p.seen))),
     )
+
+pub returns-clause-finds : goal.returns-clause-finds
+returns-clause-finds g c =
+    let w = g.J.Placing.world in
+    let p = c.args.pass.now in
+    let l = c.loop-standing in
+    subst (λ (cs : List ℕ). Finds (could w (noted_net w p.seen)) (is_full (noted_net w p.seen)) cs l.busy)
+    (callers_all c.args.standings.now l.standing-index (omega (arith, c.loop-standing-test.false))) l.invariant.1
