@@ -1,5 +1,5 @@
 -- Visitors after their turns, and after a move of the clock.
-use Rattle.std.proofs.Common.{◌≡◌, ℕ, ◌<◌, ◌≤◌, ◌^◌, nat_le, arith, true, false, List, ◌∷◌, ◌++◌, [], drop, Option, Some, None, refl, ap, sym, subst, ◌∙◌}
+use Rattle.std.proofs.Common.{◌≡◌, ℕ, ◌<◌, ◌≤◌, ◌^◌, nat_le, arith, true, false, List, ◌∷◌, ◌++◌, [], drop, Option, refl, sym, subst}
 use Rattle.std.proofs.lemmas.Bool.{and_parts, leb-true}
 use mathlib.Core.List.{IsPrefix}
 use Rattle.net_base.specs.declared.actor.ActorName.{ActorName}
@@ -13,7 +13,6 @@ use Rattle.net_base.specs.Duties.{Duty}
 use Rattle.net_base.specs.Stamped.{moment, same_actor}
 use Rattle.net_base.specs.World.{is_moment}
 use Rattle.journal.specs.declared.law.Roster.{Roster}
-use Rattle.journal.specs.declared.tokens.Sight.{Sight}
 use Rattle.ip_route.specs.Kept.{HostWays}
 use Rattle.due_moments.specs.Marks.{Covers, Marks}
 use Rattle.duties.specs.Owing.{Owes}

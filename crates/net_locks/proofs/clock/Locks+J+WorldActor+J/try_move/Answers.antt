@@ -1,4 +1,4 @@
-use Rattle.std.proofs.Common.{◌≡◌, ℕ, Option, Some, None, List, refl, ap, sym, subst, ◌∙◌, arith}
+use Rattle.std.proofs.Common.{◌≡◌, ℕ, Option, List, ap, sym, subst, ◌∙◌, arith}
 use Rattle.net_base.specs.declared.world.World.{World}
 use Rattle.net_base.specs.Duties.{Duty}
 use Rattle.net_base.specs.Stamped.{moment as moment_of}

@@ -1,4 +1,4 @@
-use Rattle.std.proofs.Common.{◌≡◌, length, refl, ap, sym, subst, ◌∙◌, arith, rules}
+use Rattle.std.proofs.Common.{length, refl, ap, sym, subst, ◌∙◌, arith, rules}
 use Rattle.net_base.specs.declared.actor.ActorName.{ActorName}
 use Rattle.guest_laws.specs.Guests.{IsGuest, Records}
 use Rattle.guest_laws.specs.Named.{answer_in, opening}

@@ -1,8 +1,7 @@
-use Rattle.std.proofs.Common.{◌≡◌, List, drop, None, ap, sym, subst, ◌∙◌, arith, rules}
+use Rattle.std.proofs.Common.{List, drop, None, ap, sym, subst, ◌∙◌, arith, rules}
 use Rattle.net_base.specs.Duties.{Duty}
 use Rattle.guest_laws.specs.Guests.{IsTurn}
 use Rattle.net_locks.specs.declared.turn.Turn.{Turn}
-use Rattle.net_locks.specs.declared.turn.Turn.TheVariants as turned
 use Rattle.net_locks.specs.Turns.{bare}
 use Rattle.net_locks.specs.Visitors.{Visited}
 use Rattle.net_locks.proofs.Visited.{done_turn, done_visitor, missed_visitor, visitor}

@@ -1,8 +1,6 @@
 use Rattle.std.proofs.Common.{◌≡◌, false, List, drop, Some, slice_get, refl, ap, sym, subst, ◌∙◌, arith, rules}
 use Rattle.std.proofs.lemmas.Option.{same_Some}
-use Rattle.net_base.specs.declared.actor.ActorName.{ActorName}
 use Rattle.net_base.specs.declared.actor.ActorName.TheVariants as name
-use Rattle.net_base.specs.declared.history.Work.{Work}
 use Rattle.net_base.specs.Duties.{Duty}
 use Rattle.net_base.specs.Stamped.{In, same_actor}
 use Rattle.duties.specs.Owing.{Owes}
@@ -10,7 +8,7 @@ use Rattle.duties.specs.Queue.{work_of_duty}
 use Rattle.net_locks.specs.declared.turn.Turn.{Turn}
 use Rattle.net_locks.specs.Visitors.{Visited}
 use Rattle.net_locks.proofs.Firsts.{first_in, first_turn}
-use Rattle.net_locks.proofs.Visited.{done_turn, done_visitor, missed_turn, missed_visitor, visitor}
+use Rattle.net_locks.proofs.Visited.{done_turn, done_visitor, missed_visitor, visitor}
 use Rattle.net_locks.proofs.turn.Locks+J+WorldActor+J.serve.Goals as goal
 
 pub settle-requires-clause-owing : goal.settle-requires-clause-owing
