@@ -151,6 +151,9 @@ module _ {J : Type 0} (w : World) (r : Roster) (b h : Bearer J) (ds : List Duty)
   pub held : (host : ℕ) (t : Marks) (k : Calendar) → IsHosted w r b.caller b.now b.pass ds host t k → IsHosted w r h.caller h.now h.pass ds host t k
   held host t k is = subst (λ (x : Bearer J). IsHosted w r x.caller x.now x.pass ds host t k) (sym same) is
 
+  pub held_may : MayMove w b.caller b.pass → MayMove w h.caller h.pass
+  held_may may = subst (λ (x : Bearer J). MayMove w x.caller x.pass) (sym same) may
+
   module _ (b' : Bearer J) (ds' : List Duty) (caller : b'.caller ≡ h.caller) where
     by_caller : (answer : Advance) (n : ℕ) → b'.now ≡ n → Leaves w r (visit b.caller b.now b.pass ds names) answer (visit b.caller n b'.pass ds' names)
         → Leaves w r (visit b.caller b.now b.pass ds names) answer (visit b'.caller b'.now b'.pass ds' names)

@@ -8,7 +8,7 @@ use Rattle.net_locks.specs.Moving.{Halts, MayGo}
 use Rattle.net_locks.specs.Standings.{AllStand}
 use Rattle.net_guests.specs.Deciding.{Leaves}
 use Rattle.net_guests.specs.Visits.{Carried, IsComplete, visit_of}
-use Rattle.net_guests.proofs.Decided.{gone, halted, held, unmoved}
+use Rattle.net_guests.proofs.Decided.{gone, halted, held, held_may}
 use Rattle.net_guests.proofs.Operating.{hosted_on}
 use Rattle.net_guests.proofs.bundle.Bundle.decide.Goals as goal
 
@@ -55,3 +55,27 @@ try_move-moved-requires-clause-complete g c =
     let clock = ap (λ (b : Carried). caller_of w b.visit.caller) c.self.view_is ∙ c.requires.clock in
     let is = subst (λ (b : Carried). IsComplete w r b) (sym c.self.view_is) c.requires.complete in
     (held w r v.bearer c.halt-halt.new.bearer v.duties.list c.self.inside.fids.names clock c.halt-halt.ensures.same c.self.inside.host v.touched v.calendar is).visit
+
+pub try_move-moved-requires-clause-may : goal.try_move-moved-requires-clause-may
+try_move-moved-requires-clause-may g c =
+    let w = g.J.Placing.world in
+    let v = c.self.inside.visitor in
+    let clock = ap (λ (b : Carried). caller_of w b.visit.caller) c.self.view_is ∙ c.requires.clock in
+    let may = subst (λ (o : Option Advance). Halts w v.bearer.caller v.bearer.pass o) c.in_default.is c.halt-halt.ensures.halts in
+    held_may w g.J.Naming.run.roster v.bearer c.halt-halt.new.bearer v.duties.list c.self.inside.fids.names clock c.halt-halt.ensures.same may
+
+pub returns-clause-leaves : goal.returns-clause-leaves
+returns-clause-leaves g c =
+    let w = g.J.Placing.world in
+    let r = g.J.Naming.run.roster in
+    let v = c.self.inside.visitor in
+    let v' = c.try_move-moved.new.visitor in
+    let h = c.halt-halt.new.bearer in
+    let names = c.self.inside.fids.names in
+    let m = c.in-Some-moved.moment in
+    let clock = ap (λ (b : Carried). caller_of w b.visit.caller) c.self.view_is ∙ c.requires.clock in
+    let may = subst (λ (o : Option Advance). Halts w v.bearer.caller v.bearer.pass o) c.in_default.is c.halt-halt.ensures.halts in
+    let went = subst (λ (o : Option ℕ). MayGo w r h.caller h.now h.pass v.duties.list o v'.bearer.pass v'.duties.list) c.in-Some-moved.is c.try_move-moved.ensures.go in
+    let now : v'.bearer.now ≡ m = c.try_move-moved.ensures.now ∙ ap (λ (o : Option ℕ). unwrap_or o h.now) c.in-Some-moved.is in
+    subst (λ (b : Carried). Leaves w r b.visit (advance.Moved m) (visit_of v' names)) c.self.view_is
+    (gone w r v.bearer h v.duties.list names clock c.halt-halt.ensures.same v'.bearer v'.duties.list c.try_move-moved.ensures.caller m now may went)

@@ -77,7 +77,7 @@ returns-clause-clock g c =
     let had = subst (λ (b : Carried). IsComplete w r b) (sym c.clock.view_is) c.requires.clock in
     let other =
     subst (λ (b : Carried). (b.visit.caller == me.visitor.bearer.caller) ≡ false) (sym c.clock.view_is)
-    (subst (λ (b : Carried). (c.args.clock.visitor.bearer.now.visit.caller == b.visit.caller) ≡ false) (sym c.self.view_is) c.requires.other) in
+    (subst (λ (b : Carried). (c.args.clock.now.visit.caller == b.visit.caller) ≡ false) (sym c.self.view_is) c.requires.other) in
     clock_after w r (law.over w r) (law.here w r) me.visitor.bearer.caller clock.visitor.bearer.pass me.visitor.bearer.pass c.hand_over.new.from c.hand_over.new.to c.hand_over.ensures
     (c.calendars_stay_known.ensures w) clock.visitor.bearer.caller clock.visitor.bearer.now clock.visitor.duties.list clock.host clock.visitor.touched clock.visitor.calendar other had
 
