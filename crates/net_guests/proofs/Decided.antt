@@ -1,6 +1,5 @@
 -- What was decided of the clock's guest.
-use Rattle.std.proofs.Common.{◌≡◌, ℕ, ◌^◌, ◌<◌, ◌≤◌, ◌==◌, nat_le, true, false, List, [], Option, Some, None, refl, ap, sym, subst, ◌∙◌, arith}
-use Rattle.std.proofs.lemmas.Bool.{and_parts, leb-true}
+use Rattle.std.proofs.Common.{◌≡◌, ℕ, ◌==◌, false, List, [], Option, Some, None, refl, ap, sym, subst, ◌∙◌}
 use Rattle.net_base.specs.declared.actor.ActorName.TheVariants as name
 use Rattle.net_base.specs.declared.event.Event.TheVariants as event
 use Rattle.net_base.specs.declared.history.Entry.{Entry}
@@ -9,23 +8,21 @@ use Rattle.net_base.specs.Callers.{Caller, IsClock, caller_of}
 use Rattle.net_base.specs.Calm.{target}
 use Rattle.net_base.specs.Duties.{Duty}
 use Rattle.net_base.specs.Legal.{IsAsked}
-use Rattle.net_base.specs.Stamped.{at, moment}
+use Rattle.net_base.specs.Stamped.{at}
 use Rattle.net_base.specs.Steps.{Ask, Bound}
-use Rattle.net_base.specs.World.{is_moment}
 use Rattle.journal.specs.declared.law.Roster.{Roster}
 use Rattle.journal.specs.declared.tokens.Sight.{Sight}
-use Rattle.due_moments.specs.Marks.{Covers, Marks}
+use Rattle.due_moments.specs.Marks.{Marks}
 use Rattle.guest_laws.specs.Guests.{IsGuest}
 use Rattle.guest_laws.specs.Own.{AreNext, AreTimely}
 use Rattle.guest_laws.specs.Works.{noted_net}
 use Rattle.net_locks.specs.declared.clock.Advance.{Advance}
 use Rattle.net_locks.specs.declared.clock.Advance.TheVariants as advance
 use Rattle.net_locks.specs.declared.calendar.Calendar.{Calendar}
-use Rattle.net_locks.specs.Knowing.{IsKnown}
 use Rattle.net_guests.specs.Deciding.{Decided, Leaves, Moves, net_of}
 use Rattle.net_locks.specs.declared.visitor.Bearer.{Bearer}
 use Rattle.net_locks.specs.Moving.{Keeps, LeavesMoved, MayGo, MayMove}
-use Rattle.net_locks.specs.Turns.{Stays, own}
+use Rattle.net_locks.specs.Turns.{Stays}
 use Rattle.net_guests.specs.Visits.{IsHosted, IsWith, Visit}
 use Rattle.net_guests.proofs.Operating.{visit}
 use Rattle.net_guests.proofs.Passes.{stays_on}

@@ -15,13 +15,10 @@ use Rattle.net_locks.specs.declared.turn.Turn.{Turn}
 use Rattle.net_locks.specs.declared.turn.Turn.TheVariants as turn
 use mathlib.Core.List.{IsPrefix}
 use Rattle.net_base.specs.declared.noted.Noted.{Noted}
-use Rattle.net_base.specs.Stamped.{moment}
 use Rattle.journal.specs.declared.law.Roster.{Roster}
-use Rattle.due_moments.specs.Marks.{Covers, Marks}
-use Rattle.guest_laws.specs.Guests.{IsGuest}
 use Rattle.net_locks.specs.declared.calendar.Calendar.{Calendar}
 use Rattle.net_locks.specs.Knowing.{IsKnown}
-use Rattle.net_locks.specs.Turns.{Turned, bare, own}
+use Rattle.net_locks.specs.Turns.{Turned, bare}
 use Rattle.net_locks.specs.declared.visitor.Visitor.{Visitor}
 use Rattle.net_locks.specs.Visitors.{IsVisitor}
 use Rattle.net_guests.specs.Visits.{IsHosted, Operated, Visit, names_after, settled_by}

@@ -1,5 +1,5 @@
 -- What contracts see of a guest, and what its turns do.
-use Rattle.std.specs.Prelude.{◌≡◌, ◌≢◌, ℕ, true, ◌+◌, ◌<◌, ◌^◌, ◌⊎◌, List, [], ◌∷◌, map, Option, Some, None}
+use Rattle.std.specs.Prelude.{◌≡◌, ◌≢◌, ℕ, true, ◌+◌, ◌⊎◌, List, [], ◌∷◌, map, Option, Some, None}
 use Rattle.net_base.specs.declared.actor.ActorName.{ActorName}
 use Rattle.net_base.specs.declared.history.Entry.{Entry}
 use Rattle.net_base.specs.declared.history.Work.{Work}
@@ -11,7 +11,7 @@ use Rattle.net_base.specs.Callers.{IsScript, caller_of}
 use Rattle.net_base.specs.Duties.{Duty}
 use Rattle.net_base.specs.Legal.{IsLegal, IsTimed}
 use Rattle.net_base.specs.Net.{owed}
-use Rattle.net_base.specs.Stamped.{In, moment, of_actor, of_caller}
+use Rattle.net_base.specs.Stamped.{In, of_actor, of_caller}
 use Rattle.net_base.specs.Steps.{Ask, Bound}
 use Rattle.journal.specs.declared.law.Roster.{Roster}
 use Rattle.journal.specs.declared.tokens.Sight.{Sight}
@@ -23,11 +23,10 @@ use Rattle.script_task.specs.Effects.{opened, settles}
 use Rattle.script_task.specs.Requests.{planned, settled}
 use Rattle.guest_laws.specs.Own.{AreNext, AreTimely, IsLegalButScripts}
 use Rattle.guest_laws.specs.Guests.{IsGuest}
-use Rattle.due_moments.specs.Marks.{Covers, Marks}
+use Rattle.due_moments.specs.Marks.{Marks}
 use Rattle.net_locks.specs.declared.calendar.Calendar.{Calendar}
 use Rattle.net_locks.specs.declared.turn.Turn.{Turn}
 use Rattle.net_locks.specs.declared.turn.Turn.TheVariants as turn
-use Rattle.net_locks.specs.Knowing.{IsKnown}
 use Rattle.net_locks.specs.Rosters.{IsReplayed}
 use Rattle.net_locks.specs.declared.visitor.Visitor.{Visitor}
 use Rattle.net_locks.specs.Visitors.{IsVisit}

@@ -9,7 +9,6 @@ use Rattle.net_locks.specs.Standings.{AllStand}
 use Rattle.net_guests.specs.Deciding.{Leaves}
 use Rattle.net_guests.specs.Visits.{Carried, IsComplete, visit_of}
 use Rattle.net_guests.proofs.Decided.{gone, halted, held, held_may}
-use Rattle.net_guests.proofs.Operating.{hosted_on}
 use Rattle.net_guests.proofs.bundle.Bundle.decide.Goals as goal
 
 pub halt-halt-requires-clause-moment : goal.halt-halt-requires-clause-moment
