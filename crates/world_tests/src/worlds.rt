@@ -150,8 +150,15 @@ fn has_two_scripts(world: &World) -> bool {
 
 fn is_worked(world: &World) -> bool {
     let head = world.end == 60000 && world.seed == 7;
-    let counts = world.media.len() == 1 && world.dbs.as_slice()[0].db.len() == 3;
+    let counts = world.media.len() == 1 && has_three_tuples(world);
     head && counts && has_two_hosts(world) && has_two_scripts(world)
+}
+
+fn has_three_tuples(world: &World) -> bool {
+    match world.dbs.as_slice() {
+        [version] => version.db.len() == 3,
+        _ => false,
+    }
 }
 
 /// Whether the worked world is read as its lines say.
