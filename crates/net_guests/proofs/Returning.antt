@@ -6,6 +6,7 @@ use Rattle.net_base.specs.declared.world.World.{World}
 use Rattle.net_base.specs.Callers.{IsScript, caller_of}
 use Rattle.net_base.specs.Duties.{Duty}
 use Rattle.net_base.specs.Stamped.{moment}
+use Rattle.net_base.specs.Steps.{no_names}
 use Rattle.journal.specs.declared.law.Roster.{Roster}
 use Rattle.journal.specs.declared.tokens.Sight.{Sight}
 use Rattle.due_moments.specs.Marks.{Covers, Marks}
@@ -43,7 +44,7 @@ module _ (w : World) (r : Roster) (over : Overs w r) (there : Theres w r) (v : V
   pub clock_with : StaysKnown w → (c now : ℕ) (ds : List Duty) (host : ℕ) (m : Marks) (k : Calendar) → IsHosted w r c now q ds host m k
       → IsHosted w r c now q1 ds host m k
   clock_with stays_known c now ds host m k is =
-      let u : Visit = visit c now q ds [] in
+      let u : Visit = visit c now q ds (no_names []) in
       let with : IsWith w r u q1 = had_still u (itself w r u q refl is.visit.guest) in
       record {
         visit = record {
@@ -70,7 +71,7 @@ module _ (w : World) (r : Roster) (over : Overs w r) (here : Heres w r) (c : ℕ
   pub clock_after : StaysKnown w → (d now : ℕ) (ds : List Duty) (host : ℕ) (m : Marks) (k : Calendar) → (d == c) ≡ false
       → IsHosted w r d now s ds host m k → IsHosted w r d now s2 ds host m k
   clock_after stays_known d now ds host m k other is =
-      let u : Visit = visit d now s ds [] in
+      let u : Visit = visit d now s ds (no_names []) in
       let with : IsWith w r u s2 = others_stay u other (itself w r u s refl is.visit.guest) in
       record {
         visit = record {
