@@ -13,6 +13,7 @@ pub mod PlainHistories
 pub mod Plays
 pub mod LastOwn
 pub mod OwnEntries
+pub mod DnsOrder
 pub mod CsAnswers
 pub mod StepsAsk
 pub mod VersionInForce

@@ -27,7 +27,7 @@ own_push h c x =
     ∙ filter-append (λ (y : Entry). is_none y.cites) (by h c) (by (x ∷ []) c)
 
 -- what a script records where it owes nothing is its next event
-asks_next : (w : World) (past : List Entry) (ds : List Duty) (k : Caller) (c : ℕ) (s : Script) (x : Entry)
+pub asks_next : (w : World) (past : List Entry) (ds : List Duty) (k : Caller) (c : ℕ) (s : Script) (x : Entry)
     → None ≡ cites_of ds → k ≡ IsScript s → IsAsked ds k (next_of w k past c) x → (standing w past c s).next ≡ Some (asked_by x)
 asks_next w past [] k c s x none is asked = subst (λ (l : Caller). IsAsked [] l (next_of w l past c) x) is asked
 asks_next w past (d ∷ ds) k c s x none is asked = absurd (none-some d.cites none)

@@ -19,12 +19,12 @@ replies xs = map (λ (x : Entry). x.reply) xs
 -- Plays.
 
 -- a play that isn't over asks
-begins_asks : (p : Play) (xs : List Entry) → Begins p xs → (ask : Ask) × (stands p (replies xs) ≡ Asking ask)
+pub begins_asks : (p : Play) (xs : List Entry) → Begins p xs → (ask : Ask) × (stands p (replies xs) ≡ Asking ask)
 begins_asks (Ends names) xs first = absurd first
 begins_asks (Asks a e next) [] first = (record { actor = a; event = e }, refl)
 begins_asks (Asks a e next) (x ∷ xs) first = begins_asks (next x.reply) xs first.1
 
-played_finishes : (p : Play) (xs : List Entry) (bound : Names) (rs : List Reply) → IsPlayed p xs bound → stands p (replies xs ++ rs) ≡ Finished bound rs
+pub played_finishes : (p : Play) (xs : List Entry) (bound : Names) (rs : List Reply) → IsPlayed p xs bound → stands p (replies xs ++ rs) ≡ Finished bound rs
 played_finishes (Ends names) [] bound rs played = ap (λ (ns : Names). Finished ns rs) played
 played_finishes (Ends names) (x ∷ xs) bound rs played = absurd played
 played_finishes (Asks a e next) [] bound rs played = absurd played

@@ -1,16 +1,20 @@
 -- Each step records an event, whatever names are bound.
-use Rattle.std.proofs.Common.{ℕ, zero, suc, ◌-◌, Bool, true, false, List, [], Option, Some, None, Ok, Err}
+use Rattle.std.proofs.Common.{ℕ, zero, suc, ◌-◌, Bool, true, false, List, [], ◌∷◌, Option, Some, None, Ok, Err}
 use Rattle.std.specs.Prelude.{Result, if◌then◌else◌}
 use Rattle.net_base.specs.declared.address.Addr.{Addr}
+use Rattle.net_base.specs.declared.event.Event.TheVariants as event
 use Rattle.net_base.specs.declared.names.Ctl.{Ctl}
 use Rattle.net_base.specs.declared.names.Ctl.TheVariants as ctl
 use Rattle.net_base.specs.declared.names.FileName.{FileName}
 use Rattle.net_base.specs.declared.names.FileName.TheVariants as file
+use Rattle.net_base.specs.declared.reply.Reply.{Reply}
 use Rattle.net_base.specs.declared.world.Step.{Step}
 use Rattle.net_base.specs.declared.world.Step.TheVariants as step
 use Rattle.net_base.specs.ControlWords as control
+use Rattle.net_base.specs.DatagramHeaders.{text_behind}
+use Rattle.net_base.specs.DomainAnswers.{dns_answer}
 use Rattle.net_base.specs.Paths.{reads, writes}
-use Rattle.net_base.specs.Steps.{Names, Fid, Play, Ends, asks_cs, controls, dials, dotted_name, fid_of, is_bound, misuses, on_fid, play_of, puts, uses, with_bound, with_new, with_readable, with_writable, data_name, is_answer, on_taken, open_call, serves, taken_name, takes_call}
+use Rattle.net_base.specs.Steps.{Names, Fid, Play, Asks, Ends, answers, answers_call, asks_cs, bytes_in, closes_all, controls, conversation_of, data_name, dials, dotted_name, fid_of, hears, if_accepted, is_answer, is_bound, misuses, on_fid, on_taken, open_call, play_of, puts, serves, serves_call, taken_name, takes_call, uses, with_bound, with_call, with_new, with_readable, with_writable}
 use Rattle.net_model.specs.ScriptOrder.{Begins}
 
 -- the play asks first
@@ -60,14 +64,24 @@ putting h f file.Remote text refused next = controlling h f text (control.read t
 putting h f file.Status text refused next = controlling h f text (control.read text) refused next
 
 -- a call is taken
-calling : (h : ℕ) (called : List ℕ) (names : Names) (next : Fid → Fid → Addr → Addr → Play) (o : Option (List ℕ))
-    → Asking (on_taken o (λ (used : List ℕ). uses h used names) (with_bound h called names (λ (f : Fid). takes_call h f (Ends names) next)))
-calling h called names next None = bound h called names _ (λ f. tt)
-calling h called names next (Some used) = tt
+calling : (h : ℕ) (called : List ℕ) (names : Names) (next : Fid → Fid → Addr → Addr → Play) → Asking (with_call h called names next)
+calling h called names next = by (taken_name names)
+  where
+    by : (o : Option (List ℕ))
+        → Asking (on_taken o (λ (used : List ℕ). uses h used names) (with_bound h called names (λ (f : Fid). takes_call h f (Ends names) next)))
+    by None = bound h called names (λ (f : Fid). takes_call h f (Ends names) next) (λ f. tt)
+    by (Some used) = tt
+
+serving_one : (h : ℕ) (called : List ℕ) (names : Names) (next : Play) → Asking (serves_call h called names next)
+serving_one h called names next =
+    calling h called names
+    (λ (call data_file : Fid) (remote local : Addr).
+    Asks (conversation_of h data_file) (event.Read data_file.generation 8192) (λ (r : Reply).
+    if_accepted r (answers_call h call data_file (dns_answer names.zone (bytes_in r)) (Ends names) next) (closes_all h (data_file ∷ call ∷ []) (Ends names))))
 
 serving : (h : ℕ) (called : List ℕ) (names : Names) (more : ℕ) → Asking (serves h called names more)
-serving h called names zero = calling h called names _ (taken_name names)
-serving h called names (suc more) = calling h called names _ (taken_name names)
+serving h called names zero = serving_one h called names (Ends names)
+serving h called names (suc more) = serving_one h called names (serves h called names more)
 
 pub step_asks : (h : ℕ) (names : Names) (s : Step) → Begins (play_of h names s) []
 step_asks h names (step.Open called path m) = new h called names _ tt
@@ -85,6 +99,12 @@ step_asks h names (step.Listen called from) = bound h from names _ (λ f. new h 
 step_asks h names (step.Accept called from) = bound h from names _ (λ f. new h called names _ tt)
 step_asks h names (step.Reject called) = writable h called names _ (λ f. putting h f f.file _ _ _)
 step_asks h names (step.Hangup called) = writable h called names _ (λ f. putting h f f.file _ _ _)
-step_asks h names (step.Hread called count) = calling h called names _ (taken_name names)
-step_asks h names (step.Hwrite called bytes) = on (open_call called names) (uses h data_name names) _ tt (λ f. either (is_answer bytes names.heard) _ _ tt tt)
+step_asks h names (step.Hread called count) =
+    calling h called names
+    (λ (call data_file : Fid) (remote local : Addr). hears h names count call data_file (record { name = called; remote = remote; local = local }))
+step_asks h names (step.Hwrite called bytes) =
+    on (open_call called names) (uses h data_name names)
+    (λ (data_file : Fid). if is_answer bytes names.heard then answers h names (text_behind bytes) data_file else misuses h data_name names)
+    tt
+    (λ data_file. either (is_answer bytes names.heard) (answers h names (text_behind bytes) data_file) (misuses h data_name names) tt tt)
 step_asks h names (step.Dns called times) = serving h called names (times - 1)

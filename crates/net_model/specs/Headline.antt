@@ -1,4 +1,4 @@
--- What every legal history keeps: the steps of scripts in order, what is read at a peer, the lists of cs, and that its text tells it.
+-- What every legal history keeps: the steps of scripts in order, what is answered and read, and that its text tells it.
 use Rattle.std.specs.Prelude.{ℕ, ◌≡◌, List, Option, Some, None, filter_map, slice_get, take, unwrap_or, if◌then◌else◌}
 use Rattle.std.specs.List.{last_or}
 use Rattle.net_base.specs.declared.actor.ActorName.{ActorName}
@@ -19,6 +19,7 @@ use Rattle.net_base.specs.Stamped.{same_actor}
 use Rattle.net_base.specs.Versions.{database_of}
 use Rattle.net_base.specs.Written.{Conversation, IsRead, peer}
 use Rattle.prefix_law.specs.PrefixLaw.{Alone, InOrder, WasWritten}
+use Rattle.net_model.specs.DnsOrder.{AnswersQuestions}
 use Rattle.net_model.specs.ScriptOrder.{KeepsScript}
 
 -- the version that a reply tells, if it tells one
@@ -45,6 +46,8 @@ pub record AnswersCs (w : World) (past : List Entry) (x : Entry) (query : List �
 pub record Headline (w : World) (h : List Entry) : Type 0 where
   -- the events of each script's steps, in order
   pub in_script_order : (c : ℕ) (s : Script) → caller_of w c ≡ IsScript s → KeepsScript w h c s
+  -- what each script writes in its `dns` steps
+  pub questions : (c : ℕ) (s : Script) → caller_of w c ≡ IsScript s → AnswersQuestions w h c s
   -- each answer of cs
   pub cs : (k : ℕ) (x : Entry) (query : List ℕ) → slice_get h k ≡ Some x → x.event ≡ event.Cs query → AnswersCs w (take k h) x query
   -- each IL conversation and its peer, and one that has none

@@ -6,6 +6,7 @@ pub mod NdbExample
 pub mod Answers
 pub mod Words
 pub mod ScriptOrder
+pub mod DnsOrder
 pub mod Headline
 pub use Rattle.worked_worlds.specs.Worked
 pub use Rattle.worked_worlds.specs.WorkedUdp

@@ -4,9 +4,10 @@ use Rattle.std.proofs.lemmas.Bool.{false≢true}
 use Rattle.std.specs.List.{IsDistinct, AllByRecursion}
 use Rattle.std.specs.Map.{keys_of, lookup, remove_entry}
 use Rattle.std.proofs.lemmas.Slice.Eq.{bytes_eq-Decides}
-use Rattle.net_base.specs.Steps.{Bound, Fid as File, fid_of, is_bound, bind, unbind}
+use Rattle.net_base.specs.Steps as steps
+use Rattle.net_base.specs.Steps.{Bound, Fid as File, fid_among, is_among}
 use Rattle.net_tree.specs.declared.fids.Fid.{Fid}
-use Rattle.net_tree.specs.Bindings.{bindings, file_of, bound_of, newest_onto, AreApart}
+use Rattle.net_tree.specs.Bindings.{with_name, bindings, file_of, bound_of, newest_onto, AreApart}
 
 abbrev or_else : Option File → Option File → Option File
 or_else None other = other
@@ -61,36 +62,36 @@ module _ {Z : Type 0} where
   not_removed c (e ∷ es) all = rw (all.0) (ap (λ (xs : List (Vec ℕ Z × Fid)). e ∷ xs) (not_removed c es all.1))
 
   fid_newest : (c : List ℕ) (names : List Bound) (es : List (Vec ℕ Z × Fid)) → AreApart es
-      → fid_of c (newest_onto names es) ≡ or_else (option_map file_of (lookup (has c) es)) (fid_of c names)
+      → fid_among c (newest_onto names es) ≡ or_else (option_map file_of (lookup (has c) es)) (fid_among c names)
   fid_newest c names [] apart = refl
   fid_newest c names (e ∷ es) apart =
       fid_newest c (bound_of e ∷ names) es (rest_apart e es apart)
       ∙ by (has c e.0) refl (λ is. not_found c es (without c e.0 (keys_of es) is (first_apart e es apart)))
     where
       by : (b : Bool) → has c e.0 ≡ b → (has c e.0 ≡ true → lookup (has c) es ≡ None)
-          → or_else (option_map file_of (lookup (has c) es)) (if b then Some (file_of e.1) else fid_of c names)
-          ≡ or_else (option_map file_of (if b then Some e.1 else lookup (has c) es)) (fid_of c names)
+          → or_else (option_map file_of (lookup (has c) es)) (if b then Some (file_of e.1) else fid_among c names)
+          ≡ or_else (option_map file_of (if b then Some e.1 else lookup (has c) es)) (fid_among c names)
       by true is none = rw (none is) refl
       by false is none = refl
 
   -- what the newest binding of a name is bound to
-  pub fid_found : (c : List ℕ) (es : List (Vec ℕ Z × Fid)) → AreApart es → option_map file_of (lookup (has c) es) ≡ fid_of c (newest_onto [] es)
+  pub fid_found : (c : List ℕ) (es : List (Vec ℕ Z × Fid)) → AreApart es → option_map file_of (lookup (has c) es) ≡ fid_among c (newest_onto [] es)
   fid_found c es apart = sym (fid_newest c [] es apart ∙ by (option_map file_of (lookup (has c) es)))
     where
       by : (o : Option File) → or_else o None ≡ o
       by None = refl
       by (Some f) = refl
 
-  bound_newest : (c : List ℕ) (names : List Bound) (es : List (Vec ℕ Z × Fid)) → is_bound (newest_onto names es) c ≡ (is_some (lookup (has c) es) || is_bound names c)
+  bound_newest : (c : List ℕ) (names : List Bound) (es : List (Vec ℕ Z × Fid)) → is_among (newest_onto names es) c ≡ (is_some (lookup (has c) es) || is_among names c)
   bound_newest c names [] = refl
   bound_newest c names (e ∷ es) = bound_newest c (bound_of e ∷ names) es ∙ by (has c e.0)
     where
-      by : (b : Bool) → (is_some (lookup (has c) es) || (b || is_bound names c)) ≡ (is_some (if b then Some e.1 else lookup (has c) es) || is_bound names c)
+      by : (b : Bool) → (is_some (lookup (has c) es) || (b || is_among names c)) ≡ (is_some (if b then Some e.1 else lookup (has c) es) || is_among names c)
       by true = or_true _
       by false = refl
 
   -- whether a name is bound
-  pub bound_found : (c : List ℕ) (es : List (Vec ℕ Z × Fid)) → is_some (lookup (has c) es) ≡ is_bound (newest_onto [] es) c
+  pub bound_found : (c : List ℕ) (es : List (Vec ℕ Z × Fid)) → is_some (lookup (has c) es) ≡ is_among (newest_onto [] es) c
   bound_found c es = sym (bound_newest c [] es ∙ by (is_some (lookup (has c) es)))
     where
       by : (b : Bool) → (b || false) ≡ b
@@ -102,27 +103,27 @@ module _ {Z : Type 0} where
   newest_last names (x ∷ es) e = newest_last (bound_of x ∷ names) es e
 
   unbind_newest : (c : List ℕ) (names : List Bound) (es : List (Vec ℕ Z × Fid)) → AreApart es
-      → newest_onto (unbind c names) (remove_entry (has c) es) ≡ unbind c (newest_onto names es)
+      → newest_onto (steps.without c names) (remove_entry (has c) es) ≡ steps.without c (newest_onto names es)
   unbind_newest c names [] apart = refl
   unbind_newest c names (e ∷ es) apart =
       by (has c e.0) refl (λ is. not_removed c es (without c e.0 (keys_of es) is (first_apart e es apart)))
       ∙ unbind_newest c (bound_of e ∷ names) es (rest_apart e es apart)
     where
       by : (b : Bool) → has c e.0 ≡ b → (has c e.0 ≡ true → remove_entry (has c) es ≡ es)
-          → newest_onto (unbind c names) (if b then es else e ∷ remove_entry (has c) es) ≡ newest_onto (unbind c (bound_of e ∷ names)) (remove_entry (has c) es)
+          → newest_onto (steps.without c names) (if b then es else e ∷ remove_entry (has c) es) ≡ newest_onto (steps.without c (bound_of e ∷ names)) (remove_entry (has c) es)
       by true is same = rw is (rw (same is) refl)
       by false is same = rw is refl
 
   -- what is left where a name is unbound
-  pub unbound : (c : List ℕ) (es : List (Vec ℕ Z × Fid)) → AreApart es → newest_onto [] (remove_entry (has c) es) ≡ unbind c (newest_onto [] es)
+  pub unbound : (c : List ℕ) (es : List (Vec ℕ Z × Fid)) → AreApart es → newest_onto [] (remove_entry (has c) es) ≡ steps.without c (newest_onto [] es)
   unbound c es apart = unbind_newest c [] es apart
 
   -- a name that isn't bound has no entry
-  pub not_bound : (c : List ℕ) (k : Vec ℕ Z) (es : List (Vec ℕ Z × Fid)) → vec_items k ≡ c → is_bound (newest_onto [] es) c ≡ false → lookup (has (vec_items k)) es ≡ None
-  not_bound c k es same free = none_of _ (bound_found (vec_items k) es ∙ (ap (λ (x : List ℕ). is_bound (newest_onto [] es) x) same ∙ free))
+  pub not_bound : (c : List ℕ) (k : Vec ℕ Z) (es : List (Vec ℕ Z × Fid)) → vec_items k ≡ c → is_among (newest_onto [] es) c ≡ false → lookup (has (vec_items k)) es ≡ None
+  not_bound c k es same free = none_of _ (bound_found (vec_items k) es ∙ (ap (λ (x : List ℕ). is_among (newest_onto [] es) x) same ∙ free))
 
   -- a name that is bound last is the newest
-  pub bound_more : (c : List ℕ) (k : Vec ℕ Z) (f : Fid) (es fs : List (Vec ℕ Z × Fid)) → vec_items k ≡ c → fs ≡ es ++ (k, f) ∷ [] → newest_onto [] fs ≡ bind c (file_of f) (newest_onto [] es)
+  pub bound_more : (c : List ℕ) (k : Vec ℕ Z) (f : Fid) (es fs : List (Vec ℕ Z × Fid)) → vec_items k ≡ c → fs ≡ es ++ (k, f) ∷ [] → newest_onto [] fs ≡ with_name c (file_of f) (newest_onto [] es)
   bound_more c k f es fs same is =
       ap (λ (xs : List (Vec ℕ Z × Fid)). newest_onto [] xs) is
-      ∙ (newest_last [] es (k, f) ∙ ap (λ (x : List ℕ). bind x (file_of f) (newest_onto [] es)) same)
+      ∙ (newest_last [] es (k, f) ∙ ap (λ (x : List ℕ). with_name x (file_of f) (newest_onto [] es)) same)

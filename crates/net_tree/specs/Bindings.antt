@@ -17,6 +17,10 @@ bindings names reserved = record { names = names; reserved = reserved }
 abbrev pub file_of : Fid → File
 file_of f = record { proto = f.proto; slot = f.slot; generation = f.generation; file = f.file; mode = f.mode }
 
+-- a name that is bound stands first
+abbrev pub with_name : List ℕ → File → List Bound → List Bound
+with_name called fid names = record { called = called; fid = fid } ∷ names
+
 module _ {Z : Type 0} where
   abbrev pub bound_of : Vec ℕ Z × Fid → Bound
   bound_of e = record { called = vec_items e.0; fid = file_of e.1 }

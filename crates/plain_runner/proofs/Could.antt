@@ -13,6 +13,7 @@ use Rattle.net_base.specs.Duties.{Duty}
 use Rattle.net_base.specs.Net.{after, opening_net}
 use Rattle.net_base.specs.Next.{by, finished_by, is_unfinished, own_replies, zone_of}
 use Rattle.net_base.specs.Summary.{end_word}
+use Rattle.net_base.specs.Versions.{Tuples}
 use Rattle.script_player.specs.Players.{IsAt, Playing, position_after}
 use Rattle.history_laws.proofs.Owed.{past_after}
 use Rattle.plain_runner.specs.Callers.{HasRole, IsScriptAt}

@@ -13,6 +13,7 @@ use Rattle.net_base.specs.Duties.{Duty}
 use Rattle.net_base.specs.Net.{after}
 use Rattle.net_base.specs.Next.{answered, finished_by, own_replies, zone_of}
 use Rattle.net_base.specs.Summary.{answered_by}
+use Rattle.net_base.specs.Versions.{Tuples}
 use Rattle.script_player.specs.Players.{IsAt, Playing}
 use Rattle.plain_runner.specs.Callers.{HasRole, IsCaller, IsScriptAt}
 use Rattle.plain_runner.specs.declared.caller.Caller.{Caller}

@@ -68,3 +68,11 @@ hear_is h names called count heard = found (fid_of called names)
     found : (o : Option Fid) → head (on_fid o (uses h called names) (λ (f : Fid). if reads f.mode then asks f else misuses h called names)) ≡ Some (spec.read h called count o)
     found None = refl
     found (Some f) = open_so f (reads f.mode)
+
+pub close_is : (h : ℕ) (names : Names) (called : List ℕ) → planned h names (request.Close called) ≡ Some (spec.close h called (fid_of called names))
+close_is h names called = found (fid_of called names)
+  where
+    found : (o : Option Fid)
+        → head (on_fid o (uses h called names) (λ (f : Fid). steps.ends_with (steps.conversation_of h f) (event.Close f.generation) (steps.unbind called names))) ≡ Some (spec.close h called o)
+    found None = refl
+    found (Some f) = refl

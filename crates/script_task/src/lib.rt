@@ -4,16 +4,16 @@
 mod effect;
 mod law;
 mod names;
+mod names_after;
 mod paths;
 mod planned;
 mod request;
-mod settle;
 mod task;
 
 pub use effect::Effect;
 pub use law::{effects_settle, replies_fit};
 pub use names::Names;
+pub use names_after::settle;
 pub use planned::{Planned, event_of, plan};
 pub use request::Request;
-pub use settle::settle;
 pub use task::Task;

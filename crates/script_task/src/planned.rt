@@ -34,7 +34,7 @@ pub fn event_of(host: u32, fids: &Names, request: &Request) -> Result<Planned, A
 }
 
 /// The same for a request that nobody needs any longer. It takes no memory.
-#[tactic(auto, using(crate::proofs::Events::open_is, crate::proofs::Events::write_is, crate::proofs::Events::hear_is))]
+#[tactic(auto, using(crate::proofs::Events::open_is, crate::proofs::Events::write_is, crate::proofs::Events::hear_is, crate::proofs::Events::close_is))]
 pub fn plan(host: u32, fids: &Names, request: Request) -> Planned
     ensures event { requests.planned host fids.now.names request ≡ Some (spec.ask_of result) }
     ensures effect { result.effect ≡ effects.effect_of fids.now.names request }

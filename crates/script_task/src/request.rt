@@ -1,8 +1,11 @@
 //! What a task asks for.
+ghost use Rattle.std.specs.Prelude.{◌≡◌};
+
 use net_base::{Heard, Mode, Octets};
+use std::alloc::AllocError;
 
 /// A file operation, which names its file as its caller has bound it. Counts are in bytes, moments in ms.
-#[derive(Clone, Debug, Drop)]
+#[derive(Debug, Drop)]
 pub enum Request {
     /// Opens the file of the path, and binds the name to it.
     Open {
@@ -51,4 +54,51 @@ pub enum Request {
     Misuse {
         name: Octets,
     },
+}
+
+impl Clone for Request {
+    ghost is_clone = { λ request copy. copy ≡ request };
+
+    fn clone(&self) -> Result<Request, AllocError> {
+        Ok(match self {
+            Request::Open { name, path, mode } => Request::Open {
+                name: name.clone()?,
+                path: path.clone()?,
+                mode: *mode,
+            },
+            Request::Read { name, count } => Request::Read {
+                name: name.clone()?,
+                count: *count,
+            },
+            Request::Write { name, text } => Request::Write {
+                name: name.clone()?,
+                text: text.clone()?,
+            },
+            Request::Close { name } => Request::Close {
+                name: name.clone()?,
+            },
+            Request::Cs { query } => Request::Cs {
+                query: query.clone()?,
+            },
+            Request::Ls { path } => Request::Ls {
+                path: path.clone()?,
+            },
+            Request::Until { moment } => Request::Until { moment: *moment },
+            Request::Refresh => Request::Refresh,
+            Request::Hear { name, count, heard } => Request::Hear {
+                name: name.clone()?,
+                count: *count,
+                heard: heard.clone()?,
+            },
+            Request::Wait { name } => Request::Wait {
+                name: name.clone()?,
+            },
+            Request::Unbound { name } => Request::Unbound {
+                name: name.clone()?,
+            },
+            Request::Misuse { name } => Request::Misuse {
+                name: name.clone()?,
+            },
+        })
+    }
 }

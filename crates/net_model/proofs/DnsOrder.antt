@@ -1,0 +1,450 @@
+-- What a script writes in a `dns` step answers what it has just read.
+use Rattle.std.proofs.Common.{◌≡◌, ℕ, zero, suc, ◌-◌, Bool, true, false, List, [], ◌∷◌, ◌++◌, length, take, Option, Some, None, Result, Ok, Err, slice_get, refl, sym, ap, subst, ◌∙◌, arith, append_assoc, if◌then◌else◌}
+use Rattle.std.specs.Prelude.{codes, unwrap_or}
+use Rattle.std.proofs.lemmas.List.{map-append}
+use Rattle.std.proofs.lemmas.Option.{none-some, same_Some}
+use Rattle.net_base.specs.declared.actor.ActorName.{ActorName}
+use Rattle.net_base.specs.declared.address.Addr.{Addr}
+use Rattle.net_base.specs.declared.event.Event.{Event}
+use Rattle.net_base.specs.declared.event.Event.TheVariants as event
+use Rattle.net_base.specs.declared.headers.Heard.{Heard}
+use Rattle.net_base.specs.declared.history.Entry.{Entry}
+use Rattle.net_base.specs.declared.names.Ctl.{Ctl}
+use Rattle.net_base.specs.declared.names.Ctl.TheVariants as ctl
+use Rattle.net_base.specs.declared.names.FileName.{FileName}
+use Rattle.net_base.specs.declared.names.FileName.TheVariants as file
+use Rattle.net_base.specs.declared.names.Mode.{Mode}
+use Rattle.net_base.specs.declared.names.Mode.TheVariants as mode
+use Rattle.net_base.specs.declared.names.Node.{Node}
+use Rattle.net_base.specs.declared.names.Node.TheVariants as node
+use Rattle.net_base.specs.declared.reply.Reply.{Reply}
+use Rattle.net_base.specs.declared.world.Script.{Script}
+use Rattle.net_base.specs.declared.world.Step.{Step}
+use Rattle.net_base.specs.declared.world.Step.TheVariants as step
+use Rattle.net_base.specs.declared.world.World.{World}
+use Rattle.net_base.specs.ControlWords as control
+use Rattle.net_base.specs.DatagramHeaders.{text_behind}
+use Rattle.net_base.specs.DomainAnswers.{dns_answer}
+use Rattle.net_base.specs.Callers.{IsScript, caller_of}
+use Rattle.net_base.specs.Legal.{IsAsked, IsLegal, MayFollow, asked_by, cites_of}
+use Rattle.net_base.specs.Net.{owed}
+use Rattle.net_base.specs.Next.{finished_by, next, own_replies, zone_of}
+use Rattle.net_base.specs.Paths.{reads, walk, writes}
+use Rattle.net_base.specs.Steps as s
+use Rattle.net_base.specs.Steps.{Ask, Names, Fid, Play, Asks, Ends, Position, Stand, Asking, Finished, bytes_in, fid_of, is_accepted, is_bound, no_names, on_fid, opened_fid, play_of, position, position_by, stands}
+use Rattle.net_base.specs.Versions.{Tuples}
+use Rattle.history_laws.proofs.Histories.{legal_take}
+use Rattle.net_model.specs.DnsOrder.{AnswersQuestions, AnswersRead}
+use Rattle.net_model.specs.ScriptOrder.{Begins, Finishes, IsPlayed, StandInOrder, own_entries}
+use Rattle.net_model.proofs.OwnEntries.{asks_next, keeps_script}
+use Rattle.net_model.proofs.Plays.{begins_asks, played_finishes, replies}
+
+-- The database from which a script answers stays.
+
+-- wherever the play ends, it leaves this database
+abbrev Leaves : Tuples → Play → Type 0
+Leaves z (Ends names) = names.zone ≡ z
+Leaves z (Asks a e next) = (r : Reply) → Leaves z (next r)
+
+module _ (z : Tuples) (h : ℕ) where
+  either : (b : Bool) (p q : Play) → Leaves z p → Leaves z q → Leaves z (if b then p else q)
+  either true p q yes_p yes_q = yes_p
+  either false p q yes_p yes_q = yes_q
+
+  on : (o : Option Fid) (p : Play) (next : Fid → Play) → Leaves z p → ((f : Fid) → Leaves z (next f)) → Leaves z (on_fid o p next)
+  on None p next refused found = refused
+  on (Some f) p next refused found = found f
+
+  new : (called : List ℕ) (names : Names) (p : Play) → names.zone ≡ z → Leaves z p → Leaves z (s.with_new h called names p)
+  new called names p is leaves = either (is_bound names called) (s.uses h called names) p (λ r. is) leaves
+
+  bound : (called : List ℕ) (names : Names) (next : Fid → Play) → names.zone ≡ z → ((f : Fid) → Leaves z (next f)) → Leaves z (s.with_bound h called names next)
+  bound called names next is leaves = on (fid_of called names) (s.uses h called names) next (λ r. is) leaves
+
+  readable : (called : List ℕ) (names : Names) (next : Fid → Play) → names.zone ≡ z → ((f : Fid) → Leaves z (next f)) → Leaves z (s.with_readable h called names next)
+  readable called names next is leaves =
+      bound called names (λ (f : Fid). if reads f.mode then next f else s.misuses h called names) is
+      (λ f. either (reads f.mode) (next f) (s.misuses h called names) (leaves f) (λ r. is))
+
+  writable : (called : List ℕ) (names : Names) (next : Fid → Play) → names.zone ≡ z → ((f : Fid) → Leaves z (next f)) → Leaves z (s.with_writable h called names next)
+  writable called names next is leaves =
+      bound called names (λ (f : Fid). if writes f.mode then next f else s.misuses h called names) is
+      (λ f. either (writes f.mode) (next f) (s.misuses h called names) (leaves f) (λ r. is))
+
+  accepted : (p q : Play) → Leaves z p → Leaves z q → (r : Reply) → Leaves z (s.if_accepted r p q)
+  accepted p q yes_p yes_q r = either (is_accepted r) p q yes_p yes_q
+
+  opens : (path : List ℕ) (m : Mode) (n : Option Node) (p : Play) (next : Fid → Play) → Leaves z p → ((f : Fid) → Leaves z (next f)) → Leaves z (s.opens_node h path m n p next)
+  opens path m n p next refused found = λ r. on (opened_fid m n r) p next refused found
+
+  controls : (f : Fid) (text : List ℕ) (c : Result Ctl ℕ) (p q : Play) → Leaves z p → Leaves z q → Leaves z (s.controls h f text c p q)
+  controls f text (Ok (ctl.Connect remote lport)) p q refused next =
+      λ granted. accepted (Asks (s.conversation_of h f) (event.Await f.generation) (λ (r : Reply). s.if_accepted r q p)) p (λ r. accepted q p next refused r) refused granted
+  controls f text (Ok (ctl.Announce ip port)) p q refused next = λ r. accepted q p next refused r
+  controls f text (Ok (ctl.Bind port)) p q refused next = λ r. accepted q p next refused r
+  controls f text (Ok ctl.Hangup) p q refused next = λ r. accepted q p next refused r
+  controls f text (Ok (ctl.Ttl n)) p q refused next = λ r. accepted q p next refused r
+  controls f text (Ok (ctl.Tos n)) p q refused next = λ r. accepted q p next refused r
+  controls f text (Err fault) p q refused next = λ r. accepted q p next refused r
+
+  puts : (f : Fid) (t : FileName) (text : List ℕ) (p q : Play) → Leaves z p → Leaves z q → Leaves z (s.puts h f t text p q)
+  puts f file.Data text p q refused next = λ r. accepted q p next refused r
+  puts f _ text p q refused next = controls f text (control.read text) p q refused next
+
+  closes : (f : Fid) (p q : Play) → Leaves z p → Leaves z q → Leaves z (s.closes h f p q)
+  closes f p q refused next = λ r. accepted q p next refused r
+
+  closes_all : (fs : List Fid) (p : Play) → Leaves z p → Leaves z (s.closes_all h fs p)
+  closes_all [] p next = next
+  closes_all (f ∷ fs) p next = λ r. closes_all fs p next
+
+  module _ (names : Names) (is : names.zone ≡ z) where
+    connected : (called : List ℕ) (f : Fid) → Leaves z (s.connected h called names f)
+    connected called f =
+        opens [] mode.Both (Some (node.File f.proto f.slot file.Data)) (s.closes_last h f names) (λ (data_file : Fid). s.closes_last h f (s.bind called data_file names)) (λ r. is) (λ data_file r. is)
+
+    dials : (called : List ℕ) (lines : List (List ℕ)) → Leaves z (s.dials h called names lines)
+    dials called [] = is
+    dials called (line ∷ lines) = by (dials called lines)
+      where
+        by : Leaves z (s.dials h called names lines) → Leaves z (s.dials h called names (line ∷ lines))
+        by others =
+            opens (s.clone_path line) mode.Both (s.openable (walk (s.clone_path line)) mode.Both) (s.dials h called names lines)
+            (λ (made : Fid). s.puts h made made.file (codes "connect " ++ s.line_address line) (s.closes h made (Ends names) (s.dials h called names lines)) (s.connected h called names made)) others
+            (λ made. puts made made.file (codes "connect " ++ s.line_address line) (s.closes h made (Ends names) (s.dials h called names lines)) (s.connected h called names made)
+            (closes made (Ends names) (s.dials h called names lines) is others) (connected called made))
+
+    announces : (called : List ℕ) (lines : List (List ℕ)) → Leaves z (s.announces h called names lines)
+    announces called [] = is
+    announces called (line ∷ lines) =
+        opens (s.clone_path line) mode.Both (s.openable (walk (s.clone_path line)) mode.Both) (Ends names)
+        (λ (made : Fid). s.puts h made made.file (codes "announce " ++ s.line_address line) (s.closes h made (Ends names) (Ends names)) (Ends (s.bind called made names))) is
+        (λ made. puts made made.file (codes "announce " ++ s.line_address line) (s.closes h made (Ends names) (Ends names)) (Ends (s.bind called made names)) (closes made (Ends names) (Ends names) is is) is)
+
+    tells : (call : Fid) (told : FileName) (others : List Fid) (p : Play) (next : Addr → Play) → Leaves z p → ((a : Addr) → Leaves z (next a)) → Leaves z (s.tells_address h call told others p next)
+    tells call told others p next refused found =
+        opens [] mode.Read (Some (node.File call.proto call.slot told)) (s.closes_all h others p)
+        (λ (f : Fid). Asks (s.conversation_of h f) (event.File f.generation told 64) (λ (r : Reply).
+        s.if_accepted r (s.closes h f (s.closes_all h others p) (next (s.address_told (bytes_in r)))) (s.closes_all h (f ∷ others) p)))
+        (closes_all others p refused)
+        (λ f r. accepted (s.closes h f (s.closes_all h others p) (next (s.address_told (bytes_in r)))) (s.closes_all h (f ∷ others) p)
+        (closes f (s.closes_all h others p) (next (s.address_told (bytes_in r))) (closes_all others p refused) (found (s.address_told (bytes_in r))))
+        (closes_all (f ∷ others) p refused) r)
+
+    takes : (f : Fid) (next : Fid → Fid → Addr → Addr → Play) → ((call data_file : Fid) (remote local : Addr) → Leaves z (next call data_file remote local))
+        → Leaves z (s.takes_call h f (Ends names) next)
+    takes f next found =
+        opens [] mode.Both (Some (node.File f.proto f.slot file.Listen)) (Ends names) _ is (λ call.
+        opens [] mode.Both (Some (node.File call.proto call.slot file.Data)) (s.closes_all h (call ∷ []) (Ends names)) _ (closes_all (call ∷ []) (Ends names) is) (λ data_file.
+        tells call file.Remote (data_file ∷ call ∷ []) (Ends names)
+        (λ (remote : Addr). s.tells_address h call file.Local (data_file ∷ call ∷ []) (Ends names) (λ (local : Addr). next call data_file remote local)) is (λ remote.
+        tells call file.Local (data_file ∷ call ∷ []) (Ends names) (λ (local : Addr). next call data_file remote local) is (λ local. found call data_file remote local))))
+
+    taken : (o : Option (List ℕ)) (p : Play) → Leaves z p → Leaves z (s.on_taken o (λ (used : List ℕ). s.uses h used names) p)
+    taken None p leaves = leaves
+    taken (Some used) p leaves = λ r. is
+
+    call_with : (called : List ℕ) (next : Fid → Fid → Addr → Addr → Play) → ((call data_file : Fid) (remote local : Addr) → Leaves z (next call data_file remote local))
+        → Leaves z (s.with_call h called names next)
+    call_with called next found =
+        taken (s.taken_name names) (s.with_bound h called names (λ (f : Fid). s.takes_call h f (Ends names) next))
+        (bound called names (λ (f : Fid). s.takes_call h f (Ends names) next) is (λ f. takes f next found))
+
+    closes_name : (called : List ℕ) → Leaves z (s.closes_name h called names)
+    closes_name called = bound called names _ is (λ f r. is)
+
+    leaves_call : (call data_file : Fid) (p q : Play) → Leaves z p → Leaves z q → Leaves z (s.leaves_call h call data_file p q)
+    leaves_call call data_file p q refused next =
+        closes data_file (s.closes_all h (call ∷ []) p) (s.closes h call p q) (closes_all (call ∷ []) p refused) (closes call p q refused next)
+
+    answers_call : (call data_file : Fid) (o : Option (List ℕ)) (p q : Play) → Leaves z p → Leaves z q → Leaves z (s.answers_call h call data_file o p q)
+    answers_call call data_file None p q refused next = leaves_call call data_file p q refused next
+    answers_call call data_file (Some text) p q refused next =
+        λ r. accepted (s.leaves_call h call data_file p q) (s.closes_all h (data_file ∷ call ∷ []) p) (leaves_call call data_file p q refused next) (closes_all (data_file ∷ call ∷ []) p refused) r
+
+    serves_call : (called : List ℕ) (p : Play) → Leaves z p → Leaves z (s.serves_call h called names p)
+    serves_call called p later = call_with called reading read
+      where
+        reading : Fid → Fid → Addr → Addr → Play
+        reading call data_file remote local =
+            Asks (s.conversation_of h data_file) (event.Read data_file.generation 8192) (λ (r : Reply).
+            s.if_accepted r (s.answers_call h call data_file (dns_answer names.zone (bytes_in r)) (Ends names) p) (s.closes_all h (data_file ∷ call ∷ []) (Ends names)))
+
+        read : (call data_file : Fid) (remote local : Addr) → Leaves z (reading call data_file remote local)
+        read call data_file remote local r =
+            accepted (s.answers_call h call data_file (dns_answer names.zone (bytes_in r)) (Ends names) p) (s.closes_all h (data_file ∷ call ∷ []) (Ends names))
+            (answers_call call data_file (dns_answer names.zone (bytes_in r)) (Ends names) p is later) (closes_all (data_file ∷ call ∷ []) (Ends names) is) r
+
+    serves : (called : List ℕ) (more : ℕ) → Leaves z (s.serves h called names more)
+    serves called zero = serves_call called (Ends names) is
+    serves called (suc more) = serves_call called (s.serves h called names more) (serves called more)
+
+  hears : (names : Names) → names.zone ≡ z → (count : ℕ) (call data_file : Fid) (heard : Heard) → Leaves z (s.hears h names count call data_file heard)
+  hears names is count call data_file heard =
+      λ r. accepted (Ends (s.bind s.data_name data_file (s.bind s.call_name call (s.hearing heard names)))) (s.closes_all h (data_file ∷ call ∷ []) (Ends (s.hearing heard names))) is
+      (closes_all (data_file ∷ call ∷ []) (Ends (s.hearing heard names)) is) r
+
+  -- whichever step it is
+  leaves : (names : Names) → names.zone ≡ z → (t : Step) → Leaves z (play_of h names t)
+  leaves names is (step.Open called path m) = new called names _ is (opens path (unwrap_or m (s.default_mode (walk path))) (s.openable (walk path) (unwrap_or m (s.default_mode (walk path)))) (Ends names) _ is (λ f. is))
+  leaves names is (step.Read called count) = readable called names _ is (λ f r. is)
+  leaves names is (step.Write called text) = writable called names _ is (λ f. puts f f.file text (Ends names) (Ends names) is is)
+  leaves names is (step.Writex called text) = writable called names _ is (λ f. puts f f.file text (Ends names) (Ends names) is is)
+  leaves names is (step.Close called) = closes_name names is called
+  leaves names is (step.Ls path) = λ r. is
+  leaves names is (step.Cs query) = λ r. is
+  leaves names is (step.Until moment) = λ r. is
+  leaves names is step.Refresh = λ r. is
+  leaves names is (step.Dial called address) = new called names _ is (new (s.dotted_name called) names _ is (λ r. dials names is called (s.lines_in r)))
+  leaves names is (step.Announce called address) = new called names _ is (λ r. announces names is called (s.lines_in r))
+  leaves names is (step.Listen called from) = bound from names _ is (λ f. new called names _ is (opens [] mode.Both (Some (node.File f.proto f.slot file.Listen)) (Ends names) _ is (λ call. is)))
+  leaves names is (step.Accept called from) = bound from names _ is (λ f. new called names _ is (opens [] mode.Both (Some (node.File f.proto f.slot file.Data)) (Ends names) _ is (λ data_file. is)))
+  leaves names is (step.Reject called) = writable called names _ is (λ f. puts f f.file (codes "hangup") (Ends names) _ is (λ r. is))
+  leaves names is (step.Hangup called) = writable called names _ is (λ f. puts f f.file (codes "hangup") (Ends names) (Ends names) is is)
+  leaves names is (step.Hread called count) =
+      call_with names is called
+      (λ (call data_file : Fid) (remote local : Addr). s.hears h names count call data_file (record { name = called; remote = remote; local = local }))
+      (λ call data_file remote local. hears names is count call data_file (record { name = called; remote = remote; local = local }))
+  leaves names is (step.Hwrite called bytes) =
+      on (s.open_call called names) (s.uses h s.data_name names) _ (λ r. is)
+      (λ f. either (s.is_answer bytes names.heard) (s.answers h names (text_behind bytes) f) (s.misuses h s.data_name names) (λ written closed. closes_name (s.unbind s.data_name names) is s.call_name) (λ r. is))
+  leaves names is (step.Dns called times) = serves names is called (times - 1)
+
+left_by : (z : Tuples) (p : Play) (xs : List Entry) (bound : Names) → Leaves z p → IsPlayed p xs bound → bound.zone ≡ z
+left_by z (Ends names) [] bound is played = sym (ap (λ (n : Names). n.zone) played) ∙ is
+left_by z (Ends names) (x ∷ xs) bound is played = absurd played
+left_by z (Asks a e next) [] bound is played = absurd played
+left_by z (Asks a e next) (x ∷ xs) bound is played = left_by z (next x.reply) xs bound (is x.reply) played.1
+
+-- What is written is the answer to what was read just before.
+
+-- a read of at most 8,192 bytes
+record IsRead (x : Entry) : Type 0 where
+  generation : ℕ
+  is : x.event ≡ event.Read generation 8192
+
+-- the entry before is such a read at this actor, and this text is the answer to what it read
+abbrev IsAnswerTo : Tuples → ActorName → List ℕ → Option Entry → Type 0
+IsAnswerTo z a text None = ⊥
+IsAnswerTo z a text (Some x) = (x.actor ≡ a) × IsRead x × (dns_answer z (bytes_in x.reply) ≡ Some text)
+
+-- the event is no write, or writes such an answer
+abbrev Tells : Tuples → ActorName → Option Entry → Event → Type 0
+Tells z a last (event.Write g text) = IsAnswerTo z a text last
+Tells z a last _ = Unit {0}
+
+-- each text that the play writes is such an answer, where this entry stands before its first one
+abbrev Telling : Tuples → Option Entry → Play → Type 0
+Telling z last (Ends names) = Unit {0}
+Telling z last (Asks a e next) = Tells z a last e × ((x : Entry) → asked_by x ≡ record { actor = a; event = e } → Telling z (Some x) (next x.reply))
+
+-- whatever stands before
+abbrev Quiet : Tuples → Play → Type 0
+Quiet z p = (last : Option Entry) → Telling z last p
+
+module _ (z : Tuples) (h : ℕ) where
+  either_quiet : (b : Bool) (last : Option Entry) (p q : Play) → Telling z last p → Telling z last q → Telling z last (if b then p else q)
+  either_quiet true last p q yes_p yes_q = yes_p
+  either_quiet false last p q yes_p yes_q = yes_q
+
+  on_quiet : (o : Option Fid) (p : Play) (next : Fid → Play) → Quiet z p → ((f : Fid) → Quiet z (next f)) → Quiet z (on_fid o p next)
+  on_quiet None p next refused found = refused
+  on_quiet (Some f) p next refused found = found f
+
+  accepted_quiet : (p q : Play) → Quiet z p → Quiet z q → (r : Reply) → Quiet z (s.if_accepted r p q)
+  accepted_quiet p q yes_p yes_q r last = either_quiet (is_accepted r) last p q (yes_p last) (yes_q last)
+
+  opened_tells : (path : List ℕ) (m : Mode) (n : Option Node) (a : ActorName) (last : Option Entry) → Tells z a last (s.open_event path m n)
+  opened_tells path m None a last = tt
+  opened_tells path m (Some node.Root) a last = tt
+  opened_tells path m (Some (node.Proto p)) a last = tt
+  opened_tells path m (Some (node.Clone p)) a last = tt
+  opened_tells path m (Some (node.Dir p n)) a last = tt
+  opened_tells path m (Some (node.File p n file.Listen)) a last = tt
+  opened_tells path m (Some (node.File p n f)) a last = tt
+  opened_tells path m (Some _) a last = tt
+
+  opens_quiet : (path : List ℕ) (m : Mode) (n : Option Node) (p : Play) (next : Fid → Play) → Quiet z p → ((f : Fid) → Quiet z (next f)) → Quiet z (s.opens_node h path m n p next)
+  opens_quiet path m n p next refused found last =
+      (opened_tells path m n (s.open_actor h n) last, λ x asked. on_quiet (opened_fid m n x.reply) p next refused found (Some x))
+
+  closes_quiet : (f : Fid) (p q : Play) → Quiet z p → Quiet z q → Quiet z (s.closes h f p q)
+  closes_quiet f p q refused next last = (tt, λ x asked. accepted_quiet q p next refused x.reply (Some x))
+
+  all_quiet : (fs : List Fid) (p : Play) → Quiet z p → Quiet z (s.closes_all h fs p)
+  all_quiet [] p next = next
+  all_quiet (f ∷ fs) p next = λ last. (tt, λ x asked. all_quiet fs p next (Some x))
+
+  tells_quiet : (call : Fid) (told : FileName) (others : List Fid) (p : Play) (next : Addr → Play) → Quiet z p → ((a : Addr) → Quiet z (next a)) → Quiet z (s.tells_address h call told others p next)
+  tells_quiet call told others p next refused found =
+      opens_quiet [] mode.Read (Some (node.File call.proto call.slot told)) (s.closes_all h others p)
+      (λ (f : Fid). Asks (s.conversation_of h f) (event.File f.generation told 64) (λ (r : Reply).
+      s.if_accepted r (s.closes h f (s.closes_all h others p) (next (s.address_told (bytes_in r)))) (s.closes_all h (f ∷ others) p)))
+      (all_quiet others p refused)
+      (λ f last. (
+        tt,
+        λ x asked. accepted_quiet (s.closes h f (s.closes_all h others p) (next (s.address_told (bytes_in x.reply)))) (s.closes_all h (f ∷ others) p)
+            (closes_quiet f (s.closes_all h others p) (next (s.address_told (bytes_in x.reply))) (all_quiet others p refused) (found (s.address_told (bytes_in x.reply))))
+            (all_quiet (f ∷ others) p refused) x.reply (Some x),
+      ))
+
+  module _ (names : Names) where
+    takes_quiet : (f : Fid) (next : Fid → Fid → Addr → Addr → Play) → ((call data_file : Fid) (remote local : Addr) → Quiet z (next call data_file remote local))
+        → Quiet z (s.takes_call h f (Ends names) next)
+    takes_quiet f next found =
+        opens_quiet [] mode.Both (Some (node.File f.proto f.slot file.Listen)) (Ends names) _ (λ last. tt) (λ call.
+        opens_quiet [] mode.Both (Some (node.File call.proto call.slot file.Data)) (s.closes_all h (call ∷ []) (Ends names)) _ (all_quiet (call ∷ []) (Ends names) (λ last. tt)) (λ data_file.
+        tells_quiet call file.Remote (data_file ∷ call ∷ []) (Ends names)
+        (λ (remote : Addr). s.tells_address h call file.Local (data_file ∷ call ∷ []) (Ends names) (λ (local : Addr). next call data_file remote local)) (λ last. tt) (λ remote.
+        tells_quiet call file.Local (data_file ∷ call ∷ []) (Ends names) (λ (local : Addr). next call data_file remote local) (λ last. tt) (λ local. found call data_file remote local))))
+
+    used_quiet : (called : List ℕ) → Quiet z (s.uses h called names)
+    used_quiet called last = (tt, λ x asked. tt)
+
+    taken_quiet : (o : Option (List ℕ)) (p : Play) → Quiet z p → Quiet z (s.on_taken o (λ (used : List ℕ). s.uses h used names) p)
+    taken_quiet None p quiet = quiet
+    taken_quiet (Some used) p quiet = used_quiet used
+
+    leaves_quiet : (call data_file : Fid) (p q : Play) → Quiet z p → Quiet z q → Quiet z (s.leaves_call h call data_file p q)
+    leaves_quiet call data_file p q refused next =
+        closes_quiet data_file (s.closes_all h (call ∷ []) p) (s.closes h call p q) (all_quiet (call ∷ []) p refused) (closes_quiet call p q refused next)
+
+    -- behind the read
+    answered : (call data_file : Fid) (o : Option (List ℕ)) (x : Entry) (p : Play) → Quiet z p → x.actor ≡ s.conversation_of h data_file
+        → IsRead x → dns_answer z (bytes_in x.reply) ≡ o → Telling z (Some x) (s.answers_call h call data_file o (Ends names) p)
+    answered call data_file None x p next at read is = leaves_quiet call data_file (Ends names) p (λ last. tt) next (Some x)
+    answered call data_file (Some text) x p next at read is = (
+      (at, read, is),
+      λ y asked. accepted_quiet (s.leaves_call h call data_file (Ends names) p) (s.closes_all h (data_file ∷ call ∷ []) (Ends names))
+          (leaves_quiet call data_file (Ends names) p (λ last. tt) next) (all_quiet (data_file ∷ call ∷ []) (Ends names) (λ last. tt)) y.reply (Some y),
+    )
+
+    serve_tells : (zone_is : names.zone ≡ z) (called : List ℕ) (p : Play) → Quiet z p → Quiet z (s.serves_call h called names p)
+    serve_tells zone_is called p next =
+        taken_quiet (s.taken_name names) (s.with_bound h called names (λ (f : Fid). s.takes_call h f (Ends names) reading))
+        (on_quiet (fid_of called names) (s.uses h called names) (λ (f : Fid). s.takes_call h f (Ends names) reading) (used_quiet called) (λ f. takes_quiet f reading told))
+      where
+        reading : Fid → Fid → Addr → Addr → Play
+        reading call data_file remote local =
+            Asks (s.conversation_of h data_file) (event.Read data_file.generation 8192) (λ (r : Reply).
+            s.if_accepted r (s.answers_call h call data_file (dns_answer names.zone (bytes_in r)) (Ends names) p) (s.closes_all h (data_file ∷ call ∷ []) (Ends names)))
+
+        told : (call data_file : Fid) (remote local : Addr) → Quiet z (reading call data_file remote local)
+        told call data_file remote local last = (
+          tt,
+          λ x asked. either_quiet (is_accepted x.reply) (Some x) (s.answers_call h call data_file (dns_answer names.zone (bytes_in x.reply)) (Ends names) p) (s.closes_all h (data_file ∷ call ∷ []) (Ends names))
+              (answered call data_file (dns_answer names.zone (bytes_in x.reply)) x p next (ap (λ (k : Ask). k.actor) asked) (record { generation = data_file.generation; is = ap (λ (k : Ask). k.event) asked })
+              (ap (λ (t : Tuples). dns_answer t (bytes_in x.reply)) (sym zone_is)))
+              (all_quiet (data_file ∷ call ∷ []) (Ends names) (λ last. tt) (Some x)),
+        )
+
+    serves_tell : (zone_is : names.zone ≡ z) (called : List ℕ) (more : ℕ) → Quiet z (s.serves h called names more)
+    serves_tell zone_is called zero = serve_tells zone_is called (Ends names) (λ last. tt)
+    serves_tell zone_is called (suc more) = serve_tells zone_is called (s.serves h called names more) (serves_tell zone_is called more)
+
+-- Entries.
+
+abbrev latest : Option Entry → List Entry → Option Entry
+latest last [] = last
+latest last (x ∷ xs) = latest (Some x) xs
+
+ask_is : (a b : Ask) → Asking a ≡ Asking b → a ≡ b
+ask_is a b is = ap asked_in is
+  where
+    asked_in : Stand → Ask
+    asked_in (Asking ask) = ask
+    asked_in (Finished names rs) = a
+
+-- the entry that the play asks for next tells what it should
+told_next : (z : Tuples) (p : Play) (last : Option Entry) (xs : List Entry) (x : Entry) → Telling z last p → Begins p xs → stands p (replies xs) ≡ Asking (asked_by x) → Tells z x.actor (latest last xs) x.event
+told_next z (Ends names) last xs x tells begins is = absurd begins
+told_next z (Asks a e next) last [] x tells begins is =
+    subst (λ (k : Ask). Tells z k.actor last k.event) (ask_is (record { actor = a; event = e }) (asked_by x) is) tells.0
+told_next z (Asks a e next) last (y ∷ ys) x tells begins is = told_next z (next y.reply) (Some y) ys x (tells.1 y begins.0) begins.1 is
+
+-- the last entry stands at the end
+ends_so : (y : Entry) (ys : List Entry) (x : Entry) → latest (Some y) ys ≡ Some x → (front : List Entry) × (y ∷ ys ≡ front ++ x ∷ [])
+ends_so y [] x is = ([], ap (λ (t : Entry). t ∷ []) (same_Some y x is))
+ends_so y (t ∷ ts) x is = let r = ends_so t ts x is in (y ∷ r.0, ap (λ (xs : List Entry). y ∷ xs) r.1)
+
+answers_so : (z : Tuples) (xs : List Entry) (x : Entry) (text : List ℕ) (o : Option Entry) → latest None xs ≡ o → IsAnswerTo z x.actor text o → AnswersRead z xs x text
+answers_so z xs x text None is answer = absurd answer
+answers_so z [] x text (Some y) is answer = absurd (none-some y is)
+answers_so z (t ∷ ts) x text (Some y) is answer =
+    let r = ends_so t ts y is in
+    record { front = r.0; question = y; generation = answer.1.generation; all = r.1; actor_is = answer.0; event_is = answer.1.is; answer = answer.2 }
+
+behind : (z : Tuples) (own rest all : List Entry) (x : Entry) (text : List ℕ) → all ≡ own ++ rest → AnswersRead z rest x text → AnswersRead z all x text
+behind z own rest all x text is a =
+    record {
+      front = own ++ a.front;
+      question = a.question;
+      generation = a.generation;
+      all = is ∙ ap (λ (ys : List Entry). own ++ ys) a.all ∙ sym (append_assoc own a.front (a.question ∷ []));
+      actor_is = a.actor_is;
+      event_is = a.event_is;
+      answer = a.answer;
+    }
+
+-- Steps.
+
+-- the script stands in a `dns` step, and this write comes next
+pub record Writing (p : Position) (x : Entry) (text : List ℕ) : Type 0 where
+  pub next : p.next ≡ Some (asked_by x)
+  pub generation : ℕ
+  pub event_is : x.event ≡ event.Write generation text
+  pub called : List ℕ
+  pub times : ℕ
+  pub later : List Step
+  pub step_is : p.left ≡ step.Dns called times ∷ later
+
+first_step : (a b : Step) (ts us : List Step) → a ∷ ts ≡ b ∷ us → a ≡ b
+first_step a b ts us is = ap first is
+  where
+    first : List Step → Step
+    first [] = a
+    first (t ∷ rest) = t
+
+module _ (z : Tuples) (h : ℕ) (x : Entry) (text : List ℕ) where
+  in_first : (names : Names) → names.zone ≡ z → (t : Step) (ts : List Step) (xs : List Entry) (ask : Ask) → Begins (play_of h names t) xs
+      → stands (play_of h names t) (replies xs) ≡ Asking ask → Writing (record { next = Some ask; left = t ∷ ts }) x text → AnswersRead z xs x text
+  in_first names is t ts xs ask begins at writing =
+      let step_is : t ≡ step.Dns writing.called writing.times = first_step t (step.Dns writing.called writing.times) ts writing.later writing.step_is in
+      let begun : Begins (s.serves h writing.called names (writing.times - 1)) xs = subst (λ (u : Step). Begins (play_of h names u) xs) step_is begins in
+      let stands_so : stands (s.serves h writing.called names (writing.times - 1)) (replies xs) ≡ Asking (asked_by x) =
+      subst (λ (u : Step). stands (play_of h names u) (replies xs) ≡ Asking (asked_by x)) step_is (at ∙ ap Asking (same_Some ask (asked_by x) writing.next)) in
+      let told = told_next z (s.serves h writing.called names (writing.times - 1)) None xs x (serves_tell z h names is writing.called (writing.times - 1) None) begun stands_so in
+      answers_so z xs x text (latest None xs) refl (subst (λ (e : Event). Tells z x.actor (latest None xs) e) writing.event_is told)
+
+  pub answered_in : (ts : List Step) (names : Names) → names.zone ≡ z → (n : ℕ) (xs : List Entry) → StandInOrder h names ts n xs
+      → Writing (position h ts names (replies xs)) x text → AnswersRead z xs x text
+  answered_in [] names is n xs there writing = absurd (none-some (asked_by x) writing.next)
+  answered_in (t ∷ ts) names is zero xs there writing =
+      let asks = begins_asks (play_of h names t) xs there in
+      in_first names is t ts xs asks.0 there asks.1
+      (subst (λ (k : Stand). Writing (position_by k (t ∷ ts) (λ (after : Names) (later : List Reply). position h ts after later)) x text) asks.1 writing)
+  answered_in (t ∷ ts) names is (suc n) xs there writing =
+      behind z there.own there.rest xs x text there.all
+      (answered_in ts there.bound (left_by z (play_of h names t) there.own there.bound (leaves z h names is t) there.played) n there.rest there.later
+      (subst (λ (k : Stand). Writing (position_by k (t ∷ ts) (λ (after : Names) (later : List Reply). position h ts after later)) x text)
+      (ap (λ (ys : List Entry). stands (play_of h names t) (replies ys)) there.all ∙ ap (λ (rs : List Reply). stands (play_of h names t) rs) (map-append (λ (y : Entry). y.reply) there.own there.rest)
+      ∙ played_finishes (play_of h names t) there.own there.bound (replies there.rest) there.played) writing))
+
+-- Histories.
+
+pub answers_questions : (w : World) (c : ℕ) (s : Script) → caller_of w c ≡ IsScript s → (h : List Entry) → IsLegal w h → AnswersQuestions w h c s
+answers_questions w c s is h legal k x text writes =
+    let may : MayFollow w (take k h) x = legal k x writes.stands in
+    answered_in (zone_of w) s.host x text s.steps (no_names (zone_of w)) refl (finished_by (zone_of w) (own_replies (take k h) c) s) (own_entries (take k h) c)
+    (keeps_script w c s is (take k h) (legal_take w h k legal)).finished
+    (record {
+      next =
+          asks_next w (take k h) (owed w (take k h) c) (caller_of w c) c s x (sym writes.cites_is ∙ subst (λ (d : ℕ). x.cites ≡ cites_of (owed w (take k h) d)) writes.caller_is may.cites) is
+          (subst (λ (d : ℕ). IsAsked (owed w (take k h) d) (caller_of w d) (next w (take k h) d) x) writes.caller_is may.is_asked);
+      generation = writes.generation;
+      event_is = writes.event_is;
+      called = writes.called;
+      times = writes.times;
+      later = writes.behind;
+      step_is = writes.step_is;
+    })
