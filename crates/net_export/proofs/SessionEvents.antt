@@ -112,10 +112,12 @@ ended : (r : Reply) (names : Names) → Good (if_accepted r (Ends names) (Ends n
 ended r names = either (is_accepted r) (Ends names) (Ends names) tt tt
 
 controlled : (h : ℕ) (names : Names) (f : Fid) (text : List ℕ) (read : Result Ctl ℕ) → Good (controls h f text read (Ends names) (Ends names))
-controlled h names f text (Ok (ctl.Connect remote lport)) =
-    (tt, λ granted fine.
-    either (is_accepted granted) (Asks (conversation_of h f) (event.Await f.generation) (λ (r : Reply). if_accepted r (Ends names) (Ends names))) (Ends names)
-    (tt, λ r fine. ended r names) tt)
+controlled h names f text (Ok (ctl.Connect remote lport)) = (
+  tt,
+  λ granted fine.
+      either (is_accepted granted) (Asks (conversation_of h f) (event.Await f.generation) (λ (r : Reply). if_accepted r (Ends names) (Ends names))) (Ends names)
+      (tt, λ r fine. ended r names) tt,
+)
 controlled h names f text (Ok (ctl.Announce ip port)) = (tt, λ r fine. ended r names)
 controlled h names f text (Ok (ctl.Bind port)) = (tt, λ r fine. ended r names)
 controlled h names f text (Ok ctl.Hangup) = (tt, λ r fine. ended r names)
