@@ -1,7 +1,7 @@
 use Rattle.std.proofs.Common.{◌∙◌}
 use Rattle.net_actors.specs.Kept.{state_of}
-use Rattle.actor_machines.proofs.Works.{ready_named}
-use Rattle.actor_machines.proofs.machine.WorldActorMachine.ready.Goals as goal
+use Rattle.net_locks.proofs.Works.{ready_named}
+use Rattle.net_locks.proofs.machine.WorldActorMachine.ready.Goals as goal
 
 pub returns : goal.returns
 returns g c =

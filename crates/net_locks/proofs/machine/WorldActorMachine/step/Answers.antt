@@ -4,8 +4,8 @@ use Rattle.net_base.specs.Net.{played}
 use Rattle.net_actors.specs.Kept.{state_of}
 use Rattle.net_actors.specs.Small.{IsSmall}
 use Rattle.guest_laws.specs.Named.{named}
-use Rattle.actor_machines.proofs.Works.{as_many, led_to, plays, ready_named}
-use Rattle.actor_machines.proofs.machine.WorldActorMachine.step.Goals as goal
+use Rattle.net_locks.proofs.Works.{as_many, led_to, plays, ready_named}
+use Rattle.net_locks.proofs.machine.WorldActorMachine.step.Goals as goal
 
 -- few works led to the state
 pub step-requires-clause-small : goal.step-requires-clause-small

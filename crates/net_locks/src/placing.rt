@@ -9,7 +9,7 @@ pub trait Placing {
 }
 
 impl Placing for Brand {
-    ghost use Rattle.actor_machines.specs.Placed.{no_world};
+    ghost use Rattle.net_locks.specs.Placed.{no_world};
 
     ghost world = { no_world };
 }

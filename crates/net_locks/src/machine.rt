@@ -80,7 +80,7 @@ impl<P: Placing> Machine for WorldActor<P> {
 }
 
 /// An actor to which nothing has happened, behind its lock.
-pub fn locked<J: Naming + Placing>(actor: Actor, book: Book<J>) -> Locked<J, WorldActor<J>>
+pub(crate) fn locked<J: Naming + Placing>(actor: Actor, book: Book<J>) -> Locked<J, WorldActor<J>>
     requires of { IsActorOf J.world actor }
     requires opening { state_of actor ≡ opening_actor J.world.timers actor.name }
     requires name { actor.name ≡ book.actor }
