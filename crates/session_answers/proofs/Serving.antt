@@ -12,10 +12,11 @@ use Rattle.sessions.specs.Answers.{Found}
 use Rattle.sessions.specs.Files.{access, is_cs, is_plain}
 use Rattle.sessions.specs.Script.{close_step, cs_step, fid_name, gives_nothing, is_query, open_step, opens, read_count, read_step, reads, room, step_of, write_step}
 use Rattle.sessions.specs.Server.{Doing, Gives, outcome}
-use Rattle.sessions.specs.Session.{State, by_last, serves_by, told}
+use Rattle.sessions.specs.Session.{State, told}
 use Rattle.sessions.specs.declared.target.Target.{Target}
 use Rattle.sessions.specs.Table.{Table, used}
 use Rattle.session_answers.specs.Served.{IsServed, Plays, served}
+use Rattle.session_answers.specs.Told.{by_last, serves_by}
 
 -- ---- the steps of sessions are of a few kinds
 

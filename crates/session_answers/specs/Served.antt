@@ -14,9 +14,10 @@ use Rattle.script_task.specs.declared.request.Request.TheVariants as request
 use Rattle.session_script.specs.Seen.{seen}
 use Rattle.sessions.specs.Script.{Begins, IsStream, after}
 use Rattle.sessions.specs.Server.{Answered, Doing, Outcome, Waits, answers_to, doing_of, outcome}
-use Rattle.sessions.specs.Session.{State, session}
+use Rattle.sessions.specs.Session.{State}
 use Rattle.session_answers.specs.declared.session.Session.{Session}
 use Rattle.session_answers.specs.Found.{lines_by}
+use Rattle.session_answers.specs.Told.{session}
 
 -- what a session knows, as the definitions have it
 abbrev pub state_of : Session → State
