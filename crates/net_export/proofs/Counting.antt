@@ -14,8 +14,8 @@ use Rattle.net_base.specs.Callers.{Caller, IsScript, caller_of, other_caller}
 use Rattle.net_base.specs.Duties.{Duty, duties}
 use Rattle.net_base.specs.Legal.{IsAsked, IsLegal, MayFollow, Shown, Shows, asked_by}
 use Rattle.net_base.specs.Net.{Net, after, net_after, next_net, owed, step_of, work_of}
-use Rattle.net_base.specs.Next.{next_of, own_replies}
-use Rattle.net_base.specs.Steps.{Ask, position}
+use Rattle.net_base.specs.Next.{next_of, own_replies, standing, zone_of}
+use Rattle.net_base.specs.Steps.{Ask, no_names}
 use Rattle.history_laws.proofs.Histories.{after_push, by_entries}
 use Rattle.history_laws.proofs.Ordered.{Each, each_append}
 use Rattle.history_laws.proofs.StepEvents.{IsNextEvent}
@@ -49,12 +49,12 @@ next_free s None x free is = absurd (none-some _ is)
 next_free s (Some ask) x free is = subst (λ (a : Ask). IsFree a.event) (same_Some ask (asked_by x) is) free
 
 -- its first duty, or its next event
-asked_free : (ds : List Duty) (k : Caller) (s : Script) (h : List Entry) (c : ℕ) (x : Entry) → k ≡ IsScript s → Each IsFreeDuty ds
-    → IsAsked ds k (next_of k h c) x → IsFree x.event
-asked_free (d ∷ ds) k s h c x script free is = subst (λ (a : Ask). IsFree a.event) is free.0
-asked_free [] k s h c x script free is =
-    next_free s (position s.host s.steps [] (own_replies h c)).next x (script_free s (own_replies h c))
-    (subst (λ (l : Caller). IsAsked [] l (next_of l h c) x) script is)
+asked_free : (w : World) (ds : List Duty) (k : Caller) (s : Script) (h : List Entry) (c : ℕ) (x : Entry) → k ≡ IsScript s → Each IsFreeDuty ds
+    → IsAsked ds k (next_of w k h c) x → IsFree x.event
+asked_free w (d ∷ ds) k s h c x script free is = subst (λ (a : Ask). IsFree a.event) is free.0
+asked_free w [] k s h c x script free is =
+    next_free s (standing w h c s).next x (script_free s (no_names (zone_of w)) (own_replies h c))
+    (subst (λ (l : Caller). IsAsked [] l (next_of w l h c) x) script is)
 
 -- An entry more.
 
@@ -98,9 +98,9 @@ pushed w c below h x may kept false other = ap (λ (ds : List Duty). length ds) 
 pushed w c below h x may kept true own =
     let script = script_at w c below in
     let same : x.caller ≡ c = eqb-true x.caller c own in
-    let asked : IsAsked (owed w h c) (caller_of w c) (next_of (caller_of w c) h c) x =
-    subst (λ (d : ℕ). IsAsked (owed w h d) (caller_of w d) (next_of (caller_of w d) h d) x) same may.is_asked in
-    let free : IsFree x.event = asked_free (owed w h c) (caller_of w c) script.0 h c x script.1 kept.free asked in
+    let asked : IsAsked (owed w h c) (caller_of w c) (next_of w (caller_of w c) h c) x =
+    subst (λ (d : ℕ). IsAsked (owed w h d) (caller_of w d) (next_of w (caller_of w d) h d) x) same may.is_asked in
+    let free : IsFree x.event = asked_free w (owed w h c) (caller_of w c) script.0 h c x script.1 kept.free asked in
     by_itself w (after w h) x c (step_of w (after w h) x) refl own free may.answers may.is_ready
     ∙ ap (λ (n : ℕ). (n - 1) + brought w x) kept.count
 

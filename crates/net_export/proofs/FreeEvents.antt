@@ -22,9 +22,9 @@ use Rattle.net_base.specs.ActorStep.{Step}
 use Rattle.net_base.specs.Actors.{Actor, IsConv}
 use Rattle.net_base.specs.Duties.{Duty, duties, put_by, emitted_put, close_calls, follow_up, forwarded, courier_duty, tick_at, ticks, has_come, due_of, conversations, release}
 use Rattle.net_base.specs.Routes.{Way, way, has_address}
-use Rattle.net_base.specs.Steps.{clone_path, lines_in, position}
+use Rattle.net_base.specs.Steps.{Names, call_names, clone_path, lines_in, position}
 use Rattle.history_laws.proofs.Ordered.{Each, each_any, each_append, each_flat_map}
-use Rattle.history_laws.proofs.StepEvents.{Fits, IsNextEvent, IsOpened, IsOwn, Says, next_event}
+use Rattle.history_laws.proofs.StepEvents.{Fits, IsNamed, IsNextEvent, IsOpened, IsOwn, Says, next_event}
 
 -- no copy is taken, and the clock doesn't move
 abbrev pub IsFree : Event → Type 0
@@ -134,9 +134,12 @@ says_free h (step.Listen called from) = ((tt, tt), (tt, tt))
 says_free h (step.Accept called from) = ((tt, tt), (tt, tt))
 says_free h (step.Reject called) = (tt, tt)
 says_free h (step.Hangup called) = (tt, tt)
+says_free h (step.Hread called count) = ((tt, tt), each_any (λ (called : List ℕ). IsNamed h FreeAt called) (λ called. (tt, tt)) call_names)
+says_free h (step.Hwrite called bytes) = ((tt, tt), each_any (λ (called : List ℕ). IsNamed h FreeAt called) (λ called. (tt, tt)) call_names)
+says_free h (step.Dns called times) = ((tt, tt), each_any (λ (called : List ℕ). IsNamed h FreeAt called) (λ called. (tt, tt)) call_names)
 
 -- whatever it was replied
-pub script_free : (s : Script) (rs : List Reply) → IsNextEvent FreeAt (position s.host s.steps [] rs).next
-script_free s rs =
-    next_event s.host FreeAt AnyReply fits_free s.steps [] rs
+pub script_free : (s : Script) (names : Names) (rs : List Reply) → IsNextEvent FreeAt (position s.host s.steps names rs).next
+script_free s names rs =
+    next_event s.host FreeAt AnyReply fits_free s.steps names rs
     (each_any (λ (x : ScriptStep). Says s.host FreeAt x) (says_free s.host) s.steps) (each_any AnyReply (λ r. tt) rs)

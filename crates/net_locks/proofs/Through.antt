@@ -14,9 +14,9 @@ use Rattle.net_base.specs.declared.world.World.{World}
 use Rattle.net_base.specs.Callers.{Caller, IsScript, caller_count, caller_of, other_caller}
 use Rattle.net_base.specs.Calm.{unfinished}
 use Rattle.net_base.specs.Net.{Net}
-use Rattle.net_base.specs.Next.{is_unfinished, next_of}
+use Rattle.net_base.specs.Next.{is_unfinished, next_of, zone_of}
 use Rattle.net_base.specs.Stamped.{In}
-use Rattle.net_base.specs.Steps.{Names, Stand, Asking, Finished, play_of, position, position_by, stands}
+use Rattle.net_base.specs.Steps.{Names, Stand, Asking, Finished, no_names, play_of, position, position_by, stands}
 use Rattle.journal.specs.declared.law.Roster.{Roster}
 use Rattle.journal.specs.declared.tokens.Sight.{Sight}
 use Rattle.guest_laws.specs.Works.{entries, noted_net}
@@ -106,15 +106,15 @@ module _ (w : World) (r : Roster) (p : Sight) (ss : List Standing) (stand : AllS
   net = noted_net w p.seen
 
   -- a script is unfinished where its standing has something next
-  unfinished_so : (s : Standing) → StandsAt w r p s → (script : Script) → slice_get w.scripts s.caller ≡ Some script → is_unfinished net.past s.caller script ≡ is_some s.next
+  unfinished_so : (s : Standing) → StandsAt w r p s → (script : Script) → slice_get w.scripts s.caller ≡ Some script → is_unfinished w net.past s.caller script ≡ is_some s.next
   unfinished_so s st script is =
       let caller : caller_of w s.caller ≡ IsScript script = ap (λ (o : Option Script). option_map_or (λ (t : Script). IsScript t) o (other_caller w s.caller)) is in
       ap (λ (h : List Entry). is_unfinished w h s.caller script) past
-      ∙ (left_is script.host script.steps [] _
+      ∙ (left_is script.host script.steps (no_names (zone_of w)) _
       ∙ (ap (λ (k : Caller). is_some (next_of w k (entries p.seen) s.caller)) (sym caller) ∙ (ap is_some (sym st.next_is) ∙ mapped s.next)))
 
   abbrev unfinished_at : ℕ × Script → Bool
-  unfinished_at s = is_unfinished net.past s.0 s.1
+  unfinished_at s = is_unfinished w net.past s.0 s.1
 
   -- no script is unfinished where none has something left
   pub all_through : list_any (has_left (length w.scripts)) ss ≡ false → unfinished w net ≡ false
@@ -127,7 +127,7 @@ module _ (w : World) (r : Roster) (p : Sight) (ss : List Standing) (stand : AllS
       let at : slice_get w.scripts s.0.caller ≡ Some script = ap (slice_get w.scripts) s.2 ∙ is in
       let first : nat_lt s.0.caller (length w.scripts) ≡ true = lt-ltb s.0.caller (length w.scripts) (within w.scripts s.0.caller script at) in
       let here : s.0.caller ≡ 0 + k = omega (arith, s.2) in
-      subst (λ (i : ℕ). is_unfinished net.past i script ≡ false) here
+      subst (λ (i : ℕ). is_unfinished w net.past i script ≡ false) here
       (unfinished_so s.0 st script at
       ∙ and_second (nat_lt s.0.caller (length w.scripts)) (is_some s.0.next) (unpassed (has_left (length w.scripts)) ss none s.0 s.1) first))
 
@@ -138,4 +138,4 @@ module _ (w : World) (r : Roster) (p : Sight) (ss : List Standing) (stand : AllS
       let script = some_there w.scripts s.0.caller (ltb-true s.0.caller (length w.scripts) both.0) in
       let here : s.0.caller ≡ 0 + s.0.caller = omega arith in
       some_of unfinished_at w.scripts 0 s.0.caller script.0 script.1
-      (subst (λ (i : ℕ). is_unfinished net.past i script.0 ≡ true) here (unfinished_so s.0 (stand.each s.0 s.1) script.0 script.1 ∙ both.1))
+      (subst (λ (i : ℕ). is_unfinished w net.past i script.0 ≡ true) here (unfinished_so s.0 (stand.each s.0 s.1) script.0 script.1 ∙ both.1))

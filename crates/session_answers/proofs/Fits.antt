@@ -13,11 +13,12 @@ use Rattle.ninep_wire.specs.declared.request.Tmsg.{Tmsg}
 use Rattle.ninep_wire.specs.declared.request.Tmsg.TheVariants as t
 use Rattle.ninep_wire.specs.Fields.{qid}
 use Rattle.ninep_wire.specs.Messages.{IsTmsg, longest, r_bytes, r_fields, r_qids, t_tag}
-use Rattle.sessions.specs.Answers.{Found, attach_answer, bad_fid, bad_mode, bad_use, bytes_in, found_answer, granted, is_granting, node_at, not_served, of_known, of_used, open_answer, piece, longest_text, printed, read_answer, replied, reply_text, said, skipped, spoken, version_answer, walk_answer}
+use Rattle.sessions.specs.Answers.{Found, attach_answer, bad_fid, bad_mode, bad_use, bytes_in, found_answer, granted, is_granting, node_at, not_served, of_known, of_used, open_answer, piece, longest_text, read_answer, said, skipped, spoken, version_answer, walk_answer}
 use Rattle.sessions.specs.declared.target.Target.{Target}
 use Rattle.sessions.specs.Files.{can_open, is_cs, qid_of, step_to, walked}
 use Rattle.sessions.specs.Script.{begins, gives_nothing, nofid, room}
 use Rattle.sessions.specs.Table.{Table, is_taken}
+use Rattle.session_answers.specs.Told.{told_by, told_text}
 
 -- the fields of the answer have room behind a header, and its qids are few
 abbrev Fits : Rmsg → Type 0
@@ -147,10 +148,12 @@ granted_short table (t.Remove tag fid) x short = error_fits tag not_served (omeg
 granted_short table (t.Stat tag fid) x short = error_fits tag not_served (omega arith)
 granted_short table (t.Wstat tag fid stat) x short = error_fits tag not_served (omega arith)
 
-replied_short : (table : Table) (m : Tmsg) (x : Reply) → table.msize ≤ longest → Fits (replied table m x)
-replied_short table m x short =
-    either (is_granting x) (granted table m x) (r.Error (t_tag m) (printed x)) (granted_short table m x short)
-    (error_fits (t_tag m) (printed x) (took_few longest_text (reply_text x)))
+told_short : (table : Table) (m : Tmsg) (x : Reply) → table.msize ≤ longest → (is_granting x ≡ false → length (told_text x) ≤ longest_text) → Fits (told_by table m x)
+told_short table m x short few = by (is_granting x) few
+  where
+    by : (v : Bool) → (v ≡ false → length (told_text x) ≤ longest_text) → Fits (cond v (granted table m x) (r.Error (t_tag m) (told_text x)))
+    by true few = granted_short table m x short
+    by false few = error_fits (t_tag m) (told_text x) (few refl)
 
 whole_short : (m : Rmsg) → length (r_fields m) ≤ 8209 → length (r_bytes m) ≤ longest
 unfolding r_bytes
@@ -162,8 +165,8 @@ said_fits table found m answer short is same =
     let fits : Fits answer = subst Fits (sym same) (said_short table found m short is) in
     (whole_short answer fits.0, fits.1)
 
-pub replied_fits : (table : Table) (m : Tmsg) (x : Reply) (answer : Rmsg) → table.msize ≤ longest → answer ≡ replied table m x
-    → (length (r_bytes answer) ≤ longest) × (length (r_qids answer) < 17)
-replied_fits table m x answer short same =
-    let fits : Fits answer = subst Fits (sym same) (replied_short table m x short) in
+pub replied_fits : (table : Table) (m : Tmsg) (x : Reply) (answer : Rmsg) → table.msize ≤ longest → answer ≡ told_by table m x
+    → (is_granting x ≡ false → length (told_text x) ≤ longest_text) → (length (r_bytes answer) ≤ longest) × (length (r_qids answer) < 17)
+replied_fits table m x answer short same few =
+    let fits : Fits answer = subst Fits (sym same) (told_short table m x short few) in
     (whole_short answer fits.0, fits.1)

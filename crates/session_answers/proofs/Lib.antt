@@ -3,3 +3,5 @@ mod Walks
 mod Fits
 mod Answering
 mod Serving
+mod Short
+mod Told

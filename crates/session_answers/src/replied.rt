@@ -1,8 +1,9 @@
 //! The answers to messages with a step, by the reply to its last event.
-ghost use Rattle.std.specs.Prelude.{◌≡◌, IfOk};
+ghost use Rattle.std.specs.Prelude.{◌≡◌, ◌≤◌, false, length, IfOk, OnOk};
 ghost use Rattle.ninep_wire.specs.declared.request.Tmsg.TheVariants as t;
 ghost use Rattle.ninep_wire.specs.Messages.{IsTmsg, t_tag};
 ghost use Rattle.sessions.specs.Answers as spec;
+ghost use Rattle.session_answers.specs.Told.{told_by, told_text};
 ghost use Rattle.session_script.specs.Seen.{seen};
 
 use crate::printed::printed;
@@ -20,7 +21,8 @@ pub fn replied(
     reply: &Reply,
 ) -> Result<Rmsg, AllocError>
     requires { IsTmsg message.now }
-    ensures { IfOk result (λ m. m ≡ spec.replied (seen table.now) message.now reply.now) }
+    ensures told { IfOk result (λ m. m ≡ told_by (seen table.now) message.now reply.now) }
+    ensures short { OnOk result (spec.is_granting reply.now ≡ false → length (told_text reply.now) ≤ spec.longest_text) }
 {
     if is_granting(reply) {
         return granted(alloc, table, message, reply);
