@@ -1,5 +1,5 @@
 -- A brief reply is short: a number has at most 20 digits.
-use Rattle.std.proofs.Common.{◌≡◌, ◌≤◌, ◌<◌, ℕ, zero, suc, ◌+◌, ◌/◌, ◌%◌, ◌^◌, ◌&&◌, Bool, true, false, List, [], ◌∷◌, ◌++◌, length, map, refl, ap, ◌∙◌, arith, length-append}
+use Rattle.std.proofs.Common.{◌≡◌, ◌≤◌, ◌<◌, ℕ, zero, suc, ◌+◌, ◌/◌, ◌%◌, ◌^◌, ◌&&◌, Bool, true, false, List, [], ◌∷◌, ◌++◌, length, map, refl, sym, ap, subst, ◌∙◌, arith, append_assoc, length-append}
 use Rattle.std.specs.Prelude.{codes}
 use Rattle.std.specs.Int.Digits.{digits_of}
 use Rattle.std.specs.List.{list_all}
@@ -23,12 +23,17 @@ length_shown : (ds : List ℕ) → length (map (λ digit. 48 + digit) ds) ≡ le
 length_shown [] = refl
 length_shown (d ∷ ds) = omega (arith, length_shown ds)
 
-few_digits : (k n : ℕ) → 0 < k → n < 10 ^ k → length (numeral n) ≤ k
+few_shown : (k n : ℕ) → length (digits_of 10 (suc n)) ≤ k → length (numeral (suc n)) ≤ k
 unfolding numeral
-few_digits k zero some lt = omega (arith, some)
-few_digits k (suc n) some lt =
-    let few : length (digits_of 10 (suc n)) ≤ k = length-digits_of-le k 10 (suc n) (omega arith) lt in
-    omega (arith, few, length_shown (digits_of 10 (suc n)))
+few_shown k n few = subst (λ (m : ℕ). m ≤ k) (sym (length_shown (digits_of 10 (suc n)))) few
+
+none_shown : (k : ℕ) → 0 < k → length (numeral zero) ≤ k
+unfolding numeral
+none_shown k some = omega (arith, some)
+
+few_digits : (k n : ℕ) → 0 < k → n < 10 ^ k → length (numeral n) ≤ k
+few_digits k zero some lt = none_shown k some
+few_digits k (suc n) some lt = few_shown k n (length-digits_of-le 10 k (suc n) (omega arith) lt)
 
 short_word : (word : List ℕ) → length word ≤ 100 → is_short word ≡ true
 short_word word few = grind (arith, nat_tests)
@@ -45,16 +50,23 @@ dotted : (a b c d : List ℕ) → length a ≤ 10 → length b ≤ 10 → length
 dotted a b c d one two three four =
     omega (arith, one, two, three, four, length-append c (46 ∷ d), length-append b (46 ∷ (c ++ 46 ∷ d)), length-append a (46 ∷ (b ++ 46 ∷ (c ++ 46 ∷ d))))
 
+ip_is : (ip : ℕ) → ip_word ip ≡ numeral (ip / 2 ^ 24) ++ 46 ∷ (numeral (ip / 2 ^ 16 % 256) ++ 46 ∷ (numeral (ip / 2 ^ 8 % 256) ++ 46 ∷ numeral (ip % 256)))
+ip_is ip = simp append_assoc refl
+
 ip_few : (ip : ℕ) → ip < 2 ^ 32 → length (ip_word ip) ≤ 43
 ip_few ip lt =
-    dotted (numeral (ip / 2 ^ 24)) (numeral (ip / 2 ^ 16 % 256)) (numeral (ip / 2 ^ 8 % 256)) (numeral (ip % 256))
-    (ten_digits (ip / 2 ^ 24) (omega (arith, lt))) (ten_digits (ip / 2 ^ 16 % 256) (omega arith)) (ten_digits (ip / 2 ^ 8 % 256) (omega arith)) (ten_digits (ip % 256) (omega arith))
+    subst (λ (word : List ℕ). length word ≤ 43) (sym (ip_is ip))
+    (dotted (numeral (ip / 2 ^ 24)) (numeral (ip / 2 ^ 16 % 256)) (numeral (ip / 2 ^ 8 % 256)) (numeral (ip % 256))
+    (ten_digits (ip / 2 ^ 24) (omega (arith, lt))) (ten_digits (ip / 2 ^ 16 % 256) (omega arith)) (ten_digits (ip / 2 ^ 8 % 256) (omega arith)) (ten_digits (ip % 256) (omega arith)))
+
+addr_is : (a : Addr) → addr_word a ≡ ip_word a.ip ++ 33 ∷ numeral a.port
+unfolding addr_word
+addr_is a = simp append_assoc refl
 
 addr_short : (a : Addr) → a.ip < 2 ^ 32 → a.port < 2 ^ 16 → is_short (addr_word a) ≡ true
-unfolding addr_word
 addr_short a ip port =
-    short_word (ip_word a.ip ++ codes "!" ++ numeral a.port)
-    (omega (arith, ip_few a.ip ip, ten_digits a.port (omega (arith, port)), length-append (ip_word a.ip) (33 ∷ numeral a.port)))
+    subst (λ (word : List ℕ). is_short word ≡ true) (sym (addr_is a))
+    (short_word (ip_word a.ip ++ 33 ∷ numeral a.port) (omega (arith, ip_few a.ip ip, ten_digits a.port (omega (arith, port)), length-append (ip_word a.ip) (33 ∷ numeral a.port))))
 
 -- ---- replies
 

@@ -10,10 +10,10 @@ use Rattle.session_answers.proofs.answers.answers_by.Goals as goal
 
 pub loop-replies-init : goal.loop-replies-init
 loop-replies-init c = record {
-  so_far = begun c.args.host c.args.bytes.now (answered_of c.args.owes c.args.entries.now c.args.caller) c.new-replies.result (state_of c.new-session.result) c.new-answers.result
-      c.new-session.ensures.state c.new-answers.ensures c.new-replies.ensures;
-  sound = subst (λ (s : State). IsSound s.table) (sym c.new-session.ensures.state) opening_sound;
-  host = c.new-session.ensures.host;
+  so_far = begun c.args.host c.args.bytes.now (answered_of c.args.owes c.args.entries.now c.args.caller) c.new-replies.result (state_of c.in_ok-session.session) c.new-answers.result
+      c.in_ok-session.ensures.state c.new-answers.ensures c.new-replies.ensures;
+  sound = subst (λ (s : State). IsSound s.table) (sym c.in_ok-session.ensures.state) opening_sound;
+  host = c.in_ok-session.ensures.host;
 }
 
 -- the first message of what is left has its answer
