@@ -37,5 +37,5 @@ module _ (zone : Tuples) (total n : ℕ) (old new : List Visit) (v : Visit) (len
     len_is = omega (arith, shorter, deals.len_is, ap length next);
   }
 
-pub all_dealt : (total n : ℕ) (left : List Visit) (len : ℕ) → Dealing zone total n left len → len ≡ 0 → n ≡ total
-all_dealt total n left len deals none = omega (arith, none, deals.many, deals.len_is)
+pub all_dealt : (zone : Tuples) (total n : ℕ) (left : List Visit) (len : ℕ) → Dealing zone total n left len → len ≡ 0 → n ≡ total
+all_dealt zone total n left len deals none = omega (arith, none, deals.many, deals.len_is)

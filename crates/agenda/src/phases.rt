@@ -18,10 +18,10 @@ ghost use Rattle.agenda.specs.Ending.{EndAllSo};
 
 use crate::deal::{Deal, deal_of};
 use crate::outcome::{BookedRun, Run, RunError};
-use actor_machines::{Placing, WorldActor};
 use host_net::{Advance, Guest, Net, NetOpened, Player, Players};
 use journal::Naming;
 use net_base::World;
+use net_locks::{Placing, WorldActor};
 use net_model::legal_histories_keep_it;
 use outside::Gate;
 use run_record::RunEnd;

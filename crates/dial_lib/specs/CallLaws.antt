@@ -96,7 +96,7 @@ module _ (h : ℕ) (called : List ℕ) (next : Next) where
   heads_at : (names : Names) (o : Option Fid) → fid_of called names ≡ o → AreFree names
       → Heads h names (Some (begins_at called o)) (on_fid o (uses h called names) (λ (f : Fid). takes_call h f (Ends names) (next names)))
   heads_at names None is free = (_, refl, refl)
-  heads_at names (Some f) is free = opens_head h names call_name f file.Listen (Ends names) _ free.call_free (slot_of called names f free.slots is) refl
+  heads_at names (Some f) is free = opens_head h names call_name f file.Listen (Ends names) (call_play h next names) free.call_free (slot_of called names f free.slots is) refl
 
   heads_fresh : (names : Names) (o : Option (List ℕ)) → taken_name names ≡ o → HaveSlots names
       → Heads h names (Some (begins_by called names o))
@@ -112,11 +112,13 @@ module _ (h : ℕ) (called : List ℕ) (next : Next) where
   call_heads own reads _ _ _ _ _ (IsData base p n g remote local free low) =
       opens_head h (taken_names base p n g) data_name (call_fid p n g) file.Data (shuts_call h base p n g) (opened_play h next base (call_fid p n g)) free.data_free low refl
   call_heads own reads _ _ _ _ _ (IsRemote base p n g k remote local free low) =
-      told_head h (open_names base p n g k) remote_name p n g file.Remote (shuts_data h base p n g k) _ free.remote_free low refl
+      told_head h (open_names base p n g k) remote_name p n g file.Remote (shuts_data h base p n g k)
+      (told_by h base p n g k file.Remote (λ (a : Addr). local_play h next base p n g k a)) free.remote_free low refl
   call_heads own reads _ _ _ _ _ (IsTellRemote base p n g k j remote local free low) = (_, refl, refl)
   call_heads own reads _ _ _ _ _ (IsCloseRemote base p n g k j remote local free low) = (_, refl, refl)
   call_heads own reads _ _ _ _ _ (IsLocal base p n g k remote local free low) =
-      told_head h (open_names base p n g k) local_name p n g file.Local (shuts_data h base p n g k) _ free.local_free low refl
+      told_head h (open_names base p n g k) local_name p n g file.Local (shuts_data h base p n g k)
+      (told_by h base p n g k file.Local (λ (a : Addr). next base (call_fid p n g) (data_fid p n k) remote a)) free.local_free low refl
   call_heads own reads _ _ _ _ _ (IsTellLocal base p n g k j remote local free) = (_, refl, refl)
   call_heads own reads _ _ _ _ _ (IsCloseLocal base p n g k j remote local free) = (_, refl, refl)
   call_heads own reads _ _ _ _ _ (IsRead base p n g k remote local free) = reads base p n g k remote local

@@ -62,30 +62,42 @@ asks_by phase.ShutData called own names = Some (closes data_name)
 asks_by phase.ShutCall called own names = Some (closes call_name)
 asks_by phase.Through called own names = None
 
+-- the file that is closed in a phase, in those that close one
+abbrev pub closes_by : CallPhase → Option Request
+closes_by phase.CloseRemote = Some (closes remote_name)
+closes_by phase.CloseLocal = Some (closes local_name)
+closes_by phase.LeaveData = Some (closes data_name)
+closes_by phase.LeaveCall = Some (closes call_name)
+closes_by phase.ShutRemote = Some (closes remote_name)
+closes_by phase.ShutLocal = Some (closes local_name)
+closes_by phase.ShutData = Some (closes data_name)
+closes_by phase.ShutCall = Some (closes call_name)
+closes_by _ = None
+
 -- Phases.
 
 abbrev pub if_so : Bool → CallPhase → CallPhase → CallPhase
 if_so b is is_not = if b then is else is_not
 
--- where something is refused, what is open is closed; `read` follows a read
+-- where something is refused, what is open is closed; a phase follows a read
 abbrev pub phase_after : CallPhase → CallPhase → Reply → CallPhase
-phase_after phase.Fresh read r = if_so (is_opening r) phase.Data phase.Through
-phase_after phase.Data read r = if_so (is_opening r) phase.Remote phase.ShutCall
-phase_after phase.Remote read r = if_so (is_opening r) phase.TellRemote phase.ShutData
-phase_after phase.TellRemote read r = if_so (is_accepted r) phase.CloseRemote phase.ShutRemote
-phase_after phase.CloseRemote read r = if_so (is_accepted r) phase.Local phase.ShutData
-phase_after phase.Local read r = if_so (is_opening r) phase.TellLocal phase.ShutData
-phase_after phase.TellLocal read r = if_so (is_accepted r) phase.CloseLocal phase.ShutLocal
-phase_after phase.CloseLocal read r = if_so (is_accepted r) phase.Read phase.ShutData
-phase_after phase.Read read r = if_so (is_accepted r) read phase.ShutData
-phase_after phase.Answer read r = if_so (is_accepted r) phase.LeaveData phase.ShutData
-phase_after phase.LeaveData read r = if_so (is_accepted r) phase.LeaveCall phase.ShutCall
-phase_after phase.LeaveCall read r = phase.Through
-phase_after phase.ShutRemote read r = phase.ShutData
-phase_after phase.ShutLocal read r = phase.ShutData
-phase_after phase.ShutData read r = phase.ShutCall
-phase_after phase.ShutCall read r = phase.Through
-phase_after phase.Through read r = phase.Through
+phase_after phase.Fresh follows r = if_so (is_opening r) phase.Data phase.Through
+phase_after phase.Data follows r = if_so (is_opening r) phase.Remote phase.ShutCall
+phase_after phase.Remote follows r = if_so (is_opening r) phase.TellRemote phase.ShutData
+phase_after phase.TellRemote follows r = if_so (is_accepted r) phase.CloseRemote phase.ShutRemote
+phase_after phase.CloseRemote follows r = if_so (is_accepted r) phase.Local phase.ShutData
+phase_after phase.Local follows r = if_so (is_opening r) phase.TellLocal phase.ShutData
+phase_after phase.TellLocal follows r = if_so (is_accepted r) phase.CloseLocal phase.ShutLocal
+phase_after phase.CloseLocal follows r = if_so (is_accepted r) phase.Read phase.ShutData
+phase_after phase.Read follows r = if_so (is_accepted r) follows phase.ShutData
+phase_after phase.Answer follows r = if_so (is_accepted r) phase.LeaveData phase.ShutData
+phase_after phase.LeaveData follows r = if_so (is_accepted r) phase.LeaveCall phase.ShutCall
+phase_after phase.LeaveCall follows r = phase.Through
+phase_after phase.ShutRemote follows r = phase.ShutData
+phase_after phase.ShutLocal follows r = phase.ShutData
+phase_after phase.ShutData follows r = phase.ShutCall
+phase_after phase.ShutCall follows r = phase.Through
+phase_after phase.Through follows r = phase.Through
 
 -- who called, and whom, as far as it was told
 abbrev pub remote_after : CallPhase → Reply → Addr → Addr

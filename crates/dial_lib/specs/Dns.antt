@@ -1,5 +1,5 @@
 -- Answering questions: the requests, the phases, and the play that they stand for.
-use Rattle.std.specs.Prelude.{◌≡◌, ℕ, zero, suc, ◌-◌, ◌&&◌, true, nat_lt, List, [], ◌∷◌, Option, Some, None, if◌then◌else◌}
+use Rattle.std.specs.Prelude.{◌≡◌, ℕ, zero, suc, ◌-◌, ◌&&◌, Bool, true, false, nat_lt, List, [], ◌∷◌, Option, Some, None, if◌then◌else◌}
 use Rattle.net_base.specs.declared.address.Addr.{Addr}
 use Rattle.net_base.specs.declared.address.Proto.{Proto}
 use Rattle.net_base.specs.declared.event.Event.TheVariants as event
@@ -39,10 +39,14 @@ asks t names = asks_by t.phase t.name t.message names
 abbrev pub read_phase : List ℕ → CallPhase
 read_phase message = calls.if_so (is_answered message) phase.Answer phase.LeaveData
 
+-- a call is closed, and nothing else of it is open
+abbrev pub is_last : CallPhase → Bool
+is_last phase.LeaveCall = true
+is_last _ = false
+
 -- where calls are left, the next one is taken when one is closed
 abbrev pub phase_by : CallPhase → ℕ → Reply → CallPhase
-phase_by phase.LeaveCall more r = calls.if_so (is_accepted r && nat_lt 0 more) phase.Fresh phase.Through
-phase_by ph more r = calls.phase_after ph (read_phase (bytes_in r)) r
+phase_by ph more r = calls.if_so (is_last ph && (is_accepted r && nat_lt 0 more)) phase.Fresh (calls.phase_after ph (read_phase (bytes_in r)) r)
 
 abbrev pub phase_after : Dns → Reply → CallPhase
 phase_after t r = phase_by t.phase t.more r

@@ -110,18 +110,29 @@ pub(crate) fn asked(
     ensures { IfOk result (λ asked. asked ≡ spec.asks_by phase name.now read fids.now.names) }
 {
     match phase {
+        CallPhase::Read => Ok(read),
+        CallPhase::Answer => Ok(read),
+        _ => asked_else(alloc, phase, name, fids),
+    }
+}
+
+// What is asked for in another phase.
+fn asked_else(
+    alloc: Global,
+    phase: CallPhase,
+    name: &Octets,
+    fids: &Names,
+) -> Result<Option<Request>, AllocError>
+    ensures { IfOk result (λ asked. asked ≡ spec.asks_by phase name.now None fids.now.names) }
+{
+    match phase {
         CallPhase::Fresh => Ok(Some(begin(alloc, name, fids)?)),
         CallPhase::Data => Ok(Some(open(alloc, fids, b".d", FileName::Data, Mode::Both)?)),
         CallPhase::Remote => Ok(Some(open(alloc, fids, b".r", FileName::Remote, Mode::Read)?)),
         CallPhase::TellRemote => Ok(Some(tell(alloc, b".r")?)),
         CallPhase::Local => Ok(Some(open(alloc, fids, b".l", FileName::Local, Mode::Read)?)),
         CallPhase::TellLocal => Ok(Some(tell(alloc, b".l")?)),
-        CallPhase::Read | CallPhase::Answer => Ok(read),
-        CallPhase::CloseRemote | CallPhase::ShutRemote => Ok(Some(close(alloc, b".r")?)),
-        CallPhase::CloseLocal | CallPhase::ShutLocal => Ok(Some(close(alloc, b".l")?)),
-        CallPhase::LeaveData | CallPhase::ShutData => Ok(Some(close(alloc, b".d")?)),
-        CallPhase::LeaveCall | CallPhase::ShutCall => Ok(Some(close(alloc, b".c")?)),
-        CallPhase::Through => Ok(None),
+        _ => closed(alloc, phase),
     }
 }
 
@@ -143,6 +154,19 @@ fn begin(alloc: Global, name: &Octets, fids: &Names) -> Result<Request, AllocErr
         None => Ok(Request::Unbound {
             name: name.clone()?,
         }),
+    }
+}
+
+// The file that is closed in a phase, in those that close one.
+fn closed(alloc: Global, phase: CallPhase) -> Result<Option<Request>, AllocError>
+    ensures { IfOk result (λ asked. asked ≡ spec.closes_by phase) }
+{
+    match phase {
+        CallPhase::CloseRemote | CallPhase::ShutRemote => Ok(Some(close(alloc, b".r")?)),
+        CallPhase::CloseLocal | CallPhase::ShutLocal => Ok(Some(close(alloc, b".l")?)),
+        CallPhase::LeaveData | CallPhase::ShutData => Ok(Some(close(alloc, b".d")?)),
+        CallPhase::LeaveCall | CallPhase::ShutCall => Ok(Some(close(alloc, b".c")?)),
+        _ => Ok(None),
     }
 }
 

@@ -65,11 +65,18 @@ impl Dns {
     fn phase_after(&self, reply: &Reply) -> CallPhase
         ensures { result ≡ spec.phase_after self.now reply.now }
     {
-        match self.phase {
-            CallPhase::LeaveCall if is_accepted(reply) && 0 < self.more => CallPhase::Fresh,
-            phase => phase.after(read_phase(bytes_in(reply)), reply),
+        if is_last(self.phase) && is_accepted(reply) && 0 < self.more {
+            return CallPhase::Fresh;
         }
+        self.phase.after(read_phase(bytes_in(reply)), reply)
     }
+}
+
+// Whether a call is closed, and nothing else of it is open.
+fn is_last(phase: CallPhase) -> bool
+    ensures { result ≡ spec.is_last phase }
+{
+    matches!(phase, CallPhase::LeaveCall)
 }
 
 // What is done with what was read.
@@ -116,7 +123,7 @@ impl Task for Dns {
         let phase = self.phase_after(&reply);
         match self.phase {
             CallPhase::Read => self.message = taken_bytes(alloc, reply),
-            CallPhase::LeaveCall if self.more != 0 => self.more -= 1,
+            CallPhase::LeaveCall => self.more = self.more.saturating_sub(1),
             _ => {}
         }
         self.phase = phase;

@@ -297,13 +297,17 @@ module _ (h : ℕ) (P : ActorName → Event → Type 0) (R : Reply → Type 0) (
       tt
 
   answered_so : (names : Names) (text : List ℕ) (data_file : Fid) → IsNamed h P call_name → Good (answers h names text data_file)
-  answered_so names text data_file named =
-      (fits.other (conversation_of h data_file) (event.Write data_file.generation text) tt, λ r fine.
-      (fits.other (conversation_of h data_file) (event.Close data_file.generation) tt, λ s fine.
-      bound call_name (unbind data_name names)
-      (λ (call : Fid). ends_with (conversation_of h call) (event.Close call.generation) (unbind call_name (unbind data_name names)))
-      named
-      (λ call. ending (conversation_of h call) (event.Close call.generation) (unbind call_name (unbind data_name names)) (fits.other (conversation_of h call) (event.Close call.generation) tt))))
+  answered_so names text data_file named = (
+    fits.other (conversation_of h data_file) (event.Write data_file.generation text) tt,
+    λ r fine. (
+      fits.other (conversation_of h data_file) (event.Close data_file.generation) tt,
+      λ s fine.
+          bound call_name (unbind data_name names)
+          (λ (call : Fid). ends_with (conversation_of h call) (event.Close call.generation) (unbind call_name (unbind data_name names)))
+          named
+          (λ call. ending (conversation_of h call) (event.Close call.generation) (unbind call_name (unbind data_name names)) (fits.other (conversation_of h call) (event.Close call.generation) tt)),
+    ),
+  )
 
   leaving : (call data_file : Fid) (refused next : Play) → Good refused → Good next → Good (leaves_call h call data_file refused next)
   leaving call data_file refused next f g =

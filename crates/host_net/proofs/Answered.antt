@@ -38,7 +38,7 @@ use Rattle.net_guests.specs.Visits.{Visit}
 
 -- One player.
 
-module _ {T : Type 0} (Plays : Script → List Reply → Names → T → Type 0) (w : World) (v : Visit) (t : T) (lost : Bool) (before : ℕ)
+module _ {T : Type 0} (Plays : Tuples → Script → List Reply → Names → T → Type 0) (w : World) (v : Visit) (t : T) (lost : Bool) (before : ℕ)
     (is : IsCounted Plays w v t lost before) where
   -- what is owed belongs to the step of its last own event
   pub answered_owing : not (length v.owed == 0) ≡ true → IsAnswered w v before

@@ -53,7 +53,7 @@ module _ (w : World) (old new : Visit) (same : IsSame old new) (h : ℕ) (q : Re
       let rec = is.takes in
       ap (fits is.ask.event) rec.reply ∙ fits_there w is.ask.actor keeps fit rec.past old.now (bare is.ask.event) rec.step rec.stepped
 
-module _ {T : Type 0} (Plays : Script → List Reply → Names → T → Type 0) (w : World) where
+module _ {T : Type 0} (Plays : Tuples → Script → List Reply → Names → T → Type 0) (w : World) where
   -- where the own replies and the names stay
   pub counts_stay : (old new : Visit) (t : T) (lost : Bool) (before : ℕ) → IsCounted Plays w old t lost before → new.caller ≡ old.caller → new.names ≡ old.names
       → own_replies (entries new.sight.seen) old.caller ≡ own_replies (entries old.sight.seen) old.caller → IsCounted Plays w new t lost before

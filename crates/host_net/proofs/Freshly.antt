@@ -4,12 +4,14 @@ use Rattle.std.proofs.Common.{filter, Option, Some, None, if◌then◌else◌, r
 use Rattle.std.specs.Option.{option_map_or}
 use Rattle.std.proofs.lemmas.Bool.{true≢false}
 use Rattle.std.proofs.lemmas.Bool.Decides.{nat_tests}
-use Rattle.net_base.specs.Versions.{Tuples}
 use Rattle.net_base.specs.declared.noted.Number.TheVariants as number
 use Rattle.net_base.specs.declared.world.Script.{Script}
+use Rattle.net_base.specs.declared.world.Version.{Version}
 use Rattle.net_base.specs.declared.world.World.{World}
 use Rattle.net_base.specs.Callers.{Caller, IsClock, IsCourier, IsNobody, IsScript, clock_number, first_courier, other_caller}
 use Rattle.net_base.specs.Stamped.{In}
+use Rattle.net_base.specs.Versions.{Tuples, are_timed}
+use Rattle.net_base.specs.World.{IsWorld}
 use Rattle.journal.specs.Rule.{Held, caller_numbers, same_number}
 use Rattle.net_guests.specs.Visits.{AreFresh, IsFresh, Visit}
 
@@ -68,6 +70,16 @@ fresh_last zone n [] v are = (tt, subst (λ (k : ℕ). IsFresh zone k v) (omega 
 fresh_last zone n (x ∷ vs) v are =
     let rest = fresh_last zone (n + 1) vs v are.1 in
     ((are.0, rest.0), subst (λ (k : ℕ). IsFresh zone k v) (omega arith) rest.1)
+
+-- Databases.
+
+timed_some : (vs : List Version) → are_timed vs ≡ true → 0 < length vs
+timed_some [] timed = absurd (true≢false (sym timed))
+timed_some (v ∷ vs) timed = omega arith
+
+-- a world has a version of its database
+pub some_versions : (w : World) (vs : List Version) → IsWorld w → vs ≡ w.dbs → 0 < length vs
+some_versions w vs is same = subst (λ (l : List Version). 0 < length l) (sym same) (timed_some w.dbs is.versions_timed)
 
 -- Scripts.
 

@@ -76,7 +76,7 @@ before_last rs = take (length rs - 1) rs
 
 -- unless a reply was lost for want of memory, the task of a script plays it after all its own replies; before the last of
 -- them so many of its steps were finished
-pub record IsCounted {T : Type 0} (Plays : Script → List Reply → Names → T → Type 0) (w : World) (v : Visit) (t : T) (lost : Bool)
+pub record IsCounted {T : Type 0} (Plays : Tuples → Script → List Reply → Names → T → Type 0) (w : World) (v : Visit) (t : T) (lost : Bool)
     (before : ℕ) : Type 0 where
   pub plays : (s : Script) → caller_of w v.caller ≡ IsScript s → lost ≡ false → Plays (zone_of w) s (replies_of v) v.names t
   pub before_is : (s : Script) → caller_of w v.caller ≡ IsScript s → before ≡ finished_by (zone_of w) (before_last (replies_of v)) s

@@ -2,8 +2,8 @@
 ghost use Rattle.net_guests.specs.Visits.{Gathers};
 
 use crate::guest::Guest;
-use actor_machines::Placing;
 use journal::{Journal, Naming, Pass};
+use net_locks::Placing;
 
 // Takes the passes of the guests in.
 pub(crate) fn gather<J: Naming + Placing>(

@@ -11,11 +11,11 @@ ghost use Rattle.guest_laws.specs.Guests.{IsGuest};
 ghost use Rattle.net_guests.specs.Visits.{IsFresh, IsWith, Visit};
 ghost use Rattle.net_locks.specs.Turns.{own};
 
-use actor_machines::Placing;
 use due_moments::Touched;
 use journal::{Journal, Naming, Pass};
 use ndb_versions::IndexedVersions;
 use net_guests::Bundle;
+use net_locks::Placing;
 use script_task::Names;
 use std::alloc::{AllocError, Global};
 use std::marker::Model;

@@ -19,14 +19,15 @@ ghost use Rattle.net_locks.specs.Turns.{bare};
 
 use crate::finishing::gather;
 use crate::guest::Guest;
-use actor_machines::{Placing, WorldActor};
 use guest_laws::histories_of_guests_are_legal;
 use journal::{ClosedBooks, Journal, Naming, Pass};
 use locked::Machine;
 use ndb_versions::IndexedVersions;
 use net_base::{History, World};
 use net_guests::first_spot;
-use net_locks::{Advance, Locks, NetOpened, Spot, Standing, Turn, caller_count};
+use net_locks::{
+    Advance, Locks, NetOpened, Placing, Spot, Standing, Turn, WorldActor, caller_count,
+};
 use outside::Gate;
 use script_task::Request;
 use std::alloc::{AllocError, Global};

@@ -14,11 +14,10 @@ ghost use Rattle.host_net.specs.declared.player.Role.TheVariants as role;
 
 use crate::guest::Guest;
 use crate::net::Net;
-use actor_machines::{Placing, WorldActor};
 use guest_laws::{guests_begin, locks_keep_actors};
 use journal::Naming;
 use net_base::{ActorName, Reply, World};
-use net_locks::{Spot, Turn};
+use net_locks::{Placing, Spot, Turn, WorldActor};
 use outside::Gate;
 use script_task::replies_fit;
 use std::alloc::Global;

@@ -1,5 +1,5 @@
 -- A machine as the fold of its step, and what a call on it says.
-use Rattle.std.specs.Prelude.{◌≡◌, ℕ, false, List, [], ◌∷◌, ◌++◌, length, map, Option, Some, None, option_map}
+use Rattle.std.specs.Prelude.{◌≡◌, ◌⊎◌, ℕ, false, List, [], ◌∷◌, ◌++◌, length, map, Option, Some, None, option_map}
 use mathlib.Core.List.{IsPrefix}
 use Rattle.net_base.specs.declared.actor.ActorName.{ActorName}
 use Rattle.net_base.specs.declared.actor.ActorName.TheVariants as name
@@ -27,6 +27,10 @@ left_by s (Some t) = t.state
 -- the outcome whose copy has gone into the entry
 abbrev pub without_copy : Outcome → Outcome
 without_copy o = record { reply = o.reply; copy = None; emit = o.emit; taken = o.taken; ended = o.ended }
+
+-- the actor isn't the clock, or the pass holds every caller's number
+abbrev pub IsTimely : Roster → ActorName → Sight → Type 0
+IsTimely r a p = (same_actor a name.Clock ≡ false) ⊎ HoldsAll r p
 
 -- the entry of a call, with its work
 abbrev pub made : ActorName → ℕ → ℕ → Work → Option ℕ → Outcome → Noted

@@ -1,14 +1,13 @@
 //! What a lock guards: a machine beside the book that says how its state came about.
 ghost use Rattle.std.specs.Prelude.{◌≡◌, ℕ, ◌<◌, ◌^◌, List, length, true, false, Some, is_some, option_map, IfOk, OnErr, IfErr, MatchOption};
-ghost use Rattle.net_base.specs.declared.actor.ActorName.TheVariants.{Clock};
 ghost use Rattle.net_base.specs.declared.noted.Noted.{Noted};
-ghost use Rattle.net_base.specs.Stamped.{same_actor, moment};
-ghost use Rattle.journal.specs.Tokens.{Holds, HoldsAll, LookedWith};
-ghost use Rattle.locked.specs.Acts.{Acted, Leaves, Stands, state_at, made, without_copy};
+ghost use Rattle.net_base.specs.Stamped.{moment};
+ghost use Rattle.journal.specs.Tokens.{Holds, LookedWith, MayRecord, Recorded, noted};
+ghost use Rattle.locked.specs.Acts.{Acted, IsTimely, Leaves, Stands, state_at, made, without_copy};
 
 use crate::machine::Machine;
 use journal::{Book, Journal, Naming, Pass};
-use net_base::{ActorName, Entry, Event, Outcome, Work};
+use net_base::{ActorName, Entry, Event, Outcome, Work, same_actor};
 use outside::Gate;
 use std::alloc::AllocError;
 use std::marker::Model;
@@ -64,7 +63,8 @@ impl<J: Naming, M: Machine> Guarded<J, M> {
         self.book.actor()
     }
 
-    /// One event at the actor by the caller, with a copy of it that the entry keeps. The gate is called before the record.
+    /// One event at the actor by the caller, with a copy of it that the entry keeps. The actor isn't the clock, or the pass
+    /// holds every caller's number. The gate is called before the record.
     pub fn act<G: Gate>(
         &mut self,
         journal: &Journal<J>,
@@ -80,7 +80,7 @@ impl<J: Naming, M: Machine> Guarded<J, M> {
         requires room { (es : List (ℕ × Noted)) × Holds pass.old caller es × (length es < 131072) }
         requires moment { now ≡ moment pass.old.seen }
         requires now { now < 2 ^ 63 }
-        requires actor { same_actor self.old.actor Clock ≡ false }
+        requires timely { IsTimely J.run.roster self.old.actor pass.old }
         ensures acted { Acted M.begin M.answer J.run.roster self.old.actor caller now work.now cites
             pass.old result pass.new }
         ensures book { Leaves self.old.actor caller now work.now cites self.old result pass.new self.new }
@@ -101,51 +101,7 @@ impl<J: Naming, M: Machine> Guarded<J, M> {
         ) {
             Ok((entry, outcome)) => {
                 gate.at(2 * self.book.number());
-                let stamp = journal.record(&mut self.book, pass, entry, work);
-                Answer::Done { stamp, outcome }
-            }
-            Err(AllocError) => Answer::Memory,
-        }
-    }
-
-    /// The same at the clock, by a pass that holds every caller's number.
-    pub fn act_clock<G: Gate>(
-        &mut self,
-        journal: &Journal<J>,
-        gate: &G,
-        pass: &mut Pass<J>,
-        caller: u32,
-        now: u64,
-        work: &Work,
-        event: Event,
-        cites: Option<u64>,
-    ) -> Answer
-        requires copy { event ≡ work.now.event }
-        requires room { (es : List (ℕ × Noted)) × Holds pass.old caller es × (length es < 131072) }
-        requires moment { now ≡ moment pass.old.seen }
-        requires now { now < 2 ^ 63 }
-        requires all { HoldsAll J.run.roster pass.old }
-        ensures acted { Acted M.begin M.answer J.run.roster self.old.actor caller now work.now cites
-            pass.old result pass.new }
-        ensures book { Leaves self.old.actor caller now work.now cites self.old result pass.new self.new }
-        ensures actor { (self.new.actor ≡ self.old.actor) × (self.new.number ≡ self.old.number) }
-    {
-        if !self.machine.ready(now, work) {
-            let front = journal.look_with(&mut self.book, pass);
-            return Answer::NotReady { front };
-        }
-        match prepare(
-            &mut self.machine,
-            &mut self.book,
-            caller,
-            now,
-            work,
-            event,
-            cites,
-        ) {
-            Ok((entry, outcome)) => {
-                gate.at(2 * self.book.number());
-                let stamp = journal.record_clock(&mut self.book, pass, entry, work);
+                let stamp = record(journal, &mut self.book, pass, entry, work);
                 Answer::Done { stamp, outcome }
             }
             Err(AllocError) => Answer::Memory,
@@ -243,4 +199,24 @@ fn prepare<J: Naming, M: Machine>(
         ended,
     };
     Ok((entry, outcome))
+}
+
+// Records an entry at its actor, which isn't the clock, or by a pass that holds every caller's number.
+fn record<J: Naming>(
+    journal: &Journal<J>,
+    book: &mut Book<J>,
+    pass: &mut Pass<J>,
+    entry: Entry,
+    work: &Work,
+) -> u64
+    requires room { 0 < book.old.room }
+    requires may { MayRecord pass.old book.old (noted entry work.now) }
+    requires timely { IsTimely J.run.roster entry.actor pass.old }
+    ensures { Recorded J.run.roster book.old pass.old (noted entry work.now) result book.new pass.new }
+{
+    if same_actor(entry.actor, ActorName::Clock) {
+        journal.record_clock(book, pass, entry, work)
+    } else {
+        journal.record(book, pass, entry, work)
+    }
 }

@@ -4,7 +4,7 @@ ghost use Rattle.net_base.specs.declared.actor.ActorName.TheVariants.{Clock};
 ghost use Rattle.net_base.specs.declared.noted.Noted.{Noted};
 ghost use Rattle.net_base.specs.Stamped.{same_actor, moment};
 ghost use Rattle.journal.specs.Tokens.{Holds, HoldsAll, Looked};
-ghost use Rattle.locked.specs.Acts.{Acted, Stands, state_at};
+ghost use Rattle.locked.specs.Acts.{Acted, IsTimely, Stands, state_at};
 
 use crate::guarded::{Answer, Guarded, View};
 use crate::machine::Machine;
@@ -67,22 +67,7 @@ impl<J: Naming, M: Machine> Locked<J, M> {
         ensures { Acted M.begin M.answer J.run.roster self.now.actor caller now work.now cites
             pass.old result pass.new }
     {
-        // The copy that the entry keeps is made before the lock is taken.
-        let Ok(event) = work.event.clone() else {
-            return Answer::Memory;
-        };
-        let answer = {
-            let mut guard = self.take(rt);
-            let guarded = &mut *guard;
-            // Nothing is known of what lies behind a lock but its type, so the actor is compared here. It is always this one.
-            if same_actor(guarded.actor(), self.actor) {
-                guarded.act(journal, gate, pass, caller, now, work, event, cites)
-            } else {
-                Answer::Memory
-            }
-        };
-        self.leave(gate, &answer);
-        answer
+        self.act_timely(rt, journal, gate, pass, caller, now, work, cites)
     }
 
     /// One event at the clock, by a pass that holds every caller's number.
@@ -104,6 +89,28 @@ impl<J: Naming, M: Machine> Locked<J, M> {
         ensures { Acted M.begin M.answer J.run.roster self.now.actor caller now work.now cites
             pass.old result pass.new }
     {
+        self.act_timely(rt, journal, gate, pass, caller, now, work, cites)
+    }
+
+    // One event at the actor, which isn't the clock, or by a pass that holds every caller's number.
+    fn act_timely<R: Wait, G: Gate>(
+        &self,
+        rt: &R,
+        journal: &Journal<J>,
+        gate: &G,
+        pass: &mut Pass<J>,
+        caller: u32,
+        now: u64,
+        work: &Work,
+        cites: Option<u64>,
+    ) -> Answer
+        requires room { (es : List (ℕ × Noted)) × Holds pass.old caller es × (length es < 131072) }
+        requires moment { now ≡ moment pass.old.seen }
+        requires now { now < 2 ^ 63 }
+        requires timely { IsTimely J.run.roster self.now.actor pass.old }
+        ensures { Acted M.begin M.answer J.run.roster self.now.actor caller now work.now cites
+            pass.old result pass.new }
+    {
         // The copy that the entry keeps is made before the lock is taken.
         let Ok(event) = work.event.clone() else {
             return Answer::Memory;
@@ -111,8 +118,9 @@ impl<J: Naming, M: Machine> Locked<J, M> {
         let answer = {
             let mut guard = self.take(rt);
             let guarded = &mut *guard;
+            // Nothing is known of what lies behind a lock but its type, so the actor is compared here. It is always this one.
             if same_actor(guarded.actor(), self.actor) {
-                guarded.act_clock(journal, gate, pass, caller, now, work, event, cites)
+                guarded.act(journal, gate, pass, caller, now, work, event, cites)
             } else {
                 Answer::Memory
             }

@@ -119,17 +119,13 @@ is_granting (reply.Count n) = true
 is_granting (reply.Lines lines) = true
 is_granting _ = false
 
--- the reply as a history prints it
-abbrev pub reply_text : Reply → List ℕ
-reply_text x = drop 1 (spaced (reply_words x))
-
 -- the text of an error has room in a message
 abbrev pub longest_text : ℕ
 longest_text = 8192
 
--- the reply, cut where it has no room; what refuses a session's events are a few short words, which are told whole
+-- the reply as a history prints it
 abbrev pub printed : Reply → List ℕ
-printed x = take longest_text (reply_text x)
+printed x = drop 1 (spaced (reply_words x))
 
 -- what was opened: of clone and listen it is the ctl file of the slot
 abbrev pub now_open : Node → Reply → Node

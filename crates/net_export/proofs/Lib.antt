@@ -3,3 +3,6 @@ pub mod Lengths
 pub mod Counting
 pub mod Placing
 pub mod SessionAnswers
+pub mod SessionEvents
+pub mod ToldReplies
+pub mod SessionReplies

@@ -9,39 +9,41 @@ use Rattle.net_base.specs.declared.world.Script.{Script}
 use Rattle.net_base.specs.declared.world.World.{World}
 use Rattle.net_base.specs.Calm.{owes}
 use Rattle.net_base.specs.Net.{after}
+use Rattle.net_base.specs.Next.{own_replies}
 use Rattle.net_base.specs.declared.ninep.Tmsg.{Tmsg}
 use Rattle.session_answers.specs.Served.{answered_of}
+use Rattle.session_answers.specs.Told.{AreTold}
 use Rattle.sessions.specs.declared.world.Session.{Session}
 use Rattle.net_base.specs.SessionScript.{AreMessages}
 use Rattle.net_base.specs.Server.{answers_to}
-use Rattle.net_base.specs.Session.{first, session}
-use Rattle.sessions.specs.InHistory.{answers}
+use Rattle.net_base.specs.Session.{answers, first, session}
 use Rattle.net_export.specs.Answered.{AreAnswersOf, AreAnswersTo, ArePlayed, IsPlayed}
 use Rattle.net_export.proofs.Placing.{in_all}
 
 -- the lines answer the messages by these replies
 abbrev pub AreBy : ℕ → List ℕ → Bool → List Entry → ℕ → List (List ℕ) → Type 0
-AreBy host bytes owing h c lines = (ms : List Tmsg) → AreMessages bytes ms → lines ≡ answers_to (session host) first ms (answered_of owing h c)
+AreBy host bytes owing h c lines = (ms : List Tmsg) → AreMessages bytes ms → AreTold (own_replies h c) → lines ≡ answers_to (session host) first ms (answered_of owing h c)
 
 -- .. and in the history
 abbrev pub AreIn : World → List ℕ → List Entry → ℕ → List (List ℕ) → Type 0
 AreIn w bytes h c lines = (ms : List Tmsg) (s : Script) → AreMessages bytes ms → slice_get w.scripts c ≡ Some s → lines ≡ answers w s.host ms c h
 
-are_in : (w : World) (h : List Entry) (bytes : List ℕ) (c host : ℕ) (owing : Bool) (lines : List (List ℕ)) → owing ≡ owes (after w h) c
+are_in : (w : World) (h : List Entry) (bytes : List ℕ) (c host : ℕ) (owing : Bool) (lines : List (List ℕ)) → owing ≡ owes (after w h) c → AreTold (own_replies h c)
     → ((s : Script) → slice_get w.scripts c ≡ Some s → host ≡ s.host)
     → AreBy host bytes owing h c lines → AreIn w bytes h c lines
-are_in w h bytes c host owing lines owed hosts by ms s are stands =
-    by ms are
+are_in w h bytes c host owing lines owed told hosts by ms s are stands =
+    by ms are told
     ∙ (ap (λ (n : ℕ). answers_to (session n) first ms (answered_of owing h c)) (hosts s stands)
     ∙ ap (λ (b : Bool). answers_to (session s.host) first ms (answered_of b h c)) owed)
 
 -- the entries are those of the history
 pub in_history : {E : Type 0} (w : World) (entries h : List Entry) (bytes : List ℕ) (c host : ℕ) (owing : Bool) (r : Result (List (List ℕ)) E)
-    → entries ≡ h → owing ≡ owes (after w entries) c
+    → entries ≡ h → owing ≡ owes (after w entries) c → AreTold (own_replies h c)
     → ((s : Script) → slice_get w.scripts c ≡ Some s → host ≡ s.host) → IfOk r (AreBy host bytes owing entries c) → IfOk r (AreIn w bytes h c)
-in_history w entries h bytes c host owing r same owed hosts by =
+in_history w entries h bytes c host owing r same owed told hosts by =
+    let entries_told : AreTold (own_replies entries c) = subst (λ (k : List Entry). AreTold (own_replies k c)) (sym same) told in
     subst (λ (k : List Entry). IfOk r (AreIn w bytes k c)) same
-    (IfOk-weaker r (AreBy host bytes owing entries c) (AreIn w bytes entries c) (λ lines. are_in w entries bytes c host owing lines owed hosts) by)
+    (IfOk-weaker r (AreBy host bytes owing entries c) (AreIn w bytes entries c) (λ lines. are_in w entries bytes c host owing lines owed entries_told hosts) by)
 
 -- A session of the world.
 

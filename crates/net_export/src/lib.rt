@@ -12,6 +12,6 @@ mod translated;
 
 pub use answering::{answers, answers_by_caller};
 pub use export::{Export, ExportPhase};
-pub use law::{sessions_are_played, what_is_owed_is_counted};
+pub use law::{session_replies_are_told, sessions_are_played, what_is_owed_is_counted};
 pub use session_script::{ExportError, script_of};
 pub use translated::translate;

@@ -1,5 +1,5 @@
 //! The world that a world with sessions is translated to.
-ghost use Rattle.std.specs.Prelude.{◌≡◌, ◌<◌, List, length, OnOk};
+ghost use Rattle.std.specs.Prelude.{◌≡◌, ◌<◌, List, [], length, OnOk, OnErr};
 ghost use Rattle.net_base.specs.declared.world.Step.{Step as AnyStep};
 ghost use Rattle.net_base.specs.World.{IsWorld};
 ghost use Rattle.net_export.specs.Placed.{PutsSession};
@@ -12,13 +12,14 @@ use sessions::{Session, SessionWorld};
 use std::alloc::{AllocError, Global};
 use std::mem;
 
-/// Puts the script of each session in its place.
+/// Puts the script of each session in its place. Without memory the world is left without scripts.
 pub fn translate(alloc: Global, told: &mut SessionWorld) -> Result<(), AllocError>
     requires world { IsWorld told.old.world }
     requires streams { HaveStreams told.old }
     ensures translated { OnOk result (IsTranslated told.old told.new.world) }
     ensures world { OnOk result (IsWorld told.new.world) }
     ensures sessions { told.new.sessions ≡ told.old.sessions }
+    ensures err { OnErr result (told.new.world ≡ record told.old.world { scripts = [] }) }
 {
     let mut scripts = mem::replace(&mut told.world.scripts, Sequence::new(alloc)).into_vec();
     for session in told.sessions.as_slice() {

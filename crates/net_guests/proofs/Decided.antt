@@ -1,6 +1,5 @@
 -- What was decided of the clock's guest.
-use Rattle.std.proofs.Common.{◌≡◌, ℕ, ◌^◌, ◌<◌, ◌≤◌, ◌==◌, nat_le, true, false, List, [], Option, refl, ap, sym, subst, ◌∙◌, arith}
-use Rattle.std.proofs.lemmas.Bool.{and_parts, leb-true}
+use Rattle.std.proofs.Common.{◌≡◌, ℕ, ◌==◌, false, List, [], Option, Some, None, refl, ap, sym, subst, ◌∙◌}
 use Rattle.net_base.specs.declared.actor.ActorName.TheVariants as name
 use Rattle.net_base.specs.declared.event.Event.TheVariants as event
 use Rattle.net_base.specs.declared.history.Entry.{Entry}
@@ -9,23 +8,22 @@ use Rattle.net_base.specs.Callers.{Caller, IsClock, caller_of}
 use Rattle.net_base.specs.Calm.{target}
 use Rattle.net_base.specs.Duties.{Duty}
 use Rattle.net_base.specs.Legal.{IsAsked}
-use Rattle.net_base.specs.Stamped.{at, moment}
+use Rattle.net_base.specs.Stamped.{at}
 use Rattle.net_base.specs.Steps.{Ask, Names}
-use Rattle.net_base.specs.World.{is_moment}
 use Rattle.journal.specs.declared.law.Roster.{Roster}
 use Rattle.journal.specs.declared.tokens.Sight.{Sight}
-use Rattle.due_moments.specs.Marks.{Covers, Marks}
+use Rattle.due_moments.specs.Marks.{Marks}
 use Rattle.guest_laws.specs.Guests.{IsGuest}
 use Rattle.guest_laws.specs.Own.{AreNext, AreTimely}
 use Rattle.guest_laws.specs.Works.{noted_net}
 use Rattle.net_locks.specs.declared.clock.Advance.{Advance}
 use Rattle.net_locks.specs.declared.clock.Advance.TheVariants as advance
 use Rattle.net_locks.specs.declared.calendar.Calendar.{Calendar}
-use Rattle.net_locks.specs.Knowing.{IsKnown}
 use Rattle.net_guests.specs.Deciding.{Decided, Leaves, Moves, net_of}
-use Rattle.net_locks.specs.Moving.{Keeps, LeavesMoved, MayMove}
-use Rattle.net_locks.specs.Turns.{Stays, own}
-use Rattle.net_guests.specs.Visits.{IsVisit, IsWith, Visit}
+use Rattle.net_locks.specs.declared.visitor.Bearer.{Bearer}
+use Rattle.net_locks.specs.Moving.{Keeps, LeavesMoved, MayGo, MayMove}
+use Rattle.net_locks.specs.Turns.{Stays}
+use Rattle.net_guests.specs.Visits.{IsHosted, IsWith, Visit}
 use Rattle.net_guests.proofs.Operating.{visit}
 use Rattle.net_guests.proofs.Passes.{stays_on}
 
@@ -139,19 +137,37 @@ module _ (w : World) (r : Roster) (c now : ℕ) (p q : Sight) (ds : List Duty) (
             now_is = refl;
           })
 
--- a guest as it was, but for what it knows of due moments
-pub visit_same : (w : World) (r : Roster) (c now : ℕ) (p p' : Sight) (ds ds' : List Duty) (host : ℕ) (m : Marks) (k k' : Calendar) → p' ≡ p → ds' ≡ ds
-    → IsKnown w p'.seen k' → IsVisit w r c now p ds host m k → IsVisit w r c now p' ds' host m k'
-visit_same w r c now p p' ds ds' host m k k' sight owed known is =
-    record {
-      guest = subst (λ (l : List Duty). IsGuest w r c p' l) (sym owed) (subst (λ (s : Sight). IsGuest w r c s ds) (sym sight) is.guest);
-      here = is.here ∙ ap (λ (s : Sight). moment s.seen) (sym sight);
-      early = is.early;
-      home = is.home;
-      covers = subst (λ (s : Sight). Covers (own c s) m) (sym sight) is.covers;
-      known = known;
-    }
+-- By its bearer, which was looked at first.
+module _ {J : Type 0} (w : World) (r : Roster) (b h : Bearer J) (ds : List Duty) (names : Names) (clock : caller_of w b.caller ≡ IsClock) (same : h ≡ b) where
+  pub halted : (answer : Advance) → Keeps w (noted_net w b.pass.seen) answer
+      → Leaves w r (visit b.caller b.now b.pass ds names) answer (visit h.caller h.now h.pass ds names)
+  halted answer keeps =
+      subst (λ (x : Bearer J). Leaves w r (visit b.caller b.now b.pass ds names) answer (visit x.caller x.now x.pass ds names)) (sym same)
+      (leaves_kept w r b.caller b.now b.pass b.pass ds names clock refl b.pass refl answer keeps)
 
--- the moment of a world's end is early
-pub early_end : (m end : ℕ) → is_moment end ≡ true → m ≤ end → m < 2 ^ 63
-early_end m end is le = omega (arith, le, leb-true end 1000000000 (and_parts (nat_le 1 end) (nat_le end 1000000000) is).1)
+  pub held : (host : ℕ) (t : Marks) (k : Calendar) → IsHosted w r b.caller b.now b.pass ds host t k → IsHosted w r h.caller h.now h.pass ds host t k
+  held host t k is = subst (λ (x : Bearer J). IsHosted w r x.caller x.now x.pass ds host t k) (sym same) is
+
+  pub held_may : MayMove w b.caller b.pass → MayMove w h.caller h.pass
+  held_may may = subst (λ (x : Bearer J). MayMove w x.caller x.pass) (sym same) may
+
+  module _ (b' : Bearer J) (ds' : List Duty) (caller : b'.caller ≡ h.caller) where
+    by_caller : (answer : Advance) (n : ℕ) → b'.now ≡ n → Leaves w r (visit b.caller b.now b.pass ds names) answer (visit b.caller n b'.pass ds' names)
+        → Leaves w r (visit b.caller b.now b.pass ds names) answer (visit b'.caller b'.now b'.pass ds' names)
+    by_caller answer n at leaves =
+        subst (λ (c : ℕ). Leaves w r (visit b.caller b.now b.pass ds names) answer (visit c b'.now b'.pass ds' names))
+        (sym (caller ∙ ap (λ (x : Bearer J). x.caller) same))
+        (subst (λ (m : ℕ). Leaves w r (visit b.caller b.now b.pass ds names) answer (visit b.caller m b'.pass ds' names)) (sym at) leaves)
+
+    pub unmoved : b'.now ≡ h.now → MayGo w r h.caller h.now h.pass ds None b'.pass ds'
+        → Leaves w r (visit b.caller b.now b.pass ds names) advance.Memory (visit b'.caller b'.now b'.pass ds' names)
+    unmoved now go =
+        let still = subst (λ (x : Bearer J). MayGo w r x.caller x.now x.pass ds None b'.pass ds') same go in
+        by_caller advance.Memory b.now (now ∙ ap (λ (x : Bearer J). x.now) same)
+        (leaves_none w r b.caller b.now b.pass b.pass ds names clock refl b'.pass ds' still.0 still.1)
+
+    pub gone : (m : ℕ) → b'.now ≡ m → MayMove w b.caller b.pass → MayGo w r h.caller h.now h.pass ds (Some m) b'.pass ds'
+        → Leaves w r (visit b.caller b.now b.pass ds names) (advance.Moved m) (visit b'.caller b'.now b'.pass ds' names)
+    gone m now may go =
+        let moved = subst (λ (x : Bearer J). MayGo w r x.caller x.now x.pass ds (Some m) b'.pass ds') same go in
+        by_caller (advance.Moved m) m now (leaves_gone w r b.caller b.now b.pass b.pass ds names clock refl b'.pass ds' m may moved.0 moved.1)

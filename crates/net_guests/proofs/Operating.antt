@@ -1,6 +1,8 @@
 -- A guest after its turn, and what a request did.
-use Rattle.std.proofs.Common.{◌≡◌, ℕ, List, [], Some, None, refl, ap, ◌∙◌}
+use Rattle.std.proofs.Common.{◌≡◌, ℕ, List, [], Some, None, refl, ap, sym, ◌∙◌}
+use Rattle.net_base.specs.declared.world.Script.{Script}
 use Rattle.net_base.specs.declared.world.World.{World}
+use Rattle.net_base.specs.Callers.{IsScript, caller_of}
 use Rattle.net_base.specs.Duties.{Duty}
 use Rattle.net_base.specs.Steps.{Ask, Names}
 use Rattle.journal.specs.declared.tokens.Sight.{Sight}
@@ -13,14 +15,13 @@ use Rattle.net_locks.specs.declared.turn.Turn.{Turn}
 use Rattle.net_locks.specs.declared.turn.Turn.TheVariants as turn
 use mathlib.Core.List.{IsPrefix}
 use Rattle.net_base.specs.declared.noted.Noted.{Noted}
-use Rattle.net_base.specs.Stamped.{moment}
 use Rattle.journal.specs.declared.law.Roster.{Roster}
-use Rattle.due_moments.specs.Marks.{Covers, Marks}
-use Rattle.guest_laws.specs.Guests.{IsGuest}
 use Rattle.net_locks.specs.declared.calendar.Calendar.{Calendar}
 use Rattle.net_locks.specs.Knowing.{IsKnown}
-use Rattle.net_locks.specs.Turns.{Turned, bare, own}
-use Rattle.net_guests.specs.Visits.{IsVisit, Operated, Visit, names_after, settled_by}
+use Rattle.net_locks.specs.Turns.{Turned, bare}
+use Rattle.net_locks.specs.declared.visitor.Visitor.{Visitor}
+use Rattle.net_locks.specs.Visitors.{IsVisitor}
+use Rattle.net_guests.specs.Visits.{IsHosted, Operated, Visit, names_after, settled_by}
 
 abbrev pub visit : ℕ → ℕ → Sight → List Duty → Names → Visit
 visit c now p ds names = record { caller = c; now = now; sight = p; owed = ds; names = names }
@@ -35,11 +36,11 @@ same_visit c now p p' ds ds' names names' sight owed called =
 abbrev pub StaysKnown : World → Type 0
 StaysKnown w = (log log' : List Noted) (k : Calendar) → IsPrefix log log' → IsKnown w log k → IsKnown w log' k
 
-pub visit_on : (w : World) (r : Roster) (c now : ℕ) (p p' : Sight) (ds ds' : List Duty) (host : ℕ) (m m' : Marks) (k : Calendar)
-    → StaysKnown w → IsVisit w r c now p ds host m k → IsGuest w r c p' ds' → now ≡ moment p'.seen → Covers (own c p') m' → IsPrefix p.seen p'.seen
-    → IsVisit w r c now p' ds' host m' k
-visit_on w r c now p p' ds ds' host m m' k stays is guest here covers grows =
-    record { guest = guest; here = here; early = is.early; home = is.home; covers = covers; known = stays p.seen p'.seen k grows is.known }
+-- a guest whose caller is the same keeps its host
+pub hosted_on : {J : Type 0} (w : World) (r : Roster) (v v' : Visitor J) (host : ℕ) → v'.bearer.caller ≡ v.bearer.caller
+    → ((s : Script) → caller_of w v.bearer.caller ≡ IsScript s → s.host ≡ host) → IsVisitor w r v'
+    → IsHosted w r v'.bearer.caller v'.bearer.now v'.bearer.pass v'.duties.list host v'.touched v'.calendar
+hosted_on w r v v' host caller home is = record { visit = is; home = λ s at. home s (ap (caller_of w) (sym caller) ∙ at) }
 
 -- the turn of a request that was planned
 pub operated : (w : World) (h : ℕ) (q : Request) (c now : ℕ) (p p' : Sight) (ds ds' : List Duty) (names names' : Names) (ask : Ask) (t : Turn) → ds ≡ []

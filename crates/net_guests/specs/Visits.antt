@@ -1,5 +1,5 @@
 -- What contracts see of a guest, and what its turns do.
-use Rattle.std.specs.Prelude.{◌≡◌, ◌≢◌, ℕ, true, ◌+◌, ◌<◌, ◌^◌, ◌⊎◌, List, [], ◌∷◌, map, Option, Some, None}
+use Rattle.std.specs.Prelude.{◌≡◌, ◌≢◌, ℕ, true, ◌+◌, ◌⊎◌, List, [], ◌∷◌, map, Option, Some, None}
 use Rattle.net_base.specs.declared.actor.ActorName.{ActorName}
 use Rattle.net_base.specs.declared.history.Entry.{Entry}
 use Rattle.net_base.specs.declared.history.Work.{Work}
@@ -11,7 +11,7 @@ use Rattle.net_base.specs.Callers.{IsScript, caller_of}
 use Rattle.net_base.specs.Duties.{Duty}
 use Rattle.net_base.specs.Legal.{IsLegal, IsTimed}
 use Rattle.net_base.specs.Net.{owed}
-use Rattle.net_base.specs.Stamped.{In, moment, of_actor, of_caller}
+use Rattle.net_base.specs.Stamped.{In, of_actor, of_caller}
 use Rattle.net_base.specs.Steps.{Ask, Names, no_names}
 use Rattle.net_base.specs.Versions.{Tuples}
 use Rattle.journal.specs.declared.law.Roster.{Roster}
@@ -24,12 +24,13 @@ use Rattle.script_task.specs.Effects.{opened, settles}
 use Rattle.script_task.specs.Requests.{planned, settled}
 use Rattle.guest_laws.specs.Own.{AreNext, AreTimely, IsLegalButScripts}
 use Rattle.guest_laws.specs.Guests.{IsGuest}
-use Rattle.due_moments.specs.Marks.{Covers, Marks}
+use Rattle.due_moments.specs.Marks.{Marks}
 use Rattle.net_locks.specs.declared.calendar.Calendar.{Calendar}
 use Rattle.net_locks.specs.declared.turn.Turn.{Turn}
 use Rattle.net_locks.specs.declared.turn.Turn.TheVariants as turn
-use Rattle.net_locks.specs.Knowing.{IsKnown}
 use Rattle.net_locks.specs.Rosters.{IsReplayed}
+use Rattle.net_locks.specs.declared.visitor.Visitor.{Visitor}
+use Rattle.net_locks.specs.Visitors.{IsVisit}
 use Rattle.net_locks.specs.Turns.{HasRoom, IsFull, Stays, Turned, bare, own}
 
 -- a caller, the moment, its pass, what it owes, and the names that it has bound
@@ -40,16 +41,16 @@ pub record Visit : Type 0 where
   pub owed : List Duty
   pub names : Names
 
--- a guest knows its duties and the moment, a script's the host on which it runs, at which conversations it recorded
--- something, and when conversations were due
-pub record IsVisit (w : World) (r : Roster) (c now : ℕ) (p : Sight) (ds : List Duty) (host : ℕ) (m : Marks) (k : Calendar)
+-- the visit of what a caller has at the locks, with the names that it has bound
+abbrev pub visit_of : {J : Type 0} → Visitor J → Names → Visit
+visit_of v names =
+    record { caller = v.bearer.caller; now = v.bearer.now; sight = v.bearer.pass; owed = v.duties.list; names = names }
+
+-- a guest knows what a visit keeps, and a script's the host on which it runs
+pub record IsHosted (w : World) (r : Roster) (c now : ℕ) (p : Sight) (ds : List Duty) (host : ℕ) (m : Marks) (k : Calendar)
     : Type 0 where
-  pub guest : IsGuest w r c p ds
-  pub here : now ≡ moment p.seen
-  pub early : now < 2 ^ 63
+  pub visit : IsVisit w r c now p ds m k
   pub home : (s : Script) → caller_of w c ≡ IsScript s → s.host ≡ host
-  pub covers : Covers (own c p) m
-  pub known : IsKnown w p.seen k
 
 -- what contracts see of what a guest carries: beside its visit the host of a script, at which conversations it recorded
 -- something, and when conversations were due
@@ -61,7 +62,7 @@ pub record Carried : Type 0 where
 
 -- a guest may carry it: it knows all this of its caller, whose number its pass has
 abbrev pub IsComplete : World → Roster → Carried → Type 0
-IsComplete w r b = IsVisit w r b.visit.caller b.visit.now b.visit.sight b.visit.owed b.host b.touched b.calendar
+IsComplete w r b = IsHosted w r b.visit.caller b.visit.now b.visit.sight b.visit.owed b.host b.touched b.calendar
 
 -- Turns.
 

@@ -11,44 +11,37 @@ ghost use Rattle.guest_laws.specs.Guests.{IsGuest};
 ghost use Rattle.net_guests.specs.Visits.{IsComplete, IsFresh, IsWith, Visit};
 ghost use Rattle.net_locks.specs.Turns.{own};
 
-use actor_machines::Placing;
 use due_moments::Touched;
 use duties::Duties;
 use guest_laws::{guests_begin, guests_meet};
 use journal::{Journal, Naming, Pass};
 use ndb_versions::IndexedVersions;
-use net_locks::Calendar;
+use net_locks::{Bearer, Calendar, Placing, Visitor};
 use script_task::Names;
 use std::alloc::{AllocError, Global};
 use std::marker::Model;
 use std::sync::Arc;
 
-/// A caller's pass, what it owes, and the names that it has bound. Clauses see these, its number and the moment, and what else
-/// is known of it. It may be without its number while the clock has that, so whether it is complete is said of each call.
+/// A caller with what it has at the locks, and the names that it has bound. Clauses see these, its number and the moment, and
+/// what else is known of it. It may be without its number while the clock has that, so whether it is complete is said of each
+/// call.
 #[derive(Drop)]
 pub struct Bundle<J: Naming + Placing> {
-    pub(crate) pass: Pass<J>,
-    pub(crate) duties: Duties,
+    pub(crate) visitor: Visitor<J>,
     pub(crate) fids: Names,
-    pub(crate) caller: u32,
     pub(crate) host: u32,
-    pub(crate) now: u64,
-    // at which conversations something was recorded since the clock last moved
-    pub(crate) touched: Touched,
-    // when conversations are due, which the clock's guest alone keeps
-    pub(crate) calendar: Calendar,
 }
 
 impl<J: Naming + Placing> Model for Bundle<J> {
-    ghost use Rattle.net_guests.specs.Visits.{Carried, Visit};
+    ghost use Rattle.net_guests.specs.Visits.{Carried, visit_of};
 
     ghost Value = { Carried };
 
     ghost view = { λ b. record {
-      visit = record { caller = b.caller; now = b.now; sight = b.pass; owed = b.duties.list; names = b.fids.names };
+      visit = visit_of b.visitor b.fids.names;
       host = b.host;
-      touched = b.touched;
-      calendar = b.calendar;
+      touched = b.visitor.touched;
+      calendar = b.visitor.calendar;
     } };
 }
 
@@ -71,15 +64,20 @@ impl<J: Naming + Placing> Bundle<J> {
         ensures fresh { IsFresh (zone_of J.world) caller result.visit }
     {
         guests_begin();
-        Bundle {
+        let bearer = Bearer {
             pass,
-            duties: Duties::new(alloc),
-            fids: Names::new(alloc, dbs),
             caller,
-            host,
             now: 0,
-            touched: Touched::new(alloc),
-            calendar: Calendar::new(alloc),
+        };
+        Bundle {
+            visitor: Visitor {
+                bearer,
+                duties: Duties::new(alloc),
+                touched: Touched::new(alloc),
+                calendar: Calendar::new(alloc),
+            },
+            fids: Names::new(alloc, dbs),
+            host,
         }
     }
 
@@ -88,15 +86,21 @@ impl<J: Naming + Placing> Bundle<J> {
         ensures same { result ≡ self.visit.sight }
     {
         let Bundle {
-            pass,
-            duties: _,
+            visitor,
             fids: _,
-            caller: _,
             host: _,
-            now: _,
+        } = self;
+        let Visitor {
+            bearer,
+            duties: _,
             touched: _,
             calendar: _,
-        } = self;
+        } = visitor;
+        let Bearer {
+            pass,
+            caller: _,
+            now: _,
+        } = bearer;
         pass
     }
 
@@ -115,14 +119,14 @@ impl<J: Naming + Placing> Bundle<J> {
         requires complete { IsComplete J.world J.run.roster self.now }
         ensures { IfOk result (Covers (own self.entry.now.visit.caller self.entry.now.visit.sight)) }
     {
-        self.touched.copy(alloc)
+        self.visitor.touched.copy(alloc)
     }
 
     /// Which caller.
     pub fn caller(&self) -> u32
         ensures { result ≡ self.entry.now.visit.caller }
     {
-        self.caller
+        self.visitor.bearer.caller
     }
 
     /// The host of a script.
@@ -136,14 +140,14 @@ impl<J: Naming + Placing> Bundle<J> {
     pub fn now(&self) -> u64
         ensures { result ≡ self.entry.now.visit.now }
     {
-        self.now
+        self.visitor.bearer.now
     }
 
     /// Whether a duty is owed.
     pub fn owes(&self) -> bool
         ensures { result ≡ not (length self.entry.now.visit.owed == 0) }
     {
-        !self.duties.is_empty()
+        !self.visitor.duties.is_empty()
     }
 
     /// Whether the caller has recorded as much as it may.
@@ -151,7 +155,8 @@ impl<J: Naming + Placing> Bundle<J> {
         requires complete { IsComplete J.world J.run.roster self.now }
         ensures { result ≡ (length (own self.entry.now.visit.caller self.entry.now.visit.sight) == 131072) }
     {
-        self.pass.room(self.caller) == 0
+        let bearer = &self.visitor.bearer;
+        bearer.pass.room(bearer.caller) == 0
     }
 
     /// The names that are bound.

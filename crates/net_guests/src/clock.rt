@@ -8,10 +8,9 @@ ghost use Rattle.net_guests.specs.Deciding.{Leaves};
 ghost use Rattle.net_guests.specs.Visits.{IsComplete};
 
 use crate::bundle::Bundle;
-use actor_machines::{Placing, WorldActor};
 use journal::Naming;
 use net_base::World;
-use net_locks::{Advance, Locks, Standing};
+use net_locks::{Advance, Locks, Placing, Standing, WorldActor};
 use outside::Gate;
 use std::sync::Wait;
 
@@ -34,26 +33,14 @@ impl<J: Naming + Placing> Bundle<J> {
         ensures guests { IsOfGuests J.world J.run.roster self.old.visit.sight.seen }
         ensures leaves { Leaves J.world J.run.roster self.old.visit result self.new.visit }
     {
-        let halt = locks.halt(rt, world, standings, &mut self.pass, self.caller, self.now);
+        let halt = locks.halt(rt, world, standings, &mut self.visitor.bearer);
         if let Some(answer) = halt {
             return answer;
         }
-        let moved = locks.try_move(
-            rt,
-            gate,
-            world,
-            standings,
-            &mut self.pass,
-            &mut self.duties,
-            &mut self.calendar,
-            self.caller,
-            self.now,
-        );
+        let moved = locks.try_move(rt, gate, world, standings, &mut self.visitor);
         let Some(moment) = moved else {
             return Advance::Memory;
         };
-        self.now = moment;
-        self.touched.forget(self.calendar.at);
         Advance::Moved(moment)
     }
 }

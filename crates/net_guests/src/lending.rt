@@ -7,10 +7,9 @@ ghost use Rattle.net_guests.specs.Lent.{IsAway, IsBack, with_sight};
 ghost use Rattle.net_guests.specs.Visits.{IsComplete, IsWith, Visit};
 
 use crate::bundle::Bundle;
-use actor_machines::Placing;
 use guest_laws::guests_hand_over;
 use journal::{Journal, Naming, Pass};
-use net_locks::calendars_stay_known;
+use net_locks::{Placing, calendars_stay_known};
 
 impl<J: Naming + Placing> Bundle<J> {
     /// The number of this caller goes to the clock's guest, with which it then is; who was with that is still.
@@ -26,7 +25,12 @@ impl<J: Naming + Placing> Bundle<J> {
     {
         calendars_stay_known();
         guests_hand_over();
-        hand_over(journal, &mut self.pass, &mut clock.pass, self.caller);
+        let caller = self.visitor.bearer.caller;
+        let (from, to) = (
+            &mut self.visitor.bearer.pass,
+            &mut clock.visitor.bearer.pass,
+        );
+        hand_over(journal, from, to, caller);
     }
 
     /// The number comes back from the clock's guest, and the moment is that one's.
@@ -46,9 +50,14 @@ impl<J: Naming + Placing> Bundle<J> {
     {
         calendars_stay_known();
         guests_hand_over();
-        hand_over(journal, &mut clock.pass, &mut self.pass, self.caller);
-        self.now = clock.now;
-        self.touched.forget(clock.calendar.at);
+        let caller = self.visitor.bearer.caller;
+        let (from, to) = (
+            &mut clock.visitor.bearer.pass,
+            &mut self.visitor.bearer.pass,
+        );
+        hand_over(journal, from, to, caller);
+        self.visitor.bearer.now = clock.visitor.bearer.now;
+        self.visitor.touched.forget(clock.visitor.calendar.at);
     }
 }
 

@@ -11,11 +11,10 @@ ghost use Rattle.net_guests.specs.Visits.{IsComplete, IsSame, Operated, Takes, s
 ghost use Rattle.net_locks.specs.Turns.{bare};
 
 use crate::bundle::Bundle;
-use actor_machines::{Placing, WorldActor};
 use guest_laws::turns_are_these;
 use journal::Naming;
 use net_base::{ActorName, Event};
-use net_locks::{Locks, Spot, Turn, calendars_stay_known};
+use net_locks::{Locks, Placing, Spot, Turn, WorldActor};
 use outside::Gate;
 use script_task::{Effect, Names, Planned, Request, effects_settle, plan};
 use std::alloc::AllocError;
@@ -26,7 +25,7 @@ pub fn first_spot<J: Naming + Placing>(
     locks: &Locks<J, WorldActor<J>>,
     bundle: &Bundle<J>,
 ) -> Spot {
-    match bundle.duties.first() {
+    match bundle.visitor.duties.first() {
         Some(duty) => locks.spot_of(duty.actor),
         None => Spot::nowhere(),
     }
@@ -48,16 +47,7 @@ impl<J: Naming + Placing> Bundle<J> {
         ensures turn { (d : AnyDuty) → slice_get self.old.visit.owed 0 ≡ Some d
             → Takes J.world d.actor (work_of_duty d) (Some d.cites) self.old.visit result self.new.visit }
     {
-        calendars_stay_known();
-        locks.serve(
-            rt,
-            gate,
-            &mut self.pass,
-            &mut self.duties,
-            &mut self.touched,
-            self.caller,
-            self.now,
-        )
+        locks.serve(rt, gate, &mut self.visitor)
     }
 
     /// The first duty is recorded, or a copy of a courier's medium is taken where nothing is owed.
@@ -78,22 +68,12 @@ impl<J: Naming + Placing> Bundle<J> {
         ensures free { self.old.visit.owed ≡ []
             → Takes J.world (name.Medium medium) (bare event.Take) None self.old.visit result self.new.visit }
     {
-        calendars_stay_known();
         turns_are_these();
         if self.owes() {
             return self.serve(rt, gate, locks);
         }
-        locks.own(
-            rt,
-            gate,
-            &mut self.pass,
-            &mut self.duties,
-            &mut self.touched,
-            self.caller,
-            self.now,
-            ActorName::Medium(medium),
-            Event::Take,
-        )
+        let actor = ActorName::Medium(medium);
+        locks.own(rt, gate, &mut self.visitor, actor, Event::Take)
     }
 
     /// The event of a script's request is recorded, and the names are those after its reply. The spot is then that of the
@@ -116,7 +96,7 @@ impl<J: Naming + Placing> Bundle<J> {
         if self.owes() {
             return Turn::Owes;
         }
-        if self.pass.room(self.caller) == 0 {
+        if self.visitor.bearer.pass.room(self.visitor.bearer.caller) == 0 {
             return Turn::Limit;
         }
         match request.clone() {
@@ -141,13 +121,12 @@ impl<J: Naming + Placing> Bundle<J> {
         ensures turn { (s : AnyScript) → caller_of J.world self.old.visit.caller ≡ IsScript s
             → Operated J.world s.host request self.old.visit result self.new.visit }
     {
-        calendars_stay_known();
         turns_are_these();
         effects_settle();
         if self.owes() {
             return Turn::Owes;
         }
-        if self.pass.room(self.caller) == 0 {
+        if self.visitor.bearer.pass.room(self.visitor.bearer.caller) == 0 {
             return Turn::Limit;
         }
         let Planned {
@@ -159,17 +138,7 @@ impl<J: Naming + Placing> Bundle<J> {
             return Turn::Memory;
         }
         *spot = locks.spot_of(actor);
-        let turn = locks.own(
-            rt,
-            gate,
-            &mut self.pass,
-            &mut self.duties,
-            &mut self.touched,
-            self.caller,
-            self.now,
-            actor,
-            event,
-        );
+        let turn = locks.own(rt, gate, &mut self.visitor, actor, event);
         settle_turn(&mut self.fids, effect, &turn);
         turn
     }

@@ -1,3 +1,4 @@
+pub mod Works
 pub mod Turning
 pub mod Firsts
 pub mod Rows
@@ -10,3 +11,4 @@ pub mod Through
 pub mod Moved
 pub mod Concluding
 pub mod Halting
+pub mod Visited

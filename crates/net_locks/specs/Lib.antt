@@ -1,7 +1,10 @@
+pub mod Placed
 pub mod Turns
+pub mod Visitors
 pub mod Rosters
 pub mod Facts
 pub mod Standings
 pub mod Knowing
 pub mod Moving
 pub use Rattle.guest_laws.specs.Guests
+pub use Rattle.guest_laws.specs.Named

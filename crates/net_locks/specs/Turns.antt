@@ -1,9 +1,8 @@
 -- What a caller does at an actor's lock, by what its pass has seen.
-use Rattle.std.specs.Prelude.{◌≡◌, ℕ, ◌+◌, ◌<◌, List, [], ◌∷◌, ◌++◌, length, drop, Option, Some, None}
+use Rattle.std.specs.Prelude.{◌≡◌, ℕ, ◌<◌, List, [], ◌∷◌, ◌++◌, length, drop, Option, Some, None}
 use mathlib.Core.List.{IsPrefix}
 use Rattle.net_base.specs.declared.actor.ActorName.{ActorName}
 use Rattle.net_base.specs.declared.event.Event.{Event}
-use Rattle.net_base.specs.declared.history.Outcome.{Outcome}
 use Rattle.net_base.specs.declared.history.With.TheVariants as given
 use Rattle.net_base.specs.declared.history.Work.{Work}
 use Rattle.net_base.specs.declared.noted.Noted.{Noted}
@@ -19,9 +18,6 @@ use Rattle.net_base.specs.Next.{next}
 use Rattle.net_base.specs.Stamped.{at}
 use Rattle.journal.specs.declared.tokens.Sight.{Sight}
 use Rattle.locked.specs.Acts.{made, without_copy}
-use Rattle.ip_route.specs.Kept.{HostWays}
-use Rattle.duties.specs.Owing.{Owes}
-use Rattle.duties.specs.Queue.{Queue}
 use Rattle.guest_laws.specs.Works.{entries, noted_net}
 use Rattle.guest_laws.specs.Own.{AreNext, AreTimely, StandsStill}
 use Rattle.net_locks.specs.declared.turn.Turn.{Turn}
@@ -76,12 +72,6 @@ Turned w c now a work cites p ds turn.NotReady p' ds' = Unready w c now a work p
 Turned w c now a work cites p ds turn.Owes p' ds' = ⊥
 Turned w c now a work cites p ds turn.Limit p' ds' = IsFull c p × (p' ≡ p) × (ds' ≡ ds)
 Turned w c now a work cites p ds turn.Memory p' ds' = HasRoom c p × (p' ≡ p) × (ds' ≡ ds)
-
--- the first duty is done, and what its entry owes stands after those that are left
-pub record OwesLeft (ks : List HostWays) (a : ActorName) (stamp : ℕ) (work : Work) (o : Outcome) (old new : Queue) : Type 0 where
-  pub left : Queue
-  pub rest : left.list ≡ drop 1 old.list
-  pub owes : Owes ks a stamp work o left new
 
 -- with nothing given
 abbrev pub bare : Event → Work

@@ -13,7 +13,8 @@ ghost use Rattle.net_locks.specs.Knowing.{AreMixed, IsKnown, all_touched, due_fr
 
 use crate::clock::Standing;
 use crate::locks::Locks;
-use actor_machines::{Placing, WorldActor};
+use crate::machine::WorldActor;
+use crate::placing::Placing;
 use calm_laws::conversations_are_these;
 use due_moments::{DueMoments, puts_keep_the_dues};
 use duties::Due;

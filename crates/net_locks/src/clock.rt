@@ -1,5 +1,5 @@
 //! The calm clock: whether it may move, and where to.
-ghost use Rattle.std.specs.Prelude.{◌≡◌, ◌==◌, ◌<◌, ◌≤◌, ◌^◌, ◌++◌, ◌∷◌, ℕ, Bool, true, false, not, [], List, length, min, option_to_list, None, is_some};
+ghost use Rattle.std.specs.Prelude.{◌≡◌, ◌==◌, ◌<◌, ◌≤◌, ◌^◌, ◌++◌, ◌∷◌, ℕ, Bool, true, false, not, [], List, length, min, option_to_list, unwrap_or, None, is_some};
 ghost use Rattle.std.specs.List.{list_any};
 ghost use Rattle.std.specs.Option.{option_map_or};
 ghost use Rattle.net_base.specs.declared.event.Event.TheVariants as event;
@@ -18,10 +18,14 @@ ghost use Rattle.net_locks.specs.Standings.{AllStand, Finds, StandsAt, awaited_m
 ghost use Rattle.net_locks.specs.Moving.{Halts, MayGo, MayLeave, MayMove};
 ghost use Rattle.net_locks.specs.Knowing.{IsKnown};
 ghost use Rattle.net_locks.specs.Turns.{HasRoom};
+ghost use Rattle.net_locks.specs.Visitors.{IsSameBearer, IsVisitor};
+ghost use Rattle.net_base.specs.World.{IsWorld};
 
 use crate::calendar::Calendar;
 use crate::locks::Locks;
-use actor_machines::{Placing, WorldActor};
+use crate::machine::WorldActor;
+use crate::placing::Placing;
+use crate::visitor::{Bearer, Visitor};
 use calm_laws::{
     calm_is_that_nobody_could, conversations_are_these, nobody_is_limited, somebody_is_limited,
     targets_are_least,
@@ -78,28 +82,27 @@ struct Busy {
 }
 
 impl<J: Naming + Placing> Locks<J, WorldActor<J>> {
-    /// What keeps the clock, whose number and moment these are, from moving: a caller that is full, one that can go on, or
-    /// the clock's own limit; or how the run ended. None where it is to move. All callers have to stand so, and the pass
-    /// then has seen all that there is. It records nothing.
+    /// What keeps the clock, whose pass this is, from moving: a caller that is full, one that can go on, or the clock's own
+    /// limit; or how the run ended. None where it is to move. All callers have to stand so, and the pass then has seen all
+    /// that there is. It records nothing.
     pub fn halt<R: Wait>(
         &self,
         rt: &R,
         world: &World,
         standings: &[Standing],
-        pass: &mut Pass<J>,
-        caller: u32,
-        now: u64,
+        bearer: &mut Bearer<J>,
     ) -> Option<Advance>
         requires world { J.world ≡ world.now }
-        requires clock { caller_of J.world caller ≡ IsClock }
-        requires moment { now ≡ moment_of pass.old.seen }
-        requires all { AllStand J.world J.run.roster pass.old standings.now }
-        ensures same { pass.new ≡ pass.old }
-        ensures guests { IsOfGuests J.world J.run.roster pass.old.seen }
-        ensures halts { Halts J.world caller pass.old result }
+        requires clock { caller_of J.world bearer.old.caller ≡ IsClock }
+        requires moment { bearer.old.now ≡ moment_of bearer.old.pass.seen }
+        requires all { AllStand J.world J.run.roster bearer.old.pass standings.now }
+        ensures same { bearer.new ≡ bearer.old }
+        ensures guests { IsOfGuests J.world J.run.roster bearer.old.pass.seen }
+        ensures halts { Halts J.world bearer.old.caller bearer.old.pass result }
     {
-        self.journal.look(pass);
-        self.judge(rt, world, standings, pass, caller, now)
+        self.journal.look(&mut bearer.pass);
+        let (caller, now) = (bearer.caller, bearer.now);
+        self.judge(rt, world, standings, &mut bearer.pass, caller, now)
     }
 
     // The same, after a look.
@@ -214,37 +217,64 @@ impl<J: Naming + Placing> Locks<J, WorldActor<J>> {
         gate: &G,
         world: &World,
         standings: &[Standing],
-        pass: &mut Pass<J>,
-        duties: &mut Duties,
-        calendar: &mut Calendar,
-        caller: u32,
-        now: u64,
+        visitor: &mut Visitor<J>,
     ) -> Option<u64>
         requires world { J.world ≡ world.now }
-        requires clock { caller_of J.world caller ≡ IsClock }
-        requires guest { IsGuest J.world J.run.roster caller pass.old duties.old.list }
-        requires moment { now ≡ moment_of pass.old.seen }
-        requires early { now < 2 ^ 63 }
-        requires all { AllStand J.world J.run.roster pass.old standings.now }
-        requires may { MayMove J.world caller pass.old }
-        requires known { IsKnown J.world pass.old.seen calendar.old }
-        ensures known { IsKnown J.world pass.new.seen calendar.new }
-        ensures go { MayGo J.world J.run.roster caller now pass.old duties.old.list result pass.new duties.new.list }
+        requires is { IsWorld world.now }
+        requires clock { caller_of J.world visitor.old.bearer.caller ≡ IsClock }
+        requires complete { IsVisitor J.world J.run.roster visitor.old }
+        requires all { AllStand J.world J.run.roster visitor.old.bearer.pass standings.now }
+        requires may { MayMove J.world visitor.old.bearer.caller visitor.old.bearer.pass }
+        ensures complete { IsVisitor J.world J.run.roster visitor.new }
+        ensures caller { visitor.new.bearer.caller ≡ visitor.old.bearer.caller }
+        ensures now { visitor.new.bearer.now ≡ unwrap_or result visitor.old.bearer.now }
+        ensures go { MayGo J.world J.run.roster visitor.old.bearer.caller visitor.old.bearer.now
+            visitor.old.bearer.pass visitor.old.duties.list result visitor.new.bearer.pass visitor.new.duties.list }
+    {
+        let Some(moment) = self.reach(rt, gate, world, standings, visitor) else {
+            return None;
+        };
+        visitor.bearer.now = moment;
+        visitor.touched.forget(visitor.calendar.at);
+        Some(moment)
+    }
+
+    // The same, but that the visitor is at the moment at which it was, and has forgotten nothing.
+    fn reach<R: Wait, G: Gate>(
+        &self,
+        rt: &R,
+        gate: &G,
+        world: &World,
+        standings: &[Standing],
+        visitor: &mut Visitor<J>,
+    ) -> Option<u64>
+        requires world { J.world ≡ world.now }
+        requires clock { caller_of J.world visitor.old.bearer.caller ≡ IsClock }
+        requires complete { IsVisitor J.world J.run.roster visitor.old }
+        requires all { AllStand J.world J.run.roster visitor.old.bearer.pass standings.now }
+        requires may { MayMove J.world visitor.old.bearer.caller visitor.old.bearer.pass }
+        ensures same { IsSameBearer visitor.old.bearer visitor.new.bearer }
+        ensures touched { visitor.new.touched ≡ visitor.old.touched }
+        ensures known { IsKnown J.world visitor.new.bearer.pass.seen visitor.new.calendar }
+        ensures go { MayGo J.world J.run.roster visitor.old.bearer.caller visitor.old.bearer.now
+            visitor.old.bearer.pass visitor.old.duties.list result visitor.new.bearer.pass visitor.new.duties.list }
     {
         conversations_are_these();
         nets_of_works_grow();
         targets_are_least();
-        if !self.catch_up(rt, standings, pass, calendar, now) {
+        let now = visitor.bearer.now;
+        let pass = &mut visitor.bearer.pass;
+        if !self.catch_up(rt, standings, pass, &mut visitor.calendar, now) {
             return None;
         }
-        let dues = calendar.dues.as_slice();
-        if duties.reserve(dues.len()).is_err() {
+        let dues = visitor.calendar.dues.as_slice();
+        if visitor.duties.reserve(dues.len()).is_err() {
             return None;
         }
         let awaited = least_awaited(standings, world.end);
         let moment = least_due(dues, awaited);
-        let moved = self.record_move(rt, gate, dues, moment, pass, duties, caller, now);
-        if !moved {
+        let bearer = &mut visitor.bearer;
+        if !self.record_move(rt, gate, dues, moment, bearer, &mut visitor.duties) {
             return None;
         }
         Some(moment)
@@ -257,23 +287,22 @@ impl<J: Naming + Placing> Locks<J, WorldActor<J>> {
         gate: &G,
         dues: &[Due],
         moment: u64,
-        pass: &mut Pass<J>,
+        bearer: &mut Bearer<J>,
         duties: &mut Duties,
-        caller: u32,
-        now: u64,
     ) -> bool
-        requires guest { IsGuest J.world J.run.roster caller pass.old duties.old.list }
+        requires guest { IsGuest J.world J.run.roster bearer.old.caller bearer.old.pass duties.old.list }
         requires free { duties.old.list ≡ [] }
-        requires clock { caller_of J.world caller ≡ IsClock }
-        requires moment { now ≡ moment_of pass.old.seen }
-        requires early { now < 2 ^ 63 }
-        requires numbers { HoldsAll J.run.roster pass.old }
-        requires room { HasRoom caller pass.old }
-        requires dues { dues.now ≡ dues_of J.world (noted_net J.world pass.old.seen).actors }
+        requires clock { caller_of J.world bearer.old.caller ≡ IsClock }
+        requires moment { bearer.old.now ≡ moment_of bearer.old.pass.seen }
+        requires early { bearer.old.now < 2 ^ 63 }
+        requires numbers { HoldsAll J.run.roster bearer.old.pass }
+        requires room { HasRoom bearer.old.caller bearer.old.pass }
+        requires dues { dues.now ≡ dues_of J.world (noted_net J.world bearer.old.pass.seen).actors }
         requires reserved { length dues.now ≤ duties.old.room }
-        requires in_time { IsInTime (noted_net J.world pass.old.seen) J.world (event.Move moment) }
-        ensures { MayLeave J.world J.run.roster caller now moment pass.old duties.old.list
-            result pass.new duties.new.list }
+        requires in_time { IsInTime (noted_net J.world bearer.old.pass.seen) J.world (event.Move moment) }
+        ensures same { IsSameBearer bearer.old bearer.new }
+        ensures leaves { MayLeave J.world J.run.roster bearer.old.caller bearer.old.now moment bearer.old.pass
+            duties.old.list result bearer.new.pass duties.new.list }
     {
         a_move_owes_its_ticks();
         guests_record();
@@ -287,6 +316,8 @@ impl<J: Naming + Placing> Locks<J, WorldActor<J>> {
             event: Event::Move { moment },
             with: With::Nothing,
         };
+        let (caller, now) = (bearer.caller, bearer.now);
+        let pass = &mut bearer.pass;
         match lock.act_clock(rt, &self.journal, gate, pass, caller, now, &work, None) {
             Answer::Done { stamp, outcome: _ } => {
                 duties.owe_ticks(stamp, moment, dues);

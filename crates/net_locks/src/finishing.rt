@@ -2,7 +2,8 @@
 ghost use Rattle.std.specs.Prelude.{◌≡◌, map, IfOk};
 ghost use Rattle.net_locks.specs.Rosters.{AreReplayed, IsReplayed};
 
-use actor_machines::{Placing, WorldActor};
+use crate::machine::WorldActor;
+use crate::placing::Placing;
 use journal::{Book, Naming};
 use locked::Locked;
 use net_base::same_actor;

@@ -20,9 +20,9 @@ ghost use Rattle.net_locks.specs.Turns.{Turned, bare, own};
 ghost use Rattle.due_moments.specs.Marks.{Covers};
 
 use crate::finishing::books_of;
+use crate::machine::{WorldActor, locked};
 use crate::opening::NetOpened;
-use crate::turn::{Turn, own_at, serve_at};
-use actor_machines::{Placing, WorldActor, locked};
+use crate::placing::Placing;
 use due_moments::Touched;
 use duties::{Duties, WorldWays};
 use guest_laws::no_duty_is_the_clocks;
@@ -40,7 +40,7 @@ use workers::{Marks, Spot};
 pub struct Locks<J: Naming + Placing, M: Machine> {
     pub(crate) journal: Journal<J>,
     locks: Vec<Locked<J, M>>,
-    ways: WorldWays,
+    pub(crate) ways: WorldWays,
     // who waits for an actor sees here whether it has had an entry
     marks: Marks,
     hosts: u32,
@@ -108,111 +108,9 @@ impl<J: Naming + Placing> Locks<J, WorldActor<J>> {
         self.marks.stands(spot)
     }
 
-    // Counts an entry of the actor, where the turn recorded one.
-    fn count(&self, actor: ActorName, turn: &Turn) {
-        if let Turn::Recorded { .. } = turn {
-            self.marks.add(number_of(self.hosts, self.media, actor));
-        }
-    }
-
-    /// The first duty of a caller is recorded. The moment is that of all that its pass has seen, in ms.
-    pub fn serve<R: Wait, G: Gate>(
-        &self,
-        rt: &R,
-        gate: &G,
-        pass: &mut Pass<J>,
-        duties: &mut Duties,
-        touched: &mut Touched,
-        caller: u32,
-        now: u64,
-    ) -> Turn
-        requires guest { IsGuest J.world J.run.roster caller pass.old duties.old.list }
-        requires some { (d : AnyDuty) × (slice_get duties.old.list 0 ≡ Some d) }
-        requires moment { now ≡ moment pass.old.seen }
-        requires early { now < 2 ^ 63 }
-        requires covers { Covers (own caller pass.old) touched.old }
-        ensures guest { IsGuest J.world J.run.roster caller pass.new duties.new.list }
-        ensures moment { now ≡ moment pass.new.seen }
-        ensures covers { Covers (own caller pass.new) touched.new }
-        ensures grows { IsPrefix pass.old.seen pass.new.seen }
-        ensures turn { (d : AnyDuty) → slice_get duties.old.list 0 ≡ Some d
-            → Turned J.world caller now d.actor (work_of_duty d) (Some d.cites) pass.old duties.old.list
-            result pass.new duties.new.list }
-    {
-        no_duty_is_the_clocks();
-        let actor = duties.first().unwrap().actor;
-        match self.lock_of(actor) {
-            Some(lock) => {
-                let turn = serve_at(
-                    rt,
-                    &self.journal,
-                    gate,
-                    &self.ways,
-                    lock,
-                    pass,
-                    duties,
-                    touched,
-                    caller,
-                    now,
-                );
-                self.count(actor, &turn);
-                turn
-            }
-            None => absent(pass, caller),
-        }
-    }
-
-    /// What a caller that owes nothing records next, at an actor. The moment is that of all that its pass has seen, in ms.
-    pub fn own<R: Wait, G: Gate>(
-        &self,
-        rt: &R,
-        gate: &G,
-        pass: &mut Pass<J>,
-        duties: &mut Duties,
-        touched: &mut Touched,
-        caller: u32,
-        now: u64,
-        actor: ActorName,
-        event: Event,
-    ) -> Turn
-        requires guest { IsGuest J.world J.run.roster caller pass.old duties.old.list }
-        requires free { duties.old.list ≡ [] }
-        requires turn { IsTurn J.world caller pass.old [] actor (bare event) None }
-        requires moment { now ≡ moment pass.old.seen }
-        requires early { now < 2 ^ 63 }
-        requires other { same_actor actor name.Clock ≡ false }
-        requires covers { Covers (own caller pass.old) touched.old }
-        ensures guest { IsGuest J.world J.run.roster caller pass.new duties.new.list }
-        ensures moment { now ≡ moment pass.new.seen }
-        ensures covers { Covers (own caller pass.new) touched.new }
-        ensures grows { IsPrefix pass.old.seen pass.new.seen }
-        ensures turn { Turned J.world caller now actor (bare event) None pass.old duties.old.list
-            result pass.new duties.new.list }
-    {
-        let work = Work {
-            event,
-            with: With::Nothing,
-        };
-        match self.lock_of(actor) {
-            Some(lock) => {
-                let turn = own_at(
-                    rt,
-                    &self.journal,
-                    gate,
-                    &self.ways,
-                    lock,
-                    pass,
-                    duties,
-                    touched,
-                    caller,
-                    now,
-                    work,
-                );
-                self.count(actor, &turn);
-                turn
-            }
-            None => absent(pass, caller),
-        }
+    // The actor has had an entry more.
+    pub(crate) fn count(&self, actor: ActorName) {
+        self.marks.add(number_of(self.hosts, self.media, actor));
     }
 
     /// The journal, and the books of all actors, in the order of their numbers. Each entry was a step of its actor.
@@ -236,18 +134,6 @@ impl<J: Naming + Placing> Locks<J, WorldActor<J>> {
         let books = books_of(alloc, locks)?;
         Ok((journal, books))
     }
-}
-
-// The turn of a caller at an actor that the world hasn't.
-fn absent<J: Naming + Placing>(pass: &Pass<J>, caller: u32) -> Turn
-    requires { (ds : List AnyDuty) × IsGuest J.world J.run.roster caller pass.now ds }
-    ensures { (now : ℕ) (a : Name) (work : AnyWork) (cites : Option ℕ) (ds : List AnyDuty)
-        → has_actor J.world a ≡ false → Turned J.world caller now a work cites pass.now ds result pass.now ds }
-{
-    if pass.room(caller) == 0 {
-        return Turn::Limit;
-    }
-    Turn::NotReady
 }
 
 // The actors of these books behind their locks.

@@ -1,29 +1,33 @@
 //! A turn of a caller at the lock of an actor.
-ghost use Rattle.std.specs.Prelude.{◌≡◌, ◌<◌, ◌^◌, ◌≤◌, ℕ, List, [], length, None, Some, false, slice_get};
+ghost use Rattle.std.specs.Prelude.{◌≡◌, ◌<◌, ◌^◌, ◌≤◌, ◌++◌, ◌∷◌, ℕ, List, [], Option, None, Some, false, IfSome, IsNone, slice_get};
+ghost use Rattle.net_base.specs.declared.actor.ActorName.{ActorName as Name};
 ghost use Rattle.net_base.specs.declared.actor.ActorName.TheVariants.{Clock};
+ghost use Rattle.net_base.specs.declared.history.Work.{Work as AnyWork};
 ghost use Rattle.net_base.specs.declared.noted.Noted.{Noted};
 ghost use Rattle.net_base.specs.Duties.{Duty as AnyDuty};
 ghost use Rattle.net_base.specs.Stamped.{moment, same_actor};
-ghost use Rattle.journal.specs.Tokens.{Holds};
-ghost use Rattle.locked.specs.Acts.{Acted};
-ghost use Rattle.duties.specs.Owing.{most_owed};
+ghost use Rattle.duties.specs.Owing.{Owes, most_owed};
 ghost use Rattle.duties.specs.Queue.{work_of_duty};
-ghost use Rattle.duties.specs.WaysOf.{AreWaysOfWorld};
 ghost use Rattle.guest_laws.specs.Guests.{IsGuest, IsTurn};
-ghost use Rattle.guest_laws.specs.Named.{answer_in, opening};
 ghost use Rattle.due_moments.specs.Marks.{Covers};
-ghost use Rattle.net_locks.specs.Turns.{OwesLeft, Turned, own};
+ghost use Rattle.net_locks.specs.Turns.{HasRoom, Turned, bare};
+ghost use Rattle.net_locks.specs.Visitors.{Attempted, IsSameBearer, IsVisitor, Visited};
+ghost use Rattle.net_locks.specs.declared.turn.Turn.TheVariants as turn;
 
-use actor_machines::{Placing, WorldActor};
+use crate::law::calendars_stay_known;
+use crate::locks::Locks;
+use crate::machine::WorldActor;
+use crate::placing::Placing;
+use crate::visitor::{Bearer, Visitor};
 use due_moments::Touched;
-use duties::{Duties, Duty, WorldWays};
+use duties::{Duties, Duty};
 use guest_laws::{
     few_calls_wait, guests_look, guests_record, locks_keep_actors, moves_are_the_clocks,
-    turns_are_these,
+    no_duty_is_the_clocks, turns_are_these,
 };
-use journal::{Journal, Naming, Pass};
-use locked::{Answer, Locked};
-use net_base::{Outcome, Reply, Work};
+use journal::Naming;
+use locked::Answer;
+use net_base::{ActorName, Event, Outcome, Reply, With, Work};
 use outside::Gate;
 use std::sync::Wait;
 
@@ -44,153 +48,183 @@ pub enum Turn {
 /// More than what any entry but a move owes.
 const MOST_OWED: usize = 13;
 
-/// The event of a caller that owes nothing, at the actor behind this lock.
-pub(crate) fn own_at<J: Naming + Placing, R: Wait, G: Gate>(
-    rt: &R,
-    journal: &Journal<J>,
-    gate: &G,
-    ways: &WorldWays,
-    lock: &Locked<J, WorldActor<J>>,
-    pass: &mut Pass<J>,
-    duties: &mut Duties,
-    touched: &mut Touched,
-    caller: u32,
-    now: u64,
-    work: Work,
-) -> Turn
-    requires guest { IsGuest J.world J.run.roster caller pass.old duties.old.list }
-    requires free { duties.old.list ≡ [] }
-    requires turn { IsTurn J.world caller pass.old [] lock.now.actor work None }
-    requires moment { now ≡ moment pass.old.seen }
-    requires early { now < 2 ^ 63 }
-    requires ways { AreWaysOfWorld J.world ways.now }
-    requires other { same_actor lock.now.actor Clock ≡ false }
-    requires covers { Covers (own caller pass.old) touched.old }
-    ensures guest { IsGuest J.world J.run.roster caller pass.new duties.new.list }
-    ensures moment { now ≡ moment pass.new.seen }
-    ensures covers { Covers (own caller pass.new) touched.new }
-    ensures turn { Turned J.world caller now lock.now.actor work None pass.old duties.old.list
-        result pass.new duties.new.list }
-{
-    few_calls_wait();
-    guests_look();
-    guests_record();
-    locks_keep_actors();
-    moves_are_the_clocks();
-    if pass.room(caller) == 0 {
-        return Turn::Limit;
-    }
-    if duties.reserve(MOST_OWED).is_err() {
-        return Turn::Memory;
-    }
-    if touched.reserve().is_err() {
-        return Turn::Memory;
-    }
-    match lock.act(rt, journal, gate, pass, caller, now, &work, None) {
-        Answer::Done { stamp, outcome } => {
-            let shown = ways.owe(lock.actor(), stamp, work, outcome, duties);
-            touched.note(lock.actor(), stamp);
-            Turn::Recorded {
-                stamp,
-                reply: shown.reply,
+impl<J: Naming + Placing> Locks<J, WorldActor<J>> {
+    /// The first duty of a visitor is recorded.
+    pub fn serve<R: Wait, G: Gate>(&self, rt: &R, gate: &G, visitor: &mut Visitor<J>) -> Turn
+        requires complete { IsVisitor J.world J.run.roster visitor.old }
+        requires some { (d : AnyDuty) × (slice_get visitor.old.duties.list 0 ≡ Some d) }
+        ensures complete { IsVisitor J.world J.run.roster visitor.new }
+        ensures same { IsSameBearer visitor.old.bearer visitor.new.bearer }
+        ensures turn { (d : AnyDuty) → slice_get visitor.old.duties.list 0 ≡ Some d
+            → Visited J.world d.actor (work_of_duty d) (Some d.cites) visitor.old result visitor.new }
+    {
+        calendars_stay_known();
+        no_duty_is_the_clocks();
+        turns_are_these();
+        let bearer = &visitor.bearer;
+        if let Some(turn) = lacks_room(bearer, &mut visitor.duties, &mut visitor.touched) {
+            return turn;
+        }
+        match self.attempt_first(rt, gate, &mut visitor.bearer, &visitor.duties) {
+            Ok((stamp, outcome)) => {
+                let Duty {
+                    actor,
+                    work,
+                    cites: _,
+                } = visitor.duties.pop().unwrap();
+                let (duties, touched) = (&mut visitor.duties, &mut visitor.touched);
+                self.settle(duties, touched, actor, work, stamp, outcome)
             }
+            Err(turn) => turn,
         }
-        Answer::NotReady { front: _ } => Turn::NotReady,
-        Answer::Memory => Turn::Memory,
+    }
+
+    /// What a visitor that owes nothing records next, at an actor.
+    pub fn own<R: Wait, G: Gate>(
+        &self,
+        rt: &R,
+        gate: &G,
+        visitor: &mut Visitor<J>,
+        actor: ActorName,
+        event: Event,
+    ) -> Turn
+        requires complete { IsVisitor J.world J.run.roster visitor.old }
+        requires free { visitor.old.duties.list ≡ [] }
+        requires turn { IsTurn J.world visitor.old.bearer.caller visitor.old.bearer.pass [] actor (bare event) None }
+        requires other { same_actor actor Clock ≡ false }
+        ensures complete { IsVisitor J.world J.run.roster visitor.new }
+        ensures same { IsSameBearer visitor.old.bearer visitor.new.bearer }
+        ensures turn { Visited J.world actor (bare event) None visitor.old result visitor.new }
+    {
+        calendars_stay_known();
+        let bearer = &visitor.bearer;
+        if let Some(turn) = lacks_room(bearer, &mut visitor.duties, &mut visitor.touched) {
+            return turn;
+        }
+        let work = Work {
+            event,
+            with: With::Nothing,
+        };
+        match self.attempt(rt, gate, &mut visitor.bearer, actor, &work, None) {
+            Ok((stamp, outcome)) => {
+                let (duties, touched) = (&mut visitor.duties, &mut visitor.touched);
+                self.settle(duties, touched, actor, work, stamp, outcome)
+            }
+            Err(turn) => turn,
+        }
+    }
+
+    // One try to record the first duty.
+    fn attempt_first<R: Wait, G: Gate>(
+        &self,
+        rt: &R,
+        gate: &G,
+        bearer: &mut Bearer<J>,
+        duties: &Duties,
+    ) -> Result<(u64, Outcome), Turn>
+        requires guest { IsGuest J.world J.run.roster bearer.old.caller bearer.old.pass duties.now.list }
+        requires some { (d : AnyDuty) × (slice_get duties.now.list 0 ≡ Some d) }
+        requires room { HasRoom bearer.old.caller bearer.old.pass }
+        requires here { bearer.old.now ≡ moment bearer.old.pass.seen }
+        requires early { bearer.old.now < 2 ^ 63 }
+        ensures same { IsSameBearer bearer.old bearer.new }
+        ensures here { bearer.new.now ≡ moment bearer.new.pass.seen }
+        ensures attempted { (d : AnyDuty) → slice_get duties.now.list 0 ≡ Some d
+            → Attempted J.world J.run.roster d.actor (work_of_duty d) (Some d.cites) bearer.old result bearer.new }
+    {
+        no_duty_is_the_clocks();
+        let first = duties.first().unwrap();
+        let cites = Some(first.cites);
+        self.attempt(rt, gate, bearer, first.actor, first.work(), cites)
+    }
+
+    // One try to record a work at an actor. The answer is the stamp of its entry and what the step gave, or else what became
+    // of the turn.
+    fn attempt<R: Wait, G: Gate>(
+        &self,
+        rt: &R,
+        gate: &G,
+        bearer: &mut Bearer<J>,
+        actor: ActorName,
+        work: &Work,
+        cites: Option<u64>,
+    ) -> Result<(u64, Outcome), Turn>
+        requires guest { (ds : List AnyDuty) × IsGuest J.world J.run.roster bearer.old.caller bearer.old.pass ds }
+        requires room { HasRoom bearer.old.caller bearer.old.pass }
+        requires here { bearer.old.now ≡ moment bearer.old.pass.seen }
+        requires early { bearer.old.now < 2 ^ 63 }
+        requires other { same_actor actor Clock ≡ false }
+        ensures same { IsSameBearer bearer.old bearer.new }
+        ensures here { bearer.new.now ≡ moment bearer.new.pass.seen }
+        ensures attempted { Attempted J.world J.run.roster actor work.now cites bearer.old result bearer.new }
+    {
+        few_calls_wait();
+        guests_look();
+        guests_record();
+        locks_keep_actors();
+        moves_are_the_clocks();
+        let Some(lock) = self.lock_of(actor) else {
+            return Err(Turn::NotReady);
+        };
+        let (caller, now) = (bearer.caller, bearer.now);
+        let pass = &mut bearer.pass;
+        match lock.act(rt, &self.journal, gate, pass, caller, now, work, cites) {
+            Answer::Done { stamp, outcome } => Ok((stamp, outcome)),
+            Answer::NotReady { front: _ } => Err(Turn::NotReady),
+            Answer::Memory => Err(Turn::Memory),
+        }
+    }
+
+    // What an entry owes is owed after the others, and its actor is noted. The turn is that it was recorded.
+    fn settle(
+        &self,
+        duties: &mut Duties,
+        touched: &mut Touched,
+        actor: ActorName,
+        work: Work,
+        stamp: u64,
+        outcome: Outcome,
+    ) -> Turn
+        requires owing { most_owed outcome ≤ duties.old.room }
+        requires noting { 0 < touched.old.room }
+        ensures owes { Owes self.now.ways actor stamp work outcome duties.old duties.new }
+        ensures covers { (own : List (ℕ × Noted)) (x : Noted) → Covers own touched.old → x.entry.actor ≡ actor
+            → Covers (own ++ (stamp, x) ∷ []) touched.new }
+        ensures turn { result ≡ turn.Recorded stamp outcome.reply }
+    {
+        let shown = self.ways.owe(actor, stamp, work, outcome, duties);
+        touched.note(actor, stamp);
+        self.count(actor);
+        Turn::Recorded {
+            stamp,
+            reply: shown.reply,
+        }
     }
 }
 
-/// The first duty of a caller, at the actor behind this lock.
-pub(crate) fn serve_at<J: Naming + Placing, R: Wait, G: Gate>(
-    rt: &R,
-    journal: &Journal<J>,
-    gate: &G,
-    ways: &WorldWays,
-    lock: &Locked<J, WorldActor<J>>,
-    pass: &mut Pass<J>,
+// Takes the room for an entry of the caller and for what it may owe. Where there is none, the turn is this one.
+fn lacks_room<J: Naming + Placing>(
+    bearer: &Bearer<J>,
     duties: &mut Duties,
     touched: &mut Touched,
-    caller: u32,
-    now: u64,
-) -> Turn
-    requires guest { IsGuest J.world J.run.roster caller pass.old duties.old.list }
-    requires first { (d : AnyDuty) × (slice_get duties.old.list 0 ≡ Some d) × (d.actor ≡ lock.now.actor) }
-    requires moment { now ≡ moment pass.old.seen }
-    requires early { now < 2 ^ 63 }
-    requires ways { AreWaysOfWorld J.world ways.now }
-    requires other { same_actor lock.now.actor Clock ≡ false }
-    requires covers { Covers (own caller pass.old) touched.old }
-    ensures guest { IsGuest J.world J.run.roster caller pass.new duties.new.list }
-    ensures moment { now ≡ moment pass.new.seen }
-    ensures covers { Covers (own caller pass.new) touched.new }
-    ensures turn { (d : AnyDuty) → slice_get duties.old.list 0 ≡ Some d
-        → Turned J.world caller now d.actor (work_of_duty d) (Some d.cites) pass.old duties.old.list
-        result pass.new duties.new.list }
+) -> Option<Turn>
+    requires { IsGuest J.world J.run.roster bearer.now.caller bearer.now.pass duties.old.list }
+    ensures list { duties.new.list ≡ duties.old.list }
+    ensures covers { (own : List (ℕ × Noted)) → Covers own touched.old → Covers own touched.new }
+    ensures none { IsNone result → HasRoom bearer.entry.now.caller bearer.entry.now.pass
+        × (13 ≤ duties.new.room) × (0 < touched.new.room) }
+    ensures some { IfSome result (λ t. (now : ℕ) (a : Name) (work : AnyWork) (cites : Option ℕ)
+        → Turned J.world bearer.entry.now.caller now a work cites bearer.entry.now.pass duties.old.list t
+        bearer.entry.now.pass duties.new.list) }
 {
-    few_calls_wait();
-    guests_look();
-    guests_record();
-    locks_keep_actors();
-    moves_are_the_clocks();
-    turns_are_these();
-    if pass.room(caller) == 0 {
-        return Turn::Limit;
+    if bearer.pass.room(bearer.caller) == 0 {
+        return Some(Turn::Limit);
     }
     if duties.reserve(MOST_OWED).is_err() {
-        return Turn::Memory;
+        return Some(Turn::Memory);
     }
     if touched.reserve().is_err() {
-        return Turn::Memory;
+        return Some(Turn::Memory);
     }
-    match act_first(rt, journal, gate, lock, pass, duties, caller, now) {
-        Answer::Done { stamp, outcome } => {
-            let reply = owe_first(ways, stamp, outcome, duties);
-            touched.note(lock.actor(), stamp);
-            Turn::Recorded { stamp, reply }
-        }
-        Answer::NotReady { .. } => Turn::NotReady,
-        Answer::Memory => Turn::Memory,
-    }
-}
-
-// The first duty, at the actor behind this lock.
-fn act_first<J: Naming + Placing, R: Wait, G: Gate>(
-    rt: &R,
-    journal: &Journal<J>,
-    gate: &G,
-    lock: &Locked<J, WorldActor<J>>,
-    pass: &mut Pass<J>,
-    duties: &Duties,
-    caller: u32,
-    now: u64,
-) -> Answer
-    requires room { (es : List (ℕ × Noted)) × Holds pass.old caller es × (length es < 131072) }
-    requires some { (d : AnyDuty) × (slice_get duties.now.list 0 ≡ Some d) }
-    requires moment { now ≡ moment pass.old.seen }
-    requires early { now < 2 ^ 63 }
-    requires other { same_actor lock.now.actor Clock ≡ false }
-    ensures { (d : AnyDuty) → slice_get duties.now.list 0 ≡ Some d
-        → Acted (opening J.world) (answer_in J.world) J.run.roster lock.now.actor caller now (work_of_duty d)
-        (Some d.cites) pass.old result pass.new }
-{
-    let first = duties.first().unwrap();
-    let cites = Some(first.cites);
-    lock.act(rt, journal, gate, pass, caller, now, first.work(), cites)
-}
-
-// The first duty is done, and what its entry owes is owed after the others. The answer is the reply.
-fn owe_first(ways: &WorldWays, stamp: u64, outcome: Outcome, duties: &mut Duties) -> Reply
-    requires room { most_owed outcome ≤ duties.old.room }
-    requires some { (d : AnyDuty) × (slice_get duties.old.list 0 ≡ Some d) }
-    ensures reply { result ≡ outcome.reply }
-    ensures owes { (d : AnyDuty) → slice_get duties.old.list 0 ≡ Some d
-        → OwesLeft ways.now d.actor stamp (work_of_duty d) outcome duties.old duties.new }
-{
-    let Duty {
-        actor,
-        work,
-        cites: _,
-    } = duties.pop().unwrap();
-    let shown = ways.owe(actor, stamp, work, outcome, duties);
-    shown.reply
+    None
 }

@@ -83,7 +83,7 @@ hread c|coobnkk|open .c /net/udp/5/listen;open .d /net/udp/4/data;read-only open
 hread c|coobkobkb|open .c /net/udp/5/listen;open .d /net/udp/4/data;read-only open .r /net/udp/4/remote;read .r;close .r;read-only open .l /net/udp/4/local;read .l;close .l;hear .d;end
 hread c|coobkobknkk|open .c /net/udp/5/listen;open .d /net/udp/4/data;read-only open .r /net/udp/4/remote;read .r;close .r;read-only open .l /net/udp/4/local;read .l;close .l;hear .d;close .d;close .c;end
 hread x|n|use x;end
-hwrite c 00|n|use .d;end
+hwrite c 00|f|use .d;end
 dns c|coobkobkbkkn|open .c /net/udp/5/listen;open .d /net/udp/4/data;read-only open .r /net/udp/4/remote;read .r;close .r;read-only open .l /net/udp/4/local;read .l;close .l;read .d;close .d;close .c;open .c /net/udp/5/listen;end
 dns c|coobkobkqkkkn|open .c /net/udp/5/listen;open .d /net/udp/4/data;read-only open .r /net/udp/4/remote;read .r;close .r;read-only open .l /net/udp/4/local;read .l;close .l;read .d;write .d \x00\x00\x80\x01\x00\x00\x00\x00\x00\x00\x00\x00;close .d;close .c;open .c /net/udp/5/listen;end
 dns c|coobkobkqnkk|open .c /net/udp/5/listen;open .d /net/udp/4/data;read-only open .r /net/udp/4/remote;read .r;close .r;read-only open .l /net/udp/4/local;read .l;close .l;read .d;write .d \x00\x00\x80\x01\x00\x00\x00\x00\x00\x00\x00\x00;close .d;close .c;end
@@ -140,6 +140,7 @@ fn reply(alloc: Global, letter: u8) -> Result<Reply, AllocError> {
         b'g' => Ok(granted()),
         b'o' => Ok(Reply::Opened { generation: 7 }),
         b'k' => Ok(Reply::Ok),
+        b'f' => Ok(Reply::BadFid),
         b'b' => bytes(alloc, b"1.2.3.4!5\n"),
         b'q' => bytes(alloc, &[0; 12]),
         _ => Ok(Reply::NoFile),

@@ -16,7 +16,7 @@ pub fn no_tuples(alloc: Global) -> Result<Arc<IndexedVersions, Global>, AllocErr
         moment: 0,
         db: Db::new(alloc),
     }];
-    Arc::new(alloc, IndexedVersions::new(alloc, &versions)?)
+    Ok(Arc::new(alloc, IndexedVersions::new(alloc, &versions)?)?)
 }
 
 /// No names.

@@ -5,11 +5,12 @@ use Rattle.net_base.specs.declared.reply.Reply.{Reply}
 use Rattle.net_base.specs.declared.ninep.Tmsg.{Tmsg}
 use Rattle.net_base.specs.SessionScript.{AreMessages, Begins, IsStream, after}
 use Rattle.net_base.specs.Server.{Answered, Outcome, answers_by, answers_to, outcome}
-use Rattle.net_base.specs.Session.{State, first, session}
+use Rattle.net_base.specs.Session.{State, first}
 use Rattle.net_base.specs.SessionTable.{IsSound, Table}
 use Rattle.sessions.proofs.Sayable.{after_sound}
 use Rattle.session_script.proofs.Messages.{none_begins, one_beginning}
 use Rattle.session_answers.specs.Served.{Goes, IsLast, IsServedFirst, served}
+use Rattle.session_answers.specs.Told.{session}
 
 pub still_sound : (old now : Table) (m : Tmsg) → IsSound old → now ≡ after old m → IsSound now
 still_sound old now m sound heard = subst IsSound (sym heard) (after_sound old m sound)

@@ -13,12 +13,12 @@ use Rattle.net_base.specs.declared.ninep.Tmsg.{Tmsg}
 use Rattle.net_base.specs.declared.ninep.Tmsg.TheVariants as t
 use Rattle.net_base.specs.NinepFields.{qid}
 use Rattle.net_base.specs.NinepMessages.{IsTmsg, longest, r_bytes, r_fields, r_qids, t_tag}
-use Rattle.net_base.specs.SessionAnswers.{Found, attach_answer, bad_fid, bad_mode, bad_use, found_answer, granted, is_granting, node_at, not_served, of_known, of_used, open_answer, piece, longest_text, printed, read_answer, replied, reply_text, said, skipped, spoken, version_answer, walk_answer}
-use Rattle.net_base.specs.Steps.{bytes_in}
+use Rattle.net_base.specs.SessionAnswers.{Found, attach_answer, bad_fid, bad_mode, bad_use, bytes_in, found_answer, granted, is_granting, node_at, not_served, of_known, of_used, open_answer, piece, longest_text, read_answer, said, skipped, spoken, version_answer, walk_answer}
 use Rattle.net_base.specs.declared.ninep.Target.{Target}
 use Rattle.net_base.specs.SessionFiles.{can_open, is_cs, qid_of, step_to, walked}
 use Rattle.net_base.specs.SessionScript.{begins, gives_nothing, nofid, room}
 use Rattle.net_base.specs.SessionTable.{Table, is_taken}
+use Rattle.session_answers.specs.Told.{told_by, told_text}
 
 -- the fields of the answer have room behind a header, and its qids are few
 abbrev Fits : Rmsg → Type 0
@@ -102,7 +102,7 @@ spoken_few version = by (bytes_eq version (codes "9P2000"))
 
 version_fits : (table : Table) (tag msize : ℕ) (version : List ℕ) → Fits (version_answer table tag msize version)
 version_fits table tag msize version =
-    either (begins table msize) (r.Version tag (min msize table.msize) (spoken version)) (r.Error tag bad_use)
+    either (begins table msize) (r.Version tag (min msize longest) (spoken version)) (r.Error tag bad_use)
     (omega (arith, spoken_few version), omega arith)
     (error_fits tag bad_use (omega arith))
 
@@ -148,10 +148,12 @@ granted_short table (t.Remove tag fid) x short = error_fits tag not_served (omeg
 granted_short table (t.Stat tag fid) x short = error_fits tag not_served (omega arith)
 granted_short table (t.Wstat tag fid stat) x short = error_fits tag not_served (omega arith)
 
-replied_short : (table : Table) (m : Tmsg) (x : Reply) → table.msize ≤ longest → Fits (replied table m x)
-replied_short table m x short =
-    either (is_granting x) (granted table m x) (r.Error (t_tag m) (printed x)) (granted_short table m x short)
-    (error_fits (t_tag m) (printed x) (took_few longest_text (reply_text x)))
+told_short : (table : Table) (m : Tmsg) (x : Reply) → table.msize ≤ longest → (is_granting x ≡ false → length (told_text x) ≤ longest_text) → Fits (told_by table m x)
+told_short table m x short few = by (is_granting x) few
+  where
+    by : (v : Bool) → (v ≡ false → length (told_text x) ≤ longest_text) → Fits (cond v (granted table m x) (r.Error (t_tag m) (told_text x)))
+    by true few = granted_short table m x short
+    by false few = error_fits (t_tag m) (told_text x) (few refl)
 
 whole_short : (m : Rmsg) → length (r_fields m) ≤ 8209 → length (r_bytes m) ≤ longest
 unfolding r_bytes
@@ -163,8 +165,8 @@ said_fits table found m answer short is same =
     let fits : Fits answer = subst Fits (sym same) (said_short table found m short is) in
     (whole_short answer fits.0, fits.1)
 
-pub replied_fits : (table : Table) (m : Tmsg) (x : Reply) (answer : Rmsg) → table.msize ≤ longest → answer ≡ replied table m x
-    → (length (r_bytes answer) ≤ longest) × (length (r_qids answer) < 17)
-replied_fits table m x answer short same =
-    let fits : Fits answer = subst Fits (sym same) (replied_short table m x short) in
+pub replied_fits : (table : Table) (m : Tmsg) (x : Reply) (answer : Rmsg) → table.msize ≤ longest → answer ≡ told_by table m x
+    → (is_granting x ≡ false → length (told_text x) ≤ longest_text) → (length (r_bytes answer) ≤ longest) × (length (r_qids answer) < 17)
+replied_fits table m x answer short same few =
+    let fits : Fits answer = subst Fits (sym same) (told_short table m x short few) in
     (whole_short answer fits.0, fits.1)

@@ -2,4 +2,6 @@ mod Plays
 mod Walks
 mod Fits
 mod Answering
-mod Serving
+pub mod Serving
+mod Short
+mod Told

@@ -15,7 +15,7 @@ use Rattle.net_base.specs.declared.world.Step.{Step}
 use Rattle.net_base.specs.declared.world.Step.TheVariants as step
 use Rattle.net_base.specs.ControlWords as control
 use Rattle.net_base.specs.Paths.{reads, walk, writes}
-use Rattle.net_base.specs.Steps.{uses, misuses, ends_with, read_event, opens, Ask, Asks, Bound, Ends, Fid, Play, bind, controls, conversation_of, fid_of, if_accepted, is_accepted, is_bound, on_fid, open_event, openable, opened_fid, play_of, puts, unbind}
+use Rattle.net_base.specs.Steps.{uses, misuses, ends_with, read_event, opens, Ask, Asks, Bound, Ends, Fid, Names, Play, bind, controls, conversation_of, fid_among, fid_of, if_accepted, is_accepted, is_bound, on_fid, open_event, openable, opened_fid, play_of, puts, unbind, without}
 use Rattle.net_base.specs.Server.{Doing, Waits, doing_of, outcome}
 use Rattle.net_base.specs.Session.{State}
 use Rattle.script_task.specs.declared.request.Request.{Request}
@@ -24,11 +24,11 @@ use Rattle.script_task.specs.declared.planned.Planned.{Planned}
 use Rattle.script_task.specs.Effects.{effect_of, opened, settles}
 use Rattle.script_task.specs.Planning.{ask_of}
 use Rattle.script_task.specs.Requests.{bound_after, head, planned, request_play, settled}
-use Rattle.net_tree.specs.Bindings.{Bindings}
+use Rattle.script_task.specs.Holdings.{Holdings}
 use Rattle.session_answers.specs.Served.{IsServed, Plays, asked, is_grant}
 
 -- what a play does by its first event
-data Ahead (after : Reply → List Bound) : Play → Type 0 where
+data Ahead (after : Reply → Names) : Play → Type 0 where
   -- it ends with any reply
   One : (a : ActorName) (e : Event) (next : Reply → Play) → is_grant e ≡ false → ((x : Reply) → next x ≡ Ends (after x)) → Ahead after (Asks a e next)
   -- it asks once more after a reply that is accepted
@@ -36,20 +36,20 @@ data Ahead (after : Reply → List Bound) : Play → Type 0 where
       → ((x : Reply) → next x ≡ if_accepted x (Asks b f last) (Ends (after x))) → ((x y : Reply) → last y ≡ Ends (after x)) → is_grant e ≡ true
       → Ahead after (Asks a e next)
 
-same_ends : (x : Reply) (names : List Bound) → if_accepted x (Ends names) (Ends names) ≡ Ends names
+same_ends : (x : Reply) (names : Names) → if_accepted x (Ends names) (Ends names) ≡ Ends names
 same_ends x names = by (is_accepted x)
   where
     by : (v : Bool) → cond v (Ends names) (Ends names) ≡ Ends names
     by true = refl
     by false = refl
 
-either_ahead : (after : Reply → List Bound) (v : Bool) (p q : Play) → Ahead after p → Ahead after q → Ahead after (cond v p q)
+either_ahead : (after : Reply → Names) (v : Bool) (p q : Play) → Ahead after p → Ahead after q → Ahead after (cond v p q)
 either_ahead after true p q a b = a
 either_ahead after false p q a b = b
 
 -- ---- a write
 
-controlled_ahead : (h : ℕ) (names : List Bound) (f : Fid) (text : List ℕ) (read : Result Ctl ℕ) → Ahead (λ (x : Reply). names) (controls h f text read (Ends names) (Ends names))
+controlled_ahead : (h : ℕ) (names : Names) (f : Fid) (text : List ℕ) (read : Result Ctl ℕ) → Ahead (λ (x : Reply). names) (controls h f text read (Ends names) (Ends names))
 controlled_ahead h names f text (Ok (ctl.Connect remote lport)) = Two _ _ _ _ _ _ (λ x. refl) (λ x y. same_ends y names) refl
 controlled_ahead h names f text (Ok (ctl.Announce ip port)) = One _ _ _ refl (λ x. same_ends x names)
 controlled_ahead h names f text (Ok (ctl.Bind port)) = One _ _ _ refl (λ x. same_ends x names)
@@ -58,7 +58,7 @@ controlled_ahead h names f text (Ok (ctl.Ttl n)) = One _ _ _ refl (λ x. same_en
 controlled_ahead h names f text (Ok (ctl.Tos n)) = One _ _ _ refl (λ x. same_ends x names)
 controlled_ahead h names f text (Err fault) = One _ _ _ refl (λ x. same_ends x names)
 
-put_ahead : (h : ℕ) (names : List Bound) (f : Fid) (text : List ℕ) (g : FileName) → Ahead (λ (x : Reply). names) (puts h f g text (Ends names) (Ends names))
+put_ahead : (h : ℕ) (names : Names) (f : Fid) (text : List ℕ) (g : FileName) → Ahead (λ (x : Reply). names) (puts h f g text (Ends names) (Ends names))
 put_ahead h names f text file.Ctl = controlled_ahead h names f text (control.read text)
 put_ahead h names f text file.Data = One _ _ _ refl (λ x. same_ends x names)
 put_ahead h names f text file.Err = controlled_ahead h names f text (control.read text)
@@ -67,10 +67,10 @@ put_ahead h names f text file.Local = controlled_ahead h names f text (control.r
 put_ahead h names f text file.Remote = controlled_ahead h names f text (control.read text)
 put_ahead h names f text file.Status = controlled_ahead h names f text (control.read text)
 
-use_ahead : (h : ℕ) (called : List ℕ) (after : Reply → List Bound) (names : List Bound) → ((x : Reply) → names ≡ after x) → Ahead after (uses h called names)
+use_ahead : (h : ℕ) (called : List ℕ) (after : Reply → Names) (names : Names) → ((x : Reply) → names ≡ after x) → Ahead after (uses h called names)
 use_ahead h called after names same = One _ _ _ refl (λ x. ap Ends (same x))
 
-write_ahead : (h : ℕ) (names : List Bound) (called text : List ℕ) → Ahead (settled names (asked (step.Writex called text))) (request_play h names (asked (step.Writex called text)))
+write_ahead : (h : ℕ) (names : Names) (called text : List ℕ) → Ahead (settled names (asked (step.Writex called text))) (request_play h names (asked (step.Writex called text)))
 write_ahead h names called text = by (fid_of called names)
   where
     by : (o : Option Fid) → Ahead (λ (x : Reply). names)
@@ -80,7 +80,7 @@ write_ahead h names called text = by (fid_of called names)
         either_ahead (λ (x : Reply). names) (writes f.mode) (puts h f f.file text (Ends names) (Ends names)) (misuses h called names)
         (put_ahead h names f text f.file) (One _ _ _ refl (λ x. refl))
 
-read_ahead : (h : ℕ) (names : List Bound) (called : List ℕ) (count : ℕ) → Ahead (settled names (asked (step.Read called count))) (request_play h names (asked (step.Read called count)))
+read_ahead : (h : ℕ) (names : Names) (called : List ℕ) (count : ℕ) → Ahead (settled names (asked (step.Read called count))) (request_play h names (asked (step.Read called count)))
 read_ahead h names called count = by (fid_of called names)
   where
     event_no : (f : Fid) (g : FileName) → is_grant (read_event f count g) ≡ false
@@ -101,15 +101,18 @@ read_ahead h names called count = by (fid_of called names)
         (misuses h called names)
         (One _ _ _ (event_no f f.file) (λ x. refl)) (One _ _ _ refl (λ x. refl))
 
-unbound_same : (called : List ℕ) (names : List Bound) → fid_of called names ≡ None → unbind called names ≡ names
-unbound_same called [] none = refl
-unbound_same called (b ∷ bs) none = by (bytes_eq called b.called) refl none (λ e. unbound_same called bs e)
+without_same : (called : List ℕ) (bound : List Bound) → fid_among called bound ≡ None → without called bound ≡ bound
+without_same called [] none = refl
+without_same called (b ∷ bs) none = by (bytes_eq called b.called) refl none (λ e. without_same called bs e)
   where
-    by : (v : Bool) → bytes_eq called b.called ≡ v → cond v (Some b.fid) (fid_of called bs) ≡ None → (fid_of called bs ≡ None → unbind called bs ≡ bs) → unbind called (b ∷ bs) ≡ b ∷ bs
+    by : (v : Bool) → bytes_eq called b.called ≡ v → cond v (Some b.fid) (fid_among called bs) ≡ None → (fid_among called bs ≡ None → without called bs ≡ bs) → without called (b ∷ bs) ≡ b ∷ bs
     by true is e later = absurd (cc)
     by false is e later = rw is (ap (λ (xs : List Bound). b ∷ xs) (later e))
 
-close_ahead : (h : ℕ) (names : List Bound) (called : List ℕ) → Ahead (settled names (asked (step.Close called))) (request_play h names (asked (step.Close called)))
+unbound_same : (called : List ℕ) (names : Names) → fid_of called names ≡ None → unbind called names ≡ names
+unbound_same called names none = ap (λ (xs : List Bound). record names { bound = xs }) (without_same called names.bound none)
+
+close_ahead : (h : ℕ) (names : Names) (called : List ℕ) → Ahead (settled names (asked (step.Close called))) (request_play h names (asked (step.Close called)))
 close_ahead h names called = by (fid_of called names) refl
   where
     by : (o : Option Fid) → fid_of called names ≡ o → Ahead (λ (x : Reply). unbind called names)
@@ -117,7 +120,7 @@ close_ahead h names called = by (fid_of called names) refl
     by None none = One _ _ _ refl (λ x. ap Ends (sym (unbound_same called names none)))
     by (Some f) found = One _ _ _ refl (λ x. refl)
 
-open_ahead : (h : ℕ) (names : List Bound) (called path : List ℕ) (m : Mode) → Ahead (settled names (asked (step.Open called path (Some m)))) (request_play h names (asked (step.Open called path (Some m))))
+open_ahead : (h : ℕ) (names : Names) (called path : List ℕ) (m : Mode) → Ahead (settled names (asked (step.Open called path (Some m)))) (request_play h names (asked (step.Open called path (Some m))))
 open_ahead h names called path m = by (is_bound names called)
   where
     event_no : (n : Option Node) → is_grant (open_event path m n) ≡ false
@@ -145,7 +148,7 @@ open_ahead h names called path m = by (is_bound names called)
     by true = One _ _ _ refl (λ x. refl)
     by false = One _ _ _ (event_no (openable (walk path) m)) (λ x. bound (opened_fid m (openable (walk path) m) x))
 
-ahead : (h : ℕ) (names : List Bound) (s : Step) → IsServed s → Ahead (settled names (asked s)) (play_of h names s)
+ahead : (h : ℕ) (names : Names) (s : Step) → IsServed s → Ahead (settled names (asked s)) (play_of h names s)
 ahead h names (step.Open called path (Some m)) is = open_ahead h names called path m
 ahead h names (step.Open called path None) is = absurd is
 ahead h names (step.Read called count) is = read_ahead h names called count
@@ -162,9 +165,12 @@ ahead h names (step.Listen called from) is = absurd is
 ahead h names (step.Accept called from) is = absurd is
 ahead h names (step.Reject called) is = absurd is
 ahead h names (step.Hangup called) is = absurd is
+ahead h names (step.Hread called count) is = absurd is
+ahead h names (step.Hwrite called bytes) is = absurd is
+ahead h names (step.Dns called times) is = absurd is
 
 -- the request of a step plays as the step does
-pub plays_as : (h : ℕ) (names : List Bound) (s : Step) → IsServed s → play_of h names s ≡ request_play h names (asked s)
+pub plays_as : (h : ℕ) (names : Names) (s : Step) → IsServed s → play_of h names s ≡ request_play h names (asked s)
 plays_as h names (step.Open called path (Some m)) is = refl
 plays_as h names (step.Open called path None) is = absurd is
 plays_as h names (step.Read called count) is = refl
@@ -181,15 +187,18 @@ plays_as h names (step.Listen called from) is = absurd is
 plays_as h names (step.Accept called from) is = absurd is
 plays_as h names (step.Reject called) is = absurd is
 plays_as h names (step.Hangup called) is = absurd is
+plays_as h names (step.Hread called count) is = absurd is
+plays_as h names (step.Hwrite called bytes) is = absurd is
+plays_as h names (step.Dns called times) is = absurd is
 
 -- ---- replies
 
-none_waits : (after : Reply → List Bound) (p : Play) → Ahead after p → (go_on : List Bound → Option Reply → Doing State) → outcome (doing_of p None go_on) [] ≡ Waits
+none_waits : (after : Reply → Names) (p : Play) → Ahead after p → (go_on : Names → Option Reply → Doing State) → outcome (doing_of p None go_on) [] ≡ Waits
 none_waits after p (One a e next other ends) go_on = refl
 none_waits after p (Two a e b f next last goes ends grants) go_on = refl
 
 -- without a reply the step waits
-pub waits : (h : ℕ) (names after : List Bound) (s : Step) → IsServed s → (rs left : List Reply) → rs ≡ [] → Plays h names s rs after None left
+pub waits : (h : ℕ) (names after : Names) (s : Step) → IsServed s → (rs left : List Reply) → rs ≡ [] → Plays h names s rs after None left
 waits h names after s is rs left none =
     λ go_on. ap (λ (xs : List Reply). outcome (doing_of (play_of h names s) None go_on) xs) none
     ∙ none_waits (settled names (asked s)) (play_of h names s) (ahead h names s is) go_on
@@ -202,9 +211,9 @@ event_in e (Some x) = x.event
 event_is : (a b : ActorName) (e f : Event) (next : Reply → Play) → head (Asks a e next) ≡ Some (record { actor = b; event = f }) → e ≡ f
 event_is a b e f next is = ap (event_in e) is
 
-one_reply : (after : Reply → List Bound) (p : Play) → Ahead after p → (a : ActorName) (e : Event) → head p ≡ Some (record { actor = a; event = e })
+one_reply : (after : Reply → Names) (p : Play) → Ahead after p → (a : ActorName) (e : Event) → head p ≡ Some (record { actor = a; event = e })
     → (x : Reply) (left : List Reply) → (is_grant e && is_accepted x) ≡ false
-    → (go_on : List Bound → Option Reply → Doing State) → outcome (doing_of p None go_on) (x ∷ left) ≡ outcome (go_on (after x) (Some x)) left
+    → (go_on : Names → Option Reply → Doing State) → outcome (doing_of p None go_on) (x ∷ left) ≡ outcome (go_on (after x) (Some x)) left
 one_reply after p (One a e next other ends) b f is x left through go_on = ap (λ (q : Play). outcome (doing_of q (Some x) go_on) left) (ends x)
 one_reply after p (Two a e b' f' next last goes ends grants) b f is x left through go_on =
     let refused : is_accepted x ≡ false = accepted (is_grant f) (is_accepted x) (ap is_grant (sym (event_is a b e f next is)) ∙ grants) through in
@@ -215,17 +224,17 @@ one_reply after p (Two a e b' f' next last goes ends grants) b f is x left throu
     accepted false v t n = absurd (cc)
 
 -- its reply is its last one
-pub one_played : (h : ℕ) (names now : List Bound) (s : Step) → IsServed s → (a : ActorName) (e : Event)
+pub one_played : (h : ℕ) (names now : Names) (s : Step) → IsServed s → (a : ActorName) (e : Event)
     → head (play_of h names s) ≡ Some (record { actor = a; event = e }) → (x : Reply) (rs left : List Reply) → rs ≡ x ∷ left → (is_grant e && is_accepted x) ≡ false
     → now ≡ settled names (asked s) x → Plays h names s rs now (Some x) left
 one_played h names now s is a e asks x rs left first through settles =
     λ go_on. ap (λ (xs : List Reply). outcome (doing_of (play_of h names s) None go_on) xs) first
     ∙ one_reply (settled names (asked s)) (play_of h names s) (ahead h names s is) a e asks x left through go_on
-    ∙ ap (λ (ns : List Bound). outcome (go_on ns (Some x)) left) (sym settles)
+    ∙ ap (λ (ns : Names). outcome (go_on ns (Some x)) left) (sym settles)
 
-two_replies : (after : Reply → List Bound) (p : Play) → Ahead after p → (a : ActorName) (e : Event) → head p ≡ Some (record { actor = a; event = e })
+two_replies : (after : Reply → Names) (p : Play) → Ahead after p → (a : ActorName) (e : Event) → head p ≡ Some (record { actor = a; event = e })
     → (x : Reply) → (is_grant e && is_accepted x) ≡ true
-    → (go_on : List Bound → Option Reply → Doing State)
+    → (go_on : Names → Option Reply → Doing State)
     → ((outcome (doing_of p None go_on) (x ∷ []) ≡ Waits) × ((y : Reply) (left : List Reply) → outcome (doing_of p None go_on) (x ∷ y ∷ left) ≡ outcome (go_on (after x) (Some y)) left))
 two_replies after p (One a e next other ends) b f is x more go_on = absurd (never (is_grant f) (is_accepted x) (ap is_grant (sym (event_is a b e f next is)) ∙ other) more)
   where
@@ -244,15 +253,15 @@ two_replies after p (Two a e b' f' next last goes ends grants) b f is x more go_
     second false v t = absurd (cc)
 
 -- after a grant the reply to the next event is the last one
-pub two_played : (h : ℕ) (names now : List Bound) (s : Step) → IsServed s → (a : ActorName) (e : Event)
+pub two_played : (h : ℕ) (names now : Names) (s : Step) → IsServed s → (a : ActorName) (e : Event)
     → head (play_of h names s) ≡ Some (record { actor = a; event = e }) → (x : Reply) (rs left : List Reply) → rs ≡ x ∷ left → (is_grant e && is_accepted x) ≡ true
     → now ≡ settled names (asked s) x → (y : Reply) (behind : List Reply) → left ≡ y ∷ behind → Plays h names s rs now (Some y) behind
 two_played h names now s is a e asks x rs left first more settles y behind next =
     λ go_on. ap (λ (xs : List Reply). outcome (doing_of (play_of h names s) None go_on) xs) (first ∙ ap (λ (xs : List Reply). x ∷ xs) next)
     ∙ (two_replies (settled names (asked s)) (play_of h names s) (ahead h names s is) a e asks x more go_on).1 y behind
-    ∙ ap (λ (ns : List Bound). outcome (go_on ns (Some y)) behind) (sym settles)
+    ∙ ap (λ (ns : Names). outcome (go_on ns (Some y)) behind) (sym settles)
 
-pub two_wait : (h : ℕ) (names now : List Bound) (s : Step) → IsServed s → (a : ActorName) (e : Event)
+pub two_wait : (h : ℕ) (names now : Names) (s : Step) → IsServed s → (a : ActorName) (e : Event)
     → head (play_of h names s) ≡ Some (record { actor = a; event = e }) → (x : Reply) (rs left : List Reply) → rs ≡ x ∷ left → (is_grant e && is_accepted x) ≡ true
     → left ≡ [] → (behind : List Reply) → Plays h names s rs now None behind
 two_wait h names now s is a e asks x rs left first more none behind =
@@ -262,7 +271,7 @@ two_wait h names now s is a e asks x rs left first more none behind =
 -- ---- by what the code planned
 
 -- the request of a step was planned under these names
-pub record Plans (h : ℕ) (b : Bindings) (s : Step) (q : Request) (p : Planned) : Type 0 where
+pub record Plans (h : ℕ) (b : Holdings) (s : Step) (q : Request) (p : Planned) : Type 0 where
   pub served : IsServed s
   pub asked_is : q ≡ asked s
   pub event_is : planned h b.names q ≡ Some (ask_of p)
@@ -270,29 +279,29 @@ pub record Plans (h : ℕ) (b : Bindings) (s : Step) (q : Request) (p : Planned)
 
 -- effects settle names as requests do
 abbrev pub SettlesSo : Type 0
-SettlesSo = (b : Bindings) (q : Request) (x : Reply) → (settles (effect_of b.names q) (opened (effect_of b.names q) x) b).names ≡ settled b.names q x
+SettlesSo = (b : Holdings) (q : Request) (x : Reply) → (settles (effect_of b.names q) (opened (effect_of b.names q) x) b).names ≡ settled b.names q x
 
-heads : (h : ℕ) (b : Bindings) (s : Step) (q : Request) (p : Planned) → Plans h b s q p → head (play_of h b.names s) ≡ Some (ask_of p)
+heads : (h : ℕ) (b : Holdings) (s : Step) (q : Request) (p : Planned) → Plans h b s q p → head (play_of h b.names s) ≡ Some (ask_of p)
 heads h b s q p so = ap head (plays_as h b.names s so.served) ∙ ap (λ (r : Request). head (request_play h b.names r)) (sym so.asked_is) ∙ so.event_is
 
-names_settle : SettlesSo → (h : ℕ) (b now : Bindings) (s : Step) (q : Request) (p : Planned) → Plans h b s q p → (x : Reply) → now ≡ settles p.effect (opened p.effect x) b
+names_settle : SettlesSo → (h : ℕ) (b now : Holdings) (s : Step) (q : Request) (p : Planned) → Plans h b s q p → (x : Reply) → now ≡ settles p.effect (opened p.effect x) b
     → now.names ≡ settled b.names (asked s) x
 names_settle law h b now s q p so x is =
-    ap (λ (c : Bindings). c.names) is
+    ap (λ (c : Holdings). c.names) is
     ∙ ap (λ (e : Effect). (settles e (opened e x) b).names) so.effect_is
     ∙ law b q x
     ∙ ap (λ (r : Request). settled b.names r x) so.asked_is
 
-pub none_left : (h : ℕ) (b : Bindings) (s : Step) (q : Request) (p : Planned) → Plans h b s q p → (rs left : List Reply) → rs ≡ [] → Plays h b.names s rs b.names None left
+pub none_left : (h : ℕ) (b : Holdings) (s : Step) (q : Request) (p : Planned) → Plans h b s q p → (rs left : List Reply) → rs ≡ [] → Plays h b.names s rs b.names None left
 none_left h b s q p so rs left none = waits h b.names b.names s so.served rs left none
 
-pub one_done : SettlesSo → (h : ℕ) (b now : Bindings) (s : Step) (q : Request) (p : Planned) → Plans h b s q p → (x : Reply) (rs left : List Reply) → rs ≡ x ∷ left
+pub one_done : SettlesSo → (h : ℕ) (b now : Holdings) (s : Step) (q : Request) (p : Planned) → Plans h b s q p → (x : Reply) (rs left : List Reply) → rs ≡ x ∷ left
     → now ≡ settles p.effect (opened p.effect x) b → (test : Bool) → test ≡ (is_grant p.event && is_accepted x) → test ≡ false
     → Plays h b.names s rs now.names (Some x) left
 one_done law h b now s q p so x rs left first is test told off =
     one_played h b.names now.names s so.served p.actor p.event (heads h b s q p so) x rs left first (sym told ∙ off) (names_settle law h b now s q p so x is)
 
-pub two_done : SettlesSo → (h : ℕ) (b now : Bindings) (s : Step) (q : Request) (p : Planned) → Plans h b s q p → (x : Reply) (rs left : List Reply) → rs ≡ x ∷ left
+pub two_done : SettlesSo → (h : ℕ) (b now : Holdings) (s : Step) (q : Request) (p : Planned) → Plans h b s q p → (x : Reply) (rs left : List Reply) → rs ≡ x ∷ left
     → now ≡ settles p.effect (opened p.effect x) b → (test : Bool) → test ≡ (is_grant p.event && is_accepted x) → test ≡ true
     → (o : Option (Bor Reply)) (behind : List Reply) → MatchOption o (left ≡ []) (λ (y : Bor Reply). left ≡ y.now ∷ behind)
     → Plays h b.names s rs now.names (option_copied o) behind

@@ -5,17 +5,18 @@ use Rattle.net_base.specs.declared.names.Mode.{Mode}
 use Rattle.net_base.specs.declared.reply.Reply.{Reply}
 use Rattle.net_base.specs.declared.world.Step.{Step}
 use Rattle.net_base.specs.declared.world.Step.TheVariants as step
-use Rattle.net_base.specs.Steps.{Bound}
+use Rattle.net_base.specs.Steps.{Names}
 use Rattle.net_base.specs.declared.ninep.Tmsg.{Tmsg}
 use Rattle.net_base.specs.declared.ninep.Tmsg.TheVariants as t
 use Rattle.net_base.specs.SessionAnswers.{Found}
 use Rattle.net_base.specs.SessionFiles.{access, is_cs, is_plain}
 use Rattle.net_base.specs.SessionScript.{close_step, cs_step, fid_name, gives_nothing, is_query, open_step, opens, read_count, read_step, reads, room, step_of, write_step}
 use Rattle.net_base.specs.Server.{Doing, Gives, outcome}
-use Rattle.net_base.specs.Session.{State, by_last, serves_by, told}
+use Rattle.net_base.specs.Session.{State, told}
 use Rattle.net_base.specs.declared.ninep.Target.{Target}
 use Rattle.net_base.specs.SessionTable.{Table, used}
 use Rattle.session_answers.specs.Served.{IsServed, Plays, served}
+use Rattle.session_answers.specs.Told.{by_last, serves_by}
 
 -- ---- the steps of sessions are of a few kinds
 
@@ -74,12 +75,12 @@ step_served table m s is = subst Serves is (all_serve table m)
 -- ---- states
 
 -- a state of these parts
-abbrev pub known_so : Table → Found → List Bound → State
+abbrev pub known_so : Table → Found → Names → State
 known_so table found names = record { table = table; found = found; names = names }
 
-pub same_state : (table old : Table) (found was : Found) (names before : List Bound) → table ≡ old → found ≡ was → names ≡ before → known_so table found names ≡ known_so old was before
+pub same_state : (table old : Table) (found was : Found) (names before : Names) → table ≡ old → found ≡ was → names ≡ before → known_so table found names ≡ known_so old was before
 same_state table old found was names before a b c =
-    ap (λ (x : Table). known_so x found names) a ∙ ap (λ (x : Found). known_so old x names) b ∙ ap (λ (x : List Bound). known_so old was x) c
+    ap (λ (x : Table). known_so x found names) a ∙ ap (λ (x : Found). known_so old x names) b ∙ ap (λ (x : Names). known_so old was x) c
 
 -- ---- answers
 
@@ -90,12 +91,12 @@ told_served h s now m answer rs none gives =
     ap (λ (o : Option Step). outcome (serves_by h s m o) rs) none ∙ ap (λ (d : Doing State). outcome d rs) gives
 
 -- its step was played to its end
-pub play_served : (h : ℕ) (s now : State) (m : Tmsg) (played : Step) (names : List Bound) (x : Reply) (answer : List ℕ) (rs left : List Reply)
+pub play_served : (h : ℕ) (s now : State) (m : Tmsg) (played : Step) (names : Names) (x : Reply) (answer : List ℕ) (rs left : List Reply)
     → Plays h s.names played rs names (Some x) left → by_last s m names (Some x) ≡ Gives answer now
     → outcome (serves_by h s m (Some played)) rs ≡ served (Some answer) now left
 play_served h s now m played names x answer rs left plays gives = plays (by_last s m) ∙ ap (λ (d : Doing State). outcome d left) gives
 
 -- .. or it waits
-pub play_waits : (h : ℕ) (s now : State) (m : Tmsg) (played : Step) (names : List Bound) (rs left : List Reply)
+pub play_waits : (h : ℕ) (s now : State) (m : Tmsg) (played : Step) (names : Names) (rs left : List Reply)
     → Plays h s.names played rs names None left → outcome (serves_by h s m (Some played)) rs ≡ served None now left
 play_waits h s now m played names rs left plays = plays (by_last s m)

@@ -7,16 +7,17 @@ use Rattle.net_base.specs.declared.reply.Reply.{Reply}
 use Rattle.net_base.specs.declared.world.Step.{Step}
 use Rattle.net_base.specs.declared.world.Step.TheVariants as step
 use Rattle.net_base.specs.Next.{own_replies}
-use Rattle.net_base.specs.Steps.{Bound, play_of}
+use Rattle.net_base.specs.Steps.{Names, play_of}
 use Rattle.net_base.specs.declared.ninep.Tmsg.{Tmsg}
 use Rattle.script_task.specs.declared.request.Request.{Request}
 use Rattle.script_task.specs.declared.request.Request.TheVariants as request
 use Rattle.session_script.specs.Seen.{seen}
 use Rattle.net_base.specs.SessionScript.{Begins, IsStream, after}
 use Rattle.net_base.specs.Server.{Answered, Doing, Outcome, Waits, answers_to, doing_of, outcome}
-use Rattle.net_base.specs.Session.{State, session}
+use Rattle.net_base.specs.Session.{State}
 use Rattle.session_answers.specs.declared.session.Session.{Session}
 use Rattle.session_answers.specs.Found.{lines_by}
+use Rattle.session_answers.specs.Told.{session}
 
 -- what a session knows, as the definitions have it
 abbrev pub state_of : Session → State
@@ -32,14 +33,14 @@ served None s rs = Waits
 served (Some answer) s rs = Answered answer s rs
 
 -- what goes on with the names and the last reply of a step, where it has one
-abbrev pub went : (List Bound → Option Reply → Doing State) → List Bound → Option Reply → List Reply → Outcome State
+abbrev pub went : (Names → Option Reply → Doing State) → Names → Option Reply → List Reply → Outcome State
 went go_on names None rs = Waits
 went go_on names (Some x) rs = outcome (go_on names (Some x)) rs
 
 -- the step was played as far as its last reply, after which these names are bound and these replies are left
-abbrev pub Plays : ℕ → List Bound → Step → List Reply → List Bound → Option Reply → List Reply → Type 0
+abbrev pub Plays : ℕ → Names → Step → List Reply → Names → Option Reply → List Reply → Type 0
 Plays h names s rs now last left =
-    (go_on : List Bound → Option Reply → Doing State) → outcome (doing_of (play_of h names s) None go_on) rs ≡ went go_on now last left
+    (go_on : Names → Option Reply → Doing State) → outcome (doing_of (play_of h names s) None go_on) rs ≡ went go_on now last left
 
 -- the step is of a kind that sessions have
 abbrev pub IsServed : Step → Type 0

@@ -1,6 +1,8 @@
 //! The answers to the messages of a session.
 ghost use Rattle.std.specs.Prelude.{◌≡◌, ◌<◌, List, length, IfOk, IfSome, MatchOption};
 ghost use Rattle.net_base.specs.declared.ninep.Tmsg.{Tmsg as AnyTmsg};
+ghost use Rattle.net_base.specs.Next.{own_replies};
+ghost use Rattle.session_answers.specs.Told.{AreTold};
 ghost use Rattle.session_answers.specs.Served.{IsLast, IsServedFirst, answered_of, state_of};
 ghost use Rattle.session_script.specs.Seen.{seen};
 ghost use Rattle.net_base.specs.SessionTable.{IsSound};
@@ -23,7 +25,7 @@ pub fn answers_by(
     entries: &[Entry],
     owes: bool,
 ) -> Result<Lines, AllocError>
-    ensures { IfOk result (λ lines. (ms : List AnyTmsg) → AreMessages bytes.now ms
+    ensures { IfOk result (λ lines. (ms : List AnyTmsg) → AreMessages bytes.now ms → AreTold (own_replies entries.now caller)
         → lines ≡ answers_to (spec.session host) spec.first ms (answered_of owes entries.now caller)) }
 {
     let mut session = Session::new(alloc, host)?;

@@ -1,15 +1,15 @@
 //! The answers to messages with a step, by the reply to its last event.
-ghost use Rattle.std.specs.Prelude.{◌≡◌, IfOk};
+ghost use Rattle.std.specs.Prelude.{◌≡◌, ◌≤◌, false, length, IfOk, OnOk};
 ghost use Rattle.net_base.specs.declared.ninep.Tmsg.TheVariants as t;
 ghost use Rattle.net_base.specs.NinepMessages.{IsTmsg, t_tag};
 ghost use Rattle.net_base.specs.SessionAnswers as spec;
+ghost use Rattle.session_answers.specs.Told.{told_by, told_text};
 ghost use Rattle.session_script.specs.Seen.{seen};
 
 use crate::printed::printed;
 use crate::said::{error, piece, qid_of};
 use net_base::{FileName, Node, Octets, Reply};
 use ninep_wire::{Rmsg, Tmsg};
-use script_task::bytes_in;
 use session_script::{Table, is_data};
 use std::alloc::{AllocError, Global};
 
@@ -21,7 +21,8 @@ pub fn replied(
     reply: &Reply,
 ) -> Result<Rmsg, AllocError>
     requires { IsTmsg message.now }
-    ensures { IfOk result (λ m. m ≡ spec.replied (seen table.now) message.now reply.now) }
+    ensures told { IfOk result (λ m. m ≡ told_by (seen table.now) message.now reply.now) }
+    ensures short { OnOk result (spec.is_granting reply.now ≡ false → length (told_text reply.now) ≤ spec.longest_text) }
 {
     if is_granting(reply) {
         return granted(alloc, table, message, reply);
@@ -119,6 +120,15 @@ fn read(
     };
     let bytes = Octets::from_slice(alloc, piece(bytes_in(reply), skipped, table.room(count)))?;
     Ok(Rmsg::Read { tag, bytes })
+}
+
+fn bytes_in(reply: &Reply) -> &[u8]
+    ensures { result.now ≡ spec.bytes_in reply.now }
+{
+    match reply {
+        Reply::Bytes { bytes } => bytes.as_slice(),
+        _ => &[],
+    }
 }
 
 /// The tag of a request.

@@ -8,6 +8,7 @@ ghost use Rattle.net_base.specs.NinepMessages.{IsTmsg, longest};
 ghost use Rattle.script_task.specs.Effects.{opened, settles};
 ghost use Rattle.session_answers.specs.Found.{lines_by};
 ghost use Rattle.session_answers.specs.Served.{IsServed, Plays, asked, is_grant, served, state_of};
+ghost use Rattle.session_answers.specs.Told as told;
 ghost use Rattle.session_script.specs.Seen.{seen};
 ghost use Rattle.net_base.specs.SessionAnswers.{found_after, found_by};
 ghost use Rattle.net_base.specs.SessionScript.{after};
@@ -18,8 +19,8 @@ use crate::found::Found;
 use crate::replied::{node_at, replied};
 use crate::replies::Replies;
 use crate::said::said;
-use net_base::{Event, Lines, Mode, Octets, Reply, Sequence, Step, Version};
 use ndb_versions::IndexedVersions;
+use net_base::{Event, Lines, Mode, Octets, Reply, Sequence, Step, Version};
 use ninep_wire::{Tmsg, encode_r};
 use script_task::{Effect, Names, Request, effects_settle, is_accepted, plan};
 use session_script::{Table, is_cs, step_of};
@@ -60,7 +61,7 @@ impl Session {
         requires message { IsTmsg message.now }
         requires short { self.old.table.msize ≤ longest }
         ensures served { IfOk result (λ answer.
-            outcome ((spec.session self.old.host).serves (state_of self.old) message.now) replies.old ≡ served answer (state_of self.new) replies.new) }
+            outcome ((told.session self.old.host).serves (state_of self.old) message.now) replies.old ≡ served answer (state_of self.new) replies.new) }
         ensures heard { IfOk result (λ answer. IfSome answer (λ bytes. seen self.new.table ≡ after (seen self.old.table) message.now)) }
         ensures host { self.new.host ≡ self.old.host }
     {
@@ -95,7 +96,7 @@ impl Session {
         requires short { self.old.table.msize ≤ longest }
         requires step { IsServed step }
         ensures served { IfOk result (λ answer.
-            outcome (spec.serves_by self.old.host (state_of self.old) message.now (Some step)) replies.old ≡ served answer (state_of self.new) replies.new) }
+            outcome (told.serves_by self.old.host (state_of self.old) message.now (Some step)) replies.old ≡ served answer (state_of self.new) replies.new) }
         ensures heard { IfOk result (λ answer. IfSome answer (λ bytes. seen self.new.table ≡ after (seen self.old.table) message.now)) }
         ensures host { self.new.host ≡ self.old.host }
     {
@@ -110,7 +111,7 @@ impl Session {
         requires message { IsTmsg message.now }
         requires short { self.old.table.msize ≤ longest }
         ensures told { IfOk result (λ answer.
-            spec.by_last (state_of self.old) message.now self.old.names.names (Some reply.now) ≡ Gives answer (state_of self.new)) }
+            told.by_last (state_of self.old) message.now self.old.names.names (Some reply.now) ≡ Gives answer (state_of self.new)) }
         ensures heard { OnOk result (seen self.new.table ≡ after (seen self.old.table) message.now) }
         ensures host { self.new.host ≡ self.old.host }
     {

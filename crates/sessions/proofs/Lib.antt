@@ -1,4 +1,4 @@
 mod Tags
-mod Words
+pub mod Words
 mod WorkedSession
 pub mod Sayable

@@ -5,6 +5,6 @@ mod law;
 mod world;
 
 pub use law::{
-    a_session_is_answered, answers_have_the_tag, scripts_can_be_said, short_replies_are_told_whole,
+    a_session_is_answered, answers_have_the_tag, scripts_can_be_said, short_replies_have_room,
 };
 pub use world::{Session, SessionWorld, Sessions};

@@ -6,13 +6,13 @@ ghost use Rattle.net_base.specs.World.{IsWorld};
 ghost use Rattle.net_locks.specs.Rosters.{IsRosterOf};
 ghost use Rattle.thread_tests.specs.Worked as worked;
 
-use actor_machines::{Placing, WorldActor};
 use host_net::*;
 use journal::Naming;
 use net_base::{
     Db, Fates, History, HostSpec, Hosts, Iface, Ifaces, Media, MediumSpec, Mode, Nets, Octets,
     Proto, RouteLines, Script, Scripts, Starts, Step, StepList, Timers, Version, Versions, World,
 };
+use net_locks::{Placing, WorldActor};
 use outside::OpenGate;
 use script_task::Request;
 use std::alloc::{AllocError, Global};

@@ -5,7 +5,7 @@ use Rattle.net_base.specs.Next.{zone_of}
 use Rattle.net_base.specs.Stamped.{In}
 use Rattle.journal.specs.Rule.{Held}
 use Rattle.net_guests.specs.Visits.{AreFresh, IsFresh}
-use Rattle.host_net.proofs.Freshly.{all_numbers, fresh_more, given_own, kept_later}
+use Rattle.host_net.proofs.Freshly.{all_numbers, fresh_more, given_own, kept_later, some_versions}
 use Rattle.host_net.proofs.net.guests_of.Goals as goal
 
 pub loop-caller-init : goal.loop-caller-init
@@ -26,6 +26,9 @@ pub fresh-requires-clause-held : goal.fresh-requires-clause-held
 fresh-requires-clause-held g c =
     subst (λ (hs : List Held). In (number.Caller c.loop-caller.caller, []) hs) (sym c.split_pass-own.ensures.given.1)
     (given_own c.loop-caller.caller c.loop-caller.pass.held (c.loop-caller.invariant.1 c.loop-caller.caller (omega arith) (omega arith)))
+
+pub fresh-requires-clause-some : goal.fresh-requires-clause-some
+fresh-requires-clause-some g c = some_versions c.args.world.now _ c.requires.is (c.in_ok-dbs.ensures ∙ c.requires.dbs)
 
 pub loop-caller-preserved : goal.loop-caller-preserved
 loop-caller-preserved g c =

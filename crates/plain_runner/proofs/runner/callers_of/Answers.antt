@@ -50,4 +50,4 @@ returns c =
     (c.clock.ensures w (clock_number w) (clock_is w))))
 
 pub script-requires : goal.script-requires
-script-requires c = some_versions c.args.world.now _ c.requires.is (c.in_ok-dbs.ensures ∙ c.requires.dbs)
+script-requires c = record { some = some_versions c.args.world.now _ c.requires.is (c.in_ok-dbs.ensures ∙ c.requires.dbs) }

@@ -2,6 +2,7 @@ use Rattle.std.proofs.Common.{◌∙◌, ℕ, arith, subst, sym}
 use Rattle.std.proofs.lemmas.Bool.Decides.{nat_tests}
 use Rattle.session_answers.specs.Served.{IsLast, IsServedFirst, answered_of, state_of}
 use Rattle.session_answers.proofs.Answering.{answered_all, answered_last, answered_one, begun}
+use Rattle.session_answers.proofs.Told.{answers_are}
 use Rattle.sessions.proofs.Sayable.{opening_sound}
 use Rattle.net_base.specs.Session.{State}
 use Rattle.net_base.specs.SessionTable.{IsSound}
@@ -9,10 +10,10 @@ use Rattle.session_answers.proofs.answers.answers_by.Goals as goal
 
 pub loop-replies-init : goal.loop-replies-init
 loop-replies-init c = record {
-  so_far = begun c.args.host c.args.bytes.now (answered_of c.args.owes c.args.entries.now c.args.caller) c.new-replies.result (state_of c.new-session.result) c.new-answers.result
-      c.new-session.ensures.state c.new-answers.ensures c.new-replies.ensures;
-  sound = subst (λ (s : State). IsSound s.table) (sym c.new-session.ensures.state) opening_sound;
-  host = c.new-session.ensures.host;
+  so_far = begun c.args.host c.args.bytes.now (answered_of c.args.owes c.args.entries.now c.args.caller) c.new-replies.result (state_of c.in_ok-session.session) c.new-answers.result
+      c.in_ok-session.ensures.state c.new-answers.ensures c.new-replies.ensures;
+  sound = subst (λ (s : State). IsSound s.table) (sym c.in_ok-session.ensures.state) opening_sound;
+  host = c.in_ok-session.ensures.host;
 }
 
 -- the first message of what is left has its answer
@@ -37,12 +38,14 @@ returns-in_default c =
     let l = c.loop-replies in
     let s : State = state_of l.session in
     let last : IsLast l.session.host s l.rest.now l.replies = rw c.in_default.is at c.in_ok-answer.ensures.served in
-    answered_last c.args.host c.args.bytes.now (answered_of c.args.owes c.args.entries.now c.args.caller) l.answers s l.rest.now l.replies (grind (arith, nat_tests))
-    (subst (λ (h : ℕ). IsLast h s l.rest.now l.replies) l.invariant.host last) l.invariant.so_far
+    answers_are c.args.host c.args.bytes.now c.args.owes c.args.entries.now c.args.caller l.answers
+    (answered_last c.args.host c.args.bytes.now (answered_of c.args.owes c.args.entries.now c.args.caller) l.answers s l.rest.now l.replies (grind (arith, nat_tests))
+    (subst (λ (h : ℕ). IsLast h s l.rest.now l.replies) l.invariant.host last) l.invariant.so_far)
 
 -- none is left
 pub returns : goal.returns
 returns c =
     let l = c.loop-replies in
-    answered_all c.args.host c.args.bytes.now (answered_of c.args.owes c.args.entries.now c.args.caller) l.answers (state_of l.session) l.rest.now l.replies
-    (grind (arith, nat_tests)) l.invariant.so_far
+    answers_are c.args.host c.args.bytes.now c.args.owes c.args.entries.now c.args.caller l.answers
+    (answered_all c.args.host c.args.bytes.now (answered_of c.args.owes c.args.entries.now c.args.caller) l.answers (state_of l.session) l.rest.now l.replies
+    (grind (arith, nat_tests)) l.invariant.so_far)

@@ -1,9 +1,15 @@
 use Rattle.std.proofs.Common.{◌≡◌, ap, sym, subst, ◌∙◌}
 use Rattle.net_base.specs.declared.actor.ActorName.{ActorName}
 use Rattle.journal.specs.declared.tokens.Volume.{Volume}
-use Rattle.locked.specs.Acts.{made, IsDone, Stands}
+use Rattle.net_base.specs.declared.history.Entry.{Entry}
+use Rattle.locked.specs.Acts.{made, IsDone, IsTimely, Stands}
 use Rattle.locked.proofs.Standing.{stands_same, stands_after, is_done}
 use Rattle.locked.proofs.guarded.Guarded.act.Goals as goal
+
+pub record-stamp-requires-clause-timely : goal.record-stamp-requires-clause-timely
+record-stamp-requires-clause-timely g c =
+    subst (λ (a : ActorName). IsTimely g.J.Naming.run.roster a c.args.pass.now)
+    (sym (ap (λ (e : Entry). e.actor) c.in-Ok.ensures.ok.4 ∙ ap (λ (z : Volume). z.actor) c.self.view_is)) c.requires.timely
 
 pub invariant_of-self-in-Ok : goal.invariant_of-self-in-Ok
 invariant_of-self-in-Ok g c =

@@ -12,11 +12,13 @@ returns-clause-complete g c =
     let w = g.J.Placing.world in
     let p = c.args.pass in
     record {
-      guest = subst (λ (l : List Duty). IsGuest w g.J.Naming.run.roster c.args.caller p l) (sym c.new.ensures)
-          (c.guests_begin.ensures.guest w g.J.Naming.run.roster c.args.caller p c.requires.known c.requires.seen c.requires.held);
-      here = sym (ap moment c.requires.seen);
-      early = omega arith;
+      visit = record {
+        guest = subst (λ (l : List Duty). IsGuest w g.J.Naming.run.roster c.args.caller p l) (sym c.new.ensures)
+            (c.guests_begin.ensures.guest w g.J.Naming.run.roster c.args.caller p c.requires.known c.requires.seen c.requires.held);
+        here = sym (ap moment c.requires.seen);
+        early = omega arith;
+        covers = subst (λ (l : List (ℕ × Noted)). Covers l c.new-2.result) (sym (ap (at (number.Caller c.args.caller)) c.requires.seen)) c.new-2.ensures;
+        known = c.new-3.ensures w p.seen;
+      };
       home = c.requires.home;
-      covers = subst (λ (l : List (ℕ × Noted)). Covers l c.new-3.result) (sym (ap (at (number.Caller c.args.caller)) c.requires.seen)) c.new-3.ensures;
-      known = c.new-4.ensures w p.seen;
     }

@@ -17,7 +17,7 @@ returns-clause-taken g c =
     let r = g.J.Naming.run.roster in
     let v = c.args.self.visit in
     let p = c.into_pass.result in
-    let mine = subst (λ (q : Sight). IsGuest w r v.caller q v.owed) (sym c.into_pass.ensures.same) c.requires.complete.guest in
+    let mine = subst (λ (q : Sight). IsGuest w r v.caller q v.owed) (sym c.into_pass.ensures.same) c.requires.complete.visit.guest in
     let is = itself w r v p c.into_pass.ensures.same mine in
     with_that w r v p is c.meet.new.pass c.args.all.now c.meet.ensures
     (c.guests_meet.ensures.that w r v.caller c.args.all.now p c.meet.new.pass v.owed mine c.meet.ensures)

@@ -1,37 +1,14 @@
 use Rattle.std.proofs.Common.{Some, slice_get, ap, sym, subst, ◌∙◌}
 use Rattle.duties.specs.Queue.{work_of_duty}
-use Rattle.net_guests.specs.Visits.{Carried, IsComplete, Takes}
+use Rattle.net_guests.specs.Visits.{Carried, IsComplete, Takes, visit_of}
 use Rattle.net_guests.proofs.Firsts.{first_some}
-use Rattle.net_guests.proofs.Operating.{visit, visit_on}
+use Rattle.net_guests.proofs.Operating.{hosted_on}
 use Rattle.net_guests.proofs.bundle.Bundle.serve.Goals as goal
 
-pub serve-requires-clause-guest : goal.serve-requires-clause-guest
-serve-requires-clause-guest g c =
-    let w = g.J.Placing.world in
-    let r = g.J.Naming.run.roster in
-    let is = subst (λ (b : Carried). IsComplete w r b) (sym c.self.view_is) c.requires.complete in
-    is.guest
-
-pub serve-requires-clause-moment : goal.serve-requires-clause-moment
-serve-requires-clause-moment g c =
-    let w = g.J.Placing.world in
-    let r = g.J.Naming.run.roster in
-    let is = subst (λ (b : Carried). IsComplete w r b) (sym c.self.view_is) c.requires.complete in
-    is.here
-
-pub serve-requires-clause-early : goal.serve-requires-clause-early
-serve-requires-clause-early g c =
-    let w = g.J.Placing.world in
-    let r = g.J.Naming.run.roster in
-    let is = subst (λ (b : Carried). IsComplete w r b) (sym c.self.view_is) c.requires.complete in
-    is.early
-
-pub serve-requires-clause-covers : goal.serve-requires-clause-covers
-serve-requires-clause-covers g c =
-    let w = g.J.Placing.world in
-    let r = g.J.Naming.run.roster in
-    let is = subst (λ (b : Carried). IsComplete w r b) (sym c.self.view_is) c.requires.complete in
-    is.covers
+pub serve-requires-clause-complete : goal.serve-requires-clause-complete
+serve-requires-clause-complete g c =
+    let is = subst (λ (b : Carried). IsComplete g.J.Placing.world g.J.Naming.run.roster b) (sym c.self.view_is) c.requires.complete in
+    is.visit
 
 pub serve-requires-clause-some : goal.serve-requires-clause-some
 serve-requires-clause-some g c =
@@ -40,8 +17,7 @@ serve-requires-clause-some g c =
 
 pub returns-clause-turn : goal.returns-clause-turn
 returns-clause-turn g c d is =
-    let me = c.self.inside in
-    let new = visit me.caller me.now c.serve.new.pass c.serve.new.duties.list me.fids.names in
+    let new = visit_of c.serve.new.visitor c.self.inside.fids.names in
     subst (λ (b : Carried). Takes g.J.Placing.world d.actor (work_of_duty d) (Some d.cites) b.visit c.serve.result new) c.self.view_is
     (c.serve.ensures.turn d (ap (λ (b : Carried). slice_get b.visit.owed 0) c.self.view_is ∙ is))
 
@@ -50,6 +26,11 @@ returns-clause-complete g c =
     let w = g.J.Placing.world in
     let r = g.J.Naming.run.roster in
     let is = subst (λ (b : Carried). IsComplete w r b) (sym c.self.view_is) c.requires.complete in
-    let me = c.self.inside in
-    visit_on w r me.caller me.now me.pass c.serve.new.pass me.duties.list c.serve.new.duties.list me.host me.touched c.serve.new.touched
-    me.calendar (c.calendars_stay_known.ensures w) is c.serve.ensures.guest c.serve.ensures.moment c.serve.ensures.covers c.serve.ensures.grows
+    hosted_on w r c.self.inside.visitor c.serve.new.visitor c.self.inside.host c.serve.ensures.same.caller is.home c.serve.ensures.complete
+
+pub returns-clause-same : goal.returns-clause-same
+returns-clause-same g c =
+    record {
+      caller = c.serve.ensures.same.caller ∙ ap (λ (b : Carried). b.visit.caller) c.self.view_is;
+      now = c.serve.ensures.same.now ∙ ap (λ (b : Carried). b.visit.now) c.self.view_is;
+    }

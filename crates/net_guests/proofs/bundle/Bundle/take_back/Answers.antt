@@ -16,7 +16,7 @@ hand_over-requires g c =
     let away = c.requires.away.1 in
     let with = subst (λ (b : Carried). IsWith w r v b.visit.sight) (sym c.clock.view_is) c.requires.away.2 in
     let caller = ap (λ (x : Visit). x.caller) (sym away.visit_is) ∙ ap (λ (b : Carried). b.visit.caller) (sym c.self.view_is) in
-    subst (λ (n : ℕ). (es : List (ℕ × Noted)) × Holds clock.pass n es) caller (with.guest.list, with.guest.held)
+    subst (λ (n : ℕ). (es : List (ℕ × Noted)) × Holds clock.visitor.bearer.pass n es) caller (with.guest.list, with.guest.held)
 
 pub returns-clause-complete : goal.returns-clause-complete
 returns-clause-complete g c =
@@ -31,8 +31,8 @@ returns-clause-complete g c =
     let with = subst (λ (b : Carried). IsWith w r v b.visit.sight) (sym c.clock.view_is) c.requires.away.2 in
     let caller = ap (λ (x : Visit). x.caller) (sym away.visit_is) ∙ ap (λ (b : Carried). b.visit.caller) (sym c.self.view_is) in
     let owes = ap (λ (x : Visit). x.owed) (sym away.visit_is) ∙ ap (λ (b : Carried). b.visit.owed) (sym c.self.view_is) in
-    me_visits w r (law.over w r) (law.here w r) me.caller clock.pass me.pass c.hand_over.new.from c.hand_over.new.to c.hand_over.ensures
-    (c.calendars_stay_known.ensures w) v caller me.duties.list owes with clock.now had.here had.early me.host me.touched c.forget.new.self me.calendar
+    me_visits w r (law.over w r) (law.here w r) me.visitor.bearer.caller clock.visitor.bearer.pass me.visitor.bearer.pass c.hand_over.new.from c.hand_over.new.to c.hand_over.ensures
+    (c.calendars_stay_known.ensures w) v caller me.visitor.duties.list owes with clock.visitor.bearer.now had.visit.here had.visit.early me.host me.visitor.touched c.forget.new.self me.visitor.calendar
     (subst (λ (b : Carried). IsAway w v b) (sym c.self.view_is) away).home (subst (λ (b : Carried). IsAway w v b) (sym c.self.view_is) away).covers
     c.forget.ensures.covers (subst (λ (b : Carried). IsAway w v b) (sym c.self.view_is) away).known
 
@@ -53,7 +53,7 @@ returns-clause-with_itself g c v away is =
     let me = c.self.inside in
     let clock = c.clock.inside in
     let caller = ap (λ (x : Visit). x.caller) (sym away.visit_is) ∙ ap (λ (b : Carried). b.visit.caller) (sym c.self.view_is) in
-    returned w r (law.over w r) (law.here w r) me.caller clock.pass me.pass c.hand_over.new.from c.hand_over.new.to c.hand_over.ensures v caller
+    returned w r (law.over w r) (law.here w r) me.visitor.bearer.caller clock.visitor.bearer.pass me.visitor.bearer.pass c.hand_over.new.from c.hand_over.new.to c.hand_over.ensures v caller
     (subst (λ (b : Carried). IsWith w r v b.visit.sight) (sym c.clock.view_is) is)
 
 pub returns-clause-others : goal.returns-clause-others
@@ -63,7 +63,7 @@ returns-clause-others g c u other is =
     let law = c.guests_hand_over.ensures in
     let me = c.self.inside in
     let clock = c.clock.inside in
-    others_stay w r (law.over w r) (law.here w r) me.caller clock.pass me.pass c.hand_over.new.from c.hand_over.new.to c.hand_over.ensures u
+    others_stay w r (law.over w r) (law.here w r) me.visitor.bearer.caller clock.visitor.bearer.pass me.visitor.bearer.pass c.hand_over.new.from c.hand_over.new.to c.hand_over.ensures u
     (subst (λ (b : Carried). (u.caller == b.visit.caller) ≡ false) (sym c.self.view_is) other)
     (subst (λ (b : Carried). IsWith w r u b.visit.sight) (sym c.clock.view_is) is)
 
@@ -76,10 +76,10 @@ returns-clause-clock g c =
     let clock = c.clock.inside in
     let had = subst (λ (b : Carried). IsComplete w r b) (sym c.clock.view_is) c.requires.clock in
     let other =
-    subst (λ (b : Carried). (b.visit.caller == me.caller) ≡ false) (sym c.clock.view_is)
+    subst (λ (b : Carried). (b.visit.caller == me.visitor.bearer.caller) ≡ false) (sym c.clock.view_is)
     (subst (λ (b : Carried). (c.args.clock.now.visit.caller == b.visit.caller) ≡ false) (sym c.self.view_is) c.requires.other) in
-    clock_after w r (law.over w r) (law.here w r) me.caller clock.pass me.pass c.hand_over.new.from c.hand_over.new.to c.hand_over.ensures
-    (c.calendars_stay_known.ensures w) clock.caller clock.now clock.duties.list clock.host clock.touched clock.calendar other had
+    clock_after w r (law.over w r) (law.here w r) me.visitor.bearer.caller clock.visitor.bearer.pass me.visitor.bearer.pass c.hand_over.new.from c.hand_over.new.to c.hand_over.ensures
+    (c.calendars_stay_known.ensures w) clock.visitor.bearer.caller clock.visitor.bearer.now clock.visitor.duties.list clock.host clock.visitor.touched clock.visitor.calendar other had
 
 pub returns-clause-same : goal.returns-clause-same
 returns-clause-same g c =

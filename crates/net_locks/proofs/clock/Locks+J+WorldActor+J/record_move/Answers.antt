@@ -12,22 +12,22 @@ use Rattle.net_locks.proofs.clock.Locks+J+WorldActor+J.record_move.Goals as goal
 pub act_clock-requires-clause-room : goal.act_clock-requires-clause-room
 act_clock-requires-clause-room g c = (c.requires.guest.list, c.requires.guest.held, omega (arith, ap length c.requires.guest.all, c.requires.room))
 
-pub returns-in-Done : goal.returns-in-Done
-returns-in-Done g c =
+pub returns-in-Done-clause-leaves : goal.returns-in-Done-clause-leaves
+returns-in-Done-clause-leaves g c =
     let w = g.J.Placing.world in
     let r = g.J.Naming.run.roster in
-    let k = c.args.caller in
+    let k = c.args.bearer.now.caller in
     let m = c.args.moment in
-    let p = c.args.pass.now in
+    let p = c.args.bearer.now.pass in
     let p' = c.act_clock.new.pass in
     let ds = c.args.duties.now.list in
-    let d = subst (λ (a : ActorName). Records w r a k c.args.now (bare (event.Move m)) None p c.in-Done.stamp c.in-Done.outcome p') c.in-Some.ensures.some c.in-Done.ensures in
+    let d = subst (λ (a : ActorName). Records w r a k c.args.bearer.now.now (bare (event.Move m)) None p c.in-Done.stamp c.in-Done.outcome p') c.in-Some.ensures.some c.in-Done.ensures in
     let turn = subst (λ (l : List Duty). IsTurn w k p l name.Clock (bare (event.Move m)) None) (sym c.requires.free) (c.turns_are_these.ensures.clock w k p m c.requires.clock) in
-    let rec = c.guests_record.ensures w r name.Clock k c.args.now (bare (event.Move m)) None p ds c.in-Done.stamp c.in-Done.outcome p' c.requires.guest turn d in
-    leaves_moved w r k c.args.now m p p' ds c.requires.guest c.in-Done.stamp c.in-Done.outcome d rec c.requires.numbers c.requires.free c.a_move_owes_its_ticks.ensures
+    let rec = c.guests_record.ensures w r name.Clock k c.args.bearer.now.now (bare (event.Move m)) None p ds c.in-Done.stamp c.in-Done.outcome p' c.requires.guest turn d in
+    leaves_moved w r k c.args.bearer.now.now m p p' ds c.requires.guest c.in-Done.stamp c.in-Done.outcome d rec c.requires.numbers c.requires.free c.a_move_owes_its_ticks.ensures
     (c.nets_of_works_grow.ensures.next w) (c.nets_of_works_grow.ensures.moment w)
-    (λ other es apart guest. c.guests_stay_by_others.ensures w r name.Clock k other c.args.now (bare (event.Move m)) None p es c.in-Done.stamp c.in-Done.outcome p' guest apart d)
+    (λ other es apart guest. c.guests_stay_by_others.ensures w r name.Clock k other c.args.bearer.now.now (bare (event.Move m)) None p es c.in-Done.stamp c.in-Done.outcome p' guest apart d)
     c.requires.room c.requires.in_time c.args.dues.now c.requires.dues c.owe_ticks.new.self.list c.owe_ticks.ensures.list
 
-pub returns-in-NotReady : goal.returns-in-NotReady
-returns-in-NotReady g c = (looked_same g.J.Naming.run.roster c.args.pass.now c.in-NotReady.front c.act_clock.new.pass c.requires.numbers c.in-NotReady.ensures.look, refl)
+pub returns-in-NotReady-clause-leaves : goal.returns-in-NotReady-clause-leaves
+returns-in-NotReady-clause-leaves g c = (looked_same g.J.Naming.run.roster c.args.bearer.now.pass c.in-NotReady.front c.act_clock.new.pass c.requires.numbers c.in-NotReady.ensures.look, refl)

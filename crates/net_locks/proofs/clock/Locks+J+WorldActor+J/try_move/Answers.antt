@@ -1,110 +1,52 @@
-use Rattle.std.proofs.Common.{◌≤◌, List, length, ap, sym, subst, ◌∙◌}
-use Rattle.net_base.specs.declared.actor.ActorName.TheVariants as name
-use Rattle.net_base.specs.declared.event.Event.TheVariants as event
+use Rattle.std.proofs.Common.{◌≡◌, ℕ, Option, List, ap, sym, subst, ◌∙◌, arith}
 use Rattle.net_base.specs.declared.world.World.{World}
-use Rattle.net_base.specs.Calm.{least}
 use Rattle.net_base.specs.Duties.{Duty}
-use Rattle.net_base.specs.Legal.{IsInTime}
 use Rattle.net_base.specs.Stamped.{moment as moment_of}
 use Rattle.journal.specs.declared.tokens.Sight.{Sight}
-use Rattle.journal.specs.Tokens.{HoldsAll}
-use Rattle.duties.specs.Ticking.{dues_of}
+use Rattle.due_moments.specs.Marks.{Covers, Marks}
 use Rattle.guest_laws.specs.Guests.{IsGuest}
-use Rattle.guest_laws.specs.Works.{noted_net}
-use Rattle.net_locks.specs.Standings.{awaited_moments}
-use Rattle.net_locks.specs.Knowing.{IsKnown}
-use Rattle.net_locks.specs.Turns.{HasRoom, bare}
-use Rattle.net_locks.proofs.Concluding.{free_of}
-use Rattle.net_locks.proofs.Covered.{recorded_grows}
-use Rattle.net_locks.proofs.Knowledge.{known_on}
-use Rattle.net_locks.proofs.Leasts.{target_is}
-use Rattle.net_locks.proofs.Moved.{moved_so, unmoved_so}
-use Rattle.net_locks.proofs.Sighted.{holds_all}
-use Rattle.net_locks.proofs.Turning.{on_ok}
+use Rattle.net_locks.specs.Moving.{MayGo}
+use Rattle.net_locks.specs.Turns.{own}
+use Rattle.net_locks.proofs.Visited.{early_end}
 use Rattle.net_locks.proofs.clock.Locks+J+WorldActor+J.try_move.Goals as goal
 
-pub record_move-moved-requires-clause-guest : goal.record_move-moved-requires-clause-guest
-record_move-moved-requires-clause-guest g c =
-    subst (λ (l : List Duty). IsGuest g.J.Placing.world g.J.Naming.run.roster c.args.caller c.catch_up.new.pass l) (sym c.reserve.ensures.list)
-    (subst (λ (q : Sight). IsGuest g.J.Placing.world g.J.Naming.run.roster c.args.caller q c.args.duties.now.list) (sym c.catch_up.ensures.same) c.requires.guest)
-
-pub record_move-moved-requires-clause-free : goal.record_move-moved-requires-clause-free
-record_move-moved-requires-clause-free g c =
-    c.reserve.ensures.list ∙ free_of g.J.Placing.world g.J.Naming.run.roster c.args.caller c.args.pass.now c.args.duties.now.list c.requires.guest c.requires.may.free
-
-pub record_move-moved-requires-clause-moment : goal.record_move-moved-requires-clause-moment
-record_move-moved-requires-clause-moment g c = c.requires.moment ∙ ap (λ (q : Sight). moment_of q.seen) (sym c.catch_up.ensures.same)
-
-pub record_move-moved-requires-clause-numbers : goal.record_move-moved-requires-clause-numbers
-record_move-moved-requires-clause-numbers g c =
-    subst (λ (q : Sight). HoldsAll g.J.Naming.run.roster q) (sym c.catch_up.ensures.same)
-    (holds_all g.J.Placing.world g.J.Naming.run.roster c.args.pass.now c.args.standings.now c.requires.all)
-
-pub record_move-moved-requires-clause-room : goal.record_move-moved-requires-clause-room
-record_move-moved-requires-clause-room g c = subst (λ (q : Sight). HasRoom c.args.caller q) (sym c.catch_up.ensures.same) c.requires.may.room
-
-pub record_move-moved-requires-clause-dues : goal.record_move-moved-requires-clause-dues
-record_move-moved-requires-clause-dues g c =
-    c.as_slice-dues.ensures
-    ∙ (c.catch_up.ensures.dues c.if-not-catch_up.false
-    ∙ ap (λ (q : Sight). dues_of g.J.Placing.world (noted_net g.J.Placing.world q.seen).actors) (sym c.catch_up.ensures.same))
-
-pub record_move-moved-requires-clause-reserved : goal.record_move-moved-requires-clause-reserved
-record_move-moved-requires-clause-reserved g c =
-    on_ok (length c.as_slice-dues.result.now ≤ c.reserve.new.self.room) c.reserve.result (sym c.is_err.ensures.value ∙ c.if-is_err.false) c.reserve.ensures.ok
-
-pub record_move-moved-requires-clause-in_time : goal.record_move-moved-requires-clause-in_time
-record_move-moved-requires-clause-in_time g c =
+pub returns-in_default-clause-complete : goal.returns-in_default-clause-complete
+returns-in_default-clause-complete g c =
     let w = g.J.Placing.world in
-    let p = c.args.pass.now in
-    let t = target_is w g.J.Naming.run.roster p c.args.standings.now c.requires.all c.args.self.now.of.roster.callers_are (c.nets_of_works_grow.ensures.past w p.seen)
-    (c.conversations_are_these.ensures.only w) (c.targets_are_least.ensures w (noted_net w p.seen)) c.as_slice-dues.result.now c.least_awaited-awaited.result
-    c.least_due-moment.result (c.as_slice-dues.ensures ∙ c.catch_up.ensures.dues c.if-not-catch_up.false)
-    (c.least_awaited-awaited.ensures ∙ ap (λ (v : World). least v.end (awaited_moments c.args.standings.now)) (sym c.requires.world)) c.least_due-moment.ensures in
-    subst (λ (q : Sight). IsInTime (noted_net w q.seen) w (event.Move c.least_due-moment.result)) (sym c.catch_up.ensures.same) (c.requires.may.may, t.0)
+    let r = g.J.Naming.run.roster in
+    let v = c.args.visitor.now in
+    let v' = c.reach.new.visitor in
+    let is = c.requires.complete in
+    let b = c.reach.ensures.same in
+    let still : (v'.bearer.pass ≡ v.bearer.pass) × (v'.duties.list ≡ v.duties.list) =
+    subst (λ (o : Option ℕ). MayGo w r v.bearer.caller v.bearer.now v.bearer.pass v.duties.list o v'.bearer.pass v'.duties.list) c.in_default.is c.reach.ensures.go in
+    record {
+      guest = subst (λ (n : ℕ). IsGuest w r n v'.bearer.pass v'.duties.list) (sym b.caller)
+          (subst (λ (l : List Duty). IsGuest w r v.bearer.caller v'.bearer.pass l) (sym still.1)
+          (subst (λ (q : Sight). IsGuest w r v.bearer.caller q v.duties.list) (sym still.0) is.guest));
+      here = b.now ∙ (is.here ∙ ap (λ (q : Sight). moment_of q.seen) (sym still.0));
+      early = omega (arith, is.early, b.now);
+      covers = subst (λ (n : ℕ). Covers (own n v'.bearer.pass) v'.touched) (sym b.caller)
+          (subst (λ (q : Sight). Covers (own v.bearer.caller q) v'.touched) (sym still.0)
+          (subst (λ (m : Marks). Covers (own v.bearer.caller v.bearer.pass) m) (sym c.reach.ensures.touched) is.covers));
+      known = c.reach.ensures.known;
+    }
 
-pub returns-then-not-moved-clause-go : goal.returns-then-not-moved-clause-go
-returns-then-not-moved-clause-go g c =
-    unmoved_so g.J.Placing.world g.J.Naming.run.roster c.args.caller c.args.now c.least_due-moment.result c.args.pass.now c.catch_up.new.pass c.record_move-moved.new.pass
-    c.args.duties.now.list c.reserve.new.self.list c.record_move-moved.new.duties.list c.catch_up.ensures.same c.reserve.ensures.list c.record_move-moved.result
-    c.record_move-moved.ensures c.if-not-moved.true
-
-pub returns-then-not-moved-clause-known : goal.returns-then-not-moved-clause-known
-returns-then-not-moved-clause-known g c =
-    let still = unmoved_so g.J.Placing.world g.J.Naming.run.roster c.args.caller c.args.now c.least_due-moment.result c.args.pass.now c.catch_up.new.pass
-    c.record_move-moved.new.pass c.args.duties.now.list c.reserve.new.self.list c.record_move-moved.new.duties.list c.catch_up.ensures.same c.reserve.ensures.list
-    c.record_move-moved.result c.record_move-moved.ensures c.if-not-moved.true in
-    subst (λ (q : Sight). IsKnown g.J.Placing.world q.seen c.catch_up.new.calendar) (sym still.0) c.catch_up.ensures.known
-
-pub returns-clause-go : goal.returns-clause-go
-returns-clause-go g c =
+pub returns-clause-complete : goal.returns-clause-complete
+returns-clause-complete g c =
     let w = g.J.Placing.world in
-    let p = c.args.pass.now in
-    let t = target_is w g.J.Naming.run.roster p c.args.standings.now c.requires.all c.args.self.now.of.roster.callers_are (c.nets_of_works_grow.ensures.past w p.seen)
-    (c.conversations_are_these.ensures.only w) (c.targets_are_least.ensures w (noted_net w p.seen)) c.as_slice-dues.result.now c.least_awaited-awaited.result
-    c.least_due-moment.result (c.as_slice-dues.ensures ∙ c.catch_up.ensures.dues c.if-not-catch_up.false)
-    (c.least_awaited-awaited.ensures ∙ ap (λ (v : World). least v.end (awaited_moments c.args.standings.now)) (sym c.requires.world)) c.least_due-moment.ensures in (
-      moved_so w g.J.Naming.run.roster c.args.caller c.args.now c.least_due-moment.result p c.catch_up.new.pass c.record_move-moved.new.pass c.args.duties.now.list
-          c.reserve.new.self.list c.record_move-moved.new.duties.list c.catch_up.ensures.same c.reserve.ensures.list c.record_move-moved.result c.record_move-moved.ensures c.if-not-moved.false,
-      t.0,
-      t.1,
-    )
-
-pub returns-clause-known : goal.returns-clause-known
-returns-clause-known g c =
-    let w = g.J.Placing.world in
-    let p = c.args.pass.now in
-    let m = c.least_due-moment.result in
-    let moved = moved_so w g.J.Naming.run.roster c.args.caller c.args.now m p c.catch_up.new.pass c.record_move-moved.new.pass c.args.duties.now.list
-    c.reserve.new.self.list c.record_move-moved.new.duties.list c.catch_up.ensures.same c.reserve.ensures.list c.record_move-moved.result c.record_move-moved.ensures c.if-not-moved.false in
-    known_on w p.seen c.record_move-moved.new.pass.seen c.catch_up.new.calendar
-    (recorded_grows w c.args.caller c.args.now name.Clock (bare (event.Move m)) _ p c.record_move-moved.new.pass c.args.duties.now.list c.record_move-moved.new.duties.list
-    moved.entry.stamp moved.entry.reply moved.entry.turn) c.catch_up.ensures.known
-
-pub returns-then-not-catch_up-clause-known : goal.returns-then-not-catch_up-clause-known
-returns-then-not-catch_up-clause-known g c =
-    subst (λ (q : Sight). IsKnown g.J.Placing.world q.seen c.catch_up.new.calendar) (sym c.catch_up.ensures.same) c.catch_up.ensures.known
-
-pub returns-then-is_err-clause-known : goal.returns-then-is_err-clause-known
-returns-then-is_err-clause-known g c =
-    subst (λ (q : Sight). IsKnown g.J.Placing.world q.seen c.catch_up.new.calendar) (sym c.catch_up.ensures.same) c.catch_up.ensures.known
+    let r = g.J.Naming.run.roster in
+    let v = c.args.visitor.now in
+    let v' = c.reach.new.visitor in
+    let is = c.requires.complete in
+    let m = c.in-Some.moment in
+    let b = c.reach.ensures.same in
+    let gone = subst (λ (o : Option ℕ). MayGo w r v.bearer.caller v.bearer.now v.bearer.pass v.duties.list o v'.bearer.pass v'.duties.list) c.in-Some.is c.reach.ensures.go in
+    record {
+      guest = subst (λ (n : ℕ). IsGuest w r n v'.bearer.pass v'.duties.list) (sym b.caller) gone.0.guest;
+      here = gone.0.here;
+      early = early_end m c.args.world.now.end c.requires.is.end (omega (arith, gone.2, ap (λ (u : World). u.end) c.requires.world));
+      covers = c.forget.ensures.covers (own v'.bearer.caller v'.bearer.pass) (subst (λ (n : ℕ). Covers (own n v'.bearer.pass) v'.touched) (sym b.caller)
+          (subst (λ (t : Marks). Covers (own v.bearer.caller v'.bearer.pass) t) (sym c.reach.ensures.touched) (gone.0.covers v.touched is.covers)));
+      known = c.reach.ensures.known;
+    }

@@ -1,5 +1,5 @@
-use Rattle.std.proofs.Common.{ℕ, [], ap}
-use Rattle.net_tree.specs.Bindings.{Bindings}
+use Rattle.std.proofs.Common.{ℕ, []}
+use Rattle.net_base.specs.Steps.{no_names}
 use Rattle.session_answers.specs.Found.{lines_by}
 use Rattle.session_script.specs.Seen.{seen}
 use Rattle.net_base.specs.SessionTable.{opening}
@@ -8,5 +8,5 @@ use Rattle.session_answers.proofs.session.Session.new.Goals as goal
 
 pub returns-clause-state : goal.returns-clause-state
 returns-clause-state c =
-    same_state (seen c.new.result) opening (lines_by c.new-2.result) (λ (n : ℕ). []) c.new-3.result.names []
-    c.new.ensures c.new-2.ensures (ap (λ (b : Bindings). b.names) c.new-3.ensures)
+    same_state (seen c.new.result) opening (lines_by c.new-2.result) (λ (n : ℕ). []) _ (no_names [])
+    c.new.ensures c.new-2.ensures c.in_ok-no_names.ensures

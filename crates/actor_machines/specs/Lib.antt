@@ -1,2 +1,0 @@
-pub mod Placed
-pub use Rattle.guest_laws.specs.Named
