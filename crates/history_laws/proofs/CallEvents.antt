@@ -224,14 +224,14 @@ module _ (h : ℕ) (P : ActorName → Event → Type 0) (R : Reply → Type 0) (
         on_last names None = tt
         on_last names (Some r) = tt
 
-    shared : (open : List ℕ) (m : Tmsg) (last : Option Reply) (d : Doing State) → DoingRecords d → DoingRecords (sharing open m last d)
-    shared open m last (Does ask next) own = (own.0, λ r fine. shared open m (Some r) (next r) (own.1 r fine))
-    shared open m last (Gives answer later) own = tt
+    shared : (opened : List ℕ) (m : Tmsg) (last : Option Reply) (d : Doing State) → DoingRecords d → DoingRecords (sharing opened m last d)
+    shared opened m last (Does ask next) own = (own.0, λ r fine. shared opened m (Some r) (next r) (own.1 r fine))
+    shared opened m last (Gives answer later) own = tt
 
     on_text : (s : Sharing) (o : Option Tmsg) → DoingRecords (serves_text h s o)
     on_text s None = tt
     on_text s (Some m) =
-        shared s.open m None (serves_by h s.session m (option_map dotted_step (step_of s.session.table m))) (by_step s.session m (step_of s.session.table m) (on_step s.session.table m))
+        shared s.opened m None (serves_by h s.session m (option_map dotted_step (step_of s.session.table m))) (by_step s.session m (step_of s.session.table m) (on_step s.session.table m))
 
     then_each : (p : Play) (go_on : Names → Play) → Good p → ((names : Names) → Good (go_on names)) → Good (and_then p go_on)
     then_each (Ends names) go_on f g = g names
@@ -245,7 +245,7 @@ module _ (h : ℕ) (P : ActorName → Event → Type 0) (R : Reply → Type 0) (
   export_good : (called : List ℕ) (names : Names) → IsNamed h P called → IsExporting h P → Good (export_play h called names)
   export_good called names named is =
       one.either h P R fits (is_dotted called) (uses h called names) (exports (exported h) (own_of h called names) most_requests (unheard names)) (one.ending h P R fits _ _ names named.0)
-      (exports_good (exported h) (own_of h called names) (own_well called names named) (λ s text. on_text is s (read_t text)) (λ s. closing is s.open s.session.names) most_requests (unheard names))
+      (exports_good (exported h) (own_of h called names) (own_well called names named) (λ s text. on_text is s (read_t text)) (λ s. closing is s.opened s.session.names) most_requests (unheard names))
 
   -- ---- steps
 

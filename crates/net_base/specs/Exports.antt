@@ -101,28 +101,28 @@ opens_file _ = false
 -- a session, and the fids for which a file is open, in ascending order
 pub record Sharing : Type 0 where
   pub session : State
-  pub open : List ℕ
+  pub opened : List ℕ
 
 -- a file is open for a fid from a Topen that opens it to its Tclunk, or Tremove, whatever these are replied
 abbrev pub open_by : List ℕ → Tmsg → Reply → List ℕ
-open_by open (t.Open tag fid mode) x = if opens_file x then put_in fid open else open
-open_by open (t.Clunk tag fid) x = without fid open
-open_by open (t.Remove tag fid) x = without fid open
-open_by open _ x = open
+open_by opened (t.Open tag fid mode) x = if opens_file x then put_in fid opened else opened
+open_by opened (t.Clunk tag fid) x = without fid opened
+open_by opened (t.Remove tag fid) x = without fid opened
+open_by opened _ x = opened
 
 -- by the last reply to the events of the message's step, if it has one
 abbrev pub open_after : List ℕ → Tmsg → Option Reply → List ℕ
-open_after open m None = open
-open_after open m (Some x) = open_by open m x
+open_after opened m None = opened
+open_after opened m (Some x) = open_by opened m x
 
 -- what a message does, where a file is open for these before it
 abbrev pub sharing : List ℕ → Tmsg → Option Reply → Doing State → Doing Sharing
-sharing open m last (Does ask next) = Does ask (λ (r : Reply). sharing open m (Some r) (next r))
-sharing open m last (Gives answer s) = Gives answer (record { session = s; open = open_after open m last })
+sharing opened m last (Does ask next) = Does ask (λ (r : Reply). sharing opened m (Some r) (next r))
+sharing opened m last (Gives answer s) = Gives answer (record { session = s; opened = open_after opened m last })
 
 abbrev pub serves_text : ℕ → Sharing → Option Tmsg → Doing Sharing
 serves_text h s None = Gives bad_message s
-serves_text h s (Some m) = sharing s.open m None (serves_by h s.session m (option_map dotted_step (step_of s.session.table m)))
+serves_text h s (Some m) = sharing s.opened m None (serves_by h s.session m (option_map dotted_step (step_of s.session.table m)))
 
 -- their files are closed one after another, whatever the replies
 abbrev pub closes_each : ℕ → List ℕ → Names → Play
@@ -131,7 +131,7 @@ closes_each h (n ∷ ns) names = and_then (play_of h names (step.Close (dotted_f
 
 -- nothing was heard yet, and these names are bound
 abbrev pub unheard : Names → Sharing
-unheard names = record { session = record first { table = record opening { msize = longest_exported }; names = names }; open = [] }
+unheard names = record { session = record first { table = record opening { msize = longest_exported }; names = names }; opened = [] }
 
 -- the session of a step of a host
 abbrev pub exported : ℕ → Server Sharing (List ℕ)
@@ -140,7 +140,7 @@ exported h =
       opening = unheard (no_names []);
       names = λ (s : Sharing). s.session.names;
       serves = λ (s : Sharing) (text : List ℕ). serves_text h s (read_t text);
-      closes = λ (s : Sharing). closes_each h s.open s.session.names;
+      closes = λ (s : Sharing). closes_each h s.opened s.session.names;
     }
 
 -- so the names of these files begin, and none that a world says

@@ -34,13 +34,13 @@ use Rattle.session_script.specs.Seen.{Kept, kept}
 pub record Serving : Type 0 where
   pub table : Kept
   pub found : List (ℕ × List ℕ)
-  pub open : List ℕ
+  pub opened : List ℕ
   pub message : Option Tmsg
   pub request : Option Request
   pub answer : List ℕ
 
 abbrev pub seen : Code → Serving
-seen s = record { table = kept s.table; found = s.found.entries.entries; open = rising s.open; message = s.message; request = s.request; answer = s.answer }
+seen s = record { table = kept s.table; found = s.found.entries.entries; opened = rising s.opened; message = s.message; request = s.request; answer = s.answer }
 
 -- ---- the tables of the definitions
 
@@ -116,11 +116,11 @@ hears s text = hears_by s (read_t text)
 
 -- a file is open for the fid, where the reply opens one; none is where it was clunked
 abbrev pub keeps_of : Serving → Tmsg → Reply → Serving
-keeps_of s (t.Open tag fid mode) r = if is_opening r then record s { open = put_in fid s.open } else s
+keeps_of s (t.Open tag fid mode) r = if is_opening r then record s { opened = put_in fid s.opened } else s
 keeps_of s (t.Write tag fid offset bytes) r =
     if is_cs (answers.node_at (table_of s.table) fid) then record s { found = insert_entry nat_eq s.found fid (lines_of (lines_in r)) } else s
-keeps_of s (t.Clunk tag fid) r = record s { open = without fid s.open; found = drop_entry fid s.found }
-keeps_of s (t.Remove tag fid) r = record s { open = without fid s.open; found = drop_entry fid s.found }
+keeps_of s (t.Clunk tag fid) r = record s { opened = without fid s.opened; found = drop_entry fid s.found }
+keeps_of s (t.Remove tag fid) r = record s { opened = without fid s.opened; found = drop_entry fid s.found }
 keeps_of s _ r = s
 
 abbrev pub keeps_by : Serving → Option Tmsg → Reply → Serving
@@ -148,14 +148,14 @@ told s r = told_by s s.request r
 -- ---- the end
 
 abbrev pub fresh_serving : Serving
-fresh_serving = record { table = record { is_first = true; msize = longest_exported; fids = [] }; found = []; open = []; message = None; request = None; answer = [] }
+fresh_serving = record { table = record { is_first = true; msize = longest_exported; fids = [] }; found = []; opened = []; message = None; request = None; answer = [] }
 
 -- the file that is closed next
 abbrev pub closes : Serving → Option Request
-closes s = option_map (λ (n : ℕ). request.Close (dotted_fid n)) (first_of s.open)
+closes s = option_map (λ (n : ℕ). request.Close (dotted_fid n)) (first_of s.opened)
 
 abbrev pub closed_one : Serving → Serving
-closed_one s = record s { open = drop 1 s.open }
+closed_one s = record s { opened = drop 1 s.opened }
 
 -- ---- what it stands for
 
@@ -164,7 +164,7 @@ pub record StandsAs (names : Names) (v : Serving) (s : Sharing) : Type 0 where
   pub table : table_of v.table ≡ s.session.table
   pub found : lines_in_table v.found ≡ s.session.found
   pub names_are : s.session.names ≡ names
-  pub open : v.open ≡ s.open
+  pub opened : v.opened ≡ s.opened
 
 -- between requests
 abbrev pub Rests : ℕ → Names → Serving → Sharing → Type 0
@@ -174,11 +174,11 @@ Rests h names v s = StandsAs names v s
 pub data Serves (h : ℕ) (names : Names) (v : Serving) : Doing Sharing → Type 0 where
   IsAnswered : (s : Sharing) → v.request ≡ None → StandsAs names v s → Serves h names v (Gives v.answer s)
   IsAsking : (s : Sharing) (m : Tmsg) (q : Request) → v.request ≡ Some q → v.message ≡ Some m → StandsAs names v s
-      → Serves h names v (sharing s.open m None (doing_of (request_play h names q) None (by_last s.session m)))
+      → Serves h names v (sharing s.opened m None (doing_of (request_play h names q) None (by_last s.session m)))
   -- the conversation of a file is awaited
   IsWaiting : (s : Sharing) (m : Tmsg) (called : List ℕ) (last : Reply) → v.request ≡ Some (request.Wait called) → v.message ≡ Some m → StandsAs names v s
-      → Serves h names v (sharing s.open m (Some last) (doing_of (request_play h names (request.Wait called)) (Some last) (by_last s.session m)))
+      → Serves h names v (sharing s.opened m (Some last) (doing_of (request_play h names (request.Wait called)) (Some last) (by_last s.session m)))
 
 -- at the end
 abbrev pub Closes : ℕ → Names → Serving → Play → Type 0
-Closes h names v p = p ≡ closes_each h v.open names
+Closes h names v p = p ≡ closes_each h v.opened names

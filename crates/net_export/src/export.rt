@@ -139,7 +139,7 @@ impl Task for Export {
         match self.phase {
             ExportPhase::Read => self.left == 0,
             ExportPhase::Serve => false,
-            ExportPhase::Close => self.serving.open.least().is_none(),
+            ExportPhase::Close => self.serving.opened.least().is_none(),
         }
     }
 
@@ -148,7 +148,7 @@ impl Task for Export {
             ExportPhase::Read => self.hear(alloc, bytes_in(&reply)),
             ExportPhase::Serve => self.serve(alloc, &reply),
             ExportPhase::Close => {
-                self.serving.open.drop_least();
+                self.serving.opened.drop_least();
                 Ok(())
             }
         }

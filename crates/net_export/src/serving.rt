@@ -22,7 +22,7 @@ const NO_TAG: u16 = 0xffff;
 pub struct Serving {
     pub(crate) table: Table,
     pub(crate) found: Found,
-    pub(crate) open: OpenFids,
+    pub(crate) opened: OpenFids,
     // the message that is served, where it has a step
     pub(crate) message: Option<Tmsg>,
     // the next request of that step
@@ -39,7 +39,7 @@ impl Serving {
         Serving {
             table: Table::shorter(alloc, LONGEST),
             found: Found::new(alloc),
-            open: OpenFids::new(alloc),
+            opened: OpenFids::new(alloc),
             message: None,
             request: None,
             answer: Octets::new(alloc),
@@ -148,7 +148,7 @@ impl Serving {
         match message {
             Tmsg::Open { fid, .. } => {
                 if is_opening(reply) {
-                    self.open.add(*fid)?;
+                    self.opened.add(*fid)?;
                 }
             }
             Tmsg::Write { fid, .. } => {
@@ -158,7 +158,7 @@ impl Serving {
                 }
             }
             Tmsg::Clunk { fid, .. } | Tmsg::Remove { fid, .. } => {
-                self.open.remove(*fid);
+                self.opened.remove(*fid);
                 self.found.forget(*fid);
             }
             _ => {}
@@ -182,7 +182,7 @@ impl Serving {
     pub(crate) fn closes(&self, alloc: Global) -> Result<Option<Request>, AllocError>
         ensures { IfOk result (λ q. q ≡ spec.closes (spec.seen self.now)) }
     {
-        match self.open.least() {
+        match self.opened.least() {
             Some(fid) => Ok(Some(Request::Close {
                 name: dotted_fid(alloc, fid)?,
             })),

@@ -277,14 +277,14 @@ module _ (z : Tuples) (h : ℕ) where
   SharingLeaves (Does ask next) = (r : Reply) → SharingLeaves (next r)
   SharingLeaves (Gives answer later) = later.session.names.zone ≡ z
 
-  shared : (open : List ℕ) (m : Tmsg) (last : Option Reply) (d : Doing State) → DoingLeaves d → SharingLeaves (sharing open m last d)
-  shared open m last (Does ask next) is = λ r. shared open m (Some r) (next r) (is r)
-  shared open m last (Gives answer later) is = is
+  shared : (opened : List ℕ) (m : Tmsg) (last : Option Reply) (d : Doing State) → DoingLeaves d → SharingLeaves (sharing opened m last d)
+  shared opened m last (Does ask next) is = λ r. shared opened m (Some r) (next r) (is r)
+  shared opened m last (Gives answer later) is = is
 
   served : (st : Sharing) (o : Option Tmsg) → st.session.names.zone ≡ z → SharingLeaves (serves_text h st o)
   served st None is = is
   served st (Some m) is =
-      shared st.open m None (serves_by h st.session m (option_map dotted_step (step_of st.session.table m))) (served_by st.session m (option_map dotted_step (step_of st.session.table m)) is)
+      shared st.opened m None (serves_by h st.session m (option_map dotted_step (step_of st.session.table m))) (served_by st.session m (option_map dotted_step (step_of st.session.table m)) is)
 
   then_leaves : (d : Doing Sharing) (go_on : List ℕ → Sharing → Play) → SharingLeaves d
       → ((answer : List ℕ) (later : Sharing) → later.session.names.zone ≡ z → Leaves z (go_on answer later)) → Leaves z (then_play d go_on)
@@ -303,10 +303,10 @@ module _ (z : Tuples) (h : ℕ) where
   exporting : (own : Own) (n : ℕ) (st : Sharing) → st.session.names.zone ≡ z → Leaves z (exports (exported h) own n st)
   exporting own zero st is = is
   exporting own (suc n) st is =
-      λ r. by_text_leaves (bytes_in r) (closes_each h st.open st.session.names) _ (closing st.open st.session.names is) (λ text.
+      λ r. by_text_leaves (bytes_in r) (closes_each h st.opened st.session.names) _ (closing st.opened st.session.names is) (λ text.
       then_leaves (serves_text h st (read_t text)) _ (served st (read_t text) is) (λ answer later later_is written.
-      either (is_accepted written) (exports (exported h) own n later) (closes_each h later.open later.session.names) (exporting own n later later_is)
-      (closing later.open later.session.names later_is)))
+      either (is_accepted written) (exports (exported h) own n later) (closes_each h later.opened later.session.names) (exporting own n later later_is)
+      (closing later.opened later.session.names later_is)))
 
   own_leaves : (k : Kept) → k.names.zone ≡ z → (t : Step) → Leaves z (own_play h k t)
   own_leaves k is (step.Export called) =
