@@ -26,8 +26,8 @@ play_is far f k s called own is plain same =
     ∙ ap (λ (o : Own). exports (exported far.host) o most_requests (unheard k.names)) same)
 
 pub answered : (w : World) (h : List Entry) (e f : Conversation) → IsLegal w h → BothWays w h e f → (c s : ℕ) (near far : Script)
-    → StandsInOrder (scripted (zone_of w) near) h c → StandsInOrder (scripted (zone_of w) far) h s → AllImported w h c near e → (x : AllExported w h s far f) → AnsweredInOrder w h c s near far e f x
-answered w h e f legal ways c s near far in_near in_far all x =
+    → StandsInOrder (scripted (zone_of w) near) h c → StandsInOrder (scripted (zone_of w) far) h s → AllImported w h c near e → (x : AllExported w h s far f) → is_dotted x.called ≡ false → AnsweredInOrder w h c s near far e f x
+answered w h e f legal ways c s near far in_near in_far all x plain =
     served w h e f legal ways c (scripted (zone_of w) near) is_importing
     (record { in_order = in_near; whole = λ k st is. whole near.host k st is; all = all })
     (exported far.host) s (scripted (zone_of w) far) x.number
@@ -39,7 +39,7 @@ answered w h e f legal ways c s near far in_near in_far all x =
       mode = x.mode;
       rounds = most_requests;
       start = unheard x.span.kept.names;
-      play_is = play_is far f x.span.kept x.span.step x.called (own_of_data f x.called x.mode) x.exports x.plain
+      play_is = play_is far f x.span.kept x.span.step x.called (own_of_data f x.called x.mode) x.exports plain
           (ap (λ (n : ℕ). own_of n x.called x.span.kept.names) x.here ∙ of_data f x.called x.mode x.span.kept.names x.bound);
       all = x.all;
     })

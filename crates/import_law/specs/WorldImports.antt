@@ -1,5 +1,5 @@
 -- What is imported and exported in a history of a world, by scripts.
-use Rattle.std.specs.Prelude.{◌≡◌, ℕ, false, List, Some, slice_get}
+use Rattle.std.specs.Prelude.{◌≡◌, ℕ, List, Some, slice_get}
 use Rattle.net_base.specs.declared.history.Entry.{Entry}
 use Rattle.net_base.specs.declared.names.FileName.TheVariants as file
 use Rattle.net_base.specs.declared.names.Mode.{Mode}
@@ -7,7 +7,7 @@ use Rattle.net_base.specs.declared.world.Script.{Script}
 use Rattle.net_base.specs.declared.world.Step.{Step}
 use Rattle.net_base.specs.declared.world.Step.TheVariants as step
 use Rattle.net_base.specs.declared.world.World.{World}
-use Rattle.net_base.specs.Exports.{Sharing, exported, is_dotted, unheard}
+use Rattle.net_base.specs.Exports.{Sharing, exported, unheard}
 use Rattle.net_base.specs.Next.{zone_of}
 use Rattle.net_base.specs.Scripts.{Kept}
 use Rattle.net_base.specs.Steps.{fid_of}
@@ -28,8 +28,6 @@ pub record AllExported (w : World) (h : List Entry) (s : ℕ) (far : Script) (f 
   pub stands : slice_get (spans (scripted (zone_of w) far) (own_of h s)) number ≡ Some span
   pub called : List ℕ
   pub exports : span.step ≡ step.Export called
-  -- as each name of a world
-  pub plain : is_dotted called ≡ false
   pub mode : Mode
   pub bound : fid_of called span.kept.names ≡ Some (record { proto = f.proto; slot = f.slot; generation = f.generation; file = file.Data; mode = mode })
   pub here : far.host ≡ f.host

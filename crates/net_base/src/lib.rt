@@ -19,7 +19,6 @@ mod question;
 mod reply;
 mod sequence;
 mod timer;
-mod tops;
 mod udp;
 mod world;
 
@@ -41,7 +40,6 @@ pub use question::Question;
 pub use reply::Reply;
 pub use sequence::Sequence;
 pub use timer::{Probe, Tick, Timers};
-pub use tops::all_tops;
 pub use udp::UdpState;
 pub use world::{
     Fate, FateRange, Fates, HostSpec, Hosts, Iface, Ifaces, Media, MediumSpec, Nets, RouteLine,

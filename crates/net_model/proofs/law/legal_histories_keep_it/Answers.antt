@@ -9,7 +9,7 @@ pub returns : goal.returns
 returns c = λ w h world legal. record {
   in_script_order = λ k s is. keeps_script w k s is h legal;
   imports_answered = λ e f il is k s near far is_near is_far all x.
-      c.imports_are_answered.ensures w h e f world legal il is k s near far
+      c.imports_are_answered.ensures w h e f world legal il is k s near far is_far
       (in_steps w h k near (keeps_script w k near is_near h legal)) (in_steps w h s far (keeps_script w s far is_far h legal)) all x;
   questions = λ k s is. answers_questions w k s is h legal;
   cs = λ k x query stands is. answers_cs w h k x query legal stands is;
