@@ -10,6 +10,3 @@ mod said;
 mod session;
 
 pub use answers::answers_by;
-
-#[cfg(test)]
-mod tests;
