@@ -20,6 +20,3 @@ pub use fault::DnsError;
 pub use name::{Name, read_name};
 pub use net_base::Question;
 pub use question::read_question;
-
-#[cfg(test)]
-mod tests;

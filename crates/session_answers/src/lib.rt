@@ -14,6 +14,3 @@ pub use found::Found;
 pub use replied::{node_at, replied};
 pub use said::{error, said};
 pub use session::{lines_in, request_of};
-
-#[cfg(test)]
-mod tests;

@@ -14,6 +14,3 @@ pub use files::{can_open, is_cs, is_data, is_directory, step_to};
 pub use steps::{gives_nothing, step_of};
 pub use stream::{first_message, script_of};
 pub use table::Table;
-
-#[cfg(test)]
-mod tests;

@@ -5,7 +5,11 @@
 #[cfg(test)]
 mod answers;
 #[cfg(test)]
+mod answers_of_sessions;
+#[cfg(test)]
 mod compared;
+#[cfg(test)]
+mod domains;
 #[cfg(test)]
 mod histories;
 #[cfg(test)]
@@ -15,7 +19,11 @@ mod lines;
 #[cfg(test)]
 mod made;
 #[cfg(test)]
+mod messages;
+#[cfg(test)]
 mod reading;
+#[cfg(test)]
+mod scripts_of_sessions;
 #[cfg(test)]
 mod searches;
 #[cfg(test)]

@@ -1,5 +1,5 @@
 //! Worked questions over a small network.
-use crate::*;
+use ndb_dns::{DnsError, dns_answer, read_name};
 use ndb_index::Index;
 use ndb_reader::read_ndb;
 use net_base::Octets;
