@@ -31,14 +31,13 @@ some_left n = lt-ltb 0 (suc n) (omega arith)
 
 left_is : (h : ℕ) (ss : List Step) (k : Kept) (rs : List Reply) → nat_lt 0 (length (position h ss k rs).left) ≡ is_some (position h ss k rs).next
 left_is h [] k rs = refl
-left_is h (s ∷ ss) k rs = by_stand (stands (step_play h k s) rs) (λ after later. left_is h ss (next after) later)
+left_is h (s ∷ ss) k rs = by_stand (stands (step_play h k s) rs) (λ after later. left_is h ss (kept_after k s after (heard (step_play h k s) rs)) later)
   where
-    next : Names → Kept
-    next after = kept_after k s after (heard (step_play h k s) rs)
-
-    by_stand : (t : Stand) → ((after : Names) (later : List Reply) → nat_lt 0 (length (position h ss (next after) later).left) ≡ is_some (position h ss (next after) later).next)
-        → nat_lt 0 (length (position_by t (s ∷ ss) (λ (after : Names) (later : List Reply). position h ss (next after) later)).left)
-        ≡ is_some (position_by t (s ∷ ss) (λ (after : Names) (later : List Reply). position h ss (next after) later)).next
+    by_stand : (t : Stand)
+        → ((after : Names) (later : List Reply)
+          → nat_lt 0 (length (position h ss (kept_after k s after (heard (step_play h k s) rs)) later).left) ≡ is_some (position h ss (kept_after k s after (heard (step_play h k s) rs)) later).next)
+        → nat_lt 0 (length (position_by t (s ∷ ss) (λ (after : Names) (later : List Reply). position h ss (kept_after k s after (heard (step_play h k s) rs)) later)).left)
+        ≡ is_some (position_by t (s ∷ ss) (λ (after : Names) (later : List Reply). position h ss (kept_after k s after (heard (step_play h k s) rs)) later)).next
     by_stand (Asking ask) rest = some_left (length ss)
     by_stand (Finished after later) rest = rest after later
 
@@ -110,7 +109,7 @@ module _ (w : World) (r : Roster) (p : Sight) (ss : List Standing) (stand : AllS
   net = noted_net w p.seen
 
   -- a script is unfinished where its standing has something next
-  unfinished_so : (s : Standing) → StandsAt w r p s → (script : Script) → slice_get w.scripts s.caller ≡ Some script → is_unfinished net.past s.caller script ≡ is_some s.next
+  unfinished_so : (s : Standing) → StandsAt w r p s → (script : Script) → slice_get w.scripts s.caller ≡ Some script → is_unfinished w net.past s.caller script ≡ is_some s.next
   unfinished_so s st script is =
       let caller : caller_of w s.caller ≡ IsScript script = ap (λ (o : Option Script). option_map_or (λ (t : Script). IsScript t) o (other_caller w s.caller)) is in
       ap (λ (h : List Entry). is_unfinished w h s.caller script) past
@@ -118,7 +117,7 @@ module _ (w : World) (r : Roster) (p : Sight) (ss : List Standing) (stand : AllS
       ∙ (ap (λ (k : Caller). is_some (next_of w k (entries p.seen) s.caller)) (sym caller) ∙ (ap is_some (sym st.next_is) ∙ mapped s.next)))
 
   abbrev unfinished_at : ℕ × Script → Bool
-  unfinished_at s = is_unfinished net.past s.0 s.1
+  unfinished_at s = is_unfinished w net.past s.0 s.1
 
   -- no script is unfinished where none has something left
   pub all_through : list_any (has_left (length w.scripts)) ss ≡ false → unfinished w net ≡ false
@@ -131,7 +130,7 @@ module _ (w : World) (r : Roster) (p : Sight) (ss : List Standing) (stand : AllS
       let at : slice_get w.scripts s.0.caller ≡ Some script = ap (slice_get w.scripts) s.2 ∙ is in
       let first : nat_lt s.0.caller (length w.scripts) ≡ true = lt-ltb s.0.caller (length w.scripts) (within w.scripts s.0.caller script at) in
       let here : s.0.caller ≡ 0 + k = omega (arith, s.2) in
-      subst (λ (i : ℕ). is_unfinished net.past i script ≡ false) here
+      subst (λ (i : ℕ). is_unfinished w net.past i script ≡ false) here
       (unfinished_so s.0 st script at
       ∙ and_second (nat_lt s.0.caller (length w.scripts)) (is_some s.0.next) (unpassed (has_left (length w.scripts)) ss none s.0 s.1) first))
 
@@ -142,4 +141,4 @@ module _ (w : World) (r : Roster) (p : Sight) (ss : List Standing) (stand : AllS
       let script = some_there w.scripts s.0.caller (ltb-true s.0.caller (length w.scripts) both.0) in
       let here : s.0.caller ≡ 0 + s.0.caller = omega arith in
       some_of unfinished_at w.scripts 0 s.0.caller script.0 script.1
-      (subst (λ (i : ℕ). is_unfinished net.past i script.0 ≡ true) here (unfinished_so s.0 (stand.each s.0 s.1) script.0 script.1 ∙ both.1))
+      (subst (λ (i : ℕ). is_unfinished w net.past i script.0 ≡ true) here (unfinished_so s.0 (stand.each s.0 s.1) script.0 script.1 ∙ both.1))

@@ -1,5 +1,5 @@
 -- What a script writes in a `dns` step answers what it has just read.
-use Rattle.std.proofs.Common.{◌≡◌, ℕ, zero, suc, ◌-◌, Bool, true, false, List, [], ◌∷◌, ◌++◌, length, take, Option, Some, None, Result, Ok, Err, slice_get, refl, sym, ap, subst, ◌∙◌, arith, append_assoc, if◌then◌else◌}
+use Rattle.std.proofs.Common.{◌≡◌, ℕ, zero, suc, ◌-◌, Bool, true, false, List, [], ◌∷◌, ◌++◌, length, take, Option, Some, None, Result, Ok, Err, refl, sym, ap, subst, ◌∙◌, append_assoc, if◌then◌else◌}
 use Rattle.std.specs.Prelude.{◌&&◌, codes, find, nat_le, not, option_map, unwrap_or}
 use Rattle.std.proofs.lemmas.Option.{none-some, same_Some}
 use Rattle.net_base.specs.declared.actor.ActorName.{ActorName}
@@ -44,7 +44,7 @@ use Rattle.net_base.specs.Steps.{Ask, Names, Fid, Play, Asks, Ends, Position, St
 use Rattle.net_base.specs.Versions.{Tuples}
 use Rattle.history_laws.proofs.Histories.{legal_take}
 use Rattle.net_model.specs.DnsOrder.{AnswersQuestions, AnswersRead}
-use Rattle.import_law.specs.Order.{Begins, Finishes, IsPlayed, StandInOrder, own_entries}
+use Rattle.import_law.specs.Order.{Begins, IsPlayed, StandInOrder, own_entries}
 use Rattle.import_law.specs.Scripted.{scripted}
 use Rattle.net_model.proofs.OwnEntries.{asks_next, keeps_script}
 use Rattle.net_model.proofs.Plays.{begins_asks, goes_on, replies}
@@ -224,17 +224,17 @@ module _ (z : Tuples) (h : ℕ) where
   -- steps over calls
 
   by_text_leaves : (text : List ℕ) (none : Play) (some : List ℕ → Play) → Leaves z none → ((t : List ℕ) → Leaves z (some t)) → Leaves z (by_text text none some)
-  by_text_leaves [] none some no yes = no
-  by_text_leaves (b ∷ bs) none some no yes = yes (b ∷ bs)
+  by_text_leaves [] none some closed found = closed
+  by_text_leaves (b ∷ bs) none some closed found = found (b ∷ bs)
 
   sends_leaves : (own : Own) (m : Tmsg) (refused : Play) (next : List ℕ → Play) → Leaves z refused → ((t : List ℕ) → Leaves z (next t)) → Leaves z (sends own m refused next)
-  sends_leaves own m refused next no yes =
-      λ w. either (is_accepted w) (asks own.reads (λ (r : Reply). by_text (bytes_in r) refused next)) refused (λ r. by_text_leaves (bytes_in r) refused next no yes) no
+  sends_leaves own m refused next closed found =
+      λ w. either (is_accepted w) (asks own.reads (λ (r : Reply). by_text (bytes_in r) refused next)) refused (λ r. by_text_leaves (bytes_in r) refused next closed found) closed
 
   sends_for_leaves : (own : Own) (m : Tmsg) (is_reply : List ℕ → Bool) (refused other next : Play) → Leaves z refused → Leaves z other → Leaves z next
       → Leaves z (sends_for own m is_reply refused other next)
-  sends_for_leaves own m is_reply refused other next no off on =
-      sends_leaves own m refused (λ (t : List ℕ). if is_reply t then next else other) no (λ t. either (is_reply t) next other on off)
+  sends_for_leaves own m is_reply refused other next closed out going =
+      sends_leaves own m refused (λ (t : List ℕ). if is_reply t then next else other) closed (λ t. either (is_reply t) next other going out)
 
   once_leaves : (own : Own) (m : Tmsg) (names : Names) → names.zone ≡ z → Leaves z (sends_once own m (Ends names))
   once_leaves own m names is = sends_leaves own m (Ends names) (λ (t : List ℕ). Ends names) is (λ t. is)

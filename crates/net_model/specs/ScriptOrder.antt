@@ -4,17 +4,14 @@
 --     Begins          these are the first entries of a play that isn't over
 --     StandInOrder    entries of steps, of which so many are finished
 --     KeepsScript     what a history has of a script
-use Rattle.std.specs.Prelude.{ℕ, zero, suc, ◌≡◌, ◌≤◌, ◌-◌, Bool, true, false, List, [], ◌∷◌, ◌++◌, filter, length, map, take, Some, None, is_none, slice_get}
+use Rattle.std.specs.Prelude.{ℕ, ◌≡◌, ◌≤◌, ◌-◌, Bool, true, false, List, length, take, Some, None, slice_get}
 use Rattle.net_base.specs.declared.history.Entry.{Entry}
-use Rattle.net_base.specs.declared.reply.Reply.{Reply}
 use Rattle.net_base.specs.declared.world.Script.{Script}
-use Rattle.net_base.specs.declared.world.Step.{Step}
 use Rattle.net_base.specs.declared.world.World.{World}
 use Rattle.net_base.specs.Calm.{owes}
 use Rattle.net_base.specs.Duties.{Duty}
-use Rattle.net_base.specs.Legal.{asked_by}
 use Rattle.net_base.specs.Net.{after, owed}
-use Rattle.net_base.specs.Next.{answered, by, finished_by, own_replies, zone_of}
+use Rattle.net_base.specs.Next.{answered, finished_by, own_replies, zone_of}
 use Rattle.net_base.specs.Stamped.{In}
 use Rattle.net_base.specs.Scripts.{at_first}
 use Rattle.import_law.specs.Order.{StandInOrder, own_entries}
