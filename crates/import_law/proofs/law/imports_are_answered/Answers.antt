@@ -6,7 +6,7 @@ use Rattle.import_law.proofs.Worlds.{answered}
 use Rattle.import_law.proofs.law.imports_are_answered.Goals as goal
 
 pub returns : goal.returns
-returns c = λ w h e f world legal il is n s near far is_near is_far all x.
+returns c = λ w h world legal e f il is n s near far is_near is_far all x.
     answered w h e f legal (record {
       near = c.prefix_law.ensures.in_order w h e f world legal il is;
       far = c.prefix_law.ensures.in_order w h f e world legal (peer_proto w h e f is ∙ il) (c.a_pair_has_one_holder.ensures.each_other w h e f world legal is);
