@@ -7,11 +7,13 @@ use Rattle.net_base.specs.declared.world.Script.{Script}
 use Rattle.net_base.specs.declared.world.Step.{Step}
 use Rattle.net_base.specs.declared.world.Step.TheVariants as step
 use Rattle.net_base.specs.declared.world.World.{World}
+use Rattle.net_base.specs.declared.address.Proto.TheVariants.{Il}
+use Rattle.net_base.specs.Callers.{IsScript, caller_of}
 use Rattle.net_base.specs.Exports.{Sharing, exported, unheard}
 use Rattle.net_base.specs.Next.{zone_of}
 use Rattle.net_base.specs.Scripts.{Kept}
 use Rattle.net_base.specs.Steps.{fid_of}
-use Rattle.net_base.specs.Written.{Conversation}
+use Rattle.net_base.specs.Written.{Conversation, peer}
 use Rattle.import_law.specs.ImportLaw.{AreAll, Served, calls, of_steps, replies}
 use Rattle.import_law.specs.Phases.{Reads, on_own}
 use Rattle.import_law.specs.Scripted.{is_importing, scripted}
@@ -37,3 +39,11 @@ pub record AllExported (w : World) (h : List Entry) (s : ℕ) (far : Script) (f 
 abbrev pub AnsweredInOrder : (w : World) (h : List Entry) (c s : ℕ) (near far : Script) (e f : Conversation) → AllExported w h s far f → Type 0
 AnsweredInOrder w h c s near far e f x =
     Served {S = Sharing} (exported far.host) (unheard x.span.kept.names) f (calls h c e (scripted (zone_of w) near) is_importing) (replies h c e (scripted (zone_of w) near) is_importing) x.span.entries
+
+-- What a history has of calls that carry files: where two scripts are all that reads and writes at the ends of a call of IL, what is
+-- imported at the one end is what is answered at the other.
+abbrev pub ImportsAnswered : World → List Entry → Type 0
+ImportsAnswered w h =
+    (e f : Conversation) → e.proto ≡ Il → peer w h e ≡ Some f
+    → (c s : ℕ) (near far : Script) → caller_of w c ≡ IsScript near → caller_of w s ≡ IsScript far
+    → AllImported w h c near e → (x : AllExported w h s far f) → AnsweredInOrder w h c s near far e f x

@@ -46,8 +46,9 @@ use Rattle.history_laws.proofs.Histories.{legal_take}
 use Rattle.net_model.specs.DnsOrder.{AnswersQuestions, AnswersRead}
 use Rattle.import_law.specs.Order.{Begins, IsPlayed, StandInOrder, own_entries}
 use Rattle.import_law.specs.Scripted.{scripted}
-use Rattle.net_model.proofs.OwnEntries.{asks_next, keeps_script}
-use Rattle.net_model.proofs.Plays.{begins_asks, goes_on, replies}
+use Rattle.import_law.proofs.Plays.{begins_asks, goes_on, replies}
+use Rattle.import_law.proofs.Stood.{asks_next}
+use Rattle.net_model.proofs.OwnEntries.{keeps_script}
 
 -- The database from which a script answers stays.
 

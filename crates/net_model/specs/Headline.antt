@@ -18,7 +18,7 @@ use Rattle.net_base.specs.Plain.{IsPlain}
 use Rattle.net_base.specs.Stamped.{same_actor}
 use Rattle.net_base.specs.Versions.{database_of}
 use Rattle.net_base.specs.Written.{Conversation, IsRead, peer}
-use Rattle.import_law.specs.WorldImports.{AllExported, AllImported, AnsweredInOrder}
+use Rattle.import_law.specs.WorldImports.{ImportsAnswered}
 use Rattle.prefix_law.specs.PrefixLaw.{Alone, InOrder, WasWritten}
 use Rattle.net_model.specs.DnsOrder.{AnswersQuestions}
 use Rattle.net_model.specs.ScriptOrder.{KeepsScript}
@@ -48,8 +48,7 @@ pub record Headline (w : World) (h : List Entry) : Type 0 where
   -- the events of each script's steps, in order
   pub in_script_order : (c : ℕ) (s : Script) → caller_of w c ≡ IsScript s → KeepsScript w h c s
   -- what is imported over a call of IL is what the exporting step at its other end answers, in order, each once
-  pub imports_answered : (e f : Conversation) → e.proto ≡ Il → peer w h e ≡ Some f → (c s : ℕ) (near far : Script) → caller_of w c ≡ IsScript near → caller_of w s ≡ IsScript far
-      → AllImported w h c near e → (x : AllExported w h s far f) → AnsweredInOrder w h c s near far e f x
+  pub imports_answered : ImportsAnswered w h
   -- what each script writes in its `dns` steps
   pub questions : (c : ℕ) (s : Script) → caller_of w c ≡ IsScript s → AnswersQuestions w h c s
   -- each answer of cs

@@ -1,5 +1,4 @@
 use Rattle.net_model.proofs.CsAnswers.{answers_cs}
-use Rattle.net_model.proofs.Imported.{in_steps}
 use Rattle.net_model.proofs.DnsOrder.{answers_questions}
 use Rattle.net_model.proofs.OwnEntries.{keeps_script}
 use Rattle.net_model.proofs.PlainHistories.{legal_is_plain}
@@ -8,9 +7,7 @@ use Rattle.net_model.proofs.law.legal_histories_keep_it.Goals as goal
 pub returns : goal.returns
 returns c = λ w h world legal. record {
   in_script_order = λ k s is. keeps_script w k s is h legal;
-  imports_answered = λ e f il is k s near far is_near is_far all x.
-      c.imports_are_answered.ensures w h e f world legal il is k s near far is_far
-      (in_steps w h k near (keeps_script w k near is_near h legal)) (in_steps w h s far (keeps_script w s far is_far h legal)) all x;
+  imports_answered = c.imports_are_answered.ensures w h world legal;
   questions = λ k s is. answers_questions w k s is h legal;
   cs = λ k x query stands is. answers_cs w h k x query legal stands is;
   in_order = λ e f il is. c.prefix_law.ensures.in_order w h e f world legal il is;
