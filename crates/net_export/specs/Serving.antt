@@ -1,9 +1,9 @@
 -- What an exporting step serves, as contracts see it: its requests, and what texts and replies make of it.
-use Rattle.std.specs.Prelude.{◌≡◌, ◌≤◌, ℕ, Bool, true, false, List, [], drop, Option, Some, None, IfSome, option_map, if◌then◌else◌}
+use Rattle.std.specs.Prelude.{◌≡◌, ◌≤◌, ℕ, Bool, true, false, List, [], drop, Option, Some, None, IfSome, option_map, unwrap_or, if◌then◌else◌}
 use Rattle.net_base.specs.declared.ninep.Tmsg.{Tmsg}
 use Rattle.net_base.specs.declared.reply.Reply.{Reply}
 use Rattle.net_base.specs.declared.world.Step.{Step}
-use Rattle.net_base.specs.Exports.{Sharing, bad_message, closes_each, dotted_fid, is_dotted, longest_exported, open_by, sharing}
+use Rattle.net_base.specs.Exports.{Sharing, bad_message, closes_each, dotted_fid, is_dotted, longest_exported, open_by, put_in, sharing}
 use Rattle.net_base.specs.NinepMessages.{IsTmsg, longest, r_bytes}
 use Rattle.net_base.specs.NinepReading.{read_t}
 use Rattle.net_base.specs.Server.{Doing, Gives, doing_of}
@@ -16,7 +16,7 @@ use Rattle.net_export.specs.declared.serving.Serving.{Serving as Code}
 use Rattle.net_export.specs.Rows.{dotted_request, first_of, rising}
 use Rattle.script_task.specs.declared.request.Request.{Request}
 use Rattle.script_task.specs.declared.request.Request.TheVariants as request
-use Rattle.script_task.specs.Fitting.{is_granted}
+use Rattle.script_task.specs.Fitting.{is_granted, is_opening}
 use Rattle.script_task.specs.Requests.{request_play}
 use Rattle.session_answers.specs.Found.{lines_by}
 use Rattle.session_answers.specs.Served.{asked}
@@ -49,6 +49,10 @@ pub record IsServing (s : Serving) : Type 0 where
 abbrev pub fresh_serving : Serving
 fresh_serving = record { table = record opening { msize = longest_exported }; found = λ (n : ℕ). []; opened = []; message = None; request = None; answer = [] }
 
+-- its request, or else the write of its answer to a name
+abbrev pub next : Serving → List ℕ → Request
+next s called = unwrap_or s.request (request.Write called s.answer)
+
 -- ---- texts
 
 abbrev pub given : Serving → List ℕ → Serving
@@ -74,6 +78,10 @@ abbrev pub hears : Serving → List ℕ → Serving
 hears s text = hears_by s (read_t text)
 
 -- ---- replies
+
+-- where a reply opens a file, one is open for the fid
+abbrev pub opened_by : ℕ → List ℕ → Reply → List ℕ
+opened_by fid opened r = if is_opening r then put_in fid opened else opened
 
 -- what the message changes, by the last reply of its step
 abbrev pub keeps : Serving → Tmsg → Reply → Serving
