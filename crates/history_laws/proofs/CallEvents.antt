@@ -1,10 +1,9 @@
 -- What holds of each event that the steps over calls record, and so of each event of a script.
-use Rattle.std.proofs.Common.{◌≡◌, ℕ, zero, suc, Bool, true, false, ◌&&◌, cond, List, [], ◌∷◌, ◌++◌, Option, Some, None, Result, Ok, Err, refl, sym, subst}
+use Rattle.std.proofs.Common.{◌≡◌, ℕ, zero, suc, Bool, true, false, ◌&&◌, cond, List, [], ◌∷◌, ◌++◌, Option, Some, None, Result, Ok, Err, refl, subst}
 use Rattle.std.specs.Prelude.{find, option_map, nat_le, length, not, bytes_eq, filter}
 use Rattle.std.specs.Option.{option_and_then}
 use Rattle.std.proofs.lemmas.Option.{none-some, same_Some}
 use Rattle.net_base.specs.declared.actor.ActorName.{ActorName}
-use Rattle.net_base.specs.declared.actor.ActorName.TheVariants as name
 use Rattle.net_base.specs.declared.event.Event.{Event}
 use Rattle.net_base.specs.declared.event.Event.TheVariants as event
 use Rattle.net_base.specs.declared.left.Left.{Left}
@@ -14,8 +13,6 @@ use Rattle.net_base.specs.declared.names.Ctl.{Ctl}
 use Rattle.net_base.specs.declared.names.FileName.{FileName}
 use Rattle.net_base.specs.declared.names.FileName.TheVariants as file
 use Rattle.net_base.specs.declared.names.Mode.{Mode}
-use Rattle.net_base.specs.declared.names.Node.{Node}
-use Rattle.net_base.specs.declared.names.Node.TheVariants as node
 use Rattle.net_base.specs.declared.ninep.Target.{Target}
 use Rattle.net_base.specs.declared.ninep.Tmsg.{Tmsg}
 use Rattle.net_base.specs.declared.ninep.Tmsg.TheVariants as t
@@ -24,19 +21,19 @@ use Rattle.net_base.specs.declared.world.Step.{Step}
 use Rattle.net_base.specs.declared.world.Step.TheVariants as step
 use Rattle.net_base.specs.Asks as asked
 use Rattle.net_base.specs.ControlWords as control
-use Rattle.net_base.specs.Exports.{Own, and_then, asks, bad_message, by_text, closes_each, dotted_fid, dotted_step, export_play, exported, exports, is_dotted, most_requests, own_of, serves_text, sharing, then_play, unheard, Sharing}
-use Rattle.net_base.specs.Imports.{attach_message, clunk_message, import_play, imports, is_open, is_version, is_whole, left_open, longest_text, open_message, opens_remote, rclose_play, read_message, ropen_play, rread_play, rwrite_play, sends, sends_by, sends_for, sends_once, version_message, walk_message, was_opened, write_message}
+use Rattle.net_base.specs.Exports.{Own, and_then, asks, by_text, closes_each, dotted_fid, dotted_step, export_play, exported, exports, is_dotted, most_requests, own_of, serves_text, sharing, then_play, unheard, Sharing}
+use Rattle.net_base.specs.Imports.{attach_message, clunk_message, imports, is_open, is_version, is_whole, longest_text, open_message, opens_remote, read_message, sends, sends_by, sends_for, sends_once, version_message, walk_message, was_opened, write_message}
 use Rattle.net_base.specs.NinepMessages.{t_bytes}
 use Rattle.net_base.specs.NinepReading.{read_t}
-use Rattle.net_base.specs.Paths.{path_of, reads, writes}
-use Rattle.net_base.specs.Remotes.{free_fid, is_remote, is_remote_path, remote_of, with_remote, without_remote}
+use Rattle.net_base.specs.Paths.{reads, writes}
+use Rattle.net_base.specs.Remotes.{free_fid, is_remote, is_remote_path, remote_of, with_remote}
 use Rattle.net_base.specs.Scripts.{Kept, heard, kept_after, left_after, new_names, own_play, play_by, position, step_play}
 use Rattle.net_base.specs.Server.{Doing, Does, Gives, Server, doing_of}
-use Rattle.net_base.specs.Session.{State, by_last, serves_by, told}
+use Rattle.net_base.specs.Session.{State, by_last, serves_by}
 use Rattle.net_base.specs.SessionFiles.{access, is_cs, is_plain}
 use Rattle.net_base.specs.SessionScript.{close_step, cs_step, fid_name, gives_nothing, is_query, open_step, opens, read_count, read_step, reads as reads_fid, room, step_of, write_step}
 use Rattle.net_base.specs.SessionTable.{Table, used}
-use Rattle.net_base.specs.Steps.{Ask, Names, Fid, Play, Asks, Ends, Position, Stand, conversation_of, fid_of, is_accepted, is_bound, play_of, position_by, stands, uses, read_event, bytes_in}
+use Rattle.net_base.specs.Steps.{Ask, Names, Fid, Play, Asks, Ends, conversation_of, fid_of, is_accepted, is_bound, play_of, stands, uses, read_event, bytes_in}
 use Rattle.history_laws.proofs.Ordered.{Each}
 use Rattle.history_laws.proofs.StepEvents as one
 use Rattle.history_laws.proofs.StepEvents.{Fits, IsExporting, IsNamed, IsNextEvent, IsOwn, Records, Says}
@@ -105,7 +102,7 @@ module _ (h : ℕ) (P : ActorName → Event → Type 0) (R : Reply → Type 0) (
   sends_good own m refused next well f g = (
     well.writing (t_bytes m),
     λ w fine. one.either h P R fits (is_accepted w) (asks own.reads (λ (r : Reply). by_text (bytes_in r) refused next)) refused
-    (well.reading, λ r good. by_text_good (bytes_in r) refused next f g) f,
+        (well.reading, λ r good. by_text_good (bytes_in r) refused next f g) f,
   )
 
   sends_for_good : (own : Own) (m : Tmsg) (is : List ℕ → Bool) (refused other next : Play) → OwnWell own → Good refused → Good other → Good next → Good (sends_for own m is refused other next)
@@ -162,8 +159,9 @@ module _ (h : ℕ) (P : ActorName → Event → Type 0) (R : Reply → Type 0) (
     well.reading,
     λ r fine. by_text_good (bytes_in r) (v.closes s) _ (close s) (λ text.
         then_good (v.serves s text) _ (serve s text) (λ answer later. (
-        well.writing answer,
-        λ w good. one.either h P R fits (is_accepted w) (exports v own n later) (v.closes later) (exports_good v own well serve close n later) (close later)))),
+          well.writing answer,
+          λ w good. one.either h P R fits (is_accepted w) (exports v own n later) (v.closes later) (exports_good v own well serve close n later) (close later),
+        ))),
   )
 
   -- a request that is one step records what the step's play records

@@ -31,7 +31,7 @@ use Rattle.net_base.specs.Medium.{medium_step}
 use Rattle.net_base.specs.Net.{Net, opening_net, net_after, after, step_of, work_of, with_of, moment_after}
 use Rattle.net_base.specs.Next.{next_of, own_replies, zone_of}
 use Rattle.net_base.specs.Stamped.{In, same_actor}
-use Rattle.net_base.specs.Steps.{Ask, no_names}
+use Rattle.net_base.specs.Steps.{Ask}
 use Rattle.net_base.specs.World.{IsWorld, is_script, is_step}
 use Rattle.prefix_law.proofs.ConvWaits.{TimedActor, actor_later, IsConvName, tick_later, timed_opening}
 use Rattle.prefix_law.proofs.Deeds.{both_ways}
