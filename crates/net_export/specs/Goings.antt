@@ -35,10 +35,6 @@ flip : (b : Bool) → not b ≡ true → b ≡ false
 flip true is = absurd (false≢true is)
 flip false is = refl
 
-refused_no : (r : Reply) → is_accepted r ≡ false → is_granted r ≡ false
-refused_no (reply.Granted pair start limit) is = absurd (true≢false is)
-refused_no r is = refl
-
 unopened_no : (r : Reply) → is_unopened r ≡ true → is_granted r ≡ false
 unopened_no reply.BadFid is = refl
 unopened_no reply.BadMode is = refl
@@ -61,7 +57,7 @@ apart called other plain dotted = by (bytes_eq called other) refl
     by false other = refl
 
 bound_apart : (called other : List ℕ) (names : Names) (f : Fid) → bytes_eq called other ≡ false → fid_of called (bind other f names) ≡ fid_of called names
-bound_apart called other names f no = rw no refl
+bound_apart called other names f differ = rw differ refl
 
 without_apart : (called other : List ℕ) (bound : List Bound) → is_dotted called ≡ false → is_dotted other ≡ true → fid_among called (without other bound) ≡ fid_among called bound
 without_apart called other [] plain dotted = refl
@@ -69,7 +65,7 @@ without_apart called other (b ∷ bs) plain dotted = by (bytes_eq other b.called
   where
     by : (v : Bool) → bytes_eq other b.called ≡ v → fid_among called (without other bs) ≡ fid_among called bs
         → fid_among called (if not v then b ∷ without other bs else without other bs) ≡ fid_among called (b ∷ bs)
-    by false no more = ap (λ (o : Option Fid). if bytes_eq called b.called then Some b.fid else o) more
+    by false differ more = ap (λ (o : Option Fid). if bytes_eq called b.called then Some b.fid else o) more
     by true same more =
         let is : bytes_eq called b.called ≡ false = apart called b.called plain (ap is_dotted (sym ((bytes_eq-Decides other b.called).0 same)) ∙ dotted) in
         more ∙ rw is refl
@@ -164,7 +160,7 @@ module _ (h : ℕ) (names : Names) (r : Reply) (called : List ℕ) where
 
   -- no pair is granted, so it ends
   ended : (a : ActorName) (e : Event) (next : Reply → Play) → is_granted r ≡ false → next r ≡ Ends names → Goes h names r names waits (Asks a e next)
-  ended a e next no ends = rw no (IsLast a e next ends)
+  ended a e next free ends = rw free (IsLast a e next ends)
 
   abbrev awaits : Fid → Play
   awaits f = Asks (conversation_of h f) (event.Await f.generation) (λ (s : Reply). if_accepted s (Ends names) (Ends names))
@@ -178,7 +174,7 @@ module _ (h : ℕ) (names : Names) (r : Reply) (called : List ℕ) where
     where
       by : (x : Reply) → fits_grant x ≡ true → Goes h names x names (if is_granted x then Some (request.Wait called) else None) (Asks a e (λ (granted : Reply). if_accepted granted (awaits f) (Ends names)))
       by (reply.Granted pair start limit) fit = IsMore a e _ (request.Wait called) (awaited f is) refl tt
-      by x fit = let no = flip (is_accepted x) fit in rw (refused_no x no) (IsLast a e _ (rw no refl))
+      by x fit = IsLast a e _ (ap (λ (v : Bool). if v then awaits f else Ends names) (flip (is_accepted x) fit))
 
   controlled_goes : (f : Fid) (text : List ℕ) (read : Result Ctl ℕ) → fid_of called names ≡ Some f → fits_play (controls h f text read (Ends names) (Ends names)) r ≡ true
       → Goes h names r names waits (controls h f text read (Ends names) (Ends names))
