@@ -1,7 +1,8 @@
 //! The message that bytes spell, if they spell one.
-ghost use Rattle.std.specs.Prelude.{◌≡◌, IfOk, IfSome};
+ghost use Rattle.std.specs.Prelude.{◌≡◌, false, IfOk, IfSome};
 ghost use Rattle.net_base.specs.NinepMessages.{SpellsR, SpellsT};
 ghost use Rattle.net_base.specs.NinepReading.{read_r, read_t};
+ghost use Rattle.ninep_wire.specs.declared.fault.NinepError.TheVariants as fault;
 
 use crate::fault::NinepError;
 use crate::read_answer::decode_r;
@@ -16,8 +17,12 @@ pub fn request_in(alloc: Global, bytes: &[u8]) -> Result<Option<Tmsg>, AllocErro
 {
     match decode_t(alloc, bytes) {
         Ok(message) => Ok(Some(message)),
-        Err(NinepError::Memory) => Err(AllocError),
-        Err(_) => Ok(None),
+        Err(error) => {
+            if is_memory(error) {
+                return Err(AllocError);
+            }
+            Ok(None)
+        }
     }
 }
 
@@ -28,7 +33,20 @@ pub fn answer_in(alloc: Global, bytes: &[u8]) -> Result<Option<Rmsg>, AllocError
 {
     match decode_r(alloc, bytes) {
         Ok(message) => Ok(Some(message)),
-        Err(NinepError::Memory) => Err(AllocError),
-        Err(_) => Ok(None),
+        Err(error) => {
+            if is_memory(error) {
+                return Err(AllocError);
+            }
+            Ok(None)
+        }
+    }
+}
+
+fn is_memory(error: NinepError) -> bool
+    ensures { result ≡ false → error ≡ fault.Memory → ⊥ }
+{
+    match error {
+        NinepError::Memory => true,
+        _ => false,
     }
 }
