@@ -1,5 +1,5 @@
 -- The law of two scripts of a world.
-use Rattle.std.proofs.Common.{◌≡◌, ℕ, Bool, false, List, if◌then◌else◌, refl, sym, ap, subst, ◌∙◌}
+use Rattle.std.proofs.Common.{◌≡◌, ℕ, Bool, false, List, if◌then◌else◌, ap, ◌∙◌}
 use Rattle.net_base.specs.declared.history.Entry.{Entry}
 use Rattle.net_base.specs.declared.world.Script.{Script}
 use Rattle.net_base.specs.declared.world.Step.{Step}
@@ -9,9 +9,9 @@ use Rattle.net_base.specs.Exports.{Own, exported, exports, is_dotted, most_reque
 use Rattle.net_base.specs.Legal.{IsLegal}
 use Rattle.net_base.specs.Next.{zone_of}
 use Rattle.net_base.specs.Scripts.{Kept, step_play}
-use Rattle.net_base.specs.Steps.{Play, uses}
+use Rattle.net_base.specs.Steps.{uses}
 use Rattle.net_base.specs.Written.{Conversation}
-use Rattle.import_law.specs.ImportLaw.{Exports, Imports, StandsInOrder, own_of_data}
+use Rattle.import_law.specs.ImportLaw.{StandsInOrder, own_of_data}
 use Rattle.import_law.specs.Scripted.{is_importing, scripted}
 use Rattle.import_law.specs.WorldImports.{AllExported, AllImported, AnsweredInOrder}
 use Rattle.import_law.proofs.Both.{BothWays, served}

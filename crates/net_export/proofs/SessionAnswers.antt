@@ -16,7 +16,8 @@ use Rattle.session_answers.specs.Told.{AreTold}
 use Rattle.sessions.specs.declared.world.Session.{Session}
 use Rattle.net_base.specs.SessionScript.{AreMessages}
 use Rattle.net_base.specs.Server.{answers_to}
-use Rattle.net_base.specs.Session.{answers, first, session}
+use Rattle.net_base.specs.Session.{first, session}
+use Rattle.sessions.specs.InHistory.{answers}
 use Rattle.net_export.specs.Answered.{AreAnswersOf, AreAnswersTo, ArePlayed, IsPlayed}
 use Rattle.net_export.proofs.Placing.{in_all}
 

@@ -17,11 +17,12 @@ use Rattle.net_base.specs.Duties.{Duty}
 use Rattle.net_base.specs.Legal.{IsAsked, IsLegal, MayFollow, Shown, Shows, asked_by, cites_of}
 use Rattle.net_base.specs.Net.{after, outcome_in, owed, step_of, work_of}
 use Rattle.net_base.specs.Next.{by, next_of, own_replies, standing, zone_of}
-use Rattle.net_base.specs.Steps.{Ask, no_names}
+use Rattle.net_base.specs.Scripts.{at_first}
+use Rattle.net_base.specs.Steps.{Ask}
 use Rattle.history_laws.proofs.Ordered.{Each, each_from_get}
 use Rattle.history_laws.proofs.StepEvents.{IsNextEvent}
 use Rattle.net_base.specs.SessionScript as streams
-use Rattle.net_base.specs.Session.{IsSessionOf}
+use Rattle.sessions.specs.InHistory.{IsSessionOf}
 use Rattle.session_answers.specs.Told.{AreTold, is_told}
 use Rattle.net_export.proofs.SessionEvents.{IsSessionEvent, next_of_session}
 use Rattle.net_export.proofs.ToldReplies.{Tells, step_told}
@@ -37,7 +38,7 @@ asked_next : (w : World) (bytes : List ℕ) (ds : List Duty) (k : Caller) (s : S
     → is_none (cites_of ds) ≡ true → IsAsked ds k (next_of w k h c) x → IsSessionEvent x.actor x.event
 asked_next w bytes (d ∷ ds) k s h c x script is free asked = absurd (false≢true free)
 asked_next w bytes [] k s h c x script is free asked =
-    next_is (standing w h c s).next x (next_of_session s.host bytes s.steps (no_names (zone_of w)) (own_replies h c) is)
+    next_is (standing w h c s).next x (next_of_session s.host bytes s.steps (at_first (zone_of w)) (own_replies h c) is)
     (subst (λ (l : Caller). IsAsked [] l (next_of w l h c) x) script asked)
 
 script_of : (w : World) (c : ℕ) (s : Script) → slice_get w.scripts c ≡ Some s → caller_of w c ≡ IsScript s

@@ -4,4 +4,5 @@ pub mod Answered
 pub mod Rows
 pub mod Serving
 pub mod Exporting
+pub mod Goings
 pub mod ExportLaws

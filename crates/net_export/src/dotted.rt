@@ -1,5 +1,5 @@
 //! The names of files in an exporting step.
-ghost use Rattle.std.specs.Prelude.{◌≡◌, ◌<◌, length, IfOk};
+ghost use Rattle.std.specs.Prelude.{◌≡◌, IfOk};
 ghost use Rattle.net_base.specs.Exports as spec;
 ghost use Rattle.net_export.specs.Rows as rows;
 
@@ -17,36 +17,38 @@ pub(crate) fn dotted_fid(alloc: Global, fid: u32) -> Result<Octets, AllocError>
     Ok(name)
 }
 
-/// A request of a session's step, with such a name. It takes no memory.
-pub(crate) fn dotted_request(request: Request) -> Request
-    ensures { result ≡ rows.dotted_request request }
+/// A request of a session's step, with such a name.
+pub(crate) fn dotted_request(alloc: Global, request: Request) -> Result<Request, AllocError>
+    ensures { IfOk result (λ q. q ≡ rows.dotted_request request) }
 {
-    match request {
+    Ok(match request {
         Request::Open { name, path, mode } => Request::Open {
-            name: dotted(name),
+            name: dotted(alloc, &name)?,
             path,
             mode,
         },
         Request::Read { name, count } => Request::Read {
-            name: dotted(name),
+            name: dotted(alloc, &name)?,
             count,
         },
         Request::Write { name, text } => Request::Write {
-            name: dotted(name),
+            name: dotted(alloc, &name)?,
             text,
         },
-        Request::Close { name } => Request::Close { name: dotted(name) },
+        Request::Close { name } => Request::Close {
+            name: dotted(alloc, &name)?,
+        },
         other => other,
-    }
+    })
 }
 
 // A dot stands in place of the first byte.
-fn dotted(name: Octets) -> Octets
-    ensures { 0 < length name → result ≡ spec.dotted name }
+fn dotted(alloc: Global, name: &Octets) -> Result<Octets, AllocError>
+    ensures { IfOk result (λ dotted. dotted ≡ spec.dotted name.now) }
 {
-    let mut bytes = name.into_vec();
-    if let Some(first) = bytes.first_mut() {
-        *first = b'.';
+    let mut dotted = Octets::from_slice(alloc, b".")?;
+    if let Some((_, rest)) = name.as_slice().split_first() {
+        dotted.append(rest)?;
     }
-    Octets::from_vec(bytes)
+    Ok(dotted)
 }

@@ -40,13 +40,10 @@ pub struct Export {
 
 impl Model for Export {
     ghost use Rattle.net_export.specs.Exporting.{Exporting};
-    ghost use Rattle.net_export.specs.Serving.{IsServing, seen};
 
     ghost Value = { Exporting };
 
-    ghost view = { λ e. record { name = e.name; session = seen e.serving; phase = e.phase; left = e.left } };
-
-    ghost invariant = { λ e. IsServing (seen e.serving) };
+    ghost view = { λ e. record { name = e.name; session = e.serving; phase = e.phase; left = e.left } };
 }
 
 impl Export {
@@ -85,7 +82,7 @@ impl Export {
         ensures ok { OnOk result (self.new ≡ spec.served self.old reply.now) }
         ensures err { OnErr result (self.new ≡ self.old) }
     {
-        if self.serving.request.is_some() {
+        if self.serving.is_asking() {
             return self.serving.told(alloc, reply);
         }
         self.phase = if is_accepted(reply) {
@@ -94,19 +91,6 @@ impl Export {
             ExportPhase::Close
         };
         Ok(())
-    }
-
-    // What it serves asks, or else it writes the answer.
-    fn request(&self) -> Result<Request, AllocError>
-        ensures { IfOk result (λ q. q ≡ spec.asks_serving self.now) }
-    {
-        match &self.serving.request {
-            Some(request) => request.clone(),
-            None => Ok(Request::Write {
-                name: self.name.clone()?,
-                text: self.serving.answer.clone()?,
-            }),
-        }
     }
 }
 
@@ -130,7 +114,7 @@ impl Task for Export {
                 name: self.name.clone()?,
                 count: LONG,
             })),
-            ExportPhase::Serve => Ok(Some(self.request()?)),
+            ExportPhase::Serve => Ok(Some(self.serving.next(&self.name)?)),
             ExportPhase::Close => self.serving.closes(alloc),
         }
     }
@@ -139,7 +123,7 @@ impl Task for Export {
         match self.phase {
             ExportPhase::Read => self.left == 0,
             ExportPhase::Serve => false,
-            ExportPhase::Close => self.serving.opened.least().is_none(),
+            ExportPhase::Close => self.serving.is_closed(),
         }
     }
 
@@ -148,7 +132,7 @@ impl Task for Export {
             ExportPhase::Read => self.hear(alloc, bytes_in(&reply)),
             ExportPhase::Serve => self.serve(alloc, &reply),
             ExportPhase::Close => {
-                self.serving.opened.drop_least();
+                self.serving.close_one();
                 Ok(())
             }
         }

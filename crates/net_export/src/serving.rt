@@ -1,15 +1,24 @@
 //! What an exporting step serves.
-ghost use Rattle.std.specs.Prelude.{◌≡◌, IfOk, OnErr, OnOk};
+ghost use Rattle.std.specs.Prelude.{◌≡◌, Some, not, is_none, false, IfOk, OnErr, OnOk};
+ghost use Rattle.net_base.specs.Exports as exports;
+ghost use Rattle.net_base.specs.Exports.{open_by};
+ghost use Rattle.net_base.specs.NinepMessages.{IsTmsg};
+ghost use Rattle.net_base.specs.SessionAnswers.{found_by};
+ghost use Rattle.net_export.specs.Rows.{rising};
 ghost use Rattle.net_export.specs.Serving as spec;
+ghost use Rattle.session_answers.specs.Found.{lines_by};
+ghost use Rattle.session_answers.specs.Served.{IsServed};
+ghost use Rattle.session_script.specs.Seen.{brings_fid, seen as known};
 
 use crate::dotted::{dotted_fid, dotted_request};
 use crate::open_fids::OpenFids;
-use net_base::{Octets, Reply, Step, Tmsg};
-use ninep_wire::{NinepError, decode_t, encode_r};
-use script_task::{Request, is_opening};
-use session_answers::{Found, error, lines_in, node_at, replied, request_of, said};
-use session_script::{Table, is_cs, step_of};
+use net_base::{Octets, Reply, Rmsg, Step, Tmsg};
+use ninep_wire::{encode_r, request_in};
+use script_task::{Request, is_granted, is_opening};
+use session_answers::{Found, is_told, replied_bytes, request_of, said_bytes};
+use session_script::{Table, step_of};
 use std::alloc::{AllocError, Global};
+use std::marker::Model;
 
 /// No message over a call is longer.
 const LONGEST: u32 = 512;
@@ -20,21 +29,31 @@ const NO_TAG: u16 = 0xffff;
 /// The messages of a call's other end, as far as they were served.
 #[derive(Drop)]
 pub struct Serving {
-    pub(crate) table: Table,
-    pub(crate) found: Found,
-    pub(crate) opened: OpenFids,
+    table: Table,
+    found: Found,
+    opened: OpenFids,
     // the message that is served, where it has a step
-    pub(crate) message: Option<Tmsg>,
+    message: Option<Tmsg>,
     // the next request of that step
-    pub(crate) request: Option<Request>,
+    request: Option<Request>,
     // the answer, where there is no request
-    pub(crate) answer: Octets,
+    answer: Octets,
+}
+
+impl Model for Serving {
+    ghost use Rattle.net_export.specs.Serving as spec;
+
+    ghost Value = { spec.Serving };
+
+    ghost view = { spec.seen };
+
+    ghost invariant = { λ s. spec.IsServing (spec.seen s) };
 }
 
 impl Serving {
     /// Nothing was heard yet.
     pub(crate) fn new(alloc: Global) -> Serving
-        ensures { spec.seen result ≡ spec.fresh_serving }
+        ensures { result ≡ spec.fresh_serving }
     {
         Serving {
             table: Table::shorter(alloc, LONGEST),
@@ -46,17 +65,38 @@ impl Serving {
         }
     }
 
+    /// Whether it has a request.
+    pub(crate) fn is_asking(&self) -> bool
+        ensures { result ≡ not (is_none self.now.request) }
+    {
+        self.request.is_some()
+    }
+
+    /// Its request, or else the write of its answer to a name.
+    pub(crate) fn next(&self, name: &Octets) -> Result<Request, AllocError>
+        ensures { IfOk result (λ q. q ≡ spec.next self.now name.now) }
+    {
+        match &self.request {
+            Some(request) => request.clone(),
+            None => Ok(Request::Write {
+                name: name.clone()?,
+                text: self.answer.clone()?,
+            }),
+        }
+    }
+
+    // ---- texts
+
     /// Begins to serve a text.
     pub(crate) fn hear(&mut self, alloc: Global, text: &[u8]) -> Result<(), AllocError>
-        ensures ok { OnOk result (spec.seen self.new ≡ spec.hears (spec.seen self.old) text.now) }
-        ensures err { OnErr result (spec.seen self.new ≡ spec.seen self.old) }
+        ensures ok { OnOk result (self.new ≡ spec.hears self.old text.now) }
+        ensures err { OnErr result (self.new ≡ self.old) }
     {
-        match decode_t(alloc, text) {
-            Ok(message) => self.hear_message(alloc, message),
-            Err(NinepError::Memory) => Err(AllocError),
-            Err(_) => {
-                let answer = error(alloc, NO_TAG, b"bad message")?;
-                self.give(encode_r(alloc, &answer)?);
+        match request_in(alloc, text)? {
+            Some(message) => self.hear_message(alloc, message),
+            None => {
+                let answer = bad_message(alloc)?;
+                self.give(answer);
                 Ok(())
             }
         }
@@ -64,123 +104,99 @@ impl Serving {
 
     // The answer stands.
     fn give(&mut self, answer: Octets)
-        ensures { spec.seen self.new ≡ spec.given (spec.seen self.old) answer }
+        ensures { self.new ≡ spec.given self.old answer }
     {
-        self.request = None;
         self.message = None;
+        self.request = None;
         self.answer = answer;
     }
 
     // Begins to serve a message.
     fn hear_message(&mut self, alloc: Global, message: Tmsg) -> Result<(), AllocError>
-        ensures ok { OnOk result (spec.seen self.new ≡ spec.hears_message (spec.seen self.old) message) }
-        ensures err { OnErr result (spec.seen self.new ≡ spec.seen self.old) }
+        requires message { IsTmsg message }
+        ensures ok { OnOk result (self.new ≡ spec.hears_by self.old (Some message)) }
+        ensures err { OnErr result (self.new ≡ self.old) }
     {
         match step_of(alloc, &self.table, &message)? {
             None => self.tell(alloc, &message),
-            Some(step) => {
-                self.begin(message, step);
-                Ok(())
-            }
+            Some(step) => self.begin(alloc, message, step),
         }
     }
 
     // Answers a message without a step.
     fn tell(&mut self, alloc: Global, message: &Tmsg) -> Result<(), AllocError>
-        ensures ok { OnOk result (spec.seen self.new ≡ spec.tells (spec.seen self.old) message.now) }
-        ensures err { OnErr result (spec.seen self.new ≡ spec.seen self.old) }
+        requires message { IsTmsg message.now }
+        ensures ok { OnOk result (self.new ≡ spec.tells self.old message.now) }
+        ensures err { OnErr result (self.new ≡ self.old) }
     {
-        let answer = said(alloc, &self.table, &self.found, message)?;
-        let bytes = encode_r(alloc, &answer)?;
+        let answer = said_bytes(alloc, &self.table, &self.found, message)?;
         self.table.hear(alloc, message)?;
-        self.drop_lines(message);
-        self.give(bytes);
+        self.found.hear(message);
+        self.give(answer);
         Ok(())
     }
 
     // Begins the step of a message.
-    fn begin(&mut self, message: Tmsg, step: Step)
-        ensures { spec.seen self.new ≡ spec.begins (spec.seen self.old) message step }
+    fn begin(&mut self, alloc: Global, message: Tmsg, step: Step) -> Result<(), AllocError>
+        requires message { IsTmsg message }
+        requires known { brings_fid message ≡ false }
+        requires step { IsServed step }
+        ensures ok { OnOk result (self.new ≡ spec.begins self.old message step) }
+        ensures err { OnErr result (self.new ≡ self.old) }
     {
-        self.request = Some(dotted_request(request_of(step)));
+        let request = dotted_request(alloc, request_of(step))?;
         self.message = Some(message);
+        self.request = Some(request);
+        Ok(())
     }
+
+    // ---- replies
 
     /// Takes the reply to the event of its request.
     pub(crate) fn told(&mut self, alloc: Global, reply: &Reply) -> Result<(), AllocError>
-        ensures ok { OnOk result (spec.seen self.new ≡ spec.told (spec.seen self.old) reply.now) }
-        ensures err { OnErr result (spec.seen self.new ≡ spec.seen self.old) }
+        ensures ok { OnOk result (self.new ≡ spec.told self.old reply.now) }
+        ensures err { OnErr result (self.new ≡ self.old) }
     {
-        match (&self.request, reply) {
-            (Some(Request::Write { name, .. }), Reply::Granted { .. }) => {
-                self.request = Some(Request::Wait {
-                    name: name.clone()?,
-                });
+        match next_request(&self.request, reply)? {
+            None => self.finish(alloc, reply),
+            Some(request) => {
+                self.request = Some(request);
                 Ok(())
             }
-            _ => self.finish(alloc, reply),
         }
     }
 
     // Answers the message that is served, by the last reply of its step.
     fn finish(&mut self, alloc: Global, reply: &Reply) -> Result<(), AllocError>
-        ensures ok { OnOk result (spec.seen self.new ≡ spec.finished (spec.seen self.old) reply.now) }
-        ensures err { OnErr result (spec.seen self.new ≡ spec.seen self.old) }
+        ensures ok { OnOk result (self.new ≡ spec.finished self.old reply.now) }
+        ensures err { OnErr result (self.new ≡ self.old) }
     {
-        let Some(message) = &self.message else {
-            return Ok(());
-        };
-        let answer = replied(alloc, &self.table, message, reply)?;
-        let bytes = encode_r(alloc, &answer)?;
-        self.keep(alloc, reply)?;
-        self.give(bytes);
-        Ok(())
-    }
-
-    // What the message that is served changes, by the last reply of its step.
-    fn keep(&mut self, alloc: Global, reply: &Reply) -> Result<(), AllocError>
-        ensures ok { OnOk result (spec.seen self.new ≡ spec.keeps (spec.seen self.old) reply.now) }
-        ensures err { OnErr result (spec.seen self.new ≡ spec.seen self.old) }
-    {
-        let Some(message) = &self.message else {
-            return Ok(());
-        };
-        match message {
-            Tmsg::Open { fid, .. } => {
-                if is_opening(reply) {
-                    self.opened.add(*fid)?;
-                }
-            }
-            Tmsg::Write { fid, .. } => {
-                if is_cs(node_at(&self.table, *fid)) {
-                    let lines = lines_in(alloc, reply)?;
-                    self.found.set(*fid, lines)?;
-                }
-            }
-            Tmsg::Clunk { fid, .. } | Tmsg::Remove { fid, .. } => {
-                self.opened.remove(*fid);
-                self.found.forget(*fid);
-            }
-            _ => {}
+        // no event of a session has another reply, and a message may have no room for it
+        if !is_told(reply) {
+            return Err(AllocError);
         }
+        let Some(message) = &self.message else {
+            return Ok(());
+        };
+        let answer = replied_bytes(alloc, &self.table, message, reply)?;
+        keep(
+            alloc,
+            &mut self.opened,
+            &mut self.found,
+            &self.table,
+            message,
+            reply,
+        )?;
         self.table.hear_known(message);
+        self.give(answer);
         Ok(())
     }
 
-    // The lines of cs go with their fid.
-    fn drop_lines(&mut self, message: &Tmsg)
-        ensures { spec.seen self.new ≡ spec.without_lines (spec.seen self.old) message.now }
-    {
-        match message {
-            Tmsg::Clunk { fid, .. } => self.found.forget(*fid),
-            Tmsg::Remove { fid, .. } => self.found.forget(*fid),
-            _ => {}
-        }
-    }
+    // ---- the end
 
     /// The file that is closed next, where the step ends.
     pub(crate) fn closes(&self, alloc: Global) -> Result<Option<Request>, AllocError>
-        ensures { IfOk result (λ q. q ≡ spec.closes (spec.seen self.now)) }
+        ensures { IfOk result (λ q. q ≡ spec.closes self.now) }
     {
         match self.opened.least() {
             Some(fid) => Ok(Some(Request::Close {
@@ -188,5 +204,82 @@ impl Serving {
             })),
             None => Ok(None),
         }
+    }
+
+    /// Whether all files are closed.
+    pub(crate) fn is_closed(&self) -> bool
+        ensures { result ≡ is_none (spec.closes self.now) }
+    {
+        self.opened.least().is_none()
+    }
+
+    /// That file was closed, or wasn't there.
+    pub(crate) fn close_one(&mut self)
+        ensures { self.new ≡ spec.closed_one self.old }
+    {
+        self.opened.drop_least();
+    }
+}
+
+// What a message changes by the last reply of its step, beside what the table knows.
+fn keep(
+    alloc: Global,
+    opened: &mut OpenFids,
+    found: &mut Found,
+    table: &Table,
+    message: &Tmsg,
+    reply: &Reply,
+) -> Result<(), AllocError>
+    ensures opened { OnOk result (rising opened.new ≡ open_by (rising opened.old) message.now reply.now) }
+    ensures found { OnOk result (lines_by found.new ≡ found_by (known table.now) (lines_by found.old) message.now reply.now) }
+    ensures err_opened { OnErr result (rising opened.new ≡ rising opened.old) }
+    ensures err_found { OnErr result (lines_by found.new ≡ lines_by found.old) }
+{
+    match message {
+        Tmsg::Open { fid, .. } => keep_open(opened, *fid, reply),
+        Tmsg::Write { fid, .. } => found.keep_written(alloc, table, *fid, reply),
+        Tmsg::Clunk { fid, .. } => {
+            opened.remove(*fid);
+            found.forget(*fid);
+            Ok(())
+        }
+        Tmsg::Remove { fid, .. } => {
+            opened.remove(*fid);
+            found.forget(*fid);
+            Ok(())
+        }
+        _ => Ok(()),
+    }
+}
+
+// A file is open for the fid, where the reply opens one.
+fn keep_open(opened: &mut OpenFids, fid: u32, reply: &Reply) -> Result<(), AllocError>
+    ensures ok { OnOk result (rising opened.new ≡ spec.opened_by fid (rising opened.old) reply.now) }
+    ensures err { OnErr result (rising opened.new ≡ rising opened.old) }
+{
+    if is_opening(reply) {
+        opened.add(fid)?;
+    }
+    Ok(())
+}
+
+// The answer to bytes that are no T-message.
+fn bad_message(alloc: Global) -> Result<Octets, AllocError>
+    ensures { IfOk result (λ answer. answer ≡ exports.bad_message) }
+{
+    let ename = Octets::from_slice(alloc, b"bad message")?;
+    let answer = Rmsg::Error { tag: NO_TAG, ename };
+    encode_r(alloc, &answer)
+}
+
+// After a write that is granted a pair the conversation is awaited.
+fn next_request(request: &Option<Request>, reply: &Reply) -> Result<Option<Request>, AllocError>
+    ensures { IfOk result (λ q. q ≡ spec.goes_on request.now reply.now) }
+{
+    match request {
+        Some(Request::Write { name, .. }) if is_granted(reply) => Ok(Some(Request::Wait {
+            name: name.clone()?,
+        })),
+        _ => Ok(None),
     }
 }

@@ -10,6 +10,7 @@ mod put_answer;
 mod put_request;
 mod read_answer;
 mod read_request;
+mod spelled;
 
 pub use fault::NinepError;
 pub use law::{a_request_is_read, an_answer_is_read, one_spelling};
@@ -18,3 +19,4 @@ pub use put_answer::encode_r;
 pub use put_request::encode_t;
 pub use read_answer::decode_r;
 pub use read_request::decode_t;
+pub use spelled::{answer_in, request_in};

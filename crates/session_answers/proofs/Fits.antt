@@ -13,7 +13,8 @@ use Rattle.net_base.specs.declared.ninep.Tmsg.{Tmsg}
 use Rattle.net_base.specs.declared.ninep.Tmsg.TheVariants as t
 use Rattle.net_base.specs.NinepFields.{qid}
 use Rattle.net_base.specs.NinepMessages.{IsTmsg, longest, r_bytes, r_fields, r_qids, t_tag}
-use Rattle.net_base.specs.SessionAnswers.{Found, attach_answer, bad_fid, bad_mode, bad_use, bytes_in, found_answer, granted, is_granting, node_at, not_served, of_known, of_used, open_answer, piece, longest_text, read_answer, said, skipped, spoken, version_answer, walk_answer}
+use Rattle.net_base.specs.SessionAnswers.{Found, attach_answer, bad_fid, bad_mode, bad_use, found_answer, granted, is_granting, node_at, not_served, of_known, of_used, open_answer, piece, longest_text, read_answer, said, skipped, spoken, version_answer, walk_answer}
+use Rattle.net_base.specs.Steps.{bytes_in}
 use Rattle.net_base.specs.declared.ninep.Target.{Target}
 use Rattle.net_base.specs.SessionFiles.{can_open, is_cs, qid_of, step_to, walked}
 use Rattle.net_base.specs.SessionScript.{begins, gives_nothing, nofid, room}
@@ -102,7 +103,7 @@ spoken_few version = by (bytes_eq version (codes "9P2000"))
 
 version_fits : (table : Table) (tag msize : ℕ) (version : List ℕ) → Fits (version_answer table tag msize version)
 version_fits table tag msize version =
-    either (begins table msize) (r.Version tag (min msize longest) (spoken version)) (r.Error tag bad_use)
+    either (begins table msize) (r.Version tag (min msize table.msize) (spoken version)) (r.Error tag bad_use)
     (omega (arith, spoken_few version), omega arith)
     (error_fits tag bad_use (omega arith))
 

@@ -23,7 +23,7 @@ use Rattle.session_answers.specs.Told.{AreTold, by_last, is_brief, is_told, serv
 parts : (x : Reply) (rs : List Reply) → AreTold (x ∷ rs) → (is_told x ≡ true) × AreTold rs
 parts x rs told = and_parts (is_told x) (list_all is_told rs) told
 
-same_reply : (table : Table) (m : Tmsg) (x : Reply) → is_told x ≡ true → told_by table m x ≡ replied table m x
+pub same_reply : (table : Table) (m : Tmsg) (x : Reply) → is_told x ≡ true → told_by table m x ≡ replied table m x
 same_reply table m x told = by (is_granting x) (is_brief x) told
   where
     by : (g b : Bool) → (g || b) ≡ true

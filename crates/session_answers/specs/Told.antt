@@ -4,7 +4,7 @@ use Rattle.std.specs.List.{list_all}
 use Rattle.net_base.specs.declared.reply.Reply.{Reply}
 use Rattle.net_base.specs.declared.reply.Reply.TheVariants as reply
 use Rattle.net_base.specs.declared.world.Step.{Step}
-use Rattle.net_base.specs.Steps.{Names, play_of}
+use Rattle.net_base.specs.Steps.{Ends, Names, play_of}
 use Rattle.net_base.specs.declared.ninep.Rmsg.{Rmsg}
 use Rattle.net_base.specs.declared.ninep.Rmsg.TheVariants as r
 use Rattle.net_base.specs.declared.ninep.Tmsg.{Tmsg}
@@ -67,4 +67,5 @@ session h =
       opening = first;
       names = λ (s : State). s.names;
       serves = λ (s : State) (m : Tmsg). serves_by h s m (step_of s.table m);
+      closes = λ (s : State). Ends s.names;
     }

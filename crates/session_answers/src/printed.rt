@@ -20,8 +20,8 @@ pub fn printed(alloc: Global, reply: &Reply) -> Result<Octets, AllocError>
     Octets::from_slice(alloc, behind_first(words.as_slice()))
 }
 
-// Whether the reply is brief.
-fn is_brief(reply: &Reply) -> bool
+/// Whether the reply is brief.
+pub fn is_brief(reply: &Reply) -> bool
     ensures is { result ≡ spec.is_brief reply.now }
     ensures short { length (spec.told_text reply.now) ≤ longest_text }
 {

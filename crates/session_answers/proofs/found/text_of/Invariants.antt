@@ -1,6 +1,6 @@
 use Rattle.std.proofs.Common.{◌≡◌, take}
 use Rattle.net_base.specs.Transcript.{lines_of}
-use Rattle.session_answers.proofs.session.text_of.Given as goal
+use Rattle.session_answers.proofs.found.text_of.Given as goal
 
 -- the lines so far
 abbrev pub invariant-loop-line : goal.invariant-loop-line
