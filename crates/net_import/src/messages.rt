@@ -3,11 +3,10 @@ ghost use Rattle.std.specs.Prelude.{◌≡◌, ◌≤◌, IfOk, length, true};
 ghost use Rattle.net_base.specs.Addresses.{parts_at};
 ghost use Rattle.net_base.specs.Imports as spec;
 ghost use Rattle.net_base.specs.NinepMessages.{t_bytes};
-ghost use Rattle.net_base.specs.NinepReading.{read_r};
 ghost use Rattle.net_base.specs.Remotes as remotes;
 
 use net_base::{Lines, Mode, Octets, Rmsg, Tmsg};
-use ninep_wire::{NinepError, decode_r, encode_t};
+use ninep_wire::{answer_in, encode_t};
 use std::alloc::{AllocError, Global};
 use words::split_first;
 
@@ -162,21 +161,10 @@ fn parts(alloc: Global, text: &[u8]) -> Result<Lines, AllocError>
 
 // ---- replies
 
-// The message that a text spells, if it spells one.
-fn answer(alloc: Global, text: &[u8]) -> Result<Option<Rmsg>, AllocError>
-    ensures { IfOk result (λ answer. answer ≡ read_r text.now) }
-{
-    match decode_r(alloc, text) {
-        Ok(message) => Ok(Some(message)),
-        Err(NinepError::Memory) => Err(AllocError),
-        Err(_) => Ok(None),
-    }
-}
-
 pub(crate) fn is_version(alloc: Global, text: &[u8]) -> Result<bool, AllocError>
     ensures { IfOk result (λ is. is ≡ spec.is_version text.now) }
 {
-    match answer(alloc, text)? {
+    match answer_in(alloc, text)? {
         Some(Rmsg::Version { tag, .. }) => Ok(tag == NO_TAG),
         _ => Ok(false),
     }
@@ -186,7 +174,7 @@ pub(crate) fn is_version(alloc: Global, text: &[u8]) -> Result<bool, AllocError>
 pub(crate) fn is_whole(alloc: Global, path: &[u8], text: &[u8]) -> Result<bool, AllocError>
     ensures { IfOk result (λ is. is ≡ spec.is_whole path.now text.now) }
 {
-    match answer(alloc, text)? {
+    match answer_in(alloc, text)? {
         Some(Rmsg::Walk { tag, qids }) => {
             Ok(tag == TAG && path_names(alloc, path)?.len() <= qids.len())
         }
@@ -197,7 +185,7 @@ pub(crate) fn is_whole(alloc: Global, path: &[u8], text: &[u8]) -> Result<bool, 
 pub(crate) fn is_open(alloc: Global, text: &[u8]) -> Result<bool, AllocError>
     ensures { IfOk result (λ is. is ≡ spec.is_open text.now) }
 {
-    match answer(alloc, text)? {
+    match answer_in(alloc, text)? {
         Some(Rmsg::Open { tag, .. }) => Ok(tag == TAG),
         _ => Ok(false),
     }
