@@ -99,7 +99,7 @@ fn bind_all(fids: &mut Names) -> Result<(), AllocError> {
     bind(fids, b"s", FileName::Status, Mode::Read)
 }
 
-fn names(alloc: Global) -> Result<Names, AllocError> {
+pub(crate) fn names(alloc: Global) -> Result<Names, AllocError> {
     let mut fids = no_names(alloc)?;
     if bind_all(&mut fids).is_err() {
         drop(fids);
