@@ -9,6 +9,7 @@ use Rattle.net_base.specs.NinepMessages.{t_bytes}
 use Rattle.net_base.specs.Scripts.{Kept}
 use Rattle.net_base.specs.Steps.{Names, bytes_in, Play, Ends}
 use Rattle.net_import.specs.declared.import.Import.{Import}
+use Rattle.net_import.specs.declared.talk.Talk.{Talk}
 use Rattle.net_import.specs.declared.talk.TalkPhase.{TalkPhase}
 use Rattle.net_import.specs.declared.talk.TalkPhase.TheVariants as phase
 use Rattle.net_import.specs.Importing as spec
@@ -22,6 +23,14 @@ use Rattle.script_task.specs.Task.{AsksSo, MovesSo, follow, fits_play}
 
 pub fresh : (t : Import) (called : List ℕ) → t ≡ spec.begun called → spec.Begins t (step.Import called)
 fresh t called is h k = subst (λ (u : Import). spec.Begins u (step.Import called)) (sym is) (λ h k. refl) h k
+
+abbrev import_of : Talk → Import
+import_of t = record { talk = t; attaches = false }
+
+-- a message of a call that has the name
+pub made : (t : Talk) (call message called : List ℕ) → t ≡ talk.begun call message → call ≡ called → message ≡ t_bytes version_message
+    → import_of t ≡ spec.begun called
+made t call message called is same bytes = ap (λ (u : Talk). import_of u) is ∙ ap (λ (c : List ℕ). import_of (talk.begun c message)) same ∙ ap (λ (m : List ℕ). import_of (talk.begun called m)) bytes
 
 pub asks_so : AsksSo Import spec.asks spec.StandsFor
 asks_so h names t p stands = heads h names t.talk.call t.talk.message (follows (own_of h t.talk.call names) names t.attaches) t.talk.phase p stands

@@ -1,11 +1,12 @@
 -- The task of `ropen` asks and moves as its play does.
 use Rattle.std.proofs.Common.{◌≡◌, ℕ, Bool, true, false, ◌&&◌, ◌||◌, not, List, [], ◌∷◌, Option, Some, None, if◌then◌else◌, refl, sym, subst, ap, ◌∙◌}
 use Rattle.std.specs.Prelude.{find}
-use Rattle.std.proofs.lemmas.Bool.{false≢true}
+use Rattle.std.proofs.lemmas.Bool.{false≢true, true≢false}
 use Rattle.std.proofs.lemmas.Option.{none-some, same_Some}
 use Rattle.net_base.specs.declared.left.Left.{Left}
 use Rattle.net_base.specs.declared.names.Mode.{Mode}
 use Rattle.net_base.specs.declared.reply.Reply.{Reply}
+use Rattle.net_base.specs.declared.reply.Reply.TheVariants as reply
 use Rattle.net_base.specs.declared.world.Step.TheVariants as step
 use Rattle.net_base.specs.Exports.{Own, by_text, own_of}
 use Rattle.net_base.specs.Imports.{clunk_message, is_open, is_whole, open_message, opens_remote, ropen_play, sends_for, sends_once}
@@ -24,8 +25,15 @@ use Rattle.net_import.specs.TalkLaws.{follows_read, heads, names_stay}
 use Rattle.net_import.specs.Talks as talk
 use Rattle.script_task.specs.declared.request.Request.{Request}
 use Rattle.script_task.specs.declared.request.Request.TheVariants as request
+use Rattle.script_task.specs.Fitting.{is_unopened}
 use Rattle.script_task.specs.Requests.{settled}
 use Rattle.script_task.specs.Task.{AsksSo, Heads, MovesSo, follow, fits_play}
+
+-- a reply to what isn't open is a refusal
+unopened_no : (r : Reply) → is_unopened r ≡ true → is_accepted r ≡ false
+unopened_no reply.BadFid is = refl
+unopened_no reply.BadMode is = refl
+unopened_no r is = absurd (false≢true is)
 
 -- ---- the beginning
 
@@ -130,11 +138,11 @@ module _ (h : ℕ) (names : Names) (name path : List ℕ) (m : Mode) (fid : ℕ)
   -- the new name was asked for
   refused_moves : (message : List ℕ) (p : Play) (r : Reply) → p ≡ uses h name names → fits_play p r ≡ true → spec.StandsFor h names (written stage.Walk message r) (follow p r)
   refused_moves message p r is fit =
-      subst (λ (x : Play). spec.StandsFor h names (written stage.Walk message r) (follow x r)) (sym is) (by (is_accepted r) (subst (λ (x : Play). fits_play x r ≡ true) is fit))
+      subst (λ (x : Play). spec.StandsFor h names (written stage.Walk message r) (follow x r)) (sym is) (by (is_accepted r) (unopened_no r (subst (λ (x : Play). fits_play x r ≡ true) is fit)))
     where
-      by : (b : Bool) → not b ≡ true → spec.StandsFor h names (at stage.Walk message (if b then phase.Read else phase.Over)) (Ends names)
-      by true fits = absurd (false≢true fits)
-      by false fits = refl
+      by : (b : Bool) → b ≡ false → spec.StandsFor h names (at stage.Walk message (if b then phase.Read else phase.Over)) (Ends names)
+      by true refused = absurd (true≢false refused)
+      by false refused = refl
 
   first_moves : (message : List ℕ) (b : Bool) (p : Play) (r : Reply) → spec.StandsBy h names (at stage.Walk message phase.Write) b p → fits_play p r ≡ true
       → spec.StandsFor h names (written stage.Walk message r) (follow p r)

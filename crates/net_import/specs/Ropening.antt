@@ -63,16 +63,14 @@ abbrev pub stage_after : Ropen → Reply → RopenStage
 stage_after t r =
     if talk.is_reading t.talk.phase then by_text (bytes_in r) t.stage (λ (text : List ℕ). stage_by t.stage t.path text) else t.stage
 
-abbrev pub message_of : ℕ → Mode → RopenStage → Option (List ℕ)
-message_of fid m stage.Open = Some (t_bytes (open_message fid m))
-message_of fid m stage.Clunk = Some (t_bytes (clunk_message fid))
-message_of fid m _ = None
+-- the message with which another stage begins, if it has one
+abbrev pub message_by : ℕ → Mode → RopenStage → RopenStage → Option (List ℕ)
+message_by fid m stage.Walk stage.Open = Some (t_bytes (open_message fid m))
+message_by fid m stage.Open stage.Clunk = Some (t_bytes (clunk_message fid))
+message_by fid m _ _ = None
 
--- a stage that is another one begins with its message, if it has one
 abbrev pub talks_on : Ropen → RopenStage → RopenStage → Reply → Talk
-talks_on t stage.Walk stage.Open r = talk.begun t.talk.call (t_bytes (open_message t.fid t.mode))
-talks_on t stage.Open stage.Clunk r = talk.begun t.talk.call (t_bytes (clunk_message t.fid))
-talks_on t _ _ r = talk.after t.talk r
+talks_on t before s r = talk.moves t.talk (message_by t.fid t.mode before s) r
 
 abbrev pub after : Ropen → Reply → Ropen
 after t r = record t { stage = stage_after t r; talk = talks_on t t.stage (stage_after t r) r }

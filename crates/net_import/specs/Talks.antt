@@ -35,3 +35,8 @@ phase_after _ r = phase.Over
 -- after a reply, whatever it says
 abbrev pub after : Talk → Reply → Talk
 after t r = record t { phase = phase_after t.phase r }
+
+-- after a reply, where another message follows it or none
+abbrev pub moves : Talk → Option (List ℕ) → Reply → Talk
+moves t (Some message) r = begun t.call message
+moves t None r = after t r

@@ -1,14 +1,12 @@
 //! The messages of importing steps, as bytes, and what their replies say.
-ghost use Rattle.std.specs.Prelude.{◌≡◌, ◌≤◌, [], IfOk, length, true};
-ghost use Rattle.std.specs.Option.{option_map_or};
+ghost use Rattle.std.specs.Prelude.{◌≡◌, ◌≤◌, IfOk, length, true};
 ghost use Rattle.net_base.specs.Addresses.{parts_at};
 ghost use Rattle.net_base.specs.Imports as spec;
 ghost use Rattle.net_base.specs.NinepMessages.{t_bytes};
-ghost use Rattle.net_base.specs.NinepReading.{read_r};
 ghost use Rattle.net_base.specs.Remotes as remotes;
 
 use net_base::{Lines, Mode, Octets, Rmsg, Tmsg};
-use ninep_wire::{NinepError, decode_r, encode_t};
+use ninep_wire::{answer_in, encode_t};
 use std::alloc::{AllocError, Global};
 use words::split_first;
 
@@ -23,6 +21,7 @@ const NO_TAG: u16 = 0xffff;
 
 const TAG: u16 = 1;
 
+#[tactic(auto, using(crate::proofs::Lengths::version_short))]
 pub(crate) fn version(alloc: Global) -> Result<Octets, AllocError>
     ensures { IfOk result (λ bytes. bytes ≡ t_bytes spec.version_message) }
 {
@@ -35,6 +34,7 @@ pub(crate) fn version(alloc: Global) -> Result<Octets, AllocError>
     encode_t(alloc, &message)
 }
 
+#[tactic(auto, using(crate::proofs::Lengths::attach_short))]
 pub(crate) fn attach(alloc: Global) -> Result<Octets, AllocError>
     ensures { IfOk result (λ bytes. bytes ≡ t_bytes spec.attach_message) }
 {
@@ -49,6 +49,7 @@ pub(crate) fn attach(alloc: Global) -> Result<Octets, AllocError>
 }
 
 /// A walk from the root by the names of a path.
+#[tactic(auto, using(crate::proofs::Lengths::walk_few, crate::proofs::Lengths::walk_short))]
 pub(crate) fn walk(alloc: Global, fid: u32, path: &[u8]) -> Result<Octets, AllocError>
     requires { remotes.is_remote_path path.now ≡ true }
     ensures { IfOk result (λ bytes. bytes ≡ t_bytes (spec.walk_message fid path.now)) }
@@ -63,6 +64,7 @@ pub(crate) fn walk(alloc: Global, fid: u32, path: &[u8]) -> Result<Octets, Alloc
     encode_t(alloc, &message)
 }
 
+#[tactic(auto, using(crate::proofs::Lengths::open_short))]
 pub(crate) fn open(alloc: Global, fid: u32, mode: Mode) -> Result<Octets, AllocError>
     ensures { IfOk result (λ bytes. bytes ≡ t_bytes (spec.open_message fid mode)) }
 {
@@ -77,6 +79,7 @@ pub(crate) fn open(alloc: Global, fid: u32, mode: Mode) -> Result<Octets, AllocE
     )
 }
 
+#[tactic(auto, using(crate::proofs::Lengths::read_short))]
 pub(crate) fn read(alloc: Global, fid: u32, count: u32) -> Result<Octets, AllocError>
     ensures { IfOk result (λ bytes. bytes ≡ t_bytes (spec.read_message fid count)) }
 {
@@ -91,6 +94,7 @@ pub(crate) fn read(alloc: Global, fid: u32, count: u32) -> Result<Octets, AllocE
     )
 }
 
+#[tactic(auto, using(crate::proofs::Lengths::write_short))]
 pub(crate) fn write(alloc: Global, fid: u32, text: &[u8]) -> Result<Octets, AllocError>
     requires { length text.now ≤ 488 }
     ensures { IfOk result (λ bytes. bytes ≡ t_bytes (spec.write_message fid text.now)) }
@@ -107,6 +111,7 @@ pub(crate) fn write(alloc: Global, fid: u32, text: &[u8]) -> Result<Octets, Allo
     )
 }
 
+#[tactic(auto, using(crate::proofs::Lengths::clunk_short))]
 pub(crate) fn clunk(alloc: Global, fid: u32) -> Result<Octets, AllocError>
     ensures { IfOk result (λ bytes. bytes ≡ t_bytes (spec.clunk_message fid)) }
 {
@@ -127,45 +132,39 @@ fn mode_number(mode: Mode) -> u8
 fn path_names(alloc: Global, path: &[u8]) -> Result<Lines, AllocError>
     ensures { IfOk result (λ names. names ≡ remotes.path_names path.now) }
 {
-    let (_, rest) = split_first(path, b'/');
-    let Some(rest) = rest else {
+    let (_, net) = split_first(path, b'/');
+    let Some(net) = net else {
         return Ok(Lines::new(alloc));
     };
-    let (_, names) = split_first(rest, b'/');
+    let (_, names) = split_first(net, b'/');
+    let Some(names) = names else {
+        return Ok(Lines::new(alloc));
+    };
     parts(alloc, names)
 }
 
-// What stands between the slashes of a text, if there is one.
-fn parts(alloc: Global, text: Option<&[u8]>) -> Result<Lines, AllocError>
-    ensures { IfOk result (λ names. names ≡ option_map_or (λ t. parts_at 47 t.now) text []) }
+// What stands between the slashes of a text.
+fn parts(alloc: Global, text: &[u8]) -> Result<Lines, AllocError>
+    ensures { IfOk result (λ names. names ≡ parts_at 47 text.now) }
 {
     let mut names = Lines::new(alloc);
     let mut rest = text;
-    while let Some(text) = rest {
-        let (name, behind) = split_first(text, b'/');
+    loop {
+        let (name, behind) = split_first(rest, b'/');
         names.push(Octets::from_slice(alloc, name)?)?;
+        let Some(behind) = behind else {
+            return Ok(names);
+        };
         rest = behind;
     }
-    Ok(names)
 }
 
 // ---- replies
 
-// The message that a text spells, if it spells one.
-fn answer(alloc: Global, text: &[u8]) -> Result<Option<Rmsg>, AllocError>
-    ensures { IfOk result (λ answer. answer ≡ read_r text.now) }
-{
-    match decode_r(alloc, text) {
-        Ok(message) => Ok(Some(message)),
-        Err(NinepError::Memory) => Err(AllocError),
-        Err(_) => Ok(None),
-    }
-}
-
 pub(crate) fn is_version(alloc: Global, text: &[u8]) -> Result<bool, AllocError>
     ensures { IfOk result (λ is. is ≡ spec.is_version text.now) }
 {
-    match answer(alloc, text)? {
+    match answer_in(alloc, text)? {
         Some(Rmsg::Version { tag, .. }) => Ok(tag == NO_TAG),
         _ => Ok(false),
     }
@@ -175,7 +174,7 @@ pub(crate) fn is_version(alloc: Global, text: &[u8]) -> Result<bool, AllocError>
 pub(crate) fn is_whole(alloc: Global, path: &[u8], text: &[u8]) -> Result<bool, AllocError>
     ensures { IfOk result (λ is. is ≡ spec.is_whole path.now text.now) }
 {
-    match answer(alloc, text)? {
+    match answer_in(alloc, text)? {
         Some(Rmsg::Walk { tag, qids }) => {
             Ok(tag == TAG && path_names(alloc, path)?.len() <= qids.len())
         }
@@ -186,7 +185,7 @@ pub(crate) fn is_whole(alloc: Global, path: &[u8], text: &[u8]) -> Result<bool, 
 pub(crate) fn is_open(alloc: Global, text: &[u8]) -> Result<bool, AllocError>
     ensures { IfOk result (λ is. is ≡ spec.is_open text.now) }
 {
-    match answer(alloc, text)? {
+    match answer_in(alloc, text)? {
         Some(Rmsg::Open { tag, .. }) => Ok(tag == TAG),
         _ => Ok(false),
     }

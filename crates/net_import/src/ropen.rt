@@ -66,7 +66,7 @@ impl Ropen {
         ensures value { IfOk result (λ t. t ≡ spec.begun name.now call.now path.now mode left.now) }
         ensures stands { IfOk result (λ t. spec.Begins t left.now (step.Ropen name.now call.now path.now mode)) }
     {
-        let fid = free_fid(left, call);
+        let fid = free_fid(left, call)?;
         Ok(Ropen {
             name: Octets::from_slice(alloc, name)?,
             path: Octets::from_slice(alloc, path)?,
@@ -127,13 +127,13 @@ impl Ropen {
         }
     }
 
-    // The message of a stage.
+    // The message with which another stage begins, if it has one.
     fn message(&self, alloc: Global, stage: RopenStage) -> Result<Option<Octets>, AllocError>
-        ensures { IfOk result (λ message. message ≡ spec.message_of self.now.fid self.now.mode stage) }
+        ensures { IfOk result (λ message. message ≡ spec.message_by self.now.fid self.now.mode self.now.stage stage) }
     {
-        match stage {
-            RopenStage::Open => Ok(Some(open(alloc, self.fid, self.mode)?)),
-            RopenStage::Clunk => Ok(Some(clunk(alloc, self.fid)?)),
+        match (self.stage, stage) {
+            (RopenStage::Walk, RopenStage::Open) => Ok(Some(open(alloc, self.fid, self.mode)?)),
+            (RopenStage::Open, RopenStage::Clunk) => Ok(Some(clunk(alloc, self.fid)?)),
             _ => Ok(None),
         }
     }
@@ -170,14 +170,8 @@ impl Task for Ropen {
 
     fn told(&mut self, alloc: Global, reply: Reply) -> Result<(), AllocError> {
         let stage = self.stage_after(alloc, &reply)?;
-        if stage == self.stage {
-            self.talk.told(&reply);
-            return Ok(());
-        }
-        match self.message(alloc, stage)? {
-            Some(message) => self.talk.goes_on(message),
-            None => self.talk.told(&reply),
-        }
+        let message = self.message(alloc, stage)?;
+        self.talk.moves(message, &reply);
         self.stage = stage;
         Ok(())
     }

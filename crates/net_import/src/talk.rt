@@ -104,4 +104,14 @@ impl Talk {
         self.message = message;
         self.phase = TalkPhase::Write;
     }
+
+    /// Takes a reply, which another message follows or none.
+    pub(crate) fn moves(&mut self, message: Option<Octets>, reply: &Reply)
+        ensures { self.new ≡ spec.moves self.old message reply.now }
+    {
+        match message {
+            Some(message) => self.goes_on(message),
+            None => self.told(reply),
+        }
+    }
 }
