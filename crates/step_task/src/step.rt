@@ -189,29 +189,37 @@ fn taken_name(alloc: Global, step: &Step, left: &Left) -> Result<Option<Octets>,
     ensures { IfOk result (λ name. name ≡ find (is_remote left.now) (new_names step.now)) }
 {
     match step {
-        Step::Open { name, .. }
-        | Step::Announce { name, .. }
-        | Step::Listen { name, .. }
-        | Step::Accept { name, .. }
-        | Step::Ropen { name, .. }
-        | Step::Dial { name, .. }
-            if is_remote(left, name.as_slice()) => { Ok(Some(name.clone()?)) }
-        Step::Dial { name, .. } => taken_dotted(alloc, name, left),
+        Step::Open { name, .. } => taken(name, left),
+        Step::Dial { name, .. } => taken_by_dial(alloc, name, left),
+        Step::Announce { name, .. } => taken(name, left),
+        Step::Listen { name, .. } => taken(name, left),
+        Step::Accept { name, .. } => taken(name, left),
+        Step::Ropen { name, .. } => taken(name, left),
         _ => Ok(None),
     }
 }
 
-// The name of a dial's ctl file, where a remote file has it. No world has such a name.
-fn taken_dotted(alloc: Global, name: &Octets, left: &Left) -> Result<Option<Octets>, AllocError>
-    ensures { IfOk result (λ o. o ≡ find (is_remote left.now) (steps.dotted_name name.now ∷ [])) }
+// The name, where a remote file has it.
+fn taken(name: &Octets, left: &Left) -> Result<Option<Octets>, AllocError>
+    ensures { IfOk result (λ taken. taken ≡ find (is_remote left.now) (name.now ∷ [])) }
 {
-    let mut dotted = Octets::from_slice(alloc, b".")?;
-    dotted.append(name.as_slice())?;
-    if is_remote(left, dotted.as_slice()) {
-        Ok(Some(dotted))
+    if is_remote(left, name.as_slice()) {
+        Ok(Some(name.clone()?))
     } else {
         Ok(None)
     }
+}
+
+// The same of a dial's name and then of that of its ctl file, which no world says.
+fn taken_by_dial(alloc: Global, name: &Octets, left: &Left) -> Result<Option<Octets>, AllocError>
+    ensures { IfOk result (λ taken. taken ≡ find (is_remote left.now) (name.now ∷ steps.dotted_name name.now ∷ [])) }
+{
+    if is_remote(left, name.as_slice()) {
+        return Ok(Some(name.clone()?));
+    }
+    let mut dotted = Octets::from_slice(alloc, b".")?;
+    dotted.append(name.as_slice())?;
+    taken(&dotted, left)
 }
 
 // What a step begins with whose new names no remote file has.
@@ -270,7 +278,12 @@ fn begin(alloc: Global, step: &Step, left: &Left) -> Result<StepTask, AllocError
             bytes.as_slice(),
         )?)),
         Step::Dns { name, times } => Ok(StepTask::Dns(Dns::new(alloc, name.as_slice(), *times)?)),
-        _ => begin_import(alloc, step, left),
+        Step::Export { .. } => begin_import(alloc, step, left),
+        Step::Import { .. } => begin_import(alloc, step, left),
+        Step::Ropen { .. } => begin_import(alloc, step, left),
+        Step::Rread { .. } => begin_import(alloc, step, left),
+        Step::Rwrite { .. } => begin_import(alloc, step, left),
+        Step::Rclose { .. } => begin_import(alloc, step, left),
     }
 }
 

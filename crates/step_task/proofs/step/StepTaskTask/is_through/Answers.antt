@@ -1,4 +1,4 @@
-use Rattle.dial_lib.proofs.step.StepTaskTask.is_through.Goals as goal
+use Rattle.step_task.proofs.step.StepTaskTask.is_through.Goals as goal
 
 pub returns-in-OneRequest : goal.returns-in-OneRequest
 returns-in-OneRequest c = λ names. rw (c.in-OneRequest.is) (c.is_through.ensures names)
