@@ -1,7 +1,6 @@
 //! Paths of remote files.
-ghost use Rattle.std.specs.Prelude.{◌≡◌, ◌&&◌, ℕ, length, nat_le, true};
+ghost use Rattle.std.specs.Prelude.{◌≡◌, ◌&&◌, length, nat_le};
 ghost use Rattle.std.specs.List.{list_all};
-ghost use Rattle.std.specs.Option.{option_map_or};
 ghost use Rattle.net_base.specs.Addresses.{parts_at};
 ghost use Rattle.net_base.specs.Remotes as spec;
 
@@ -11,7 +10,6 @@ use words::split_first;
 const MOST_NAMES: usize = 16;
 
 /// `/net`, and at most 16 names behind it, each after a slash.
-#[tactic(auto, using(crate::proofs::RemotePaths::path_is))]
 pub fn is_remote_path(path: &[u8]) -> bool
     ensures { result ≡ spec.is_remote_path path.now }
 {
@@ -20,24 +18,31 @@ pub fn is_remote_path(path: &[u8]) -> bool
         return false;
     };
     let (net, names) = split_first(rest, b'/');
-    root.is_empty() && net == b"net".as_slice() && are_few_names(names)
+    if !(root.is_empty() && net == b"net".as_slice()) {
+        return false;
+    }
+    match names {
+        Some(names) => are_few_names(names),
+        None => true,
+    }
 }
 
 /// At most 16 names, between slashes.
-fn are_few_names(names: Option<&[u8]>) -> bool
-    ensures { result ≡ option_map_or (λ text. nat_le (length (parts_at 47 text.now)) 16 && list_all spec.is_remote_name (parts_at 47 text.now)) names true }
+fn are_few_names(names: &[u8]) -> bool
+    ensures { result ≡ (nat_le (length (parts_at 47 names.now)) 16 && list_all spec.is_remote_name (parts_at 47 names.now)) }
 {
     let mut rest = names;
-    let mut left = MOST_NAMES;
-    while let Some(text) = rest {
-        let (name, behind) = split_first(text, b'/');
-        if left == 0 || !is_remote_name(name) {
+    for _i in 0..MOST_NAMES {
+        let (name, behind) = split_first(rest, b'/');
+        if !is_remote_name(name) {
             return false;
         }
+        let Some(behind) = behind else {
+            return true;
+        };
         rest = behind;
-        left -= 1;
     }
-    true
+    false
 }
 
 fn is_remote_name(name: &[u8]) -> bool
