@@ -6,3 +6,4 @@ pub mod SessionAnswers
 pub mod SessionEvents
 pub mod ToldReplies
 pub mod SessionReplies
+pub mod Opened

@@ -1,5 +1,5 @@
 -- The fids for which a file is open, and the requests of an exporting step's messages.
-use Rattle.std.specs.Prelude.{ℕ, List, [], ◌∷◌, reverse, Option, Some, None}
+use Rattle.std.specs.Prelude.{ℕ, List, [], ◌∷◌, Option, Some, None}
 use Rattle.net_base.specs.Exports.{dotted}
 use Rattle.net_export.specs.declared.open_fids.OpenFids.{OpenFids}
 use Rattle.script_task.specs.declared.request.Request.{Request}
@@ -7,7 +7,7 @@ use Rattle.script_task.specs.declared.request.Request.TheVariants as request
 
 -- in ascending order
 abbrev pub rising : OpenFids → List ℕ
-rising o = reverse o.fids.items
+rising o = o.fids.items
 
 abbrev pub first_of : List ℕ → Option ℕ
 first_of [] = None

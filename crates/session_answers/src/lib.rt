@@ -11,15 +11,6 @@ mod session;
 
 pub use answers::answers_by;
 pub use found::Found;
-<<<<<<< HEAD
-pub use replied::{node_at, replied};
-pub use said::{error, said};
-pub use session::{lines_in, request_of};
-=======
 pub use replied::{is_told, replied_bytes};
 pub use said::said_bytes;
 pub use session::request_of;
-
-#[cfg(test)]
-mod tests;
->>>>>>> s48-export
