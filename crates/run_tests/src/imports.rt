@@ -83,7 +83,7 @@ fn are_legal_next<R: Threads + Wait + Sync>(
 #[test]
 fn histories_of_imports_are_legal(rt: HostRuntime) -> Result<(), AllocError> {
     let mut words = Lcg64Xsh32::new(48, 1);
-    for i in 0..60_u32 {
+    for i in 0..30_u32 {
         let legal = are_legal_next(&rt, rt.alloc(), &mut words)?;
         assert!(rt; legal, "world {i}");
     }
