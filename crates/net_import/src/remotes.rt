@@ -9,14 +9,20 @@ use std::alloc::AllocError;
 pub(crate) fn remote_of<'a>(left: &'a Left, name: &[u8]) -> Option<&'a Remote>
     ensures { option_copied result ≡ spec.remote_of name.now left.now }
 {
-    left.remotes.as_slice().iter().find(|remote| remote.name.as_slice() == name)
+    left.remotes
+        .as_slice()
+        .iter()
+        .find(|remote| remote.name.as_slice() == name)
 }
 
 /// Whether a remote file has the name.
 pub fn is_remote(left: &Left, name: &[u8]) -> bool
     ensures { result ≡ spec.is_remote left.now name.now }
 {
-    left.remotes.as_slice().iter().any(|remote| remote.name.as_slice() == name)
+    left.remotes
+        .as_slice()
+        .iter()
+        .any(|remote| remote.name.as_slice() == name)
 }
 
 /// The lowest fid from 1 that no remote file of the call has. So many files that none is left are more than memory holds.
