@@ -1,6 +1,7 @@
 -- The task of a step stands for the step's play, and asks and moves as that does.
 use Rattle.std.proofs.Common.{◌≡◌, ℕ, ◌-◌, Bool, true, false, List, [], ◌∷◌, Option, Some, None, bytes_eq, if◌then◌else◌, unwrap_or, refl, sym, subst, ap}
 use Rattle.std.specs.Prelude.{◌&&◌, find, is_none, length, nat_le, not}
+use Rattle.std.proofs.lemmas.Bool.{true≢false}
 use Rattle.net_base.specs.declared.left.Left.{Left}
 use Rattle.net_base.specs.declared.left.Remote.{Remote}
 use Rattle.net_base.specs.declared.names.FileName.{FileName}
@@ -141,6 +142,15 @@ pub begun_stands : (t : StepTask) (left : Left) (s : Step) → t ≡ spec.begun 
     → spec.StandsFor h names t (step_play h (record { names = names; left = left }) s)
 begun_stands t left s is h names slots =
     (slots, subst (λ (u : StepTask). spec.stands_by h names u (step_play h (record { names = names; left = left }) s)) (sym is) (begins_so h names left s slots))
+
+-- the first request of an open whose name no remote file has
+pub opens_first : (left : Left) (called path : List ℕ) (m : Option Mode) (q : Request) (names : Names) → is_remote left called ≡ false
+    → spec.begun_own left (step.Open called path m) ≡ spec.asks_once q → Some q ≡ spec.asks (spec.begun left (step.Open called path m)) names
+opens_first left called path m q names free is = by (is_remote left called) free
+  where
+    by : (b : Bool) → b ≡ false → Some q ≡ spec.asks (spec.begun_by left (step.Open called path m) (if b then Some called else None)) names
+    by true taken = absurd (true≢false taken)
+    by false free = ap (λ (t : StepTask). spec.asks t names) (sym is)
 
 -- Requests and replies.
 

@@ -177,10 +177,19 @@ fn hear_ropen(
 {
     let mut later = task.clone()?;
     later.told(alloc, reply)?;
-    if later.is_through() {
-        later.leave(left)?;
-    }
+    leave_ropen(&later, left)?;
     *task = later;
+    Ok(())
+}
+
+// What it leaves once it is through.
+fn leave_ropen(task: &Ropen, left: &mut Left) -> Result<(), AllocError>
+    ensures ok { OnOk result (left.new ≡ spec.left_by (t.Ropen task.now) left.old) }
+    ensures err { OnErr result (left.new ≡ left.old) }
+{
+    if task.is_through() {
+        return task.leave(left);
+    }
     Ok(())
 }
 
