@@ -112,7 +112,7 @@ begins_own h names left (step.Export called) slots free = export_by (is_dotted c
   where
     export_by : (b : Bool) → is_dotted called ≡ b → spec.stands_by h names (spec.or_unbound called (not b) (task.Export (export.begun called))) (export_play h called names)
     export_by true is = rw is (IsFresh (_, refl, λ r. refl))
-    export_by false is = rw is (export_laws.begins h names called)
+    export_by false is = rw is (export_laws.begins h names called is)
 begins_own h names left (step.Import call) slots free = refl
 begins_own h names left (step.Ropen called call path m) slots free = ropen_by (is_remote_path path) refl
   where

@@ -8,3 +8,9 @@ returns-in-WriteText c = λ names. rw (c.in-WriteText.is) (c.is_through-in-Write
 
 pub returns-in-Reject : goal.returns-in-Reject
 returns-in-Reject c = λ names. rw (c.in-Reject.is) (c.is_through-in-Reject.ensures names)
+
+pub returns-in-Export : goal.returns-in-Export
+returns-in-Export c = λ names. rw (c.in-Export.is) (c.is_through-in-Export.ensures names)
+
+pub returns-in-Import : goal.returns-in-Import
+returns-in-Import c = λ names. rw (c.in-Import.is) (c.is_through-in-Import.ensures names)
