@@ -7,3 +7,4 @@ pub mod SessionEvents
 pub mod ToldReplies
 pub mod SessionReplies
 pub mod Opened
+pub mod Messages

@@ -12,15 +12,13 @@ use Rattle.net_base.specs.SessionAnswers.{Found, found_after, found_by, replied,
 use Rattle.net_base.specs.SessionScript as script
 use Rattle.net_base.specs.SessionTable.{Table, opening}
 use Rattle.net_base.specs.Steps.{Names, Play}
-use Rattle.net_export.specs.declared.serving.Serving.{Serving as Code}
-use Rattle.net_export.specs.Rows.{dotted_request, first_of, rising}
+use Rattle.net_export.specs.Rows.{dotted_request, first_of}
 use Rattle.script_task.specs.declared.request.Request.{Request}
 use Rattle.script_task.specs.declared.request.Request.TheVariants as request
 use Rattle.script_task.specs.Fitting.{is_granted, is_opening}
 use Rattle.script_task.specs.Requests.{request_play}
-use Rattle.session_answers.specs.Found.{lines_by}
 use Rattle.session_answers.specs.Served.{asked}
-use Rattle.session_script.specs.Seen.{brings_fid, seen as known}
+use Rattle.session_script.specs.Seen.{brings_fid}
 
 pub record Serving : Type 0 where
   -- what the session knows, and what was found in cs
@@ -34,16 +32,13 @@ pub record Serving : Type 0 where
   -- the answer, where there is no request
   pub answer : List ℕ
 
-abbrev pub seen : Code → Serving
-seen s = record { table = known s.table; found = lines_by s.found; opened = rising s.opened; message = s.message; request = s.request; answer = s.answer }
-
 -- the message that is served has fields that hold what they should, and is about a fid that is known; and no message is too long
 abbrev pub IsServable : Tmsg → Type 0
 IsServable m = IsTmsg m × (brings_fid m ≡ false)
 
-pub record IsServing (s : Serving) : Type 0 where
-  pub message : IfSome s.message IsServable
-  pub short : s.table.msize ≤ longest
+pub record IsServing (message : Option Tmsg) (table : Table) : Type 0 where
+  pub served : IfSome message IsServable
+  pub short : table.msize ≤ longest
 
 -- nothing was heard yet
 abbrev pub fresh_serving : Serving

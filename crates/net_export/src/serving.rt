@@ -41,13 +41,23 @@ pub struct Serving {
 }
 
 impl Model for Serving {
+    ghost use Rattle.net_export.specs.Rows.{rising};
     ghost use Rattle.net_export.specs.Serving as spec;
+    ghost use Rattle.session_answers.specs.Found.{lines_by};
+    ghost use Rattle.session_script.specs.Seen.{seen as known};
 
     ghost Value = { spec.Serving };
 
-    ghost view = { spec.seen };
+    ghost view = { λ s. record {
+      table = known s.table;
+      found = lines_by s.found;
+      opened = rising s.opened;
+      message = s.message;
+      request = s.request;
+      answer = s.answer;
+    } };
 
-    ghost invariant = { λ s. spec.IsServing (spec.seen s) };
+    ghost invariant = { λ s. spec.IsServing s.message (known s.table) };
 }
 
 impl Serving {

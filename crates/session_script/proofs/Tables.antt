@@ -8,3 +8,6 @@ table_of is_first msize fids = record { is_first = is_first; msize = msize; fids
 
 pub opens_so : (fids : ℕ → Option Target) → fids ≡ (λ n. None) → table_of true 8216 fids ≡ opening
 opens_so fids none = ap (table_of true 8216) none
+
+pub opens_shorter : (msize : ℕ) (fids : ℕ → Option Target) → fids ≡ (λ n. None) → table_of true msize fids ≡ record opening { msize = msize }
+opens_shorter msize fids none = ap (table_of true msize) none
