@@ -1,5 +1,5 @@
 -- The task of a step stands for the step's play, and asks and moves as that does.
-use Rattle.std.proofs.Common.{◌≡◌, ℕ, ◌-◌, Bool, true, false, List, [], ◌∷◌, Option, Some, None, bytes_eq, if◌then◌else◌, unwrap_or, refl, sym, subst, ap}
+use Rattle.std.proofs.Common.{◌≡◌, ℕ, ◌-◌, Bool, true, false, List, [], ◌∷◌, Option, Some, None, bytes_eq, if◌then◌else◌, unwrap_or, refl, sym, subst, ap, ◌∙◌}
 use Rattle.std.specs.Prelude.{◌&&◌, find, is_none, length, nat_le, not}
 use Rattle.std.proofs.lemmas.Bool.{true≢false}
 use Rattle.net_base.specs.declared.left.Left.{Left}
@@ -210,6 +210,22 @@ leaves_none t left same = by (is_none (spec.asks t (no_names [])))
     by true = same
     by false = refl
 
+-- a task that is through leaves what it leaves, and another one nothing
+pub left_through : (t : StepTask) (through : Bool) (left : Left) → ((names : Names) → through ≡ is_none (spec.asks t names)) → through ≡ true
+    → spec.leaves t left ≡ spec.left_by t left
+left_through t through left is so = by (is_none (spec.asks t (no_names []))) (sym (is (no_names [])) ∙ so)
+  where
+    by : (b : Bool) → b ≡ true → spec.leaves t left ≡ (if b then spec.leaves t left else left)
+    by true so = refl
+    by false so = absurd (true≢false (sym so))
+
+pub left_on : (t : StepTask) (through : Bool) (left : Left) → ((names : Names) → through ≡ is_none (spec.asks t names)) → through ≡ false → left ≡ spec.left_by t left
+left_on t through left is so = by (is_none (spec.asks t (no_names []))) (sym (is (no_names [])) ∙ so)
+  where
+    by : (b : Bool) → b ≡ false → left ≡ (if b then spec.leaves t left else left)
+    by true so = absurd (true≢false so)
+    by false so = refl
+
 -- .. and is of the same kind after a reply
 pub leaves_nothing : (t : StepTask) (r : Reply) (left : Left) → ((u : StepTask) → u ≡ spec.after t r → spec.leaves u left ≡ left) → spec.left_by (spec.after t r) left ≡ left
 leaves_nothing t r left same = leaves_none (spec.after t r) left (same (spec.after t r) refl)
@@ -253,7 +269,7 @@ begun_own_asks left (step.Export called) names = unbound_asks called (not (is_do
 begun_own_asks left (step.Import call) names = refl
 begun_own_asks left (step.Ropen called call path m) names =
     unbound_asks called (is_remote_path path) (task.Ropen (ropen.begun called call path m left)) names
-    (ropen_some _ (ropen.is_beginning (ropen.begun called call path m left) && ropen.is_taken (ropen.begun called call path m left) names) called refl)
+    (ropen_some (talk.asks (ropen.begun called call path m left).talk) (ropen.is_beginning (ropen.begun called call path m left) && ropen.is_taken (ropen.begun called call path m left) names) called refl)
 begun_own_asks left (step.Rread called count) names = errand_some called (remote_of called left) (λ (fid : ℕ). read_message fid count) names
 begun_own_asks left (step.Rwrite called text) names =
     unbound_asks called (nat_le (length text) longest_text) (task.Rwrite (record { errand = errand.writes called text left })) names
