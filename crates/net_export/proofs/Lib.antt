@@ -8,3 +8,4 @@ pub mod ToldReplies
 pub mod SessionReplies
 pub mod Opened
 pub mod Messages
+mod NoBytes

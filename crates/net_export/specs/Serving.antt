@@ -1,5 +1,5 @@
 -- What an exporting step serves, as contracts see it: its requests, and what texts and replies make of it.
-use Rattle.std.specs.Prelude.{◌≡◌, ◌≤◌, ℕ, Bool, true, false, List, [], drop, Option, Some, None, IfSome, option_map, unwrap_or, if◌then◌else◌}
+use Rattle.std.specs.Prelude.{◌≡◌, ◌≤◌, ℕ, Bool, true, false, List, [], ◌∷◌, drop, Option, Some, None, IfSome, option_map, unwrap_or, if◌then◌else◌}
 use Rattle.net_base.specs.declared.ninep.Tmsg.{Tmsg}
 use Rattle.net_base.specs.declared.reply.Reply.{Reply}
 use Rattle.net_base.specs.declared.world.Step.{Step}
@@ -20,10 +20,28 @@ use Rattle.script_task.specs.Requests.{request_play}
 use Rattle.session_answers.specs.Served.{asked}
 use Rattle.session_script.specs.Seen.{brings_fid}
 
-pub record Serving : Type 0 where
-  -- what the session knows, and what was found in cs
+-- a message that was answered, and the last reply of its step, if it had one
+pub record Past : Type 0 where
+  pub message : Tmsg
+  pub last : Option Reply
+
+-- what the session knows, and what was found in cs
+pub record Known : Type 0 where
   pub table : Table
   pub found : Found
+
+abbrev pub after_one : Option Reply → Tmsg → Known → Known
+after_one None m k = record { table = script.after k.table m; found = found_after k.found m }
+after_one (Some r) m k = record { table = script.after k.table m; found = found_by k.table k.found m r }
+
+-- after these messages, the last one first
+abbrev pub known_after : List Past → Known
+known_after [] = record { table = record opening { msize = longest_exported }; found = λ (n : ℕ). [] }
+known_after (x ∷ xs) = after_one x.last x.message (known_after xs)
+
+pub record Serving : Type 0 where
+  -- the messages that were answered, the last one first
+  pub past : List Past
   -- the fids for which a file is open, in ascending order
   pub opened : List ℕ
   -- the message that is served, where it has a step, and that step's next request
@@ -32,17 +50,23 @@ pub record Serving : Type 0 where
   -- the answer, where there is no request
   pub answer : List ℕ
 
+abbrev pub known_by : Serving → Known
+known_by s = known_after s.past
+
 -- the message that is served has fields that hold what they should, and is about a fid that is known; and no message is too long
 abbrev pub IsServable : Tmsg → Type 0
 IsServable m = IsTmsg m × (brings_fid m ≡ false)
 
-pub record IsServing (message : Option Tmsg) (table : Table) : Type 0 where
+pub record IsServing (past : List Past) (message : Option Tmsg) (table : Table) (found : Found) : Type 0 where
+  -- the tables are those after the messages that were answered
+  pub knows : table ≡ (known_after past).table
+  pub finds : found ≡ (known_after past).found
   pub served : IfSome message IsServable
   pub short : table.msize ≤ longest
 
 -- nothing was heard yet
 abbrev pub fresh_serving : Serving
-fresh_serving = record { table = record opening { msize = longest_exported }; found = λ (n : ℕ). []; opened = []; message = None; request = None; answer = [] }
+fresh_serving = record { past = []; opened = []; message = None; request = None; answer = [] }
 
 -- its request, or else the write of its answer to a name
 abbrev pub next : Serving → List ℕ → Request
@@ -58,7 +82,7 @@ begins s m st = record s { message = Some m; request = Some (dotted_request (ask
 
 -- a message without a step is answered
 abbrev pub tells : Serving → Tmsg → Serving
-tells s m = given (record s { table = script.after s.table m; found = found_after s.found m }) (r_bytes (said s.table s.found m))
+tells s m = given (record s { past = record { message = m; last = None } ∷ s.past }) (r_bytes (said (known_by s).table (known_by s).found m))
 
 abbrev pub hears_step : Serving → Tmsg → Option Step → Serving
 hears_step s m None = tells s m
@@ -66,7 +90,7 @@ hears_step s m (Some st) = begins s m st
 
 abbrev pub hears_by : Serving → Option Tmsg → Serving
 hears_by s None = given s bad_message
-hears_by s (Some m) = hears_step s m (script.step_of s.table m)
+hears_by s (Some m) = hears_step s m (script.step_of (known_by s).table m)
 
 -- a text that was read
 abbrev pub hears : Serving → List ℕ → Serving
@@ -80,11 +104,11 @@ opened_by fid opened r = if is_opening r then put_in fid opened else opened
 
 -- what the message changes, by the last reply of its step
 abbrev pub keeps : Serving → Tmsg → Reply → Serving
-keeps s m r = record s { table = script.after s.table m; found = found_by s.table s.found m r; opened = open_by s.opened m r }
+keeps s m r = record s { past = record { message = m; last = Some r } ∷ s.past; opened = open_by s.opened m r }
 
 abbrev pub finished_by : Serving → Option Tmsg → Reply → Serving
 finished_by s None r = s
-finished_by s (Some m) r = given (keeps s m r) (r_bytes (replied s.table m r))
+finished_by s (Some m) r = given (keeps s m r) (r_bytes (replied (known_by s).table m r))
 
 abbrev pub finished : Serving → Reply → Serving
 finished s r = finished_by s s.message r
@@ -114,7 +138,7 @@ closed_one s = record s { opened = drop 1 s.opened }
 
 -- as a state of the definitions, where these names are bound
 abbrev pub state_of : Names → Serving → State
-state_of names v = record { table = v.table; found = v.found; names = names }
+state_of names v = record { table = (known_by v).table; found = (known_by v).found; names = names }
 
 abbrev pub sharing_of : Names → Serving → Sharing
 sharing_of names v = record { session = state_of names v; opened = v.opened }

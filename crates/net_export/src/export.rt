@@ -48,7 +48,6 @@ impl Model for Export {
 
 impl Export {
     /// Exports over the call that the name is bound to.
-    #[tactic(auto, using(crate::specs::ExportLaws::fresh))]
     pub fn new(alloc: Global, name: &[u8]) -> Result<Export, AllocError>
         requires plain { is_dotted name.now ≡ false }
         ensures value { IfOk result (λ t. t ≡ spec.begun name.now) }

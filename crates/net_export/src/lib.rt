@@ -7,6 +7,7 @@ mod export;
 mod law;
 mod open_fids;
 mod owing;
+mod past;
 mod serving;
 mod translated;
 

@@ -12,6 +12,7 @@ ghost use Rattle.session_script.specs.Seen.{brings_fid, seen as known};
 
 use crate::dotted::{dotted_fid, dotted_request};
 use crate::open_fids::OpenFids;
+use crate::past::{Past, Replied, Told};
 use net_base::{Octets, Reply, Rmsg, Step, Tmsg};
 use ninep_wire::{encode_r, request_in};
 use script_task::{Request, is_granted, is_opening};
@@ -29,6 +30,7 @@ const NO_TAG: u16 = 0xffff;
 /// The messages of a call's other end, as far as they were served.
 #[derive(Drop)]
 pub struct Serving {
+    past: Past,
     table: Table,
     found: Found,
     opened: OpenFids,
@@ -49,15 +51,14 @@ impl Model for Serving {
     ghost Value = { spec.Serving };
 
     ghost view = { λ s. record {
-      table = known s.table;
-      found = lines_by s.found;
+      past = s.past.messages;
       opened = rising s.opened;
       message = s.message;
       request = s.request;
       answer = s.answer;
     } };
 
-    ghost invariant = { λ s. spec.IsServing s.message (known s.table) };
+    ghost invariant = { λ s. spec.IsServing s.past.messages s.message (known s.table) (lines_by s.found) };
 }
 
 impl Serving {
@@ -66,6 +67,7 @@ impl Serving {
         ensures { result ≡ spec.fresh_serving }
     {
         Serving {
+            past: Past::none(),
             table: Table::shorter(alloc, LONGEST),
             found: Found::new(alloc),
             opened: OpenFids::new(alloc),
@@ -142,6 +144,7 @@ impl Serving {
         let answer = said_bytes(alloc, &self.table, &self.found, message)?;
         self.table.hear(alloc, message)?;
         self.found.hear(message);
+        self.past = self.past.with(&Told { message });
         self.give(answer);
         Ok(())
     }
@@ -198,6 +201,7 @@ impl Serving {
             reply,
         )?;
         self.table.hear_known(message);
+        self.past = self.past.with(&Replied { message, reply });
         self.give(answer);
         Ok(())
     }
