@@ -3,7 +3,6 @@ use Rattle.std.proofs.Common.{◌≡◌, ℕ, Bool, true, false, cond, List, [],
 use Rattle.std.specs.Prelude.{find, option_to_list}
 use Rattle.net_base.specs.declared.actor.ActorName.{ActorName}
 use Rattle.net_base.specs.declared.actor.ActorName.TheVariants as name
-use Rattle.net_base.specs.declared.address.Proto.{Proto}
 use Rattle.net_base.specs.declared.event.Event.{Event}
 use Rattle.net_base.specs.declared.event.Event.TheVariants as event
 use Rattle.net_base.specs.declared.names.Ctl.{Ctl}
@@ -20,7 +19,7 @@ use Rattle.net_base.specs.ControlWords as control
 use Rattle.net_base.specs.Paths.{reads, walk, writes}
 use Rattle.net_base.specs.Remotes.{is_remote}
 use Rattle.net_base.specs.Scripts.{Kept, heard, kept_after, new_names, own_play, play_by, position, step_play}
-use Rattle.net_base.specs.Steps.{Ask, Asking, Asks, Ends, Fid, Finished, Names, Play, Position, Stand, bind, controls, conversation_of, fid_of, if_accepted, is_accepted, is_bound, misuses, on_fid, open_actor, open_event, openable, opened_fid, opens, play_of, position_by, puts, read_event, stands, unbind, uses}
+use Rattle.net_base.specs.Steps.{Asking, Asks, Ends, Fid, Finished, Names, Play, Position, Stand, bind, controls, conversation_of, fid_of, if_accepted, is_accepted, is_bound, misuses, on_fid, open_actor, open_event, openable, opened_fid, opens, play_of, position_by, puts, read_event, stands, unbind, uses}
 use Rattle.history_laws.proofs.Ordered.{Each}
 use Rattle.history_laws.proofs.StepEvents.{IsNextEvent, Records}
 use Rattle.net_base.specs.declared.ninep.Tmsg.{Tmsg}

@@ -6,8 +6,6 @@ use Rattle.std.specs.Option.{option_map, option_map_or}
 use Rattle.std.proofs.lemmas.Bool.{eqb-true, false≢true}
 use Rattle.std.proofs.lemmas.Option.{none-some, same_Some}
 use Rattle.net_base.specs.declared.history.Entry.{Entry}
-use Rattle.net_base.specs.declared.history.Outcome.{Outcome}
-use Rattle.net_base.specs.declared.reply.Reply.{Reply}
 use Rattle.net_base.specs.declared.world.Script.{Script}
 use Rattle.net_base.specs.declared.world.World.{World}
 use Rattle.net_base.specs.ActorStep.{Step}
@@ -15,7 +13,7 @@ use Rattle.net_base.specs.Actors.{Actor}
 use Rattle.net_base.specs.Callers.{Caller, IsScript, caller_of, other_caller}
 use Rattle.net_base.specs.Duties.{Duty}
 use Rattle.net_base.specs.Legal.{IsAsked, IsLegal, MayFollow, Shown, Shows, asked_by, cites_of}
-use Rattle.net_base.specs.Net.{after, outcome_in, owed, step_of, work_of}
+use Rattle.net_base.specs.Net.{after, owed, step_of, work_of}
 use Rattle.net_base.specs.Next.{by, next_of, own_replies, standing, zone_of}
 use Rattle.net_base.specs.Scripts.{at_first}
 use Rattle.net_base.specs.Steps.{Ask}
