@@ -14,9 +14,7 @@ ghost use Rattle.script_task.specs.declared.request.Request.TheVariants as reque
 ghost use Rattle.step_task.specs.declared.step.StepTask.TheVariants as t;
 ghost use Rattle.step_task.specs.StepTasks as spec;
 
-use dial_lib::{
-    Accept, Announce, Dial, Dns, Hread, Hwrite, Listen, OneRequest, Reject, WriteText,
-};
+use dial_lib::{Accept, Announce, Dial, Dns, Hread, Hwrite, Listen, OneRequest, Reject, WriteText};
 use net_base::{FileName, Left, Mode, Node, Octets, Reply, Step};
 use net_export::Export;
 use net_import::{Import, Rclose, Ropen, Rread, Rwrite, is_remote};
