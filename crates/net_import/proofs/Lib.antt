@@ -1,3 +1,3 @@
 mod Forgotten
 mod Lengths
-mod Lowest
+mod Marks

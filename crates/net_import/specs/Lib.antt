@@ -1,3 +1,4 @@
+pub mod Marks
 pub mod Talks
 pub mod Standings
 pub mod Importing

@@ -66,7 +66,7 @@ impl Ropen {
         ensures value { IfOk result (λ t. t ≡ spec.begun name.now call.now path.now mode left.now) }
         ensures stands { IfOk result (λ t. spec.Begins t left.now (step.Ropen name.now call.now path.now mode)) }
     {
-        let fid = free_fid(left, call)?;
+        let fid = free_fid(alloc, left, call)?;
         Ok(Ropen {
             name: Octets::from_slice(alloc, name)?,
             path: Octets::from_slice(alloc, path)?,
