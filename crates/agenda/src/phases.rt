@@ -136,19 +136,19 @@ fn players_of<'a, J: Naming + Placing>(
     let Deal { groups, numbers } = deal;
     let mut players = Players::new(alloc, groups, numbers)?;
     for guest in guests {
-        let task = task_of(world, guest.caller());
+        let task = task_of(alloc, world, guest.caller());
         players.add(Player::counting(world, guest, task))?;
     }
     Ok(players)
 }
 
 // The task of a script, or one without steps for another caller.
-fn task_of<'a>(world: &'a World, caller: u32) -> ScriptTask<'a>
+fn task_of<'a>(alloc: Global, world: &'a World, caller: u32) -> ScriptTask<'a>
     ensures { (s : AnyScript) → caller_of world.now caller ≡ IsScript s → Plays (zone_of world.now) s [] (no_names (zone_of world.now)) result }
 {
     match world.scripts.as_slice().get(caller as usize) {
-        Some(script) => ScriptTask::new(script),
-        None => ScriptTask::idle(),
+        Some(script) => ScriptTask::new(alloc, script),
+        None => ScriptTask::idle(alloc),
     }
 }
 

@@ -14,9 +14,9 @@ use std::alloc::{AllocError, Global};
 use words::read_address;
 
 /// Notes on a bundle of files of a network database, a line each with the number of the line that is meant, in their order:
-/// a mask written `/N`; a file that `database` names and that isn't there, or that is there and isn't named; an address of a
-/// system that is on no network; an attribute for which nothing asks; a system or a domain that is named twice. It goes a few
-/// times through the text.
+/// a mask written `/N`; an `ip` that is no IPv4 address; a file that `database` names and that isn't there, or that is there and
+/// isn't named; an address of a system that is on no network; an attribute for which nothing asks; a system or a domain that is
+/// named twice. It goes a few times through the text.
 pub fn lint(alloc: Global, text: &[u8]) -> Result<Octets, LintError>
     ensures good { OnOk result (bad_line text.now ≡ None) }
     ensures bad { IfErr result (λ e. Tells e (bad_line text.now)) }
@@ -105,8 +105,8 @@ impl Keeper {
             put_mask(&mut self.notes, pair.line, value)
         } else if attr == b"file".as_slice() && chooses {
             self.note_file(pair.line, value)
-        } else if attr == b"ip".as_slice() && is_system {
-            self.note_address(pair.line, value)
+        } else if attr == b"ip".as_slice() {
+            self.note_address(pair.line, value, is_system)
         } else if attr == b"sys".as_slice() || attr == b"dom".as_slice() {
             self.note_name(pair.line, value)
         } else {
@@ -122,12 +122,14 @@ impl Keeper {
         put_note(&mut self.notes, line, b"there is no file ", name, b"")
     }
 
-    fn note_address(&mut self, line: u64, text: &[u8]) -> Result<(), AllocError> {
+    // An address is looked for among the networks where it is a system's.
+    fn note_address(&mut self, line: u64, text: &[u8], is_system: bool) -> Result<(), AllocError> {
         match read_address(text) {
-            Some(ip) if !self.known.has_network_of(ip) => {
+            None => put_note(&mut self.notes, line, b"", text, b" is no IPv4 address"),
+            Some(ip) if is_system && !self.known.has_network_of(ip) => {
                 put_note(&mut self.notes, line, b"", text, b" is on no network")
             }
-            _ => Ok(()),
+            Some(_) => Ok(()),
         }
     }
 

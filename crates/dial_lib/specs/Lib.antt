@@ -30,8 +30,6 @@ pub mod Hwrite
 pub mod HwriteLaws
 pub mod Dns
 pub mod DnsLaws
-pub mod StepTasks
-pub mod StepLaws
 pub use Rattle.net_base.specs.Steps
 pub use Rattle.script_task.specs.Task
 pub use Rattle.script_task.specs.Requests

@@ -6,9 +6,9 @@ ghost use Rattle.dial_lib.specs.Lines as lines;
 
 use crate::address::query_of;
 use crate::lines::{clone_path, text_to};
-use crate::reply::{is_accepted, is_opening, lines_in};
+use crate::reply::lines_in;
 use net_base::{Lines, Mode, Octets, Reply};
-use script_task::{Names, Request, Task};
+use script_task::{Names, Request, Task, is_accepted, is_opening};
 use std::alloc::{AllocError, Global};
 
 /// What an announce does next.

@@ -4,9 +4,8 @@ ghost use Rattle.net_base.specs.Steps as steps;
 ghost use Rattle.dial_lib.specs.Calls as spec;
 
 use crate::beside::open_file;
-use crate::reply::{is_accepted, is_opening};
 use net_base::{FileName, Mode, Octets, Reply};
-use script_task::{Names, Request};
+use script_task::{Names, Request, is_accepted, is_opening};
 use std::alloc::{AllocError, Global};
 
 /// What is done next with a call.

@@ -9,9 +9,9 @@ ghost use Rattle.dial_lib.specs.Lines as lines;
 use crate::address::query_of;
 use crate::beside::open_beside;
 use crate::lines::{clone_path, text_to};
-use crate::reply::{is_accepted, is_granted, is_opening, lines_in};
+use crate::reply::lines_in;
 use net_base::{FileName, Lines, Mode, Octets, Reply};
-use script_task::{Names, Request, Task};
+use script_task::{Names, Request, Task, is_accepted, is_granted, is_opening};
 use std::alloc::{AllocError, Global};
 use std::marker::Model;
 

@@ -5,11 +5,10 @@ ghost use Rattle.net_base.specs.declared.world.Step.TheVariants as step;
 ghost use Rattle.dial_lib.specs.Dns as spec;
 
 use crate::call::{CallPhase, asked};
-use crate::reply::is_accepted;
-use crate::told::{bytes_in, taken_bytes};
+use crate::told::taken_bytes;
 use ndb_dns::dns_answer;
 use net_base::{Octets, Reply};
-use script_task::{Names, Request, Task};
+use script_task::{Names, Request, Task, bytes_in, is_accepted};
 use std::alloc::{AllocError, Global};
 
 /// Takes calls one after the other, and answers what is asked in each from the database.

@@ -13,7 +13,6 @@ mod lines;
 mod one_request;
 mod reject;
 mod reply;
-mod step;
 mod told;
 mod write_text;
 
@@ -27,5 +26,4 @@ pub use hread::Hread;
 pub use hwrite::{Hwrite, HwritePhase};
 pub use one_request::OneRequest;
 pub use reject::{Reject, RejectPhase};
-pub use step::{StepTask, ends_by, first_request};
 pub use write_text::{WritePhase, WriteText};

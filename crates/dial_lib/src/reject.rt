@@ -3,9 +3,8 @@ ghost use Rattle.std.specs.Prelude.{◌≡◌, IfOk};
 ghost use Rattle.net_base.specs.declared.world.Step.TheVariants as step;
 ghost use Rattle.dial_lib.specs.Reject as spec;
 
-use crate::reply::is_accepted;
 use net_base::{Octets, Reply};
-use script_task::{Names, Request, Task};
+use script_task::{Names, Request, Task, is_accepted};
 use std::alloc::{AllocError, Global};
 
 /// What a reject does next.

@@ -6,48 +6,6 @@ ghost use Rattle.script_task.specs.Fitting as fitting;
 use net_base::{Lines, Reply};
 use std::alloc::Global;
 
-/// Whether the reply opens a file.
-pub fn is_opening(reply: &Reply) -> bool
-    ensures { result ≡ fitting.is_opening reply.now }
-{
-    match reply {
-        Reply::Slot { .. } => true,
-        Reply::Call { .. } => true,
-        Reply::Opened { .. } => true,
-        _ => false,
-    }
-}
-
-/// Whether the reply grants a pair.
-pub fn is_granted(reply: &Reply) -> bool
-    ensures { result ≡ fitting.is_granted reply.now }
-{
-    match reply {
-        Reply::Granted { .. } => true,
-        _ => false,
-    }
-}
-
-/// Whether the reply isn't a refusal.
-pub fn is_accepted(reply: &Reply) -> bool
-    ensures { result ≡ steps.is_accepted reply.now }
-{
-    match reply {
-        Reply::Slot { .. } => true,
-        Reply::Granted { .. } => true,
-        Reply::Call { .. } => true,
-        Reply::Opened { .. } => true,
-        Reply::Ok => true,
-        Reply::Left => true,
-        Reply::Version { .. } => true,
-        Reply::Bytes { .. } => true,
-        Reply::Count { .. } => true,
-        Reply::Lines { .. } => true,
-        Reply::Names { .. } => true,
-        _ => false,
-    }
-}
-
 /// Whether the reply is one to an event that names what isn't open, or isn't so.
 pub fn is_unopened(reply: &Reply) -> bool
     ensures { result ≡ fitting.is_unopened reply.now }

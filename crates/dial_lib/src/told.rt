@@ -5,6 +5,7 @@ ghost use Rattle.net_base.specs.Steps as steps;
 
 use ctl_words::without_newline;
 use net_base::{Addr, Octets, Reply};
+use script_task::bytes_in;
 use std::alloc::Global;
 use words::{address_in, number_in, two_parts};
 
@@ -18,17 +19,7 @@ pub fn address_told(reply: &Reply) -> Addr
     }
 }
 
-/// The bytes of a reply, or none.
-pub fn bytes_in(reply: &Reply) -> &[u8]
-    ensures { result.now ≡ steps.bytes_in reply.now }
-{
-    match reply {
-        Reply::Bytes { bytes } => bytes.as_slice(),
-        _ => &[],
-    }
-}
-
-/// The same. It takes no memory.
+/// The bytes of a reply, or none. It takes no memory.
 pub fn taken_bytes(alloc: Global, reply: Reply) -> Octets
     ensures { result ≡ steps.bytes_in reply }
 {

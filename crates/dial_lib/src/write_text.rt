@@ -3,9 +3,8 @@ ghost use Rattle.std.specs.Prelude.{◌≡◌};
 ghost use Rattle.dial_lib.specs.WriteText as spec;
 ghost use Rattle.dial_lib.specs.declared.write_text.WritePhase.TheVariants as phase;
 
-use crate::reply::is_granted;
 use net_base::{Octets, Reply};
-use script_task::{Names, Request, Task};
+use script_task::{Names, Request, Task, is_granted};
 use std::alloc::{AllocError, Global};
 
 /// What a write does next.

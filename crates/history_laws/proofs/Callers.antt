@@ -13,7 +13,7 @@ use Rattle.net_base.specs.Duties.{Duty, duties}
 use Rattle.net_base.specs.Net.{Net, opening_net, net_after, next_net, net_of, after, owed, step_of, with_of}
 use Rattle.net_base.specs.Next.{by, next_of, zone_of}
 use Rattle.net_base.specs.Stamped.{entries_from, of_caller}
-use Rattle.net_base.specs.Steps.{no_names, position}
+use Rattle.net_base.specs.Scripts.{at_first, position}
 use Rattle.history_laws.specs.Apart.{StandsStill, step_in, own_steps_from, own_steps, owed_then, owed_by}
 use Rattle.history_laws.proofs.Histories.{net_of-append}
 
@@ -60,7 +60,7 @@ module _ (w : World) (c : ℕ) where
 
   next_alike : (k : Caller) (h later : List Entry) → by later c ≡ by h c → next_of w k later c ≡ next_of w k h c
   next_alike (IsScript s) h later same =
-      ap (λ (xs : List Entry). (position s.host s.steps (no_names (zone_of w)) (map (λ (x : Entry). x.reply) (filter (λ (x : Entry). is_none x.cites) xs))).next) same
+      ap (λ (xs : List Entry). (position s.host s.steps (at_first (zone_of w)) (map (λ (x : Entry). x.reply) (filter (λ (x : Entry). is_none x.cites) xs))).next) same
   next_alike (IsCourier m) h later same = refl
   next_alike IsClock h later same = refl
   next_alike IsNobody h later same = refl

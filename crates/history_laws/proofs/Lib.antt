@@ -6,5 +6,6 @@ pub mod Owed
 pub mod DirPairs
 pub mod PairsOnce
 pub mod StepEvents
+pub mod CallEvents
 pub mod Limits
 pub mod Callers

@@ -23,8 +23,9 @@ use Rattle.net_base.specs.declared.world.Step.TheVariants as step
 use Rattle.net_base.specs.ControlWords as control
 use Rattle.net_base.specs.DatagramHeaders.{text_behind}
 use Rattle.net_base.specs.DomainAnswers.{dns_answer}
-use Rattle.net_base.specs.Paths.{walk, reads, writes as may_write}
-use Rattle.net_base.specs.Steps.{Fid, Names, fid_of, is_bound, bind, unbind, hearing, Play, Asks, Ends, is_accepted, if_accepted, ends_with, uses, misuses, on_fid, with_bound, with_new, with_readable, with_writable, conversation_of, default_mode, openable, open_actor, open_event, opened_fid, opens_node, opens, opens_beside, read_event, controls, puts, closes, closes_last, ls_actor, ls_event, netmkaddr, lines_in, asks_cs, clone_path, line_address, dotted_name, connected, dials, announces, data_name, call_name, call_names, first_bound, on_taken, closes_all, bytes_in, address_told, tells_address, takes_call, with_call, hears, is_answer, open_call, answers, leaves_call, answers_call, serves_call, serves, play_of, Ask, Stand, Asking, Finished, stands, Position, position_by, position}
+use Rattle.net_base.specs.Exports.{dotted_fid}
+use Rattle.net_base.specs.Paths.{path_of, walk, reads, writes as may_write}
+use Rattle.net_base.specs.Steps.{Fid, Names, fid_of, is_bound, bind, unbind, hearing, Play, Asks, Ends, is_accepted, if_accepted, ends_with, uses, misuses, on_fid, with_bound, with_new, with_readable, with_writable, conversation_of, default_mode, openable, open_actor, open_event, opened_fid, opens_node, opens, opens_beside, read_event, controls, puts, closes, closes_last, ls_actor, ls_event, netmkaddr, lines_in, asks_cs, clone_path, line_address, dotted_name, connected, dials, announces, data_name, call_name, call_names, first_bound, on_taken, closes_all, bytes_in, address_told, tells_address, takes_call, with_call, hears, is_answer, open_call, answers, leaves_call, answers_call, serves_call, serves, play_of, Ask, Stand, Asking, Finished, stands, Position, position_by}
 use Rattle.history_laws.proofs.Ordered.{Each}
 
 -- an event that neither opens a path at the desk, nor names what isn't open, nor waits for a moment
@@ -76,6 +77,11 @@ pub record Fits (P : ActorName → Event → Type 0) (R : Reply → Type 0) : Ty
   pub other : (a : ActorName) (e : Event) → IsOwn e → P a e
   pub dialled : (r : Reply) → R r → Each (λ (line : List ℕ). IsOpened P (clone_path line)) (lines_in r)
 
+-- the names of an exporting step's files, and the paths by which they are opened
+pub record IsExporting (h : ℕ) (P : ActorName → Event → Type 0) : Type 0 where
+  pub named : (n : ℕ) → IsNamed h P (dotted_fid n)
+  pub opened : (at : Node) → IsOpened P (path_of at)
+
 -- P holds of the events that repeat what a step says
 abbrev pub Says : ℕ → (ActorName → Event → Type 0) → Step → Type 0
 Says h P (step.Open called path m) = IsNamed h P called × IsOpened P path
@@ -96,29 +102,36 @@ Says h P (step.Hangup called) = IsNamed h P called
 Says h P (step.Hread called count) = IsNamed h P called × Each (λ (name : List ℕ). IsNamed h P name) call_names
 Says h P (step.Hwrite called bytes) = IsNamed h P called × Each (λ (name : List ℕ). IsNamed h P name) call_names
 Says h P (step.Dns called times) = IsNamed h P called × Each (λ (name : List ℕ). IsNamed h P name) call_names
+-- imports
+Says h P (step.Export called) = IsNamed h P called × IsExporting h P
+Says h P (step.Import call) = IsNamed h P call
+Says h P (step.Ropen called call path m) = IsNamed h P called × IsNamed h P call
+Says h P (step.Rread called count) = IsNamed h P called
+Says h P (step.Rwrite called text) = IsNamed h P called
+Says h P (step.Rclose called) = IsNamed h P called
 
 abbrev pub IsNextEvent : (ActorName → Event → Type 0) → Option Ask → Type 0
 IsNextEvent P None = Unit {0}
 IsNextEvent P (Some ask) = P ask.actor ask.event
 
 module _ (h : ℕ) (P : ActorName → Event → Type 0) (R : Reply → Type 0) (fits : Fits P R) where
-  abbrev Good : Play → Type 0
+  abbrev pub Good : Play → Type 0
   Good p = Records P R p
 
-  ending : (a : ActorName) (e : Event) (names : Names) → P a e → Good (ends_with a e names)
+  pub ending : (a : ActorName) (e : Event) (names : Names) → P a e → Good (ends_with a e names)
   ending a e names f = (f, λ r fine. tt)
 
-  either : (b : Bool) (x y : Play) → Good x → Good y → Good (cond b x y)
+  pub either : (b : Bool) (x y : Play) → Good x → Good y → Good (cond b x y)
   either b x y f g = cond_both b x y (λ (p : Play). Good p) (λ _. f) (λ _. g)
 
-  on_found : (found : Option Fid) (otherwise : Play) (next : Fid → Play) → Good otherwise → ((f : Fid) → Good (next f)) → Good (on_fid found otherwise next)
+  pub on_found : (found : Option Fid) (otherwise : Play) (next : Fid → Play) → Good otherwise → ((f : Fid) → Good (next f)) → Good (on_fid found otherwise next)
   on_found None otherwise next f g = f
   on_found (Some x) otherwise next f g = g x
 
-  bound : (called : List ℕ) (names : Names) (next : Fid → Play) → IsNamed h P called → ((f : Fid) → Good (next f)) → Good (with_bound h called names next)
+  pub bound : (called : List ℕ) (names : Names) (next : Fid → Play) → IsNamed h P called → ((f : Fid) → Good (next f)) → Good (with_bound h called names next)
   bound called names next named g = on_found (fid_of called names) (uses h called names) next (ending _ _ names named.0) g
 
-  new : (called : List ℕ) (names : Names) (next : Play) → IsNamed h P called → Good next → Good (with_new h called names next)
+  pub new : (called : List ℕ) (names : Names) (next : Play) → IsNamed h P called → Good next → Good (with_new h called names next)
   new called names next named f = either (is_bound names called) (uses h called names) next (ending _ _ names named.0) f
 
   readable : (called : List ℕ) (names : Names) (next : Fid → Play) → IsNamed h P called → ((f : Fid) → Good (next f)) → Good (with_readable h called names next)
@@ -153,7 +166,7 @@ module _ (h : ℕ) (P : ActorName → Event → Type 0) (R : Reply → Type 0) (
       let n : Option Node = Some (node.File x.proto x.slot other) in
       opens_at [] mode.Both n refused next (open_beside (open_actor h n) mode.Both x.proto x.slot other) f g
 
-  reads_of : (a : ActorName) (f : Fid) (count : ℕ) (name : FileName) → P a (read_event f count name)
+  pub reads_of : (a : ActorName) (f : Fid) (count : ℕ) (name : FileName) → P a (read_event f count name)
   reads_of a f count file.Data = fits.other a (event.Read f.generation count) tt
   reads_of a f count name = fits.other a (event.File f.generation name count) tt
 
@@ -164,7 +177,7 @@ module _ (h : ℕ) (P : ActorName → Event → Type 0) (R : Reply → Type 0) (
   tried : (a : ActorName) (e : Event) (refused next : Play) → IsOwn e → Good refused → Good next → Good (Asks a e (λ (r : Reply). if_accepted r next refused))
   tried a e refused next other f g = (fits.other a e other, λ r fine. accepted r next refused g f)
 
-  controlled : (x : Fid) (text : List ℕ) (read : Result Ctl ℕ) (refused next : Play) → Good refused → Good next → Good (controls h x text read refused next)
+  pub controlled : (x : Fid) (text : List ℕ) (read : Result Ctl ℕ) (refused next : Play) → Good refused → Good next → Good (controls h x text read refused next)
   controlled x text (Ok (ctl.Connect remote lport)) refused next f g = tried _ (event.Grant x.slot x.generation remote lport) refused _ tt f (tried _ (event.Await x.generation) refused next tt f g)
   controlled x text (Ok (ctl.Announce ip port)) refused next f g = tried _ (event.Announce x.slot x.generation ip port) refused next tt f g
   controlled x text (Ok (ctl.Bind port)) refused next f g = tried _ (event.Bind x.slot x.generation port) refused next tt f g
@@ -328,7 +341,7 @@ module _ (h : ℕ) (P : ActorName → Event → Type 0) (R : Reply → Type 0) (
   serving called names zero named all = serving_one called names (Ends names) named all tt
   serving called names (suc more) named all = serving_one called names (serves h called names more) named all (serving called names more named all)
 
-  played : (names : Names) (s : Step) → Says h P s → Good (play_of h names s)
+  pub played : (names : Names) (s : Step) → Says h P s → Good (play_of h names s)
   played names (step.Open called path m) says = new called names _ says.0 (opens_path path (unwrap_or m (default_mode (walk path))) (Ends names) _ says.1 tt (λ f. tt))
   played names (step.Read called count) says = readable called names _ says (λ f. ending _ _ names (reads_of (conversation_of h f) f count f.file))
   played names (step.Write called text) says = writable called names _ says (λ f. put f f.file text (Ends names) (Ends names) tt tt)
@@ -361,26 +374,19 @@ module _ (h : ℕ) (P : ActorName → Event → Type 0) (R : Reply → Type 0) (
       either (is_answer bytes names.heard) (answers h names (text_behind bytes) data_file) (misuses h data_name names)
       (answered_so names (text_behind bytes) data_file says.1.1.0) (ending _ _ names says.1.0.1))
   played names (step.Dns called times) says = serving called names (times - 1) says.0 says.1
+  played names _ says = tt
 
   -- where a play stands
 
-  abbrev IsStand : Stand → Type 0
+  abbrev pub IsStand : Stand → Type 0
   IsStand (Asking ask) = P ask.actor ask.event
   IsStand (Finished names rs) = Each R rs
 
-  standing : (p : Play) (rs : List Reply) → Good p → Each R rs → IsStand (stands p rs)
+  pub standing : (p : Play) (rs : List Reply) → Good p → Each R rs → IsStand (stands p rs)
   standing (Ends names) rs f fine = fine
   standing (Asks a e next) [] f fine = f.0
   standing (Asks a e next) (r ∷ rs) f fine = standing (next r) rs (f.1 r fine.0) fine.1
 
-  next_by : (s : Stand) (steps : List Step) (go_on : Names → List Reply → Position) → IsStand s → ((names : Names) (rs : List Reply) → Each R rs → IsNextEvent P (go_on names rs).next) → IsNextEvent P (position_by s steps go_on).next
+  pub next_by : (s : Stand) (steps : List Step) (go_on : Names → List Reply → Position) → IsStand s → ((names : Names) (rs : List Reply) → Each R rs → IsNextEvent P (go_on names rs).next) → IsNextEvent P (position_by s steps go_on).next
   next_by (Asking ask) steps go_on f g = f
   next_by (Finished names rs) steps go_on f g = g names rs f
-
-  -- what a script records next
-  pub next_event : (steps : List Step) (names : Names) (rs : List Reply) → Each (λ (s : Step). Says h P s) steps → Each R rs → IsNextEvent P (position h steps names rs).next
-  next_event [] names rs says fine = tt
-  next_event (s ∷ ss) names rs says fine =
-      next_by (stands (play_of h names s) rs) (s ∷ ss) (λ (bound : Names) (later : List Reply). position h ss bound later)
-      (standing (play_of h names s) rs (played names s says.0) fine)
-      (λ bound later fine. next_event ss bound later says.1 fine)

@@ -22,7 +22,8 @@ use Rattle.net_base.specs.Net.{played, stepped_to}
 use Rattle.net_base.specs.Versions.{Tuples}
 use Rattle.net_base.specs.Next.{next, next_of, own_replies, zone_of}
 use Rattle.net_base.specs.Stamped.{at, at_from, matches}
-use Rattle.net_base.specs.Steps.{Ask, Play, Asks, Ends, position, no_names}
+use Rattle.net_base.specs.Scripts.{at_first, position}
+use Rattle.net_base.specs.Steps.{Ask, Play, Asks, Ends}
 use Rattle.locked.specs.Acts.{left_by, state, state_at}
 use Rattle.script_task.specs.Fitting.{fits}
 use Rattle.script_task.specs.Requests.{head}
@@ -164,15 +165,15 @@ append_one (x ∷ xs) r more = ap (λ ys. x ∷ ys) (append_one xs r more)
 pub continues_on : (zone : Tuples) (s : Script) (rs : List Reply) (p : Play) (r : Reply) → Continues zone s rs p → Continues zone s (rs ++ r ∷ []) (follow p r)
 continues_on zone s rs p r goes =
     record {
-      next_is = λ more. subst (λ (xs : List Reply). (position s.host s.steps (no_names zone) xs).next ≡ head (rest p (r ∷ more))) (sym (append_one rs r more))
+      next_is = λ more. subst (λ (xs : List Reply). (position s.host s.steps (at_first zone) xs).next ≡ head (rest p (r ∷ more))) (sym (append_one rs r more))
           (goes.next_is (r ∷ more));
-      left_is = λ more. subst (λ (xs : List Reply). nat_lt 0 (length (position s.host s.steps (no_names zone) xs).left) ≡ is_some (head (rest p (r ∷ more))))
+      left_is = λ more. subst (λ (xs : List Reply). nat_lt 0 (length (position s.host s.steps (at_first zone) xs).left) ≡ is_some (head (rest p (r ∷ more))))
           (sym (append_one rs r more)) (goes.left_is (r ∷ more));
     }
 
 -- the script's next event is the play's
-pub next_head : (zone : Tuples) (s : Script) (rs : List Reply) (p : Play) → Continues zone s rs p → (position s.host s.steps (no_names zone) rs).next ≡ head p
-next_head zone s rs p goes = ap (λ (xs : List Reply). (position s.host s.steps (no_names zone) xs).next) (sym (append_nothing rs)) ∙ goes.next_is []
+pub next_head : (zone : Tuples) (s : Script) (rs : List Reply) (p : Play) → Continues zone s rs p → (position s.host s.steps (at_first zone) rs).next ≡ head p
+next_head zone s rs p goes = ap (λ (xs : List Reply). (position s.host s.steps (at_first zone) xs).next) (sym (append_nothing rs)) ∙ goes.next_is []
 
 pub script_next : (w : World) (c : ℕ) (log : List Noted) (s : Script) (p : Play) → caller_of w c ≡ IsScript s → Continues (zone_of w) s (own_replies (entries log) c) p
     → next w (entries log) c ≡ head p

@@ -6,7 +6,8 @@ use Rattle.net_base.specs.declared.world.Script.{Script}
 use Rattle.net_base.specs.declared.world.World.{World}
 use Rattle.net_base.specs.Callers.{Caller, IsScript, caller_of}
 use Rattle.net_base.specs.Next.{next, next_of, own_replies, zone_of}
-use Rattle.net_base.specs.Steps.{Ask, Names, Play, position, no_names}
+use Rattle.net_base.specs.Scripts.{at_first, position}
+use Rattle.net_base.specs.Steps.{Ask, Names, Play}
 use Rattle.script_task.specs.declared.request.Request.{Request}
 use Rattle.script_task.specs.Requests.{head, planned}
 use Rattle.script_task.specs.Rest.{Continues}
@@ -19,7 +20,7 @@ next_is_head : (w : World) (v : Visit) (s : Script) (p : Play) → caller_of w v
     → Continues (zone_of w) s (own_replies (entries v.sight.seen) v.caller) p → next w (entries v.sight.seen) v.caller ≡ head p
 next_is_head w v s p script goes =
     ap (λ (k : Caller). next_of w k (entries v.sight.seen) v.caller) script
-    ∙ (ap (λ (rs : List Reply). (position s.host s.steps (no_names (zone_of w)) rs).next) (sym (append-nil (own_replies (entries v.sight.seen) v.caller)))
+    ∙ (ap (λ (rs : List Reply). (position s.host s.steps (at_first (zone_of w)) rs).next) (sym (append-nil (own_replies (entries v.sight.seen) v.caller)))
     ∙ goes.next_is [])
 
 module _ {T : Type 0} (asks : T → Names → Option Request) (Stands : ℕ → Names → T → Play → Type 0) (so : AsksSo T asks Stands)

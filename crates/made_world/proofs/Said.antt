@@ -1,6 +1,6 @@
 -- Each made world is one that a file can say.
 use Rattle.std.proofs.Common.{◌≡◌, ℕ, zero, suc, ◌+◌, ◌<◌, ◌^◌, ◌%◌, true, List, [], ◌∷◌, ◌++◌, Some, refl, ◌∙◌, arith}
-use Rattle.std.specs.Prelude.{codes, decimal, flat_map, nat_lt}
+use Rattle.std.specs.Prelude.{flat_map}
 use Rattle.std.specs.List.{list_all, range_with_len}
 use Rattle.std.proofs.lemmas.Bool.{and_from}
 use Rattle.std.proofs.lemmas.Bool.Decides.{nat_tests}
@@ -10,7 +10,7 @@ use Rattle.std.proofs.lemmas.List.Elements.{All-from_recursion}
 use Rattle.net_base.specs.declared.world.Step.{Step}
 use Rattle.net_base.specs.NdbBundle.{reading}
 use Rattle.net_base.specs.declared.world.Version.{Version}
-use Rattle.net_base.specs.World.{IsDatabase, is_byte, is_step, is_text, IsWorld}
+use Rattle.net_base.specs.World.{IsDatabase, is_step, is_text, IsWorld}
 use Rattle.worked_worlds.specs.Worked.{small_bundle, tuples}
 use Rattle.made_world.specs.Made.{message, asking, answering, anna_steps, helix_steps, made_world}
 

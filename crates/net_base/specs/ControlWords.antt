@@ -3,7 +3,7 @@
 --     IsSpelled        the text spells the control
 --     Reads            the same, where a newline may follow
 --     read             the control that a text says, or the number of its fault
-use Rattle.std.specs.Prelude.{◌≡◌, ℕ, ◌+◌, ◌*◌, ◌/◌, ◌%◌, ◌^◌, ◌==◌, ◌⊎◌, Bool, true, false, ◌&&◌, ◌||◌, List, [], ◌∷◌, ◌++◌, Option, Some, None, Result, Err, codes, decimal, bytes_eq, nat_lt, option_map, ok_or, if◌then◌else◌}
+use Rattle.std.specs.Prelude.{◌≡◌, ℕ, ◌+◌, ◌*◌, ◌^◌, ◌==◌, ◌⊎◌, Bool, true, false, ◌&&◌, ◌||◌, List, [], ◌∷◌, ◌++◌, Option, Some, None, Result, Err, codes, decimal, bytes_eq, nat_lt, option_map, ok_or, if◌then◌else◌}
 use Rattle.std.specs.List.{before_first, slice_split, list_any}
 use Rattle.std.specs.Option.{option_and_then, option_map_or}
 use Rattle.std.specs.Str.Parse.{digits_value}

@@ -1,5 +1,5 @@
 -- What each caller records next where it owes nothing, and how far the scripts are.
-use Rattle.std.specs.Prelude.{ℕ, ◌-◌, ◌==◌, Bool, List, [], map, filter, length, take, Option, Some, None, is_none, nat_lt, if◌then◌else◌}
+use Rattle.std.specs.Prelude.{ℕ, ◌-◌, ◌==◌, Bool, List, map, filter, length, take, Option, Some, None, is_none, nat_lt, if◌then◌else◌}
 use Rattle.net_base.specs.declared.actor.ActorName.TheVariants as name
 use Rattle.net_base.specs.declared.event.Event.TheVariants as event
 use Rattle.net_base.specs.declared.history.Entry.{Entry}
@@ -7,7 +7,8 @@ use Rattle.net_base.specs.declared.reply.Reply.{Reply}
 use Rattle.net_base.specs.declared.world.Script.{Script}
 use Rattle.net_base.specs.declared.world.World.{World}
 use Rattle.net_base.specs.Callers.{Caller, IsScript, IsCourier, IsClock, IsNobody, caller_of}
-use Rattle.net_base.specs.Steps.{Ask, Position, no_names, position}
+use Rattle.net_base.specs.Scripts.{at_first, position}
+use Rattle.net_base.specs.Steps.{Ask, Position}
 use Rattle.net_base.specs.Versions.{Tuples, database_of}
 
 -- the entries of a caller, in order
@@ -24,7 +25,7 @@ zone_of w = database_of w.dbs 0
 
 -- where a script stands
 abbrev pub standing : World → List Entry → ℕ → Script → Position
-standing w h c s = position s.host s.steps (no_names (zone_of w)) (own_replies h c)
+standing w h c s = position s.host s.steps (at_first (zone_of w)) (own_replies h c)
 
 -- a courier takes at its medium; the clock has no next, because its moves are judged by the calm
 abbrev pub next_of : World → Caller → List Entry → ℕ → Option Ask
@@ -39,7 +40,7 @@ next w h c = next_of w (caller_of w c) h c
 
 -- how many steps of a script are finished after these replies, where `dns` answers from this database
 abbrev pub finished_by : Tuples → List Reply → Script → ℕ
-finished_by zone rs s = length s.steps - length (position s.host s.steps (no_names zone) rs).left
+finished_by zone rs s = length s.steps - length (position s.host s.steps (at_first zone) rs).left
 
 -- how many steps of a script are answered, where it owes something or not: what is owed belongs to the step of its last event
 abbrev pub answered : World → List Entry → ℕ → Bool → Script → ℕ

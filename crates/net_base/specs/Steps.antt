@@ -429,7 +429,7 @@ serves h called names (suc more) = serves_call h called names (serves h called n
 
 -- The steps.
 
--- the play of a step of a host's script, where these names are bound
+-- the play of a step of a host's script, where these names are bound; the steps that need more have theirs in Scripts
 abbrev pub play_of : ℕ → Names → Step → Play
 play_of h names (step.Open called path m) =
     with_new h called names (opens h path (unwrap_or m (default_mode (walk path))) (Ends names) (λ (f : Fid). Ends (bind called f names)))
@@ -460,6 +460,7 @@ play_of h names (step.Hwrite called bytes) =
     on_fid (open_call called names) (uses h data_name names) (λ (data_file : Fid).
     if is_answer bytes names.heard then answers h names (text_behind bytes) data_file else misuses h data_name names)
 play_of h names (step.Dns called times) = serves h called names (times - 1)
+play_of h names _ = Ends names
 
 -- Scripts.
 
@@ -487,8 +488,3 @@ pub record Position : Type 0 where
 abbrev pub position_by : Stand → List Step → (Names → List Reply → Position) → Position
 position_by (Asking ask) steps go_on = record { next = Some ask; left = steps }
 position_by (Finished names rs) steps go_on = go_on names rs
-
--- after these replies to the events of its steps
-abbrev pub position : ℕ → List Step → Names → List Reply → Position
-position h [] names rs = record { next = None; left = [] }
-position h (s ∷ ss) names rs = position_by (stands (play_of h names s) rs) (s ∷ ss) (λ (after : Names) (later : List Reply). position h ss after later)

@@ -1,5 +1,5 @@
 -- The text of a history: a line for each entry, of words with a blank between two of them.
-use Rattle.std.specs.Prelude.{ℕ, ◌+◌, ◌/◌, ◌%◌, Bool, true, false, List, [], ◌∷◌, ◌++◌, Option, Some, None, ◌^◌, flat_map, codes, nat_lt, if◌then◌else◌}
+use Rattle.std.specs.Prelude.{ℕ, ◌+◌, Bool, true, false, List, [], ◌∷◌, ◌++◌, Option, Some, None, flat_map, codes}
 use Rattle.net_base.specs.declared.actor.ActorName.{ActorName}
 use Rattle.net_base.specs.declared.actor.ActorName.TheVariants as name
 use Rattle.net_base.specs.declared.actor.Call.{Call}

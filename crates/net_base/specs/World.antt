@@ -18,6 +18,7 @@ use Rattle.net_base.specs.declared.world.World.{World}
 use Rattle.net_base.specs.DatagramHeaders.{has_headers}
 use Rattle.net_base.specs.NdbBundle.{reading}
 use Rattle.net_base.specs.Networks.{mask_bits}
+use Rattle.net_base.specs.Remotes.{is_remote_path}
 use Rattle.net_base.specs.Routes.{Route, matches, iface_routes, host_routes}
 use Rattle.net_base.specs.Versions.{are_timed}
 
@@ -165,6 +166,13 @@ is_step (step.Hangup name) = is_name name
 is_step (step.Hread name count) = is_name name && is_within 1 65536 count
 is_step (step.Hwrite name bytes) = is_name name && (list_all is_byte bytes && has_headers bytes)
 is_step (step.Dns name times) = is_name name && is_within 1 1000 times
+-- imports
+is_step (step.Export name) = is_name name
+is_step (step.Import name) = is_name name
+is_step (step.Ropen name call path mode) = is_name name && (is_name call && (is_word path && is_remote_path path))
+is_step (step.Rread name count) = is_name name && is_within 1 488 count
+is_step (step.Rwrite name text) = is_name name && (is_text text && is_within 1 488 (length text))
+is_step (step.Rclose name) = is_name name
 
 -- a script of one of so many hosts
 abbrev pub is_script : ℕ → Script → Bool

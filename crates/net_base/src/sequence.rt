@@ -1,5 +1,5 @@
 //! A list of values.
-ghost use Rattle.std.specs.Prelude.{◌≡◌, ◌∷◌, ◌++◌, [], length, IfOk, OnOk, OnErr};
+ghost use Rattle.std.specs.Prelude.{◌≡◌, ◌<◌, ◌∷◌, ◌++◌, [], length, remove, slice_get, Some, IfOk, OnOk, OnErr};
 
 use std::alloc::{AllocError, Global};
 use std::marker::Model;
@@ -66,6 +66,15 @@ impl<T: Drop> Sequence<T> {
     {
         self.items.push(item)?;
         Ok(())
+    }
+
+    /// Takes a value out. Those behind it come nearer.
+    pub fn remove(&mut self, index: usize) -> T
+        requires { index < length self.old }
+        ensures value { slice_get self.old index ≡ Some result }
+        ensures rest { self.new ≡ remove self.old index }
+    {
+        self.items.remove(index)
     }
 }
 

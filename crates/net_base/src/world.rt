@@ -166,6 +166,30 @@ pub enum Step {
         name: Octets,
         times: u32,
     },
+    // imports
+    Export {
+        name: Octets,
+    },
+    Import {
+        name: Octets,
+    },
+    Ropen {
+        name: Octets,
+        call: Octets,
+        path: Octets,
+        mode: Mode,
+    },
+    Rread {
+        name: Octets,
+        count: u32,
+    },
+    Rwrite {
+        name: Octets,
+        text: Octets,
+    },
+    Rclose {
+        name: Octets,
+    },
 }
 
 pub type StepList = Sequence<Step>;

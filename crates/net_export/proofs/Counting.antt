@@ -14,8 +14,9 @@ use Rattle.net_base.specs.Callers.{Caller, IsScript, caller_of, other_caller}
 use Rattle.net_base.specs.Duties.{Duty, duties}
 use Rattle.net_base.specs.Legal.{IsAsked, IsLegal, MayFollow, Shown, Shows, asked_by}
 use Rattle.net_base.specs.Net.{Net, after, net_after, next_net, owed, step_of, work_of}
-use Rattle.net_base.specs.Next.{next_of, own_replies, standing, zone_of}
-use Rattle.net_base.specs.Steps.{Ask, no_names}
+use Rattle.net_base.specs.Next.{next_of, own_replies, zone_of}
+use Rattle.net_base.specs.Scripts.{at_first, position}
+use Rattle.net_base.specs.Steps.{Ask}
 use Rattle.history_laws.proofs.Histories.{after_push, by_entries}
 use Rattle.history_laws.proofs.Ordered.{Each, each_append}
 use Rattle.history_laws.proofs.StepEvents.{IsNextEvent}
@@ -53,7 +54,7 @@ asked_free : (w : World) (ds : List Duty) (k : Caller) (s : Script) (h : List En
     → IsAsked ds k (next_of w k h c) x → IsFree x.event
 asked_free w (d ∷ ds) k s h c x script free is = subst (λ (a : Ask). IsFree a.event) is free.0
 asked_free w [] k s h c x script free is =
-    next_free s (standing w h c s).next x (script_free s (no_names (zone_of w)) (own_replies h c))
+    next_free s (position s.host s.steps (at_first (zone_of w)) (own_replies h c)).next x (script_free (zone_of w) s (own_replies h c))
     (subst (λ (l : Caller). IsAsked [] l (next_of w l h c) x) script is)
 
 -- An entry more.

@@ -22,9 +22,12 @@ use Rattle.net_base.specs.ActorStep.{Step}
 use Rattle.net_base.specs.Actors.{Actor, IsConv}
 use Rattle.net_base.specs.Duties.{Duty, duties, put_by, emitted_put, close_calls, follow_up, forwarded, courier_duty, tick_at, ticks, has_come, due_of, conversations, release}
 use Rattle.net_base.specs.Routes.{Way, way, has_address}
-use Rattle.net_base.specs.Steps.{Names, call_names, clone_path, lines_in, position}
+use Rattle.net_base.specs.Scripts.{at_first, position}
+use Rattle.net_base.specs.Steps.{call_names, clone_path, lines_in}
+use Rattle.net_base.specs.Versions.{Tuples}
 use Rattle.history_laws.proofs.Ordered.{Each, each_any, each_append, each_flat_map}
-use Rattle.history_laws.proofs.StepEvents.{Fits, IsNamed, IsNextEvent, IsOpened, IsOwn, Says, next_event}
+use Rattle.history_laws.proofs.CallEvents.{next_event}
+use Rattle.history_laws.proofs.StepEvents.{Fits, IsNamed, IsNextEvent, IsOpened, IsOwn, Says}
 
 -- no copy is taken, and the clock doesn't move
 abbrev pub IsFree : Event → Type 0
@@ -137,9 +140,16 @@ says_free h (step.Hangup called) = (tt, tt)
 says_free h (step.Hread called count) = ((tt, tt), each_any (λ (called : List ℕ). IsNamed h FreeAt called) (λ called. (tt, tt)) call_names)
 says_free h (step.Hwrite called bytes) = ((tt, tt), each_any (λ (called : List ℕ). IsNamed h FreeAt called) (λ called. (tt, tt)) call_names)
 says_free h (step.Dns called times) = ((tt, tt), each_any (λ (called : List ℕ). IsNamed h FreeAt called) (λ called. (tt, tt)) call_names)
+-- imports
+says_free h (step.Export called) = ((tt, tt), record { named = λ n. (tt, tt); opened = λ at a m. tt })
+says_free h (step.Import call) = (tt, tt)
+says_free h (step.Ropen called call path m) = ((tt, tt), (tt, tt))
+says_free h (step.Rread called count) = (tt, tt)
+says_free h (step.Rwrite called text) = (tt, tt)
+says_free h (step.Rclose called) = (tt, tt)
 
 -- whatever it was replied
-pub script_free : (s : Script) (names : Names) (rs : List Reply) → IsNextEvent FreeAt (position s.host s.steps names rs).next
-script_free s names rs =
-    next_event s.host FreeAt AnyReply fits_free s.steps names rs
+pub script_free : (zone : Tuples) (s : Script) (rs : List Reply) → IsNextEvent FreeAt (position s.host s.steps (at_first zone) rs).next
+script_free zone s rs =
+    next_event s.host FreeAt AnyReply fits_free s.steps (at_first zone) rs tt
     (each_any (λ (x : ScriptStep). Says s.host FreeAt x) (says_free s.host) s.steps) (each_any AnyReply (λ r. tt) rs)

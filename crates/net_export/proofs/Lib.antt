@@ -6,3 +6,6 @@ pub mod SessionAnswers
 pub mod SessionEvents
 pub mod ToldReplies
 pub mod SessionReplies
+pub mod Opened
+pub mod Messages
+mod NoBytes

@@ -11,7 +11,7 @@ use Rattle.net_base.specs.World.{IsWorld, all_apart, is_script, is_step}
 use Rattle.history_laws.proofs.Ordered.{all_at}
 use Rattle.sessions.specs.declared.world.Session.{Session}
 use Rattle.sessions.specs.declared.world.SessionWorld.{SessionWorld}
-use Rattle.sessions.specs.Script.{IsScript}
+use Rattle.net_base.specs.SessionScript.{IsScript}
 use Rattle.sessions.specs.Worlds.{HaveHosts, HaveStreams, IsTranslated, Translates, same_place}
 use Rattle.net_base.specs.declared.world.World.{World}
 use Rattle.net_export.specs.Answered.{ArePlayed}

@@ -10,13 +10,14 @@ use Rattle.net_base.specs.declared.world.World.{World}
 use Rattle.net_base.specs.Calm.{owes}
 use Rattle.net_base.specs.Net.{after}
 use Rattle.net_base.specs.Next.{own_replies}
-use Rattle.ninep_wire.specs.declared.request.Tmsg.{Tmsg}
+use Rattle.net_base.specs.declared.ninep.Tmsg.{Tmsg}
 use Rattle.session_answers.specs.Served.{answered_of}
 use Rattle.session_answers.specs.Told.{AreTold}
 use Rattle.sessions.specs.declared.world.Session.{Session}
-use Rattle.sessions.specs.Script.{AreMessages}
-use Rattle.sessions.specs.Server.{answers_to}
-use Rattle.sessions.specs.Session.{answers, first, session}
+use Rattle.net_base.specs.SessionScript.{AreMessages}
+use Rattle.net_base.specs.Server.{answers_to}
+use Rattle.net_base.specs.Session.{first, session}
+use Rattle.sessions.specs.InHistory.{answers}
 use Rattle.net_export.specs.Answered.{AreAnswersOf, AreAnswersTo, ArePlayed, IsPlayed}
 use Rattle.net_export.proofs.Placing.{in_all}
 

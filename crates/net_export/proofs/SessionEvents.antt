@@ -1,9 +1,8 @@
 -- The events that a session records: those of its steps, which are of five kinds.
 use Rattle.std.proofs.Common.{◌≡◌, ℕ, Bool, true, false, cond, List, [], ◌∷◌, ◌++◌, Option, Some, None, Result, Ok, Err, refl, sym, subst}
-use Rattle.std.specs.Prelude.{option_to_list}
+use Rattle.std.specs.Prelude.{find, option_to_list}
 use Rattle.net_base.specs.declared.actor.ActorName.{ActorName}
 use Rattle.net_base.specs.declared.actor.ActorName.TheVariants as name
-use Rattle.net_base.specs.declared.address.Proto.{Proto}
 use Rattle.net_base.specs.declared.event.Event.{Event}
 use Rattle.net_base.specs.declared.event.Event.TheVariants as event
 use Rattle.net_base.specs.declared.names.Ctl.{Ctl}
@@ -18,12 +17,14 @@ use Rattle.net_base.specs.declared.world.Step.{Step}
 use Rattle.net_base.specs.declared.world.Step.TheVariants as step
 use Rattle.net_base.specs.ControlWords as control
 use Rattle.net_base.specs.Paths.{reads, walk, writes}
-use Rattle.net_base.specs.Steps.{Ask, Asking, Asks, Ends, Fid, Finished, Names, Play, Position, Stand, bind, controls, conversation_of, fid_of, if_accepted, is_accepted, is_bound, misuses, on_fid, open_actor, open_event, openable, opened_fid, opens, play_of, position, position_by, puts, read_event, stands, unbind, uses}
+use Rattle.net_base.specs.Remotes.{is_remote}
+use Rattle.net_base.specs.Scripts.{Kept, heard, kept_after, new_names, own_play, play_by, position, step_play}
+use Rattle.net_base.specs.Steps.{Asking, Asks, Ends, Fid, Finished, Names, Play, Position, Stand, bind, controls, conversation_of, fid_of, if_accepted, is_accepted, is_bound, misuses, on_fid, open_actor, open_event, openable, opened_fid, opens, play_of, position_by, puts, read_event, stands, unbind, uses}
 use Rattle.history_laws.proofs.Ordered.{Each}
 use Rattle.history_laws.proofs.StepEvents.{IsNextEvent, Records}
-use Rattle.ninep_wire.specs.declared.request.Tmsg.{Tmsg}
-use Rattle.sessions.specs.Script.{IsScript, after, step_of, steps_of}
-use Rattle.sessions.specs.Table.{Table, opening}
+use Rattle.net_base.specs.declared.ninep.Tmsg.{Tmsg}
+use Rattle.net_base.specs.SessionScript.{IsScript, after, step_of, steps_of}
+use Rattle.net_base.specs.SessionTable.{Table, opening}
 use Rattle.session_answers.specs.Served.{IsServed}
 use Rattle.session_answers.proofs.Serving.{step_served}
 
@@ -170,13 +171,30 @@ next_by : (s : Stand) (steps : List Step) (go_on : Names → List Reply → Posi
 next_by (Asking ask) steps go_on f g = f
 next_by (Finished names rs) steps go_on f g = g names rs
 
+-- such a step needs the names alone
+own_good : (h : ℕ) (k : Kept) (s : Step) → IsServed s → Good (own_play h k s)
+own_good h k (step.Open called path (Some m)) is = good h k.names (step.Open called path (Some m)) is
+own_good h k (step.Read called count) is = good h k.names (step.Read called count) is
+own_good h k (step.Writex called text) is = good h k.names (step.Writex called text) is
+own_good h k (step.Close called) is = good h k.names (step.Close called) is
+own_good h k (step.Cs query) is = good h k.names (step.Cs query) is
+own_good h k _ is = absurd is
+
+-- .. and a name of its that a remote file has is asked for
+step_good : (h : ℕ) (k : Kept) (s : Step) → IsServed s → Good (step_play h k s)
+step_good h k s is = by (find (is_remote k.left) (new_names s))
+  where
+    by : (o : Option (List ℕ)) → Good (play_by h k s o)
+    by (Some called) = used h called k.names
+    by None = own_good h k s is
+
 -- what a script of such steps records next
-next_served : (h : ℕ) (steps : List Step) (names : Names) (rs : List Reply) → Each IsServed steps → IsNextEvent IsSessionEvent (position h steps names rs).next
-next_served h [] names rs served = tt
-next_served h (s ∷ ss) names rs served =
-    next_by (stands (play_of h names s) rs) (s ∷ ss) (λ (bound : Names) (later : List Reply). position h ss bound later)
-    (standing (play_of h names s) rs (good h names s served.0))
-    (λ bound later. next_served h ss bound later served.1)
+next_served : (h : ℕ) (steps : List Step) (k : Kept) (rs : List Reply) → Each IsServed steps → IsNextEvent IsSessionEvent (position h steps k rs).next
+next_served h [] k rs served = tt
+next_served h (s ∷ ss) k rs served =
+    next_by (stands (step_play h k s) rs) (s ∷ ss) (λ (names : Names) (later : List Reply). position h ss (kept_after k s names (heard (step_play h k s) rs)) later)
+    (standing (step_play h k s) rs (step_good h k s served.0))
+    (λ names later. next_served h ss (kept_after k s names (heard (step_play h k s) rs)) later served.1)
 
 some_served : (o : Option Step) (steps : List Step) → ((s : Step) → o ≡ Some s → IsServed s) → Each IsServed steps → Each IsServed (option_to_list o ++ steps)
 some_served None steps one more = more
@@ -187,5 +205,5 @@ all_served table [] = tt
 all_served table (m ∷ ms) = some_served (step_of table m) (steps_of (after table m) ms) (λ s is. step_served table m s is) (all_served (after table m) ms)
 
 -- what a session records next
-pub next_of_session : (h : ℕ) (bytes : List ℕ) (steps : List Step) (names : Names) (rs : List Reply) → IsScript bytes steps → IsNextEvent IsSessionEvent (position h steps names rs).next
-next_of_session h bytes steps names rs is = next_served h steps names rs (subst (λ (xs : List Step). Each IsServed xs) (sym is.2) (all_served opening is.0))
+pub next_of_session : (h : ℕ) (bytes : List ℕ) (steps : List Step) (k : Kept) (rs : List Reply) → IsScript bytes steps → IsNextEvent IsSessionEvent (position h steps k rs).next
+next_of_session h bytes steps k rs is = next_served h steps k rs (subst (λ (xs : List Step). Each IsServed xs) (sym is.2) (all_served opening is.0))

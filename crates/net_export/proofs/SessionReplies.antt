@@ -6,8 +6,6 @@ use Rattle.std.specs.Option.{option_map, option_map_or}
 use Rattle.std.proofs.lemmas.Bool.{eqb-true, false≢true}
 use Rattle.std.proofs.lemmas.Option.{none-some, same_Some}
 use Rattle.net_base.specs.declared.history.Entry.{Entry}
-use Rattle.net_base.specs.declared.history.Outcome.{Outcome}
-use Rattle.net_base.specs.declared.reply.Reply.{Reply}
 use Rattle.net_base.specs.declared.world.Script.{Script}
 use Rattle.net_base.specs.declared.world.World.{World}
 use Rattle.net_base.specs.ActorStep.{Step}
@@ -15,13 +13,14 @@ use Rattle.net_base.specs.Actors.{Actor}
 use Rattle.net_base.specs.Callers.{Caller, IsScript, caller_of, other_caller}
 use Rattle.net_base.specs.Duties.{Duty}
 use Rattle.net_base.specs.Legal.{IsAsked, IsLegal, MayFollow, Shown, Shows, asked_by, cites_of}
-use Rattle.net_base.specs.Net.{after, outcome_in, owed, step_of, work_of}
+use Rattle.net_base.specs.Net.{after, owed, step_of, work_of}
 use Rattle.net_base.specs.Next.{by, next_of, own_replies, standing, zone_of}
-use Rattle.net_base.specs.Steps.{Ask, no_names}
+use Rattle.net_base.specs.Scripts.{at_first}
+use Rattle.net_base.specs.Steps.{Ask}
 use Rattle.history_laws.proofs.Ordered.{Each, each_from_get}
 use Rattle.history_laws.proofs.StepEvents.{IsNextEvent}
-use Rattle.sessions.specs.Script as streams
-use Rattle.sessions.specs.Session.{IsSessionOf}
+use Rattle.net_base.specs.SessionScript as streams
+use Rattle.sessions.specs.InHistory.{IsSessionOf}
 use Rattle.session_answers.specs.Told.{AreTold, is_told}
 use Rattle.net_export.proofs.SessionEvents.{IsSessionEvent, next_of_session}
 use Rattle.net_export.proofs.ToldReplies.{Tells, step_told}
@@ -37,7 +36,7 @@ asked_next : (w : World) (bytes : List ℕ) (ds : List Duty) (k : Caller) (s : S
     → is_none (cites_of ds) ≡ true → IsAsked ds k (next_of w k h c) x → IsSessionEvent x.actor x.event
 asked_next w bytes (d ∷ ds) k s h c x script is free asked = absurd (false≢true free)
 asked_next w bytes [] k s h c x script is free asked =
-    next_is (standing w h c s).next x (next_of_session s.host bytes s.steps (no_names (zone_of w)) (own_replies h c) is)
+    next_is (standing w h c s).next x (next_of_session s.host bytes s.steps (at_first (zone_of w)) (own_replies h c) is)
     (subst (λ (l : Caller). IsAsked [] l (next_of w l h c) x) script asked)
 
 script_of : (w : World) (c : ℕ) (s : Script) → slice_get w.scripts c ≡ Some s → caller_of w c ≡ IsScript s

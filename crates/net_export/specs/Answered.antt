@@ -4,10 +4,10 @@ use Rattle.net_base.specs.declared.history.Entry.{Entry}
 use Rattle.net_base.specs.declared.world.Script.{Script}
 use Rattle.net_base.specs.declared.world.World.{World}
 use Rattle.net_base.specs.Stamped.{In}
-use Rattle.ninep_wire.specs.declared.request.Tmsg.{Tmsg}
+use Rattle.net_base.specs.declared.ninep.Tmsg.{Tmsg}
 use Rattle.sessions.specs.declared.world.Session.{Session}
-use Rattle.sessions.specs.Script.{AreMessages, IsScript}
-use Rattle.sessions.specs.Session.{answers}
+use Rattle.net_base.specs.SessionScript.{AreMessages, IsScript}
+use Rattle.sessions.specs.InHistory.{answers}
 
 -- the session is a script of its host in the translated world
 pub record IsPlayed (w : World) (x : Session) : Type 0 where

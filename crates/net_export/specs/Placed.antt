@@ -4,7 +4,7 @@ use Rattle.std.specs.List.{list_all}
 use Rattle.net_base.specs.declared.world.Script.{Script}
 use Rattle.net_base.specs.World.{is_step}
 use Rattle.sessions.specs.declared.world.Session.{Session}
-use Rattle.sessions.specs.Script.{IsScript}
+use Rattle.net_base.specs.SessionScript.{IsScript}
 
 -- the script as it was, and with the steps of the session
 pub record PlaysSession (x : Session) (before after : Script) : Type 0 where

@@ -3,9 +3,9 @@ ghost use Rattle.std.specs.Prelude.{◌≡◌, ◌<◌, List, Some, IfOk, length
 ghost use Rattle.net_base.specs.declared.world.Script.{Script as AnyScript};
 ghost use Rattle.net_base.specs.Legal.{IsLegal};
 ghost use Rattle.net_export.specs.Answered.{AreAnswersOf, AreAnswersTo, ArePlayed, IsPlayed};
-ghost use Rattle.ninep_wire.specs.declared.request.Tmsg.{Tmsg as AnyTmsg};
-ghost use Rattle.sessions.specs.Script.{AreMessages};
-ghost use Rattle.sessions.specs.Session as spec;
+ghost use Rattle.net_base.specs.declared.ninep.Tmsg.{Tmsg as AnyTmsg};
+ghost use Rattle.net_base.specs.SessionScript.{AreMessages};
+ghost use Rattle.sessions.specs.InHistory as spec;
 
 use crate::owing::owes_after;
 use net_base::{History, Lines, World};

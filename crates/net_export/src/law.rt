@@ -8,7 +8,7 @@ ghost use Rattle.net_base.specs.Next.{own_replies};
 ghost use Rattle.net_export.specs.Answered.{ArePlayed};
 ghost use Rattle.net_export.specs.Counted.{count_after};
 ghost use Rattle.session_answers.specs.Told.{AreTold};
-ghost use Rattle.sessions.specs.Session.{IsSessionOf};
+ghost use Rattle.sessions.specs.InHistory.{IsSessionOf};
 ghost use Rattle.sessions.specs.declared.world.SessionWorld.{SessionWorld};
 ghost use Rattle.sessions.specs.Worlds.{HaveHosts, HaveStreams, IsTranslated};
 

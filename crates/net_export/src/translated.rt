@@ -3,7 +3,7 @@ ghost use Rattle.std.specs.Prelude.{◌≡◌, ◌<◌, List, [], length, OnOk, 
 ghost use Rattle.net_base.specs.declared.world.Step.{Step as AnyStep};
 ghost use Rattle.net_base.specs.World.{IsWorld};
 ghost use Rattle.net_export.specs.Placed.{PutsSession};
-ghost use Rattle.sessions.specs.Script.{IsScript};
+ghost use Rattle.net_base.specs.SessionScript.{IsScript};
 ghost use Rattle.sessions.specs.Worlds.{HaveStreams, IsTranslated};
 
 use net_base::{Script, Sequence};

@@ -16,7 +16,8 @@ use Rattle.net_base.specs.Calm.{unfinished}
 use Rattle.net_base.specs.Net.{Net}
 use Rattle.net_base.specs.Next.{is_unfinished, next_of, zone_of}
 use Rattle.net_base.specs.Stamped.{In}
-use Rattle.net_base.specs.Steps.{Names, Stand, Asking, Finished, no_names, play_of, position, position_by, stands}
+use Rattle.net_base.specs.Scripts.{Kept, at_first, heard, kept_after, position, step_play}
+use Rattle.net_base.specs.Steps.{Names, Stand, Asking, Finished, position_by, stands}
 use Rattle.journal.specs.declared.law.Roster.{Roster}
 use Rattle.journal.specs.declared.tokens.Sight.{Sight}
 use Rattle.guest_laws.specs.Works.{entries, noted_net}
@@ -28,13 +29,15 @@ use Rattle.net_locks.specs.Standings.{AllStand, StandsAt, ask_of, has_left}
 some_left : (n : ℕ) → nat_lt 0 (suc n) ≡ true
 some_left n = lt-ltb 0 (suc n) (omega arith)
 
-left_is : (h : ℕ) (ss : List Step) (names : Names) (rs : List Reply) → nat_lt 0 (length (position h ss names rs).left) ≡ is_some (position h ss names rs).next
-left_is h [] names rs = refl
-left_is h (s ∷ ss) names rs = by_stand (stands (play_of h names s) rs) (λ after later. left_is h ss after later)
+left_is : (h : ℕ) (ss : List Step) (k : Kept) (rs : List Reply) → nat_lt 0 (length (position h ss k rs).left) ≡ is_some (position h ss k rs).next
+left_is h [] k rs = refl
+left_is h (s ∷ ss) k rs = by_stand (stands (step_play h k s) rs) (λ after later. left_is h ss (kept_after k s after (heard (step_play h k s) rs)) later)
   where
-    by_stand : (t : Stand) → ((after : Names) (later : List Reply) → nat_lt 0 (length (position h ss after later).left) ≡ is_some (position h ss after later).next)
-        → nat_lt 0 (length (position_by t (s ∷ ss) (λ (after : Names) (later : List Reply). position h ss after later)).left)
-        ≡ is_some (position_by t (s ∷ ss) (λ (after : Names) (later : List Reply). position h ss after later)).next
+    by_stand : (t : Stand)
+        → ((after : Names) (later : List Reply)
+        → nat_lt 0 (length (position h ss (kept_after k s after (heard (step_play h k s) rs)) later).left) ≡ is_some (position h ss (kept_after k s after (heard (step_play h k s) rs)) later).next)
+        → nat_lt 0 (length (position_by t (s ∷ ss) (λ (after : Names) (later : List Reply). position h ss (kept_after k s after (heard (step_play h k s) rs)) later)).left)
+        ≡ is_some (position_by t (s ∷ ss) (λ (after : Names) (later : List Reply). position h ss (kept_after k s after (heard (step_play h k s) rs)) later)).next
     by_stand (Asking ask) rest = some_left (length ss)
     by_stand (Finished after later) rest = rest after later
 
@@ -110,7 +113,7 @@ module _ (w : World) (r : Roster) (p : Sight) (ss : List Standing) (stand : AllS
   unfinished_so s st script is =
       let caller : caller_of w s.caller ≡ IsScript script = ap (λ (o : Option Script). option_map_or (λ (t : Script). IsScript t) o (other_caller w s.caller)) is in
       ap (λ (h : List Entry). is_unfinished w h s.caller script) past
-      ∙ (left_is script.host script.steps (no_names (zone_of w)) _
+      ∙ (left_is script.host script.steps (at_first (zone_of w)) _
       ∙ (ap (λ (k : Caller). is_some (next_of w k (entries p.seen) s.caller)) (sym caller) ∙ (ap is_some (sym st.next_is) ∙ mapped s.next)))
 
   abbrev unfinished_at : ℕ × Script → Bool

@@ -1,7 +1,6 @@
 -- What a script writes in a `dns` step answers what it has just read.
-use Rattle.std.proofs.Common.{◌≡◌, ℕ, zero, suc, ◌-◌, Bool, true, false, List, [], ◌∷◌, ◌++◌, length, take, Option, Some, None, Result, Ok, Err, slice_get, refl, sym, ap, subst, ◌∙◌, arith, append_assoc, if◌then◌else◌}
-use Rattle.std.specs.Prelude.{codes, unwrap_or}
-use Rattle.std.proofs.lemmas.List.{map-append}
+use Rattle.std.proofs.Common.{◌≡◌, ℕ, zero, suc, ◌-◌, Bool, true, false, List, [], ◌∷◌, ◌++◌, length, take, Option, Some, None, Result, Ok, Err, refl, sym, ap, subst, ◌∙◌, append_assoc, if◌then◌else◌}
+use Rattle.std.specs.Prelude.{◌&&◌, codes, find, nat_le, not, option_map, unwrap_or}
 use Rattle.std.proofs.lemmas.Option.{none-some, same_Some}
 use Rattle.net_base.specs.declared.actor.ActorName.{ActorName}
 use Rattle.net_base.specs.declared.address.Addr.{Addr}
@@ -9,6 +8,7 @@ use Rattle.net_base.specs.declared.event.Event.{Event}
 use Rattle.net_base.specs.declared.event.Event.TheVariants as event
 use Rattle.net_base.specs.declared.headers.Heard.{Heard}
 use Rattle.net_base.specs.declared.history.Entry.{Entry}
+use Rattle.net_base.specs.declared.left.Remote.{Remote}
 use Rattle.net_base.specs.declared.names.Ctl.{Ctl}
 use Rattle.net_base.specs.declared.names.Ctl.TheVariants as ctl
 use Rattle.net_base.specs.declared.names.FileName.{FileName}
@@ -17,6 +17,7 @@ use Rattle.net_base.specs.declared.names.Mode.{Mode}
 use Rattle.net_base.specs.declared.names.Mode.TheVariants as mode
 use Rattle.net_base.specs.declared.names.Node.{Node}
 use Rattle.net_base.specs.declared.names.Node.TheVariants as node
+use Rattle.net_base.specs.declared.ninep.Tmsg.{Tmsg}
 use Rattle.net_base.specs.declared.reply.Reply.{Reply}
 use Rattle.net_base.specs.declared.world.Script.{Script}
 use Rattle.net_base.specs.declared.world.Step.{Step}
@@ -26,18 +27,28 @@ use Rattle.net_base.specs.ControlWords as control
 use Rattle.net_base.specs.DatagramHeaders.{text_behind}
 use Rattle.net_base.specs.DomainAnswers.{dns_answer}
 use Rattle.net_base.specs.Callers.{IsScript, caller_of}
+use Rattle.net_base.specs.Exports.{Own, and_then, asks, by_text, closes_each, dotted_fid, dotted_step, exported, exports, is_dotted, most_requests, own_of, serves_text, sharing, then_play, unheard, Sharing}
+use Rattle.net_base.specs.Imports.{attach_message, clunk_message, is_open, is_version, is_whole, longest_text, open_message, opens_remote, read_message, sends, sends_by, sends_for, sends_once, version_message, walk_message, write_message}
 use Rattle.net_base.specs.Legal.{IsAsked, IsLegal, MayFollow, asked_by, cites_of}
 use Rattle.net_base.specs.Net.{owed}
 use Rattle.net_base.specs.Next.{finished_by, next, own_replies, zone_of}
+use Rattle.net_base.specs.NinepReading.{read_t}
 use Rattle.net_base.specs.Paths.{reads, walk, writes}
+use Rattle.net_base.specs.Remotes.{free_fid, is_remote, is_remote_path, remote_of}
+use Rattle.net_base.specs.Scripts.{Kept, at_first, heard, kept_after, new_names, own_play, play_by, position, step_play}
+use Rattle.net_base.specs.Server.{Doing, Does, Gives, doing_of}
+use Rattle.net_base.specs.Session.{State, by_last, serves_by}
+use Rattle.net_base.specs.SessionScript.{step_of}
 use Rattle.net_base.specs.Steps as s
-use Rattle.net_base.specs.Steps.{Ask, Names, Fid, Play, Asks, Ends, Position, Stand, Asking, Finished, bytes_in, fid_of, is_accepted, is_bound, no_names, on_fid, opened_fid, play_of, position, position_by, stands}
+use Rattle.net_base.specs.Steps.{Ask, Names, Fid, Play, Asks, Ends, Position, Stand, Asking, Finished, bytes_in, fid_of, is_accepted, is_bound, on_fid, opened_fid, play_of, position_by, stands}
 use Rattle.net_base.specs.Versions.{Tuples}
 use Rattle.history_laws.proofs.Histories.{legal_take}
 use Rattle.net_model.specs.DnsOrder.{AnswersQuestions, AnswersRead}
-use Rattle.net_model.specs.ScriptOrder.{Begins, Finishes, IsPlayed, StandInOrder, own_entries}
-use Rattle.net_model.proofs.OwnEntries.{asks_next, keeps_script}
-use Rattle.net_model.proofs.Plays.{begins_asks, played_finishes, replies}
+use Rattle.import_law.specs.Order.{Begins, IsPlayed, StandInOrder, own_entries}
+use Rattle.import_law.specs.Scripted.{scripted}
+use Rattle.import_law.proofs.Plays.{begins_asks, goes_on, replies}
+use Rattle.import_law.proofs.Stood.{asks_next}
+use Rattle.net_model.proofs.OwnEntries.{keeps_script}
 
 -- The database from which a script answers stays.
 
@@ -209,6 +220,116 @@ module _ (z : Tuples) (h : ℕ) where
       on (s.open_call called names) (s.uses h s.data_name names) _ (λ r. is)
       (λ f. either (s.is_answer bytes names.heard) (s.answers h names (text_behind bytes) f) (s.misuses h s.data_name names) (λ written closed. closes_name (s.unbind s.data_name names) is s.call_name) (λ r. is))
   leaves names is (step.Dns called times) = serves names is called (times - 1)
+  leaves names is _ = is
+
+  -- steps over calls
+
+  by_text_leaves : (text : List ℕ) (none : Play) (some : List ℕ → Play) → Leaves z none → ((t : List ℕ) → Leaves z (some t)) → Leaves z (by_text text none some)
+  by_text_leaves [] none some closed found = closed
+  by_text_leaves (b ∷ bs) none some closed found = found (b ∷ bs)
+
+  sends_leaves : (own : Own) (m : Tmsg) (refused : Play) (next : List ℕ → Play) → Leaves z refused → ((t : List ℕ) → Leaves z (next t)) → Leaves z (sends own m refused next)
+  sends_leaves own m refused next closed found =
+      λ w. either (is_accepted w) (asks own.reads (λ (r : Reply). by_text (bytes_in r) refused next)) refused (λ r. by_text_leaves (bytes_in r) refused next closed found) closed
+
+  sends_for_leaves : (own : Own) (m : Tmsg) (is_reply : List ℕ → Bool) (refused other next : Play) → Leaves z refused → Leaves z other → Leaves z next
+      → Leaves z (sends_for own m is_reply refused other next)
+  sends_for_leaves own m is_reply refused other next closed out going =
+      sends_leaves own m refused (λ (t : List ℕ). if is_reply t then next else other) closed (λ t. either (is_reply t) next other going out)
+
+  once_leaves : (own : Own) (m : Tmsg) (names : Names) → names.zone ≡ z → Leaves z (sends_once own m (Ends names))
+  once_leaves own m names is = sends_leaves own m (Ends names) (λ (t : List ℕ). Ends names) is (λ t. is)
+
+  imports_leave : (own : Own) (names : Names) → names.zone ≡ z
+      → Leaves z (sends_for own version_message is_version (Ends names) (Ends names) (sends_once own attach_message (Ends names)))
+  imports_leave own names is =
+      sends_for_leaves own version_message is_version (Ends names) (Ends names) (sends_once own attach_message (Ends names)) is is (once_leaves own attach_message names is)
+
+  opens_leave : (own : Own) (fid : ℕ) (path : List ℕ) (m : Mode) (names : Names) → names.zone ≡ z → Leaves z (opens_remote own fid path m (Ends names))
+  opens_leave own fid path m names is =
+      sends_for_leaves own (walk_message fid path) (is_whole path) (Ends names) (Ends names)
+      (sends_for own (open_message fid m) is_open (Ends names) (sends_once own (clunk_message fid) (Ends names)) (Ends names)) is is
+      (sends_for_leaves own (open_message fid m) is_open (Ends names) (sends_once own (clunk_message fid) (Ends names)) (Ends names) is
+      (once_leaves own (clunk_message fid) names is) is)
+
+  remote_leaves : (called : List ℕ) (names : Names) → names.zone ≡ z → (o : Option Remote) (message : ℕ → Tmsg) → Leaves z (sends_by h called names o message)
+  remote_leaves called names is None message = λ r. is
+  remote_leaves called names is (Some x) message = once_leaves (own_of h x.call names) (message x.fid) names is
+
+  -- a request leaves the database to the session
+  abbrev DoingLeaves : Doing State → Type 0
+  DoingLeaves (Does ask next) = (r : Reply) → DoingLeaves (next r)
+  DoingLeaves (Gives answer later) = later.names.zone ≡ z
+
+  step_doing : (p : Play) (last : Option Reply) (go_on : Names → Option Reply → Doing State) → Leaves z p
+      → ((names : Names) (o : Option Reply) → names.zone ≡ z → DoingLeaves (go_on names o)) → DoingLeaves (doing_of p last go_on)
+  step_doing (Ends names) last go_on is rest = rest names last is
+  step_doing (Asks a e next) last go_on is rest = λ r. step_doing (next r) (Some r) go_on (is r) rest
+
+  last_doing : (st : State) (m : Tmsg) → st.names.zone ≡ z → (names : Names) (o : Option Reply) → names.zone ≡ z → DoingLeaves (by_last st m names o)
+  last_doing st m is names None after = is
+  last_doing st m is names (Some r) after = after
+
+  served_by : (st : State) (m : Tmsg) (o : Option Step) → st.names.zone ≡ z → DoingLeaves (serves_by h st m o)
+  served_by st m None is = is
+  served_by st m (Some t) is = step_doing (play_of h st.names t) None (by_last st m) (leaves st.names is t) (λ names o after. last_doing st m is names o after)
+
+  abbrev SharingLeaves : Doing Sharing → Type 0
+  SharingLeaves (Does ask next) = (r : Reply) → SharingLeaves (next r)
+  SharingLeaves (Gives answer later) = later.session.names.zone ≡ z
+
+  shared : (opened : List ℕ) (m : Tmsg) (last : Option Reply) (d : Doing State) → DoingLeaves d → SharingLeaves (sharing opened m last d)
+  shared opened m last (Does ask next) is = λ r. shared opened m (Some r) (next r) (is r)
+  shared opened m last (Gives answer later) is = is
+
+  served : (st : Sharing) (o : Option Tmsg) → st.session.names.zone ≡ z → SharingLeaves (serves_text h st o)
+  served st None is = is
+  served st (Some m) is =
+      shared st.opened m None (serves_by h st.session m (option_map dotted_step (step_of st.session.table m))) (served_by st.session m (option_map dotted_step (step_of st.session.table m)) is)
+
+  then_leaves : (d : Doing Sharing) (go_on : List ℕ → Sharing → Play) → SharingLeaves d
+      → ((answer : List ℕ) (later : Sharing) → later.session.names.zone ≡ z → Leaves z (go_on answer later)) → Leaves z (then_play d go_on)
+  then_leaves (Does ask next) go_on is rest = λ r. then_leaves (next r) go_on (is r) rest
+  then_leaves (Gives answer later) go_on is rest = rest answer later is
+
+  after_leaves : (p : Play) (go_on : Names → Play) → Leaves z p → ((names : Names) → names.zone ≡ z → Leaves z (go_on names)) → Leaves z (and_then p go_on)
+  after_leaves (Ends names) go_on is rest = rest names is
+  after_leaves (Asks a e next) go_on is rest = λ r. after_leaves (next r) go_on (is r) rest
+
+  closing : (ns : List ℕ) (names : Names) → names.zone ≡ z → Leaves z (closes_each h ns names)
+  closing [] names is = is
+  closing (n ∷ ns) names is =
+      after_leaves (play_of h names (step.Close (dotted_fid n))) (closes_each h ns) (leaves names is (step.Close (dotted_fid n))) (λ bound after. closing ns bound after)
+
+  exporting : (own : Own) (n : ℕ) (st : Sharing) → st.session.names.zone ≡ z → Leaves z (exports (exported h) own n st)
+  exporting own zero st is = is
+  exporting own (suc n) st is =
+      λ r. by_text_leaves (bytes_in r) (closes_each h st.opened st.session.names) _ (closing st.opened st.session.names is) (λ text.
+      then_leaves (serves_text h st (read_t text)) _ (served st (read_t text) is) (λ answer later later_is written.
+      either (is_accepted written) (exports (exported h) own n later) (closes_each h later.opened later.session.names) (exporting own n later later_is)
+      (closing later.opened later.session.names later_is)))
+
+  own_leaves : (k : Kept) → k.names.zone ≡ z → (t : Step) → Leaves z (own_play h k t)
+  own_leaves k is (step.Export called) =
+      either (is_dotted called) (s.uses h called k.names) (exports (exported h) (own_of h called k.names) most_requests (unheard k.names)) (λ r. is)
+      (exporting (own_of h called k.names) most_requests (unheard k.names) is)
+  own_leaves k is (step.Import call) = imports_leave (own_of h call k.names) k.names is
+  own_leaves k is (step.Ropen called call path m) =
+      either (is_remote_path path && not (is_bound k.names call && is_bound k.names called)) (opens_remote (own_of h call k.names) (free_fid k.left call) path m (Ends k.names)) (s.uses h called k.names)
+      (opens_leave (own_of h call k.names) (free_fid k.left call) path m k.names is) (λ r. is)
+  own_leaves k is (step.Rread called count) = remote_leaves called k.names is (remote_of called k.left) (λ (fid : ℕ). read_message fid count)
+  own_leaves k is (step.Rwrite called text) =
+      either (nat_le (length text) longest_text) (sends_by h called k.names (remote_of called k.left) (λ (fid : ℕ). write_message fid text)) (s.uses h called k.names)
+      (remote_leaves called k.names is (remote_of called k.left) (λ (fid : ℕ). write_message fid text)) (λ r. is)
+  own_leaves k is (step.Rclose called) = remote_leaves called k.names is (remote_of called k.left) clunk_message
+  own_leaves k is t = leaves k.names is t
+
+  taken_leaves : (k : Kept) → k.names.zone ≡ z → (t : Step) (o : Option (List ℕ)) → Leaves z (play_by h k t o)
+  taken_leaves k is t None = own_leaves k is t
+  taken_leaves k is t (Some called) = λ r. is
+
+  step_leaves : (k : Kept) → k.names.zone ≡ z → (t : Step) → Leaves z (step_play h k t)
+  step_leaves k is t = taken_leaves k is t (find (is_remote k.left) (new_names t))
 
 left_by : (z : Tuples) (p : Play) (xs : List Entry) (bound : Names) → Leaves z p → IsPlayed p xs bound → bound.zone ≡ z
 left_by z (Ends names) [] bound is played = sym (ap (λ (n : Names). n.zone) played) ∙ is
@@ -405,37 +526,37 @@ first_step a b ts us is = ap first is
     first [] = a
     first (t ∷ rest) = t
 
-module _ (z : Tuples) (h : ℕ) (x : Entry) (text : List ℕ) where
-  in_first : (names : Names) → names.zone ≡ z → (t : Step) (ts : List Step) (xs : List Entry) (ask : Ask) → Begins (play_of h names t) xs
-      → stands (play_of h names t) (replies xs) ≡ Asking ask → Writing (record { next = Some ask; left = t ∷ ts }) x text → AnswersRead z xs x text
-  in_first names is t ts xs ask begins at writing =
+module _ (z : Tuples) (sc : Script) (x : Entry) (text : List ℕ) where
+  in_first : (k : Kept) → k.names.zone ≡ z → (t : Step) (ts : List Step) (xs : List Entry) (ask : Ask) → Begins (step_play sc.host k t) xs
+      → stands (step_play sc.host k t) (replies xs) ≡ Asking ask → Writing (record { next = Some ask; left = t ∷ ts }) x text → AnswersRead z xs x text
+  in_first k is t ts xs ask begins at writing =
       let step_is : t ≡ step.Dns writing.called writing.times = first_step t (step.Dns writing.called writing.times) ts writing.later writing.step_is in
-      let begun : Begins (s.serves h writing.called names (writing.times - 1)) xs = subst (λ (u : Step). Begins (play_of h names u) xs) step_is begins in
-      let stands_so : stands (s.serves h writing.called names (writing.times - 1)) (replies xs) ≡ Asking (asked_by x) =
-      subst (λ (u : Step). stands (play_of h names u) (replies xs) ≡ Asking (asked_by x)) step_is (at ∙ ap Asking (same_Some ask (asked_by x) writing.next)) in
-      let told = told_next z (s.serves h writing.called names (writing.times - 1)) None xs x (serves_tell z h names is writing.called (writing.times - 1) None) begun stands_so in
+      let begun : Begins (s.serves sc.host writing.called k.names (writing.times - 1)) xs = subst (λ (u : Step). Begins (step_play sc.host k u) xs) step_is begins in
+      let stands_so : stands (s.serves sc.host writing.called k.names (writing.times - 1)) (replies xs) ≡ Asking (asked_by x) =
+      subst (λ (u : Step). stands (step_play sc.host k u) (replies xs) ≡ Asking (asked_by x)) step_is (at ∙ ap Asking (same_Some ask (asked_by x) writing.next)) in
+      let told =
+      told_next z (s.serves sc.host writing.called k.names (writing.times - 1)) None xs x (serves_tell z sc.host k.names is writing.called (writing.times - 1) None) begun stands_so in
       answers_so z xs x text (latest None xs) refl (subst (λ (e : Event). Tells z x.actor (latest None xs) e) writing.event_is told)
 
-  pub answered_in : (ts : List Step) (names : Names) → names.zone ≡ z → (n : ℕ) (xs : List Entry) → StandInOrder h names ts n xs
-      → Writing (position h ts names (replies xs)) x text → AnswersRead z xs x text
-  answered_in [] names is n xs there writing = absurd (none-some (asked_by x) writing.next)
-  answered_in (t ∷ ts) names is zero xs there writing =
-      let asks = begins_asks (play_of h names t) xs there in
-      in_first names is t ts xs asks.0 there asks.1
-      (subst (λ (k : Stand). Writing (position_by k (t ∷ ts) (λ (after : Names) (later : List Reply). position h ts after later)) x text) asks.1 writing)
-  answered_in (t ∷ ts) names is (suc n) xs there writing =
+  pub answered_in : (ts : List Step) (k : Kept) → k.names.zone ≡ z → (n : ℕ) (xs : List Entry) → StandInOrder (scripted z sc) k ts n xs
+      → Writing (position sc.host ts k (replies xs)) x text → AnswersRead z xs x text
+  answered_in [] k is n xs there writing = absurd (none-some (asked_by x) writing.next)
+  answered_in (t ∷ ts) k is zero xs there writing =
+      let asks = begins_asks (step_play sc.host k t) xs there in
+      in_first k is t ts xs asks.0 there asks.1
+      (subst (λ (at : Stand).
+      Writing (position_by at (t ∷ ts) (λ (after : Names) (later : List Reply). position sc.host ts (kept_after k t after (heard (step_play sc.host k t) (replies xs))) later)) x text) asks.1 writing)
+  answered_in (t ∷ ts) k is (suc n) xs there writing =
       behind z there.own there.rest xs x text there.all
-      (answered_in ts there.bound (left_by z (play_of h names t) there.own there.bound (leaves z h names is t) there.played) n there.rest there.later
-      (subst (λ (k : Stand). Writing (position_by k (t ∷ ts) (λ (after : Names) (later : List Reply). position h ts after later)) x text)
-      (ap (λ (ys : List Entry). stands (play_of h names t) (replies ys)) there.all ∙ ap (λ (rs : List Reply). stands (play_of h names t) rs) (map-append (λ (y : Entry). y.reply) there.own there.rest)
-      ∙ played_finishes (play_of h names t) there.own there.bound (replies there.rest) there.played) writing))
+      (answered_in ts (kept_after k t there.bound (replies there.own)) (left_by z (step_play sc.host k t) there.own there.bound (step_leaves z sc.host k is t) there.played) n there.rest there.later
+      (subst (λ (p : Position). Writing p x text) (goes_on z sc k t ts n xs there) writing))
 
 -- Histories.
 
 pub answers_questions : (w : World) (c : ℕ) (s : Script) → caller_of w c ≡ IsScript s → (h : List Entry) → IsLegal w h → AnswersQuestions w h c s
 answers_questions w c s is h legal k x text writes =
     let may : MayFollow w (take k h) x = legal k x writes.stands in
-    answered_in (zone_of w) s.host x text s.steps (no_names (zone_of w)) refl (finished_by (zone_of w) (own_replies (take k h) c) s) (own_entries (take k h) c)
+    answered_in (zone_of w) s x text s.steps (at_first (zone_of w)) refl (finished_by (zone_of w) (own_replies (take k h) c) s) (own_entries (take k h) c)
     (keeps_script w c s is (take k h) (legal_take w h k legal)).finished
     (record {
       next =

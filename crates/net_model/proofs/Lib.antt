@@ -10,7 +10,6 @@ pub mod PlainTexts
 pub mod PlainReplies
 pub mod PlainEvents
 pub mod PlainHistories
-pub mod Plays
 pub mod LastOwn
 pub mod OwnEntries
 pub mod DnsOrder

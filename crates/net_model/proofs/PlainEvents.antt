@@ -1,12 +1,19 @@
 -- The events that scripts record are plain: the words of their steps are those of a world's file, and a dial opens lines of cs.
-use Rattle.std.proofs.Common.{◌≡◌, ◌≢◌, ℕ, zero, suc, ◌<◌, ◌==◌, ◌&&◌, ◌||◌, Bool, true, not, List, [], ◌∷◌, take, inl, inr, refl, arith}
-use Rattle.std.specs.Prelude.{codes, nat_lt, length}
+use Rattle.std.proofs.Common.{◌≡◌, ◌≢◌, ℕ, zero, suc, ◌<◌, ◌==◌, ◌&&◌, ◌||◌, ◌+◌, Bool, true, not, List, [], ◌∷◌, ◌++◌, map, take, inl, inr, refl, sym, subst, append_assoc, arith}
+use Rattle.std.specs.Prelude.{codes, decimal, nat_lt, length}
+use Rattle.std.specs.Int.Digits.{digits_of}
 use Rattle.std.specs.List.{list_all, position_or_len}
 use Rattle.std.proofs.lemmas.Bool.{and_from, and_parts, or_cases, false≢true}
 use Rattle.std.proofs.lemmas.Bool.Decides.{nat_tests}
 use Rattle.net_base.specs.declared.actor.ActorName.{ActorName}
+use Rattle.net_base.specs.declared.address.Proto.{Proto}
+use Rattle.net_base.specs.declared.address.Proto.TheVariants as proto
 use Rattle.net_base.specs.declared.event.Event.{Event}
 use Rattle.net_base.specs.declared.event.Event.TheVariants as event
+use Rattle.net_base.specs.declared.names.FileName.{FileName}
+use Rattle.net_base.specs.declared.names.FileName.TheVariants as file
+use Rattle.net_base.specs.declared.names.Node.{Node}
+use Rattle.net_base.specs.declared.names.Node.TheVariants as node
 use Rattle.net_base.specs.declared.reply.Reply.{Reply}
 use Rattle.net_base.specs.declared.reply.Reply.TheVariants as reply
 use Rattle.net_base.specs.declared.world.Step.{Step}
@@ -14,10 +21,14 @@ use Rattle.net_base.specs.declared.world.Step.TheVariants as step
 use Rattle.net_base.specs.DatagramHeaders.{has_headers}
 use Rattle.net_base.specs.Plain.{IsClean, IsWord, IsLine, AreLines, AreBytes, IsPlainEvent, IsPlainReply}
 use Rattle.net_base.specs.Steps.{call_names, is_blank, clone_path, lines_in, dotted_name}
+use Rattle.net_base.specs.Exports.{dotted_fid}
+use Rattle.net_base.specs.Numeral.{numeral}
+use Rattle.net_base.specs.Paths.{file_name, path_of, proto_name}
+use Rattle.net_base.specs.Remotes.{is_remote_path}
 use Rattle.net_base.specs.World.{is_within, is_letter, is_name_byte, is_name, is_byte, is_text, is_word, is_step}
 use Rattle.history_laws.proofs.Ordered.{Each}
-use Rattle.net_model.proofs.PlainTexts.{IsText, ListsTexts}
-use Rattle.history_laws.proofs.StepEvents.{IsOther, own_other, IsOpened, IsNamed, Fits, Says}
+use Rattle.net_model.proofs.PlainTexts.{IsText, ListsTexts, decimal_text, text_append}
+use Rattle.history_laws.proofs.StepEvents.{IsOther, own_other, IsOpened, IsNamed, Fits, IsExporting, Says}
 
 -- The words of a file.
 
@@ -141,6 +152,52 @@ dotted_named h called is = (dotted_word called is, dotted_word called is)
 calls_named : (h : ℕ) → Each (λ (called : List ℕ). IsNamed h PlainAt called) call_names
 calls_named h = (dotted_named h (codes "d") refl, (dotted_named h (codes "c") refl, (dotted_named h (codes "r") refl, (dotted_named h (codes "l") refl, tt))))
 
+-- a name with a dot and a number is a word
+digits_clean : (digits : List ℕ) → IsClean (map (λ (digit : ℕ). 48 + digit) digits)
+digits_clean [] = tt
+digits_clean (d ∷ digits) = (λ same. omega (arith, same), λ same. omega (arith, same), digits_clean digits)
+
+numeral_clean : (n : ℕ) → IsClean (numeral n)
+unfolding numeral
+numeral_clean zero = (λ same. omega (arith, same), λ same. omega (arith, same), tt)
+numeral_clean (suc n) = digits_clean (digits_of 10 (suc n))
+
+numbered_word : (n : ℕ) → IsWord (dotted_fid n)
+numbered_word n = (λ same. omega (arith, same), λ same. omega (arith, same), numeral_clean n)
+
+-- the path of a node is made of bytes
+proto_text : (p : Proto) → IsText (codes "/net/" ++ proto_name p)
+proto_text proto.Il = refl
+proto_text proto.Udp = refl
+
+directory_text : (p : Proto) (n : ℕ) → IsText (codes "/net/" ++ proto_name p ++ codes "/" ++ decimal n)
+directory_text p n = text_append (codes "/net/" ++ proto_name p ++ codes "/") (decimal n) (text_append (codes "/net/" ++ proto_name p) (codes "/") (proto_text p) refl) (decimal_text n)
+
+file_text : (f : FileName) → IsText (codes "/" ++ file_name f)
+file_text file.Ctl = refl
+file_text file.Data = refl
+file_text file.Err = refl
+file_text file.Listen = refl
+file_text file.Local = refl
+file_text file.Remote = refl
+file_text file.Status = refl
+
+path_text : (at : Node) → IsText (path_of at)
+path_text node.Root = refl
+path_text node.Cs = refl
+path_text (node.Proto p) = proto_text p
+path_text (node.Clone p) = text_append (codes "/net/" ++ proto_name p) (codes "/clone") (proto_text p) refl
+path_text (node.Dir p n) = directory_text p n
+path_text (node.File p n f) =
+    subst IsText (sym (append_assoc (codes "/net/" ++ proto_name p ++ codes "/" ++ decimal n) (codes "/") (file_name f)))
+    (text_append (codes "/net/" ++ proto_name p ++ codes "/" ++ decimal n) (codes "/" ++ file_name f) (directory_text p n) (file_text f))
+
+exporting_plain : (h : ℕ) → IsExporting h PlainAt
+exporting_plain h = record {
+  named = λ n. (numbered_word n, numbered_word n);
+  opened = λ at a m. text_bytes (path_of at) (path_text at);
+}
+
 -- a step that a file can say
 says_plain : (h : ℕ) (s : Step) → is_step s ≡ true → Says h PlainAt s
 says_plain h (step.Open called path m) is =
@@ -169,6 +226,15 @@ says_plain h (step.Hangup called) is = named h called is
 says_plain h (step.Hread called count) is = (named h called (and_parts (is_name called) (is_within 1 65536 count) is).0, calls_named h)
 says_plain h (step.Hwrite called bytes) is = (named h called (and_parts (is_name called) (list_all is_byte bytes && has_headers bytes) is).0, calls_named h)
 says_plain h (step.Dns called times) is = (named h called (and_parts (is_name called) (is_within 1 1000 times) is).0, calls_named h)
+-- imports
+says_plain h (step.Export called) is = (named h called is, exporting_plain h)
+says_plain h (step.Import call) is = named h call is
+says_plain h (step.Ropen called call path m) is =
+    let parts = and_parts (is_name called) (is_name call && (is_word path && is_remote_path path)) is in
+    (named h called parts.0, named h call (and_parts (is_name call) (is_word path && is_remote_path path) parts.1).0)
+says_plain h (step.Rread called count) is = named h called (and_parts (is_name called) (is_within 1 488 count) is).0
+says_plain h (step.Rwrite called text) is = named h called (and_parts (is_name called) (is_text text && is_within 1 488 (length text)) is).0
+says_plain h (step.Rclose called) is = named h called is
 
 pub steps_plain : (h : ℕ) (steps : List Step) → list_all is_step steps ≡ true → Each (λ (s : Step). Says h PlainAt s) steps
 steps_plain h [] all = tt

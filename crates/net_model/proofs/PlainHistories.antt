@@ -17,7 +17,7 @@ use Rattle.net_base.specs.Legal.{IsMove, IsNext, IsAsked, MayFollow, IsLegal, as
 use Rattle.net_base.specs.Net.{Net, after, step_of}
 use Rattle.net_base.specs.Next.{by, own_replies, next, next_of, zone_of}
 use Rattle.net_base.specs.Plain.{IsPlainEvent, IsPlain}
-use Rattle.net_base.specs.Steps.{Ask, no_names}
+use Rattle.net_base.specs.Steps.{Ask}
 use Rattle.net_base.specs.World.{is_step, is_script, IsWorld}
 use Rattle.history_laws.proofs.Histories.{after_push, by_entries}
 use Rattle.history_laws.proofs.Ordered.{Each, all_at, each_weaker, each_append, each_map, each_filter}
@@ -25,7 +25,9 @@ use Rattle.history_laws.proofs.Owed.{owed_each}
 use Rattle.net_model.proofs.PlainEvents.{PlainAt, plain_other, plain_reply, fits_plain, steps_plain}
 use Rattle.net_model.proofs.PlainReplies.{entry_replies}
 use Rattle.net_model.proofs.PlainTexts.{ListsTexts}
-use Rattle.history_laws.proofs.StepEvents.{IsNextEvent, next_event}
+use Rattle.net_base.specs.Scripts.{at_first}
+use Rattle.history_laws.proofs.CallEvents.{next_event}
+use Rattle.history_laws.proofs.StepEvents.{IsNextEvent}
 
 -- What a caller records next.
 
@@ -34,7 +36,7 @@ script_next w h c s world is fine =
     let one = all_at (is_script (length w.hosts)) w.scripts c s world.scripts is in
     let steps = (and_parts (nat_lt s.host (length w.hosts)) (list_all is_step s.steps) one).1 in
     let replies = each_map ListsTexts (λ (x : Entry). x.reply) _ (each_filter (λ (x : Entry). ListsTexts x.reply) (λ (x : Entry). is_none x.cites) (by h c) (each_filter (λ (x : Entry). ListsTexts x.reply) (λ (x : Entry). x.caller == c) h fine)) in
-    next_event s.host PlainAt ListsTexts fits_plain s.steps (no_names (zone_of w)) (own_replies h c) (steps_plain s.host s.steps steps) replies
+    next_event s.host PlainAt ListsTexts fits_plain s.steps (at_first (zone_of w)) (own_replies h c) tt (steps_plain s.host s.steps steps) replies
 
 caller_next : (w : World) (h : List Entry) (c : ℕ) (found : Option Script) → IsWorld w → slice_get w.scripts c ≡ found → Each (λ (x : Entry). ListsTexts x.reply) h → IsNextEvent PlainAt (next_of w (option_map_or (λ (s : Script). IsScript s) found (other_caller w c)) h c)
 caller_next w h c (Some s) world is fine = script_next w h c s world is fine

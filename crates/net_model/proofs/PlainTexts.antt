@@ -47,7 +47,7 @@ digits_text (suc k) n digits rest =
     (λ _. digit_text n digits rest)
     (λ _. digits_text k (n / 10) (digit_glyph false (n % 10) ∷ digits) (digit_text n digits rest))
 
-decimal_text : (n : ℕ) → IsText (decimal n)
+pub decimal_text : (n : ℕ) → IsText (decimal n)
 unfolding digits
 decimal_text n = digits_text 64 n [] refl
 

@@ -1,7 +1,8 @@
 -- Each step records an event, whatever names are bound.
 use Rattle.std.proofs.Common.{ℕ, zero, suc, ◌-◌, Bool, true, false, List, [], ◌∷◌, Option, Some, None, Ok, Err}
-use Rattle.std.specs.Prelude.{Result, if◌then◌else◌}
+use Rattle.std.specs.Prelude.{◌&&◌, Result, find, length, nat_le, not, if◌then◌else◌}
 use Rattle.net_base.specs.declared.address.Addr.{Addr}
+use Rattle.net_base.specs.declared.left.Remote.{Remote}
 use Rattle.net_base.specs.declared.event.Event.TheVariants as event
 use Rattle.net_base.specs.declared.names.Ctl.{Ctl}
 use Rattle.net_base.specs.declared.names.Ctl.TheVariants as ctl
@@ -11,11 +12,16 @@ use Rattle.net_base.specs.declared.reply.Reply.{Reply}
 use Rattle.net_base.specs.declared.world.Step.{Step}
 use Rattle.net_base.specs.declared.world.Step.TheVariants as step
 use Rattle.net_base.specs.ControlWords as control
+use Rattle.net_base.specs.declared.ninep.Tmsg.{Tmsg}
+use Rattle.net_base.specs.Exports.{Own, Sharing, exported, exports, is_dotted, most_requests, own_of, unheard}
+use Rattle.net_base.specs.Imports.{clunk_message, longest_text, read_message, sends_by, write_message}
 use Rattle.net_base.specs.DatagramHeaders.{text_behind}
 use Rattle.net_base.specs.DomainAnswers.{dns_answer}
 use Rattle.net_base.specs.Paths.{reads, writes}
-use Rattle.net_base.specs.Steps.{Names, Fid, Play, Asks, Ends, answers, answers_call, asks_cs, bytes_in, closes_all, controls, conversation_of, data_name, dials, dotted_name, fid_of, hears, if_accepted, is_answer, is_bound, misuses, on_fid, on_taken, open_call, play_of, puts, serves, serves_call, taken_name, takes_call, uses, with_bound, with_call, with_new, with_readable, with_writable}
-use Rattle.net_model.specs.ScriptOrder.{Begins}
+use Rattle.net_base.specs.Steps.{Names, Fid, Play, Asks, Ends, answers, answers_call, asks_cs, bytes_in, closes_all, controls, conversation_of, data_name, dials, dotted_name, fid_of, hears, if_accepted, is_answer, is_bound, misuses, on_fid, on_taken, open_call, puts, serves, serves_call, taken_name, takes_call, uses, with_bound, with_call, with_new, with_readable, with_writable}
+use Rattle.net_base.specs.Remotes.{is_remote, is_remote_path, remote_of}
+use Rattle.net_base.specs.Scripts.{Kept, new_names, own_play, play_by, step_play}
+use Rattle.import_law.specs.Order.{Begins}
 
 -- the play asks first
 abbrev Asking : Play → Type 0
@@ -83,28 +89,52 @@ serving : (h : ℕ) (called : List ℕ) (names : Names) (more : ℕ) → Asking 
 serving h called names zero = serving_one h called names (Ends names)
 serving h called names (suc more) = serving_one h called names (serves h called names more)
 
-pub step_asks : (h : ℕ) (names : Names) (s : Step) → Begins (play_of h names s) []
-step_asks h names (step.Open called path m) = new h called names _ tt
-step_asks h names (step.Read called count) = readable h called names _ (λ f. tt)
-step_asks h names (step.Write called text) = writable h called names _ (λ f. putting h f f.file text (Ends names) (Ends names))
-step_asks h names (step.Writex called text) = writable h called names _ (λ f. putting h f f.file text (Ends names) (Ends names))
-step_asks h names (step.Close called) = bound h called names _ (λ f. tt)
-step_asks h names (step.Ls path) = tt
-step_asks h names (step.Cs query) = tt
-step_asks h names (step.Until moment) = tt
-step_asks h names step.Refresh = tt
-step_asks h names (step.Dial called address) = new h called names _ (new h (dotted_name called) names (asks_cs h address (dials h called names)) tt)
-step_asks h names (step.Announce called address) = new h called names _ tt
-step_asks h names (step.Listen called from) = bound h from names _ (λ f. new h called names _ tt)
-step_asks h names (step.Accept called from) = bound h from names _ (λ f. new h called names _ tt)
-step_asks h names (step.Reject called) = writable h called names _ (λ f. putting h f f.file _ _ _)
-step_asks h names (step.Hangup called) = writable h called names _ (λ f. putting h f f.file _ _ _)
-step_asks h names (step.Hread called count) =
-    calling h called names
-    (λ (call data_file : Fid) (remote local : Addr). hears h names count call data_file (record { name = called; remote = remote; local = local }))
-step_asks h names (step.Hwrite called bytes) =
-    on (open_call called names) (uses h data_name names)
-    (λ (data_file : Fid). if is_answer bytes names.heard then answers h names (text_behind bytes) data_file else misuses h data_name names)
+remote : (h : ℕ) (called : List ℕ) (names : Names) (o : Option Remote) (message : ℕ → Tmsg) → Asking (sends_by h called names o message)
+remote h called names None message = tt
+remote h called names (Some r) message = tt
+
+exporting : (h : ℕ) (own : Own) (s : Sharing) → Asking (exports (exported h) own most_requests s)
+unfolding most_requests
+exporting h own s = tt
+
+own_asks : (h : ℕ) (k : Kept) (s : Step) → Asking (own_play h k s)
+own_asks h k (step.Open called path m) = new h called k.names _ tt
+own_asks h k (step.Read called count) = readable h called k.names _ (λ f. tt)
+own_asks h k (step.Write called text) = writable h called k.names _ (λ f. putting h f f.file text (Ends k.names) (Ends k.names))
+own_asks h k (step.Writex called text) = writable h called k.names _ (λ f. putting h f f.file text (Ends k.names) (Ends k.names))
+own_asks h k (step.Close called) = bound h called k.names _ (λ f. tt)
+own_asks h k (step.Ls path) = tt
+own_asks h k (step.Cs query) = tt
+own_asks h k (step.Until moment) = tt
+own_asks h k step.Refresh = tt
+own_asks h k (step.Dial called address) = new h called k.names _ (new h (dotted_name called) k.names (asks_cs h address (dials h called k.names)) tt)
+own_asks h k (step.Announce called address) = new h called k.names _ tt
+own_asks h k (step.Listen called from) = bound h from k.names _ (λ f. new h called k.names _ tt)
+own_asks h k (step.Accept called from) = bound h from k.names _ (λ f. new h called k.names _ tt)
+own_asks h k (step.Reject called) = writable h called k.names _ (λ f. putting h f f.file _ _ _)
+own_asks h k (step.Hangup called) = writable h called k.names _ (λ f. putting h f f.file _ _ _)
+own_asks h k (step.Hread called count) =
+    calling h called k.names
+    (λ (call data_file : Fid) (remote local : Addr). hears h k.names count call data_file (record { name = called; remote = remote; local = local }))
+own_asks h k (step.Hwrite called bytes) =
+    on (open_call called k.names) (uses h data_name k.names)
+    (λ (data_file : Fid). if is_answer bytes k.names.heard then answers h k.names (text_behind bytes) data_file else misuses h data_name k.names)
     tt
-    (λ data_file. either (is_answer bytes names.heard) (answers h names (text_behind bytes) data_file) (misuses h data_name names) tt tt)
-step_asks h names (step.Dns called times) = serving h called names (times - 1)
+    (λ data_file. either (is_answer bytes k.names.heard) (answers h k.names (text_behind bytes) data_file) (misuses h data_name k.names) tt tt)
+own_asks h k (step.Dns called times) = serving h called k.names (times - 1)
+-- imports
+own_asks h k (step.Export called) =
+    either (is_dotted called) (uses h called k.names) (exports (exported h) (own_of h called k.names) most_requests (unheard k.names)) tt (exporting h (own_of h called k.names) (unheard k.names))
+own_asks h k (step.Import call) = tt
+own_asks h k (step.Ropen called call path m) = either (is_remote_path path && not (is_bound k.names call && is_bound k.names called)) _ (uses h called k.names) tt tt
+own_asks h k (step.Rread called count) = remote h called k.names (remote_of called k.left) (λ (fid : ℕ). read_message fid count)
+own_asks h k (step.Rwrite called text) =
+    either (nat_le (length text) longest_text) _ (uses h called k.names) (remote h called k.names (remote_of called k.left) (λ (fid : ℕ). write_message fid text)) tt
+own_asks h k (step.Rclose called) = remote h called k.names (remote_of called k.left) clunk_message
+
+by_asks : (h : ℕ) (k : Kept) (s : Step) (o : Option (List ℕ)) → Asking (play_by h k s o)
+by_asks h k s None = own_asks h k s
+by_asks h k s (Some called) = tt
+
+pub step_asks : (h : ℕ) (k : Kept) (s : Step) → Begins (step_play h k s) []
+step_asks h k s = by_asks h k s (find (is_remote k.left) (new_names s))

@@ -1,7 +1,7 @@
 -- The text of the versions of a database says them.
-use Rattle.std.proofs.Common.{◌≡◌, ℕ, ◌+◌, ◌<◌, ◌≤◌, ◌^◌, ◌==◌, ◌⊎◌, inl, inr, zero, suc, Bool, true, false, ◌&&◌, cond, List, [], ◌∷◌, ◌++◌, length, map, refl, sym, ap, subst, ◌∙◌, arith, Option, Some, None, append-nil, append_assoc}
-use Rattle.std.specs.Prelude.{⊤, codes, decimal, flat_map, is_none, nat_le, nat_lt, unwrap_or}
-use Rattle.std.specs.List.{All, before_first, onto_first, slice_split}
+use Rattle.std.proofs.Common.{◌≡◌, ℕ, ◌+◌, ◌<◌, ◌≤◌, ◌==◌, ◌⊎◌, inl, inr, zero, suc, Bool, true, false, cond, List, [], ◌∷◌, ◌++◌, length, refl, sym, ap, subst, ◌∙◌, arith, Option, Some, None, append-nil, append_assoc}
+use Rattle.std.specs.Prelude.{⊤, codes, decimal, flat_map, is_none, nat_le, nat_lt}
+use Rattle.std.specs.List.{All, before_first, onto_first}
 use Rattle.std.proofs.lemmas.Bool.{and_parts, eqb-true, false≢true, leb-true}
 use Rattle.std.proofs.lemmas.Option.{none-some, same_Some}
 use Rattle.net_base.specs.declared.ndb.NdbPair.{NdbPair}
@@ -13,7 +13,7 @@ use Rattle.net_base.specs.World.{IsDatabase}
 use Rattle.net_base.proofs.Texts.{IsWithout, cut_at, decimal_without, without_one}
 use Rattle.ndb_reader.specs.Written.{db_text, line_text, more_lines, tuple_text}
 use Rattle.ndb_reader.proofs.Reading.{before-more, before-stop}
-use Rattle.world_text.specs.WorldSpelling.{IsGoodBundle, LaterText, SaysVersions, laid, line_of_moment, lines_of_later, version_said}
+use Rattle.world_text.specs.WorldSpelling.{IsGoodBundle, LaterText, SaysVersions, line_of_moment, lines_of_later}
 use Rattle.world_text.proofs.VersionCuts.{AreGood, saids}
 use Rattle.world_text.proofs.VersionTexts.{all-good}
 use Rattle.world_writer.specs.Written.{later_text, versions_text}

@@ -18,6 +18,7 @@ use Rattle.net_base.specs.Plain.{IsPlain}
 use Rattle.net_base.specs.Stamped.{same_actor}
 use Rattle.net_base.specs.Versions.{database_of}
 use Rattle.net_base.specs.Written.{Conversation, IsRead, peer}
+use Rattle.import_law.specs.WorldImports.{ImportsAnswered}
 use Rattle.prefix_law.specs.PrefixLaw.{Alone, InOrder, WasWritten}
 use Rattle.net_model.specs.DnsOrder.{AnswersQuestions}
 use Rattle.net_model.specs.ScriptOrder.{KeepsScript}
@@ -46,6 +47,8 @@ pub record AnswersCs (w : World) (past : List Entry) (x : Entry) (query : List �
 pub record Headline (w : World) (h : List Entry) : Type 0 where
   -- the events of each script's steps, in order
   pub in_script_order : (c : ℕ) (s : Script) → caller_of w c ≡ IsScript s → KeepsScript w h c s
+  -- what is imported over a call of IL is what the exporting step at its other end answers, in order, each once
+  pub imports_answered : ImportsAnswered w h
   -- what each script writes in its `dns` steps
   pub questions : (c : ℕ) (s : Script) → caller_of w c ≡ IsScript s → AnswersQuestions w h c s
   -- each answer of cs

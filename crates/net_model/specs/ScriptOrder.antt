@@ -4,51 +4,18 @@
 --     Begins          these are the first entries of a play that isn't over
 --     StandInOrder    entries of steps, of which so many are finished
 --     KeepsScript     what a history has of a script
-use Rattle.std.specs.Prelude.{ℕ, zero, suc, ◌≡◌, ◌≤◌, ◌-◌, Bool, true, false, List, [], ◌∷◌, ◌++◌, filter, length, take, Some, None, is_none, slice_get}
+use Rattle.std.specs.Prelude.{ℕ, ◌≡◌, ◌≤◌, ◌-◌, Bool, true, false, List, length, take, Some, None, slice_get}
 use Rattle.net_base.specs.declared.history.Entry.{Entry}
 use Rattle.net_base.specs.declared.world.Script.{Script}
-use Rattle.net_base.specs.declared.world.Step.{Step}
 use Rattle.net_base.specs.declared.world.World.{World}
 use Rattle.net_base.specs.Calm.{owes}
 use Rattle.net_base.specs.Duties.{Duty}
-use Rattle.net_base.specs.Legal.{asked_by}
 use Rattle.net_base.specs.Net.{after, owed}
-use Rattle.net_base.specs.Next.{answered, by, finished_by, own_replies, zone_of}
+use Rattle.net_base.specs.Next.{answered, finished_by, own_replies, zone_of}
 use Rattle.net_base.specs.Stamped.{In}
-use Rattle.net_base.specs.Steps.{Names, Play, Asks, Ends, play_of, no_names}
-
--- the entries of a caller that nothing owed, in order
-abbrev pub own_entries : List Entry → ℕ → List Entry
-own_entries h c = filter (λ (x : Entry). is_none x.cites) (by h c)
-
--- the play records exactly these entries, each by the replies before it, and ends with these names bound
-abbrev pub IsPlayed : Play → List Entry → Names → Type 0
-IsPlayed (Ends names) [] bound = names ≡ bound
-IsPlayed (Ends names) (x ∷ xs) bound = ⊥
-IsPlayed (Asks a e next) [] bound = ⊥
-IsPlayed (Asks a e next) (x ∷ xs) bound = (asked_by x ≡ record { actor = a; event = e }) × IsPlayed (next x.reply) xs bound
-
--- these are the first entries of the play, which records another after them
-abbrev pub Begins : Play → List Entry → Type 0
-Begins (Ends names) xs = ⊥
-Begins (Asks a e next) [] = Unit {0}
-Begins (Asks a e next) (x ∷ xs) = (asked_by x ≡ record { actor = a; event = e }) × Begins (next x.reply) xs
-
--- a step is finished: its play's entries stand first, and those of later steps after them
-pub record Finishes (play : Play) (Later : Names → List Entry → Type 0) (entries : List Entry) : Type 0 where
-  pub own : List Entry
-  pub rest : List Entry
-  pub bound : Names
-  pub all : entries ≡ own ++ rest
-  pub played : IsPlayed play own bound
-  pub later : Later bound rest
-
--- the entries of these steps of a host's script, where these names are bound: so many steps are finished, the next one, if any,
--- isn't over, and those after it have no entry
-abbrev pub StandInOrder : ℕ → Names → List Step → ℕ → List Entry → Type 0
-StandInOrder h names [] n xs = (n ≡ 0) × (xs ≡ [])
-StandInOrder h names (s ∷ ss) zero xs = Begins (play_of h names s) xs
-StandInOrder h names (s ∷ ss) (suc n) xs = Finishes (play_of h names s) (λ bound rest. StandInOrder h bound ss n rest) xs
+use Rattle.net_base.specs.Scripts.{at_first}
+use Rattle.import_law.specs.Order.{StandInOrder, own_entries}
+use Rattle.import_law.specs.Scripted.{scripted}
 
 -- the entries of steps of which a caller owes nothing: what it owes is of the step of its last own entry
 abbrev pub settled : Bool → List Entry → List Entry
@@ -72,6 +39,6 @@ pub record IsOfLastStep (h : List Entry) (c : ℕ) (d : Duty) : Type 0 where
 -- what a history has of the script of a caller
 pub record KeepsScript (w : World) (h : List Entry) (c : ℕ) (s : Script) : Type 0 where
   -- the steps that are finished, and those that are answered
-  pub finished : StandInOrder s.host (no_names (zone_of w)) s.steps (finished_by (zone_of w) (own_replies h c) s) (own_entries h c)
-  pub answered_is : StandInOrder s.host (no_names (zone_of w)) s.steps (answered w h c (owes (after w h) c) s) (settled (owes (after w h) c) (own_entries h c))
+  pub finished : StandInOrder (scripted (zone_of w) s) (at_first (zone_of w)) s.steps (finished_by (zone_of w) (own_replies h c) s) (own_entries h c)
+  pub answered_is : StandInOrder (scripted (zone_of w) s) (at_first (zone_of w)) s.steps (answered w h c (owes (after w h) c) s) (settled (owes (after w h) c) (own_entries h c))
   pub owed_is : (d : Duty) → In d (owed w h c) → IsOfLastStep h c d

@@ -4,8 +4,9 @@ ghost use Rattle.net_base.specs.declared.event.Event.TheVariants as event;
 ghost use Rattle.net_base.specs.declared.history.Entry.{Entry};
 ghost use Rattle.net_base.specs.declared.world.World.{World};
 ghost use Rattle.net_model.specs.Headline.{AnswersCs, Headline};
-ghost use Rattle.net_model.specs.ScriptOrder.{Begins, KeepsScript};
-ghost use Rattle.net_base.specs.Steps.{Names, play_of};
+ghost use Rattle.import_law.specs.Order.{Begins};
+ghost use Rattle.net_model.specs.ScriptOrder.{KeepsScript};
+ghost use Rattle.net_base.specs.Scripts.{Kept, step_play};
 ghost use Rattle.net_base.specs.declared.world.Step.{Step};
 ghost use Rattle.net_base.specs.declared.world.Script.{Script};
 ghost use Rattle.net_base.specs.World.{IsWorld};
@@ -14,6 +15,7 @@ ghost use Rattle.net_base.specs.Legal.{IsLegal};
 ghost use Rattle.net_base.specs.Plain.{IsPlain};
 ghost use Rattle.net_base.specs.Versions.{IsInForce, in_force};
 
+use import_law::imports_are_answered;
 use prefix_law::prefix_law;
 
 /// Every legal history of a world is plain: names are words, lines have no newline, and paths are made of bytes.
@@ -24,7 +26,7 @@ pub fn legal_histories_are_plain()
 /// The events of a script's steps are its caller's own entries, in order and each once, at least one a step. So many steps are
 /// finished, and so many answered, as the definitions count.
 pub fn steps_stand_in_order()
-    ensures each { (h : ℕ) (names : Names) (s : Step) → Begins (play_of h names s) [] }
+    ensures each { (h : ℕ) (k : Kept) (s : Step) → Begins (step_play h k s) [] }
     ensures in_order { (w : World) (h : List Entry) (c : ℕ) (s : Script) → IsLegal w h → caller_of w c ≡ IsScript s → KeepsScript w h c s }
 {}
 
@@ -44,4 +46,5 @@ pub fn legal_histories_keep_it()
     ensures { (w : World) (h : List Entry) → IsWorld w → IsLegal w h → Headline w h }
 {
     prefix_law();
+    imports_are_answered();
 }

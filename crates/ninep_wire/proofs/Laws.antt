@@ -8,9 +8,9 @@ use Rattle.std.proofs.lemmas.List.Concat.{flat_map-cons}
 use Rattle.std.proofs.lemmas.Nat.{le_bytes_2, le_bytes_4, le_bytes_8}
 use Rattle.byteorder.specs.Endian.{little_number}
 use Rattle.byteorder.specs.Numbers.{little_from-lt, little_from-take, little_number-reads_back, length-bytes_low_first}
-use Rattle.ninep_wire.specs.declared.qid.Qid.{Qid}
-use Rattle.ninep_wire.specs.Fields.{number, counted, string, qid, many, Holds, Counts, IsQid, AreFew}
-use Rattle.ninep_wire.specs.Reading.{◌>>=◌, Reader, both, making, number_at, bytes_at, counted_at, qid_of, qid_at, list_at, many_at}
+use Rattle.net_base.specs.declared.ninep.Qid.{Qid}
+use Rattle.net_base.specs.NinepFields.{number, counted, string, qid, many, Holds, Counts, IsQid, AreFew}
+use Rattle.net_base.specs.NinepReading.{◌>>=◌, Reader, both, making, number_at, bytes_at, counted_at, qid_of, qid_at, list_at, many_at}
 
 abbrev pub IsBytes : List ℕ → Type 0
 IsBytes bytes = (i : ℕ) → get_or bytes i 0 < 256

@@ -1,8 +1,8 @@
 -- Layouts of fields: how the values are read, how they are spelled, and which have a spelling.
 use Rattle.std.proofs.Common.{◌≡◌, ℕ, Bool, true, false, cond, List, ◌++◌, Some, refl, inl, inr, ◌⊎◌}
-use Rattle.ninep_wire.specs.declared.qid.Qid.{Qid}
-use Rattle.ninep_wire.specs.Fields.{number, counted, string, qid, many, Holds, Counts, IsQid, AreFew}
-use Rattle.ninep_wire.specs.Reading.{Reader, both, making, number_at, counted_at, qid_at, many_at}
+use Rattle.net_base.specs.declared.ninep.Qid.{Qid}
+use Rattle.net_base.specs.NinepFields.{number, counted, string, qid, many, Holds, Counts, IsQid, AreFew}
+use Rattle.net_base.specs.NinepReading.{Reader, both, making, number_at, counted_at, qid_at, many_at}
 use Rattle.ninep_wire.proofs.Laws.{Reads, both_reads, making_again, reads_1, reads_2, reads_4, reads_8, string_reads, data_reads, qid_reads, many_reads}
 
 pub record Layout (A : Type 0) : Type 1 where

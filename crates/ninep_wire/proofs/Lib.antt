@@ -7,3 +7,4 @@ pub mod Sizes
 pub mod Spelling
 pub mod Telling
 pub mod Whole
+pub mod WholeRead

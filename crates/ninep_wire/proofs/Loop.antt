@@ -6,7 +6,8 @@ use Rattle.std.proofs.lemmas.List.{append-nil, flat_map_more, take_more}
 use Rattle.std.proofs.lemmas.List.Elements.{All-more}
 use Rattle.ninep_wire.specs.declared.fault.NinepError.{NinepError}
 use Rattle.ninep_wire.specs.declared.fault.NinepError.TheVariants as error
-use Rattle.ninep_wire.specs.Reading.{◌>>=◌, Fails, Reader, list_at}
+use Rattle.ninep_wire.specs.Reading.{Fails}
+use Rattle.net_base.specs.NinepReading.{◌>>=◌, Reader, list_at}
 
 -- what was read before, and what is still read
 abbrev pub with_front : {A : Type 0} → List A → Option (List A × List ℕ) → Option (List A × List ℕ)

@@ -1,11 +1,11 @@
 -- The T-messages of each type: what is read of a type is that type's message, and it is read again.
 use Rattle.std.proofs.Common.{◌≡◌, ℕ, cond, eqb, List, ◌++◌, Some, None, refl, sym, subst, inl, inr}
 use Rattle.std.proofs.lemmas.Bool.{eqb-true}
-use Rattle.ninep_wire.specs.declared.request.Tmsg.{Tmsg}
-use Rattle.ninep_wire.specs.declared.request.Tmsg.TheVariants as t
-use Rattle.ninep_wire.specs.Messages.{t_type, t_tag, t_fields, IsTmsg}
-use Rattle.ninep_wire.specs.Reading.{Reader, making}
-use Rattle.ninep_wire.specs.Reading.{t_version, t_auth, t_attach, t_flush, t_walk, t_open, t_create, t_read, t_write, t_clunk, t_remove, t_stat, t_wstat, t_at}
+use Rattle.net_base.specs.declared.ninep.Tmsg.{Tmsg}
+use Rattle.net_base.specs.declared.ninep.Tmsg.TheVariants as t
+use Rattle.net_base.specs.NinepMessages.{t_type, t_tag, t_fields, IsTmsg}
+use Rattle.net_base.specs.NinepReading.{Reader, making}
+use Rattle.net_base.specs.NinepReading.{t_version, t_auth, t_attach, t_flush, t_walk, t_open, t_create, t_read, t_write, t_clunk, t_remove, t_stat, t_wstat, t_at}
 use Rattle.ninep_wire.proofs.Laws.{IsBytes, Takes, making_takes}
 use Rattle.ninep_wire.proofs.Layouts.{Layout, byte, counted_bytes, long, text, texts, vast, word, followed, layout_again, chosen}
 

@@ -1,12 +1,12 @@
 -- The R-messages of each type: what is read of a type is that type's message, and it is read again.
 use Rattle.std.proofs.Common.{◌≡◌, ℕ, cond, eqb, List, [], ◌++◌, Some, None, refl, sym, ap, subst, inl, inr}
 use Rattle.std.proofs.lemmas.Bool.{eqb-true}
-use Rattle.ninep_wire.specs.declared.qid.Qid.{Qid}
-use Rattle.ninep_wire.specs.declared.answer.Rmsg.{Rmsg}
-use Rattle.ninep_wire.specs.declared.answer.Rmsg.TheVariants as r
-use Rattle.ninep_wire.specs.Messages.{r_type, r_tag, r_fields, IsRmsg}
-use Rattle.ninep_wire.specs.Reading.{Reader, making, nothing}
-use Rattle.ninep_wire.specs.Reading.{r_version, r_auth, r_attach, r_error, r_walk, r_open, r_create, r_read, r_write, r_stat, r_at}
+use Rattle.net_base.specs.declared.ninep.Qid.{Qid}
+use Rattle.net_base.specs.declared.ninep.Rmsg.{Rmsg}
+use Rattle.net_base.specs.declared.ninep.Rmsg.TheVariants as r
+use Rattle.net_base.specs.NinepMessages.{r_type, r_tag, r_fields, IsRmsg}
+use Rattle.net_base.specs.NinepReading.{Reader, making, nothing}
+use Rattle.net_base.specs.NinepReading.{r_version, r_auth, r_attach, r_error, r_walk, r_open, r_create, r_read, r_write, r_stat, r_at}
 use Rattle.ninep_wire.proofs.Laws.{IsBytes, Takes, some_is, making_takes}
 use Rattle.ninep_wire.proofs.Layouts.{Layout, counted_bytes, file, files, long, text, followed, layout_again, chosen}
 

@@ -4,7 +4,7 @@ use Rattle.std.specs.List.{flat_map, AllByRecursion}
 use Rattle.std.proofs.lemmas.List.{length-append}
 use Rattle.std.proofs.lemmas.List.Concat.{flat_map-cons}
 use Rattle.std.proofs.lemmas.List.Elements.{All-from_recursion}
-use Rattle.ninep_wire.specs.Fields.{string, Counts}
+use Rattle.net_base.specs.NinepFields.{string, Counts}
 
 pub each_counts : (names : List (List ℕ)) → length (flat_map string names) < 2 ^ 16 → AllByRecursion (Counts 2) names
 each_counts [] h = tt

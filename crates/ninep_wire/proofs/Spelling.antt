@@ -1,9 +1,9 @@
 -- Each message has one spelling, and each spelling is one message's.
 use Rattle.std.proofs.Common.{◌≡◌, ℕ, List, sym, ap, subst, ◌∙◌}
 use Rattle.std.specs.Prelude.{◌↔◌}
-use Rattle.ninep_wire.specs.declared.request.Tmsg.{Tmsg}
-use Rattle.ninep_wire.specs.declared.answer.Rmsg.{Rmsg}
-use Rattle.ninep_wire.specs.Messages.{t_bytes, SpellsT, r_bytes, SpellsR}
+use Rattle.net_base.specs.declared.ninep.Tmsg.{Tmsg}
+use Rattle.net_base.specs.declared.ninep.Rmsg.{Rmsg}
+use Rattle.net_base.specs.NinepMessages.{t_bytes, SpellsT, r_bytes, SpellsR}
 use Rattle.ninep_wire.proofs.Laws.{some_is}
 use Rattle.ninep_wire.proofs.Whole.{t_only, r_only}
 

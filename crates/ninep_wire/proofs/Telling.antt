@@ -4,13 +4,14 @@ use Rattle.std.proofs.Common.{refl, sym, subst, ◌∙◌, arith, inl, inr}
 use Rattle.std.specs.Prelude.{IfOk, IfErr, IsErrOf}
 use Rattle.ninep_wire.specs.declared.fault.NinepError.{NinepError}
 use Rattle.ninep_wire.specs.declared.fault.NinepError.TheVariants as error
-use Rattle.ninep_wire.specs.declared.request.Tmsg.{Tmsg}
-use Rattle.ninep_wire.specs.declared.request.Tmsg.TheVariants as t
-use Rattle.ninep_wire.specs.declared.answer.Rmsg.{Rmsg}
-use Rattle.ninep_wire.specs.declared.answer.Rmsg.TheVariants as r
-use Rattle.ninep_wire.specs.Faults.{HasSize, size_field, tag_field, type_field}
-use Rattle.ninep_wire.specs.Messages.{longest, t_bytes, t_names, IsTmsg, SpellsT, r_bytes, r_qids, IsRmsg, SpellsR}
-use Rattle.ninep_wire.specs.Reading.{Gives, all_of, t_at, t_of, r_at, r_of}
+use Rattle.net_base.specs.declared.ninep.Tmsg.{Tmsg}
+use Rattle.net_base.specs.declared.ninep.Tmsg.TheVariants as t
+use Rattle.net_base.specs.declared.ninep.Rmsg.{Rmsg}
+use Rattle.net_base.specs.declared.ninep.Rmsg.TheVariants as r
+use Rattle.net_base.specs.NinepFaults.{HasSize, size_field, tag_field, type_field}
+use Rattle.net_base.specs.NinepMessages.{longest, t_bytes, t_names, IsTmsg, SpellsT, r_bytes, r_qids, IsRmsg, SpellsR}
+use Rattle.ninep_wire.specs.Reading.{Gives}
+use Rattle.net_base.specs.NinepReading.{all_of, t_at, t_of, r_at, r_of}
 use Rattle.ninep_wire.proofs.Laws.{IsBytes, some_is}
 use Rattle.ninep_wire.proofs.Whole.{t_found, t_only, r_found, r_only}
 

@@ -4,14 +4,14 @@ use Rattle.std.proofs.lemmas.Bool.{eqb-true}
 use Rattle.std.proofs.lemmas.List.{append-nil, nil_from_length, drop-drop, get_or-drop, length-drop}
 use Rattle.byteorder.specs.Endian.{little_number}
 use Rattle.byteorder.specs.Numbers.{little_number-reads_back}
-use Rattle.ninep_wire.specs.declared.request.Tmsg.{Tmsg}
-use Rattle.ninep_wire.specs.declared.request.Tmsg.TheVariants as t
-use Rattle.ninep_wire.specs.declared.answer.Rmsg.{Rmsg}
-use Rattle.ninep_wire.specs.declared.answer.Rmsg.TheVariants as r
-use Rattle.ninep_wire.specs.Faults.{HasSize, is_r_type, is_t_type, tag_field, type_field}
-use Rattle.ninep_wire.specs.Fields.{number, Holds}
-use Rattle.ninep_wire.specs.Messages.{framed, longest, t_type, t_tag, t_fields, t_bytes, IsTmsg, SpellsT, r_type, r_tag, r_fields, r_bytes, IsRmsg, SpellsR}
-use Rattle.ninep_wire.specs.Reading.{all_of, t_at, t_of, r_at, r_of}
+use Rattle.net_base.specs.declared.ninep.Tmsg.{Tmsg}
+use Rattle.net_base.specs.declared.ninep.Tmsg.TheVariants as t
+use Rattle.net_base.specs.declared.ninep.Rmsg.{Rmsg}
+use Rattle.net_base.specs.declared.ninep.Rmsg.TheVariants as r
+use Rattle.net_base.specs.NinepFaults.{HasSize, is_r_type, is_t_type, tag_field, type_field}
+use Rattle.net_base.specs.NinepFields.{number, Holds}
+use Rattle.net_base.specs.NinepMessages.{framed, longest, t_type, t_tag, t_fields, t_bytes, IsTmsg, SpellsT, r_type, r_tag, r_fields, r_bytes, IsRmsg, SpellsR}
+use Rattle.net_base.specs.NinepReading.{all_of, t_at, t_of, r_at, r_of}
 use Rattle.ninep_wire.proofs.Laws.{IsBytes, IsBytes-drop, bind_some, front_1, front_2, front_4}
 use Rattle.ninep_wire.proofs.Requests.{IsT, t_takes, t_again}
 use Rattle.ninep_wire.proofs.Responses.{IsR, r_takes, r_again}

@@ -1,4 +1,1 @@
-pub mod Fields
-pub mod Messages
 pub mod Reading
-pub mod Faults

@@ -1,11 +1,11 @@
 //! Reading the fields of a message, from left to right.
 ghost use Rattle.std.specs.Prelude.{◌≡◌, ◌<◌};
-ghost use Rattle.ninep_wire.specs.Reading.{Gives, bytes_at, counted_at, list_at, many_at, number_at, qid_at};
+ghost use Rattle.ninep_wire.specs.Reading.{Gives};
+ghost use Rattle.net_base.specs.NinepReading.{bytes_at, counted_at, list_at, many_at, number_at, qid_at};
 
 use crate::fault::NinepError;
-use crate::qid::{Qid, Qids};
 use byteorder::{ByteOrder, LittleEndian};
-use net_base::{Lines, Octets};
+use net_base::{Lines, Octets, Qid, Qids};
 use std::alloc::Global;
 
 /// No walk has more names, and no answer to one more qids.
@@ -66,7 +66,7 @@ fn taken(alloc: Global, count: usize, bytes: &[u8]) -> Result<(Octets, &[u8]), N
 }
 
 /// A text, after its length in two bytes.
-#[tactic(auto, unfolding(crate::specs::Reading::counted_at))]
+#[tactic(auto, unfolding(net_base::specs::NinepReading::counted_at))]
 pub(crate) fn string(alloc: Global, bytes: &[u8]) -> Result<(Octets, &[u8]), NinepError>
     ensures { Gives (λ x. (x.0, x.1.now)) result (counted_at 2 bytes.now) }
 {
@@ -75,7 +75,7 @@ pub(crate) fn string(alloc: Global, bytes: &[u8]) -> Result<(Octets, &[u8]), Nin
 }
 
 /// Data, after their length in four bytes.
-#[tactic(auto, unfolding(crate::specs::Reading::counted_at))]
+#[tactic(auto, unfolding(net_base::specs::NinepReading::counted_at))]
 pub(crate) fn data(alloc: Global, bytes: &[u8]) -> Result<(Octets, &[u8]), NinepError>
     ensures { Gives (λ x. (x.0, x.1.now)) result (counted_at 4 bytes.now) }
 {
@@ -84,7 +84,7 @@ pub(crate) fn data(alloc: Global, bytes: &[u8]) -> Result<(Octets, &[u8]), Ninep
 }
 
 /// A qid.
-#[tactic(auto, unfolding(crate::specs::Reading::qid_at))]
+#[tactic(auto, unfolding(net_base::specs::NinepReading::qid_at))]
 pub(crate) fn qid(bytes: &[u8]) -> Result<(Qid, &[u8]), NinepError>
     ensures { Gives (λ x. (x.0, x.1.now)) result (qid_at bytes.now) }
 {
@@ -100,7 +100,7 @@ pub(crate) fn qid(bytes: &[u8]) -> Result<(Qid, &[u8]), NinepError>
 }
 
 /// At most sixteen texts, after how many they are.
-#[tactic(auto, unfolding(crate::specs::Reading::many_at))]
+#[tactic(auto, unfolding(net_base::specs::NinepReading::many_at))]
 pub(crate) fn strings(alloc: Global, bytes: &[u8]) -> Result<(Lines, &[u8]), NinepError>
     ensures { Gives (λ x. (x.0, x.1.now)) result (many_at (counted_at 2) bytes.now) }
 {
@@ -126,7 +126,7 @@ fn strings_in(alloc: Global, count: u16, bytes: &[u8]) -> Result<(Lines, &[u8]),
 }
 
 /// At most sixteen qids, after how many they are.
-#[tactic(auto, unfolding(crate::specs::Reading::many_at))]
+#[tactic(auto, unfolding(net_base::specs::NinepReading::many_at))]
 pub(crate) fn qids(alloc: Global, bytes: &[u8]) -> Result<(Qids, &[u8]), NinepError>
     ensures { Gives (λ x. (x.0, x.1.now)) result (many_at qid_at bytes.now) }
 {

@@ -1,7 +1,7 @@
 //! The size, the type and the tag in front of a message.
 ghost use Rattle.std.specs.Prelude.{◌≡◌, ◌≢◌, ◌<◌, ◌≤◌, ◌⊎◌, ◌↔◌, length, drop, IfOk, IsErrOf};
-ghost use Rattle.ninep_wire.specs.Faults.{HasHeader, HasSize, is_r_type, is_t_type, size_field, tag_field, type_field};
-ghost use Rattle.ninep_wire.specs.Messages.{longest};
+ghost use Rattle.net_base.specs.NinepFaults.{HasHeader, HasSize, is_r_type, is_t_type, size_field, tag_field, type_field};
+ghost use Rattle.net_base.specs.NinepMessages.{longest};
 
 use crate::fault::NinepError;
 use byteorder::{ByteOrder, LittleEndian};

@@ -1,16 +1,15 @@
 //! Laws of messages and their spellings.
 ghost use Rattle.std.specs.Prelude.{◌≡◌, ◌<◌, ◌≤◌, ◌↔◌, ℕ, List, length, IfErr, IfOk};
-ghost use Rattle.ninep_wire.specs.declared.answer.Rmsg.{Rmsg};
-ghost use Rattle.ninep_wire.specs.declared.request.Tmsg.{Tmsg};
-ghost use Rattle.ninep_wire.specs.Messages.{SpellsR, SpellsT, longest, r_bytes, r_qids, t_bytes, t_names};
+ghost use Rattle.net_base.specs.declared.ninep.Rmsg.{Rmsg};
+ghost use Rattle.net_base.specs.declared.ninep.Tmsg.{Tmsg};
+ghost use Rattle.net_base.specs.NinepMessages.{SpellsR, SpellsT, longest, r_bytes, r_qids, t_bytes, t_names};
 
-use crate::answer::Rmsg;
 use crate::fault::NinepError;
 use crate::put_answer::encode_r;
 use crate::put_request::encode_t;
 use crate::read_answer::decode_r;
 use crate::read_request::decode_t;
-use crate::request::Tmsg;
+use net_base::{Rmsg, Tmsg};
 use std::alloc::Global;
 
 /// Two requests are one exactly where their spellings are, and so are two answers.

@@ -1,11 +1,10 @@
 //! Writing the fields of a message.
 ghost use Rattle.std.specs.Prelude.{◌≡◌, ◌<◌, ◌++◌, length, All, IfOk, OnOk};
-ghost use Rattle.ninep_wire.specs.Fields as spec;
-ghost use Rattle.ninep_wire.specs.Messages as messages;
+ghost use Rattle.net_base.specs.NinepFields as spec;
+ghost use Rattle.net_base.specs.NinepMessages as messages;
 
-use crate::qid::{Qid, Qids};
 use byteorder::{ByteOrder, LittleEndian};
-use net_base::{Lines, Octets};
+use net_base::{Lines, Octets, Qid, Qids};
 use std::alloc::{AllocError, Global};
 
 /// A message with this type, this tag and these fields.

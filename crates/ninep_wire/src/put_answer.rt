@@ -1,14 +1,13 @@
 //! Writing what a server answers.
 ghost use Rattle.std.specs.Prelude.{◌≡◌, ◌<◌, ◌≤◌, ◌++◌, length, IfOk, OnOk};
-ghost use Rattle.ninep_wire.specs.Messages.{SpellsR, IsRmsg, longest, r_bytes, r_fields, r_qids, r_tag, r_type};
+ghost use Rattle.net_base.specs.NinepMessages.{SpellsR, IsRmsg, longest, r_bytes, r_fields, r_qids, r_tag, r_type};
 
-use crate::answer::Rmsg;
 use crate::put::{framed, put_data, put_long, put_qid, put_qids, put_string};
-use net_base::Octets;
+use net_base::{Octets, Rmsg};
 use std::alloc::{AllocError, Global};
 
 /// The bytes of the message.
-#[tactic(auto, unfolding(crate::specs::Messages::r_bytes))]
+#[tactic(auto, unfolding(net_base::specs::NinepMessages::r_bytes))]
 pub fn encode_r(alloc: Global, message: &Rmsg) -> Result<Octets, AllocError>
     requires short { length (r_bytes message.now) ≤ longest }
     requires few { length (r_qids message.now) < 17 }

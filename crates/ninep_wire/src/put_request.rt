@@ -1,17 +1,16 @@
 //! Writing what a client asks.
 ghost use Rattle.std.specs.Prelude.{◌≡◌, ◌<◌, ◌≤◌, ◌++◌, length, IfOk, OnOk};
-ghost use Rattle.ninep_wire.specs.Fields.{Holds, number};
-ghost use Rattle.ninep_wire.specs.Messages.{SpellsT, IsTmsg, longest, t_bytes, t_fields, t_names, t_tag, t_type};
+ghost use Rattle.net_base.specs.NinepFields.{Holds, number};
+ghost use Rattle.net_base.specs.NinepMessages.{SpellsT, IsTmsg, longest, t_bytes, t_fields, t_names, t_tag, t_type};
 
 use crate::put::{
     framed, put_byte, put_data, put_long, put_string, put_strings, put_vast, put_word,
 };
-use crate::request::Tmsg;
-use net_base::Octets;
+use net_base::{Octets, Tmsg};
 use std::alloc::{AllocError, Global};
 
 /// The bytes of the message.
-#[tactic(auto, unfolding(crate::specs::Messages::t_bytes))]
+#[tactic(auto, unfolding(net_base::specs::NinepMessages::t_bytes))]
 pub fn encode_t(alloc: Global, message: &Tmsg) -> Result<Octets, AllocError>
     requires short { length (t_bytes message.now) ≤ longest }
     requires few { length (t_names message.now) < 17 }

@@ -1,14 +1,15 @@
 //! Reading what a server answers.
 ghost use Rattle.std.specs.Prelude.{◌≡◌, ◌≢◌, ◌<◌, ◌≤◌, ◌⊎◌, ◌↔◌, length, IfErr, IfOk, IsErrOf, false};
-ghost use Rattle.ninep_wire.specs.declared.answer.Rmsg.{Rmsg};
-ghost use Rattle.ninep_wire.specs.Faults.{HasHeader, HasSize, HasRType, is_r_type, size_field, type_field};
-ghost use Rattle.ninep_wire.specs.Messages.{SpellsR, longest, r_bytes, r_qids};
-ghost use Rattle.ninep_wire.specs.Reading.{Gives, all_of, r_at, r_attach, r_auth, r_create, r_error, r_open, r_read, r_stat, r_version, r_walk, r_write};
+ghost use Rattle.net_base.specs.declared.ninep.Rmsg.{Rmsg};
+ghost use Rattle.net_base.specs.NinepFaults.{HasHeader, HasSize, HasRType, is_r_type, size_field, type_field};
+ghost use Rattle.net_base.specs.NinepMessages.{SpellsR, longest, r_bytes, r_qids};
+ghost use Rattle.ninep_wire.specs.Reading.{Gives};
+ghost use Rattle.net_base.specs.NinepReading.{all_of, r_at, r_attach, r_auth, r_create, r_error, r_open, r_read, r_stat, r_version, r_walk, r_write};
 
-use crate::answer::Rmsg;
 use crate::fault::NinepError;
 use crate::fields::{data, long, qid, qids, string};
 use crate::header::{header_of, is_answer};
+use net_base::Rmsg;
 use std::alloc::Global;
 
 /// The Rmsg that the bytes spell.
@@ -44,7 +45,7 @@ fn whole(alloc: Global, kind: u8, tag: u16, bytes: &[u8]) -> Result<Rmsg, NinepE
 }
 
 // The message of a type and a tag, and the bytes behind its fields.
-#[tactic(auto, unfolding(crate::specs::Reading::r_at))]
+#[tactic(auto, unfolding(net_base::specs::NinepReading::r_at))]
 fn fields_of(alloc: Global, kind: u8, tag: u16, bytes: &[u8]) -> Result<(Rmsg, &[u8]), NinepError>
     ensures { Gives (λ x. (x.0, x.1.now)) result (r_at kind tag bytes.now) }
 {
@@ -67,7 +68,7 @@ fn fields_of(alloc: Global, kind: u8, tag: u16, bytes: &[u8]) -> Result<(Rmsg, &
     }
 }
 
-#[tactic(auto, unfolding(crate::specs::Reading::r_version))]
+#[tactic(auto, unfolding(net_base::specs::NinepReading::r_version))]
 fn version_of(alloc: Global, tag: u16, bytes: &[u8]) -> Result<(Rmsg, &[u8]), NinepError>
     ensures { Gives (λ x. (x.0, x.1.now)) result (r_version tag bytes.now) }
 {
@@ -81,7 +82,7 @@ fn version_of(alloc: Global, tag: u16, bytes: &[u8]) -> Result<(Rmsg, &[u8]), Ni
     Ok((message, rest))
 }
 
-#[tactic(auto, unfolding(crate::specs::Reading::r_auth))]
+#[tactic(auto, unfolding(net_base::specs::NinepReading::r_auth))]
 fn auth_of(tag: u16, bytes: &[u8]) -> Result<(Rmsg, &[u8]), NinepError>
     ensures { Gives (λ x. (x.0, x.1.now)) result (r_auth tag bytes.now) }
 {
@@ -90,7 +91,7 @@ fn auth_of(tag: u16, bytes: &[u8]) -> Result<(Rmsg, &[u8]), NinepError>
     Ok((message, rest))
 }
 
-#[tactic(auto, unfolding(crate::specs::Reading::r_attach))]
+#[tactic(auto, unfolding(net_base::specs::NinepReading::r_attach))]
 fn attach_of(tag: u16, bytes: &[u8]) -> Result<(Rmsg, &[u8]), NinepError>
     ensures { Gives (λ x. (x.0, x.1.now)) result (r_attach tag bytes.now) }
 {
@@ -99,7 +100,7 @@ fn attach_of(tag: u16, bytes: &[u8]) -> Result<(Rmsg, &[u8]), NinepError>
     Ok((message, rest))
 }
 
-#[tactic(auto, unfolding(crate::specs::Reading::r_error))]
+#[tactic(auto, unfolding(net_base::specs::NinepReading::r_error))]
 fn error_of(alloc: Global, tag: u16, bytes: &[u8]) -> Result<(Rmsg, &[u8]), NinepError>
     ensures { Gives (λ x. (x.0, x.1.now)) result (r_error tag bytes.now) }
 {
@@ -108,7 +109,7 @@ fn error_of(alloc: Global, tag: u16, bytes: &[u8]) -> Result<(Rmsg, &[u8]), Nine
     Ok((message, rest))
 }
 
-#[tactic(auto, unfolding(crate::specs::Reading::r_walk))]
+#[tactic(auto, unfolding(net_base::specs::NinepReading::r_walk))]
 fn walk_of(alloc: Global, tag: u16, bytes: &[u8]) -> Result<(Rmsg, &[u8]), NinepError>
     ensures { Gives (λ x. (x.0, x.1.now)) result (r_walk tag bytes.now) }
 {
@@ -117,7 +118,7 @@ fn walk_of(alloc: Global, tag: u16, bytes: &[u8]) -> Result<(Rmsg, &[u8]), Ninep
     Ok((message, rest))
 }
 
-#[tactic(auto, unfolding(crate::specs::Reading::r_open))]
+#[tactic(auto, unfolding(net_base::specs::NinepReading::r_open))]
 fn open_of(tag: u16, bytes: &[u8]) -> Result<(Rmsg, &[u8]), NinepError>
     ensures { Gives (λ x. (x.0, x.1.now)) result (r_open tag bytes.now) }
 {
@@ -127,7 +128,7 @@ fn open_of(tag: u16, bytes: &[u8]) -> Result<(Rmsg, &[u8]), NinepError>
     Ok((message, rest))
 }
 
-#[tactic(auto, unfolding(crate::specs::Reading::r_create))]
+#[tactic(auto, unfolding(net_base::specs::NinepReading::r_create))]
 fn create_of(tag: u16, bytes: &[u8]) -> Result<(Rmsg, &[u8]), NinepError>
     ensures { Gives (λ x. (x.0, x.1.now)) result (r_create tag bytes.now) }
 {
@@ -137,7 +138,7 @@ fn create_of(tag: u16, bytes: &[u8]) -> Result<(Rmsg, &[u8]), NinepError>
     Ok((message, rest))
 }
 
-#[tactic(auto, unfolding(crate::specs::Reading::r_read))]
+#[tactic(auto, unfolding(net_base::specs::NinepReading::r_read))]
 fn read_of(alloc: Global, tag: u16, bytes: &[u8]) -> Result<(Rmsg, &[u8]), NinepError>
     ensures { Gives (λ x. (x.0, x.1.now)) result (r_read tag bytes.now) }
 {
@@ -146,7 +147,7 @@ fn read_of(alloc: Global, tag: u16, bytes: &[u8]) -> Result<(Rmsg, &[u8]), Ninep
     Ok((message, rest))
 }
 
-#[tactic(auto, unfolding(crate::specs::Reading::r_write))]
+#[tactic(auto, unfolding(net_base::specs::NinepReading::r_write))]
 fn write_of(tag: u16, bytes: &[u8]) -> Result<(Rmsg, &[u8]), NinepError>
     ensures { Gives (λ x. (x.0, x.1.now)) result (r_write tag bytes.now) }
 {
@@ -155,7 +156,7 @@ fn write_of(tag: u16, bytes: &[u8]) -> Result<(Rmsg, &[u8]), NinepError>
     Ok((message, rest))
 }
 
-#[tactic(auto, unfolding(crate::specs::Reading::r_stat))]
+#[tactic(auto, unfolding(net_base::specs::NinepReading::r_stat))]
 fn stat_of(alloc: Global, tag: u16, bytes: &[u8]) -> Result<(Rmsg, &[u8]), NinepError>
     ensures { Gives (λ x. (x.0, x.1.now)) result (r_stat tag bytes.now) }
 {

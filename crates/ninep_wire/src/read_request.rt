@@ -1,15 +1,16 @@
 //! Reading what a client asks.
 ghost use Rattle.std.specs.Prelude.{◌≡◌, ◌≢◌, ◌<◌, ◌≤◌, ◌⊎◌, ◌↔◌, length, IfErr, IfOk, IsErrOf, false};
-ghost use Rattle.ninep_wire.specs.declared.request.Tmsg.{Tmsg};
-ghost use Rattle.ninep_wire.specs.Faults.{HasHeader, HasSize, HasTType, is_t_type, size_field, type_field};
-ghost use Rattle.ninep_wire.specs.Messages.{SpellsT, longest, t_bytes, t_names};
-ghost use Rattle.ninep_wire.specs.Reading.{Gives, all_of, t_at};
-ghost use Rattle.ninep_wire.specs.Reading.{t_attach, t_auth, t_clunk, t_create, t_flush, t_open, t_read, t_remove, t_stat, t_version, t_walk, t_write, t_wstat};
+ghost use Rattle.net_base.specs.declared.ninep.Tmsg.{Tmsg};
+ghost use Rattle.net_base.specs.NinepFaults.{HasHeader, HasSize, HasTType, is_t_type, size_field, type_field};
+ghost use Rattle.net_base.specs.NinepMessages.{SpellsT, longest, t_bytes, t_names};
+ghost use Rattle.ninep_wire.specs.Reading.{Gives};
+ghost use Rattle.net_base.specs.NinepReading.{all_of, t_at};
+ghost use Rattle.net_base.specs.NinepReading.{t_attach, t_auth, t_clunk, t_create, t_flush, t_open, t_read, t_remove, t_stat, t_version, t_walk, t_write, t_wstat};
 
 use crate::fault::NinepError;
 use crate::fields::{byte, data, long, string, strings, vast, word};
 use crate::header::{header_of, is_request};
-use crate::request::Tmsg;
+use net_base::Tmsg;
 use std::alloc::Global;
 
 /// The Tmsg that the bytes spell.
@@ -45,7 +46,7 @@ fn whole(alloc: Global, kind: u8, tag: u16, bytes: &[u8]) -> Result<Tmsg, NinepE
 }
 
 // The message of a type and a tag, and the bytes behind its fields.
-#[tactic(auto, unfolding(crate::specs::Reading::t_at))]
+#[tactic(auto, unfolding(net_base::specs::NinepReading::t_at))]
 fn fields_of(alloc: Global, kind: u8, tag: u16, bytes: &[u8]) -> Result<(Tmsg, &[u8]), NinepError>
     ensures { Gives (λ x. (x.0, x.1.now)) result (t_at kind tag bytes.now) }
 {
@@ -67,7 +68,7 @@ fn fields_of(alloc: Global, kind: u8, tag: u16, bytes: &[u8]) -> Result<(Tmsg, &
     }
 }
 
-#[tactic(auto, unfolding(crate::specs::Reading::t_version))]
+#[tactic(auto, unfolding(net_base::specs::NinepReading::t_version))]
 fn version_of(alloc: Global, tag: u16, bytes: &[u8]) -> Result<(Tmsg, &[u8]), NinepError>
     ensures { Gives (λ x. (x.0, x.1.now)) result (t_version tag bytes.now) }
 {
@@ -81,7 +82,7 @@ fn version_of(alloc: Global, tag: u16, bytes: &[u8]) -> Result<(Tmsg, &[u8]), Ni
     Ok((message, rest))
 }
 
-#[tactic(auto, unfolding(crate::specs::Reading::t_auth))]
+#[tactic(auto, unfolding(net_base::specs::NinepReading::t_auth))]
 fn auth_of(alloc: Global, tag: u16, bytes: &[u8]) -> Result<(Tmsg, &[u8]), NinepError>
     ensures { Gives (λ x. (x.0, x.1.now)) result (t_auth tag bytes.now) }
 {
@@ -97,7 +98,7 @@ fn auth_of(alloc: Global, tag: u16, bytes: &[u8]) -> Result<(Tmsg, &[u8]), Ninep
     Ok((message, rest))
 }
 
-#[tactic(auto, unfolding(crate::specs::Reading::t_attach))]
+#[tactic(auto, unfolding(net_base::specs::NinepReading::t_attach))]
 fn attach_of(alloc: Global, tag: u16, bytes: &[u8]) -> Result<(Tmsg, &[u8]), NinepError>
     ensures { Gives (λ x. (x.0, x.1.now)) result (t_attach tag bytes.now) }
 {
@@ -115,7 +116,7 @@ fn attach_of(alloc: Global, tag: u16, bytes: &[u8]) -> Result<(Tmsg, &[u8]), Nin
     Ok((message, rest))
 }
 
-#[tactic(auto, unfolding(crate::specs::Reading::t_flush))]
+#[tactic(auto, unfolding(net_base::specs::NinepReading::t_flush))]
 fn flush_of(tag: u16, bytes: &[u8]) -> Result<(Tmsg, &[u8]), NinepError>
     ensures { Gives (λ x. (x.0, x.1.now)) result (t_flush tag bytes.now) }
 {
@@ -124,7 +125,7 @@ fn flush_of(tag: u16, bytes: &[u8]) -> Result<(Tmsg, &[u8]), NinepError>
     Ok((message, rest))
 }
 
-#[tactic(auto, unfolding(crate::specs::Reading::t_walk))]
+#[tactic(auto, unfolding(net_base::specs::NinepReading::t_walk))]
 fn walk_of(alloc: Global, tag: u16, bytes: &[u8]) -> Result<(Tmsg, &[u8]), NinepError>
     ensures { Gives (λ x. (x.0, x.1.now)) result (t_walk tag bytes.now) }
 {
@@ -140,7 +141,7 @@ fn walk_of(alloc: Global, tag: u16, bytes: &[u8]) -> Result<(Tmsg, &[u8]), Ninep
     Ok((message, rest))
 }
 
-#[tactic(auto, unfolding(crate::specs::Reading::t_open))]
+#[tactic(auto, unfolding(net_base::specs::NinepReading::t_open))]
 fn open_of(tag: u16, bytes: &[u8]) -> Result<(Tmsg, &[u8]), NinepError>
     ensures { Gives (λ x. (x.0, x.1.now)) result (t_open tag bytes.now) }
 {
@@ -150,7 +151,7 @@ fn open_of(tag: u16, bytes: &[u8]) -> Result<(Tmsg, &[u8]), NinepError>
     Ok((message, rest))
 }
 
-#[tactic(auto, unfolding(crate::specs::Reading::t_create))]
+#[tactic(auto, unfolding(net_base::specs::NinepReading::t_create))]
 fn create_of(alloc: Global, tag: u16, bytes: &[u8]) -> Result<(Tmsg, &[u8]), NinepError>
     ensures { Gives (λ x. (x.0, x.1.now)) result (t_create tag bytes.now) }
 {
@@ -168,7 +169,7 @@ fn create_of(alloc: Global, tag: u16, bytes: &[u8]) -> Result<(Tmsg, &[u8]), Nin
     Ok((message, rest))
 }
 
-#[tactic(auto, unfolding(crate::specs::Reading::t_read))]
+#[tactic(auto, unfolding(net_base::specs::NinepReading::t_read))]
 fn read_of(tag: u16, bytes: &[u8]) -> Result<(Tmsg, &[u8]), NinepError>
     ensures { Gives (λ x. (x.0, x.1.now)) result (t_read tag bytes.now) }
 {
@@ -184,7 +185,7 @@ fn read_of(tag: u16, bytes: &[u8]) -> Result<(Tmsg, &[u8]), NinepError>
     Ok((message, rest))
 }
 
-#[tactic(auto, unfolding(crate::specs::Reading::t_write))]
+#[tactic(auto, unfolding(net_base::specs::NinepReading::t_write))]
 fn write_of(alloc: Global, tag: u16, bytes: &[u8]) -> Result<(Tmsg, &[u8]), NinepError>
     ensures { Gives (λ x. (x.0, x.1.now)) result (t_write tag bytes.now) }
 {
@@ -200,7 +201,7 @@ fn write_of(alloc: Global, tag: u16, bytes: &[u8]) -> Result<(Tmsg, &[u8]), Nine
     Ok((message, rest))
 }
 
-#[tactic(auto, unfolding(crate::specs::Reading::t_clunk))]
+#[tactic(auto, unfolding(net_base::specs::NinepReading::t_clunk))]
 fn clunk_of(tag: u16, bytes: &[u8]) -> Result<(Tmsg, &[u8]), NinepError>
     ensures { Gives (λ x. (x.0, x.1.now)) result (t_clunk tag bytes.now) }
 {
@@ -209,7 +210,7 @@ fn clunk_of(tag: u16, bytes: &[u8]) -> Result<(Tmsg, &[u8]), NinepError>
     Ok((message, rest))
 }
 
-#[tactic(auto, unfolding(crate::specs::Reading::t_remove))]
+#[tactic(auto, unfolding(net_base::specs::NinepReading::t_remove))]
 fn remove_of(tag: u16, bytes: &[u8]) -> Result<(Tmsg, &[u8]), NinepError>
     ensures { Gives (λ x. (x.0, x.1.now)) result (t_remove tag bytes.now) }
 {
@@ -218,7 +219,7 @@ fn remove_of(tag: u16, bytes: &[u8]) -> Result<(Tmsg, &[u8]), NinepError>
     Ok((message, rest))
 }
 
-#[tactic(auto, unfolding(crate::specs::Reading::t_stat))]
+#[tactic(auto, unfolding(net_base::specs::NinepReading::t_stat))]
 fn stat_of(tag: u16, bytes: &[u8]) -> Result<(Tmsg, &[u8]), NinepError>
     ensures { Gives (λ x. (x.0, x.1.now)) result (t_stat tag bytes.now) }
 {
@@ -227,7 +228,7 @@ fn stat_of(tag: u16, bytes: &[u8]) -> Result<(Tmsg, &[u8]), NinepError>
     Ok((message, rest))
 }
 
-#[tactic(auto, unfolding(crate::specs::Reading::t_wstat))]
+#[tactic(auto, unfolding(net_base::specs::NinepReading::t_wstat))]
 fn wstat_of(alloc: Global, tag: u16, bytes: &[u8]) -> Result<(Tmsg, &[u8]), NinepError>
     ensures { Gives (λ x. (x.0, x.1.now)) result (t_wstat tag bytes.now) }
 {

@@ -16,7 +16,8 @@ use Rattle.net_base.specs.Legal.{IsAsked, IsNext, asked_by, cites_of}
 use Rattle.net_base.specs.Net.{after, owed, with_of}
 use Rattle.net_base.specs.Next.{by, finished_by, next, next_of, own_replies, zone_of}
 use Rattle.net_base.specs.Versions.{Tuples}
-use Rattle.net_base.specs.Steps.{Ask, position, no_names}
+use Rattle.net_base.specs.Scripts.{at_first, position}
+use Rattle.net_base.specs.Steps.{Ask}
 use Rattle.script_player.specs.Players.{IsAt, Playing, next_after}
 use Rattle.script_task.specs.Fitting.{fits}
 use Rattle.plain_runner.specs.declared.caller.Caller.{Caller}
@@ -43,7 +44,7 @@ next_of_clock w h c is = ap (λ (k : Called). next_of w k h c) is
 
 -- it goes by the replies to its own events
 next_alike : (w : World) (k : Called) (h later : List Entry) (c : ℕ) → own_replies later c ≡ own_replies h c → next_of w k later c ≡ next_of w k h c
-next_alike w (IsScript s) h later c same = ap (λ (rs : List Reply). (position s.host s.steps (no_names (zone_of w)) rs).next) same
+next_alike w (IsScript s) h later c same = ap (λ (rs : List Reply). (position s.host s.steps (at_first (zone_of w)) rs).next) same
 next_alike w (IsCourier m) h later c same = refl
 next_alike w IsClock h later c same = refl
 next_alike w IsNobody h later c same = refl

@@ -21,10 +21,13 @@ use Rattle.net_base.specs.Duties.{Duty}
 use Rattle.net_base.specs.Legal.{IsAsked, IsInTime, IsNext, asked_by}
 use Rattle.net_base.specs.Net.{Net, after, moment, owed, with_of}
 use Rattle.net_base.specs.Next.{by, next, next_of, own_replies, zone_of}
-use Rattle.net_base.specs.Steps.{Ask, Names, call_names, no_names, clone_path, lines_in, position}
+use Rattle.net_base.specs.Scripts.{at_first, position}
+use Rattle.net_base.specs.Steps.{Ask, call_names, clone_path, lines_in}
+use Rattle.net_base.specs.Versions.{Tuples}
 use Rattle.history_laws.proofs.Ordered.{Each, each_any}
 use Rattle.history_laws.proofs.Owed.{past_after}
-use Rattle.history_laws.proofs.StepEvents.{Fits, IsNextEvent, IsNamed, IsOpened, IsOwn, Says, next_event}
+use Rattle.history_laws.proofs.CallEvents.{next_event}
+use Rattle.history_laws.proofs.StepEvents.{Fits, IsNextEvent, IsNamed, IsOpened, IsOwn, Says}
 use Rattle.progress_law.proofs.Always.{steady_after}
 use Rattle.progress_law.proofs.Duties.{IsKind, OfKind}
 use Rattle.plain_runner.specs.Recording.{IsHistory}
@@ -74,16 +77,19 @@ says_still h (step.Accept called from) = ((tt, tt), (tt, tt))
 says_still h (step.Hread called count) = ((tt, tt), each_any (λ (called : List ℕ). IsNamed h (IsStillAt) called) (λ called. (tt, tt)) call_names)
 says_still h (step.Hwrite called bytes) = ((tt, tt), each_any (λ (called : List ℕ). IsNamed h (IsStillAt) called) (λ called. (tt, tt)) call_names)
 says_still h (step.Dns called times) = ((tt, tt), each_any (λ (called : List ℕ). IsNamed h (IsStillAt) called) (λ called. (tt, tt)) call_names)
+-- imports
+says_still h (step.Export called) = ((tt, tt), record { named = λ n. (tt, tt); opened = λ at a m. tt })
+says_still h (step.Ropen called call path m) = ((tt, tt), (tt, tt))
 says_still h _ = (tt, tt)
 
-position_still : (h : ℕ) (steps : List Step) (names : Names) (rs : List Reply) → IsNextEvent IsStillAt (position h steps names rs).next
-position_still h steps names rs =
-    next_event h IsStillAt (λ (r : Reply). Unit {0}) fits_still steps names rs
+position_still : (h : ℕ) (steps : List Step) (zone : Tuples) (rs : List Reply) → IsNextEvent IsStillAt (position h steps (at_first zone) rs).next
+position_still h steps zone rs =
+    next_event h IsStillAt (λ (r : Reply). Unit {0}) fits_still steps (at_first zone) rs tt
     (each_any (λ (s : Step). Says h IsStillAt s) (says_still h) steps)
     (each_any (λ (r : Reply). Unit {0}) (λ r. tt) rs)
 
 pub next_still : (w : World) (k : Caller) (h : List Entry) (c : ℕ) (ask : Ask) → next_of w k h c ≡ Some ask → IsStill ask.event
-next_still w (IsScript s) h c ask is = subst (IsNextEvent IsStillAt) is (position_still s.host s.steps (no_names (zone_of w)) (own_replies h c))
+next_still w (IsScript s) h c ask is = subst (IsNextEvent IsStillAt) is (position_still s.host s.steps (zone_of w) (own_replies h c))
 next_still w (IsCourier m) h c ask is = subst (IsNextEvent IsStillAt) is tt
 next_still w IsClock h c ask is = absurd (none-some ask is)
 next_still w IsNobody h c ask is = absurd (none-some ask is)

@@ -31,7 +31,7 @@ use Rattle.net_base.specs.Medium.{medium_step}
 use Rattle.net_base.specs.Net.{Net, opening_net, net_after, after, step_of, work_of, with_of, moment_after}
 use Rattle.net_base.specs.Next.{next_of, own_replies, zone_of}
 use Rattle.net_base.specs.Stamped.{In, same_actor}
-use Rattle.net_base.specs.Steps.{Ask, no_names}
+use Rattle.net_base.specs.Steps.{Ask}
 use Rattle.net_base.specs.World.{IsWorld, is_script, is_step}
 use Rattle.prefix_law.proofs.ConvWaits.{TimedActor, actor_later, IsConvName, tick_later, timed_opening}
 use Rattle.prefix_law.proofs.Deeds.{both_ways}
@@ -415,7 +415,7 @@ module _ (w : World) (net : Net) (world : IsWorld w) (rests : Rests w net) (is_c
       let waits = all_in (λ (k : ℕ). not (can_go_on w net k)) (range_with_len 0 (length w.scripts)) c all_wait (in_range 0 (length w.scripts) c (omega arith) (omega (arith, slice_get_within w.scripts c s is))) in
       let waits_so : not (is_ready w net (next_of w (IsScript s) net.past c)) ≡ true =
       subst (λ (o : Option Script). not (is_ready w net (next_of w (option_map_or (λ (t : Script). IsScript t) o (other_caller w c)) net.past c)) ≡ true) is waits in
-      by_ask s.host (next_of w (IsScript s) net.past c) lt (fine_position s.host s.steps (no_names (zone_of w)) (own_replies net.past c)) (not_is (is_ready w net (next_of w (IsScript s) net.past c)) waits_so)
+      by_ask s.host (next_of w (IsScript s) net.past c) lt (fine_position s.host s.steps (zone_of w) (own_replies net.past c)) (not_is (is_ready w net (next_of w (IsScript s) net.past c)) waits_so)
 
   -- the clock's target is beyond the moment, where the end is
   rises : net.moment < w.end → net.moment < target w net

@@ -7,9 +7,12 @@ use Rattle.net_base.specs.declared.event.Event.TheVariants as event
 use Rattle.net_base.specs.declared.reply.Reply.{Reply}
 use Rattle.net_base.specs.declared.world.Step.{Step}
 use Rattle.net_base.specs.declared.world.Step.TheVariants as step
-use Rattle.net_base.specs.Steps.{Names, call_names, clone_path, lines_in, Ask, position}
+use Rattle.net_base.specs.Scripts.{at_first, position}
+use Rattle.net_base.specs.Steps.{call_names, clone_path, lines_in, Ask}
+use Rattle.net_base.specs.Versions.{Tuples}
 use Rattle.history_laws.proofs.Ordered.{each_any}
-use Rattle.history_laws.proofs.StepEvents.{IsOther, own_other, IsNamed, IsOpened, Fits, Says, IsNextEvent, next_event}
+use Rattle.history_laws.proofs.CallEvents.{next_event}
+use Rattle.history_laws.proofs.StepEvents.{IsOther, own_other, IsNamed, IsOpened, Fits, Says, IsNextEvent}
 
 -- a wait for a moment is recorded at the host's desk
 abbrev pub UntilAt : ℕ → ActorName → Event → Type 0
@@ -41,11 +44,14 @@ says_until h (step.Accept called from) = ((tt, tt), (tt, tt))
 says_until h (step.Hread called count) = ((tt, tt), each_any (λ (called : List ℕ). IsNamed h (UntilAt h) called) (λ called. (tt, tt)) call_names)
 says_until h (step.Hwrite called bytes) = ((tt, tt), each_any (λ (called : List ℕ). IsNamed h (UntilAt h) called) (λ called. (tt, tt)) call_names)
 says_until h (step.Dns called times) = ((tt, tt), each_any (λ (called : List ℕ). IsNamed h (UntilAt h) called) (λ called. (tt, tt)) call_names)
+-- imports
+says_until h (step.Export called) = ((tt, tt), record { named = λ n. (tt, tt); opened = λ at a m. tt })
+says_until h (step.Ropen called call path m) = ((tt, tt), (tt, tt))
 says_until h _ = (tt, tt)
 
 -- what a script records next
-pub fine_position : (h : ℕ) (steps : List Step) (names : Names) (rs : List Reply) → FineNext h (position h steps names rs).next
-fine_position h steps names rs =
-    next_event h (UntilAt h) (λ (r : Reply). Unit {0}) (fits_until h) steps names rs
+pub fine_position : (h : ℕ) (steps : List Step) (zone : Tuples) (rs : List Reply) → FineNext h (position h steps (at_first zone) rs).next
+fine_position h steps zone rs =
+    next_event h (UntilAt h) (λ (r : Reply). Unit {0}) (fits_until h) steps (at_first zone) rs tt
     (each_any (λ (s : Step). Says h (UntilAt h) s) (says_until h) steps)
     (each_any (λ (r : Reply). Unit {0}) (λ r. tt) rs)

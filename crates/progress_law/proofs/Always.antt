@@ -1,41 +1,41 @@
 -- After each legal history what is owed is as it should be.
-use Rattle.std.proofs.Common.{◌≡◌, ℕ, zero, suc, ◌+◌, ◌<◌, ◌≤◌, nat_lt, Bool, true, false, List, [], ◌∷◌, ◌++◌, length, Option, Some, None, slice_get, replicate, inl, inr, refl, sym, ap, subst, ◌∙◌, arith, length-append}
+use Rattle.std.proofs.Common.{◌≡◌, ℕ, zero, suc, ◌<◌, nat_lt, true, false, List, [], ◌∷◌, ◌++◌, length, Option, Some, None, slice_get, replicate, refl, sym, ap, subst, ◌∙◌, arith, length-append}
 use Rattle.std.specs.Prelude.{IsSome}
 use Rattle.std.proofs.lemmas.List.{length-replicate}
 use Rattle.std.specs.Option.{option_map}
-use Rattle.std.proofs.lemmas.Bool.{true≢false, false≢true, ltb-true}
+use Rattle.std.proofs.lemmas.Bool.{false≢true, ltb-true}
 use Rattle.std.proofs.lemmas.Option.{none-some, same_Some}
 use Rattle.net_base.specs.declared.actor.ActorName.{ActorName}
 use Rattle.net_base.specs.declared.actor.ActorName.TheVariants as name
-use Rattle.net_base.specs.declared.address.Proto.{Proto}
 use Rattle.net_base.specs.declared.address.Proto.TheVariants as proto
 use Rattle.net_base.specs.declared.event.Event.{Event}
 use Rattle.net_base.specs.declared.event.Event.TheVariants as event
 use Rattle.net_base.specs.declared.history.Entry.{Entry}
-use Rattle.net_base.specs.declared.history.With.TheVariants as given
 use Rattle.net_base.specs.declared.reply.Reply.{Reply}
-use Rattle.net_base.specs.declared.world.Script.{Script}
 use Rattle.net_base.specs.declared.world.Step.{Step as ScriptStep}
 use Rattle.net_base.specs.declared.world.Step.TheVariants as step
 use Rattle.net_base.specs.declared.world.World.{World}
 use Rattle.net_base.specs.ActorStep.{Step}
-use Rattle.net_base.specs.Actors.{Actor, actor_step, opening_actor, opening_core, slot_count}
+use Rattle.net_base.specs.Actors.{Actor, actor_step, opening_actor, slot_count}
 use Rattle.net_base.specs.Callers.{Caller, IsScript, IsCourier, IsClock, IsNobody, caller_of, caller_count}
 use Rattle.net_base.specs.Calm.{owes}
 use Rattle.net_base.specs.Directory.{Slot, free_slot}
 use Rattle.net_base.specs.Duties.{Duty}
 use Rattle.net_base.specs.Legal.{IsAsked, IsLegal, IsNext, MayFollow, asked_by}
-use Rattle.net_base.specs.Net.{Net, after, net_after, next_net, opening_net, owed, step_of, with_of}
+use Rattle.net_base.specs.Net.{after, net_after, opening_net, owed, step_of, with_of}
 use Rattle.net_base.specs.Next.{next, next_of, own_replies, zone_of}
-use Rattle.net_base.specs.Steps.{Ask, Names, Position, call_names, no_names, clone_path, lines_in, position}
+use Rattle.net_base.specs.Scripts.{at_first, position}
+use Rattle.net_base.specs.Steps.{Ask, call_names, clone_path, lines_in}
+use Rattle.net_base.specs.Versions.{Tuples}
 use Rattle.net_base.specs.World.{IsWorld}
 use Rattle.history_laws.proofs.Histories.{after_push, by_entries}
 use Rattle.history_laws.proofs.Ordered.{Each, each_any}
-use Rattle.history_laws.proofs.StepEvents.{Fits, IsNextEvent, IsNamed, IsOpened, IsOwn, Says, next_event}
-use Rattle.progress_law.proofs.Duties.{Steady, AreSlots, IsActorOf, IsCallIn, bears, generation_in, same_core, given_last}
-use Rattle.progress_law.proofs.Entries.{Recorded, changes}
+use Rattle.history_laws.proofs.CallEvents.{next_event}
+use Rattle.history_laws.proofs.StepEvents.{Fits, IsNextEvent, IsNamed, IsOpened, IsOwn, Says}
+use Rattle.progress_law.proofs.Duties.{Steady, IsActorOf, IsCallIn, bears, generation_in}
+use Rattle.progress_law.proofs.Entries.{changes}
 use Rattle.progress_law.proofs.Keeping.{steady_on}
-use Rattle.progress_law.proofs.Least.{IsReadyDuty, some_ready}
+use Rattle.progress_law.proofs.Least.{some_ready}
 
 -- No script records a birth.
 
@@ -65,16 +65,19 @@ says_silent h (step.Accept called from) = ((refl, refl), (refl, refl))
 says_silent h (step.Hread called count) = ((refl, refl), each_any (λ (called : List ℕ). IsNamed h (Silent) called) (λ called. (refl, refl)) call_names)
 says_silent h (step.Hwrite called bytes) = ((refl, refl), each_any (λ (called : List ℕ). IsNamed h (Silent) called) (λ called. (refl, refl)) call_names)
 says_silent h (step.Dns called times) = ((refl, refl), each_any (λ (called : List ℕ). IsNamed h (Silent) called) (λ called. (refl, refl)) call_names)
+-- imports
+says_silent h (step.Export called) = ((refl, refl), record { named = λ n. (refl, refl); opened = λ at a m. refl })
+says_silent h (step.Ropen called call path m) = ((refl, refl), (refl, refl))
 says_silent h _ = (refl, refl)
 
-silent_position : (h : ℕ) (steps : List ScriptStep) (names : Names) (rs : List Reply) → IsNextEvent Silent (position h steps names rs).next
-silent_position h steps names rs =
-    next_event h Silent (λ (r : Reply). Unit {0}) fits_silent steps names rs
+silent_position : (h : ℕ) (steps : List ScriptStep) (zone : Tuples) (rs : List Reply) → IsNextEvent Silent (position h steps (at_first zone) rs).next
+silent_position h steps zone rs =
+    next_event h Silent (λ (r : Reply). Unit {0}) fits_silent steps (at_first zone) rs tt
     (each_any (λ (s : ScriptStep). Says h Silent s) (says_silent h) steps)
     (each_any (λ (r : Reply). Unit {0}) (λ r. tt) rs)
 
 silent_next : (w : World) (k : Caller) (h : List Entry) (c : ℕ) (x : Entry) → IsNext k (next_of w k h c) x → bears x.event ≡ false
-silent_next w (IsScript s) h c x is = by (position s.host s.steps (no_names (zone_of w)) (own_replies h c)).next (silent_position s.host s.steps (no_names (zone_of w)) (own_replies h c)) is
+silent_next w (IsScript s) h c x is = by (position s.host s.steps (at_first (zone_of w)) (own_replies h c)).next (silent_position s.host s.steps (zone_of w) (own_replies h c)) is
   where
     by : (o : Option Ask) → IsNextEvent Silent o → o ≡ Some (asked_by x) → bears x.event ≡ false
     by None fine is = absurd (none-some _ is)

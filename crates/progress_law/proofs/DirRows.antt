@@ -1,12 +1,10 @@
 -- What a directory's step leaves of its slots, and what its reply owes.
-use Rattle.std.proofs.Common.{◌≡◌, ℕ, zero, suc, ◌+◌, ◌-◌, ◌<◌, ◌≤◌, ◌==◌, ◌&&◌, ◌⊎◌, nat_lt, min, Bool, true, false, not, List, [], ◌∷◌, ◌++◌, length, Option, Some, None, is_none, slice_get, slice_set, inl, inr, refl, sym, ap, subst, ◌∙◌, arith}
-use Rattle.std.specs.Prelude.{if◌then◌else◌, nat_le, unwrap_or}
-use Rattle.std.specs.Option.{option_map_or, option_and_then}
-use Rattle.std.proofs.lemmas.Bool.{eqb-true, and_parts, true≢false, lt-ltb}
+use Rattle.std.proofs.Common.{◌≡◌, ℕ, ◌+◌, ◌-◌, ◌<◌, ◌≤◌, ◌==◌, ◌⊎◌, min, Bool, true, false, List, [], ◌∷◌, ◌++◌, Option, Some, None, slice_get, slice_set, inl, inr, refl, sym, ap, subst, ◌∙◌, arith}
+use Rattle.std.specs.Prelude.{if◌then◌else◌, unwrap_or}
+use Rattle.std.proofs.lemmas.Bool.{eqb-true, and_parts, true≢false}
 use Rattle.std.proofs.lemmas.Bool.Decides.{eqb_tells}
-use Rattle.std.proofs.lemmas.Option.{none-some, same_Some, slice_get_within}
+use Rattle.std.proofs.lemmas.Option.{same_Some, slice_get_within}
 use Rattle.net_base.specs.declared.timer.Timers.TheVariants.{Fixed}
-use Rattle.net_base.specs.declared.actor.ActorName.{ActorName}
 use Rattle.net_base.specs.declared.actor.ActorName.TheVariants as name
 use Rattle.net_base.specs.declared.actor.Call.{Call}
 use Rattle.net_base.specs.declared.address.Addr.{Addr}
@@ -37,7 +35,7 @@ use Rattle.net_base.specs.Routes.{Way, way}
 use Rattle.net_base.specs.Same.{same_addr}
 use Rattle.history_laws.proofs.Ordered.{Each, each_append}
 use Rattle.history_laws.proofs.Takers.{TakerFound, slot_found, taker_found}
-use Rattle.progress_law.proofs.Duties.{AreSlots, IsCallIn, IsConvKind, IsBirth, bears, named, generation_in, slot_generation}
+use Rattle.progress_law.proofs.Duties.{AreSlots, IsCallIn, IsConvKind, IsBirth, bears, named, generation_in}
 use Rattle.progress_law.proofs.Slots.{Rise, calls_stay, rises, sets, set_generation, other_generation, get_set_other}
 
 -- starts and limits of a directory are such that a conversation may connect

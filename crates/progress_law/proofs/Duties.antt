@@ -1,5 +1,5 @@
 -- What is kept of duties: each is of kind, cites rise in a queue, and the birth of each generation that a conversation still lacks is owed.
-use Rattle.std.specs.Prelude.{◌≡◌, ℕ, ◌+◌, ◌<◌, ◌≤◌, ◌⊎◌, Bool, true, false, ◌&&◌, List, [], ◌∷◌, length, Option, Some, None, slice_get, nat_lt, nat_le}
+use Rattle.std.specs.Prelude.{◌≡◌, ℕ, ◌<◌, ◌≤◌, Bool, true, false, List, [], length, Option, Some, None, slice_get}
 use Rattle.net_base.specs.declared.timer.Timers.TheVariants.{Fixed}
 use Rattle.net_base.specs.declared.actor.ActorName.{ActorName}
 use Rattle.net_base.specs.declared.actor.ActorName.TheVariants as name
@@ -11,13 +11,11 @@ use Rattle.net_base.specs.declared.event.Event.TheVariants as event
 use Rattle.net_base.specs.declared.history.Taken.{Taken}
 use Rattle.net_base.specs.declared.history.With.{With}
 use Rattle.net_base.specs.declared.history.With.TheVariants as given
-use Rattle.net_base.specs.declared.packet.Body.{Body}
-use Rattle.net_base.specs.declared.packet.Packet.{Packet}
 use Rattle.net_base.specs.declared.world.World.{World}
 use Rattle.net_base.specs.Actors.{Actor, IsDir, IsConv, IsMedium, slot_count, opening_core}
 use Rattle.net_base.specs.Callers.{caller_count}
-use Rattle.net_base.specs.Conversation.{Conv, Core, Il, Udp, may_bear, may_connect, has_protocol}
-use Rattle.net_base.specs.Directory.{Dir, Slot, is_of}
+use Rattle.net_base.specs.Conversation.{Core, Il, Udp, may_bear, may_connect, has_protocol}
+use Rattle.net_base.specs.Directory.{Slot, is_of}
 use Rattle.net_base.specs.Duties.{Duty}
 use Rattle.net_base.specs.Net.{Net}
 use Rattle.net_base.specs.Stamped.{In}

@@ -1,6 +1,6 @@
 -- What each legal entry changes of what is owed, and the law.
-use Rattle.std.proofs.Common.{◌≡◌, ℕ, zero, suc, ◌+◌, ◌<◌, ◌≤◌, ◌==◌, ◌&&◌, ◌⊎◌, nat_lt, Bool, true, false, List, [], ◌∷◌, ◌++◌, length, drop, Option, Some, None, slice_get, inl, inr, refl, sym, ap, subst, ◌∙◌, arith, append-nil}
-use Rattle.std.specs.Prelude.{IsSome, if◌then◌else◌, option_to_list}
+use Rattle.std.proofs.Common.{◌≡◌, ℕ, ◌+◌, ◌<◌, ◌≤◌, ◌==◌, ◌&&◌, ◌⊎◌, nat_lt, Bool, true, false, List, [], ◌∷◌, ◌++◌, length, drop, Option, Some, None, slice_get, inl, inr, refl, sym, ap, subst, ◌∙◌, arith, append-nil}
+use Rattle.std.specs.Prelude.{if◌then◌else◌, option_to_list}
 use Rattle.std.specs.Option.{option_map, option_and_then}
 use Rattle.std.proofs.lemmas.Bool.{and_parts, true≢false, ltb-true}
 use Rattle.std.proofs.lemmas.Option.{none-some, same_Some}
@@ -12,9 +12,6 @@ use Rattle.net_base.specs.declared.event.Event.TheVariants as event
 use Rattle.net_base.specs.declared.history.Taken.{Taken}
 use Rattle.net_base.specs.declared.history.With.{With}
 use Rattle.net_base.specs.declared.history.With.TheVariants as given
-use Rattle.net_base.specs.declared.history.Work.{Work}
-use Rattle.net_base.specs.declared.packet.Packet.{Packet}
-use Rattle.net_base.specs.declared.world.HostSpec.{HostSpec}
 use Rattle.net_base.specs.declared.world.MediumSpec.{MediumSpec}
 use Rattle.net_base.specs.declared.world.Fate.{Fate}
 use Rattle.net_base.specs.declared.world.Fate.TheVariants as fate
@@ -24,21 +21,21 @@ use Rattle.net_base.specs.Actors.{Actor, IsDesk, IsDir, IsConv, IsMedium, IsPlai
 use Rattle.net_base.specs.Callers.{caller_count}
 use Rattle.net_base.specs.Conversation.{Conv, conv_step}
 use Rattle.net_base.specs.Directory.{Dir, dir_step}
-use Rattle.net_base.specs.Duties.{Duty, duties, emitted_put, follow_up, courier_duty, ticks, release}
-use Rattle.net_base.specs.Medium.{Medium, medium_step, puts, takes, lays, fate_of, now_of, held_of, datagram_length}
-use Rattle.net_base.specs.Net.{Net, actors_after, net_after}
-use Rattle.net_base.specs.Stamped.{In, same_actor, same_proto}
+use Rattle.net_base.specs.Duties.{Duty, duties, emitted_put, follow_up}
+use Rattle.net_base.specs.Medium.{Medium, medium_step, takes, lays, fate_of, now_of, held_of, datagram_length}
+use Rattle.net_base.specs.Net.{Net, actors_after}
+use Rattle.net_base.specs.Stamped.{In, same_actor}
 use Rattle.net_base.specs.World.{IsWorld}
 use Rattle.history_laws.proofs.Histories.{same_actor_is}
 use Rattle.history_laws.proofs.Owed.{duties_each}
 use Rattle.history_laws.proofs.PairsOnce.{same_itself}
 use Rattle.history_laws.proofs.Ordered.{Each, Later, each_append, each_weaker}
 use Rattle.progress_law.proofs.Duties.{Steady, OfKind, IsKind, IsMediumKind, AreSlots, AreCopies, IsActorOf, IsBirth, Apart, bears, named, same_core, reached, given_last, generation_at, conv_generation, generation_in}
-use Rattle.progress_law.proofs.DirRows.{Moved, MovesIf, Moves, FollowsAt, IsFollow, dir_moves}
-use Rattle.progress_law.proofs.ConvRows.{Kept, KeptIf, Raised, conv_kept, birth_done}
+use Rattle.progress_law.proofs.DirRows.{Moved, MovesIf, FollowsAt, dir_moves}
+use Rattle.progress_law.proofs.ConvRows.{Kept, KeptIf, conv_kept, birth_done}
 use Rattle.progress_law.proofs.Worlds.{may_give}
 use Rattle.progress_law.proofs.Least.{each_in}
-use Rattle.progress_law.proofs.Keeping.{Changes, IsNew, IsBorne, IsGained, NotConv, no_birth, each_of, in_append, in_right, later_append, steady_on}
+use Rattle.progress_law.proofs.Keeping.{Changes, IsNew, IsBorne, IsGained, NotConv, no_birth, each_of, in_append, in_right, later_append}
 use Rattle.progress_law.proofs.New.{IsPlainDuty, plain_new, emitted_each, courier_each, release_each, left_each, ticks_new, none_bears, follow_apart}
 
 -- Media.

@@ -1,5 +1,5 @@
 -- What an entry leaves of what is owed, by what it changes.
-use Rattle.std.proofs.Common.{◌≡◌, ℕ, zero, suc, ◌+◌, ◌<◌, ◌≤◌, ◌==◌, ◌⊎◌, Bool, true, false, List, [], ◌∷◌, ◌++◌, length, drop, inl, inr, refl, sym, ap, subst, ◌∙◌, arith}
+use Rattle.std.proofs.Common.{◌≡◌, ℕ, ◌+◌, ◌<◌, ◌≤◌, ◌==◌, ◌⊎◌, true, List, [], ◌∷◌, ◌++◌, length, drop, inl, inr, refl, sym, ap, subst, ◌∙◌, arith}
 use Rattle.std.specs.Prelude.{if◌then◌else◌}
 use Rattle.std.proofs.lemmas.Bool.{cases_lt, true≢false}
 use Rattle.std.proofs.lemmas.Bool.Decides.{eqb_tells}
@@ -14,7 +14,7 @@ use Rattle.net_base.specs.declared.history.With.{With}
 use Rattle.net_base.specs.Duties.{Duty}
 use Rattle.net_base.specs.Net.{Net}
 use Rattle.net_base.specs.Stamped.{In}
-use Rattle.history_laws.proofs.Ordered.{Each, Later, each_append, each_weaker}
+use Rattle.history_laws.proofs.Ordered.{Each, Later, each_append}
 use Rattle.progress_law.proofs.Duties.{Steady, OfKind, IsKind, IsActorOf, IsBirth, IsOwedBirth, Apart, bears, named, reached, given_last}
 use Rattle.progress_law.proofs.Least.{each_in}
 

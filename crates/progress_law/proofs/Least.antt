@@ -1,7 +1,7 @@
 -- The first duty that cites the least stamp is ready.
 use Rattle.std.proofs.Common.{◌≡◌, ℕ, zero, suc, ◌+◌, ◌<◌, ◌≤◌, ◌==◌, ◌⊎◌, Bool, true, false, List, [], ◌∷◌, length, Option, Some, None, slice_get, inl, inr, refl, sym, ap, subst, ◌∙◌, arith, nat_lt}
 use Rattle.std.specs.Prelude.{IsSome}
-use Rattle.std.proofs.lemmas.Bool.{true≢false, lt-ltb, eqb-true, eqb-false, ltb-true, ltb-false, cases_lt}
+use Rattle.std.proofs.lemmas.Bool.{true≢false, lt-ltb, eqb-true, eqb-false, ltb-false, cases_lt}
 use Rattle.net_base.specs.declared.timer.Timers.TheVariants.{Fixed}
 use Rattle.net_base.specs.declared.actor.ActorName.{ActorName}
 use Rattle.net_base.specs.declared.actor.ActorName.TheVariants as name
@@ -11,15 +11,13 @@ use Rattle.net_base.specs.declared.event.Event.{Event}
 use Rattle.net_base.specs.declared.event.Event.TheVariants as event
 use Rattle.net_base.specs.declared.history.With.{With}
 use Rattle.net_base.specs.declared.history.With.TheVariants as given
-use Rattle.net_base.specs.declared.history.Work.{Work}
-use Rattle.net_base.specs.declared.world.HostSpec.{HostSpec}
 use Rattle.net_base.specs.declared.world.MediumSpec.{MediumSpec}
 use Rattle.net_base.specs.declared.world.World.{World}
 use Rattle.net_base.specs.ActorStep.{Step, when}
-use Rattle.net_base.specs.Actors.{Actor, IsDesk, IsDir, IsConv, IsMedium, IsPlain, actor_step, opening_core, slot_count, step_as}
+use Rattle.net_base.specs.Actors.{Actor, IsDesk, IsDir, IsConv, IsMedium, IsPlain, actor_step, opening_core, slot_count}
 use Rattle.net_base.specs.Callers.{caller_count}
-use Rattle.net_base.specs.Conversation.{Conv, Core, Il, Udp, in_generation, raises, conv_step, may_bear, may_connect, has_protocol, brought_forth, joined, taken_in}
-use Rattle.net_base.specs.Directory.{Dir, Slot, dir_step, in_found_slot}
+use Rattle.net_base.specs.Conversation.{Conv, Core, Il, Udp, in_generation, raises, conv_step, may_bear, may_connect, has_protocol, brought_forth, taken_in}
+use Rattle.net_base.specs.Directory.{Dir, Slot, dir_step}
 use Rattle.net_base.specs.Medium.{Medium, medium_step}
 use Rattle.std.specs.Option.{option_map}
 use Rattle.net_base.specs.Duties.{Duty}
@@ -29,7 +27,7 @@ use Rattle.history_laws.proofs.Ordered.{Each, Later}
 use Rattle.net_base.specs.declared.packet.Body.{Body}
 use Rattle.net_base.specs.declared.packet.Body.TheVariants as body
 use Rattle.net_base.specs.declared.packet.Packet.{Packet}
-use Rattle.progress_law.proofs.Duties.{Steady, OfKind, IsKind, IsConvKind, IsDirKind, IsMediumKind, IsActorOf, AreSlots, IsBirth, IsOwedBirth, bears, named, reached, given_last, same_core, conv_generation, Apart}
+use Rattle.progress_law.proofs.Duties.{Steady, OfKind, IsKind, IsConvKind, IsDirKind, IsMediumKind, IsActorOf, IsBirth, IsOwedBirth, bears, named, reached, given_last, same_core, conv_generation}
 
 -- The caller whose first duty cites least.
 

@@ -1,5 +1,5 @@
 -- The duties that an entry adds.
-use Rattle.std.proofs.Common.{◌≡◌, ℕ, zero, suc, ◌+◌, ◌-◌, ◌<◌, ◌≤◌, ◌==◌, nat_lt, Bool, true, false, List, [], ◌∷◌, ◌++◌, length, map, Option, Some, None, refl, sym, ap, subst, ◌∙◌, arith}
+use Rattle.std.proofs.Common.{◌≡◌, ℕ, zero, suc, ◌+◌, ◌-◌, ◌<◌, ◌≤◌, nat_lt, Bool, true, false, List, [], ◌∷◌, ◌++◌, length, Option, Some, None, refl, sym, subst, ◌∙◌, arith}
 use Rattle.std.specs.Prelude.{flat_map, if◌then◌else◌, option_to_list}
 use Rattle.std.specs.List.{range_with_len}
 use Rattle.std.proofs.lemmas.Bool.{true≢false}
@@ -26,7 +26,7 @@ use Rattle.net_base.specs.Net.{Net}
 use Rattle.net_base.specs.Routes.{Way, way, has_address}
 use Rattle.net_base.specs.World.{IsWorld}
 use Rattle.history_laws.proofs.Ordered.{Each, Later, each_append, each_map, each_weaker}
-use Rattle.progress_law.proofs.Duties.{OfKind, Apart, bears, named, given_last, reached, conv_generation}
+use Rattle.progress_law.proofs.Duties.{OfKind, Apart, bears, given_last, reached, conv_generation}
 use Rattle.progress_law.proofs.Worlds.{IsWithin, way_within}
 use Rattle.progress_law.proofs.Keeping.{IsNew, NotConv}
 

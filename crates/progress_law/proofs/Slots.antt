@@ -1,12 +1,11 @@
 -- The slots of a directory after one of them changed.
-use Rattle.std.proofs.Common.{◌≡◌, ℕ, zero, suc, ◌+◌, ◌<◌, ◌≤◌, ◌==◌, ◌⊎◌, Bool, true, false, List, [], ◌∷◌, ◌++◌, length, Option, Some, None, slice_get, slice_set, inl, inr, refl, sym, ap, subst, ◌∙◌, arith, length-set}
+use Rattle.std.proofs.Common.{◌≡◌, ℕ, zero, suc, ◌<◌, ◌≤◌, List, [], ◌∷◌, length, Some, slice_get, slice_set, inl, inr, refl, sym, ap, subst, ◌∙◌, arith, length-set}
 use Rattle.std.proofs.lemmas.Bool.Decides.{eqb_tells}
-use Rattle.std.proofs.lemmas.Option.{none-some, same_Some, slice_get_within}
+use Rattle.std.proofs.lemmas.Option.{same_Some, slice_get_within}
 use Rattle.net_base.specs.declared.actor.Call.{Call}
-use Rattle.net_base.specs.Actors.{slot_count}
 use Rattle.net_base.specs.Directory.{Slot}
-use Rattle.history_laws.proofs.Ordered.{Each, each_weaker, each_append}
-use Rattle.progress_law.proofs.Duties.{AreSlots, IsCallIn, slot_generation, generation_in}
+use Rattle.history_laws.proofs.Ordered.{Each, each_weaker}
+use Rattle.progress_law.proofs.Duties.{AreSlots, IsCallIn, generation_in}
 
 pub get_set : {A : Type 0} (xs : List A) (i : ℕ) (y : A) → i < length xs → slice_get (slice_set xs i y) i ≡ Some y
 get_set [] i y lt = absurd (omega (arith, lt))

@@ -1,20 +1,18 @@
 -- Ways of a world go to its media and hosts, and its starts aren't 0.
-use Rattle.std.proofs.Common.{◌≡◌, ℕ, zero, suc, ◌+◌, ◌-◌, ◌<◌, ◌≤◌, ◌==◌, ◌&&◌, nat_lt, Bool, true, false, List, [], ◌∷◌, length, Option, Some, None, slice_get, refl, sym, ap, subst, ◌∙◌, arith}
+use Rattle.std.proofs.Common.{◌≡◌, ℕ, zero, suc, ◌+◌, ◌-◌, ◌<◌, ◌==◌, ◌&&◌, nat_lt, Bool, true, false, List, [], ◌∷◌, length, Option, Some, None, slice_get, refl, subst, arith}
 use Rattle.std.specs.Prelude.{find, nat_le, unwrap_or, if◌then◌else◌, position}
 use Rattle.std.specs.List.{list_all}
 use Rattle.std.specs.Option.{option_map, option_map_or, option_and_then}
-use Rattle.std.proofs.lemmas.Bool.{and_parts, and_from, ltb-true, ltb-false, leb-true, lt-ltb, le-leb, eqb-true, eqb-false}
+use Rattle.std.proofs.lemmas.Bool.{and_parts, and_from, ltb-true, ltb-false, leb-true, lt-ltb, le-leb, eqb-false}
 use Rattle.std.proofs.lemmas.Option.{none-some, same_Some, slice_get_within}
 use Rattle.net_base.specs.declared.address.Proto.{Proto}
 use Rattle.net_base.specs.declared.address.Proto.TheVariants as proto
 use Rattle.net_base.specs.declared.world.HostSpec.{HostSpec}
 use Rattle.net_base.specs.declared.world.Iface.{Iface}
 use Rattle.net_base.specs.declared.world.World.{World}
-use Rattle.net_base.specs.Actors.{opening_core}
-use Rattle.net_base.specs.Conversation.{may_connect}
-use Rattle.net_base.specs.Directory.{Dir, host_start, start_of, home_at}
+use Rattle.net_base.specs.Directory.{Dir, host_start}
 use Rattle.net_base.specs.Draws.{drawn_word}
-use Rattle.net_base.specs.Routes.{Route, Way, iface_routes, way, way_by, way_from, way_of_route, way_to_itself, longest_match, host_routes, stands_at, station_of}
+use Rattle.net_base.specs.Routes.{Route, Way, iface_routes, way, way_by, way_from, way_of_route, way_to_itself, longest_match, host_routes, stands_at}
 use Rattle.net_base.specs.World.{IsWorld, all_apart, is_host, is_iface, is_name, is_nets, is_route, is_start, same_medium, same_network}
 use Rattle.history_laws.proofs.Ordered.{all_at}
 use Rattle.progress_law.proofs.DirRows.{MayGive}

@@ -4,4 +4,6 @@
 #[cfg(test)]
 mod changes;
 #[cfg(test)]
+mod imports;
+#[cfg(test)]
 mod random_worlds;

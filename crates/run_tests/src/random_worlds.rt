@@ -15,7 +15,7 @@ use transcript::text_of;
 use world_file::read_world;
 
 /// What becomes of frames.
-const FATES: [&str; 6] = [
+pub(crate) const FATES: [&str; 6] = [
     "",
     "rates ether0 150 0 0\n",
     "rates ether0 100 200 200\n",
@@ -70,10 +70,10 @@ const AGAIN: [&str; 4] = [
     "write d hi\nuntil 40\nwrite d ho\nuntil 60\nwrite d hu\n",
 ];
 
-const HOSTS: &str = "host anna il udp\nif ether0 135.104.9.6 255.255.255.0\n\
+pub(crate) const HOSTS: &str = "host anna il udp\nif ether0 135.104.9.6 255.255.255.0\n\
 host helix udp il\nif ether0 135.104.9.31 255.255.255.0\nstart 4294967290\n";
 
-const DATABASE: &str =
+pub(crate) const DATABASE: &str =
     "ndb\nsys=anna ip=135.104.9.6\nsys=helix ip=135.104.9.31\nil=9fs port=17008\nudp=echo port=7\n";
 
 /// How databases change.
@@ -87,7 +87,7 @@ const VERSIONS: [&str; 5] = [
 ];
 
 /// One of these.
-fn one_of<'a>(words: &mut Lcg64Xsh32, rows: &[&'a str]) -> &'a str {
+pub(crate) fn one_of<'a>(words: &mut Lcg64Xsh32, rows: &[&'a str]) -> &'a str {
     let row = words.next_word() as usize % rows.len().max(1);
     match rows.get(row) {
         Some(text) => *text,
@@ -226,7 +226,7 @@ fn are_legal_in<R: Threads + Wait + Sync>(
 }
 
 /// The same of the world of a text.
-fn are_legal_of<R: Threads + Wait + Sync>(
+pub(crate) fn are_legal_of<R: Threads + Wait + Sync>(
     rt: &R,
     alloc: Global,
     text: &str,

@@ -3,12 +3,14 @@ use Rattle.std.proofs.Common.{◌≡◌, ℕ, zero, suc, ◌+◌, ◌-◌, ◌<�
 use Rattle.std.proofs.lemmas.Bool.{true≢false, false≢true}
 use Rattle.std.proofs.lemmas.Bool.Decides.{nat_tests}
 use Rattle.std.proofs.lemmas.Option.{none-some, same_Some}
+use Rattle.net_base.specs.declared.left.Left.{Left}
 use Rattle.net_base.specs.declared.reply.Reply.{Reply}
 use Rattle.net_base.specs.declared.world.Script.{Script}
 use Rattle.net_base.specs.declared.world.Step.{Step}
-use Rattle.net_base.specs.declared.world.Step.TheVariants as step
 use Rattle.net_base.specs.Next.{finished_by}
-use Rattle.net_base.specs.Steps.{Ask, Names, Play, Asks, Ends, Position, no_names, position, position_by, play_of, stands}
+use Rattle.net_base.specs.Remotes.{nothing_left}
+use Rattle.net_base.specs.Scripts.{heard as first_replies, left_after, position, step_play}
+use Rattle.net_base.specs.Steps.{Ask, Names, Play, Asks, Ends, Position, no_names, position_by, stands}
 use Rattle.net_base.specs.Versions.{Tuples}
 use Rattle.script_task.specs.Holdings.{Holdings, holdings}
 use Rattle.script_task.specs.declared.effect.Effect.{Effect}
@@ -19,11 +21,12 @@ use Rattle.script_task.specs.Fitting.{fits}
 use Rattle.script_task.specs.Requests.{head, planned, settled}
 use Rattle.script_task.specs.Task.{Heads, follow, fits_play}
 use Rattle.script_task.proofs.Settling.{settles_so}
-use Rattle.dial_lib.specs.declared.step.StepTask.{StepTask}
+use Rattle.step_task.specs.declared.step.StepTask.{StepTask}
 use Rattle.dial_lib.specs.Slots.{HaveSlots}
-use Rattle.dial_lib.specs.StepTasks.{StandsFor, asks, after, begun}
-use Rattle.dial_lib.specs.StepLaws.{begun_stands, asks_so, moves_so}
-use Rattle.script_player.specs.Players.{Playing, asked, position_after, next_after, Plays, Leaves, Knows, InStep, Between, IsAtBy, IsAt, begun_by, begun_in, request_by, request_of, asked_by, asked_at, with_room, prepared_by, prepared, expected_by, expected_in, heard_by, heard, left_by, left}
+use Rattle.step_task.specs.Leaving.{after_one, leaves_so}
+use Rattle.step_task.specs.StepTasks.{StandsFor, asks, after, after_all, begun, leaves, left_by as left_by_task}
+use Rattle.step_task.specs.StepLaws.{asks_alike, asks_so, begun_asks, begun_stands, moves_so}
+use Rattle.script_player.specs.Players.{Playing, kept, asked, position_after, next_after, Plays, Leaves, Knows, InStep, Between, IsAtBy, IsAt, begun_by, begun_in, request_by, request_of, asked_by, asked_at, with_room, prepared_by, prepared, expected_by, expected_in, heard_by, heard, left_by, left}
 
 -- Lists.
 
@@ -66,39 +69,20 @@ length_drop (suc k) (x ∷ ss) le = omega (arith, length_drop k ss (omega (arith
 
 -- A step begins.
 
--- a step that has begun isn't through
-begun_asks : (names : Names) (s : Step) → is_none (asks (begun s) names) ≡ false
-begun_asks names (step.Open called path m) = refl
-begun_asks names (step.Read called count) = refl
-begun_asks names (step.Write called text) = refl
-begun_asks names (step.Writex called text) = refl
-begun_asks names (step.Close called) = refl
-begun_asks names (step.Ls path) = refl
-begun_asks names (step.Cs query) = refl
-begun_asks names (step.Until moment) = refl
-begun_asks names step.Refresh = refl
-begun_asks names (step.Dial called address) = refl
-begun_asks names (step.Announce called address) = refl
-begun_asks names (step.Listen called from) = refl
-begun_asks names (step.Accept called from) = refl
-begun_asks names (step.Reject called) = refl
-begun_asks names (step.Hangup called) = refl
-begun_asks names (step.Hread called count) = refl
-begun_asks names (step.Hwrite called bytes) = refl
-begun_asks names (step.Dns called times) = refl
-
 begins : (zone : Tuples) (s : Script) (rs : List Reply) (p : Playing) (at : Step) → slice_get s.steps p.finished ≡ Some at → Between zone s rs p
-    → InStep zone s rs (record p { task = Some (begun at); effect = None }) (begun at)
+    → InStep zone s rs (record p { task = Some (begun p.left at); effect = None }) (begun p.left at)
 begins zone s rs p at is between =
     let behind : drop p.finished s.steps ≡ at ∷ drop (suc p.finished) s.steps = drop_at p.finished s.steps at is in
     record {
-      play = play_of s.host p.holdings.names at;
+      play = step_play s.host (kept p) at;
       step = at;
       rest = drop (suc p.finished) s.steps;
+      said = [];
+      told = refl;
       behind = behind;
-      plays = λ more. subst (λ (ss : List Step). position_after zone s (rs ++ more) ≡ position s.host ss p.holdings.names more) behind (between.leaves more);
-      stands_for = begun_stands (begun at) at refl s.host p.holdings.names between.slots;
-      goes_on = begun_asks p.holdings.names at;
+      plays = λ more. subst (λ (ss : List Step). position_after zone s (rs ++ more) ≡ position s.host ss (kept p) more) behind (between.leaves more);
+      stands_for = begun_stands (begun p.left at) p.left at refl s.host p.holdings.names between.slots;
+      goes_on = begun_asks p.left at p.holdings.names;
       knows = tt;
     }
 
@@ -121,11 +105,11 @@ heads : (zone : Tuples) (s : Script) (rs : List Reply) (p : Playing) (t : StepTa
 heads zone s rs p t q step is = subst (λ (o : Option Request). Heads s.host p.holdings.names o step.play) is (asks_so s.host p.holdings.names t step.play step.stands_for)
 
 -- a play that asks stands at its event, and its step is left
-at_event : (zone : Tuples) (s : Script) (rs : List Reply) (play : Play) (at : Step) (rest : List Step) (ask : Ask) → head play ≡ Some ask → Plays zone s rs play at rest
+at_event : (zone : Tuples) (s : Script) (rs said : List Reply) (l : Left) (play : Play) (at : Step) (rest : List Step) (ask : Ask) → head play ≡ Some ask → Plays zone s rs said l play at rest
     → position_after zone s rs ≡ record { next = Some ask; left = at ∷ rest }
-at_event zone s rs (Asks a e next) at rest ask is plays =
+at_event zone s rs said l (Asks a e next) at rest ask is plays =
     ap (λ (xs : List Reply). position_after zone s xs) (sym (append_nothing rs)) ∙ plays [] ∙ ap (λ (o : Option Ask). record { next = o; left = at ∷ rest }) is
-at_event zone s rs (Ends names) at rest ask is plays = absurd (none-some ask is)
+at_event zone s rs said l (Ends names) at rest ask is plays = absurd (none-some ask is)
 
 -- there is a request where it isn't through
 some_request : (o : Option Request) → is_none o ≡ false → (q : Request) × (o ≡ Some q)
@@ -136,18 +120,18 @@ step_next : (zone : Tuples) (s : Script) (rs : List Reply) (p : Playing) (t : St
 step_next zone s rs p t step =
     let found = some_request (asks t p.holdings.names) step.goes_on in
     let heading = heads zone s rs p t found.0 step found.1 in
-    ap (λ (o : Option Request). asked_by s.host p.holdings.names o) found.1 ∙ heading.2 ∙ sym (ap (λ (at : Position). at.next) (at_event zone s rs step.play step.step step.rest heading.0 heading.1 step.plays))
+    ap (λ (o : Option Request). asked_by s.host p.holdings.names o) found.1 ∙ heading.2 ∙ sym (ap (λ (at : Position). at.next) (at_event zone s rs step.said p.left step.play step.step step.rest heading.0 heading.1 step.plays))
 
 -- no step is left
 none_left : (zone : Tuples) (s : Script) (rs : List Reply) (p : Playing) → Between zone s rs p → slice_get s.steps p.finished ≡ None → position_after zone s rs ≡ record { next = None; left = [] }
 none_left zone s rs p between is =
-    ap (λ (xs : List Reply). position_after zone s xs) (sym (append_nothing rs)) ∙ between.leaves [] ∙ ap (λ (ss : List Step). position s.host ss p.holdings.names []) (drop_none p.finished s.steps is)
+    ap (λ (xs : List Reply). position_after zone s xs) (sym (append_nothing rs)) ∙ between.leaves [] ∙ ap (λ (ss : List Step). position s.host ss (kept p) []) (drop_none p.finished s.steps is)
 
 next_is : (zone : Tuples) (s : Script) (rs : List Reply) (p : Playing) (t : Option StepTask) (o : Option Step) → p.task ≡ t → slice_get s.steps p.finished ≡ o → IsAtBy zone s rs p t → asked_at s.host (begun_by p t o) ≡ next_after zone s rs
 next_is zone s rs p (Some t) o task is at = ap (λ (u : Option StepTask). asked_by s.host p.holdings.names (request_by p.holdings.names u)) task ∙ step_next zone s rs p t at
 next_is zone s rs p None None task is at =
     ap (λ (u : Option StepTask). asked_by s.host p.holdings.names (request_by p.holdings.names u)) task ∙ sym (ap (λ (at : Position). at.next) (none_left zone s rs p at is))
-next_is zone s rs p None (Some step) task is at = step_next zone s rs (record p { task = Some (begun step); effect = None }) (begun step) (begins zone s rs p step is at)
+next_is zone s rs p None (Some step) task is at = step_next zone s rs (record p { task = Some (begun p.left step); effect = None }) (begun p.left step) (begins zone s rs p step is at)
 
 pub next_right : (zone : Tuples) (s : Script) (rs : List Reply) (p : Playing) → IsAt zone s rs p → asked_at s.host (begun_in s p) ≡ next_after zone s rs
 unfolding IsAt
@@ -169,6 +153,8 @@ step_prepared zone s rs p t q step is names b old new =
       play = step.play;
       step = step.step;
       rest = step.rest;
+      said = step.said;
+      told = step.told;
       behind = step.behind;
       plays = step.plays;
       stands_for = subst (λ (ns : Names). StandsFor s.host ns t step.play) back step.stands_for;
@@ -214,9 +200,14 @@ expected_knows zone s rs p ask at is = by p.effect refl
 
 -- A reply.
 
-plays_on : (zone : Tuples) (s : Script) (rs : List Reply) (play : Play) (at : Step) (rest : List Step) (ask : Ask) (r : Reply) → head play ≡ Some ask → Plays zone s rs play at rest → Plays zone s (rs ++ r ∷ []) (follow play r) at rest
-plays_on zone s rs (Asks a e next) at rest ask r is plays = λ more. ap (λ (xs : List Reply). position_after zone s xs) (append_one rs r more) ∙ plays (r ∷ more)
-plays_on zone s rs (Ends names) at rest ask r is plays = absurd (none-some ask is)
+plays_on : (zone : Tuples) (s : Script) (rs said : List Reply) (l : Left) (play : Play) (at : Step) (rest : List Step) (ask : Ask) (r : Reply) → head play ≡ Some ask → Plays zone s rs said l play at rest
+    → Plays zone s (rs ++ r ∷ []) (said ++ r ∷ []) l (follow play r) at rest
+plays_on zone s rs said l (Asks a e next) at rest ask r is plays = λ more.
+    ap (λ (xs : List Reply). position_after zone s xs) (append_one rs r more)
+    ∙ (plays (r ∷ more)
+    ∙ ap (λ (xs : List Reply). position_by (stands (next r) more) (at ∷ rest) (λ (names : Names) (later : List Reply). position s.host rest (record { names = names; left = left_after l at xs }) later))
+    (sym (append_one said r (first_replies (next r) more))))
+plays_on zone s rs said l (Ends names) at rest ask r is plays = absurd (none-some ask is)
 
 play_fits : (play : Play) (ask : Ask) (r : Reply) → head play ≡ Some ask → fits ask.event r ≡ true → fits_play play r ≡ true
 play_fits (Asks a e next) ask r is fit = subst (λ (x : Ask). fits x.event r ≡ true) (sym (same_Some (record { actor = a; event = e }) ask is)) fit
@@ -225,20 +216,24 @@ play_fits (Ends names) ask r is fit = refl
 -- what holds of the task and the play after a reply
 record Moved (zone : Tuples) (s : Script) (rs : List Reply) (p : Playing) (t : StepTask) (step : InStep zone s rs p t) (r : Reply) (names : Names) : Type 0 where
   stands_for : StandsFor s.host names (after t r) (follow step.play r)
-  plays : Plays zone s (rs ++ r ∷ []) (follow step.play r) step.step step.rest
+  told : after t r ≡ after_all (begun p.left step.step) (step.said ++ r ∷ [])
+  leaving_so : leaves (after t r) p.left ≡ left_after p.left step.step (step.said ++ r ∷ [])
+  plays : Plays zone s (rs ++ r ∷ []) (step.said ++ r ∷ []) p.left (follow step.play r) step.step step.rest
 
 moved : (zone : Tuples) (s : Script) (rs : List Reply) (p : Playing) (t : StepTask) (step : InStep zone s rs p t) (e : Effect) (ask : Ask) (r : Reply) → Knows p.holdings.names t (Some e) → next_after zone s rs ≡ Some ask → fits ask.event r ≡ true
     → Moved zone s rs p t step r (settles e (opened e r) p.holdings).names
 moved zone s rs p t step e ask r knows is fit =
     let q : Request = knows.0 in
     let heading = heads zone s rs p t q step knows.1 in
-    let same : heading.0 ≡ ask = same_Some heading.0 ask (sym (ap (λ (at : Position). at.next) (at_event zone s rs step.play step.step step.rest heading.0 heading.1 step.plays)) ∙ is) in
+    let same : heading.0 ≡ ask = same_Some heading.0 ask (sym (ap (λ (at : Position). at.next) (at_event zone s rs step.said p.left step.play step.step step.rest heading.0 heading.1 step.plays)) ∙ is) in
     let fits_it : fits_play step.play r ≡ true = play_fits step.play heading.0 r heading.1 (subst (λ (x : Ask). fits x.event r ≡ true) (sym same) fit) in
     let names_are : settled p.holdings.names q r ≡ (settles e (opened e r) p.holdings).names =
     sym (ap (λ (x : Effect). (settles x (opened x r) p.holdings).names) knows.2 ∙ settles_so p.holdings q r) in
     record {
       stands_for = subst (λ (ns : Names). StandsFor s.host ns (after t r) (follow step.play r)) names_are (moves_so s.host p.holdings.names t step.play q r step.stands_for knows.1 fits_it);
-      plays = plays_on zone s rs step.play step.step step.rest heading.0 r heading.1 step.plays;
+      told = ap (λ (u : StepTask). after u r) step.told ∙ after_one (begun p.left step.step) step.said r;
+      leaving_so = leaves_so p.left step.step step.said r t step.told (sym (asks_alike t p.holdings.names (no_names [])) ∙ step.goes_on);
+      plays = plays_on zone s rs step.said p.left step.play step.step step.rest heading.0 r heading.1 step.plays;
     }
 
 none_is : (o : Option Request) → is_none o ≡ true → o ≡ None
@@ -250,36 +245,50 @@ lt_test k n lt = search (rules, tests, lt)
 
 -- the step goes on, or the next one comes
 goes_on : (zone : Tuples) (s : Script) (rs : List Reply) (p : Playing) (t : StepTask) (step : InStep zone s rs p t) (r : Reply) (b : Holdings) → Moved zone s rs p t step r b.names
-    → (through : Bool) → is_none (asks (after t r) b.names) ≡ through
-    → AtIts zone s (rs ++ r ∷ []) (if through && nat_lt p.finished (length s.steps) then record p { holdings = b; effect = None; finished = p.finished + 1; task = None } else record p { holdings = b; task = Some (after t r); effect = None })
-goes_on zone s rs p t step r b moves false is =
-    record {
+    → (through : Bool) → is_none (asks (after t r) b.names) ≡ through → (l : Left) → l ≡ (if through then leaves (after t r) p.left else p.left)
+    → AtIts zone s (rs ++ r ∷ [])
+    (if through && nat_lt p.finished (length s.steps)
+    then record p { holdings = b; effect = None; left = l; finished = p.finished + 1; task = None }
+    else record p { holdings = b; task = Some (after t r); effect = None; left = l })
+goes_on zone s rs p t step r b moves false is l same =
+    subst (λ (x : Left). InStep zone s (rs ++ r ∷ []) (record p { holdings = b; task = Some (after t r); effect = None; left = x }) (after t r)) (sym same)
+    (record {
       play = follow step.play r;
       step = step.step;
       rest = step.rest;
+      said = step.said ++ r ∷ [];
+      told = moves.told;
       behind = step.behind;
       plays = moves.plays;
       stands_for = moves.stands_for;
       goes_on = is;
       knows = tt;
-    }
-goes_on zone s rs p t step r b moves true is =
+    })
+goes_on zone s rs p t step r b moves true is l same =
     let more = behind_more p.finished s.steps step.step step.rest step.behind in
+    let said : List Reply = step.said ++ r ∷ [] in
     let ends : follow step.play r ≡ Ends b.names =
     subst (λ (o : Option Request). Heads s.host b.names o (follow step.play r)) (none_is (asks (after t r) b.names) is) (asks_so s.host b.names (after t r) (follow step.play r) moves.stands_for) in
-    let next : Between zone s (rs ++ r ∷ []) (record p { holdings = b; effect = None; finished = p.finished + 1; task = None }) =
+    let left_is_so : left_after p.left step.step said ≡ l = sym moves.leaving_so ∙ sym same in
+    let next : Between zone s (rs ++ r ∷ []) (record p { holdings = b; effect = None; left = l; finished = p.finished + 1; task = None }) =
     record {
       slots = moves.stands_for.0;
       leaves = λ later. moves.plays later
-          ∙ ap (λ (x : Play). position_by (stands x later) (step.step ∷ step.rest) (λ (names : Names) (rest : List Reply). position s.host step.rest names rest)) ends
-          ∙ ap (λ (ss : List Step). position s.host ss b.names later) (sym more.1);
+          ∙ (ap (λ (x : Play). position_by (stands x later) (step.step ∷ step.rest)
+          (λ (names : Names) (rest : List Reply). position s.host step.rest (record { names = names; left = left_after p.left step.step (said ++ first_replies x later) }) rest)) ends
+          ∙ (ap (λ (xs : List Reply). position s.host step.rest (record { names = b.names; left = left_after p.left step.step xs }) later) (append_nothing said)
+          ∙ (ap (λ (x : Left). position s.host step.rest (record { names = b.names; left = x }) later) left_is_so
+          ∙ ap (λ (ss : List Step). position s.host ss (record { names = b.names; left = l }) later) (sym more.1))));
       within = omega (arith, more.0);
       unknown = refl;
     } in
     chosen (nat_lt p.finished (length s.steps)) (lt_test p.finished (length s.steps) more.0) next
   where
-    chosen : (c : Bool) → c ≡ true → Between zone s (rs ++ r ∷ []) (record p { holdings = b; effect = None; finished = p.finished + 1; task = None })
-        → AtIts zone s (rs ++ r ∷ []) (if c then record p { holdings = b; effect = None; finished = p.finished + 1; task = None } else record p { holdings = b; task = Some (after t r); effect = None })
+    chosen : (c : Bool) → c ≡ true → Between zone s (rs ++ r ∷ []) (record p { holdings = b; effect = None; left = l; finished = p.finished + 1; task = None })
+        → AtIts zone s (rs ++ r ∷ [])
+        (if c
+        then record p { holdings = b; effect = None; left = l; finished = p.finished + 1; task = None }
+        else record p { holdings = b; task = Some (after t r); effect = None; left = l })
     chosen true is next = next
     chosen false is next = absurd (false≢true is)
 
@@ -289,6 +298,7 @@ told_is zone s rs p None e ask r known at is fit = absurd (none-some e (sym at.u
 told_is zone s rs p (Some t) e ask r known step is fit =
     let b : Holdings = settles e (opened e r) p.holdings in
     goes_on zone s rs p t step r b (moved zone s rs p t step e ask r (subst (λ (o : Option Effect). Knows p.holdings.names t o) known step.knows) is fit) (is_none (asks (after t r) b.names)) refl
+    (left_by_task (after t r) p.left) (ap (λ (c : Bool). if c then leaves (after t r) p.left else p.left) (asks_alike (after t r) (no_names []) b.names))
 
 told_at : (zone : Tuples) (s : Script) (rs : List Reply) (p : Playing) (e : Effect) (ask : Ask) (r : Reply) → p.effect ≡ Some e → AtIts zone s rs p → next_after zone s rs ≡ Some ask → fits ask.event r ≡ true → AtIts zone s (rs ++ r ∷ []) (left (length s.steps) (heard p r))
 told_at zone s rs p e ask r known at is fit =
@@ -308,12 +318,12 @@ step_left zone s rs p t step =
     let found = some_request (asks t p.holdings.names) step.goes_on in
     let heading = heads zone s rs p t found.0 step found.1 in
     let left_are : (position_after zone s rs).left ≡ drop p.finished s.steps =
-    ap (λ (at : Position). at.left) (at_event zone s rs step.play step.step step.rest heading.0 heading.1 step.plays) ∙ sym step.behind in
+    ap (λ (at : Position). at.left) (at_event zone s rs step.said p.left step.play step.step step.rest heading.0 heading.1 step.plays) ∙ sym step.behind in
     ap (λ (ss : List Step). length ss + p.finished) left_are ∙ length_drop p.finished s.steps (omega (arith, (behind_more p.finished s.steps step.step step.rest step.behind).0))
 
 left_is : (zone : Tuples) (s : Script) (rs : List Reply) (p : Playing) (t : Option StepTask) (o : Option Step) → slice_get s.steps p.finished ≡ o → IsAtBy zone s rs p t → length (position_after zone s rs).left + p.finished ≡ length s.steps
 left_is zone s rs p (Some t) o is step = step_left zone s rs p t step
-left_is zone s rs p None (Some at) is between = step_left zone s rs (record p { task = Some (begun at); effect = None }) (begun at) (begins zone s rs p at is between)
+left_is zone s rs p None (Some at) is between = step_left zone s rs (record p { task = Some (begun p.left at); effect = None }) (begun p.left at) (begins zone s rs p at is between)
 left_is zone s rs p None None is between =
     ap (λ (ss : List Step). length ss + p.finished) (ap (λ (at : Position). at.left) (none_left zone s rs p between is) ∙ sym (drop_none p.finished s.steps is)) ∙ length_drop p.finished s.steps between.within
 
@@ -332,6 +342,8 @@ pub unfinished_right : (zone : Tuples) (s : Script) (rs : List Reply) (p : Playi
 unfinished_right zone s rs p at = unfinished (length (position_after zone s rs).left) p.finished (length s.steps) (sum_at zone s rs p at)
 
 -- nothing is recorded
-pub starts : (zone : Tuples) (s : Script) → IsAt zone s [] (record { holdings = holdings (no_names zone) None; finished = 0; task = None; effect = None })
+pub starts : (zone : Tuples) (s : Script) (l : Left) → l ≡ nothing_left → IsAt zone s [] (record { holdings = holdings (no_names zone) None; finished = 0; task = None; effect = None; left = l })
 unfolding IsAt
-starts zone s = record { slots = refl; leaves = λ more. refl; within = omega arith; unknown = refl }
+starts zone s l is =
+    subst (λ (x : Left). Between zone s [] (record { holdings = holdings (no_names zone) None; finished = 0; task = None; effect = None; left = x })) (sym is)
+    (record { slots = refl; leaves = λ more. refl; within = omega arith; unknown = refl })

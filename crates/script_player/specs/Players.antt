@@ -2,10 +2,12 @@
 use Rattle.std.specs.Prelude.{◌≡◌, ◌≤◌, ◌++◌, ◌+◌, ◌&&◌, ℕ, Bool, false, List, [], ◌∷◌, drop, length, Option, Some, None, is_none, nat_lt, slice_get, if◌then◌else◌}
 use Rattle.net_base.specs.declared.actor.ActorName.{ActorName}
 use Rattle.net_base.specs.declared.event.Event.{Event}
+use Rattle.net_base.specs.declared.left.Left.{Left}
 use Rattle.net_base.specs.declared.reply.Reply.{Reply}
 use Rattle.net_base.specs.declared.world.Script.{Script}
 use Rattle.net_base.specs.declared.world.Step.{Step}
-use Rattle.net_base.specs.Steps.{Ask, Names, Play, Position, no_names, position, position_by, stands}
+use Rattle.net_base.specs.Scripts.{Kept, at_first, heard as heard_in, left_after, position}
+use Rattle.net_base.specs.Steps.{Ask, Names, Play, Position, position_by, stands}
 use Rattle.net_base.specs.Versions.{Tuples}
 use Rattle.script_task.specs.Holdings.{Holdings, holdings}
 use Rattle.script_task.specs.declared.effect.Effect.{Effect}
@@ -13,9 +15,9 @@ use Rattle.script_task.specs.declared.effect.Effect.TheVariants.{Opens}
 use Rattle.script_task.specs.declared.request.Request.{Request}
 use Rattle.script_task.specs.Effects.{effect_of, opened, settles}
 use Rattle.script_task.specs.Requests.{planned}
-use Rattle.dial_lib.specs.declared.step.StepTask.{StepTask}
+use Rattle.step_task.specs.declared.step.StepTask.{StepTask}
 use Rattle.dial_lib.specs.Slots.{HaveSlots}
-use Rattle.dial_lib.specs.StepTasks.{StandsFor, asks, after, begun}
+use Rattle.step_task.specs.StepTasks.{StandsFor, asks, after, after_all, begun, left_by as left_by_task}
 
 -- what a contract sees of a player
 pub record Playing : Type 0 where
@@ -25,6 +27,8 @@ pub record Playing : Type 0 where
   pub task : Option StepTask
   -- what the reply to its next event does to the names, where it was asked for
   pub effect : Option Effect
+  -- what the finished steps leave for later ones
+  pub left : Left
 
 -- an event at its actor
 abbrev pub asked : ActorName × Event → Ask
@@ -32,20 +36,25 @@ asked e = record { actor = e.0; event = e.1 }
 
 -- where the script stands after the replies to its own events, where `dns` answers from this database
 abbrev pub position_after : Tuples → Script → List Reply → Position
-position_after zone s rs = position s.host s.steps (no_names zone) rs
+position_after zone s rs = position s.host s.steps (at_first zone) rs
 
 -- the event that it records next
 abbrev pub next_after : Tuples → Script → List Reply → Option Ask
 next_after zone s rs = (position_after zone s rs).next
 
--- after these replies this play is left of a step, and these steps behind it
-abbrev pub Plays : Tuples → Script → List Reply → Play → Step → List Step → Type 0
-Plays zone s rs p step rest =
-    (more : List Reply) → position_after zone s (rs ++ more) ≡ position_by (stands p more) (step ∷ rest) (λ (names : Names) (later : List Reply). position s.host rest names later)
+-- After these replies, the last of them to this step's events, this play is left of it, and these steps behind it; this was left before it.
+abbrev pub Plays : Tuples → Script → List Reply → List Reply → Left → Play → Step → List Step → Type 0
+Plays zone s rs said left p step rest =
+    (more : List Reply) → position_after zone s (rs ++ more)
+    ≡ position_by (stands p more) (step ∷ rest) (λ (names : Names) (later : List Reply). position s.host rest (record { names = names; left = left_after left step (said ++ heard_in p more) }) later)
 
--- after these replies these steps are left, where these names are bound
-abbrev pub Leaves : Tuples → Script → List Reply → Names → List Step → Type 0
-Leaves zone s rs names rest = (more : List Reply) → position_after zone s (rs ++ more) ≡ position s.host rest names more
+-- after these replies these steps are left, where this is kept
+abbrev pub Leaves : Tuples → Script → List Reply → Kept → List Step → Type 0
+Leaves zone s rs k rest = (more : List Reply) → position_after zone s (rs ++ more) ≡ position s.host rest k more
+
+-- what is kept
+abbrev pub kept : Playing → Kept
+kept p = record { names = p.holdings.names; left = p.left }
 
 -- what is known is the effect of the task's next request
 abbrev pub Knows : Names → StepTask → Option Effect → Type 0
@@ -57,8 +66,11 @@ pub record InStep (zone : Tuples) (s : Script) (rs : List Reply) (p : Playing) (
   pub play : Play
   pub step : Step
   pub rest : List Step
+  -- the replies that it was told
+  pub said : List Reply
+  pub told : t ≡ after_all (begun p.left step) said
   pub behind : drop p.finished s.steps ≡ step ∷ rest
-  pub plays : Plays zone s rs play step rest
+  pub plays : Plays zone s rs said p.left play step rest
   pub stands_for : StandsFor s.host p.holdings.names t play
   pub goes_on : is_none (asks t p.holdings.names) ≡ false
   pub knows : Knows p.holdings.names t p.effect
@@ -66,7 +78,7 @@ pub record InStep (zone : Tuples) (s : Script) (rs : List Reply) (p : Playing) (
 -- before a step, or at the end
 pub record Between (zone : Tuples) (s : Script) (rs : List Reply) (p : Playing) : Type 0 where
   pub slots : HaveSlots p.holdings.names
-  pub leaves : Leaves zone s rs p.holdings.names (drop p.finished s.steps)
+  pub leaves : Leaves zone s rs (kept p) (drop p.finished s.steps)
   pub within : p.finished ≤ length s.steps
   pub unknown : p.effect ≡ None
 
@@ -83,7 +95,7 @@ IsAt zone s rs p = IsAtBy zone s rs p p.task
 abbrev pub begun_by : Playing → Option StepTask → Option Step → Playing
 begun_by p (Some t) o = p
 begun_by p None None = p
-begun_by p None (Some step) = record p { task = Some (begun step); effect = None }
+begun_by p None (Some step) = record p { task = Some (begun p.left step); effect = None }
 
 -- its next step has begun
 abbrev pub begun_in : Script → Playing → Playing
@@ -126,7 +138,7 @@ abbrev pub expected_in : Script → Playing → Playing
 expected_in s p = expected_by s p p.effect
 
 abbrev pub heard_by : Playing → Option StepTask → Option Effect → Reply → Playing
-heard_by p (Some t) (Some e) r = record p { holdings = settles e (opened e r) p.holdings; task = Some (after t r); effect = None }
+heard_by p (Some t) (Some e) r = record p { holdings = settles e (opened e r) p.holdings; task = Some (after t r); effect = None; left = left_by_task (after t r) p.left }
 heard_by p _ _ r = p
 
 -- its task and its names after a reply

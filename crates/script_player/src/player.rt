@@ -9,13 +9,13 @@ ghost use Rattle.net_base.specs.Versions.{Tuples, database_of};
 ghost use Rattle.script_task.specs.Fitting.{fits};
 ghost use Rattle.script_player.specs.Players as spec;
 
-use dial_lib::StepTask;
 use ndb_versions::IndexedVersions;
-use net_base::{ActorName, Event, Reply, Script};
+use net_base::{ActorName, Event, Left, Reply, Script};
 use script_task::{Effect, Names, Planned, Task, plan};
 use std::alloc::{AllocError, Global};
 use std::marker::Model;
 use std::sync::Arc;
+use step_task::StepTask;
 
 /// A script that is being played: how many steps are finished, what it is at, and the names that are bound.
 ///
@@ -28,6 +28,8 @@ pub struct Player {
     task: Option<StepTask>,
     // what the reply to its next event does to the names, where it was asked for
     effect: Option<Effect>,
+    // what the finished steps leave for later ones
+    left: Left,
     alloc: Global,
 }
 
@@ -38,7 +40,7 @@ impl Model for Player {
 
     ghost Value = { Playing };
 
-    ghost view = { λ p. record { holdings = p.fids; finished = p.finished; task = p.task; effect = p.effect } };
+    ghost view = { λ p. record { holdings = p.fids; finished = p.finished; task = p.task; effect = p.effect; left = p.left } };
 
     ghost invariant = { λ p. IfSome p.effect (λ e. HasRoom e p.fids) };
 }
@@ -55,6 +57,7 @@ impl Player {
             finished: 0,
             task: None,
             effect: None,
+            left: Left::new(alloc),
             alloc,
         }
     }
@@ -122,7 +125,7 @@ impl Player {
         let Some(step) = script.steps.as_slice().get(self.finished) else {
             return Ok(());
         };
-        let task = StepTask::new(self.alloc, step)?;
+        let task = StepTask::new(self.alloc, step, &self.left)?;
         self.task = Some(task);
         self.effect = None;
         Ok(())
@@ -186,7 +189,7 @@ impl Player {
             return Ok(());
         };
         let opened = effect.opened(&reply);
-        task.told(self.alloc, reply)?;
+        task.hear(self.alloc, reply, &mut self.left)?;
         if let Some(effect) = self.effect.take() {
             // there is room for the name
             let _ = effect.settle(&mut self.fids, opened);

@@ -1,18 +1,7 @@
--- The events of requests, by what their names are bound to.
-use Rattle.std.specs.Prelude.{ℕ, List, Option, Some, None, Result, Ok, Err, if◌then◌else◌}
-use Rattle.net_base.specs.declared.actor.ActorName.{ActorName}
-use Rattle.net_base.specs.declared.actor.ActorName.TheVariants as name
-use Rattle.net_base.specs.declared.event.Event.{Event}
-use Rattle.net_base.specs.declared.event.Event.TheVariants as event
-use Rattle.net_base.specs.declared.names.Ctl.{Ctl}
-use Rattle.net_base.specs.declared.names.Ctl.TheVariants as ctl
-use Rattle.net_base.specs.declared.names.FileName.{FileName}
-use Rattle.net_base.specs.declared.names.FileName.TheVariants as file
+-- The events of requests at their actors.
+use Rattle.std.specs.Prelude.{ℕ, List}
 use Rattle.net_base.specs.declared.names.Mode.{Mode}
-use Rattle.net_base.specs.ControlWords as control
-use Rattle.net_base.specs.Paths as paths
-use Rattle.net_base.specs.Steps as steps
-use Rattle.net_base.specs.Steps.{Ask, Names, Fid}
+use Rattle.net_base.specs.Steps.{Ask}
 use Rattle.script_task.specs.declared.effect.Effect.TheVariants.{Keeps}
 use Rattle.script_task.specs.declared.planned.Planned.{Planned}
 use Rattle.script_task.specs.declared.request.Request.{Request}
@@ -22,66 +11,9 @@ use Rattle.script_task.specs.declared.request.Request.TheVariants as request
 abbrev pub ask_of : Planned → Ask
 ask_of p = record { actor = p.actor; event = p.event }
 
--- the same, after which the names stay
+-- an event after which the names stay
 abbrev pub keeping : Ask → Planned
 keeping ask = record { actor = ask.actor; event = ask.event; effect = Keeps }
 
-abbrev pub asks : ActorName → Event → Ask
-asks actor event = record { actor = actor; event = event }
-
-abbrev pub at_desk : ℕ → Event → Ask
-at_desk h e = asks (name.Desk h) e
-
-abbrev pub at_file : ℕ → Fid → Event → Ask
-at_file h f e = asks (steps.conversation_of h f) e
-
-abbrev pub at_directory : ℕ → Fid → Event → Ask
-at_directory h f e = asks (name.Dir h f.proto) e
-
 abbrev pub open_request : List ℕ → List ℕ → Mode → Request
 open_request called path m = request.Open called path m
-
-abbrev pub opens_path : ℕ → Names → List ℕ → List ℕ → Mode → Ask
-opens_path h names called path m =
-    if steps.is_bound names called
-    then at_desk h (event.Use called)
-    else asks (steps.open_actor h (steps.openable (paths.walk path) m)) (steps.open_event path m (steps.openable (paths.walk path) m))
-
-abbrev pub ls : ℕ → List ℕ → Ask
-ls h path = asks (steps.ls_actor h (paths.walk path)) (steps.ls_event path (paths.walk path))
-
-abbrev pub close : ℕ → List ℕ → Option Fid → Ask
-close h called None = at_desk h (event.Use called)
-close h called (Some f) = at_file h f (event.Close f.generation)
-
-abbrev pub wait : ℕ → List ℕ → Option Fid → Ask
-wait h called None = at_desk h (event.Use called)
-wait h called (Some f) = at_file h f (event.Await f.generation)
-
-abbrev pub read : ℕ → List ℕ → ℕ → Option Fid → Ask
-read h called count None = at_desk h (event.Use called)
-read h called count (Some f) = if paths.reads f.mode then at_file h f (steps.read_event f count f.file) else at_desk h (event.Misuse called)
-
--- the event of a control
-abbrev pub controlled : ℕ → Fid → Ctl → Ask
-controlled h f (ctl.Connect remote lport) = at_directory h f (event.Grant f.slot f.generation remote lport)
-controlled h f (ctl.Announce ip port) = at_directory h f (event.Announce f.slot f.generation ip port)
-controlled h f (ctl.Bind port) = at_directory h f (event.Bind f.slot f.generation port)
-controlled h f ctl.Hangup = at_file h f (event.Hangup f.generation)
-controlled h f (ctl.Ttl n) = at_file h f (event.Ttl f.generation n)
-controlled h f (ctl.Tos n) = at_file h f (event.Tos f.generation n)
-
-abbrev pub controls_by : ℕ → Fid → List ℕ → Result Ctl ℕ → Ask
-controls_by h f text (Ok word) = controlled h f word
-controls_by h f text (Err fault) = at_file h f (event.Ctl f.generation text)
-
-abbrev pub controls : ℕ → Fid → List ℕ → Ask
-controls h f text = controls_by h f text (control.read text)
-
-abbrev pub put : ℕ → Fid → List ℕ → FileName → Ask
-put h f text file.Data = at_file h f (event.Write f.generation text)
-put h f text _ = controls h f text
-
-abbrev pub write : ℕ → List ℕ → List ℕ → Option Fid → Ask
-write h called text None = at_desk h (event.Use called)
-write h called text (Some f) = if paths.writes f.mode then put h f text f.file else at_desk h (event.Misuse called)

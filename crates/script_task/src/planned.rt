@@ -4,6 +4,7 @@ ghost use Rattle.net_base.specs.Paths as paths;
 ghost use Rattle.net_base.specs.Steps as steps;
 ghost use Rattle.net_tree.specs.Bindings.{file_of};
 ghost use Rattle.script_task.specs.Effects as effects;
+ghost use Rattle.net_base.specs.Asks as asked;
 ghost use Rattle.script_task.specs.Planning as spec;
 ghost use Rattle.script_task.specs.Requests as requests;
 
@@ -57,7 +58,7 @@ pub fn plan(host: u32, fids: &Names, request: Request) -> Planned
 
 // An event after which the names stay.
 fn keeping(actor: ActorName, event: Event) -> Planned
-    ensures { result ≡ spec.keeping (spec.asks actor event) }
+    ensures { result ≡ spec.keeping (asked.asks actor event) }
 {
     Planned {
         actor,
@@ -67,19 +68,19 @@ fn keeping(actor: ActorName, event: Event) -> Planned
 }
 
 fn at_desk(host: u32, event: Event) -> Planned
-    ensures { result ≡ spec.keeping (spec.at_desk host event) }
+    ensures { result ≡ spec.keeping (asked.at_desk host event) }
 {
     keeping(ActorName::Desk(host), event)
 }
 
 fn at_file(host: u32, fid: Fid, event: Event) -> Planned
-    ensures { result ≡ spec.keeping (spec.at_file host (file_of fid) event) }
+    ensures { result ≡ spec.keeping (asked.at_file host (file_of fid) event) }
 {
     keeping(ActorName::Conv(host, fid.proto, fid.slot), event)
 }
 
 fn open(host: u32, fids: &Names, name: Octets, path: Octets, mode: Mode) -> Planned
-    ensures event { spec.ask_of result ≡ spec.opens_path host fids.now.names name path mode }
+    ensures event { spec.ask_of result ≡ asked.opens_path host fids.now.names name path mode }
     ensures effect { result.effect ≡ effects.effect_of fids.now.names (spec.open_request name path mode) }
 {
     if fids.is_bound(name.as_slice()) {
@@ -103,14 +104,14 @@ fn opens(name: Octets, mode: Mode, node: Option<Node>) -> Effect
 }
 
 fn ls(host: u32, path: Octets) -> Planned
-    ensures { result ≡ spec.keeping (spec.ls host path) }
+    ensures { result ≡ spec.keeping (asked.ls host path) }
 {
     let node = node_of(path.as_slice());
     keeping(ls_actor(host, node), ls_event(path, node))
 }
 
 fn close(host: u32, fids: &Names, name: Octets) -> Planned
-    ensures event { spec.ask_of result ≡ spec.close host name (steps.fid_of name fids.now.names) }
+    ensures event { spec.ask_of result ≡ asked.close host name (steps.fid_of name fids.now.names) }
     ensures effect { result.effect ≡ effects.closes name (steps.fid_of name fids.now.names) }
 {
     match fids.get(name.as_slice()) {
@@ -126,7 +127,7 @@ fn close(host: u32, fids: &Names, name: Octets) -> Planned
 }
 
 fn wait(host: u32, fids: &Names, name: Octets) -> Planned
-    ensures { result ≡ spec.keeping (spec.wait host name (steps.fid_of name fids.now.names)) }
+    ensures { result ≡ spec.keeping (asked.wait host name (steps.fid_of name fids.now.names)) }
 {
     match fids.get(name.as_slice()) {
         Some(fid) => at_file(
@@ -141,7 +142,7 @@ fn wait(host: u32, fids: &Names, name: Octets) -> Planned
 }
 
 fn read(host: u32, fids: &Names, name: Octets, count: u32) -> Planned
-    ensures { result ≡ spec.keeping (spec.read host name count (steps.fid_of name fids.now.names)) }
+    ensures { result ≡ spec.keeping (asked.read host name count (steps.fid_of name fids.now.names)) }
 {
     match fids.get(name.as_slice()) {
         Some(fid) => {
@@ -157,7 +158,7 @@ fn read(host: u32, fids: &Names, name: Octets, count: u32) -> Planned
 
 // The same, where an `hread` was told this.
 fn hear(host: u32, fids: &Names, name: Octets, count: u32, heard: Heard) -> Planned
-    ensures event { spec.ask_of result ≡ spec.read host name count (steps.fid_of name fids.now.names) }
+    ensures event { spec.ask_of result ≡ asked.read host name count (steps.fid_of name fids.now.names) }
     ensures effect { result.effect ≡ effects.hears heard }
 {
     let Planned { actor, event, .. } = read(host, fids, name, count);
@@ -203,7 +204,7 @@ fn read_event(fid: Fid, count: u32) -> Event
 }
 
 fn write(host: u32, fids: &Names, name: Octets, text: Octets) -> Planned
-    ensures { result ≡ spec.keeping (spec.write host name text (steps.fid_of name fids.now.names)) }
+    ensures { result ≡ spec.keeping (asked.write host name text (steps.fid_of name fids.now.names)) }
 {
     match fids.get(name.as_slice()) {
         Some(fid) => {
@@ -219,7 +220,7 @@ fn write(host: u32, fids: &Names, name: Octets, text: Octets) -> Planned
 
 // A text is written to a data file, or to a ctl file.
 fn put(host: u32, fid: Fid, text: Octets) -> Planned
-    ensures { result ≡ spec.keeping (spec.put host (file_of fid) text fid.file) }
+    ensures { result ≡ spec.keeping (asked.put host (file_of fid) text fid.file) }
 {
     match fid.file {
         FileName::Data => at_file(
@@ -236,7 +237,7 @@ fn put(host: u32, fid: Fid, text: Octets) -> Planned
 
 // The event of a control word.
 fn control(host: u32, fid: Fid, text: Octets) -> Planned
-    ensures { result ≡ spec.keeping (spec.controls host (file_of fid) text) }
+    ensures { result ≡ spec.keeping (asked.controls host (file_of fid) text) }
 {
     match read_ctl(text.as_slice()) {
         Ok(word) => controlled(host, fid, word),
@@ -252,7 +253,7 @@ fn control(host: u32, fid: Fid, text: Octets) -> Planned
 }
 
 fn controlled(host: u32, fid: Fid, word: Ctl) -> Planned
-    ensures { result ≡ spec.keeping (spec.controlled host (file_of fid) word) }
+    ensures { result ≡ spec.keeping (asked.controlled host (file_of fid) word) }
 {
     let (slot, generation) = (fid.slot, fid.generation);
     match word {
@@ -292,7 +293,7 @@ fn controlled(host: u32, fid: Fid, word: Ctl) -> Planned
 }
 
 fn at_directory(host: u32, fid: Fid, event: Event) -> Planned
-    ensures { result ≡ spec.keeping (spec.at_directory host (file_of fid) event) }
+    ensures { result ≡ spec.keeping (asked.at_directory host (file_of fid) event) }
 {
     keeping(ActorName::Dir(host, fid.proto), event)
 }

@@ -1,12 +1,13 @@
 //! Steps along their accepted and their refused replies, and completed addresses.
 use crate::holding::no_names;
-use dial_lib::{Accept, Announce, Dial, Listen, Reject, StepTask, netmkaddr};
-use net_base::{Addr, FileName, Lines, Mode, Octets, Pair, Proto, Reply, Step};
+use dial_lib::{Accept, Announce, Dial, Listen, Reject, netmkaddr};
+use net_base::{Addr, FileName, Left, Lines, Mode, Octets, Pair, Proto, Reply, Step};
 use net_tree::Fid;
 use script_task::{Names, Request, Task, settle};
 use std::alloc::{AllocError, Global};
 use std::process::Abort;
 use std::test::*;
+use step_task::StepTask;
 use words::split_first;
 
 // Rows of tests: a step, the letters of its replies, and its requests, with `end` where it is through then.
@@ -98,7 +99,7 @@ fn bind_all(fids: &mut Names) -> Result<(), AllocError> {
     bind(fids, b"s", FileName::Status, Mode::Read)
 }
 
-fn names(alloc: Global) -> Result<Names, AllocError> {
+pub(crate) fn names(alloc: Global) -> Result<Names, AllocError> {
     let mut fids = no_names(alloc)?;
     if bind_all(&mut fids).is_err() {
         drop(fids);
@@ -360,8 +361,10 @@ fn step(alloc: Global, words: &[u8]) -> Result<Step, AllocError> {
 
 fn task_of(alloc: Global, words: &[u8]) -> Result<StepTask, AllocError> {
     let step = step(alloc, words)?;
-    let task = StepTask::new(alloc, &step);
+    let left = Left::new(alloc);
+    let task = StepTask::new(alloc, &step, &left);
     drop(step);
+    drop(left);
     task
 }
 

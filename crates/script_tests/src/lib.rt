@@ -10,6 +10,8 @@ mod holding;
 #[cfg(test)]
 mod players;
 #[cfg(test)]
+mod remotes;
+#[cfg(test)]
 mod requests;
 #[cfg(test)]
 mod scripts;

@@ -70,7 +70,7 @@ fn plays_both<T: Task>(alloc: Global, task: &mut T) -> Result<bool, AllocError> 
 }
 
 fn plays(alloc: Global, script: &Script) -> Result<bool, AllocError> {
-    let mut task = ScriptTask::new(script);
+    let mut task = ScriptTask::new(alloc, script);
     let fresh = task.finished() == 0;
     let both = plays_both(alloc, &mut task);
     let finished = task.finished() == 2;
@@ -87,7 +87,7 @@ fn a_script_is_played(rt: HostRuntime) -> Result<(), AllocError> {
 }
 
 fn stays_over(alloc: Global) -> Result<bool, AllocError> {
-    let mut task = ScriptTask::idle();
+    let mut task = ScriptTask::idle(alloc);
     let told = task.told(alloc, Reply::Ok);
     let over = is_over(alloc, &task);
     drop(task);

@@ -2,11 +2,11 @@
 use Rattle.std.proofs.Common.{◌≡◌, ◌<◌, ℕ, List, Option, None, [], ◌∷◌, ◌++◌, length, sym, subst, ◌∙◌, ap, append_assoc, append-nil, arith}
 use Rattle.std.proofs.lemmas.List.{nil_from_length}
 use Rattle.net_base.specs.declared.reply.Reply.{Reply}
-use Rattle.ninep_wire.specs.declared.request.Tmsg.{Tmsg}
-use Rattle.sessions.specs.Script.{AreMessages, Begins, IsStream, after}
-use Rattle.sessions.specs.Server.{Answered, Outcome, answers_by, answers_to, outcome}
-use Rattle.sessions.specs.Session.{State, first}
-use Rattle.sessions.specs.Table.{IsSound, Table}
+use Rattle.net_base.specs.declared.ninep.Tmsg.{Tmsg}
+use Rattle.net_base.specs.SessionScript.{AreMessages, Begins, IsStream, after}
+use Rattle.net_base.specs.Server.{Answered, Outcome, answers_by, answers_to, outcome}
+use Rattle.net_base.specs.Session.{State, first}
+use Rattle.net_base.specs.SessionTable.{IsSound, Table}
 use Rattle.sessions.proofs.Sayable.{after_sound}
 use Rattle.session_script.proofs.Messages.{none_begins, one_beginning}
 use Rattle.session_answers.specs.Served.{Goes, IsLast, IsServedFirst, served}

@@ -6,18 +6,19 @@ use Rattle.std.specs.Option.{option_map_or}
 use Rattle.net_base.specs.declared.names.Node.{Node}
 use Rattle.net_base.specs.declared.names.Node.TheVariants as node
 use Rattle.net_base.specs.declared.reply.Reply.{Reply}
-use Rattle.ninep_wire.specs.declared.answer.Rmsg.{Rmsg}
-use Rattle.ninep_wire.specs.declared.answer.Rmsg.TheVariants as r
-use Rattle.ninep_wire.specs.declared.qid.Qid.{Qid}
-use Rattle.ninep_wire.specs.declared.request.Tmsg.{Tmsg}
-use Rattle.ninep_wire.specs.declared.request.Tmsg.TheVariants as t
-use Rattle.ninep_wire.specs.Fields.{qid}
-use Rattle.ninep_wire.specs.Messages.{IsTmsg, longest, r_bytes, r_fields, r_qids, t_tag}
-use Rattle.sessions.specs.Answers.{Found, attach_answer, bad_fid, bad_mode, bad_use, bytes_in, found_answer, granted, is_granting, node_at, not_served, of_known, of_used, open_answer, piece, longest_text, read_answer, said, skipped, spoken, version_answer, walk_answer}
-use Rattle.sessions.specs.declared.target.Target.{Target}
-use Rattle.sessions.specs.Files.{can_open, is_cs, qid_of, step_to, walked}
-use Rattle.sessions.specs.Script.{begins, gives_nothing, nofid, room}
-use Rattle.sessions.specs.Table.{Table, is_taken}
+use Rattle.net_base.specs.declared.ninep.Rmsg.{Rmsg}
+use Rattle.net_base.specs.declared.ninep.Rmsg.TheVariants as r
+use Rattle.net_base.specs.declared.ninep.Qid.{Qid}
+use Rattle.net_base.specs.declared.ninep.Tmsg.{Tmsg}
+use Rattle.net_base.specs.declared.ninep.Tmsg.TheVariants as t
+use Rattle.net_base.specs.NinepFields.{qid}
+use Rattle.net_base.specs.NinepMessages.{IsTmsg, longest, r_bytes, r_fields, r_qids, t_tag}
+use Rattle.net_base.specs.SessionAnswers.{Found, attach_answer, bad_fid, bad_mode, bad_use, found_answer, granted, is_granting, node_at, not_served, of_known, of_used, open_answer, piece, longest_text, read_answer, said, skipped, spoken, version_answer, walk_answer}
+use Rattle.net_base.specs.Steps.{bytes_in}
+use Rattle.net_base.specs.declared.ninep.Target.{Target}
+use Rattle.net_base.specs.SessionFiles.{can_open, is_cs, qid_of, step_to, walked}
+use Rattle.net_base.specs.SessionScript.{begins, gives_nothing, nofid, room}
+use Rattle.net_base.specs.SessionTable.{Table, is_taken}
 use Rattle.session_answers.specs.Told.{told_by, told_text}
 
 -- the fields of the answer have room behind a header, and its qids are few
@@ -102,7 +103,7 @@ spoken_few version = by (bytes_eq version (codes "9P2000"))
 
 version_fits : (table : Table) (tag msize : ℕ) (version : List ℕ) → Fits (version_answer table tag msize version)
 version_fits table tag msize version =
-    either (begins table msize) (r.Version tag (min msize longest) (spoken version)) (r.Error tag bad_use)
+    either (begins table msize) (r.Version tag (min msize table.msize) (spoken version)) (r.Error tag bad_use)
     (omega (arith, spoken_few version), omega arith)
     (error_fits tag bad_use (omega arith))
 

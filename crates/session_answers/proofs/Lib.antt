@@ -4,4 +4,4 @@ mod Fits
 mod Answering
 pub mod Serving
 mod Short
-mod Told
+pub mod Told

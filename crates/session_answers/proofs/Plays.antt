@@ -16,8 +16,8 @@ use Rattle.net_base.specs.declared.world.Step.TheVariants as step
 use Rattle.net_base.specs.ControlWords as control
 use Rattle.net_base.specs.Paths.{reads, walk, writes}
 use Rattle.net_base.specs.Steps.{uses, misuses, ends_with, read_event, opens, Ask, Asks, Bound, Ends, Fid, Names, Play, bind, controls, conversation_of, fid_among, fid_of, if_accepted, is_accepted, is_bound, on_fid, open_event, openable, opened_fid, play_of, puts, unbind, without}
-use Rattle.sessions.specs.Server.{Doing, Waits, doing_of, outcome}
-use Rattle.sessions.specs.Session.{State}
+use Rattle.net_base.specs.Server.{Doing, Waits, doing_of, outcome}
+use Rattle.net_base.specs.Session.{State}
 use Rattle.script_task.specs.declared.request.Request.{Request}
 use Rattle.script_task.specs.declared.effect.Effect.{Effect}
 use Rattle.script_task.specs.declared.planned.Planned.{Planned}
@@ -150,46 +150,20 @@ open_ahead h names called path m = by (is_bound names called)
 
 ahead : (h : ℕ) (names : Names) (s : Step) → IsServed s → Ahead (settled names (asked s)) (play_of h names s)
 ahead h names (step.Open called path (Some m)) is = open_ahead h names called path m
-ahead h names (step.Open called path None) is = absurd is
 ahead h names (step.Read called count) is = read_ahead h names called count
-ahead h names (step.Write called text) is = absurd is
 ahead h names (step.Writex called text) is = write_ahead h names called text
 ahead h names (step.Close called) is = close_ahead h names called
-ahead h names (step.Ls path) is = absurd is
 ahead h names (step.Cs query) is = One _ _ _ refl (λ x. refl)
-ahead h names (step.Until moment) is = absurd is
-ahead h names step.Refresh is = absurd is
-ahead h names (step.Dial called address) is = absurd is
-ahead h names (step.Announce called address) is = absurd is
-ahead h names (step.Listen called from) is = absurd is
-ahead h names (step.Accept called from) is = absurd is
-ahead h names (step.Reject called) is = absurd is
-ahead h names (step.Hangup called) is = absurd is
-ahead h names (step.Hread called count) is = absurd is
-ahead h names (step.Hwrite called bytes) is = absurd is
-ahead h names (step.Dns called times) is = absurd is
+ahead h names _ is = absurd is
 
 -- the request of a step plays as the step does
 pub plays_as : (h : ℕ) (names : Names) (s : Step) → IsServed s → play_of h names s ≡ request_play h names (asked s)
 plays_as h names (step.Open called path (Some m)) is = refl
-plays_as h names (step.Open called path None) is = absurd is
 plays_as h names (step.Read called count) is = refl
-plays_as h names (step.Write called text) is = absurd is
 plays_as h names (step.Writex called text) is = refl
 plays_as h names (step.Close called) is = refl
-plays_as h names (step.Ls path) is = absurd is
 plays_as h names (step.Cs query) is = refl
-plays_as h names (step.Until moment) is = absurd is
-plays_as h names step.Refresh is = absurd is
-plays_as h names (step.Dial called address) is = absurd is
-plays_as h names (step.Announce called address) is = absurd is
-plays_as h names (step.Listen called from) is = absurd is
-plays_as h names (step.Accept called from) is = absurd is
-plays_as h names (step.Reject called) is = absurd is
-plays_as h names (step.Hangup called) is = absurd is
-plays_as h names (step.Hread called count) is = absurd is
-plays_as h names (step.Hwrite called bytes) is = absurd is
-plays_as h names (step.Dns called times) is = absurd is
+plays_as h names _ is = absurd is
 
 -- ---- replies
 

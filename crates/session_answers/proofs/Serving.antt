@@ -6,15 +6,15 @@ use Rattle.net_base.specs.declared.reply.Reply.{Reply}
 use Rattle.net_base.specs.declared.world.Step.{Step}
 use Rattle.net_base.specs.declared.world.Step.TheVariants as step
 use Rattle.net_base.specs.Steps.{Names}
-use Rattle.ninep_wire.specs.declared.request.Tmsg.{Tmsg}
-use Rattle.ninep_wire.specs.declared.request.Tmsg.TheVariants as t
-use Rattle.sessions.specs.Answers.{Found}
-use Rattle.sessions.specs.Files.{access, is_cs, is_plain}
-use Rattle.sessions.specs.Script.{close_step, cs_step, fid_name, gives_nothing, is_query, open_step, opens, read_count, read_step, reads, room, step_of, write_step}
-use Rattle.sessions.specs.Server.{Doing, Gives, outcome}
-use Rattle.sessions.specs.Session.{State, told}
-use Rattle.sessions.specs.declared.target.Target.{Target}
-use Rattle.sessions.specs.Table.{Table, used}
+use Rattle.net_base.specs.declared.ninep.Tmsg.{Tmsg}
+use Rattle.net_base.specs.declared.ninep.Tmsg.TheVariants as t
+use Rattle.net_base.specs.SessionAnswers.{Found}
+use Rattle.net_base.specs.SessionFiles.{access, is_cs, is_plain}
+use Rattle.net_base.specs.SessionScript.{close_step, cs_step, fid_name, gives_nothing, is_query, open_step, opens, read_count, read_step, reads, room, step_of, write_step}
+use Rattle.net_base.specs.Server.{Doing, Gives, outcome}
+use Rattle.net_base.specs.Session.{State, told}
+use Rattle.net_base.specs.declared.ninep.Target.{Target}
+use Rattle.net_base.specs.SessionTable.{Table, used}
 use Rattle.session_answers.specs.Served.{IsServed, Plays, served}
 use Rattle.session_answers.specs.Told.{by_last, serves_by}
 

@@ -7,23 +7,23 @@ use Rattle.net_base.specs.declared.reply.Reply.{Reply}
 use Rattle.net_base.specs.declared.world.Step.{Step}
 use Rattle.net_base.specs.Next.{own_replies}
 use Rattle.net_base.specs.Steps.{Asks, Ends, Names, Play, play_of}
-use Rattle.ninep_wire.specs.declared.answer.Rmsg.{Rmsg}
-use Rattle.ninep_wire.specs.declared.answer.Rmsg.TheVariants as r
-use Rattle.ninep_wire.specs.declared.request.Tmsg.{Tmsg}
-use Rattle.ninep_wire.specs.Messages.{r_bytes, t_tag}
-use Rattle.sessions.specs.Answers.{found_by, granted, is_granting, printed, replied}
-use Rattle.sessions.specs.Script.{AreMessages, after, step_of}
-use Rattle.sessions.specs.Server.{Answered, Doing, Does, Gives, Outcome, Waits, answers_by, answers_to, doing_of, outcome}
-use Rattle.sessions.specs.Session as spec
-use Rattle.sessions.specs.Session.{State, first}
-use Rattle.sessions.specs.Table.{Table}
+use Rattle.net_base.specs.declared.ninep.Rmsg.{Rmsg}
+use Rattle.net_base.specs.declared.ninep.Rmsg.TheVariants as r
+use Rattle.net_base.specs.declared.ninep.Tmsg.{Tmsg}
+use Rattle.net_base.specs.NinepMessages.{r_bytes, t_tag}
+use Rattle.net_base.specs.SessionAnswers.{found_by, granted, is_granting, printed, replied}
+use Rattle.net_base.specs.SessionScript.{AreMessages, after, step_of}
+use Rattle.net_base.specs.Server.{Answered, Doing, Does, Gives, Outcome, Waits, answers_by, answers_to, doing_of, outcome}
+use Rattle.net_base.specs.Session as spec
+use Rattle.net_base.specs.Session.{State, first}
+use Rattle.net_base.specs.SessionTable.{Table}
 use Rattle.session_answers.specs.Served.{answered_of}
 use Rattle.session_answers.specs.Told.{AreTold, by_last, is_brief, is_told, serves_by, session, told_by, told_text}
 
 parts : (x : Reply) (rs : List Reply) → AreTold (x ∷ rs) → (is_told x ≡ true) × AreTold rs
 parts x rs told = and_parts (is_told x) (list_all is_told rs) told
 
-same_reply : (table : Table) (m : Tmsg) (x : Reply) → is_told x ≡ true → told_by table m x ≡ replied table m x
+pub same_reply : (table : Table) (m : Tmsg) (x : Reply) → is_told x ≡ true → told_by table m x ≡ replied table m x
 same_reply table m x told = by (is_granting x) (is_brief x) told
   where
     by : (g b : Bool) → (g || b) ≡ true

@@ -3,8 +3,8 @@ use Rattle.std.proofs.Common.{◌≡◌, ℕ, ◌+◌, ◌<◌, ◌≤◌, List,
 use Rattle.std.specs.Option.{option_map_or}
 use Rattle.std.proofs.lemmas.List.{at_drop_more, drop_all}
 use Rattle.net_base.specs.declared.names.Node.{Node}
-use Rattle.ninep_wire.specs.declared.qid.Qid.{Qid}
-use Rattle.sessions.specs.Files.{qid_of, step_to, walked}
+use Rattle.net_base.specs.declared.ninep.Qid.{Qid}
+use Rattle.net_base.specs.SessionFiles.{qid_of, step_to, walked}
 
 -- the qids so far, and those of what is left
 abbrev pub passed : List Qid → Node → List (List ℕ) → List Qid

@@ -8,13 +8,13 @@ use Rattle.net_base.specs.declared.world.Step.{Step}
 use Rattle.net_base.specs.declared.world.Step.TheVariants as step
 use Rattle.net_base.specs.Next.{own_replies}
 use Rattle.net_base.specs.Steps.{Names, play_of}
-use Rattle.ninep_wire.specs.declared.request.Tmsg.{Tmsg}
+use Rattle.net_base.specs.declared.ninep.Tmsg.{Tmsg}
 use Rattle.script_task.specs.declared.request.Request.{Request}
 use Rattle.script_task.specs.declared.request.Request.TheVariants as request
 use Rattle.session_script.specs.Seen.{seen}
-use Rattle.sessions.specs.Script.{Begins, IsStream, after}
-use Rattle.sessions.specs.Server.{Answered, Doing, Outcome, Waits, answers_to, doing_of, outcome}
-use Rattle.sessions.specs.Session.{State}
+use Rattle.net_base.specs.SessionScript.{Begins, IsStream, after}
+use Rattle.net_base.specs.Server.{Answered, Doing, Outcome, Waits, answers_to, doing_of, outcome}
+use Rattle.net_base.specs.Session.{State}
 use Rattle.session_answers.specs.declared.session.Session.{Session}
 use Rattle.session_answers.specs.Found.{lines_by}
 use Rattle.session_answers.specs.Told.{session}

@@ -4,16 +4,16 @@ use Rattle.std.specs.List.{list_all}
 use Rattle.net_base.specs.declared.reply.Reply.{Reply}
 use Rattle.net_base.specs.declared.reply.Reply.TheVariants as reply
 use Rattle.net_base.specs.declared.world.Step.{Step}
-use Rattle.net_base.specs.Steps.{Names, play_of}
-use Rattle.ninep_wire.specs.declared.answer.Rmsg.{Rmsg}
-use Rattle.ninep_wire.specs.declared.answer.Rmsg.TheVariants as r
-use Rattle.ninep_wire.specs.declared.request.Tmsg.{Tmsg}
-use Rattle.ninep_wire.specs.Messages.{r_bytes, t_tag}
-use Rattle.sessions.specs.Answers.{found_by, granted, is_granting, printed}
-use Rattle.sessions.specs.Script.{after, step_of}
-use Rattle.sessions.specs.Server.{Doing, Gives, Server, doing_of}
-use Rattle.sessions.specs.Session.{State, first, told}
-use Rattle.sessions.specs.Table.{Table}
+use Rattle.net_base.specs.Steps.{Ends, Names, play_of}
+use Rattle.net_base.specs.declared.ninep.Rmsg.{Rmsg}
+use Rattle.net_base.specs.declared.ninep.Rmsg.TheVariants as r
+use Rattle.net_base.specs.declared.ninep.Tmsg.{Tmsg}
+use Rattle.net_base.specs.NinepMessages.{r_bytes, t_tag}
+use Rattle.net_base.specs.SessionAnswers.{found_by, granted, is_granting, printed}
+use Rattle.net_base.specs.SessionScript.{after, step_of}
+use Rattle.net_base.specs.Server.{Doing, Gives, Server, doing_of}
+use Rattle.net_base.specs.Session.{State, first, told}
+use Rattle.net_base.specs.SessionTable.{Table}
 
 -- what refuses an event of a session, and what grants a pair, after which its conversation is awaited: a few short words
 abbrev pub is_brief : Reply → Bool
@@ -67,4 +67,5 @@ session h =
       opening = first;
       names = λ (s : State). s.names;
       serves = λ (s : State) (m : Tmsg). serves_by h s m (step_of s.table m);
+      closes = λ (s : State). Ends s.names;
     }

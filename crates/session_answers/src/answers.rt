@@ -1,14 +1,14 @@
 //! The answers to the messages of a session.
 ghost use Rattle.std.specs.Prelude.{◌≡◌, ◌<◌, List, length, IfOk, IfSome, MatchOption};
-ghost use Rattle.ninep_wire.specs.declared.request.Tmsg.{Tmsg as AnyTmsg};
+ghost use Rattle.net_base.specs.declared.ninep.Tmsg.{Tmsg as AnyTmsg};
 ghost use Rattle.net_base.specs.Next.{own_replies};
 ghost use Rattle.session_answers.specs.Told.{AreTold};
 ghost use Rattle.session_answers.specs.Served.{IsLast, IsServedFirst, answered_of, state_of};
 ghost use Rattle.session_script.specs.Seen.{seen};
-ghost use Rattle.sessions.specs.Table.{IsSound};
-ghost use Rattle.sessions.specs.Script.{AreMessages};
-ghost use Rattle.sessions.specs.Server.{answers_to};
-ghost use Rattle.sessions.specs.Session as spec;
+ghost use Rattle.net_base.specs.SessionTable.{IsSound};
+ghost use Rattle.net_base.specs.SessionScript.{AreMessages};
+ghost use Rattle.net_base.specs.Server.{answers_to};
+ghost use Rattle.net_base.specs.Session as spec;
 
 use crate::replies::Replies;
 use crate::session::Session;

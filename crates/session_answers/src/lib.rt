@@ -10,3 +10,7 @@ mod said;
 mod session;
 
 pub use answers::answers_by;
+pub use found::Found;
+pub use replied::{is_told, replied_bytes};
+pub use said::said_bytes;
+pub use session::request_of;

@@ -2,7 +2,7 @@
 ghost use Rattle.std.specs.Prelude.{◌≡◌, ◌<◌, ◌≤◌, ◌^◌, true, drop, length, IfOk, OnOk};
 ghost use Rattle.net_base.specs.declared.reply.Reply.TheVariants as reply;
 ghost use Rattle.session_answers.specs.Told as spec;
-ghost use Rattle.sessions.specs.Answers.{longest_text, printed as whole};
+ghost use Rattle.net_base.specs.SessionAnswers.{longest_text, printed as whole};
 
 use net_base::{Octets, Pair, Reply};
 use std::alloc::{AllocError, Global};
@@ -20,8 +20,8 @@ pub fn printed(alloc: Global, reply: &Reply) -> Result<Octets, AllocError>
     Octets::from_slice(alloc, behind_first(words.as_slice()))
 }
 
-// Whether the reply is brief.
-fn is_brief(reply: &Reply) -> bool
+/// Whether the reply is brief.
+pub fn is_brief(reply: &Reply) -> bool
     ensures is { result ≡ spec.is_brief reply.now }
     ensures short { length (spec.told_text reply.now) ≤ longest_text }
 {

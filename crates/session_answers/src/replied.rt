@@ -1,25 +1,44 @@
 //! The answers to messages with a step, by the reply to its last event.
 ghost use Rattle.std.specs.Prelude.{◌≡◌, ◌≤◌, false, length, IfOk, OnOk};
-ghost use Rattle.ninep_wire.specs.declared.request.Tmsg.TheVariants as t;
-ghost use Rattle.ninep_wire.specs.Messages.{IsTmsg, t_tag};
-ghost use Rattle.sessions.specs.Answers as spec;
+ghost use Rattle.net_base.specs.declared.ninep.Tmsg.TheVariants as t;
+ghost use Rattle.net_base.specs.NinepMessages.{IsTmsg, longest, r_bytes, t_tag};
+ghost use Rattle.net_base.specs.SessionAnswers as spec;
+ghost use Rattle.session_answers.specs.Told as told;
 ghost use Rattle.session_answers.specs.Told.{told_by, told_text};
 ghost use Rattle.session_script.specs.Seen.{seen};
 
-use crate::printed::printed;
+use crate::printed::{is_brief, printed};
 use crate::said::{error, piece, qid_of};
 use net_base::{FileName, Node, Octets, Reply};
-use ninep_wire::{Rmsg, Tmsg};
+use ninep_wire::{Rmsg, Tmsg, encode_r};
+use script_task::bytes_in;
 use session_script::{Table, is_data};
 use std::alloc::{AllocError, Global};
 
-/// The answer to a message with a step, by the reply to the step's last event.
-pub fn replied(
+/// The bytes of the answer to a message with a step, by the reply to the step's last event.
+pub fn replied_bytes(
     alloc: Global,
     table: &Table,
     message: &Tmsg,
     reply: &Reply,
-) -> Result<Rmsg, AllocError>
+) -> Result<Octets, AllocError>
+    requires message { IsTmsg message.now }
+    requires short { table.now.msize ≤ longest }
+    ensures { IfOk result (λ bytes. bytes ≡ r_bytes (told_by (seen table.now) message.now reply.now)) }
+{
+    let answer = replied(alloc, table, message, reply)?;
+    encode_r(alloc, &answer)
+}
+
+/// Whether the reply can be one to an event of a session: it grants it or is a few short words.
+pub fn is_told(reply: &Reply) -> bool
+    ensures { result ≡ told.is_told reply.now }
+{
+    is_granting(reply) || is_brief(reply)
+}
+
+// The answer to a message with a step, by the reply to the step's last event.
+fn replied(alloc: Global, table: &Table, message: &Tmsg, reply: &Reply) -> Result<Rmsg, AllocError>
     requires { IsTmsg message.now }
     ensures told { IfOk result (λ m. m ≡ told_by (seen table.now) message.now reply.now) }
     ensures short { OnOk result (spec.is_granting reply.now ≡ false → length (told_text reply.now) ≤ spec.longest_text) }
@@ -122,17 +141,8 @@ fn read(
     Ok(Rmsg::Read { tag, bytes })
 }
 
-fn bytes_in(reply: &Reply) -> &[u8]
-    ensures { result.now ≡ spec.bytes_in reply.now }
-{
-    match reply {
-        Reply::Bytes { bytes } => bytes.as_slice(),
-        _ => &[],
-    }
-}
-
-/// The tag of a request.
-pub fn tag_of(message: &Tmsg) -> u16
+// The tag of a request.
+fn tag_of(message: &Tmsg) -> u16
     ensures { result ≡ t_tag message.now }
 {
     match message {

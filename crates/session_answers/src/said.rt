@@ -1,22 +1,38 @@
 //! The answers to messages without a step.
-ghost use Rattle.std.specs.Prelude.{◌≡◌, ◌<◌, map, IfOk};
-ghost use Rattle.ninep_wire.specs.declared.answer.Rmsg.TheVariants as r;
+ghost use Rattle.std.specs.Prelude.{◌≡◌, ◌<◌, ◌≤◌, map, IfOk};
+ghost use Rattle.net_base.specs.declared.ninep.Rmsg.TheVariants as r;
 ghost use Rattle.session_script.specs.Seen.{seen};
 ghost use Rattle.session_answers.specs.Found.{lines_by};
-ghost use Rattle.sessions.specs.Answers as spec;
-ghost use Rattle.sessions.specs.Files as files;
+ghost use Rattle.net_base.specs.SessionAnswers as spec;
+ghost use Rattle.net_base.specs.SessionFiles as files;
+ghost use Rattle.net_base.specs.NinepMessages.{IsTmsg, longest, r_bytes};
 
 use crate::found::Found;
 use net_base::{FileName, Lines, Node, Octets, Proto, Sequence};
-use ninep_wire::{Qid, Qids, Rmsg, Tmsg};
+use ninep_wire::{Qid, Qids, Rmsg, Tmsg, encode_r};
 use session_script::{Table, can_open, gives_nothing, is_cs, is_directory, step_to};
 use std::alloc::{AllocError, Global};
 
 /// No fid.
 const NOFID: u32 = 0xffff_ffff;
 
-/// The answer to a message without a step.
-pub fn said(alloc: Global, table: &Table, found: &Found, message: &Tmsg) -> Result<Rmsg, AllocError>
+/// The bytes of the answer to a message without a step.
+pub fn said_bytes(
+    alloc: Global,
+    table: &Table,
+    found: &Found,
+    message: &Tmsg,
+) -> Result<Octets, AllocError>
+    requires message { IsTmsg message.now }
+    requires short { table.now.msize ≤ longest }
+    ensures { IfOk result (λ bytes. bytes ≡ r_bytes (spec.said (seen table.now) (lines_by found.now) message.now)) }
+{
+    let answer = said(alloc, table, found, message)?;
+    encode_r(alloc, &answer)
+}
+
+// The answer to a message without a step.
+fn said(alloc: Global, table: &Table, found: &Found, message: &Tmsg) -> Result<Rmsg, AllocError>
     ensures { IfOk result (λ m. m ≡ spec.said (seen table.now) (lines_by found.now) message.now) }
 {
     match message {
@@ -89,7 +105,7 @@ fn version_answer(
     let version = Octets::from_slice(alloc, spoken(version.as_slice()))?;
     Ok(Rmsg::Version {
         tag,
-        msize: msize.min(8216),
+        msize: msize.min(table.msize),
         version,
     })
 }

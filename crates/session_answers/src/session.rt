@@ -1,29 +1,27 @@
 //! A session as far as it was served.
-ghost use Rattle.std.specs.Prelude.{◌≡◌, ◌≤◌, ◌++◌, ◌&&◌, ℕ, List, [], ◌∷◌, IfOk, OnOk, IfSome, Some, option_copied};
+ghost use Rattle.std.specs.Prelude.{◌≡◌, ◌≤◌, ◌&&◌, [], IfOk, OnOk, IfSome, Some, option_copied};
 ghost use Rattle.net_base.specs.declared.world.Step.TheVariants as step;
 ghost use Rattle.net_base.specs.Steps as steps;
-ghost use Rattle.net_base.specs.Transcript.{lines_of};
-ghost use Rattle.ninep_wire.specs.declared.request.Tmsg.TheVariants as t;
-ghost use Rattle.ninep_wire.specs.Messages.{IsTmsg, longest};
+ghost use Rattle.net_base.specs.NinepMessages.{IsTmsg, longest};
 ghost use Rattle.script_task.specs.Effects.{opened, settles};
 ghost use Rattle.session_answers.specs.Found.{lines_by};
 ghost use Rattle.session_answers.specs.Served.{IsServed, Plays, asked, is_grant, served, state_of};
 ghost use Rattle.session_answers.specs.Told as told;
 ghost use Rattle.session_script.specs.Seen.{seen};
-ghost use Rattle.sessions.specs.Answers.{found_after, found_by};
-ghost use Rattle.sessions.specs.Script.{after};
-ghost use Rattle.sessions.specs.Server.{Gives, outcome};
-ghost use Rattle.sessions.specs.Session as spec;
+ghost use Rattle.net_base.specs.SessionAnswers.{found_after, found_by};
+ghost use Rattle.net_base.specs.SessionScript.{after};
+ghost use Rattle.net_base.specs.Server.{Gives, outcome};
+ghost use Rattle.net_base.specs.Session as spec;
 
 use crate::found::Found;
-use crate::replied::{node_at, replied};
+use crate::replied::replied_bytes;
 use crate::replies::Replies;
-use crate::said::said;
+use crate::said::said_bytes;
 use ndb_versions::IndexedVersions;
-use net_base::{Event, Lines, Mode, Octets, Reply, Sequence, Step, Version};
-use ninep_wire::{Tmsg, encode_r};
-use script_task::{Effect, Names, Request, effects_settle, plan};
-use session_script::{Table, is_cs, step_of};
+use net_base::{Event, Mode, Octets, Reply, Sequence, Step, Version};
+use ninep_wire::Tmsg;
+use script_task::{Effect, Names, Request, effects_settle, is_accepted, plan};
+use session_script::{Table, step_of};
 use std::alloc::{AllocError, Global};
 use std::sync::Arc;
 
@@ -79,8 +77,7 @@ impl Session {
         ensures heard { OnOk result (seen self.new.table ≡ after (seen self.old.table) message.now) }
         ensures host { self.new.host ≡ self.old.host }
     {
-        let answer = said(self.alloc, &self.table, &self.found, message)?;
-        let bytes = encode_r(self.alloc, &answer)?;
+        let bytes = said_bytes(self.alloc, &self.table, &self.found, message)?;
         self.hear(message)?;
         Ok(bytes)
     }
@@ -115,8 +112,7 @@ impl Session {
         ensures heard { OnOk result (seen self.new.table ≡ after (seen self.old.table) message.now) }
         ensures host { self.new.host ≡ self.old.host }
     {
-        let answer = replied(self.alloc, &self.table, message, reply)?;
-        let bytes = encode_r(self.alloc, &answer)?;
+        let bytes = replied_bytes(self.alloc, &self.table, message, reply)?;
         self.keep_lines(message, reply)?;
         self.table.hear(self.alloc, message)?;
         Ok(bytes)
@@ -129,7 +125,7 @@ impl Session {
         ensures names { self.new.names ≡ self.old.names }
         ensures host { self.new.host ≡ self.old.host }
     {
-        self.drop_lines(message);
+        self.found.hear(message);
         self.table.hear(self.alloc, message)
     }
 
@@ -167,39 +163,14 @@ impl Session {
         ensures host { self.new.host ≡ self.old.host }
     {
         match message {
-            Tmsg::Write { fid, .. } => self.keep_written(*fid, reply),
+            Tmsg::Write { fid, .. } => {
+                self.found
+                    .keep_written(self.alloc, &self.table, *fid, reply)
+            }
             _ => {
-                self.drop_lines(message);
+                self.found.hear(message);
                 Ok(())
             }
-        }
-    }
-
-    fn keep_written(&mut self, fid: u32, reply: &Reply) -> Result<(), AllocError>
-        ensures found { (tag offset : ℕ) (bytes : List ℕ) → OnOk result (lines_by self.new.found
-            ≡ found_by (seen self.old.table) (lines_by self.old.found) (t.Write tag fid offset bytes) reply.now) }
-        ensures table { self.new.table ≡ self.old.table }
-        ensures names { self.new.names ≡ self.old.names }
-        ensures host { self.new.host ≡ self.old.host }
-    {
-        if !is_cs(node_at(&self.table, fid)) {
-            return Ok(());
-        }
-        let lines = lines_in(self.alloc, reply)?;
-        self.found.set(fid, lines)
-    }
-
-    // The lines of cs go with their fid.
-    fn drop_lines(&mut self, message: &Tmsg)
-        ensures found { lines_by self.new.found ≡ found_after (lines_by self.old.found) message.now }
-        ensures table { self.new.table ≡ self.old.table }
-        ensures names { self.new.names ≡ self.old.names }
-        ensures host { self.new.host ≡ self.old.host }
-    {
-        match message {
-            Tmsg::Clunk { fid, .. } => self.found.forget(*fid),
-            Tmsg::Remove { fid, .. } => self.found.forget(*fid),
-            _ => {}
         }
     }
 }
@@ -216,8 +187,8 @@ fn no_names(alloc: Global) -> Result<Names, AllocError>
     Ok(Names::new(alloc, Arc::new(alloc, dbs)?))
 }
 
-// What a step of a session asks for.
-fn request_of(step: Step) -> Request
+/// What a step of a session asks for.
+pub fn request_of(step: Step) -> Request
     requires { IsServed step }
     ensures { result ≡ asked step }
 {
@@ -253,51 +224,4 @@ fn goes_on(event: &Event, reply: &Reply) -> bool
     ensures { result ≡ (is_grant event.now && steps.is_accepted reply.now) }
 {
     matches!(event, Event::Grant { .. }) && is_accepted(reply)
-}
-
-// Whether the reply isn't a refusal.
-fn is_accepted(reply: &Reply) -> bool
-    ensures { result ≡ steps.is_accepted reply.now }
-{
-    match reply {
-        Reply::Slot { .. } => true,
-        Reply::Granted { .. } => true,
-        Reply::Call { .. } => true,
-        Reply::Opened { .. } => true,
-        Reply::Ok => true,
-        Reply::Left => true,
-        Reply::Version { .. } => true,
-        Reply::Bytes { .. } => true,
-        Reply::Count { .. } => true,
-        Reply::Lines { .. } => true,
-        Reply::Names { .. } => true,
-        _ => false,
-    }
-}
-
-// The lines of a reply, with a newline after each.
-fn lines_in(alloc: Global, reply: &Reply) -> Result<Octets, AllocError>
-    ensures { IfOk result (λ text. text ≡ lines_of (steps.lines_in reply.now)) }
-{
-    match reply {
-        Reply::Lines { lines } => text_of(alloc, lines),
-        _ => Ok(Octets::new(alloc)),
-    }
-}
-
-fn text_of(alloc: Global, lines: &Lines) -> Result<Octets, AllocError>
-    ensures { IfOk result (λ text. text ≡ lines_of lines.now) }
-{
-    let mut text = Octets::new(alloc);
-    for line in lines.as_slice() {
-        put_line(&mut text, line.as_slice())?;
-    }
-    Ok(text)
-}
-
-fn put_line(text: &mut Octets, line: &[u8]) -> Result<(), AllocError>
-    ensures { OnOk result (text.new ≡ text.old ++ (line.now ++ 10 ∷ [])) }
-{
-    text.append(line)?;
-    text.append(b"\n")
 }

@@ -6,12 +6,12 @@ use Rattle.std.proofs.lemmas.List.{nil_from_length}
 use Rattle.byteorder.specs.Endian.{little_number}
 use Rattle.byteorder.specs.Numbers.{little_number-reads_back}
 use Rattle.net_base.specs.declared.world.Step.{Step}
-use Rattle.ninep_wire.specs.declared.request.Tmsg.{Tmsg}
-use Rattle.ninep_wire.specs.Fields.{number}
-use Rattle.ninep_wire.specs.Messages.{SpellsT, longest, t_bytes, t_fields, t_tag, t_type}
+use Rattle.net_base.specs.declared.ninep.Tmsg.{Tmsg}
+use Rattle.net_base.specs.NinepFields.{number}
+use Rattle.net_base.specs.NinepMessages.{SpellsT, longest, t_bytes, t_fields, t_tag, t_type}
 use Rattle.ninep_wire.proofs.Whole.{t_only}
-use Rattle.sessions.specs.Script.{AreMessages, Begins, IsBadStream, IsScript, IsStream, after, script, step_of, steps_of}
-use Rattle.sessions.specs.Table.{Table, opening}
+use Rattle.net_base.specs.SessionScript.{AreMessages, Begins, IsBadStream, IsScript, IsStream, after, script, step_of, steps_of}
+use Rattle.net_base.specs.SessionTable.{Table, opening}
 use Rattle.session_script.specs.Streams.{Takes}
 
 -- ---- one message

@@ -3,7 +3,7 @@ use Rattle.std.proofs.Common.{◌≡◌, ℕ, ◌+◌, ◌<◌, ◌≤◌, List,
 use Rattle.std.specs.Option.{option_and_then}
 use Rattle.std.proofs.lemmas.List.{at_drop_more, drop_all}
 use Rattle.net_base.specs.declared.names.Node.{Node}
-use Rattle.sessions.specs.Files.{reached, step_to}
+use Rattle.net_base.specs.SessionFiles.{reached, step_to}
 
 -- the next name, and those behind it
 next_name : (names : List (List ℕ)) (i : ℕ) (name : List ℕ) → i < length names → name ≡ get_or names i name → drop i names ≡ name ∷ drop (i + 1) names

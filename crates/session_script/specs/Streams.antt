@@ -1,9 +1,9 @@
 -- A session's bytes, message by message.
 use Rattle.std.specs.Prelude.{◌≡◌, ℕ, List, ◌++◌, option_to_list}
 use Rattle.net_base.specs.declared.world.Step.{Step}
-use Rattle.ninep_wire.specs.declared.request.Tmsg.{Tmsg}
-use Rattle.sessions.specs.Script.{Begins, after, step_of}
-use Rattle.sessions.specs.Table.{Table}
+use Rattle.net_base.specs.declared.ninep.Tmsg.{Tmsg}
+use Rattle.net_base.specs.SessionScript.{Begins, after, step_of}
+use Rattle.net_base.specs.SessionTable.{Table}
 
 -- the first message was taken: its step stands behind the others, and the rest is left
 pub record Takes (old new : Table) (before steps : List Step) (bytes rest : List ℕ) : Type 0 where

@@ -1,10 +1,10 @@
 //! Fids and what they stand for.
-ghost use Rattle.std.specs.Prelude.{◌≡◌, Some, None, OnOk};
-ghost use Rattle.sessions.specs.Table.{with_fid};
-ghost use Rattle.session_script.specs.Seen.{stands};
+ghost use Rattle.std.specs.Prelude.{◌≡◌, Some, None, OnErr, OnOk, option_map};
+ghost use Rattle.net_base.specs.SessionTable.{with_fid};
+ghost use Rattle.session_script.specs.Seen.{opened_target, stands};
 
 use indexmap::IndexMap;
-use sessions::Target;
+use net_base::Target;
 use std::alloc::{AllocError, Global};
 
 /// The fids that are known. Clauses say of it what each number stands for.
@@ -32,10 +32,20 @@ impl Fids {
 
     /// From now on the fid stands for this.
     pub fn set(&mut self, fid: u32, target: Target) -> Result<(), AllocError>
-        ensures { OnOk result (stands self.new ≡ with_fid fid (Some target) (stands self.old)) }
+        ensures ok { OnOk result (stands self.new ≡ with_fid fid (Some target) (stands self.old)) }
+        ensures err { OnErr result (self.new.entries.entries ≡ self.old.entries.entries) }
     {
         self.entries.insert(fid, target)?;
         Ok(())
+    }
+
+    /// The fid was opened, where it stands for something. It takes no memory.
+    pub fn use_it(&mut self, fid: u32)
+        ensures { stands self.new ≡ with_fid fid (option_map opened_target (stands self.old fid)) (stands self.old) }
+    {
+        if let Some(target) = self.entries.get_mut(&fid) {
+            target.is_used = true;
+        }
     }
 
     /// The fid stands for nothing any longer.

@@ -3,7 +3,7 @@ ghost use Rattle.std.specs.Prelude.{◌≡◌, ◌==◌, ◌++◌, ℕ, codes, I
 ghost use Rattle.std.specs.List.{list_any};
 ghost use Rattle.net_base.specs.Paths as paths;
 ghost use Rattle.net_base.specs.declared.names.Node.TheVariants as node;
-ghost use Rattle.sessions.specs.Files as spec;
+ghost use Rattle.net_base.specs.SessionFiles as spec;
 
 use net_base::{FileName, Lines, Mode, Node, Octets, Proto};
 use net_tree::walk;

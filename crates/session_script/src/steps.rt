@@ -3,8 +3,8 @@ ghost use Rattle.std.specs.Prelude.{◌≡◌, ◌==◌, ◌+◌, ℕ, min, IfOk
 ghost use Rattle.std.specs.List.{list_any};
 ghost use Rattle.std.specs.Option.{option_and_then};
 ghost use Rattle.net_base.specs.Paths as paths;
-ghost use Rattle.sessions.specs.Script as spec;
-ghost use Rattle.sessions.specs.Table as known;
+ghost use Rattle.net_base.specs.SessionScript as spec;
+ghost use Rattle.net_base.specs.SessionTable as known;
 ghost use Rattle.session_script.specs.Seen.{seen};
 
 use crate::files::{access, is_cs, is_data, is_directory, is_plain, put_path};

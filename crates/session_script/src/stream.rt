@@ -3,10 +3,10 @@ ghost use Rattle.std.specs.Prelude.{◌≡◌, ◌<◌, ◌≤◌, ◌++◌, ℕ
 ghost use Rattle.std.specs.List.{list_all};
 ghost use Rattle.byteorder.specs.Endian.{little_number};
 ghost use Rattle.net_base.specs.World.{is_step};
-ghost use Rattle.ninep_wire.specs.declared.request.Tmsg.{Tmsg as AnyTmsg};
-ghost use Rattle.ninep_wire.specs.Messages.{SpellsT};
-ghost use Rattle.sessions.specs.Script as spec;
-ghost use Rattle.sessions.specs.Script.{AreMessages, Begins, IsBadStream, IsScript};
+ghost use Rattle.net_base.specs.declared.ninep.Tmsg.{Tmsg as AnyTmsg};
+ghost use Rattle.net_base.specs.NinepMessages.{SpellsT};
+ghost use Rattle.net_base.specs.SessionScript as spec;
+ghost use Rattle.net_base.specs.SessionScript.{AreMessages, Begins, IsBadStream, IsScript};
 ghost use Rattle.session_script.specs.Seen.{seen};
 ghost use Rattle.session_script.specs.Streams.{Takes};
 

@@ -1,14 +1,12 @@
 //! What a session knows after its messages.
-ghost use Rattle.std.specs.Prelude.{◌≡◌, OnOk};
-ghost use Rattle.sessions.specs.Script as spec;
-ghost use Rattle.sessions.specs.Table as known;
-ghost use Rattle.session_script.specs.Seen.{seen};
+ghost use Rattle.std.specs.Prelude.{◌≡◌, OnErr, OnOk, false};
+ghost use Rattle.net_base.specs.SessionScript as spec;
+ghost use Rattle.net_base.specs.SessionTable as known;
+ghost use Rattle.session_script.specs.Seen.{brings_fid, kept, seen};
 
 use crate::fids::Fids;
 use crate::files::{can_open, reached};
-use net_base::{Lines, Node};
-use ninep_wire::Tmsg;
-use sessions::Target;
+use net_base::{Lines, Node, Target, Tmsg};
 use std::alloc::{AllocError, Global};
 
 /// No message is longer.
@@ -37,6 +35,17 @@ impl Table {
         }
     }
 
+    /// The same, where no message is longer than this.
+    pub fn shorter(alloc: Global, msize: u32) -> Table
+        ensures { seen result ≡ record known.opening { msize = msize } }
+    {
+        Table {
+            is_first: true,
+            msize,
+            fids: Fids::new(alloc),
+        }
+    }
+
     /// What a fid stands for that was opened.
     pub fn used(&self, fid: u32) -> Option<Target>
         ensures { result ≡ known.used (seen self.now) fid }
@@ -52,24 +61,31 @@ impl Table {
         count.min(self.msize.saturating_sub(24))
     }
 
-    /// Takes a message.
+    /// Takes a message. Without memory it is as before.
     pub fn hear(&mut self, alloc: Global, message: &Tmsg) -> Result<(), AllocError>
-        ensures { OnOk result (seen self.new ≡ spec.after (seen self.old) message.now) }
+        ensures ok { OnOk result (seen self.new ≡ spec.after (seen self.old) message.now) }
+        ensures err { OnErr result (kept self.new ≡ kept self.old) }
     {
         self.change(alloc, message)?;
         self.is_first = false;
         Ok(())
     }
 
+    /// Takes a message that brings no fid. It takes no memory.
+    pub fn hear_known(&mut self, message: &Tmsg)
+        requires { brings_fid message.now ≡ false }
+        ensures { seen self.new ≡ spec.after (seen self.old) message.now }
+    {
+        self.change_known(message);
+        self.is_first = false;
+    }
+
     // What a message changes, whichever it is.
     fn change(&mut self, alloc: Global, message: &Tmsg) -> Result<(), AllocError>
-        ensures { OnOk result (seen self.new ≡ spec.changed (seen self.old) message.now) }
+        ensures ok { OnOk result (seen self.new ≡ spec.changed (seen self.old) message.now) }
+        ensures err { OnErr result (kept self.new ≡ kept self.old) }
     {
         match message {
-            Tmsg::Version { msize, .. } => {
-                self.hear_version(*msize);
-                Ok(())
-            }
             Tmsg::Attach { fid, afid, .. } => self.attach(*fid, *afid),
             Tmsg::Walk {
                 fid,
@@ -77,16 +93,24 @@ impl Table {
                 names,
                 ..
             } => self.walk(alloc, *fid, *newfid, names),
+            _ => {
+                self.change_known(message);
+                Ok(())
+            }
+        }
+    }
+
+    // The same for a message that brings no fid.
+    fn change_known(&mut self, message: &Tmsg)
+        requires { brings_fid message.now ≡ false }
+        ensures { seen self.new ≡ spec.changed (seen self.old) message.now }
+    {
+        match message {
+            Tmsg::Version { msize, .. } => self.hear_version(*msize),
             Tmsg::Open { fid, mode, .. } => self.open(*fid, *mode),
-            Tmsg::Clunk { fid, .. } => {
-                self.fids.forget(*fid);
-                Ok(())
-            }
-            Tmsg::Remove { fid, .. } => {
-                self.fids.forget(*fid);
-                Ok(())
-            }
-            _ => Ok(()),
+            Tmsg::Clunk { fid, .. } => self.fids.forget(*fid),
+            Tmsg::Remove { fid, .. } => self.fids.forget(*fid),
+            _ => {}
         }
     }
 
@@ -94,12 +118,13 @@ impl Table {
         ensures { seen self.new ≡ spec.heard (seen self.old) msize }
     {
         if self.is_first && 256 <= msize {
-            self.msize = msize.min(LONGEST);
+            self.msize = msize.min(self.msize);
         }
     }
 
     fn attach(&mut self, fid: u32, afid: u32) -> Result<(), AllocError>
-        ensures { OnOk result (seen self.new ≡ spec.attached (seen self.old) fid afid) }
+        ensures err { OnErr result (kept self.new ≡ kept self.old) }
+        ensures ok { OnOk result (seen self.new ≡ spec.attached (seen self.old) fid afid) }
     {
         if afid != NOFID || self.fids.get(fid).is_some() {
             return Ok(());
@@ -129,7 +154,8 @@ impl Table {
         newfid: u32,
         names: &Lines,
     ) -> Result<(), AllocError>
-        ensures { OnOk result (seen self.new ≡ spec.walked_to (seen self.old) fid newfid names.now) }
+        ensures err { OnErr result (kept self.new ≡ kept self.old) }
+        ensures ok { OnOk result (seen self.new ≡ spec.walked_to (seen self.old) fid newfid names.now) }
     {
         let Some(node) = self.source(fid, newfid) else {
             return Ok(());
@@ -140,20 +166,15 @@ impl Table {
         self.fids.set(newfid, fresh(end))
     }
 
-    fn open(&mut self, fid: u32, mode: u8) -> Result<(), AllocError>
-        ensures { OnOk result (seen self.new ≡ spec.used_by (seen self.old) fid mode) }
+    fn open(&mut self, fid: u32, mode: u8)
+        ensures { seen self.new ≡ spec.used_by (seen self.old) fid mode }
     {
         let Some(target) = self.fids.get(fid) else {
-            return Ok(());
+            return;
         };
-        if !can_open(target.node, mode) {
-            return Ok(());
+        if can_open(target.node, mode) {
+            self.fids.use_it(fid);
         }
-        let target = Target {
-            node: target.node,
-            is_used: true,
-        };
-        self.fids.set(fid, target)
     }
 }
 

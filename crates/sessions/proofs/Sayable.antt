@@ -21,14 +21,14 @@ use Rattle.net_base.specs.Numeral.{numeral}
 use Rattle.net_base.specs.Paths.{checked, file_name, in_range, is_named, node_of, path_of, walk}
 use Rattle.net_base.specs.World.{is_byte, is_name, is_name_byte, is_step, is_text, is_within, is_word}
 use Rattle.words.proofs.Numerals.{numeral_by_steps}
-use Rattle.ninep_wire.specs.declared.request.Tmsg.{Tmsg}
-use Rattle.ninep_wire.specs.declared.request.Tmsg.TheVariants as t
-use Rattle.ninep_wire.specs.Fields.{Holds, number}
-use Rattle.ninep_wire.specs.Messages.{IsTmsg, longest, t_bytes}
-use Rattle.sessions.specs.Files.{access, can_open, child, is_cs, is_plain, parent, reached, step_to}
-use Rattle.sessions.specs.Script.{Begins, IsScript, IsStream, after, attaches, begins, bound_by, changed, close_step, cs_step, fid_name, gives_nothing, is_query, open_step, opened, opens, read_count, read_step, reads, room, source, step_of, steps_of, text_end, walks_from, write_step}
-use Rattle.sessions.specs.declared.target.Target.{Target}
-use Rattle.sessions.specs.Table.{IsSound, Table, fresh, is_taken, opening, put, set, used}
+use Rattle.net_base.specs.declared.ninep.Tmsg.{Tmsg}
+use Rattle.net_base.specs.declared.ninep.Tmsg.TheVariants as t
+use Rattle.net_base.specs.NinepFields.{Holds, number}
+use Rattle.net_base.specs.NinepMessages.{IsTmsg, longest, t_bytes}
+use Rattle.net_base.specs.SessionFiles.{access, can_open, child, is_cs, is_plain, parent, reached, step_to}
+use Rattle.net_base.specs.SessionScript.{Begins, IsScript, IsStream, after, attaches, begins, bound_by, changed, close_step, cs_step, fid_name, gives_nothing, is_query, open_step, opened, opens, read_count, read_step, reads, room, source, step_of, steps_of, text_end, walks_from, write_step}
+use Rattle.net_base.specs.declared.ninep.Target.{Target}
+use Rattle.net_base.specs.SessionTable.{IsSound, Table, fresh, is_taken, opening, put, set, used}
 
 both : (a b : Bool) → a ≡ true → b ≡ true → (a && b) ≡ true
 both a b p q = rw (p, q) refl
@@ -215,10 +215,10 @@ either_sound : (b : Bool) (x y : Table) → (b ≡ true → IsSound x) → IsSou
 either_sound true x y a c = a refl
 either_sound false x y a c = c
 
-heard_sound : (table : Table) (msize : ℕ) → IsSound table → begins table msize ≡ true → IsSound (record table { msize = min msize longest })
+heard_sound : (table : Table) (msize : ℕ) → IsSound table → begins table msize ≡ true → IsSound (record table { msize = min msize table.msize })
 heard_sound table msize s is = record {
-  least = omega (arith, enough);
-  most = omega arith;
+  least = omega (arith, enough, s.least);
+  most = omega (arith, s.most);
   nodes = s.nodes;
 }
   where
@@ -230,7 +230,7 @@ heard_sound table msize s is = record {
 
 changed_sound : (table : Table) (m : Tmsg) → IsSound table → IsSound (changed table m)
 changed_sound table (t.Version tag msize version) s =
-    either_sound (begins table msize) (record table { msize = min msize longest }) table (heard_sound table msize s) s
+    either_sound (begins table msize) (record table { msize = min msize table.msize }) table (heard_sound table msize s) s
 changed_sound table (t.Auth tag afid uname aname) s = s
 changed_sound table (t.Attach tag fid afid uname aname) s =
     either_sound (attaches table fid afid) (set fid (Some (fresh node.Root)) table) table

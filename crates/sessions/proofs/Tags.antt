@@ -3,16 +3,16 @@ use Rattle.std.proofs.Common.{◌≡◌, ℕ, ◌==◌, min, Bool, true, false, 
 use Rattle.net_base.specs.declared.names.Node.{Node}
 use Rattle.net_base.specs.declared.names.Node.TheVariants as node
 use Rattle.net_base.specs.declared.reply.Reply.{Reply}
-use Rattle.ninep_wire.specs.declared.answer.Rmsg.{Rmsg}
-use Rattle.ninep_wire.specs.declared.answer.Rmsg.TheVariants as r
-use Rattle.ninep_wire.specs.declared.request.Tmsg.{Tmsg}
-use Rattle.ninep_wire.specs.declared.request.Tmsg.TheVariants as t
-use Rattle.ninep_wire.specs.Messages.{longest, r_tag, t_tag}
-use Rattle.sessions.specs.Answers.{Found, attach_answer, bad_fid, bad_mode, bad_use, found_answer, granted, is_granting, not_served, of_known, of_used, open_answer, piece, printed, read_answer, replied, said, spoken, version_answer, walk_answer}
-use Rattle.sessions.specs.declared.target.Target.{Target}
-use Rattle.sessions.specs.Files.{can_open, is_cs, qid_of, walked}
-use Rattle.sessions.specs.Script.{begins, gives_nothing, nofid, room}
-use Rattle.sessions.specs.Table.{Table, is_taken}
+use Rattle.net_base.specs.declared.ninep.Rmsg.{Rmsg}
+use Rattle.net_base.specs.declared.ninep.Rmsg.TheVariants as r
+use Rattle.net_base.specs.declared.ninep.Tmsg.{Tmsg}
+use Rattle.net_base.specs.declared.ninep.Tmsg.TheVariants as t
+use Rattle.net_base.specs.NinepMessages.{longest, r_tag, t_tag}
+use Rattle.net_base.specs.SessionAnswers.{Found, attach_answer, bad_fid, bad_mode, bad_use, found_answer, granted, is_granting, not_served, of_known, of_used, open_answer, piece, printed, read_answer, replied, said, spoken, version_answer, walk_answer}
+use Rattle.net_base.specs.declared.ninep.Target.{Target}
+use Rattle.net_base.specs.SessionFiles.{can_open, is_cs, qid_of, walked}
+use Rattle.net_base.specs.SessionScript.{begins, gives_nothing, nofid, room}
+use Rattle.net_base.specs.SessionTable.{Table, is_taken}
 
 -- of two answers with a tag either has it
 either : (b : Bool) (x y : Rmsg) (tag : ℕ) → r_tag x ≡ tag → r_tag y ≡ tag → r_tag (cond b x y) ≡ tag
@@ -30,7 +30,7 @@ found_tag tag (name ∷ names) [] = refl
 found_tag tag (name ∷ names) (at ∷ more) = refl
 
 version_tag : (table : Table) (tag msize : ℕ) (version : List ℕ) → r_tag (version_answer table tag msize version) ≡ tag
-version_tag table tag msize version = either (begins table msize) (r.Version tag (min msize longest) (spoken version)) (r.Error tag bad_use) tag refl refl
+version_tag table tag msize version = either (begins table msize) (r.Version tag (min msize table.msize) (spoken version)) (r.Error tag bad_use) tag refl refl
 
 attach_tag : (table : Table) (tag fid afid : ℕ) → r_tag (attach_answer table tag fid afid) ≡ tag
 attach_tag table tag fid afid =

@@ -5,7 +5,7 @@ use Rattle.std.proofs.lemmas.List.{length-drop}
 use Rattle.std.specs.List.{list_all}
 use Rattle.net_base.specs.declared.reply.Reply.{Reply}
 use Rattle.net_base.specs.Transcript.{reply_words, spaced}
-use Rattle.sessions.specs.Answers.{longest_text, printed}
+use Rattle.net_base.specs.SessionAnswers.{longest_text, printed}
 
 abbrev pub is_short : List ℕ → Bool
 is_short word = nat_le (length word) 100

@@ -3,13 +3,13 @@ use Rattle.std.proofs.Common.{◌≡◌, ◌≤◌, ℕ, List, [], ◌∷◌, �
 use Rattle.std.specs.Prelude.{codes, flat_map, map}
 use Rattle.net_base.specs.Hexadecimal.{hex_digits}
 use Rattle.net_base.specs.Numeral.{numeral}
-use Rattle.ninep_wire.specs.declared.request.Tmsg.{Tmsg}
-use Rattle.ninep_wire.specs.declared.request.Tmsg.TheVariants as t
-use Rattle.ninep_wire.specs.Fields.{Holds}
-use Rattle.ninep_wire.specs.Messages.{IsTmsg, longest, r_bytes, t_bytes, t_tag}
-use Rattle.sessions.specs.Script.{AreMessages, Begins, nofid, script}
-use Rattle.sessions.specs.Server.{answers_to}
-use Rattle.sessions.specs.Session.{first, session}
+use Rattle.net_base.specs.declared.ninep.Tmsg.{Tmsg}
+use Rattle.net_base.specs.declared.ninep.Tmsg.TheVariants as t
+use Rattle.net_base.specs.NinepFields.{Holds}
+use Rattle.net_base.specs.NinepMessages.{IsTmsg, longest, r_bytes, t_bytes, t_tag}
+use Rattle.net_base.specs.SessionScript.{AreMessages, Begins, nofid, script}
+use Rattle.net_base.specs.Server.{answers_to}
+use Rattle.net_base.specs.Session.{first, session}
 use Rattle.sessions.specs.Worked as worked
 
 pub spelled : hex_digits (flat_map t_bytes worked.messages) ≡ worked.feed

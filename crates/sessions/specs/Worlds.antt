@@ -7,7 +7,7 @@ use Rattle.net_base.specs.declared.world.Step.{Step}
 use Rattle.net_base.specs.World.{all_apart}
 use Rattle.sessions.specs.declared.world.Session.{Session}
 use Rattle.sessions.specs.declared.world.SessionWorld.{SessionWorld}
-use Rattle.sessions.specs.Script.{IsScript}
+use Rattle.net_base.specs.SessionScript.{IsScript}
 
 abbrev pub same_place : Session → Session → Bool
 same_place x y = x.place == y.place

@@ -6,13 +6,13 @@ ghost use Rattle.net_base.specs.Transcript.{reply_words};
 ghost use Rattle.net_base.specs.World.{is_byte, is_step};
 ghost use Rattle.net_base.specs.declared.reply.Reply.{Reply};
 ghost use Rattle.net_base.specs.declared.world.Step.{Step};
-ghost use Rattle.ninep_wire.specs.declared.request.Tmsg.{Tmsg};
-ghost use Rattle.ninep_wire.specs.Messages.{r_tag, t_bytes, t_tag};
-ghost use Rattle.sessions.specs.Answers.{Found, longest_text, printed, replied, said};
-ghost use Rattle.sessions.specs.Script.{AreMessages, IsScript, script};
-ghost use Rattle.sessions.specs.Server.{answers_to};
-ghost use Rattle.sessions.specs.Session.{first, session};
-ghost use Rattle.sessions.specs.Table.{Table};
+ghost use Rattle.net_base.specs.declared.ninep.Tmsg.{Tmsg};
+ghost use Rattle.net_base.specs.NinepMessages.{r_tag, t_bytes, t_tag};
+ghost use Rattle.net_base.specs.SessionAnswers.{Found, longest_text, printed, replied, said};
+ghost use Rattle.net_base.specs.SessionScript.{AreMessages, IsScript, script};
+ghost use Rattle.net_base.specs.Server.{answers_to};
+ghost use Rattle.net_base.specs.Session.{first, session};
+ghost use Rattle.net_base.specs.SessionTable.{Table};
 ghost use Rattle.sessions.specs.Worked as worked;
 
 /// An answer has the tag of its message.

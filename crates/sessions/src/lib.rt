@@ -2,11 +2,9 @@
 #![tactic(auto)]
 
 mod law;
-mod target;
 mod world;
 
 pub use law::{
     a_session_is_answered, answers_have_the_tag, scripts_can_be_said, short_replies_have_room,
 };
-pub use target::Target;
 pub use world::{Session, SessionWorld, Sessions};

@@ -1,24 +1,38 @@
 -- A script's task plays the script, and its code goes from step to step as the definitions do.
-use Rattle.std.proofs.Common.{◌≡◌, ℕ, zero, suc, ◌+◌, ◌<◌, ◌∙◌, Bool, true, false, List, [], ◌∷◌, ◌++◌, drop, length, Option, Some, None, slice_get, is_none, is_some, nat_lt, nat_le, option_map, refl, sym, ap, subst, rules, tests, arith}
+use Rattle.std.proofs.Common.{◌≡◌, ℕ, zero, suc, ◌+◌, ◌<◌, ◌∙◌, Bool, true, false, List, [], ◌∷◌, ◌++◌, drop, length, Option, Some, None, slice_get, is_none, is_some, nat_lt, nat_le, option_map, if◌then◌else◌, refl, sym, ap, subst, rules, tests, arith}
 use Rattle.std.proofs.lemmas.Bool.Decides.{nat_tests}
 use Rattle.std.proofs.lemmas.Bool.{true≢false}
 use Rattle.std.proofs.lemmas.Option.{none-some}
+use Rattle.net_base.specs.declared.left.Left.{Left}
 use Rattle.net_base.specs.declared.reply.Reply.{Reply}
 use Rattle.net_base.specs.declared.world.Script.{Script}
 use Rattle.net_base.specs.declared.world.Step.{Step}
 use Rattle.net_base.specs.Next.{finished_by}
-use Rattle.net_base.specs.Steps.{Names, Play, Asks, Ends, Position, no_names, position, position_by, play_of, stands}
+use Rattle.net_base.specs.Remotes.{nothing_left}
+use Rattle.net_base.specs.Scripts.{Kept as Holds, at_first, heard as first_replies, kept_after, left_after, position, step_play}
+use Rattle.net_base.specs.Steps.{Names, Play, Asks, Ends, Position, no_names, position_by, stands}
 use Rattle.net_base.specs.Versions.{Tuples}
 use Rattle.script_task.specs.declared.request.Request.{Request}
 use Rattle.script_task.specs.Requests.{head, settled}
 use Rattle.script_task.specs.Rest.{rest}
 use Rattle.script_task.specs.Task.{Heads}
-use Rattle.dial_lib.specs.declared.step.StepTask.{StepTask}
+use Rattle.step_task.specs.declared.step.StepTask.{StepTask}
 use Rattle.dial_lib.specs.Slots.{HaveSlots}
-use Rattle.dial_lib.specs.StepLaws as step_laws
-use Rattle.dial_lib.specs.StepTasks as step
-use Rattle.whole_script.specs.ScriptLaws.{begun_asks, begins, asks_alike, ended_play, step_heads}
-use Rattle.whole_script.specs.ScriptTasks.{Scripting, finished_in, AtStep, AtEnd, begun_at, begun_by, progress, goes_on, Kept, asks, first_asked, after, heard, told_by, is_played, after_all, AllFit, then_play, plays_of, Plays}
+use Rattle.step_task.specs.Leaving.{after_one, leaves_so}
+use Rattle.step_task.specs.StepLaws as step_laws
+use Rattle.step_task.specs.StepTasks as step
+use Rattle.whole_script.specs.ScriptLaws.{begins, ended_play, step_heads}
+use Rattle.whole_script.specs.ScriptTasks.{Scripting, finished_in, AtStep, AtEnd, begun_at, begun_by, progress, goes_on, Kept, asks, first_asked, after, heard, told_by, is_played, left_by, after_all, AllFit, then_play, plays_of, plays_behind, Plays}
+
+-- Replies.
+
+append_nothing : (xs : List Reply) → xs ++ [] ≡ xs
+append_nothing [] = refl
+append_nothing (x ∷ xs) = ap (λ ys. x ∷ ys) (append_nothing xs)
+
+append_one : (xs : List Reply) (r : Reply) (more : List Reply) → (xs ++ r ∷ []) ++ more ≡ xs ++ r ∷ more
+append_one [] r more = refl
+append_one (x ∷ xs) r more = ap (λ ys. x ∷ ys) (append_one xs r more)
 
 -- The play of the steps is the script's.
 
@@ -37,28 +51,38 @@ ended names rs = record { next_is = sym (rest_ended names rs); left_is = ap is_s
 lt_test : (k n : ℕ) → k < n → nat_lt k n ≡ true
 lt_test k n lt = search (rules, tests, lt)
 
--- a step's play before these
-step_ties : (h : ℕ) (s : Step) (ss : List Step) → ((names : Names) (rs : List Reply) → Ties (position h ss names rs) (rest (plays_of h ss names) rs))
-    → (p : Play) (rs : List Reply) → Ties (position_by (stands p rs) (s ∷ ss) (λ (names : Names) (later : List Reply). position h ss names later)) (rest (then_play p (plays_of h ss)) rs)
-step_ties h s ss later (Ends names) rs = later names rs
-step_ties h s ss later (Asks a e next) [] = record { next_is = refl; left_is = lt_test 0 (suc (length ss)) (omega arith) }
-step_ties h s ss later (Asks a e next) (r ∷ rs) = step_ties h s ss later (next r) rs
+-- where the steps behind a step stand that was told these replies, and so their plays
+abbrev behind_at : ℕ → List Step → Left → Step → List Reply → Names → List Reply → Position
+behind_at h behind left s said names later = position h behind (record { names = names; left = left_after left s said }) later
 
-ties : (h : ℕ) (ss : List Step) (names : Names) (rs : List Reply) → Ties (position h ss names rs) (rest (plays_of h ss names) rs)
-ties h [] names rs = ended names rs
-ties h (s ∷ ss) names rs = step_ties h s ss (ties h ss) (play_of h names s) rs
+-- a step's play, which was told these replies, before these
+step_ties : (h : ℕ) (left : Left) (s : Step) (ss : List Step) → ((k : Holds) (rs : List Reply) → Ties (position h ss k rs) (rest (plays_of h ss k) rs))
+    → (said : List Reply) (p : Play) (rs : List Reply)
+    → Ties (position_by (stands p rs) (s ∷ ss) (behind_at h ss left s (said ++ first_replies p rs))) (rest (then_play said p (plays_behind h ss left s)) rs)
+step_ties h left s ss later said (Ends names) rs =
+    subst (λ (xs : List Reply). Ties (behind_at h ss left s xs names rs) (rest (plays_behind h ss left s names said) rs)) (sym (append_nothing said))
+    (later (record { names = names; left = left_after left s said }) rs)
+step_ties h left s ss later said (Asks a e next) [] = record { next_is = refl; left_is = lt_test 0 (suc (length ss)) (omega arith) }
+step_ties h left s ss later said (Asks a e next) (r ∷ rs) =
+    subst (λ (xs : List Reply). Ties (position_by (stands (next r) rs) (s ∷ ss) (behind_at h ss left s xs)) (rest (then_play (said ++ r ∷ []) (next r) (plays_behind h ss left s)) rs))
+    (append_one said r (first_replies (next r) rs))
+    (step_ties h left s ss later (said ++ r ∷ []) (next r) rs)
+
+ties : (h : ℕ) (ss : List Step) (k : Holds) (rs : List Reply) → Ties (position h ss k rs) (rest (plays_of h ss k) rs)
+ties h [] k rs = ended k.names rs
+ties h (s ∷ ss) k rs = step_ties h k.left s ss (ties h ss) [] (step_play h k s) rs
 
 -- Steps that are finished.
 
 -- what is finished and what is left make up the script, whatever replies come
 abbrev AddsUp : ℕ → List Reply → Type 0
-AddsUp h rs = (n : ℕ) (names : Names) (t : StepTask) (behind : List Step) (s : Step) (p : Play) → step.StandsFor h names t p → is_none (step.asks t names) ≡ false
-    → AllFit (then_play p (plays_of h behind)) rs
-    → finished_in (after_all (AtStep n t behind) rs) + length (position_by (stands p rs) (s ∷ behind) (λ (ns : Names) (later : List Reply). position h behind ns later)).left ≡ n + suc (length behind)
+AddsUp h rs = (n : ℕ) (names : Names) (left : Left) (t : StepTask) (behind : List Step) (s : Step) (said : List Reply) (p : Play) → step.StandsFor h names t p
+    → t ≡ step.after_all (step.begun left s) said → is_none (step.asks t names) ≡ false → AllFit (then_play said p (plays_behind h behind left s)) rs
+    → finished_in (after_all (AtStep n left t behind) rs) + length (position_by (stands p rs) (s ∷ behind) (behind_at h behind left s (said ++ first_replies p rs))).left ≡ n + suc (length behind)
 
-ended_adds : (n : ℕ) (rs : List Reply) → finished_in (after_all (AtEnd n) rs) ≡ n
-ended_adds n [] = refl
-ended_adds n (r ∷ rs) = ended_adds n rs
+ended_adds : (n : ℕ) (left : Left) (rs : List Reply) → finished_in (after_all (AtEnd n left) rs) ≡ n
+ended_adds n left [] = refl
+ended_adds n left (r ∷ rs) = ended_adds n left rs
 
 some_request : (o : Option Request) → is_none o ≡ false → (q : Request) × (o ≡ Some q)
 some_request None is = absurd (true≢false is)
@@ -72,34 +96,53 @@ not_ended h names ns t stands on =
     none-some heads.0 heads.1
 
 adds_none : (h : ℕ) → AddsUp h []
-adds_none h n names t behind s (Asks a e next) at on fit = refl
-adds_none h n names t behind s (Ends ns) at on fit = absurd (not_ended h names ns t at on)
+adds_none h n names left t behind s said (Asks a e next) at told on fit = refl
+adds_none h n names left t behind s said (Ends ns) at told on fit = absurd (not_ended h names ns t at on)
 
 -- where the first of these begins
-begun_adds : (h : ℕ) (rs : List Reply) → AddsUp h rs → (n : ℕ) (names : Names) (left : List Step) → HaveSlots names → AllFit (plays_of h left names) rs
-    → finished_in (after_all (begun_at n left) rs) + length (position h left names rs).left ≡ n + length left
-begun_adds h rs more n names [] slots fit = ap (λ (k : ℕ). k + 0) (ended_adds n rs)
-begun_adds h rs more n names (s ∷ ss) slots fit = more n names (step.begun s) ss s (play_of h names s) (step_laws.begun_stands (step.begun s) s refl h names slots) (begun_asks s names) fit
+begun_adds : (h : ℕ) (rs : List Reply) → AddsUp h rs → (n : ℕ) (names : Names) (left : Left) (steps : List Step) → HaveSlots names
+    → AllFit (plays_of h steps (record { names = names; left = left })) rs
+    → finished_in (after_all (begun_at n left steps) rs) + length (position h steps (record { names = names; left = left }) rs).left ≡ n + length steps
+begun_adds h rs more n names left [] slots fit = ap (λ (k : ℕ). k + 0) (ended_adds n left rs)
+begun_adds h rs more n names left (s ∷ ss) slots fit =
+    more n names left (step.begun left s) ss s [] (step_play h (record { names = names; left = left }) s) (step_laws.begun_stands (step.begun left s) left s refl h names slots) refl
+    (step_laws.begun_asks left s names) fit
 
 -- the step goes on, or the next one begins
-adds_by : (h : ℕ) (rs : List Reply) → AddsUp h rs → (n : ℕ) (names : Names) (t : StepTask) (behind : List Step) (s : Step) (p : Play) → step.StandsFor h names t p
-    → (through : Bool) → is_none (step.asks t names) ≡ through → AllFit (then_play p (plays_of h behind)) rs
-    → finished_in (after_all (goes_on n t behind through) rs) + length (position_by (stands p rs) (s ∷ behind) (λ (ns : Names) (later : List Reply). position h behind ns later)).left ≡ n + suc (length behind)
-adds_by h rs more n names t behind s p at false is fit = more n names t behind s p at is fit
-adds_by h rs more n names t behind s p at true is fit =
+adds_by : (h : ℕ) (rs : List Reply) → AddsUp h rs → (n : ℕ) (names : Names) (left : Left) (t : StepTask) (behind : List Step) (s : Step) (said : List Reply) (p : Play)
+    → step.StandsFor h names t p → t ≡ step.after_all (step.begun left s) said → step.leaves t left ≡ left_after left s said
+    → (through : Bool) → is_none (step.asks t names) ≡ through → AllFit (then_play said p (plays_behind h behind left s)) rs
+    → finished_in (after_all (goes_on n left t behind through) rs) + length (position_by (stands p rs) (s ∷ behind) (behind_at h behind left s (said ++ first_replies p rs))).left ≡ n + suc (length behind)
+adds_by h rs more n names left t behind s said p at told leaves false is fit = more n names left t behind s said p at told is fit
+adds_by h rs more n names left t behind s said p at told leaves true is fit =
     let over : p ≡ Ends names = ended_play h names t p at is in
-    let next_fit : AllFit (plays_of h behind names) rs = subst (λ (x : Play). AllFit (then_play x (plays_of h behind)) rs) over fit in
-    let next : finished_in (after_all (begun_at (n + 1) behind) rs) + length (position h behind names rs).left ≡ (n + 1) + length behind = begun_adds h rs more (n + 1) names behind at.0 next_fit in
+    let fit_there : AllFit (plays_behind h behind left s names said) rs = subst (λ (x : Play). AllFit (then_play said x (plays_behind h behind left s)) rs) over fit in
+    let fit_next : AllFit (plays_of h behind (record { names = names; left = step.leaves t left })) rs =
+    subst (λ (l : Left). AllFit (plays_of h behind (record { names = names; left = l })) rs) (sym leaves) fit_there in
+    let next : finished_in (after_all (begun_at (n + 1) (step.leaves t left) behind) rs) + length (position h behind (record { names = names; left = step.leaves t left }) rs).left ≡ (n + 1) + length behind =
+    begun_adds h rs more (n + 1) names (step.leaves t left) behind at.0 fit_next in
+    let there : finished_in (after_all (begun_at (n + 1) (step.leaves t left) behind) rs) + length (behind_at h behind left s said names rs).left ≡ (n + 1) + length behind =
+    subst (λ (l : Left). finished_in (after_all (begun_at (n + 1) (step.leaves t left) behind) rs) + length (position h behind (record { names = names; left = l }) rs).left ≡ (n + 1) + length behind) leaves next in
+    let all : finished_in (after_all (begun_at (n + 1) (step.leaves t left) behind) rs) + length (behind_at h behind left s (said ++ []) names rs).left ≡ (n + 1) + length behind =
+    subst (λ (xs : List Reply). finished_in (after_all (begun_at (n + 1) (step.leaves t left) behind) rs) + length (behind_at h behind left s xs names rs).left ≡ (n + 1) + length behind) (sym (append_nothing said)) there in
     let same : (n + 1) + length behind ≡ n + suc (length behind) = omega arith in
-    subst (λ (x : Play). finished_in (after_all (begun_at (n + 1) behind) rs) + length (position_by (stands x rs) (s ∷ behind) (λ (ns : Names) (later : List Reply). position h behind ns later)).left ≡ n + suc (length behind)) (sym over) (next ∙ same)
+    subst (λ (x : Play).
+    finished_in (after_all (begun_at (n + 1) (step.leaves t left) behind) rs) + length (position_by (stands x rs) (s ∷ behind) (behind_at h behind left s (said ++ first_replies x rs))).left ≡ n + suc (length behind)) (sym over)
+    (all ∙ same)
 
 adds_more : (h : ℕ) (r : Reply) (rs : List Reply) → AddsUp h rs → AddsUp h (r ∷ rs)
-adds_more h r rs more n names t behind s (Ends ns) at on fit = absurd (not_ended h names ns t at on)
-adds_more h r rs more n names t behind s (Asks a e next) at on fit =
+adds_more h r rs more n names left t behind s said (Ends ns) at told on fit = absurd (not_ended h names ns t at on)
+adds_more h r rs more n names left t behind s said (Asks a e next) at told on fit =
     let found = some_request (step.asks t names) on in
-    adds_by h rs more n (settled names found.0 r) (step.after t r) behind s (next r)
+    let through : Bool = is_none (step.asks (step.after t r) (no_names [])) in
+    subst (λ (xs : List Reply).
+    finished_in (after_all (goes_on n left (step.after t r) behind through) rs) + length (position_by (stands (next r) rs) (s ∷ behind) (behind_at h behind left s xs)).left ≡ n + suc (length behind))
+    (append_one said r (first_replies (next r) rs))
+    (adds_by h rs more n (settled names found.0 r) left (step.after t r) behind s (said ++ r ∷ []) (next r)
     (step_laws.moves_so h names t (Asks a e next) found.0 r at found.1 fit.0)
-    (is_none (step.asks (step.after t r) (no_names []))) (asks_alike (step.after t r) (settled names found.0 r) (no_names [])) fit.1
+    (ap (λ (u : StepTask). step.after u r) told ∙ after_one (step.begun left s) said r)
+    (leaves_so left s said r t told (sym (step_laws.asks_alike t names (no_names [])) ∙ on))
+    through (step_laws.asks_alike (step.after t r) (settled names found.0 r) (no_names [])) fit.1)
 
 adds_up : (h : ℕ) (rs : List Reply) → AddsUp h rs
 adds_up h [] = adds_none h
@@ -107,39 +150,39 @@ adds_up h (r ∷ rs) = adds_more h r rs (adds_up h rs)
 
 -- The beginning.
 
-counts_from : (zone : Tuples) (s : Script) (rs : List Reply) → AllFit (plays_of s.host s.steps (no_names zone)) rs → finished_in (after_all (begun_at 0 s.steps) rs) ≡ finished_by zone rs s
+counts_from : (zone : Tuples) (s : Script) (rs : List Reply) → AllFit (plays_of s.host s.steps (at_first zone)) rs
+    → finished_in (after_all (begun_at 0 nothing_left s.steps) rs) ≡ finished_by zone rs s
 counts_from zone s rs fit =
-    let all : finished_in (after_all (begun_at 0 s.steps) rs) + length (position s.host s.steps (no_names zone) rs).left ≡ 0 + length s.steps = begun_adds s.host rs (adds_up s.host rs) 0 (no_names zone) s.steps refl fit in
+    let all : finished_in (after_all (begun_at 0 nothing_left s.steps) rs) + length (position s.host s.steps (at_first zone) rs).left ≡ 0 + length s.steps =
+    begun_adds s.host rs (adds_up s.host rs) 0 (no_names zone) nothing_left s.steps refl fit in
     omega (arith, all)
 
-starts_at : (zone : Tuples) (s : Script) → Plays zone s [] (no_names zone) (begun_at 0 s.steps)
+starts_at : (zone : Tuples) (s : Script) → Plays zone s [] (no_names zone) (begun_at 0 nothing_left s.steps)
 starts_at zone s =
     record {
-      play = plays_of s.host s.steps (no_names zone);
-      stands_for = begins s.host 0 (no_names zone) s.steps refl;
-      continues = record { next_is = λ more. (ties s.host s.steps (no_names zone) more).next_is; left_is = λ more. (ties s.host s.steps (no_names zone) more).left_is };
+      play = plays_of s.host s.steps (at_first zone);
+      stands_for = begins s.host 0 (no_names zone) nothing_left s.steps refl;
+      continues = record { next_is = λ more. (ties s.host s.steps (at_first zone) more).next_is; left_is = λ more. (ties s.host s.steps (at_first zone) more).left_is };
       counts = λ more fit. counts_from zone s more fit;
     }
 
-pub starts : (zone : Tuples) (s : Script) (ss : List Step) → ss ≡ s.steps → Plays zone s [] (no_names zone) (begun_at 0 ss)
-starts zone s ss is = subst (λ (xs : List Step). Plays zone s [] (no_names zone) (begun_at 0 xs)) (sym is) (starts_at zone s)
-
-append_nothing : (xs : List Reply) → xs ++ [] ≡ xs
-append_nothing [] = refl
-append_nothing (x ∷ xs) = ap (λ ys. x ∷ ys) (append_nothing xs)
+pub starts : (zone : Tuples) (s : Script) (ss : List Step) (left : Left) → ss ≡ s.steps → left ≡ nothing_left → Plays zone s [] (no_names zone) (begun_at 0 left ss)
+starts zone s ss left is none =
+    subst (λ (l : Left). Plays zone s [] (no_names zone) (begun_at 0 l ss)) (sym none)
+    (subst (λ (xs : List Step). Plays zone s [] (no_names zone) (begun_at 0 nothing_left xs)) (sym is) (starts_at zone s))
 
 pub finished_right : (zone : Tuples) (s : Script) (rs : List Reply) (names : Names) (t : Scripting) → Plays zone s rs names t → finished_in t ≡ finished_by zone rs s
 finished_right zone s rs names t at = subst (λ (xs : List Reply). finished_in t ≡ finished_by zone xs s) (append_nothing rs) (at.counts [] tt)
 
 -- What the fields stand for.
 
-begun_finished : (n : ℕ) (left : List Step) → finished_in (begun_at n left) ≡ n
-begun_finished n [] = refl
-begun_finished n (s ∷ ss) = refl
+begun_finished : (n : ℕ) (left : Left) (steps : List Step) → finished_in (begun_at n left steps) ≡ n
+begun_finished n left [] = refl
+begun_finished n left (s ∷ ss) = refl
 
-pub progress_finished : (n : ℕ) (t : Option StepTask) (left : List Step) → finished_in (progress n t left) ≡ n
-progress_finished n None left = begun_finished n left
-progress_finished n (Some t) left = refl
+pub progress_finished : (n : ℕ) (left : Left) (t : Option StepTask) (steps : List Step) → finished_in (progress n left t steps) ≡ n
+progress_finished n left None steps = begun_finished n left steps
+progress_finished n left (Some t) steps = refl
 
 not_le : (m n : ℕ) → n < m → nat_le m n ≡ false
 not_le m n lt = search (rules, tests, lt)
@@ -151,34 +194,34 @@ le_more : (m n : ℕ) → nat_le (suc m) (suc n) ≡ nat_le m n
 le_more m n = grind (arith, nat_tests)
 
 -- no step is left exactly where nothing is asked
-none_left : (n : ℕ) (ss : List Step) (names : Names) → nat_le (length ss) n ≡ is_none (asks (begun_at 0 (drop n ss)) names)
-none_left zero [] names = le_nothing 0
-none_left zero (s ∷ ss) names = not_le (suc (length ss)) 0 (omega arith) ∙ sym (begun_asks s names)
-none_left (suc n) [] names = le_nothing (suc n)
-none_left (suc n) (s ∷ ss) names = le_more (length ss) n ∙ none_left n ss names
+none_left : (n : ℕ) (left : Left) (ss : List Step) (names : Names) → nat_le (length ss) n ≡ is_none (asks (begun_at 0 left (drop n ss)) names)
+none_left zero left [] names = le_nothing 0
+none_left zero left (s ∷ ss) names = not_le (suc (length ss)) 0 (omega arith) ∙ sym (step_laws.begun_asks left s names)
+none_left (suc n) left [] names = le_nothing (suc n)
+none_left (suc n) left (s ∷ ss) names = le_more (length ss) n ∙ none_left n left ss names
 
-begun_alike : (m n : ℕ) (left : List Step) (names : Names) → asks (begun_at m left) names ≡ asks (begun_at n left) names
-begun_alike m n [] names = refl
-begun_alike m n (s ∷ ss) names = refl
+begun_alike : (m n : ℕ) (left : Left) (steps : List Step) (names : Names) → asks (begun_at m left steps) names ≡ asks (begun_at n left steps) names
+begun_alike m n left [] names = refl
+begun_alike m n left (s ∷ ss) names = refl
 
-pub through_right : (n : ℕ) (t : Option StepTask) (ss : List Step) → Kept n t ss
-    → (names : Names) → nat_le (length ss) n ≡ is_none (asks (progress n t (drop n ss)) names)
-through_right n None ss kept names = none_left n ss names ∙ ap is_none (begun_alike 0 n (drop n ss) names)
-through_right n (Some t) ss kept names = not_le (length ss) n kept.0 ∙ sym (kept.1 names)
+pub through_right : (n : ℕ) (left : Left) (t : Option StepTask) (ss : List Step) → Kept n t ss
+    → (names : Names) → nat_le (length ss) n ≡ is_none (asks (progress n left t (drop n ss)) names)
+through_right n left None ss kept names = none_left n left ss names ∙ ap is_none (begun_alike 0 n left (drop n ss) names)
+through_right n left (Some t) ss kept names = not_le (length ss) n kept.0 ∙ sym (kept.1 names)
 
--- the step that begins is the first of those that are left
-begun_left : (n : ℕ) (ss : List Step) (o : Option Step) → slice_get ss n ≡ o → (m : ℕ) → progress m (option_map step.begun o) (drop n ss) ≡ begun_at m (drop n ss)
-begun_left zero [] o is m = subst (λ (x : Option Step). progress m (option_map step.begun x) [] ≡ begun_at m []) is refl
-begun_left zero (s ∷ ss) o is m = subst (λ (x : Option Step). progress m (option_map step.begun x) (s ∷ ss) ≡ begun_at m (s ∷ ss)) is refl
-begun_left (suc n) [] o is m = subst (λ (x : Option Step). progress m (option_map step.begun x) [] ≡ begun_at m []) is refl
-begun_left (suc n) (s ∷ ss) o is m = begun_left n ss o is m
+-- the step that begins is the first of those that are to come
+begun_left : (n : ℕ) (ss : List Step) (o : Option Step) → slice_get ss n ≡ o → (m : ℕ) (left : Left) → progress m left (option_map (step.begun left) o) (drop n ss) ≡ begun_at m left (drop n ss)
+begun_left zero [] o is m left = subst (λ (x : Option Step). progress m left (option_map (step.begun left) x) [] ≡ begun_at m left []) is refl
+begun_left zero (s ∷ ss) o is m left = subst (λ (x : Option Step). progress m left (option_map (step.begun left) x) (s ∷ ss) ≡ begun_at m left (s ∷ ss)) is refl
+begun_left (suc n) [] o is m left = subst (λ (x : Option Step). progress m left (option_map (step.begun left) x) [] ≡ begun_at m left []) is refl
+begun_left (suc n) (s ∷ ss) o is m left = begun_left n ss o is m left
 
 -- whether it has begun or not, it stands for the same
-pub begun_same : (n : ℕ) (t : Option StepTask) (ss : List Step) → progress n (begun_by t (slice_get ss n)) (drop n ss) ≡ progress n t (drop n ss)
-begun_same n None ss = begun_left n ss (slice_get ss n) refl n
-begun_same n (Some t) ss = refl
+pub begun_same : (n : ℕ) (left : Left) (t : Option StepTask) (ss : List Step) → progress n left (begun_by left t (slice_get ss n)) (drop n ss) ≡ progress n left t (drop n ss)
+begun_same n left None ss = begun_left n ss (slice_get ss n) refl n left
+begun_same n left (Some t) ss = refl
 
--- The first of the steps that are left.
+-- The first of the steps that are to come.
 
 drop_none : (n : ℕ) (ss : List Step) → slice_get ss n ≡ None → drop n ss ≡ []
 drop_none zero [] is = refl
@@ -202,36 +245,39 @@ in_range n [] s is = absurd (none-some s is)
 in_range zero (x ∷ ss) s is = omega arith
 in_range (suc n) (x ∷ ss) s is = omega (arith, in_range n ss s is)
 
-first_by : (n m : ℕ) (ss : List Step) (names : Names) → first_asked (slice_get ss n) names ≡ asks (begun_at m (drop n ss)) names
-first_by zero m [] names = refl
-first_by (suc n) m [] names = refl
-first_by zero m (s ∷ ss) names = refl
-first_by (suc n) m (s ∷ ss) names = first_by n m ss names
+first_by : (n m : ℕ) (left : Left) (ss : List Step) (names : Names) → first_asked left (slice_get ss n) names ≡ asks (begun_at m left (drop n ss)) names
+first_by zero m left [] names = refl
+first_by (suc n) m left [] names = refl
+first_by zero m left (s ∷ ss) names = refl
+first_by (suc n) m left (s ∷ ss) names = first_by n m left ss names
 
 -- where none has begun, the script's task asks as the first of them does
-pub asks_first : (n : ℕ) (t : Option StepTask) (ss : List Step) → t ≡ None → (names : Names)
-    → first_asked (slice_get ss n) names ≡ asks (progress n t (drop n ss)) names
-asks_first n t ss none names = first_by n n ss names ∙ ap (λ (u : Option StepTask). asks (progress n u (drop n ss)) names) (sym none)
+pub asks_first : (n : ℕ) (left : Left) (t : Option StepTask) (ss : List Step) → t ≡ None → (names : Names)
+    → first_asked left (slice_get ss n) names ≡ asks (progress n left t (drop n ss)) names
+asks_first n left t ss none names = first_by n n left ss names ∙ ap (λ (u : Option StepTask). asks (progress n left u (drop n ss)) names) (sym none)
 
 -- A reply.
 
-kept_first : (n : ℕ) (ss : List Step) (o : Option Step) → slice_get ss n ≡ o → Kept n (option_map step.begun o) ss
-kept_first n ss None is = tt
-kept_first n ss (Some s) is = (in_range n ss s is, begun_asks s)
+kept_first : (n : ℕ) (left : Left) (ss : List Step) (o : Option Step) → slice_get ss n ≡ o → Kept n (option_map (step.begun left) o) ss
+kept_first n left ss None is = tt
+kept_first n left ss (Some s) is = (in_range n ss s is, step_laws.begun_asks left s)
 
-kept_by : (n : ℕ) (t : Option StepTask) (ss : List Step) → Kept n t ss → Kept n (begun_by t (slice_get ss n)) ss
-kept_by n None ss kept = kept_first n ss (slice_get ss n) refl
-kept_by n (Some t) ss kept = kept
+kept_by : (n : ℕ) (left : Left) (t : Option StepTask) (ss : List Step) → Kept n t ss → Kept n (begun_by left t (slice_get ss n)) ss
+kept_by n left None ss kept = kept_first n left ss (slice_get ss n) refl
+kept_by n left (Some t) ss kept = kept
 
 -- begun as it was, it is kept
-pub kept_same : (n : ℕ) (t u : Option StepTask) (ss : List Step) → Kept n t ss → begun_by u (slice_get ss n) ≡ begun_by t (slice_get ss n) → Kept n u ss
-kept_same n t None ss kept is = tt
-kept_same n t (Some x) ss kept is = subst (λ (y : Option StepTask). Kept n y ss) (sym is) (kept_by n t ss kept)
+pub kept_same : (n : ℕ) (left later : Left) (t u : Option StepTask) (ss : List Step) → Kept n t ss → begun_by later u (slice_get ss n) ≡ begun_by left t (slice_get ss n) → Kept n u ss
+kept_same n left later t None ss kept is = tt
+kept_same n left later t (Some x) ss kept is = subst (λ (y : Option StepTask). Kept n y ss) (sym is) (kept_by n left t ss kept)
 
 -- and stands for the same
-pub still_same : (n : ℕ) (t u : Option StepTask) (ss : List Step) → begun_by u (slice_get ss n) ≡ begun_by t (slice_get ss n)
-    → progress n u (drop n ss) ≡ progress n t (drop n ss)
-still_same n t u ss is = sym (begun_same n u ss) ∙ ap (λ (x : Option StepTask). progress n x (drop n ss)) is ∙ begun_same n t ss
+pub still_same : (n : ℕ) (left later : Left) (t u : Option StepTask) (ss : List Step) → begun_by later u (slice_get ss n) ≡ begun_by left t (slice_get ss n) → later ≡ left
+    → progress n later u (drop n ss) ≡ progress n left t (drop n ss)
+still_same n left later t u ss is same =
+    sym (begun_same n later u ss)
+    ∙ (ap (λ (x : Option StepTask). progress n later x (drop n ss)) is
+    ∙ (ap (λ (l : Left). progress n l (begun_by left t (slice_get ss n)) (drop n ss)) same ∙ begun_same n left t ss))
 
 pub kept_none : (n : ℕ) (t : Option StepTask) (ss : List Step) → t ≡ None → Kept n t ss
 kept_none n t ss is = subst (λ (x : Option StepTask). Kept n x ss) (sym is) tt
@@ -244,66 +290,97 @@ room_by : (n : ℕ) (u : Option StepTask) (ss : List Step) (r : Reply) → Kept 
 room_by n None ss r kept over = absurd (true≢false over)
 room_by n (Some t) ss r kept over = kept.0
 
--- the step goes on
-on_by : (n : ℕ) (u : Option StepTask) (ss : List Step) (r : Reply) → u ≡ begun_by u (slice_get ss n) → (x : Option StepTask) → heard u r ≡ x → false ≡ is_played x (no_names []) → progress n x (drop n ss) ≡ after (progress n u (drop n ss)) r
-on_by n None ss r is x told on = ap (λ (y : Option StepTask). progress n y (drop n ss)) (sym told) ∙ ended_after (slice_get ss n) refl
-  where
-    ended_after : (o : Option Step) → slice_get ss n ≡ o → begun_at n (drop n ss) ≡ after (begun_at n (drop n ss)) r
-    ended_after None none = subst (λ (left : List Step). begun_at n left ≡ after (begun_at n left) r) (sym (drop_none n ss none)) refl
-    ended_after (Some s) some = absurd (none-some (step.begun s) (is ∙ ap (option_map step.begun) some))
-on_by n (Some t) ss r is x told on =
-    ap (λ (y : Option StepTask). progress n y (drop n ss)) (sym told)
-    ∙ ap (goes_on n (step.after t r) (drop 1 (drop n ss))) (on ∙ sym (ap (λ (y : Option StepTask). is_played y (no_names [])) told))
+-- a step that goes on leaves nothing yet
+left_on : (x : Option StepTask) (left : Left) → false ≡ is_played x (no_names []) → left_by x left ≡ left
+left_on None left on = refl
+left_on (Some t) left on = ap (λ (b : Bool). if b then step.leaves t left else left) (sym on)
 
-twice : (t : Option StepTask) (o : Option Step) → begun_by t o ≡ begun_by (begun_by t o) o
-twice None None = refl
-twice None (Some s) = refl
-twice (Some t) o = refl
+-- the step goes on
+on_by : (n : ℕ) (left : Left) (u : Option StepTask) (ss : List Step) (r : Reply) → u ≡ begun_by left u (slice_get ss n) → (x : Option StepTask) → heard u r ≡ x → false ≡ is_played x (no_names [])
+    → progress n left x (drop n ss) ≡ after (progress n left u (drop n ss)) r
+on_by n left None ss r is x told on = ap (λ (y : Option StepTask). progress n left y (drop n ss)) (sym told) ∙ ended_after (slice_get ss n) refl
+  where
+    ended_after : (o : Option Step) → slice_get ss n ≡ o → begun_at n left (drop n ss) ≡ after (begun_at n left (drop n ss)) r
+    ended_after None none = subst (λ (steps : List Step). begun_at n left steps ≡ after (begun_at n left steps) r) (sym (drop_none n ss none)) refl
+    ended_after (Some s) some = absurd (none-some (step.begun left s) (is ∙ ap (option_map (step.begun left)) some))
+on_by n left (Some t) ss r is x told on =
+    ap (λ (y : Option StepTask). progress n left y (drop n ss)) (sym told)
+    ∙ ap (goes_on n left (step.after t r) (drop 1 (drop n ss))) (on ∙ sym (ap (λ (y : Option StepTask). is_played y (no_names [])) told))
+
+twice : (left : Left) (t : Option StepTask) (o : Option Step) → begun_by left t o ≡ begun_by left (begun_by left t o) o
+twice left None None = refl
+twice left None (Some s) = refl
+twice left (Some t) o = refl
 
 -- the step is finished, and the next one begins
-through_by : (n : ℕ) (u : Option StepTask) (ss : List Step) (r : Reply) → true ≡ is_played (heard u r) (no_names []) → begun_at (n + 1) (drop (n + 1) ss) ≡ after (progress n u (drop n ss)) r
-through_by n None ss r over = absurd (true≢false over)
-through_by n (Some t) ss r over = ap (begun_at (n + 1)) (drop_more n ss) ∙ ap (goes_on n (step.after t r) (drop 1 (drop n ss))) over
+through_is : (n : ℕ) (left : Left) (t : StepTask) (steps : List Step) (b : Bool) → true ≡ b → begun_at (n + 1) (if b then step.leaves t left else left) steps ≡ goes_on n left t steps b
+through_is n left t steps true is = refl
+through_is n left t steps false is = absurd (true≢false is)
 
--- `through` tells whether the step is through after the reply, and where it isn't, `v` is its task then.
-module _ (n : ℕ) (t v : Option StepTask) (ss : List Step) (r : Reply) (through : Bool)
-    (tells : (names : Names) → through ≡ is_played (told_by t (slice_get ss n) r) names) where
+through_by : (n : ℕ) (left : Left) (u : Option StepTask) (ss : List Step) (r : Reply) → true ≡ is_played (heard u r) (no_names [])
+    → begun_at (n + 1) (left_by (heard u r) left) (drop (n + 1) ss) ≡ after (progress n left u (drop n ss)) r
+through_by n left None ss r over = absurd (true≢false over)
+through_by n left (Some t) ss r over =
+    ap (begun_at (n + 1) (left_by (heard (Some t) r) left)) (drop_more n ss)
+    ∙ through_is n left (step.after t r) (drop 1 (drop n ss)) (is_none (step.asks (step.after t r) (no_names []))) over
+
+-- `through` tells whether the step is through after the reply; where it isn't, `v` is its task then, and `later` is what is left.
+module _ (n : ℕ) (left later : Left) (t v : Option StepTask) (ss : List Step) (r : Reply) (through : Bool)
+    (tells : (names : Names) → through ≡ is_played (told_by left t (slice_get ss n) r) names) where
   -- the step that is through is one of the script
   pub has_room : Kept n t ss → through ≡ true → n < length ss
-  has_room kept over = room_by n (begun_by t (slice_get ss n)) ss r (kept_by n t ss kept) (sym over ∙ tells (no_names []))
+  has_room kept over = room_by n (begun_by left t (slice_get ss n)) ss r (kept_by n left t ss kept) (sym over ∙ tells (no_names []))
 
-  pub told_through : through ≡ true → progress (n + 1) None (drop (n + 1) ss) ≡ after (progress n t (drop n ss)) r
-  told_through over =
-      through_by n (begun_by t (slice_get ss n)) ss r (sym over ∙ tells (no_names [])) ∙ ap (λ (x : Scripting). after x r) (begun_same n t ss)
+  pub told_through : later ≡ left_by (told_by left t (slice_get ss n) r) left → through ≡ true → progress (n + 1) later None (drop (n + 1) ss) ≡ after (progress n left t (drop n ss)) r
+  told_through leaves over =
+      ap (λ (l : Left). begun_at (n + 1) l (drop (n + 1) ss)) leaves
+      ∙ (through_by n left (begun_by left t (slice_get ss n)) ss r (sym over ∙ tells (no_names [])) ∙ ap (λ (x : Scripting). after x r) (begun_same n left t ss))
 
-  module _ (on : through ≡ false → v ≡ told_by t (slice_get ss n) r) (no : through ≡ false) where
+  module _ (on : through ≡ false → v ≡ told_by left t (slice_get ss n) r) (no : through ≡ false) where
     pub kept_told : Kept n t ss → Kept n v ss
     kept_told kept =
         subst (λ (x : Option StepTask). Kept n x ss) (sym (on no))
-        (heard_kept n (begun_by t (slice_get ss n)) ss r (kept_by n t ss kept) (λ names. sym no ∙ tells names))
+        (heard_kept n (begun_by left t (slice_get ss n)) ss r (kept_by n left t ss kept) (λ names. sym no ∙ tells names))
 
-    pub told_on : progress n v (drop n ss) ≡ after (progress n t (drop n ss)) r
-    told_on =
-        on_by n (begun_by t (slice_get ss n)) ss r (twice t (slice_get ss n)) v (sym (on no))
+    pub told_on : later ≡ left_by (told_by left t (slice_get ss n) r) left → progress n later v (drop n ss) ≡ after (progress n left t (drop n ss)) r
+    told_on leaves =
+        ap (λ (l : Left). progress n l v (drop n ss)) (leaves ∙ left_on (told_by left t (slice_get ss n) r) left (sym no ∙ tells (no_names [])))
+        ∙ (on_by n left (begun_by left t (slice_get ss n)) ss r (twice left t (slice_get ss n)) v (sym (on no))
         (sym no ∙ (tells (no_names []) ∙ ap (λ (x : Option StepTask). is_played x (no_names [])) (sym (on no))))
-        ∙ ap (λ (x : Scripting). after x r) (begun_same n t ss)
+        ∙ ap (λ (x : Scripting). after x r) (begun_same n left t ss))
 
 -- What a reply makes of the step.
 
 -- it begins and isn't told: begun, it is the same
-pub begun_again : (t u v : Option StepTask) (o : Option Step) → u ≡ begun_by t o → v ≡ u → begun_by v o ≡ begun_by t o
-begun_again t u v o is same = ap (λ (x : Option StepTask). begun_by x o) (same ∙ is) ∙ sym (twice t o)
+pub begun_again : (left later : Left) (t u v : Option StepTask) (o : Option Step) → u ≡ begun_by left t o → v ≡ u → later ≡ left → begun_by later v o ≡ begun_by left t o
+begun_again left later t u v o is same stays =
+    ap (λ (l : Left). begun_by l v o) stays ∙ (ap (λ (x : Option StepTask). begun_by left x o) (same ∙ is) ∙ sym (twice left t o))
 
 -- it begins and is told
-pub begun_told : (t u v : Option StepTask) (o : Option Step) (r : Reply) → u ≡ begun_by t o → v ≡ heard u r → v ≡ told_by t o r
-begun_told t u v o r is told = told ∙ ap (λ (x : Option StepTask). heard x r) is
+pub begun_told : (left : Left) (t u v : Option StepTask) (o : Option Step) (r : Reply) → u ≡ begun_by left t o → v ≡ heard u r → v ≡ told_by left t o r
+begun_told left t u v o r is told = told ∙ ap (λ (x : Option StepTask). heard x r) is
 
-pub tells_told : (t u v : Option StepTask) (o : Option Step) (r : Reply) (b : Bool) → u ≡ begun_by t o → v ≡ heard u r
-    → ((names : Names) → b ≡ is_played v names) → (names : Names) → b ≡ is_played (told_by t o r) names
-tells_told t u v o r b is told tells names = tells names ∙ ap (λ (x : Option StepTask). is_played x names) (begun_told t u v o r is told)
+pub tells_told : (left : Left) (t u v : Option StepTask) (o : Option Step) (r : Reply) (b : Bool) → u ≡ begun_by left t o → v ≡ heard u r
+    → ((names : Names) → b ≡ is_played v names) → (names : Names) → b ≡ is_played (told_by left t o r) names
+tells_told left t u v o r b is told tells names = tells names ∙ ap (λ (x : Option StepTask). is_played x names) (begun_told left t u v o r is told)
+
+-- and leaves what it leaves
+pub left_told : (left later : Left) (t u : Option StepTask) (o : Option Step) (r : Reply) → u ≡ begun_by left t o → later ≡ left_by (heard u r) left
+    → later ≡ left_by (told_by left t o r) left
+left_told left later t u o r is leaves = leaves ∙ ap (λ (x : Option StepTask). left_by (heard x r) left) is
 
 -- no task is made of it
 pub ends_step : (o : Option Step) (s : Step) (r : Reply) (b : Bool) → o ≡ Some s
-    → (b ≡ true → (names : Names) → step.asks (step.after (step.begun s) r) names ≡ None)
-    → b ≡ true → (names : Names) → is_played (told_by None o r) names ≡ true
-ends_step o s r b is ends over names = ap (λ (x : Option Step). is_played (told_by None x r) names) is ∙ ap is_none (ends over names)
+    → (b ≡ true → (left : Left) (names : Names) → step.asks (step.after (step.begun left s) r) names ≡ None)
+    → b ≡ true → (left : Left) (names : Names) → is_played (told_by left None o r) names ≡ true
+ends_step o s r b is ends over left names = ap (λ (x : Option Step). is_played (told_by left None x r) names) is ∙ ap is_none (ends over left names)
+
+-- and it leaves nothing
+pub ends_keep : (o : Option Step) (s : Step) (r : Reply) (b : Bool) → o ≡ Some s → (b ≡ true → (left : Left) → step.leaves (step.after (step.begun left s) r) left ≡ left)
+    → b ≡ true → (left : Left) → left_by (told_by left None o r) left ≡ left
+ends_keep o s r b is keeps over left =
+    ap (λ (x : Option Step). left_by (told_by left None x r) left) is ∙ by (is_none (step.asks (step.after (step.begun left s) r) (no_names [])))
+  where
+    by : (c : Bool) → (if c then step.leaves (step.after (step.begun left s) r) left else left) ≡ left
+    by true = keeps over left
+    by false = refl

@@ -2,184 +2,73 @@
 use Rattle.std.proofs.Common.{◌≡◌, ℕ, ◌+◌, ◌∙◌, Bool, true, false, List, [], ◌∷◌, ◌++◌, Option, Some, None, is_none, is_some, length, nat_lt, refl, sym, ap, subst}
 use Rattle.std.proofs.lemmas.Bool.{true≢false, false≢true}
 use Rattle.std.proofs.lemmas.Option.{none-some, same_Some}
-use Rattle.net_base.specs.declared.names.FileName.{FileName}
-use Rattle.net_base.specs.declared.names.FileName.TheVariants as file
+use Rattle.net_base.specs.declared.left.Left.{Left}
 use Rattle.net_base.specs.declared.reply.Reply.{Reply}
 use Rattle.net_base.specs.declared.world.Script.{Script}
 use Rattle.net_base.specs.declared.world.Step.{Step}
-use Rattle.net_base.specs.declared.world.Step.TheVariants as word
 use Rattle.net_base.specs.Next.{finished_by}
-use Rattle.net_base.specs.Steps.{Ask, Names, Play, Asks, Ends, no_names, position, play_of}
+use Rattle.net_base.specs.Scripts.{at_first, left_after, position, step_play}
+use Rattle.net_base.specs.Steps.{Ask, Names, Play, Asks, Ends, no_names}
 use Rattle.net_base.specs.Versions.{Tuples}
 use Rattle.script_task.specs.declared.request.Request.{Request}
 use Rattle.script_task.specs.Fitting.{fits}
 use Rattle.script_task.specs.Requests.{head, planned, settled}
 use Rattle.script_task.specs.Rest.{Continues, rest}
 use Rattle.script_task.specs.Task.{Heads, AsksSo, MovesSo, follow, fits_play}
-use Rattle.dial_lib.specs.declared.announce.AnnouncePhase.{AnnouncePhase}
-use Rattle.dial_lib.specs.declared.announce.AnnouncePhase.TheVariants as announce
-use Rattle.dial_lib.specs.declared.call.CallPhase.{CallPhase}
-use Rattle.dial_lib.specs.declared.call.CallPhase.TheVariants as call
-use Rattle.dial_lib.specs.declared.hwrite.HwritePhase.{HwritePhase}
-use Rattle.dial_lib.specs.declared.hwrite.HwritePhase.TheVariants as hwrite
-use Rattle.dial_lib.specs.declared.dial.DialPhase.{DialPhase}
-use Rattle.dial_lib.specs.declared.dial.DialPhase.TheVariants as dial
-use Rattle.dial_lib.specs.declared.step.StepTask.{StepTask}
-use Rattle.dial_lib.specs.declared.step.StepTask.TheVariants as task
+use Rattle.step_task.specs.declared.step.StepTask.{StepTask}
+use Rattle.step_task.specs.declared.step.StepTask.TheVariants as task
 use Rattle.dial_lib.specs.Slots.{HaveSlots}
-use Rattle.dial_lib.specs.Announce as announces
-use Rattle.dial_lib.specs.Beside as beside
-use Rattle.dial_lib.specs.Calls as calls
-use Rattle.dial_lib.specs.Dials as dials
-use Rattle.dial_lib.specs.Dns as dnses
-use Rattle.dial_lib.specs.Hread as hreads
-use Rattle.dial_lib.specs.Hwrite as hwrites
-use Rattle.dial_lib.specs.StepLaws as step_laws
-use Rattle.dial_lib.specs.StepTasks as step
-use Rattle.whole_script.specs.ScriptTasks.{Scripting, finished_in, AtStep, AtEnd, begun_at, goes_on, asks, after, after_all, then_play, plays_of, StandsFor, Plays}
+use Rattle.step_task.specs.Leaving as leaving
+use Rattle.step_task.specs.StepLaws as step_laws
+use Rattle.step_task.specs.StepTasks as step
+use Rattle.whole_script.specs.ScriptTasks.{Scripting, finished_in, AtStep, AtEnd, begun_at, goes_on, asks, after, after_all, then_play, plays_behind, plays_of, StandsFor, Plays}
 
--- Steps.
+-- Plays, one after another.
 
 none_is : (o : Option Request) → is_none o ≡ true → o ≡ None
 none_is None is = refl
 none_is (Some q) is = absurd (false≢true is)
 
--- a step that has begun isn't through
-pub begun_asks : (s : Step) (names : Names) → is_none (step.asks (step.begun s) names) ≡ false
-begun_asks (word.Open called path m) names = refl
-begun_asks (word.Read called count) names = refl
-begun_asks (word.Write called text) names = refl
-begun_asks (word.Writex called text) names = refl
-begun_asks (word.Close called) names = refl
-begun_asks (word.Ls path) names = refl
-begun_asks (word.Cs query) names = refl
-begun_asks (word.Until moment) names = refl
-begun_asks word.Refresh names = refl
-begun_asks (word.Dial called address) names = refl
-begun_asks (word.Announce called address) names = refl
-begun_asks (word.Listen called from) names = refl
-begun_asks (word.Accept called from) names = refl
-begun_asks (word.Reject called) names = refl
-begun_asks (word.Hangup called) names = refl
-begun_asks (word.Hread called count) names = refl
-begun_asks (word.Hwrite called bytes) names = refl
-begun_asks (word.Dns called times) names = refl
+abbrev Later : Type 0
+Later = Names → List Reply → Play
 
-beside_alike : (to : FileName) (called from : List ℕ) (b : Bool) (m n : Names) → is_none (beside.asks_by to called from b m) ≡ is_none (beside.asks_by to called from b n)
-beside_alike to called from true m n = refl
-beside_alike to called from false m n = refl
+head_then : (said : List Reply) (p : Play) (later : Later) (ask : Ask) → head p ≡ Some ask → head (then_play said p later) ≡ Some ask
+head_then said (Asks a e next) later ask is = is
+head_then said (Ends names) later ask is = absurd (none-some ask is)
 
-announce_alike : (x : AnnouncePhase) (called address : List ℕ) (lines : List (List ℕ)) (m n : Names) → is_none (announces.asks_by x called address lines m) ≡ is_none (announces.asks_by x called address lines n)
-announce_alike announce.Fresh called address lines m n = refl
-announce_alike announce.Open called address lines m n = refl
-announce_alike announce.Write called address lines m n = refl
-announce_alike announce.Close called address lines m n = refl
-announce_alike announce.Through called address lines m n = refl
+fits_then : (said : List Reply) (p : Play) (later : Later) (ask : Ask) (r : Reply) → head p ≡ Some ask → fits_play (then_play said p later) r ≡ true → fits_play p r ≡ true
+fits_then said (Asks a e next) later ask r is fit = fit
+fits_then said (Ends names) later ask r is fit = absurd (none-some ask is)
 
-dial_alike : (x : DialPhase) (called address : List ℕ) (lines : List (List ℕ)) (m n : Names) → is_none (dials.asks_by x called address lines m) ≡ is_none (dials.asks_by x called address lines n)
-dial_alike dial.Fresh called address lines m n = refl
-dial_alike dial.Open called address lines m n = refl
-dial_alike dial.Write called address lines m n = refl
-dial_alike dial.Wait called address lines m n = refl
-dial_alike dial.Retry called address lines m n = refl
-dial_alike dial.Data called address lines m n = refl
-dial_alike dial.Close called address lines m n = refl
-dial_alike dial.Through called address lines m n = refl
-
--- so it is with a call
-call_alike : (x : CallPhase) (called : List ℕ) (q : Option Request) (m n : Names) → is_none (calls.asks_by x called q m) ≡ is_none (calls.asks_by x called q n)
-call_alike call.Fresh called q m n = refl
-call_alike call.Data called q m n = refl
-call_alike call.Remote called q m n = refl
-call_alike call.TellRemote called q m n = refl
-call_alike call.CloseRemote called q m n = refl
-call_alike call.Local called q m n = refl
-call_alike call.TellLocal called q m n = refl
-call_alike call.CloseLocal called q m n = refl
-call_alike call.Read called q m n = refl
-call_alike call.Answer called q m n = refl
-call_alike call.LeaveData called q m n = refl
-call_alike call.LeaveCall called q m n = refl
-call_alike call.ShutRemote called q m n = refl
-call_alike call.ShutLocal called q m n = refl
-call_alike call.ShutData called q m n = refl
-call_alike call.ShutCall called q m n = refl
-call_alike call.Through called q m n = refl
-
-hwrite_alike : (x : HwritePhase) (called bytes : List ℕ) (m n : Names) → is_none (hwrites.asks_by x called bytes m) ≡ is_none (hwrites.asks_by x called bytes n)
-hwrite_alike hwrite.Write called bytes m n = refl
-hwrite_alike hwrite.LeaveData called bytes m n = refl
-hwrite_alike hwrite.LeaveCall called bytes m n = refl
-hwrite_alike hwrite.Through called bytes m n = refl
-
-dns_alike : (x : CallPhase) (called message : List ℕ) (m n : Names) → is_none (dnses.asks_by x called message m) ≡ is_none (dnses.asks_by x called message n)
-dns_alike call.Fresh called message m n = refl
-dns_alike call.Data called message m n = refl
-dns_alike call.Remote called message m n = refl
-dns_alike call.TellRemote called message m n = refl
-dns_alike call.CloseRemote called message m n = refl
-dns_alike call.Local called message m n = refl
-dns_alike call.TellLocal called message m n = refl
-dns_alike call.CloseLocal called message m n = refl
-dns_alike call.Read called message m n = refl
-dns_alike call.Answer called message m n = refl
-dns_alike call.LeaveData called message m n = refl
-dns_alike call.LeaveCall called message m n = refl
-dns_alike call.ShutRemote called message m n = refl
-dns_alike call.ShutLocal called message m n = refl
-dns_alike call.ShutData called message m n = refl
-dns_alike call.ShutCall called message m n = refl
-dns_alike call.Through called message m n = refl
-
--- whether a step is through doesn't hang on the names
-pub asks_alike : (t : StepTask) (m n : Names) → is_none (step.asks t m) ≡ is_none (step.asks t n)
-asks_alike (task.OneRequest t) m n = refl
-asks_alike (task.WriteText t) m n = refl
-asks_alike (task.Reject t) m n = refl
-asks_alike (task.Listen t) m n = beside_alike file.Listen t.name t.from t.is_through m n
-asks_alike (task.Accept t) m n = beside_alike file.Data t.name t.from t.is_through m n
-asks_alike (task.Announce t) m n = announce_alike t.phase t.name t.address t.lines m n
-asks_alike (task.Dial t) m n = dial_alike t.phase t.called t.address t.lines m n
-asks_alike (task.Hread t) m n = call_alike t.phase t.name (Some (hreads.reads t)) m n
-asks_alike (task.Hwrite t) m n = hwrite_alike t.phase t.name t.bytes m n
-asks_alike (task.Dns t) m n = dns_alike t.phase t.name t.message m n
-
--- Plays, one after another.
-
-head_then : (p : Play) (later : Names → Play) (ask : Ask) → head p ≡ Some ask → head (then_play p later) ≡ Some ask
-head_then (Asks a e next) later ask is = is
-head_then (Ends names) later ask is = absurd (none-some ask is)
-
-fits_then : (p : Play) (later : Names → Play) (ask : Ask) (r : Reply) → head p ≡ Some ask → fits_play (then_play p later) r ≡ true → fits_play p r ≡ true
-fits_then (Asks a e next) later ask r is fit = fit
-fits_then (Ends names) later ask r is fit = absurd (none-some ask is)
-
-follow_then : (p : Play) (later : Names → Play) (ask : Ask) (r : Reply) → head p ≡ Some ask → follow (then_play p later) r ≡ then_play (follow p r) later
-follow_then (Asks a e next) later ask r is = refl
-follow_then (Ends names) later ask r is = absurd (none-some ask is)
+follow_then : (said : List Reply) (p : Play) (later : Later) (ask : Ask) (r : Reply) → head p ≡ Some ask → follow (then_play said p later) r ≡ then_play (said ++ r ∷ []) (follow p r) later
+follow_then said (Asks a e next) later ask r is = refl
+follow_then said (Ends names) later ask r is = absurd (none-some ask is)
 
 -- The next request.
 
-asks_then : (h : ℕ) (names : Names) (o : Option Request) (p : Play) (later : Names → Play) → is_none o ≡ false → Heads h names o p → Heads h names o (then_play p later)
-asks_then h names None p later is heads = absurd (true≢false is)
-asks_then h names (Some q) p later is heads = (heads.0, head_then p later heads.0 heads.1, heads.2)
+asks_then : (h : ℕ) (names : Names) (o : Option Request) (said : List Reply) (p : Play) (later : Later) → is_none o ≡ false → Heads h names o p → Heads h names o (then_play said p later)
+asks_then h names None said p later is heads = absurd (true≢false is)
+asks_then h names (Some q) said p later is heads = (heads.0, head_then said p later heads.0 heads.1, heads.2)
 
 pub asks_so : AsksSo Scripting asks StandsFor
-asks_so h names (AtStep n t behind) p at =
+asks_so h names (AtStep n left t behind) p at =
     subst (λ (x : Play). Heads h names (step.asks t names) x) (sym at.play_is)
-    (asks_then h names (step.asks t names) at.step_play (plays_of h behind) at.asks_on (step_laws.asks_so h names t at.step_play at.stands_for))
-asks_so h names (AtEnd n) p at = at
+    (asks_then h names (step.asks t names) at.said at.step_play (plays_behind h behind left at.step_is) at.asks_on (step_laws.asks_so h names t at.step_play at.stands_for))
+asks_so h names (AtEnd n left) p at = at
 
 -- After a reply.
 
--- what is left stands for the plays of the steps that are left
-pub begins : (h n : ℕ) (names : Names) (left : List Step) → HaveSlots names → StandsFor h names (begun_at n left) (plays_of h left names)
-begins h n names [] slots = refl
-begins h n names (s ∷ ss) slots =
+-- what is to come stands for the plays of the steps that are to come
+pub begins : (h n : ℕ) (names : Names) (left : Left) (steps : List Step) → HaveSlots names → StandsFor h names (begun_at n left steps) (plays_of h steps (record { names = names; left = left }))
+begins h n names left [] slots = refl
+begins h n names left (s ∷ ss) slots =
     record {
-      step_play = play_of h names s;
-      stands_for = step_laws.begun_stands (step.begun s) s refl h names slots;
-      asks_on = begun_asks s names;
+      step_is = s;
+      said = [];
+      told = refl;
+      step_play = step_play h (record { names = names; left = left }) s;
+      stands_for = step_laws.begun_stands (step.begun left s) left s refl h names slots;
+      asks_on = step_laws.begun_asks left s names;
       play_is = refl;
     }
 
@@ -188,26 +77,34 @@ pub ended_play : (h : ℕ) (names : Names) (t : StepTask) (p : Play) → step.St
 ended_play h names t p stands is = subst (λ (o : Option Request). Heads h names o p) (none_is (step.asks t names) is) (step_laws.asks_so h names t p stands)
 
 -- the step goes on, or the next one begins
-moves_by : (h n : ℕ) (names : Names) (t : StepTask) (behind : List Step) (p : Play) → step.StandsFor h names t p → (through : Bool) → is_none (step.asks t names) ≡ through
-    → StandsFor h names (goes_on n t behind through) (then_play p (plays_of h behind))
-moves_by h n names t behind p stands false is = record { step_play = p; stands_for = stands; asks_on = is; play_is = refl }
-moves_by h n names t behind p stands true is =
-    subst (λ (x : Play). StandsFor h names (begun_at (n + 1) behind) (then_play x (plays_of h behind))) (sym (ended_play h names t p stands is)) (begins h (n + 1) names behind stands.0)
+moves_by : (h n : ℕ) (names : Names) (left : Left) (t : StepTask) (behind : List Step) (p : Play) (s : Step) (said : List Reply) → step.StandsFor h names t p
+    → t ≡ step.after_all (step.begun left s) said → step.leaves t left ≡ left_after left s said
+    → (through : Bool) → is_none (step.asks t names) ≡ through
+    → StandsFor h names (goes_on n left t behind through) (then_play said p (plays_behind h behind left s))
+moves_by h n names left t behind p s said stands told leaves false is =
+    record { step_is = s; said = said; told = told; step_play = p; stands_for = stands; asks_on = is; play_is = refl }
+moves_by h n names left t behind p s said stands told leaves true is =
+    subst (λ (x : Play). StandsFor h names (begun_at (n + 1) (step.leaves t left) behind) (then_play said x (plays_behind h behind left s))) (sym (ended_play h names t p stands is))
+    (subst (λ (l : Left). StandsFor h names (begun_at (n + 1) (step.leaves t left) behind) (plays_of h behind (record { names = names; left = l }))) leaves
+    (begins h (n + 1) names (step.leaves t left) behind stands.0))
 
 -- the request of a step and the event of its play
 pub step_heads : (h : ℕ) (names : Names) (t : StepTask) (p : Play) (q : Request) → step.StandsFor h names t p → step.asks t names ≡ Some q → Heads h names (Some q) p
 step_heads h names t p q stands asked = subst (λ (o : Option Request). Heads h names o p) asked (step_laws.asks_so h names t p stands)
 
 pub moves_so : MovesSo Scripting asks after StandsFor
-moves_so h names (AtStep n t behind) p q r at asked fit =
+moves_so h names (AtStep n left t behind) p q r at asked fit =
+    let later = plays_behind h behind left at.step_is in
     let heads : Heads h names (Some q) at.step_play = step_heads h names t at.step_play q at.stands_for asked in
-    let fits_step : fits_play at.step_play r ≡ true = fits_then at.step_play (plays_of h behind) heads.0 r heads.1 (subst (λ (x : Play). fits_play x r ≡ true) at.play_is fit) in
-    let is : follow p r ≡ then_play (follow at.step_play r) (plays_of h behind) = ap (λ (x : Play). follow x r) at.play_is ∙ follow_then at.step_play (plays_of h behind) heads.0 r heads.1 in
-    subst (λ (x : Play). StandsFor h (settled names q r) (after (AtStep n t behind) r) x) (sym is)
-    (moves_by h n (settled names q r) (step.after t r) behind (follow at.step_play r)
-    (step_laws.moves_so h names t at.step_play q r at.stands_for asked fits_step)
-    (is_none (step.asks (step.after t r) (no_names []))) (asks_alike (step.after t r) (settled names q r) (no_names [])))
-moves_so h names (AtEnd n) p q r at asked fit = absurd (none-some q asked)
+    let fits_step : fits_play at.step_play r ≡ true = fits_then at.said at.step_play later heads.0 r heads.1 (subst (λ (x : Play). fits_play x r ≡ true) at.play_is fit) in
+    let is : follow p r ≡ then_play (at.said ++ r ∷ []) (follow at.step_play r) later = ap (λ (x : Play). follow x r) at.play_is ∙ follow_then at.said at.step_play later heads.0 r heads.1 in
+    let told : step.after t r ≡ step.after_all (step.begun left at.step_is) (at.said ++ r ∷ []) = ap (λ (u : StepTask). step.after u r) at.told ∙ leaving.after_one (step.begun left at.step_is) at.said r in
+    subst (λ (x : Play). StandsFor h (settled names q r) (after (AtStep n left t behind) r) x) (sym is)
+    (moves_by h n (settled names q r) left (step.after t r) behind (follow at.step_play r) at.step_is (at.said ++ r ∷ [])
+    (step_laws.moves_so h names t at.step_play q r at.stands_for asked fits_step) told
+    (leaving.leaves_so left at.step_is at.said r t at.told (sym (step_laws.asks_alike t names (no_names [])) ∙ at.asks_on))
+    (is_none (step.asks (step.after t r) (no_names []))) (step_laws.asks_alike (step.after t r) (settled names q r) (no_names [])))
+moves_so h names (AtEnd n left) p q r at asked fit = absurd (none-some q asked)
 
 -- The script goes on.
 
@@ -218,8 +115,8 @@ append_one (x ∷ xs) r more = ap (λ ys. x ∷ ys) (append_one xs r more)
 continues_on : (zone : Tuples) (s : Script) (rs : List Reply) (p : Play) (r : Reply) → Continues zone s rs p → Continues zone s (rs ++ r ∷ []) (follow p r)
 continues_on zone s rs p r goes =
     record {
-      next_is = λ more. subst (λ (xs : List Reply). (position s.host s.steps (no_names zone) xs).next ≡ head (rest p (r ∷ more))) (sym (append_one rs r more)) (goes.next_is (r ∷ more));
-      left_is = λ more. subst (λ (xs : List Reply). nat_lt 0 (length (position s.host s.steps (no_names zone) xs).left) ≡ is_some (head (rest p (r ∷ more)))) (sym (append_one rs r more)) (goes.left_is (r ∷ more));
+      next_is = λ more. subst (λ (xs : List Reply). (position s.host s.steps (at_first zone) xs).next ≡ head (rest p (r ∷ more))) (sym (append_one rs r more)) (goes.next_is (r ∷ more));
+      left_is = λ more. subst (λ (xs : List Reply). nat_lt 0 (length (position s.host s.steps (at_first zone) xs).left) ≡ is_some (head (rest p (r ∷ more)))) (sym (append_one rs r more)) (goes.left_is (r ∷ more));
     }
 
 same_ask : (p : Play) (ask : Ask) (r : Reply) → head p ≡ Some ask → fits ask.event r ≡ true → fits_play p r ≡ true

@@ -1,72 +1,76 @@
 -- The task of a whole script: its requests, what a reply makes of it, and the plays that it stands for.
 use Rattle.std.specs.Prelude.{◌≡◌, ℕ, ◌+◌, ◌<◌, Bool, true, false, List, [], ◌∷◌, ◌++◌, drop, length, Option, Some, None, IfSome, is_none, option_map}
+use Rattle.net_base.specs.declared.left.Left.{Left}
 use Rattle.net_base.specs.declared.reply.Reply.{Reply}
 use Rattle.net_base.specs.declared.world.Script.{Script}
 use Rattle.net_base.specs.declared.world.Step.{Step}
 use Rattle.net_base.specs.Next.{finished_by}
-use Rattle.net_base.specs.Steps.{Names, Play, Asks, Ends, no_names, play_of}
+use Rattle.net_base.specs.Remotes.{nothing_left}
+use Rattle.net_base.specs.Scripts.{Kept as Holds, kept_after, left_after, step_play}
+use Rattle.net_base.specs.Steps.{Names, Play, Asks, Ends, no_names}
 use Rattle.net_base.specs.Versions.{Tuples}
 use Rattle.script_task.specs.declared.request.Request.{Request}
 use Rattle.script_task.specs.Rest.{Continues}
 use Rattle.script_task.specs.Task.{follow, fits_play}
-use Rattle.dial_lib.specs.declared.step.StepTask.{StepTask}
-use Rattle.dial_lib.specs.StepTasks as step
+use Rattle.step_task.specs.declared.step.StepTask.{StepTask}
+use Rattle.step_task.specs.StepTasks as step
 
 -- The task.
 
--- what a contract sees of it: how many steps are finished, and, if one is left, the step that is played and those behind
+-- what a contract sees of it: how many steps are finished, what they leave for later ones, and, if one is left, the step that is played and
+-- those behind
 pub data Scripting : Type 0 where
-  AtStep : ℕ → StepTask → List Step → Scripting
-  AtEnd : ℕ → Scripting
+  AtStep : ℕ → Left → StepTask → List Step → Scripting
+  AtEnd : ℕ → Left → Scripting
 
 abbrev pub finished_in : Scripting → ℕ
-finished_in (AtStep n t behind) = n
-finished_in (AtEnd n) = n
+finished_in (AtStep n left t behind) = n
+finished_in (AtEnd n left) = n
 
--- where so many steps are finished and these are left, the first of them begins
-abbrev pub begun_at : ℕ → List Step → Scripting
-begun_at n [] = AtEnd n
-begun_at n (s ∷ ss) = AtStep n (step.begun s) ss
+-- where so many steps are finished, this is left and these are to come, the first of them begins
+abbrev pub begun_at : ℕ → Left → List Step → Scripting
+begun_at n left [] = AtEnd n left
+begun_at n left (s ∷ ss) = AtStep n left (step.begun left s) ss
 
 -- the same, where that step may have begun already
-abbrev pub progress : ℕ → Option StepTask → List Step → Scripting
-progress n None left = begun_at n left
-progress n (Some t) left = AtStep n t (drop 1 left)
+abbrev pub progress : ℕ → Left → Option StepTask → List Step → Scripting
+progress n left None steps = begun_at n left steps
+progress n left (Some t) steps = AtStep n left t (drop 1 steps)
 
 -- the task of a step, where it has begun, or else of this one
-abbrev pub begun_by : Option StepTask → Option Step → Option StepTask
-begun_by None o = option_map step.begun o
-begun_by (Some t) o = Some t
+abbrev pub begun_by : Left → Option StepTask → Option Step → Option StepTask
+begun_by left None o = option_map (step.begun left) o
+begun_by left (Some t) o = Some t
 
 -- Requests and replies.
 
 -- the next request under these names
 abbrev pub asks : Scripting → Names → Option Request
-asks (AtStep n t behind) names = step.asks t names
-asks (AtEnd n) names = None
+asks (AtStep n left t behind) names = step.asks t names
+asks (AtEnd n left) names = None
 
 -- what this step, if there is one, asks before it has recorded anything
-abbrev pub first_asked : Option Step → Names → Option Request
-first_asked None names = None
-first_asked (Some s) names = step.asks (step.begun s) names
+abbrev pub first_asked : Left → Option Step → Names → Option Request
+first_asked left None names = None
+first_asked left (Some s) names = step.asks (step.begun left s) names
 
 -- a step has a request, whatever the names
 abbrev pub GoesOn : StepTask → Type 0
 GoesOn t = (names : Names) → is_none (step.asks t names) ≡ false
 
--- a step that has begun is one of those that are left, and isn't through
+-- a step that has begun is one of those that are to come, and isn't through
 abbrev pub Kept : ℕ → Option StepTask → List Step → Type 0
 Kept n t steps = IfSome t (λ (x : StepTask). (n < length steps) × GoesOn x)
 
--- a step that is through is finished, and the next one begins
-abbrev pub goes_on : ℕ → StepTask → List Step → Bool → Scripting
-goes_on n t behind false = AtStep n t behind
-goes_on n t behind true = begun_at (n + 1) behind
+-- a step that is through is finished and leaves what it leaves, and the next one begins
+abbrev pub goes_on : ℕ → Left → StepTask → List Step → Bool → Scripting
+goes_on n left t behind false = AtStep n left t behind
+goes_on n left t behind true = begun_at (n + 1) (step.leaves t left) behind
 
 -- the task after a reply; whether a step is through doesn't hang on the names
 abbrev pub after : Scripting → Reply → Scripting
-after (AtStep n t behind) r = goes_on n (step.after t r) behind (is_none (step.asks (step.after t r) (no_names [])))
-after (AtEnd n) r = AtEnd n
+after (AtStep n left t behind) r = goes_on n left (step.after t r) behind (is_none (step.asks (step.after t r) (no_names [])))
+after (AtEnd n left) r = AtEnd n left
 
 -- the same by parts: the step that has begun, if one has, after a reply
 abbrev pub heard : Option StepTask → Reply → Option StepTask
@@ -74,37 +78,50 @@ heard None r = None
 heard (Some t) r = Some (step.after t r)
 
 -- the same, where it begins if it hasn't
-abbrev pub told_by : Option StepTask → Option Step → Reply → Option StepTask
-told_by t o r = heard (begun_by t o) r
+abbrev pub told_by : Left → Option StepTask → Option Step → Reply → Option StepTask
+told_by left t o r = heard (begun_by left t o) r
 
 -- a step has begun and is through
 abbrev pub is_played : Option StepTask → Names → Bool
 is_played None names = false
 is_played (Some t) names = is_none (step.asks t names)
 
+-- what is left then
+abbrev pub left_by : Option StepTask → Left → Left
+left_by None left = left
+left_by (Some t) left = step.left_by t left
+
 -- The play that it stands for.
 
--- a play, and then the one that begins with the names that it leaves
-abbrev pub then_play : Play → (Names → Play) → Play
-then_play (Asks a e next) later = Asks a e (λ (r : Reply). then_play (next r) later)
-then_play (Ends names) later = later names
+-- a play, after these replies to its events, and then the one that begins with the names that it leaves and all its replies
+abbrev pub then_play : List Reply → Play → (Names → List Reply → Play) → Play
+then_play said (Asks a e next) later = Asks a e (λ (r : Reply). then_play (said ++ r ∷ []) (next r) later)
+then_play said (Ends names) later = later names said
 
--- the plays of these steps, one after another
-abbrev pub plays_of : ℕ → List Step → Names → Play
-plays_of h [] names = Ends names
-plays_of h (s ∷ ss) names = then_play (play_of h names s) (plays_of h ss)
+-- the plays of these steps, one after another, where this is kept
+abbrev pub plays_of : ℕ → List Step → Holds → Play
+plays_of h [] k = Ends k.names
+plays_of h (s ∷ ss) k = then_play [] (step_play h k s) (λ (names : Names) (rs : List Reply). plays_of h ss (kept_after k s names rs))
 
--- in the midst of a step, which stands for its own play and isn't through, before these
-pub record InStep (h : ℕ) (names : Names) (t : StepTask) (behind : List Step) (p : Play) : Type 0 where
+-- the plays behind a step, where this was left before it
+abbrev pub plays_behind : ℕ → List Step → Left → Step → Names → List Reply → Play
+plays_behind h behind left s names rs = plays_of h behind (record { names = names; left = left_after left s rs })
+
+-- In the midst of a step, which was told these replies, stands for the rest of its play and isn't through, before these. What it leaves
+-- once it is through is what those replies leave.
+pub record InStep (h : ℕ) (names : Names) (left : Left) (t : StepTask) (behind : List Step) (p : Play) : Type 0 where
+  pub step_is : Step
+  pub said : List Reply
+  pub told : t ≡ step.after_all (step.begun left step_is) said
   pub step_play : Play
   pub stands_for : step.StandsFor h names t step_play
   pub asks_on : is_none (step.asks t names) ≡ false
-  pub play_is : p ≡ then_play step_play (plays_of h behind)
+  pub play_is : p ≡ then_play said step_play (plays_behind h behind left step_is)
 
 -- on this host, under these names
 abbrev pub StandsFor : ℕ → Names → Scripting → Play → Type 0
-StandsFor h names (AtStep n t behind) p = InStep h names t behind p
-StandsFor h names (AtEnd n) p = p ≡ Ends names
+StandsFor h names (AtStep n left t behind) p = InStep h names left t behind p
+StandsFor h names (AtEnd n left) p = p ≡ Ends names
 
 -- The script that it plays.
 

@@ -1,6 +1,6 @@
 //! Messages of 9P2000, read and written again, and bytes that are refused.
 ghost use Rattle.std.specs.Prelude.{◌<◌, ◌≤◌, length};
-ghost use Rattle.ninep_wire.specs.Messages.{longest, r_bytes, r_qids, t_bytes, t_names};
+ghost use Rattle.net_base.specs.NinepMessages.{longest, r_bytes, r_qids, t_bytes, t_names};
 
 use net_base::Octets;
 use ninep_wire::*;

@@ -9,4 +9,4 @@ pub use Rattle.world_text.specs.LineFit
 pub use Rattle.world_text.specs.WorldLines
 pub use Rattle.world_text.specs.WorldSpelling
 pub use Rattle.world_text.specs.WorldText
-pub use Rattle.sessions.specs.Script
+pub use Rattle.net_base.specs.SessionScript

@@ -11,7 +11,7 @@ use Rattle.net_base.specs.declared.world.World.{World}
 use Rattle.world_text.specs.VersionLines.{bad_version_line}
 use Rattle.sessions.specs.declared.world.Session.{Session}
 use Rattle.sessions.specs.declared.world.SessionWorld.{SessionWorld}
-use Rattle.sessions.specs.Script.{IsBadStream, IsScript}
+use Rattle.net_base.specs.SessionScript.{IsBadStream, IsScript}
 use Rattle.world_text.specs.declared.line.LineCause.{LineCause}
 use Rattle.world_text.specs.declared.line.LineCause.TheVariants as cause
 use Rattle.world_text.specs.declared.line.WorldLine.{WorldLine}

@@ -4,7 +4,7 @@ use Rattle.std.specs.Borrow.{Bor}
 use Rattle.world_text.specs.VersionLines.{bad_version_line}
 use Rattle.sessions.specs.declared.world.Session.{Session}
 use Rattle.sessions.specs.declared.world.SessionWorld.{SessionWorld}
-use Rattle.sessions.specs.Script.{IsBadStream}
+use Rattle.net_base.specs.SessionScript.{IsBadStream}
 use Rattle.world_text.specs.WorldLines.{Draft, Goes, line_verdict, world_of}
 use Rattle.world_text.specs.WorldText.{Cut, with_versions}
 use Rattle.world_text.specs.WorldWords.{hex_text, words_of}

@@ -104,6 +104,15 @@ const STEPS: &[&[u8]] = &[
     b"hwrite a 00000000000000000000ffff8768090600000000000000000000ffff8768091f00000000000000000000ffff8768091f13880035",
     b"hwrite a 00000000000000000000ffff8768090600000000000000000000ffff8768091f00000000000000000000ffff8768091f1388003500ff",
     b"dns a 1000",
+    b"export e",
+    b"import d",
+    b"ropen f d /net rw",
+    b"ropen f d /net/udp/0/data r",
+    b"ropen f d /net/abcdefghijklmnopqrstuvwxyz0/./.. w",
+    b"rread f 1",
+    b"rread f 488",
+    b"rwrite f two  words ",
+    b"rclose f",
 ];
 
 #[test]
@@ -180,6 +189,20 @@ const WRONG_STEPS: &[&[u8]] = &[
     b"dns a",
     b"dns a 0",
     b"dns a 1001",
+    b"export",
+    b"import d e",
+    b"ropen f d /net",
+    b"ropen f d /net/ r",
+    b"ropen f d /net//udp r",
+    b"ropen f d /nett r",
+    b"ropen f d net/udp r",
+    b"ropen f d /net/abcdefghijklmnopqrstuvwxyz01 r",
+    b"ropen f d /net/1/2/3/4/5/6/7/8/9/10/11/12/13/14/15/16/17 r",
+    b"rread f 0",
+    b"rread f 489",
+    b"rwrite f",
+    b"rwrite f ",
+    b"rclose",
 ];
 
 #[test]

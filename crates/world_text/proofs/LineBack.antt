@@ -23,6 +23,7 @@ use Rattle.net_base.specs.DatagramHeaders.{has_headers}
 use Rattle.net_base.specs.NdbText.{is_newline}
 use Rattle.net_base.specs.Paths.{proto_name}
 use Rattle.net_base.specs.Transcript.{mode_word}
+use Rattle.net_base.specs.Remotes.{is_remote_path}
 use Rattle.net_base.specs.World.{is_address, is_byte, is_letter, is_name, is_name_byte, is_nets, is_step, is_text, is_within, is_word}
 use Rattle.net_base.proofs.Texts.{IsWithout, cut_at, decimal_without, one_part, without_one}
 use Rattle.world_text.specs.declared.line.Frames.{Frames}
@@ -32,7 +33,7 @@ use Rattle.world_text.specs.declared.line.MediumLine.TheVariants as medium
 use Rattle.world_text.specs.declared.line.WorldLine.{WorldLine}
 use Rattle.world_text.specs.declared.line.WorldLine.TheVariants as line
 use Rattle.world_text.specs.WorldWords.{address_in, joined, mode_named, nets_named, number_in}
-use Rattle.world_text.specs.LineReading.{argued, cs_of, fate_from, fate_named, frame_in, frames_in, frames_of, if_from, kept, named, range_from, rate_in, rates_from, read_line, route_from, step_read, words_line, write_of}
+use Rattle.world_text.specs.LineReading.{argued, cs_of, fate_from, fate_named, frame_in, frames_in, frames_of, if_from, kept, named, range_from, rate_in, rates_from, read_line, route_from, rwrite_of, step_read, words_line, write_of}
 use Rattle.world_text.specs.WorldSpelling.{fate_word, frames_spelled, is_line, spaced, speaks, spelling, timers_word, words_of_line, words_of_step}
 use Rattle.world_text.proofs.Controls.{dotted_is_without}
 use Rattle.world_text.specs.LineFit.{fit_frames, is_fit, is_frame, is_rate}
@@ -119,6 +120,7 @@ some_part b xs = let len = length-slice_split (λ (x : ℕ). x == b) xs in omega
 abbrev PlainStep : Step → Type 0
 PlainStep (step.Write called text) = ⊥
 PlainStep (step.Cs query) = ⊥
+PlainStep (step.Rwrite called text) = ⊥
 PlainStep _ = ⊤
 
 abbrev IsPlain : WorldLine → Type 0
@@ -167,6 +169,18 @@ step-free s p (step.Hwrite called bytes) plain fit =
 step-free s p (step.Dns called times) plain fit =
     let both = and_parts (is_name called) (is_within 1 1000 times) fit in
     (letters-free s p (codes "dns") refl, (name-free s p called both.0, (number-free s p 1 1000 times (omega arith) both.1, tt)))
+step-free s p (step.Export called) plain fit = (letters-free s p (codes "export") refl, (name-free s p called fit, tt))
+step-free s p (step.Import called) plain fit = (letters-free s p (codes "import") refl, (name-free s p called fit, tt))
+step-free s p (step.Ropen called call path m) plain fit =
+    let both = and_parts (is_name called) (is_name call && (is_word path && is_remote_path path)) fit in
+    let rest = and_parts (is_name call) (is_word path && is_remote_path path) both.1 in
+    let last = and_parts (is_word path) (is_remote_path path) rest.1 in
+    (letters-free s p (codes "ropen") refl, (name-free s p called both.0, (name-free s p call rest.0, (p.path path last.0, (mode-free s p m, tt)))))
+step-free s p (step.Rread called count) plain fit =
+    let both = and_parts (is_name called) (is_within 1 488 count) fit in
+    (letters-free s p (codes "rread") refl, (name-free s p called both.0, (number-free s p 1 488 count (omega arith) both.1, tt)))
+step-free s p (step.Rwrite called text) plain fit = absurd plain
+step-free s p (step.Rclose called) plain fit = (letters-free s p (codes "rclose") refl, (name-free s p called fit, tt))
 
 one-free : (s : ℕ) → Apart s → IsWithout s (codes "1")
 one-free s p = let low = p.low in without_one s 49 [] (ne_eqb 49 s (λ is. omega (arith, is, low))) (All-nil (λ (x : ℕ). (x == s) ≡ false))
@@ -318,6 +332,15 @@ step-back (step.Hwrite called bytes) plain fit =
 step-back (step.Dns called times) plain fit =
     ap (λ o. step_read (Some (option_and_then (λ n. kept (step.Dns called n)) o))) (number-back 1 1000 times (omega arith) ((and_parts (is_name called) (is_within 1 1000 times) fit).1))
     ∙ kept-back (step.Dns called times) fit
+step-back (step.Export called) plain fit = kept-back (step.Export called) fit
+step-back (step.Import called) plain fit = kept-back (step.Import called) fit
+step-back (step.Ropen called call path m) plain fit =
+    ap (λ o. step_read (Some (option_and_then (λ (n : Mode). kept (step.Ropen called call path n)) o))) (mode-back m) ∙ kept-back (step.Ropen called call path m) fit
+step-back (step.Rread called count) plain fit =
+    ap (λ o. step_read (Some (option_and_then (λ n. kept (step.Rread called n)) o))) (number-back 1 488 count (omega arith) ((and_parts (is_name called) (is_within 1 488 count) fit).1))
+    ∙ kept-back (step.Rread called count) fit
+step-back (step.Rwrite called text) plain fit = absurd plain
+step-back (step.Rclose called) plain fit = kept-back (step.Rclose called) fit
 
 words-back : (l : WorldLine) → IsPlain l → is_fit l ≡ true → words_line (words_of_line l) ≡ Ok l
 words-back (line.Networld timers.Fixed) plain fit = refl
@@ -368,6 +391,16 @@ write-back called text name fit =
     by [] some is = absurd (omega (arith, some))
     by (word ∷ words) some is = ap (λ (t : List ℕ). step_read (Some (kept (step.Write called t)))) is ∙ kept-back (step.Write called text) fit
 
+rwrite-back : (called text : List ℕ) → is_name called ≡ true → is_step (step.Rwrite called text) ≡ true → read_line (spelling (line.OfScript (step.Rwrite called text))) ≡ Ok (line.OfScript (step.Rwrite called text))
+rwrite-back called text name fit =
+    ap words_line (cut_at 32 (codes "rwrite") (called ++ (32 ∷ text)) (called ∷ parts_at 32 text) (letters-free 32 apart-blank (codes "rwrite") refl)
+    (cut_at 32 called text (parts_at 32 text) (name-free 32 apart-blank called name) refl))
+    ∙ by (parts_at 32 text) (some_part 32 text) (join_with_byte-slice_split 32 text)
+  where
+    by : (parts : List (List ℕ)) → 0 < length parts → joined parts ≡ text → step_read (Some (rwrite_of (called ∷ parts))) ≡ Ok (line.OfScript (step.Rwrite called text))
+    by [] some is = absurd (omega (arith, some))
+    by (word ∷ words) some is = ap (λ (t : List ℕ). step_read (Some (kept (step.Rwrite called t)))) is ∙ kept-back (step.Rwrite called text) fit
+
 cs-back : (query : List ℕ) → is_step (step.Cs query) ≡ true → read_line (spelling (line.OfScript (step.Cs query))) ≡ Ok (line.OfScript (step.Cs query))
 cs-back query fit =
     ap words_line (cut_at 32 (codes "cs") query (parts_at 32 query) (letters-free 32 apart-blank (codes "cs") refl) refl)
@@ -405,6 +438,12 @@ back-step (step.Hangup called) fit = plain-back (line.OfScript (step.Hangup call
 back-step (step.Hread called count) fit = plain-back (line.OfScript (step.Hread called count)) tt fit _ refl (omega arith)
 back-step (step.Hwrite called bytes) fit = plain-back (line.OfScript (step.Hwrite called bytes)) tt fit _ refl (omega arith)
 back-step (step.Dns called times) fit = plain-back (line.OfScript (step.Dns called times)) tt fit _ refl (omega arith)
+back-step (step.Export called) fit = plain-back (line.OfScript (step.Export called)) tt fit _ refl (omega arith)
+back-step (step.Import called) fit = plain-back (line.OfScript (step.Import called)) tt fit _ refl (omega arith)
+back-step (step.Ropen called call path m) fit = plain-back (line.OfScript (step.Ropen called call path m)) tt fit _ refl (omega arith)
+back-step (step.Rread called count) fit = plain-back (line.OfScript (step.Rread called count)) tt fit _ refl (omega arith)
+back-step (step.Rwrite called text) fit = rwrite-back called text ((and_parts (is_name called) (is_text text && is_within 1 488 (length text)) fit).0) fit
+back-step (step.Rclose called) fit = plain-back (line.OfScript (step.Rclose called)) tt fit _ refl (omega arith)
 
 pub back : (l : WorldLine) → is_fit l ≡ true → read_line (spelling l) ≡ Ok l
 back (line.Networld timers.Fixed) fit = refl
@@ -443,6 +482,12 @@ loud-step (step.Hangup called) = refl
 loud-step (step.Hread called count) = refl
 loud-step (step.Hwrite called bytes) = refl
 loud-step (step.Dns called times) = refl
+loud-step (step.Export called) = refl
+loud-step (step.Import called) = refl
+loud-step (step.Ropen called call path m) = refl
+loud-step (step.Rread called count) = refl
+loud-step (step.Rwrite called text) = refl
+loud-step (step.Rclose called) = refl
 
 pub loud : (l : WorldLine) → speaks (spelling l) ≡ true
 loud (line.Networld timers.Fixed) = refl
@@ -487,6 +532,15 @@ one-step (step.Hangup called) fit = step-free 10 apart-newline (step.Hangup call
 one-step (step.Hread called count) fit = step-free 10 apart-newline (step.Hread called count) tt fit
 one-step (step.Hwrite called bytes) fit = step-free 10 apart-newline (step.Hwrite called bytes) tt fit
 one-step (step.Dns called times) fit = step-free 10 apart-newline (step.Dns called times) tt fit
+one-step (step.Export called) fit = step-free 10 apart-newline (step.Export called) tt fit
+one-step (step.Import called) fit = step-free 10 apart-newline (step.Import called) tt fit
+one-step (step.Ropen called call path m) fit = step-free 10 apart-newline (step.Ropen called call path m) tt fit
+one-step (step.Rread called count) fit = step-free 10 apart-newline (step.Rread called count) tt fit
+one-step (step.Rwrite called text) fit =
+    let both = and_parts (is_name called) (is_text text && is_within 1 488 (length text)) fit in
+    let last = and_parts (is_text text) (is_within 1 488 (length text)) both.1 in
+    (letters-free 10 apart-newline (codes "rwrite") refl, (name-free 10 apart-newline called both.0, (text-free text last.0, tt)))
+one-step (step.Rclose called) fit = step-free 10 apart-newline (step.Rclose called) tt fit
 
 one-free-line : (l : WorldLine) → is_fit l ≡ true → AreFree 10 (words_of_line l)
 one-free-line (line.OfScript x) fit = one-step x fit

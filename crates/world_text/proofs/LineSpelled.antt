@@ -29,7 +29,7 @@ use Rattle.world_text.specs.declared.line.MediumLine.TheVariants as medium
 use Rattle.world_text.specs.declared.line.WorldLine.{WorldLine}
 use Rattle.world_text.specs.declared.line.WorldLine.TheVariants as line
 use Rattle.world_text.specs.WorldWords.{Four, Three, Two, address_in, both_nets, four, hex_text, is_padded, joined, mode_named, nets_named, number_in, one, three, two, words_of}
-use Rattle.world_text.specs.LineReading.{argued, cs_of, dns_of, end_of, fate_from, fate_named, fate_of, frame_in, frames_in, frames_of, host_of, hread_of, hwrite_of, if_from, if_of, kept, medium_of, named, ndb_of, networld_of, of_one, of_two, open_of, other_of, range_from, rate_in, rates_from, rates_of, read_line, read_of, refresh_of, route_from, route_of, script_of, seed_of, start_of, step_of, step_read, timers_named, until_of, words_line, write_of, writex_of}
+use Rattle.world_text.specs.LineReading.{argued, cs_of, dns_of, end_of, fate_from, fate_named, fate_of, frame_in, frames_in, frames_of, host_of, hread_of, hwrite_of, if_from, if_of, import_of, kept, medium_of, named, ndb_of, networld_of, of_one, of_two, open_of, other_of, range_from, rate_in, rates_from, rates_of, read_line, read_of, refresh_of, route_from, route_of, ropen_of, rread_of, rwrite_of, script_of, seed_of, start_of, step_of, step_read, timers_named, until_of, words_line, write_of, writex_of}
 use Rattle.world_text.specs.WorldSpelling.{fate_word, frames_spelled, spelling, timers_word, words_of_line}
 use Rattle.world_text.specs.LineFit.{fit_frames, is_fit, is_frame, is_rate}
 use Rattle.world_text.proofs.Hexes.{hex-spelled}
@@ -437,6 +437,32 @@ own-if word args called o p here later = by (bytes_eq word called) refl
     by true is = subst (λ (w : List ℕ). SaidStep (w ∷ args) o) (sym (equal word called is)) here
     by false is = later
 
+said-ropen : (args : List (List ℕ)) → SaidStep (codes "ropen" ∷ args) (ropen_of args)
+said-ropen args = step-then (codes "ropen" ∷ args) (λ (w : Four). option_and_then (λ (m : Mode). kept (step.Ropen w.first w.second w.third m)) (mode_named w.fourth)) (four args) (λ w e.
+    step-then (codes "ropen" ∷ args) (λ (m : Mode). kept (step.Ropen w.first w.second w.third m)) (mode_named w.fourth) (λ m f.
+    said-kept (codes "ropen" ∷ args) (step.Ropen w.first w.second w.third m)
+    (ap (λ (vs : List (List ℕ)). joined (codes "ropen" ∷ vs)) (four-is args w e ∙ ap (λ (x : List ℕ). w.first ∷ w.second ∷ w.third ∷ x ∷ []) (mode-is w.fourth m f)))))
+
+said-rread : (args : List (List ℕ)) → SaidStep (codes "rread" ∷ args) (rread_of args)
+said-rread args = step-then (codes "rread" ∷ args) (λ (w : Two). option_and_then (λ count. kept (step.Rread w.first count)) (number_in 1 488 w.second)) (two args) (λ w e.
+    step-then (codes "rread" ∷ args) (λ count. kept (step.Rread w.first count)) (number_in 1 488 w.second) (λ count f.
+    said-kept (codes "rread" ∷ args) (step.Rread w.first count)
+    (ap (λ (vs : List (List ℕ)). joined (codes "rread" ∷ vs)) (two-is args w e ∙ ap (λ (x : List ℕ). w.first ∷ x ∷ []) (number-is 1 488 w.second count (omega arith) f)))))
+
+said-rwrite : (args : List (List ℕ)) → SaidStep (codes "rwrite" ∷ args) (rwrite_of args)
+said-rwrite [] = tt
+said-rwrite (called ∷ []) = tt
+said-rwrite (called ∷ word ∷ words) = said-kept (codes "rwrite" ∷ called ∷ word ∷ words) (step.Rwrite called (joined (word ∷ words))) refl
+
+said-import : (word : List ℕ) (args : List (List ℕ)) → SaidOwn (word ∷ args) (import_of word args)
+said-import word args =
+    own-if word args (codes "export") (of_one (λ n. step.Export n) args) _ (said-one (codes "export") (λ n. step.Export n) args (λ a. refl))
+    (own-if word args (codes "import") (of_one (λ n. step.Import n) args) _ (said-one (codes "import") (λ n. step.Import n) args (λ a. refl))
+    (own-if word args (codes "ropen") (ropen_of args) _ (said-ropen args)
+    (own-if word args (codes "rread") (rread_of args) _ (said-rread args)
+    (own-if word args (codes "rwrite") (rwrite_of args) _ (said-rwrite args)
+    (own-if word args (codes "rclose") (of_one (λ n. step.Rclose n) args) None (said-one (codes "rclose") (λ n. step.Rclose n) args (λ a. refl)) tt)))))
+
 said-other : (word : List ℕ) (args : List (List ℕ)) → SaidOwn (word ∷ args) (other_of word args)
 said-other word args =
     own-if word args (codes "until") (until_of args) _ (said-until args)
@@ -449,7 +475,7 @@ said-other word args =
     (own-if word args (codes "hangup") (of_one (λ n. step.Hangup n) args) _ (said-one (codes "hangup") (λ n. step.Hangup n) args (λ a. refl))
     (own-if word args (codes "hread") (hread_of args) _ (said-hread args)
     (own-if word args (codes "hwrite") (hwrite_of args) _ (said-hwrite args)
-    (own-if word args (codes "dns") (dns_of args) None (said-dns args) tt))))))))))
+    (own-if word args (codes "dns") (dns_of args) (import_of word args) (said-dns args) (said-import word args)))))))))))
 
 said-step : (word : List ℕ) (args : List (List ℕ)) → SaidOwn (word ∷ args) (step_of word args)
 said-step word args =

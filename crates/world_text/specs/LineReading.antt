@@ -182,6 +182,29 @@ hwrite_of args = option_and_then (λ (w : Two). option_and_then (λ bytes. kept 
 abbrev pub dns_of : List (List ℕ) → Option Step
 dns_of args = option_and_then (λ (w : Two). option_and_then (λ times. kept (step.Dns w.first times)) (number_in 1 1000 w.second)) (two args)
 
+-- imports
+
+abbrev pub ropen_of : List (List ℕ) → Option Step
+ropen_of args =
+    option_and_then (λ (w : Four). option_and_then (λ (m : Mode). kept (step.Ropen w.first w.second w.third m)) (mode_named w.fourth)) (four args)
+
+abbrev pub rread_of : List (List ℕ) → Option Step
+rread_of args = option_and_then (λ (w : Two). option_and_then (λ count. kept (step.Rread w.first count)) (number_in 1 488 w.second)) (two args)
+
+abbrev pub rwrite_of : List (List ℕ) → Option Step
+rwrite_of (called ∷ word ∷ words) = kept (step.Rwrite called (joined (word ∷ words)))
+rwrite_of _ = None
+
+abbrev pub import_of : List ℕ → List (List ℕ) → Option (Option Step)
+import_of word args =
+    if bytes_eq word (codes "export") then Some (of_one (λ n. step.Export n) args)
+    else (if bytes_eq word (codes "import") then Some (of_one (λ n. step.Import n) args)
+    else (if bytes_eq word (codes "ropen") then Some (ropen_of args)
+    else (if bytes_eq word (codes "rread") then Some (rread_of args)
+    else (if bytes_eq word (codes "rwrite") then Some (rwrite_of args)
+    else (if bytes_eq word (codes "rclose") then Some (of_one (λ n. step.Rclose n) args)
+    else None)))))
+
 abbrev pub other_of : List ℕ → List (List ℕ) → Option (Option Step)
 other_of word args =
     if bytes_eq word (codes "until") then Some (until_of args)
@@ -195,7 +218,7 @@ other_of word args =
     else (if bytes_eq word (codes "hread") then Some (hread_of args)
     else (if bytes_eq word (codes "hwrite") then Some (hwrite_of args)
     else (if bytes_eq word (codes "dns") then Some (dns_of args)
-    else None))))))))))
+    else import_of word args))))))))))
 
 -- the step of a word and its arguments, which are wrong where there is none
 abbrev pub step_of : List ℕ → List (List ℕ) → Option (Option Step)

@@ -80,6 +80,12 @@ all_steps =
     ∷ step.Hread (codes "a") 512
     ∷ step.Hwrite (codes "a") (headers_bytes asked ++ 104 ∷ 105 ∷ [])
     ∷ step.Dns (codes "a") 1000
+    ∷ step.Import (codes "e")
+    ∷ step.Ropen (codes "r") (codes "e") (codes "/net/udp/clone") mode.Both
+    ∷ step.Rread (codes "r") 32
+    ∷ step.Rwrite (codes "r") (codes "two  words")
+    ∷ step.Rclose (codes "r")
+    ∷ step.Export (codes "f")
     ∷ []
 
 abbrev pub every_line : World

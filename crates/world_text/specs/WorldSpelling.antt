@@ -133,6 +133,13 @@ words_of_step (step.Hangup called) = codes "hangup" ∷ called ∷ []
 words_of_step (step.Hread called count) = codes "hread" ∷ called ∷ decimal count ∷ []
 words_of_step (step.Hwrite called bytes) = codes "hwrite" ∷ called ∷ hex_word bytes ∷ []
 words_of_step (step.Dns called times) = codes "dns" ∷ called ∷ decimal times ∷ []
+-- imports
+words_of_step (step.Export called) = codes "export" ∷ called ∷ []
+words_of_step (step.Import called) = codes "import" ∷ called ∷ []
+words_of_step (step.Ropen called call path m) = codes "ropen" ∷ called ∷ call ∷ path ∷ mode_word m ∷ []
+words_of_step (step.Rread called count) = codes "rread" ∷ called ∷ decimal count ∷ []
+words_of_step (step.Rwrite called text) = codes "rwrite" ∷ called ∷ text ∷ []
+words_of_step (step.Rclose called) = codes "rclose" ∷ called ∷ []
 
 abbrev pub line_of_step : Step → List ℕ
 line_of_step s = spaced (words_of_step s)

@@ -79,5 +79,6 @@ pub fn worked_world_lines()
         ++ (codes "writex d -\nclose d\nls /net\ncs net!$auth!9fs\nrefresh\ndial e il!helix!9fs\n"
         ++ (codes "announce a il!*!9fs\nlisten l a\naccept f l\nreject l\nhangup e\n"
         ++ (codes "hread a 512\nhwrite a 00000000000000000000ffff8768090600000000000000000000ffff8768091f"
-        ++ codes "00000000000000000000ffff8768091f138800356869\ndns a 1000\n")))))))) }
+        ++ (codes "00000000000000000000ffff8768091f138800356869\ndns a 1000\n"
+        ++ codes "import e\nropen r e /net/udp/clone rw\nrread r 32\nrwrite r two  words\nrclose r\nexport f\n"))))))))) }
 {}

@@ -9,7 +9,7 @@ use Rattle.net_base.specs.World.{is_name}
 use Rattle.net_base.specs.declared.names.Mode.{Mode}
 use Rattle.net_base.specs.declared.world.Step.{Step}
 use Rattle.net_base.specs.declared.world.Step.TheVariants as step
-use Rattle.world_text.specs.LineReading.{cs_of, frames_of, host_of, kept, of_one, of_two, open_of, write_of}
+use Rattle.world_text.specs.LineReading.{cs_of, frames_of, host_of, kept, of_one, of_two, open_of, rwrite_of, write_of}
 use Rattle.world_text.specs.WorldWords.{Three, Two, four, joined, mode_named, one, three, two}
 use Rattle.world_text.specs.declared.line.WorldLine.TheVariants as line
 
@@ -63,6 +63,16 @@ write_words rest name text e = ap write_of e ∙ write_by name text (parts_at 32
 
 pub write_one : (rest name : List ℕ) → parts_at 32 rest ≡ name ∷ [] → write_of (parts_at 32 rest) ≡ None
 write_one rest name e = ap write_of e
+
+rwrite_by : (name text : List ℕ) (words : List (List ℕ)) → 0 < length words → joined words ≡ text → rwrite_of (name ∷ words) ≡ kept (step.Rwrite name text)
+rwrite_by name text [] more e = absurd (omega (arith, more))
+rwrite_by name text (word ∷ words) more e = ap (λ (t : List ℕ). kept (step.Rwrite name t)) e
+
+pub rwrite_words : (rest name text : List ℕ) → parts_at 32 rest ≡ name ∷ parts_at 32 text → rwrite_of (parts_at 32 rest) ≡ kept (step.Rwrite name text)
+rwrite_words rest name text e = ap rwrite_of e ∙ rwrite_by name text (parts_at 32 text) (some_part 32 text) (join_with_byte-slice_split 32 text)
+
+pub rwrite_one : (rest name : List ℕ) → parts_at 32 rest ≡ name ∷ [] → rwrite_of (parts_at 32 rest) ≡ None
+rwrite_one rest name e = ap rwrite_of e
 
 cs_by : (text : List ℕ) (words : List (List ℕ)) → 0 < length words → joined words ≡ text → cs_of words ≡ kept (step.Cs text)
 cs_by text [] more e = absurd (omega (arith, more))

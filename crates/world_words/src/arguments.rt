@@ -79,10 +79,12 @@ impl<'a> Arguments<'a> {
     }
 
     /// The first word, and all that stands behind it and its blank.
-    #[tactic(auto, using(crate::proofs::Parts::write_words, crate::proofs::Parts::write_one))]
+    #[tactic(auto, using(crate::proofs::Parts::write_words, crate::proofs::Parts::write_one, crate::proofs::Parts::rwrite_words, crate::proofs::Parts::rwrite_one))]
     pub(crate) fn name_and_text(&self) -> Option<(&'a [u8], &'a [u8])>
-        ensures { MatchOption result (reading.write_of self.now ≡ None)
+        ensures write { MatchOption result (reading.write_of self.now ≡ None)
             (λ w. reading.write_of self.now ≡ reading.kept (step.Write w.0.now w.1.now)) }
+        ensures rwrite { MatchOption result (reading.rwrite_of self.now ≡ None)
+            (λ w. reading.rwrite_of self.now ≡ reading.kept (step.Rwrite w.0.now w.1.now)) }
     {
         let (name, text) = split_first(self.rest?, b' ');
         Some((name, text?))

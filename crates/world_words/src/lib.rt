@@ -7,8 +7,10 @@ mod hosts;
 mod lines;
 mod media;
 mod names;
+mod remote_paths;
 mod steps;
 
 pub use fault::LineFault;
 pub use lines::read_line;
 pub use names::{are_bytes, is_name};
+pub use remote_paths::is_remote_path;

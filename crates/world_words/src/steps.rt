@@ -6,6 +6,7 @@ ghost use Rattle.world_text.specs.LineReading as spec;
 
 use crate::arguments::Arguments;
 use crate::names::{are_bytes, is_name, is_text, is_word, mode_named};
+use crate::remote_paths::is_remote_path;
 use net_base::{Mode, Octets, Step};
 use std::alloc::{AllocError, Global};
 use udp_headers::decode_headers;
@@ -69,6 +70,31 @@ fn read_other(
     } else if word == b"dns".as_slice() {
         Ok(Some(read_dns(alloc, args)?))
     } else {
+        read_import(alloc, word, args)
+    }
+}
+
+/// The step of a word of a call's other end, and of what is imported over it.
+fn read_import(
+    alloc: Global,
+    word: &[u8],
+    args: &Arguments<'_>,
+) -> Result<Option<Option<Step>>, AllocError>
+    ensures { IfOk result (λ read. read ≡ spec.import_of word.now args.now) }
+{
+    if word == b"export".as_slice() {
+        Ok(Some(read_export(alloc, args)?))
+    } else if word == b"import".as_slice() {
+        Ok(Some(read_import_of(alloc, args)?))
+    } else if word == b"ropen".as_slice() {
+        Ok(Some(read_ropen(alloc, args)?))
+    } else if word == b"rread".as_slice() {
+        Ok(Some(read_rread(alloc, args)?))
+    } else if word == b"rwrite".as_slice() {
+        Ok(Some(read_rwrite(alloc, args)?))
+    } else if word == b"rclose".as_slice() {
+        Ok(Some(read_rclose(alloc, args)?))
+    } else {
         Ok(None)
     }
 }
@@ -120,6 +146,28 @@ fn is_step(step: &Step) -> bool
             is_name(name.as_slice()) && decode_headers(bytes.as_slice()).is_ok()
         }
         Step::Dns { name, times } => is_name(name.as_slice()) && 1 <= *times && *times <= 1000,
+        // imports
+        Step::Export { name } => is_name(name.as_slice()),
+        Step::Import { name } => is_name(name.as_slice()),
+        Step::Ropen {
+            name,
+            call,
+            path,
+            ..
+        } => {
+            is_name(name.as_slice())
+                && is_name(call.as_slice())
+                && is_word(path.as_slice())
+                && is_remote_path(path.as_slice())
+        }
+        Step::Rread { name, count } => is_name(name.as_slice()) && 1 <= *count && *count <= 488,
+        Step::Rwrite { name, text } => {
+            is_name(name.as_slice())
+                && is_text(text.as_slice())
+                && 1 <= text.len()
+                && text.len() <= 488
+        }
+        Step::Rclose { name } => is_name(name.as_slice()),
     }
 }
 
@@ -359,6 +407,87 @@ fn read_dns(alloc: Global, args: &Arguments<'_>) -> Result<Option<Step>, AllocEr
         Some(times) => Ok(kept(Step::Dns {
             name: Octets::from_slice(alloc, name)?,
             times: times as u32,
+        })),
+        None => Ok(None),
+    }
+}
+
+#[tactic(auto, using(crate::proofs::Parts::of_one_is, crate::proofs::Parts::of_one_none))]
+fn read_export(alloc: Global, args: &Arguments<'_>) -> Result<Option<Step>, AllocError>
+    ensures { IfOk result (λ read. read ≡ spec.of_one (λ x. step.Export x) args.now) }
+{
+    match args.one() {
+        Some(name) => Ok(kept(Step::Export {
+            name: Octets::from_slice(alloc, name)?,
+        })),
+        None => Ok(None),
+    }
+}
+
+#[tactic(auto, using(crate::proofs::Parts::of_one_is, crate::proofs::Parts::of_one_none))]
+fn read_import_of(alloc: Global, args: &Arguments<'_>) -> Result<Option<Step>, AllocError>
+    ensures { IfOk result (λ read. read ≡ spec.of_one (λ x. step.Import x) args.now) }
+{
+    match args.one() {
+        Some(name) => Ok(kept(Step::Import {
+            name: Octets::from_slice(alloc, name)?,
+        })),
+        None => Ok(None),
+    }
+}
+
+#[tactic(auto, using(crate::proofs::Parts::of_one_is, crate::proofs::Parts::of_one_none))]
+fn read_rclose(alloc: Global, args: &Arguments<'_>) -> Result<Option<Step>, AllocError>
+    ensures { IfOk result (λ read. read ≡ spec.of_one (λ x. step.Rclose x) args.now) }
+{
+    match args.one() {
+        Some(name) => Ok(kept(Step::Rclose {
+            name: Octets::from_slice(alloc, name)?,
+        })),
+        None => Ok(None),
+    }
+}
+
+fn read_ropen(alloc: Global, args: &Arguments<'_>) -> Result<Option<Step>, AllocError>
+    ensures { IfOk result (λ read. read ≡ spec.ropen_of args.now) }
+{
+    let Some((name, call, path, word)) = args.four() else {
+        return Ok(None);
+    };
+    match mode_named(word) {
+        Some(mode) => Ok(kept(Step::Ropen {
+            name: Octets::from_slice(alloc, name)?,
+            call: Octets::from_slice(alloc, call)?,
+            path: Octets::from_slice(alloc, path)?,
+            mode,
+        })),
+        None => Ok(None),
+    }
+}
+
+fn read_rread(alloc: Global, args: &Arguments<'_>) -> Result<Option<Step>, AllocError>
+    ensures { IfOk result (λ read. read ≡ spec.rread_of args.now) }
+{
+    let Some((name, count)) = args.two() else {
+        return Ok(None);
+    };
+    match number_in(1, 488, count) {
+        Some(count) => Ok(kept(Step::Rread {
+            name: Octets::from_slice(alloc, name)?,
+            count: count as u32,
+        })),
+        None => Ok(None),
+    }
+}
+
+/// A write of what stands behind the name.
+fn read_rwrite(alloc: Global, args: &Arguments<'_>) -> Result<Option<Step>, AllocError>
+    ensures { IfOk result (λ read. read ≡ spec.rwrite_of args.now) }
+{
+    match args.name_and_text() {
+        Some((name, text)) => Ok(kept(Step::Rwrite {
+            name: Octets::from_slice(alloc, name)?,
+            text: Octets::from_slice(alloc, text)?,
         })),
         None => Ok(None),
     }

@@ -66,6 +66,26 @@ fn put_step(out: &mut Octets, step: &Step) -> Result<(), AllocError>
             put_two(out, b"dns", name.as_slice())?;
             put_number(out, u64::from(*times))
         }
+        // imports
+        Step::Export { name } => put_two(out, b"export", name.as_slice()),
+        Step::Import { name } => put_two(out, b"import", name.as_slice()),
+        Step::Ropen {
+            name,
+            call,
+            path,
+            mode,
+        } => {
+            put_three(out, b"ropen", name.as_slice(), call.as_slice())?;
+            put_word(out, path.as_slice())?;
+            let word = mode_word(*mode);
+            put_word(out, word)
+        }
+        Step::Rread { name, count } => {
+            put_two(out, b"rread", name.as_slice())?;
+            put_number(out, u64::from(*count))
+        }
+        Step::Rwrite { name, text } => put_three(out, b"rwrite", name.as_slice(), text.as_slice()),
+        Step::Rclose { name } => put_two(out, b"rclose", name.as_slice()),
     }
 }
 

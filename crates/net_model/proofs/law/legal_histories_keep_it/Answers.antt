@@ -7,6 +7,7 @@ use Rattle.net_model.proofs.law.legal_histories_keep_it.Goals as goal
 pub returns : goal.returns
 returns c = λ w h world legal. record {
   in_script_order = λ k s is. keeps_script w k s is h legal;
+  imports_answered = c.imports_are_answered.ensures w h world legal;
   questions = λ k s is. answers_questions w k s is h legal;
   cs = λ k x query stands is. answers_cs w h k x query legal stands is;
   in_order = λ e f il is. c.prefix_law.ensures.in_order w h e f world legal il is;

@@ -1,5 +1,5 @@
 use Rattle.std.proofs.lemmas.Result.{err_from_is_err_and}
-use Rattle.ninep_wire.specs.Reading.{qid_at, list_at}
+use Rattle.net_base.specs.NinepReading.{qid_at, list_at}
 use Rattle.ninep_wire.proofs.Loop.{goes_on, ends, is_done}
 use Rattle.ninep_wire.proofs.fields.qids_in.Goals as goal
 

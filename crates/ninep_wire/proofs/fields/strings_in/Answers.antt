@@ -1,5 +1,5 @@
 use Rattle.std.proofs.lemmas.Result.{err_from_is_err_and}
-use Rattle.ninep_wire.specs.Reading.{counted_at, list_at}
+use Rattle.net_base.specs.NinepReading.{counted_at, list_at}
 use Rattle.ninep_wire.proofs.Loop.{goes_on, ends, is_done}
 use Rattle.ninep_wire.proofs.fields.strings_in.Goals as goal
 

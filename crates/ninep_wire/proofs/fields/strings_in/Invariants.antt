@@ -1,5 +1,5 @@
 use Rattle.std.proofs.Common.{◌≡◌, ◌-◌}
-use Rattle.ninep_wire.specs.Reading.{counted_at, list_at}
+use Rattle.net_base.specs.NinepReading.{counted_at, list_at}
 use Rattle.ninep_wire.proofs.Loop.{with_front}
 use Rattle.ninep_wire.proofs.fields.strings_in.Given as goal
 

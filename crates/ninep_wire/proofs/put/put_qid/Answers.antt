@@ -1,6 +1,6 @@
 use Rattle.std.proofs.Common.{◌≡◌, List, ℕ, ◌++◌, subst, ap, ◌∙◌, append_assoc}
 use Rattle.std.specs.Prelude.{OnOk}
-use Rattle.ninep_wire.specs.Fields.{number}
+use Rattle.net_base.specs.NinepFields.{number}
 use Rattle.ninep_wire.proofs.put.put_qid.Goals as goal
 
 pub returns-clause-spelled : goal.returns-clause-spelled

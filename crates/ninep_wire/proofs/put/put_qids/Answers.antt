@@ -1,8 +1,8 @@
 use Rattle.std.proofs.Common.{List, length, get_or, All, ap, subst, arith}
 use Rattle.std.proofs.lemmas.List.{take_all}
 use Rattle.std.proofs.lemmas.List.Elements.{recursion_from_All}
-use Rattle.ninep_wire.specs.declared.qid.Qid.{Qid}
-use Rattle.ninep_wire.specs.Fields.{number, qid, IsQid}
+use Rattle.net_base.specs.declared.ninep.Qid.{Qid}
+use Rattle.net_base.specs.NinepFields.{number, qid, IsQid}
 use Rattle.ninep_wire.proofs.Loop.{writes_on}
 use Rattle.ninep_wire.proofs.put.put_qids.Goals as goal
 

@@ -1,6 +1,6 @@
 use Rattle.std.proofs.Common.{◌≡◌, ◌++◌, length, take, All}
 use Rattle.std.specs.List.{flat_map}
-use Rattle.ninep_wire.specs.Fields.{number, qid, IsQid}
+use Rattle.net_base.specs.NinepFields.{number, qid, IsQid}
 use Rattle.ninep_wire.proofs.put.put_qids.Given as goal
 
 -- so many qids are written, and they have a spelling

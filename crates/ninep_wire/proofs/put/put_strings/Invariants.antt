@@ -1,6 +1,6 @@
 use Rattle.std.proofs.Common.{◌≡◌, ◌++◌, length, take}
 use Rattle.std.specs.List.{flat_map}
-use Rattle.ninep_wire.specs.Fields.{number, string}
+use Rattle.net_base.specs.NinepFields.{number, string}
 use Rattle.ninep_wire.proofs.put.put_strings.Given as goal
 
 abbrev pub invariant-loop-text : goal.invariant-loop-text

@@ -1,6 +1,6 @@
 use Rattle.std.proofs.Common.{◌<◌, length, subst, arith}
-use Rattle.ninep_wire.specs.declared.request.Tmsg.{Tmsg}
-use Rattle.ninep_wire.specs.Messages.{t_fields}
+use Rattle.net_base.specs.declared.ninep.Tmsg.{Tmsg}
+use Rattle.net_base.specs.NinepMessages.{t_fields}
 use Rattle.ninep_wire.proofs.Sizes.{each_short}
 use Rattle.ninep_wire.proofs.put_request.put_fields.Goals as goal
 

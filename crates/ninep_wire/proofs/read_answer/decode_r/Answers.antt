@@ -1,5 +1,5 @@
 use Rattle.std.proofs.Common.{◌≡◌, true, Err, sym, ap, ◌∙◌, arith}
-use Rattle.ninep_wire.specs.Faults.{is_r_type, type_field}
+use Rattle.net_base.specs.NinepFaults.{is_r_type, type_field}
 use Rattle.ninep_wire.proofs.Telling.{no_fault, no_size, not_both, r_tells}
 use Rattle.ninep_wire.proofs.Whole.{r_heads, r_knows}
 use Rattle.ninep_wire.proofs.read_answer.decode_r.Goals as goal

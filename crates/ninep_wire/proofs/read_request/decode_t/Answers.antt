@@ -1,5 +1,5 @@
 use Rattle.std.proofs.Common.{◌≡◌, true, Err, sym, ap, ◌∙◌, arith}
-use Rattle.ninep_wire.specs.Faults.{is_t_type, type_field}
+use Rattle.net_base.specs.NinepFaults.{is_t_type, type_field}
 use Rattle.ninep_wire.proofs.Telling.{no_fault, no_size, not_both, t_tells}
 use Rattle.ninep_wire.proofs.Whole.{t_heads, t_knows}
 use Rattle.ninep_wire.proofs.read_request.decode_t.Goals as goal

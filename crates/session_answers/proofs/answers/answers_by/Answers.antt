@@ -4,8 +4,8 @@ use Rattle.session_answers.specs.Served.{IsLast, IsServedFirst, answered_of, sta
 use Rattle.session_answers.proofs.Answering.{answered_all, answered_last, answered_one, begun}
 use Rattle.session_answers.proofs.Told.{answers_are}
 use Rattle.sessions.proofs.Sayable.{opening_sound}
-use Rattle.sessions.specs.Session.{State}
-use Rattle.sessions.specs.Table.{IsSound}
+use Rattle.net_base.specs.Session.{State}
+use Rattle.net_base.specs.SessionTable.{IsSound}
 use Rattle.session_answers.proofs.answers.answers_by.Goals as goal
 
 pub loop-replies-init : goal.loop-replies-init

@@ -2,7 +2,7 @@ use Rattle.std.proofs.Common.{◌≡◌, length}
 use Rattle.session_answers.specs.Served.{answered_of, state_of}
 use Rattle.session_answers.proofs.Answering.{Answering}
 use Rattle.session_script.specs.Seen.{seen}
-use Rattle.sessions.specs.Table.{IsSound}
+use Rattle.net_base.specs.SessionTable.{IsSound}
 use Rattle.session_answers.proofs.answers.answers_by.Given as goal
 
 -- the answers so far stand before those to what is left

@@ -2,7 +2,7 @@ use Rattle.std.proofs.Common.{◌≤◌, length, refl, subst, sym}
 use Rattle.std.specs.Prelude.{codes}
 use Rattle.net_base.specs.declared.reply.Reply.{Reply}
 use Rattle.net_base.specs.declared.reply.Reply.TheVariants as reply
-use Rattle.sessions.specs.Answers.{longest_text}
+use Rattle.net_base.specs.SessionAnswers.{longest_text}
 use Rattle.session_answers.specs.Told as spec
 use Rattle.session_answers.proofs.Short.{hungup_short, one_number, two_numbers}
 use Rattle.session_answers.proofs.printed.is_brief.Goals as goal

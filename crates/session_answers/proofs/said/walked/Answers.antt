@@ -1,6 +1,6 @@
 use Rattle.std.proofs.Common.{arith, ap, ◌∙◌, sym, ◌++◌, List, ℕ, length, map, get_or}
-use Rattle.ninep_wire.specs.declared.qid.Qid.{Qid}
-use Rattle.sessions.specs.Files.{qid_of, step_to, walked}
+use Rattle.net_base.specs.declared.ninep.Qid.{Qid}
+use Rattle.net_base.specs.SessionFiles.{qid_of, step_to, walked}
 use Rattle.session_answers.proofs.Walks.{passes_on, walk_ends, walk_stops}
 use Rattle.session_answers.proofs.said.walked.Goals as goal
 

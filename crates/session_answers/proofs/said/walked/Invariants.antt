@@ -1,5 +1,5 @@
 use Rattle.std.proofs.Common.{◌≡◌, drop, map}
-use Rattle.sessions.specs.Files.{qid_of, walked}
+use Rattle.net_base.specs.SessionFiles.{qid_of, walked}
 use Rattle.session_answers.proofs.Walks.{passed}
 use Rattle.session_answers.proofs.said.walked.Given as goal
 

@@ -1,5 +1,5 @@
 use Rattle.std.proofs.Common.{refl, arith, ap, ◌∙◌, sym, List, ℕ, length, get_or}
-use Rattle.sessions.specs.Files.{reached, step_to}
+use Rattle.net_base.specs.SessionFiles.{reached, step_to}
 use Rattle.session_script.proofs.Walks.{walk_ends, walk_stops, walks_on}
 use Rattle.session_script.proofs.files.reached.Goals as goal
 

@@ -1,5 +1,5 @@
 use Rattle.std.proofs.Common.{◌≡◌, drop}
-use Rattle.sessions.specs.Files.{reached}
+use Rattle.net_base.specs.SessionFiles.{reached}
 use Rattle.session_script.proofs.files.reached.Given as goal
 
 -- the names that are left lead to where all of them do

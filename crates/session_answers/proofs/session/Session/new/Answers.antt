@@ -2,7 +2,7 @@ use Rattle.std.proofs.Common.{ℕ, []}
 use Rattle.net_base.specs.Steps.{no_names}
 use Rattle.session_answers.specs.Found.{lines_by}
 use Rattle.session_script.specs.Seen.{seen}
-use Rattle.sessions.specs.Table.{opening}
+use Rattle.net_base.specs.SessionTable.{opening}
 use Rattle.session_answers.proofs.Serving.{same_state}
 use Rattle.session_answers.proofs.session.Session.new.Goals as goal
 

@@ -5,6 +5,6 @@ use Rattle.whole_script.proofs.script.ScriptTask.finished.Goals as goal
 
 pub returns : goal.returns
 returns c = λ zone s rs names at.
-    sym (progress_finished c.self.inside.finished c.self.inside.task (drop c.self.inside.finished c.self.inside.steps.now))
+    sym (progress_finished c.self.inside.finished c.self.inside.left c.self.inside.task (drop c.self.inside.finished c.self.inside.steps.now))
     ∙ ap spec.finished_in c.self.view_is
     ∙ finished_right zone s rs names c.args.self.now at

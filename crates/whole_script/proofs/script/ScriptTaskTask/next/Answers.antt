@@ -8,6 +8,6 @@ use Rattle.whole_script.proofs.script.ScriptTaskTask.next.Goals as goal
 pub returns-in-None : goal.returns-in-None
 returns-in-None c =
     subst (λ (q : Option Request). IfOk c.first_asked.result (λ (asked : Option Request). asked ≡ q))
-    (asks_first c.self.inside.finished c.self.inside.task c.self.inside.steps.now c.in-None.is c.args.fids.now.names
+    (asks_first c.self.inside.finished c.self.inside.left c.self.inside.task c.self.inside.steps.now c.in-None.is c.args.fids.now.names
     ∙ ap (λ (s : spec.Scripting). spec.asks s c.args.fids.now.names) c.self.view_is)
     c.first_asked.ensures

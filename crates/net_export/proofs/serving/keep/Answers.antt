@@ -1,0 +1,4 @@
+use Rattle.net_export.proofs.serving.keep.Goals as goal
+
+pub returns-in-Write-clause-found : goal.returns-in-Write-clause-found
+returns-in-Write-clause-found c = rw c.in-Write.is (c.keep_written.ensures.ok c.in-Write.tag c.in-Write.offset c.in-Write.bytes)

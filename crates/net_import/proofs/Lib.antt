@@ -1,0 +1,3 @@
+mod Forgotten
+mod Lengths
+mod Marks

@@ -1,0 +1,10 @@
+pub mod Marks
+pub mod Talks
+pub mod Standings
+pub mod Importing
+pub mod Ropening
+pub mod Errands
+pub mod TalkLaws
+pub mod ImportLaws
+pub mod RopenLaws
+pub mod ErrandLaws

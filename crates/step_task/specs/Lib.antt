@@ -1,0 +1,3 @@
+pub mod StepTasks
+pub mod StepLaws
+pub mod Leaving
