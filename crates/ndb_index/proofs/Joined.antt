@@ -1,7 +1,7 @@
 -- Pairs whose value stands right behind their attribute.
 use Rattle.std.proofs.Common.{◌≡◌, ℕ, List, ◌++◌, length, take, drop, ap, ◌∙◌}
 use Rattle.std.proofs.Math.Seq.{take-append_seam, drop-append_seam}
-use Rattle.net_base.specs.declared.ndb.NdbPair.{NdbPair}
+use Rattle.net_base.specs.Ndb.{NdbPair}
 use Rattle.ndb_index.specs.Keys.{parted}
 
 abbrev pair_of : List ℕ → List ℕ → NdbPair

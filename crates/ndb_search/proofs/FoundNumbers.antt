@@ -3,7 +3,7 @@ use Rattle.std.proofs.Common.{◌≡◌, ℕ, ◌+◌, ◌<◌, Bool, true, fals
 use Rattle.std.specs.Prelude.{filter, filter_map, flat_map, find}
 use Rattle.std.proofs.lemmas.List.Elements.{filter-append, filter_map-append}
 use Rattle.std.proofs.lemmas.List.Concat.{flat_map-append}
-use Rattle.net_base.specs.declared.ndb.NdbPair.{NdbPair}
+use Rattle.net_base.specs.Ndb.{NdbPair}
 use Rattle.net_base.specs.Search.{line_has, tuple_has, values_in, or_where_empty, values_on_found, beside}
 use Rattle.ndb_tuple.specs.declared.numbers.Kind.{Kind}
 use Rattle.ndb_tuple.specs.Numbers.{attr_of, read_of, numbers_near, numbers_found}

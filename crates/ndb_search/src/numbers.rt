@@ -19,9 +19,10 @@ pub fn numbers_found(
         ≡ spec.numbers_found attr.now value.now kind db.now) }
 {
     let mut numbers = Vec::new(alloc);
-    for tuple in db.as_slice() {
-        if let Some(line) = line_with(attr, value, tuple) {
-            add_numbers_beside(kind, line, tuple, &mut numbers)?;
+    for place in 0..db.len() {
+        let tuple = db.tuple(place);
+        if let Some(line) = line_with(attr, value, &tuple) {
+            add_numbers_beside(kind, &line, &tuple, &mut numbers)?;
         }
     }
     Ok(numbers)

@@ -7,7 +7,7 @@ use Rattle.std.proofs.lemmas.List.Folds.{find-append}
 use Rattle.std.proofs.lemmas.List.Concat.{flat_map-append}
 use Rattle.std.proofs.lemmas.List.{map-append}
 use Rattle.std.proofs.lemmas.Bool.Decides.{nat_tests}
-use Rattle.net_base.specs.declared.ndb.NdbPair.{NdbPair}
+use Rattle.net_base.specs.Ndb.{NdbPair}
 use Rattle.net_base.specs.Search.{has_attr, tuple_has, tuples_with, values_on, values_in}
 use Rattle.net_base.specs.Networks.{is_filled, longest_first, own_networks, closest}
 use Rattle.ndb_tuple.specs.Closest.{first_filled}

@@ -5,7 +5,7 @@ use Rattle.std.specs.List.{list_any, cons_option}
 use Rattle.std.proofs.lemmas.List.Elements.{filter-append, filter_map-append}
 use Rattle.std.proofs.lemmas.List.Concat.{flat_map-append}
 use Rattle.std.proofs.lemmas.List.{map-append}
-use Rattle.net_base.specs.declared.ndb.NdbPair.{NdbPair}
+use Rattle.net_base.specs.Ndb.{NdbPair}
 use Rattle.net_base.specs.Networks.{first_of}
 use Rattle.net_base.specs.Search.{has_attr, line_has, tuple_has, values_on, values_in, or_where_empty, values_on_found, beside}
 use Rattle.ndb_tuple.specs.declared.numbers.Kind.{Kind}

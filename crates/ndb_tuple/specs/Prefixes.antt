@@ -7,7 +7,7 @@ use Rattle.ndb_tuple.specs.declared.prefixes.Prefix.{Prefix}
 
 -- the network that is kept so
 abbrev pub network_seen : Network → networks.Network
-network_seen network = record { ip = network.ip; bits = network.bits; tuple = network.tuple.now }
+network_seen network = record { ip = network.ip; bits = network.bits; tuple = network.tuple }
 
 -- the first so many bits of an address
 abbrev pub first_bits : ℕ → ℕ → ℕ

@@ -1,5 +1,5 @@
 use Rattle.std.proofs.Common.{rules, List, [], Option, ap, ◌∙◌, unwrap_or, refl}
-use Rattle.net_base.specs.declared.ndb.NdbPair.{NdbPair}
+use Rattle.net_base.specs.Ndb.{NdbPair}
 use Rattle.indexmap.specs.Entry.{entry_value, map_with_value}
 use Rattle.ndb_index.specs.declared.spot.Spot.{Spot}
 use Rattle.ndb_index.specs.Kept.{with_spot}

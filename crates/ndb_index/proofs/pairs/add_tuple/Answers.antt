@@ -1,5 +1,5 @@
 use Rattle.std.proofs.Common.{List, get_or, length, ap, ◌∙◌, arith}
-use Rattle.net_base.specs.declared.ndb.NdbPair.{NdbPair}
+use Rattle.net_base.specs.Ndb.{NdbPair}
 use Rattle.ndb_index.specs.Kept.{spots_kept, lines_noted}
 use Rattle.ndb_index.proofs.Notes.{lines_more}
 use Rattle.ndb_index.proofs.pairs.add_tuple.Goals as goal
