@@ -6,8 +6,8 @@ use Rattle.net_base.specs.Ndb.{NdbPair}
 use Rattle.net_base.specs.Cs.{once_each}
 use Rattle.ndb_tuple.specs.declared.numbers.Kind.TheVariants.{Address}
 use Rattle.ndb_tuple.specs.Numbers.{numbers_in}
-use Rattle.ndb_index.specs.declared.spot.Spot.{Spot}
-use Rattle.ndb_index.specs.Spots.{same_spot}
+use Rattle.net_base.specs.declared.ndb.spot.Spot.{Spot}
+use Rattle.net_base.specs.Spots.{same_spot}
 use Rattle.cs_resolver.specs.Probes.{numbers_at}
 
 -- with these numbers behind the old ones, each once, the list is the same

@@ -37,13 +37,6 @@ with_spot spot spots = if ends_at spot.place spots then spots else spots ++ spot
 abbrev pub noted : Bool → Spot → List Spot → List Spot
 noted stands spot spots = if stands then with_spot spot spots else spots
 
--- the spots after these pairs, which stand there
-abbrev pub pairs_noted : List ℕ → List ℕ → List NdbPair → List Spot → List Spot → List Spot
-pairs_noted attr value [] places spots = spots
-pairs_noted attr value (pair ∷ pairs) [] spots = spots
-pairs_noted attr value (pair ∷ pairs) (place ∷ places) spots =
-    pairs_noted attr value pairs places (noted (is_pair attr value pair) place spots)
-
 -- the spots after the lines of the tuple at a place, of which the first has this number
 abbrev pub lines_noted : ℕ → ℕ → List ℕ → List ℕ → List (List NdbPair) → List Spot → List Spot
 lines_noted place number attr value [] spots = spots

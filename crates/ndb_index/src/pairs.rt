@@ -65,7 +65,8 @@ fn add_found(
     if !tuples.pair(number).is(attr, value) {
         return Ok(());
     }
-    add_spot(tuples.spot(number), spots)
+    add_spot(tuples.spot(number), spots)?;
+    Ok(())
 }
 
 /// The spots of a pair. Pairs with its bucket are compared in the database itself.

@@ -1,7 +1,7 @@
 -- The names that a tuple gives, a line and a pair at a time, and the tuple that chooses.
 use Rattle.std.proofs.Common.{◌≡◌, ℕ, ◌+◌, ◌≤◌, ◌<◌, Bool, true, false, cond, ◌||◌, bytes_eq, List, [], ◌∷◌, ◌++◌, map, take, drop, get_or, length, Vec, vec_items, Some, None, refl, sym, ap, ◌∙◌, arith}
 use Rattle.std.specs.Prelude.{zero, suc, codes, filter}
-use Rattle.std.specs.List.{list_any, find}
+use Rattle.std.specs.List.{list_any}
 use Rattle.std.proofs.lemmas.List.{map-append, at_drop_more, drop_all}
 use Rattle.net_base.specs.Ndb.{NdbPair}
 use Rattle.net_base.specs.Search.{has_attr, values_on, values_in}
@@ -99,30 +99,3 @@ in-next tuple n line names new h is en so =
 
 pub in-all : (tuple : List (List NdbPair)) (n : ℕ) (names : Names) → length tuple ≤ n → InTuple tuple n names → names ≡ each_once (files_in_tuple tuple)
 in-all tuple n names all so = sym (so ∙ ap (λ (lines : List (List NdbPair)). with_names names (files_in_tuple lines)) (drop_all n tuple all))
-
--- The first that passes a test.
-
-module _ {X : Type 0} (test : X → Bool) where
-  find-next : (xs : List X) (i : ℕ) (d : X) → i < length xs → find test (take i xs) ≡ None → test (get_or xs i d) ≡ false → find test (take (suc i) xs) ≡ None
-  find-next [] i d h none this = absurd (omega (arith, h))
-  find-next (x ∷ xs) zero d h none this = ap (λ (b : Bool). cond b (Some x) None) this
-  find-next (x ∷ xs) (suc i) d h none this = by (test x) none (λ rest. find-next xs i d (omega (arith, h)) rest this)
-    where
-      by : (b : Bool) → cond b (Some x) (find test (take i xs)) ≡ None → (find test (take i xs) ≡ None → find test (take (suc i) xs) ≡ None) → cond b (Some x) (find test (take (suc i) xs)) ≡ None
-      by true e later = absurd cc
-      by false e later = later e
-
-  pub find-on : (xs : List X) (i : ℕ) (d : X) → i < length xs → find test (take i xs) ≡ None → test (get_or xs i d) ≡ false → find test (take (i + 1) xs) ≡ None
-  find-on xs i d h none this =
-      let e : i + 1 ≡ suc i = omega arith in
-      ap (λ (n : ℕ). find test (take n xs)) e ∙ find-next xs i d h none this
-
-  pub find-here : (xs : List X) (i end : ℕ) (d : X) → i < end → i < length xs → find test (take i xs) ≡ None → test (get_or xs i d) ≡ true → find test (take end xs) ≡ Some (get_or xs i d)
-  find-here [] i end d lt h none this = absurd (omega (arith, h))
-  find-here (x ∷ xs) i zero d lt h none this = absurd (omega (arith, lt))
-  find-here (x ∷ xs) zero (suc end) d lt h none this = ap (λ (b : Bool). cond b (Some x) (find test (take end xs))) this
-  find-here (x ∷ xs) (suc i) (suc end) d lt h none this = by (test x) none (λ rest. find-here xs i end d (omega (arith, lt)) (omega (arith, h)) rest this)
-    where
-      by : (b : Bool) → cond b (Some x) (find test (take i xs)) ≡ None → (find test (take i xs) ≡ None → find test (take end xs) ≡ Some (get_or xs i d)) → cond b (Some x) (find test (take end xs)) ≡ Some (get_or xs i d)
-      by true e later = absurd cc
-      by false e later = later e

@@ -10,3 +10,4 @@ pub mod Once
 pub mod Reading
 pub mod Rests
 pub mod Turns
+pub mod Lined

@@ -49,7 +49,8 @@ fn put_pairs(out: &mut Octets, line: &Line<'_>) -> Result<(), AllocError>
         return Ok(());
     }
     put_pair(out, &line.pair(0))?;
-    put_more(out, line)
+    put_more(out, line)?;
+    Ok(())
 }
 
 /// Adds a pair behind others, with a blank between them.
@@ -98,7 +99,8 @@ fn put_tuple(out: &mut Octets, tuple: &Tuple<'_>) -> Result<(), AllocError>
     }
     put_pairs(out, &tuple.line(0))?;
     out.append(b"\n")?;
-    put_lines(out, tuple)
+    put_lines(out, tuple)?;
+    Ok(())
 }
 
 /// The text of a database.

@@ -11,7 +11,6 @@ use net_base::{Db, Lines};
 use std::alloc::{AllocError, Global};
 
 /// The values of the first of a system's tuples that has any.
-#[tactic(auto, using(crate::proofs::Nearest::of_first, crate::proofs::Nearest::of_less, crate::proofs::Nearest::of_other))]
 fn closest_of(alloc: Global, db: &Db, me: &[u8], attr: &[u8]) -> Result<Option<Lines>, AllocError>
     ensures { IfOk result (λ values. values ≡ first_filled attr.now (tuples_with (codes "sys") me.now db.now)) }
 {

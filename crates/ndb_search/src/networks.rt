@@ -24,16 +24,16 @@ pub fn all_networks(alloc: Global, db: &Db) -> Result<Vec<Network<'_>>, AllocErr
 }
 
 /// The addresses of a system.
-#[tactic(auto, using(crate::proofs::Owned::addresses_more, crate::proofs::Owned::addresses_less))]
 pub fn addresses_of(alloc: Global, me: &[u8], db: &Db) -> Result<Vec<u32>, AllocError>
     ensures { IfOk result (λ ips. ips.items ≡ spec.addresses_of me.now db.now) }
 {
     let mut ips = Vec::new(alloc);
     for place in 0..db.len() {
         let tuple = db.tuple(place);
-        if tuple.has(b"sys", me) {
-            add_numbers_in(Kind::Address, &tuple, &mut ips)?;
+        if !tuple.has(b"sys", me) {
+            continue;
         }
+        add_numbers_in(Kind::Address, &tuple, &mut ips)?;
     }
     Ok(ips)
 }

@@ -7,13 +7,15 @@ use net_base::{Line, Lines, Tuple};
 use std::alloc::{AllocError, Global};
 
 /// Adds the values of an attribute on a line, without empty ones.
-#[tactic(auto, using(crate::proofs::NonEmpty::on_more, crate::proofs::NonEmpty::on_less, crate::proofs::NonEmpty::on_empty, std::proofs::Common::append_assoc))]
 fn add_filled_on(attr: &[u8], line: &Line<'_>, values: &mut Lines) -> Result<(), AllocError>
     ensures { OnOk result (values.new ≡ values.old ++ filter spec.is_filled (values_on attr.now line.now)) }
 {
     for number in 0..line.len() {
         let pair = line.pair(number);
-        if !pair.has_attr(attr) || pair.value().is_empty() {
+        if !pair.has_attr(attr) {
+            continue;
+        }
+        if pair.value().len() == 0 {
             continue;
         }
         values.add(pair.value())?;
@@ -22,7 +24,6 @@ fn add_filled_on(attr: &[u8], line: &Line<'_>, values: &mut Lines) -> Result<(),
 }
 
 /// The values of an attribute in a tuple, without empty ones.
-#[tactic(auto, using(crate::proofs::NonEmpty::in_more))]
 pub fn filled_in(alloc: Global, attr: &[u8], tuple: &Tuple<'_>) -> Result<Lines, AllocError>
     ensures { IfOk result (λ values. values ≡ filter spec.is_filled (values_in attr.now tuple.now)) }
 {

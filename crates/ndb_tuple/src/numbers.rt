@@ -58,7 +58,6 @@ fn number_of(kind: Kind, pair: &NdbPair<'_>) -> Option<u32>
 }
 
 /// The first number of a kind on a line.
-#[tactic(auto, using(crate::proofs::Pieces::on_less, crate::proofs::Pieces::on_first))]
 pub fn first_on(kind: Kind, line: &Line<'_>) -> Option<u32>
     ensures { result ≡ first_of (spec.numbers_on kind line.now) }
 {
@@ -71,7 +70,6 @@ pub fn first_on(kind: Kind, line: &Line<'_>) -> Option<u32>
 }
 
 /// The first number of a kind in a tuple.
-#[tactic(auto, using(crate::proofs::Pieces::in_none, crate::proofs::Pieces::in_first))]
 pub fn first_in(kind: Kind, tuple: &Tuple<'_>) -> Option<u32>
     ensures { result ≡ first_of (spec.numbers_in kind tuple.now) }
 {
@@ -84,20 +82,19 @@ pub fn first_in(kind: Kind, tuple: &Tuple<'_>) -> Option<u32>
 }
 
 /// Adds the numbers of a kind on a line.
-#[tactic(auto, using(crate::proofs::Pieces::on_more, crate::proofs::Pieces::on_less, std::proofs::Common::append_assoc))]
 pub fn add_on(kind: Kind, line: &Line<'_>, numbers: &mut Vec<u32>) -> Result<(), AllocError>
     ensures { OnOk result (numbers.new.items ≡ numbers.old.items ++ spec.numbers_on kind line.now) }
 {
     for place in 0..line.len() {
-        if let Some(number) = number_of(kind, &line.pair(place)) {
-            numbers.push(number)?;
-        }
+        let Some(number) = number_of(kind, &line.pair(place)) else {
+            continue;
+        };
+        numbers.push(number)?;
     }
     Ok(())
 }
 
 /// Adds the numbers of a kind in a tuple.
-#[tactic(auto, using(crate::proofs::Pieces::in_more, std::proofs::Common::append_assoc))]
 pub fn add_in(kind: Kind, tuple: &Tuple<'_>, numbers: &mut Vec<u32>) -> Result<(), AllocError>
     ensures { OnOk result (numbers.new.items ≡ numbers.old.items ++ spec.numbers_in kind tuple.now) }
 {

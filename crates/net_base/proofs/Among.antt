@@ -1,7 +1,7 @@
 -- Whether one of a list passes a test, looked for from the first on.
-use Rattle.std.proofs.Common.{◌≡◌, ℕ, ◌+◌, ◌≤◌, ◌<◌, Bool, true, false, ◌||◌, List, [], ◌∷◌, length, take, get_or, refl, sym, ap, ◌∙◌, arith}
+use Rattle.std.proofs.Common.{◌≡◌, ℕ, ◌+◌, ◌≤◌, ◌<◌, Bool, true, false, cond, ◌||◌, List, [], ◌∷◌, length, take, get_or, Some, None, refl, sym, ap, ◌∙◌, arith}
 use Rattle.std.specs.Prelude.{zero, suc}
-use Rattle.std.specs.List.{list_any}
+use Rattle.std.specs.List.{list_any, find}
 use Rattle.std.proofs.lemmas.List.{take_all}
 
 either : (a b : Bool) → (a || b) ≡ false → (a ≡ false) × (b ≡ false)
@@ -35,3 +35,37 @@ pub any-next : {X : Type 0} (test : X → Bool) (xs : List X) (i : ℕ) (d : X) 
 any-next test xs i d h none this =
     let e : i + 1 ≡ suc i = omega arith in
     ap (λ (n : ℕ). list_any test (take n xs)) e ∙ any-more test xs i d h none this
+
+-- The first that passes a test.
+
+module _ {X : Type 0} (test : X → Bool) where
+  find-next : (xs : List X) (i : ℕ) (d : X) → i < length xs → find test (take i xs) ≡ None → test (get_or xs i d) ≡ false → find test (take (suc i) xs) ≡ None
+  find-next [] i d h none this = absurd (omega (arith, h))
+  find-next (x ∷ xs) zero d h none this = ap (λ (b : Bool). cond b (Some x) None) this
+  find-next (x ∷ xs) (suc i) d h none this = by (test x) none (λ rest. find-next xs i d (omega (arith, h)) rest this)
+    where
+      by : (b : Bool) → cond b (Some x) (find test (take i xs)) ≡ None → (find test (take i xs) ≡ None → find test (take (suc i) xs) ≡ None) → cond b (Some x) (find test (take (suc i) xs)) ≡ None
+      by true e later = absurd cc
+      by false e later = later e
+
+  pub find-on : (xs : List X) (i : ℕ) (d : X) → i < length xs → find test (take i xs) ≡ None → test (get_or xs i d) ≡ false → find test (take (i + 1) xs) ≡ None
+  find-on xs i d h none this =
+      let e : i + 1 ≡ suc i = omega arith in
+      ap (λ (n : ℕ). find test (take n xs)) e ∙ find-next xs i d h none this
+
+  pub find-here : (xs : List X) (i end : ℕ) (d : X) → i < end → i < length xs → find test (take i xs) ≡ None → test (get_or xs i d) ≡ true → find test (take end xs) ≡ Some (get_or xs i d)
+  find-here [] i end d lt h none this = absurd (omega (arith, h))
+  find-here (x ∷ xs) i zero d lt h none this = absurd (omega (arith, lt))
+  find-here (x ∷ xs) zero (suc end) d lt h none this = ap (λ (b : Bool). cond b (Some x) (find test (take end xs))) this
+  find-here (x ∷ xs) (suc i) (suc end) d lt h none this = by (test x) none (λ rest. find-here xs i end d (omega (arith, lt)) (omega (arith, h)) rest this)
+    where
+      by : (b : Bool) → cond b (Some x) (find test (take i xs)) ≡ None → (find test (take i xs) ≡ None → find test (take end xs) ≡ Some (get_or xs i d)) → cond b (Some x) (find test (take end xs)) ≡ Some (get_or xs i d)
+      by true e later = absurd cc
+      by false e later = later e
+
+-- What stands at a place, whatever stands for nothing.
+
+pub own-default : {X : Type 0} (xs : List X) (i : ℕ) (x d : X) → i < length xs → x ≡ get_or xs i d → x ≡ get_or xs i x
+own-default [] i x d h here = absurd (omega (arith, h))
+own-default (y ∷ xs) zero x d h here = here
+own-default (y ∷ xs) (suc i) x d h here = own-default xs i x d (omega (arith, h)) here

@@ -42,7 +42,7 @@ rise-from start (end ∷ ends) count (suc i) rise h = omega (arith, rise.0, rise
 
 -- Lines.
 
-lines-length : (tuple line : ℕ) (lines : List (List NdbPair)) → length (lines_from tuple line lines) ≡ length lines
+pub lines-length : (tuple line : ℕ) (lines : List (List NdbPair)) → length (lines_from tuple line lines) ≡ length lines
 lines-length tuple line [] = refl
 lines-length tuple line (pairs ∷ lines) = ap suc (lines-length tuple (line + 1) lines)
 

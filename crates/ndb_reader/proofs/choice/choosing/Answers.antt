@@ -1,7 +1,7 @@
 use Rattle.std.proofs.Common.{[], sym, ap, ◌∙◌, arith}
 use Rattle.std.specs.Prelude.{codes}
 use Rattle.net_base.specs.Networks.{tuple_names}
-use Rattle.ndb_reader.proofs.Chosen.{find-here, find-on}
+use Rattle.net_base.proofs.Among.{find-here, find-on}
 use Rattle.ndb_reader.proofs.choice.choosing.Goals as goal
 
 pub returns-then-names : goal.returns-then-names

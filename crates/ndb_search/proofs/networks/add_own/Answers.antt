@@ -16,7 +16,8 @@ loop-network-preserved c =
     let network = c.network-item.result in
     let networks = c.args.networks.now in
     ap (map network_seen) c.in_ok-push.ensures.items
-    ∙ map-append network_seen c.loop-network.own.items (network ∷ [])
+    ∙ map-append network_seen c.loop-network.own.items (c.again.result ∷ [])
+    ∙ ap (λ n. map network_seen c.loop-network.own.items ++ n ∷ []) c.again.ensures
     ∙ ap (λ those. those ++ network_seen network ∷ []) c.loop-network.invariant
     ∙ append_assoc front _ (network_seen network ∷ [])
     ∙ ap (λ back. front ++ back) (sym (own_more c.args.bits c.args.ips.now c.in_ok-firsts.firsts.keys networks c.loop-network.network-index network (omega arith) c.network-item.is
