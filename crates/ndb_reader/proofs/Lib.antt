@@ -11,3 +11,4 @@ pub mod Reading
 pub mod Rests
 pub mod Turns
 pub mod Lined
+pub mod Breaks

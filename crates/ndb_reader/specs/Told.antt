@@ -1,5 +1,5 @@
 -- What the reader has of a line's words, and what it tells of a bad line.
-use Rattle.std.specs.Prelude.{◌≡◌, ℕ, List, drop, not, Option, Some, ⊤}
+use Rattle.std.specs.Prelude.{◌≡◌, ℕ, Bool, ◌||◌, List, drop, not, Option, Some, ⊤}
 use Rattle.std.specs.List.{list_any}
 use Rattle.net_base.specs.NdbText as text
 use Rattle.net_base.specs.NdbBundle as bundle
@@ -12,6 +12,10 @@ use Rattle.ndb_reader.specs.declared.words.Words.{Words}
 abbrev pub Tells : NdbError → Option (ℕ × ℕ) → Type 0
 Tells Memory bad = ⊤
 Tells (Bad line cause) bad = bad ≡ Some (line, cause)
+
+-- a word or its attribute ends before this byte
+abbrev pub is_break : ℕ → Bool
+is_break byte = text.is_equals byte || text.is_white byte
 
 -- the word at the front of these bytes is this one, and the rest stands behind it
 pub record IsRead (read : Word) (bytes : List ℕ) (word : text.Word) : Type 0 where

@@ -3,7 +3,7 @@ ghost use Rattle.std.specs.Prelude.{◌≡◌, true, map, ◌≤◌, ◌+◌, �
 ghost use Rattle.std.specs.List.{list_any, position_or_len};
 ghost use Rattle.net_base.specs.NdbText as spec;
 ghost use Rattle.net_base.specs.Store.{with_pairs};
-ghost use Rattle.ndb_reader.specs.Told.{AreWords, IsRead};
+ghost use Rattle.ndb_reader.specs.Told.{AreWords, IsRead, is_break};
 
 use net_base::Growing;
 use std::alloc::AllocError;
@@ -88,16 +88,15 @@ pub(crate) fn read_words(line: &[u8], growing: &mut Growing) -> Result<Words, Al
 fn word_at(bytes: &[u8]) -> Word<'_>
     ensures { IsRead result bytes.now (spec.word_of bytes.now) }
 {
-    let len = word_len(bytes);
-    let run = &bytes[..len];
-    let end = attr_len(run);
-    if is_quoted(run, end) {
-        return quoted_at(bytes, end);
+    let ends = ends_of(bytes);
+    let run = &bytes[..ends.word];
+    if is_quoted(run, ends.attr) {
+        return quoted_at(bytes, ends.attr);
     }
     Word {
-        attr: &run[..end],
-        value: behind(run, end),
-        rest: from(bytes, len),
+        attr: &run[..ends.attr],
+        value: behind(run, ends.attr),
+        rest: from(bytes, ends.word),
         unclosed: false,
         followed: false,
     }
@@ -166,14 +165,43 @@ fn word_len(bytes: &[u8]) -> usize
         .unwrap_or(bytes.len())
 }
 
-/// How many bytes stand before the first `=`.
-fn attr_len(word: &[u8]) -> usize
-    ensures value { result ≡ position_or_len spec.is_equals word.now }
-    ensures within { result ≤ length word.now }
+/// How many bytes a word has, and its attribute.
+#[derive(Clone, Copy)]
+struct Ends {
+    word: usize,
+    attr: usize,
+}
+
+/// How many bytes stand before white space, and of these before the first `=`. Each byte is looked at once.
+fn ends_of(bytes: &[u8]) -> Ends
+    ensures word { result.word ≡ position_or_len spec.is_white bytes.now }
+    ensures attr { result.attr ≡ position_or_len spec.is_equals (take result.word bytes.now) }
+    ensures within { result.word ≤ length bytes.now }
 {
-    word.iter()
-        .position(|byte| *byte == b'=')
-        .unwrap_or(word.len())
+    let attr = attr_len(bytes);
+    let value = word_len(from(bytes, attr));
+    Ends {
+        word: attr + value,
+        attr,
+    }
+}
+
+/// How many bytes stand before the first `=` or white space.
+fn attr_len(bytes: &[u8]) -> usize
+    ensures value { result ≡ position_or_len is_break bytes.now }
+    ensures within { result ≤ length bytes.now }
+{
+    bytes
+        .iter()
+        .position(|byte| is_break(*byte))
+        .unwrap_or(bytes.len())
+}
+
+/// Whether a word or its attribute ends before this byte.
+fn is_break(byte: u8) -> bool
+    ensures { result ≡ is_break byte }
+{
+    byte == b'=' || is_white(byte)
 }
 
 /// How many bytes stand before the first quote.
