@@ -5,7 +5,7 @@ ghost use Rattle.net_base.specs.Search.{is_pair};
 ghost use Rattle.net_base.specs.Spots.{pair_spots};
 ghost use Rattle.net_base.specs.Store.{all_pairs};
 ghost use Rattle.net_base.specs.declared.ndb.spot.Spot.{Spot as Seen};
-ghost use Rattle.ndb_index.specs.Chained.{AreByPair};
+ghost use Rattle.ndb_index.specs.Chained.{AreByPair, HasPairs};
 ghost use Rattle.ndb_index.specs.Kept as spec;
 
 use crate::hasher::bucket_of;
@@ -69,8 +69,8 @@ fn add_found(
     Ok(())
 }
 
-/// The spots of a pair. Pairs with its bucket are compared in the database itself.
-pub fn spots_of(
+/// The spots of a pair by chains. Pairs with its bucket are compared in the database itself.
+fn spots_of(
     alloc: Global,
     tuples: &Tuples,
     chains: &Chains,
@@ -90,7 +90,7 @@ pub fn spots_of(
     Ok(spots)
 }
 
-/// The same by one pass over all pairs, for one who asks once.
+/// The same by one pass over all pairs.
 pub fn spots_scanned(
     alloc: Global,
     tuples: &Tuples,
@@ -104,4 +104,21 @@ pub fn spots_scanned(
         add_found(tuples, number, attr, value, &mut spots)?;
     }
     Ok(spots)
+}
+
+/// The spots of a pair: by chains, or where there are none by one pass over all pairs.
+pub fn spots_found(
+    alloc: Global,
+    tuples: &Tuples,
+    chains: &Option<Chains>,
+    attr: &[u8],
+    value: &[u8],
+) -> Result<Vec<Spot>, AllocError>
+    requires { HasPairs tuples.now chains.now }
+    ensures { IfOk result (λ spots. spots.items ≡ spec.spots_with attr.now value.now tuples.now) }
+{
+    match chains {
+        Some(chains) => spots_of(alloc, tuples, chains, attr, value),
+        None => spots_scanned(alloc, tuples, attr, value),
+    }
 }
