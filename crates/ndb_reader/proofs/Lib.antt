@@ -12,3 +12,4 @@ pub mod Rests
 pub mod Turns
 pub mod Lined
 pub mod Breaks
+pub mod Choosing

@@ -1,8 +1,8 @@
 //! The choice of a bundle's files.
 ghost use Rattle.std.specs.Prelude.{◌≡◌, ◌≤◌, ◌<◌, ◌∷◌, ◌+◌, [], List, Some, None, true, length, take, flat_map, get_or, codes, bytes_eq, MatchOption, IfOk, OnOk};
 ghost use Rattle.net_base.specs.NdbBundle as spec;
-ghost use Rattle.net_base.specs.Search.{values_in, values_on};
-ghost use Rattle.net_base.specs.Store.{with_tuples};
+ghost use Rattle.net_base.specs.Search.{has_attr, values_in, values_on};
+ghost use Rattle.net_base.specs.Store.{all_pairs, with_tuples};
 ghost use Rattle.std.specs.List.{list_any};
 ghost use Rattle.ndb_reader.specs.Filed.{files_of, AreBundled};
 ghost use Rattle.ndb_reader.specs.Names.{with_name, with_names, names_seen, bucket_in, AreByName};
@@ -64,12 +64,22 @@ fn names_in(alloc: Global, tuple: &Tuple<'_>) -> Result<IndexSet<Vec<u8>>, Alloc
     Ok(names)
 }
 
+/// Whether the attribute `database` stands anywhere. Few texts have it, and one pass over all pairs is cheaper than one over their tuples.
+fn has_database(db: &Db) -> bool
+    ensures { result ≡ list_any (has_attr (codes "database")) (all_pairs db.now) }
+{
+    db.names(b"database")
+}
+
 /// The place of the first of so many tuples that has the attribute `database`.
 fn choosing(db: &Db, end: usize) -> Option<usize>
     requires { end ≤ length db.now }
     ensures { MatchOption result (spec.choosing (take end db.now) ≡ None)
         (λ place. (place < length db.now) × (spec.choosing (take end db.now) ≡ Some (get_or db.now place []))) }
 {
+    if !has_database(db) {
+        return None;
+    }
     for place in 0..end {
         if db.tuple(place).names(b"database") {
             return Some(place);

@@ -1,6 +1,8 @@
 //! A database in one piece.
 ghost use Rattle.std.specs.Prelude.{◌≡◌, ◌<◌, [], length, flat_map, get_or};
+ghost use Rattle.std.specs.List.{list_any};
 ghost use Rattle.net_base.specs.Ndb.{NdbPair};
+ghost use Rattle.net_base.specs.Search as spec;
 ghost use Rattle.net_base.specs.Store.{all_pairs};
 ghost use Rattle.net_base.specs.declared.ndb.spot.Spot.{Spot as Seen};
 ghost use Rattle.net_base.specs.Spots.{pair_spots};
@@ -76,6 +78,18 @@ impl Db {
         ensures { (d : NdbPair) → result ≡ get_or (all_pairs self.now) number d }
     {
         self.runs.pair(number)
+    }
+
+    /// Whether the attribute stands anywhere.
+    pub fn names(&self, attr: &[u8]) -> bool
+        ensures { result ≡ list_any (spec.has_attr attr.now) (all_pairs self.now) }
+    {
+        for number in 0..self.pair_count() {
+            if self.pair(number).has_attr(attr) {
+                return true;
+            }
+        }
+        false
     }
 
     /// Where the pair with this number stands, where all pairs are counted in a row.

@@ -2,7 +2,11 @@ use Rattle.std.proofs.Common.{[], sym, ap, ◌∙◌, arith}
 use Rattle.std.specs.Prelude.{codes}
 use Rattle.net_base.specs.Networks.{tuple_names}
 use Rattle.net_base.proofs.Among.{find-here, find-on}
+use Rattle.ndb_reader.proofs.Choosing.{none-chooses}
 use Rattle.ndb_reader.proofs.choice.choosing.Goals as goal
+
+pub returns-then-not-has_database : goal.returns-then-not-has_database
+returns-then-not-has_database c = none-chooses c.args.db.now c.args.end (sym c.has_database.ensures ∙ c.if-not-has_database.true)
 
 pub returns-then-names : goal.returns-then-names
 returns-then-names c = (
