@@ -17,7 +17,7 @@ flat-split start (end ∷ ends) xs rise =
     ∙ ap (λ rest. slice_range xs start end ++ rest) (flat-split end ends xs rise.1)
     ∙ sym (drop_split xs start end rise.0)
 
-flat-all : {X : Type 0} (ends : List ℕ) (xs : List X) → Rise 0 ends (length xs) → last_end 0 ends ≡ length xs → flat_map (λ l. l) (parts 0 ends xs) ≡ xs
+pub flat-all : {X : Type 0} (ends : List ℕ) (xs : List X) → Rise 0 ends (length xs) → last_end 0 ends ≡ length xs → flat_map (λ l. l) (parts 0 ends xs) ≡ xs
 flat-all ends xs rise last =
     sym (append-nil (flat_map (λ l. l) (parts 0 ends xs)))
     ∙ ap (λ rest. flat_map (λ l. l) (parts 0 ends xs) ++ rest) (sym (ap (λ (n : ℕ). drop n xs) last ∙ drop-all xs))

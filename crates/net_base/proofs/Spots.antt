@@ -1,5 +1,5 @@
 -- Where the pair with a number stands, by where lines and tuples end.
-use Rattle.std.proofs.Common.{◌≡◌, ℕ, ◌+◌, ◌-◌, ◌≤◌, ◌<◌, List, [], ◌∷◌, ◌++◌, length, map, get_or, refl, sym, ap, subst, ◌∙◌, arith, length-append}
+use Rattle.std.proofs.Common.{◌≡◌, ℕ, ◌+◌, ◌-◌, ◌≤◌, ◌<◌, List, [], ◌∷◌, length, map, get_or, refl, sym, ap, subst, ◌∙◌, arith, length-append}
 use Rattle.std.specs.Prelude.{zero, suc, flat_map, slice_range}
 use Rattle.std.proofs.lemmas.List.{get_or_append_left, get_or-append_right, get_or-map, length-map}
 use Rattle.net_base.specs.Ndb.{NdbPair}
@@ -8,7 +8,7 @@ use Rattle.net_base.specs.declared.ndb.runs.Runs.{Runs}
 use Rattle.net_base.specs.Parts.{last_end, start_at, parts, Rise}
 use Rattle.net_base.specs.Spots.{spot_at, lines_from, all_lines, spread, pair_spots, Owns}
 use Rattle.net_base.specs.Store.{pairs_in, lines_in, tuples_in, AreSound, AreWhole}
-use Rattle.net_base.proofs.Cuts.{rise-start, slice-length, parts-length}
+use Rattle.net_base.proofs.Cuts.{rise-start, slice-length}
 use Rattle.net_base.proofs.Flat.{flat-all}
 use Rattle.net_base.proofs.Found.{lines_len, pairs_len}
 
@@ -115,6 +115,10 @@ pair-placed start (end ∷ ends) xs (place ∷ places) (suc i) k p d rise same h
     ∙ ap (λ (j : ℕ). get_or (spread (parts end ends xs) places) j d) rest
     ∙ pair-placed end ends xs places i k p d rise.1 (omega (arith, same)) (omega (arith, h)) from below
 
+-- what is said of the ends that are seen is said of those that are kept
+pub owned : (seen ends : List ℕ) (count number i : ℕ) → ((n : ℕ) → Rise 0 seen n → number < last_end 0 seen → Owns seen number i) → seen ≡ ends → Rise 0 ends count → number < last_end 0 ends → Owns ends number i
+owned seen ends count number i said same rise below = subst (λ (es : List ℕ). (n : ℕ) → Rise 0 es n → number < last_end 0 es → Owns es number i) same said count rise below
+
 -- the pair with this number stands on the line that it is in, of the tuple which that one is in
 pub spot_found : (r : Runs) (number line tuple first : ℕ) (p : NdbPair) (d : Spot) → AreSound r → AreWhole r → Owns r.lines.items number line → Owns r.tuples.items line tuple → first ≡ start_at 0 r.tuples.items tuple
     → spot_at tuple (line - first) ≡ get_or (pair_spots (tuples_in r)) number d
@@ -125,7 +129,9 @@ spot_found r number line tuple first p d sound whole on in_tuple is =
     let count : length (all_lines 0 (tuples_in r)) ≡ length r.lines.items = omega (arith, all_lines-length 0 0 r.tuples.items lines tuples_rise, whole.tuples) in
     let zeroless : number - 0 ≡ number = omega arith in
     let none : line - 0 ≡ line = omega arith in
+    let plain : tuple ≡ 0 + tuple = omega arith in
     ap (λ (f : ℕ). spot_at tuple (line - f)) is
+    ∙ ap (λ (n : ℕ). spot_at n (line - start_at 0 r.tuples.items tuple)) plain
     ∙ sym (line-placed 0 0 r.tuples.items lines tuple line d tuples_rise in_tuple.within in_tuple.begins in_tuple.behind)
     ∙ ap (λ (j : ℕ). get_or (all_lines 0 (tuples_in r)) j d) none
     ∙ sym (pair-placed 0 r.lines.items (pairs_in r) (all_lines 0 (tuples_in r)) line number p d (subst (Rise 0 r.lines.items) (pairs_len r) sound.lines) count on.within on.begins on.behind)

@@ -106,8 +106,7 @@ impl Clone for Db {
     ghost is_clone = { λ d copy. copy ≡ d };
 
     fn clone(&self) -> Result<Db, AllocError> {
-        Ok(Db {
-            runs: self.runs.clone()?,
-        })
+        let runs = self.runs.copied()?;
+        Ok(Db { runs })
     }
 }

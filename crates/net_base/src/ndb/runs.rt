@@ -185,12 +185,14 @@ impl Runs {
             line: (line - first) as u64,
         }
     }
-}
 
-impl Clone for Runs {
-    ghost is_clone = { λ r copy. copy ≡ r };
-
-    fn clone(&self) -> Result<Runs, AllocError> {
+    /// A copy, in runs of its own.
+    pub(crate) fn copied(&self) -> Result<Runs, AllocError>
+        ensures bytes { IfOk result (λ r. r.bytes.items ≡ self.now.bytes.items) }
+        ensures pairs { IfOk result (λ r. r.pairs.items ≡ self.now.pairs.items) }
+        ensures lines { IfOk result (λ r. r.lines.items ≡ self.now.lines.items) }
+        ensures tuples { IfOk result (λ r. r.tuples.items ≡ self.now.tuples.items) }
+    {
         Ok(Runs {
             bytes: self.bytes.clone()?,
             pairs: self.pairs.clone()?,

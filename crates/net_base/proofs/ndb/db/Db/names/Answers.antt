@@ -1,7 +1,7 @@
 use Rattle.std.proofs.Common.{sym, ap, ◌∙◌, arith}
 use Rattle.net_base.specs.Search as spec
 use Rattle.net_base.specs.Store.{all_pairs}
-use Rattle.net_base.proofs.Among.{any-next, any-here, any-none}
+use Rattle.net_base.proofs.Among.{any-next, any-here}
 use Rattle.net_base.proofs.ndb.db.Db.names.Goals as goal
 
 pub returns-then-has_attr : goal.returns-then-has_attr
