@@ -32,19 +32,15 @@ attr-break (b ∷ bytes) = by (is_equals b) refl (is_white b) refl (attr-break b
     up : 1 + position_or_len is_white bytes ≡ suc (position_or_len is_white bytes)
     up = omega arith
 
-    inside : List ℕ
-    inside = take (position_or_len is_white bytes) bytes
-
     by : (e : Bool) → is_equals b ≡ e → (w : Bool) → is_white b ≡ w → position_or_len is_break bytes ≡ position_or_len is_equals (take (position_or_len is_white bytes) bytes)
         → cond (not (e || w)) (1 + position_or_len is_break bytes) 0 ≡ position_or_len is_equals (take (cond (not w) (1 + position_or_len is_white bytes) 0) (b ∷ bytes))
-    unfolding inside
     by true ee true ew rest = refl
     by false ee true ew rest = refl
     by true ee false ew rest =
-        sym (ap (λ (k : ℕ). position_or_len is_equals (take k (b ∷ bytes))) up ∙ ap (λ (t : Bool). cond (not t) (1 + position_or_len is_equals inside) 0) ee)
+        sym (ap (λ (k : ℕ). position_or_len is_equals (take k (b ∷ bytes))) up ∙ ap (λ (t : Bool). cond (not t) (1 + position_or_len is_equals (take (position_or_len is_white bytes) bytes)) 0) ee)
     by false ee false ew rest =
         ap (λ (n : ℕ). 1 + n) rest
-        ∙ sym (ap (λ (k : ℕ). position_or_len is_equals (take k (b ∷ bytes))) up ∙ ap (λ (t : Bool). cond (not t) (1 + position_or_len is_equals inside) 0) ee)
+        ∙ sym (ap (λ (k : ℕ). position_or_len is_equals (take k (b ∷ bytes))) up ∙ ap (λ (t : Bool). cond (not t) (1 + position_or_len is_equals (take (position_or_len is_white bytes) bytes)) 0) ee)
 
 -- where white space stands behind the first such byte, the word ends; and its attribute at that byte
 pub word-end : (bytes rest : List ℕ) (attr value : ℕ) → attr ≡ position_or_len is_break bytes → rest ≡ drop attr bytes → value ≡ position_or_len is_white rest → attr + value ≡ position_or_len is_white bytes

@@ -11,7 +11,7 @@ use crate::bundle::Bundle;
 use crate::copy::add_tuples;
 use indexmap::IndexSet;
 use ndb_chains::Chains;
-use net_base::{Db, Growing, NdbPair, Line, Tuple};
+use net_base::{Db, Growing, Line, NdbPair, Tuple};
 use std::alloc::{AllocError, Global};
 
 /// Adds the names of files on a line to those so far, each once.

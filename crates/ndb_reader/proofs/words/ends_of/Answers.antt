@@ -2,8 +2,8 @@ use Rattle.std.proofs.Common.{arith}
 use Rattle.ndb_reader.proofs.Breaks.{word-end, attr-end, word-within}
 use Rattle.ndb_reader.proofs.words.ends_of.Goals as goal
 
-pub overflow_add-attr-value : goal.overflow_add-attr-value
-overflow_add-attr-value c = omega (arith, c.attr_len-attr.ensures.within, c.word_len-value.ensures.within)
+pub overflow_add-result : goal.overflow_add-result
+overflow_add-result c = omega (arith, c.attr_len-attr.ensures.within, c.word_len-value.ensures.within)
 
 pub returns-clause-word : goal.returns-clause-word
 returns-clause-word c = word-end c.args.bytes.now c.from.result.now c.attr_len-attr.result c.word_len-value.result c.attr_len-attr.ensures.value c.from.ensures c.word_len-value.ensures.value

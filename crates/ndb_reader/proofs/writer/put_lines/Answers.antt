@@ -4,7 +4,7 @@ use Rattle.ndb_reader.proofs.writer.put_lines.Goals as goal
 
 pub loop-number-preserved : goal.loop-number-preserved
 loop-number-preserved c =
-    row-next c.args.out.now c.loop-number.out c.append.new.self c.put_pairs.new.out c.append-2.new.self c.args.tuple.now c.loop-number.number c.line.result (omega (arith, c.loop-number-test.true, c.len-number-end.ensures)) c.line.ensures
+    row-next c.args.out.now c.loop-number.out c.append.new.self c.put_pairs.new.out c.append-in-loop-number.new.self c.args.tuple.now c.loop-number.number c.line.result (omega (arith, c.loop-number-test.true, c.len-number-end.ensures)) c.line.ensures
     c.in_ok-append.ensures.ok c.in_ok-put_pairs.ensures c.in_ok-append-2.ensures.ok c.loop-number.invariant
 
 pub returns : goal.returns
