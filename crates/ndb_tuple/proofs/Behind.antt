@@ -53,8 +53,8 @@ of-all f xs n y all is = is ∙ ap f (take_all n xs all)
 
 -- behind others
 pub join-more : {X : Type 0} (first piece now more before after : List X) → before ≡ first ++ piece → after ≡ before ++ more → now ≡ piece ++ more → after ≡ first ++ now
-join-more first piece now more before after is put joined =
+join-more {X = X} first piece now more before after is put joined =
     put ∙ ap (λ (xs : List X). xs ++ more) is ∙ append_assoc first piece more ∙ ap (λ (xs : List X). first ++ xs) (sym joined)
 
 pub join-less : {X : Type 0} (first piece now before : List X) → before ≡ first ++ piece → now ≡ piece → before ≡ first ++ now
-join-less first piece now before is same = is ∙ ap (λ (xs : List X). first ++ xs) (sym same)
+join-less {X = X} first piece now before is same = is ∙ ap (λ (xs : List X). first ++ xs) (sym same)

@@ -1,5 +1,5 @@
 -- Networks as the searches keep them, and the first bits that they share.
-use Rattle.std.specs.Prelude.{◌≡◌, ℕ, ◌/◌, ◌-◌, ◌^◌, Bool, true, ◌&&◌, ◌==◌, nat_eq, List, filter}
+use Rattle.std.specs.Prelude.{◌≡◌, ℕ, ◌/◌, ◌-◌, ◌^◌, Bool, true, ◌&&◌, ◌==◌, nat_eq, List}
 use Rattle.std.specs.List.{list_any}
 use Rattle.net_base.specs.Networks as networks
 use Rattle.ndb_tuple.specs.declared.network.Network.{Network}

@@ -1,4 +1,4 @@
-use Rattle.std.proofs.Common.{List, nat_eq, [], arith}
+use Rattle.std.proofs.Common.{List, nat_eq, [], arith, ◌<◌, length}
 use Rattle.std.specs.List.{list_any}
 use Rattle.net_base.proofs.Among.{own-default}
 use Rattle.ndb_index.specs.Nets.{has_prefix, has_length, places_kept}
@@ -8,7 +8,7 @@ use Rattle.ndb_index.proofs.index.networks_of.Goals as goal
 
 pub loop-place-preserved : goal.loop-place-preserved
 loop-place-preserved c =
-    let h = omega (arith, c.loop-place-test.true, c.len-place-end.ensures) in
+    let h : c.loop-place.place < length c.args.db.now = omega (arith, c.loop-place-test.true, c.len-place-end.ensures) in
     let here = own-default c.args.db.now c.loop-place.place c.tuple-tuple.result [] h c.tuple-tuple.ensures in (
       λ asked. places_more (has_prefix asked) c.args.db.now c.loop-place.place c.tuple-tuple.result (places_kept asked c.loop-place.networks.entries) (places_kept asked c.add_tuple.new.networks.entries)
           h here (taken c.loop-place.place c.args.db.now (omega (arith, h)))

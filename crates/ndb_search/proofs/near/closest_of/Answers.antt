@@ -1,4 +1,4 @@
-use Rattle.std.proofs.Common.{[], sym, ap, ◌∙◌, arith}
+use Rattle.std.proofs.Common.{[], sym, ap, ◌∙◌, arith, ◌<◌, length}
 use Rattle.std.specs.Prelude.{codes}
 use Rattle.net_base.specs.Search.{tuples_with}
 use Rattle.net_base.proofs.Among.{own-default}
@@ -9,7 +9,7 @@ use Rattle.ndb_search.proofs.near.closest_of.Goals as goal
 
 pub loop-place-preserved-then-not-has : goal.loop-place-preserved-then-not-has
 loop-place-preserved-then-not-has c =
-    let h = omega (arith, c.loop-place-test.true, c.len-place-end.ensures) in
+    let h : c.loop-place.place < length c.args.db.now = omega (arith, c.loop-place-test.true, c.len-place-end.ensures) in
     of_other c.args.attr.now c.args.me.now c.args.db.now c.loop-place.place c.tuple-tuple.result h (own-default c.args.db.now c.loop-place.place c.tuple-tuple.result [] h c.tuple-tuple.ensures) c.loop-place.invariant
     (sym c.has.ensures ∙ c.if-not-has.true)
 

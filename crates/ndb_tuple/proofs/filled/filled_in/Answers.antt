@@ -1,4 +1,4 @@
-use Rattle.std.proofs.Common.{ℕ, List, ◌++◌, ◌+◌, [], take, sym, ap, ◌∙◌, arith}
+use Rattle.std.proofs.Common.{ℕ, List, ◌++◌, [], sym, ap, ◌∙◌, arith, ◌<◌, length}
 use Rattle.std.specs.Prelude.{filter}
 use Rattle.net_base.specs.Search.{values_on, values_in}
 use Rattle.net_base.specs.Networks.{is_filled}
@@ -12,7 +12,7 @@ loop-number-preserved c =
     let attr = c.args.attr.now in
     let tuple = c.args.tuple.now in
     let i = c.loop-number.number in
-    let h = omega (arith, c.loop-number-test.true, c.len-number-end.ensures) in
+    let h : c.loop-number.number < length c.args.tuple.now = omega (arith, c.loop-number-test.true, c.len-number-end.ensures) in
     c.in_ok-add_filled_on.ensures
     ∙ ap (λ (vs : List (List ℕ)). vs ++ filter is_filled (values_on attr c.line.result)) c.loop-number.invariant
     ∙ sym (in_more attr tuple i c.line.result h (own-default tuple i c.line.result [] h c.line.ensures))

@@ -1,4 +1,4 @@
-use Rattle.std.proofs.Common.{◌++◌, ◌+◌, ◌∷◌, [], take, sym, ap, ◌∙◌, arith}
+use Rattle.std.proofs.Common.{◌++◌, ◌+◌, ◌∷◌, [], take, sym, ◌∙◌, arith}
 use Rattle.ndb_tuple.specs.Numbers.{numbers_on}
 use Rattle.ndb_tuple.proofs.Behind.{join-more, join-less, of-all}
 use Rattle.ndb_tuple.proofs.Pieces.{on_more, on_less}
