@@ -1,4 +1,4 @@
-use Rattle.std.proofs.Common.{[], sym, ap, ◌∙◌, arith, ◌<◌, length}
+use Rattle.std.proofs.Common.{[], sym, ◌∙◌, arith, ◌<◌, length}
 use Rattle.std.specs.Prelude.{codes}
 use Rattle.net_base.specs.Search.{tuples_with}
 use Rattle.net_base.proofs.Among.{own-default}
