@@ -2,11 +2,12 @@
 """How long runs of the program take, on inputs of known size: a benchmark, and no part of the gate.
 
 .ci/speed.py [BINARY [RUNS]]: of each command the least and the middle of RUNS (7), as milliseconds of wall and of
-processor time. BINARY is crates/netsh/out/netsh, the proved one, unless another is named. Measure on a quiet machine.
+processor time, and the same of mawk and grep. BINARY is crates/netsh/out/netsh, the proved one, unless another is named. Measure on a quiet machine.
 """
 
 import os
 import resource
+import shutil
 import subprocess
 import sys
 import tempfile
@@ -17,6 +18,8 @@ TUPLES = 10000
 PAIRS = 4
 MESSAGES = 2000
 MOMENTS = 5000
+# what others take to find the same line
+BESIDE = [["mawk", '{ for (i = 1; i <= NF; i++) if ($i == "dom=h99.example.com") print }'], ["grep", "-F", "dom=h99.example.com"]]
 # bytes of memory in which a run has room, and no stack of a thread
 NO_STACK = 8000 * 1024
 
@@ -113,6 +116,9 @@ def main():
     cases += [(f"big {n}", ["big", str(n)], "") for n in (1000, 9000)]
     for name, words, text in cases:
         show(name, *measure([binary, *words], text, runs))
+    for words in BESIDE:
+        if shutil.which(words[0]):
+            show(words[0], *measure(words, database(), runs))
     show("no thread, run 4", *measure([binary, "run", "4"], dict(examples())["callers"], runs, NO_STACK))
 
 

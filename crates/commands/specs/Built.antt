@@ -13,7 +13,7 @@ use Rattle.net_base.specs.Calm as calm
 use Rattle.net_base.specs.Legal.{IsLegal, IsTimed}
 use Rattle.net_base.specs.NdbText.{lines_of}
 use Rattle.net_base.specs.NdbBundle as bundle
-use Rattle.net_base.specs.declared.ndb.NdbPair.{NdbPair}
+use Rattle.net_base.specs.Ndb.{NdbPair}
 use Rattle.net_base.specs.Search.{tuples_with, all_beside}
 use Rattle.ndb_reader.specs.Written.{line_text}
 use Rattle.net_base.specs.Cs.{cs_list}

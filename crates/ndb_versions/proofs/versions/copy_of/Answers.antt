@@ -1,5 +1,5 @@
 use Rattle.std.proofs.Common.{◌≡◌, ℕ, List, IfOk, MatchResult, Result, Ok, Err, ap, ◌∙◌}
-use Rattle.net_base.specs.declared.ndb.NdbPair.{NdbPair}
+use Rattle.net_base.specs.Ndb.{NdbPair}
 use Rattle.ndb_versions.proofs.versions.copy_of.Goals as goal
 
 same_pair : (a b : NdbPair) → b.attr ≡ a.attr → b.value ≡ a.value → b ≡ a
