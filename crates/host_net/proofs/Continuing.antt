@@ -26,7 +26,7 @@ use Rattle.net_base.specs.Scripts.{at_first, position}
 use Rattle.net_base.specs.Steps.{Ask, Play, Asks, Ends}
 use Rattle.locked.specs.Acts.{left_by, state, state_at}
 use Rattle.script_task.specs.Fitting.{fits}
-use Rattle.script_task.specs.Requests.{head}
+use Rattle.net_base.specs.Requests.{head}
 use Rattle.script_task.specs.Rest.{Continues, rest}
 use Rattle.script_task.specs.Task.{follow, fits_play}
 use Rattle.guest_laws.specs.Named.{Named, answer_in, named, named_step, opening}

@@ -12,9 +12,9 @@ use Rattle.net_base.specs.Next.{finished_by, own_replies, zone_of}
 use Rattle.net_base.specs.Versions.{Tuples}
 use Rattle.net_base.specs.Steps.{Names, no_names}
 use Rattle.locked.specs.Acts.{made, without_copy}
-use Rattle.script_task.specs.declared.request.Request.{Request}
+use Rattle.net_base.specs.declared.request.Request.{Request}
 use Rattle.script_task.specs.Fitting.{fits}
-use Rattle.script_task.specs.Requests.{settled}
+use Rattle.net_base.specs.Requests.{settled}
 use Rattle.whole_script.specs.Wholes as whole
 use Rattle.guest_laws.specs.Works.{entries}
 use Rattle.host_net.specs.declared.player.Played.{Played}

@@ -8,8 +8,8 @@ use Rattle.net_base.specs.Callers.{Caller, IsScript, caller_of}
 use Rattle.net_base.specs.Next.{next, next_of, own_replies, zone_of}
 use Rattle.net_base.specs.Scripts.{at_first, position}
 use Rattle.net_base.specs.Steps.{Ask, Names, Play}
-use Rattle.script_task.specs.declared.request.Request.{Request}
-use Rattle.script_task.specs.Requests.{head, planned}
+use Rattle.net_base.specs.declared.request.Request.{Request}
+use Rattle.net_base.specs.Requests.{head, planned}
 use Rattle.script_task.specs.Rest.{Continues}
 use Rattle.script_task.specs.Task.{AsksSo, Heads}
 use Rattle.guest_laws.specs.Works.{entries}

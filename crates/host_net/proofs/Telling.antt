@@ -12,8 +12,8 @@ use Rattle.net_base.specs.Legal.{IsAsked}
 use Rattle.net_base.specs.Next.{next, own_replies, zone_of}
 use Rattle.net_base.specs.Steps.{Ask, Names, Play}
 use Rattle.locked.specs.Acts.{made}
-use Rattle.script_task.specs.declared.request.Request.{Request}
-use Rattle.script_task.specs.Requests.{head, planned, settled}
+use Rattle.net_base.specs.declared.request.Request.{Request}
+use Rattle.net_base.specs.Requests.{head, planned, settled}
 use Rattle.script_task.specs.Rest.{Continues}
 use Rattle.script_task.specs.Task.{Heads, AsksSo, MovesSo, follow, fits_play}
 use Rattle.guest_laws.specs.Works.{entries}

@@ -6,11 +6,11 @@ use Rattle.net_base.specs.Callers.{IsScript, caller_of}
 use Rattle.net_base.specs.Duties.{Duty}
 use Rattle.net_base.specs.Steps.{Ask, Names}
 use Rattle.journal.specs.declared.tokens.Sight.{Sight}
-use Rattle.script_task.specs.declared.request.Request.{Request}
+use Rattle.net_base.specs.declared.request.Request.{Request}
 use Rattle.net_base.specs.declared.reply.Reply.{Reply}
 use Rattle.script_task.specs.Holdings.{Holdings}
 use Rattle.script_task.specs.Effects.{effect_of, opened, settles}
-use Rattle.script_task.specs.Requests.{planned, settled}
+use Rattle.net_base.specs.Requests.{planned, settled}
 use Rattle.net_locks.specs.declared.turn.Turn.{Turn}
 use Rattle.net_locks.specs.declared.turn.Turn.TheVariants as turn
 use mathlib.Core.List.{IsPrefix}

@@ -19,9 +19,9 @@ use Rattle.journal.specs.declared.tokens.Sight.{Sight}
 use Rattle.journal.specs.Closing.{plain}
 use Rattle.script_task.specs.Holdings.{Holdings}
 use Rattle.script_task.specs.declared.effect.Effect.{Effect}
-use Rattle.script_task.specs.declared.request.Request.{Request}
+use Rattle.net_base.specs.declared.request.Request.{Request}
 use Rattle.script_task.specs.Effects.{opened, settles}
-use Rattle.script_task.specs.Requests.{planned, settled}
+use Rattle.net_base.specs.Requests.{planned, settled}
 use Rattle.guest_laws.specs.Own.{AreNext, AreTimely, IsLegalButScripts}
 use Rattle.guest_laws.specs.Guests.{IsGuest}
 use Rattle.due_moments.specs.Marks.{Marks}

@@ -10,9 +10,9 @@ use Rattle.net_base.specs.Next.{finished_by}
 use Rattle.net_base.specs.Scripts.{at_first, left_after, position, step_play}
 use Rattle.net_base.specs.Steps.{Ask, Names, Play, Asks, Ends, no_names}
 use Rattle.net_base.specs.Versions.{Tuples}
-use Rattle.script_task.specs.declared.request.Request.{Request}
+use Rattle.net_base.specs.declared.request.Request.{Request}
 use Rattle.script_task.specs.Fitting.{fits}
-use Rattle.script_task.specs.Requests.{head, planned, settled}
+use Rattle.net_base.specs.Requests.{head, planned, settled}
 use Rattle.script_task.specs.Rest.{Continues, rest}
 use Rattle.script_task.specs.Task.{Heads, AsksSo, MovesSo, follow, fits_play}
 use Rattle.step_task.specs.declared.step.StepTask.{StepTask}

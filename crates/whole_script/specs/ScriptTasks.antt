@@ -9,7 +9,7 @@ use Rattle.net_base.specs.Remotes.{nothing_left}
 use Rattle.net_base.specs.Scripts.{Kept as Holds, kept_after, left_after, step_play}
 use Rattle.net_base.specs.Steps.{Names, Play, Asks, Ends, no_names}
 use Rattle.net_base.specs.Versions.{Tuples}
-use Rattle.script_task.specs.declared.request.Request.{Request}
+use Rattle.net_base.specs.declared.request.Request.{Request}
 use Rattle.script_task.specs.Rest.{Continues}
 use Rattle.script_task.specs.Task.{follow, fits_play}
 use Rattle.step_task.specs.declared.step.StepTask.{StepTask}

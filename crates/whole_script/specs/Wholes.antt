@@ -4,9 +4,9 @@ use Rattle.net_base.specs.declared.reply.Reply.{Reply}
 use Rattle.net_base.specs.declared.world.Script.{Script}
 use Rattle.net_base.specs.Steps.{Ask, Names, Play}
 use Rattle.net_base.specs.Versions.{Tuples}
-use Rattle.script_task.specs.declared.request.Request.{Request}
+use Rattle.net_base.specs.declared.request.Request.{Request}
 use Rattle.script_task.specs.Fitting.{fits}
-use Rattle.script_task.specs.Requests.{planned, settled}
+use Rattle.net_base.specs.Requests.{planned, settled}
 use Rattle.script_task.specs.Rest.{Continues}
 
 -- it stands for a play that goes on where these replies leave its script

@@ -3,7 +3,7 @@ use Rattle.net_base.specs.declared.history.Work.{Work}
 use Rattle.net_base.specs.Callers.{caller_of}
 use Rattle.net_base.specs.Next.{next}
 use Rattle.net_base.specs.Steps.{Names}
-use Rattle.script_task.specs.Requests.{planned}
+use Rattle.net_base.specs.Requests.{planned}
 use Rattle.guest_laws.specs.Works.{entries}
 use Rattle.net_locks.specs.Standings.{ask_of}
 use Rattle.host_net.specs.Playing.{Playing}

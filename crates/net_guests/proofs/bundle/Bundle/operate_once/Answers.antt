@@ -5,7 +5,7 @@ use Rattle.script_task.specs.Holdings.{Holdings}
 use Rattle.script_task.specs.declared.effect.Effect.{Effect}
 use Rattle.script_task.specs.Effects.{effect_of}
 use Rattle.script_task.specs.Planning.{ask_of}
-use Rattle.script_task.specs.Requests.{planned}
+use Rattle.net_base.specs.Requests.{planned}
 use Rattle.net_guests.specs.Visits.{Carried, IsComplete, Operated, names_after, settled_by, visit_of}
 use Rattle.net_guests.proofs.Asking.{planned_away}
 use Rattle.net_guests.proofs.Operating.{operated, settles_names, visit, hosted_on}
