@@ -201,7 +201,7 @@ impl<J: Naming + Placing, T: Task + Drop> Players<J, T> {
     /// The guests of all callers. What each of these recorded was its duties and what came next, and in time.
     pub fn into_guests(self, alloc: Global) -> Result<Vec<Guest<J>>, AllocError>
         ensures all { IfOk result (λ guests. (c : ℕ) → c < self.callers → HasGuest c guests.items) }
-        ensures plays { IfOk result (λ guests. ArePlayed J.world guests.items) }
+        ensures plays { IfOk result (λ guests. ArePlayed J.tasks J.world guests.items) }
         ensures same { IfOk result (λ guests. guests.items ≡ visits (all_members self.groups)) }
     {
         let Players {
@@ -225,7 +225,7 @@ fn add_guests<J: Naming + Placing, T: Task + Drop>(
     guests: &mut Vec<Guest<J>>,
 ) -> Result<(), AllocError>
     ensures same { OnOk result (guests.new.items ≡ guests.old.items ++ visits (members group)) }
-    ensures plays { OnOk result (ArePlayed J.world guests.old.items → ArePlayed J.world guests.new.items) }
+    ensures plays { OnOk result (ArePlayed J.tasks J.world guests.old.items → ArePlayed J.tasks J.world guests.new.items) }
 {
     let Group {
         players,
@@ -242,7 +242,7 @@ fn add_players<J: Naming + Placing, T: Task + Drop>(
     guests: &mut Vec<Guest<J>>,
 ) -> Result<(), AllocError>
     ensures same { OnOk result (guests.new.items ≡ guests.old.items ++ visits players.items) }
-    ensures plays { OnOk result (ArePlayed J.world guests.old.items → ArePlayed J.world guests.new.items) }
+    ensures plays { OnOk result (ArePlayed J.tasks J.world guests.old.items → ArePlayed J.tasks J.world guests.new.items) }
 {
     players.reverse();
     while let Some(player) = players.pop() {
@@ -256,7 +256,7 @@ fn add_clock<J: Naming + Placing, T: Task + Drop>(
     guests: &mut Vec<Guest<J>>,
 ) -> Result<(), AllocError>
     ensures same { OnOk result (guests.new.items ≡ guests.old.items ++ visits (with_last [] clock)) }
-    ensures plays { OnOk result (ArePlayed J.world guests.old.items → ArePlayed J.world guests.new.items) }
+    ensures plays { OnOk result (ArePlayed J.tasks J.world guests.old.items → ArePlayed J.tasks J.world guests.new.items) }
 {
     match clock {
         Some(player) => {
@@ -325,7 +325,7 @@ impl<J: Naming + Placing> Net<J, WorldActor<J>> {
         ensures deal { players.new.deal ≡ players.old.deal }
         ensures seats { all_seats players.new.groups ≡ all_seats players.old.groups }
         ensures rest { list_any (λ g. g.memory) players.new.groups ≡ false
-            → AreWaiting J.world (all_members players.new.groups) }
+            → AreWaiting J.tasks J.world (all_members players.new.groups) }
     {
         self.play_groups(rt, alloc, gate, &mut players.pace, &mut players.groups);
     }
@@ -342,7 +342,7 @@ impl<J: Naming + Placing> Net<J, WorldActor<J>> {
     where
         J: Send + Sync,
         ensures seats { all_seats groups.new ≡ all_seats groups.old }
-        ensures rest { list_any (λ g. g.memory) groups.new ≡ false → AreWaiting J.world (all_members groups.new) }
+        ensures rest { list_any (λ g. g.memory) groups.new ≡ false → AreWaiting J.tasks J.world (all_members groups.new) }
     {
         pace.begin();
         for _ in rt.forever() {
@@ -412,7 +412,7 @@ impl<J: Naming + Placing> Net<J, WorldActor<J>> {
         going: &mut usize,
     ) -> Played
         ensures seats { all_seats groups.new ≡ all_seats groups.old }
-        ensures rest { round ≡ Whole → result ≡ played.Waits → AreWaiting J.world (all_members groups.new) }
+        ensures rest { round ≡ Whole → result ≡ played.Waits → AreWaiting J.tasks J.world (all_members groups.new) }
         ensures short { result ≡ played.Memory → list_any (λ g. g.memory) groups.new ≡ true }
     {
         match groups.split_first_mut() {
@@ -479,7 +479,7 @@ impl<J: Naming + Placing> Net<J, WorldActor<J>> {
         group: &mut Group<J, T>,
     )
         ensures seats { seats group.new ≡ seats group.old }
-        ensures rest { group.new.memory ≡ false → AreWaiting J.world (members group.new) }
+        ensures rest { group.new.memory ≡ false → AreWaiting J.tasks J.world (members group.new) }
     {
         for _ in rt.forever() {
             match self.play_round(rt, alloc, gate, Round::Whole, group) {
@@ -584,7 +584,7 @@ impl<J: Naming + Placing> Net<J, WorldActor<J>> {
         group: &mut Group<J, T>,
     ) -> Played
         ensures seats { seats group.new ≡ seats group.old }
-        ensures rest { round ≡ Whole → result ≡ played.Waits → AreWaiting J.world (members group.new) }
+        ensures rest { round ≡ Whole → result ≡ played.Waits → AreWaiting J.tasks J.world (members group.new) }
         ensures short { result ≡ played.Memory → group.new.memory ≡ true }
     {
         let others = self.play_each(rt, alloc, gate, round, &mut group.players);
@@ -605,7 +605,7 @@ impl<J: Naming + Placing> Net<J, WorldActor<J>> {
         players: &mut [Player<J, T>],
     ) -> Played
         ensures callers { callers_of players.new ≡ callers_of players.old }
-        ensures rest { round ≡ Whole → result ≡ played.Waits → AreWaiting J.world players.new }
+        ensures rest { round ≡ Whole → result ≡ played.Waits → AreWaiting J.tasks J.world players.new }
     {
         let mut turns = Played::Waits;
         let mut i = 0;
@@ -629,7 +629,7 @@ impl<J: Naming + Placing> Net<J, WorldActor<J>> {
     ) -> Played
         ensures caller { option_map caller clock.new ≡ option_map caller clock.old }
         ensures rest { round ≡ Whole → result ≡ played.Waits
-            → IfSome clock.new (λ p. IsWaiting J.world p.visit) }
+            → IfSome clock.new (λ p. IsWaiting J.tasks J.world p.visit) }
     {
         match clock {
             Some(player) => self.play_one(rt, alloc, gate, round, player),
@@ -647,7 +647,7 @@ impl<J: Naming + Placing> Net<J, WorldActor<J>> {
         player: &mut Player<J, T>,
     ) -> Played
         ensures same { IsSamePlayer player.old player.new }
-        ensures rest { round ≡ Whole → result ≡ played.Waits → IsWaiting J.world player.new.visit }
+        ensures rest { round ≡ Whole → result ≡ played.Waits → IsWaiting J.tasks J.world player.new.visit }
     {
         if round == Round::Brief && self.stands_still(player) {
             return Played::Waits;
