@@ -37,5 +37,4 @@ module _ {T : Type 0} (asks : T → Names → Option Request) (Goes : Option Ask
   pub something_next : (h : ℕ) (q : Request) (ask : Ask) → s.host ≡ h → asks t v.names ≡ Some q → planned h v.names q ≡ Some ask
       → Some ask ≡ next_by ts w (entries v.sight.seen) v.caller
   something_next h q ask home is plans =
-      let it = by_request (Some q) is in
-      sym (next_is ∙ (it.2 ∙ (sym it.1 ∙ (ap (λ (n : ℕ). planned n v.names q) home ∙ plans))))
+      sym (next_is ∙ (by_request (Some q) is ∙ (ap (λ (n : ℕ). planned n v.names q) home ∙ plans)))

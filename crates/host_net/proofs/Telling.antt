@@ -67,8 +67,7 @@ module _ {T : Type 0} (asks : T → Names → Option Request) (after : T → Rep
       (q : Request) (asks_it : asks t old.names ≡ Some q) where
     asked_next : (ask : Ask) → planned s.host old.names q ≡ Some ask → next_by ts w (entries old.sight.seen) old.caller ≡ Some ask
     asked_next ask is =
-        let it = comes old s t goes (Some q) asks_it in
-        script_next ts w old.caller old.sight.seen s script ∙ (it.2 ∙ (sym it.1 ∙ is))
+        script_next ts w old.caller old.sight.seen s script ∙ (comes old s t goes (Some q) asks_it ∙ is)
 
     pub recorded_goes : KeepsActors → FitWorks → (stamp : ℕ) (r : Reply) → Asked ts w s.host q old (turn.Recorded stamp r) new
         → GoesOn Goes (ts new.caller) (zone_of w) s new (after t r)

@@ -11,10 +11,10 @@ use Rattle.script_task.specs.Fitting.{fits}
 use Rattle.net_base.specs.Requests.{planned, settled}
 use Rattle.script_task.specs.Rest.{Continues}
 
--- the event of the request is what comes next, and no request where nothing does
+-- the event of the request is what comes next, and nothing does where there is none
 abbrev pub Comes : ℕ → Names → Option Request → Option Ask → Type 0
 Comes h names None next = next ≡ None
-Comes h names (Some q) next = (ask : Ask) × (planned h names q ≡ Some ask) × (next ≡ Some ask)
+Comes h names (Some q) next = next ≡ planned h names q
 
 -- what it asks is what comes next in its place
 abbrev pub AsksThere : (T : Type 0) → (T → Names → Option Request) → (Option Asking → Tuples → Script → List Reply → Names → T → Type 0) → Type 0

@@ -1,8 +1,12 @@
-//! A whole script as one task: its steps one after another.
+//! What is played in the place of a script: its steps one after another, as one task, or a task of one's own.
 #![tactic(auto)]
 
+mod own;
+mod part;
 mod script;
 mod whole;
 
+pub use own::OwnTask;
+pub use part::Part;
 pub use script::ScriptTask;
 pub use whole::WholeTask;

@@ -8,7 +8,7 @@ use Rattle.host_net.proofs.player.Net+J+WorldActor+J.play_task.Goals as goal
 
 pub returns-in-Ok-None-clause-turn : goal.returns-in-Ok-None-clause-turn
 returns-in-Ok-None-clause-turn g c =
-    let t = g.T.Task in
+    let t = g.T.WholeTask in
     let p = c.player.inside in
     let free : p.guest.owed ≡ [] = ap (λ x. x.visit.owed) c.player.view_is ∙ c.requires.free in
     let script = ap (λ x. x.role) c.player.view_is ∙ c.requires.script in
@@ -20,7 +20,7 @@ returns-in-Ok-None-clause-turn g c =
 
 pub invariant_of-player : goal.invariant_of-player
 invariant_of-player g c =
-    let t = g.T.Task in
+    let t = g.T.WholeTask in
     let p = c.player.inside in
     let free : p.guest.owed ≡ [] = ap (λ x. x.visit.owed) c.player.view_is ∙ c.requires.free in
     let script = ap (λ x. x.role) c.player.view_is ∙ c.requires.script in
@@ -41,7 +41,7 @@ invariant_of-player g c =
 
 pub returns-clause-turn : goal.returns-clause-turn
 returns-clause-turn g c =
-    let t = g.T.Task in
+    let t = g.T.WholeTask in
     let p = c.player.inside in
     let free : p.guest.owed ≡ [] = ap (λ x. x.visit.owed) c.player.view_is ∙ c.requires.free in
     let script = ap (λ x. x.role) c.player.view_is ∙ c.requires.script in

@@ -1,0 +1,57 @@
+//! The parts that callers play.
+ghost use Rattle.std.specs.Prelude.{◌≡◌, None};
+ghost use Rattle.net_base.specs.declared.world.Script.{Script as AnyScript};
+
+use crate::own::OwnTask;
+use crate::script::ScriptTask;
+use crate::whole::WholeTask;
+use net_base::{Reply, Request};
+use script_task::Names;
+use std::alloc::{AllocError, Global};
+
+/// What is played in the place of a script: the script itself, or a task of one's own.
+#[derive(Drop)]
+pub enum Part<'a, T> {
+    Script(ScriptTask<'a>),
+    Own(T),
+}
+
+impl<T: OwnTask> WholeTask for Part<'_, T> {
+    ghost use Rattle.whole_script.specs.PartLaws as laws;
+    ghost use Rattle.whole_script.specs.Parts as spec;
+
+    ghost asks = { spec.asks T.asks };
+
+    ghost after = { spec.after T.after };
+
+    ghost Goes = { spec.Goes T.asks T.after };
+
+    ghost Plays = { spec.Plays };
+
+    ghost asks_there = { laws.asks_there T.asks T.after };
+
+    ghost goes_there = { laws.goes_there T.asks T.after };
+
+    ghost plays_on = { laws.plays_on T.asks T.after };
+
+    fn next(&self, alloc: Global, fids: &Names) -> Result<Option<Request>, AllocError> {
+        match self {
+            Part::Script(task) => WholeTask::next(task, alloc, fids),
+            Part::Own(task) => task.next(alloc, fids),
+        }
+    }
+
+    fn told(&mut self, alloc: Global, reply: Reply) -> Result<(), AllocError> {
+        match self {
+            Part::Script(task) => WholeTask::told(task, alloc, reply),
+            Part::Own(task) => task.told(alloc, reply),
+        }
+    }
+
+    fn finished(&self) -> usize {
+        match self {
+            Part::Script(task) => ScriptTask::finished(task),
+            Part::Own(_) => 0,
+        }
+    }
+}
