@@ -2,7 +2,7 @@
 --     IsPlayer      what a player keeps
 --     IsCounted     how many steps of its script are finished
 --     PlaysOn       what its turn did
-use Rattle.std.specs.Prelude.{◌≡◌, ℕ, ◌-◌, ◌⊎◌, Bool, true, false, List, [], ◌∷◌, ◌++◌, length, take, Option, Some, None}
+use Rattle.std.specs.Prelude.{◌≡◌, ℕ, ◌-◌, ◌⊎◌, Bool, true, false, List, [], ◌∷◌, ◌++◌, length, map, take, Option, Some, None}
 use Rattle.net_base.specs.declared.noted.Noted.{Noted}
 use Rattle.net_base.specs.declared.reply.Reply.{Reply}
 use Rattle.net_base.specs.declared.world.Script.{Script}
@@ -42,6 +42,10 @@ pub record IsPlayed (ts : Tasks) (w : World) (v : Visit) : Type 0 where
 abbrev pub ArePlayed : Tasks → World → List Visit → Type 0
 ArePlayed ts w vs = (v : Visit) → In v vs → IsPlayed ts w v
 
+-- of guests with what they played, the guests
+abbrev pub guests_of : {T : Type 0} → List (Visit × T) → List Visit
+guests_of xs = map (λ x. x.0) xs
+
 -- what contracts see of a player
 pub record Playing (T : Type 0) : Type 0 where
   pub visit : Visit
@@ -63,6 +67,13 @@ module _ {T : Type 0} (Goes : Option Asking → Tuples → Script → List Reply
     pub role_is : HasRole w v.caller who
     pub plays : IsPlayed ts w v
     pub goes_on : (s : Script) → caller_of w v.caller ≡ IsScript s → lost ≡ false → GoesOn (ts v.caller) (zone_of w) s v t
+
+  -- what was played in the place of a script goes on there
+  abbrev pub IsGoing : Tasks → World → Visit × T → Type 0
+  IsGoing ts w x = (s : Script) → caller_of w x.0.caller ≡ IsScript s → GoesOn (ts x.0.caller) (zone_of w) s x.0 x.1
+
+  abbrev pub AreGoing : Tasks → World → List (Visit × T) → Type 0
+  AreGoing ts w xs = (x : Visit × T) → In x xs → IsGoing ts w x
 
 -- Steps.
 

@@ -1,12 +1,12 @@
 //! Callers that are played.
-ghost use Rattle.std.specs.Prelude.{◌≡◌, ◌≢◌, ◌<◌, [], true, false, IfNone, IfSome, OnSome};
+ghost use Rattle.std.specs.Prelude.{◌≡◌, ◌≢◌, ◌<◌, [], true, false, IfNone, IfOk, IfSome, OnSome};
 ghost use Rattle.net_base.specs.declared.world.Script.{Script as AnyScript};
 ghost use Rattle.net_base.specs.Callers.{IsScript, caller_count, caller_of};
 ghost use Rattle.net_base.specs.Steps.{no_names};
 ghost use Rattle.net_base.specs.World.{IsWorld};
 ghost use Rattle.net_base.specs.Next.{zone_of};
 ghost use Rattle.host_net.specs.Answering.{CannotTell, CanTell, IsAnswered};
-ghost use Rattle.host_net.specs.Playing.{Counts, HasRole, IsPlayed, IsSamePlayer, PlaysOn, Heard, Told, played_by};
+ghost use Rattle.host_net.specs.Playing.{Counts, HasRole, IsGoing, IsPlayed, IsSamePlayer, PlaysOn, Heard, Told, played_by};
 ghost use Rattle.net_locks.specs.Rosters.{IsRosterOf};
 ghost use Rattle.net_guests.specs.Visits.{IsFresh};
 ghost use Rattle.host_net.specs.declared.player.Role.TheVariants as role;
@@ -19,7 +19,7 @@ use net_base::{ActorName, Reply, World};
 use net_locks::{Placing, Spot, Turn, WorldActor};
 use outside::Gate;
 use script_task::replies_fit;
-use std::alloc::Global;
+use std::alloc::{AllocError, Global};
 use std::marker::Model;
 use std::sync::Wait;
 use whole_script::WholeTask;
@@ -172,6 +172,29 @@ impl<J: Naming + Placing, T: WholeTask + Drop> Player<J, T> {
             spot: _,
         } = self;
         guest
+    }
+}
+
+impl<J: Naming + Placing, T: WholeTask + Drop> Player<J, T> {
+    // The guest, and what was played, unless its last reply was lost for want of memory.
+    pub(crate) fn into_part(self) -> Result<(Guest<J>, T), AllocError>
+        ensures same { IfOk result (λ part. part ≡ (self.visit, self.task)) }
+        ensures plays { IfOk result (λ part. IsPlayed J.tasks J.world part.0) }
+        ensures goes { IfOk result (λ part. IsGoing T.Goes J.tasks J.world part) }
+    {
+        let Player {
+            guest,
+            role: _,
+            task,
+            lost,
+            before: _,
+            counts: _,
+            spot: _,
+        } = self;
+        if lost {
+            return Err(AllocError);
+        }
+        Ok((guest, task))
     }
 }
 

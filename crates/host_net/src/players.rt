@@ -9,7 +9,7 @@ ghost use Rattle.net_base.specs.Stamped.{In};
 ghost use Rattle.net_base.specs.Summary.{answered_steps};
 ghost use Rattle.host_net.specs.Answering.{AreAfter, CannotTellOf, IsAnsweredOf, SomeCannotTell};
 ghost use Rattle.host_net.specs.Groups.{AreWaiting, all_members, all_seats, caller, callers_of, dealt, joined, members, no_players, seat_of, seats, visits, with_last};
-ghost use Rattle.host_net.specs.Playing.{ArePlayed, IsSamePlayer, IsWaiting};
+ghost use Rattle.host_net.specs.Playing.{AreGoing, ArePlayed, IsSamePlayer, IsWaiting, guests_of};
 ghost use Rattle.net_guests.specs.Visits.{HasGuest};
 ghost use Rattle.host_net.specs.declared.player.Played.TheVariants as played;
 ghost use Rattle.host_net.specs.declared.player.Role.TheVariants as role;
@@ -217,6 +217,46 @@ impl<J: Naming + Placing, T: Task + Drop> Players<J, T> {
         }
         Ok(guests)
     }
+
+    /// The guests of all callers, each with what its player played. Where the last reply of one was lost for want of memory, this
+    /// finds none either.
+    pub fn into_parts(self, alloc: Global) -> Result<Vec<(Guest<J>, T)>, AllocError>
+        ensures all { IfOk result (λ parts. (c : ℕ) → c < self.callers → HasGuest c (guests_of parts.items)) }
+        ensures plays { IfOk result (λ parts. ArePlayed J.tasks J.world (guests_of parts.items)) }
+        ensures same { IfOk result (λ parts. guests_of parts.items ≡ visits (all_members self.groups)) }
+        ensures goes { IfOk result (λ parts. AreGoing T.Goes J.tasks J.world parts.items) }
+    {
+        let Players {
+            groups,
+            callers,
+            deal: _,
+            pace: _,
+        } = self;
+        let mut parts = Vec::with_capacity(alloc, callers)?;
+        for group in groups {
+            add_parts(group, &mut parts)?;
+        }
+        Ok(parts)
+    }
+}
+
+// The players of a group join the others, each as its guest and its task. One whose last reply was lost has none.
+fn add_parts<J: Naming + Placing, T: Task + Drop>(
+    group: Group<J, T>,
+    parts: &mut Vec<(Guest<J>, T)>,
+) -> Result<(), AllocError> {
+    let Group {
+        players,
+        clock,
+        memory: _,
+    } = group;
+    for player in players {
+        parts.push(player.into_part()?)?;
+    }
+    if let Some(player) = clock {
+        parts.push(player.into_part()?)?;
+    }
+    Ok(())
 }
 
 // The guests of a group join the others.

@@ -1,0 +1,169 @@
+//! A run with tasks of one's own in the places of scripts.
+ghost use Rattle.std.specs.Prelude.{◌≡◌, ◌<◌, ◌≤◌, ℕ, length, map, slice_get, Some, IfOk};
+ghost use Rattle.net_base.specs.declared.world.Script.{Script as AnyScript};
+ghost use Rattle.net_base.specs.Callers.{IsScript, caller_of};
+ghost use Rattle.net_base.specs.Legal.{IsLegalBy, IsTimedBy};
+ghost use Rattle.net_base.specs.Net.{after};
+ghost use Rattle.net_base.specs.Next.{zone_of};
+ghost use Rattle.net_base.specs.Steps.{no_names};
+ghost use Rattle.net_base.specs.World.{IsWorld};
+ghost use Rattle.agenda.specs.Given.{WereTold, own_of, tasks_of};
+ghost use Rattle.net_guests.specs.Visits.{AreFresh};
+ghost use Rattle.net_locks.specs.Rosters.{IsRosterOf};
+ghost use Rattle.run_record.specs.Ends.{EndsBy};
+ghost use Rattle.whole_script.specs.Parts as parts;
+
+use crate::deal::{Deal, deal_of};
+use crate::outcome::{RunError, TaskRun};
+use crate::phases::{phases, task_of};
+use host_net::{Guest, Net, NetOpened, Player, Players};
+use journal::Naming;
+use net_base::World;
+use net_locks::{Placing, WorldActor};
+use outside::Gate;
+use std::alloc::{AllocError, Global};
+use std::marker::Brand;
+use std::sync::Wait;
+use std::thread::Threads;
+use whole_script::{OwnTask, Part};
+
+/// Runs a world on so many workers, with tasks of one's own in the places of scripts: the task of number `c` is played on the host of
+/// the script of number `c`, whose steps aren't. Where there is none the script is played.
+///
+/// The tasks come back as they are in the end. Where a thread can't be had, the caller does its work.
+pub fn run_tasks<R: Threads + Wait + Sync, G: Gate + Sync, T: OwnTask + Drop + Send>(
+    rt: &R,
+    alloc: Global,
+    world: &World,
+    tasks: Vec<Option<T>>,
+    workers: u32,
+    gate: &G,
+) -> Result<TaskRun<T>, RunError>
+    requires world { IsWorld world.now }
+    requires some { 0 < workers }
+    requires few { workers ≤ 16 }
+    ensures legal { IfOk result (λ run. IsLegalBy (tasks_of T.asks T.after tasks.items) world.now run.history) }
+    ensures timed { IfOk result (λ run. IsTimedBy (tasks_of T.asks T.after tasks.items) world.now run.history) }
+    ensures end { IfOk result (λ run. EndsBy (tasks_of T.asks T.after tasks.items) world.now (after world.now run.history) run.end) }
+    ensures told { IfOk result (λ run. WereTold T.after world.now tasks.items run.history run.tasks.items) }
+{
+    let opened = NetOpened::new(alloc, world)?;
+    Ok(run_named::<Brand, R, G, T>(
+        rt, alloc, world, tasks, workers, gate, opened,
+    )?)
+}
+
+// The run, which has a name.
+fn run_named<J, R: Threads + Wait + Sync, G: Gate + Sync, T: OwnTask + Drop + Send>(
+    rt: &R,
+    alloc: Global,
+    world: &World,
+    tasks: Vec<Option<T>>,
+    workers: u32,
+    gate: &G,
+    opened: NetOpened,
+) -> Result<TaskRun<T>, AllocError>
+where
+    J: Naming + Placing + Send + Sync,
+    requires name { opened ≡ J.run }
+    requires world { J.world ≡ world.now }
+    requires given { (c : ℕ) → J.tasks c ≡ tasks_of T.asks T.after tasks.items c }
+    requires is { IsWorld world.now }
+    requires roster { IsRosterOf J.world J.run.roster }
+    requires some { 0 < workers }
+    ensures legal { IfOk result (λ run. IsLegalBy J.tasks J.world run.history) }
+    ensures timed { IfOk result (λ run. IsTimedBy J.tasks J.world run.history) }
+    ensures end { IfOk result (λ run. EndsBy J.tasks J.world (after J.world run.history) run.end) }
+    ensures told { IfOk result (λ run. WereTold T.after J.world tasks.items run.history run.tasks.items) }
+{
+    let (net, guests) = Net::<J, WorldActor<J>>::named(alloc, world, opened)?;
+    let deal = deal_of(rt, alloc, world, workers)?;
+    let mut players = players_of(alloc, world, tasks, guests, deal)?;
+    let end = phases(rt, alloc, world, gate, &net, &mut players)?;
+    let (guests, tasks) = parts_of(alloc, world.scripts.len(), players)?;
+    let history = net.finish(alloc, guests)?;
+    Ok(TaskRun {
+        history,
+        tasks,
+        end,
+    })
+}
+
+// A player for each guest, in its group.
+fn players_of<'a, J: Naming + Placing, T: OwnTask + Drop>(
+    alloc: Global,
+    world: &'a World,
+    mut tasks: Vec<Option<T>>,
+    guests: Vec<Guest<J>>,
+    deal: Deal,
+) -> Result<Players<J, Part<'a, T>>, AllocError>
+    requires world { J.world ≡ world.now }
+    requires given { (c : ℕ) → J.tasks c ≡ tasks_of T.asks T.after tasks.items c }
+    requires is { IsWorld world.now }
+    requires roster { IsRosterOf J.world J.run.roster }
+    requires some { 0 < deal.groups }
+    requires fresh { AreFresh (zone_of J.world) 0 guests.items }
+    ensures { IfOk result (λ players. players.callers ≡ length guests.items) }
+{
+    let Deal { groups, numbers } = deal;
+    let mut players = Players::new(alloc, groups, numbers)?;
+    for guest in guests {
+        let caller = guest.caller();
+        let own = take(&mut tasks, caller as usize);
+        let part = part_of(alloc, world, caller, own);
+        players.add(Player::new(world, guest, part))?;
+    }
+    Ok(players)
+}
+
+// The task that was given for this place, which has none then.
+fn take<T>(tasks: &mut Vec<Option<T>>, place: usize) -> Option<T> {
+    match tasks.get_mut(place) {
+        Some(task) => task.take(),
+        None => None,
+    }
+}
+
+// The part that a caller plays.
+fn part_of<'a, T: OwnTask>(
+    alloc: Global,
+    world: &'a World,
+    caller: u32,
+    own: Option<T>,
+) -> Part<'a, T>
+    ensures { (s : AnyScript) → caller_of world.now caller ≡ IsScript s
+        → parts.Goes T.asks T.after (own_of T.asks T.after (Some own)) (zone_of world.now) s [] (no_names (zone_of world.now)) result }
+{
+    match own {
+        Some(task) => Part::Own(task),
+        None => Part::Script(task_of(alloc, world, caller)),
+    }
+}
+
+// The guests, and the task of each of so many places.
+fn parts_of<'a, J: Naming + Placing, T: OwnTask + Drop>(
+    alloc: Global,
+    places: usize,
+    players: Players<J, Part<'a, T>>,
+) -> Result<(Vec<Guest<J>>, Vec<Option<T>>), AllocError> {
+    let mut tasks = Vec::with_capacity(alloc, places)?;
+    for _ in 0..places {
+        tasks.push(None)?;
+    }
+    let parts = players.into_parts(alloc)?;
+    let mut guests = Vec::with_capacity(alloc, parts.len())?;
+    for (guest, part) in parts {
+        put_back(&mut tasks, guest.caller() as usize, part);
+        guests.push(guest)?;
+    }
+    Ok((guests, tasks))
+}
+
+// The task of a place is there again.
+fn put_back<T: OwnTask + Drop>(tasks: &mut Vec<Option<T>>, place: usize, part: Part<'_, T>) {
+    if let Part::Own(task) = part {
+        if let Some(at) = tasks.get_mut(place) {
+            *at = Some(task);
+        }
+    }
+}

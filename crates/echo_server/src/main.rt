@@ -1,0 +1,79 @@
+//! An echo server and its clients over a network that loses packets, on one worker and on four.
+#![tactic(auto)]
+
+mod client;
+mod part;
+mod server;
+
+use agenda::run_tasks;
+use client::EchoClient;
+use net_base::{Lines, Octets};
+use outside::{OpenGate, StdSource, read_to_end};
+use part::EchoTask;
+use server::EchoServer;
+use std::alloc::{AllocError, Global};
+use std::process::ExitCode;
+use world_file::read_world;
+
+/// The longest world file, in bytes.
+const LONGEST: usize = 65_536;
+
+/// Where the server is found, and where it announces.
+const SERVICE: &[u8] = b"net!helix!echo";
+const ANNOUNCED: &[u8] = b"net!*!echo";
+
+/// What each client sends.
+const MESSAGES: [&[u8]; 3] = [b"hello", b"a second message", b"and good bye"];
+
+/// Reads a world from standard input. The first of its scripts says where the server is, the others where clients are.
+fn main(rt: HostRuntime) -> ExitCode {
+    match echo(&rt, rt.alloc()) {
+        Some(()) => ExitCode::SUCCESS,
+        None => ExitCode::FAILURE,
+    }
+}
+
+// None where there is no world to be read, or memory runs out.
+fn echo(rt: &HostRuntime, alloc: Global) -> Option<()> {
+    let text = read_to_end(alloc, &mut StdSource::new(rt.stdin()), LONGEST).ok()?;
+    let world = read_world(alloc, text.as_slice()).ok()?;
+    for workers in [1, 4] {
+        let tasks = tasks_of(alloc, world.scripts.len()).ok()?;
+        let run = run_tasks(rt, alloc, &world, tasks, workers, &OpenGate).ok()?;
+        let well = well_among(run.tasks.as_slice());
+        let clients = world.scripts.len().saturating_sub(1);
+        println!(rt; "{workers} workers: {well} of {clients} clients read what they wrote").ok()?;
+    }
+    Some(())
+}
+
+// A server, and clients in the other places.
+fn tasks_of(alloc: Global, places: usize) -> Result<Vec<Option<EchoTask>>, AllocError> {
+    let mut tasks = Vec::with_capacity(alloc, places)?;
+    let server = EchoServer::new(alloc, ANNOUNCED)?;
+    tasks.push(Some(EchoTask::Server(server)))?;
+    for _ in 1..places {
+        let client = EchoClient::new(alloc, SERVICE, messages(alloc)?)?;
+        tasks.push(Some(EchoTask::Client(client)))?;
+    }
+    Ok(tasks)
+}
+
+fn messages(alloc: Global) -> Result<Lines, AllocError> {
+    let mut messages = Lines::new(alloc);
+    for text in MESSAGES {
+        messages.push(Octets::from_slice(alloc, text)?)?;
+    }
+    Ok(messages)
+}
+
+// How many clients read what they wrote.
+fn well_among(tasks: &[Option<EchoTask>]) -> usize {
+    let mut well: usize = 0;
+    for task in tasks {
+        if let Some(EchoTask::Client(client)) = task {
+            well = well.saturating_add(usize::from(client.is_well()));
+        }
+    }
+    well
+}
