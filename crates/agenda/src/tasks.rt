@@ -1,14 +1,17 @@
 //! A run with tasks of one's own in the places of scripts.
-ghost use Rattle.std.specs.Prelude.{◌≡◌, ◌<◌, ◌≤◌, ℕ, length, map, slice_get, Some, IfOk};
+ghost use Rattle.std.specs.Prelude.{◌≡◌, ◌≢◌, ◌<◌, ◌≤◌, ℕ, [], length, option_map, IfNone, IfOk, IfSome};
 ghost use Rattle.net_base.specs.declared.world.Script.{Script as AnyScript};
 ghost use Rattle.net_base.specs.Callers.{IsScript, caller_of};
 ghost use Rattle.net_base.specs.Legal.{IsLegalBy, IsTimedBy};
 ghost use Rattle.net_base.specs.Net.{after};
 ghost use Rattle.net_base.specs.Next.{zone_of};
 ghost use Rattle.net_base.specs.Steps.{no_names};
+ghost use Rattle.net_base.specs.Tasks.{asking_of};
 ghost use Rattle.net_base.specs.World.{IsWorld};
-ghost use Rattle.agenda.specs.Given.{WereTold, own_of, tasks_of};
-ghost use Rattle.net_guests.specs.Visits.{AreFresh};
+ghost use Rattle.agenda.specs.Given.{AreBack, WereTold, own_task, task_at, tasks_of};
+ghost use Rattle.host_net.specs.Groups.{all_members, visits};
+ghost use Rattle.host_net.specs.Playing.{ArePlayed};
+ghost use Rattle.net_guests.specs.Visits.{AreFresh, HasGuest};
 ghost use Rattle.net_locks.specs.Rosters.{IsRosterOf};
 ghost use Rattle.run_record.specs.Ends.{EndsBy};
 ghost use Rattle.whole_script.specs.Parts as parts;
@@ -30,7 +33,7 @@ use whole_script::{OwnTask, Part};
 /// Runs a world on so many workers, with tasks of one's own in the places of scripts: the task of number `c` is played on the host of
 /// the script of number `c`, whose steps aren't. Where there is none the script is played.
 ///
-/// The tasks come back as they are in the end. Where a thread can't be had, the caller does its work.
+/// Each task comes back as it is in the end: it was told the replies to what it asked, in order, and nothing else. Where a thread can't be had, the caller does its work.
 pub fn run_tasks<R: Threads + Wait + Sync, G: Gate + Sync, T: OwnTask + Drop + Send>(
     rt: &R,
     alloc: Global,
@@ -45,7 +48,7 @@ pub fn run_tasks<R: Threads + Wait + Sync, G: Gate + Sync, T: OwnTask + Drop + S
     ensures legal { IfOk result (λ run. IsLegalBy (tasks_of T.asks T.after tasks.items) world.now run.history) }
     ensures timed { IfOk result (λ run. IsTimedBy (tasks_of T.asks T.after tasks.items) world.now run.history) }
     ensures end { IfOk result (λ run. EndsBy (tasks_of T.asks T.after tasks.items) world.now (after world.now run.history) run.end) }
-    ensures told { IfOk result (λ run. WereTold T.after world.now tasks.items run.history run.tasks.items) }
+    ensures told { IfOk result (λ run. WereTold T.asks T.after world.now tasks.items run.history run.tasks.items) }
 {
     let opened = NetOpened::new(alloc, world)?;
     Ok(run_named::<Brand, R, G, T>(
@@ -74,7 +77,7 @@ where
     ensures legal { IfOk result (λ run. IsLegalBy J.tasks J.world run.history) }
     ensures timed { IfOk result (λ run. IsTimedBy J.tasks J.world run.history) }
     ensures end { IfOk result (λ run. EndsBy J.tasks J.world (after J.world run.history) run.end) }
-    ensures told { IfOk result (λ run. WereTold T.after J.world tasks.items run.history run.tasks.items) }
+    ensures told { IfOk result (λ run. WereTold T.asks T.after J.world tasks.items run.history run.tasks.items) }
 {
     let (net, guests) = Net::<J, WorldActor<J>>::named(alloc, world, opened)?;
     let deal = deal_of(rt, alloc, world, workers)?;
@@ -117,7 +120,10 @@ fn players_of<'a, J: Naming + Placing, T: OwnTask + Drop>(
 }
 
 // The task that was given for this place, which has none then.
-fn take<T>(tasks: &mut Vec<Option<T>>, place: usize) -> Option<T> {
+fn take<T>(tasks: &mut Vec<Option<T>>, place: usize) -> Option<T>
+    ensures there { result ≡ task_at tasks.old.items place }
+    ensures rest { (c : ℕ) → place < c → task_at tasks.new.items c ≡ task_at tasks.old.items c }
+{
     match tasks.get_mut(place) {
         Some(task) => task.take(),
         None => None,
@@ -132,7 +138,7 @@ fn part_of<'a, T: OwnTask>(
     own: Option<T>,
 ) -> Part<'a, T>
     ensures { (s : AnyScript) → caller_of world.now caller ≡ IsScript s
-        → parts.Goes T.asks T.after (own_of T.asks T.after (Some own)) (zone_of world.now) s [] (no_names (zone_of world.now)) result }
+        → parts.Goes T.asks T.after (option_map (asking_of T.after T.asks) own) (zone_of world.now) s [] (no_names (zone_of world.now)) result }
 {
     match own {
         Some(task) => Part::Own(task),
@@ -145,7 +151,12 @@ fn parts_of<'a, J: Naming + Placing, T: OwnTask + Drop>(
     alloc: Global,
     places: usize,
     players: Players<J, Part<'a, T>>,
-) -> Result<(Vec<Guest<J>>, Vec<Option<T>>), AllocError> {
+) -> Result<(Vec<Guest<J>>, Vec<Option<T>>), AllocError>
+    requires places { places ≡ length J.world.scripts }
+    ensures all { IfOk result (λ back. (c : ℕ) → c < players.callers → HasGuest c back.0.items) }
+    ensures plays { IfOk result (λ back. ArePlayed J.tasks J.world back.0.items) }
+    ensures same { IfOk result (λ back. back.0.items ≡ visits (all_members players.groups)) }
+    ensures tasks { IfOk result (λ back. AreBack T.asks T.after J.tasks J.world back.0.items back.1.items) }
     let mut tasks = Vec::with_capacity(alloc, places)?;
     for _ in 0..places {
         tasks.push(None)?;
@@ -160,7 +171,12 @@ fn parts_of<'a, J: Naming + Placing, T: OwnTask + Drop>(
 }
 
 // The task of a place is there again.
-fn put_back<T: OwnTask + Drop>(tasks: &mut Vec<Option<T>>, place: usize, part: Part<'_, T>) {
+fn put_back<T: OwnTask + Drop>(tasks: &mut Vec<Option<T>>, place: usize, part: Part<'_, T>)
+    ensures many { length tasks.new.items ≡ length tasks.old.items }
+    ensures own { IfSome (own_task part) (λ t. place < length tasks.old.items → task_at tasks.new.items place ≡ Some t) }
+    ensures script { IfNone (own_task part) (tasks.new.items ≡ tasks.old.items) }
+    ensures rest { (c : ℕ) → c ≢ place → task_at tasks.new.items c ≡ task_at tasks.old.items c }
+{
     if let Part::Own(task) = part {
         if let Some(at) = tasks.get_mut(place) {
             *at = Some(task);

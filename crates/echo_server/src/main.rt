@@ -1,5 +1,7 @@
 //! An echo server and its clients over a network that loses packets, on one worker and on four.
 #![tactic(auto)]
+ghost use Rattle.std.specs.Prelude.{◌<◌, ◌≤◌, IfSome};
+ghost use Rattle.net_base.specs.World.{IsWorld};
 
 mod client;
 mod part;
@@ -7,12 +9,14 @@ mod server;
 
 use agenda::run_tasks;
 use client::EchoClient;
-use net_base::{Lines, Octets};
-use outside::{OpenGate, StdSource, read_to_end};
+use net_base::{Lines, Octets, World};
+use outside::{OpenGate, Source, StdSource, read_to_end};
 use part::EchoTask;
 use server::EchoServer;
 use std::alloc::{AllocError, Global};
 use std::process::ExitCode;
+use std::sync::Wait;
+use std::thread::Threads;
 use world_file::read_world;
 
 /// The longest world file, in bytes.
@@ -27,24 +31,44 @@ const MESSAGES: [&[u8]; 3] = [b"hello", b"a second message", b"and good bye"];
 
 /// Reads a world from standard input. The first of its scripts says where the server is, the others where clients are.
 fn main(rt: HostRuntime) -> ExitCode {
-    match echo(&rt, rt.alloc()) {
-        Some(()) => ExitCode::SUCCESS,
-        None => ExitCode::FAILURE,
+    let alloc = rt.alloc();
+    let Some(world) = world_of(alloc, &mut StdSource::new(rt.stdin())) else {
+        return ExitCode::FAILURE;
+    };
+    let clients = world.scripts.len().saturating_sub(1);
+    for workers in [1, 4] {
+        let Some(well) = well_by(&rt, alloc, &world, workers) else {
+            return ExitCode::FAILURE;
+        };
+        if println!(rt; "{workers} workers: {well} of {clients} clients read what they wrote").is_err() {
+            return ExitCode::FAILURE;
+        }
     }
+    ExitCode::SUCCESS
 }
 
 // None where there is no world to be read, or memory runs out.
-fn echo(rt: &HostRuntime, alloc: Global) -> Option<()> {
-    let text = read_to_end(alloc, &mut StdSource::new(rt.stdin()), LONGEST).ok()?;
-    let world = read_world(alloc, text.as_slice()).ok()?;
-    for workers in [1, 4] {
-        let tasks = tasks_of(alloc, world.scripts.len()).ok()?;
-        let run = run_tasks(rt, alloc, &world, tasks, workers, &OpenGate).ok()?;
-        let well = well_among(run.tasks.as_slice());
-        let clients = world.scripts.len().saturating_sub(1);
-        println!(rt; "{workers} workers: {well} of {clients} clients read what they wrote").ok()?;
-    }
-    Some(())
+fn world_of<S: Source>(alloc: Global, source: &mut S) -> Option<World>
+    ensures { IfSome result (λ w. IsWorld w) }
+{
+    let text = read_to_end(alloc, source, LONGEST).ok()?;
+    read_world(alloc, text.as_slice()).ok()
+}
+
+// How many clients read what they wrote in a run on so many workers.
+fn well_by<R: Threads + Wait + Sync>(
+    rt: &R,
+    alloc: Global,
+    world: &World,
+    workers: u32,
+) -> Option<usize>
+    requires world { IsWorld world.now }
+    requires some { 0 < workers }
+    requires few { workers ≤ 16 }
+{
+    let tasks = tasks_of(alloc, world.scripts.len()).ok()?;
+    let run = run_tasks(rt, alloc, world, tasks, workers, &OpenGate).ok()?;
+    Some(well_among(run.tasks.as_slice()))
 }
 
 // A server, and clients in the other places.

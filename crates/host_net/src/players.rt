@@ -227,36 +227,69 @@ impl<J: Naming + Placing, T: Task + Drop> Players<J, T> {
         ensures goes { IfOk result (λ parts. AreGoing T.Goes J.tasks J.world parts.items) }
     {
         let Players {
-            groups,
+            mut groups,
             callers,
             deal: _,
             pace: _,
         } = self;
         let mut parts = Vec::with_capacity(alloc, callers)?;
-        for group in groups {
+        groups.reverse();
+        while let Some(group) = groups.pop() {
             add_parts(group, &mut parts)?;
         }
         Ok(parts)
     }
 }
 
-// The players of a group join the others, each as its guest and its task. One whose last reply was lost has none.
+// The players of a group join the others, each as its guest and what it played. One whose last reply was lost has none.
 fn add_parts<J: Naming + Placing, T: Task + Drop>(
     group: Group<J, T>,
     parts: &mut Vec<(Guest<J>, T)>,
-) -> Result<(), AllocError> {
+) -> Result<(), AllocError>
+    ensures same { OnOk result (guests_of parts.new.items ≡ guests_of parts.old.items ++ visits (members group)) }
+    ensures plays { OnOk result (ArePlayed J.tasks J.world (guests_of parts.old.items) → ArePlayed J.tasks J.world (guests_of parts.new.items)) }
+    ensures goes { OnOk result (AreGoing T.Goes J.tasks J.world parts.old.items → AreGoing T.Goes J.tasks J.world parts.new.items) }
+{
     let Group {
         players,
         clock,
         memory: _,
     } = group;
-    for player in players {
-        parts.push(player.into_part()?)?;
-    }
-    if let Some(player) = clock {
+    add_player_parts(players, parts)?;
+    add_clock_part(clock, parts)?;
+    Ok(())
+}
+
+fn add_player_parts<J: Naming + Placing, T: Task + Drop>(
+    mut players: Vec<Player<J, T>>,
+    parts: &mut Vec<(Guest<J>, T)>,
+) -> Result<(), AllocError>
+    ensures same { OnOk result (guests_of parts.new.items ≡ guests_of parts.old.items ++ visits players.items) }
+    ensures plays { OnOk result (ArePlayed J.tasks J.world (guests_of parts.old.items) → ArePlayed J.tasks J.world (guests_of parts.new.items)) }
+    ensures goes { OnOk result (AreGoing T.Goes J.tasks J.world parts.old.items → AreGoing T.Goes J.tasks J.world parts.new.items) }
+{
+    players.reverse();
+    while let Some(player) = players.pop() {
         parts.push(player.into_part()?)?;
     }
     Ok(())
+}
+
+fn add_clock_part<J: Naming + Placing, T: Task + Drop>(
+    clock: Option<Player<J, T>>,
+    parts: &mut Vec<(Guest<J>, T)>,
+) -> Result<(), AllocError>
+    ensures same { OnOk result (guests_of parts.new.items ≡ guests_of parts.old.items ++ visits (with_last [] clock)) }
+    ensures plays { OnOk result (ArePlayed J.tasks J.world (guests_of parts.old.items) → ArePlayed J.tasks J.world (guests_of parts.new.items)) }
+    ensures goes { OnOk result (AreGoing T.Goes J.tasks J.world parts.old.items → AreGoing T.Goes J.tasks J.world parts.new.items) }
+{
+    match clock {
+        Some(player) => {
+            parts.push(player.into_part()?)?;
+            Ok(())
+        }
+        None => Ok(()),
+    }
 }
 
 // The guests of a group join the others.
