@@ -13,6 +13,7 @@ ghost use Rattle.host_net.specs.Groups.{all_members, visits};
 ghost use Rattle.host_net.specs.Playing.{ArePlayed};
 ghost use Rattle.net_guests.specs.Visits.{AreFresh, HasGuest};
 ghost use Rattle.net_locks.specs.Rosters.{IsRosterOf};
+ghost use Rattle.prefix_law.specs.PrefixLaw.{KeepsPrefixes};
 ghost use Rattle.run_record.specs.Ends.{EndsBy};
 ghost use Rattle.whole_script.specs.Parts as parts;
 
@@ -24,6 +25,7 @@ use journal::Naming;
 use net_base::World;
 use net_locks::{Placing, WorldActor};
 use outside::Gate;
+use prefix_law::tasks_keep_prefixes;
 use std::alloc::{AllocError, Global};
 use std::marker::Brand;
 use std::sync::Wait;
@@ -33,7 +35,8 @@ use whole_script::{OwnTask, Part};
 /// Runs a world on so many workers, with tasks of one's own in the places of scripts: the task of number `c` is played on the host of
 /// the script of number `c`, whose steps aren't. Where there is none the script is played.
 ///
-/// Each task comes back as it is in the end: it was told the replies to what it asked, in order, and nothing else. Where a thread can't be had, the caller does its work.
+/// Each task comes back as it is in the end: it was told the replies to what it asked, in order, and nothing else. Where a thread can't
+/// be had, the caller does its work.
 pub fn run_tasks<R: Threads + Wait + Sync, G: Gate + Sync, T: OwnTask + Drop + Send>(
     rt: &R,
     alloc: Global,
@@ -49,7 +52,9 @@ pub fn run_tasks<R: Threads + Wait + Sync, G: Gate + Sync, T: OwnTask + Drop + S
     ensures timed { IfOk result (λ run. IsTimedBy (tasks_of T.asks T.after tasks.items) world.now run.history) }
     ensures end { IfOk result (λ run. EndsBy (tasks_of T.asks T.after tasks.items) world.now (after world.now run.history) run.end) }
     ensures told { IfOk result (λ run. WereTold T.asks T.after world.now tasks.items run.history run.tasks.items) }
+    ensures prefixes { IfOk result (λ run. KeepsPrefixes world.now run.history) }
 {
+    tasks_keep_prefixes();
     let opened = NetOpened::new(alloc, world)?;
     Ok(run_named::<Brand, R, G, T>(
         rt, alloc, world, tasks, workers, gate, opened,
