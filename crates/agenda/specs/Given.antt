@@ -13,18 +13,18 @@ use Rattle.net_base.specs.Steps.{Names}
 use Rattle.net_base.specs.Tasks.{Asking, Tasks, asking_of, told_all}
 use Rattle.host_net.specs.Playing.{replies_of}
 use Rattle.net_guests.specs.Visits.{HasGuest, Visit}
-use Rattle.whole_script.specs.declared.part.Part.{Part}
-use Rattle.whole_script.specs.declared.part.Part.TheVariants as part
-use Rattle.whole_script.specs.Parts.{GoesOwn}
+use Rattle.whole_script.specs.declared.place.PlaceTask.{PlaceTask}
+use Rattle.whole_script.specs.declared.place.PlaceTask.TheVariants as place
+use Rattle.whole_script.specs.Places.{GoesOwn}
 
 -- the task that is given for a place, if one is
 abbrev pub task_at : {T : Type 0} → List (Option T) → ℕ → Option T
 task_at given c = option_and_then (λ o. o) (slice_get given c)
 
 -- the task of one's own among what is played
-abbrev pub own_task : {T : Type 0} → Part T → Option T
-own_task (part.Script t) = None
-own_task (part.Own t) = Some t
+abbrev pub own_task : {T : Type 0} → PlaceTask T → Option T
+own_task (place.Script t) = None
+own_task (place.Own t) = Some t
 
 module _ {T : Type 0} (asks : T → Names → Option Request) (after : T → Reply → T) where
   -- what is asked in each place; the script of a place for which no task is given is played
@@ -42,7 +42,7 @@ module _ {T : Type 0} (asks : T → Names → Option Request) (after : T → Rep
   WereTold w given h back =
       (c : ℕ) (s : Script) (t : T) → slice_get w.scripts c ≡ Some s → task_at given c ≡ Some t → WasTold t (own_replies h c) (task_at back c)
 
-  -- Parts that are taken apart.
+  -- The end.
 
   -- the task of a place, which one of these played
   pub record IsBack (ts : Tasks) (w : World) (vs : List Visit) (c : ℕ) (there : Option T) : Type 0 where

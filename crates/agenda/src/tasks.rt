@@ -15,7 +15,7 @@ ghost use Rattle.net_guests.specs.Visits.{AreFresh, HasGuest};
 ghost use Rattle.net_locks.specs.Rosters.{IsRosterOf};
 ghost use Rattle.prefix_law.specs.PrefixLaw.{KeepsPrefixes};
 ghost use Rattle.run_record.specs.Ends.{EndsBy};
-ghost use Rattle.whole_script.specs.Parts as parts;
+ghost use Rattle.whole_script.specs.Places as places;
 
 use crate::deal::{Deal, deal_of};
 use crate::outcome::{RunError, TaskRun};
@@ -30,7 +30,7 @@ use std::alloc::{AllocError, Global};
 use std::marker::Brand;
 use std::sync::Wait;
 use std::thread::Threads;
-use whole_script::{OwnTask, Part};
+use whole_script::{OwnTask, PlaceTask};
 
 /// Runs a world on so many workers, with tasks of one's own in the places of scripts: the task of number `c` is played on the host of
 /// the script of number `c`, whose steps aren't. Where there is none the script is played.
@@ -88,7 +88,7 @@ where
     let deal = deal_of(rt, alloc, world, workers)?;
     let mut players = players_of(alloc, world, tasks, guests, deal)?;
     let end = phases(rt, alloc, world, gate, &net, &mut players)?;
-    let (guests, tasks) = parts_of(alloc, world.scripts.len(), players)?;
+    let (guests, tasks) = ended_of(alloc, world.scripts.len(), players)?;
     let history = net.finish(alloc, guests)?;
     Ok(TaskRun {
         history,
@@ -104,7 +104,7 @@ fn players_of<'a, J: Naming + Placing, T: OwnTask + Drop>(
     mut tasks: Vec<Option<T>>,
     guests: Vec<Guest<J>>,
     deal: Deal,
-) -> Result<Players<J, Part<'a, T>>, AllocError>
+) -> Result<Players<J, PlaceTask<'a, T>>, AllocError>
     requires world { J.world ≡ world.now }
     requires given { (c : ℕ) → J.tasks c ≡ tasks_of T.asks T.after tasks.items c }
     requires is { IsWorld world.now }
@@ -118,8 +118,8 @@ fn players_of<'a, J: Naming + Placing, T: OwnTask + Drop>(
     for guest in guests {
         let caller = guest.caller();
         let own = take(&mut tasks, caller as usize);
-        let part = part_of(alloc, world, caller, own);
-        players.add(Player::new(world, guest, part))?;
+        let task = place_task(alloc, world, caller, own);
+        players.add(Player::new(world, guest, task))?;
     }
     Ok(players)
 }
@@ -135,27 +135,27 @@ fn take<T>(tasks: &mut Vec<Option<T>>, place: usize) -> Option<T>
     }
 }
 
-// The part that a caller plays.
-fn part_of<'a, T: OwnTask>(
+// What a caller plays.
+fn place_task<'a, T: OwnTask>(
     alloc: Global,
     world: &'a World,
     caller: u32,
     own: Option<T>,
-) -> Part<'a, T>
+) -> PlaceTask<'a, T>
     ensures { (s : AnyScript) → caller_of world.now caller ≡ IsScript s
-        → parts.Goes T.asks T.after (option_map (asking_of T.after T.asks) own) (zone_of world.now) s [] (no_names (zone_of world.now)) result }
+        → places.Goes T.asks T.after (option_map (asking_of T.after T.asks) own) (zone_of world.now) s [] (no_names (zone_of world.now)) result }
 {
     match own {
-        Some(task) => Part::Own(task),
-        None => Part::Script(task_of(alloc, world, caller)),
+        Some(task) => PlaceTask::Own(task),
+        None => PlaceTask::Script(task_of(alloc, world, caller)),
     }
 }
 
-// The guests, and the task of each of so many places.
-fn parts_of<'a, J: Naming + Placing, T: OwnTask + Drop>(
+// The guests, and the task of each of so many places, as it is in the end.
+fn ended_of<'a, J: Naming + Placing, T: OwnTask + Drop>(
     alloc: Global,
     places: usize,
-    players: Players<J, Part<'a, T>>,
+    players: Players<J, PlaceTask<'a, T>>,
 ) -> Result<(Vec<Guest<J>>, Vec<Option<T>>), AllocError>
     requires places { places ≡ length J.world.scripts }
     ensures all { IfOk result (λ back. (c : ℕ) → c < players.callers → HasGuest c back.0.items) }
@@ -168,21 +168,21 @@ fn parts_of<'a, J: Naming + Placing, T: OwnTask + Drop>(
     }
     let parts = players.into_parts(alloc)?;
     let mut guests = Vec::with_capacity(alloc, parts.len())?;
-    for (guest, part) in parts {
-        put_back(&mut tasks, guest.caller() as usize, part);
+    for (guest, task) in parts {
+        put_back(&mut tasks, guest.caller() as usize, task);
         guests.push(guest)?;
     }
     Ok((guests, tasks))
 }
 
 // The task of a place is there again.
-fn put_back<T: OwnTask + Drop>(tasks: &mut Vec<Option<T>>, place: usize, part: Part<'_, T>)
+fn put_back<T: OwnTask + Drop>(tasks: &mut Vec<Option<T>>, place: usize, played: PlaceTask<'_, T>)
     ensures many { length tasks.new.items ≡ length tasks.old.items }
-    ensures own { IfSome (own_task part) (λ t. place < length tasks.old.items → task_at tasks.new.items place ≡ Some t) }
-    ensures script { IfNone (own_task part) (tasks.new.items ≡ tasks.old.items) }
+    ensures own { IfSome (own_task played) (λ t. place < length tasks.old.items → task_at tasks.new.items place ≡ Some t) }
+    ensures script { IfNone (own_task played) (tasks.new.items ≡ tasks.old.items) }
     ensures rest { (c : ℕ) → c ≢ place → task_at tasks.new.items c ≡ task_at tasks.old.items c }
 {
-    if let Part::Own(task) = part {
+    if let PlaceTask::Own(task) = played {
         if let Some(at) = tasks.get_mut(place) {
             *at = Some(task);
         }

@@ -1,8 +1,8 @@
 pub mod ScriptTasks
 pub mod ScriptLaws
 pub mod Wholes
-pub mod Parts
-pub mod PartLaws
+pub mod Places
+pub mod PlaceLaws
 pub use Rattle.net_base.specs.Next
 pub use Rattle.net_base.specs.Tasks
 pub use Rattle.script_task.specs.Rest

@@ -2,11 +2,11 @@
 #![tactic(auto)]
 
 mod own;
-mod part;
+mod place;
 mod script;
 mod whole;
 
 pub use own::OwnTask;
-pub use part::Part;
+pub use place::PlaceTask;
 pub use script::ScriptTask;
 pub use whole::WholeTask;

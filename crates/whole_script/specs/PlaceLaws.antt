@@ -10,9 +10,9 @@ use Rattle.net_base.specs.Steps.{Ask, Names, no_names}
 use Rattle.net_base.specs.Tasks.{Asking, asking_of, asks_after, names_told, told_all}
 use Rattle.net_base.specs.Versions.{Tuples}
 use Rattle.script_task.specs.Fitting.{fits}
-use Rattle.whole_script.specs.declared.part.Part.{Part}
-use Rattle.whole_script.specs.declared.part.Part.TheVariants as part
-use Rattle.whole_script.specs.Parts as spec
+use Rattle.whole_script.specs.declared.place.PlaceTask.{PlaceTask}
+use Rattle.whole_script.specs.declared.place.PlaceTask.TheVariants as place
+use Rattle.whole_script.specs.Places as spec
 use Rattle.whole_script.specs.ScriptLaws as script
 use Rattle.whole_script.specs.Wholes.{AsksThere, Comes, GoesThere, PlaysOn}
 
@@ -44,9 +44,9 @@ module _ {T : Type 0} (asks : T → Names → Option Request) (after : T → Rep
           ap (option_and_then (planned s.host (names_told own_is (no_names zone) rs))) is
           ∙ ap (λ (ns : Names). planned s.host ns q) (sym goes.names_are)
 
-  pub asks_there : AsksThere (Part T) (spec.asks asks) (spec.Goes asks after)
-  asks_there own zone s rs names (part.Script t) goes = script.asks_there own zone s rs names t goes
-  asks_there own zone s rs names (part.Own t) goes = asks_own own zone s rs names t goes
+  pub asks_there : AsksThere (PlaceTask T) (spec.asks asks) (spec.Goes asks after)
+  asks_there own zone s rs names (place.Script t) goes = script.asks_there own zone s rs names t goes
+  asks_there own zone s rs names (place.Own t) goes = asks_own own zone s rs names t goes
 
   goes_own : (own : Option Asking) (zone : Tuples) (rs : List Reply) (names : Names) (t : T) (q : Request) (r : Reply)
       → spec.GoesOwn asks after own zone rs names t → asks t names ≡ Some q
@@ -65,10 +65,10 @@ module _ {T : Type 0} (asks : T → Names → Option Request) (after : T → Rep
             ∙ (ap (λ (o : Option Request). settles last o r) (sym asked_last) ∙ sym (names_push a (no_names zone) rs r));
       }
 
-  pub goes_there : GoesThere (Part T) (spec.asks asks) (spec.after after) (spec.Goes asks after)
-  goes_there own zone s rs names (part.Script t) q ask r goes asked is fit = script.goes_there own zone s rs names t q ask r goes asked is fit
-  goes_there own zone s rs names (part.Own t) q ask r goes asked is fit = goes_own own zone rs names t q r goes asked
+  pub goes_there : GoesThere (PlaceTask T) (spec.asks asks) (spec.after after) (spec.Goes asks after)
+  goes_there own zone s rs names (place.Script t) q ask r goes asked is fit = script.goes_there own zone s rs names t q ask r goes asked is fit
+  goes_there own zone s rs names (place.Own t) q ask r goes asked is fit = goes_own own zone rs names t q r goes asked
 
-  pub plays_on : PlaysOn (Part T) (spec.asks asks) (spec.after after) spec.Plays
-  plays_on zone s rs names (part.Script t) q ask r at asked is fit = script.plays_on zone s rs names t q ask r at asked is fit
-  plays_on zone s rs names (part.Own t) q ask r at asked is fit = absurd at
+  pub plays_on : PlaysOn (PlaceTask T) (spec.asks asks) (spec.after after) spec.Plays
+  plays_on zone s rs names (place.Script t) q ask r at asked is fit = script.plays_on zone s rs names t q ask r at asked is fit
+  plays_on zone s rs names (place.Own t) q ask r at asked is fit = absurd at

@@ -6,24 +6,24 @@ use Rattle.net_base.specs.declared.world.Script.{Script}
 use Rattle.net_base.specs.Steps.{Names, no_names}
 use Rattle.net_base.specs.Tasks.{Asking, asking_of, names_told, told_all}
 use Rattle.net_base.specs.Versions.{Tuples}
-use Rattle.whole_script.specs.declared.part.Part.{Part}
-use Rattle.whole_script.specs.declared.part.Part.TheVariants as part
+use Rattle.whole_script.specs.declared.place.PlaceTask.{PlaceTask}
+use Rattle.whole_script.specs.declared.place.PlaceTask.TheVariants as place
 use Rattle.whole_script.specs.ScriptTasks as script
 
 -- a script is played by its steps
-abbrev pub Plays : {T : Type 0} → Tuples → Script → List Reply → Names → Part T → Type 0
-Plays zone s rs names (part.Script t) = script.Plays zone s rs names t
-Plays zone s rs names (part.Own t) = ⊥
+abbrev pub Plays : {T : Type 0} → Tuples → Script → List Reply → Names → PlaceTask T → Type 0
+Plays zone s rs names (place.Script t) = script.Plays zone s rs names t
+Plays zone s rs names (place.Own t) = ⊥
 
 module _ {T : Type 0} (asks_of : T → Names → Option Request) where
-  abbrev pub asks : Part T → Names → Option Request
-  asks (part.Script t) names = script.asks t names
-  asks (part.Own t) names = asks_of t names
+  abbrev pub asks : PlaceTask T → Names → Option Request
+  asks (place.Script t) names = script.asks t names
+  asks (place.Own t) names = asks_of t names
 
 module _ {T : Type 0} (after_of : T → Reply → T) where
-  abbrev pub after : Part T → Reply → Part T
-  after (part.Script t) r = part.Script (script.after t r)
-  after (part.Own t) r = part.Own (after_of t r)
+  abbrev pub after : PlaceTask T → Reply → PlaceTask T
+  after (place.Script t) r = place.Script (script.after t r)
+  after (place.Own t) r = place.Own (after_of t r)
 
 module _ {T : Type 0} (asks_of : T → Names → Option Request) (after_of : T → Reply → T) where
   -- the task that is played there began so, was told these replies, and so these names were bound
@@ -33,6 +33,6 @@ module _ {T : Type 0} (asks_of : T → Names → Option Request) (after_of : T �
     pub task_is : t ≡ told_all after_of begun rs
     pub names_are : names ≡ names_told (asking_of after_of asks_of begun) (no_names zone) rs
 
-  abbrev pub Goes : Option Asking → Tuples → Script → List Reply → Names → Part T → Type 0
-  Goes own zone s rs names (part.Script t) = script.Goes own zone s rs names t
-  Goes own zone s rs names (part.Own t) = GoesOwn own zone rs names t
+  abbrev pub Goes : Option Asking → Tuples → Script → List Reply → Names → PlaceTask T → Type 0
+  Goes own zone s rs names (place.Script t) = script.Goes own zone s rs names t
+  Goes own zone s rs names (place.Own t) = GoesOwn own zone rs names t

@@ -1,4 +1,4 @@
-//! The parts that callers play.
+//! What is played in the places of scripts, of both kinds.
 ghost use Rattle.std.specs.Prelude.{◌≡◌, None};
 ghost use Rattle.net_base.specs.declared.world.Script.{Script as AnyScript};
 
@@ -11,14 +11,14 @@ use std::alloc::{AllocError, Global};
 
 /// What is played in the place of a script: the script itself, or a task of one's own.
 #[derive(Drop)]
-pub enum Part<'a, T> {
+pub enum PlaceTask<'a, T> {
     Script(ScriptTask<'a>),
     Own(T),
 }
 
-impl<T: OwnTask> WholeTask for Part<'_, T> {
-    ghost use Rattle.whole_script.specs.PartLaws as laws;
-    ghost use Rattle.whole_script.specs.Parts as spec;
+impl<T: OwnTask> WholeTask for PlaceTask<'_, T> {
+    ghost use Rattle.whole_script.specs.PlaceLaws as laws;
+    ghost use Rattle.whole_script.specs.Places as spec;
 
     ghost asks = { spec.asks T.asks };
 
@@ -36,22 +36,22 @@ impl<T: OwnTask> WholeTask for Part<'_, T> {
 
     fn next(&self, alloc: Global, fids: &Names) -> Result<Option<Request>, AllocError> {
         match self {
-            Part::Script(task) => WholeTask::next(task, alloc, fids),
-            Part::Own(task) => task.next(alloc, fids),
+            PlaceTask::Script(task) => WholeTask::next(task, alloc, fids),
+            PlaceTask::Own(task) => task.next(alloc, fids),
         }
     }
 
     fn told(&mut self, alloc: Global, reply: Reply) -> Result<(), AllocError> {
         match self {
-            Part::Script(task) => WholeTask::told(task, alloc, reply),
-            Part::Own(task) => task.told(alloc, reply),
+            PlaceTask::Script(task) => WholeTask::told(task, alloc, reply),
+            PlaceTask::Own(task) => task.told(alloc, reply),
         }
     }
 
     fn finished(&self) -> usize {
         match self {
-            Part::Script(task) => ScriptTask::finished(task),
-            Part::Own(_) => 0,
+            PlaceTask::Script(task) => ScriptTask::finished(task),
+            PlaceTask::Own(_) => 0,
         }
     }
 }
