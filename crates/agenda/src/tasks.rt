@@ -162,6 +162,7 @@ fn ended_of<'a, J: Naming + Placing, T: OwnTask + Drop>(
     ensures plays { IfOk result (λ back. ArePlayed J.tasks J.world back.0.items) }
     ensures same { IfOk result (λ back. back.0.items ≡ visits (all_members players.groups)) }
     ensures tasks { IfOk result (λ back. AreBack T.asks T.after J.tasks J.world back.0.items back.1.items) }
+{
     let mut tasks = Vec::with_capacity(alloc, places)?;
     for _ in 0..places {
         tasks.push(None)?;
