@@ -56,9 +56,7 @@ pub fn run_tasks<R: Threads + Wait + Sync, G: Gate + Sync, T: OwnTask + Drop + S
 {
     tasks_keep_prefixes();
     let opened = NetOpened::new(alloc, world)?;
-    Ok(run_named::<Brand, R, G, T>(
-        rt, alloc, world, tasks, workers, gate, opened,
-    )?)
+    Ok(run_named::<Brand, R, G, T>(rt, alloc, world, tasks, workers, gate, opened)?)
 }
 
 // The run, which has a name.

@@ -59,7 +59,11 @@ impl EchoClient {
     // The stage behind a message that came back.
     fn next_message(&mut self) -> Stage {
         self.echoed = self.echoed.saturating_add(1);
-        if self.is_well() { Stage::Close } else { Stage::Write }
+        if self.is_well() {
+            Stage::Close
+        } else {
+            Stage::Write
+        }
     }
 }
 
@@ -87,7 +91,11 @@ impl OwnTask for EchoClient {
             Stage::Wait => Stage::Dial,
             Stage::Dial => {
                 self.dial.told(alloc, reply)?;
-                if self.dial.is_through() { Stage::Write } else { Stage::Dial }
+                if self.dial.is_through() {
+                    Stage::Write
+                } else {
+                    Stage::Dial
+                }
             }
             Stage::Write if matches!(reply, Reply::Count { .. }) => Stage::Read,
             Stage::Read if self.is_echo(&reply) => self.next_message(),

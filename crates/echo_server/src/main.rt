@@ -1,5 +1,6 @@
 //! An echo server and its clients over a network that loses packets, on one worker and on four.
 #![tactic(auto)]
+
 ghost use Rattle.std.specs.Prelude.{◌<◌, ◌≤◌, IfSome};
 ghost use Rattle.net_base.specs.World.{IsWorld};
 
@@ -24,6 +25,7 @@ const LONGEST: usize = 65_536;
 
 /// Where the server is found, and where it announces.
 const SERVICE: &[u8] = b"net!helix!echo";
+
 const ANNOUNCED: &[u8] = b"net!*!echo";
 
 /// What each client sends.
@@ -40,7 +42,10 @@ fn main(rt: HostRuntime) -> ExitCode {
         let Some(well) = well_by(&rt, alloc, &world, workers) else {
             return ExitCode::FAILURE;
         };
-        if println!(rt; "{workers} workers: {well} of {clients} clients read what they wrote").is_err() {
+        if println!(rt;
+            "{workers} workers: {well} of {clients} clients read what they wrote"
+        ).is_err()
+        {
             return ExitCode::FAILURE;
         }
     }

@@ -72,7 +72,11 @@ fn behind(alloc: Global, stage: &mut Stage, reply: Reply) -> Result<Option<Stage
         Stage::Announce(task) => {
             let listen = Listen::new(alloc, b"c", b"a")?;
             task.told(alloc, reply)?;
-            Ok(if task.is_through() { Some(Stage::Listen(listen)) } else { None })
+            Ok(if task.is_through() {
+                Some(Stage::Listen(listen))
+            } else {
+                None
+            })
         }
         Stage::Listen(_) => Ok(Some(Stage::Accept(Accept::new(alloc, b"d", b"c")?))),
         Stage::Accept(_) => Ok(Some(Stage::Read)),

@@ -37,7 +37,7 @@ left_is h (s ∷ ss) k rs = by_stand (stands (step_play h k s) rs) (λ after lat
   where
     by_stand : (t : Stand)
         → ((after : Names) (later : List Reply)
-          → nat_lt 0 (length (position h ss (kept_after k s after (heard (step_play h k s) rs)) later).left) ≡ is_some (position h ss (kept_after k s after (heard (step_play h k s) rs)) later).next)
+        → nat_lt 0 (length (position h ss (kept_after k s after (heard (step_play h k s) rs)) later).left) ≡ is_some (position h ss (kept_after k s after (heard (step_play h k s) rs)) later).next)
         → nat_lt 0 (length (position_by t (s ∷ ss) (λ (after : Names) (later : List Reply). position h ss (kept_after k s after (heard (step_play h k s) rs)) later)).left)
         ≡ is_some (position_by t (s ∷ ss) (λ (after : Names) (later : List Reply). position h ss (kept_after k s after (heard (step_play h k s) rs)) later)).next
     by_stand (Asking ask) rest = some_left (length ss)

@@ -248,8 +248,8 @@ goes_on : (zone : Tuples) (s : Script) (rs : List Reply) (p : Playing) (t : Step
     → (through : Bool) → is_none (asks (after t r) b.names) ≡ through → (l : Left) → l ≡ (if through then leaves (after t r) p.left else p.left)
     → AtIts zone s (rs ++ r ∷ [])
     (if through && nat_lt p.finished (length s.steps)
-     then record p { holdings = b; effect = None; left = l; finished = p.finished + 1; task = None }
-     else record p { holdings = b; task = Some (after t r); effect = None; left = l })
+    then record p { holdings = b; effect = None; left = l; finished = p.finished + 1; task = None }
+    else record p { holdings = b; task = Some (after t r); effect = None; left = l })
 goes_on zone s rs p t step r b moves false is l same =
     subst (λ (x : Left). InStep zone s (rs ++ r ∷ []) (record p { holdings = b; task = Some (after t r); effect = None; left = x }) (after t r)) (sym same)
     (record {
@@ -287,8 +287,8 @@ goes_on zone s rs p t step r b moves true is l same =
     chosen : (c : Bool) → c ≡ true → Between zone s (rs ++ r ∷ []) (record p { holdings = b; effect = None; left = l; finished = p.finished + 1; task = None })
         → AtIts zone s (rs ++ r ∷ [])
         (if c
-         then record p { holdings = b; effect = None; left = l; finished = p.finished + 1; task = None }
-         else record p { holdings = b; task = Some (after t r); effect = None; left = l })
+        then record p { holdings = b; effect = None; left = l; finished = p.finished + 1; task = None }
+        else record p { holdings = b; task = Some (after t r); effect = None; left = l })
     chosen true is next = next
     chosen false is next = absurd (false≢true is)
 

@@ -163,8 +163,7 @@ fn first_asked(
 }
 
 // Takes a reply, and tells whether the step is through then. One that is through at once gets no task.
-#[tactic(auto, using(crate::proofs::Played::begun_again, crate::proofs::Played::begun_told, crate::proofs::Played::tells_told,
-    crate::proofs::Played::left_told))]
+#[tactic(auto, using(crate::proofs::Played::begun_again, crate::proofs::Played::begun_told, crate::proofs::Played::tells_told, crate::proofs::Played::left_told))]
 fn take_reply(
     alloc: Global,
     steps: &[Step],

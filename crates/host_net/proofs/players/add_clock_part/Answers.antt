@@ -14,12 +14,12 @@ returns-in-None-clause-same g c =
 pub returns-in_ok-push-in-Some-clause-plays : goal.returns-in_ok-push-in-Some-clause-plays
 returns-in_ok-push-in-Some-clause-plays g c = λ are.
     plays_part g.J.Placing.tasks g.J.Placing.world c.args.parts.now.items c.push.new.self.items c.in_ok-into_part.part
-        c.in_ok-push-in-Some.ensures.items are c.in_ok-into_part.ensures.plays
+    c.in_ok-push-in-Some.ensures.items are c.in_ok-into_part.ensures.plays
 
 pub returns-in_ok-push-in-Some-clause-goes : goal.returns-in_ok-push-in-Some-clause-goes
 returns-in_ok-push-in-Some-clause-goes g c = λ are.
     goes_part g.T.WholeTask.Goes g.J.Placing.tasks g.J.Placing.world c.args.parts.now.items c.push.new.self.items c.in_ok-into_part.part
-        c.in_ok-push-in-Some.ensures.items are c.in_ok-into_part.ensures.goes
+    c.in_ok-push-in-Some.ensures.items are c.in_ok-into_part.ensures.goes
 
 pub returns-in_ok-push-in-Some-clause-same : goal.returns-in_ok-push-in-Some-clause-same
 returns-in_ok-push-in-Some-clause-same g c =

@@ -9,7 +9,7 @@ invariant-loop-player g l =
     (guests_of l.parts.items ++ visits (reverse l.players.items) ≡ guests_of l.fn.parts.items ++ visits l.fn.players.items)
     × (ArePlayed g.J.Placing.tasks g.J.Placing.world (guests_of l.fn.parts.items) → ArePlayed g.J.Placing.tasks g.J.Placing.world (guests_of l.parts.items))
     × (AreGoing g.T.WholeTask.Goes g.J.Placing.tasks g.J.Placing.world l.fn.parts.items
-        → AreGoing g.T.WholeTask.Goes g.J.Placing.tasks g.J.Placing.world l.parts.items)
+    → AreGoing g.T.WholeTask.Goes g.J.Placing.tasks g.J.Placing.world l.parts.items)
 
 abbrev pub decreases-loop-player : goal.decreases-loop-player
 decreases-loop-player g l = length l.players.items
