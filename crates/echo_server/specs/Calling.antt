@@ -16,14 +16,13 @@ use Rattle.echo_server.specs.Serving.{closes, reads, writes}
 abbrev pub message : EchoClient → Option (List ℕ)
 message c = slice_get c.messages c.echoed
 
--- where nobody answered nothing more is asked
+-- where nobody answered, or all is closed, nothing more is asked
 abbrev pub asks_at : Stage → EchoClient → Names → Option Request
 asks_at stage.Wait c names = Some (request.Until 10)
 asks_at stage.Dial c names = dial.asks c.dial names
 asks_at stage.Write c names = if is_bound names (codes "d") then option_map writes (message c) else None
 asks_at stage.Read c names = Some reads
-asks_at stage.Close c names = Some (closes (codes "d"))
-asks_at stage.Over c names = None
+asks_at stage.Close c names = if is_bound names (codes "d") then Some (closes (codes "d")) else None
 
 abbrev pub asks : EchoClient → Names → Option Request
 asks c names = asks_at c.stage c names
@@ -57,8 +56,7 @@ after_at stage.Dial c r =
     let d = dial.after c.dial r in record c { dial = d; stage = if is_none (dial.asks d (no_names [])) then stage.Write else stage.Dial }
 after_at stage.Write c r = at_stage c (if is_counted r then stage.Read else stage.Close)
 after_at stage.Read c r = if is_echo c r then echoed (record c { echoed = c.echoed + 1 }) else at_stage c stage.Close
-after_at stage.Close c r = at_stage c stage.Over
-after_at stage.Over c r = at_stage c stage.Over
+after_at stage.Close c r = at_stage c stage.Close
 
 abbrev pub after : EchoClient → Reply → EchoClient
 after c r = after_at c.stage c r

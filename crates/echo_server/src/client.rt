@@ -18,7 +18,6 @@ pub enum Stage {
     Write,
     Read,
     Close,
-    Over,
 }
 
 /// A client with messages to send, one after the other.
@@ -80,7 +79,7 @@ impl OwnTask for EchoClient {
             (Stage::Dial, _) => self.dial.next(alloc, names),
             (Stage::Write, Some(text)) if names.is_bound(b"d") => write(alloc, text),
             (Stage::Read, _) => read(alloc),
-            (Stage::Close, _) => close(alloc, b"d"),
+            (Stage::Close, _) if names.is_bound(b"d") => close(alloc, b"d"),
             // nobody answered, or all is done
             _ => Ok(None),
         }
@@ -99,8 +98,7 @@ impl OwnTask for EchoClient {
             }
             Stage::Write if matches!(reply, Reply::Count { .. }) => Stage::Read,
             Stage::Read if self.is_echo(&reply) => self.next_message(),
-            Stage::Write | Stage::Read => Stage::Close,
-            Stage::Close | Stage::Over => Stage::Over,
+            Stage::Write | Stage::Read | Stage::Close => Stage::Close,
         };
         Ok(())
     }

@@ -5,14 +5,12 @@ ghost use Rattle.std.specs.Prelude.{◌<◌, ◌≤◌, IfSome};
 ghost use Rattle.net_base.specs.World.{IsWorld};
 
 mod client;
-mod part;
 mod server;
 
-use agenda::run_tasks;
+use agenda::{EitherTask, run_tasks};
 use client::EchoClient;
 use net_base::{Lines, Octets, World};
 use outside::{OpenGate, Source, StdSource, read_to_end};
-use part::EchoTask;
 use server::EchoServer;
 use std::alloc::{AllocError, Global};
 use std::process::ExitCode;
@@ -31,21 +29,23 @@ const ANNOUNCED: &[u8] = b"net!*!echo";
 /// What each client sends.
 const MESSAGES: [&[u8]; 3] = [b"hello", b"a second message", b"and good bye"];
 
+/// A server or a client.
+type EchoTask = EitherTask<EchoServer, EchoClient>;
+
 /// Reads a world from standard input. The first of its scripts says where the server is, the others where clients are.
 fn main(rt: HostRuntime) -> ExitCode {
-    let alloc = rt.alloc();
-    let Some(world) = world_of(alloc, &mut StdSource::new(rt.stdin())) else {
+    let Some(world) = world_of(rt.alloc(), &mut StdSource::new(rt.stdin())) else {
         return ExitCode::FAILURE;
     };
     let clients = world.scripts.len().saturating_sub(1);
     for workers in [1, 4] {
-        let Some(well) = well_by(&rt, alloc, &world, workers) else {
+        let Some(well) = well(&rt, rt.alloc(), &world, workers) else {
             return ExitCode::FAILURE;
         };
-        if println!(rt;
+        let told = println!(rt;
             "{workers} workers: {well} of {clients} clients read what they wrote"
-        ).is_err()
-        {
+        );
+        if told.is_err() {
             return ExitCode::FAILURE;
         }
     }
@@ -61,7 +61,7 @@ fn world_of<S: Source>(alloc: Global, source: &mut S) -> Option<World>
 }
 
 // How many clients read what they wrote in a run on so many workers.
-fn well_by<R: Threads + Wait + Sync>(
+fn well<R: Threads + Wait + Sync>(
     rt: &R,
     alloc: Global,
     world: &World,
@@ -80,10 +80,10 @@ fn well_by<R: Threads + Wait + Sync>(
 fn tasks_of(alloc: Global, places: usize) -> Result<Vec<Option<EchoTask>>, AllocError> {
     let mut tasks = Vec::with_capacity(alloc, places)?;
     let server = EchoServer::new(alloc, ANNOUNCED)?;
-    tasks.push(Some(EchoTask::Server(server)))?;
+    tasks.push(Some(EitherTask::One(server)))?;
     for _ in 1..places {
         let client = EchoClient::new(alloc, SERVICE, messages(alloc)?)?;
-        tasks.push(Some(EchoTask::Client(client)))?;
+        tasks.push(Some(EitherTask::Other(client)))?;
     }
     Ok(tasks)
 }
@@ -100,7 +100,7 @@ fn messages(alloc: Global) -> Result<Lines, AllocError> {
 fn well_among(tasks: &[Option<EchoTask>]) -> usize {
     let mut well: usize = 0;
     for task in tasks {
-        if let Some(EchoTask::Client(client)) = task {
+        if let Some(EitherTask::Other(client)) = task {
             well = well.saturating_add(usize::from(client.is_well()));
         }
     }

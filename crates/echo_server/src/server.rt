@@ -58,8 +58,7 @@ impl OwnTask for EchoServer {
     }
 
     fn told(&mut self, alloc: Global, reply: Reply) -> Result<(), AllocError> {
-        let then = behind(alloc, &mut self.stage, reply)?;
-        if let Some(stage) = then {
+        if let Some(stage) = behind(alloc, &mut self.stage, reply)? {
             self.stage = stage;
         }
         Ok(())
@@ -72,11 +71,7 @@ fn behind(alloc: Global, stage: &mut Stage, reply: Reply) -> Result<Option<Stage
         Stage::Announce(task) => {
             let listen = Listen::new(alloc, b"c", b"a")?;
             task.told(alloc, reply)?;
-            Ok(if task.is_through() {
-                Some(Stage::Listen(listen))
-            } else {
-                None
-            })
+            Ok(task.is_through().then_some(Stage::Listen(listen)))
         }
         Stage::Listen(_) => Ok(Some(Stage::Accept(Accept::new(alloc, b"d", b"c")?))),
         Stage::Accept(_) => Ok(Some(Stage::Read)),

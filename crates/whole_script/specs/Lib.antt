@@ -1,6 +1,7 @@
 pub mod ScriptTasks
 pub mod ScriptLaws
 pub mod Wholes
+pub mod Eithers
 pub mod Places
 pub mod PlaceLaws
 pub use Rattle.net_base.specs.Next
