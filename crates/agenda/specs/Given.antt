@@ -1,5 +1,5 @@
 -- The tasks that a run is given, by the places of scripts, and how they come back.
-use Rattle.std.specs.Prelude.{◌≡◌, ℕ, List, Option, Some, None, option_map, slice_get}
+use Rattle.std.specs.Prelude.{◌≡◌, ℕ, List, [], Option, Some, None, option_map, slice_get}
 use Rattle.std.specs.Option.{option_and_then}
 use Rattle.net_base.specs.declared.history.Entry.{Entry}
 use Rattle.net_base.specs.declared.reply.Reply.{Reply}
@@ -31,29 +31,36 @@ module _ {T : Type 0} (asks : T → Names → Option Request) (after : T → Rep
   abbrev pub tasks_of : List (Option T) → Tasks
   tasks_of given c = option_map (asking_of after asks) (task_at given c)
 
-  -- what comes back from a place is a task that asks on as the given one would that was told these replies
-  pub record WasTold (t : T) (rs : List Reply) (there : Option T) : Type 0 where
-    pub back : T
-    pub back_is : there ≡ Some back
-    pub told : asking_of after asks back ≡ asking_of after asks (told_all after t rs)
+  module _ (Keeps : T → List Reply → Type 0) where
+    -- what is claimed of each task holds as it is given
+    abbrev pub AreBegun : List (Option T) → Type 0
+    AreBegun given = (c : ℕ) (t : T) → task_at given c ≡ Some t → Keeps t []
 
-  -- each task of a script's place was told the replies to what it asked, in order, and nothing else
-  abbrev pub WereTold : World → List (Option T) → List Entry → List (Option T) → Type 0
-  WereTold w given h back =
-      (c : ℕ) (s : Script) (t : T) → slice_get w.scripts c ≡ Some s → task_at given c ≡ Some t → WasTold t (own_replies h c) (task_at back c)
+    -- what comes back from a place is a task that keeps what is claimed of it after these replies, and asks on as the given one would
+    -- that was told them
+    pub record WasTold (t : T) (rs : List Reply) (there : Option T) : Type 0 where
+      pub back : T
+      pub back_is : there ≡ Some back
+      pub keeps : Keeps back rs
+      pub asks_on : asking_of after asks back ≡ asking_of after asks (told_all after t rs)
 
-  -- The end.
+    -- each task of a script's place was told the replies to what it asked, in order, and nothing else
+    abbrev pub WereTold : World → List (Option T) → List Entry → List (Option T) → Type 0
+    WereTold w given h back =
+        (c : ℕ) (s : Script) (t : T) → slice_get w.scripts c ≡ Some s → task_at given c ≡ Some t → WasTold t (own_replies h c) (task_at back c)
 
-  -- the task of a place, which one of these played
-  pub record IsBack (ts : Tasks) (w : World) (vs : List Visit) (c : ℕ) (there : Option T) : Type 0 where
-    pub visit : Visit
-    pub played : In visit vs
-    pub caller : visit.caller ≡ c
-    pub task : T
-    pub back_is : there ≡ Some task
-    pub goes : GoesOwn asks after (ts c) (zone_of w) (replies_of visit) visit.names task
+    -- The end.
 
-  -- and so for the place of each of these that played one
-  abbrev pub AreBack : Tasks → World → List Visit → List (Option T) → Type 0
-  AreBack ts w vs back =
-      (c : ℕ) (s : Script) (asking : Asking) → caller_of w c ≡ IsScript s → ts c ≡ Some asking → HasGuest c vs → IsBack ts w vs c (task_at back c)
+    -- the task of a place, which one of these played
+    pub record IsBack (ts : Tasks) (w : World) (vs : List Visit) (c : ℕ) (there : Option T) : Type 0 where
+      pub visit : Visit
+      pub played : In visit vs
+      pub caller : visit.caller ≡ c
+      pub task : T
+      pub back_is : there ≡ Some task
+      pub goes : GoesOwn asks after Keeps (ts c) (zone_of w) (replies_of visit) visit.names task
+
+    -- and so for the place of each of these that played one
+    abbrev pub AreBack : Tasks → World → List Visit → List (Option T) → Type 0
+    AreBack ts w vs back =
+        (c : ℕ) (s : Script) (asking : Asking) → caller_of w c ≡ IsScript s → ts c ≡ Some asking → HasGuest c vs → IsBack ts w vs c (task_at back c)

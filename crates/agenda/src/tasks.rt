@@ -8,7 +8,7 @@ ghost use Rattle.net_base.specs.Next.{zone_of};
 ghost use Rattle.net_base.specs.Steps.{no_names};
 ghost use Rattle.net_base.specs.Tasks.{asking_of};
 ghost use Rattle.net_base.specs.World.{IsWorld};
-ghost use Rattle.agenda.specs.Given.{AreBack, WereTold, own_task, task_at, tasks_of};
+ghost use Rattle.agenda.specs.Given.{AreBack, AreBegun, WereTold, own_task, task_at, tasks_of};
 ghost use Rattle.host_net.specs.Groups.{all_members, visits};
 ghost use Rattle.host_net.specs.Playing.{ArePlayed};
 ghost use Rattle.net_guests.specs.Visits.{AreFresh, HasGuest};
@@ -48,10 +48,11 @@ pub fn run_tasks<R: Threads + Wait + Sync, G: Gate + Sync, T: OwnTask + Drop + S
     requires world { IsWorld world.now }
     requires some { 0 < workers }
     requires few { workers ≤ 16 }
+    requires begun { AreBegun T.asks T.after T.Keeps tasks.items }
     ensures legal { IfOk result (λ run. IsLegalBy (tasks_of T.asks T.after tasks.items) world.now run.history) }
     ensures timed { IfOk result (λ run. IsTimedBy (tasks_of T.asks T.after tasks.items) world.now run.history) }
     ensures end { IfOk result (λ run. EndsBy (tasks_of T.asks T.after tasks.items) world.now (after world.now run.history) run.end) }
-    ensures told { IfOk result (λ run. WereTold T.asks T.after world.now tasks.items run.history run.tasks.items) }
+    ensures told { IfOk result (λ run. WereTold T.asks T.after T.Keeps world.now tasks.items run.history run.tasks.items) }
     ensures prefixes { IfOk result (λ run. KeepsPrefixes world.now run.history) }
 {
     tasks_keep_prefixes();
@@ -74,13 +75,14 @@ where
     requires name { opened ≡ J.run }
     requires world { J.world ≡ world.now }
     requires given { (c : ℕ) → J.tasks c ≡ tasks_of T.asks T.after tasks.items c }
+    requires begun { AreBegun T.asks T.after T.Keeps tasks.items }
     requires is { IsWorld world.now }
     requires roster { IsRosterOf J.world J.run.roster }
     requires some { 0 < workers }
     ensures legal { IfOk result (λ run. IsLegalBy J.tasks J.world run.history) }
     ensures timed { IfOk result (λ run. IsTimedBy J.tasks J.world run.history) }
     ensures end { IfOk result (λ run. EndsBy J.tasks J.world (after J.world run.history) run.end) }
-    ensures told { IfOk result (λ run. WereTold T.asks T.after J.world tasks.items run.history run.tasks.items) }
+    ensures told { IfOk result (λ run. WereTold T.asks T.after T.Keeps J.world tasks.items run.history run.tasks.items) }
 {
     let (net, guests) = Net::<J, WorldActor<J>>::named(alloc, world, opened)?;
     let deal = deal_of(rt, alloc, world, workers)?;
@@ -105,6 +107,7 @@ fn players_of<'a, J: Naming + Placing, T: OwnTask + Drop>(
 ) -> Result<Players<J, PlaceTask<'a, T>>, AllocError>
     requires world { J.world ≡ world.now }
     requires given { (c : ℕ) → J.tasks c ≡ tasks_of T.asks T.after tasks.items c }
+    requires begun { AreBegun T.asks T.after T.Keeps tasks.items }
     requires is { IsWorld world.now }
     requires roster { IsRosterOf J.world J.run.roster }
     requires some { 0 < deal.groups }
@@ -140,8 +143,9 @@ fn place_task<'a, T: OwnTask>(
     caller: u32,
     own: Option<T>,
 ) -> PlaceTask<'a, T>
+    requires begun { IfSome own (λ t. T.Keeps t []) }
     ensures { (s : AnyScript) → caller_of world.now caller ≡ IsScript s
-        → places.Goes T.asks T.after (option_map (asking_of T.after T.asks) own) (zone_of world.now) s [] (no_names (zone_of world.now)) result }
+        → places.Goes T.asks T.after T.Keeps (option_map (asking_of T.after T.asks) own) (zone_of world.now) s [] (no_names (zone_of world.now)) result }
 {
     match own {
         Some(task) => PlaceTask::Own(task),
@@ -159,7 +163,7 @@ fn ended_of<'a, J: Naming + Placing, T: OwnTask + Drop>(
     ensures all { IfOk result (λ back. (c : ℕ) → c < players.callers → HasGuest c back.0.items) }
     ensures plays { IfOk result (λ back. ArePlayed J.tasks J.world back.0.items) }
     ensures same { IfOk result (λ back. back.0.items ≡ visits (all_members players.groups)) }
-    ensures tasks { IfOk result (λ back. AreBack T.asks T.after J.tasks J.world back.0.items back.1.items) }
+    ensures tasks { IfOk result (λ back. AreBack T.asks T.after T.Keeps J.tasks J.world back.0.items back.1.items) }
 {
     let mut tasks = Vec::with_capacity(alloc, places)?;
     for _ in 0..places {

@@ -68,10 +68,15 @@ impl EchoClient {
 
 impl OwnTask for EchoClient {
     ghost use Rattle.echo_server.specs.Calling as spec;
+    ghost use Rattle.echo_server.specs.Echoes as echoes;
 
     ghost asks = { spec.asks };
 
     ghost after = { spec.after };
+
+    ghost Keeps = { echoes.Keeps };
+
+    ghost keeps_on = { echoes.keeps_on };
 
     fn next(&self, alloc: Global, names: &Names) -> Result<Option<Request>, AllocError> {
         match (self.stage, self.message()) {

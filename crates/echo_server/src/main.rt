@@ -42,10 +42,7 @@ fn main(rt: HostRuntime) -> ExitCode {
         let Some(well) = well(&rt, rt.alloc(), &world, workers) else {
             return ExitCode::FAILURE;
         };
-        let told = println!(rt;
-            "{workers} workers: {well} of {clients} clients read what they wrote"
-        );
-        if told.is_err() {
+        if println!(rt; "{workers} workers: {well} of {clients} read what they wrote").is_err() {
             return ExitCode::FAILURE;
         }
     }
@@ -79,8 +76,7 @@ fn well<R: Threads + Wait + Sync>(
 // A server, and clients in the other places.
 fn tasks_of(alloc: Global, places: usize) -> Result<Vec<Option<EchoTask>>, AllocError> {
     let mut tasks = Vec::with_capacity(alloc, places)?;
-    let server = EchoServer::new(alloc, ANNOUNCED)?;
-    tasks.push(Some(EitherTask::One(server)))?;
+    tasks.push(Some(EitherTask::One(EchoServer::new(alloc, ANNOUNCED)?)))?;
     for _ in 1..places {
         let client = EchoClient::new(alloc, SERVICE, messages(alloc)?)?;
         tasks.push(Some(EitherTask::Other(client)))?;

@@ -30,9 +30,8 @@ pub struct EchoServer {
 impl EchoServer {
     /// Announces this address.
     pub fn new(alloc: Global, address: &[u8]) -> Result<EchoServer, AllocError> {
-        Ok(EchoServer {
-            stage: Stage::Announce(Announce::new(alloc, b"a", address)?),
-        })
+        let stage = Stage::Announce(Announce::new(alloc, b"a", address)?);
+        Ok(EchoServer { stage })
     }
 }
 
@@ -42,6 +41,10 @@ impl OwnTask for EchoServer {
     ghost asks = { spec.asks };
 
     ghost after = { spec.after };
+
+    ghost Keeps = { λ t rs. Unit {0} };
+
+    ghost keeps_on = { λ t rs r is. tt };
 
     fn next(&self, alloc: Global, names: &Names) -> Result<Option<Request>, AllocError> {
         match &self.stage {

@@ -26,9 +26,10 @@ told_push : {T : Type 0} (after : T → Reply → T) (t : T) (rs : List Reply) (
 told_push after t [] r = refl
 told_push after t (x ∷ rs) r = told_push after (after t x) rs r
 
-module _ {T : Type 0} (asks : T → Names → Option Request) (after : T → Reply → T) where
+module _ {T : Type 0} (asks : T → Names → Option Request) (after : T → Reply → T) (Keeps : T → List Reply → Type 0)
+    (keeps_on : (t : T) (rs : List Reply) (r : Reply) → Keeps t rs → Keeps (after t r) (rs ++ r ∷ [])) where
   asks_own : (own : Option Asking) (zone : Tuples) (s : Script) (rs : List Reply) (names : Names) (t : T)
-      → spec.GoesOwn asks after own zone rs names t → Comes s.host names (asks t names) (place_next own zone s rs)
+      → spec.GoesOwn asks after Keeps own zone rs names t → Comes s.host names (asks t names) (place_next own zone s rs)
   asks_own own zone s rs names t goes =
       subst (λ (o : Option Asking). Comes s.host names (asks t names) (place_next o zone s rs)) (sym goes.own_is)
       (by_request (asks t names)
@@ -44,13 +45,13 @@ module _ {T : Type 0} (asks : T → Names → Option Request) (after : T → Rep
           ap (option_and_then (planned s.host (names_told own_is (no_names zone) rs))) is
           ∙ ap (λ (ns : Names). planned s.host ns q) (sym goes.names_are)
 
-  pub asks_there : AsksThere (PlaceTask T) (spec.asks asks) (spec.Goes asks after)
+  pub asks_there : AsksThere (PlaceTask T) (spec.asks asks) (spec.Goes asks after Keeps)
   asks_there own zone s rs names (place.Script t) goes = script.asks_there own zone s rs names t goes
   asks_there own zone s rs names (place.Own t) goes = asks_own own zone s rs names t goes
 
   goes_own : (own : Option Asking) (zone : Tuples) (rs : List Reply) (names : Names) (t : T) (q : Request) (r : Reply)
-      → spec.GoesOwn asks after own zone rs names t → asks t names ≡ Some q
-      → spec.GoesOwn asks after own zone (rs ++ r ∷ []) (settled names q r) (after t r)
+      → spec.GoesOwn asks after Keeps own zone rs names t → asks t names ≡ Some q
+      → spec.GoesOwn asks after Keeps own zone (rs ++ r ∷ []) (settled names q r) (after t r)
   goes_own own zone rs names t q r goes asked =
       let a : Asking = asking_of after asks goes.begun in
       let last : Names = names_told a (no_names zone) rs in
@@ -60,12 +61,13 @@ module _ {T : Type 0} (asks : T → Names → Option Request) (after : T → Rep
         begun = goes.begun;
         own_is = goes.own_is;
         task_is = ap (λ (u : T). after u r) goes.task_is ∙ sym (told_push after goes.begun rs r);
+        keeps = keeps_on t rs r goes.keeps;
         names_are =
             ap (λ (ns : Names). settled ns q r) goes.names_are
             ∙ (ap (λ (o : Option Request). settles last o r) (sym asked_last) ∙ sym (names_push a (no_names zone) rs r));
       }
 
-  pub goes_there : GoesThere (PlaceTask T) (spec.asks asks) (spec.after after) (spec.Goes asks after)
+  pub goes_there : GoesThere (PlaceTask T) (spec.asks asks) (spec.after after) (spec.Goes asks after Keeps)
   goes_there own zone s rs names (place.Script t) q ask r goes asked is fit = script.goes_there own zone s rs names t q ask r goes asked is fit
   goes_there own zone s rs names (place.Own t) q ask r goes asked is fit = goes_own own zone rs names t q r goes asked
 

@@ -25,12 +25,13 @@ module _ {T : Type 0} (after_of : T → Reply → T) where
   after (place.Script t) r = place.Script (script.after t r)
   after (place.Own t) r = place.Own (after_of t r)
 
-module _ {T : Type 0} (asks_of : T → Names → Option Request) (after_of : T → Reply → T) where
-  -- the task that is played there began so, was told these replies, and so these names were bound
+module _ {T : Type 0} (asks_of : T → Names → Option Request) (after_of : T → Reply → T) (Keeps : T → List Reply → Type 0) where
+  -- the task that is played there began so, was told these replies, and keeps what is claimed of it; and so these names were bound
   pub record GoesOwn (own : Option Asking) (zone : Tuples) (rs : List Reply) (names : Names) (t : T) : Type 0 where
     pub begun : T
     pub own_is : own ≡ Some (asking_of after_of asks_of begun)
     pub task_is : t ≡ told_all after_of begun rs
+    pub keeps : Keeps t rs
     pub names_are : names ≡ names_told (asking_of after_of asks_of begun) (no_names zone) rs
 
   abbrev pub Goes : Option Asking → Tuples → Script → List Reply → Names → PlaceTask T → Type 0

@@ -19,6 +19,10 @@ impl<A: OwnTask, B: OwnTask> OwnTask for EitherTask<A, B> {
 
     ghost after = { spec.after A.after B.after };
 
+    ghost Keeps = { spec.Keeps A.Keeps B.Keeps };
+
+    ghost keeps_on = { spec.keeps_on A.Keeps B.Keeps A.after B.after A.keeps_on B.keeps_on };
+
     fn next(&self, alloc: Global, names: &Names) -> Result<Option<Request>, AllocError> {
         match self {
             EitherTask::One(task) => task.next(alloc, names),

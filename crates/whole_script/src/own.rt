@@ -1,5 +1,5 @@
 //! Tasks of one's own.
-ghost use Rattle.std.specs.Prelude.{◌≡◌, Option, IfOk, OnOk, OnErr};
+ghost use Rattle.std.specs.Prelude.{◌≡◌, ◌++◌, ◌∷◌, [], List, Option, IfOk, OnOk, OnErr};
 ghost use Rattle.net_base.specs.declared.reply.Reply.{Reply};
 ghost use Rattle.net_base.specs.declared.request.Request.{Request};
 ghost use Rattle.net_base.specs.Steps.{Names as AnyNames};
@@ -20,6 +20,9 @@ pub trait OwnTask {
     // what a reply makes of it
     ghost after: { Self → Reply → Self };
 
+    // what is claimed of it, once it was told these replies: `Unit {0}` where nothing is
+    ghost Keeps: { Self → List Reply → Type 0 };
+
     /// The next request under these names, or none where the task is through. It is asked again where the request isn't ready yet.
     ///
     /// The only error is that memory ran out.
@@ -30,4 +33,6 @@ pub trait OwnTask {
     fn told(&mut self, alloc: Global, reply: Reply) -> Result<(), AllocError>
         ensures ok { OnOk result (self.new ≡ after self.old reply) }
         ensures err { OnErr result (self.new ≡ self.old) };
+
+    ghost keeps_on: { (t : Self) (rs : List Reply) (r : Reply) → Keeps t rs → Keeps (after t r) (rs ++ r ∷ []) };
 }

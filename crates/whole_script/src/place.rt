@@ -24,15 +24,15 @@ impl<T: OwnTask> WholeTask for PlaceTask<'_, T> {
 
     ghost after = { spec.after T.after };
 
-    ghost Goes = { spec.Goes T.asks T.after };
+    ghost Goes = { spec.Goes T.asks T.after T.Keeps };
 
     ghost Plays = { spec.Plays };
 
-    ghost asks_there = { laws.asks_there T.asks T.after };
+    ghost asks_there = { laws.asks_there T.asks T.after T.Keeps T.keeps_on };
 
-    ghost goes_there = { laws.goes_there T.asks T.after };
+    ghost goes_there = { laws.goes_there T.asks T.after T.Keeps T.keeps_on };
 
-    ghost plays_on = { laws.plays_on T.asks T.after };
+    ghost plays_on = { laws.plays_on T.asks T.after T.Keeps T.keeps_on };
 
     fn next(&self, alloc: Global, fids: &Names) -> Result<Option<Request>, AllocError> {
         match self {
