@@ -6,7 +6,6 @@ use Rattle.net_base.specs.declared.reply.Reply.{Reply}
 use Rattle.net_base.specs.declared.request.Request.{Request}
 use Rattle.net_base.specs.declared.world.Script.{Script}
 use Rattle.net_base.specs.declared.world.World.{World}
-use Rattle.net_base.specs.Callers.{IsScript, caller_of}
 use Rattle.net_base.specs.Next.{own_replies, zone_of}
 use Rattle.net_base.specs.Stamped.{In}
 use Rattle.net_base.specs.Steps.{Names}
@@ -63,4 +62,4 @@ module _ {T : Type 0} (asks : T → Names → Option Request) (after : T → Rep
     -- and so for the place of each of these that played one
     abbrev pub AreBack : Tasks → World → List Visit → List (Option T) → Type 0
     AreBack ts w vs back =
-        (c : ℕ) (s : Script) (asking : Asking) → caller_of w c ≡ IsScript s → ts c ≡ Some asking → HasGuest c vs → IsBack ts w vs c (task_at back c)
+        (c : ℕ) (s : Script) (asking : Asking) → slice_get w.scripts c ≡ Some s → ts c ≡ Some asking → HasGuest c vs → IsBack ts w vs c (task_at back c)

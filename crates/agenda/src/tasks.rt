@@ -88,11 +88,11 @@ where
     let deal = deal_of(rt, alloc, world, workers)?;
     let mut players = players_of(alloc, world, tasks, guests, deal)?;
     let end = phases(rt, alloc, world, gate, &net, &mut players)?;
-    let (guests, tasks) = ended_of(alloc, world.scripts.len(), players)?;
-    let history = net.finish(alloc, guests)?;
+    let ended = ended_of(alloc, world.scripts.len(), players)?;
+    let history = net.finish(alloc, ended.guests)?;
     Ok(TaskRun {
         history,
-        tasks,
+        tasks: ended.tasks,
         end,
     })
 }
@@ -153,29 +153,44 @@ fn place_task<'a, T: OwnTask>(
     }
 }
 
-// The guests, and the task of each of so many places, as it is in the end.
+// The guests, and the task of each place, as it is in the end.
+struct Ended<J: Naming + Placing, T> {
+    guests: Vec<Guest<J>>,
+    tasks: Vec<Option<T>>,
+}
+
+// The players of so many places are taken apart.
 fn ended_of<'a, J: Naming + Placing, T: OwnTask + Drop>(
     alloc: Global,
     places: usize,
     players: Players<J, PlaceTask<'a, T>>,
-) -> Result<(Vec<Guest<J>>, Vec<Option<T>>), AllocError>
+) -> Result<Ended<J, T>, AllocError>
     requires places { places ≡ length J.world.scripts }
-    ensures all { IfOk result (λ back. (c : ℕ) → c < players.callers → HasGuest c back.0.items) }
-    ensures plays { IfOk result (λ back. ArePlayed J.tasks J.world back.0.items) }
-    ensures same { IfOk result (λ back. back.0.items ≡ visits (all_members players.groups)) }
-    ensures tasks { IfOk result (λ back. AreBack T.asks T.after T.Keeps J.tasks J.world back.0.items back.1.items) }
+    ensures all { IfOk result (λ back. (c : ℕ) → c < players.callers → HasGuest c back.guests.items) }
+    ensures plays { IfOk result (λ back. ArePlayed J.tasks J.world back.guests.items) }
+    ensures same { IfOk result (λ back. back.guests.items ≡ visits (all_members players.groups)) }
+    ensures tasks { IfOk result (λ back. AreBack T.asks T.after T.Keeps J.tasks J.world back.guests.items back.tasks.items) }
+{
+    let mut tasks = rows(alloc, places)?;
+    let parts = players.into_parts(alloc)?;
+    let mut guests = Vec::with_capacity(alloc, parts.len())?;
+    for part in parts {
+        let (guest, task) = part;
+        put_back(&mut tasks, guest.caller() as usize, task);
+        guests.push(guest)?;
+    }
+    Ok(Ended { guests, tasks })
+}
+
+// No task for each of so many places.
+fn rows<T: OwnTask + Drop>(alloc: Global, places: usize) -> Result<Vec<Option<T>>, AllocError>
+    ensures { IfOk result (λ tasks. length tasks.items ≡ places) }
 {
     let mut tasks = Vec::with_capacity(alloc, places)?;
     for _ in 0..places {
         tasks.push(None)?;
     }
-    let parts = players.into_parts(alloc)?;
-    let mut guests = Vec::with_capacity(alloc, parts.len())?;
-    for (guest, task) in parts {
-        put_back(&mut tasks, guest.caller() as usize, task);
-        guests.push(guest)?;
-    }
-    Ok((guests, tasks))
+    Ok(tasks)
 }
 
 // The task of a place is there again.
