@@ -88,11 +88,11 @@ where
     let deal = deal_of(rt, alloc, world, workers)?;
     let mut players = players_of(alloc, world, tasks, guests, deal)?;
     let end = phases(rt, alloc, world, gate, &net, &mut players)?;
-    let ended = ended_of(alloc, world.scripts.len(), players)?;
-    let history = net.finish(alloc, ended.guests)?;
+    let Ended { guests, tasks } = ended_of(alloc, world.scripts.len(), players)?;
+    let history = net.finish(alloc, guests)?;
     Ok(TaskRun {
         history,
-        tasks: ended.tasks,
+        tasks,
         end,
     })
 }
@@ -154,6 +154,7 @@ fn place_task<'a, T: OwnTask>(
 }
 
 // The guests, and the task of each place, as it is in the end.
+#[derive(Drop)]
 struct Ended<J: Naming + Placing, T> {
     guests: Vec<Guest<J>>,
     tasks: Vec<Option<T>>,
