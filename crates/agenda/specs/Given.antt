@@ -25,16 +25,16 @@ abbrev pub own_task : {T : Type 0} → PlaceTask T → Option T
 own_task (place.Script t) = None
 own_task (place.Own t) = Some t
 
+-- what is claimed of each task holds as it is given
+abbrev pub AreBegun : {T : Type 0} → (T → List Reply → Type 0) → List (Option T) → Type 0
+AreBegun {T} Keeps given = (c : ℕ) (t : T) → task_at given c ≡ Some t → Keeps t []
+
 module _ {T : Type 0} (asks : T → Names → Option Request) (after : T → Reply → T) where
   -- what is asked in each place; the script of a place for which no task is given is played
   abbrev pub tasks_of : List (Option T) → Tasks
   tasks_of given c = option_map (asking_of after asks) (task_at given c)
 
   module _ (Keeps : T → List Reply → Type 0) where
-    -- what is claimed of each task holds as it is given
-    abbrev pub AreBegun : List (Option T) → Type 0
-    AreBegun given = (c : ℕ) (t : T) → task_at given c ≡ Some t → Keeps t []
-
     -- what comes back from a place is a task that keeps what is claimed of it after these replies, and asks on as the given one would
     -- that was told them
     pub record WasTold (t : T) (rs : List Reply) (there : Option T) : Type 0 where

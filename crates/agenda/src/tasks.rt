@@ -48,7 +48,7 @@ pub fn run_tasks<R: Threads + Wait + Sync, G: Gate + Sync, T: OwnTask + Drop + S
     requires world { IsWorld world.now }
     requires some { 0 < workers }
     requires few { workers ≤ 16 }
-    requires begun { AreBegun T.asks T.after T.Keeps tasks.items }
+    requires begun { AreBegun T.Keeps tasks.items }
     ensures legal { IfOk result (λ run. IsLegalBy (tasks_of T.asks T.after tasks.items) world.now run.history) }
     ensures timed { IfOk result (λ run. IsTimedBy (tasks_of T.asks T.after tasks.items) world.now run.history) }
     ensures end { IfOk result (λ run. EndsBy (tasks_of T.asks T.after tasks.items) world.now (after world.now run.history) run.end) }
@@ -75,7 +75,7 @@ where
     requires name { opened ≡ J.run }
     requires world { J.world ≡ world.now }
     requires given { (c : ℕ) → J.tasks c ≡ tasks_of T.asks T.after tasks.items c }
-    requires begun { AreBegun T.asks T.after T.Keeps tasks.items }
+    requires begun { AreBegun T.Keeps tasks.items }
     requires is { IsWorld world.now }
     requires roster { IsRosterOf J.world J.run.roster }
     requires some { 0 < workers }
@@ -107,7 +107,7 @@ fn players_of<'a, J: Naming + Placing, T: OwnTask + Drop>(
 ) -> Result<Players<J, PlaceTask<'a, T>>, AllocError>
     requires world { J.world ≡ world.now }
     requires given { (c : ℕ) → J.tasks c ≡ tasks_of T.asks T.after tasks.items c }
-    requires begun { AreBegun T.asks T.after T.Keeps tasks.items }
+    requires begun { AreBegun T.Keeps tasks.items }
     requires is { IsWorld world.now }
     requires roster { IsRosterOf J.world J.run.roster }
     requires some { 0 < deal.groups }

@@ -9,6 +9,9 @@ use Rattle.net_base.specs.declared.reply.Reply.TheVariants as reply
 use Rattle.echo_server.specs.declared.client.EchoClient.{EchoClient}
 use Rattle.echo_server.specs.declared.client.Stage.{Stage}
 use Rattle.echo_server.specs.declared.client.Stage.TheVariants as stage
+use Rattle.echo_server.specs.declared.server.EchoServer.{EchoServer}
+use Rattle.whole_script.specs.declared.either.EitherTask.{EitherTask}
+use Rattle.whole_script.specs.Eithers as either
 use Rattle.echo_server.specs.Calling.{after, after_at, at_stage, echoed, is_echo, is_text, message}
 
 -- the text that a reply is, if it is one
@@ -29,6 +32,10 @@ AreAmong (x ∷ xs) (y ∷ ys) = ((x ≡ y) × AreAmong xs ys) ⊎ AreAmong (x �
 -- each message that came back was read, in order
 abbrev pub Keeps : EchoClient → List Reply → Type 0
 Keeps c rs = AreAmong (take c.echoed c.messages) (texts rs)
+
+-- of a server nothing is claimed
+abbrev pub claimed : EitherTask EchoServer EchoClient → List Reply → Type 0
+claimed = either.Keeps (λ (t : EchoServer) (rs : List Reply). Unit {0}) Keeps
 
 -- One reply more.
 

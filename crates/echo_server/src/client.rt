@@ -1,4 +1,5 @@
 //! A client: it dials the server by name, and compares what it reads with what it wrote.
+ghost use Rattle.std.specs.Prelude.{◌≡◌, IfOk};
 
 use crate::server::{close, read, write};
 use agenda::OwnTask;
@@ -32,7 +33,9 @@ pub struct EchoClient {
 
 impl EchoClient {
     /// Calls this address, and sends these messages.
-    pub fn new(alloc: Global, address: &[u8], messages: Lines) -> Result<EchoClient, AllocError> {
+    pub fn new(alloc: Global, address: &[u8], messages: Lines) -> Result<EchoClient, AllocError>
+        ensures { IfOk result (λ c. c.echoed ≡ 0) }
+    {
         Ok(EchoClient {
             stage: Stage::Wait,
             dial: Dial::new(alloc, b"d", address)?,

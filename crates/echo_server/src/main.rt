@@ -1,13 +1,15 @@
 //! An echo server and its clients over a network that loses packets, on one worker and on four.
 #![tactic(auto)]
 
-ghost use Rattle.std.specs.Prelude.{◌<◌, ◌≤◌, IfSome};
+ghost use Rattle.std.specs.Prelude.{◌<◌, ◌≤◌, IfOk, IfSome};
 ghost use Rattle.net_base.specs.World.{IsWorld};
+ghost use Rattle.agenda.specs.Given.{AreBegun};
+ghost use Rattle.echo_server.specs.Echoes.{claimed};
 
 mod client;
 mod server;
 
-use agenda::{EitherTask, run_tasks};
+use agenda::{EitherTask, RunError, run_tasks};
 use client::EchoClient;
 use net_base::{Lines, Octets, World};
 use outside::{OpenGate, Source, StdSource, read_to_end};
@@ -39,7 +41,7 @@ fn main(rt: HostRuntime) -> ExitCode {
     };
     let clients = world.scripts.len().saturating_sub(1);
     for workers in [1, 4] {
-        let Some(well) = well(&rt, rt.alloc(), &world, workers) else {
+        let Ok(well) = well(&rt, rt.alloc(), &world, workers) else {
             return ExitCode::FAILURE;
         };
         if println!(rt; "{workers} workers: {well} of {clients} read what they wrote").is_err() {
@@ -63,18 +65,20 @@ fn well<R: Threads + Wait + Sync>(
     alloc: Global,
     world: &World,
     workers: u32,
-) -> Option<usize>
+) -> Result<usize, RunError>
     requires world { IsWorld world.now }
     requires some { 0 < workers }
     requires few { workers ≤ 16 }
 {
-    let tasks = tasks_of(alloc, world.scripts.len()).ok()?;
-    let run = run_tasks(rt, alloc, world, tasks, workers, &OpenGate).ok()?;
-    Some(well_among(run.tasks.as_slice()))
+    let tasks = tasks_of(alloc, world.scripts.len())?;
+    let run = run_tasks(rt, alloc, world, tasks, workers, &OpenGate)?;
+    Ok(well_among(run.tasks.as_slice()))
 }
 
 // A server, and clients in the other places.
-fn tasks_of(alloc: Global, places: usize) -> Result<Vec<Option<EchoTask>>, AllocError> {
+fn tasks_of(alloc: Global, places: usize) -> Result<Vec<Option<EchoTask>>, AllocError>
+    ensures { IfOk result (λ tasks. AreBegun claimed tasks.items) }
+{
     let mut tasks = Vec::with_capacity(alloc, places)?;
     tasks.push(Some(EitherTask::One(EchoServer::new(alloc, ANNOUNCED)?)))?;
     for _ in 1..places {
