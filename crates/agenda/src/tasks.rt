@@ -197,8 +197,8 @@ fn rows<T: OwnTask + Drop>(alloc: Global, places: usize) -> Result<Vec<Option<T>
 // The task of a place is there again.
 fn put_back<T: OwnTask + Drop>(tasks: &mut Vec<Option<T>>, place: usize, played: PlaceTask<'_, T>)
     ensures many { length tasks.new.items ≡ length tasks.old.items }
-    ensures own { IfSome (own_task played) (λ t. place < length tasks.old.items → task_at tasks.new.items place ≡ Some t) }
-    ensures script { IfNone (own_task played) (tasks.new.items ≡ tasks.old.items) }
+    ensures own { IfSome (own_task played.entry) (λ t. place < length tasks.old.items → task_at tasks.new.items place ≡ Some t) }
+    ensures script { IfNone (own_task played.entry) (tasks.new.items ≡ tasks.old.items) }
     ensures rest { (c : ℕ) → c ≢ place → task_at tasks.new.items c ≡ task_at tasks.old.items c }
 {
     if let PlaceTask::Own(task) = played {
