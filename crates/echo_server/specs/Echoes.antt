@@ -56,10 +56,15 @@ among_push (x ∷ xs) [] y is = absurd is
 among_push (x ∷ xs) (z ∷ ys) y (inl first) = inl (first.0, among_push xs ys y first.1)
 among_push (x ∷ xs) (z ∷ ys) y (inr later) = inr (among_push (x ∷ xs) ys y later)
 
+take_next : (xs : List (List ℕ)) (n : ℕ) (x : List ℕ) → slice_get xs n ≡ Some x → take (suc n) xs ≡ take n xs ++ x ∷ []
+take_next [] n x is = absurd (none-some x is)
+take_next (y ∷ ys) zero x is = ap (λ (z : List ℕ). z ∷ []) (same_Some y x is)
+take_next (y ∷ ys) (suc n) x is = ap (λ (l : List (List ℕ)). y ∷ l) (take_next ys n x is)
+
 take_more : (xs : List (List ℕ)) (n : ℕ) (x : List ℕ) → slice_get xs n ≡ Some x → take (n + 1) xs ≡ take n xs ++ x ∷ []
-take_more [] n x is = absurd (none-some x is)
-take_more (y ∷ ys) zero x is = ap (λ (z : List ℕ). z ∷ []) (same_Some y x is)
-take_more (y ∷ ys) (suc n) x is = ap (λ (l : List (List ℕ)). y ∷ l) (take_more ys n x is)
+take_more xs n x is =
+    let one : suc n ≡ n + 1 = omega arith in
+    subst (λ (k : ℕ). take k xs ≡ take n xs ++ x ∷ []) one (take_next xs n x is)
 
 module _ (c : EchoClient) (rs : List Reply) (r : Reply) (is : Keeps c rs) where
   kept : AreAmong (take c.echoed c.messages) (texts (rs ++ r ∷ []))
