@@ -1,7 +1,8 @@
 -- Tasks come back, each to its place.
-use Rattle.std.proofs.Common.{◌≡◌, ◌≢◌, ◌⊎◌, inl, inr, ℕ, ◌<◌, ◌==◌, Bool, true, false, List, [], ◌∷◌, ◌++◌, append_assoc, length, Option, Some, None, option_map, slice_get, refl, sym, ap, subst, ◌∙◌, arith}
+use Rattle.std.proofs.Common.{◌≡◌, ◌≢◌, ◌⊎◌, inl, inr, ℕ, ◌<◌, ◌+◌, ◌==◌, Bool, true, false, List, [], ◌∷◌, ◌++◌, append_assoc, length, Option, Some, None, IfSome, option_map, slice_get, refl, sym, ap, subst, ◌∙◌, arith}
 use Rattle.std.specs.Option.{option_map_or}
 use Rattle.std.proofs.lemmas.Bool.{eq-eqb, eqb-true, true≢false}
+use Rattle.std.proofs.lemmas.List.{append-nil}
 use Rattle.std.proofs.lemmas.Option.{none-some, same_Some, slice_get_within}
 use Rattle.net_base.specs.declared.history.Entry.{Entry}
 use Rattle.net_base.specs.declared.reply.Reply.{Reply}
@@ -68,15 +69,35 @@ module _ {T : Type 0} (asks : T → Names → Option Request) (after : T → Rep
       }
 
   -- the guests so far, and the tasks that are back; these parts are left
-  pub record Backing (ts : Tasks) (w : World) (all : List Visit) (left : List (Visit × PlaceTask T)) (vs : List Visit) (back : List (Option T)) : Type 0 where
+  pub record Backing (ts : Tasks) (w : World) (all : List Visit) (left : List (Visit × PlaceTask T)) (len : ℕ) (vs : List Visit) (back : List (Option T)) : Type 0 where
     pub same : vs ++ guests_of left ≡ all
     pub going : AreGoing (places.Goes asks after Keeps) ts w left
     pub many : length back ≡ length w.scripts
     pub are_back : AreBack asks after Keeps ts w vs back
+    pub len_is : len ≡ length left
+
+  -- at first none is back
+  pub backing_none : (ts : Tasks) (w : World) (all : List Visit) (parts left : List (Visit × PlaceTask T)) (len : ℕ) (vs : List Visit) (back : List (Option T))
+      → len ≡ length left → vs ≡ [] → left ≡ parts → guests_of parts ≡ all → AreGoing (places.Goes asks after Keeps) ts w parts → length back ≡ length w.scripts
+      → Backing ts w all left len vs back
+  backing_none ts w all parts left len vs back len_is none is same going many =
+      record {
+        same = ap (λ (us : List Visit). us ++ guests_of left) none ∙ (ap guests_of is ∙ same);
+        going = subst (λ (l : List (Visit × PlaceTask T)). AreGoing (places.Goes asks after Keeps) ts w l) (sym is) going;
+        many = many;
+        are_back = λ c s asking there own guest. absurd (subst (λ (us : List Visit). In guest.0 us) none guest.1);
+        len_is = len_is;
+      }
+
+  -- at last all are
+  pub backing_all : (ts : Tasks) (w : World) (all : List Visit) (left : List (Visit × PlaceTask T)) (len : ℕ) (vs : List Visit) (back : List (Option T))
+      → Backing ts w all left len vs back → len ≡ 0 → vs ≡ all
+  backing_all ts w all [] len vs back so_far none = sym (append-nil vs) ∙ so_far.same
+  backing_all ts w all (x ∷ xs) len vs back so_far none = absurd (omega (arith, none, so_far.len_is))
 
   -- one part more
-  module _ (ts : Tasks) (w : World) (all : List Visit) (x : Visit × PlaceTask T) (left : List (Visit × PlaceTask T)) (vs : List Visit) (back after_it : List (Option T))
-      (so_far : Backing ts w all (x ∷ left) vs back) (many : length after_it ≡ length back)
+  module _ (ts : Tasks) (w : World) (all : List Visit) (x : Visit × PlaceTask T) (left : List (Visit × PlaceTask T)) (len len' : ℕ) (vs : List Visit) (back after_it : List (Option T))
+      (so_far : Backing ts w all (x ∷ left) len vs back) (shorter : len' + 1 ≡ len) (many : length after_it ≡ length back)
       (own : (t : T) → x.1 ≡ place.Own t → x.0.caller < length back → task_at after_it x.0.caller ≡ Some t)
       (rest : (c : ℕ) → c ≢ x.0.caller → task_at after_it c ≡ task_at back c) where
     here : (s : Script) (asking : Asking) → slice_get w.scripts x.0.caller ≡ Some s → ts x.0.caller ≡ Some asking → (p : PlaceTask T) → x.1 ≡ p
@@ -120,10 +141,25 @@ module _ {T : Type 0} (asks : T → Names → Option Request) (after : T → Rep
             let other : c ≢ x.0.caller = λ same. true≢false (sym (eq-eqb c x.0.caller same) ∙ e) in
             elsewhere c other (so_far.are_back c s asking there is (had_guest c other guest))
 
-    pub backing_more : Backing ts w all left (vs ++ x.0 ∷ []) after_it
+    pub backing_more : Backing ts w all left len' (vs ++ x.0 ∷ []) after_it
     backing_more = record {
       same = append_assoc vs (x.0 ∷ []) (guests_of left) ∙ so_far.same;
       going = λ y there. so_far.going y (inr there);
       many = many ∙ so_far.many;
       are_back = one_more;
+      len_is = omega (arith, shorter, so_far.len_is);
     }
+
+  -- the same from what the calls of a round say
+  pub backing_step : (ts : Tasks) (w : World) (all : List Visit) (x : Visit × PlaceTask T) (old new : List (Visit × PlaceTask T)) (len len' : ℕ) (vs vs' : List Visit)
+      (back back' : List (Option T)) (c : ℕ) → Backing ts w all old len vs back → old ≡ x ∷ new → len' + 1 ≡ len → c ≡ x.0.caller → length back' ≡ length back
+      → IfSome (own_task x.1) (λ t. c < length back → task_at back' c ≡ Some t) → ((k : ℕ) → k ≢ c → task_at back' k ≡ task_at back k)
+      → vs' ≡ vs ++ x.0 ∷ [] → Backing ts w all new len' vs' back'
+  backing_step ts w all x old new len len' vs vs' back back' c so_far first shorter caller many own rest adds =
+      subst (λ (us : List Visit). Backing ts w all new len' us back') (sym adds)
+      (backing_more ts w all x new len len' vs back back' (subst (λ (l : List (Visit × PlaceTask T)). Backing ts w all l len vs back) first so_far) shorter many
+      (λ t same below. ap (task_at back') (sym caller) ∙ own_there t same (omega (arith, below, caller)))
+      (λ k other. rest k (λ same. other (same ∙ caller))))
+    where
+      own_there : (t : T) → x.1 ≡ place.Own t → c < length back → task_at back' c ≡ Some t
+      own_there t same below = (subst (λ (p : PlaceTask T). IfSome (own_task p) (λ u. c < length back → task_at back' c ≡ Some u)) same own) below
