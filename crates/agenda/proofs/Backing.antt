@@ -14,7 +14,7 @@ use Rattle.net_base.specs.Next.{own_replies, zone_of}
 use Rattle.net_base.specs.Stamped.{In}
 use Rattle.net_base.specs.Steps.{Names, no_names}
 use Rattle.net_base.specs.Tasks.{Asking, Tasks, asking_of, asks_after, told_all}
-use Rattle.agenda.specs.Given.{AreBack, IsBack, WereTold, own_task, task_at, tasks_of}
+use Rattle.agenda.specs.Given.{AreBack, AreBegun, IsBack, WereTold, own_task, task_at, tasks_of}
 use Rattle.host_net.specs.Answering.{AreAfter}
 use Rattle.host_net.specs.Playing.{AreGoing, IsGoing, guests_of, replies_of}
 use Rattle.host_net.proofs.Answered.{replies_after}
@@ -67,6 +67,24 @@ module _ {T : Type 0} (asks : T → Names → Option Request) (after : T → Rep
             ∙ (told_alike b.goes.begun t (replies_of b.visit) alike
             ∙ ap (λ (rs : List Reply). asking_of after asks (told_all after t rs)) (sym same));
       }
+
+  -- What is given for a place is played there at first.
+
+  pub begun_own : (given : List (Option T)) (own : Option T) (c : ℕ) → AreBegun Keeps given → own ≡ task_at given c → IfSome own (λ t. Keeps t [])
+  begun_own given None c are is = tt
+  begun_own given (Some t) c are is = are c t (sym is)
+
+  pub goes_at_first : (ts : Tasks) (v w : World) (given now : List (Option T)) (own : Option T) (c d : ℕ) (p : PlaceTask T) → w ≡ v → d ≡ c → own ≡ task_at now d
+      → task_at now c ≡ task_at given c → ts c ≡ tasks_of asks after given c
+      → ((s : Script) → caller_of w d ≡ IsScript s
+      → places.Goes asks after Keeps (option_map (asking_of after asks) own) (zone_of w) s [] (no_names (zone_of w)) p)
+      → (s : Script) → caller_of v c ≡ IsScript s → places.Goes asks after Keeps (ts c) (zone_of v) s [] (no_names (zone_of v)) p
+  goes_at_first ts v w given now own c d p world caller own_is still given_is plays s is =
+      let same : own ≡ task_at given c = own_is ∙ (ap (task_at now) caller ∙ still) in
+      subst (λ (o : Option Asking). places.Goes asks after Keeps o (zone_of v) s [] (no_names (zone_of v)) p)
+      (ap (option_map (asking_of after asks)) same ∙ sym given_is)
+      (subst (λ (u : World). places.Goes asks after Keeps (option_map (asking_of after asks) own) (zone_of u) s [] (no_names (zone_of u)) p) world
+      (plays s (ap (λ (u : World). caller_of u d) world ∙ (ap (caller_of v) caller ∙ is))))
 
   -- the guests so far, and the tasks that are back; these parts are left
   pub record Backing (ts : Tasks) (w : World) (all : List Visit) (left : List (Visit × PlaceTask T)) (len : ℕ) (vs : List Visit) (back : List (Option T)) : Type 0 where
