@@ -1,5 +1,6 @@
 //! A client: it dials the server by name, and compares what it reads with what it wrote.
-ghost use Rattle.std.specs.Prelude.{◌≡◌, IfOk};
+ghost use Rattle.std.specs.Prelude.{◌≡◌, ◌<◌, ◌+◌, length, IfOk, MatchOption, None, Some};
+ghost use Rattle.echo_server.specs.Calling as spec;
 
 use crate::server::{close, read, write};
 use agenda::OwnTask;
@@ -45,21 +46,30 @@ impl EchoClient {
     }
 
     /// Whether each message came back as it was sent.
-    pub fn is_well(&self) -> bool {
+    pub fn is_well(&self) -> bool
+        ensures { result ≡ spec.is_well self.now }
+    {
         self.messages.len() <= self.echoed
     }
 
-    fn message(&self) -> Option<&Octets> {
+    fn message(&self) -> Option<&Octets>
+        ensures { MatchOption result (spec.message self.now ≡ None) (λ text. spec.message self.now ≡ Some text.now) }
+    {
         self.messages.as_slice().get(self.echoed)
     }
 
     // Whether the message that was sent last came back.
-    fn is_echo(&self, reply: &Reply) -> bool {
+    fn is_echo(&self, reply: &Reply) -> bool
+        ensures { result ≡ spec.is_echo self.now reply.now }
+    {
         matches!((self.message(), reply), (Some(text), Reply::Bytes { bytes }) if text == bytes)
     }
 
     // The stage behind a message that came back.
-    fn next_message(&mut self) -> Stage {
+    fn next_message(&mut self) -> Stage
+        requires { self.old.echoed < length self.old.messages }
+        ensures { spec.at_stage self.new result ≡ spec.echoed (record self.old { echoed = self.old.echoed + 1 }) }
+    {
         self.echoed = self.echoed.saturating_add(1);
         if self.is_well() {
             Stage::Close
@@ -70,7 +80,6 @@ impl EchoClient {
 }
 
 impl OwnTask for EchoClient {
-    ghost use Rattle.echo_server.specs.Calling as spec;
     ghost use Rattle.echo_server.specs.Echoes as echoes;
 
     ghost asks = { spec.asks };

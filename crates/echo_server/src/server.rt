@@ -1,4 +1,6 @@
 //! The server: it announces, listens, and answers each message of a call with itself.
+ghost use Rattle.std.specs.Prelude.{◌≡◌, Some, IfOk, OnErr, unwrap_or};
+ghost use Rattle.echo_server.specs.Serving.{after_read, closes, reads, stage_after, writes};
 
 use agenda::OwnTask;
 use dial_lib::{Accept, Announce, Listen};
@@ -69,7 +71,10 @@ impl OwnTask for EchoServer {
 }
 
 // The stage behind this one, where the reply ends it. Without memory this one is as it was.
-fn behind(alloc: Global, stage: &mut Stage, reply: Reply) -> Result<Option<Stage>, AllocError> {
+fn behind(alloc: Global, stage: &mut Stage, reply: Reply) -> Result<Option<Stage>, AllocError>
+    ensures ok { IfOk result (λ then. unwrap_or then stage.new ≡ stage_after stage.old reply) }
+    ensures err { OnErr result (stage.new ≡ stage.old) }
+{
     match stage {
         Stage::Announce(task) => {
             let listen = Listen::new(alloc, b"c", b"a")?;
@@ -87,7 +92,9 @@ fn behind(alloc: Global, stage: &mut Stage, reply: Reply) -> Result<Option<Stage
 }
 
 // What was read is written. Nothing is read once the caller has hung up.
-fn behind_read(reply: Reply) -> Stage {
+fn behind_read(reply: Reply) -> Stage
+    ensures { result ≡ after_read reply }
+{
     match reply {
         Reply::Bytes { bytes } if bytes.len() != 0 => Stage::Echo(bytes),
         _ => Stage::CloseData,
@@ -95,19 +102,25 @@ fn behind_read(reply: Reply) -> Stage {
 }
 
 /// Reads a message of the call.
-pub fn read(alloc: Global) -> Result<Option<Request>, AllocError> {
+pub fn read(alloc: Global) -> Result<Option<Request>, AllocError>
+    ensures { IfOk result (λ asked. asked ≡ Some reads) }
+{
     let name = Octets::from_slice(alloc, b"d")?;
     Ok(Some(Request::Read { name, count: COUNT }))
 }
 
 /// Writes a message to the call.
-pub fn write(alloc: Global, text: &Octets) -> Result<Option<Request>, AllocError> {
+pub fn write(alloc: Global, text: &Octets) -> Result<Option<Request>, AllocError>
+    ensures { IfOk result (λ asked. asked ≡ Some (writes text.now)) }
+{
     let (name, text) = (Octets::from_slice(alloc, b"d")?, text.clone()?);
     Ok(Some(Request::Write { name, text }))
 }
 
 /// Closes the file of this name.
-pub fn close(alloc: Global, name: &[u8]) -> Result<Option<Request>, AllocError> {
+pub fn close(alloc: Global, name: &[u8]) -> Result<Option<Request>, AllocError>
+    ensures { IfOk result (λ asked. asked ≡ Some (closes name.now)) }
+{
     let name = Octets::from_slice(alloc, name)?;
     Ok(Some(Request::Close { name }))
 }
