@@ -1,4 +1,4 @@
-use Rattle.std.proofs.Common.{List, sym, ap, arith, subst, length}
+use Rattle.std.proofs.Common.{List, sym, ap, ◌∙◌, arith, subst, length}
 use Rattle.std.specs.Prelude.{codes}
 use Rattle.net_base.specs.declared.ndb.spot.Spot.{Spot}
 use Rattle.ndb_index.specs.Near.{SpotsWithin}
