@@ -7,7 +7,7 @@ use Rattle.net_base.specs.Steps.{Names, Play, play_of}
 use Rattle.dial_lib.specs.declared.beside.Accept.{Accept}
 use Rattle.dial_lib.specs.Beside as beside
 use Rattle.dial_lib.specs.Slots.{HaveSlots}
-use Rattle.script_task.specs.declared.request.Request.{Request}
+use Rattle.net_base.specs.declared.request.Request.{Request}
 
 -- the next request under these names
 abbrev pub asks : Accept → Names → Option Request

@@ -7,8 +7,8 @@ use Rattle.net_base.specs.declared.names.Node.TheVariants as node
 use Rattle.net_base.specs.Paths.{path_of}
 use Rattle.net_base.specs.Steps.{Names, Fid, Play, Ends, fid_of, is_bound, bind, with_bound, with_new, opens_beside}
 use Rattle.dial_lib.specs.Slots.{HaveSlots}
-use Rattle.script_task.specs.declared.request.Request.{Request}
-use Rattle.script_task.specs.declared.request.Request.TheVariants as request
+use Rattle.net_base.specs.declared.request.Request.{Request}
+use Rattle.net_base.specs.declared.request.Request.TheVariants as request
 
 -- the file is opened by its path
 abbrev pub opens_so : List ℕ → Fid → FileName → Mode → Request

@@ -32,4 +32,5 @@ pub mod Dns
 pub mod DnsLaws
 pub use Rattle.net_base.specs.Steps
 pub use Rattle.script_task.specs.Task
+pub use Rattle.net_base.specs.Requests
 pub use Rattle.script_task.specs.Requests

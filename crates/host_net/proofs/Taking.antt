@@ -7,6 +7,7 @@ use Rattle.std.proofs.lemmas.List.{map-append}
 use Rattle.std.proofs.lemmas.Option.{none-some, same_Some}
 use Rattle.net_base.specs.declared.world.World.{World}
 use Rattle.net_base.specs.Stamped.{In}
+use Rattle.net_base.specs.Tasks.{Tasks}
 use Rattle.net_guests.proofs.Handing.{in_back, in_front, none_more, same_number_is}
 use Rattle.net_guests.proofs.Passes.{last_or}
 use Rattle.net_locks.specs.declared.clock.Advance.{Advance}
@@ -69,7 +70,7 @@ stays_itself w v =
     record {
       before = none_more v.sight.seen;
       alone = refl;
-      stands = record { owes = refl; comes_next = refl; turns = λ t. t; nexts = λ t. t; timely = λ t. t };
+      stands = record { owes = refl; comes_next = λ ts. refl; turns = λ t. t; nexts = λ ts t. t; timely = λ ts t. t };
     }
 
 -- Players.
@@ -299,19 +300,19 @@ module _ {T : Type 0} where
 
   -- What was given back.
 
-  pub kept_of : (w : World) (now : ℕ) (ps qs : List (Playing T)) → AreBack w now ps qs → AreKept w ps qs
+  pub kept_of : (ts : Tasks) (w : World) (now : ℕ) (ps qs : List (Playing T)) → AreBack w now ps qs → AreKept w ps qs
   kept_of w now [] [] back = tt
   kept_of w now [] (q ∷ qs) back = absurd back
   kept_of w now (p ∷ ps) [] back = absurd back
   kept_of w now (p ∷ ps) (q ∷ qs) back = (back.0.0, kept_of w now ps qs back.1)
 
   -- the clock stands in another group
-  no_clock : (w : World) (all : List Visit) (answer : Advance) (c d : Option (Playing T)) → d ≡ c → c ≡ None → ClockStays w all answer c d
+  no_clock : (w : World) (all : List Visit) (answer : Advance) (c d : Option (Playing T)) → d ≡ c → c ≡ None → ClockStays ts w all answer c d
   no_clock w all answer c d same none =
-      subst (λ (x : Option (Playing T)). ClockStays w all answer x d) (sym none)
-      (subst (λ (x : Option (Playing T)). ClockStays w all answer None x) (sym (same ∙ none)) tt)
+      subst (λ (x : Option (Playing T)). ClockStays ts w all answer x d) (sym none)
+      (subst (λ (x : Option (Playing T)). ClockStays ts w all answer None x) (sym (same ∙ none)) tt)
 
-  group_kept : (w : World) (all : List Visit) (answer : Advance) (now : ℕ) (g k : Grouped T) → IsBack w now g k → g.clock ≡ None → IsGroupKept w all answer g k
+  group_kept : (w : World) (all : List Visit) (answer : Advance) (now : ℕ) (g k : Grouped T) → IsBack w now g k → g.clock ≡ None → IsGroupKept ts w all answer g k
   group_kept w all answer now g k back none =
       record {
         players = kept_of w now g.players k.players back.players;
@@ -320,7 +321,7 @@ module _ {T : Type 0} where
       }
 
   groups_kept : (w : World) (all : List Visit) (answer : Advance) (now : ℕ) (gs ks : List (Grouped T)) → GroupsAreBack w now gs ks → NoClocks gs
-      → EachIsKept w all answer gs ks
+      → EachIsKept ts w all answer gs ks
   groups_kept w all answer now [] [] back none = tt
   groups_kept w all answer now [] (k ∷ ks) back none = absurd back
   groups_kept w all answer now (g ∷ gs) [] back none = absurd back
@@ -337,16 +338,16 @@ module _ {T : Type 0} where
   place_back w now (x ∷ gs) (y ∷ ks) back (suc n) g there = place_back w now gs ks back.1 n g there
 
   pub filled_kept : (w : World) (all : List Visit) (answer : Advance) (now : ℕ) (gs ks : List (Grouped T)) (n : ℕ) (g k : Grouped T) (p q : Playing T)
-      → slice_get gs n ≡ Some g → g.clock ≡ Some p → slice_get ks n ≡ Some k → IsClockKept w all answer p q
+      → slice_get gs n ≡ Some g → g.clock ≡ Some p → slice_get ks n ≡ Some k → IsClockKept ts w all answer p q
       → GroupsAreBack w now (slice_set gs n (emptied g)) ks → NoClocks (slice_set gs n (emptied g))
-      → EachIsKept w all answer gs (slice_set ks n (filled k q))
+      → EachIsKept ts w all answer gs (slice_set ks n (filled k q))
   filled_kept w all answer now [] ks n g k p q there is at clock back none = absurd (none-some g there)
   filled_kept w all answer now (x ∷ gs) [] n g k p q there is at clock back none = absurd (none-some k at)
   filled_kept w all answer now (x ∷ gs) (y ∷ ks) zero g k p q there is at clock back none = (
     record {
       players = subst (λ (z : Grouped T). AreKept w z.players k.players) (sym (same_Some x g there))
           (subst (λ (z : Grouped T). AreKept w g.players z.players) (same_Some y k at) (kept_of w now g.players y.players back.0.players));
-      clock_stays = subst (λ (c : Option (Playing T)). ClockStays w all answer c (Some q))
+      clock_stays = subst (λ (c : Option (Playing T)). ClockStays ts w all answer c (Some q))
           (sym (ap (λ (z : Grouped T). z.clock) (same_Some x g there) ∙ is)) clock;
       memory_is = ap (λ (z : Grouped T). z.memory) (sym (same_Some y k at)) ∙ (back.0.memory_is ∙ ap (λ (z : Grouped T). z.memory) (sym (same_Some x g there)));
     },
@@ -372,7 +373,7 @@ module _ {T : Type 0} where
     players_itself w ps,
   )
 
-  clock_itself : (w : World) (all : List Visit) (c : Option (Playing T)) → ClockStays w all advance.Memory c c
+  clock_itself : (w : World) (all : List Visit) (c : Option (Playing T)) → ClockStays ts w all advance.Memory c c
   clock_itself w all None = tt
   clock_itself w all (Some q) =
       record {
@@ -386,13 +387,13 @@ module _ {T : Type 0} where
             record { own_is = refl; owed_is = refl; now_is = refl };
       }
 
-  each_itself : (w : World) (all : List Visit) (gs : List (Grouped T)) → EachIsKept w all advance.Memory gs gs
+  each_itself : (w : World) (all : List Visit) (gs : List (Grouped T)) → EachIsKept ts w all advance.Memory gs gs
   each_itself w all [] = tt
   each_itself w all (g ∷ gs) =
       (record { players = players_itself w g.players; clock_stays = clock_itself w all g.clock; memory_is = refl }, each_itself w all gs)
 
   -- nothing was done, for want of memory
-  pub kept_itself : (w : World) (gs : List (Grouped T)) → GroupsAreKept w gs advance.Memory gs
+  pub kept_itself : (w : World) (gs : List (Grouped T)) → GroupsAreKept ts w gs advance.Memory gs
   kept_itself w gs = each_itself w (visits (all_members gs)) gs
 
   callers_kept : (w : World) (ps qs : List (Playing T)) → AreKept w ps qs → callers_of qs ≡ callers_of ps
@@ -402,14 +403,14 @@ module _ {T : Type 0} where
   callers_kept w (p ∷ ps) (q ∷ qs) kept =
       ap (λ (c : ℕ). c ∷ callers_of qs) kept.0.caller_is ∙ ap (λ (l : List ℕ). caller p ∷ l) (callers_kept w ps qs kept.1)
 
-  clock_kept : (w : World) (all : List Visit) (answer : Advance) (c d : Option (Playing T)) → ClockStays w all answer c d
+  clock_kept : (w : World) (all : List Visit) (answer : Advance) (c d : Option (Playing T)) → ClockStays ts w all answer c d
       → option_map caller d ≡ option_map caller c
   clock_kept w all answer None None stays = refl
   clock_kept w all answer None (Some q) stays = absurd stays
   clock_kept w all answer (Some p) None stays = absurd stays
   clock_kept w all answer (Some p) (Some q) stays = ap (λ (c : ℕ). Some c) stays.caller_is
 
-  pub seats_kept : (w : World) (all : List Visit) (answer : Advance) (gs ks : List (Grouped T)) → EachIsKept w all answer gs ks → all_seats ks ≡ all_seats gs
+  pub seats_kept : (w : World) (all : List Visit) (answer : Advance) (gs ks : List (Grouped T)) → EachIsKept ts w all answer gs ks → all_seats ks ≡ all_seats gs
   seats_kept w all answer [] [] kept = refl
   seats_kept w all answer [] (k ∷ ks) kept = absurd kept
   seats_kept w all answer (g ∷ gs) [] kept = absurd kept

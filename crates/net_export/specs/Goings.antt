@@ -18,10 +18,10 @@ use Rattle.net_base.specs.Exports.{is_dotted}
 use Rattle.net_base.specs.Paths.{reads, walk, writes}
 use Rattle.net_base.specs.Steps.{Asks, Bound, Ends, Fid, Names, Play, bind, conversation_of, controls, ends_with, fid_among, fid_of, if_accepted, is_accepted, is_bound, misuses, on_fid, openable, opened_fid, opens, puts, read_event, unbind, uses, without}
 use Rattle.net_export.specs.Serving.{IsDotted, goes_on}
-use Rattle.script_task.specs.declared.request.Request.{Request}
-use Rattle.script_task.specs.declared.request.Request.TheVariants as request
+use Rattle.net_base.specs.declared.request.Request.{Request}
+use Rattle.net_base.specs.declared.request.Request.TheVariants as request
 use Rattle.script_task.specs.Fitting.{fits_grant, fits_write, is_granted, is_unopened}
-use Rattle.script_task.specs.Requests.{bound_after, opened_names, request_play, settled}
+use Rattle.net_base.specs.Requests.{bound_after, opened_names, request_play, settled}
 use Rattle.script_task.specs.Task.{fits_play}
 
 -- the play of a request, these names after the reply, and the request that goes on, if one does

@@ -56,7 +56,7 @@ impl<J: Naming + Placing> Locks<J, WorldActor<J>> {
         ensures complete { IsVisitor J.world J.run.roster visitor.new }
         ensures same { IsSameBearer visitor.old.bearer visitor.new.bearer }
         ensures turn { (d : AnyDuty) → slice_get visitor.old.duties.list 0 ≡ Some d
-            → Visited J.world d.actor (work_of_duty d) (Some d.cites) visitor.old result visitor.new }
+            → Visited J.tasks J.world d.actor (work_of_duty d) (Some d.cites) visitor.old result visitor.new }
     {
         calendars_stay_known();
         no_duty_is_the_clocks();
@@ -94,7 +94,7 @@ impl<J: Naming + Placing> Locks<J, WorldActor<J>> {
         requires other { same_actor actor Clock ≡ false }
         ensures complete { IsVisitor J.world J.run.roster visitor.new }
         ensures same { IsSameBearer visitor.old.bearer visitor.new.bearer }
-        ensures turn { Visited J.world actor (bare event) None visitor.old result visitor.new }
+        ensures turn { Visited J.tasks J.world actor (bare event) None visitor.old result visitor.new }
     {
         calendars_stay_known();
         let bearer = &visitor.bearer;
@@ -130,7 +130,7 @@ impl<J: Naming + Placing> Locks<J, WorldActor<J>> {
         ensures same { IsSameBearer bearer.old bearer.new }
         ensures here { bearer.new.now ≡ moment bearer.new.pass.seen }
         ensures attempted { (d : AnyDuty) → slice_get duties.now.list 0 ≡ Some d
-            → Attempted J.world J.run.roster d.actor (work_of_duty d) (Some d.cites) bearer.old result bearer.new }
+            → Attempted J.tasks J.world J.run.roster d.actor (work_of_duty d) (Some d.cites) bearer.old result bearer.new }
     {
         no_duty_is_the_clocks();
         let first = duties.first().unwrap();
@@ -156,7 +156,7 @@ impl<J: Naming + Placing> Locks<J, WorldActor<J>> {
         requires other { same_actor actor Clock ≡ false }
         ensures same { IsSameBearer bearer.old bearer.new }
         ensures here { bearer.new.now ≡ moment bearer.new.pass.seen }
-        ensures attempted { Attempted J.world J.run.roster actor work.now cites bearer.old result bearer.new }
+        ensures attempted { Attempted J.tasks J.world J.run.roster actor work.now cites bearer.old result bearer.new }
     {
         few_calls_wait();
         guests_look();
@@ -214,7 +214,7 @@ fn lacks_room<J: Naming + Placing>(
     ensures none { IsNone result → HasRoom bearer.entry.now.caller bearer.entry.now.pass
         × (13 ≤ duties.new.room) × (0 < touched.new.room) }
     ensures some { IfSome result (λ t. (now : ℕ) (a : Name) (work : AnyWork) (cites : Option ℕ)
-        → Turned J.world bearer.entry.now.caller now a work cites bearer.entry.now.pass duties.old.list t
+        → Turned J.tasks J.world bearer.entry.now.caller now a work cites bearer.entry.now.pass duties.old.list t
         bearer.entry.now.pass duties.new.list) }
 {
     if bearer.pass.room(bearer.caller) == 0 {

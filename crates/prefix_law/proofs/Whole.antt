@@ -33,15 +33,15 @@ use Rattle.net_base.specs.Directory.{Dir, Slot, free_slot, dir_step}
 use Rattle.net_base.specs.Actors.{Actor, IsDesk, IsConv, IsDir, IsMedium, IsPlain, slot_count, has_actor, plain_step, step_as, table_step, actor_step}
 use Rattle.net_base.specs.Desk.{Desk, desk_replies, desk_reply, desk_step, clock_reply}
 use Rattle.net_base.specs.Callers.{Caller, caller_of}
-use Rattle.net_base.specs.Next.{next as next_ask}
 use Rattle.net_base.specs.Steps.{Ask}
 use Rattle.net_base.specs.Duties.{Duty, put_by, emitted_put, follow_up, proto_of, courier_duty, has_come, due_of, generation_of, conversations, tick_at, ticks, release, duties}
 use Rattle.net_base.specs.Net.{Net, opening_net, with_of, work_of, step_of, actors_after, owed_after, net_after, next_net, net_of, after}
-use Rattle.net_base.specs.Legal.{IsLegal, Shows, Shown, IsAsked}
+use Rattle.net_base.specs.Legal.{IsLegalBy, Shows, Shown, IsAsked}
 use Rattle.prefix_law.proofs.Trace.{Owner, Trace, opening_trace, conv_trace, dir_trace, actor_trace, trace_after, next_trace, trace_of, trace, HasPlaces}
 use Rattle.prefix_law.proofs.Deeds.{both_ways, nothing_yet}
 use Rattle.prefix_law.proofs.ConvMoves.{of_end, moves, elsewhere, Move, Stay, Begin, Join, Come, Listen}
 use Rattle.net_base.specs.IlEnd.{End}
+use Rattle.net_base.specs.Tasks.{Tasks}
 use Rattle.net_base.specs.declared.il.IlMsg.{IlMsg}
 use Rattle.prefix_law.proofs.Touch.{IsIn, HeardClose, Utters, Owned, Later, Emitted, EmittedIf, emitted_later, HasEnd, ConvFine, ActorFine, ConvStep}
 use Rattle.prefix_law.proofs.ConvSteps.{GiftFine, owned_more, conv_steps}
@@ -595,7 +595,7 @@ trace_push w h x = go (opening_net w) opening_trace h
     go net t [] = refl
     go net t (y ∷ xs) = go (next_net w net y) (next_trace w net y t) xs
 
-pub all_kept : (w : World) → HasPlaces w → (h : List Entry) → IsLegal w h → length h < 2 ^ 31 → Kept w (length h) (after w h) (trace w h) h
+pub all_kept : {ts : Tasks} (w : World) → HasPlaces w → (h : List Entry) → IsLegalBy ts w h → length h < 2 ^ 31 → Kept w (length h) (after w h) (trace w h) h
 all_kept w world h legal few =
     by_entries w (λ xs. length xs < 2 ^ 31 → Kept w (length xs) (after w xs) (trace w xs) xs)
     (λ _. record { fine = opening_fine w; books = record { sent_is = λ p o is. absurd (none-some o is); given_is = λ p o is. absurd (none-some o is); reading = λ p o is. absurd (none-some o is); sized = λ p o is. absurd (none-some o is); ended = λ p o is. absurd (none-some o is); none = λ o alone. (refl, refl) } })
@@ -603,7 +603,7 @@ all_kept w world h legal few =
     let n : length (xs ++ x ∷ []) ≡ length xs + 1 = length_push xs x in
     let before : Kept w (length xs) (after w xs) (trace w xs) xs = f (omega (arith, n)) in
     let step : Kept w (length xs + 1) (next_net w (after w xs) x) (next_trace w (after w xs) x (trace w xs)) (xs ++ x ∷ []) =
-    entry_kept w world (length xs) xs (after w xs) (trace w xs) x (caller_of w x.caller) (next_ask w xs x.caller) (omega (arith, n)) before may.is_asked may.is_ready may.answers in
+    entry_kept w world (length xs) xs (after w xs) (trace w xs) x (caller_of w x.caller) _ (omega (arith, n)) before may.is_asked may.is_ready may.answers in
     subst (λ (i : ℕ). Kept w i (after w (xs ++ x ∷ [])) (trace w (xs ++ x ∷ [])) (xs ++ x ∷ [])) (sym n)
     (subst (λ (net : Net). Kept w (length xs + 1) net (trace w (xs ++ x ∷ [])) (xs ++ x ∷ [])) (sym (after_push w xs x))
     (subst (λ (t : Trace). Kept w (length xs + 1) (next_net w (after w xs) x) t (xs ++ x ∷ [])) (sym (trace_push w xs x)) step)))

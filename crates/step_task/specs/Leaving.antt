@@ -23,8 +23,8 @@ use Rattle.net_export.specs.Exporting as export
 use Rattle.net_import.specs.Errands as errand
 use Rattle.net_import.specs.Ropening as ropen
 use Rattle.net_import.specs.Talks as talk
-use Rattle.script_task.specs.declared.request.Request.{Request}
-use Rattle.script_task.specs.declared.request.Request.TheVariants as request
+use Rattle.net_base.specs.declared.request.Request.{Request}
+use Rattle.net_base.specs.declared.request.Request.TheVariants as request
 use Rattle.step_task.specs.declared.step.StepTask.{StepTask}
 use Rattle.step_task.specs.declared.step.StepTask.TheVariants as task
 use Rattle.step_task.specs.StepTasks as spec

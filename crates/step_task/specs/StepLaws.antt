@@ -60,9 +60,9 @@ use Rattle.net_import.specs.ImportLaws as import_laws
 use Rattle.net_import.specs.RopenLaws as ropen_laws
 use Rattle.net_import.specs.Ropening as ropen
 use Rattle.net_import.specs.Talks as talk
-use Rattle.script_task.specs.declared.request.Request.{Request}
-use Rattle.script_task.specs.declared.request.Request.TheVariants as request
-use Rattle.script_task.specs.Requests.{settled, bound_after}
+use Rattle.net_base.specs.declared.request.Request.{Request}
+use Rattle.net_base.specs.declared.request.Request.TheVariants as request
+use Rattle.net_base.specs.Requests.{settled, bound_after}
 use Rattle.script_task.specs.Task.{Heads, AsksSo, MovesSo, follow, fits_play}
 
 -- Steps of one request.

@@ -28,8 +28,8 @@ use Rattle.net_export.specs.Exporting as export
 use Rattle.net_import.specs.Errands as errand
 use Rattle.net_import.specs.Importing as import
 use Rattle.net_import.specs.Ropening as ropen
-use Rattle.script_task.specs.declared.request.Request.{Request}
-use Rattle.script_task.specs.declared.request.Request.TheVariants as request
+use Rattle.net_base.specs.declared.request.Request.{Request}
+use Rattle.net_base.specs.declared.request.Request.TheVariants as request
 
 -- The beginning.
 

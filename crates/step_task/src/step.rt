@@ -10,7 +10,7 @@ ghost use Rattle.net_base.specs.declared.left.Left.{Left as AnyLeft};
 ghost use Rattle.net_base.specs.Remotes.{is_remote};
 ghost use Rattle.net_base.specs.Scripts.{new_names};
 ghost use Rattle.net_import.specs.Ropening as ropening;
-ghost use Rattle.script_task.specs.declared.request.Request.TheVariants as request;
+ghost use Rattle.net_base.specs.declared.request.Request.TheVariants as request;
 ghost use Rattle.step_task.specs.declared.step.StepTask.TheVariants as t;
 ghost use Rattle.step_task.specs.StepTasks as spec;
 

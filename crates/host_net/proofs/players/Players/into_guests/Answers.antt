@@ -12,7 +12,7 @@ loop-group-init g c = (
   ap (λ (l : List Visit). l ++ visits (all_members (reverse c.reverse.new.self.items))) c.in_ok-guests.ensures.items
       ∙ (ap (λ l. visits (all_members l)) (ap reverse c.reverse.ensures.items ∙ reverse-reverse c.self.inside.groups.items)
       ∙ ap (λ x. visits (all_members x.groups)) c.self.view_is),
-  subst (λ (l : List Visit). ArePlayed g.J.Placing.world l) (sym c.in_ok-guests.ensures.items) (λ v there. absurd there),
+  subst (λ (l : List Visit). ArePlayed g.J.Placing.tasks g.J.Placing.world l) (sym c.in_ok-guests.ensures.items) (λ v there. absurd there),
 )
 
 pub loop-group-smaller : goal.loop-group-smaller
@@ -34,5 +34,5 @@ returns-clause-same g c =
 pub returns-clause-all : goal.returns-clause-all
 returns-clause-all g c k lt =
     subst (λ (l : List Visit). HasGuest k l) (sym (returns-clause-same g c))
-    (has_guest g.J.Placing.world c.args.self.callers c.args.self.groups
+    (has_guest g.J.Placing.tasks g.J.Placing.world c.args.self.callers c.args.self.groups
     (subst (λ x. IsDealt g.J.Placing.world x.callers (all_seats x.groups)) c.self.view_is c.self.invariant.0) k lt)

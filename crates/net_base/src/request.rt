@@ -1,7 +1,9 @@
 //! What a task asks for.
 ghost use Rattle.std.specs.Prelude.{◌≡◌};
 
-use net_base::{Heard, Mode, Octets};
+use crate::headers::Heard;
+use crate::names::Mode;
+use crate::octets::Octets;
 use std::alloc::AllocError;
 
 /// A file operation, which names its file as its caller has bound it. Counts are in bytes, moments in ms.
