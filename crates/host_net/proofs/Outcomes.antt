@@ -279,7 +279,7 @@ module _ {T : Type 0} (ts : Tasks) (w : World) (r : Roster) (gs lent ks new : Li
     where
       at_place : (x : Playing T) → In x (other_players ks) ⊎ (x ≡ q) → own x.visit.caller a.at.sight ≡ own x.visit.caller x.visit.sight
       at_place x (inl i) =
-          let was = all_lent ts w q.visit.now lent ks back x i in
+          let was = all_lent w q.visit.now lent ks back x i in
           subst (λ (c : ℕ). own c a.at.sight ≡ own c x.visit.sight) (sym was.2.caller_is)
           ((a.gathers.taken was.0.visit (visit_in was.0 (other_players lent) was.1)).stays.alone ∙ sym was.2.stays.alone)
       at_place x (inr e) =
@@ -298,7 +298,7 @@ module _ {T : Type 0} (ts : Tasks) (w : World) (r : Roster) (gs lent ks new : Li
       ap (λ (u : Visit). u.now) found.2 ∙ at_place found.0 (replaced found.0 found.1)
     where
       at_place : (x : Playing T) → In x (other_players ks) ⊎ (x ≡ q) → x.visit.now ≡ q.visit.now
-      at_place x (inl i) = (all_lent ts w q.visit.now lent ks back x i).3
+      at_place x (inl i) = (all_lent w q.visit.now lent ks back x i).3
       at_place x (inr e) = ap (λ (y : Playing T). y.visit.now) e
 
   advanced_by : (x : Advance) → Decided ts w a.at x a.to → Advanced ts w (visits (all_members gs)) x (visits (all_members new))

@@ -38,11 +38,11 @@ SameNets w r = (log : List Noted) → IsOfGuests w r log → noted_net w log ≡
 module _ {T : Type 0} (ts : Tasks) (w : World) (r : Roster) (gs lent : List (Grouped T)) (place : ℕ) (p : Playing T) (taken : IsTaken gs p place lent)
     (dealt : IsDealt w r.callers (all_seats gs)) where
   pub is_clock : caller_of w (caller p) ≡ IsClock
-  is_clock = clock_seated ts w gs place taken.group p dealt.seated taken.there taken.clock_is
+  is_clock = clock_seated w gs place taken.group p dealt.seated taken.there taken.clock_is
 
   none_set : NoClocks (slice_set gs place (emptied taken.group))
   none_set =
-      none_left (caller p) taken.group p taken.clock_is refl gs place taken.there (all_clocks ts w (caller p) gs is_clock dealt.seated) dealt.callers.apart
+      none_left (caller p) taken.group p taken.clock_is refl gs place taken.there (all_clocks w (caller p) gs is_clock dealt.seated) dealt.callers.apart
 
   none : NoClocks lent
   none = subst (λ (l : List (Grouped T)). NoClocks l) (sym taken.new_is) none_set
@@ -53,7 +53,7 @@ module _ {T : Type 0} (ts : Tasks) (w : World) (r : Roster) (gs lent : List (Gro
   pub clock_alone : Apart (caller p ∷ callers_of (other_players lent))
   clock_alone =
       subst (λ (l : List (Playing T)). Apart (caller p ∷ callers_of l)) (sym same_others)
-      (clock_apart ts w (caller p) gs is_clock dealt.seated dealt.callers.apart)
+      (clock_apart w (caller p) gs is_clock dealt.seated dealt.callers.apart)
 
   placed : (x : Playing T) → In x (all_members gs) → In x (other_players lent) ⊎ (x ≡ p)
   placed x i =
@@ -67,7 +67,7 @@ module _ {T : Type 0} (ts : Tasks) (w : World) (r : Roster) (gs lent : List (Gro
   module _ (q : Playing T) (ks : List (Grouped T)) (back : GroupsAreBack w q.visit.now lent ks) where
     there_back : (k : Grouped T) × (slice_get ks place ≡ Some k)
     there_back =
-        place_back ts w q.visit.now lent ks back place (emptied taken.group)
+        place_back w q.visit.now lent ks back place (emptied taken.group)
         (ap (λ (l : List (Grouped T)). slice_get l place) taken.new_is ∙ set_there gs place taken.group (emptied taken.group) taken.there)
 
     pub place_within : place < length ks
@@ -106,7 +106,7 @@ module _ {T : Type 0} (ts : Tasks) (w : World) (r : Roster) (gs lent : List (Gro
       replaced x i =
           subst (λ (l : List (Playing T)). In x l ⊎ (x ≡ q)) (filled_others ks place there_back.0 q there_back.1)
           (all_placed (slice_set ks place (filled there_back.0 q)) place (filled there_back.0 q) q x (filled_at ks place there_back.0 q there_back.1) refl
-          (emptied_again ks place there_back.0 q there_back.1 (still_none ts w q.visit.now lent ks back none))
+          (emptied_again ks place there_back.0 q there_back.1 (still_none w q.visit.now lent ks back none))
           (subst (λ (l : List (Grouped T)). In x (all_members l)) put_is i))
 
       all_again : (c : ℕ) → c < r.callers → HasGuest c (visits (all_members new))

@@ -47,12 +47,12 @@ no_script w c s clock script = subst ClockOnly (sym clock ∙ script) tt
 
 -- Standings in the order of their callers.
 
-pub standings_more : (ts : Tasks) (w : World) (us vs : List Visit) (ss ts : List Standing) → AreStandings ts w us ss → AreStandings ts w vs ts
-    → AreStandings ts w (us ++ vs) (ss ++ ts)
-standings_more ts w [] vs [] ts one two = two
-standings_more ts w [] vs (s ∷ ss) ts one two = absurd one
-standings_more ts w (u ∷ us) vs [] ts one two = absurd one
-standings_more ts w (u ∷ us) vs (s ∷ ss) ts one two = (one.0, standings_more ts w us vs ss ts one.1 two)
+pub standings_more : (ts : Tasks) (w : World) (us vs : List Visit) (ss rest : List Standing) → AreStandings ts w us ss → AreStandings ts w vs rest
+    → AreStandings ts w (us ++ vs) (ss ++ rest)
+standings_more ts w [] vs [] rest one two = two
+standings_more ts w [] vs (s ∷ ss) rest one two = absurd one
+standings_more ts w (u ∷ us) vs [] rest one two = absurd one
+standings_more ts w (u ∷ us) vs (s ∷ ss) rest one two = (one.0, standings_more ts w us vs ss rest one.1 two)
 
 pub adds_none : (ts : Tasks) (w : World) (ss : List Standing) → Adds ts w [] ss ss
 adds_none ts w ss = record { added = []; behind = sym (append-nil ss); standings = tt }
@@ -139,7 +139,7 @@ module _ {T : Type 0} where
   seats_in (x ∷ gs) (suc n) g there = inr (seats_in gs n g there)
 
   -- the clock's player in a group is the clock's
-  pub clock_seated : (ts : Tasks) (w : World) (gs : List (Grouped T)) (n : ℕ) (g : Grouped T) (p : Playing T) → ((s : Seats) → In s (all_seats gs) → IsSeated w s)
+  pub clock_seated : (w : World) (gs : List (Grouped T)) (n : ℕ) (g : Grouped T) (p : Playing T) → ((s : Seats) → In s (all_seats gs) → IsSeated w s)
       → slice_get gs n ≡ Some g → g.clock ≡ Some p → caller_of w (caller p) ≡ IsClock
   clock_seated w gs n g p seated there is =
       subst (λ (c : Option (Playing T)). IfSome (option_map caller c) (λ (k : ℕ). caller_of w k ≡ IsClock)) is
@@ -177,11 +177,11 @@ module _ {T : Type 0} where
   )
 
   -- at first each is with its own guest, and the clock's with the clock's pass
-  pub lent_first : (w : World) (r : Roster) (gs : List (Grouped T)) (left : List (Playing T)) (p : Playing T) (ss : List Standing)
+  pub lent_first : (ts : Tasks) (w : World) (r : Roster) (gs : List (Grouped T)) (left : List (Playing T)) (p : Playing T) (ss : List Standing)
       → AreStandings ts w (visits (all_members gs)) ss → ((q : Playing T) → In q (all_members gs) → In q left ⊎ (q ≡ p))
       → IsWith w r p.visit p.visit.sight → ((c : ℕ) → c < r.callers → HasGuest c (visits (all_members gs)))
       → AreLent ts w r (visits left) p.visit.sight ss
-  lent_first w r gs left p ss are placed mine all = record { each = each; all = each_caller }
+  lent_first ts w r gs left p ss are placed mine all = record { each = each; all = each_caller }
     where
       at_place : (q : Playing T) → In q left ⊎ (q ≡ p) → IsWith w r q.visit p.visit.sight ⊎ In q.visit (visits left)
       at_place q (inl there) = inr (visit_in q left there)

@@ -18,7 +18,7 @@ use Rattle.net_base.specs.Next.{is_left, is_unfinished_by, next_of_by, place_nex
 use Rattle.net_base.specs.Stamped.{In}
 use Rattle.net_base.specs.Scripts.{Kept, at_first, heard, kept_after, position, step_play}
 use Rattle.net_base.specs.Steps.{Names, Stand, Asking, Finished, position_by, stands}
-use Rattle.net_base.specs.Tasks.{Asking, Tasks}
+use Rattle.net_base.specs.Tasks.{Asking as OwnAsking, Tasks}
 use Rattle.net_base.specs.Versions.{Tuples}
 use Rattle.journal.specs.declared.law.Roster.{Roster}
 use Rattle.journal.specs.declared.tokens.Sight.{Sight}
@@ -44,7 +44,7 @@ left_is h (s ∷ ss) k rs = by_stand (stands (step_play h k s) rs) (λ after lat
     by_stand (Finished after later) rest = rest after later
 
 -- and so has what is played in its place
-left_by : (own : Option Asking) (zone : Tuples) (s : Script) (rs : List Reply) → is_left own zone s rs ≡ is_some (place_next own zone s rs)
+left_by : (own : Option OwnAsking) (zone : Tuples) (s : Script) (rs : List Reply) → is_left own zone s rs ≡ is_some (place_next own zone s rs)
 left_by None zone s rs = left_is s.host s.steps (at_first zone) rs
 left_by (Some asks) zone s rs = refl
 

@@ -116,7 +116,7 @@ invariant_of-first g t c =
     subst (λ (i : Inside g.row.J.Denot g.row.T.Denot). i.counts ≡ true → IsCounted g.T.WholeTask.Plays w i.guest i.task i.lost i.before)
     (sym c.first-inside.view_is) c.first.invariant.1 in
     let later = c.take_back.new.self.visit in
-    let caller = mine_caller w r c.first-inside.inside.0.1.0 c.first-inside.inside.0.1.1.0
+    let caller = mine_caller g.J.Placing.tasks w r c.first-inside.inside.0.1.0 c.first-inside.inside.0.1.1.0
     c.first-inside.inside.0.1.1.1.0 c.first-inside.inside.0.1.1.1.1.1.0 me.visit clock.visit
     c.args.clock.now c.in-Some.first.now c.in-Some.others.now c.args.players.now c.args.groups.now one c.in-Some.ensures.cases.0 c.clock.view_is
     c.args.standings.now c.requires.apart c.requires.lent c.lend.new.clock.visit c.lend.ensures.same c.lend.ensures.lent c.lend.ensures.others
@@ -124,7 +124,7 @@ invariant_of-first g t c =
     c.with_all-answer.ensures.clock
     c.lend.new.self.visit c.take_back.new.self.visit c.take_back.new.clock.visit c.lend.ensures.away.visit_is c.take_back.ensures.back back
     c.take_back.ensures.same c.take_back.ensures.seen c.take_back.ensures.others in
-    let names = mine_names w r c.first-inside.inside.0.1.0 c.first-inside.inside.0.1.1.0
+    let names = mine_names g.J.Placing.tasks w r c.first-inside.inside.0.1.0 c.first-inside.inside.0.1.1.0
     c.first-inside.inside.0.1.1.1.0 c.first-inside.inside.0.1.1.1.1.1.0 me.visit clock.visit
     c.args.clock.now c.in-Some.first.now c.in-Some.others.now c.args.players.now c.args.groups.now one c.in-Some.ensures.cases.0 c.clock.view_is
     c.args.standings.now c.requires.apart c.requires.lent c.lend.new.clock.visit c.lend.ensures.same c.lend.ensures.lent c.lend.ensures.others
@@ -165,7 +165,7 @@ returns-in-Some-clause-others g t c =
     had.visit c.with_all-answer.new.clock c.clock-in-Some.view_is c.with_all-answer.result c.with_all-answer.ensures.others
     c.with_all-answer.ensures.clock in
     let back = c.take_back.ensures.with_itself me.visit c.lend.ensures.away still in
-    others_stay_here w r c.first-inside.inside.0.1.0 c.first-inside.inside.0.1.1.0
+    others_stay_here g.J.Placing.tasks w r c.first-inside.inside.0.1.0 c.first-inside.inside.0.1.1.0
     c.first-inside.inside.0.1.1.1.0 c.first-inside.inside.0.1.1.1.1.1.0 me.visit clock.visit
     c.args.clock.now c.in-Some.first.now c.in-Some.others.now c.args.players.now c.args.groups.now one c.in-Some.ensures.cases.0 c.clock.view_is
     c.args.standings.now c.requires.apart c.requires.lent c.lend.new.clock.visit c.lend.ensures.same c.lend.ensures.lent c.lend.ensures.others
@@ -190,7 +190,7 @@ returns-in-Some-clause-clock g t c =
     had.visit c.with_all-answer.new.clock c.clock-in-Some.view_is c.with_all-answer.result c.with_all-answer.ensures.others
     c.with_all-answer.ensures.clock in
     let back = c.take_back.ensures.with_itself me.visit c.lend.ensures.away still in
-    advances_here w r c.first-inside.inside.0.1.0 c.first-inside.inside.0.1.1.0
+    advances_here g.J.Placing.tasks w r c.first-inside.inside.0.1.0 c.first-inside.inside.0.1.1.0
     c.first-inside.inside.0.1.1.1.0 c.first-inside.inside.0.1.1.1.1.1.0 me.visit clock.visit
     c.args.clock.now c.in-Some.first.now c.in-Some.others.now c.args.players.now c.args.groups.now one c.in-Some.ensures.cases.0 c.clock.view_is
     c.args.standings.now c.requires.apart c.requires.lent c.lend.new.clock.visit c.lend.ensures.same c.lend.ensures.lent c.lend.ensures.others
@@ -215,7 +215,7 @@ returns-in-Some-clause-players g t c =
     had.visit c.with_all-answer.new.clock c.clock-in-Some.view_is c.with_all-answer.result c.with_all-answer.ensures.others
     c.with_all-answer.ensures.clock in
     let back = c.take_back.ensures.with_itself me.visit c.lend.ensures.away still in
-    are_back w r c.first-inside.inside.0.1.0 c.first-inside.inside.0.1.1.0
+    are_back g.J.Placing.tasks w r c.first-inside.inside.0.1.0 c.first-inside.inside.0.1.1.0
     c.first-inside.inside.0.1.1.1.0 c.first-inside.inside.0.1.1.1.1.1.0 me.visit clock.visit
     c.args.clock.now c.in-Some.first.now c.in-Some.others.now c.args.players.now c.args.groups.now one c.in-Some.ensures.cases.0 c.clock.view_is
     c.args.standings.now c.requires.apart c.requires.lent c.lend.new.clock.visit c.lend.ensures.same c.lend.ensures.lent c.lend.ensures.others

@@ -88,7 +88,7 @@ returns-clause-halts g c =
     record {
       may = may_move g.J.Placing.tasks w r p ss c.requires.all callers c.busy-busy.result c.busy-busy.ensures.finds c.if-busy.false c.nobody_is_limited.ensures c.in_default.is
           c.calm_is_that_nobody_could.ensures.calm (some_unfinished g.J.Placing.tasks w r p ss c.requires.all callers past some) before;
-      unlimited = stays_unlimited w r p ss c.requires.all callers c.busy-busy.result c.busy-busy.ensures.finds c.if-busy.false c.nobody_is_limited.ensures c.in_default.is
+      unlimited = stays_unlimited g.J.Placing.tasks w r p ss c.requires.all callers c.busy-busy.result c.busy-busy.ensures.finds c.if-busy.false c.nobody_is_limited.ensures c.in_default.is
           c.calm_is_that_nobody_could.ensures.calm (free_clock g.J.Placing.tasks w r p ss c.requires.all callers past c.args.caller c.requires.clock room);
       free = nobody_could g.J.Placing.tasks w r p ss c.requires.all callers c.busy-busy.result c.busy-busy.ensures.finds c.if-busy.false c.nobody_is_limited.ensures c.in_default.is
           c.calm_is_that_nobody_could.ensures.calm c.args.caller (subst (λ (n : ℕ). c.args.caller < n) callers (known_clock g.J.Placing.tasks w r p ss c.requires.all callers past c.args.caller c.requires.clock));
