@@ -10,6 +10,7 @@ use Rattle.net_base.specs.Next.{own_replies, zone_of}
 use Rattle.net_base.specs.Stamped.{In}
 use Rattle.net_base.specs.Steps.{Names}
 use Rattle.net_base.specs.Tasks.{Asking, Tasks, asking_of, told_all}
+use Rattle.history_laws.specs.Asked.{AsksInOrder}
 use Rattle.host_net.specs.Playing.{replies_of}
 use Rattle.net_guests.specs.Visits.{HasGuest, Visit}
 use Rattle.whole_script.specs.declared.place.PlaceTask.{PlaceTask}
@@ -33,6 +34,11 @@ module _ {T : Type 0} (asks : T → Names → Option Request) (after : T → Rep
   -- what is asked in each place; the script of a place for which no task is given is played
   abbrev pub tasks_of : List (Option T) → Tasks
   tasks_of given c = option_map (asking_of after asks) (task_at given c)
+
+  -- what is recorded in each script's place for which a task is given is what that asks, in order
+  abbrev pub AskInOrder : World → List (Option T) → List Entry → Type 0
+  AskInOrder w given h =
+      (c : ℕ) (s : Script) (t : T) → slice_get w.scripts c ≡ Some s → task_at given c ≡ Some t → AsksInOrder w h c s (asking_of after asks t)
 
   module _ (Keeps : T → List Reply → Type 0) where
     -- what comes back from a place is a task that keeps what is claimed of it after these replies, and asks on as the given one would

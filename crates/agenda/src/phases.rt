@@ -80,7 +80,8 @@ pub fn run_in_books<R: Threads + Wait + Sync, G: Gate + Sync>(
 {
     legal_histories_keep_it();
     let opened = NetOpened::new(alloc, world)?;
-    Ok(run_named::<Brand, R, G>(rt, alloc, world, workers, gate, opened)?)
+    let run = run_named::<Brand, R, G>(rt, alloc, world, workers, gate, opened)?;
+    Ok(run)
 }
 
 // The run, which has a name.

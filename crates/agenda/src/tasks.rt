@@ -8,7 +8,7 @@ ghost use Rattle.net_base.specs.Next.{zone_of};
 ghost use Rattle.net_base.specs.Steps.{no_names};
 ghost use Rattle.net_base.specs.Tasks.{asking_of};
 ghost use Rattle.net_base.specs.World.{IsWorld};
-ghost use Rattle.agenda.specs.Given.{AreBack, AreBegun, WereTold, own_task, task_at, tasks_of};
+ghost use Rattle.agenda.specs.Given.{AreBack, AreBegun, AskInOrder, WereTold, own_task, task_at, tasks_of};
 ghost use Rattle.host_net.specs.Groups.{all_members, visits};
 ghost use Rattle.host_net.specs.Playing.{ArePlayed};
 ghost use Rattle.net_guests.specs.Visits.{AreFresh, HasGuest};
@@ -20,6 +20,7 @@ ghost use Rattle.whole_script.specs.Places as places;
 use crate::deal::{Deal, deal_of};
 use crate::outcome::{RunError, TaskRun};
 use crate::phases::{phases, task_of};
+use history_laws::tasks_ask_in_order;
 use host_net::{Guest, Net, NetOpened, Player, Players};
 use journal::Naming;
 use net_base::World;
@@ -35,8 +36,8 @@ use whole_script::{OwnTask, PlaceTask};
 /// Runs a world on so many workers, with tasks of one's own in the places of scripts: the task of number `c` is played on the host of
 /// the script of number `c`, whose steps aren't. Where there is none the script is played.
 ///
-/// Each task comes back as it is in the end: it was told the replies to what it asked, in order, and nothing else. Where a thread can't
-/// be had, the caller does its work.
+/// What a task asks is what is recorded in its place, in order, and it comes back as it is in the end: it was told the replies to that, in
+/// order, and nothing else. Where a thread can't be had, the caller does its work.
 pub fn run_tasks<R: Threads + Wait + Sync, G: Gate + Sync, T: OwnTask + Drop + Send>(
     rt: &R,
     alloc: Global,
@@ -52,12 +53,15 @@ pub fn run_tasks<R: Threads + Wait + Sync, G: Gate + Sync, T: OwnTask + Drop + S
     ensures legal { IfOk result (λ run. IsLegalBy (tasks_of T.asks T.after tasks.items) world.now run.history) }
     ensures timed { IfOk result (λ run. IsTimedBy (tasks_of T.asks T.after tasks.items) world.now run.history) }
     ensures end { IfOk result (λ run. EndsBy (tasks_of T.asks T.after tasks.items) world.now (after world.now run.history) run.end) }
+    ensures asked { IfOk result (λ run. AskInOrder T.asks T.after world.now tasks.items run.history) }
     ensures told { IfOk result (λ run. WereTold T.asks T.after T.Keeps world.now tasks.items run.history run.tasks.items) }
     ensures prefixes { IfOk result (λ run. KeepsPrefixes world.now run.history) }
 {
+    tasks_ask_in_order();
     tasks_keep_prefixes();
     let opened = NetOpened::new(alloc, world)?;
-    Ok(run_named::<Brand, R, G, T>(rt, alloc, world, tasks, workers, gate, opened)?)
+    let run = run_named::<Brand, R, G, T>(rt, alloc, world, tasks, workers, gate, opened)?;
+    Ok(run)
 }
 
 // The run, which has a name.
@@ -120,7 +124,8 @@ fn players_of<'a, J: Naming + Placing, T: OwnTask + Drop>(
         let caller = guest.caller();
         let own = take(&mut tasks, caller as usize);
         let task = place_task(alloc, world, caller, own);
-        players.add(Player::new(world, guest, task))?;
+        let player = Player::new(world, guest, task);
+        players.add(player)?;
     }
     Ok(players)
 }

@@ -490,7 +490,7 @@ module _ {T : Type 0} where
   guest_of c (p ∷ ps) (inr there) = let rest = guest_of c ps there in (rest.0, inr rest.1, rest.2)
 
   -- each caller so far has a guest
-  pub has_guest : (ts : Tasks) (w : World) (n : ℕ) (gs : List (Grouped T)) → IsDealt w n (all_seats gs) → (c : ℕ) → c < n → HasGuest c (visits (all_members gs))
+  pub has_guest : (w : World) (n : ℕ) (gs : List (Grouped T)) → IsDealt w n (all_seats gs) → (c : ℕ) → c < n → HasGuest c (visits (all_members gs))
   has_guest w n gs dealt c lt = guest_of c (all_members gs) (subst (λ (l : List ℕ). In c l) (sym (all_callers_are gs)) (dealt.callers.all c lt))
 
   pub visits_more : (ps qs : List (Playing T)) → visits (ps ++ qs) ≡ visits ps ++ visits qs

@@ -1,5 +1,5 @@
 //! Callers that are played.
-ghost use Rattle.std.specs.Prelude.{◌≡◌, ◌≢◌, ◌<◌, [], true, false, IfNone, IfOk, IfSome, OnSome};
+ghost use Rattle.std.specs.Prelude.{◌≡◌, ◌≢◌, ◌<◌, [], None, true, false, IfNone, IfOk, IfSome, OnSome};
 ghost use Rattle.net_base.specs.declared.world.Script.{Script as AnyScript};
 ghost use Rattle.net_base.specs.Callers.{IsScript, caller_count, caller_of};
 ghost use Rattle.net_base.specs.Steps.{no_names};
@@ -90,14 +90,14 @@ impl<J: Naming + Placing, T: WholeTask> Player<J, T> {
         }
     }
 
-    /// The same of a task that plays the script from its beginning, which tells that.
+    /// The same of a task that plays the script from its beginning, where no task is played in its place. It tells how many steps are
+    /// answered.
     pub fn counting(world: &World, guest: Guest<J>, task: T) -> Player<J, T>
         requires world { J.world ≡ world.now }
         requires is { IsWorld world.now }
         requires roster { IsRosterOf J.world J.run.roster }
         requires fresh { IsFresh (zone_of J.world) guest.caller guest }
-        requires task { (s : AnyScript) → caller_of J.world guest.caller ≡ IsScript s
-            → T.Goes (J.tasks guest.caller) (zone_of J.world) s [] (no_names (zone_of J.world)) task }
+        requires script { J.tasks guest.caller ≡ None }
         requires plays { (s : AnyScript) → caller_of J.world guest.caller ≡ IsScript s
             → T.Plays (zone_of J.world) s [] (no_names (zone_of J.world)) task }
         ensures visit { result.visit ≡ guest }

@@ -16,9 +16,13 @@ use Rattle.net_base.specs.Versions.{Tuples, database_of}
 abbrev pub by : List Entry → ℕ → List Entry
 by h c = filter (λ (x : Entry). x.caller == c) h
 
--- the replies to the events of a caller that nothing owed, in order
+-- the entries of a caller that nothing owed, in order
+abbrev pub own_entries : List Entry → ℕ → List Entry
+own_entries h c = filter (λ (x : Entry). is_none x.cites) (by h c)
+
+-- the replies to their events
 abbrev pub own_replies : List Entry → ℕ → List Reply
-own_replies h c = map (λ (x : Entry). x.reply) (filter (λ (x : Entry). is_none x.cites) (by h c))
+own_replies h c = map (λ (x : Entry). x.reply) (own_entries h c)
 
 -- the database from which `dns` answers: the first
 abbrev pub zone_of : World → Tuples

@@ -14,7 +14,7 @@ use Rattle.whole_script.specs.declared.place.PlaceTask.{PlaceTask}
 use Rattle.whole_script.specs.declared.place.PlaceTask.TheVariants as place
 use Rattle.whole_script.specs.Places as spec
 use Rattle.whole_script.specs.ScriptLaws as script
-use Rattle.whole_script.specs.Wholes.{AsksThere, Comes, GoesThere, PlaysOn}
+use Rattle.whole_script.specs.Wholes.{AsksThere, Comes, GoesThere, PlaysOn, PlaysThere}
 
 -- one reply more
 names_push : (asks : Asking) (names : Names) (rs : List Reply) (r : Reply)
@@ -70,6 +70,10 @@ module _ {T : Type 0} (asks : T → Names → Option Request) (after : T → Rep
   pub goes_there : GoesThere (PlaceTask T) (spec.asks asks) (spec.after after) (spec.Goes asks after Keeps)
   goes_there own zone s rs names (place.Script t) q ask r goes asked is fit = script.goes_there own zone s rs names t q ask r goes asked is fit
   goes_there own zone s rs names (place.Own t) q ask r goes asked is fit = goes_own own zone rs names t q r goes asked
+
+  pub plays_there : PlaysThere (PlaceTask T) (spec.Goes asks after Keeps) spec.Plays
+  plays_there zone s rs names (place.Script t) at = script.plays_there zone s rs names t at
+  plays_there zone s rs names (place.Own t) at = absurd at
 
   pub plays_on : PlaysOn (PlaceTask T) (spec.asks asks) (spec.after after) spec.Plays
   plays_on zone s rs names (place.Script t) q ask r at asked is fit = script.plays_on zone s rs names t q ask r at asked is fit

@@ -24,7 +24,7 @@ use Rattle.step_task.specs.Leaving as leaving
 use Rattle.step_task.specs.StepLaws as step_laws
 use Rattle.step_task.specs.StepTasks as step
 use Rattle.whole_script.specs.ScriptTasks.{Scripting, finished_in, AtStep, AtEnd, begun_at, goes_on, asks, after, after_all, then_play, plays_behind, plays_of, StandsFor, Plays, Goes}
-use Rattle.whole_script.specs.Wholes.{AsksThere, Comes, GoesThere}
+use Rattle.whole_script.specs.Wholes.{AsksThere, Comes, GoesThere, PlaysThere}
 
 -- Plays, one after another.
 
@@ -139,10 +139,9 @@ plays_on zone s rs names t q ask r at asked is fit =
       counts = λ more fit_more. subst (λ (xs : List Reply). finished_in (after_all (after t r) more) ≡ finished_by zone xs s) (sym (append_one rs r more)) (at.counts (r ∷ more) (fits_it, fit_more));
     }
 
--- it stands for a play that goes on where the script stands
-pub stands_there : (zone : Tuples) (s : Script) (rs : List Reply) (names : Names) (t : Scripting) → Plays zone s rs names t
-    → (p : Play) × StandsFor s.host names t p × Continues zone s rs p
-stands_there zone s rs names t at = (at.play, at.stands_for, at.continues)
+-- where the script is played, it goes on there
+pub plays_there : PlaysThere Scripting Goes Plays
+plays_there zone s rs names t at = (refl, at)
 
 -- what it asks is what comes next in its place
 pub asks_there : AsksThere Scripting asks Goes

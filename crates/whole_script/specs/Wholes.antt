@@ -3,13 +3,12 @@ use Rattle.std.specs.Prelude.{◌≡◌, ℕ, true, List, [], ◌∷◌, ◌++�
 use Rattle.net_base.specs.declared.reply.Reply.{Reply}
 use Rattle.net_base.specs.declared.world.Script.{Script}
 use Rattle.net_base.specs.Next.{place_next}
-use Rattle.net_base.specs.Steps.{Ask, Names, Play}
+use Rattle.net_base.specs.Steps.{Ask, Names}
 use Rattle.net_base.specs.Tasks.{Asking}
 use Rattle.net_base.specs.Versions.{Tuples}
 use Rattle.net_base.specs.declared.request.Request.{Request}
 use Rattle.script_task.specs.Fitting.{fits}
 use Rattle.net_base.specs.Requests.{planned, settled}
-use Rattle.script_task.specs.Rest.{Continues}
 
 -- the event of the request is what comes next, and nothing does where there is none
 abbrev pub Comes : ℕ → Names → Option Request → Option Ask → Type 0
@@ -30,11 +29,10 @@ GoesThere T asks after Goes =
     → Goes own zone s rs names t → asks t names ≡ Some q → planned s.host names q ≡ Some ask → fits ask.event r ≡ true
     → Goes own zone s (rs ++ r ∷ []) (settled names q r) (after t r)
 
--- it stands for a play that goes on where these replies leave its script
-abbrev pub StandsThere : (T : Type 0) → (ℕ → Names → T → Play → Type 0) → (Tuples → Script → List Reply → Names → T → Type 0) → Type 0
-StandsThere T Stands Plays =
-    (zone : Tuples) (s : Script) (rs : List Reply) (names : Names) (t : T)
-    → Plays zone s rs names t → (p : Play) × Stands s.host names t p × Continues zone s rs p
+-- where the script is played there, it goes on there by playing it
+abbrev pub PlaysThere : (T : Type 0) → (Option Asking → Tuples → Script → List Reply → Names → T → Type 0) → (Tuples → Script → List Reply → Names → T → Type 0) → Type 0
+PlaysThere T Goes Plays =
+    (zone : Tuples) (s : Script) (rs : List Reply) (names : Names) (t : T) → Plays zone s rs names t → Goes None zone s rs names t
 
 -- after a reply that the event of its request can have, it plays the script on
 abbrev pub PlaysOn :

@@ -32,6 +32,8 @@ impl<T: OwnTask> WholeTask for PlaceTask<'_, T> {
 
     ghost goes_there = { laws.goes_there T.asks T.after T.Keeps T.keeps_on };
 
+    ghost plays_there = { laws.plays_there T.asks T.after T.Keeps T.keeps_on };
+
     ghost plays_on = { laws.plays_on T.asks T.after T.Keeps T.keeps_on };
 
     fn next(&self, alloc: Global, fids: &Names) -> Result<Option<Request>, AllocError> {

@@ -131,6 +131,8 @@ impl WholeTask for ScriptTask<'_> {
 
     ghost goes_there = { laws.goes_there };
 
+    ghost plays_there = { laws.plays_there };
+
     ghost plays_on = { laws.plays_on };
 
     fn next(&self, alloc: Global, fids: &Names) -> Result<Option<Request>, AllocError> {

@@ -7,7 +7,7 @@ ghost use Rattle.net_base.specs.Next.{finished_by};
 ghost use Rattle.net_base.specs.Steps.{Names as AnyNames};
 ghost use Rattle.net_base.specs.Tasks.{Asking};
 ghost use Rattle.net_base.specs.Versions.{Tuples};
-ghost use Rattle.whole_script.specs.Wholes.{AsksThere, GoesThere, PlaysOn};
+ghost use Rattle.whole_script.specs.Wholes.{AsksThere, GoesThere, PlaysOn, PlaysThere};
 
 use net_base::{Reply, Request};
 use script_task::Names;
@@ -47,6 +47,9 @@ pub trait WholeTask {
 
     // and after each reply it goes on there
     ghost goes_there: { GoesThere Self asks after Goes };
+
+    // where the script is played, it goes on there
+    ghost plays_there: { PlaysThere Self Goes Plays };
 
     // after each reply it plays the script on
     ghost plays_on: { PlaysOn Self asks after Plays };

@@ -34,5 +34,5 @@ returns-clause-same g c =
 pub returns-clause-all : goal.returns-clause-all
 returns-clause-all g c k lt =
     subst (λ (l : List Visit). HasGuest k l) (sym (returns-clause-same g c))
-    (has_guest g.J.Placing.tasks g.J.Placing.world c.args.self.callers c.args.self.groups
+    (has_guest g.J.Placing.world c.args.self.callers c.args.self.groups
     (subst (λ x. IsDealt g.J.Placing.world x.callers (all_seats x.groups)) c.self.view_is c.self.invariant.0) k lt)
