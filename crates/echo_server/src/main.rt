@@ -4,12 +4,14 @@
 ghost use Rattle.std.specs.Prelude.{◌<◌, ◌≤◌, IfOk, IfSome};
 ghost use Rattle.net_base.specs.World.{IsWorld};
 ghost use Rattle.agenda.specs.Given.{AreBegun};
+ghost use Rattle.prefix_law.specs.PrefixLaw.{KeepsPrefixes};
 ghost use Rattle.echo_server.specs.Echoes.{claimed};
+ghost use Rattle.echo_server.specs.Reading.{HaveRead};
 
 mod client;
 mod server;
 
-use agenda::{EitherTask, RunError, run_tasks};
+use agenda::{EitherTask, RunError, TaskRun, run_tasks};
 use client::EchoClient;
 use net_base::{Lines, Octets, World};
 use outside::{OpenGate, Source, StdSource, read_to_end};
@@ -71,8 +73,26 @@ fn well<R: Threads + Wait + Sync>(
     requires few { workers ≤ 16 }
 {
     let tasks = tasks_of(alloc, world.scripts.len())?;
-    let run = run_tasks(rt, alloc, world, tasks, workers, &OpenGate)?;
+    let run = echoes(rt, alloc, world, tasks, workers)?;
     Ok(well_among(run.tasks.as_slice()))
+}
+
+// A run with these tasks. A client that ends well has read what it wrote, and each read what its peer wrote.
+fn echoes<R: Threads + Wait + Sync>(
+    rt: &R,
+    alloc: Global,
+    world: &World,
+    tasks: Vec<Option<EchoTask>>,
+    workers: u32,
+) -> Result<TaskRun<EchoTask>, RunError>
+    requires world { IsWorld world.now }
+    requires some { 0 < workers }
+    requires few { workers ≤ 16 }
+    requires begun { AreBegun claimed tasks.items }
+    ensures read { IfOk result (λ run. HaveRead world.now tasks.items run.history run.tasks.items) }
+    ensures prefixes { IfOk result (λ run. KeepsPrefixes world.now run.history) }
+{
+    run_tasks(rt, alloc, world, tasks, workers, &OpenGate)
 }
 
 // A server, and clients in the other places.
