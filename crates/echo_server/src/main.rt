@@ -4,7 +4,7 @@
 ghost use Rattle.std.specs.Prelude.{◌<◌, ◌≤◌, IfOk, IfSome};
 ghost use Rattle.net_base.specs.World.{IsWorld};
 ghost use Rattle.agenda.specs.Given.{AreBegun};
-ghost use Rattle.prefix_law.specs.PrefixLaw.{KeepsPrefixes};
+ghost use Rattle.agenda.specs.PrefixLaw.{KeepsPrefixes};
 ghost use Rattle.echo_server.specs.Echoes.{claimed};
 ghost use Rattle.echo_server.specs.Reading.{HaveRead};
 
