@@ -1,6 +1,7 @@
 //! A client: it dials the server by name, and compares what it reads with what it wrote.
-ghost use Rattle.std.specs.Prelude.{◌≡◌, ◌<◌, ◌+◌, length, IfOk, MatchOption, None, Some};
+ghost use Rattle.std.specs.Prelude.{◌≡◌, ◌<◌, ◌+◌, [], length, IfOk, MatchOption, None, Some};
 ghost use Rattle.echo_server.specs.Calling as spec;
+ghost use Rattle.echo_server.specs.Echoes as echoes;
 
 use crate::server::{close, read, write};
 use agenda::OwnTask;
@@ -35,7 +36,7 @@ pub struct EchoClient {
 impl EchoClient {
     /// Calls this address, and sends these messages.
     pub fn new(alloc: Global, address: &[u8], messages: Lines) -> Result<EchoClient, AllocError>
-        ensures { IfOk result (λ c. c.echoed ≡ 0) }
+        ensures { IfOk result (λ c. echoes.Keeps c []) }
     {
         Ok(EchoClient {
             stage: Stage::Wait,
@@ -80,8 +81,6 @@ impl EchoClient {
 }
 
 impl OwnTask for EchoClient {
-    ghost use Rattle.echo_server.specs.Echoes as echoes;
-
     ghost asks = { spec.asks };
 
     ghost after = { spec.after };

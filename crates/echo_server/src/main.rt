@@ -1,7 +1,7 @@
 //! An echo server and its clients over a network that loses packets, on one worker and on four.
 #![tactic(auto)]
 
-ghost use Rattle.std.specs.Prelude.{◌<◌, ◌≤◌, IfOk, IfSome};
+ghost use Rattle.std.specs.Prelude.{◌<◌, ◌≤◌, [], IfOk, IfSome};
 ghost use Rattle.net_base.specs.World.{IsWorld};
 ghost use Rattle.agenda.specs.Given.{AreBegun};
 ghost use Rattle.agenda.specs.PrefixLaw.{KeepsPrefixes};
@@ -95,17 +95,27 @@ fn echoes<R: Threads + Wait + Sync>(
     run_tasks(rt, alloc, world, tasks, workers, &OpenGate)
 }
 
-// A server, and clients in the other places.
+// A server in the first place, and clients in the others.
 fn tasks_of(alloc: Global, places: usize) -> Result<Vec<Option<EchoTask>>, AllocError>
     ensures { IfOk result (λ tasks. AreBegun claimed tasks.items) }
 {
     let mut tasks = Vec::with_capacity(alloc, places)?;
-    tasks.push(Some(EitherTask::One(EchoServer::new(alloc, ANNOUNCED)?)))?;
-    for _ in 1..places {
-        let client = EchoClient::new(alloc, SERVICE, messages(alloc)?)?;
-        tasks.push(Some(EitherTask::Other(client)))?;
+    for place in 0..places {
+        let task = task_of(alloc, place)?;
+        tasks.push(Some(task))?;
     }
     Ok(tasks)
+}
+
+fn task_of(alloc: Global, place: usize) -> Result<EchoTask, AllocError>
+    ensures { IfOk result (λ task. claimed task []) }
+{
+    if place == 0 {
+        let server = EchoServer::new(alloc, ANNOUNCED)?;
+        return Ok(EitherTask::One(server));
+    }
+    let client = EchoClient::new(alloc, SERVICE, messages(alloc)?)?;
+    Ok(EitherTask::Other(client))
 }
 
 fn messages(alloc: Global) -> Result<Lines, AllocError> {

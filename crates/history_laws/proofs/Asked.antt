@@ -45,7 +45,7 @@ module _ (ts : Tasks) (w : World) (c : ℕ) (s : Script) (asks : Asking) (script
       → task_next s.host (no_names (zone_of w)) asks (map (λ (y : Entry). y.reply) xs) ≡ Some (asked_by x) → InOrder (xs ++ x ∷ [])
   in_order_push xs x so_far next = record { each = one }
     where
-      abbrev rs : List Reply
+      rs : List Reply
       rs = map (λ (y : Entry). y.reply) xs
 
       pushed : map (λ (y : Entry). y.reply) (xs ++ x ∷ []) ≡ rs ++ x.reply ∷ []

@@ -3,5 +3,5 @@ use Rattle.echo_server.specs.Echoes.{claimed}
 use Rattle.echo_server.proofs.tasks_of.Given as goal
 
 -- what is claimed of those that are given so far holds
-abbrev pub invariant-loop : goal.invariant-loop
-invariant-loop l = AreBegun claimed l.tasks.items
+abbrev pub invariant-loop-place : goal.invariant-loop-place
+invariant-loop-place l = AreBegun claimed l.tasks.items
