@@ -1,6 +1,6 @@
 -- Tasks come back, each to its place.
-use Rattle.std.proofs.Common.{◌≡◌, ◌≢◌, ◌⊎◌, inl, inr, ℕ, ◌<◌, ◌+◌, ◌==◌, Bool, true, false, List, [], ◌∷◌, ◌++◌, append_assoc, length, Option, Some, None, IfSome, option_map, slice_get, refl, sym, ap, subst, ◌∙◌, arith}
-use Rattle.std.specs.Option.{option_map_or}
+use Rattle.std.proofs.Common.{◌≡◌, ◌≢◌, ◌⊎◌, inl, inr, ℕ, ◌<◌, ◌+◌, ◌==◌, Bool, true, false, List, [], ◌∷◌, ◌++◌, append_assoc, length, Option, Some, None, IfNone, IfSome, option_map, slice_get, refl, sym, ap, subst, ◌∙◌, arith}
+use Rattle.std.specs.Option.{option_and_then, option_map_or}
 use Rattle.std.proofs.lemmas.Bool.{eq-eqb, eqb-true, true≢false}
 use Rattle.std.proofs.lemmas.List.{append-nil}
 use Rattle.std.proofs.lemmas.Option.{none-some, same_Some, slice_get_within}
@@ -14,7 +14,7 @@ use Rattle.net_base.specs.Next.{own_replies, zone_of}
 use Rattle.net_base.specs.Stamped.{In}
 use Rattle.net_base.specs.Steps.{Names, no_names}
 use Rattle.net_base.specs.Tasks.{Asking, Tasks, asking_of, asks_after, told_all}
-use Rattle.agenda.specs.Given.{AreBack, AreBegun, IsBack, WereTold, own_task, task_at, tasks_of}
+use Rattle.agenda.specs.Given.{AreBack, AreBegun, AreTheirs, IsBack, NoneElse, WereTold, own_task, task_at, tasks_of}
 use Rattle.host_net.specs.Answering.{AreAfter}
 use Rattle.host_net.specs.Playing.{AreGoing, IsGoing, guests_of, replies_of}
 use Rattle.host_net.proofs.Answered.{replies_after}
@@ -40,6 +40,28 @@ in_either x y [] (inl same) = inr same
 in_either x y [] (inr none) = absurd none
 in_either x y (z ∷ zs) (inl same) = inl (inl same)
 in_either x y (z ∷ zs) (inr there) = elim (in_either x y zs there) [ inl first ↦ inl (inr first) | inr last ↦ inr last ]
+
+pub script_at : (w : World) (c : ℕ) → c < length w.scripts → (s : Script) × (slice_get w.scripts c ≡ Some s)
+script_at w c lt = found w.scripts c lt
+  where
+    found : (ss : List Script) (k : ℕ) → k < length ss → (s : Script) × (slice_get ss k ≡ Some s)
+    found [] k lt = absurd (omega (arith, lt))
+    found (s ∷ ss) zero lt = (s, refl)
+    found (s ∷ ss) (suc k) lt = found ss k (omega (arith, lt))
+
+pub task_within : {T : Type 0} (xs : List (Option T)) (c : ℕ) (t : T) → task_at xs c ≡ Some t → c < length xs
+task_within {T = T} xs c t is = by_place (slice_get xs c) refl is
+  where
+    by_place : (o : Option (Option T)) → slice_get xs c ≡ o → option_and_then (λ q. q) o ≡ Some t → c < length xs
+    by_place None at none = absurd (none-some t none)
+    by_place (Some q) at there = slice_get_within xs c q at
+
+-- one place more in which there is none
+pub none_push : {T : Type 0} (xs : List (Option T)) → ((c : ℕ) → task_at xs c ≡ None) → (c : ℕ) → task_at (xs ++ None ∷ []) c ≡ None
+none_push [] none zero = refl
+none_push [] none (suc c) = refl
+none_push (x ∷ xs) none zero = none zero
+none_push (x ∷ xs) none (suc c) = none_push xs (λ d. none (suc d)) c
 
 module _ {T : Type 0} (asks : T → Names → Option Request) (after : T → Reply → T) (Keeps : T → List Reply → Type 0) where
   -- two that ask alike do so after the same replies
@@ -92,18 +114,20 @@ module _ {T : Type 0} (asks : T → Names → Option Request) (after : T → Rep
     pub going : AreGoing (places.Goes asks after Keeps) ts w left
     pub many : length back ≡ length w.scripts
     pub are_back : AreBack asks after Keeps ts w vs back
+    pub theirs : AreTheirs ts back
     pub len_is : len ≡ length left
 
   -- at first none is back
   pub backing_none : (ts : Tasks) (w : World) (all : List Visit) (parts left : List (Visit × PlaceTask T)) (len : ℕ) (vs : List Visit) (back : List (Option T))
       → len ≡ length left → vs ≡ [] → left ≡ parts → guests_of parts ≡ all → AreGoing (places.Goes asks after Keeps) ts w parts → length back ≡ length w.scripts
-      → Backing ts w all left len vs back
-  backing_none ts w all parts left len vs back len_is none is same going many =
+      → ((c : ℕ) → task_at back c ≡ None) → Backing ts w all left len vs back
+  backing_none ts w all parts left len vs back len_is none is same going many empty =
       record {
         same = ap (λ (us : List Visit). us ++ guests_of left) none ∙ (ap guests_of is ∙ same);
         going = subst (λ (l : List (Visit × PlaceTask T)). AreGoing (places.Goes asks after Keeps) ts w l) (sym is) going;
         many = many;
         are_back = λ c s asking there own guest. absurd (subst (λ (us : List Visit). In guest.0 us) none guest.1);
+        theirs = λ c t there. absurd (none-some t (sym (empty c) ∙ there));
         len_is = len_is;
       }
 
@@ -117,7 +141,7 @@ module _ {T : Type 0} (asks : T → Names → Option Request) (after : T → Rep
   module _ (ts : Tasks) (w : World) (all : List Visit) (x : Visit × PlaceTask T) (left : List (Visit × PlaceTask T)) (len len' : ℕ) (vs : List Visit) (back after_it : List (Option T))
       (so_far : Backing ts w all (x ∷ left) len vs back) (shorter : len' + 1 ≡ len) (many : length after_it ≡ length back)
       (own : (t : T) → x.1 ≡ place.Own t → x.0.caller < length back → task_at after_it x.0.caller ≡ Some t)
-      (rest : (c : ℕ) → c ≢ x.0.caller → task_at after_it c ≡ task_at back c) where
+      (none : IfNone (own_task x.1) (after_it ≡ back)) (rest : (c : ℕ) → c ≢ x.0.caller → task_at after_it c ≡ task_at back c) where
     here : (s : Script) (asking : Asking) → slice_get w.scripts x.0.caller ≡ Some s → ts x.0.caller ≡ Some asking → (p : PlaceTask T) → x.1 ≡ p
         → places.Goes asks after Keeps (ts x.0.caller) (zone_of w) s (replies_of x.0) x.0.names p
         → IsBack asks after Keeps ts w (vs ++ x.0 ∷ []) x.0.caller (task_at after_it x.0.caller)
@@ -159,25 +183,56 @@ module _ {T : Type 0} (asks : T → Names → Option Request) (after : T → Rep
             let other : c ≢ x.0.caller = λ same. true≢false (sym (eq-eqb c x.0.caller same) ∙ e) in
             elsewhere c other (so_far.are_back c s asking there is (had_guest c other guest))
 
+    theirs_more : AreTheirs ts after_it
+    theirs_more c t there = by_caller (c == x.0.caller) refl
+      where
+        by_part : x.0.caller ≡ c → (p : PlaceTask T) → x.1 ≡ p → (asking : Asking) × (ts c ≡ Some asking)
+        by_part same (place.Script u) part =
+            let still : after_it ≡ back = subst (λ (p : PlaceTask T). IfNone (own_task p) (after_it ≡ back)) part none in
+            so_far.theirs c t (sym (ap (λ (l : List (Option T)). task_at l c) still) ∙ there)
+        by_part same (place.Own u) part =
+            let s = script_at w x.0.caller (omega (arith, same, task_within after_it c t there, many, so_far.many)) in
+            let goes : places.GoesOwn asks after Keeps (ts x.0.caller) (zone_of w) (replies_of x.0) x.0.names u =
+            subst (λ (p : PlaceTask T). places.Goes asks after Keeps (ts x.0.caller) (zone_of w) s.0 (replies_of x.0) x.0.names p) part
+            (so_far.going x (inl refl) s.0 (script_is w x.0.caller s.0 s.1)) in
+            (asking_of after asks goes.begun, ap ts (sym same) ∙ goes.own_is)
+
+        by_caller : (b : Bool) → (c == x.0.caller) ≡ b → (asking : Asking) × (ts c ≡ Some asking)
+        by_caller true e = by_part (sym (eqb-true c x.0.caller e)) x.1 refl
+        by_caller false e =
+            let other : c ≢ x.0.caller = λ same. true≢false (sym (eq-eqb c x.0.caller same) ∙ e) in
+            so_far.theirs c t (sym (rest c other) ∙ there)
+
     pub backing_more : Backing ts w all left len' (vs ++ x.0 ∷ []) after_it
     backing_more = record {
       same = append_assoc vs (x.0 ∷ []) (guests_of left) ∙ so_far.same;
       going = λ y there. so_far.going y (inr there);
       many = many ∙ so_far.many;
       are_back = one_more;
+      theirs = theirs_more;
       len_is = omega (arith, shorter, so_far.len_is);
     }
 
   -- the same from what the calls of a round say
   pub backing_step : (ts : Tasks) (w : World) (all : List Visit) (x : Visit × PlaceTask T) (old new : List (Visit × PlaceTask T)) (len len' : ℕ) (vs vs' : List Visit)
       (back back' : List (Option T)) (c : ℕ) → Backing ts w all old len vs back → old ≡ x ∷ new → len' + 1 ≡ len → c ≡ x.0.caller → length back' ≡ length back
-      → IfSome (own_task x.1) (λ t. c < length back → task_at back' c ≡ Some t) → ((k : ℕ) → k ≢ c → task_at back' k ≡ task_at back k)
-      → vs' ≡ vs ++ x.0 ∷ [] → Backing ts w all new len' vs' back'
-  backing_step ts w all x old new len len' vs vs' back back' c so_far first shorter caller many own rest adds =
+      → IfSome (own_task x.1) (λ t. c < length back → task_at back' c ≡ Some t) → IfNone (own_task x.1) (back' ≡ back)
+      → ((k : ℕ) → k ≢ c → task_at back' k ≡ task_at back k) → vs' ≡ vs ++ x.0 ∷ [] → Backing ts w all new len' vs' back'
+  backing_step ts w all x old new len len' vs vs' back back' c so_far first shorter caller many own none rest adds =
       subst (λ (us : List Visit). Backing ts w all new len' us back') (sym adds)
       (backing_more ts w all x new len len' vs back back' (subst (λ (l : List (Visit × PlaceTask T)). Backing ts w all l len vs back) first so_far) shorter many
       (λ t same below. ap (task_at back') (sym caller) ∙ own_there t same (omega (arith, below, caller)))
-      (λ k other. rest k (λ same. other (same ∙ caller))))
+      none (λ k other. rest k (λ same. other (same ∙ caller))))
     where
       own_there : (t : T) → x.1 ≡ place.Own t → c < length back → task_at back' c ≡ Some t
       own_there t same below = (subst (λ (p : PlaceTask T). IfSome (own_task p) (λ u. c < length back → task_at back' c ≡ Some u)) same own) below
+
+  -- where none was given none comes back
+  pub none_else : (ts : Tasks) (given back : List (Option T)) → ((c : ℕ) → ts c ≡ tasks_of asks after given c) → AreTheirs ts back → NoneElse given back
+  none_else ts given back is theirs c none = by_task (task_at back c) refl
+    where
+      by_task : (o : Option T) → task_at back c ≡ o → o ≡ None
+      by_task None at = refl
+      by_task (Some t) at =
+          let own = theirs c t at in
+          absurd (none-some own.0 (sym (is c ∙ ap (option_map (asking_of after asks)) none) ∙ own.1))

@@ -21,6 +21,14 @@ use Rattle.whole_script.specs.Places.{GoesOwn}
 abbrev pub task_at : {T : Type 0} → List (Option T) → ℕ → Option T
 task_at given c = option_and_then (λ o. o) (slice_get given c)
 
+-- where none is given none comes back
+abbrev pub NoneElse : {T : Type 0} → List (Option T) → List (Option T) → Type 0
+NoneElse given back = (c : ℕ) → task_at given c ≡ None → task_at back c ≡ None
+
+-- each of these is of a place in which a task is played
+abbrev pub AreTheirs : {T : Type 0} → Tasks → List (Option T) → Type 0
+AreTheirs {T} ts back = (c : ℕ) (t : T) → task_at back c ≡ Some t → (asking : Asking) × (ts c ≡ Some asking)
+
 -- the task of one's own among what is played
 abbrev pub own_task : {T : Type 0} → PlaceTask T → Option T
 own_task (place.Script t) = None

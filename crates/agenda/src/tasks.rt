@@ -1,5 +1,5 @@
 //! A run with tasks of one's own in the places of scripts.
-ghost use Rattle.std.specs.Prelude.{◌≡◌, ◌≢◌, ◌<◌, ◌≤◌, ℕ, [], length, option_map, IfNone, IfOk, IfSome};
+ghost use Rattle.std.specs.Prelude.{◌≡◌, ◌≢◌, ◌<◌, ◌≤◌, ℕ, [], None, Some, length, option_map, IfNone, IfOk, IfSome};
 ghost use Rattle.net_base.specs.declared.world.Script.{Script as AnyScript};
 ghost use Rattle.net_base.specs.Callers.{IsScript, caller_of};
 ghost use Rattle.net_base.specs.Legal.{IsLegalBy, IsTimedBy};
@@ -8,7 +8,7 @@ ghost use Rattle.net_base.specs.Next.{zone_of};
 ghost use Rattle.net_base.specs.Steps.{no_names};
 ghost use Rattle.net_base.specs.Tasks.{asking_of};
 ghost use Rattle.net_base.specs.World.{IsWorld};
-ghost use Rattle.agenda.specs.Given.{AreBack, AreBegun, AskInOrder, WereTold, own_task, task_at, tasks_of};
+ghost use Rattle.agenda.specs.Given.{AreBack, AreBegun, AreTheirs, AskInOrder, NoneElse, WereTold, own_task, task_at, tasks_of};
 ghost use Rattle.host_net.specs.Groups.{all_members, visits};
 ghost use Rattle.host_net.specs.Playing.{ArePlayed};
 ghost use Rattle.net_guests.specs.Visits.{AreFresh, HasGuest};
@@ -55,6 +55,8 @@ pub fn run_tasks<R: Threads + Wait + Sync, G: Gate + Sync, T: OwnTask + Drop + S
     ensures end { IfOk result (λ run. EndsBy (tasks_of T.asks T.after tasks.items) world.now (after world.now run.history) run.end) }
     ensures asked { IfOk result (λ run. AskInOrder T.asks T.after world.now tasks.items run.history) }
     ensures told { IfOk result (λ run. WereTold T.asks T.after T.Keeps world.now tasks.items run.history run.tasks.items) }
+    ensures places { IfOk result (λ run. length run.tasks.items ≡ length world.now.scripts) }
+    ensures none { IfOk result (λ run. NoneElse tasks.items run.tasks.items) }
     ensures prefixes { IfOk result (λ run. KeepsPrefixes world.now run.history) }
 {
     tasks_ask_in_order();
@@ -87,6 +89,8 @@ where
     ensures timed { IfOk result (λ run. IsTimedBy J.tasks J.world run.history) }
     ensures end { IfOk result (λ run. EndsBy J.tasks J.world (after J.world run.history) run.end) }
     ensures told { IfOk result (λ run. WereTold T.asks T.after T.Keeps J.world tasks.items run.history run.tasks.items) }
+    ensures places { IfOk result (λ run. length run.tasks.items ≡ length J.world.scripts) }
+    ensures none { IfOk result (λ run. NoneElse tasks.items run.tasks.items) }
 {
     let (net, guests) = Net::<J, WorldActor<J>>::named(alloc, world, opened)?;
     let deal = deal_of(rt, alloc, world, workers)?;
@@ -176,6 +180,8 @@ fn ended_of<'a, J: Naming + Placing, T: OwnTask + Drop>(
     ensures plays { IfOk result (λ back. ArePlayed J.tasks J.world back.guests.items) }
     ensures same { IfOk result (λ back. back.guests.items ≡ visits (all_members players.groups)) }
     ensures tasks { IfOk result (λ back. AreBack T.asks T.after T.Keeps J.tasks J.world back.guests.items back.tasks.items) }
+    ensures many { IfOk result (λ back. length back.tasks.items ≡ length J.world.scripts) }
+    ensures theirs { IfOk result (λ back. AreTheirs J.tasks back.tasks.items) }
 {
     let mut tasks = rows(alloc, places)?;
     let parts = players.into_parts(alloc)?;
@@ -190,7 +196,8 @@ fn ended_of<'a, J: Naming + Placing, T: OwnTask + Drop>(
 
 // No task for each of so many places.
 fn rows<T: OwnTask + Drop>(alloc: Global, places: usize) -> Result<Vec<Option<T>>, AllocError>
-    ensures { IfOk result (λ tasks. length tasks.items ≡ places) }
+    ensures many { IfOk result (λ tasks. length tasks.items ≡ places) }
+    ensures none { IfOk result (λ tasks. (c : ℕ) → task_at tasks.items c ≡ None) }
 {
     let mut tasks = Vec::with_capacity(alloc, places)?;
     for _ in 0..places {

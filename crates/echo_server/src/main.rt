@@ -89,10 +89,11 @@ fn echoes<R: Threads + Wait + Sync>(
     requires some { 0 < workers }
     requires few { workers ≤ 16 }
     requires begun { AreBegun claimed tasks.items }
-    ensures read { IfOk result (λ run. HaveRead world.now tasks.items run.history run.tasks.items) }
+    ensures read { IfOk result (λ run. HaveRead run.history run.tasks.items) }
     ensures prefixes { IfOk result (λ run. KeepsPrefixes world.now run.history) }
 {
-    run_tasks(rt, alloc, world, tasks, workers, &OpenGate)
+    let run = run_tasks(rt, alloc, world, tasks, workers, &OpenGate)?;
+    Ok(run)
 }
 
 // A server in the first place, and clients in the others.

@@ -1,5 +1,5 @@
 use Rattle.std.proofs.Common.{refl, arith}
-use Rattle.agenda.proofs.Backing.{were_told}
+use Rattle.agenda.proofs.Backing.{none_else, were_told}
 use Rattle.agenda.proofs.Closing.{closed_after, closed_history, closed_legal, closed_timed}
 use Rattle.agenda.proofs.tasks.run_named.Goals as goal
 
@@ -25,3 +25,8 @@ returns-clause-told g c =
     (closed_after g.J.Placing.tasks w guests c.in_ok-history.history c.in_ok-history.ensures c.in_ok-guests.ensures.plays guests refl)
     (λ k lt. c.in_ok-guests.ensures.all k (omega (arith, lt, c.in_ok-end.ensures.all, c.requires.roster.callers_are)))
     c.in_ok-guests.ensures.tasks
+
+pub returns-clause-none : goal.returns-clause-none
+returns-clause-none g c =
+    none_else g.T.OwnTask.asks g.T.OwnTask.after g.T.OwnTask.Keeps g.J.Placing.tasks c.args.tasks.items c.in_ok-guests.field-0.tasks.items c.requires.given
+    c.in_ok-guests.ensures.theirs
