@@ -1,5 +1,5 @@
 -- The server: what it asks, and what a reply makes of it.
-use Rattle.std.specs.Prelude.{ℕ, List, [], ◌∷◌, Option, Some, None, codes, is_none, if◌then◌else◌}
+use Rattle.std.specs.Prelude.{ℕ, ◌==◌, List, [], length, Option, Some, None, codes, is_none, if◌then◌else◌}
 use Rattle.net_base.specs.declared.reply.Reply.{Reply}
 use Rattle.net_base.specs.declared.reply.Reply.TheVariants as reply
 use Rattle.net_base.specs.declared.request.Request.{Request}
@@ -38,10 +38,9 @@ asks s names = asks_at s.stage names
 abbrev pub listening : Stage
 listening = stage.Listen (listen.begun (codes "c") (codes "a"))
 
--- bytes are written as they were read
+-- bytes are written as they were read; no bytes are the end of the call
 abbrev pub after_text : List ℕ → Stage
-after_text [] = stage.CloseData
-after_text (b ∷ bs) = stage.Echo (b ∷ bs)
+after_text text = if length text == 0 then stage.CloseData else stage.Echo text
 
 abbrev pub after_read : Reply → Stage
 after_read (reply.Bytes bytes) = after_text bytes

@@ -71,7 +71,9 @@ impl EchoClient {
         requires { self.old.echoed < length self.old.messages }
         ensures { spec.at_stage self.new result ≡ spec.echoed (record self.old { echoed = self.old.echoed + 1 }) }
     {
-        self.echoed = self.echoed.saturating_add(1);
+        if self.echoed < self.messages.len() {
+            self.echoed += 1;
+        }
         if self.is_well() {
             Stage::Close
         } else {
@@ -101,6 +103,7 @@ impl OwnTask for EchoClient {
         }
     }
 
+    #[tactic(auto, using(crate::proofs::Echoing::echo_within))]
     fn told(&mut self, alloc: Global, reply: Reply) -> Result<(), AllocError> {
         self.stage = match self.stage {
             Stage::Wait => Stage::Dial,

@@ -43,9 +43,10 @@ fn main(rt: HostRuntime) -> ExitCode {
     };
     let clients = world.scripts.len().saturating_sub(1);
     for workers in [1, 4] {
-        let Ok(well) = well(&rt, rt.alloc(), &world, workers) else {
+        let Ok(run) = echoes(&rt, rt.alloc(), &world, workers) else {
             return ExitCode::FAILURE;
         };
+        let well = well_among(run.tasks.as_slice());
         if println!(rt; "{workers} workers: {well} of {clients} read what they wrote").is_err() {
             return ExitCode::FAILURE;
         }
@@ -61,37 +62,20 @@ fn world_of<S: Source>(alloc: Global, source: &mut S) -> Option<World>
     read_world(alloc, text.as_slice()).ok()
 }
 
-// How many clients read what they wrote in a run on so many workers.
-fn well<R: Threads + Wait + Sync>(
-    rt: &R,
-    alloc: Global,
-    world: &World,
-    workers: u32,
-) -> Result<usize, RunError>
-    requires world { IsWorld world.now }
-    requires some { 0 < workers }
-    requires few { workers ≤ 16 }
-{
-    let tasks = tasks_of(alloc, world.scripts.len())?;
-    let run = echoes(rt, alloc, world, tasks, workers)?;
-    Ok(well_among(run.tasks.as_slice()))
-}
-
-// A run with these tasks. A client that ends well has read what it wrote, and each read what its peer wrote.
+// A run on so many workers. A client that ends well has read what it wrote, and what is read at a call was written at its other end.
 fn echoes<R: Threads + Wait + Sync>(
     rt: &R,
     alloc: Global,
     world: &World,
-    tasks: Vec<Option<EchoTask>>,
     workers: u32,
 ) -> Result<TaskRun<EchoTask>, RunError>
     requires world { IsWorld world.now }
     requires some { 0 < workers }
     requires few { workers ≤ 16 }
-    requires begun { AreBegun claimed tasks.items }
     ensures read { IfOk result (λ run. HaveRead run.history run.tasks.items) }
     ensures prefixes { IfOk result (λ run. KeepsPrefixes world.now run.history) }
 {
+    let tasks = tasks_of(alloc, world.scripts.len())?;
     let run = run_tasks(rt, alloc, world, tasks, workers, &OpenGate)?;
     Ok(run)
 }
@@ -112,8 +96,7 @@ fn task_of(alloc: Global, place: usize) -> Result<EchoTask, AllocError>
     ensures { IfOk result (λ task. claimed task []) }
 {
     if place == 0 {
-        let server = EchoServer::new(alloc, ANNOUNCED)?;
-        return Ok(EitherTask::One(server));
+        return Ok(EitherTask::One(EchoServer::new(alloc, ANNOUNCED)?));
     }
     let client = EchoClient::new(alloc, SERVICE, messages(alloc)?)?;
     Ok(EitherTask::Other(client))

@@ -270,7 +270,8 @@ fn add_player_parts<J: Naming + Placing, T: Task + Drop>(
 {
     players.reverse();
     while let Some(player) = players.pop() {
-        parts.push(player.into_part()?)?;
+        let part = player.into_part()?;
+        parts.push(part)?;
     }
     Ok(())
 }
@@ -285,7 +286,8 @@ fn add_clock_part<J: Naming + Placing, T: Task + Drop>(
 {
     match clock {
         Some(player) => {
-            parts.push(player.into_part()?)?;
+            let part = player.into_part()?;
+            parts.push(part)?;
             Ok(())
         }
         None => Ok(()),

@@ -23,14 +23,14 @@ loop-player-preserved g c =
     let parts = c.loop-player.parts.items in (
       players_on (guests_of parts) (guests_of c.push.new.self.items) _ c.loop-player.players.items c.pop.new.self.items c.in-Some.player
           c.loop-player.invariant.0 c.in-Some.ensures.items
-          (guests_push parts c.push.new.self.items c.in_ok-into_part.part c.in_ok-push.ensures.items
-          ∙ ap (λ x. guests_of parts ++ x.0 ∷ []) c.in_ok-into_part.ensures.same),
+          (guests_push parts c.push.new.self.items c.in_ok-part.part c.in_ok-push.ensures.items
+          ∙ ap (λ x. guests_of parts ++ x.0 ∷ []) c.in_ok-part.ensures.same),
       (λ are.
-          plays_part g.J.Placing.tasks g.J.Placing.world parts c.push.new.self.items c.in_ok-into_part.part c.in_ok-push.ensures.items
-          (c.loop-player.invariant.1 are) c.in_ok-into_part.ensures.plays),
+          plays_part g.J.Placing.tasks g.J.Placing.world parts c.push.new.self.items c.in_ok-part.part c.in_ok-push.ensures.items
+          (c.loop-player.invariant.1 are) c.in_ok-part.ensures.plays),
       λ are.
-          goes_part g.T.WholeTask.Goes g.J.Placing.tasks g.J.Placing.world parts c.push.new.self.items c.in_ok-into_part.part c.in_ok-push.ensures.items
-          (c.loop-player.invariant.2 are) c.in_ok-into_part.ensures.goes,
+          goes_part g.T.WholeTask.Goes g.J.Placing.tasks g.J.Placing.world parts c.push.new.self.items c.in_ok-part.part c.in_ok-push.ensures.items
+          (c.loop-player.invariant.2 are) c.in_ok-part.ensures.goes,
     )
 
 pub returns-clause-same : goal.returns-clause-same
